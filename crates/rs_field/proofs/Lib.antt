@@ -1,0 +1,13 @@
+pub mod Linear
+pub mod Product
+pub mod Inverse
+pub mod Onto
+pub mod Power
+pub mod Tables
+pub mod Subspace
+pub mod Roots
+pub mod Total
+pub mod XorSolver
+pub mod RingSolver
+pub mod Runs
+pub mod Places

@@ -1,0 +1,53 @@
+-- How many steps a call may count.
+use Rattle.std.specs.Prelude.{◌≡◌, ℕ, ◌+◌, ◌*◌, ◌/◌, ◌^◌, ◌≤◌, nat_le}
+use Rattle.rs_field.specs.declared.engine.steps.Steps.{Steps}
+use Rattle.rs_field.specs.Search.{first_below}
+
+-- no count fell, and each rose by no more than its bound
+pub record CountsUpTo (row_steps pair_sums products : ℕ) (old new : Steps) : Type 0 where
+  pub row_steps_rise : old.row_steps ≤ new.row_steps
+  pub pair_sums_rise : old.pair_sums ≤ new.pair_sums
+  pub products_rise : old.products ≤ new.products
+  pub row_steps_most : new.row_steps ≤ old.row_steps + row_steps
+  pub pair_sums_most : new.pair_sums ≤ old.pair_sums + pair_sums
+  pub products_most : new.products ≤ old.products + products
+
+-- nothing was counted but n row steps
+abbrev pub CountsRows : ℕ → Steps → Steps → Type 0
+CountsRows n old new = (new.row_steps ≡ old.row_steps + n) × (new.pair_sums ≡ old.pair_sums) × (new.products ≡ old.products)
+
+-- the logarithm to base 2 of a power of two
+unfoldable pub log2 : ℕ → ℕ
+log2 n = first_below 64 (λ d. nat_le n (2 ^ d))
+
+-- the row steps of a transform of n rows
+unfoldable pub transform_steps : ℕ → ℕ
+transform_steps n = n / 2 * log2 n
+
+-- the row steps of an encode with c chunks of m rows
+unfoldable pub encode_steps : ℕ → ℕ → ℕ
+encode_steps c m = (c + 1) * transform_steps m + 2 * c * m
+
+-- the row steps of a decode with w rows
+unfoldable pub decode_steps : ℕ → ℕ
+decode_steps w = 3 * w / 2 * log2 w + 3 * w
+
+-- a locator takes no row step; a decode makes one locator
+abbrev pub LocatorCounts : Steps → Steps → Type 0
+LocatorCounts old new = CountsUpTo 0 1048576 65536 old new
+
+-- what a transform of n rows may count
+abbrev pub TransformCounts : ℕ → Steps → Steps → Type 0
+TransformCounts n old new = CountsUpTo (transform_steps n) 0 0 old new
+
+-- what the product of a row may count
+abbrev pub RowProductCounts : Steps → Steps → Type 0
+RowProductCounts old new = CountsUpTo 1 0 0 old new
+
+-- what an encode with c chunks of m rows may count
+abbrev pub EncodeCounts : ℕ → ℕ → Steps → Steps → Type 0
+EncodeCounts c m old new = CountsUpTo (encode_steps c m) 0 0 old new
+
+-- what a decode with w rows may count
+abbrev pub DecodeCounts : ℕ → Steps → Steps → Type 0
+DecodeCounts w old new = CountsUpTo (decode_steps w) 1048576 65536 old new

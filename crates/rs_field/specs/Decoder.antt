@@ -1,0 +1,72 @@
+-- A decoder: what is given, and what its calls do.
+use Rattle.std.specs.Prelude.{◌≡◌, ℕ, ◌+◌, ◌<◌, ◌==◌, ◌↔◌, not, length, nat_le, nat_lt, if◌then◌else◌, List, Some, is_some, IsSome, IsNone, Result, Ok, Err, is_ok, IsOkAnd, MatchResult}
+use Rattle.rs_field.specs.declared.error.Error.{Error}
+use Rattle.rs_field.specs.declared.error.Error.TheVariants.{InvalidOriginalShardIndex, InvalidRecoveryShardIndex, DuplicateOriginalShardIndex, DuplicateRecoveryShardIndex, DifferentShardSize, NotEnoughShards}
+use Rattle.rs_field.specs.Column.{Shard, IsShard, shard_at}
+use Rattle.rs_field.specs.Configuration.{Configuration}
+use Rattle.rs_field.specs.Given.{Shards, nothing, entered, count_below, Agrees, Consistent}
+
+-- a configuration, and the shards given so far
+pub record DecoderState : Type 0 where
+  pub configuration : Configuration
+  pub originals : Shards
+  pub recovery : Shards
+
+-- a decoder with nothing given
+abbrev pub fresh_decoder : Configuration → DecoderState
+fresh_decoder c = record { configuration = c; originals = nothing; recovery = nothing }
+
+-- the outcome of adding an original: a wrong index comes before a repeated one, and that before a wrong size
+abbrev pub with_original : DecoderState → ℕ → Shard → Result DecoderState Error
+with_original s index shard =
+    let c = s.configuration in
+    if nat_le c.original_count index then Err (InvalidOriginalShardIndex c.original_count index)
+    else if is_some (s.originals index) then Err (DuplicateOriginalShardIndex index)
+    else if not (length shard == c.shard_bytes) then Err (DifferentShardSize c.shard_bytes (length shard))
+    else Ok (record s { originals = entered s.originals index shard })
+
+-- the outcome of adding a recovery shard, in the same order
+abbrev pub with_recovery : DecoderState → ℕ → Shard → Result DecoderState Error
+with_recovery s index shard =
+    let c = s.configuration in
+    if nat_le c.recovery_count index then Err (InvalidRecoveryShardIndex c.recovery_count index)
+    else if is_some (s.recovery index) then Err (DuplicateRecoveryShardIndex index)
+    else if not (length shard == c.shard_bytes) then Err (DifferentShardSize c.shard_bytes (length shard))
+    else Ok (record s { recovery = entered s.recovery index shard })
+
+-- how many originals are given
+abbrev pub originals_given : DecoderState → ℕ
+originals_given s = count_below s.configuration.original_count s.originals
+
+-- how many recovery shards are given
+abbrev pub recovery_given : DecoderState → ℕ
+recovery_given s = count_below s.configuration.recovery_count s.recovery
+
+-- whether a decoder has shards enough, or the refusal
+abbrev pub enough_given : DecoderState → Result (Unit {0}) Error
+enough_given s =
+    let k = s.configuration.original_count in
+    if nat_lt (originals_given s + recovery_given s) k then Err (NotEnoughShards k (originals_given s) (recovery_given s)) else Ok tt
+
+-- a message agrees with what a decoder was given
+abbrev pub IsAgreeing : DecoderState → List Shard → Type 0
+IsAgreeing s message = Agrees s.configuration s.originals s.recovery message
+
+-- some message does
+abbrev pub IsConsistent : DecoderState → Type 0
+IsConsistent s = Consistent s.configuration s.originals s.recovery
+
+-- the restored originals: at exactly the missing indexes, of the size, those of any message that agrees; with exactly k shards given, one does
+pub record Restored (s : DecoderState) (out : Shards) : Type 0 where
+  pub missing : (i : ℕ) → IsSome (out i) ↔ (i < s.configuration.original_count × IsNone (s.originals i))
+  pub shards : (i : ℕ) (shard : Shard) → out i ≡ Some shard → IsShard s.configuration.shard_bytes shard
+  pub agreeing : (message : List Shard) → IsAgreeing s message → (i : ℕ) (shard : Shard) → out i ≡ Some shard → shard_at message i ≡ shard
+  pub no_surplus : originals_given s + recovery_given s ≡ s.configuration.original_count → IsConsistent s
+
+-- what `decode` answers: a refusal, or the restored originals
+abbrev pub DecodeAnswers : DecoderState → Result Shards Error → Type 0
+DecodeAnswers s result = MatchResult (enough_given s) (λ _. IsOkAnd result (Restored s)) (λ e. result ≡ Err e)
+
+-- the state that `decode` leaves: where too few were given the same, else with nothing given
+abbrev pub after_decode : DecoderState → DecoderState
+after_decode s = if is_ok (enough_given s) then fresh_decoder s.configuration else s

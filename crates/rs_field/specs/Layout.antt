@@ -1,0 +1,26 @@
+-- How a shard lies in a row of chunks.
+use Rattle.std.specs.Prelude.{ℕ, zero, suc, ◌+◌, ◌-◌, ◌*◌, ◌/◌, ◌%◌, min, nat_lt, if◌then◌else◌, List, [], ◌∷◌, ◌++◌, slice_index}
+use Rattle.rs_field.specs.Column.{Shard}
+
+-- the chunks of a row for shards of this size
+abbrev pub row_len : ℕ → ℕ
+row_len size = (size + 63) / 64
+
+-- f 0, f 1, .., f (n - 1)
+abbrev pub up_to : {A : Type 0} → ℕ → (ℕ → A) → List A
+up_to zero f = []
+up_to (suc n) f = up_to n f ++ f n ∷ []
+
+-- where byte b of a shard of this size lies in its chunk: the first half of a chunk or of the tail lies from byte 0 on, the second half from byte 32 on
+unfoldable pub place : ℕ → ℕ → ℕ
+place size b =
+    let half = min 64 (size - b / 64 * 64) / 2 in
+    if nat_lt (b % 64) half then b % 64 else b % 64 - half + 32
+
+-- the shard that lies in a row with these chunks
+unfoldable pub laid_out : ℕ → (ℕ → List ℕ) → Shard
+laid_out size chunks = up_to size (λ b. slice_index (chunks (b / 64)) (place size b))
+
+-- the first bytes of the chunks, one after another: the shard once its tail was moved
+unfoldable pub in_order : ℕ → (ℕ → List ℕ) → Shard
+in_order size chunks = up_to size (λ b. slice_index (chunks (b / 64)) (b % 64))

@@ -1,0 +1,25 @@
+-- What the tables hold.
+use Rattle.std.specs.Prelude.{ℕ, ◌≡◌, ◌+◌, ◌-◌, ◌*◌, ◌^◌, ◌<◌, ◌==◌, if◌then◌else◌, List, length, slice_index}
+use Rattle.rs_field.specs.Field.{product, power, log}
+use Rattle.rs_field.specs.Subspace.{subspace}
+
+-- the powers of the generator and the logarithms of the words; the logarithm of 0 reads 65535
+pub record IsExpLog (exp_table log_table : List ℕ) : Type 0 where
+  pub exp_length : length exp_table ≡ 65536
+  pub log_length : length log_table ≡ 65536
+  pub exp_entry : (n : ℕ) → n < 65536 → slice_index exp_table n ≡ power n
+  pub log_entry : (z : ℕ) → 0 < z → z < 65536 → slice_index log_table z ≡ log z
+  pub log_zero : slice_index log_table 0 ≡ 65535
+
+-- the logarithm of a factor, where 65535 marks the factor zero
+unfoldable pub log_or_mark : ℕ → ℕ
+log_or_mark z = if z == 0 then 65535 else log z
+
+-- at place j - 1, for j an odd number times 2 ^ d: the logarithm of the subspace polynomial of degree 2 ^ d at j - 2 ^ d
+pub record IsSkew (skew_table : List ℕ) : Type 0 where
+  pub skew_length : length skew_table ≡ 65535
+  pub skew_entry : (d u j : ℕ) → j ≡ (2 * u + 1) * 2 ^ d → j < 65536 → slice_index skew_table (j - 1) ≡ log_or_mark (subspace d (j - 2 ^ d))
+
+-- a word times the factor with this logarithm, where 65535 marks the factor zero
+abbrev pub scaled : ℕ → ℕ → ℕ
+scaled log_m w = if log_m == 65535 then 0 else product w (power log_m)

@@ -1,0 +1,35 @@
+-- The rows of a `ShardsRefMut`, by row, chunk and symbol.
+use Rattle.std.specs.Prelude.{◌≡◌, ℕ, List, ◌+◌, ◌*◌, ◌≤◌, ◌<◌, ◌⊎◌, length, replicate, take, drop}
+use Rattle.rs_field.specs.Rows.{Chunks, chunk, symbol}
+use Rattle.rs_field.specs.declared.engine.shards.ShardsRefMut.{ShardsRefMut}
+
+-- there are chunks enough for the rows
+abbrev pub Fits : ShardsRefMut → Type 0
+Fits r = r.shard_count * r.shard_len_64 ≤ length r.chunks.now
+
+-- row i, as a list of chunks
+abbrev pub row_at : ShardsRefMut → ℕ → Chunks
+row_at r i = take r.shard_len_64 (drop (i * r.shard_len_64) r.chunks.now)
+
+-- chunk k of row i
+unfoldable pub cell : ShardsRefMut → ℕ → ℕ → List ℕ
+cell r k i = chunk r.chunks.now (i * r.shard_len_64 + k)
+
+-- symbol s of chunk k of row i
+abbrev pub word : ShardsRefMut → ℕ → ℕ → ℕ → ℕ
+word r k s i = symbol (cell r k i) s
+
+-- as many rows as before, in the same place
+pub record SamePlace (old new : ShardsRefMut) : Type 0 where
+  pub name : new.chunks.ghost_name ≡ old.chunks.ghost_name
+  pub count : new.shard_count ≡ old.shard_count
+  pub len_64 : new.shard_len_64 ≡ old.shard_len_64
+  pub length : length new.chunks.now ≡ length old.chunks.now
+
+-- the rows before row a and from row b on are the same in both, and so is what lies past the rows
+abbrev pub SameRowsOutside : ℕ → ℕ → ShardsRefMut → ShardsRefMut → Type 0
+SameRowsOutside a b old new = (i k : ℕ) → k < old.shard_len_64 → (i < a) ⊎ (b ≤ i) → cell new k i ≡ cell old k i
+
+-- rows a to b - 1 are zero bytes
+abbrev pub AreZero : ℕ → ℕ → ShardsRefMut → Type 0
+AreZero a b r = (i k : ℕ) → k < r.shard_len_64 → a ≤ i → i < b → cell r k i ≡ replicate 64 0

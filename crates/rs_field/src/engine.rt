@@ -1,0 +1,99 @@
+//! Constants of the field, the count of steps, and the trait of an engine.
+ghost use Rattle.std.specs.Prelude.{◌≡◌, ℕ, ◌+◌, ◌%◌, ◌^◌, ◌<◌, ◌≤◌, length};
+ghost use Rattle.rs_field.specs.Field.{product, power};
+ghost use Rattle.rs_field.specs.Transform.{forward};
+ghost use Rattle.rs_field.specs.Rows.{chunk, symbol};
+ghost use Rattle.rs_field.specs.View.{word, Fits, SamePlace, SameRowsOutside, AreZero};
+ghost use Rattle.rs_field.specs.Bounds.{TransformCounts, RowProductCounts};
+
+pub mod shards;
+mod steps;
+pub mod tables;
+
+pub use shards::ShardsRefMut;
+pub use steps::Steps;
+
+/// An element of the field: a word of 16 coordinates.
+pub type GfElement = u16;
+
+/// The coordinates of an element.
+pub const GF_BITS: usize = 16;
+
+/// The elements of the field.
+pub const GF_ORDER: usize = 65536;
+
+/// The nonzero elements of the field, and the modulus of their logarithms.
+pub const GF_MODULUS: GfElement = 65535;
+
+/// The polynomial that products of bits are reduced by.
+pub const GF_POLYNOMIAL: usize = 0x1002D;
+
+/// What the words 1, 2, 4, .., 0x8000 stand for, each as the word of its bits.
+pub const CANTOR_BASIS: [GfElement; GF_BITS] = [
+    0x0001, 0xACCA, 0x3C0E, 0x163E, 0xC582, 0xED2E, 0x914C, 0x4012, 0x6C98, 0x10D8, 0x6A72, 0xB900,
+    0xFDB8, 0xFB34, 0xFF38, 0x991E,
+];
+
+/// What the coder asks of an engine: transforms of rows, and the product of a row.
+///
+/// The transforms are those of Lin, Chung and Han ("Novel polynomial basis and its application to Reed-Solomon
+/// erasure codes"), in the form of Leopard-RS: between coefficients in the basis of subspace polynomials and values
+/// on a coset, in each symbol by itself. All calls succeed always and take no memory.
+pub trait Engine: Drop {
+    /// The forward transform of the `size` rows from `pos` on, at `skew_delta`.
+    ///
+    /// Row i of them, for i below `truncated_size`, becomes the sum over q of the old row q times the basis polynomial
+    /// q at the point `skew_delta + i`. The rows from `truncated_size` on are open; rows outside are unchanged.
+    fn fft(
+        &self,
+        steps: &mut Steps,
+        data: &mut ShardsRefMut<'_>,
+        pos: usize,
+        size: usize,
+        truncated_size: usize,
+        skew_delta: usize,
+    )
+        requires fits { Fits «data».old }
+        requires power { (d : ℕ) × (size ≡ 2 ^ d) }
+        requires truncated { truncated_size ≤ size }
+        requires within { pos + size ≤ «data».old.shard_count }
+        requires shift { skew_delta % size ≡ 0 }
+        requires points { skew_delta + size ≤ 65536 }
+        ensures place { SamePlace «data».old «data».new }
+        ensures others { SameRowsOutside pos (pos + size) «data».old «data».new }
+        ensures values { (k s i : ℕ) → k < «data».old.shard_len_64 → s < 32 → i < truncated_size
+            → word «data».new k s (pos + i) ≡ forward size skew_delta (λ q. word «data».old k s (pos + q)) i }
+        ensures counts { TransformCounts size steps.old steps.new };
+
+    /// The backward transform of the `size` rows from `pos` on, at `skew_delta`.
+    ///
+    /// The rows become those whose forward transform they were. The rows from `truncated_size` on are zero when the
+    /// call begins; rows outside are unchanged.
+    fn ifft(
+        &self,
+        steps: &mut Steps,
+        data: &mut ShardsRefMut<'_>,
+        pos: usize,
+        size: usize,
+        truncated_size: usize,
+        skew_delta: usize,
+    )
+        requires fits { Fits «data».old }
+        requires power { (d : ℕ) × (size ≡ 2 ^ d) }
+        requires truncated { truncated_size ≤ size }
+        requires within { pos + size ≤ «data».old.shard_count }
+        requires shift { skew_delta % size ≡ 0 }
+        requires points { skew_delta + size ≤ 65536 }
+        requires tail { AreZero (pos + truncated_size) (pos + size) «data».old }
+        ensures place { SamePlace «data».old «data».new }
+        ensures others { SameRowsOutside pos (pos + size) «data».old «data».new }
+        ensures values { (k s i : ℕ) → k < «data».old.shard_len_64 → s < 32 → i < size
+            → word «data».old k s (pos + i) ≡ forward size skew_delta (λ q. word «data».new k s (pos + q)) i }
+        ensures counts { TransformCounts size steps.old steps.new };
+
+    /// Multiplies every symbol of every chunk of a row by the generator to the power `log_m`; 65535 is the factor one.
+    fn mul(&self, steps: &mut Steps, x: &mut [[u8; 64]], log_m: GfElement)
+        ensures products { (k s : ℕ) → k < length x.old → s < 32
+            → symbol (chunk x.new k) s ≡ product (symbol (chunk x.old k) s) (power log_m) }
+        ensures counts { RowProductCounts steps.old steps.new };
+}

@@ -1,0 +1,48 @@
+//! Counts of steps that only proofs read: they take no bytes, and counting does nothing when it runs.
+ghost use Rattle.std.specs.Prelude.{◌≡◌, ℕ, ◌+◌};
+ghost use Rattle.std.specs.Borrow.{ftrue};
+
+use std::marker::{Model, PhantomData};
+
+/// What was counted so far: row steps, pair sums and products, three whole numbers without an upper limit.
+///
+/// A row step is one butterfly on two rows, or one sum, product, copy, clearing or tail move of a row.
+/// A pair sum is one sum with its difference modulo 65535, a product one product modulo 65535.
+/// A running program can't read a count, and no call lowers one.
+#[derive(Drop)]
+pub struct Steps {
+    marker: PhantomData<u8>,
+    pub ghost row_steps: { ℕ },
+    pub ghost pair_sums: { ℕ },
+    pub ghost products: { ℕ },
+}
+
+impl Model for Steps {
+    ghost also_owns = { λ _. ftrue };
+}
+
+impl Steps {
+    /// Nothing was counted yet.
+    pub fn new() -> Steps
+        ensures { (result.row_steps ≡ 0) × (result.pair_sums ≡ 0) × (result.products ≡ 0) }
+    {
+        Steps {
+            marker: PhantomData,
+        }
+    }
+
+    /// Counts one row step.
+    pub fn row_step(&mut self)
+        ensures { (self.new.row_steps ≡ self.old.row_steps + 1) × (self.new.pair_sums ≡ self.old.pair_sums) × (self.new.products ≡ self.old.products) }
+    {}
+
+    /// Counts one pair sum.
+    pub fn pair_sum(&mut self)
+        ensures { (self.new.row_steps ≡ self.old.row_steps) × (self.new.pair_sums ≡ self.old.pair_sums + 1) × (self.new.products ≡ self.old.products) }
+    {}
+
+    /// Counts one product.
+    pub fn product(&mut self)
+        ensures { (self.new.row_steps ≡ self.old.row_steps) × (self.new.pair_sums ≡ self.old.pair_sums) × (self.new.products ≡ self.old.products + 1) }
+    {}
+}

@@ -1,0 +1,10 @@
+//! Laws of the definitions, as contracts of functions that do nothing.
+ghost use Rattle.rs_field.specs.Laws.{IsField, IsGenerated, IsProductOfBits};
+
+/// The words are a field: sums and products obey its laws, the product is the reduced carry-less product of the
+/// words' bits, and the nonzero words are the 65535 powers of the generator.
+pub fn field_laws()
+    ensures field { IsField }
+    ensures product { IsProductOfBits }
+    ensures generated { IsGenerated }
+{}
