@@ -1,0 +1,3 @@
+pub mod PowerLemmas
+pub mod UpTo
+pub mod HeldLemmas

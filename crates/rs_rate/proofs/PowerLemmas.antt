@@ -1,0 +1,142 @@
+-- Powers of two, and counts that a rate supports.
+use Rattle.std.proofs.Common.{◌≡◌, ◌≢◌, ℕ, zero, suc, ◌+◌, ◌-◌, ◌*◌, ◌/◌, ◌%◌, ◌^◌, ◌<◌, ◌≤◌, Bool, true, false, cond, max, refl, sym, ap, ◌∙◌, subst, arith, inl, inr, pow_mono, pow-suc}
+use Rattle.std.specs.Prelude.{nat_le, nat_lt, ◌&&◌}
+use Rattle.std.proofs.lemmas.Bool.{cases_lt, le-leb, lt-leb, lt-ltb, leb-true, ltb-true}
+use Rattle.std.proofs.lemmas.Nat.{pow_pos, div-add-mod'}
+use Rattle.std.proofs.Math.Nat.{div-eq_of_lt-le, mod-eq_of_lt}
+use Rattle.std.specs.Int.{next_multiple_of}
+use Rattle.std.proofs.Math.Bool.{and-false}
+use Rattle.rs_field.specs.Search.{first_below}
+use Rattle.rs_field.specs.Counts.{next_power, supports, is_low, low_rate}
+use Rattle.rs_field.specs.Placement.{rounded_up, encoder_rows}
+
+-- a search finds the first number that passes
+first_below-is : (n : ℕ) (p : ℕ → Bool) (i : ℕ) → i < n → p i ≡ true → ((j : ℕ) → j < i → p j ≡ false) → first_below n p ≡ i
+unfolding first_below
+first_below-is zero p i h passes before = absurd (let no : ⊥ = omega arith in no)
+first_below-is (suc n) p zero h passes before = ap (λ b. cond b 0 (suc (first_below n (λ k. p (suc k))))) passes
+first_below-is (suc n) p (suc i) h passes before =
+    ap (λ b. cond b 0 (suc (first_below n (λ k. p (suc k))))) (before 0 (omega arith))
+    ∙ ap suc (first_below-is n (λ k. p (suc k)) i (omega arith) passes (λ j hj. before (suc j) (omega arith)))
+
+-- a search that ends before its limit ends at a number that passes
+first_below-passes : (n : ℕ) (p : ℕ → Bool) → first_below n p < n → p (first_below n p) ≡ true
+unfolding first_below
+first_below-passes zero p h = absurd (let no : ⊥ = omega arith in no)
+first_below-passes (suc n) p h = by_first (first_below-passes n (λ k. p (suc k))) (p 0) refl
+  where
+    by_first : (first_below n (λ k. p (suc k)) < n → p (suc (first_below n (λ k. p (suc k)))) ≡ true) → (b : Bool) → p 0 ≡ b → p (cond (p 0) 0 (suc (first_below n (λ k. p (suc k))))) ≡ true
+    by_first later true e = ap (λ b. p (cond b 0 (suc (first_below n (λ k. p (suc k)))))) e ∙ e
+    by_first later false e =
+        let rest : suc (first_below n (λ k. p (suc k))) < suc n = subst (λ (b : Bool). cond b 0 (suc (first_below n (λ k. p (suc k)))) < suc n) e h in
+        ap (λ b. p (cond b 0 (suc (first_below n (λ k. p (suc k)))))) e ∙ later (omega arith)
+
+-- the power of two that is not below n, of which half is below n
+pub next_power-is : (n p x : ℕ) → p ≡ 2 ^ x → x < 64 → n ≤ p → p / 2 < max 1 n → p ≡ next_power n
+unfolding next_power
+next_power-is n p x power few above half =
+    power ∙ ap (λ d. 2 ^ d) (sym (first_below-is 64 (λ d. nat_le n (2 ^ d)) x few (le-leb n (2 ^ x) (omega arith)) (λ j less. lt-leb n (2 ^ j) (below j less))))
+  where
+    halved : (j y : ℕ) → j < suc y → 2 ^ suc y / 2 < max 1 n → 2 ^ j < n
+    halved j y less h =
+        let even : 2 ^ suc y ≡ 2 ^ y * 2 = pow-suc 2 y in
+        let le : 2 ^ j ≤ 2 ^ y = pow_mono (omega arith) in
+        let positive : 0 < 2 ^ j = pow_pos j in
+        omega arith
+    at : (j z : ℕ) → z ≡ x → j < z → 2 ^ z / 2 < max 1 n → 2 ^ j < n
+    at j zero e less h = absurd (let no : ⊥ = omega arith in no)
+    at j (suc y) e less h = halved j y less h
+    below : (j : ℕ) → j < x → 2 ^ j < n
+    below j less = at j x refl less (subst (λ (q : ℕ). q / 2 < max 1 n) power half)
+
+-- a search ends no later than at a number that passes
+first_below_most : (m : ℕ) (p : ℕ → Bool) (i : ℕ) → i < m → p i ≡ true → first_below m p ≤ i
+unfolding first_below
+first_below_most zero p i h e = absurd (let no : ⊥ = omega arith in no)
+first_below_most (suc m) p zero h e = subst (λ (b : Bool). cond b 0 (suc (first_below m (λ k. p (suc k)))) ≤ 0) (sym e) (omega arith)
+first_below_most (suc m) p (suc i) h e =
+    let rest : first_below m (λ k. p (suc k)) ≤ i = first_below_most m (λ k. p (suc k)) i (omega arith) e in
+    elim (p 0) as (λ b. cond b 0 (suc (first_below m (λ k. p (suc k)))) ≤ suc i) [ true ↦ omega arith | false ↦ omega arith ]
+
+-- the least power of two that is not below n, for small n
+pub next_power-small : (n : ℕ) → n ≤ 65536 → (d : ℕ) × (d ≤ 16) × (next_power n ≡ 2 ^ d) × (n ≤ next_power n)
+unfolding next_power
+next_power-small n small =
+    let d : ℕ = first_below 64 (λ e. nat_le n (2 ^ e)) in
+    let most : first_below 64 (λ e. nat_le n (2 ^ e)) ≤ 16 = first_below_most 64 (λ e. nat_le n (2 ^ e)) 16 (omega arith) (le-leb n 65536 small) in
+    (d, most, refl, leb-true n (2 ^ d) (first_below-passes 64 (λ e. nat_le n (2 ^ e)) (omega arith)))
+
+-- the power of a large number is large
+pub next_power-large : (n : ℕ) → 65536 < n → 65536 < next_power n
+unfolding next_power
+next_power-large n large =
+    elim (cases_lt 65536 (2 ^ first_below 64 (λ e. nat_le n (2 ^ e)))) [
+      | inl above ↦ above
+      | inr small ↦
+          let few : first_below 64 (λ e. nat_le n (2 ^ e)) < 17 = exponent (first_below 64 (λ e. nat_le n (2 ^ e))) small in
+          let no : n ≤ 2 ^ first_below 64 (λ e. nat_le n (2 ^ e)) = leb-true n (2 ^ first_below 64 (λ e. nat_le n (2 ^ e))) (first_below-passes 64 (λ e. nat_le n (2 ^ e)) (omega arith)) in
+          absurd (omega arith)
+    ]
+  where
+    exponent : (d : ℕ) → 2 ^ d ≤ 65536 → d < 17
+    exponent d h = elim (cases_lt d 17) [ | inl few ↦ few | inr many ↦ let big : 2 ^ 17 ≤ 2 ^ d = pow_mono many in absurd (omega arith) ]
+
+low_test : (k r : ℕ) → supports low_rate k r ≡ (nat_lt 0 k && nat_lt 0 r && nat_le (next_power k + r) 65536)
+unfolding supports
+low_test k r = refl
+
+pub low_supported : (k r : ℕ) → 0 < k → 0 < r → next_power k + r ≤ 65536 → supports low_rate k r ≡ true
+low_supported k r some_k some_r fit = low_test k r ∙ rw (lt-ltb 0 k some_k, lt-ltb 0 r some_r, le-leb (next_power k + r) 65536 fit) refl
+
+pub low_not_supported : (k r : ℕ) → 65536 < next_power k + r → supports low_rate k r ≡ false
+low_not_supported k r more = low_test k r ∙ rw (lt-leb (next_power k + r) 65536 more) (and-false (nat_lt 0 k && nat_lt 0 r))
+
+pub low_no_originals : (r : ℕ) → supports low_rate 0 r ≡ false
+low_no_originals r = low_test 0 r
+
+pub low_no_recovery : (k : ℕ) → supports low_rate k 0 ≡ false
+low_no_recovery k = low_test k 0 ∙ ap (λ b. b && nat_le (next_power k + 0) 65536) (and-false (nat_lt 0 k))
+
+-- what it means that the low rate supports the counts
+pub low_fits : (k r : ℕ) → supports low_rate k r ≡ true → (0 < k) × (0 < r) × (next_power k + r ≤ 65536)
+low_fits k r is =
+    let tests : (nat_lt 0 k && nat_lt 0 r && nat_le (next_power k + r) 65536) ≡ true = sym (low_test k r) ∙ is in
+    let counts = and-left (nat_lt 0 k && nat_lt 0 r) (nat_le (next_power k + r) 65536) tests in
+    (ltb-true 0 k (and-left (nat_lt 0 k) (nat_lt 0 r) counts), ltb-true 0 r (and-right (nat_lt 0 k) (nat_lt 0 r) counts),
+      leb-true (next_power k + r) 65536 (and-right (nat_lt 0 k && nat_lt 0 r) (nat_le (next_power k + r) 65536) tests))
+  where
+    and-left : (a b : Bool) → (a && b) ≡ true → a ≡ true
+    and-left true b h = refl
+    and-left false b h = h
+    and-right : (a b : Bool) → (a && b) ≡ true → b ≡ true
+    and-right true b h = h
+    and-right false b h = absurd (let no : ⊥ = cc in no)
+
+-- the multiple of m that is not below n and below n + m is n rounded up
+pub rounded_up-is : (n m result : ℕ) → 0 < m → n ≤ result → result < n + m → result % m ≡ 0 → result ≡ rounded_up n m
+rounded_up-is n m result some low high multiple =
+    let whole : result / m * m + result % m ≡ result = div-add-mod' result m in
+    let below : result / m * m ≤ n + m - 1 = omega arith in
+    let above : n + m - 1 < (result / m + 1) * m = omega arith in
+    let quotient : (n + m - 1) / m ≡ result / m = div-eq_of_lt-le m below above in
+    let product : result ≡ result / m * m = omega arith in
+    product ∙ ap (λ q. q * m) (sym quotient)
+
+pub rounded_up-low : (k r : ℕ) → rounded_up r (next_power k) ≡ encoder_rows low_rate k r
+unfolding encoder_rows is_low
+rounded_up-low k r = refl
+
+-- a multiple of m that is not below n lies below n + m
+pub next_multiple_of-below : (n m : ℕ) → 0 < m → next_multiple_of n m < n + m
+next_multiple_of-below n m some = let rest : (m - n % m) % m < m = omega arith in omega arith
+
+-- counts that the low rate supports are small
+pub low_small : (k r : ℕ) → supports low_rate k r ≡ true → k ≤ 65536
+low_small k r is =
+    let fits = low_fits k r is in
+    elim (cases_lt 65536 k) [ | inl many ↦ let large : 65536 < next_power k = next_power-large k many in absurd (omega arith) | inr small ↦ small ]
+
+-- a positive multiple of m is at least m
+pub multiple_least : (n m : ℕ) → 0 < n → n % m ≡ 0 → m ≤ n
+multiple_least n m some multiple =
+    elim (cases_lt n m) [ | inl less ↦ let same : n % m ≡ n = mod-eq_of_lt less in absurd (omega arith) | inr least ↦ least ]

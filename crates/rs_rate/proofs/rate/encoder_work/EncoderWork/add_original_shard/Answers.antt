@@ -1,0 +1,27 @@
+use Rattle.std.proofs.Common.{rules, ◌≡◌, ◌≤◌, ◌*◌, ◌+◌, arith, ap, length, List, ℕ}
+use Rattle.rs_rate.proofs.UpTo.{length-up_to}
+use Rattle.rs_rate.proofs.HeldLemmas.{chunk_count-within, given-more}
+use Rattle.rs_rate.specs.Held.{chunk_count, chunks_of}
+use Rattle.rs_rate.proofs.rate.encoder_work.EncoderWork.add_original_shard.Goals as goal
+
+pub returns-then-self-clause-answer : goal.returns-then-self-clause-answer
+returns-then-self-clause-answer c = λ rate. rw (length-up_to c.args.self.now.original_received_count _) (search rules)
+
+pub returns-then-self-clause-left : goal.returns-then-self-clause-left
+returns-then-self-clause-left c = λ rate. rw (length-up_to c.args.self.now.original_received_count _) (search rules)
+
+pub returns-then-original_shard-self-clause-answer : goal.returns-then-original_shard-self-clause-answer
+returns-then-original_shard-self-clause-answer c = λ rate. rw (length-up_to c.args.self.now.original_received_count _) (search rules)
+
+pub returns-clause-answer : goal.returns-clause-answer
+returns-clause-answer c = λ rate. rw (length-up_to c.args.self.now.original_received_count _) (search rules)
+
+pub insert_held-requires-clause-room : goal.insert_held-requires-clause-room
+insert_held-requires-clause-room c =
+    let w = c.args.self.now in
+    let size = ap (λ n. chunk_count (w.original_received_count + 1) n) c.if-original_shard-self.false in
+    let within = chunk_count-within w.original_received_count w.row_count w.shard_bytes (length (chunks_of w.rows)) (omega (arith, c.if-self.false, w.no_more, w.original_rows)) w.fits in
+    omega (arith, size, within)
+
+pub returns-clause-left : goal.returns-clause-left
+returns-clause-left c = λ rate. ?

@@ -1,0 +1,33 @@
+-- The rows that a working space holds, and the shards in them.
+use Rattle.std.specs.Prelude.{ℕ, ◌+◌, ◌*◌, List, [], Option, Some, None}
+use Rattle.std.specs.declared.vec.Vec.{Vec}
+use Rattle.std.specs.Vec.{vec_capacity}
+use Rattle.rs_field.specs.Column.{Shard}
+use Rattle.rs_field.specs.Rows.{Chunks, chunk}
+use Rattle.rs_field.specs.Layout.{row_len, laid_out, in_order}
+
+-- the chunks that are held, if any are
+abbrev pub chunks_of : {Z : Type 0} → Option (Vec (List ℕ) Z) → Chunks
+chunks_of None = []
+chunks_of (Some v) = v.items
+
+-- the chunks that there is room for
+abbrev pub room_of : {Z : Type 0} → Option (Vec (List ℕ) Z) → ℕ
+room_of None = 0
+room_of (Some v) = vec_capacity v
+
+-- the chunks of so many rows for shards of this size
+unfoldable pub chunk_count : ℕ → ℕ → ℕ
+chunk_count rows size = rows * row_len size
+
+-- chunk k of row i, in rows for shards of this size
+unfoldable pub row_chunk : Chunks → ℕ → ℕ → ℕ → List ℕ
+row_chunk chunks size i k = chunk chunks (i * row_len size + k)
+
+-- the shard that was put into row i
+abbrev pub shard_put : Chunks → ℕ → ℕ → Shard
+shard_put chunks size i = laid_out size (row_chunk chunks size i)
+
+-- the shard that lies in row i once its tail was moved
+abbrev pub shard_moved : Chunks → ℕ → ℕ → Shard
+shard_moved chunks size i = in_order size (row_chunk chunks size i)

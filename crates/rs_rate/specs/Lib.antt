@@ -1,0 +1,4 @@
+pub mod Held
+pub mod EncoderView
+pub mod ResultView
+pub mod Loan

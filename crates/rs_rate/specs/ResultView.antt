@@ -1,0 +1,15 @@
+-- What an encoder's result lends.
+use Rattle.std.specs.Prelude.{List, Result}
+use Rattle.std.specs.Result.{result_map_both}
+use Rattle.rs_field.specs.Column.{Shard}
+use Rattle.rs_field.specs.declared.error.Error.{Error}
+use Rattle.rs_rate.specs.declared.encoder_result.EncoderResult.{EncoderResult}
+use Rattle.rs_rate.specs.EncoderView.{lent_of}
+
+-- the recovery shards of a result, in order of index
+abbrev pub recovery_shards : EncoderResult → List Shard
+recovery_shards result = lent_of result.work.now
+
+-- the recovery shards, or the refusal
+abbrev pub answered_shards : Result EncoderResult Error → Result (List Shard) Error
+answered_shards result = result_map_both recovery_shards (λ e. e) result

@@ -1,0 +1,8 @@
+//! Rates of the code: their encoders, working spaces and results.
+#![tactic(auto)]
+
+mod encoder_result;
+mod layout;
+pub mod rate;
+
+pub use encoder_result::EncoderResult;

@@ -1,0 +1,62 @@
+//! Powers of two, supported counts and numbers of rows.
+ghost use Rattle.std.specs.Prelude.{◌≡◌, ℕ, ◌+◌, ◌^◌, ◌<◌, ◌≤◌, true};
+ghost use Rattle.rs_field.specs.Counts.{next_power, supports, low_rate};
+ghost use Rattle.rs_field.specs.Configuration.{configuration, validated};
+ghost use Rattle.rs_field.specs.Placement.{encoder_rows};
+
+use rs_field::engine::GF_ORDER;
+use rs_field::error::Error;
+
+// The least power of two that is not below n.
+pub(crate) fn power_of_two(n: usize) -> usize
+    requires { n ≤ 65536 }
+    ensures value { result ≡ next_power n }
+    ensures power { (d : ℕ) × (d ≤ 16) × (result ≡ 2 ^ d) }
+    ensures lower_bound { n ≤ result }
+    ensures upper_bound { result ≤ 65536 }
+{
+    n.next_power_of_two()
+}
+
+// Whether the low rate supports the counts.
+pub(crate) fn low_supports(original_count: usize, recovery_count: usize) -> bool
+    ensures { result ≡ supports low_rate original_count recovery_count }
+{
+    if original_count == 0 || recovery_count == 0 {
+        return false;
+    }
+    if original_count > GF_ORDER || recovery_count > GF_ORDER {
+        return false;
+    }
+    power_of_two(original_count) + recovery_count <= GF_ORDER
+}
+
+// What `validate` of the low rate answers.
+pub(crate) fn low_validate(
+    original_count: usize,
+    recovery_count: usize,
+    shard_bytes: usize,
+) -> Result<(), Error>
+    ensures { result ≡ validated (configuration low_rate original_count recovery_count shard_bytes) }
+{
+    if !low_supports(original_count, recovery_count) {
+        return Err(Error::UnsupportedShardCount {
+            original_count,
+            recovery_count,
+        });
+    }
+    if shard_bytes == 0 || shard_bytes % 2 == 1 {
+        return Err(Error::InvalidShardSize { shard_bytes });
+    }
+    Ok(())
+}
+
+// The rows of a low-rate encoder: the recovery shards, in whole chunks of the originals' power of two.
+pub(crate) fn low_encoder_rows(original_count: usize, recovery_count: usize) -> usize
+    requires { supports low_rate original_count recovery_count ≡ true }
+    ensures rows { result ≡ encoder_rows low_rate original_count recovery_count }
+    ensures originals { original_count ≤ result }
+    ensures recovery { recovery_count ≤ result }
+{
+    recovery_count.next_multiple_of(power_of_two(original_count))
+}
