@@ -85,5 +85,63 @@ pub fn shard_of(row: &[[u8; 64]], shard_bytes: usize) -> &[u8]
     requires { length row.now ≡ chunks_for shard_bytes }
     ensures { result.now ≡ in_order shard_bytes (λ k. chunk row.now k) }
 {
-    &row.as_flattened()[..shard_bytes]
+    let bytes = row.as_flattened();
+    &bytes[..shard_bytes]
+}
+
+#[cfg(test)]
+mod tests {
+    use super::*;
+    use std::process::Abort;
+
+    // The bytes 0, 1, .., 129.
+    fn counting() -> [u8; 130] {
+        let mut bytes = [0; 130];
+        for i in 0..130 {
+            bytes[i] = i as u8;
+        }
+        bytes
+    }
+
+    // A shard comes back from a row that was full of other bytes.
+    fn comes_back(rt: &impl Abort, size: usize)
+        requires even { size % 2 ≡ 0 }
+        requires small { size ≤ 130 }
+    {
+        let bytes = counting();
+        let shard = &bytes[..size];
+        let mut chunks = [[255; 64]; 3];
+        let row = &mut chunks[..row_len(size)];
+        insert(row, shard);
+        undo_last_chunk_encoding(row, size);
+        assert_eq!(rt; shard_of(row, size), shard, "{size} bytes");
+    }
+
+    #[test]
+    fn shards_come_back(rt: HostRuntime) {
+        comes_back(&rt, 2);
+        comes_back(&rt, 62);
+        comes_back(&rt, 64);
+        comes_back(&rt, 66);
+        comes_back(&rt, 130);
+    }
+
+    #[test]
+    fn a_tail_lies_in_halves(rt: HostRuntime) {
+        let mut shard = [7; 66];
+        shard[64] = 8;
+        shard[65] = 9;
+        let mut row = [[255; 64]; 2];
+        insert(&mut row, &shard);
+        assert_eq!(rt; row[0], [7; 64]);
+        assert_eq!(rt; row[1][0], 8);
+        assert_eq!(rt; row[1][32], 9);
+    }
+
+    #[test]
+    fn rows_have_whole_chunks(rt: HostRuntime) {
+        for (size, chunks) in [(0, 0), (1, 1), (64, 1), (65, 2), (usize::MAX, 1 << 58)] {
+            assert_eq!(rt; row_len(size), chunks, "{size} bytes");
+        }
+    }
 }
