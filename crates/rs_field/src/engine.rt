@@ -6,6 +6,7 @@ ghost use Rattle.rs_field.specs.Rows.{chunk, symbol};
 ghost use Rattle.rs_field.specs.View.{word, Fits, SamePlace, SameRowsOutside, AreZero};
 ghost use Rattle.rs_field.specs.Bounds.{TransformCounts, RowProductCounts};
 
+pub mod layout;
 pub mod rows;
 pub mod shards;
 mod steps;

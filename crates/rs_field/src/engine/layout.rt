@@ -1,0 +1,147 @@
+//! How a shard lies in a row of chunks of 64 bytes.
+//!
+//! Symbol s of a chunk has its low byte at byte s and its high byte at byte s + 32. Whole chunks of a shard lie as they
+//! are. A tail of L bytes lies in the last chunk: its first half from byte 0 on, its second half from byte 32 on. The
+//! other bytes of the last chunk are open.
+ghost use Rattle.std.specs.Prelude.{◌≡◌, ℕ, ◌+◌, ◌*◌, ◌/◌, ◌%◌, ◌<◌, ◌≤◌, length, slice_index};
+ghost use Rattle.rs_field.specs.Layout.{row_len as chunks_for, laid_out, in_order};
+ghost use Rattle.rs_field.specs.Rows.{chunk, SameOutside};
+
+/// How many chunks a row of shards of this size has.
+pub fn row_len(shard_bytes: usize) -> usize
+    ensures { result ≡ chunks_for shard_bytes }
+{
+    shard_bytes.div_ceil(64)
+}
+
+/// Lays a shard into its row.
+pub fn insert(row: &mut [[u8; 64]], shard: &[u8])
+    requires room { length row.old ≡ chunks_for (length shard.now) }
+    requires even { length shard.now % 2 ≡ 0 }
+    ensures { laid_out (length shard.now) (λ k. chunk row.new k) ≡ shard.now }
+{
+    let whole = shard.len() / 64;
+    put_whole(row, shard, whole);
+    let half = shard.len() % 64 / 2;
+    if half > 0 {
+        put_tail(&mut row[whole], &shard[whole * 64..], half);
+    }
+}
+
+// The first chunks of a shard lie as they are.
+fn put_whole(row: &mut [[u8; 64]], shard: &[u8], whole: usize)
+    requires room { whole ≤ length row.old }
+    requires within { whole * 64 ≤ length shard.now }
+    ensures { (k b : ℕ) → k < whole → b < 64 → slice_index (chunk row.new k) b ≡ slice_index shard.now (k * 64 + b) }
+{
+    for k in 0..whole {
+        row[k].copy_from_slice(&shard[k * 64..k * 64 + 64]);
+    }
+}
+
+// The halves of a tail lie from byte 0 and from byte 32 on.
+fn put_tail(chunk: &mut [u8; 64], tail: &[u8], half: usize)
+    requires half { half ≤ 32 }
+    requires length { length tail.now ≡ 2 * half }
+    ensures low { (b : ℕ) → b < half → slice_index «chunk».new b ≡ slice_index tail.now b }
+    ensures high { (b : ℕ) → b < half → slice_index «chunk».new (32 + b) ≡ slice_index tail.now (half + b) }
+{
+    put_bytes(chunk, 0, &tail[..half]);
+    put_bytes(chunk, 32, &tail[half..]);
+}
+
+// These bytes stand from byte `start` on.
+fn put_bytes(chunk: &mut [u8; 64], start: usize, bytes: &[u8])
+    requires { start + length bytes.now ≤ 64 }
+    ensures here { (b : ℕ) → b < length bytes.now → slice_index «chunk».new (start + b) ≡ slice_index bytes.now b }
+    ensures before { (b : ℕ) → b < start → slice_index «chunk».new b ≡ slice_index «chunk».old b }
+{
+    chunk[start..start + bytes.len()].copy_from_slice(bytes);
+}
+
+/// Moves the second half of a row's tail to the end of its first half, so that the shard lies in the row's first bytes.
+pub fn undo_last_chunk_encoding(row: &mut [[u8; 64]], shard_bytes: usize)
+    requires room { length row.old ≡ chunks_for shard_bytes }
+    requires even { shard_bytes % 2 ≡ 0 }
+    ensures { in_order shard_bytes (λ k. chunk row.new k) ≡ laid_out shard_bytes (λ k. chunk row.old k) }
+{
+    let half = shard_bytes % 64 / 2;
+    if half > 0 {
+        join_tail(&mut row[shard_bytes / 64], half);
+    }
+}
+
+// The bytes from byte 32 on move to the end of the first half.
+fn join_tail(chunk: &mut [u8; 64], half: usize)
+    requires { half ≤ 32 }
+    ensures low { (b : ℕ) → b < half → slice_index «chunk».new b ≡ slice_index «chunk».old b }
+    ensures high { (b : ℕ) → b < half → slice_index «chunk».new (half + b) ≡ slice_index «chunk».old (32 + b) }
+{
+    chunk.copy_within(32..32 + half, half);
+}
+
+/// The shard that lies in the first bytes of a row.
+pub fn shard_of(row: &[[u8; 64]], shard_bytes: usize) -> &[u8]
+    requires { length row.now ≡ chunks_for shard_bytes }
+    ensures { result.now ≡ in_order shard_bytes (λ k. chunk row.now k) }
+{
+    let bytes = row.as_flattened();
+    &bytes[..shard_bytes]
+}
+
+#[cfg(test)]
+mod tests {
+    use super::*;
+    use std::process::Abort;
+
+    // The bytes 0, 1, .., 129.
+    fn counting() -> [u8; 130] {
+        let mut bytes = [0; 130];
+        for i in 0..130 {
+            bytes[i] = i as u8;
+        }
+        bytes
+    }
+
+    // A shard comes back from a row that was full of other bytes.
+    fn comes_back(rt: &impl Abort, size: usize)
+        requires even { size % 2 ≡ 0 }
+        requires small { size ≤ 130 }
+    {
+        let bytes = counting();
+        let shard = &bytes[..size];
+        let mut chunks = [[255; 64]; 3];
+        let row = &mut chunks[..row_len(size)];
+        insert(row, shard);
+        undo_last_chunk_encoding(row, size);
+        assert_eq!(rt; shard_of(row, size), shard, "{size} bytes");
+    }
+
+    #[test]
+    fn shards_come_back(rt: HostRuntime) {
+        comes_back(&rt, 2);
+        comes_back(&rt, 62);
+        comes_back(&rt, 64);
+        comes_back(&rt, 66);
+        comes_back(&rt, 130);
+    }
+
+    #[test]
+    fn a_tail_lies_in_halves(rt: HostRuntime) {
+        let mut shard = [7; 66];
+        shard[64] = 8;
+        shard[65] = 9;
+        let mut row = [[255; 64]; 2];
+        insert(&mut row, &shard);
+        assert_eq!(rt; row[0], [7; 64]);
+        assert_eq!(rt; row[1][0], 8);
+        assert_eq!(rt; row[1][32], 9);
+    }
+
+    #[test]
+    fn rows_have_whole_chunks(rt: HostRuntime) {
+        for (size, chunks) in [(0, 0), (1, 1), (64, 1), (65, 2), (usize::MAX, 1 << 58)] {
+            assert_eq!(rt; row_len(size), chunks, "{size} bytes");
+        }
+    }
+}
