@@ -1,12 +1,14 @@
 -- The chunks of rows, and the shards in them.
-use Rattle.std.proofs.Common.{◌≡◌, ◌≢◌, ℕ, zero, suc, ◌+◌, ◌-◌, ◌*◌, ◌/◌, ◌<◌, ◌≤◌, ◌^◌, List, [], ◌∷◌, ◌++◌, length, get_or, take, drop, Option, Some, None, Vec, Global, refl, sym, ap, ◌∙◌, subst, arith, inl, inr, ◌⊎◌, add-one, rules}
+use Rattle.std.proofs.Common.{◌≡◌, ◌≢◌, ℕ, zero, suc, ◌+◌, ◌-◌, ◌*◌, ◌/◌, ◌<◌, ◌≤◌, ◌^◌, List, [], ◌∷◌, ◌++◌, length, get_or, take, drop, Option, Some, None, Vec, Global, refl, sym, ap, ◌∙◌, subst, arith, inl, inr, ◌⊎◌, add-one, rules, ap₂}
 use Rattle.std.proofs.Math.Nat.{mul-le-mul_right, mul-le-mul_left, zero-mul}
+use Rattle.std.proofs.lemmas.List.{places, length-take, length-drop}
+use borrow.Rule.Slice.PartMut.{put_mid}
 use Rattle.rs_field.specs.Rows.{Chunks, chunk}
-use Rattle.rs_field.specs.Layout.{row_len}
-use Rattle.rs_field.specs.Layout.{up_to}
+use Rattle.rs_field.specs.Layout.{row_len, up_to, laid_out, in_order}
 use Rattle.rs_field.specs.Column.{Shard}
-use Rattle.rs_rate.specs.Held.{chunks_of, room_of, chunk_count, row_chunk, shard_put}
-use Rattle.rs_rate.proofs.UpTo.{up_to-same}
+use Rattle.rs_rate.specs.Held.{chunks_of, room_of, chunk_count, row_chunk, shard_put, shard_moved}
+use Rattle.rs_field.proofs.LayoutLemmas.{up_to-same, laid_out-same, in_order-same}
+use Rattle.rs_field.proofs.Places.{place_apart}
 
 pub chunk_count-is : (rows size : ℕ) → chunk_count rows size ≡ rows * row_len size
 unfolding chunk_count
@@ -25,9 +27,9 @@ unfolding chunk_count
 chunk_count-size n a b h = let longer : row_len a ≤ row_len b = omega (arith, h) in mul-le-mul_left n longer
 
 -- the chunks up to one row's end
-pub chunk_count-row : (i size : ℕ) → chunk_count (i + 1) size ≡ i * row_len size + row_len size
+pub row_end : (i size : ℕ) → chunk_count (i + 1) size ≡ i * row_len size + row_len size
 unfolding chunk_count
-chunk_count-row i size = omega arith
+row_end i size = omega arith
 
 -- a row below the last has its chunks
 pub chunk_count-within : (i m size l : ℕ) → i < m → chunk_count m size ≤ l → chunk_count (i + 1) size ≤ l
@@ -57,3 +59,56 @@ given-more old new size n length_ shard same here others =
     at z here others =
         let before = up_to-same n (shard_put new z) (shard_put old z) (λ i p. others i (omega (arith, p))) in
         rw (add-one n) (rw (before, here) refl)
+
+-- a chunk inside a part that was written
+pub part-inside : (chunks part : Chunks) (start n k : ℕ) → start + n ≤ length chunks → length part ≡ n → k < n → chunk (put_mid start n chunks part) (start + k) ≡ chunk part k
+part-inside chunks part start n k fits same inside = search (rules, places)
+
+-- a chunk outside a part that was written
+pub part-outside : (chunks part : Chunks) (start n k : ℕ) → start + n ≤ length chunks → length part ≡ n → (k < start) ⊎ (start + n ≤ k) → chunk (put_mid start n chunks part) k ≡ chunk chunks k
+part-outside chunks part start n k fits same outside = search (rules, places)
+
+-- what lies in the rows of a part that was written
+pub row_chunk-here : (chunks part : Chunks) (size i k : ℕ) → i * row_len size + row_len size ≤ length chunks → length part ≡ row_len size → k < row_len size
+    → row_chunk (put_mid (i * row_len size) (row_len size) chunks part) size i k ≡ chunk part k
+unfolding row_chunk
+row_chunk-here chunks part size i k fits same inside = part-inside chunks part (i * row_len size) (row_len size) k fits same inside
+
+pub row_chunk-other : (chunks part : Chunks) (size i j k : ℕ) → i * row_len size + row_len size ≤ length chunks → length part ≡ row_len size → k < row_len size → j ≢ i
+    → row_chunk (put_mid (i * row_len size) (row_len size) chunks part) size j k ≡ row_chunk chunks size j k
+unfolding row_chunk
+row_chunk-other chunks part size i j k fits same inside apart =
+    part-outside chunks part (i * row_len size) (row_len size) (j * row_len size + k) fits same (place_apart i j k (row_len size) inside apart)
+
+-- after a part that is a row was written, the shard in that row is the part's
+pub put-here : (chunks part : Chunks) (size i start n : ℕ) → start ≡ i * row_len size → n ≡ row_len size → start + n ≤ length chunks → length part ≡ n
+    → shard_put (put_mid start n chunks part) size i ≡ laid_out size (λ k. chunk part k)
+put-here chunks part size i start n at width fits same =
+    laid_out-same size (row_chunk (put_mid start n chunks part) size i) (λ k. chunk part k)
+    (λ k inside.
+    ap₂ (λ a w. row_chunk (put_mid a w chunks part) size i k) at width
+    ∙ row_chunk-here chunks part size i k (omega arith) (omega arith) inside)
+
+-- and the shards in the other rows are as they were
+pub put-other : (chunks part : Chunks) (size i j start n : ℕ) → start ≡ i * row_len size → n ≡ row_len size → start + n ≤ length chunks → length part ≡ n → j ≢ i
+    → shard_put (put_mid start n chunks part) size j ≡ shard_put chunks size j
+put-other chunks part size i j start n at width fits same apart =
+    laid_out-same size (row_chunk (put_mid start n chunks part) size j) (row_chunk chunks size j)
+    (λ k inside.
+    ap₂ (λ a w. row_chunk (put_mid a w chunks part) size j k) at width
+    ∙ row_chunk-other chunks part size i j k (omega arith) (omega arith) inside apart)
+
+-- a chunk of a part that is read
+pub part-read : (chunks : Chunks) (start n k : ℕ) → start + n ≤ length chunks → k < n → chunk (take n (drop start chunks)) k ≡ chunk chunks (start + k)
+part-read chunks start n k fits inside = search (rules, places)
+
+pub moved-read : (chunks : Chunks) (size i start n m : ℕ) → start ≡ i * row_len size → n ≡ row_len size → m ≡ n → start + n ≤ length chunks
+    → in_order size (λ k. chunk (take m (drop start chunks)) k) ≡ shard_moved chunks size i
+unfolding row_chunk
+moved-read chunks size i start n m at width same fits =
+    in_order-same size (λ k. chunk (take m (drop start chunks)) k) (row_chunk chunks size i)
+    (λ k inside. ap (λ w. chunk (take w (drop start chunks)) k) same ∙ part-read chunks start n k fits (omega arith) ∙ ap (λ a. chunk chunks (a + k)) at)
+
+-- the length of a part that was written
+pub part_length : (chunks part : Chunks) (start n : ℕ) → start + n ≤ length chunks → length part ≡ length (take n (drop start chunks)) → length part ≡ n
+part_length chunks part start n fits same = same ∙ simp (length-take, length-drop) (omega arith)

@@ -1,3 +1,3 @@
 pub mod PowerLemmas
-pub mod UpTo
 pub mod HeldLemmas
+pub mod StateLemmas

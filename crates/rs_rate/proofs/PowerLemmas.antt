@@ -140,3 +140,17 @@ low_small k r is =
 pub multiple_least : (n m : ℕ) → 0 < n → n % m ≡ 0 → m ≤ n
 multiple_least n m some multiple =
     elim (cases_lt n m) [ | inl less ↦ let same : n % m ≡ n = mod-eq_of_lt less in absurd (omega arith) | inr least ↦ least ]
+
+-- an encoder of the low rate has a row for each recovery shard
+pub low_rows-enough : (k r : ℕ) → supports low_rate k r ≡ true → r ≤ encoder_rows low_rate k r
+low_rows-enough k r is =
+    let known = next_power-small k (low_small k r is) in
+    let m : ℕ = next_power k in
+    let positive : 0 < m = (let p = pow_pos known.0 in omega (arith, known.2)) in
+    let whole : (r + m - 1) / m * m + (r + m - 1) % m ≡ r + m - 1 = div-add-mod' (r + m - 1) m in
+    let rest : (r + m - 1) % m < m = omega arith in
+    let enough : r ≤ rounded_up r m = omega arith in
+    omega (arith, enough, rounded_up-low k r)
+
+pub low_rows-positive : (k r : ℕ) → supports low_rate k r ≡ true → 0 < encoder_rows low_rate k r
+low_rows-positive k r is = let fits = low_fits k r is in let enough = low_rows-enough k r is in omega arith

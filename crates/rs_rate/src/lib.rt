@@ -2,7 +2,6 @@
 #![tactic(auto)]
 
 mod encoder_result;
-mod layout;
 pub mod rate;
 
 pub use encoder_result::EncoderResult;

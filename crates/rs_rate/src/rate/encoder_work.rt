@@ -6,7 +6,7 @@ ghost use Rattle.rs_field.specs.Outcome.{answer_of, state_after};
 ghost use Rattle.rs_field.specs.Encoder.{fresh_encoder, with_shard, message_of};
 ghost use Rattle.rs_rate.specs.Held.{chunks_of, room_of, chunk_count as chunk_count_of, shard_put, shard_moved};
 
-use crate::layout::{insert, row_len, shard_of};
+use rs_field::engine::layout::{insert, row_len, shard_of};
 use rs_field::error::Error;
 use std::alloc::Global;
 
@@ -56,8 +56,8 @@ impl EncoderWork {
         requires recovery_rows { recovery_count ≤ row_count }
         ensures ok { OnOk result ((rate : Rate) → encoder_state rate self.new ≡ fresh_encoder (configuration rate original_count recovery_count shard_bytes)) }
         ensures err { OnErr result ((rate : Rate) → encoder_state rate self.new ≡ encoder_state rate self.old) }
-        ensures rows { OnOk result (self.new.row_count ≡ row_count) }
-        ensures same_rows { OnErr result (self.new.row_count ≡ self.old.row_count) }
+        ensures counts { OnOk result ((self.new.original_count ≡ original_count) × (self.new.recovery_count ≡ recovery_count) × (self.new.shard_bytes ≡ shard_bytes) × (self.new.row_count ≡ row_count)) }
+        ensures same_counts { OnErr result ((self.new.original_count ≡ self.old.original_count) × (self.new.recovery_count ≡ self.old.recovery_count) × (self.new.shard_bytes ≡ self.old.shard_bytes) × (self.new.row_count ≡ self.old.row_count)) }
         ensures memory { IfErr result (λ e. e ≡ Error.OutOfMemory) }
         ensures overflow { IfOk result (λ _. chunk_count_of row_count shard_bytes * 64 < 2 ^ 64) }
         ensures enough { chunk_count_of row_count shard_bytes * 64 < 2 ^ 64 → chunk_count_of row_count shard_bytes ≤ work_room self.old → IsOk result }
@@ -81,7 +81,7 @@ impl EncoderWork {
         ensures answer { (rate : Rate) → result ≡ answer_of (with_shard (encoder_state rate self.old) original_shard.now) }
         ensures left { (rate : Rate) → encoder_state rate self.new ≡ state_after (encoder_state rate self.old) (with_shard (encoder_state rate self.old) original_shard.now) }
         ensures room { work_room self.new ≡ work_room self.old }
-        ensures rows { self.new.row_count ≡ self.old.row_count }
+        ensures counts { (self.new.original_count ≡ self.old.original_count) × (self.new.recovery_count ≡ self.old.recovery_count) × (self.new.shard_bytes ≡ self.old.shard_bytes) × (self.new.row_count ≡ self.old.row_count) }
     {
         if self.original_received_count == self.original_count {
             return Err(Error::TooManyOriginalShards {
@@ -192,6 +192,7 @@ fn insert_held(held: &mut Option<Vec<[u8; 64]>>, shard: &[u8], index: usize)
 }
 
 // Puts a shard into row `index` of rows of its size.
+#[tactic(auto, using(crate::proofs::HeldLemmas::row_end))]
 fn insert_at(chunks: &mut [[u8; 64]], shard: &[u8], index: usize)
     requires room { chunk_count_of (index + 1) (length shard.now) ≤ length chunks.old }
     requires even { length shard.now % 2 ≡ 0 }
@@ -204,6 +205,7 @@ fn insert_at(chunks: &mut [[u8; 64]], shard: &[u8], index: usize)
 }
 
 // The shard that lies in row `index`, once its tail was moved.
+#[tactic(auto, using(crate::proofs::HeldLemmas::row_end))]
 fn shard_at(chunks: &[[u8; 64]], shard_bytes: usize, index: usize) -> &[u8]
     requires { chunk_count_of (index + 1) shard_bytes ≤ length chunks.now }
     ensures { result.now ≡ shard_moved chunks.now shard_bytes index }

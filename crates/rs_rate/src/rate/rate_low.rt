@@ -121,7 +121,7 @@ fn encode_work<E: Engine>(engine: &E, steps: &mut Steps, work: &mut EncoderWork)
     requires full { work.old.original_received_count ≡ work.old.original_count }
     ensures state { encoder_state low_rate work.new ≡ fresh_encoder (configuration low_rate work.old.original_count work.old.recovery_count work.old.shard_bytes) }
     ensures recovery { AreRecovery (configuration low_rate work.old.original_count work.old.recovery_count work.old.shard_bytes) (given_of work.old) (lent_of work.new) }
-    ensures rows { work.new.row_count ≡ work.old.row_count }
+    ensures counts { (work.new.original_count ≡ work.old.original_count) × (work.new.recovery_count ≡ work.old.recovery_count) × (work.new.shard_bytes ≡ work.old.shard_bytes) × (work.new.row_count ≡ work.old.row_count) }
     ensures room { work_room work.new ≡ work_room work.old }
 {
     let original_count = work.original_count;

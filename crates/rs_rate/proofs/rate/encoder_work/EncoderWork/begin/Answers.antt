@@ -1,5 +1,5 @@
 use Rattle.std.proofs.Common.{rules, ◌≡◌, ◌≤◌, arith}
-use Rattle.rs_rate.proofs.UpTo.{length-up_to}
+use Rattle.rs_field.proofs.LayoutLemmas.{length-up_to}
 use Rattle.rs_rate.proofs.rate.encoder_work.EncoderWork.begin.Goals as goal
 
 pub returns-then-self : goal.returns-then-self

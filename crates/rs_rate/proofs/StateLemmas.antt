@@ -1,0 +1,153 @@
+-- Steps of an encoder's state, and what setting up answers.
+use Rattle.std.proofs.Common.{◌≡◌, ℕ, ◌<◌, ◌≤◌, ◌*◌, ◌^◌, ◌%◌, ◌++◌, ◌∷◌, [], length, refl, sym, ap, ◌∙◌, subst, inl, inr, Bool, true, false, cond, arith}
+use Rattle.std.specs.Prelude.{nat_le, Result, Ok, Err, IsOk, OnOk, OnErr, IfOk, IfErr, not, ◌||◌, ◌==◌, Option, Some, None, IfSome, List, nat_lt, is_ok, IsOkAnd, MatchResult}
+use Rattle.std.proofs.lemmas.Bool.{lt-leb, le-leb, eq-eqb, cases_lt, eqb-false, ltb-false}
+use Rattle.rs_field.specs.declared.error.Error.{Error}
+use Rattle.rs_field.specs.declared.error.Error.TheVariants.{OutOfMemory, UnsupportedShardCount, InvalidShardSize, TooFewOriginalShards}
+use Rattle.rs_field.specs.Column.{Shard}
+use Rattle.rs_field.specs.Counts.{Rate, supports}
+use Rattle.rs_field.specs.Outcome.{answer_of, state_after, result_and_then}
+use Rattle.rs_field.specs.Configuration.{Configuration, validated, space, started, UpToMemory}
+use Rattle.rs_field.specs.Encoder.{EncoderState, fresh_encoder, with_shard, message_of, EncodeAnswers, after_encode}
+use Rattle.rs_field.specs.Code.{AreRecovery}
+use Rattle.rs_rate.specs.Held.{chunk_count}
+
+-- a shard of the size is added where there is room
+pub with_shard-added : (s : EncoderState) (shard : Shard) → length s.given < s.configuration.original_count → length shard ≡ s.configuration.shard_bytes
+    → state_after s (with_shard s shard) ≡ record s { given = s.given ++ shard ∷ [] }
+with_shard-added s shard room same =
+    rw (lt-leb s.configuration.original_count (length s.given) room, eq-eqb (length shard) s.configuration.shard_bytes same) refl
+
+-- the bytes of rows are those of their chunks
+space-is : (rows size : ℕ) → space rows size ≡ chunk_count rows size * 64
+unfolding chunk_count
+space-is rows size = refl
+
+-- what setting up answers for a valid configuration, by its space
+started-valid : (rows : ℕ) (c : Configuration) → validated c ≡ Ok tt
+    → started rows c ≡ cond (nat_le (2 ^ 64) (chunk_count rows c.shard_bytes * 64)) (Err OutOfMemory) (Ok tt)
+unfolding chunk_count
+started-valid rows c valid =
+    ap (result_and_then (λ _. cond (nat_le (2 ^ 64) (space rows c.shard_bytes)) (Err OutOfMemory) (Ok tt))) valid
+
+-- a valid configuration whose space is no `usize` lacks memory
+pub started-roomy : (rows : ℕ) (c : Configuration) → validated c ≡ Ok tt → chunk_count rows c.shard_bytes * 64 < 2 ^ 64 → started rows c ≡ Ok tt
+started-roomy rows c valid fits =
+    started-valid rows c valid ∙ ap (λ (b : Bool). cond b (Err OutOfMemory) (Ok tt)) (lt-leb (2 ^ 64) (chunk_count rows c.shard_bytes * 64) fits)
+
+pub started-large : (rows : ℕ) (c : Configuration) → validated c ≡ Ok tt → 2 ^ 64 ≤ chunk_count rows c.shard_bytes * 64 → started rows c ≡ Err OutOfMemory
+started-large rows c valid large =
+    started-valid rows c valid ∙ ap (λ (b : Bool). cond b (Err OutOfMemory) (Ok tt)) (le-leb (2 ^ 64) (chunk_count rows c.shard_bytes * 64) large)
+
+pub started-refused : (rows : ℕ) (c : Configuration) (e : Error) → validated c ≡ Err e → started rows c ≡ Err e
+started-refused rows c e refused =
+    ap (result_and_then (λ _. cond (nat_le (2 ^ 64) (space rows c.shard_bytes)) (Err OutOfMemory) (Ok tt))) refused
+
+-- what may be answered: the refusal of a configuration
+pub answers-refused : (rows : ℕ) (c : Configuration) (e : Error) → Err e ≡ validated c → UpToMemory (started rows c) (Err e)
+answers-refused rows c e refused = inl (sym (started-refused rows c e (sym refused)))
+
+-- success, where the space is a `usize`
+pub answers-made : (rows : ℕ) (c : Configuration) → validated c ≡ Ok tt → chunk_count rows c.shard_bytes * 64 < 2 ^ 64 → UpToMemory (started rows c) (Ok tt)
+answers-made rows c valid fits = inl (sym (started-roomy rows c valid fits))
+
+-- want of memory, for any valid configuration
+pub answers-short : (rows : ℕ) (c : Configuration) (e : Error) → validated c ≡ Ok tt → e ≡ OutOfMemory → UpToMemory (started rows c) (Err e)
+answers-short rows c e valid short =
+    elim (cases_lt (chunk_count rows c.shard_bytes * 64) (2 ^ 64)) [
+      | inl fits ↦ inr (subst (λ (r : Result (Unit {0}) Error). IsOk r) (sym (started-roomy rows c valid fits)) is_made, ap Err short)
+      | inr large ↦ inl (ap Err short ∙ sym (started-large rows c valid large))
+    ]
+  where
+    is_made : IsOk {E = Error} (Ok (let made : Unit {0} = tt in made))
+    is_made = refl
+
+-- what holds at each rate after a success, or after a refusal, holds at one
+pub on_ok-at : {S : Type 0} (rate : Rate) (result : Result S Error) (P : Rate → Type 0) → OnOk result ((each : Rate) → P each) → OnOk result (P rate)
+on_ok-at rate (Ok x) P h = h rate
+on_ok-at rate (Err e) P h = tt
+
+pub on_err-at : {S : Type 0} (rate : Rate) (result : Result S Error) (P : Rate → Type 0) → OnErr result ((each : Rate) → P each) → OnErr result (P rate)
+on_err-at rate (Ok x) P h = tt
+on_err-at rate (Err e) P h = h rate
+
+-- what the growth of rows may answer, for a valid configuration
+pub answers-grown : (rows : ℕ) (c : Configuration) (result : Result (Unit {0}) Error) → validated c ≡ Ok tt
+    → IfErr result (λ e. e ≡ OutOfMemory) → IfOk result (λ _. chunk_count rows c.shard_bytes * 64 < 2 ^ 64) → UpToMemory (started rows c) result
+answers-grown rows c (Ok tt) valid short fits = answers-made rows c valid fits
+answers-grown rows c (Err e) valid short fits = answers-short rows c e valid short
+
+-- the refusals of a configuration, by the tests of its counts and of its size
+abbrev tested : Configuration → Bool → Bool → Bool → Result (Unit {0}) Error
+tested c supported none odd =
+    cond (not supported) (Err (UnsupportedShardCount c.original_count c.recovery_count)) (cond (none || odd) (Err (InvalidShardSize c.shard_bytes)) (Ok tt))
+
+-- a valid configuration has counts that its rate supports
+pub valid-supported : (c : Configuration) → validated c ≡ Ok tt → supports c.rate c.original_count c.recovery_count ≡ true
+valid-supported c valid = by_support (supports c.rate c.original_count c.recovery_count) valid
+  where
+    by_support : (b : Bool) → tested c b (c.shard_bytes == 0) (c.shard_bytes % 2 == 1) ≡ Ok tt → b ≡ true
+    by_support true h = refl
+    by_support false h = absurd (let no : ⊥ = cc in no)
+
+-- and an even positive size
+pub valid-size : (c : Configuration) → validated c ≡ Ok tt → (0 < c.shard_bytes) × (c.shard_bytes % 2 ≡ 0)
+valid-size c valid =
+    by_size (c.shard_bytes == 0) (c.shard_bytes % 2 == 1) refl refl
+    (ap (λ b. tested c b (c.shard_bytes == 0) (c.shard_bytes % 2 == 1)) (sym (valid-supported c valid)) ∙ valid)
+  where
+    by_size : (none odd : Bool) → (c.shard_bytes == 0) ≡ none → (c.shard_bytes % 2 == 1) ≡ odd → tested c true none odd ≡ Ok tt
+        → (0 < c.shard_bytes) × (c.shard_bytes % 2 ≡ 0)
+    by_size true odd e f h = absurd (let no : ⊥ = cc in no)
+    by_size false true e f h = absurd (let no : ⊥ = cc in no)
+    by_size false false e f h =
+        let some = eqb-false c.shard_bytes 0 e in
+        let even = eqb-false (c.shard_bytes % 2) 1 f in
+        (omega arith, omega arith)
+
+-- what holds of every value holds of one that may be there
+pub if_some-every : {S : Type 0} (o : Option S) (P : S → Type 0) → ((x : S) → P x) → IfSome o P
+if_some-every None P every = tt
+if_some-every (Some x) P every = every x
+
+-- an encoder that lacks originals keeps its state
+pub after_encode-refused : (s : EncoderState) (e : Error) → Err e ≡ answer_of (message_of s) → s ≡ after_encode s
+after_encode-refused s e refused = by_message (message_of s) refused
+  where
+    by_message : (m : Result (List Shard) Error) → Err e ≡ answer_of m → s ≡ cond (is_ok m) (fresh_encoder s.configuration) s
+    by_message (Ok message) h = absurd (let no : ⊥ = cc in no)
+    by_message (Err f) h = refl
+
+-- what `encode` answers, by the message that an encoder holds
+abbrev AnswersOf : EncoderState → Result (List Shard) Error → Result (List Shard) Error → Type 0
+AnswersOf s m result = MatchResult m (λ message. IsOkAnd result (AreRecovery s.configuration message)) (λ e. result ≡ Err e)
+
+-- and answers the refusal
+pub encode_answers-refused : (s : EncoderState) (e : Error) → Err e ≡ answer_of (message_of s) → EncodeAnswers s (Err e)
+encode_answers-refused s e refused = by_message (message_of s) refused
+  where
+    by_message : (m : Result (List Shard) Error) → Err e ≡ answer_of m
+        → AnswersOf s m (Err e)
+    by_message (Ok message) h = absurd (let no : ⊥ = cc in no)
+    by_message (Err f) h = let same : e ≡ f = cc in ap Err same
+
+-- an encoder that may encode has its message whole
+pub message-whole : (s : EncoderState) → Ok tt ≡ answer_of (message_of s) → (s.configuration.original_count ≤ length s.given) × (message_of s ≡ Ok s.given)
+message-whole s made = by_test (nat_lt (length s.given) s.configuration.original_count) refl made
+  where
+    tests : Bool → Result (List Shard) Error
+    tests b = cond b (Err (TooFewOriginalShards s.configuration.original_count (length s.given))) (Ok s.given)
+    by_test : (b : Bool) → nat_lt (length s.given) s.configuration.original_count ≡ b → Ok tt ≡ answer_of (tests b)
+        → (s.configuration.original_count ≤ length s.given) × (tests b ≡ Ok s.given)
+    by_test true e h = absurd (let no : ⊥ = cc in no)
+    by_test false e h = (ltb-false (length s.given) s.configuration.original_count e, refl)
+
+-- after a round nothing is given
+pub after_encode-made : (s : EncoderState) → Ok tt ≡ answer_of (message_of s) → after_encode s ≡ fresh_encoder s.configuration
+after_encode-made s made = ap (λ (m : Result (List Shard) Error). cond (is_ok m) (fresh_encoder s.configuration) s) (message-whole s made).1
+
+-- the answer of a round
+pub encode_answers-made : (s : EncoderState) (recovery : List Shard) → Ok tt ≡ answer_of (message_of s) → AreRecovery s.configuration s.given recovery → EncodeAnswers s (Ok recovery)
+encode_answers-made s recovery made right =
+    subst (λ (m : Result (List Shard) Error). AnswersOf s m (Ok recovery))
+    (sym (message-whole s made).1) right
