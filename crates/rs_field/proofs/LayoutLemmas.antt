@@ -1,12 +1,12 @@
 -- Where the bytes of a shard lie in a row, and that its columns are the symbols of the row's chunks.
-use Rattle.std.proofs.Common.{◌≡◌, ℕ, zero, suc, ◌+◌, ◌-◌, ◌*◌, ◌/◌, ◌%◌, ◌<◌, ◌≤◌, List, [], ◌∷◌, ◌++◌, length, get_or, min, take, drop, All, Bool, true, false, cond, sym, ap, ap₂, ◌∙◌, refl, subst, arith, inl, inr, add-one, length-append}
+use Rattle.std.proofs.Common.{◌≡◌, ℕ, zero, suc, ◌+◌, ◌-◌, ◌*◌, ◌/◌, ◌%◌, ◌<◌, ◌≤◌, List, [], ◌∷◌, ◌++◌, length, get_or, min, take, drop, All, false, cond, sym, ap, ap₂, ◌∙◌, refl, subst, arith, inl, inr, add-one, length-append}
 use Rattle.std.specs.Prelude.{slice_index, nat_lt}
 use Rattle.std.proofs.Math.Nat.{min-eq_left, min-eq_right}
 use Rattle.std.proofs.Math.Seq.{get_or-append_seam}
 use Rattle.std.proofs.lemmas.Bool.{cases_lt, lt-ltb}
 use Rattle.std.proofs.lemmas.Bool.Decides.{nat_tests}
 use Rattle.std.proofs.lemmas.List.{ext_get_or, get_or_append_left, get_or-append_right, get_or-take, get_or-drop, length-take-le}
-use Rattle.rs_field.specs.Column.{Shard, IsShard, column, chunk_words}
+use Rattle.rs_field.specs.Column.{Shard, IsShard, column}
 use Rattle.std.specs.List.{flat_map}
 use Rattle.rs_field.specs.Rows.{chunk, symbol}
 use Rattle.rs_field.specs.Layout.{row_len, up_to, place, laid_out, in_order}

@@ -5,7 +5,7 @@
 //! other bytes of the last chunk are open.
 ghost use Rattle.std.specs.Prelude.{◌≡◌, ℕ, ◌+◌, ◌*◌, ◌/◌, ◌%◌, ◌<◌, ◌≤◌, length, slice_index};
 ghost use Rattle.rs_field.specs.Layout.{row_len as chunks_for, laid_out, in_order};
-ghost use Rattle.rs_field.specs.Rows.{chunk, SameOutside};
+ghost use Rattle.rs_field.specs.Rows.{chunk};
 
 /// How many chunks a row of shards of this size has.
 pub fn row_len(shard_bytes: usize) -> usize

@@ -1,4 +1,4 @@
-use Rattle.std.proofs.Common.{[], ◌≡◌, ◌≢◌, ◌∙◌, ℕ, ◌<◌, ◌+◌, ◌%◌, ◌/◌, length, arith, refl, ap, get_or-set_other, get_or-set_same}
+use Rattle.std.proofs.Common.{[], ◌≡◌, ◌∙◌, ◌<◌, ◌+◌, ◌%◌, ◌/◌, length, arith, refl, ap, get_or-set_other, get_or-set_same}
 use Rattle.std.specs.Prelude.{slice_index}
 use Rattle.rs_field.proofs.LayoutLemmas.{in_order-is}
 use Rattle.rs_field.proofs.engine.layout.undo_last_chunk_encoding.Goals as goal

@@ -1,0 +1,62 @@
+//! Bytes as hexadecimal digits, and back.
+ghost use Rattle.std.specs.Prelude.{◌≡◌, ◌∷◌, [], ◌++◌, IfOk, IfErr, MatchResult};
+ghost use Rattle.std.specs.Option.{option_map};
+ghost use Rattle.std.specs.String.{string_bytes};
+ghost use Rattle.rs.specs.Hex.{bytes_of_hex, hex_of};
+
+use hex::FromHexError;
+use rs_field::error::Error;
+use std::alloc::Global;
+
+/// The bytes of a HEX, or None for another text.
+pub fn word(alloc: Global, text: &str) -> Result<Option<Vec<u8>>, Error>
+    ensures { MatchResult result (λ o. option_map (λ v. v.items) o ≡ bytes_of_hex text.now) (λ e. e ≡ Error.OutOfMemory) }
+{
+    match hex::decode(alloc, text) {
+        Ok(bytes) => Ok(Some(bytes)),
+        Err(e) => match e {
+            FromHexError::OutOfMemory => Err(Error::OutOfMemory),
+            _ => Ok(None),
+        },
+    }
+}
+
+/// The HEX of bytes in lower case, and a line end.
+pub fn line(alloc: Global, bytes: &[u8]) -> Result<String, Error>
+    ensures text { IfOk result (λ t. string_bytes t ≡ hex_of bytes.now ++ 10 ∷ []) }
+    ensures refused { IfErr result (λ e. e ≡ Error.OutOfMemory) }
+{
+    let mut text = hex::encode(alloc, bytes)?;
+    text.push_str("\n")?;
+    Ok(text)
+}
+
+#[cfg(test)]
+mod tests {
+    use super::*;
+    use std::test::Fail;
+
+    #[test]
+    fn words_are_read(rt: HostRuntime) -> Result<(), Fail> {
+        let alloc = rt.alloc();
+        let bytes: [u8; 3] = [0x0a, 0xff, 0x90];
+        let read = word(alloc, "0aFf90")?;
+        assert!(rt; read.is_some_and(|b| b.as_slice() == bytes.as_slice()));
+        let none = word(alloc, "")?;
+        assert!(rt; none.is_some_and(|b| b.is_empty()));
+        for text in [
+            "0", "0aF", "0g", "g0", "/0", "0:", "@0", "0G", "`0", "+1", " 1", "0x", "\u{e9}",
+        ] {
+            assert!(rt; word(alloc, text)?.is_none(), "{text:?}");
+        }
+        Ok(())
+    }
+
+    #[test]
+    fn lines_are_written(rt: HostRuntime) -> Result<(), Fail> {
+        let alloc = rt.alloc();
+        assert_eq!(rt; line(alloc, &[0x0a, 0xff, 0x90])?.as_str(), "0aff90\n");
+        assert_eq!(rt; line(alloc, &[])?.as_str(), "\n");
+        Ok(())
+    }
+}
