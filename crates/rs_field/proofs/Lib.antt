@@ -11,3 +11,4 @@ pub mod XorSolver
 pub mod RingSolver
 pub mod Runs
 pub mod Places
+pub mod Symbols

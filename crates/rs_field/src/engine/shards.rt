@@ -11,9 +11,9 @@ use std::ops::Range;
 /// A list of rows of equal length, each a list of chunks of 64 bytes, over one lent slice.
 #[derive(Drop)]
 pub struct ShardsRefMut<'a> {
-    shard_count: usize,
-    shard_len_64: usize,
-    chunks: &'a mut [[u8; 64]],
+    pub(crate) shard_count: usize,
+    pub(crate) shard_len_64: usize,
+    pub(crate) chunks: &'a mut [[u8; 64]],
     // It takes no bytes. With it the checker reads from a row's loan what becomes of the list.
     marker: UnsafeCell<()>,
 }
