@@ -12,3 +12,7 @@ pub mod RingSolver
 pub mod Runs
 pub mod Places
 pub mod Symbols
+pub mod Combination
+pub mod Factors
+pub mod Halves
+pub mod Coefficients
