@@ -19,6 +19,12 @@ pub half_power : (size : ℕ) → 1 < size → (d : ℕ) × (size ≡ 2 ^ d) →
 half_power size h (zero, is) = absurd (let no : ⊥ = omega arith in no)
 half_power size h (suc e, is) = (e, is, let p = pow-suc 2 e in omega arith)
 
+pub two_halves : (size : ℕ) → 1 < size → (d : ℕ) × (size ≡ 2 ^ d) → size ≡ size / 2 + size / 2
+two_halves size h power =
+    let p = half_power size h power in
+    let s = pow-suc 2 p.0 in
+    omega (arith, p.1, p.2)
+
 -- a transform has no more points than there are words
 pub few_halves : (size e shift : ℕ) → size ≡ 2 ^ suc e → shift + size ≤ 65536 → e < 16
 few_halves size e shift is fits =

@@ -16,3 +16,4 @@ pub mod Combination
 pub mod Factors
 pub mod Halves
 pub mod Coefficients
+pub mod Recursion

@@ -36,6 +36,25 @@ pub trait Butterfly {
             → symbol (chunk y.new k) s ≡ bit_xor (symbol (chunk y.old k) s) (symbol (chunk x.old k) s) };
 }
 
+// A symbol is a word, as its bytes are bytes. This and the two functions below do nothing when they run: they tell the
+// checker so where a transform of one row leaves that row as it is.
+fn rows_fit(rows: &ShardsRefMut<'_>)
+    requires { Fits rows.now }
+    ensures { (k s i : ℕ) → k < rows.now.shard_len_64 → s < 32 → i < rows.now.shard_count → word rows.now k s i < 65536 }
+{
+    symbols_fit(rows.chunks);
+}
+
+fn symbols_fit(chunks: &[[u8; 64]])
+    ensures { (k s : ℕ) → k < length chunks.now → s < 32 → symbol (chunk chunks.now k) s < 65536 }
+{
+    bytes_fit(chunks.as_flattened());
+}
+
+fn bytes_fit(bytes: &[u8])
+    ensures { (j : ℕ) → slice_index bytes.now j < 256 }
+{}
+
 // The forward butterfly of the n chunks from a on and those from b on.
 fn fft_parts<B: Butterfly>(
     butterfly: &B,
@@ -208,7 +227,9 @@ pub fn fft<B: Butterfly>(
         → word rows.new k s (pos + i) ≡ forward size skew_delta (λ q. word rows.old k s (pos + q)) i }
     ensures counts { TransformCounts size steps.old steps.new }
 {
-    if size > 1 && truncated_size > 0 {
+    if size == 1 {
+        rows_fit(rows);
+    } else if truncated_size > 0 {
         let half = size / 2;
         let low = truncated_size.min(half);
         let log_m = skew[skew_delta + half - 1];
@@ -258,7 +279,9 @@ pub fn ifft<B: Butterfly>(
         → word rows.old k s (pos + i) ≡ forward size skew_delta (λ q. word rows.new k s (pos + q)) i }
     ensures counts { TransformCounts size steps.old steps.new }
 {
-    if size > 1 && truncated_size > 0 {
+    if size == 1 {
+        rows_fit(rows);
+    } else if truncated_size > 0 {
         let half = size / 2;
         let low = truncated_size.min(half);
         let log_m = skew[skew_delta + half - 1];
@@ -279,14 +302,3 @@ pub fn ifft<B: Butterfly>(
         ifft_block(butterfly, steps, rows, pos, half, log_m);
     }
 }
-
-// Every symbol is a word, as its bytes are bytes. It does nothing when it runs.
-fn symbols_fit(chunks: &[[u8; 64]])
-    ensures { (k s : ℕ) → k < length chunks.now → s < 32 → symbol (chunk chunks.now k) s < 65536 }
-{
-    bytes_fit(chunks.as_flattened());
-}
-
-fn bytes_fit(bytes: &[u8])
-    ensures { (j : ℕ) → slice_index bytes.now j < 256 }
-{}
