@@ -12,3 +12,9 @@ pub mod RingSolver
 pub mod Runs
 pub mod Places
 pub mod LayoutLemmas
+pub mod Symbols
+pub mod Combination
+pub mod Factors
+pub mod Halves
+pub mod Coefficients
+pub mod Recursion

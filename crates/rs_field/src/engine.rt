@@ -6,12 +6,16 @@ ghost use Rattle.rs_field.specs.Rows.{chunk, symbol};
 ghost use Rattle.rs_field.specs.View.{word, Fits, SamePlace, SameRowsOutside, AreZero};
 ghost use Rattle.rs_field.specs.Bounds.{TransformCounts, RowProductCounts};
 
+pub mod engine_naive;
 pub mod layout;
 pub mod rows;
 pub mod shards;
 mod steps;
 pub mod tables;
+pub mod transform;
+pub mod utils;
 
+pub use engine_naive::Naive;
 pub use shards::ShardsRefMut;
 pub use steps::Steps;
 

@@ -1,0 +1,65 @@
+-- A sum of basis polynomials with a power of two of terms is a polynomial with as many coefficients.
+use Rattle.std.proofs.Common.{◌≡◌, ℕ, zero, suc, ◌+◌, ◌-◌, ◌*◌, ◌^◌, ◌<◌, ◌≤◌, List, [], ◌∷◌, length, bit_xor, refl, ap, ap₂, sym, ◌∙◌, arith, pow-suc, add-zero, zero-add}
+use Rattle.std.specs.Prelude.{All}
+use Rattle.std.specs.Int.Bits.{xor_comm, xor_zero_l, xor_zero_r}
+use Rattle.rs_field.specs.Field.{product}
+use Rattle.rs_field.specs.Polynomial.{value}
+use Rattle.rs_field.specs.Subspace.{product_below, subspace, basis}
+use Rattle.rs_field.specs.Transform.{forward}
+use Rattle.rs_field.proofs.Product.{product_lt, product_zero}
+use Rattle.rs_field.proofs.Total.{product-comm}
+use Rattle.rs_field.proofs.Roots.{AreWords, value-nil, value-cons}
+use Rattle.rs_field.proofs.Subspace.{product_below-same}
+use Rattle.rs_field.proofs.Factors.{add, points, times, value_add, value-times, length-add, length-times, words_add, words_times, all_words}
+use Rattle.rs_field.proofs.Combination.{sum_below-suc, sum_below-zero, basis-zero, forward_is, forward-half}
+
+subspace_is : (e x : ℕ) → product_below (2 ^ e) (λ i. bit_xor x (0 + i)) ≡ subspace e x
+unfolding subspace
+subspace_is e x = product_below-same (2 ^ e) (λ i. bit_xor x (0 + i)) (λ y. bit_xor x y) (λ i h. ap (bit_xor x) (zero-add i))
+
+of_one : (f : ℕ → ℕ) (x : ℕ) → forward 1 0 f x ≡ product (f 0) 1
+of_one f x =
+    forward_is 1 0 f x ∙ sum_below-suc 0 (λ q. product (f q) (basis q (0 + x)))
+    ∙ ap₂ bit_xor (sum_below-zero 0 (λ q. product (f q) (basis q (0 + x))) (λ q h. let no : ⊥ = omega arith in absurd no))
+    (ap (product (f 0)) (basis-zero (0 + x)))
+
+of_constant : (c x : ℕ) → value (c ∷ []) x ≡ c
+of_constant c x = value-cons c [] x ∙ ap (bit_xor c) (ap (product x) (value-nil x) ∙ product_zero x) ∙ xor_zero_r c
+
+-- the coefficients of the sum of 2 ^ e basis polynomials, at every point
+coefficients : (e : ℕ) (f : ℕ → ℕ) → e ≤ 16
+    → (p : List ℕ) × (length p ≡ 2 ^ e) × AreWords p × ((x : ℕ) → value p x ≡ forward (2 ^ e) 0 f x)
+coefficients zero f he =
+    (product (f 0) 1 ∷ [], refl, (product_lt (f 0) 1, tt), λ x. of_constant (product (f 0) 1) x ∙ sym (of_one f x))
+coefficients (suc e) f he =
+    let low = coefficients e f (omega arith) in
+    let high = coefficients e (λ q. f (2 ^ e + q)) (omega arith) in
+    joined e f (omega arith) low.0 low.1 low.2 low.3 high.0 high.1 high.2 high.3
+  where
+    joined : (e : ℕ) (f : ℕ → ℕ) → e < 16
+        → (p : List ℕ) → length p ≡ 2 ^ e → AreWords p → ((x : ℕ) → value p x ≡ forward (2 ^ e) 0 f x)
+        → (q : List ℕ) → length q ≡ 2 ^ e → AreWords q → ((x : ℕ) → value q x ≡ forward (2 ^ e) 0 (λ i. f (2 ^ e + i)) x)
+        → (r : List ℕ) × (length r ≡ 2 ^ suc e) × AreWords r × ((x : ℕ) → value r x ≡ forward (2 ^ suc e) 0 f x)
+    joined e f he p size_p words_p at_p q size_q words_q at_q =
+        let n : ℕ = 2 ^ e in
+        let moved : List ℕ = times (points 0 n) q in
+        let size : length (times (points 0 (2 ^ e)) q) ≡ 2 ^ e + length q = length-times 0 (2 ^ e) q in
+        let double : 2 ^ suc e ≡ 2 ^ e * 2 = pow-suc 2 e in (
+          add (times (points 0 (2 ^ e)) q) p,
+          length-add (times (points 0 (2 ^ e)) q) p (omega arith) ∙ omega arith,
+          words_add (times (points 0 (2 ^ e)) q) p (words_times (points 0 (2 ^ e)) q words_q) words_p,
+          λ x.
+              value_add (times (points 0 (2 ^ e)) q) p x
+              ∙ ap₂ bit_xor
+              (value-times 0 (2 ^ e) q words_q x ∙ ap₂ product (subspace_is e x ∙ ap (subspace e) (sym (zero-add x))) (at_q x)
+              ∙ product-comm (subspace e (0 + x)) (forward (2 ^ e) 0 (λ i. f (2 ^ e + i)) x))
+              (at_p x)
+              ∙ xor_comm (product (forward (2 ^ e) 0 (λ i. f (2 ^ e + i)) x) (subspace e (0 + x))) (forward (2 ^ e) 0 f x)
+              ∙ sym (forward-half e 0 f x he),
+        )
+
+-- for n a power of two there are n words that are the coefficients of a polynomial with the values of the sum
+pub combination_polynomial : (e : ℕ) (f : ℕ → ℕ) → e ≤ 16
+    → (p : List ℕ) × (length p ≡ 2 ^ e) × All (λ w. w < 65536) p × ((x : ℕ) → value p x ≡ forward (2 ^ e) 0 f x)
+combination_polynomial e f he =
+    let c = coefficients e f he in (c.0, c.1, all_words c.0 c.2, c.3)

@@ -1,0 +1,10 @@
+use Rattle.std.proofs.Common.{◌≡◌, ℕ, ◌<◌, ◌≤◌}
+use Rattle.rs_field.specs.Rows.{symbol, chunk}
+use Rattle.rs_field.specs.Field.{product, power}
+use Rattle.rs_field.proofs.engine.engine_naive.NaiveEngine.mul.Given as goal
+
+abbrev pub invariant-loop-k : goal.invariant-loop-k
+invariant-loop-k l = record {
+  done : (j s : ℕ) → j < l.k → s < 32 → symbol (chunk l.x j) s ≡ product (symbol (chunk l.initial.x j) s) (power l.log_m);
+  rest : (j : ℕ) → l.k ≤ j → chunk l.x j ≡ chunk l.initial.x j;
+}

@@ -1,0 +1,142 @@
+-- The butterflies come last: the rows before them are those that they make of the rows afterwards.
+use Rattle.std.proofs.Common.{◌≡◌, ℕ, ◌+◌, ◌-◌, ◌*◌, ◌/◌, ◌%◌, ◌^◌, ◌<◌, ◌≤◌, arith, ap, ◌∙◌, sym, refl, subst, inl, inr}
+use Rattle.std.proofs.lemmas.Bool.{cases_lt}
+use Rattle.rs_field.specs.View.{word}
+use Rattle.rs_field.specs.Transform.{forward}
+use Rattle.rs_field.specs.Bounds.{CountsRows, transform_steps}
+use Rattle.rs_field.specs.declared.engine.shards.ShardsRefMut.{ShardsRefMut}
+use Rattle.rs_field.specs.declared.engine.steps.Steps.{Steps}
+use Rattle.rs_field.proofs.Halves.{half_power, two_halves, shift_half}
+use Rattle.rs_field.proofs.Combination.{forward-same}
+use Rattle.rs_field.proofs.Recursion.{fits_kept, word_same, above_one, one_row, zero_rows, IsBlock, IsUpperDone, ifft_lower, ifft_upper, counts_of_whole, counts_both_back, counts_lower_back}
+use Rattle.rs_field.proofs.engine.transform.+ifft.Goals as goal
+use Rattle.rs_field.proofs.engine.transform.+ifft.Goals.{then-truncated_size-half, else-truncated_size-half}
+
+pub ifft-requires : goal.ifft-requires
+ifft-requires g t c κs within =
+    let large : 1 < c.args.size = above_one c.args.size c.if-size-eq1.false c.requires.power in
+    let p = half_power c.args.size large c.requires.power in
+    let s = shift_half c.args.size p.0 c.args.skew_delta p.1 c.requires.shift in (
+      omega arith,
+      (
+        within,
+        (
+          c.requires.skew,
+          (
+            c.requires.fits,
+            ((p.0, p.2), (omega arith, (omega arith, (rw p.2 s.0, (omega arith, λ i k hk from to. c.requires.tail i k hk (omega arith) (omega arith)))))),
+          ),
+        ),
+      ),
+    )
+
+pub ifft-requires-then-truncated_size-half : goal.ifft-requires-then-truncated_size-half
+ifft-requires-then-truncated_size-half g t c κs within =
+    let large : 1 < c.args.size = above_one c.args.size c.if-size-eq1.false c.requires.power in
+    let p = half_power c.args.size large c.requires.power in
+    let place = c.ifft.ensures.place in
+    let s = shift_half c.args.size p.0 c.args.skew_delta p.1 c.requires.shift in
+    let fits = fits_kept c.args.rows.now c.ifft.new.rows place c.requires.fits in (
+      omega arith,
+      (
+        within,
+        (
+          c.requires.skew,
+          (
+            fits,
+            (
+              (p.0, p.2),
+              (
+                omega arith,
+                (
+                  omega arith,
+                  (
+                    rw p.2 s.1,
+                    (
+                      omega arith,
+                      λ i k hk from to. c.ifft.ensures.others i k (omega arith) (inr (omega arith)) ∙ c.requires.tail i k (omega arith) (omega arith) (omega arith),
+                    ),
+                  ),
+                ),
+              ),
+            ),
+          ),
+        ),
+      ),
+    )
+
+pub returns-then-size-eq1-clause-values : goal.returns-then-size-eq1-clause-values
+returns-then-size-eq1-clause-values g t c k s i hk hs hi =
+    one_row c.args.size c.args.skew_delta i (λ q. word c.args.rows.now k s (c.args.pos + q)) c.if-size-eq1.true (omega arith)
+    (c.rows_fit.ensures k s (c.args.pos + 0) hk hs (omega arith))
+
+pub returns-else-truncated_size-gt0-clause-values : goal.returns-else-truncated_size-gt0-clause-values
+returns-else-truncated_size-gt0-clause-values g t c k s i hk hs hi =
+    zero_rows c.args.rows.now k s c.args.pos c.args.size c.args.skew_delta i hs hi
+    (λ q hq. c.requires.tail (c.args.pos + q) k hk (omega arith) (omega arith))
+
+pub returns-after-truncated_size-half-clause-values :
+    goal.returns-after-truncated_size-half-clause-values
+returns-after-truncated_size-half-clause-values g t c k s i hk hs hi =
+    let large : 1 < c.args.size = above_one c.args.size c.if-size-eq1.false c.requires.power in
+    let even = two_halves c.args.size large c.requires.power in
+    let place = c.ifft.ensures.place in
+    let block : IsBlock c.args.skew.now c.args.size c.args.skew_delta = record { table = c.requires.skew; large = large; power = c.requires.power; aligned = c.requires.shift; points = c.requires.points } in
+    let done : IsUpperDone c.ifft.new.rows c.if-truncated_size-half.rows c.args.pos (c.args.size / 2) c.args.skew_delta =
+    elim c.if-truncated_size-half.branch [
+      | then-truncated_size-half w ↦
+          let place_high = w.ifft-then-truncated_size-half.ensures.place in
+          subst (λ (r : ShardsRefMut). IsUpperDone c.ifft.new.rows r c.args.pos (c.args.size / 2) c.args.skew_delta) (sym w.rows-is)
+          (record {
+            len_64 = place_high.len_64;
+            same = λ k q hk hq. w.ifft-then-truncated_size-half.ensures.others (c.args.pos + q) k (omega arith) (inl (omega arith));
+            values = λ k s j hk hs hj. w.ifft-then-truncated_size-half.ensures.values k s j (omega arith) hs (omega arith);
+          })
+      | else-truncated_size-half w ↦
+          subst (λ (r : ShardsRefMut). IsUpperDone c.ifft.new.rows r c.args.pos (c.args.size / 2) c.args.skew_delta) (sym w.rows-is)
+          (record {
+            len_64 = refl;
+            same = λ k q hk hq. refl;
+            values = λ k s j hk hs hj.
+                zero_rows c.ifft.new.rows k s (c.args.pos + c.args.size / 2) (c.args.size / 2) (c.args.skew_delta + c.args.size / 2) j hs hj
+                (λ q hq. c.ifft.ensures.others (c.args.pos + c.args.size / 2 + q) k (omega arith) (inr (omega arith))
+                ∙ c.requires.tail (c.args.pos + c.args.size / 2 + q) k (omega arith) (omega arith) (omega arith));
+          })
+    ] in
+    let len = done.len_64 in
+    elim (cases_lt i (c.args.size / 2)) [
+      | inl low ↦
+          c.ifft.ensures.values k s i (omega arith) hs (omega arith)
+          ∙ forward-same (c.args.size / 2) c.args.skew_delta (λ q. word c.ifft.new.rows k s (c.args.pos + q)) (λ q. word c.if-truncated_size-half.rows k s (c.args.pos + q)) i
+          (λ q hq. sym (word_same c.if-truncated_size-half.rows c.ifft.new.rows k s (c.args.pos + q) (c.args.pos + q) (done.same k q (omega arith) hq)))
+          ∙ ifft_lower c.args.skew.now c.if-truncated_size-half.rows c.ifft_block.new.rows k s c.args.pos c.args.size c.args.skew_delta i block low
+          (λ q hq. c.ifft_block.ensures.first q k s hq (omega arith) hs)
+      | inr high ↦
+          let j : ℕ = i - c.args.size / 2 in
+          let back : c.args.size / 2 + j ≡ i = omega arith in
+          let there : c.args.pos + i ≡ c.args.pos + c.args.size / 2 + j = omega arith in
+          sym (word_same c.ifft.new.rows c.args.rows.now k s (c.args.pos + i) (c.args.pos + i)
+          (c.ifft.ensures.others (c.args.pos + i) k (omega arith) (inr (omega arith))))
+          ∙ ap (λ p. word c.ifft.new.rows k s p) there
+          ∙ done.values k s j (omega arith) hs (omega arith)
+          ∙ ifft_upper c.args.skew.now c.if-truncated_size-half.rows c.ifft_block.new.rows k s c.args.pos c.args.size c.args.skew_delta j block (omega arith)
+          (λ q hq. c.ifft_block.ensures.first q k s hq (omega arith) hs)
+          (λ q hq. c.ifft_block.ensures.second q k s hq (omega arith) hs)
+          ∙ ap (λ p. forward c.args.size c.args.skew_delta (λ q. word c.ifft_block.new.rows k s (c.args.pos + q)) p) back
+    ]
+
+pub returns-after-truncated_size-half-clause-counts :
+    goal.returns-after-truncated_size-half-clause-counts
+returns-after-truncated_size-half-clause-counts g t c =
+    let large : 1 < c.args.size = above_one c.args.size c.if-size-eq1.false c.requires.power in
+    counts_of_whole c.args.size c.args.skew_delta c.args.steps.now c.ifft_block.new.steps large c.requires.power c.requires.points
+    (elim c.if-truncated_size-half.branch [
+      | then-truncated_size-half w ↦
+          counts_both_back (c.args.size / 2) (transform_steps (c.args.size / 2)) c.args.steps.now c.ifft.new.steps w.ifft-then-truncated_size-half.new.steps c.ifft_block.new.steps
+          c.ifft.ensures.counts w.ifft-then-truncated_size-half.ensures.counts
+          (subst (λ (x : Steps). CountsRows (c.args.size / 2) x c.ifft_block.new.steps) w.steps-is c.ifft_block.ensures.counts)
+      | else-truncated_size-half w ↦
+          counts_lower_back (c.args.size / 2) (transform_steps (c.args.size / 2)) c.args.steps.now c.ifft.new.steps c.ifft_block.new.steps
+          c.ifft.ensures.counts
+          (subst (λ (x : Steps). CountsRows (c.args.size / 2) x c.ifft_block.new.steps) w.steps-is c.ifft_block.ensures.counts)
+    ])

@@ -1,0 +1,304 @@
+//! The transforms that engines share: one passage over blocks, cosets and truncation, around a butterfly of two rows.
+//!
+//! The method is that of Lin, Chung and Han in the form of Leopard-RS. A transform of `size` rows is one loop of
+//! butterflies between its two halves and a transform of each half, so the recursion goes depth first and a block
+//! that fits the cache stays in it.
+ghost use Rattle.std.specs.Prelude.{◌≡◌, ℕ, ◌+◌, ◌*◌, ◌%◌, ◌^◌, ◌<◌, ◌≤◌, ◌≢◌, ◌⊎◌, length, slice_index, bit_xor};
+ghost use Rattle.rs_field.specs.Transform.{forward};
+ghost use Rattle.rs_field.specs.Tables.{IsSkew, scaled};
+ghost use Rattle.rs_field.specs.Rows.{chunk, symbol};
+ghost use Rattle.rs_field.specs.View.{cell, word, Fits, SamePlace, SameRowsOutside, AreZero};
+ghost use Rattle.rs_field.specs.Bounds.{CountsRows, TransformCounts};
+
+use super::tables::Skew;
+use super::{GfElement, ShardsRefMut, Steps};
+
+/// What an engine brings to the transforms: the butterfly of two rows, forward and backward.
+///
+/// The factor is given by its logarithm `log_m`; 65535 marks the factor zero.
+// A method on four rows, for two layers at a time, would stand here, with four butterflies of two rows as its default
+// body; `fft` and `ifft` would then go by quarters.
+pub trait Butterfly {
+    /// Adds `y` times the factor to `x`, and then the new `x` to `y`. Both rows have the same number of chunks.
+    fn fft_butterfly(&self, x: &mut [[u8; 64]], y: &mut [[u8; 64]], log_m: GfElement)
+        requires { length x.old ≡ length y.old }
+        ensures first { (k s : ℕ) → k < length x.old → s < 32
+            → symbol (chunk x.new k) s ≡ bit_xor (symbol (chunk x.old k) s) (scaled log_m (symbol (chunk y.old k) s)) }
+        ensures second { (k s : ℕ) → k < length x.old → s < 32
+            → symbol (chunk y.new k) s ≡ bit_xor (symbol (chunk y.old k) s) (symbol (chunk x.new k) s) };
+
+    /// Adds `x` to `y`, and then the new `y` times the factor to `x`. Both rows have the same number of chunks.
+    fn ifft_butterfly(&self, x: &mut [[u8; 64]], y: &mut [[u8; 64]], log_m: GfElement)
+        requires { length x.old ≡ length y.old }
+        ensures first { (k s : ℕ) → k < length x.old → s < 32
+            → symbol (chunk x.new k) s ≡ bit_xor (symbol (chunk x.old k) s) (scaled log_m (symbol (chunk y.new k) s)) }
+        ensures second { (k s : ℕ) → k < length x.old → s < 32
+            → symbol (chunk y.new k) s ≡ bit_xor (symbol (chunk y.old k) s) (symbol (chunk x.old k) s) };
+}
+
+// A symbol is a word, as its bytes are bytes. This and the two functions below do nothing when they run: they tell the
+// checker so where a transform of one row leaves that row as it is.
+fn rows_fit(rows: &ShardsRefMut<'_>)
+    requires { Fits rows.now }
+    ensures { (k s i : ℕ) → k < rows.now.shard_len_64 → s < 32 → i < rows.now.shard_count → word rows.now k s i < 65536 }
+{
+    symbols_fit(rows.chunks);
+}
+
+fn symbols_fit(chunks: &[[u8; 64]])
+    ensures { (k s : ℕ) → k < length chunks.now → s < 32 → symbol (chunk chunks.now k) s < 65536 }
+{
+    bytes_fit(chunks.as_flattened());
+}
+
+fn bytes_fit(bytes: &[u8])
+    ensures { (j : ℕ) → slice_index bytes.now j < 256 }
+{}
+
+// The forward butterfly of the n chunks from a on and those from b on.
+fn fft_parts<B: Butterfly>(
+    butterfly: &B,
+    chunks: &mut [[u8; 64]],
+    a: usize,
+    b: usize,
+    n: usize,
+    log_m: GfElement,
+)
+    requires apart { a + n ≤ b }
+    requires within { b + n ≤ length chunks.old }
+    ensures first { (k s : ℕ) → k < n → s < 32
+        → symbol (chunk chunks.new (a + k)) s ≡ bit_xor (symbol (chunk chunks.old (a + k)) s) (scaled log_m (symbol (chunk chunks.old (b + k)) s)) }
+    ensures second { (k s : ℕ) → k < n → s < 32
+        → symbol (chunk chunks.new (b + k)) s ≡ bit_xor (symbol (chunk chunks.old (b + k)) s) (symbol (chunk chunks.new (a + k)) s) }
+    ensures others { (k : ℕ) → (k < a) ⊎ (a + n ≤ k) → (k < b) ⊎ (b + n ≤ k) → chunk chunks.new k ≡ chunk chunks.old k }
+{
+    let (front, back) = chunks.split_at_mut(b);
+    let x = &mut front[a..a + n];
+    let y = &mut back[..n];
+    butterfly.fft_butterfly(x, y, log_m);
+}
+
+// The backward butterfly of the n chunks from a on and those from b on.
+fn ifft_parts<B: Butterfly>(
+    butterfly: &B,
+    chunks: &mut [[u8; 64]],
+    a: usize,
+    b: usize,
+    n: usize,
+    log_m: GfElement,
+)
+    requires apart { a + n ≤ b }
+    requires within { b + n ≤ length chunks.old }
+    ensures first { (k s : ℕ) → k < n → s < 32
+        → symbol (chunk chunks.new (a + k)) s ≡ bit_xor (symbol (chunk chunks.old (a + k)) s) (scaled log_m (symbol (chunk chunks.new (b + k)) s)) }
+    ensures second { (k s : ℕ) → k < n → s < 32
+        → symbol (chunk chunks.new (b + k)) s ≡ bit_xor (symbol (chunk chunks.old (b + k)) s) (symbol (chunk chunks.old (a + k)) s) }
+    ensures others { (k : ℕ) → (k < a) ⊎ (a + n ≤ k) → (k < b) ⊎ (b + n ≤ k) → chunk chunks.new k ≡ chunk chunks.old k }
+{
+    let (front, back) = chunks.split_at_mut(b);
+    let x = &mut front[a..a + n];
+    let y = &mut back[..n];
+    butterfly.ifft_butterfly(x, y, log_m);
+}
+
+// The forward butterfly of rows a and b.
+fn fft_rows<B: Butterfly>(
+    butterfly: &B,
+    steps: &mut Steps,
+    rows: &mut ShardsRefMut<'_>,
+    a: usize,
+    b: usize,
+    log_m: GfElement,
+)
+    requires fits { Fits rows.old }
+    requires apart { a < b }
+    requires within { b < rows.old.shard_count }
+    ensures place { SamePlace rows.old rows.new }
+    ensures first { (k s : ℕ) → k < rows.old.shard_len_64 → s < 32
+        → word rows.new k s a ≡ bit_xor (word rows.old k s a) (scaled log_m (word rows.old k s b)) }
+    ensures second { (k s : ℕ) → k < rows.old.shard_len_64 → s < 32
+        → word rows.new k s b ≡ bit_xor (word rows.old k s b) (word rows.new k s a) }
+    ensures others { (i k : ℕ) → k < rows.old.shard_len_64 → i ≢ a → i ≢ b → cell rows.new k i ≡ cell rows.old k i }
+    ensures counts { CountsRows 1 steps.old steps.new }
+{
+    steps.row_step();
+    let n = rows.shard_len_64;
+    fft_parts(butterfly, rows.chunks, a * n, b * n, n, log_m);
+}
+
+// The backward butterfly of rows a and b.
+fn ifft_rows<B: Butterfly>(
+    butterfly: &B,
+    steps: &mut Steps,
+    rows: &mut ShardsRefMut<'_>,
+    a: usize,
+    b: usize,
+    log_m: GfElement,
+)
+    requires fits { Fits rows.old }
+    requires apart { a < b }
+    requires within { b < rows.old.shard_count }
+    ensures place { SamePlace rows.old rows.new }
+    ensures first { (k s : ℕ) → k < rows.old.shard_len_64 → s < 32
+        → word rows.new k s a ≡ bit_xor (word rows.old k s a) (scaled log_m (word rows.new k s b)) }
+    ensures second { (k s : ℕ) → k < rows.old.shard_len_64 → s < 32
+        → word rows.new k s b ≡ bit_xor (word rows.old k s b) (word rows.old k s a) }
+    ensures others { (i k : ℕ) → k < rows.old.shard_len_64 → i ≢ a → i ≢ b → cell rows.new k i ≡ cell rows.old k i }
+    ensures counts { CountsRows 1 steps.old steps.new }
+{
+    steps.row_step();
+    let n = rows.shard_len_64;
+    ifft_parts(butterfly, rows.chunks, a * n, b * n, n, log_m);
+}
+
+// The forward butterflies of rows start to start + dist - 1, each with the row that is dist further on.
+fn fft_block<B: Butterfly>(
+    butterfly: &B,
+    steps: &mut Steps,
+    rows: &mut ShardsRefMut<'_>,
+    start: usize,
+    dist: usize,
+    log_m: GfElement,
+)
+    requires fits { Fits rows.old }
+    requires within { start + 2 * dist ≤ rows.old.shard_count }
+    ensures place { SamePlace rows.old rows.new }
+    ensures first { (i k s : ℕ) → i < dist → k < rows.old.shard_len_64 → s < 32
+        → word rows.new k s (start + i) ≡ bit_xor (word rows.old k s (start + i)) (scaled log_m (word rows.old k s (start + dist + i))) }
+    ensures second { (i k s : ℕ) → i < dist → k < rows.old.shard_len_64 → s < 32
+        → word rows.new k s (start + dist + i) ≡ bit_xor (word rows.old k s (start + dist + i)) (word rows.new k s (start + i)) }
+    ensures others { SameRowsOutside start (start + 2 * dist) rows.old rows.new }
+    ensures counts { CountsRows dist steps.old steps.new }
+{
+    for i in 0..dist {
+        fft_rows(butterfly, steps, rows, start + i, start + dist + i, log_m);
+    }
+}
+
+// The backward butterflies of rows start to start + dist - 1, each with the row that is dist further on.
+fn ifft_block<B: Butterfly>(
+    butterfly: &B,
+    steps: &mut Steps,
+    rows: &mut ShardsRefMut<'_>,
+    start: usize,
+    dist: usize,
+    log_m: GfElement,
+)
+    requires fits { Fits rows.old }
+    requires within { start + 2 * dist ≤ rows.old.shard_count }
+    ensures place { SamePlace rows.old rows.new }
+    ensures first { (i k s : ℕ) → i < dist → k < rows.old.shard_len_64 → s < 32
+        → word rows.new k s (start + i) ≡ bit_xor (word rows.old k s (start + i)) (scaled log_m (word rows.new k s (start + dist + i))) }
+    ensures second { (i k s : ℕ) → i < dist → k < rows.old.shard_len_64 → s < 32
+        → word rows.new k s (start + dist + i) ≡ bit_xor (word rows.old k s (start + dist + i)) (word rows.old k s (start + i)) }
+    ensures others { SameRowsOutside start (start + 2 * dist) rows.old rows.new }
+    ensures counts { CountsRows dist steps.old steps.new }
+{
+    for i in 0..dist {
+        ifft_rows(butterfly, steps, rows, start + i, start + dist + i, log_m);
+    }
+}
+
+/// The forward transform of the `size` rows from `pos` on, at `skew_delta`, by an engine's butterfly.
+///
+/// Row i of them, for i below `truncated_size`, becomes the sum over q of the old row q times the basis polynomial q
+/// at the point `skew_delta + i`. The rows from `truncated_size` on are open; rows outside are unchanged.
+/// `skew` is the table of `get_skew`.
+pub fn fft<B: Butterfly>(
+    butterfly: &B,
+    skew: Skew<'_>,
+    steps: &mut Steps,
+    rows: &mut ShardsRefMut<'_>,
+    pos: usize,
+    size: usize,
+    truncated_size: usize,
+    skew_delta: usize,
+)
+    requires skew { IsSkew skew.now }
+    requires fits { Fits rows.old }
+    requires power { (d : ℕ) × (size ≡ 2 ^ d) }
+    requires truncated { truncated_size ≤ size }
+    requires within { pos + size ≤ rows.old.shard_count }
+    requires shift { skew_delta % size ≡ 0 }
+    requires points { skew_delta + size ≤ 65536 }
+    ensures place { SamePlace rows.old rows.new }
+    ensures others { SameRowsOutside pos (pos + size) rows.old rows.new }
+    ensures values { (k s i : ℕ) → k < rows.old.shard_len_64 → s < 32 → i < truncated_size
+        → word rows.new k s (pos + i) ≡ forward size skew_delta (λ q. word rows.old k s (pos + q)) i }
+    ensures counts { TransformCounts size steps.old steps.new }
+{
+    if size == 1 {
+        rows_fit(rows);
+    } else if truncated_size > 0 {
+        let half = size / 2;
+        let low = truncated_size.min(half);
+        let log_m = skew[skew_delta + half - 1];
+        fft_block(butterfly, steps, rows, pos, half, log_m);
+        fft(butterfly, skew, steps, rows, pos, half, low, skew_delta);
+        if truncated_size > half {
+            let high = truncated_size - half;
+            fft(
+                butterfly,
+                skew,
+                steps,
+                rows,
+                pos + half,
+                half,
+                high,
+                skew_delta + half,
+            );
+        }
+    }
+}
+
+/// The backward transform of the `size` rows from `pos` on, at `skew_delta`, by an engine's butterfly.
+///
+/// The rows become those whose forward transform they were. The rows from `truncated_size` on are zero when the call
+/// begins; rows outside are unchanged. `skew` is the table of `get_skew`.
+pub fn ifft<B: Butterfly>(
+    butterfly: &B,
+    skew: Skew<'_>,
+    steps: &mut Steps,
+    rows: &mut ShardsRefMut<'_>,
+    pos: usize,
+    size: usize,
+    truncated_size: usize,
+    skew_delta: usize,
+)
+    requires skew { IsSkew skew.now }
+    requires fits { Fits rows.old }
+    requires power { (d : ℕ) × (size ≡ 2 ^ d) }
+    requires truncated { truncated_size ≤ size }
+    requires within { pos + size ≤ rows.old.shard_count }
+    requires shift { skew_delta % size ≡ 0 }
+    requires points { skew_delta + size ≤ 65536 }
+    requires tail { AreZero (pos + truncated_size) (pos + size) rows.old }
+    ensures place { SamePlace rows.old rows.new }
+    ensures others { SameRowsOutside pos (pos + size) rows.old rows.new }
+    ensures values { (k s i : ℕ) → k < rows.old.shard_len_64 → s < 32 → i < size
+        → word rows.old k s (pos + i) ≡ forward size skew_delta (λ q. word rows.new k s (pos + q)) i }
+    ensures counts { TransformCounts size steps.old steps.new }
+{
+    if size == 1 {
+        rows_fit(rows);
+    } else if truncated_size > 0 {
+        let half = size / 2;
+        let low = truncated_size.min(half);
+        let log_m = skew[skew_delta + half - 1];
+        ifft(butterfly, skew, steps, rows, pos, half, low, skew_delta);
+        if truncated_size > half {
+            let high = truncated_size - half;
+            ifft(
+                butterfly,
+                skew,
+                steps,
+                rows,
+                pos + half,
+                half,
+                high,
+                skew_delta + half,
+            );
+        }
+        ifft_block(butterfly, steps, rows, pos, half, log_m);
+    }
+}
