@@ -43,9 +43,11 @@ next_power-is n p x power few above half =
         let le : 2 ^ j ≤ 2 ^ y = pow_mono (omega arith) in
         let positive : 0 < 2 ^ j = pow_pos j in
         omega arith
+
     at : (j z : ℕ) → z ≡ x → j < z → 2 ^ z / 2 < max 1 n → 2 ^ j < n
     at j zero e less h = absurd (let no : ⊥ = omega arith in no)
     at j (suc y) e less h = halved j y less h
+
     below : (j : ℕ) → j < x → 2 ^ j < n
     below j less = at j x refl less (subst (λ (q : ℕ). q / 2 < max 1 n) power half)
 
@@ -79,7 +81,7 @@ next_power-large n large =
     ]
   where
     exponent : (d : ℕ) → 2 ^ d ≤ 65536 → d < 17
-    exponent d h = elim (cases_lt d 17) [ | inl few ↦ few | inr many ↦ let big : 2 ^ 17 ≤ 2 ^ d = pow_mono many in absurd (omega arith) ]
+    exponent d h = elim (cases_lt d 17) [ inl few ↦ few | inr many ↦ let big : 2 ^ 17 ≤ 2 ^ d = pow_mono many in absurd (omega arith) ]
 
 low_test : (k r : ℕ) → supports low_rate k r ≡ (nat_lt 0 k && nat_lt 0 r && nat_le (next_power k + r) 65536)
 unfolding supports
@@ -101,13 +103,16 @@ low_no_recovery k = low_test k 0 ∙ ap (λ b. b && nat_le (next_power k + 0) 65
 pub low_fits : (k r : ℕ) → supports low_rate k r ≡ true → (0 < k) × (0 < r) × (next_power k + r ≤ 65536)
 low_fits k r is =
     let tests : (nat_lt 0 k && nat_lt 0 r && nat_le (next_power k + r) 65536) ≡ true = sym (low_test k r) ∙ is in
-    let counts = and-left (nat_lt 0 k && nat_lt 0 r) (nat_le (next_power k + r) 65536) tests in
-    (ltb-true 0 k (and-left (nat_lt 0 k) (nat_lt 0 r) counts), ltb-true 0 r (and-right (nat_lt 0 k) (nat_lt 0 r) counts),
-      leb-true (next_power k + r) 65536 (and-right (nat_lt 0 k && nat_lt 0 r) (nat_le (next_power k + r) 65536) tests))
+    let counts = and-left (nat_lt 0 k && nat_lt 0 r) (nat_le (next_power k + r) 65536) tests in (
+      ltb-true 0 k (and-left (nat_lt 0 k) (nat_lt 0 r) counts),
+      ltb-true 0 r (and-right (nat_lt 0 k) (nat_lt 0 r) counts),
+      leb-true (next_power k + r) 65536 (and-right (nat_lt 0 k && nat_lt 0 r) (nat_le (next_power k + r) 65536) tests),
+    )
   where
     and-left : (a b : Bool) → (a && b) ≡ true → a ≡ true
     and-left true b h = refl
     and-left false b h = h
+
     and-right : (a b : Bool) → (a && b) ≡ true → b ≡ true
     and-right true b h = h
     and-right false b h = absurd (let no : ⊥ = cc in no)
@@ -134,12 +139,12 @@ next_multiple_of-below n m some = let rest : (m - n % m) % m < m = omega arith i
 pub low_small : (k r : ℕ) → supports low_rate k r ≡ true → k ≤ 65536
 low_small k r is =
     let fits = low_fits k r is in
-    elim (cases_lt 65536 k) [ | inl many ↦ let large : 65536 < next_power k = next_power-large k many in absurd (omega arith) | inr small ↦ small ]
+    elim (cases_lt 65536 k) [ inl many ↦ let large : 65536 < next_power k = next_power-large k many in absurd (omega arith) | inr small ↦ small ]
 
 -- a positive multiple of m is at least m
 pub multiple_least : (n m : ℕ) → 0 < n → n % m ≡ 0 → m ≤ n
 multiple_least n m some multiple =
-    elim (cases_lt n m) [ | inl less ↦ let same : n % m ≡ n = mod-eq_of_lt less in absurd (omega arith) | inr least ↦ least ]
+    elim (cases_lt n m) [ inl less ↦ let same : n % m ≡ n = mod-eq_of_lt less in absurd (omega arith) | inr least ↦ least ]
 
 -- an encoder of the low rate has a row for each recovery shard
 pub low_rows-enough : (k r : ℕ) → supports low_rate k r ≡ true → r ≤ encoder_rows low_rate k r

@@ -137,6 +137,7 @@ message-whole s made = by_test (nat_lt (length s.given) s.configuration.original
   where
     tests : Bool → Result (List Shard) Error
     tests b = cond b (Err (TooFewOriginalShards s.configuration.original_count (length s.given))) (Ok s.given)
+
     by_test : (b : Bool) → nat_lt (length s.given) s.configuration.original_count ≡ b → Ok tt ≡ answer_of (tests b)
         → (s.configuration.original_count ≤ length s.given) × (tests b ≡ Ok s.given)
     by_test true e h = absurd (let no : ⊥ = cc in no)

@@ -3,7 +3,7 @@ use Rattle.std.specs.Prelude.{ℕ, ◌+◌, ◌*◌, List, [], Option, Some, Non
 use Rattle.std.specs.declared.vec.Vec.{Vec}
 use Rattle.std.specs.Vec.{vec_capacity}
 use Rattle.rs_field.specs.Column.{Shard}
-use Rattle.rs_field.specs.Rows.{Chunks, chunk}
+use Rattle.rs_field.specs.Rows.{Chunks, chunk, symbol}
 use Rattle.rs_field.specs.Layout.{row_len, laid_out, in_order}
 
 -- the chunks that are held, if any are
@@ -31,3 +31,7 @@ shard_put chunks size i = laid_out size (row_chunk chunks size i)
 -- the shard that lies in row i once its tail was moved
 abbrev pub shard_moved : Chunks → ℕ → ℕ → Shard
 shard_moved chunks size i = in_order size (row_chunk chunks size i)
+
+-- symbol s of chunk k of row i, in rows of n chunks
+abbrev pub word_in : Chunks → ℕ → ℕ → ℕ → ℕ → ℕ
+word_in chunks n k s i = symbol (chunk chunks (i * n + k)) s

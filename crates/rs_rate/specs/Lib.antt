@@ -2,3 +2,4 @@ pub mod Held
 pub mod EncoderView
 pub mod ResultView
 pub mod Loan
+pub mod Coding

@@ -1,7 +1,9 @@
 //! The trait of a rate's encoder.
 mod counts;
 pub mod encoder_work;
+mod low_encoding;
 mod rate_low;
+mod tails;
 
 use crate::encoder_result::EncoderResult;
 pub use encoder_work::EncoderWork;

@@ -11,6 +11,7 @@ ghost use Rattle.rs_rate.specs.Held.{chunks_of, room_of, chunk_count, shard_put,
 
 use crate::encoder_result::EncoderResult;
 use crate::rate::counts::{low_encoder_rows, low_supports, low_validate};
+use crate::rate::low_encoding::encode_work;
 use crate::rate::{EncoderWork, RateEncoder};
 use rs_field::engine::{Engine, Steps};
 use rs_field::error::Error;
@@ -113,71 +114,3 @@ impl<E: Engine> RateEncoder<E> for LowRateEncoder<E> {
 
     ghost valid = { λ x. (refl, x.valid) };
 }
-
-// Codes the round and ends it.
-fn encode_work<E: Engine>(engine: &E, steps: &mut Steps, work: &mut EncoderWork)
-    requires valid { validated (configuration low_rate work.old.original_count work.old.recovery_count work.old.shard_bytes) ≡ Ok tt }
-    requires rows { work.old.row_count ≡ encoder_rows low_rate work.old.original_count work.old.recovery_count }
-    requires full { work.old.original_received_count ≡ work.old.original_count }
-    ensures state { encoder_state low_rate work.new ≡ fresh_encoder (configuration low_rate work.old.original_count work.old.recovery_count work.old.shard_bytes) }
-    ensures recovery { AreRecovery (configuration low_rate work.old.original_count work.old.recovery_count work.old.shard_bytes) (given_of work.old) (lent_of work.new) }
-    ensures counts { (work.new.original_count ≡ work.old.original_count) × (work.new.recovery_count ≡ work.old.recovery_count) × (work.new.shard_bytes ≡ work.old.shard_bytes) × (work.new.row_count ≡ work.old.row_count) }
-    ensures room { work_room work.new ≡ work_room work.old }
-{
-    let original_count = work.original_count;
-    let recovery_count = work.recovery_count;
-    let shard_bytes = work.shard_bytes;
-    encode_held(
-        engine,
-        steps,
-        &mut work.rows,
-        original_count,
-        recovery_count,
-        shard_bytes,
-    );
-    work.original_received_count = 0;
-}
-
-// Makes the recovery shards in the rows that are held.
-fn encode_held<E: Engine>(
-    engine: &E,
-    steps: &mut Steps,
-    held: &mut Option<Vec<[u8; 64]>>,
-    original_count: usize,
-    recovery_count: usize,
-    shard_bytes: usize,
-)
-    requires valid { validated (configuration low_rate original_count recovery_count shard_bytes) ≡ Ok tt }
-    requires room { chunk_count (encoder_rows low_rate original_count recovery_count) shard_bytes ≤ length (chunks_of held.old) }
-    ensures recovery { AreRecovery (configuration low_rate original_count recovery_count shard_bytes)
-        (up_to original_count (shard_put (chunks_of held.old) shard_bytes)) (up_to recovery_count (shard_moved (chunks_of held.new) shard_bytes)) }
-    ensures length { length (chunks_of held.new) ≡ length (chunks_of held.old) }
-    ensures room { room_of held.new ≡ room_of held.old }
-{
-    match held {
-        Some(rows) => encode_rows(
-            engine,
-            steps,
-            rows.as_mut_slice(),
-            original_count,
-            recovery_count,
-            shard_bytes,
-        ),
-        None => {}
-    }
-}
-
-// Makes the recovery shards.
-fn encode_rows<E: Engine>(
-    engine: &E,
-    steps: &mut Steps,
-    chunks: &mut [[u8; 64]],
-    original_count: usize,
-    recovery_count: usize,
-    shard_bytes: usize,
-)
-    requires valid { validated (configuration low_rate original_count recovery_count shard_bytes) ≡ Ok tt }
-    requires room { chunk_count (encoder_rows low_rate original_count recovery_count) shard_bytes ≤ length chunks.old }
-    ensures { AreRecovery (configuration low_rate original_count recovery_count shard_bytes)
-        (up_to original_count (shard_put chunks.old shard_bytes)) (up_to recovery_count (shard_moved chunks.new shard_bytes)) }
-{}

@@ -29,9 +29,10 @@ pub returns : goal.returns
 returns g c =
     let work = c.args.self.now.work in
     let state = encoder_state low_rate work in
-    let made = c.in_ok-begin.ensures low_rate in
-    ((refl, (λ _. tt), (c.encode_work.ensures.state ∙ sym (after_encode-made state made), refl, c.encode_work.ensures.room)),
+    let made = c.in_ok-begin.ensures low_rate in (
+      (refl, (λ _. tt), (c.encode_work.ensures.state ∙ sym (after_encode-made state made), refl, c.encode_work.ensures.room)),
       record {
         answer = subst (λ (recovery : List Shard). EncodeAnswers state (Ok recovery)) (sym c.new.ensures) (encode_answers-made state (lent_of c.encode_work.new.work) made c.encode_work.ensures.recovery);
-        ends = tt
-      })
+        ends = tt;
+      },
+    )

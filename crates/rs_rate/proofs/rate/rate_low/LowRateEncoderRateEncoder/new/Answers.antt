@@ -21,5 +21,5 @@ pub returns-clause-roomy : goal.returns-clause-roomy
 returns-clause-roomy g c =
     let rows = encoder_rows low_rate c.args.original_count c.args.recovery_count in
     let made = started-roomy rows (configuration low_rate c.args.original_count c.args.recovery_count c.args.shard_bytes) (sym c.in_ok-low_validate.ensures)
-        (subst (λ (n : ℕ). chunk_count n c.args.shard_bytes * 64 < 2 ^ 64) c.low_encoder_rows-row_count.ensures.rows c.in_ok-configure.ensures.overflow) in
+    (subst (λ (n : ℕ). chunk_count n c.args.shard_bytes * 64 < 2 ^ 64) c.low_encoder_rows-row_count.ensures.rows c.in_ok-configure.ensures.overflow) in
     if_some-every c.args.work (λ w. chunk_count rows c.args.shard_bytes ≤ work_room w → Ok tt ≡ started rows (configuration low_rate c.args.original_count c.args.recovery_count c.args.shard_bytes)) (λ w roomy. sym made)

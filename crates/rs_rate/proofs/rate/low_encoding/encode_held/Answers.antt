@@ -5,7 +5,7 @@ use Rattle.rs_rate.specs.Held.{chunks_of}
 use Rattle.rs_rate.proofs.HeldLemmas.{chunk_count-positive}
 use Rattle.rs_rate.proofs.PowerLemmas.{low_rows-positive}
 use Rattle.rs_rate.proofs.StateLemmas.{valid-supported, valid-size}
-use Rattle.rs_rate.proofs.rate.rate_low.encode_held.Goals as goal
+use Rattle.rs_rate.proofs.rate.low_encoding.encode_held.Goals as goal
 
 pub returns-in-None-clause-recovery : goal.returns-in-None-clause-recovery
 returns-in-None-clause-recovery g c =
