@@ -11,3 +11,7 @@ pub mod XorSolver
 pub mod RingSolver
 pub mod Runs
 pub mod Places
+pub mod Columns
+pub mod Given
+pub mod Unique
+pub mod Times

@@ -1,4 +1,6 @@
 //! Laws of the definitions, as contracts of functions that do nothing.
+ghost use Rattle.rs_field.specs.Code.{HasOnePolynomial, HasOneRecovery};
+ghost use Rattle.rs_field.specs.Column.{ColumnsTellShard, IsColumn};
 ghost use Rattle.rs_field.specs.Laws.{IsField, IsGenerated, IsProductOfBits};
 
 /// The words are a field: sums and products obey its laws, the product is the reduced carry-less product of the
@@ -7,4 +9,13 @@ pub fn field_laws()
     ensures field { IsField }
     ensures product { IsProductOfBits }
     ensures generated { IsGenerated }
+{}
+
+/// The columns of a shard are its words chunk by chunk and fix it, one polynomial at most codes given words, and a
+/// message has one list of recovery shards at most.
+pub fn code_laws()
+    ensures column { IsColumn }
+    ensures shard { ColumnsTellShard }
+    ensures polynomial { HasOnePolynomial }
+    ensures recovery { HasOneRecovery }
 {}
