@@ -15,3 +15,4 @@ pub mod Columns
 pub mod Given
 pub mod Unique
 pub mod Times
+pub mod Decided

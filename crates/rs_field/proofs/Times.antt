@@ -1,8 +1,8 @@
--- A polynomial times linear factors, and the codes of the high rate whose points fill a power of two.
+-- A polynomial times linear factors, and what codes the originals of the high rate.
 use Rattle.std.proofs.Common.{◌≡◌, ℕ, zero, suc, ◌+◌, ◌-◌, ◌^◌, ◌<◌, ◌≤◌, List, [], ◌∷◌, length, bit_xor, refl, ap, sym, subst, ◌∙◌, arith, inl, inr}
 use Rattle.std.specs.Prelude.{All, slice_index}
 use Rattle.std.specs.Int.Bits.{xor_self, xor_lt, xor_zero_r}
-use Rattle.std.proofs.lemmas.Bool.{cases_eq}
+use Rattle.std.proofs.lemmas.Bool.{cases_eq, cases_lt}
 use Rattle.rs_field.specs.Field.{product}
 use Rattle.rs_field.specs.Polynomial.{value}
 use Rattle.rs_field.specs.Subspace.{product_below}
@@ -145,11 +145,21 @@ pub value-inside : (d : ℕ) (p : List ℕ) → d ≤ 16 → AreWords p → (x :
 value-inside d p hd w x hx =
     value-times (2 ^ d) (65536 - 2 ^ d) p w x ∙ ap (λ v. product v (value p x)) (outside d x hd hx) ∙ one_product (value p x) (value_lt p x w)
 
--- where the points of the high rate fill a power of two, a polynomial through k originals codes them once it is made zero outside
-pub high_codes : (rate : Rate) (k r d : ℕ) (words p : List ℕ) → placement rate k r ≡ high_placement k r → d ≤ 16 → 2 ^ d ≤ 65536 → next_power r + k ≡ 2 ^ d → length p ≡ k → AreWords p
-    → ((j : ℕ) → j < k → value p (next_power r + j) ≡ slice_index words j) → Codes rate k r words (times (points (2 ^ d) (65536 - 2 ^ d)) p)
+-- at a point from 2 ^ d on it has a factor zero
+zero_outside : (d : ℕ) (p : List ℕ) → AreWords p → (x : ℕ) → 2 ^ d ≤ x → x < 65536 → value (times (points (2 ^ d) (65536 - 2 ^ d)) p) x ≡ 0
+zero_outside d p w x from to =
+    let place : 2 ^ d + (x - 2 ^ d) ≡ x = omega arith in
+    value-times (2 ^ d) (65536 - 2 ^ d) p w x
+    ∙ ap (λ v. product v (value p x)) (product_below-zero_factor (65536 - 2 ^ d) (λ i. bit_xor x (2 ^ d + i)) (x - 2 ^ d) (omega arith) (ap (bit_xor x) place ∙ xor_self x))
+    ∙ zero_product (value p x)
+
+-- where the originals of the high rate lie below 2 ^ d, a polynomial that codes them there codes them once it is made zero at the other points
+pub high_codes : (rate : Rate) (k r d : ℕ) (words p : List ℕ) → placement rate k r ≡ high_placement k r → d ≤ 16 → 2 ^ d ≤ 65536
+    → next_power r + k ≤ 2 ^ d → length p ≡ 2 ^ d - next_power r → AreWords p
+    → ((j : ℕ) → j < k → value p (next_power r + j) ≡ slice_index words j) → ((x : ℕ) → next_power r + k ≤ x → x < 2 ^ d → value p x ≡ 0)
+    → Codes rate k r words (times (points (2 ^ d) (65536 - 2 ^ d)) p)
 unfolding high_placement
-high_codes rate k r d words p is hd top fill size w at = record {
+high_codes rate k r d words p is hd top within size w at zero_at = record {
   degree = length-times (2 ^ d) (65536 - 2 ^ d) p ∙ (let e : 65536 - 2 ^ d + length p ≡ 65536 - next_power r = omega arith in e) ∙ ap (λ (q : Placement). q.degree_bound) (sym is);
   coefficients = all_words _ (words_times (points (2 ^ d) (65536 - 2 ^ d)) p w);
   originals = λ j hj. ap (λ (q : Placement). value (times (points (2 ^ d) (65536 - 2 ^ d)) p) (q.originals_from + j)) is
@@ -157,8 +167,8 @@ high_codes rate k r d words p is hd top fill size w at = record {
   zeros = λ x from to.
       let low : next_power r + k ≤ x = subst (λ (q : Placement). q.zeros_from ≤ x) is from in
       let high : x < 65536 = subst (λ (q : Placement). x < q.zeros_to) is to in
-      let place : 2 ^ d + (x - 2 ^ d) ≡ x = omega arith in
-      value-times (2 ^ d) (65536 - 2 ^ d) p w x
-      ∙ ap (λ v. product v (value p x)) (product_below-zero_factor (65536 - 2 ^ d) (λ i. bit_xor x (2 ^ d + i)) (x - 2 ^ d) (omega arith) (ap (bit_xor x) place ∙ xor_self x))
-      ∙ zero_product (value p x);
+      elim (cases_lt x (2 ^ d)) [
+        | inl inside ↦ value-inside d p hd w x inside ∙ zero_at x low inside
+        | inr out ↦ zero_outside d p w x out high
+      ];
 }
