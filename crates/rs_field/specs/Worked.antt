@@ -4,7 +4,7 @@ use Rattle.rs_field.specs.declared.error.Error.TheVariants.{UnsupportedShardCoun
 use Rattle.rs_field.specs.Field.{product}
 use Rattle.rs_field.specs.Column.{Shard, column}
 use Rattle.rs_field.specs.Counts.{low_rate, high_rate, default_rate, next_power, supports, is_low}
-use Rattle.rs_field.specs.Placement.{encoder_rows, decoder_rows}
+use Rattle.rs_field.specs.Placement.{chunk_rows, encoder_rows, decoder_rows}
 use Rattle.rs_field.specs.Configuration.{configuration, validated, started}
 use Rattle.rs_field.specs.Transform.{IsForward, IsBackward}
 use Rattle.rs_field.specs.Bounds.{transform_steps, encode_steps, decode_steps}
@@ -78,13 +78,19 @@ Spaces =
 -- rows of encoders
 abbrev pub EncoderRows : Type 0
 EncoderRows =
-    (encoder_rows low_rate 1 1 ≡ 1) × (encoder_rows low_rate 1024 4097 ≡ 5120) × (encoder_rows low_rate 1025 4097 ≡ 6144)
+    (encoder_rows low_rate 1 1 ≡ 1) × (encoder_rows low_rate 2 3 ≡ 4) × (encoder_rows low_rate 1024 4097 ≡ 5120) × (encoder_rows low_rate 1025 4097 ≡ 6144)
     × (encoder_rows high_rate 4097 1024 ≡ 5120) × (encoder_rows high_rate 4097 1025 ≡ 6144)
+
+-- rows of chunks
+abbrev pub ChunkRows : Type 0
+ChunkRows =
+    (chunk_rows low_rate 1 1 ≡ 1) × (chunk_rows low_rate 2 3 ≡ 2) × (chunk_rows low_rate 1025 4097 ≡ 2048) × (chunk_rows high_rate 3 2 ≡ 2)
+    × (chunk_rows high_rate 4097 1025 ≡ 2048) × (chunk_rows default_rate 4 3 ≡ 4) × (chunk_rows default_rate 5 3 ≡ 4)
 
 -- rows of decoders
 abbrev pub DecoderRows : Type 0
 DecoderRows =
-    (decoder_rows low_rate 1024 3072 ≡ 4096) × (decoder_rows low_rate 1025 2049 ≡ 8192) × (decoder_rows low_rate 32768 32768 ≡ 65536)
+    (decoder_rows low_rate 4 4 ≡ 8) × (decoder_rows low_rate 1024 3072 ≡ 4096) × (decoder_rows low_rate 1025 2049 ≡ 8192) × (decoder_rows low_rate 32768 32768 ≡ 65536)
     × (decoder_rows high_rate 1 1 ≡ 2) × (decoder_rows high_rate 2049 1025 ≡ 8192) × (decoder_rows high_rate 32768 32768 ≡ 65536)
 
 -- the words a, b, and zeros after them
