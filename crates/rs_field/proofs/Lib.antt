@@ -16,3 +16,4 @@ pub mod Given
 pub mod Unique
 pub mod Times
 pub mod Decided
+pub mod Locator

@@ -2,6 +2,8 @@
 ghost use Rattle.rs_field.specs.Code.{HasOnePolynomial, HasOneRecovery};
 ghost use Rattle.rs_field.specs.Column.{ColumnsTellShard, IsColumn};
 ghost use Rattle.rs_field.specs.Laws.{IsField, IsGenerated, IsProductOfBits};
+ghost use Rattle.rs_field.specs.Locator.{LocatesByProduct};
+ghost use Rattle.rs_field.specs.Subspace.{SubspaceIsShift};
 
 /// The words are a field: sums and products obey its laws, the product is the reduced carry-less product of the
 /// words' bits, and the nonzero words are the 65535 powers of the generator.
@@ -18,4 +20,10 @@ pub fn code_laws()
     ensures shard { ColumnsTellShard }
     ensures polynomial { HasOnePolynomial }
     ensures recovery { HasOneRecovery }
+{}
+
+/// The subspace polynomials shift coordinates, and a locator's sums of logarithms are logarithms of products.
+pub fn point_laws()
+    ensures subspace { SubspaceIsShift }
+    ensures locator { LocatesByProduct }
 {}
