@@ -1,8 +1,8 @@
 -- Worked rows: what the definitions say of small numbers and short lists.
-use Rattle.std.specs.Prelude.{◌≡◌, ℕ, zero, suc, ◌+◌, ◌*◌, List, [], ◌∷◌, map, replicate, true, false, Result, Ok, Err}
+use Rattle.std.specs.Prelude.{◌≡◌, ℕ, zero, suc, ◌+◌, ◌*◌, List, [], ◌∷◌, map, true, false, Ok, Err}
 use Rattle.rs_field.specs.declared.error.Error.TheVariants.{UnsupportedShardCount, InvalidShardSize, OutOfMemory}
 use Rattle.rs_field.specs.Field.{product}
-use Rattle.rs_field.specs.Column.{Shard, column}
+use Rattle.rs_field.specs.Column.{column}
 use Rattle.rs_field.specs.Counts.{low_rate, high_rate, default_rate, next_power, supports, is_low}
 use Rattle.rs_field.specs.Placement.{chunk_rows, encoder_rows, decoder_rows}
 use Rattle.rs_field.specs.Configuration.{configuration, validated, started}

@@ -1,14 +1,14 @@
 -- Worked rows of the calls: which refusal comes first, and what a call leaves.
 use Rattle.std.specs.Prelude.{◌≡◌, ℕ, List, [], ◌∷◌, replicate, Result, Ok, Err}
 use Rattle.rs_field.specs.declared.error.Error.{Error}
-use Rattle.rs_field.specs.declared.error.Error.TheVariants.{DifferentShardSize, DuplicateOriginalShardIndex, DuplicateRecoveryShardIndex, InvalidOriginalShardIndex, InvalidRecoveryShardIndex, InvalidShardSize, NotEnoughShards, TooFewOriginalShards, TooManyOriginalShards, UnsupportedShardCount}
+use Rattle.rs_field.specs.declared.error.Error.TheVariants.{DifferentShardSize, DuplicateOriginalShardIndex, DuplicateRecoveryShardIndex, InvalidOriginalShardIndex, InvalidRecoveryShardIndex, InvalidShardSize, NotEnoughShards, OutOfMemory, TooFewOriginalShards, TooManyOriginalShards, UnsupportedShardCount}
 use Rattle.rs_field.specs.Column.{Shard}
 use Rattle.rs_field.specs.Outcome.{result_and_then, answer_of, state_after}
-use Rattle.rs_field.specs.Configuration.{validated}
+use Rattle.rs_field.specs.Configuration.{validated, UpToMemory}
 use Rattle.rs_field.specs.Given.{Shards, nothing, entered}
 use Rattle.rs_field.specs.Encoder.{EncoderState, fresh_encoder, with_shard, message_of, after_encode}
-use Rattle.rs_field.specs.Decoder.{DecoderState, fresh_decoder, with_original, with_recovery, enough_given, after_decode}
-use Rattle.rs_field.specs.OneCall.{default_of, encoding, decoding, encode_opening, decode_opening, OneDecodes}
+use Rattle.rs_field.specs.Decoder.{fresh_decoder, with_original, with_recovery, enough_given, after_decode}
+use Rattle.rs_field.specs.OneCall.{default_of, encoding, decoding, OneEncodeAnswers, OneDecodes, OneDecodeAnswers}
 use Rattle.rs_field.specs.WorkedCode.{two_given}
 
 -- a shard of n zero bytes
@@ -70,3 +70,12 @@ abbrev pub LargestIndex : Type 0
 LargestIndex =
     (answer_of (with_original (fresh_decoder (default_of 1 1 2)) 18446744073709551615 (zeros 2)) ≡ Err (InvalidOriginalShardIndex 1 18446744073709551615))
     × (answer_of (with_recovery (fresh_decoder (default_of 1 1 2)) 18446744073709551615 (zeros 2)) ≡ Err (InvalidRecoveryShardIndex 1 18446744073709551615))
+
+-- a want of memory stands in the place of a success, or of a later refusal of a one-call function, but never of a first refusal
+abbrev pub MemoryOrder : Type 0
+MemoryOrder =
+    (UpToMemory (validated (default_of 2 3 3)) (Err OutOfMemory) → ⊥) × UpToMemory (validated (default_of 2 3 2)) (Err OutOfMemory)
+    × (OneEncodeAnswers 0 1 [] (Err OutOfMemory) → ⊥) × (OneEncodeAnswers 1 1 [] (Err OutOfMemory) → ⊥)
+    × (OneEncodeAnswers 1 1 (zeros 3 ∷ []) (Err OutOfMemory) → ⊥) × OneEncodeAnswers 1 1 (zeros 64 ∷ zeros 128 ∷ []) (Err OutOfMemory)
+    × (OneDecodeAnswers 0 1 [] [] (Err OutOfMemory) → ⊥) × (OneDecodeAnswers 1 1 ((0, zeros 64) ∷ []) ((0, []) ∷ []) (Err OutOfMemory) → ⊥)
+    × OneDecodeAnswers 1 1 ((5, zeros 64) ∷ []) [] (Err OutOfMemory)

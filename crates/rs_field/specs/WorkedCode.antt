@@ -1,10 +1,10 @@
 -- Worked rows of the code: messages with their recovery shards, and given shards with the messages that agree.
 use Rattle.std.specs.Prelude.{◌≡◌, ℕ, ◌+◌, ◌*◌, ◌++◌, List, [], ◌∷◌, map, length, replicate}
 use Rattle.rs_field.specs.Column.{Shard, columns}
-use Rattle.rs_field.specs.Counts.{Rate, low_rate, high_rate, default_rate}
-use Rattle.rs_field.specs.Configuration.{Configuration, configuration}
+use Rattle.rs_field.specs.Counts.{Rate, default_rate}
+use Rattle.rs_field.specs.Configuration.{configuration}
 use Rattle.rs_field.specs.Code.{Codes, AreRecovery}
-use Rattle.rs_field.specs.Given.{Shards, nothing, entered}
+use Rattle.rs_field.specs.Given.{nothing, entered}
 use Rattle.rs_field.specs.Decoder.{DecoderState, IsAgreeing, IsConsistent, Restored}
 
 -- shards of two bytes, of which the second is zero

@@ -2,7 +2,7 @@
 ghost use Rattle.rs_field.specs.Counts.{low_rate, high_rate, default_rate};
 ghost use Rattle.rs_field.specs.Worked.{Products, ColumnsOfShards, Powers, Supported, Unsupported, OfOneRate, Choices, Validated, Spaces, ChunkRows, EncoderRows, DecoderRows, TransformOfTwo, StepBounds};
 ghost use Rattle.rs_field.specs.WorkedCode.{ConstantRow, LineRow, ShortLineRow, CubicRow, PaddedRow, TailRow, ChunkAndTailRow, SumRow, HighLineRow, HighCubicRow, HighPaddedRow, RestoredRow, SurplusRow};
-ghost use Rattle.rs_field.specs.WorkedCalls.{EncodeOrder, DecodeOrder, NoRecoveryOrder, EncoderRound, DecoderRound, LargestIndex};
+ghost use Rattle.rs_field.specs.WorkedCalls.{EncodeOrder, DecodeOrder, NoRecoveryOrder, EncoderRound, DecoderRound, LargestIndex, MemoryOrder};
 
 /// Products of words, and columns of shards with and without a tail.
 pub fn words()
@@ -72,6 +72,7 @@ pub fn refusals()
     ensures encoder { EncoderRound }
     ensures decoder { DecoderRound }
     ensures index { LargestIndex }
+    ensures memory { MemoryOrder }
 {}
 
 /// A transform of two words, and how many steps calls may count.

@@ -22,29 +22,29 @@ use Rattle.rs_field.proofs.Unique.{words_from}
 use Rattle.rs_field.proofs.Decided.{shards_from, recovery_from}
 use Rattle.rs_field.proofs.worked.agreement.Goals as goal
 
--- the message, and its recovery shards
+-- the message that is restored
 abbrev message : List Shard
 message = low_bytes (0 ∷ 1 ∷ [])
 
+-- its recovery shards
 abbrev recovered : List Shard
 recovered = low_bytes (2 ∷ 3 ∷ 4 ∷ [])
 
--- the originals that are restored
-abbrev out : Shards
-out = entered (entered nothing 0 (0 ∷ 0 ∷ [])) 1 (1 ∷ 0 ∷ [])
-
+-- the message is one of two shards
 message_shards : AreShards 2 2 message
 message_shards = shards_from 2 2 message refl
 
--- the recovery shards are values of the polynomial x, and those of a copied original of a constant
+-- its recovery shards are values of the polynomial x
 line : AreRecovery (configuration default_rate 2 3 2) message recovered
 unfolding passes_below placement low_placement high_placement is_low next_power first_below value product combine bits from_bits cantor_basis monomials carryless reduce column
 line = recovery_from _ _ _ ((0 ∷ 1 ∷ []) ∷ []) refl
 
+-- the recovery shards of one original are values of a constant
 copies : AreRecovery (configuration default_rate 1 2 2) ((7 ∷ 9 ∷ []) ∷ []) ((7 ∷ 9 ∷ []) ∷ (7 ∷ 9 ∷ []) ∷ [])
 unfolding passes_below placement low_placement high_placement is_low next_power first_below value product combine bits from_bits cantor_basis monomials carryless reduce column
 copies = recovery_from _ _ _ ((2311 ∷ []) ∷ []) refl
 
+-- the message agrees with two of its recovery shards
 agrees : IsAgreeing two_given message
 agrees = record {
   shards = message_shards;
@@ -62,10 +62,12 @@ line_values : (value (0 ∷ 1 ∷ []) 0 ≡ 0) × (value (0 ∷ 1 ∷ []) 1 ≡ 
 unfolding value product combine bits from_bits cantor_basis monomials carryless reduce
 line_values = (refl, refl, refl, refl)
 
+-- the words of the shards
 line_columns : (column 0 (0 ∷ 0 ∷ []) ≡ 0) × (column 0 (1 ∷ 0 ∷ []) ≡ 1) × (column 0 (2 ∷ 0 ∷ []) ≡ 2) × (column 0 (3 ∷ 0 ∷ []) ≡ 3)
 unfolding column
 line_columns = (refl, refl, refl, refl)
 
+-- the two shards that are given
 given_shards : (two_given.recovery 0 ≡ Some (2 ∷ 0 ∷ [])) × (two_given.recovery 1 ≡ Some (3 ∷ 0 ∷ []))
 unfolding entered
 given_shards = (refl, refl)
@@ -107,9 +109,15 @@ only m a =
     shard_from_columns 2 (shard_at m i) (shard_at message i) (a.shards.each i [] h) (message_shards.each i [] below) refl
     (λ j hj. let first : 0 ≡ j = omega arith in subst (λ (n : ℕ). column n (shard_at m i) ≡ column n (shard_at message i)) first (same_columns m a i below)))
 
+-- the originals that are restored
+abbrev out : Shards
+out = entered (entered nothing 0 (0 ∷ 0 ∷ [])) 1 (1 ∷ 0 ∷ [])
+
+-- what is restored is the message's
 out_among : AreAmong out message
 out_among = entered_among _ 1 (1 ∷ 0 ∷ []) message (entered_among nothing 0 (0 ∷ 0 ∷ []) message (nothing_among message) refl) refl
 
+-- both originals are restored
 out_some : (i : ℕ) → i < 2 → IsSome (out i)
 unfolding entered
 out_some zero h = refl
@@ -127,6 +135,7 @@ out_below i e =
       ]
     ]
 
+-- so the message is restored
 restored : Restored two_given out
 restored = record {
   missing = λ i. (λ h. (out_below i h, refl), λ h. out_some i h.0);
@@ -135,13 +144,15 @@ restored = record {
   no_surplus = λ _. (message, agrees);
 }
 
--- one original, and its recovery shards
+-- a message of one original
 abbrev original : List Shard
 original = (7 ∷ 9 ∷ []) ∷ []
 
+-- its recovery shards
 abbrev copied : List Shard
 copied = (7 ∷ 9 ∷ []) ∷ (7 ∷ 9 ∷ []) ∷ []
 
+-- a copy of the original agrees
 consistent : IsConsistent (surplus_given (7 ∷ 9 ∷ []))
 consistent = (
   original,
@@ -161,10 +172,12 @@ constant (c ∷ []) e x y = one x ∙ sym (one y)
     one z = value-cons c [] z ∙ ap (bit_xor c) (ap (product z) (value-nil z) ∙ product_zero z) ∙ xor_zero_r c
 constant (c ∷ d ∷ cs) e x y = absurd (let no : ⊥ = omega arith in no)
 
+-- one original is coded by one coefficient
 one_coefficient : (placement default_rate 1 2).degree_bound ≡ 1
 unfolding placement low_placement is_low next_power first_below
 one_coefficient = refl
 
+-- the words of the two shards
 two_words : (column 0 (7 ∷ 9 ∷ []) ≡ 2311) × (column 0 (7 ∷ 8 ∷ []) ≡ 2055)
 unfolding column
 two_words = (refl, refl)
