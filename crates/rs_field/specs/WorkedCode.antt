@@ -11,7 +11,7 @@ use Rattle.rs_field.specs.Decoder.{DecoderState, IsAgreeing, IsConsistent, Resto
 abbrev pub low_bytes : List ℕ → List Shard
 low_bytes bytes = map (λ b. b ∷ 0 ∷ []) bytes
 
--- messages of shards of two bytes have these recovery shards, and a polynomial codes their only column
+-- a message of shards of two bytes has these recovery shards, and a polynomial codes its only column
 abbrev pub Recovers : Rate → List Shard → List ℕ → List Shard → Type 0
 Recovers rate message polynomial recovery =
     Codes rate (length message) (length recovery) (columns 0 message) polynomial
