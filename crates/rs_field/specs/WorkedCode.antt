@@ -82,6 +82,17 @@ RestoredRow =
     × ((message : List Shard) → IsAgreeing two_given message → message ≡ low_bytes (0 ∷ 1 ∷ []))
     × Restored two_given (entered (entered nothing 0 (0 ∷ 0 ∷ [])) 1 (1 ∷ 0 ∷ []))
 
+-- two originals and two recovery shards, given out of order, agree with a message of four shards
+abbrev pub MixtureRow : Type 0
+MixtureRow =
+    IsAgreeing
+    (record {
+      configuration = configuration default_rate 4 4 2;
+      originals = entered (entered nothing 3 (3 ∷ 0 ∷ [])) 1 (0 ∷ 0 ∷ []);
+      recovery = entered (entered nothing 2 (14 ∷ 0 ∷ [])) 0 (11 ∷ 0 ∷ []);
+    })
+    (low_bytes (0 ∷ 0 ∷ 2 ∷ 3 ∷ []))
+
 -- a decoder of one original and two recovery shards that was given the original and one recovery shard
 abbrev pub surplus_given : Shard → DecoderState
 surplus_given recovery = record {

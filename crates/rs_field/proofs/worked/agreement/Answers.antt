@@ -12,14 +12,14 @@ use Rattle.rs_field.specs.Configuration.{configuration}
 use Rattle.rs_field.specs.Code.{Codes, AreRecoveryWords, AreRecovery}
 use Rattle.rs_field.specs.Given.{Shards, nothing, entered, AreAmong}
 use Rattle.rs_field.specs.Decoder.{IsAgreeing, IsConsistent, Restored}
-use Rattle.rs_field.specs.WorkedCode.{low_bytes, two_given, surplus_given}
+use Rattle.rs_field.specs.WorkedCode.{low_bytes, two_given, surplus_given, MixtureRow}
 use Rattle.rs_field.proofs.Linear.{passes_below}
 use Rattle.rs_field.proofs.Product.{product_zero}
 use Rattle.rs_field.proofs.Roots.{value-nil, value-cons, same_from_values}
 use Rattle.rs_field.proofs.Columns.{shard_from_columns, columns-at}
 use Rattle.rs_field.proofs.Given.{entered_cases, nothing_among, entered_among}
 use Rattle.rs_field.proofs.Unique.{words_from}
-use Rattle.rs_field.proofs.Decided.{shards_from, recovery_from}
+use Rattle.rs_field.proofs.Decided.{shards_from, recovery_from, recovery_from_high}
 use Rattle.rs_field.proofs.worked.agreement.Goals as goal
 
 -- the message that is restored
@@ -144,6 +144,27 @@ restored = record {
   no_surplus = λ _. (message, agrees);
 }
 
+-- a message of four originals
+abbrev four : List Shard
+four = low_bytes (0 ∷ 0 ∷ 2 ∷ 3 ∷ [])
+
+-- its recovery shards
+abbrev four_more : List Shard
+four_more = low_bytes (11 ∷ 9 ∷ 14 ∷ 13 ∷ [])
+
+-- they are values of a polynomial that is zero from the point 8 on
+cubic : AreRecovery (configuration default_rate 4 4 2) four four_more
+unfolding passes_below is_low next_power first_below value product combine bits from_bits cantor_basis monomials carryless reduce column
+cubic = recovery_from_high 3 _ _ _ ((11 ∷ 6 ∷ 5 ∷ 1 ∷ []) ∷ []) refl
+
+-- two of each agree with it
+mixture : MixtureRow
+mixture = record {
+  shards = shards_from 4 2 four refl;
+  own = entered_among _ 1 (0 ∷ 0 ∷ []) four (entered_among nothing 3 (3 ∷ 0 ∷ []) four (nothing_among four) refl) refl;
+  coded = (four_more, cubic, entered_among _ 0 (11 ∷ 0 ∷ []) four_more (entered_among nothing 2 (14 ∷ 0 ∷ []) four_more (nothing_among four_more) refl) refl);
+}
+
 -- a message of one original
 abbrev original : List Shard
 original = (7 ∷ 9 ∷ []) ∷ []
@@ -196,4 +217,4 @@ inconsistent (m, a) =
     omega arith
 
 pub returns : goal.returns
-returns c = record { restored = (agrees, only, restored); surplus = (consistent, inconsistent) }
+returns c = record { restored = (agrees, only, restored); mixture = mixture; surplus = (consistent, inconsistent) }
