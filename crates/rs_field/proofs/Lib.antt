@@ -6,6 +6,12 @@ pub mod Power
 pub mod Tables
 pub mod Subspace
 pub mod Roots
+pub mod Columns
+pub mod Given
+pub mod Unique
+pub mod Times
+pub mod Decided
+pub mod Locator
 pub mod Total
 pub mod XorSolver
 pub mod RingSolver

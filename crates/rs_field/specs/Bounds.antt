@@ -2,6 +2,8 @@
 use Rattle.std.specs.Prelude.{◌≡◌, ℕ, ◌+◌, ◌*◌, ◌/◌, ◌^◌, ◌≤◌, nat_le}
 use Rattle.rs_field.specs.declared.engine.steps.Steps.{Steps}
 use Rattle.rs_field.specs.Search.{first_below}
+use Rattle.rs_field.specs.Counts.{Rate}
+use Rattle.rs_field.specs.Placement.{chunk_rows, encoder_rows, decoder_rows}
 
 -- no count fell, and each rose by no more than its bound
 pub record CountsUpTo (row_steps pair_sums products : ℕ) (old new : Steps) : Type 0 where
@@ -12,7 +14,7 @@ pub record CountsUpTo (row_steps pair_sums products : ℕ) (old new : Steps) : T
   pub pair_sums_most : new.pair_sums ≤ old.pair_sums + pair_sums
   pub products_most : new.products ≤ old.products + products
 
--- nothing was counted but n row steps
+-- exactly n row steps were counted and nothing else
 abbrev pub CountsRows : ℕ → Steps → Steps → Type 0
 CountsRows n old new = (new.row_steps ≡ old.row_steps + n) × (new.pair_sums ≡ old.pair_sums) × (new.products ≡ old.products)
 
@@ -32,7 +34,7 @@ encode_steps c m = (c + 1) * transform_steps m + 2 * c * m
 unfoldable pub decode_steps : ℕ → ℕ
 decode_steps w = 3 * w / 2 * log2 w + 3 * w
 
--- a locator takes no row step; a decode makes one locator
+-- what a locator may count: no row step
 abbrev pub LocatorCounts : Steps → Steps → Type 0
 LocatorCounts old new = CountsUpTo 0 1048576 65536 old new
 
@@ -48,6 +50,14 @@ RowProductCounts old new = CountsUpTo 1 0 0 old new
 abbrev pub EncodeCounts : ℕ → ℕ → Steps → Steps → Type 0
 EncodeCounts c m old new = CountsUpTo (encode_steps c m) 0 0 old new
 
+-- what an encode at these counts may count
+abbrev pub EncodeCountsAt : Rate → ℕ → ℕ → Steps → Steps → Type 0
+EncodeCountsAt rate k r old new = EncodeCounts (encoder_rows rate k r / chunk_rows rate k r) (chunk_rows rate k r) old new
+
 -- what a decode with w rows may count
 abbrev pub DecodeCounts : ℕ → Steps → Steps → Type 0
 DecodeCounts w old new = CountsUpTo (decode_steps w) 1048576 65536 old new
+
+-- what a decode at these counts may count
+abbrev pub DecodeCountsAt : Rate → ℕ → ℕ → Steps → Steps → Type 0
+DecodeCountsAt rate k r old new = DecodeCounts (decoder_rows rate k r) old new

@@ -25,7 +25,7 @@ with_original s index shard =
     else if not (length shard == c.shard_bytes) then Err (DifferentShardSize c.shard_bytes (length shard))
     else Ok (record s { originals = entered s.originals index shard })
 
--- the outcome of adding a recovery shard, in the same order
+-- the outcome of adding a recovery shard: the refusals come in the same order
 abbrev pub with_recovery : DecoderState → ℕ → Shard → Result DecoderState Error
 with_recovery s index shard =
     let c = s.configuration in
@@ -52,7 +52,7 @@ enough_given s =
 abbrev pub IsAgreeing : DecoderState → List Shard → Type 0
 IsAgreeing s message = Agrees s.configuration s.originals s.recovery message
 
--- some message does
+-- some message agrees with what a decoder was given
 abbrev pub IsConsistent : DecoderState → Type 0
 IsConsistent s = Consistent s.configuration s.originals s.recovery
 

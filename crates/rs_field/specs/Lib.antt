@@ -21,3 +21,6 @@ pub mod Rows
 pub mod View
 pub mod Lending
 pub mod Layout
+pub mod Worked
+pub mod WorkedCode
+pub mod WorkedCalls

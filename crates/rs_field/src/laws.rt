@@ -1,5 +1,9 @@
 //! Laws of the definitions, as contracts of functions that do nothing.
+ghost use Rattle.rs_field.specs.Code.{HasOnePolynomial, HasOneRecovery};
+ghost use Rattle.rs_field.specs.Column.{ColumnsTellShard, IsColumn};
 ghost use Rattle.rs_field.specs.Laws.{IsField, IsGenerated, IsProductOfBits};
+ghost use Rattle.rs_field.specs.Locator.{LocatesByProduct};
+ghost use Rattle.rs_field.specs.Subspace.{SubspaceIsShift};
 
 /// The words are a field: sums and products obey its laws, the product is the reduced carry-less product of the
 /// words' bits, and the nonzero words are the 65535 powers of the generator.
@@ -7,4 +11,19 @@ pub fn field_laws()
     ensures field { IsField }
     ensures product { IsProductOfBits }
     ensures generated { IsGenerated }
+{}
+
+/// The columns of a shard are its words chunk by chunk and fix it, one polynomial at most codes given words, and a
+/// message has one list of recovery shards at most.
+pub fn code_laws()
+    ensures column { IsColumn }
+    ensures shard { ColumnsTellShard }
+    ensures polynomial { HasOnePolynomial }
+    ensures recovery { HasOneRecovery }
+{}
+
+/// The subspace polynomials shift coordinates, and a locator's sums of logarithms are logarithms of products.
+pub fn point_laws()
+    ensures subspace { SubspaceIsShift }
+    ensures locator { LocatesByProduct }
 {}

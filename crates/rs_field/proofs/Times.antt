@@ -1,0 +1,174 @@
+-- A polynomial times linear factors, and what codes the originals of the high rate.
+use Rattle.std.proofs.Common.{◌≡◌, ℕ, zero, suc, ◌+◌, ◌-◌, ◌^◌, ◌<◌, ◌≤◌, List, [], ◌∷◌, length, bit_xor, refl, ap, sym, subst, ◌∙◌, arith, inl, inr}
+use Rattle.std.specs.Prelude.{All, slice_index}
+use Rattle.std.specs.Int.Bits.{xor_self, xor_lt, xor_zero_r}
+use Rattle.std.proofs.lemmas.Bool.{cases_eq, cases_lt}
+use Rattle.rs_field.specs.Field.{product}
+use Rattle.rs_field.specs.Polynomial.{value}
+use Rattle.rs_field.specs.Subspace.{product_below}
+use Rattle.rs_field.specs.Counts.{Rate, next_power}
+use Rattle.rs_field.specs.Placement.{Placement, placement, high_placement}
+use Rattle.rs_field.specs.Code.{Codes}
+use Rattle.rs_field.proofs.Linear.{xor_swap}
+use Rattle.rs_field.proofs.Product.{product_lt, product_zero, zero_product, one_product, product_xor_left, product_xor_right}
+use Rattle.rs_field.proofs.Total.{product-comm, product-assoc}
+use Rattle.rs_field.proofs.Roots.{AreWords, value_lt}
+use Rattle.rs_field.proofs.Subspace.{outside, product_below-suc, product_below-zero}
+
+-- the sum of two polynomials
+unfoldable pub add : List ℕ → List ℕ → List ℕ
+add [] q = q
+add (a ∷ p) [] = a ∷ p
+add (a ∷ p) (b ∷ q) = bit_xor a b ∷ add p q
+
+-- a polynomial times a word
+unfoldable pub scale : ℕ → List ℕ → List ℕ
+scale c [] = []
+scale c (a ∷ p) = product c a ∷ scale c p
+
+-- the polynomial times x + a
+unfoldable pub with_root : ℕ → List ℕ → List ℕ
+with_root a p = add (0 ∷ p) (scale a p)
+
+-- the points from a on, n of them, the last one first
+unfoldable pub points : ℕ → ℕ → List ℕ
+points a zero = []
+points a (suc n) = (a + n) ∷ points a n
+
+-- a polynomial times x + a for each a of a list
+unfoldable pub times : List ℕ → List ℕ → List ℕ
+times [] p = p
+times (a ∷ r) p = with_root a (times r p)
+
+-- factors may be taken in another order
+outer : (x y z : ℕ) → product x (product y z) ≡ product y (product x z)
+outer x y z = sym (product-assoc x y z) ∙ ap (λ (w : ℕ). product w z) (product-comm x y) ∙ product-assoc y x z
+
+-- the value of a sum is the sum of the values
+value_add : (p q : List ℕ) (x : ℕ) → value (add p q) x ≡ bit_xor (value p x) (value q x)
+unfolding value add
+value_add [] q x = refl
+value_add (a ∷ p) [] x = sym (xor_zero_r (bit_xor a (product x (value p x))))
+value_add (a ∷ p) (b ∷ q) x =
+    rw (value_add p q x, product_xor_right x (value p x) (value q x)) (xor_swap a b (product x (value p x)) (product x (value q x)))
+
+-- the value of a multiple is the multiple of the value
+value_scale : (c : ℕ) (p : List ℕ) (x : ℕ) → value (scale c p) x ≡ product c (value p x)
+unfolding value scale
+value_scale c [] x = sym (product_zero c)
+value_scale c (a ∷ p) x =
+    ap (bit_xor (product c a)) (ap (product x) (value_scale c p x) ∙ outer x c (value p x)) ∙ sym (product_xor_right c a (product x (value p x)))
+
+-- a factor x + a multiplies the value
+value_with_root : (a : ℕ) (p : List ℕ) (x : ℕ) → value (with_root a p) x ≡ product (bit_xor x a) (value p x)
+unfolding with_root value
+value_with_root a p x =
+    value_add (0 ∷ p) (scale a p) x ∙ ap (bit_xor (product x (value p x))) (value_scale a p x) ∙ sym (product_xor_left x a (value p x))
+
+-- a multiple is as long
+length-scale : (c : ℕ) (p : List ℕ) → length (scale c p) ≡ length p
+unfolding scale
+length-scale c [] = refl
+length-scale c (a ∷ p) = ap suc (length-scale c p)
+
+-- a sum is as long as the longer of the two
+length-add : (p q : List ℕ) → length q ≤ length p → length (add p q) ≡ length p
+unfolding add
+length-add [] [] h = refl
+length-add [] (b ∷ q) h = absurd (let no : ⊥ = omega arith in no)
+length-add (a ∷ p) [] h = refl
+length-add (a ∷ p) (b ∷ q) h = ap suc (length-add p q (let le : length q ≤ length p = omega arith in le))
+
+-- a factor x + a makes the list one longer
+length-with_root : (a : ℕ) (p : List ℕ) → length (with_root a p) ≡ suc (length p)
+unfolding with_root
+length-with_root a p =
+    let same : length (scale a p) ≡ length p = length-scale a p in
+    length-add (0 ∷ p) (scale a p) (let le : length (scale a p) ≤ suc (length p) = omega arith in le)
+
+-- a sum of polynomials has words as coefficients
+words_add : (p q : List ℕ) → AreWords p → AreWords q → AreWords (add p q)
+unfolding add
+words_add [] q hp hq = hq
+words_add (a ∷ p) [] hp hq = hp
+words_add (a ∷ p) (b ∷ q) hp hq = (xor_lt 16 a b hp.0 hq.0, words_add p q hp.1 hq.1)
+
+-- so has a multiple
+words_scale : (c : ℕ) (p : List ℕ) → AreWords (scale c p)
+unfolding scale
+words_scale c [] = tt
+words_scale c (a ∷ p) = (product_lt c a, words_scale c p)
+
+-- so has a polynomial times x + a
+words_with_root : (a : ℕ) (p : List ℕ) → AreWords p → AreWords (with_root a p)
+unfolding with_root
+words_with_root a p h = words_add (0 ∷ p) (scale a p) (omega arith, h) (words_scale a p)
+
+-- and times all factors
+words_times : (r p : List ℕ) → AreWords p → AreWords (times r p)
+unfolding times
+words_times [] p h = h
+words_times (a ∷ r) p h = words_with_root a (times r p) (words_times r p h)
+
+-- n factors make the list n longer
+length-times : (a n : ℕ) (p : List ℕ) → length (times (points a n) p) ≡ n + length p
+unfolding times points
+length-times a zero p = omega arith
+length-times a (suc n) p = let e : length (times (points a n) p) ≡ n + length p = length-times a n p in length-with_root (a + n) (times (points a n) p) ∙ omega arith
+
+-- its value is the polynomial's times the product of the factors
+value-times : (a n : ℕ) (p : List ℕ) → AreWords p → (x : ℕ) → value (times (points a n) p) x ≡ product (product_below n (λ i. bit_xor x (a + i))) (value p x)
+unfolding times points
+value-times a zero p w x = sym (ap (λ v. product v (value p x)) (product_below-zero (λ i. bit_xor x (a + i))) ∙ one_product (value p x) (value_lt p x w))
+value-times a (suc n) p w x =
+    value_with_root (a + n) (times (points a n) p) x ∙ ap (product (bit_xor x (a + n))) (value-times a n p w x)
+    ∙ sym (product-assoc (bit_xor x (a + n)) (product_below n (λ i. bit_xor x (a + i))) (value p x))
+    ∙ ap (λ v. product v (value p x)) (product-comm (bit_xor x (a + n)) (product_below n (λ i. bit_xor x (a + i))) ∙ sym (product_below-suc n (λ i. bit_xor x (a + i))))
+
+-- a product with a factor zero is zero
+product_below-zero_factor : (n : ℕ) (f : ℕ → ℕ) (i : ℕ) → i < n → f i ≡ 0 → product_below n f ≡ 0
+product_below-zero_factor zero f i h e = absurd (let no : ⊥ = omega arith in no)
+product_below-zero_factor (suc n) f i h e =
+    product_below-suc n f ∙ elim (cases_eq i n) [
+      | inl last ↦ ap (product (product_below n f)) (ap f (sym last) ∙ e) ∙ product_zero (product_below n f)
+      | inr other ↦ ap (λ v. product v (f n)) (product_below-zero_factor n f i (omega arith) e) ∙ zero_product (f n)
+    ]
+
+-- words one after another are words by entry
+all_words : (p : List ℕ) → AreWords p → All (λ w. w < 65536) p
+all_words [] h k d hk = absurd (let no : ⊥ = omega arith in no)
+all_words (c ∷ cs) h zero d hk = h.0
+all_words (c ∷ cs) h (suc k) d hk = all_words cs h.1 k d (omega arith)
+
+-- inside 2 ^ d the factors of the points outside have the product 1
+pub value-inside : (d : ℕ) (p : List ℕ) → d ≤ 16 → AreWords p → (x : ℕ) → x < 2 ^ d → value (times (points (2 ^ d) (65536 - 2 ^ d)) p) x ≡ value p x
+value-inside d p hd w x hx =
+    value-times (2 ^ d) (65536 - 2 ^ d) p w x ∙ ap (λ v. product v (value p x)) (outside d x hd hx) ∙ one_product (value p x) (value_lt p x w)
+
+-- at a point from 2 ^ d on it has a factor zero
+zero_outside : (d : ℕ) (p : List ℕ) → AreWords p → (x : ℕ) → 2 ^ d ≤ x → x < 65536 → value (times (points (2 ^ d) (65536 - 2 ^ d)) p) x ≡ 0
+zero_outside d p w x from to =
+    let place : 2 ^ d + (x - 2 ^ d) ≡ x = omega arith in
+    value-times (2 ^ d) (65536 - 2 ^ d) p w x
+    ∙ ap (λ v. product v (value p x)) (product_below-zero_factor (65536 - 2 ^ d) (λ i. bit_xor x (2 ^ d + i)) (x - 2 ^ d) (omega arith) (ap (bit_xor x) place ∙ xor_self x))
+    ∙ zero_product (value p x)
+
+-- where the originals of the high rate lie below 2 ^ d, a polynomial that codes them there codes them once it is made zero at the other points
+pub high_codes : (rate : Rate) (k r d : ℕ) (words p : List ℕ) → placement rate k r ≡ high_placement k r → d ≤ 16 → 2 ^ d ≤ 65536
+    → next_power r + k ≤ 2 ^ d → length p ≡ 2 ^ d - next_power r → AreWords p
+    → ((j : ℕ) → j < k → value p (next_power r + j) ≡ slice_index words j) → ((x : ℕ) → next_power r + k ≤ x → x < 2 ^ d → value p x ≡ 0)
+    → Codes rate k r words (times (points (2 ^ d) (65536 - 2 ^ d)) p)
+unfolding high_placement
+high_codes rate k r d words p is hd top within size w at zero_at = record {
+  degree = length-times (2 ^ d) (65536 - 2 ^ d) p ∙ (let e : 65536 - 2 ^ d + length p ≡ 65536 - next_power r = omega arith in e) ∙ ap (λ (q : Placement). q.degree_bound) (sym is);
+  coefficients = all_words _ (words_times (points (2 ^ d) (65536 - 2 ^ d)) p w);
+  originals = λ j hj. ap (λ (q : Placement). value (times (points (2 ^ d) (65536 - 2 ^ d)) p) (q.originals_from + j)) is
+      ∙ value-inside d p hd w (next_power r + j) (omega arith) ∙ at j hj;
+  zeros = λ x from to.
+      let low : next_power r + k ≤ x = subst (λ (q : Placement). q.zeros_from ≤ x) is from in
+      let high : x < 65536 = subst (λ (q : Placement). x < q.zeros_to) is to in
+      elim (cases_lt x (2 ^ d)) [
+        | inl inside ↦ value-inside d p hd w x inside ∙ zero_at x low inside
+        | inr out ↦ zero_outside d p w x out high
+      ];
+}

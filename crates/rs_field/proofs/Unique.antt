@@ -1,0 +1,89 @@
+-- A message has one list of recovery shards at most.
+use Rattle.std.proofs.Common.{◌≡◌, ℕ, zero, suc, ◌+◌, ◌-◌, ◌%◌, ◌^◌, ◌<◌, ◌≤◌, List, [], ◌∷◌, Bool, true, false, cond, length, refl, sym, ap, ◌∙◌, subst, arith, ◌⊎◌, inl, inr, pow_mono}
+use Rattle.std.specs.Prelude.{All, slice_index, nat_le}
+use Rattle.std.proofs.lemmas.Bool.{cases_lt, le-leb}
+use Rattle.std.proofs.lemmas.List.{ext_get_or}
+use Rattle.rs_field.specs.Search.{first_below}
+use Rattle.rs_field.specs.Polynomial.{value}
+use Rattle.rs_field.specs.Column.{Shard, shard_at, columns}
+use Rattle.rs_field.specs.Counts.{Rate, next_power, is_low}
+use Rattle.rs_field.specs.Placement.{Placement, placement, low_placement, high_placement}
+use Rattle.rs_field.specs.Configuration.{Configuration}
+use Rattle.rs_field.specs.Code.{Codes, AreRecoveryWords, AreRecovery}
+use Rattle.rs_field.proofs.Roots.{AreWords, same_from_values}
+use Rattle.rs_field.proofs.Columns.{shard_from_columns, columns-at}
+
+-- a search ends no later than at a number that passes
+first_below_le : (n : ℕ) (p : ℕ → Bool) (i : ℕ) → i < n → p i ≡ true → first_below n p ≤ i
+unfolding first_below
+first_below_le zero p i h e = absurd (let no : ⊥ = omega arith in no)
+first_below_le (suc n) p zero h e = subst (λ (b : Bool). cond b 0 (suc (first_below n (λ k. p (suc k)))) ≤ 0) (sym e) (omega arith)
+first_below_le (suc n) p (suc i) h e =
+    let rest : first_below n (λ k. p (suc k)) ≤ i = first_below_le n (λ k. p (suc k)) i (omega arith) e in
+    elim (p 0) as (λ b. cond b 0 (suc (first_below n (λ k. p (suc k)))) ≤ suc i) [ true ↦ omega arith | false ↦ omega arith ]
+
+-- the power of a count is a count
+pub next_power_most : (k : ℕ) → k ≤ 65536 → next_power k ≤ 65536
+unfolding next_power
+next_power_most k h =
+    let d : first_below 64 (λ d. nat_le k (2 ^ d)) ≤ 16 = first_below_le 64 (λ d. nat_le k (2 ^ d)) 16 (omega arith) (le-leb k 65536 h) in
+    let e : 2 ^ first_below 64 (λ d. nat_le k (2 ^ d)) ≤ 2 ^ 16 = pow_mono {i = first_below 64 (λ d. nat_le k (2 ^ d))} d in
+    e
+
+-- words by entry are words one after another
+pub words_from : (P : List ℕ) → All (λ w. w < 65536) P → AreWords P
+words_from [] h = tt
+words_from (c ∷ cs) h = (h 0 0 (omega arith), words_from cs (λ k d hk. h (suc k) d (omega arith)))
+
+-- each placement is that of the low rate or that of the high rate
+low_or_high : (rate : Rate) (k r : ℕ) → (placement rate k r ≡ low_placement k) ⊎ (placement rate k r ≡ high_placement k r)
+unfolding placement
+low_or_high rate k r = elim (is_low rate k r) as (λ b. (cond b (low_placement k) (high_placement k r) ≡ low_placement k) ⊎ (cond b (low_placement k) (high_placement k r) ≡ high_placement k r)) [ true ↦ inl refl | false ↦ inr refl ]
+
+-- two polynomials that code the same words are one
+pub codes_unique : (rate : Rate) (k r : ℕ) (words P Q : List ℕ) → k ≤ 65536 → Codes rate k r words P → Codes rate k r words Q → P ≡ Q
+unfolding low_placement high_placement
+codes_unique rate k r words P Q most p q =
+    elim (low_or_high rate k r) [
+      | inl low ↦
+          let bound : (placement rate k r).degree_bound ≡ next_power k = ap (λ (x : Placement). x.degree_bound) low in
+          let from : (placement rate k r).originals_from ≡ 0 = ap (λ (x : Placement). x.originals_from) low in
+          let zeros_from : (placement rate k r).zeros_from ≡ k = ap (λ (x : Placement). x.zeros_from) low in
+          let zeros_to : (placement rate k r).zeros_to ≡ next_power k = ap (λ (x : Placement). x.zeros_to) low in
+          let room : next_power k ≤ 65536 = next_power_most k most in
+          let at : (S : List ℕ) → Codes rate k r words S → (j : ℕ) → j < k → value S j ≡ slice_index words j =
+          λ S s j h. ap (value S) (let e : j ≡ (placement rate k r).originals_from + j = omega arith in e) ∙ s.originals j h in
+          same_from_values (next_power k) P Q (p.degree ∙ bound) (q.degree ∙ bound) (words_from P p.coefficients) (words_from Q q.coefficients)
+          (λ i. i) (λ i h. omega arith) (λ i j hi hj e. e)
+          (λ i h. elim (cases_lt i k) [
+            | inl original ↦ at P p i original ∙ sym (at Q q i original)
+            | inr zero_point ↦ p.zeros i (omega arith) (omega arith) ∙ sym (q.zeros i (omega arith) (omega arith))
+          ])
+      | inr high ↦
+          let m : ℕ = next_power r in
+          let bound : (placement rate k r).degree_bound ≡ 65536 - next_power r = ap (λ (x : Placement). x.degree_bound) high in
+          let from : (placement rate k r).originals_from ≡ next_power r = ap (λ (x : Placement). x.originals_from) high in
+          let zeros_from : (placement rate k r).zeros_from ≡ next_power r + k = ap (λ (x : Placement). x.zeros_from) high in
+          let zeros_to : (placement rate k r).zeros_to ≡ 65536 = ap (λ (x : Placement). x.zeros_to) high in
+          let at : (S : List ℕ) → Codes rate k r words S → (j : ℕ) → j < k → value S (next_power r + j) ≡ slice_index words j =
+          λ S s j h. ap (value S) (let e : next_power r + j ≡ (placement rate k r).originals_from + j = omega arith in e) ∙ s.originals j h in
+          same_from_values (65536 - next_power r) P Q (p.degree ∙ bound) (q.degree ∙ bound) (words_from P p.coefficients) (words_from Q q.coefficients)
+          (λ i. next_power r + i) (λ i h. omega arith) (λ i j hi hj e. omega arith)
+          (λ i h. elim (cases_lt i k) [
+            | inl original ↦ at P p i original ∙ sym (at Q q i original)
+            | inr zero_point ↦ p.zeros (next_power r + i) (omega arith) (omega arith) ∙ sym (q.zeros (next_power r + i) (omega arith) (omega arith))
+          ])
+    ]
+
+-- two lists of recovery shards of one message are equal
+pub recovery_unique : (c : Configuration) (message a b : List Shard) → c.original_count ≤ 65536 → c.shard_bytes % 2 ≡ 0 → AreRecovery c message a → AreRecovery c message b → a ≡ b
+recovery_unique c message a b most even ha hb =
+    ext_get_or [] a b (ha.shards.length_is ∙ sym hb.shards.length_is) (λ i h.
+    let below : i < c.recovery_count = subst (λ (n : ℕ). i < n) ha.shards.length_is h in
+    let other : i < length b = subst (λ (n : ℕ). i < n) (sym hb.shards.length_is) below in
+    shard_from_columns c.shard_bytes (shard_at a i) (shard_at b i) (ha.shards.each i [] h) (hb.shards.each i [] other) even
+    (λ j hj.
+    let wa : AreRecoveryWords c.rate c.original_count c.recovery_count (columns j message) (columns j a) = ha.words j hj in
+    let wb : AreRecoveryWords c.rate c.original_count c.recovery_count (columns j message) (columns j b) = hb.words j hj in
+    let same : wa.0 ≡ wb.0 = codes_unique c.rate c.original_count c.recovery_count (columns j message) (wa.0) (wb.0) most (wa.1) (wb.1) in
+    sym (columns-at j a i) ∙ wa.2 i below ∙ ap (λ p. value p ((placement c.rate c.original_count c.recovery_count).recovery_from + i)) same ∙ sym (wb.2 i below) ∙ columns-at j b i))

@@ -1,0 +1,25 @@
+use Rattle.std.proofs.Common.{refl}
+use Rattle.rs_field.specs.Search.{first_below}
+use Rattle.rs_field.specs.Counts.{next_power, supports, is_low}
+use Rattle.rs_field.specs.Placement.{chunk_rows, encoder_rows, decoder_rows}
+use Rattle.rs_field.specs.Worked.{ChunkRows, EncoderRows, DecoderRows, Spaces}
+use Rattle.rs_field.proofs.worked.spaces.Goals as goal
+
+chunks : ChunkRows
+unfolding chunk_rows is_low next_power first_below
+chunks = (refl, refl, refl, refl, refl, refl, refl)
+
+encoders : EncoderRows
+unfolding encoder_rows is_low next_power first_below
+encoders = (refl, refl, refl, refl, refl, refl)
+
+decoders : DecoderRows
+unfolding decoder_rows is_low next_power first_below
+decoders = (refl, refl, refl, refl, refl, refl, refl)
+
+spaces : Spaces
+unfolding encoder_rows decoder_rows supports is_low next_power first_below
+spaces = (refl, refl, refl, refl)
+
+pub returns : goal.returns
+returns c = record { chunks = chunks; encoders = encoders; decoders = decoders; spaces = spaces }
