@@ -6,7 +6,7 @@ use borrow.Rule.Slice.PartMut.{put_mid}
 use Rattle.rs_field.specs.Rows.{Chunks, chunk}
 use Rattle.rs_field.specs.Layout.{row_len, up_to, laid_out, in_order}
 use Rattle.rs_field.specs.Column.{Shard, column}
-use Rattle.rs_rate.specs.Held.{chunks_of, room_of, chunk_count, row_chunk, shard_put, shard_moved, word_in}
+use Rattle.rs_rate.specs.Held.{items_of, room_of, chunk_count, row_chunk, shard_put, shard_moved, word_in}
 use Rattle.rs_field.proofs.LayoutLemmas.{up_to-same, laid_out-same, in_order-same, column-laid_out}
 use Rattle.rs_field.proofs.Places.{place_apart}
 
@@ -44,7 +44,7 @@ chunk_count-positive n m size less some none =
     let rise = mul-le-mul_right (row_len size) one in
     omega (arith, rise, none, longer)
 
-pub chunks-room : (rows : Option (Vec (List ℕ) Global)) → length (chunks_of rows) ≤ room_of rows
+pub chunks-room : (rows : Option (Vec (List ℕ) Global)) → length (items_of rows) ≤ room_of rows
 chunks-room None = omega arith
 chunks-room (Some v) = omega (arith, v.ok.0, v.ok.1)
 

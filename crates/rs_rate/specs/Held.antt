@@ -6,13 +6,13 @@ use Rattle.rs_field.specs.Column.{Shard}
 use Rattle.rs_field.specs.Rows.{Chunks, chunk, symbol}
 use Rattle.rs_field.specs.Layout.{row_len, laid_out, in_order}
 
--- the chunks that are held, if any are
-abbrev pub chunks_of : {Z : Type 0} → Option (Vec (List ℕ) Z) → Chunks
-chunks_of None = []
-chunks_of (Some v) = v.items
+-- the items that are held, if any are
+abbrev pub items_of : {X Z : Type 0} → Option (Vec X Z) → List X
+items_of None = []
+items_of (Some v) = v.items
 
--- the chunks that there is room for
-abbrev pub room_of : {Z : Type 0} → Option (Vec (List ℕ) Z) → ℕ
+-- the items that there is room for
+abbrev pub room_of : {X Z : Type 0} → Option (Vec X Z) → ℕ
 room_of None = 0
 room_of (Some v) = vec_capacity v
 

@@ -3,3 +3,4 @@ pub mod EncoderView
 pub mod ResultView
 pub mod Loan
 pub mod Coding
+pub mod DecoderView

@@ -1,5 +1,7 @@
 //! The trait of a rate's encoder.
 mod counts;
+mod growth;
+mod places;
 pub mod encoder_work;
 mod low_encoding;
 mod rate_low;

@@ -1,10 +1,11 @@
-//! Row functions that count their steps: clearing and copying.
+//! Row functions that count their steps: clearing, copying and products.
 ghost use Rattle.std.specs.Prelude.{◌≡◌, ℕ, ◌+◌, ◌-◌, ◌<◌, ◌≤◌, ◌≢◌, length};
-ghost use Rattle.rs_field.specs.Rows.{chunk, SameOutside};
-ghost use Rattle.rs_field.specs.View.{cell, Fits, SamePlace, SameRowsOutside, AreZero};
-ghost use Rattle.rs_field.specs.Bounds.{CountsRows};
+ghost use Rattle.rs_field.specs.Field.{product, power};
+ghost use Rattle.rs_field.specs.Rows.{chunk, symbol, SameOutside};
+ghost use Rattle.rs_field.specs.View.{cell, word, Fits, SamePlace, SameRowsOutside, AreZero};
+ghost use Rattle.rs_field.specs.Bounds.{CountsRows, RowProductCounts};
 
-use super::{ShardsRefMut, Steps};
+use super::{Engine, GfElement, ShardsRefMut, Steps};
 
 /// Rows `start` to `end - 1` become zero bytes; a row step each.
 pub fn clear_rows(steps: &mut Steps, data: &mut ShardsRefMut<'_>, start: usize, end: usize)
@@ -65,4 +66,40 @@ fn copy_part(chunks: &mut [[u8; 64]], from: usize, to: usize, n: usize)
     ensures others { SameOutside to (to + n) chunks.old chunks.new }
 {
     chunks.copy_within(from..from + n, to);
+}
+
+/// Multiplies row `index` by the generator to the power `log_m`, by the engine; 65535 is the factor one.
+pub fn mul_row<E: Engine>(
+    engine: &E,
+    steps: &mut Steps,
+    data: &mut ShardsRefMut<'_>,
+    index: usize,
+    log_m: GfElement,
+)
+    requires fits { Fits «data».old }
+    requires within { index < «data».old.shard_count }
+    ensures place { SamePlace «data».old «data».new }
+    ensures products { (k s : ℕ) → k < «data».old.shard_len_64 → s < 32 → word «data».new k s index ≡ product (word «data».old k s index) (power log_m) }
+    ensures others { SameRowsOutside index (index + 1) «data».old «data».new }
+    ensures counts { RowProductCounts steps.old steps.new }
+{
+    let len = data.shard_len_64;
+    mul_part(engine, steps, data.chunks, index * len, len, log_m);
+}
+
+// Multiplies the n chunks from a on.
+fn mul_part<E: Engine>(
+    engine: &E,
+    steps: &mut Steps,
+    chunks: &mut [[u8; 64]],
+    a: usize,
+    n: usize,
+    log_m: GfElement,
+)
+    requires { a + n ≤ length chunks.old }
+    ensures products { (k s : ℕ) → k < n → s < 32 → symbol (chunk chunks.new (a + k)) s ≡ product (symbol (chunk chunks.old (a + k)) s) (power log_m) }
+    ensures others { SameOutside a (a + n) chunks.old chunks.new }
+    ensures counts { RowProductCounts steps.old steps.new }
+{
+    engine.mul(steps, &mut chunks[a..a + n], log_m);
 }

@@ -4,8 +4,9 @@ ghost use Rattle.rs_field.specs.Counts.{Rate};
 ghost use Rattle.rs_field.specs.Configuration.{configuration};
 ghost use Rattle.rs_field.specs.Outcome.{answer_of, state_after};
 ghost use Rattle.rs_field.specs.Encoder.{fresh_encoder, with_shard, message_of};
-ghost use Rattle.rs_rate.specs.Held.{chunks_of, room_of, chunk_count as chunk_count_of, shard_put, shard_moved};
+ghost use Rattle.rs_rate.specs.Held.{items_of, room_of, chunk_count as chunk_count_of, shard_put, shard_moved};
 
+use crate::rate::growth::{chunk_count, make_room};
 use rs_field::engine::layout::{insert, row_len, shard_of};
 use rs_field::error::Error;
 use std::alloc::Global;
@@ -22,7 +23,7 @@ pub struct EncoderWork {
     pub ghost no_more: { original_received_count ≤ original_count },
     pub ghost original_rows: { original_count ≤ row_count },
     pub ghost recovery_rows: { recovery_count ≤ row_count },
-    pub ghost fits: { chunk_count_of row_count shard_bytes ≤ length (chunks_of rows) },
+    pub ghost fits: { chunk_count_of row_count shard_bytes ≤ length (items_of rows) },
     pub ghost sized: { chunk_count_of row_count shard_bytes * 64 < 2 ^ 64 },
 }
 
@@ -116,7 +117,7 @@ impl EncoderWork {
     pub(crate) fn recovery(&self, index: usize) -> Option<&[u8]>
         requires { 0 < self.now.shard_bytes }
         ensures { MatchOption result (self.now.recovery_count ≤ index)
-            (λ shard. (index < self.now.recovery_count) × (shard.now ≡ shard_moved (chunks_of self.now.rows) self.now.shard_bytes index)) }
+            (λ shard. (index < self.now.recovery_count) × (shard.now ≡ shard_moved (items_of self.now.rows) self.now.shard_bytes index)) }
     {
         if index >= self.recovery_count {
             return None;
@@ -128,46 +129,11 @@ impl EncoderWork {
     }
 }
 
-// The chunks of so many rows, where their size in bytes is a `usize`.
-fn chunk_count(row_count: usize, shard_bytes: usize) -> Result<usize, Error>
-    ensures { MatchResult result
-        (λ n. (n ≡ chunk_count_of row_count shard_bytes) × (n * 64 < 2 ^ 64))
-        (λ e. (e ≡ Error.OutOfMemory) × (2 ^ 64 ≤ chunk_count_of row_count shard_bytes * 64)) }
-{
-    let Some(chunks) = row_count.checked_mul(row_len(shard_bytes)) else {
-        return Err(Error::OutOfMemory);
-    };
-    match chunks.checked_mul(64) {
-        Some(_) => Ok(chunks),
-        None => Err(Error::OutOfMemory),
-    }
-}
-
-// Makes room for so many chunks in all; what is held stays.
-fn make_room(alloc: Global, held: &mut Option<Vec<[u8; 64]>>, count: usize) -> Result<(), Error>
-    ensures same { chunks_of held.new ≡ chunks_of held.old }
-    ensures room { IfOk result (λ _. (count ≤ room_of held.new) × ¬ (held.new ≡ None)) }
-    ensures more { room_of held.old ≤ room_of held.new }
-    ensures refused { IfErr result (λ e. (e ≡ Error.OutOfMemory) × (room_of held.old < count)) }
-{
-    match held {
-        Some(values) => {
-            let more = count.saturating_sub(values.len());
-            values.try_reserve_exact(more)?;
-            Ok(())
-        }
-        None => {
-            *held = Some(Vec::with_capacity(alloc, count)?);
-            Ok(())
-        }
-    }
-}
-
 // Holds so many chunks, for which there is room.
 fn cut(held: &mut Option<Vec<[u8; 64]>>, count: usize)
     requires room { count ≤ room_of held.old }
     requires held { ¬ (held.old ≡ None) }
-    ensures length { length (chunks_of held.new) ≡ count }
+    ensures length { length (items_of held.new) ≡ count }
     ensures room { room_of held.old ≤ room_of held.new }
 {
     if let Some(rows) = held {
@@ -177,12 +143,12 @@ fn cut(held: &mut Option<Vec<[u8; 64]>>, count: usize)
 
 // Puts a shard into row `index`.
 fn insert_held(held: &mut Option<Vec<[u8; 64]>>, shard: &[u8], index: usize)
-    requires room { chunk_count_of (index + 1) (length shard.now) ≤ length (chunks_of held.old) }
+    requires room { chunk_count_of (index + 1) (length shard.now) ≤ length (items_of held.old) }
     requires some { 0 < length shard.now }
     requires even { length shard.now % 2 ≡ 0 }
-    ensures here { shard_put (chunks_of held.new) (length shard.now) index ≡ shard.now }
-    ensures others { (i : ℕ) → i ≢ index → shard_put (chunks_of held.new) (length shard.now) i ≡ shard_put (chunks_of held.old) (length shard.now) i }
-    ensures length { length (chunks_of held.new) ≡ length (chunks_of held.old) }
+    ensures here { shard_put (items_of held.new) (length shard.now) index ≡ shard.now }
+    ensures others { (i : ℕ) → i ≢ index → shard_put (items_of held.new) (length shard.now) i ≡ shard_put (items_of held.old) (length shard.now) i }
+    ensures length { length (items_of held.new) ≡ length (items_of held.old) }
     ensures room { room_of held.new ≡ room_of held.old }
 {
     match held {

@@ -11,7 +11,7 @@ ghost use Rattle.rs_field.specs.View.{cell, word, Fits, SamePlace};
 ghost use Rattle.rs_field.specs.Layout.{up_to};
 ghost use Rattle.rs_rate.specs.Coding.{CodesLow};
 ghost use Rattle.rs_rate.specs.EncoderView.{encoder_state, given_of, lent_of, work_room};
-ghost use Rattle.rs_rate.specs.Held.{word_in, chunks_of, room_of, chunk_count, shard_put, shard_moved};
+ghost use Rattle.rs_rate.specs.Held.{word_in, items_of, room_of, chunk_count, shard_put, shard_moved};
 
 use crate::rate::EncoderWork;
 use crate::rate::counts::{low_encoder_rows, power_of_two};
@@ -54,10 +54,10 @@ fn encode_held<E: Engine>(
     shard_bytes: usize,
 )
     requires valid { validated (configuration low_rate original_count recovery_count shard_bytes) ≡ Ok tt }
-    requires room { chunk_count (encoder_rows low_rate original_count recovery_count) shard_bytes ≤ length (chunks_of held.old) }
+    requires room { chunk_count (encoder_rows low_rate original_count recovery_count) shard_bytes ≤ length (items_of held.old) }
     ensures recovery { AreRecovery (configuration low_rate original_count recovery_count shard_bytes)
-        (up_to original_count (shard_put (chunks_of held.old) shard_bytes)) (up_to recovery_count (shard_moved (chunks_of held.new) shard_bytes)) }
-    ensures length { length (chunks_of held.new) ≡ length (chunks_of held.old) }
+        (up_to original_count (shard_put (items_of held.old) shard_bytes)) (up_to recovery_count (shard_moved (items_of held.new) shard_bytes)) }
+    ensures length { length (items_of held.new) ≡ length (items_of held.old) }
     ensures room { room_of held.new ≡ room_of held.old }
 {
     match held {

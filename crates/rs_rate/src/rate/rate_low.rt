@@ -7,7 +7,7 @@ ghost use Rattle.rs_field.specs.Encoder.{fresh_encoder};
 ghost use Rattle.rs_field.specs.Code.{AreRecovery};
 ghost use Rattle.rs_field.specs.Layout.{up_to};
 ghost use Rattle.rs_rate.specs.EncoderView.{encoder_state, given_of, lent_of, work_room};
-ghost use Rattle.rs_rate.specs.Held.{chunks_of, room_of, chunk_count, shard_put, shard_moved};
+ghost use Rattle.rs_rate.specs.Held.{items_of, room_of, chunk_count, shard_put, shard_moved};
 
 use crate::encoder_result::EncoderResult;
 use crate::rate::counts::{low_encoder_rows, low_supports, low_validate};

@@ -3,7 +3,7 @@ use Rattle.std.specs.Prelude.{Option, Some, None, MatchOption}
 use Rattle.rs_field.specs.Column.{Shard, shard_at}
 use Rattle.rs_field.specs.Layout.{up_to}
 use Rattle.rs_field.proofs.LayoutLemmas.{length-up_to, get-up_to}
-use Rattle.rs_rate.specs.Held.{chunks_of, shard_moved}
+use Rattle.rs_rate.specs.Held.{items_of, shard_moved}
 use Rattle.rs_rate.proofs.encoder_result.EncoderResult.recovery.Goals as goal
 
 -- a shard by its index is one of the list
@@ -16,4 +16,4 @@ in_list n index f (Some shard) (inside, is) = let same = length-up_to n f in (om
 pub returns : goal.returns
 returns c =
     let work = c.args.self.now.work.now in
-    in_list work.recovery_count c.args.index (shard_moved (chunks_of work.rows) work.shard_bytes) c.recovery.result c.recovery.ensures
+    in_list work.recovery_count c.args.index (shard_moved (items_of work.rows) work.shard_bytes) c.recovery.result c.recovery.ensures

@@ -6,7 +6,7 @@ use Rattle.rs_field.specs.Counts.{low_rate}
 use Rattle.rs_field.specs.Encoder.{EncodeAnswers}
 use Rattle.rs_field.proofs.LayoutLemmas.{length-up_to}
 use Rattle.rs_rate.specs.EncoderView.{encoder_state, lent_of}
-use Rattle.rs_rate.specs.Held.{chunks_of, shard_put}
+use Rattle.rs_rate.specs.Held.{items_of, shard_put}
 use Rattle.rs_rate.proofs.StateLemmas.{after_encode-refused, encode_answers-refused, message-whole, after_encode-made, encode_answers-made}
 use Rattle.rs_rate.proofs.rate.rate_low.LowRateEncoderRateEncoder.encode.Goals as goal
 
@@ -20,7 +20,7 @@ pub encode_work-requires-clause-full : goal.encode_work-requires-clause-full
 encode_work-requires-clause-full g c =
     let work = c.args.self.now.work in
     let whole = message-whole (encoder_state low_rate work) (c.in_ok-begin.ensures low_rate) in
-    let given = length-up_to work.original_received_count (shard_put (chunks_of work.rows) work.shard_bytes) in
+    let given = length-up_to work.original_received_count (shard_put (items_of work.rows) work.shard_bytes) in
     omega (arith, whole.0, given, work.no_more)
 
 pub returns : goal.returns

@@ -1,6 +1,6 @@
 use Rattle.std.proofs.Common.{◌*◌, ap, refl, arith}
 use Rattle.rs_rate.proofs.HeldLemmas.{chunk_count-is}
-use Rattle.rs_rate.proofs.rate.encoder_work.chunk_count.Goals as goal
+use Rattle.rs_rate.proofs.rate.growth.chunk_count.Goals as goal
 
 pub returns-in_default : goal.returns-in_default
 returns-in_default c =

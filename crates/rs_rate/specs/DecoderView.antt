@@ -1,0 +1,43 @@
+-- What a decoder's working space stands for.
+use Rattle.std.specs.Prelude.{ℕ, zero, suc, ◌+◌, nat_lt, if◌then◌else◌, Bool, true, false, List, [], Option, Some, None, slice_index_or}
+use Rattle.std.specs.declared.vec.Vec.{Vec}
+use Rattle.rs_field.specs.Column.{Shard}
+use Rattle.rs_field.specs.Counts.{Rate}
+use Rattle.rs_field.specs.Configuration.{configuration}
+use Rattle.rs_field.specs.Given.{Shards}
+use Rattle.rs_field.specs.Decoder.{DecoderState}
+use Rattle.rs_field.specs.Rows.{Chunks}
+use Rattle.rs_rate.specs.declared.rate.places.Place.{Place}
+use Rattle.rs_rate.specs.declared.rate.places.Place.TheVariants.{Empty, Given, Restored}
+use Rattle.rs_rate.specs.Held.{shard_put, shard_moved}
+
+-- what a row is marked as
+abbrev pub place_at : List Place → ℕ → Place
+place_at places p = slice_index_or places p Empty
+
+-- whether a row holds a given shard
+abbrev pub is_given : Place → Bool
+is_given Empty = false
+is_given Given = true
+is_given Restored = false
+
+-- whether a row holds a restored shard
+abbrev pub is_restored : Place → Bool
+is_restored Empty = false
+is_restored Given = false
+is_restored Restored = true
+
+-- how many of the n rows from one on hold a given shard
+unfoldable pub given_rows : List Place → ℕ → ℕ → ℕ
+given_rows places from zero = 0
+given_rows places from (suc n) = given_rows places from n + (if is_given (place_at places (from + n)) then 1 else 0)
+
+-- the shards that were given in the n rows from one on
+unfoldable pub given_shards : List Place → Chunks → ℕ → ℕ → ℕ → Shards
+given_shards places chunks size from n i =
+    if nat_lt i n then (if is_given (place_at places (from + i)) then Some (shard_put chunks size (from + i)) else None) else None
+
+-- the shards that were restored in the n rows from one on
+unfoldable pub restored_shards : List Place → Chunks → ℕ → ℕ → ℕ → Shards
+restored_shards places chunks size from n i =
+    if nat_lt i n then (if is_restored (place_at places (from + i)) then Some (shard_moved chunks size (from + i)) else None) else None
