@@ -1,5 +1,5 @@
 -- What a decoder's working space stands for.
-use Rattle.std.specs.Prelude.{ℕ, zero, suc, ◌+◌, nat_lt, if◌then◌else◌, Bool, true, false, List, [], Option, Some, None, slice_index_or}
+use Rattle.std.specs.Prelude.{ℕ, zero, suc, ◌+◌, nat_lt, nat_le, ◌&&◌, if◌then◌else◌, Bool, true, false, List, [], Option, Some, None, slice_index_or}
 use Rattle.std.specs.declared.vec.Vec.{Vec}
 use Rattle.rs_field.specs.Column.{Shard}
 use Rattle.rs_field.specs.Counts.{Rate}
@@ -41,3 +41,7 @@ given_shards places chunks size from n i =
 unfoldable pub restored_shards : List Place → Chunks → ℕ → ℕ → ℕ → Shards
 restored_shards places chunks size from n i =
     if nat_lt i n then (if is_restored (place_at places (from + i)) then Some (shard_moved chunks size (from + i)) else None) else None
+
+-- what row p holds after a round, from what it held: an original that was not given is restored there
+abbrev pub ended : ℕ → ℕ → ℕ → Place → Place
+ended from n p place = if nat_le from p && nat_lt p (from + n) then (if is_given place then Empty else Restored) else Empty

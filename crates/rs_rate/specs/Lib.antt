@@ -4,3 +4,4 @@ pub mod ResultView
 pub mod Loan
 pub mod Coding
 pub mod DecoderView
+pub mod DecoderState

@@ -1,13 +1,15 @@
 //! The trait of a rate's encoder.
 mod counts;
-mod growth;
-mod places;
+pub mod decoder_work;
 pub mod encoder_work;
+mod growth;
 mod low_encoding;
+mod places;
 mod rate_low;
 mod tails;
 
 use crate::encoder_result::EncoderResult;
+pub use decoder_work::DecoderWork;
 pub use encoder_work::EncoderWork;
 pub use rate_low::{LowRate, LowRateEncoder};
 use rs_field::engine::{Engine, Steps};

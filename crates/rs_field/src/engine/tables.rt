@@ -1,5 +1,5 @@
 //! The tables of the field, made at run time and lent.
-ghost use Rattle.std.specs.Prelude.{◌≡◌, ◌+◌, ◌*◌, ◌%◌, ◌^◌, ◌<◌, IfOk, length, slice_index, ℕ};
+ghost use Rattle.std.specs.Prelude.{◌≡◌, ◌+◌, ◌*◌, ◌%◌, ◌^◌, ◌<◌, IfOk, IfErr, length, slice_index, ℕ};
 ghost use Rattle.rs_field.specs.Field.{product, power, generator};
 ghost use Rattle.rs_field.specs.Tables.{IsExpLog, IsSkew};
 
@@ -36,7 +36,9 @@ pub struct Tables {
 
 impl Tables {
     /// Makes all tables, or answers `OutOfMemory`.
-    pub fn new(alloc: Global) -> Result<Tables, Error> {
+    pub fn new(alloc: Global) -> Result<Tables, Error>
+        ensures { IfErr result (λ e. e ≡ Error.OutOfMemory) }
+    {
         let exp_log = ExpLog::new(alloc)?;
         let skew = skew_table(alloc, &exp_log)?;
         Ok(Tables { exp_log, skew })

@@ -6,8 +6,7 @@ ghost use Rattle.rs_field.specs.Outcome.{answer_of, state_after};
 ghost use Rattle.rs_field.specs.Encoder.{fresh_encoder, with_shard, message_of};
 ghost use Rattle.rs_rate.specs.Held.{items_of, room_of, chunk_count as chunk_count_of, shard_put, shard_moved};
 
-use crate::rate::growth::{chunk_count, make_room};
-use rs_field::engine::layout::{insert, row_len, shard_of};
+use crate::rate::growth::{chunk_count, cut, insert_held, make_room, shard_at};
 use rs_field::error::Error;
 use std::alloc::Global;
 
@@ -127,56 +126,4 @@ impl EncoderWork {
             None => Some(&[]),
         }
     }
-}
-
-// Holds so many chunks, for which there is room.
-fn cut(held: &mut Option<Vec<[u8; 64]>>, count: usize)
-    requires room { count ≤ room_of held.old }
-    requires held { ¬ (held.old ≡ None) }
-    ensures length { length (items_of held.new) ≡ count }
-    ensures room { room_of held.old ≤ room_of held.new }
-{
-    if let Some(rows) = held {
-        let _ = rows.resize(count, [0; 64]);
-    }
-}
-
-// Puts a shard into row `index`.
-fn insert_held(held: &mut Option<Vec<[u8; 64]>>, shard: &[u8], index: usize)
-    requires room { chunk_count_of (index + 1) (length shard.now) ≤ length (items_of held.old) }
-    requires some { 0 < length shard.now }
-    requires even { length shard.now % 2 ≡ 0 }
-    ensures here { shard_put (items_of held.new) (length shard.now) index ≡ shard.now }
-    ensures others { (i : ℕ) → i ≢ index → shard_put (items_of held.new) (length shard.now) i ≡ shard_put (items_of held.old) (length shard.now) i }
-    ensures length { length (items_of held.new) ≡ length (items_of held.old) }
-    ensures room { room_of held.new ≡ room_of held.old }
-{
-    match held {
-        Some(rows) => insert_at(rows.as_mut_slice(), shard, index),
-        None => {}
-    }
-}
-
-// Puts a shard into row `index` of rows of its size.
-#[tactic(auto, using(crate::proofs::HeldLemmas::row_end))]
-fn insert_at(chunks: &mut [[u8; 64]], shard: &[u8], index: usize)
-    requires room { chunk_count_of (index + 1) (length shard.now) ≤ length chunks.old }
-    requires even { length shard.now % 2 ≡ 0 }
-    ensures here { shard_put chunks.new (length shard.now) index ≡ shard.now }
-    ensures others { (i : ℕ) → i ≢ index → shard_put chunks.new (length shard.now) i ≡ shard_put chunks.old (length shard.now) i }
-{
-    let len = row_len(shard.len());
-    let start = index * len;
-    insert(&mut chunks[start..start + len], shard);
-}
-
-// The shard that lies in row `index`, once its tail was moved.
-#[tactic(auto, using(crate::proofs::HeldLemmas::row_end))]
-fn shard_at(chunks: &[[u8; 64]], shard_bytes: usize, index: usize) -> &[u8]
-    requires { chunk_count_of (index + 1) shard_bytes ≤ length chunks.now }
-    ensures { result.now ≡ shard_moved chunks.now shard_bytes index }
-{
-    let len = row_len(shard_bytes);
-    let start = index * len;
-    shard_of(&chunks[start..start + len], shard_bytes)
 }

@@ -1,7 +1,7 @@
 use Rattle.std.proofs.Common.{◌+◌, arith, ap, length}
 use Rattle.rs_rate.proofs.HeldLemmas.{chunk_count-positive}
 use Rattle.rs_rate.specs.Held.{items_of}
-use Rattle.rs_rate.proofs.rate.encoder_work.insert_held.Goals as goal
+use Rattle.rs_rate.proofs.rate.growth.insert_held.Goals as goal
 
 pub returns-in-None-clause-here : goal.returns-in-None-clause-here
 returns-in-None-clause-here c =

@@ -1,6 +1,6 @@
 use Rattle.std.proofs.Common.{◌*◌, arith, ap, ◌∙◌}
 use Rattle.rs_rate.proofs.HeldLemmas.{row_end, moved-read}
-use Rattle.rs_rate.proofs.rate.encoder_work.shard_at.Goals as goal
+use Rattle.rs_rate.proofs.rate.growth.shard_at.Goals as goal
 
 pub returns : goal.returns
 returns c =

@@ -1,6 +1,6 @@
 use Rattle.std.proofs.Common.{◌*◌, arith, ap, ◌∙◌, length}
 use Rattle.rs_rate.proofs.HeldLemmas.{row_end, put-here, put-other, part_length}
-use Rattle.rs_rate.proofs.rate.encoder_work.insert_at.Goals as goal
+use Rattle.rs_rate.proofs.rate.growth.insert_at.Goals as goal
 
 pub returns-clause-here : goal.returns-clause-here
 returns-clause-here c =

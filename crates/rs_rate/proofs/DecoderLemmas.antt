@@ -1,0 +1,171 @@
+-- The shards that a decoder's rows stand for.
+use Rattle.std.proofs.Common.{◌≡◌, ◌≢◌, ℕ, zero, suc, ◌+◌, ◌<◌, ◌≤◌, List, Bool, true, false, cond, refl, sym, ap, ◌∙◌, subst, arith, inl, inr, add-suc}
+use Rattle.std.specs.Prelude.{Option, Some, None, is_some, nat_lt, nat_eq, if◌then◌else◌}
+use Rattle.std.proofs.lemmas.Bool.{cases_lt, cases_eq, lt-ltb, le-ltb, eq-eqb, ne_eqb, ltb-true}
+use mathlib.Core.Path.{fun_ext}
+use Rattle.rs_field.specs.Column.{Shard}
+use Rattle.rs_field.specs.Given.{Shards, nothing, entered, count_below}
+use Rattle.rs_field.specs.Rows.{Chunks}
+use Rattle.rs_rate.specs.declared.rate.places.Place.{Place}
+use Rattle.rs_rate.specs.declared.rate.places.Place.TheVariants.{Empty, Given, Restored}
+use Rattle.rs_rate.specs.DecoderView.{place_at, is_given, is_restored, given_rows, given_shards, restored_shards}
+use Rattle.rs_rate.specs.Held.{shard_put, shard_moved}
+
+-- the shard of an index below the count, by its row's mark
+given_shards-in : (places : List Place) (chunks : Chunks) (size from n i : ℕ) → i < n
+    → given_shards places chunks size from n i ≡ cond (is_given (place_at places (from + i))) (Some (shard_put chunks size (from + i))) None
+unfolding given_shards
+given_shards-in places chunks size from n i inside =
+    ap (λ b. cond b (cond (is_given (place_at places (from + i))) (Some (shard_put chunks size (from + i))) None) None) (lt-ltb i n inside)
+
+given_shards-out : (places : List Place) (chunks : Chunks) (size from n i : ℕ) → n ≤ i → given_shards places chunks size from n i ≡ None
+unfolding given_shards
+given_shards-out places chunks size from n i outside =
+    ap (λ b. cond b (cond (is_given (place_at places (from + i))) (Some (shard_put chunks size (from + i))) None) None) (le-ltb i n outside)
+
+some_if : (b : Bool) (shard : Shard) → is_some (cond b (Some shard) None) ≡ b
+some_if true shard = refl
+some_if false shard = refl
+
+-- a shard was given where the row is marked so
+pub given-marked : (places : List Place) (chunks : Chunks) (size from n i : ℕ) → i < n
+    → is_some (given_shards places chunks size from n i) ≡ is_given (place_at places (from + i))
+given-marked places chunks size from n i inside =
+    ap is_some (given_shards-in places chunks size from n i inside) ∙ some_if (is_given (place_at places (from + i))) (shard_put chunks size (from + i))
+
+pub given_rows-zero : (places : List Place) (from : ℕ) → given_rows places from 0 ≡ 0
+unfolding given_rows
+given_rows-zero places from = refl
+
+given_rows-suc : (places : List Place) (from n : ℕ) → given_rows places from (suc n) ≡ given_rows places from n + cond (is_given (place_at places (from + n))) 1 0
+unfolding given_rows
+given_rows-suc places from n = refl
+
+one_at_most : (b : Bool) → cond b 1 0 ≤ 1
+one_at_most true = omega arith
+one_at_most false = omega arith
+
+-- no more shards are given than there are rows
+pub given_rows-most : (places : List Place) (from n : ℕ) → given_rows places from n ≤ n
+given_rows-most places from zero = (let none = given_rows-zero places from in omega arith)
+given_rows-most places from (suc n) =
+    let rest = given_rows-most places from n in
+    let more = given_rows-suc places from n in
+    let one = one_at_most (is_given (place_at places (from + n))) in
+    omega arith
+
+count_below-suc : (n : ℕ) (given : Shards) → count_below (suc n) given ≡ count_below n given + cond (is_some (given n)) 1 0
+unfolding count_below
+count_below-suc n given = refl
+
+count_below-zero : (given : Shards) → count_below 0 given ≡ 0
+unfolding count_below
+count_below-zero given = refl
+
+-- as many shards are given as rows are marked so
+count-below : (places : List Place) (chunks : Chunks) (size from m n : ℕ) → n ≤ m → count_below n (given_shards places chunks size from m) ≡ given_rows places from n
+count-below places chunks size from m zero fits = count_below-zero (given_shards places chunks size from m) ∙ sym (given_rows-zero places from)
+count-below places chunks size from m (suc n) fits =
+    count_below-suc n (given_shards places chunks size from m)
+    ∙ ap (λ b. count_below n (given_shards places chunks size from m) + cond b 1 0) (given-marked places chunks size from m n (omega arith))
+    ∙ ap (λ c. c + cond (is_given (place_at places (from + n))) 1 0) (count-below places chunks size from m n (omega arith))
+    ∙ sym (given_rows-suc places from n)
+
+pub count-given : (places : List Place) (chunks : Chunks) (size from n : ℕ) → count_below n (given_shards places chunks size from n) ≡ given_rows places from n
+count-given places chunks size from n = count-below places chunks size from n n (omega arith)
+
+-- with no row marked, nothing is given
+pub given-nothing : (places : List Place) (chunks : Chunks) (size from n : ℕ) → ((i : ℕ) → i < n → is_given (place_at places (from + i)) ≡ false)
+    → given_shards places chunks size from n ≡ nothing
+given-nothing places chunks size from n empty =
+    fun_ext (λ i. elim (cases_lt i n) [
+      | inl inside ↦ given_shards-in places chunks size from n i inside ∙ ap (λ b. cond b (Some (shard_put chunks size (from + i))) None) (empty i inside)
+      | inr outside ↦ given_shards-out places chunks size from n i outside
+    ])
+
+pub given_rows-nothing : (places : List Place) (from n : ℕ) → ((i : ℕ) → i < n → is_given (place_at places (from + i)) ≡ false) → given_rows places from n ≡ 0
+given_rows-nothing places from zero empty = given_rows-zero places from
+given_rows-nothing places from (suc n) empty =
+    let rest = given_rows-nothing places from n (λ i h. empty i (omega arith)) in
+    given_rows-suc places from n ∙ ap (λ b. given_rows places from n + cond b 1 0) (empty n (omega arith)) ∙ (let none : given_rows places from n + 0 ≡ 0 = omega arith in none)
+
+-- the same rows, marked in the same way, stand for the same shards
+pub given-kept : (old new : List Place) (before after : Chunks) (size from n : ℕ) → ((i : ℕ) → i < n → place_at new (from + i) ≡ place_at old (from + i))
+    → ((i : ℕ) → i < n → shard_put after size (from + i) ≡ shard_put before size (from + i)) → given_shards new after size from n ≡ given_shards old before size from n
+given-kept old new before after size from n marks shards =
+    fun_ext (λ i. elim (cases_lt i n) [
+      | inl inside ↦
+          given_shards-in new after size from n i inside
+          ∙ ap (λ p. cond (is_given p) (Some (shard_put after size (from + i))) None) (marks i inside)
+          ∙ ap (λ s. cond (is_given (place_at old (from + i))) (Some s) None) (shards i inside)
+          ∙ sym (given_shards-in old before size from n i inside)
+      | inr outside ↦ given_shards-out new after size from n i outside ∙ sym (given_shards-out old before size from n i outside)
+    ])
+
+pub given_rows-kept : (old new : List Place) (from n : ℕ) → ((i : ℕ) → i < n → place_at new (from + i) ≡ place_at old (from + i)) → given_rows new from n ≡ given_rows old from n
+given_rows-kept old new from zero marks = given_rows-zero new from ∙ sym (given_rows-zero old from)
+given_rows-kept old new from (suc n) marks =
+    given_rows-suc new from n
+    ∙ ap (λ p. given_rows new from n + cond (is_given p) 1 0) (marks n (omega arith))
+    ∙ ap (λ c. c + cond (is_given (place_at old (from + n))) 1 0) (given_rows-kept old new from n (λ i h. marks i (omega arith)))
+    ∙ sym (given_rows-suc old from n)
+
+entered-is : (given : Shards) (index i : ℕ) (shard : Shard) → entered given index shard i ≡ cond (nat_eq i index) (Some shard) (given i)
+unfolding entered
+entered-is given index i shard = refl
+
+-- one more shard, in a row that is marked
+pub given-entered : (old new : List Place) (before after : Chunks) (size from n index : ℕ) (shard : Shard) → index < n → place_at new (from + index) ≡ Given
+    → shard_put after size (from + index) ≡ shard → ((i : ℕ) → i < n → i ≢ index → place_at new (from + i) ≡ place_at old (from + i))
+    → ((i : ℕ) → i < n → i ≢ index → shard_put after size (from + i) ≡ shard_put before size (from + i))
+    → given_shards new after size from n ≡ entered (given_shards old before size from n) index shard
+given-entered old new before after size from n index shard inside marked here marks shards =
+    fun_ext (λ i. elim (cases_eq i index) [
+      | inl same ↦
+          ap (given_shards new after size from n) same ∙ given_shards-in new after size from n index inside
+          ∙ ap (λ p. cond (is_given p) (Some (shard_put after size (from + index))) None) marked ∙ ap Some here
+          ∙ sym (ap (λ b. cond b (Some shard) (given_shards old before size from n i)) (eq-eqb i index same)) ∙ sym (entered-is (given_shards old before size from n) index i shard)
+      | inr apart ↦
+          elim (cases_lt i n) [
+            | inl within ↦
+                given_shards-in new after size from n i within
+                ∙ ap (λ p. cond (is_given p) (Some (shard_put after size (from + i))) None) (marks i within apart)
+                ∙ ap (λ s. cond (is_given (place_at old (from + i))) (Some s) None) (shards i within apart)
+                ∙ sym (given_shards-in old before size from n i within)
+            | inr outside ↦ given_shards-out new after size from n i outside ∙ sym (given_shards-out old before size from n i outside)
+          ]
+          ∙ sym (ap (λ b. cond b (Some shard) (given_shards old before size from n i)) (ne_eqb i index apart)) ∙ sym (entered-is (given_shards old before size from n) index i shard)
+    ])
+
+pub given_rows-more : (old new : List Place) (from n index : ℕ) → index < n → place_at new (from + index) ≡ Given → is_given (place_at old (from + index)) ≡ false
+    → ((i : ℕ) → i < n → i ≢ index → place_at new (from + i) ≡ place_at old (from + i)) → given_rows new from n ≡ given_rows old from n + 1
+given_rows-more old new from zero index inside marked before marks = absurd (let no : ⊥ = omega arith in no)
+given_rows-more old new from (suc n) index inside marked before marks =
+    elim (cases_eq index n) [
+      | inl last ↦
+          let kept = given_rows-kept old new from n (λ i h. marks i (omega arith) (let apart : i ≢ index = omega arith in apart)) in
+          let here : ◌≡◌ {A = ℕ} (cond (is_given (place_at new (from + n))) 1 0) 1 = ap (λ j. cond (is_given (place_at new (from + j))) 1 0) (sym last) ∙ ap (λ p. cond (is_given p) 1 0) marked in
+          let there : ◌≡◌ {A = ℕ} (cond (is_given (place_at old (from + n))) 1 0) 0 = ap (λ j. cond (is_given (place_at old (from + j))) 1 0) (sym last) ∙ ap (λ b. cond b 1 0) before in
+          omega (arith, kept, here, there, given_rows-suc new from n, given_rows-suc old from n)
+      | inr earlier ↦
+          let more = given_rows-more old new from n index (omega arith) marked before (λ i h. marks i (omega arith)) in
+          let same : ◌≡◌ {A = ℕ} (cond (is_given (place_at new (from + n))) 1 0) (cond (is_given (place_at old (from + n))) 1 0) = ap (λ p. cond (is_given p) 1 0) (marks n (omega arith) (let apart : n ≢ index = omega arith in apart)) in
+          omega (arith, more, same, given_rows-suc new from n, given_rows-suc old from n)
+    ]
+
+-- the original of an index below the count that was restored
+restored-in : (places : List Place) (chunks : Chunks) (size from n i : ℕ) → i < n
+    → restored_shards places chunks size from n i ≡ cond (is_restored (place_at places (from + i))) (Some (shard_moved chunks size (from + i))) None
+unfolding restored_shards
+restored-in places chunks size from n i inside =
+    ap (λ b. cond b (cond (is_restored (place_at places (from + i))) (Some (shard_moved chunks size (from + i))) None) None) (lt-ltb i n inside)
+
+pub restored-out : (places : List Place) (chunks : Chunks) (size from n i : ℕ) → n ≤ i → restored_shards places chunks size from n i ≡ None
+unfolding restored_shards
+restored-out places chunks size from n i outside =
+    ap (λ b. cond b (cond (is_restored (place_at places (from + i))) (Some (shard_moved chunks size (from + i))) None) None) (le-ltb i n outside)
+
+pub restored-marked : (places : List Place) (chunks : Chunks) (size from n i : ℕ) (b : Bool) → i < n → is_restored (place_at places (from + i)) ≡ b
+    → restored_shards places chunks size from n i ≡ cond b (Some (shard_moved chunks size (from + i))) None
+restored-marked places chunks size from n i b inside mark =
+    restored-in places chunks size from n i inside ∙ ap (λ t. cond t (Some (shard_moved chunks size (from + i))) None) mark

@@ -1,0 +1,21 @@
+-- The state of a decoder over a working space.
+use Rattle.std.specs.Prelude.{ℕ}
+use Rattle.rs_field.specs.Counts.{Rate}
+use Rattle.rs_field.specs.Configuration.{configuration}
+use Rattle.rs_field.specs.Given.{Shards}
+use Rattle.rs_field.specs.Decoder.{DecoderState}
+use Rattle.rs_rate.specs.declared.rate.decoder_work.DecoderWork.{DecoderWork}
+use Rattle.rs_rate.specs.Held.{items_of, room_of}
+use Rattle.rs_rate.specs.DecoderView.{given_shards, restored_shards}
+
+-- the state of a decoder of this rate over the working space
+abbrev pub decoder_state : Rate → DecoderWork → DecoderState
+decoder_state rate work = record {
+  configuration = configuration rate work.original_count work.recovery_count work.shard_bytes;
+  originals = given_shards (items_of work.places) (items_of work.rows) work.shard_bytes work.frame.originals_from work.original_count;
+  recovery = given_shards (items_of work.places) (items_of work.rows) work.shard_bytes work.frame.recovery_from work.recovery_count;
+}
+
+-- the originals that lie restored in the working space after a round
+abbrev pub restored_of : DecoderWork → Shards
+restored_of work = restored_shards (items_of work.places) (items_of work.rows) work.shard_bytes work.frame.originals_from work.original_count
