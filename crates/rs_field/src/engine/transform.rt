@@ -9,6 +9,7 @@ ghost use Rattle.rs_field.specs.Tables.{IsSkew, scaled};
 ghost use Rattle.rs_field.specs.Rows.{chunk, symbol};
 ghost use Rattle.rs_field.specs.View.{cell, word, Fits, SamePlace, SameRowsOutside, AreZero};
 ghost use Rattle.rs_field.specs.Bounds.{CountsRows, TransformCounts};
+ghost use Rattle.rs_field.specs.Inverse.{TransformsAreInverse};
 
 use super::tables::Skew;
 use super::{GfElement, ShardsRefMut, Steps};
@@ -302,3 +303,9 @@ pub fn ifft<B: Butterfly>(
         ifft_block(butterfly, steps, rows, pos, half, log_m);
     }
 }
+
+/// The forward and the backward transform at one shift undo each other: where rows are those whose forward transform
+/// some rows were, their forward transform gives those back, and the other way round.
+pub fn transform_laws()
+    ensures { TransformsAreInverse }
+{}
