@@ -16,7 +16,9 @@ pub struct Naive<'t> {
 
 impl<'t> Naive<'t> {
     /// The plain engine over these tables.
-    pub fn new(tables: &'t Tables) -> Naive<'t> {
+    pub fn new(tables: &'t Tables) -> Naive<'t>
+        ensures { result.tables.now ≡ tables.now }
+    {
         Naive { tables }
     }
 }
