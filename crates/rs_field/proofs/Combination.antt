@@ -1,7 +1,7 @@
 -- Sums of basis polynomials: how one of 2n terms is two of n terms, and what it is on a block of points.
-use Rattle.std.proofs.Common.{◌≡◌, ℕ, zero, suc, ◌+◌, ◌-◌, ◌*◌, ◌/◌, ◌%◌, ◌^◌, ◌<◌, ◌≤◌, ◌≢◌, Bool, true, false, cond, eqb, bit_xor, refl, sym, ap, ap₂, ◌∙◌, subst, inl, inr, arith, one-mul, add-zero, add-suc, add_assoc, pow-suc, pow-add, pow_mono, sub-add_cancel}
+use Rattle.std.proofs.Common.{◌≡◌, ℕ, zero, suc, ◌+◌, ◌-◌, ◌*◌, ◌/◌, ◌%◌, ◌^◌, ◌<◌, ◌≤◌, ◌≢◌, cond, eqb, bit_xor, refl, sym, ap, ap₂, ◌∙◌, inl, inr, arith, one-mul, zero-add, add-zero, add-suc, add_assoc, pow-suc, pow-add, pow_mono}
 use Rattle.std.proofs.Math.Nat.{div-eq_of_lt, mul-add-div_right, zero-div}
-use Rattle.std.specs.Int.Bits.{xor_comm, xor_assoc, xor_self, xor_zero_l, xor_zero_r, xor_lt, xor_shifted}
+use Rattle.std.specs.Int.Bits.{xor_comm, xor_assoc, xor_zero_r, xor_lt, xor_shifted}
 use Rattle.std.proofs.lemmas.Bool.{cases_eq, cases_lt}
 use Rattle.std.proofs.lemmas.Nat.{pow_pos, div-mul-add, div-add-mod'}
 use Rattle.rs_field.specs.Field.{product}
@@ -188,6 +188,9 @@ forward-product n shift f c i =
 pub forward-moved : (n shift more : ℕ) (f : ℕ → ℕ) (i : ℕ) → forward n (shift + more) f i ≡ forward n shift f (more + i)
 unfolding forward
 forward-moved n shift more f i = ap (λ x. sum_below n (λ q. product (f q) (basis q x))) (add_assoc shift more i)
+
+pub forward-origin : (n shift : ℕ) (f : ℕ → ℕ) (i : ℕ) → forward n shift f i ≡ forward n 0 f (shift + i)
+forward-origin n shift f i = ap (λ s. forward n s f i) (sym (zero-add shift)) ∙ forward-moved n 0 shift f i
 
 -- of one word the transform is that word
 pub forward-one : (shift : ℕ) (f : ℕ → ℕ) (i : ℕ) → f 0 < 2 ^ 16 → forward 1 shift f i ≡ f 0

@@ -24,3 +24,4 @@ pub mod Factors
 pub mod Halves
 pub mod Coefficients
 pub mod Recursion
+pub mod Injective

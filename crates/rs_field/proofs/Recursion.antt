@@ -11,7 +11,7 @@ use Rattle.rs_field.specs.View.{cell, word, Fits, SamePlace}
 use Rattle.rs_field.specs.Bounds.{CountsRows, CountsUpTo, TransformCounts, transform_steps}
 use Rattle.rs_field.specs.declared.engine.shards.ShardsRefMut.{ShardsRefMut}
 use Rattle.rs_field.specs.declared.engine.steps.Steps.{Steps}
-use Rattle.rs_field.proofs.Combination.{forward-one, forward-same, forward-zero, lower_half, upper_half}
+use Rattle.rs_field.proofs.Combination.{forward-one, forward-zero, lower_half, upper_half}
 use Rattle.rs_field.proofs.Halves.{half_power, few_halves, table_factor, xor_undo, steps_half}
 
 pub fits_kept : (a b : ShardsRefMut) → SamePlace a b → Fits a → Fits b

@@ -24,3 +24,4 @@ pub mod Layout
 pub mod Worked
 pub mod WorkedCode
 pub mod WorkedCalls
+pub mod Inverse

@@ -1,5 +1,5 @@
 //! The plain engine: each product by the tables of powers and logarithms, symbol by symbol.
-ghost use Rattle.std.specs.Prelude.{◌≡◌, ℕ, ◌+◌, ◌*◌, ◌<◌, ◌≢◌, length, bit_xor};
+ghost use Rattle.std.specs.Prelude.{◌≡◌, ℕ, ◌+◌, ◌*◌, ◌<◌, ◌≤◌, ◌≢◌, ◌⊎◌, length, bit_xor};
 ghost use Rattle.rs_field.specs.Field.{product, power};
 ghost use Rattle.rs_field.specs.Tables.{IsExpLog, scaled};
 ghost use Rattle.rs_field.specs.Rows.{chunk, symbol};
@@ -16,7 +16,9 @@ pub struct Naive<'t> {
 
 impl<'t> Naive<'t> {
     /// The plain engine over these tables.
-    pub fn new(tables: &'t Tables) -> Naive<'t> {
+    pub fn new(tables: &'t Tables) -> Naive<'t>
+        ensures { result.tables.now ≡ tables.now }
+    {
         Naive { tables }
     }
 }
@@ -157,5 +159,120 @@ impl Engine for Naive<'_> {
         for k in 0..x.len() {
             mul_chunk(&mut x[k], log_m, t);
         }
+    }
+}
+
+#[cfg(test)]
+mod tests {
+    use super::*;
+    use std::process::Abort;
+    use std::test::Fail;
+
+    // The forward transform of the first rows of one chunk each.
+    fn forward(
+        naive: &Naive<'_>,
+        chunks: &mut [[u8; 64]],
+        size: usize,
+        truncated_size: usize,
+        skew_delta: usize,
+    )
+        requires size { (size ≡ 2) ⊎ (size ≡ 4) }
+        requires within { size ≤ length chunks.old }
+        requires truncated { truncated_size ≤ size }
+        requires shift { (skew_delta ≡ 0) ⊎ (skew_delta ≡ 4) }
+    {
+        let mut steps = Steps::new();
+        let mut rows = ShardsRefMut::new(size, 1, chunks);
+        naive.fft(&mut steps, &mut rows, 0, size, truncated_size, skew_delta);
+    }
+
+    // The backward transform of the first rows of one chunk each.
+    fn backward(naive: &Naive<'_>, chunks: &mut [[u8; 64]], size: usize, skew_delta: usize)
+        requires size { (size ≡ 2) ⊎ (size ≡ 4) }
+        requires within { size ≤ length chunks.old }
+        requires shift { (skew_delta ≡ 0) ⊎ (skew_delta ≡ 4) }
+    {
+        let mut steps = Steps::new();
+        let mut rows = ShardsRefMut::new(size, 1, chunks);
+        naive.ifft(&mut steps, &mut rows, 0, size, size, skew_delta);
+    }
+
+    // The first symbols of four rows.
+    fn column(chunks: &[[u8; 64]; 4]) -> [GfElement; 4] {
+        [
+            symbol_at(&chunks[0], 0),
+            symbol_at(&chunks[1], 0),
+            symbol_at(&chunks[2], 0),
+            symbol_at(&chunks[3], 0),
+        ]
+    }
+
+    // Four rows of one chunk each with these first symbols.
+    fn rows_of(words: [GfElement; 4]) -> [[u8; 64]; 4] {
+        let mut chunks = [[0; 64]; 4];
+        for i in 0..4 {
+            set_symbol(&mut chunks[i], 0, words[i]);
+        }
+        chunks
+    }
+
+    fn check_tables(rt: &impl Abort, tables: &Tables) {
+        let skew = get_skew(tables);
+        let t = get_exp_log(tables);
+        let log_2 = t.log[2];
+        assert_eq!(rt; skew[0], 65535);
+        assert_eq!(rt; skew[2], log_2);
+        assert_eq!(rt; skew[5], log_2);
+        for (x, y, want) in [
+            (2, 2, 3),
+            (2, 3, 1),
+            (3, 3, 2),
+            (2, 4, 11),
+            (4, 4, 6),
+            (2, 6, 8),
+            (3, 6, 14),
+            (5, 4, 2),
+        ] {
+            assert_eq!(rt;
+                tables::mul(x, t.log[y], &t.exp, &t.log),
+                want,
+                "{x} times {y}"
+            );
+            assert_eq!(rt; tables::mul(x, 65535, &t.exp, &t.log), x, "{x} times one");
+        }
+    }
+
+    fn check_transforms(rt: &impl Abort, naive: &Naive<'_>) {
+        let mut chunks = rows_of([0x1234, 0, 0, 0]);
+        forward(naive, &mut chunks, 4, 1, 0);
+        assert_eq!(rt; column(&chunks)[0], 0x1234);
+        chunks = rows_of([4, 0, 0, 0]);
+        backward(naive, &mut chunks, 2, 4);
+        assert_eq!(rt; column(&chunks), [2, 4, 0, 0]);
+        chunks = rows_of([0, 0, 2, 3]);
+        backward(naive, &mut chunks, 4, 0);
+        forward(naive, &mut chunks, 4, 4, 4);
+        assert_eq!(rt; column(&chunks), [11, 9, 14, 13]);
+    }
+
+    fn check_mul(rt: &impl Abort, naive: &Naive<'_>, log_m: GfElement) {
+        let mut steps = Steps::new();
+        let mut chunks = rows_of([5, 4, 0x1234, 0]);
+        naive.mul(&mut steps, &mut chunks, 65535);
+        assert_eq!(rt; column(&chunks), [5, 4, 0x1234, 0]);
+        chunks = rows_of([5, 4, 2, 0]);
+        naive.mul(&mut steps, &mut chunks, log_m);
+        assert_eq!(rt; column(&chunks), [2, 6, 11, 0]);
+    }
+
+    // One test, since making the tables takes most of its time.
+    #[test]
+    fn worked_examples(rt: HostRuntime) -> Result<(), Fail> {
+        let tables = Tables::new(rt.alloc())?;
+        check_tables(&rt, &tables);
+        let naive = Naive::new(&tables);
+        check_transforms(&rt, &naive);
+        check_mul(&rt, &naive, get_exp_log(&tables).log[4]);
+        Ok(())
     }
 }

@@ -9,13 +9,15 @@ ghost use Rattle.rs_field.specs.Tables.{IsSkew, scaled};
 ghost use Rattle.rs_field.specs.Rows.{chunk, symbol};
 ghost use Rattle.rs_field.specs.View.{cell, word, Fits, SamePlace, SameRowsOutside, AreZero};
 ghost use Rattle.rs_field.specs.Bounds.{CountsRows, TransformCounts};
+ghost use Rattle.rs_field.specs.Inverse.{TransformsAreInverse};
 
 use super::tables::Skew;
 use super::{GfElement, ShardsRefMut, Steps};
 
 /// What an engine brings to the transforms: the butterfly of two rows, forward and backward.
 ///
-/// The factor is given by its logarithm `log_m`; 65535 marks the factor zero.
+/// The factor is given by its logarithm `log_m`; 65535 marks the factor zero. `Butterfly` and `fft` and `ifft` below
+/// are all that an engine needs for its transforms: they take care of blocks, cosets and truncation.
 // A method on four rows, for two layers at a time, would stand here, with four butterflies of two rows as its default
 // body; `fft` and `ifft` would then go by quarters.
 pub trait Butterfly {
@@ -203,7 +205,9 @@ fn ifft_block<B: Butterfly>(
 ///
 /// Row i of them, for i below `truncated_size`, becomes the sum over q of the old row q times the basis polynomial q
 /// at the point `skew_delta + i`. The rows from `truncated_size` on are open; rows outside are unchanged.
-/// `skew` is the table of `get_skew`.
+///
+/// `size` is a power of two and `skew_delta` a multiple of it, all points lie below 65536, and all rows are there.
+/// `skew` is the table of `get_skew`. At most `size / 2` butterflies are counted for each layer.
 pub fn fft<B: Butterfly>(
     butterfly: &B,
     skew: Skew<'_>,
@@ -254,7 +258,10 @@ pub fn fft<B: Butterfly>(
 /// The backward transform of the `size` rows from `pos` on, at `skew_delta`, by an engine's butterfly.
 ///
 /// The rows become those whose forward transform they were. The rows from `truncated_size` on are zero when the call
-/// begins; rows outside are unchanged. `skew` is the table of `get_skew`.
+/// begins; rows outside are unchanged.
+///
+/// `size` is a power of two and `skew_delta` a multiple of it, all points lie below 65536, and all rows are there.
+/// `skew` is the table of `get_skew`. At most `size / 2` butterflies are counted for each layer.
 pub fn ifft<B: Butterfly>(
     butterfly: &B,
     skew: Skew<'_>,
@@ -302,3 +309,9 @@ pub fn ifft<B: Butterfly>(
         ifft_block(butterfly, steps, rows, pos, half, log_m);
     }
 }
+
+/// The forward and the backward transform at one shift undo each other: where rows are those whose forward transform
+/// some rows were, their forward transform gives those back, and the other way round.
+pub fn transform_laws()
+    ensures { TransformsAreInverse }
+{}

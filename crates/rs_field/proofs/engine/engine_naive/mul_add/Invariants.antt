@@ -1,4 +1,4 @@
-use Rattle.std.proofs.Common.{◌≡◌, ℕ, ◌+◌, ◌*◌, ◌<◌, ◌≤◌, bit_xor}
+use Rattle.std.proofs.Common.{◌≡◌, ℕ, ◌<◌, ◌≤◌, bit_xor}
 use Rattle.rs_field.specs.Rows.{symbol, chunk}
 use Rattle.rs_field.specs.Field.{product, power}
 use Rattle.rs_field.proofs.engine.engine_naive.mul_add.Given as goal

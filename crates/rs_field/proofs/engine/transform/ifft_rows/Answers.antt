@@ -1,4 +1,3 @@
-use Rattle.std.proofs.Common.{ℕ, ◌+◌, ◌*◌}
 use Rattle.rs_field.specs.View.{cell}
 use Rattle.rs_field.proofs.Places.{place_apart}
 use Rattle.rs_field.proofs.engine.transform.ifft_rows.Goals as goal

@@ -1,4 +1,4 @@
-use Rattle.std.proofs.Common.{◌≡◌, ℕ, ◌+◌, ◌*◌, ◌<◌, ◌≤◌, get_or, bit_xor}
+use Rattle.std.proofs.Common.{◌≡◌, ℕ, ◌<◌, ◌≤◌, get_or, bit_xor}
 use Rattle.rs_field.specs.Rows.{chunk, symbol}
 use Rattle.rs_field.proofs.engine.utils.xor.Given as goal
 

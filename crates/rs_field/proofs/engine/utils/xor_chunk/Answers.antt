@@ -1,6 +1,5 @@
-use Rattle.std.proofs.Common.{◌≡◌, ℕ, ◌+◌, ◌*◌, ◌<◌, arith, get_or, bit_xor, ap, ◌∙◌}
+use Rattle.std.proofs.Common.{◌+◌, ◌*◌, arith, get_or, bit_xor, ap, ◌∙◌}
 use Rattle.rs_field.proofs.Symbols.{sum_of_bytes}
-use Rattle.rs_field.specs.Rows.{symbol}
 use Rattle.rs_field.proofs.engine.utils.xor_chunk.Goals as goal
 
 pub returns-clause-symbols : goal.returns-clause-symbols
