@@ -1,8 +1,8 @@
 -- How a transform goes by halves: the sizes, the factor in the table, and the row steps.
-use Rattle.std.proofs.Common.{◌≡◌, ℕ, zero, suc, ◌+◌, ◌-◌, ◌*◌, ◌/◌, ◌%◌, ◌^◌, ◌<◌, ◌≤◌, ◌≢◌, Bool, true, false, cond, eqb, List, get_or, bit_xor, refl, sym, ap, ap₂, ◌∙◌, subst, inl, inr, arith, one-mul, zero-mul, add-mul, pow-suc, pow_mono, ne_eqb, ltb}
+use Rattle.std.proofs.Common.{◌≡◌, ℕ, zero, suc, ◌+◌, ◌-◌, ◌*◌, ◌/◌, ◌%◌, ◌^◌, ◌<◌, ◌≤◌, ◌≢◌, Bool, true, false, cond, eqb, List, get_or, bit_xor, refl, sym, ap, ap₂, ◌∙◌, inl, inr, arith, pow-suc, pow_mono, ne_eqb}
 use Rattle.std.specs.Prelude.{nat_le}
 use Rattle.std.proofs.Math.Nat.{mul-le-mul_right, mul-mod_left}
-use Rattle.std.specs.Int.Bits.{xor_assoc, xor_self, xor_zero_r, xor_lt}
+use Rattle.std.specs.Int.Bits.{xor_assoc, xor_self, xor_zero_r}
 use Rattle.std.proofs.lemmas.Bool.{cases_eq, cases_lt}
 use Rattle.std.proofs.lemmas.Nat.{pow_pos, pow_below, div-add-mod'}
 use Rattle.rs_field.specs.Search.{first_below}
@@ -10,7 +10,7 @@ use Rattle.rs_field.specs.Field.{product, power, log}
 use Rattle.rs_field.specs.Subspace.{subspace}
 use Rattle.rs_field.specs.Tables.{IsSkew, log_or_mark, scaled}
 use Rattle.rs_field.specs.Bounds.{log2, transform_steps}
-use Rattle.rs_field.proofs.Product.{product_lt, product_zero}
+use Rattle.rs_field.proofs.Product.{product_zero}
 use Rattle.rs_field.proofs.Power.{log_lt, power-log}
 use Rattle.rs_field.proofs.Subspace.{product_below_lt}
 
@@ -73,7 +73,7 @@ scaled_by c w hc =
           ∙ ap (product w) (power-log c pos hc)
     ]
 
-subspace_lt : (d x : ℕ) → subspace d x < 2 ^ 16
+pub subspace_lt : (d x : ℕ) → subspace d x < 2 ^ 16
 unfolding subspace
 subspace_lt d x = product_below_lt (2 ^ d) (λ y. bit_xor x y)
 

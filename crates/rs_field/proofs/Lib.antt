@@ -18,3 +18,5 @@ pub mod Factors
 pub mod Halves
 pub mod Coefficients
 pub mod Recursion
+pub mod Derivative
+pub mod DerivativeStep

@@ -21,3 +21,4 @@ pub mod Rows
 pub mod View
 pub mod Lending
 pub mod Layout
+pub mod Derivative
