@@ -20,3 +20,4 @@ pub mod Coefficients
 pub mod Recursion
 pub mod Derivative
 pub mod DerivativeStep
+pub mod LocatorLemmas
