@@ -21,3 +21,4 @@ pub mod Recursion
 pub mod Derivative
 pub mod DerivativeStep
 pub mod LocatorLemmas
+pub mod LocatorProduct
