@@ -28,3 +28,40 @@ pub fn locator_at(erasures: &[GfElement], x: usize, log: Log<'_>) -> GfElement
     }
     sum
 }
+
+#[cfg(test)]
+mod tests {
+    use super::*;
+    use crate::engine::tables::{Tables, get_exp_log};
+    use std::test::Fail;
+
+    // Marks two points, or one twice.
+    fn marking(first: usize, second: usize) -> [GfElement; 65536]
+        requires first { first < 65536 }
+        requires second { second < 65536 }
+        ensures { (y : ℕ) → y < 65536 → slice_index result y ≤ 1 }
+    {
+        let mut erasures = [0; 65536];
+        erasures[first] = 1;
+        erasures[second] = 1;
+        erasures
+    }
+
+    #[test]
+    fn one_and_two_points_are_located(rt: HostRuntime) -> Result<(), Fail> {
+        let tables = Tables::new(rt.alloc())?;
+        let log = get_exp_log(&tables).log.as_slice();
+
+        let erasures = marking(0, 0);
+        assert_eq!(rt; locator_at(&erasures, 1, log) % 65535, 0);
+        assert_eq!(rt; locator_at(&erasures, 2, log), log[2]);
+        assert_eq!(rt; locator_at(&erasures, 3, log), log[3]);
+
+        // the differences are 2 and 3 at 0 and 1, whose product is 1, and 1 at 2 and 3
+        let erasures = marking(2, 3);
+        for x in 0..4 {
+            assert_eq!(rt; locator_at(&erasures, x, log) % 65535, 0, "at {x}");
+        }
+        Ok(())
+    }
+}
