@@ -26,37 +26,47 @@ of_one f x =
 of_constant : (c x : ℕ) → value (c ∷ []) x ≡ c
 of_constant c x = value-cons c [] x ∙ ap (bit_xor c) (ap (product x) (value-nil x) ∙ product_zero x) ∙ xor_zero_r c
 
+-- a polynomial for the first half of a sum of 2 ^ (e + 1) terms, and one for its second half, joined
+unfoldable pub joined : ℕ → List ℕ → List ℕ → List ℕ
+joined e low high = add (times (points 0 (2 ^ e)) high) low
+
+pub length-joined : (e : ℕ) (p q : List ℕ) → length p ≡ 2 ^ e → length q ≡ 2 ^ e → length (joined e p q) ≡ 2 ^ suc e
+unfolding joined
+length-joined e p q size_p size_q =
+    let size : length (times (points 0 (2 ^ e)) q) ≡ 2 ^ e + length q = length-times 0 (2 ^ e) q in
+    let double : 2 ^ suc e ≡ 2 ^ e * 2 = pow-suc 2 e in
+    length-add (times (points 0 (2 ^ e)) q) p (omega arith) ∙ omega arith
+
+pub words_joined : (e : ℕ) (p q : List ℕ) → AreWords p → AreWords q → AreWords (joined e p q)
+unfolding joined
+words_joined e p q words_p words_q = words_add (times (points 0 (2 ^ e)) q) p (words_times (points 0 (2 ^ e)) q words_q) words_p
+
+pub value-joined : (e : ℕ) (f : ℕ → ℕ) (p q : List ℕ) → e < 16 → AreWords q
+    → ((x : ℕ) → value p x ≡ forward (2 ^ e) 0 f x) → ((x : ℕ) → value q x ≡ forward (2 ^ e) 0 (λ i. f (2 ^ e + i)) x)
+    → (x : ℕ) → value (joined e p q) x ≡ forward (2 ^ suc e) 0 f x
+unfolding joined
+value-joined e f p q he words_q at_p at_q x =
+    value_add (times (points 0 (2 ^ e)) q) p x
+    ∙ ap₂ bit_xor
+    (value-times 0 (2 ^ e) q words_q x ∙ ap₂ product (subspace_is e x ∙ ap (subspace e) (sym (zero-add x))) (at_q x)
+    ∙ product-comm (subspace e (0 + x)) (forward (2 ^ e) 0 (λ i. f (2 ^ e + i)) x))
+    (at_p x)
+    ∙ xor_comm (product (forward (2 ^ e) 0 (λ i. f (2 ^ e + i)) x) (subspace e (0 + x))) (forward (2 ^ e) 0 f x)
+    ∙ sym (forward-half e 0 f x he)
+
 -- the coefficients of the sum of 2 ^ e basis polynomials, at every point
-coefficients : (e : ℕ) (f : ℕ → ℕ) → e ≤ 16
+pub coefficients : (e : ℕ) (f : ℕ → ℕ) → e ≤ 16
     → (p : List ℕ) × (length p ≡ 2 ^ e) × AreWords p × ((x : ℕ) → value p x ≡ forward (2 ^ e) 0 f x)
 coefficients zero f he =
     (product (f 0) 1 ∷ [], refl, (product_lt (f 0) 1, tt), λ x. of_constant (product (f 0) 1) x ∙ sym (of_one f x))
 coefficients (suc e) f he =
     let low = coefficients e f (omega arith) in
-    let high = coefficients e (λ q. f (2 ^ e + q)) (omega arith) in
-    joined e f (omega arith) low.0 low.1 low.2 low.3 high.0 high.1 high.2 high.3
-  where
-    joined : (e : ℕ) (f : ℕ → ℕ) → e < 16
-        → (p : List ℕ) → length p ≡ 2 ^ e → AreWords p → ((x : ℕ) → value p x ≡ forward (2 ^ e) 0 f x)
-        → (q : List ℕ) → length q ≡ 2 ^ e → AreWords q → ((x : ℕ) → value q x ≡ forward (2 ^ e) 0 (λ i. f (2 ^ e + i)) x)
-        → (r : List ℕ) × (length r ≡ 2 ^ suc e) × AreWords r × ((x : ℕ) → value r x ≡ forward (2 ^ suc e) 0 f x)
-    joined e f he p size_p words_p at_p q size_q words_q at_q =
-        let n : ℕ = 2 ^ e in
-        let moved : List ℕ = times (points 0 n) q in
-        let size : length (times (points 0 (2 ^ e)) q) ≡ 2 ^ e + length q = length-times 0 (2 ^ e) q in
-        let double : 2 ^ suc e ≡ 2 ^ e * 2 = pow-suc 2 e in (
-          add (times (points 0 (2 ^ e)) q) p,
-          length-add (times (points 0 (2 ^ e)) q) p (omega arith) ∙ omega arith,
-          words_add (times (points 0 (2 ^ e)) q) p (words_times (points 0 (2 ^ e)) q words_q) words_p,
-          λ x.
-              value_add (times (points 0 (2 ^ e)) q) p x
-              ∙ ap₂ bit_xor
-              (value-times 0 (2 ^ e) q words_q x ∙ ap₂ product (subspace_is e x ∙ ap (subspace e) (sym (zero-add x))) (at_q x)
-              ∙ product-comm (subspace e (0 + x)) (forward (2 ^ e) 0 (λ i. f (2 ^ e + i)) x))
-              (at_p x)
-              ∙ xor_comm (product (forward (2 ^ e) 0 (λ i. f (2 ^ e + i)) x) (subspace e (0 + x))) (forward (2 ^ e) 0 f x)
-              ∙ sym (forward-half e 0 f x he),
-        )
+    let high = coefficients e (λ q. f (2 ^ e + q)) (omega arith) in (
+      joined e low.0 high.0,
+      length-joined e low.0 high.0 low.1 high.1,
+      words_joined e low.0 high.0 low.2 high.2,
+      value-joined e f low.0 high.0 (omega arith) high.2 low.3 high.3,
+    )
 
 -- for n a power of two there are n words that are the coefficients of a polynomial with the values of the sum
 pub combination_polynomial : (e : ℕ) (f : ℕ → ℕ) → e ≤ 16

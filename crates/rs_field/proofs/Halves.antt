@@ -73,7 +73,7 @@ scaled_by c w hc =
           ∙ ap (product w) (power-log c pos hc)
     ]
 
-subspace_lt : (d x : ℕ) → subspace d x < 2 ^ 16
+pub subspace_lt : (d x : ℕ) → subspace d x < 2 ^ 16
 unfolding subspace
 subspace_lt d x = product_below_lt (2 ^ d) (λ y. bit_xor x y)
 

@@ -25,3 +25,7 @@ pub mod Halves
 pub mod Coefficients
 pub mod Recursion
 pub mod Injective
+pub mod Derivative
+pub mod DerivativeStep
+pub mod LocatorLemmas
+pub mod LocatorProduct

@@ -25,3 +25,4 @@ pub mod Worked
 pub mod WorkedCode
 pub mod WorkedCalls
 pub mod Inverse
+pub mod Derivative

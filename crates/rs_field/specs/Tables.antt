@@ -11,6 +11,11 @@ pub record IsExpLog (exp_table log_table : List ℕ) : Type 0 where
   pub log_entry : (z : ℕ) → 0 < z → z < 65536 → slice_index log_table z ≡ log z
   pub log_zero : slice_index log_table 0 ≡ 65535
 
+-- the logarithms of the words alone
+pub record IsLog (log_table : List ℕ) : Type 0 where
+  pub log_length : length log_table ≡ 65536
+  pub log_entry : (z : ℕ) → 0 < z → z < 65536 → slice_index log_table z ≡ log z
+
 -- the logarithm of a factor, where 65535 marks the factor zero
 unfoldable pub log_or_mark : ℕ → ℕ
 log_or_mark z = if z == 0 then 65535 else log z

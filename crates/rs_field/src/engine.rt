@@ -8,6 +8,7 @@ ghost use Rattle.rs_field.specs.Bounds.{TransformCounts, RowProductCounts};
 
 pub mod engine_naive;
 pub mod layout;
+pub mod locator;
 pub mod rows;
 pub mod shards;
 mod steps;
