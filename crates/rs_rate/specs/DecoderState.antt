@@ -1,5 +1,5 @@
 -- The state of a decoder over a working space.
-use Rattle.std.specs.Prelude.{ℕ}
+use Rattle.std.specs.Prelude.{◌≡◌, ℕ}
 use Rattle.rs_field.specs.Counts.{Rate}
 use Rattle.rs_field.specs.Configuration.{configuration}
 use Rattle.rs_field.specs.Given.{Shards}
@@ -19,3 +19,8 @@ decoder_state rate work = record {
 -- the originals that lie restored in the working space after a round
 abbrev pub restored_of : DecoderWork → Shards
 restored_of work = restored_shards (items_of work.places) (items_of work.rows) work.shard_bytes work.frame.originals_from work.original_count
+
+-- two working spaces have the same counts, size and frame
+abbrev pub SameCounts : DecoderWork → DecoderWork → Type 0
+SameCounts old new =
+    (new.original_count ≡ old.original_count) × (new.recovery_count ≡ old.recovery_count) × (new.shard_bytes ≡ old.shard_bytes) × (new.frame ≡ old.frame)

@@ -1,6 +1,7 @@
 //! The trait of a rate's encoder.
 mod counts;
 pub mod decoder_work;
+mod decoding;
 pub mod encoder_work;
 mod growth;
 mod low_encoding;
