@@ -1,10 +1,7 @@
 -- Where row i of rows of n chunks lies among the chunks.
-use Rattle.std.proofs.Common.{◌≡◌, ℕ, ◌+◌, ◌*◌, ◌<◌, ◌≤◌, ◌⊎◌, ◌≢◌, inl, inr, arith, length, replicate, refl, ap, ◌∙◌, subst}
+use Rattle.std.proofs.Common.{◌≡◌, ℕ, ◌+◌, ◌*◌, ◌<◌, ◌≤◌, ◌⊎◌, ◌≢◌, inl, inr, arith}
 use Rattle.std.proofs.Math.Nat.{mul-le-mul_right}
 use Rattle.std.proofs.lemmas.Bool.{cases_lt}
-use Rattle.rs_field.specs.Rows.{chunk, symbol, Chunks}
-use Rattle.rs_field.specs.declared.engine.shards.ShardsRefMut.{ShardsRefMut}
-use Rattle.rs_field.specs.View.{cell, word, SameRowsOutside, AreZero}
 
 pub row_ends : (i m n : ℕ) → i < m → i * n + n ≤ m * n
 row_ends i m n h = let p : (i + 1) * n ≤ m * n = mul-le-mul_right n (omega arith) in omega arith

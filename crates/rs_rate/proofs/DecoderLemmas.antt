@@ -1,7 +1,7 @@
 -- The shards that a decoder's rows stand for.
-use Rattle.std.proofs.Common.{◌≡◌, ◌≢◌, ℕ, zero, suc, ◌+◌, ◌<◌, ◌≤◌, List, Bool, true, false, cond, refl, sym, ap, ap₂, ◌∙◌, subst, arith, inl, inr, add-suc, true≢false}
-use Rattle.std.specs.Prelude.{Option, Some, None, is_some, IsSome, IsNone, unwrap_or, not, ◌&&◌, nat_lt, nat_le, nat_eq, if◌then◌else◌}
-use Rattle.std.proofs.lemmas.Bool.{cases_lt, cases_eq, lt-ltb, le-leb, le-ltb, eq-eqb, ne_eqb, ltb-true}
+use Rattle.std.proofs.Common.{◌≡◌, ◌≢◌, ℕ, zero, suc, ◌+◌, ◌<◌, ◌≤◌, List, Bool, true, false, cond, refl, sym, ap, ap₂, ◌∙◌, subst, arith, inl, inr, true≢false}
+use Rattle.std.specs.Prelude.{Option, Some, None, is_some, IsSome, IsNone, unwrap_or, not, ◌&&◌, nat_lt, nat_le, nat_eq}
+use Rattle.std.proofs.lemmas.Bool.{cases_lt, cases_eq, lt-ltb, le-leb, le-ltb, eq-eqb, ne_eqb}
 use mathlib.Core.Path.{fun_ext}
 use Rattle.rs_field.specs.Column.{Shard, IsShard}
 use Rattle.rs_field.specs.Decoder.{DecoderState, FillsMissing}

@@ -1,5 +1,5 @@
-use Rattle.std.proofs.Common.{◌≡◌, ℕ, ◌+◌, ◌-◌, ◌<◌, ◌≤◌}
-use Rattle.rs_field.specs.View.{cell, SamePlace, SameRowsOutside, AreZero}
+use Rattle.std.proofs.Common.{◌-◌}
+use Rattle.rs_field.specs.View.{SamePlace, SameRowsOutside, AreZero}
 use Rattle.rs_field.specs.Bounds.{CountsRows}
 use Rattle.rs_field.proofs.engine.rows.clear_rows.Given as goal
 

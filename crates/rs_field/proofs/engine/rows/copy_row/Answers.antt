@@ -1,6 +1,6 @@
-use Rattle.std.proofs.Common.{◌≡◌, ℕ, ◌+◌, ◌*◌, ◌<◌, ◌≤◌, arith, inl, inr}
+use Rattle.std.proofs.Common.{◌+◌, ◌*◌, arith, inl, inr}
 use Rattle.rs_field.specs.View.{cell}
-use Rattle.rs_field.proofs.Places.{row_ends, rows_outside}
+use Rattle.rs_field.proofs.Places.{rows_outside}
 use Rattle.rs_field.proofs.engine.rows.copy_row.Goals as goal
 
 pub returns-clause-copied : goal.returns-clause-copied
@@ -11,4 +11,4 @@ pub returns-clause-others : goal.returns-clause-others
 unfolding cell
 returns-clause-others c i k q h =
     let n = c.args.«data».now.shard_len_64 in
-    c.copy_part.ensures.others (i * n + k) (elim (rows_outside c.args.to 1 i k n q h) [ | inl before ↦ inl before | inr after ↦ inr (omega arith) ])
+    c.copy_part.ensures.others (i * n + k) (elim (rows_outside c.args.to 1 i k n q h) [ inl before ↦ inl before | inr after ↦ inr (omega arith) ])

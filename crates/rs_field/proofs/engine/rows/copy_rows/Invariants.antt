@@ -1,5 +1,5 @@
-use Rattle.std.proofs.Common.{◌≡◌, ℕ, ◌+◌, ◌-◌, ◌<◌, ◌≤◌}
-use Rattle.rs_field.specs.View.{cell, SamePlace, SameRowsOutside, AreZero}
+use Rattle.std.proofs.Common.{◌≡◌, ℕ, ◌+◌, ◌<◌}
+use Rattle.rs_field.specs.View.{cell, SamePlace, SameRowsOutside}
 use Rattle.rs_field.specs.Bounds.{CountsRows}
 use Rattle.rs_field.proofs.engine.rows.copy_rows.Given as goal
 

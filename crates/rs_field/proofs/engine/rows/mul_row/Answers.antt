@@ -1,6 +1,6 @@
-use Rattle.std.proofs.Common.{◌≡◌, ℕ, ◌+◌, ◌*◌, ◌<◌, ◌≤◌, arith, inl, inr}
+use Rattle.std.proofs.Common.{◌+◌, ◌*◌, arith, inl, inr}
 use Rattle.rs_field.specs.View.{cell}
-use Rattle.rs_field.proofs.Places.{row_ends, rows_outside}
+use Rattle.rs_field.proofs.Places.{rows_outside}
 use Rattle.rs_field.proofs.engine.rows.mul_row.Goals as goal
 
 pub returns-clause-products : goal.returns-clause-products
@@ -11,4 +11,4 @@ pub returns-clause-others : goal.returns-clause-others
 unfolding cell
 returns-clause-others g c i k q h =
     let n = c.args.«data».now.shard_len_64 in
-    c.mul_part.ensures.others (i * n + k) (elim (rows_outside c.args.index 1 i k n q h) [ | inl before ↦ inl before | inr after ↦ inr (omega arith) ])
+    c.mul_part.ensures.others (i * n + k) (elim (rows_outside c.args.index 1 i k n q h) [ inl before ↦ inl before | inr after ↦ inr (omega arith) ])

@@ -1,4 +1,4 @@
-use Rattle.std.proofs.Common.{◌≡◌, ℕ, ◌+◌, ◌-◌, ◌*◌, ◌<◌, ◌≤◌, ◌⊎◌, length, get_or, replicate, []}
+use Rattle.std.proofs.Common.{◌≡◌, ℕ, ◌<◌, ◌≤◌, ◌⊎◌, replicate}
 use Rattle.rs_field.specs.Rows.{chunk}
 use Rattle.rs_field.proofs.engine.shards.zero_part.Given as goal
 

@@ -1,4 +1,4 @@
-use Rattle.std.proofs.Common.{◌≡◌, ◌+◌, ◌<◌, ℕ, false, length, sym, ap, ap₂, ◌∙◌, arith, refl}
+use Rattle.std.proofs.Common.{◌+◌, ◌<◌, ℕ, length, sym, ap, ap₂, ◌∙◌, arith}
 use Rattle.rs_field.specs.Given.{Shards}
 use Rattle.rs_field.specs.Configuration.{configuration}
 use Rattle.rs_rate.specs.Held.{items_of}

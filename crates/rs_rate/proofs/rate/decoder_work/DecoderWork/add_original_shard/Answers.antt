@@ -1,12 +1,9 @@
-use Rattle.std.proofs.Common.{◌≡◌, ◌≢◌, ℕ, ◌+◌, ◌*◌, ◌<◌, ◌≤◌, Bool, true, false, length, refl, sym, ap, ap₂, subst, ◌∙◌, arith, rules}
-use Rattle.rs_field.specs.Column.{Shard}
-use Rattle.rs_field.specs.Given.{Shards, entered}
+use Rattle.std.proofs.Common.{◌≡◌, ◌≢◌, ℕ, ◌+◌, length, sym, ap, ap₂, subst, ◌∙◌, arith}
+use Rattle.rs_field.specs.Given.{Shards}
 use Rattle.rs_field.specs.Configuration.{configuration}
 use Rattle.rs_field.specs.Outcome.{answer_of, state_after}
-use Rattle.rs_field.specs.Decoder.{DecoderState}
 use Rattle.rs_rate.specs.Held.{items_of, chunk_count, shard_put}
 use Rattle.rs_rate.specs.DecoderState.{decoder_state}
-use Rattle.rs_rate.specs.DecoderView.{place_at, is_given, given_shards}
 use Rattle.rs_rate.proofs.HeldLemmas.{chunk_count-within}
 use Rattle.rs_rate.proofs.DecoderLemmas.{given-marked, given-kept, given-entered, given_rows-kept, given_rows-more, given_rows-most}
 use Rattle.rs_rate.proofs.DecoderSteps.{original-repeated, original-sized, original-added}

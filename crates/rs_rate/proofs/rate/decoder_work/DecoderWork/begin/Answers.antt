@@ -1,4 +1,4 @@
-use Rattle.std.proofs.Common.{◌≡◌, ◌+◌, ◌≤◌, ◌<◌, arith, sym, ◌∙◌}
+use Rattle.std.proofs.Common.{arith, sym, ◌∙◌}
 use Rattle.rs_rate.specs.Held.{items_of}
 use Rattle.rs_rate.specs.DecoderState.{decoder_state}
 use Rattle.rs_rate.proofs.DecoderSteps.{enough-few, enough-many}
