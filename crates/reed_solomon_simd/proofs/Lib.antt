@@ -1,0 +1,1 @@
+pub use Rattle.rs_rate.proofs.PowerLemmas
