@@ -1,13 +1,13 @@
 -- The chunks of rows, and the shards in them.
-use Rattle.std.proofs.Common.{◌≡◌, ◌≢◌, ℕ, zero, suc, ◌+◌, ◌-◌, ◌*◌, ◌/◌, ◌<◌, ◌≤◌, ◌^◌, List, [], ◌∷◌, ◌++◌, length, get_or, take, drop, Option, Some, None, Vec, Global, refl, sym, ap, ◌∙◌, subst, arith, inl, inr, ◌⊎◌, add-one, rules, ap₂}
+use Rattle.std.proofs.Common.{◌≡◌, ◌≢◌, ℕ, ◌+◌, ◌*◌, ◌/◌, ◌%◌, ◌<◌, ◌≤◌, List, [], ◌∷◌, ◌++◌, length, take, drop, Option, Some, None, Vec, Global, refl, ap, ◌∙◌, subst, arith, ◌⊎◌, add-one, rules, ap₂}
 use Rattle.std.proofs.Math.Nat.{mul-le-mul_right, mul-le-mul_left, zero-mul}
 use Rattle.std.proofs.lemmas.List.{places, length-take, length-drop}
 use borrow.Rule.Slice.PartMut.{put_mid}
 use Rattle.rs_field.specs.Rows.{Chunks, chunk}
 use Rattle.rs_field.specs.Layout.{row_len, up_to, laid_out, in_order}
-use Rattle.rs_field.specs.Column.{Shard}
-use Rattle.rs_rate.specs.Held.{chunks_of, room_of, chunk_count, row_chunk, shard_put, shard_moved}
-use Rattle.rs_field.proofs.LayoutLemmas.{up_to-same, laid_out-same, in_order-same}
+use Rattle.rs_field.specs.Column.{Shard, column}
+use Rattle.rs_rate.specs.Held.{chunks_of, room_of, chunk_count, row_chunk, shard_put, shard_moved, word_in}
+use Rattle.rs_field.proofs.LayoutLemmas.{up_to-same, laid_out-same, in_order-same, column-laid_out}
 use Rattle.rs_field.proofs.Places.{place_apart}
 
 pub chunk_count-is : (rows size : ℕ) → chunk_count rows size ≡ rows * row_len size
@@ -112,3 +112,26 @@ moved-read chunks size i start n m at width same fits =
 -- the length of a part that was written
 pub part_length : (chunks part : Chunks) (start n : ℕ) → start + n ≤ length chunks → length part ≡ length (take n (drop start chunks)) → length part ≡ n
 part_length chunks part start n fits same = same ∙ simp (length-take, length-drop) (omega arith)
+
+-- after a part that is a row was written, the shard moved in that row
+pub moved-here : (chunks part : Chunks) (size i start n : ℕ) → start ≡ i * row_len size → n ≡ row_len size → start + n ≤ length chunks → length part ≡ n
+    → in_order size (λ k. chunk part k) ≡ laid_out size (λ k. chunk (take n (drop start chunks)) k)
+    → shard_moved (put_mid start n chunks part) size i ≡ shard_put chunks size i
+unfolding row_chunk
+moved-here chunks part size i start n at width fits same moved =
+    in_order-same size (row_chunk (put_mid start n chunks part) size i) (λ k. chunk part k)
+    (λ k inside. ap₂ (λ a w. row_chunk (put_mid a w chunks part) size i k) at width ∙ row_chunk-here chunks part size i k (omega arith) (omega arith) inside)
+    ∙ moved
+    ∙ laid_out-same size (λ k. chunk (take n (drop start chunks)) k) (row_chunk chunks size i)
+    (λ k inside. part-read chunks start n k fits (omega arith) ∙ ap (λ a. chunk chunks (a + k)) at)
+
+-- and what lies in the other rows
+pub row_chunk-apart : (chunks part : Chunks) (size i j k start n : ℕ) → start ≡ i * row_len size → n ≡ row_len size → start + n ≤ length chunks → length part ≡ n → k < row_len size → j ≢ i
+    → row_chunk (put_mid start n chunks part) size j k ≡ row_chunk chunks size j k
+row_chunk-apart chunks part size i j k start n at width fits same inside apart =
+    ap₂ (λ a w. row_chunk (put_mid a w chunks part) size j k) at width ∙ row_chunk-other chunks part size i j k (omega arith) (omega arith) inside apart
+
+-- a column of the shard that was put into a row
+pub column-put : (chunks : Chunks) (size i j : ℕ) → size % 2 ≡ 0 → j < size / 2 → column j (shard_put chunks size i) ≡ word_in chunks (row_len size) (j / 32) (j % 32) i
+unfolding row_chunk
+column-put chunks size i j even inside = column-laid_out size j (row_chunk chunks size i) even inside

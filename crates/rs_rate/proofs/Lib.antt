@@ -1,3 +1,4 @@
 pub mod PowerLemmas
 pub mod HeldLemmas
 pub mod StateLemmas
+pub mod LowCoding

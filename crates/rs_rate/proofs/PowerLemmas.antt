@@ -1,9 +1,9 @@
 -- Powers of two, and counts that a rate supports.
-use Rattle.std.proofs.Common.{◌≡◌, ◌≢◌, ℕ, zero, suc, ◌+◌, ◌-◌, ◌*◌, ◌/◌, ◌%◌, ◌^◌, ◌<◌, ◌≤◌, Bool, true, false, cond, max, refl, sym, ap, ◌∙◌, subst, arith, inl, inr, pow_mono, pow-suc}
+use Rattle.std.proofs.Common.{◌≡◌, ℕ, zero, suc, ◌+◌, ◌-◌, ◌*◌, ◌/◌, ◌%◌, ◌^◌, ◌<◌, ◌≤◌, Bool, true, false, cond, max, refl, sym, ap, ◌∙◌, subst, arith, inl, inr, pow_mono, pow-suc}
 use Rattle.std.specs.Prelude.{nat_le, nat_lt, ◌&&◌}
 use Rattle.std.proofs.lemmas.Bool.{cases_lt, le-leb, lt-leb, lt-ltb, leb-true, ltb-true}
-use Rattle.std.proofs.lemmas.Nat.{pow_pos, div-add-mod'}
-use Rattle.std.proofs.Math.Nat.{div-eq_of_lt-le, mod-eq_of_lt}
+use Rattle.std.proofs.lemmas.Nat.{pow_pos, pow-add, div-add-mod'}
+use Rattle.std.proofs.Math.Nat.{div-eq_of_lt-le, mod-eq_of_lt, mul-le-mul_right}
 use Rattle.std.specs.Int.{next_multiple_of}
 use Rattle.std.proofs.Math.Bool.{and-false}
 use Rattle.rs_field.specs.Search.{first_below}
@@ -159,3 +159,13 @@ low_rows-enough k r is =
 
 pub low_rows-positive : (k r : ℕ) → supports low_rate k r ≡ true → 0 < encoder_rows low_rate k r
 low_rows-positive k r is = let fits = low_fits k r is in let enough = low_rows-enough k r is in omega arith
+
+-- a multiple of a power of two m that is below 65536 leaves room for m
+pub multiple_room : (n d m : ℕ) → d ≤ 16 → m ≡ 2 ^ d → n % m ≡ 0 → n < 65536 → n + m ≤ 65536
+multiple_room n d m few power multiple below =
+    let all : 65536 ≡ 2 ^ (16 - d) * m = (let parts : 16 - d + d ≡ 16 = omega arith in sym (ap (λ e. 2 ^ e) parts) ∙ pow-add 2 (16 - d) d ∙ ap (λ w. 2 ^ (16 - d) * w) (sym power)) in
+    let whole : n / m * m + n % m ≡ n = div-add-mod' n m in
+    elim (cases_lt (n / m) (2 ^ (16 - d))) [
+      | inl less ↦ let more : n / m + 1 ≤ 2 ^ (16 - d) = omega arith in let rise : (n / m + 1) * m ≤ 2 ^ (16 - d) * m = mul-le-mul_right m more in omega arith
+      | inr more ↦ let rise : 2 ^ (16 - d) * m ≤ n / m * m = mul-le-mul_right m more in absurd (omega arith)
+    ]

@@ -1,5 +1,5 @@
 //! Powers of two, supported counts and numbers of rows.
-ghost use Rattle.std.specs.Prelude.{◌≡◌, ℕ, ◌+◌, ◌^◌, ◌<◌, ◌≤◌, true};
+ghost use Rattle.std.specs.Prelude.{◌≡◌, ℕ, ◌+◌, ◌%◌, ◌^◌, ◌<◌, ◌≤◌, true};
 ghost use Rattle.rs_field.specs.Counts.{next_power, supports, low_rate};
 ghost use Rattle.rs_field.specs.Configuration.{configuration, validated};
 ghost use Rattle.rs_field.specs.Placement.{encoder_rows};
@@ -57,6 +57,8 @@ pub(crate) fn low_encoder_rows(original_count: usize, recovery_count: usize) -> 
     ensures rows { result ≡ encoder_rows low_rate original_count recovery_count }
     ensures originals { original_count ≤ result }
     ensures recovery { recovery_count ≤ result }
+    ensures whole { result % next_power original_count ≡ 0 }
+    ensures points { result + next_power original_count ≤ 65536 }
 {
     recovery_count.next_multiple_of(power_of_two(original_count))
 }

@@ -1,7 +1,7 @@
-use Rattle.std.proofs.Common.{◌≡◌, ◌+◌, ◌^◌, ◌<◌, ℕ, ap, ◌∙◌, arith}
+use Rattle.std.proofs.Common.{◌%◌, ◌<◌, ap, sym, ◌∙◌, arith}
 use Rattle.std.proofs.lemmas.Nat.{pow_pos}
 use Rattle.rs_field.specs.Placement.{rounded_up}
-use Rattle.rs_rate.proofs.PowerLemmas.{low_fits, low_small, multiple_least, rounded_up-is, rounded_up-low, next_multiple_of-below}
+use Rattle.rs_rate.proofs.PowerLemmas.{low_fits, low_small, multiple_least, multiple_room, rounded_up-is, rounded_up-low, next_multiple_of-below}
 use Rattle.rs_rate.proofs.rate.counts.low_encoder_rows.Goals as goal
 
 pub power_of_two-requires : goal.power_of_two-requires
@@ -28,3 +28,14 @@ returns-clause-originals c =
     let fits = low_fits c.args.original_count c.args.recovery_count c.requires in
     let least = multiple_least c.next_multiple_of.result c.power_of_two.result (omega (arith, fits.1, e.lower_bound)) e.multiple in
     omega (arith, least, c.power_of_two.ensures.lower_bound)
+
+pub returns-clause-whole : goal.returns-clause-whole
+returns-clause-whole c = ap (λ m. c.next_multiple_of.result % m) (sym c.power_of_two.ensures.value) ∙ c.next_multiple_of.ensures.multiple
+
+pub returns-clause-points : goal.returns-clause-points
+returns-clause-points c =
+    let e = c.next_multiple_of.ensures in
+    let fits = low_fits c.args.original_count c.args.recovery_count c.requires in
+    let power = c.power_of_two.ensures.power in
+    let value = c.power_of_two.ensures.value in
+    rw (← value) (multiple_room c.next_multiple_of.result power.0 c.power_of_two.result power.1 power.2 e.multiple (omega (arith, e.upper_bound, fits.2, value)))

@@ -1,4 +1,4 @@
-use Rattle.std.proofs.Common.{◌≡◌, ℕ, ◌^◌, ◌<◌, ◌≤◌, ◌/◌, max, arith, inl, inr, sym, ◌∙◌, ap, subst, pow_mono}
+use Rattle.std.proofs.Common.{◌≡◌, ℕ, ◌^◌, ◌<◌, ◌≤◌, ◌/◌, max, arith, inl, inr, ◌∙◌, pow_mono}
 use Rattle.std.proofs.lemmas.Bool.{cases_lt}
 use Rattle.rs_field.specs.Counts.{next_power}
 use Rattle.rs_rate.proofs.PowerLemmas.{next_power-is, next_power-small}

@@ -1,4 +1,4 @@
-use Rattle.std.proofs.Common.{◌≡◌, ◌≤◌, ◌<◌, ◌*◌, ◌^◌, ℕ, ap, ◌∙◌, refl, arith}
+use Rattle.std.proofs.Common.{◌*◌, ap, refl, arith}
 use Rattle.rs_rate.proofs.HeldLemmas.{chunk_count-is}
 use Rattle.rs_rate.proofs.rate.encoder_work.chunk_count.Goals as goal
 

@@ -1,5 +1,4 @@
-use Rattle.std.proofs.Common.{◌≡◌, ◌≤◌, ◌*◌, ◌+◌, ◌-◌, ◌<◌, arith, ap, ◌∙◌, length}
-use Rattle.rs_field.specs.Rows.{Chunks}
+use Rattle.std.proofs.Common.{◌*◌, arith, ap, ◌∙◌, length}
 use Rattle.rs_rate.proofs.HeldLemmas.{row_end, put-here, put-other, part_length}
 use Rattle.rs_rate.proofs.rate.encoder_work.insert_at.Goals as goal
 

@@ -1,4 +1,4 @@
-use Rattle.std.proofs.Common.{◌≡◌, ◌≤◌, ◌*◌, ◌+◌, arith, ap, length}
+use Rattle.std.proofs.Common.{◌+◌, arith, ap, length}
 use Rattle.rs_rate.proofs.HeldLemmas.{chunk_count-positive}
 use Rattle.rs_rate.specs.Held.{chunks_of}
 use Rattle.rs_rate.proofs.rate.encoder_work.insert_held.Goals as goal

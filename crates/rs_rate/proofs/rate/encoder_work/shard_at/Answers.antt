@@ -1,4 +1,4 @@
-use Rattle.std.proofs.Common.{◌≡◌, ◌≤◌, ◌*◌, ◌+◌, ◌-◌, ◌<◌, arith, ap, ◌∙◌, length}
+use Rattle.std.proofs.Common.{◌*◌, arith, ap, ◌∙◌}
 use Rattle.rs_rate.proofs.HeldLemmas.{row_end, moved-read}
 use Rattle.rs_rate.proofs.rate.encoder_work.shard_at.Goals as goal
 

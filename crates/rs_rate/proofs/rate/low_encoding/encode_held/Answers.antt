@@ -1,4 +1,4 @@
-use Rattle.std.proofs.Common.{◌≡◌, ◌≤◌, ◌*◌, arith, ap, length}
+use Rattle.std.proofs.Common.{arith, ap, length}
 use Rattle.rs_field.specs.Counts.{low_rate}
 use Rattle.rs_field.specs.Configuration.{configuration}
 use Rattle.rs_rate.specs.Held.{chunks_of}

@@ -1,4 +1,4 @@
-use Rattle.std.proofs.Common.{rules, ◌≡◌, ◌≤◌, ◌*◌, ◌+◌, arith, ap, ◌<◌, ◌∙◌, sym, length, List, ℕ}
+use Rattle.std.proofs.Common.{rules, ◌+◌, arith, ap, ◌<◌, ◌∙◌, sym, length, List}
 use Rattle.rs_field.proofs.LayoutLemmas.{length-up_to}
 use Rattle.rs_rate.proofs.HeldLemmas.{chunk_count-within, given-more}
 use Rattle.rs_field.specs.Column.{Shard}

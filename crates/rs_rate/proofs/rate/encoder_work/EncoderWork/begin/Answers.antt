@@ -1,4 +1,4 @@
-use Rattle.std.proofs.Common.{rules, ◌≡◌, ◌≤◌, arith}
+use Rattle.std.proofs.Common.{rules}
 use Rattle.rs_field.proofs.LayoutLemmas.{length-up_to}
 use Rattle.rs_rate.proofs.rate.encoder_work.EncoderWork.begin.Goals as goal
 

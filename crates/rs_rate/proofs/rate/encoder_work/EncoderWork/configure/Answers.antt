@@ -1,6 +1,6 @@
-use Rattle.std.proofs.Common.{◌≡◌, ◌≤◌, ◌*◌, arith, length, ap}
+use Rattle.std.proofs.Common.{arith, ap}
 use Rattle.rs_rate.proofs.HeldLemmas.{chunk_count-size, chunks-room}
-use Rattle.rs_rate.specs.Held.{chunk_count, chunks_of}
+use Rattle.rs_rate.specs.Held.{chunk_count}
 use Rattle.rs_rate.proofs.rate.encoder_work.EncoderWork.configure.Goals as goal
 
 pub returns-in_err-chunks-clause-own : goal.returns-in_err-chunks-clause-own

@@ -1,4 +1,4 @@
-use Rattle.std.proofs.Common.{◌≡◌, ◌≤◌, arith}
+use Rattle.std.proofs.Common.{arith}
 use Rattle.rs_rate.proofs.HeldLemmas.{chunk_count-none}
 use Rattle.rs_rate.proofs.rate.encoder_work.EncoderWork.new.Goals as goal
 

@@ -1,6 +1,6 @@
-use Rattle.std.proofs.Common.{◌≡◌, ◌≤◌, ◌*◌, arith, ap, length}
+use Rattle.std.proofs.Common.{arith, ap, length}
 use Rattle.rs_rate.proofs.HeldLemmas.{chunk_count-within, chunk_count-positive}
-use Rattle.rs_rate.specs.Held.{chunk_count, chunks_of}
+use Rattle.rs_rate.specs.Held.{chunks_of}
 use Rattle.rs_rate.proofs.rate.encoder_work.EncoderWork.recovery.Goals as goal
 
 pub shard_at-requires : goal.shard_at-requires

@@ -1,13 +1,11 @@
-use Rattle.std.proofs.Common.{◌≡◌, ℕ, ◌≤◌, List, refl, sym, ap, ◌∙◌, subst, arith}
-use Rattle.std.specs.Prelude.{Ok, Err}
+use Rattle.std.proofs.Common.{List, refl, sym, ◌∙◌, subst, arith}
+use Rattle.std.specs.Prelude.{Ok}
 use Rattle.std.proofs.lemmas.Result.{err_from_is_err_and}
 use Rattle.rs_field.specs.Column.{Shard}
 use Rattle.rs_field.specs.Counts.{low_rate}
-use Rattle.rs_field.specs.Configuration.{configuration}
 use Rattle.rs_field.specs.Encoder.{EncodeAnswers}
-use Rattle.rs_field.specs.Code.{AreRecovery}
 use Rattle.rs_field.proofs.LayoutLemmas.{length-up_to}
-use Rattle.rs_rate.specs.EncoderView.{encoder_state, given_of, lent_of}
+use Rattle.rs_rate.specs.EncoderView.{encoder_state, lent_of}
 use Rattle.rs_rate.specs.Held.{chunks_of, shard_put}
 use Rattle.rs_rate.proofs.StateLemmas.{after_encode-refused, encode_answers-refused, message-whole, after_encode-made, encode_answers-made}
 use Rattle.rs_rate.proofs.rate.rate_low.LowRateEncoderRateEncoder.encode.Goals as goal

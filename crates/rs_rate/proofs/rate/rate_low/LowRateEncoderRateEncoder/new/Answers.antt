@@ -1,4 +1,4 @@
-use Rattle.std.proofs.Common.{◌≡◌, ◌≤◌, ◌<◌, ◌*◌, ◌^◌, ℕ, sym, subst, refl, ap, ◌∙◌, arith}
+use Rattle.std.proofs.Common.{◌≡◌, ◌≤◌, ◌<◌, ◌*◌, ◌^◌, ℕ, sym, subst, refl}
 use Rattle.std.specs.Prelude.{Ok}
 use Rattle.rs_field.specs.Counts.{low_rate}
 use Rattle.rs_field.specs.Placement.{encoder_rows}

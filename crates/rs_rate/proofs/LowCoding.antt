@@ -1,0 +1,123 @@
+-- The coding of the low rate: what the transforms of one column make of the originals, and that it is the code.
+use Rattle.std.proofs.Common.{◌≡◌, ℕ, ◌+◌, ◌-◌, ◌*◌, ◌/◌, ◌^◌, ◌<◌, ◌≤◌, List, [], min, sym, ap, ◌∙◌, subst, arith, inl, inr, zero-add, replicate, ap₂}
+use Rattle.std.specs.Prelude.{slice_index, Ok}
+use Rattle.std.proofs.lemmas.Bool.{cases_lt}
+use Rattle.std.proofs.lemmas.List.{get_or-replicate}
+use Rattle.rs_field.specs.Rows.{symbol}
+use Rattle.rs_field.specs.Polynomial.{value}
+use Rattle.rs_field.specs.Transform.{forward}
+use Rattle.rs_field.specs.Column.{Shard, IsShard, column, columns}
+use Rattle.rs_field.specs.Counts.{next_power, is_low, low_rate}
+use Rattle.rs_field.specs.Placement.{placement, low_placement}
+use Rattle.rs_field.specs.Configuration.{configuration, validated}
+use Rattle.rs_field.specs.Code.{AreRecoveryWords, AreRecovery}
+use Rattle.rs_field.specs.Layout.{up_to}
+use Rattle.rs_field.proofs.Columns.{columns-at}
+use Rattle.rs_field.proofs.Combination.{forward-same, forward-moved}
+use Rattle.rs_field.proofs.Coefficients.{combination_polynomial}
+use Rattle.rs_field.proofs.LayoutLemmas.{length-up_to, get-up_to}
+use Rattle.rs_rate.specs.Coding.{CodesLow}
+use Rattle.rs_rate.proofs.PowerLemmas.{low_small, low_fits, next_power-small}
+use Rattle.rs_rate.proofs.StateLemmas.{valid-supported}
+
+-- a transform at a shift takes its values from there on
+from_start : (n shift : ℕ) (f : ℕ → ℕ) (i : ℕ) → forward n shift f i ≡ forward n 0 f (shift + i)
+from_start n shift f i = ap (λ s. forward n s f i) (sym (zero-add shift)) ∙ forward-moved n 0 shift f i
+
+-- one more run of rows: the combination is copied to it, and passes to its values
+pub further-more : (size start r wanted : ℕ) (first now copied new : ℕ → ℕ) → wanted ≡ min size (r - start) → size ≤ start
+    → ((q : ℕ) → q < size → now q ≡ first q)
+    → ((i : ℕ) → size ≤ i → i < start → i < r → now i ≡ forward size 0 first (size + i))
+    → ((q : ℕ) → q < size → copied (start + q) ≡ now q)
+    → ((i : ℕ) → i < start → copied i ≡ now i)
+    → ((i : ℕ) → i < wanted → new (start + i) ≡ forward size (start + size) (λ q. copied (start + q)) i)
+    → ((i : ℕ) → i < start → new i ≡ copied i)
+    → (i : ℕ) → size ≤ i → i < start + size → i < r → new i ≡ forward size 0 first (size + i)
+further-more size start r wanted first now copied new few after combination values copy kept transform kept_too i low high inside =
+    elim (cases_lt i start) [
+      | inl before ↦ kept_too i before ∙ kept i before ∙ values i low before inside
+      | inr here ↦
+          let place : start + (i - start) ≡ i = omega arith in
+          let point : start + size + (i - start) ≡ size + i = omega arith in
+          ap new (sym place) ∙ transform (i - start) (omega arith)
+          ∙ forward-same size (start + size) (λ q. copied (start + q)) first (i - start) (λ q h. copy q h ∙ combination q h)
+          ∙ from_start size (start + size) first (i - start) ∙ ap (forward size 0 first) point
+    ]
+
+-- the passage from originals and zeros to a combination, and from it to the recovery words
+pub coded : (k r size : ℕ) (old cleared combination further new : ℕ → ℕ)
+    → ((j : ℕ) → j < k → cleared j ≡ old j)
+    → ((j : ℕ) → k ≤ j → j < size → cleared j ≡ 0)
+    → ((j : ℕ) → j < size → cleared (0 + j) ≡ forward size 0 (λ q. combination (0 + q)) j)
+    → ((q : ℕ) → q < size → further q ≡ combination q)
+    → ((i : ℕ) → size ≤ i → i < r → further i ≡ forward size 0 combination (size + i))
+    → ((i : ℕ) → i < min size r → new (0 + i) ≡ forward size size (λ q. further (0 + q)) i)
+    → ((i : ℕ) → size ≤ i → new i ≡ further i)
+    → k ≤ size → CodesLow k r size old new
+coded k r size old cleared combination further new originals zeros back same values first others room = (
+  combination,
+  (λ j h. sym (at j (omega arith)) ∙ originals j h),
+  (λ j low high. sym (at j high) ∙ zeros j low high),
+  (λ i h. elim (cases_lt i size) [
+    | inl small ↦
+        ap new (sym (zero-add i)) ∙ first i (omega arith)
+        ∙ forward-same size size (λ q. further (0 + q)) combination i (λ q hq. ap further (zero-add q) ∙ same q hq)
+        ∙ from_start size size combination i
+    | inr large ↦ others i large ∙ values i large h
+  ]),
+)
+  where
+    at : (j : ℕ) → j < size → cleared j ≡ forward size 0 combination j
+    at j h =
+        ap cleared (sym (zero-add j)) ∙ back j h
+        ∙ forward-same size 0 (λ q. combination (0 + q)) combination j (λ q hq. ap combination (zero-add q))
+
+-- in a column that was coded so, the recovery words are values of the polynomial through originals and zeros
+pub recovery_words : (k r e : ℕ) (old new : ℕ → ℕ) (words recovery : List ℕ) → e ≤ 16 → next_power k ≡ 2 ^ e → k ≤ next_power k → CodesLow k r (next_power k) old new
+    → ((j : ℕ) → j < k → slice_index words j ≡ old j) → ((i : ℕ) → i < r → slice_index recovery i ≡ new i)
+    → next_power k + r ≤ 65536 → AreRecoveryWords low_rate k r words recovery
+unfolding placement low_placement is_low
+recovery_words k r e old new words recovery few power room (combination, originals, zeros, values) read_words read_recovery fits =
+    let polynomial = combination_polynomial e combination few in
+    let of_size : (x : ℕ) → value polynomial.0 x ≡ forward (next_power k) 0 combination x
+    = λ x. polynomial.3 x ∙ ap (λ m. forward m 0 combination x) (sym power) in (
+      polynomial.0,
+      record {
+        degree = polynomial.1 ∙ sym power;
+        coefficients = polynomial.2;
+        originals = λ j h. ap (value polynomial.0) (zero-add j) ∙ of_size j ∙ originals j h ∙ sym (read_words j h);
+        zeros = λ x low high. of_size x ∙ zeros x low high;
+      },
+      (λ i h. read_recovery i h ∙ values i h ∙ sym (of_size (next_power k + i))),
+    )
+
+-- the shards that hold such columns are the message's recovery shards
+pub are_recovery : (k r size : ℕ) (put moved : ℕ → Shard) → validated (configuration low_rate k r size) ≡ Ok tt
+    → ((i : ℕ) → i < r → IsShard size (moved i))
+    → ((j : ℕ) → j < size / 2 → CodesLow k r (next_power k) (λ q. column j (put q)) (λ q. column j (moved q)))
+    → AreRecovery (configuration low_rate k r size) (up_to k put) (up_to r moved)
+are_recovery k r size put moved valid shards coded_columns =
+    let supported = valid-supported (configuration low_rate k r size) valid in
+    let known = next_power-small k (low_small k r supported) in
+    record {
+      shards = record {
+        length_is = length-up_to r moved;
+        each = λ i d h. (let inside : i < r = subst (λ (n : ℕ). i < n) (length-up_to r moved) h in subst (λ (s : Shard). IsShard size s) (sym (get-up_to r moved i d inside)) (shards i inside));
+      };
+      words = λ j h. recovery_words k r known.0 (λ q. column j (put q)) (λ q. column j (moved q)) (columns j (up_to k put)) (columns j (up_to r moved))
+          known.1 known.2 known.3 (coded_columns j h)
+          (λ i inside. columns-at j (up_to k put) i ∙ ap (column j) (get-up_to k put i [] inside))
+          (λ i inside. columns-at j (up_to r moved) i ∙ ap (column j) (get-up_to r moved i [] inside))
+          (low_fits k r supported).2;
+    }
+
+-- a symbol of a cleared chunk
+pub symbol-zero : (s : ℕ) → s < 32 → symbol (replicate 64 0) s ≡ 0
+symbol-zero s h =
+    ap₂ (λ low high. low + 256 * high) (get_or-replicate 64 s 0 0 (omega arith)) (get_or-replicate 64 (s + 32) 0 0 (omega arith))
+
+-- the same coding, of words that are read in another way
+pub codes-read : (k r m : ℕ) (old new old_read new_read : ℕ → ℕ) → ((i : ℕ) → i < k → old_read i ≡ old i) → ((i : ℕ) → i < r → new_read i ≡ new i)
+    → CodesLow k r m old new → CodesLow k r m old_read new_read
+codes-read k r m old new old_read new_read same_old same_new (combination, originals, zeros, values) =
+    (combination, (λ j h. originals j h ∙ sym (same_old j h)), zeros, (λ i h. same_new i h ∙ values i h))
