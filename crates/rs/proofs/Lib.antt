@@ -1,1 +1,3 @@
 pub mod HexLemmas
+pub mod ChoiceLemmas
+pub mod NumberLemmas

@@ -1,5 +1,5 @@
 //! The default rate's choice between the rates.
-ghost use Rattle.std.specs.Prelude.{◌≡◌, ◌≤◌};
+ghost use Rattle.std.specs.Prelude.{◌≡◌, ◌≤◌, true};
 ghost use Rattle.reed_solomon_simd.specs.Counts.{next_power, supports, is_low, default_rate};
 
 use reed_solomon_simd::engine::GF_ORDER;
@@ -27,10 +27,9 @@ pub fn default_supports(original_count: usize, recovery_count: usize) -> bool
     smaller_power + original_count.max(recovery_count) <= GF_ORDER
 }
 
-/// Whether the default rate is the low rate at counts of which neither is above the field's order.
+/// Whether the default rate is the low rate, at counts that it supports.
 pub fn default_is_low(original_count: usize, recovery_count: usize) -> bool
-    requires original { original_count ≤ 65536 }
-    requires recovery { recovery_count ≤ 65536 }
+    requires { supports default_rate original_count recovery_count ≡ true }
     ensures { result ≡ is_low default_rate original_count recovery_count }
 {
     let original_power = power_of_two(original_count);
@@ -73,9 +72,11 @@ mod tests {
     #[test]
     fn rates_are_chosen(rt: HostRuntime) {
         for (k, r) in [(4, 3), (3, 5)] {
+            assert!(rt; default_supports(k, r), "{k} {r}");
             assert!(rt; default_is_low(k, r), "{k} {r}");
         }
         for (k, r) in [(3, 3), (3, 4), (5, 3)] {
+            assert!(rt; default_supports(k, r), "{k} {r}");
             assert!(rt; !default_is_low(k, r), "{k} {r}");
         }
     }

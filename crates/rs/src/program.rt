@@ -1,4 +1,8 @@
 //! The words of a command line read, coded and printed.
+ghost use Rattle.std.specs.Prelude.{◌≡◌, true, Some, IfOk};
+ghost use Rattle.rs.specs.Number.{number_of};
+ghost use Rattle.rs.specs.Known.{known_counts};
+
 use crate::choice::{default_is_low, default_supports};
 use crate::hexadecimal::{line, word};
 use crate::number::number;
@@ -43,9 +47,10 @@ struct Counts {
 }
 
 impl Counts {
-    // Whether the program codes these counts, or says why the library refuses them: counts that the default rate gives
-    // to the high rate aren't known yet.
-    fn is_known(&self) -> bool {
+    // Whether the program codes these counts or tells why they are refused: the high rate isn't known yet.
+    fn is_known(&self) -> bool
+        ensures { result ≡ known_counts self.now.original self.now.recovery }
+    {
         !default_supports(self.original, self.recovery)
             || default_is_low(self.original, self.recovery)
     }
@@ -58,7 +63,11 @@ struct Encoding {
     original: Vec<Vec<u8>>,
 }
 
-fn counts_of(original: &str, recovery: &str) -> Result<Counts, Fault> {
+fn counts_of(original: &str, recovery: &str) -> Result<Counts, Fault>
+    ensures original { IfOk result (λ counts. number_of original.now ≡ Some counts.original) }
+    ensures recovery { IfOk result (λ counts. number_of recovery.now ≡ Some counts.recovery) }
+    ensures known { IfOk result (λ counts. known_counts counts.original counts.recovery ≡ true) }
+{
     let Some(original) = number(original) else {
         return Err(Fault::Usage);
     };
