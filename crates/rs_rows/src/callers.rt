@@ -13,8 +13,7 @@ pub fn encode_twice<E: Engine, X: RateEncoder<E> + Drop>(
     steps: &mut Steps,
     forget: bool,
 ) -> Result<(), Error>
-    requires some { 0 < (X.state encoder.old).configuration.original_count }
-    requires full { length (X.state encoder.old).given ≡ (X.state encoder.old).configuration.original_count }
+    requires { length (X.state encoder.old).given ≡ (X.state encoder.old).configuration.original_count }
     ensures answer { result ≡ Err (Error.TooFewOriginalShards (X.state encoder.old).configuration.original_count 0) }
     ensures state { X.state encoder.new ≡ fresh_encoder (X.state encoder.old).configuration }
     ensures engine { X.held encoder.new ≡ X.held encoder.old }
