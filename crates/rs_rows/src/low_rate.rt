@@ -211,8 +211,8 @@ fn callers_are_answered(rt: HostRuntime) -> Result<(), Fail> {
     let alloc = rt.alloc();
     let tables = tables_of(&rt);
     let mut steps = Steps::new();
-    let mut encoder = LowRateEncoder::new(alloc, 2, 3, 2, Naive::new(&tables), None)?;
     for forget in [false, true] {
+        let mut encoder = LowRateEncoder::new(alloc, 2, 3, 2, Naive::new(&tables), None)?;
         encoder.add_original_shard(&[0, 0])?;
         let early = encode_too_early(&mut encoder, &mut steps);
         let one = Error::TooFewOriginalShards {
