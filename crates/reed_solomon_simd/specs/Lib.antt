@@ -1,4 +1,5 @@
 pub use Rattle.rs_field.specs.Search
+pub use Rattle.rs_field.specs.Polynomial
 pub use Rattle.rs_field.specs.Counts
 pub use Rattle.rs_field.specs.Placement
 pub use Rattle.rs_field.specs.Column
