@@ -4,7 +4,7 @@
 #![tactic(auto)]
 
 pub use rs_field::error::Error;
-pub use rs_rate::EncoderResult;
+pub use rs_rate::{DecoderResult, EncoderResult};
 
 /// The field, its tables, and the engines that transform rows of symbols.
 pub mod engine {
@@ -19,7 +19,9 @@ pub mod engine {
     }
 }
 
-/// The rates of the code, and their encoders.
+/// The rates of the code, their encoders and decoders.
 pub mod rate {
-    pub use rs_rate::rate::{EncoderWork, LowRate, LowRateEncoder, RateEncoder};
+    pub use rs_rate::rate::{
+        DecoderWork, EncoderWork, LowRate, LowRateDecoder, LowRateEncoder, RateDecoder, RateEncoder,
+    };
 }

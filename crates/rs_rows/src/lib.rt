@@ -10,3 +10,5 @@ mod digests;
 mod help;
 #[cfg(test)]
 mod low_rate;
+#[cfg(test)]
+mod low_rate_decoding;
