@@ -4,18 +4,18 @@ ghost use Rattle.rs_field.specs.Counts.{low_rate};
 ghost use Rattle.rs_field.specs.Placement.{encoder_rows};
 ghost use Rattle.rs_field.specs.Configuration.{configuration, validated};
 ghost use Rattle.rs_field.specs.Encoder.{fresh_encoder};
-ghost use Rattle.rs_rate.specs.DecoderState.{decoder_state, frame_of};
 ghost use Rattle.rs_field.specs.Code.{AreRecovery};
 ghost use Rattle.rs_field.specs.Layout.{up_to};
 ghost use Rattle.rs_rate.specs.EncoderView.{encoder_state, given_of, lent_of, work_room};
 ghost use Rattle.rs_rate.specs.Held.{items_of, room_of, chunk_count, shard_put, shard_moved};
 
-use crate::decoder_result::DecoderResult;
+mod decoder;
+
 use crate::encoder_result::EncoderResult;
-use crate::rate::counts::{low_encoder_rows, low_frame, low_supports, low_validate};
-use crate::rate::decoding::decode_work;
+use crate::rate::counts::{low_encoder_rows, low_supports, low_validate};
 use crate::rate::low_encoding::encode_work;
-use crate::rate::{DecoderWork, EncoderWork, RateDecoder, RateEncoder};
+use crate::rate::{EncoderWork, RateEncoder};
+pub use decoder::LowRateDecoder;
 use rs_field::engine::{Engine, Steps};
 use rs_field::error::Error;
 use std::alloc::Global;
@@ -113,95 +113,6 @@ impl<E: Engine> RateEncoder<E> for LowRateEncoder<E> {
         self.work.begin()?;
         encode_work(&self.engine, steps, &mut self.work);
         Ok(EncoderResult::new(&self.work))
-    }
-
-    ghost valid = { λ x. (refl, x.valid) };
-}
-
-/// The decoder of the low rate.
-#[derive(Drop)]
-pub struct LowRateDecoder<E: Engine> {
-    alloc: Global,
-    engine: E,
-    work: DecoderWork,
-    pub ghost valid: { validated (configuration low_rate work.original_count work.recovery_count work.shard_bytes) ≡ Ok tt },
-    pub ghost frame: { work.frame ≡ frame_of low_rate work.original_count work.recovery_count },
-}
-
-impl<E: Engine> RateDecoder<E> for LowRateDecoder<E> {
-    ghost use Rattle.std.specs.Prelude.{refl};
-
-    type Rate = LowRate<E>;
-
-    ghost rate = { low_rate };
-
-    ghost state = { λ x. decoder_state low_rate x.work };
-
-    ghost held = { λ x. x.engine };
-
-    fn supports(original_count: usize, recovery_count: usize) -> bool {
-        low_supports(original_count, recovery_count)
-    }
-
-    fn validate(
-        original_count: usize,
-        recovery_count: usize,
-        shard_bytes: usize,
-    ) -> Result<(), Error> {
-        low_validate(original_count, recovery_count, shard_bytes)
-    }
-
-    fn new(
-        alloc: Global,
-        original_count: usize,
-        recovery_count: usize,
-        shard_bytes: usize,
-        engine: E,
-        work: Option<DecoderWork>,
-    ) -> Result<LowRateDecoder<E>, Error> {
-        low_validate(original_count, recovery_count, shard_bytes)?;
-        let mut work = match work {
-            Some(work) => work,
-            None => DecoderWork::new(),
-        };
-        let frame = low_frame(original_count, recovery_count);
-        work.configure(alloc, original_count, recovery_count, shard_bytes, frame)?;
-        Ok(LowRateDecoder {
-            alloc,
-            engine,
-            work,
-        })
-    }
-
-    fn reset(
-        &mut self,
-        original_count: usize,
-        recovery_count: usize,
-        shard_bytes: usize,
-    ) -> Result<(), Error> {
-        low_validate(original_count, recovery_count, shard_bytes)?;
-        let frame = low_frame(original_count, recovery_count);
-        self.work.configure(
-            self.alloc,
-            original_count,
-            recovery_count,
-            shard_bytes,
-            frame,
-        )
-    }
-
-    fn add_original_shard(&mut self, index: usize, original_shard: &[u8]) -> Result<(), Error> {
-        self.work.add_original_shard(index, original_shard)
-    }
-
-    fn add_recovery_shard(&mut self, index: usize, recovery_shard: &[u8]) -> Result<(), Error> {
-        self.work.add_recovery_shard(index, recovery_shard)
-    }
-
-    fn decode(&mut self, steps: &mut Steps) -> Result<DecoderResult<'_>, Error> {
-        self.work.begin()?;
-        decode_work(&self.engine, steps, &mut self.work);
-        Ok(DecoderResult::new(&self.work))
     }
 
     ghost valid = { λ x. (refl, x.valid) };

@@ -8,7 +8,7 @@ use Rattle.rs_field.specs.Decoder.{DecodePlaces}
 use Rattle.rs_rate.specs.DecoderState.{decoder_state, restored_of}
 use Rattle.rs_rate.proofs.StateLemmas.{valid-supported}
 use Rattle.rs_rate.proofs.DecoderRows.{low_frame-power, after_decode-refused, after_decode-made, decode_places-refused, decode_places-made}
-use Rattle.rs_rate.proofs.rate.rate_low.LowRateDecoderRateDecoder.decode.Goals as goal
+use Rattle.rs_rate.proofs.rate.rate_low.decoder.LowRateDecoderRateDecoder.decode.Goals as goal
 
 pub returns-in_err-begin : goal.returns-in_err-begin
 returns-in_err-begin g c =

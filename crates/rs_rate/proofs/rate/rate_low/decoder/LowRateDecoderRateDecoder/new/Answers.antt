@@ -5,7 +5,7 @@ use Rattle.rs_field.specs.Configuration.{configuration}
 use Rattle.rs_rate.specs.Held.{chunk_count}
 use Rattle.rs_rate.proofs.StateLemmas.{answers-made}
 use Rattle.rs_rate.proofs.DecoderRows.{frame_rows}
-use Rattle.rs_rate.proofs.rate.rate_low.LowRateDecoderRateDecoder.new.Goals as goal
+use Rattle.rs_rate.proofs.rate.rate_low.decoder.LowRateDecoderRateDecoder.new.Goals as goal
 
 pub returns-clause-answer : goal.returns-clause-answer
 returns-clause-answer g c =

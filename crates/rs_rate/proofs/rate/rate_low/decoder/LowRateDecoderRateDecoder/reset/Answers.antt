@@ -8,7 +8,7 @@ use Rattle.rs_rate.specs.Held.{chunk_count}
 use Rattle.rs_rate.specs.DecoderState.{decoder_state}
 use Rattle.rs_rate.proofs.StateLemmas.{answers-grown, on_ok-at, on_err-at}
 use Rattle.rs_rate.proofs.DecoderRows.{frame_rows}
-use Rattle.rs_rate.proofs.rate.rate_low.LowRateDecoderRateDecoder.reset.Goals as goal
+use Rattle.rs_rate.proofs.rate.rate_low.decoder.LowRateDecoderRateDecoder.reset.Goals as goal
 
 pub returns-clause-answer : goal.returns-clause-answer
 returns-clause-answer g c =
