@@ -40,4 +40,4 @@ pub known_low : (k r : ℕ) → known_counts k r ≡ true → supports default_r
 known_low k r known is = subst (λ (b : Bool). (not b || is_low default_rate k r) ≡ true) is known
 
 pub prints_same : (k r : ℕ) (message : List Shard) (text : List ℕ) → is_low default_rate k r ≡ true → PrintsRecovery low_rate k r message text → PrintsRecovery default_rate k r message text
-prints_same k r message text low prints = (prints.0, recovery_same k r (length (shard_at message 0)) message prints.0 low prints.1, prints.2)
+prints_same k r message text low prints = (prints.0, prints.1, recovery_same k r (length (shard_at message 0)) message prints.0 low prints.2, prints.3)

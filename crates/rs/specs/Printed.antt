@@ -26,10 +26,10 @@ line_of shard = hex_of shard ++ 10 ∷ []
 abbrev pub lines_with : List Shard → List ℕ
 lines_with shards = flat_map line_of shards
 
--- a text of the lines of a message's recovery shards, at the size of the message's first shard
+-- a text of the lines of the recovery shards of a message of k originals, at the size of the first
 abbrev pub PrintsRecovery : Rate → ℕ → ℕ → List Shard → List ℕ → Type 0
 PrintsRecovery rate k r message text =
-    (recovery : List Shard) × AreRecovery (configuration rate k r (length (shard_at message 0))) message recovery × (text ≡ lines_with recovery)
+    (recovery : List Shard) × (length message ≡ k) × AreRecovery (configuration rate k r (length (shard_at message 0))) message recovery × (text ≡ lines_with recovery)
 
 -- a text that answers a command line: the recovery shards that it asks for
 abbrev pub Answers : List (List ℕ) → List ℕ → Type 0

@@ -119,7 +119,9 @@ fn encoding_of(alloc: Global, words: &[String]) -> Result<Encoding, Fault>
 
 // Gives an encoder the originals in order.
 fn give<E: Engine, X: RateEncoder<E>>(encoder: &mut X, original: &[Vec<u8>]) -> Result<(), Error>
-    ensures { OnOk result (X.state encoder.new ≡ with_given (X.state encoder.old) (map (λ v. v.items) original.now)) }
+    requires { length (X.state encoder.old).given ≤ (X.state encoder.old).configuration.original_count }
+    ensures given { OnOk result (X.state encoder.new ≡ with_given (X.state encoder.old) (map (λ v. v.items) original.now)) }
+    ensures no_more { OnOk result (length (X.state encoder.new).given ≤ (X.state encoder.new).configuration.original_count) }
 {
     for shard in original {
         encoder.add_original_shard(shard.as_slice())?;
