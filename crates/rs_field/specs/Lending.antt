@@ -34,13 +34,12 @@ LendsPart rows a n lent =
 abbrev pub LendsRow : MutBor ShardsRefMut → ℕ → MutBor Chunks → Fml
 LendsRow rows i lent = LendsPart rows (i * rows.now.shard_len_64) rows.now.shard_len_64 lent
 
--- two parts of a list of chunks are lent
-abbrev pub LendsTwo : MutBor Chunks → ℕ → ℕ → ℕ → MutBor Chunks × MutBor Chunks → Fml
-LendsTwo chunks a b n lent =
-    LendsBoth (Array (Array u8 64) 0) (Array (Array u8 64) 0) (Array (Array u8 64) 0) chunks lent (with_two chunks.now a b n)
-
--- two rows are lent: what is written to each stands in its place, and all else is as it was
-abbrev pub LendsTwoRows : MutBor ShardsRefMut → ℕ → ℕ → MutBor Chunks × MutBor Chunks → Fml
-LendsTwoRows rows i j lent =
+-- the n chunks from a on and those from b on are lent: what is written to each stands in its place, and all else is as it was
+abbrev pub LendsTwoParts : MutBor ShardsRefMut → ℕ → ℕ → ℕ → MutBor Chunks × MutBor Chunks → Fml
+LendsTwoParts rows a b n lent =
     LendsBoth (the_row (record { mir = named 1; lft = [] })) (Array (Array u8 64) 0) (Array (Array u8 64) 0) rows lent
-    (λ first second. with_chunks rows.now (with_two rows.now.chunks.now (i * rows.now.shard_len_64) (j * rows.now.shard_len_64) rows.now.shard_len_64 first second))
+    (λ first second. with_chunks rows.now (with_two rows.now.chunks.now a b n first second))
+
+-- rows i and j are lent
+abbrev pub LendsTwoRows : MutBor ShardsRefMut → ℕ → ℕ → MutBor Chunks × MutBor Chunks → Fml
+LendsTwoRows rows i j lent = LendsTwoParts rows (i * rows.now.shard_len_64) (j * rows.now.shard_len_64) rows.now.shard_len_64 lent

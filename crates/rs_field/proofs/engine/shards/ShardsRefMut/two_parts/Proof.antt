@@ -3,40 +3,53 @@ use Prim.Native.Nat.{ℕ, ◌+◌, ◌*◌, ◌-◌, ◌^◌, ◌<◌, ◌≤◌
 use native.Mathlib.Omega.{arith}
 use mathlib.Core.List.{List, [], ◌∷◌, ◌++◌}
 use lib.ListN.{length, take, drop as drop_list, take-append-drop, length-drop}
-use lib.Seq.{drop-drop}
 use mir.Syntax.{named, w64}
 use mir.Val.{Val, vstruct, vcons, vnil}
-use base.Fml.{Lft, ftrue, flft}
+use base.Logic.{id⊢}
+use base.Fml.{ftrue, flft, Lft}
 use contract.Monad.{fact}
 use contract.Running.{tables}
 use Rattle.std.proofs.raw_atomic.Walks.{proved}
-use types.Kit.{‵, ◌⊛◌, raw, some, later, at_ret, ◌$◌, ◌∵◌, !, qed, move, keep, split, split3, join, fjoin, fpack, use2, await, pick, suffices, frame, done, rewrite, feq_i}
+use types.Kit.{‵, ◌⊛◌, raw, some, later, at_ret, ◌$◌, ◌∵◌, !, qed, move, keep, drop, split, split3, join, fsplit, fjoin, use1, use2, await, pick, suffices, frame, done, rewrite, feq_l, fpack, feq_i}
 use types.Part.{whole, sub, agg}
 use types.Run.{stop, fld, hop, from, addr, bin, of_opd, lit, first, blocks, exec, returns, enter, no_more, and_then}
-use types.ByLocal.{alloc_all, pass_all, free_all, look_at, look_in_at, get, sets, sets_last, env}
+use types.ByLocal.{alloc_all, pass_all, free_all, look_at, look_in_at, get, through, sets, sets_last, lands_as, env}
 use denote.Builtin.{usize, u8}
 use denote.Exit.{yes, no}
 use denote.Plain.{uint_vals, uint_Tells}
 use denote.RattleType.{RattleType, owns, Valss}
-use denote.Ref.{MutBor}
-use denote.Signature.{plain}
+use denote.Ref.{MutBor, MutRef, mut_vals, mut_Tells}
+use denote.Signature.{plain, named_lft}
 use denote.Array.{Array}
-use denote.Slice.{MutSlice, Room, slice_val, mut_slice_vals, mut_slice_Tells}
-use denote.Steps.{nothing, heard}
+use denote.Slice.{MutSlice, room, slice_val, mut_slice_vals, mut_slice_at}
+use denote.Shadow.{pure_l, pure_i}
+use denote.Steps.{nothing, heard, only}
+use denote.Follow.{both_by, follows_both}
+use denote.Triple.Call.{calls_at}
+use denote.Triple.Clauses.{lasts}
+use denote.Triple.Spec.{triple_of}
+use denote.Triple.Table.{framed}
+use denote.Triple.Walked.{says, Stays, stay_dropped, walk_of, ends_at, Goes-dropped, Goes-spent_ref}
+use borrow.Table.Elements.{at, at_mul, length-take-le}
+use Rattle.rs_field.proofs.Runs.{both_then, runs_lent, lends_runs}
+use Rattle.rs_field.specs.Rows.{Chunks}
+use Rattle.rs_field.specs.Lending.{with_chunks, with_two, LendsAll}
+use Rattle.rs_field.specs.contracts.engine.shards.ShardsRefMut.{the_row}
+use Rattle.rs_field.proofs.engine.shards.ShardsRefMut.all.Met.{met}
+use lib.Seq.{drop-drop}
 use denote.Struct.Struct.{within}
 use denote.Struct.Tuple.{tuple_type}
 use denote.Struct.Declared.{shape}
-use denote.Follow.{both_by}
-use denote.Triple.Walked.{says, Stays, stay_dropped, walk_of, ends_at, Goes-dropped, Goes-spent_slice}
-use borrow.Table.Elements.{at, at_mul, length-take-le}
-use Rattle.rs_field.proofs.Runs.{runs_lent, lends_runs}
-use Rattle.rs_field.specs.Rows.{Chunks}
-use Rattle.rs_field.specs.contracts.engine.shards.two_parts as f
-use Rattle.rs_field.proofs.engine.shards.two_parts.Statement.{statement}
-use Rattle.rs_field.proofs.engine.shards.two_parts.Code as code
+use Rattle.rs_field.specs.contracts.engine.shards.ShardsRefMut.two_parts as f
+use Rattle.rs_field.proofs.engine.shards.ShardsRefMut.two_parts.Statement.{statement}
+use Rattle.rs_field.proofs.engine.shards.ShardsRefMut.two_parts.Code as code
+use Rattle.rs_field.specs.contracts.engine.shards.ShardsRefMut.all as g
 
 abbrev E : RattleType
 E = Array u8 64
+
+abbrev Bare : RattleType
+Bare = the_row (record { mir = named 1; lft = [] })
 
 abbrev Halves : Lft → List RattleType
 Halves κ = MutSlice (named 0) κ E ∷ MutSlice (named 0) κ E ∷ []
@@ -51,19 +64,34 @@ pub two_parts_spec : {M : Type 1} → statement M
 unfolding both_by
 two_parts_spec 𝓤 𝓛 𝓜 𝓡 wired =
     let c = f.clauses 𝓛 𝓜.mem 𝓡.returns in let W = walk_of 𝓛 f.ended stayed c in let 𝓣 = tables 𝓤 𝓛.H 𝓜 𝓡 𝓡.env in
-    let goes = Goes-dropped 𝓛 1 (plain (λ _. usize)) yes (λ κs x w. refl) in
-    proved 𝓛 f.ended stayed c 𝓜 𝓡 (Goes-spent_slice 𝓛 1 (0 ∷ []) tt (plain (λ _. E)), (goes, (goes, (goes, tt))))
+    let goes = Goes-dropped 𝓛 2 (plain (λ _. usize)) yes (λ κs x w. refl) in
+    proved 𝓛 f.ended stayed c 𝓜 𝓡 (Goes-spent_ref 𝓛 2 (0 ∷ []) tt (plain (λ κs. the_row (named_lft 2 1 tt κs))), (goes, (goes, (goes, tt))))
     f.Key.name code.function (code.unfolded 𝓤 𝓛.H 𝓜 𝓡 wired)
-    (λ κs. (mut_slice_vals, (uint_vals w64, (uint_vals w64, (uint_vals w64, tt))))) (λ κs. (mut_slice_Tells (named 0) κs.0 E, (uint_Tells w64, (uint_Tells w64, (uint_Tells w64, tt))))) (λ κs qs bounds a _ are.
-    let x = a.0 in let i = a.1.0 in let j = a.1.1.0 in let n = a.1.1.1.0 in
-    let xs : Chunks = x.now in let b = x.ref_ptr.0 in let o = x.ref_ptr.1 in
+    (λ κs. (mut_vals, (uint_vals w64, (uint_vals w64, (uint_vals w64, tt))))) (λ κs. (mut_Tells (named 0) κs.0 (the_row (named_lft 2 1 tt κs)), (uint_Tells w64, (uint_Tells w64, (uint_Tells w64, tt))))) (λ κs qs bounds a _ are.
+    let self = a.0 in let i = a.1.0 in let j = a.1.1.0 in let n = a.1.1.1.0 in
+    let ch : Chunks = self.now.chunks.now in
+    let vs = mut_vals self in
     let vals : Valss (usize ∷ usize ∷ usize ∷ []) = (uint_vals w64 i, (uint_vals w64 j, (uint_vals w64 n, tt))) in
-    let y : W.Ghost = ((κs, qs, bounds, a, (mut_slice_vals x, vals)), tt) in
-    let Slice : MutBor Chunks → List Val → _ = λ r us. (MutSlice (named 0) κs.0 E).own_val r us in
-    qed 𝓛 (((‵ (flft κs.0 qs.0) ⊛ ‵ ftrue) ⊛ ‵ (Slice x (mut_slice_vals x)) ⊛ ‵ (owns (usize ∷ usize ∷ usize ∷ []) a.1 vals)) ∷ (raw (fact 𝓤 (i + n ≤ j)) ⊛ raw (fact 𝓤 (j + n ≤ length xs))) ∷ []) ∵
-    move ! (1 ∷ []) $ split ! $ heard ! _ (λ apart. heard ! _ (λ le. split ! $ split ! $ move ! (2 ∷ []) $ split ! $ keep ! (0 ∷ 2 ∷ []) $
-    -- [the slice; the token]
-    let rm : Room E (length xs) = are.0.0.1 in
+    let y : W.Ghost = ((κs, qs, bounds, a, (vs, vals)), tt) in
+    let G = triple_of 𝓛 g.signature (g.spec 𝓛 𝓜.mem 𝓡.returns) in
+    let z : G.Ghost = ((κs, qs, bounds, (self, tt), (vs, tt)), tt) in
+    let Slice : MutBor Chunks → List Val → _ = λ x us. (MutSlice (named 0) κs.0 E).own_val x us in
+    qed 𝓛 (((‵ (flft κs.0 qs.0) ⊛ ‵ (flft κs.1.0 qs.1.0) ⊛ ‵ ftrue) ⊛ ‵ ((MutRef (named 0) κs.0 (the_row (named_lft 2 1 tt κs))).own_val self vs) ⊛ ‵ (owns (usize ∷ usize ∷ usize ∷ []) a.1 vals)) ∷ (raw (fact 𝓤 (i + n ≤ j)) ⊛ raw (fact 𝓤 (j + n ≤ length ch))) ∷ []) ∵
+    move ! (1 ∷ []) $ split ! $ heard ! _ (λ apart. heard ! _ (λ le'. split ! $ move ! (1 ∷ []) $ split ! $ keep ! (0 ∷ 2 ∷ []) $
+    nothing ! $ move ! (1 ∷ 0 ∷ []) $ join ! $ move ! (1 ∷ 0 ∷ []) $ join ! $ nothing ! $ move ! (1 ∷ 0 ∷ []) $ use2 𝓛 (raw (G.pre z)) (id⊢ 𝓤 _) $
+    enter ! _ _ _ _ _ $
+    alloc_all ! (λ l. pass_all ! refl ((tt, tt), ((tt, record { fits = are.1.0.1 }), ((tt, record { fits = are.1.1.0.1 }), ((tt, record { fits = are.1.1.1.0.1 }), tt)))) $
+    sets ! (addr ! (through ! refl (stop !))) refl (tt, tt) $
+    calls_at ! (framed 𝓤 𝓛.H 𝓜 𝓣) G (met 𝓤 𝓛 𝓜 𝓡 (code.calls-rs_field::engine::shards::ShardsRefMut::all 𝓡.env wired)) z
+    (and_then ! (get ! refl) (no_more !)) (λ v'.
+    use1 𝓛 (later (some (λ (x : MutBor Chunks). ((‵ (flft κs.0 qs.0) ⊛ ‵ (flft κs.1.0 qs.1.0) ⊛ ‵ ftrue) ⊛ ‵ (Slice x (v' ∷ []))) ⊛
+    some (λ (ws : Unit {0} × Unit {0}). ‵ (lasts g.ended κs (self, tt) ws) ⊛ ‵ (LendsAll self x) ⊛ raw (fact 𝓤 (x.now ≡ ch)))))) (id⊢ 𝓤 _) $
+    await ! tt $ pick ! (λ x. split ! $ split ! $ move ! (2 ∷ []) $ pick ! (λ ws. split ! $ drop ! $ split ! $ move ! (1 ∷ []) $ heard ! _ (λ ex. move ! (2 ∷ []) $
+    fsplit ! $ fsplit ! $ feq_l ! (λ ev. pure_l ! (room E (length x.now)) (λ rm.
+    pure_i ! (mut_slice_at E x (mut_slice_vals x)) (tt, (tt, tt)) (refl, rm) $ fjoin ! $
+    let xs : Chunks = x.now in let b = x.ref_ptr.0 in let o = x.ref_ptr.1 in
+    let same : length xs ≡ length ch = ap length ex in
+    let le : j + n ≤ length xs = omega arith in
     let fit : length xs * 64 < 2 ^ 63 = rm.1 in
     let fi : i * 64 < 2 ^ 64 = omega arith in
     let fj : j * 64 < 2 ^ 64 = omega arith in
@@ -95,9 +123,8 @@ two_parts_spec 𝓤 𝓛 𝓜 𝓡 wired =
     let q₂ : at (at p₁ 64 (length one)) 64 (length gap) ≡ length gap * 64 + at p₁ 64 (length one) = at_mul (at p₁ 64 (length one)) 64 (length gap) in
     let on₂ : at (at p₁ 64 (length one)) 64 (length gap) ≡ p₂ = omega arith in
     let v : Val = vstruct (vcons (slice_val (b, p₁) n) (vcons (slice_val (b, p₂) n) vnil)) in
-    enter ! _ _ _ _ _ $
-    alloc_all ! (λ l. pass_all ! refl ((tt, (tt, (record { fits = rm.0 }, tt))), ((tt, record { fits = are.1.0.1 }), ((tt, record { fits = are.1.1.0.1 }), ((tt, record { fits = fn }), tt)))) $
-    sets ! (addr ! (from ! (fld ! refl (hop ! (look_in_at ! 1 (sub ! 0 refl (whole !))) (stop !))))) refl (tt, tt) $
+    lands_as ! (ap only ev) refl (tt, (tt, (record { fits = rm.0 }, tt))) $
+    sets ! (addr ! (from ! (fld ! refl (hop ! (look_in_at ! 5 (sub ! 0 refl (whole !))) (stop !))))) refl (tt, tt) $
     first ! $ blocks ! $
     sets ! (bin ! (get ! refl) (lit ! tt) (record { fits = fi })) refl (tt, record { fits = fi }) $
     sets ! (bin ! (get ! refl) (get ! refl) tt) refl (tt, tt) $
@@ -106,18 +133,28 @@ two_parts_spec 𝓤 𝓛 𝓜 𝓡 wired =
     sets ! (bin ! (get ! refl) (get ! refl) tt) refl (tt, tt) $
     sets ! (agg ! (and_then ! (get ! refl) (and_then ! (get ! refl) (no_more !)))) refl (tt, (tt, (record { fits = fn }, tt))) $
     sets_last ! (agg ! (and_then ! (get ! refl) (and_then ! (get ! refl) (no_more !)))) refl (tt, ((tt, (record { fits = fn }, tt)), ((tt, (record { fits = fn }, tt)), tt))) $
-    exec ! 𝓣.C 𝓣.Λ (env code.Mir.locals l) code.Mir.t-3 (at_ret _ (W.post y)) $
+    exec ! 𝓣.C 𝓣.Λ (env code.Mir.locals l) code.Mir.t-5 (at_ret _ (W.post y)) $
     sets ! (of_opd ! (get ! refl)) refl (tt, ((tt, (record { fits = fn }, tt)), ((tt, (record { fits = fn }, tt)), tt))) $
-    -- [the slice; the token; the locals]
+    -- [the slice; what self follows; the tokens; the locals]
+    move ! (2 ∷ []) $ split ! $ move ! (2 ∷ 0 ∷ []) $
     use2 𝓛 (later (some (runs_lent 𝓛 (named 0) κs.0 qs.0 b o x.ghost_name E xs front one gap two back cut p₁ p₂ on₁ on₂)))
     (lends_runs 𝓛 (named 0) κs.0 qs.0 b o x.ghost_name E xs front one gap two back cut p₁ p₂ on₁ on₂ (omega arith, omega arith) (omega arith, omega arith) (mut_slice_vals x)) $ await ! tt $ pick ! (λ δ. split3 ! $
     let r₁ : MutBor Chunks = record { ref_ptr = (b, p₁); ghost_name = δ.0; now = one } in
     let r₂ : MutBor Chunks = record { ref_ptr = (b, p₂); ghost_name = δ.1; now = two } in
     rewrite ! 0 (λ (h : ℕ). ‵ (Slice r₁ (slice_val (b, p₁) h ∷ []))) l₁ refl $
     rewrite ! 1 (λ (h : ℕ). ‵ (Slice r₂ (slice_val (b, p₂) h ∷ []))) l₂ refl $
+    -- [the first; the second; the token and what the slice follows; the other tokens; what self follows; the locals]
+    move ! (2 ∷ []) $ split ! $ move ! (5 ∷ 1 ∷ []) $
+    use2 𝓛 (‵ (follows_both Bare (Array E 0) (Array E 0) self.ghost_name δ.0 δ.1 (λ u w. with_chunks self.now (with_two xs i j n u w))))
+    (both_then 𝓛 Bare (Array E 0) (Array E 0) (Array E 0) (with_chunks self.now) (with_two xs i j n) self.ghost_name x.ghost_name δ.0 δ.1) $
+    rewrite ! 0 (λ (k : Chunks). ‵ (follows_both Bare (Array E 0) (Array E 0) self.ghost_name δ.0 δ.1 (λ u w. with_chunks self.now (with_two k i j n u w)))) ex refl $
+    -- [what self follows; the token; the first; the second; the other tokens]
+    move ! (2 ∷ 3 ∷ []) $
     nothing ! $ move ! (2 ∷ 0 ∷ []) $ fjoin ! $ move ! (1 ∷ 0 ∷ []) $ fjoin ! $
     feq_i ! (List Val) (v ∷ []) (v ∷ []) refl $ fjoin ! $
     fpack ! (Valss (Halves κs.0)) (within (shape (tuple_type (Halves κs.0))) (r₁, (r₂, tt)) (v ∷ [])) (slice_val (b, p₁) n ∷ [], (slice_val (b, p₂) n ∷ [], tt)) $
-    move ! (1 ∷ []) $ split ! $ returns ! (look_at ! 0 refl) $ free_all ! refl $ keep ! (2 ∷ 0 ∷ 1 ∷ []) $
+    -- [the pair; what self follows; the token; the other tokens]
+    returns ! (look_at ! 0 refl) $ free_all ! refl $ keep ! (0 ∷ 2 ∷ 1 ∷ 3 ∷ []) $
     suffices ! _ (ends_at 𝓛 f.ended stayed c y v (r₁, r₂) (tt, (tt, (tt, (tt, tt)))) (tt, (tt, (tt, (tt, tt))))) $
-    nothing ! $ nothing ! $ fjoin ! $ nothing ! $ fjoin ! $ nothing ! $ fjoin ! $ nothing ! $ fjoin ! $ join ! $ nothing ! $ move ! (2 ∷ 0 ∷ []) $ join ! $ join ! $ frame ! $ says ! (refl, refl) $ done !)))))
+    nothing ! $ nothing ! $ fjoin ! $ nothing ! $ fjoin ! $ nothing ! $ fjoin ! $ nothing ! $ fjoin ! $ join ! $ move ! (1 ∷ 3 ∷ []) $ join ! $ join ! $ frame ! $
+    says ! (ap (λ (k : Chunks). take n (drop_list i k)) ex, ap (λ (k : Chunks). take n (drop_list j k)) ex) $ done !)))))))))))
