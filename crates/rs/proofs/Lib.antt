@@ -1,1 +1,5 @@
 pub mod HexLemmas
+pub mod ChoiceLemmas
+pub mod NumberLemmas
+pub mod DefaultLemmas
+pub mod WordLemmas

@@ -5,7 +5,7 @@ ghost use Rattle.std.specs.String.{string_bytes};
 ghost use Rattle.rs.specs.Hex.{bytes_of_hex, hex_of};
 
 use hex::FromHexError;
-use rs_field::error::Error;
+use reed_solomon_simd::Error;
 use std::alloc::Global;
 
 /// The bytes of a HEX, or None for another text.

@@ -134,6 +134,19 @@ pub shard-laid_out : (size : ℕ) (chunks : ℕ → List ℕ) → ((k b : ℕ) �
     → IsShard size (laid_out size chunks)
 shard-laid_out size chunks small = record { length_is = length-laid_out size chunks; bytes = bytes-laid_out size chunks small }
 
+-- the same of the shard whose tail was moved
+pub shard-in_order : (size : ℕ) (chunks : ℕ → List ℕ) → ((k b : ℕ) → k < row_len size → b < 64 → slice_index (chunks k) b < 256)
+    → IsShard size (in_order size chunks)
+unfolding in_order
+shard-in_order size chunks small = record {
+  length_is = length-in_order size chunks;
+  bytes = λ i d h.
+      let lt : i < size = subst (λ n. i < n) (length-in_order size chunks) h in
+      let e : get_or (in_order size chunks) i d ≡ slice_index (chunks (i / 64)) (i % 64)
+      = get-up_to size (λ b. slice_index (chunks (b / 64)) (b % 64)) i d lt in
+      subst (λ n. n < 256) (sym e) (small (i / 64) (i % 64) (chunk_of size i lt) (omega arith));
+}
+
 -- word i of chunk q: its low byte and its high byte
 word-laid_out : (size q i half : ℕ) (chunks : ℕ → List ℕ) → min 64 (size - q * 64) / 2 ≡ half → i < half → half ≤ 32 → q * 64 + 2 * half ≤ size
     → slice_index (laid_out size chunks) (q * 64 + i) + 256 * slice_index (laid_out size chunks) (q * 64 + i + half) ≡ symbol (chunks q) i

@@ -29,3 +29,4 @@ pub mod Derivative
 pub mod DerivativeStep
 pub mod LocatorLemmas
 pub mod LocatorProduct
+pub mod Restored

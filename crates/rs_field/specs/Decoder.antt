@@ -56,16 +56,24 @@ IsAgreeing s message = Agrees s.configuration s.originals s.recovery message
 abbrev pub IsConsistent : DecoderState → Type 0
 IsConsistent s = Consistent s.configuration s.originals s.recovery
 
--- the restored originals: at exactly the missing indexes, of the size, those of any message that agrees; with exactly k shards given, one does
-pub record Restored (s : DecoderState) (out : Shards) : Type 0 where
+-- shards at exactly the missing indexes, each of the size
+pub record FillsMissing (s : DecoderState) (out : Shards) : Type 0 where
   pub missing : (i : ℕ) → IsSome (out i) ↔ (i < s.configuration.original_count × IsNone (s.originals i))
   pub shards : (i : ℕ) (shard : Shard) → out i ≡ Some shard → IsShard s.configuration.shard_bytes shard
+
+-- the restored originals: at exactly the missing indexes, those of any message that agrees; with exactly k shards given, one does
+pub record Restored (s : DecoderState) (out : Shards) : Type 0 where
+  pub filled : FillsMissing s out
   pub agreeing : (message : List Shard) → IsAgreeing s message → (i : ℕ) (shard : Shard) → out i ≡ Some shard → shard_at message i ≡ shard
   pub no_surplus : originals_given s + recovery_given s ≡ s.configuration.original_count → IsConsistent s
 
 -- what `decode` answers: a refusal, or the restored originals
 abbrev pub DecodeAnswers : DecoderState → Result Shards Error → Type 0
 DecodeAnswers s result = MatchResult (enough_given s) (λ _. IsOkAnd result (Restored s)) (λ e. result ≡ Err e)
+
+-- what `decode` answers, as far as the places and sizes of the restored shards: a refusal, or shards at exactly the missing indexes
+abbrev pub DecodePlaces : DecoderState → Result Shards Error → Type 0
+DecodePlaces s result = MatchResult (enough_given s) (λ _. IsOkAnd result (FillsMissing s)) (λ e. result ≡ Err e)
 
 -- the state that `decode` leaves: where too few were given the same, else with nothing given
 abbrev pub after_decode : DecoderState → DecoderState

@@ -1,14 +1,15 @@
 -- The shards that a decoder's rows stand for.
-use Rattle.std.proofs.Common.{◌≡◌, ◌≢◌, ℕ, zero, suc, ◌+◌, ◌<◌, ◌≤◌, List, Bool, true, false, cond, refl, sym, ap, ◌∙◌, subst, arith, inl, inr, add-suc}
-use Rattle.std.specs.Prelude.{Option, Some, None, is_some, nat_lt, nat_eq, if◌then◌else◌}
-use Rattle.std.proofs.lemmas.Bool.{cases_lt, cases_eq, lt-ltb, le-ltb, eq-eqb, ne_eqb, ltb-true}
+use Rattle.std.proofs.Common.{◌≡◌, ◌≢◌, ℕ, zero, suc, ◌+◌, ◌<◌, ◌≤◌, List, Bool, true, false, cond, refl, sym, ap, ap₂, ◌∙◌, subst, arith, inl, inr, true≢false}
+use Rattle.std.specs.Prelude.{Option, Some, None, is_some, IsSome, IsNone, unwrap_or, not, ◌&&◌, nat_lt, nat_le, nat_eq}
+use Rattle.std.proofs.lemmas.Bool.{cases_lt, cases_eq, lt-ltb, le-leb, le-ltb, eq-eqb, ne_eqb}
 use mathlib.Core.Path.{fun_ext}
-use Rattle.rs_field.specs.Column.{Shard}
+use Rattle.rs_field.specs.Column.{Shard, IsShard}
+use Rattle.rs_field.specs.Decoder.{DecoderState, FillsMissing}
 use Rattle.rs_field.specs.Given.{Shards, nothing, entered, count_below}
 use Rattle.rs_field.specs.Rows.{Chunks}
 use Rattle.rs_rate.specs.declared.rate.places.Place.{Place}
 use Rattle.rs_rate.specs.declared.rate.places.Place.TheVariants.{Empty, Given, Restored}
-use Rattle.rs_rate.specs.DecoderView.{place_at, is_given, is_restored, given_rows, given_shards, restored_shards}
+use Rattle.rs_rate.specs.DecoderView.{place_at, is_given, is_restored, given_rows, given_shards, restored_shards, ended}
 use Rattle.rs_rate.specs.Held.{shard_put, shard_moved}
 
 -- the shard of an index below the count, by its row's mark
@@ -169,3 +170,71 @@ pub restored-marked : (places : List Place) (chunks : Chunks) (size from n i : �
     → restored_shards places chunks size from n i ≡ cond b (Some (shard_moved chunks size (from + i))) None
 restored-marked places chunks size from n i b inside mark =
     restored-in places chunks size from n i inside ∙ ap (λ t. cond t (Some (shard_moved chunks size (from + i))) None) mark
+
+-- after a round no row holds a given shard
+pub ended-given : (from n p : ℕ) (place : Place) → is_given (ended from n p place) ≡ false
+ended-given from n p place = by_test (nat_le from p && nat_lt p (from + n)) place
+  where
+    by_test : (b : Bool) (place : Place) → is_given (cond b (cond (is_given place) Empty Restored) Empty) ≡ false
+    by_test false place = refl
+    by_test true Empty = refl
+    by_test true Given = refl
+    by_test true Restored = refl
+
+-- and the row of an original holds a restored shard exactly where none was given
+pub ended-restored : (from n i : ℕ) (place : Place) → i < n → is_restored (ended from n (from + i) place) ≡ not (is_given place)
+ended-restored from n i place inside =
+    ap₂ (λ a b. is_restored (cond (a && b) (cond (is_given place) Empty Restored) Empty)) (le-leb from (from + i) (omega arith)) (lt-ltb (from + i) (from + n) (omega arith)) ∙ by_place place
+  where
+    by_place : (place : Place) → is_restored (cond (is_given place) Empty Restored) ≡ not (is_given place)
+    by_place Empty = refl
+    by_place Given = refl
+    by_place Restored = refl
+
+-- the shards that lie restored after a round fill the missing indexes
+pub fills-missing : (s : DecoderState) (old new : List Place) (before after : Chunks) (from : ℕ)
+    → s.originals ≡ given_shards old before s.configuration.shard_bytes from s.configuration.original_count
+    → ((i : ℕ) → i < s.configuration.original_count → is_restored (place_at new (from + i)) ≡ not (is_given (place_at old (from + i))))
+    → ((i : ℕ) → i < s.configuration.original_count → IsShard s.configuration.shard_bytes (shard_moved after s.configuration.shard_bytes (from + i)))
+    → FillsMissing s (restored_shards new after s.configuration.shard_bytes from s.configuration.original_count)
+fills-missing s old new before after from given marks sized =
+    record {
+      missing = λ i. (missing_only i, restored_too i);
+      shards = λ i shard is. elim (cases_lt i k) [
+        | inl inside ↦ subst (IsShard size) (some_is (not (is_given (place_at old (from + i)))) (shard_moved after size (from + i)) shard (sym (here i inside) ∙ is)) (sized i inside)
+        | inr outside ↦ absurd (none_some shard (sym (restored-out new after size from k i outside) ∙ is))
+      ];
+    }
+  where
+    k : ℕ
+    k = s.configuration.original_count
+
+    size : ℕ
+    size = s.configuration.shard_bytes
+
+    here : (i : ℕ) → i < k → restored_shards new after size from k i ≡ cond (not (is_given (place_at old (from + i)))) (Some (shard_moved after size (from + i))) None
+    here i inside = restored-marked new after size from k i (not (is_given (place_at old (from + i)))) inside (marks i inside)
+
+    was : (i : ℕ) → i < k → is_some (s.originals i) ≡ is_given (place_at old (from + i))
+    was i inside = ap (λ (f : Shards). is_some (f i)) given ∙ given-marked old before size from k i inside
+
+    none_some : (shard : Shard) → ◌≡◌ {A = Option Shard} None (Some shard) → ⊥
+    none_some shard e = true≢false (sym (ap is_some e))
+
+    some_is : (b : Bool) (x y : Shard) → ◌≡◌ {A = Option Shard} (cond b (Some x) None) (Some y) → x ≡ y
+    some_is true x y e = ap (λ o. unwrap_or o x) e
+    some_is false x y e = absurd (none_some y e)
+
+    not_true : (b : Bool) → not b ≡ true → b ≡ false
+    not_true false e = refl
+    not_true true e = absurd (true≢false (sym e))
+
+    missing_only : (i : ℕ) → IsSome (restored_shards new after size from k i) → (i < k) × IsNone (s.originals i)
+    missing_only i is = elim (cases_lt i k) [
+      | inl inside ↦ (inside, was i inside ∙ not_true (is_given (place_at old (from + i))) (sym (some_if (not (is_given (place_at old (from + i)))) (shard_moved after size (from + i))) ∙ sym (ap is_some (here i inside)) ∙ is))
+      | inr outside ↦ absurd (true≢false (sym is ∙ ap is_some (restored-out new after size from k i outside)))
+    ]
+
+    restored_too : (i : ℕ) → (i < k) × IsNone (s.originals i) → IsSome (restored_shards new after size from k i)
+    restored_too i (inside, none) =
+        ap is_some (here i inside) ∙ some_if (not (is_given (place_at old (from + i)))) (shard_moved after size (from + i)) ∙ ap not (sym (was i inside) ∙ none)

@@ -1,6 +1,6 @@
 -- Outcomes of a decoder's steps, by their tests.
-use Rattle.std.proofs.Common.{◌≡◌, ◌≢◌, ℕ, ◌+◌, ◌<◌, ◌≤◌, Bool, true, false, cond, length, refl, sym, ap, ap₂, ◌∙◌}
-use Rattle.std.specs.Prelude.{Result, Ok, Err, is_some, nat_lt, not}
+use Rattle.std.proofs.Common.{◌≡◌, ◌≢◌, ℕ, ◌+◌, ◌<◌, ◌≤◌, true, false, cond, length, refl, ap, ap₂, ◌∙◌}
+use Rattle.std.specs.Prelude.{Result, Ok, Err, is_some, nat_lt}
 use Rattle.std.proofs.lemmas.Bool.{lt-leb, lt-ltb, le-ltb, eq-eqb, ne_eqb}
 use Rattle.rs_field.specs.declared.error.Error.{Error}
 use Rattle.rs_field.specs.declared.error.Error.TheVariants.{NotEnoughShards, DuplicateOriginalShardIndex, DuplicateRecoveryShardIndex, DifferentShardSize}

@@ -1,6 +1,8 @@
 -- The chunks of rows, and the shards in them.
-use Rattle.std.proofs.Common.{◌≡◌, ◌≢◌, ℕ, ◌+◌, ◌*◌, ◌/◌, ◌%◌, ◌<◌, ◌≤◌, List, [], ◌∷◌, ◌++◌, length, take, drop, Option, Some, None, Vec, Global, refl, ap, ◌∙◌, subst, arith, ◌⊎◌, add-one, rules, ap₂}
+use Rattle.std.proofs.Common.{◌≡◌, ◌≢◌, ℕ, ◌+◌, ◌*◌, ◌/◌, ◌%◌, ◌<◌, ◌≤◌, List, [], ◌∷◌, ◌++◌, length, take, drop, get_or, Option, Some, None, Vec, Global, refl, ap, ◌∙◌, subst, arith, ◌⊎◌, add-one, rules, ap₂}
 use Rattle.std.proofs.Math.Nat.{mul-le-mul_right, mul-le-mul_left, zero-mul}
+use Rattle.std.specs.Prelude.{slice_index, flat_map}
+use Rattle.std.proofs.lemmas.List.Concat.{get_or-flat_map}
 use Rattle.std.proofs.lemmas.List.{places, length-take, length-drop}
 use borrow.Rule.Slice.PartMut.{put_mid}
 use Rattle.rs_field.specs.Rows.{Chunks, chunk}
@@ -135,3 +137,22 @@ row_chunk-apart chunks part size i j k start n at width fits same inside apart =
 pub column-put : (chunks : Chunks) (size i j : ℕ) → size % 2 ≡ 0 → j < size / 2 → column j (shard_put chunks size i) ≡ word_in chunks (row_len size) (j / 32) (j % 32) i
 unfolding row_chunk
 column-put chunks size i j even inside = column-laid_out size j (row_chunk chunks size i) even inside
+
+-- a byte of a chunk is one of the bytes of all chunks
+byte_fits : (chunks : Chunks) (bytes : List ℕ) → bytes ≡ flat_map (λ x. x) chunks → ((j : ℕ) → get_or bytes j 0 < 256)
+    → (k i : ℕ) → k < length chunks → i < length (chunk chunks k) → get_or (chunk chunks k) i 0 < 256
+byte_fits chunks bytes whole fits k i hk hi =
+    let place : ℕ = length (flat_map (λ (x : List ℕ). x) (take k chunks)) + i in
+    let P : ℕ → Type 0 = λ n. n < 256 in
+    subst P (ap (λ b. get_or b place 0) whole ∙ get_or-flat_map (λ x. x) chunks k i [] 0 hk hi) (fits place)
+
+-- what lies in the chunks of a row are bytes
+pub row-fits : (chunks : Chunks) (bytes : List ℕ) (size rows i k b : ℕ) → bytes ≡ flat_map (λ x. x) chunks → ((j : ℕ) → get_or bytes j 0 < 256)
+    → ((j : ℕ) → j < length chunks → length (chunk chunks j) ≡ 64) → i < rows → chunk_count rows size ≤ length chunks → k < row_len size → b < 64
+    → slice_index (row_chunk chunks size i k) b < 256
+unfolding row_chunk
+row-fits chunks bytes size rows i k b whole fits wide few room inside small =
+    let end = row_end i size in
+    let within = chunk_count-within i rows size (length chunks) few room in
+    let place : i * row_len size + k < length chunks = omega (arith, end, within, inside) in
+    byte_fits chunks bytes whole fits (i * row_len size + k) b place (let all = wide (i * row_len size + k) place in omega (arith, all, small))

@@ -4,3 +4,4 @@ pub mod StateLemmas
 pub mod LowCoding
 pub mod DecoderLemmas
 pub mod DecoderSteps
+pub mod DecoderRows

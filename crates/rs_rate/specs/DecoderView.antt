@@ -1,11 +1,6 @@
 -- What a decoder's working space stands for.
-use Rattle.std.specs.Prelude.{ℕ, zero, suc, ◌+◌, nat_lt, nat_le, ◌&&◌, if◌then◌else◌, Bool, true, false, List, [], Option, Some, None, slice_index_or}
-use Rattle.std.specs.declared.vec.Vec.{Vec}
-use Rattle.rs_field.specs.Column.{Shard}
-use Rattle.rs_field.specs.Counts.{Rate}
-use Rattle.rs_field.specs.Configuration.{configuration}
+use Rattle.std.specs.Prelude.{ℕ, zero, suc, ◌+◌, nat_lt, nat_le, ◌&&◌, ◌||◌, if◌then◌else◌, Bool, true, false, List, Some, None, slice_index_or}
 use Rattle.rs_field.specs.Given.{Shards}
-use Rattle.rs_field.specs.Decoder.{DecoderState}
 use Rattle.rs_field.specs.Rows.{Chunks}
 use Rattle.rs_rate.specs.declared.rate.places.Place.{Place}
 use Rattle.rs_rate.specs.declared.rate.places.Place.TheVariants.{Empty, Given, Restored}
@@ -45,3 +40,8 @@ restored_shards places chunks size from n i =
 -- what row p holds after a round, from what it held: an original that was not given is restored there
 abbrev pub ended : ℕ → ℕ → ℕ → Place → Place
 ended from n p place = if nat_le from p && nat_lt p (from + n) then (if is_given place then Empty else Restored) else Empty
+
+-- whether a point is erased: it is no known zero, and no given shard stands there
+abbrev pub erased : ℕ → ℕ → ℕ → List Place → ℕ → ℕ
+erased rows zeros_from zeros_to places y =
+    if (nat_le zeros_from y && nat_lt y zeros_to) || (nat_lt y rows && is_given (place_at places y)) then 0 else 1

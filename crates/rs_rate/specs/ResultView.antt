@@ -1,10 +1,13 @@
--- What an encoder's result lends.
+-- What a result lends.
 use Rattle.std.specs.Prelude.{List, Result}
 use Rattle.std.specs.Result.{result_map_both}
 use Rattle.rs_field.specs.Column.{Shard}
+use Rattle.rs_field.specs.Given.{Shards}
 use Rattle.rs_field.specs.declared.error.Error.{Error}
 use Rattle.rs_rate.specs.declared.encoder_result.EncoderResult.{EncoderResult}
+use Rattle.rs_rate.specs.declared.decoder_result.DecoderResult.{DecoderResult}
 use Rattle.rs_rate.specs.EncoderView.{lent_of}
+use Rattle.rs_rate.specs.DecoderState.{restored_of}
 
 -- the recovery shards of a result, in order of index
 abbrev pub recovery_shards : EncoderResult → List Shard
@@ -13,3 +16,11 @@ recovery_shards result = lent_of result.work.now
 -- the recovery shards, or the refusal
 abbrev pub answered_shards : Result EncoderResult Error → Result (List Shard) Error
 answered_shards result = result_map_both recovery_shards (λ e. e) result
+
+-- the restored originals of a result, by their index
+abbrev pub restored_originals : DecoderResult → Shards
+restored_originals result = restored_of result.work.now
+
+-- the restored originals, or the refusal
+abbrev pub answered_originals : Result DecoderResult Error → Result Shards Error
+answered_originals result = result_map_both restored_originals (λ e. e) result

@@ -1,7 +1,9 @@
-//! Rates of the code: their encoders, working spaces and results.
+//! Rates of the code: their encoders, decoders, working spaces and results.
 #![tactic(auto)]
 
+mod decoder_result;
 mod encoder_result;
 pub mod rate;
 
+pub use decoder_result::DecoderResult;
 pub use encoder_result::EncoderResult;

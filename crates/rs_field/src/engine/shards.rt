@@ -97,6 +97,7 @@ impl<'a> ShardsRefMut<'a> {
         self.part(index * len, len)
     }
 
+    // All chunks, as their own loan.
     fn all(&mut self) -> &mut [[u8; 64]]
         ensures* lends { sem 𝓛 (LendsAll self.entry result) }
         ensures now { result.now ≡ self.old.chunks.now }
@@ -104,6 +105,7 @@ impl<'a> ShardsRefMut<'a> {
         &mut *self.chunks
     }
 
+    // The n chunks from a on, by the list's pointer: the checker doesn't follow a loan through `split_at_mut`.
     fn part(&mut self, a: usize, n: usize) -> &mut [[u8; 64]]
         requires { a + n ≤ length self.old.chunks.now }
         ensures* lends { sem 𝓛 (LendsPart self.entry a n result) }

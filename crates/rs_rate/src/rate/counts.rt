@@ -1,9 +1,11 @@
 //! Powers of two, supported counts and numbers of rows.
-ghost use Rattle.std.specs.Prelude.{◌≡◌, ℕ, ◌+◌, ◌%◌, ◌^◌, ◌<◌, ◌≤◌, true};
+ghost use Rattle.std.specs.Prelude.{◌≡◌, ◌≢◌, ℕ, ◌+◌, ◌%◌, ◌^◌, ◌<◌, ◌≤◌, true};
 ghost use Rattle.rs_field.specs.Counts.{next_power, supports, low_rate};
 ghost use Rattle.rs_field.specs.Configuration.{configuration, validated};
 ghost use Rattle.rs_field.specs.Placement.{encoder_rows};
+ghost use Rattle.rs_rate.specs.DecoderState.{frame_of};
 
+use crate::rate::places::Frame;
 use rs_field::engine::GF_ORDER;
 use rs_field::error::Error;
 
@@ -61,4 +63,25 @@ pub(crate) fn low_encoder_rows(original_count: usize, recovery_count: usize) -> 
     ensures points { result + next_power original_count ≤ 65536 }
 {
     recovery_count.next_multiple_of(power_of_two(original_count))
+}
+
+// The frame of a low-rate decoder.
+pub(crate) fn low_frame(original_count: usize, recovery_count: usize) -> Frame
+    requires { supports low_rate original_count recovery_count ≡ true }
+    ensures frame { result ≡ frame_of low_rate original_count recovery_count }
+    ensures some { 0 < result.row_count }
+    ensures few { result.row_count ≤ 65536 }
+    ensures originals { result.originals_from + original_count ≤ result.row_count }
+    ensures recovery { result.recovery_from + recovery_count ≤ result.row_count }
+    ensures apart { (i j : ℕ) → i < original_count → j < recovery_count → result.originals_from + i ≢ result.recovery_from + j }
+{
+    let size = power_of_two(original_count);
+    let row_count = power_of_two(size + recovery_count);
+    Frame {
+        row_count,
+        originals_from: 0,
+        recovery_from: size,
+        zeros_from: original_count,
+        zeros_to: size,
+    }
 }

@@ -9,10 +9,13 @@ ghost use Rattle.rs_field.specs.Layout.{up_to};
 ghost use Rattle.rs_rate.specs.EncoderView.{encoder_state, given_of, lent_of, work_room};
 ghost use Rattle.rs_rate.specs.Held.{items_of, room_of, chunk_count, shard_put, shard_moved};
 
+mod decoder;
+
 use crate::encoder_result::EncoderResult;
 use crate::rate::counts::{low_encoder_rows, low_supports, low_validate};
 use crate::rate::low_encoding::encode_work;
 use crate::rate::{EncoderWork, RateEncoder};
+pub use decoder::LowRateDecoder;
 use rs_field::engine::{Engine, Steps};
 use rs_field::error::Error;
 use std::alloc::Global;

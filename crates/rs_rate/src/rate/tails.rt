@@ -29,7 +29,7 @@ pub(crate) fn move_tails(
 
 // Moves the tail of row `index`.
 #[tactic(auto, using(crate::proofs::HeldLemmas::row_end))]
-fn move_tail(chunks: &mut [[u8; 64]], index: usize, shard_bytes: usize)
+pub(crate) fn move_tail(chunks: &mut [[u8; 64]], index: usize, shard_bytes: usize)
     requires room { chunk_count (index + 1) shard_bytes ≤ length chunks.old }
     requires even { shard_bytes % 2 ≡ 0 }
     ensures here { shard_moved chunks.new shard_bytes index ≡ shard_put chunks.old shard_bytes index }
@@ -44,6 +44,14 @@ fn move_tail(chunks: &mut [[u8; 64]], index: usize, shard_bytes: usize)
 pub(crate) fn shards_fit(chunks: &[[u8; 64]], count: usize, shard_bytes: usize)
     requires room { chunk_count count shard_bytes ≤ length chunks.now }
     ensures { (i : ℕ) → i < count → IsShard shard_bytes (shard_put chunks.now shard_bytes i) }
+{
+    bytes_fit(chunks.as_flattened());
+}
+
+// The same of shards whose tails were moved.
+pub(crate) fn rows_fit(chunks: &[[u8; 64]], count: usize, shard_bytes: usize)
+    requires room { chunk_count count shard_bytes ≤ length chunks.now }
+    ensures { (i : ℕ) → i < count → IsShard shard_bytes (shard_moved chunks.now shard_bytes i) }
 {
     bytes_fit(chunks.as_flattened());
 }

@@ -138,8 +138,10 @@ out_below i e =
 -- so the message is restored
 restored : Restored two_given out
 restored = record {
-  missing = λ i. (λ h. (out_below i h, refl), λ h. out_some i h.0);
-  shards = λ i shard e. subst (IsShard 2) (out_among i shard e) (message_shards.each i [] (out_below i (ap is_some e)));
+  filled = record {
+    missing = λ i. (λ h. (out_below i h, refl), λ h. out_some i h.0);
+    shards = λ i shard e. subst (IsShard 2) (out_among i shard e) (message_shards.each i [] (out_below i (ap is_some e)));
+  };
   agreeing = λ m a i shard e. ap (λ (l : List Shard). shard_at l i) (only m a) ∙ out_among i shard e;
   no_surplus = λ _. (message, agrees);
 }

@@ -1,12 +1,9 @@
-use Rattle.std.proofs.Common.{◌≡◌, ◌≢◌, ℕ, ◌+◌, ◌*◌, ◌<◌, ◌≤◌, Bool, true, false, length, refl, sym, ap, ap₂, subst, ◌∙◌, arith, rules}
-use Rattle.rs_field.specs.Column.{Shard}
-use Rattle.rs_field.specs.Given.{Shards, entered}
+use Rattle.std.proofs.Common.{◌≡◌, ◌≢◌, ℕ, ◌+◌, length, sym, ap, ap₂, subst, ◌∙◌, arith}
+use Rattle.rs_field.specs.Given.{Shards}
 use Rattle.rs_field.specs.Configuration.{configuration}
 use Rattle.rs_field.specs.Outcome.{answer_of, state_after}
-use Rattle.rs_field.specs.Decoder.{DecoderState}
 use Rattle.rs_rate.specs.Held.{items_of, chunk_count, shard_put}
 use Rattle.rs_rate.specs.DecoderState.{decoder_state}
-use Rattle.rs_rate.specs.DecoderView.{place_at, is_given, given_shards}
 use Rattle.rs_rate.proofs.HeldLemmas.{chunk_count-within}
 use Rattle.rs_rate.proofs.DecoderLemmas.{given-marked, given-kept, given-entered, given_rows-kept, given_rows-more, given_rows-most}
 use Rattle.rs_rate.proofs.DecoderSteps.{recovery-repeated, recovery-sized, recovery-added}
@@ -60,12 +57,12 @@ returns-clause-left c = λ rate.
     let others = subst (λ (n : ℕ). (i : ℕ) → i ≢ row → shard_put new_rows n i ≡ shard_put (items_of w.rows) n i) c.if-recovery_shard-self.false c.insert_held.ensures.others in
     let new = given-marked (items_of w.places) (items_of w.rows) size w.frame.recovery_from w.recovery_count c.args.index c.if-index-self.false ∙ sym c.if-is_given_at.ensures in
     let own = given-entered (items_of w.places) new_places (items_of w.rows) new_rows size w.frame.recovery_from w.recovery_count c.args.index c.args.recovery_shard.now c.if-index-self.false
-        c.mark_given.ensures.here here
-        (λ i inside apart. c.mark_given.ensures.others (w.frame.recovery_from + i) (let away : w.frame.recovery_from + i ≢ row = omega arith in away))
-        (λ i inside apart. others (w.frame.recovery_from + i) (let away : w.frame.recovery_from + i ≢ row = omega arith in away)) in
+    c.mark_given.ensures.here here
+    (λ i inside apart. c.mark_given.ensures.others (w.frame.recovery_from + i) (let away : w.frame.recovery_from + i ≢ row = omega arith in away))
+    (λ i inside apart. others (w.frame.recovery_from + i) (let away : w.frame.recovery_from + i ≢ row = omega arith in away)) in
     let kept = given-kept (items_of w.places) new_places (items_of w.rows) new_rows size w.frame.originals_from w.original_count
-        (λ i inside. c.mark_given.ensures.others (w.frame.originals_from + i) (λ same. w.apart i c.args.index inside c.if-index-self.false same))
-        (λ i inside. others (w.frame.originals_from + i) (λ same. w.apart i c.args.index inside c.if-index-self.false same)) in
+    (λ i inside. c.mark_given.ensures.others (w.frame.originals_from + i) (λ same. w.apart i c.args.index inside c.if-index-self.false same))
+    (λ i inside. others (w.frame.originals_from + i) (λ same. w.apart i c.args.index inside c.if-index-self.false same)) in
     ap₂ (λ (o r : Shards). record { configuration = configuration rate w.original_count w.recovery_count size; originals = o; recovery = r }) kept own
     ∙ sym (ap (state_after (decoder_state rate w)) (recovery-added (decoder_state rate w) c.args.index c.args.recovery_shard.now c.if-index-self.false new c.if-recovery_shard-self.false))
 
@@ -85,10 +82,10 @@ invariant_of-self c =
       tabled = w.tabled;
       recovery_counted =
           let more = given_rows-more (items_of w.places) (items_of c.mark_given.new.held) w.frame.recovery_from w.recovery_count c.args.index c.if-index-self.false c.mark_given.ensures.here (sym c.if-is_given_at.ensures)
-              (λ i inside apart. c.mark_given.ensures.others (w.frame.recovery_from + i) (let away : w.frame.recovery_from + i ≢ row = omega arith in away)) in
+          (λ i inside apart. c.mark_given.ensures.others (w.frame.recovery_from + i) (let away : w.frame.recovery_from + i ≢ row = omega arith in away)) in
           omega (arith, more, w.recovery_counted);
       originals_counted =
           let same = given_rows-kept (items_of w.places) (items_of c.mark_given.new.held) w.frame.originals_from w.original_count
-              (λ i inside. c.mark_given.ensures.others (w.frame.originals_from + i) (λ same. w.apart i c.args.index inside c.if-index-self.false same)) in
+          (λ i inside. c.mark_given.ensures.others (w.frame.originals_from + i) (λ same. w.apart i c.args.index inside c.if-index-self.false same)) in
           omega (arith, same, w.originals_counted);
     }

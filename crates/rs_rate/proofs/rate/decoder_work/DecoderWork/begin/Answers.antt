@@ -1,4 +1,4 @@
-use Rattle.std.proofs.Common.{◌≡◌, ◌+◌, ◌≤◌, ◌<◌, arith, sym, ◌∙◌}
+use Rattle.std.proofs.Common.{arith, sym, ◌∙◌}
 use Rattle.rs_rate.specs.Held.{items_of}
 use Rattle.rs_rate.specs.DecoderState.{decoder_state}
 use Rattle.rs_rate.proofs.DecoderSteps.{enough-few, enough-many}
@@ -16,12 +16,12 @@ pub returns-then-received-self : goal.returns-then-received-self
 returns-then-received-self c = λ rate.
     let w = c.args.self.now in
     sym (enough-few (decoder_state rate w) w.original_received_count w.recovery_received_count
-        (count-given (items_of w.places) (items_of w.rows) w.shard_bytes w.frame.originals_from w.original_count ∙ sym w.originals_counted)
-        (count-given (items_of w.places) (items_of w.rows) w.shard_bytes w.frame.recovery_from w.recovery_count ∙ sym w.recovery_counted) c.if-received-self.true)
+    (count-given (items_of w.places) (items_of w.rows) w.shard_bytes w.frame.originals_from w.original_count ∙ sym w.originals_counted)
+    (count-given (items_of w.places) (items_of w.rows) w.shard_bytes w.frame.recovery_from w.recovery_count ∙ sym w.recovery_counted) c.if-received-self.true)
 
 pub returns : goal.returns
 returns c = λ rate.
     let w = c.args.self.now in
     sym (enough-many (decoder_state rate w) w.original_received_count w.recovery_received_count
-        (count-given (items_of w.places) (items_of w.rows) w.shard_bytes w.frame.originals_from w.original_count ∙ sym w.originals_counted)
-        (count-given (items_of w.places) (items_of w.rows) w.shard_bytes w.frame.recovery_from w.recovery_count ∙ sym w.recovery_counted) c.if-received-self.false)
+    (count-given (items_of w.places) (items_of w.rows) w.shard_bytes w.frame.originals_from w.original_count ∙ sym w.originals_counted)
+    (count-given (items_of w.places) (items_of w.rows) w.shard_bytes w.frame.recovery_from w.recovery_count ∙ sym w.recovery_counted) c.if-received-self.false)

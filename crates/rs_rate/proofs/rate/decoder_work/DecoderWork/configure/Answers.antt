@@ -1,8 +1,8 @@
-use Rattle.std.proofs.Common.{◌≡◌, ◌≤◌, ◌<◌, ◌*◌, ◌+◌, ℕ, false, length, sym, ap, ap₂, ◌∙◌, arith, refl}
-use Rattle.rs_field.specs.Given.{Shards, nothing}
+use Rattle.std.proofs.Common.{◌+◌, ℕ, sym, ap, ap₂, arith}
+use Rattle.rs_field.specs.Given.{Shards}
 use Rattle.rs_field.specs.Configuration.{configuration}
 use Rattle.rs_rate.specs.Held.{items_of, chunk_count}
-use Rattle.rs_rate.specs.DecoderView.{place_at, is_given}
+use Rattle.rs_rate.specs.DecoderView.{is_given}
 use Rattle.rs_rate.proofs.HeldLemmas.{chunk_count-size, chunks-room}
 use Rattle.rs_rate.proofs.DecoderLemmas.{given-nothing, given_rows-nothing}
 use Rattle.rs_rate.proofs.rate.decoder_work.DecoderWork.configure.Goals as goal

@@ -1,4 +1,4 @@
-use Rattle.std.proofs.Common.{◌≡◌, ◌≤◌, ◌+◌, arith, refl, sym}
+use Rattle.std.proofs.Common.{arith, sym}
 use Rattle.rs_rate.proofs.HeldLemmas.{chunk_count-none}
 use Rattle.rs_rate.proofs.DecoderLemmas.{given_rows-zero}
 use Rattle.rs_rate.proofs.rate.decoder_work.DecoderWork.new.Goals as goal

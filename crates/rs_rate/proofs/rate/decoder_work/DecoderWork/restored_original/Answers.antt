@@ -1,6 +1,5 @@
-use Rattle.std.proofs.Common.{◌≡◌, ◌≤◌, ◌<◌, ◌*◌, ◌+◌, ℕ, true, false, length, sym, ap, ◌∙◌, arith}
+use Rattle.std.proofs.Common.{◌+◌, true, false, length, sym, ap, ◌∙◌, arith}
 use Rattle.std.specs.Prelude.{Some}
-use Rattle.rs_field.specs.Column.{Shard}
 use Rattle.rs_rate.specs.Held.{items_of, shard_moved}
 use Rattle.rs_field.specs.Rows.{Chunks}
 use Rattle.rs_rate.proofs.HeldLemmas.{chunk_count-within, chunk_count-positive}

@@ -1,0 +1,2 @@
+pub use Rattle.rs_rate.proofs.PowerLemmas
+pub use Rattle.rs_rate.proofs.StateLemmas

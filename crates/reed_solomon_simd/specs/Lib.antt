@@ -1,0 +1,13 @@
+pub use Rattle.rs_field.specs.Search
+pub use Rattle.rs_field.specs.Polynomial
+pub use Rattle.rs_field.specs.Counts
+pub use Rattle.rs_field.specs.Placement
+pub use Rattle.rs_field.specs.Column
+pub use Rattle.rs_field.specs.Outcome
+pub use Rattle.rs_field.specs.Configuration
+pub use Rattle.rs_field.specs.Code
+pub use Rattle.rs_field.specs.Given
+pub use Rattle.rs_field.specs.Encoder
+pub use Rattle.rs_field.specs.Decoder
+pub use Rattle.rs_rate.specs.ResultView
+pub use Rattle.rs_rate.specs.Loan

@@ -1,0 +1,27 @@
+//! Reed-Solomon erasure codes over the field of 65536 elements, with the paths of the crate reed-solomon-simd.
+//!
+//! A message of `original_count` shards of one size is coded into `recovery_count` recovery shards.
+#![tactic(auto)]
+
+pub use rs_field::error::Error;
+pub use rs_rate::{DecoderResult, EncoderResult};
+
+/// The field, its tables, and the engines that transform rows of symbols.
+pub mod engine {
+    pub use rs_field::engine::{
+        CANTOR_BASIS, Engine, GF_BITS, GF_MODULUS, GF_ORDER, GF_POLYNOMIAL, GfElement, Naive,
+        ShardsRefMut, Steps, tables,
+    };
+
+    /// Row functions that engines share.
+    pub mod utils {
+        pub use rs_field::engine::utils::xor;
+    }
+}
+
+/// The rates of the code, their encoders and decoders.
+pub mod rate {
+    pub use rs_rate::rate::{
+        DecoderWork, EncoderWork, LowRate, LowRateDecoder, LowRateEncoder, RateDecoder, RateEncoder,
+    };
+}

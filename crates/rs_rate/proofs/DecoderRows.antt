@@ -1,0 +1,49 @@
+-- The rows of a decoder, and what `decode` answers and leaves.
+use Rattle.std.proofs.Common.{◌≡◌, ℕ, ◌+◌, ◌^◌, true, refl, sym, ap, ◌∙◌, subst}
+use Rattle.std.specs.Prelude.{Result, Ok, Err, is_ok, cond, IsOkAnd, MatchResult}
+use Rattle.rs_field.specs.declared.error.Error.{Error}
+use Rattle.rs_field.specs.Given.{Shards}
+use Rattle.rs_field.specs.Decoder.{DecoderState, fresh_decoder, enough_given, FillsMissing, DecodePlaces, after_decode}
+use Rattle.rs_field.specs.Counts.{Rate, next_power, supports, is_low, low_rate}
+use Rattle.rs_field.specs.Placement.{placement, low_placement, decoder_rows}
+use Rattle.rs_rate.specs.declared.rate.places.Frame.{Frame}
+use Rattle.rs_rate.specs.DecoderState.{frame_of}
+use Rattle.rs_rate.proofs.PowerLemmas.{low_fits, next_power-small}
+
+-- the frame of a decoder of the low rate, written out
+pub low_frame-is : (k r : ℕ) → frame_of low_rate k r
+    ≡ record { row_count = next_power (next_power k + r); originals_from = 0; recovery_from = next_power k; zeros_from = k; zeros_to = next_power k }
+unfolding frame_of placement low_placement is_low decoder_rows
+low_frame-is k r = refl
+
+-- its rows are a power of two of points
+pub low_frame-power : (k r : ℕ) (frame : Frame) → frame ≡ frame_of low_rate k r → supports low_rate k r ≡ true → (d : ℕ) × (frame.row_count ≡ 2 ^ d)
+low_frame-power k r frame same is =
+    let fits = low_fits k r is in
+    let known = next_power-small (next_power k + r) fits.2 in
+    (known.0, ap (λ f. f.row_count) (same ∙ low_frame-is k r) ∙ known.2)
+
+pub frame_rows : (rate : Rate) (k r : ℕ) (frame : Frame) → frame ≡ frame_of rate k r → frame.row_count ≡ decoder_rows rate k r
+unfolding frame_of
+frame_rows rate k r frame same = ap (λ f. f.row_count) same
+
+-- what is left and what is answered, by whether shards enough are given
+abbrev LeftBy : DecoderState → Result (Unit {0}) Error → DecoderState
+LeftBy s enough = cond (is_ok enough) (fresh_decoder s.configuration) s
+
+abbrev AnswersBy : DecoderState → Result (Unit {0}) Error → Result Shards Error → Type 0
+AnswersBy s enough result = MatchResult enough (λ _. IsOkAnd result (FillsMissing s)) (λ e. result ≡ Err e)
+
+-- where too few are given the state stays, and the answer is the refusal
+pub after_decode-refused : (s : DecoderState) (e : Error) → Err e ≡ enough_given s → s ≡ after_decode s
+after_decode-refused s e refused = ap (LeftBy s) refused
+
+pub decode_places-refused : (s : DecoderState) (e : Error) → Err e ≡ enough_given s → DecodePlaces s (Err e)
+decode_places-refused s e refused = subst (λ enough. AnswersBy s enough (Err e)) refused refl
+
+-- else nothing is given any more, and the answer is shards at the missing indexes
+pub after_decode-made : (s : DecoderState) → Ok tt ≡ enough_given s → after_decode s ≡ fresh_decoder s.configuration
+after_decode-made s made = sym (ap (LeftBy s) made)
+
+pub decode_places-made : (s : DecoderState) (out : Shards) → Ok tt ≡ enough_given s → FillsMissing s out → DecodePlaces s (Ok out)
+decode_places-made s out made fills = subst (λ enough. AnswersBy s enough (Ok out)) made fills

@@ -1,0 +1,26 @@
+use Rattle.std.proofs.Common.{◌+◌, sym, ap, ap₂, ◌∙◌, ℕ, arith}
+use Rattle.rs_field.specs.Counts.{next_power}
+use Rattle.rs_rate.specs.declared.rate.places.Frame.{Frame}
+use Rattle.rs_rate.proofs.PowerLemmas.{low_fits, low_small}
+use Rattle.rs_rate.proofs.DecoderRows.{low_frame-is}
+use Rattle.rs_rate.proofs.rate.counts.low_frame.Goals as goal
+
+pub power_of_two-size-requires : goal.power_of_two-size-requires
+power_of_two-size-requires c = low_small c.args.original_count c.args.recovery_count c.requires
+
+pub overflow_add-size : goal.overflow_add-size
+overflow_add-size c =
+    let fits = low_fits c.args.original_count c.args.recovery_count c.requires in
+    omega (arith, fits.2, c.power_of_two-size.ensures.value)
+
+pub power_of_two-row_count-requires : goal.power_of_two-row_count-requires
+power_of_two-row_count-requires c =
+    let fits = low_fits c.args.original_count c.args.recovery_count c.requires in
+    omega (arith, fits.2, c.power_of_two-size.ensures.value)
+
+pub returns-clause-frame : goal.returns-clause-frame
+returns-clause-frame c =
+    let size = c.power_of_two-size.ensures.value in
+    ap₂ (λ (m n : ℕ). let frame : Frame = record { row_count = n; originals_from = 0; recovery_from = m; zeros_from = c.args.original_count; zeros_to = m } in frame)
+    size (c.power_of_two-row_count.ensures.value ∙ ap (λ m. next_power (m + c.args.recovery_count)) size)
+    ∙ sym (low_frame-is c.args.original_count c.args.recovery_count)
