@@ -41,10 +41,12 @@ pub struct DecoderWork {
 }
 
 impl DecoderWork {
-    ghost use Rattle.rs_rate.specs.DecoderState.{decoder_state, restored_of};
+    ghost use Rattle.rs_rate.specs.DecoderState.{decoder_room, decoder_state, restored_of};
 
     /// A working space that holds nothing yet and took no memory.
-    pub fn new() -> DecoderWork {
+    pub fn new() -> DecoderWork
+        ensures { decoder_room result ≡ 0 }
+    {
         DecoderWork {
             original_count: 0,
             recovery_count: 0,
