@@ -1,4 +1,4 @@
-//! The decoding that both rates share: over a frame of rows, from the given shards to the missing originals.
+//! The decoding over a frame of rows, for either rate: from the given shards to the missing originals.
 //!
 //! The given rows are multiplied by the locator of the erased points and all others cleared; then the polynomial
 //! through them, plus its derivative, takes at each erased point the wanted word times the locator's derivative. The
