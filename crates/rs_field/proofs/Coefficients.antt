@@ -11,7 +11,7 @@ use Rattle.rs_field.proofs.Total.{product-comm}
 use Rattle.rs_field.proofs.Roots.{AreWords, value-nil, value-cons}
 use Rattle.rs_field.proofs.Subspace.{product_below-same}
 use Rattle.rs_field.proofs.Factors.{add, points, times, value_add, value-times, length-add, length-times, words_add, words_times, all_words}
-use Rattle.rs_field.proofs.Combination.{sum_below-suc, sum_below-zero, basis-zero, forward_is, forward-half, forward-origin}
+use Rattle.rs_field.proofs.Combination.{sum_below-suc, sum_below-zero, basis-zero, forward_is, forward-half}
 
 subspace_is : (e x : ℕ) → product_below (2 ^ e) (λ i. bit_xor x (0 + i)) ≡ subspace e x
 unfolding subspace
@@ -73,8 +73,3 @@ pub combination_polynomial : (e : ℕ) (f : ℕ → ℕ) → e ≤ 16
     → (p : List ℕ) × (length p ≡ 2 ^ e) × All (λ w. w < 65536) p × ((x : ℕ) → value p x ≡ forward (2 ^ e) 0 f x)
 combination_polynomial e f he =
     let c = coefficients e f he in (c.0, c.1, all_words c.0 c.2, c.3)
-
--- so the forward transform at a shift is that polynomial's values from that point on
-pub transform_values : (n shift : ℕ) (f : ℕ → ℕ) (p : List ℕ) → ((x : ℕ) → value p x ≡ forward n 0 f x)
-    → (i : ℕ) → forward n shift f i ≡ value p (shift + i)
-transform_values n shift f p at i = forward-origin n shift f i ∙ sym (at (shift + i))

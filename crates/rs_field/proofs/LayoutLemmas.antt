@@ -51,10 +51,6 @@ pub get-laid_out : (size b : ℕ) (chunks : ℕ → List ℕ) → b < size → s
 unfolding laid_out
 get-laid_out size b chunks h = get-up_to size (λ b. slice_index (chunks (b / 64)) (place size b)) b 0 h
 
-pub get-in_order : (size b : ℕ) (chunks : ℕ → List ℕ) → b < size → slice_index (in_order size chunks) b ≡ slice_index (chunks (b / 64)) (b % 64)
-unfolding in_order
-get-in_order size b chunks h = get-up_to size (λ b. slice_index (chunks (b / 64)) (b % 64)) b 0 h
-
 -- a byte of the shard lies in a chunk of the row
 chunk_of : (size b : ℕ) → b < size → b / 64 < row_len size
 chunk_of size b h = omega arith

@@ -1,6 +1,7 @@
 -- How a shard lies in a row of chunks.
-use Rattle.std.specs.Prelude.{ℕ, zero, suc, ◌+◌, ◌-◌, ◌*◌, ◌/◌, ◌%◌, min, nat_lt, if◌then◌else◌, List, [], ◌∷◌, ◌++◌, slice_index}
-use Rattle.rs_field.specs.Column.{Shard}
+use Rattle.std.specs.Prelude.{◌≡◌, ◌<◌, ℕ, zero, suc, ◌+◌, ◌-◌, ◌*◌, ◌/◌, ◌%◌, min, nat_lt, if◌then◌else◌, List, [], ◌∷◌, ◌++◌, slice_index}
+use Rattle.rs_field.specs.Column.{Shard, column}
+use Rattle.rs_field.specs.Rows.{symbol}
 
 -- the chunks of a row for shards of this size
 abbrev pub row_len : ℕ → ℕ
@@ -24,3 +25,7 @@ laid_out size chunks = up_to size (λ b. slice_index (chunks (b / 64)) (place si
 -- the first bytes of the chunks, one after another: the shard once its tail was moved
 unfoldable pub in_order : ℕ → (ℕ → List ℕ) → Shard
 in_order size chunks = up_to size (λ b. slice_index (chunks (b / 64)) (b % 64))
+
+-- column j of a shard is one symbol of its row: symbol j % 32 of chunk j / 32
+abbrev pub LaysColumns : Type 0
+LaysColumns = (size j : ℕ) (chunks : ℕ → List ℕ) → size % 2 ≡ 0 → j < size / 2 → column j (laid_out size chunks) ≡ symbol (chunks (j / 32)) (j % 32)

@@ -1,6 +1,7 @@
 //! Laws of the definitions, as contracts of functions that do nothing.
 ghost use Rattle.rs_field.specs.Code.{HasOnePolynomial, HasOneRecovery};
 ghost use Rattle.rs_field.specs.Column.{ColumnsTellShard, IsColumn};
+ghost use Rattle.rs_field.specs.Layout.{LaysColumns};
 ghost use Rattle.rs_field.specs.Laws.{IsField, IsGenerated, IsProductOfBits};
 ghost use Rattle.rs_field.specs.Locator.{LocatesByProduct};
 ghost use Rattle.rs_field.specs.Subspace.{SubspaceIsShift};
@@ -20,6 +21,11 @@ pub fn code_laws()
     ensures shard { ColumnsTellShard }
     ensures polynomial { HasOnePolynomial }
     ensures recovery { HasOneRecovery }
+{}
+
+/// A shard that lies in a row has its columns as the row's symbols.
+pub fn layout_laws()
+    ensures { LaysColumns }
 {}
 
 /// The subspace polynomials shift coordinates, and a locator's sums of logarithms are logarithms of products.

@@ -18,11 +18,6 @@ pub with_shard-added : (s : EncoderState) (shard : Shard) → length s.given < s
 with_shard-added s shard room same =
     rw (lt-leb s.configuration.original_count (length s.given) room, eq-eqb (length shard) s.configuration.shard_bytes same) refl
 
--- the bytes of rows are those of their chunks
-space-is : (rows size : ℕ) → space rows size ≡ chunk_count rows size * 64
-unfolding chunk_count
-space-is rows size = refl
-
 -- what setting up answers for a valid configuration, by its space
 started-valid : (rows : ℕ) (c : Configuration) → validated c ≡ Ok tt
     → started rows c ≡ cond (nat_le (2 ^ 64) (chunk_count rows c.shard_bytes * 64)) (Err OutOfMemory) (Ok tt)
