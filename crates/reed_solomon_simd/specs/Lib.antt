@@ -11,3 +11,4 @@ pub use Rattle.rs_field.specs.Encoder
 pub use Rattle.rs_field.specs.Decoder
 pub use Rattle.rs_rate.specs.ResultView
 pub use Rattle.rs_rate.specs.Loan
+pub use Rattle.rs_rate.specs.DecoderView

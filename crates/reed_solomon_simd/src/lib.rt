@@ -22,6 +22,7 @@ pub mod engine {
 /// The rates of the code, their encoders and decoders.
 pub mod rate {
     pub use rs_rate::rate::{
-        DecoderWork, EncoderWork, LowRate, LowRateDecoder, LowRateEncoder, RateDecoder, RateEncoder,
+        DecoderWork, DefaultRate, DefaultRateDecoder, EncoderWork, HighRate, HighRateDecoder,
+        LowRate, LowRateDecoder, LowRateEncoder, Rate, RateDecoder, RateEncoder,
     };
 }

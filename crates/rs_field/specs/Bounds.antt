@@ -3,7 +3,7 @@ use Rattle.std.specs.Prelude.{◌≡◌, ℕ, ◌+◌, ◌*◌, ◌/◌, ◌^◌
 use Rattle.rs_field.specs.declared.engine.steps.Steps.{Steps}
 use Rattle.rs_field.specs.Search.{first_below}
 use Rattle.rs_field.specs.Counts.{Rate}
-use Rattle.rs_field.specs.Placement.{chunk_rows, encoder_rows, decoder_rows}
+use Rattle.rs_field.specs.Placement.{block_rows, encoder_rows, decoder_rows}
 
 -- no count fell, and each rose by no more than its bound
 pub record CountsUpTo (row_steps pair_sums products : ℕ) (old new : Steps) : Type 0 where
@@ -52,7 +52,7 @@ EncodeCounts c m old new = CountsUpTo (encode_steps c m) 0 0 old new
 
 -- what an encode at these counts may count
 abbrev pub EncodeCountsAt : Rate → ℕ → ℕ → Steps → Steps → Type 0
-EncodeCountsAt rate k r old new = EncodeCounts (encoder_rows rate k r / chunk_rows rate k r) (chunk_rows rate k r) old new
+EncodeCountsAt rate k r old new = EncodeCounts (encoder_rows rate k r / block_rows rate k r) (block_rows rate k r) old new
 
 -- what a decode with w rows may count
 abbrev pub DecodeCounts : ℕ → Steps → Steps → Type 0

@@ -3,14 +3,22 @@ use Rattle.std.specs.Prelude.{◌≡◌, ℕ, ◌+◌, ◌<◌, ◌==◌, ◌↔
 use Rattle.rs_field.specs.declared.error.Error.{Error}
 use Rattle.rs_field.specs.declared.error.Error.TheVariants.{InvalidOriginalShardIndex, InvalidRecoveryShardIndex, DuplicateOriginalShardIndex, DuplicateRecoveryShardIndex, DifferentShardSize, NotEnoughShards}
 use Rattle.rs_field.specs.Column.{Shard, IsShard, shard_at}
-use Rattle.rs_field.specs.Configuration.{Configuration}
-use Rattle.rs_field.specs.Given.{Shards, nothing, entered, count_below, Agrees, Consistent}
+use Rattle.rs_field.specs.Counts.{Rate}
+use Rattle.rs_field.specs.Configuration.{Configuration, validated}
+use Rattle.rs_field.specs.Given.{Shards, AreWithin, nothing, entered, count_below, Agrees, Consistent}
 
 -- a configuration, and the shards given so far
 pub record DecoderState : Type 0 where
   pub configuration : Configuration
   pub originals : Shards
   pub recovery : Shards
+
+-- a state that a decoder of this rate can be in: a valid configuration, and shards of the size given at indexes below the counts
+pub record IsDecoder (rate : Rate) (s : DecoderState) : Type 0 where
+  pub of_rate : s.configuration.rate ≡ rate
+  pub valid : validated s.configuration ≡ Ok tt
+  pub originals_within : AreWithin s.configuration.original_count s.configuration.shard_bytes s.originals
+  pub recovery_within : AreWithin s.configuration.recovery_count s.configuration.shard_bytes s.recovery
 
 -- a decoder with nothing given
 abbrev pub fresh_decoder : Configuration → DecoderState

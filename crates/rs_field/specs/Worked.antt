@@ -4,7 +4,7 @@ use Rattle.rs_field.specs.declared.error.Error.TheVariants.{UnsupportedShardCoun
 use Rattle.rs_field.specs.Field.{product}
 use Rattle.rs_field.specs.Column.{column}
 use Rattle.rs_field.specs.Counts.{low_rate, high_rate, default_rate, next_power, supports, is_low}
-use Rattle.rs_field.specs.Placement.{chunk_rows, encoder_rows, decoder_rows}
+use Rattle.rs_field.specs.Placement.{block_rows, encoder_rows, decoder_rows}
 use Rattle.rs_field.specs.Configuration.{configuration, validated, started}
 use Rattle.rs_field.specs.Transform.{IsForward, IsBackward}
 use Rattle.rs_field.specs.Bounds.{transform_steps, encode_steps, decode_steps}
@@ -84,8 +84,8 @@ EncoderRows =
 -- rows of chunks
 abbrev pub ChunkRows : Type 0
 ChunkRows =
-    (chunk_rows low_rate 1 1 ≡ 1) × (chunk_rows low_rate 2 3 ≡ 2) × (chunk_rows low_rate 1025 4097 ≡ 2048) × (chunk_rows high_rate 3 2 ≡ 2)
-    × (chunk_rows high_rate 4097 1025 ≡ 2048) × (chunk_rows default_rate 4 3 ≡ 4) × (chunk_rows default_rate 5 3 ≡ 4)
+    (block_rows low_rate 1 1 ≡ 1) × (block_rows low_rate 2 3 ≡ 2) × (block_rows low_rate 1025 4097 ≡ 2048) × (block_rows high_rate 3 2 ≡ 2)
+    × (block_rows high_rate 4097 1025 ≡ 2048) × (block_rows default_rate 4 3 ≡ 4) × (block_rows default_rate 5 3 ≡ 4)
 
 -- rows of decoders
 abbrev pub DecoderRows : Type 0

@@ -7,52 +7,52 @@ use Rattle.rs_field.specs.Column.{Shard, IsShard}
 use Rattle.rs_field.specs.Decoder.{DecoderState, FillsMissing}
 use Rattle.rs_field.specs.Given.{Shards, nothing, entered, count_below}
 use Rattle.rs_field.specs.Rows.{Chunks}
-use Rattle.rs_rate.specs.declared.rate.places.Place.{Place}
-use Rattle.rs_rate.specs.declared.rate.places.Place.TheVariants.{Empty, Given, Restored}
-use Rattle.rs_rate.specs.DecoderView.{place_at, is_given, is_restored, given_rows, given_shards, restored_shards, ended}
-use Rattle.rs_rate.specs.Held.{shard_put, shard_moved}
+use Rattle.rs_rate.specs.declared.rate.marks.Mark.{Mark}
+use Rattle.rs_rate.specs.declared.rate.marks.Mark.TheVariants.{Empty, Given, Restored}
+use Rattle.rs_rate.specs.Marks.{mark_at, is_given, is_restored, given_rows, given_shards, restored_shards, mark_after}
+use Rattle.rs_rate.specs.ShardRows.{shard_laid_out, shard_in_order}
 
 -- the shard of an index below the count, by its row's mark
-given_shards-in : (places : List Place) (chunks : Chunks) (size from n i : ℕ) → i < n
-    → given_shards places chunks size from n i ≡ cond (is_given (place_at places (from + i))) (Some (shard_put chunks size (from + i))) None
+given_shards-in : (marks : List Mark) (chunks : Chunks) (size from n i : ℕ) → i < n
+    → given_shards marks chunks size from n i ≡ cond (is_given (mark_at marks (from + i))) (Some (shard_laid_out chunks size (from + i))) None
 unfolding given_shards
-given_shards-in places chunks size from n i inside =
-    ap (λ b. cond b (cond (is_given (place_at places (from + i))) (Some (shard_put chunks size (from + i))) None) None) (lt-ltb i n inside)
+given_shards-in marks chunks size from n i inside =
+    ap (λ b. cond b (cond (is_given (mark_at marks (from + i))) (Some (shard_laid_out chunks size (from + i))) None) None) (lt-ltb i n inside)
 
-given_shards-out : (places : List Place) (chunks : Chunks) (size from n i : ℕ) → n ≤ i → given_shards places chunks size from n i ≡ None
+given_shards-out : (marks : List Mark) (chunks : Chunks) (size from n i : ℕ) → n ≤ i → given_shards marks chunks size from n i ≡ None
 unfolding given_shards
-given_shards-out places chunks size from n i outside =
-    ap (λ b. cond b (cond (is_given (place_at places (from + i))) (Some (shard_put chunks size (from + i))) None) None) (le-ltb i n outside)
+given_shards-out marks chunks size from n i outside =
+    ap (λ b. cond b (cond (is_given (mark_at marks (from + i))) (Some (shard_laid_out chunks size (from + i))) None) None) (le-ltb i n outside)
 
 some_if : (b : Bool) (shard : Shard) → is_some (cond b (Some shard) None) ≡ b
 some_if true shard = refl
 some_if false shard = refl
 
 -- a shard was given where the row is marked so
-pub given-marked : (places : List Place) (chunks : Chunks) (size from n i : ℕ) → i < n
-    → is_some (given_shards places chunks size from n i) ≡ is_given (place_at places (from + i))
-given-marked places chunks size from n i inside =
-    ap is_some (given_shards-in places chunks size from n i inside) ∙ some_if (is_given (place_at places (from + i))) (shard_put chunks size (from + i))
+pub given-marked : (marks : List Mark) (chunks : Chunks) (size from n i : ℕ) → i < n
+    → is_some (given_shards marks chunks size from n i) ≡ is_given (mark_at marks (from + i))
+given-marked marks chunks size from n i inside =
+    ap is_some (given_shards-in marks chunks size from n i inside) ∙ some_if (is_given (mark_at marks (from + i))) (shard_laid_out chunks size (from + i))
 
-pub given_rows-zero : (places : List Place) (from : ℕ) → given_rows places from 0 ≡ 0
+pub given_rows-zero : (marks : List Mark) (from : ℕ) → given_rows marks from 0 ≡ 0
 unfolding given_rows
-given_rows-zero places from = refl
+given_rows-zero marks from = refl
 
-given_rows-suc : (places : List Place) (from n : ℕ) → given_rows places from (suc n) ≡ given_rows places from n + cond (is_given (place_at places (from + n))) 1 0
+given_rows-suc : (marks : List Mark) (from n : ℕ) → given_rows marks from (suc n) ≡ given_rows marks from n + cond (is_given (mark_at marks (from + n))) 1 0
 unfolding given_rows
-given_rows-suc places from n = refl
+given_rows-suc marks from n = refl
 
 one_at_most : (b : Bool) → cond b 1 0 ≤ 1
 one_at_most true = omega arith
 one_at_most false = omega arith
 
 -- no more shards are given than there are rows
-pub given_rows-most : (places : List Place) (from n : ℕ) → given_rows places from n ≤ n
-given_rows-most places from zero = (let none = given_rows-zero places from in omega arith)
-given_rows-most places from (suc n) =
-    let rest = given_rows-most places from n in
-    let more = given_rows-suc places from n in
-    let one = one_at_most (is_given (place_at places (from + n))) in
+pub given_rows-most : (marks : List Mark) (from n : ℕ) → given_rows marks from n ≤ n
+given_rows-most marks from zero = (let none = given_rows-zero marks from in omega arith)
+given_rows-most marks from (suc n) =
+    let rest = given_rows-most marks from n in
+    let more = given_rows-suc marks from n in
+    let one = one_at_most (is_given (mark_at marks (from + n))) in
     omega arith
 
 count_below-suc : (n : ℕ) (given : Shards) → count_below (suc n) given ≡ count_below n given + cond (is_some (given n)) 1 0
@@ -64,51 +64,51 @@ unfolding count_below
 count_below-zero given = refl
 
 -- as many shards are given as rows are marked so
-count-below : (places : List Place) (chunks : Chunks) (size from m n : ℕ) → n ≤ m → count_below n (given_shards places chunks size from m) ≡ given_rows places from n
-count-below places chunks size from m zero fits = count_below-zero (given_shards places chunks size from m) ∙ sym (given_rows-zero places from)
-count-below places chunks size from m (suc n) fits =
-    count_below-suc n (given_shards places chunks size from m)
-    ∙ ap (λ b. count_below n (given_shards places chunks size from m) + cond b 1 0) (given-marked places chunks size from m n (omega arith))
-    ∙ ap (λ c. c + cond (is_given (place_at places (from + n))) 1 0) (count-below places chunks size from m n (omega arith))
-    ∙ sym (given_rows-suc places from n)
+count-below : (marks : List Mark) (chunks : Chunks) (size from m n : ℕ) → n ≤ m → count_below n (given_shards marks chunks size from m) ≡ given_rows marks from n
+count-below marks chunks size from m zero fits = count_below-zero (given_shards marks chunks size from m) ∙ sym (given_rows-zero marks from)
+count-below marks chunks size from m (suc n) fits =
+    count_below-suc n (given_shards marks chunks size from m)
+    ∙ ap (λ b. count_below n (given_shards marks chunks size from m) + cond b 1 0) (given-marked marks chunks size from m n (omega arith))
+    ∙ ap (λ c. c + cond (is_given (mark_at marks (from + n))) 1 0) (count-below marks chunks size from m n (omega arith))
+    ∙ sym (given_rows-suc marks from n)
 
-pub count-given : (places : List Place) (chunks : Chunks) (size from n : ℕ) → count_below n (given_shards places chunks size from n) ≡ given_rows places from n
-count-given places chunks size from n = count-below places chunks size from n n (omega arith)
+pub count-given : (marks : List Mark) (chunks : Chunks) (size from n : ℕ) → count_below n (given_shards marks chunks size from n) ≡ given_rows marks from n
+count-given marks chunks size from n = count-below marks chunks size from n n (omega arith)
 
 -- with no row marked, nothing is given
-pub given-nothing : (places : List Place) (chunks : Chunks) (size from n : ℕ) → ((i : ℕ) → i < n → is_given (place_at places (from + i)) ≡ false)
-    → given_shards places chunks size from n ≡ nothing
-given-nothing places chunks size from n empty =
+pub given-nothing : (marks : List Mark) (chunks : Chunks) (size from n : ℕ) → ((i : ℕ) → i < n → is_given (mark_at marks (from + i)) ≡ false)
+    → given_shards marks chunks size from n ≡ nothing
+given-nothing marks chunks size from n empty =
     fun_ext (λ i. elim (cases_lt i n) [
-      | inl inside ↦ given_shards-in places chunks size from n i inside ∙ ap (λ b. cond b (Some (shard_put chunks size (from + i))) None) (empty i inside)
-      | inr outside ↦ given_shards-out places chunks size from n i outside
+      | inl inside ↦ given_shards-in marks chunks size from n i inside ∙ ap (λ b. cond b (Some (shard_laid_out chunks size (from + i))) None) (empty i inside)
+      | inr outside ↦ given_shards-out marks chunks size from n i outside
     ])
 
-pub given_rows-nothing : (places : List Place) (from n : ℕ) → ((i : ℕ) → i < n → is_given (place_at places (from + i)) ≡ false) → given_rows places from n ≡ 0
-given_rows-nothing places from zero empty = given_rows-zero places from
-given_rows-nothing places from (suc n) empty =
-    let rest = given_rows-nothing places from n (λ i h. empty i (omega arith)) in
-    given_rows-suc places from n ∙ ap (λ b. given_rows places from n + cond b 1 0) (empty n (omega arith)) ∙ (let none : given_rows places from n + 0 ≡ 0 = omega arith in none)
+pub given_rows-nothing : (marks : List Mark) (from n : ℕ) → ((i : ℕ) → i < n → is_given (mark_at marks (from + i)) ≡ false) → given_rows marks from n ≡ 0
+given_rows-nothing marks from zero empty = given_rows-zero marks from
+given_rows-nothing marks from (suc n) empty =
+    let rest = given_rows-nothing marks from n (λ i h. empty i (omega arith)) in
+    given_rows-suc marks from n ∙ ap (λ b. given_rows marks from n + cond b 1 0) (empty n (omega arith)) ∙ (let none : given_rows marks from n + 0 ≡ 0 = omega arith in none)
 
 -- the same rows, marked in the same way, stand for the same shards
-pub given-kept : (old new : List Place) (before after : Chunks) (size from n : ℕ) → ((i : ℕ) → i < n → place_at new (from + i) ≡ place_at old (from + i))
-    → ((i : ℕ) → i < n → shard_put after size (from + i) ≡ shard_put before size (from + i)) → given_shards new after size from n ≡ given_shards old before size from n
+pub given-kept : (old new : List Mark) (before after : Chunks) (size from n : ℕ) → ((i : ℕ) → i < n → mark_at new (from + i) ≡ mark_at old (from + i))
+    → ((i : ℕ) → i < n → shard_laid_out after size (from + i) ≡ shard_laid_out before size (from + i)) → given_shards new after size from n ≡ given_shards old before size from n
 given-kept old new before after size from n marks shards =
     fun_ext (λ i. elim (cases_lt i n) [
       | inl inside ↦
           given_shards-in new after size from n i inside
-          ∙ ap (λ p. cond (is_given p) (Some (shard_put after size (from + i))) None) (marks i inside)
-          ∙ ap (λ s. cond (is_given (place_at old (from + i))) (Some s) None) (shards i inside)
+          ∙ ap (λ p. cond (is_given p) (Some (shard_laid_out after size (from + i))) None) (marks i inside)
+          ∙ ap (λ s. cond (is_given (mark_at old (from + i))) (Some s) None) (shards i inside)
           ∙ sym (given_shards-in old before size from n i inside)
       | inr outside ↦ given_shards-out new after size from n i outside ∙ sym (given_shards-out old before size from n i outside)
     ])
 
-pub given_rows-kept : (old new : List Place) (from n : ℕ) → ((i : ℕ) → i < n → place_at new (from + i) ≡ place_at old (from + i)) → given_rows new from n ≡ given_rows old from n
+pub given_rows-kept : (old new : List Mark) (from n : ℕ) → ((i : ℕ) → i < n → mark_at new (from + i) ≡ mark_at old (from + i)) → given_rows new from n ≡ given_rows old from n
 given_rows-kept old new from zero marks = given_rows-zero new from ∙ sym (given_rows-zero old from)
 given_rows-kept old new from (suc n) marks =
     given_rows-suc new from n
     ∙ ap (λ p. given_rows new from n + cond (is_given p) 1 0) (marks n (omega arith))
-    ∙ ap (λ c. c + cond (is_given (place_at old (from + n))) 1 0) (given_rows-kept old new from n (λ i h. marks i (omega arith)))
+    ∙ ap (λ c. c + cond (is_given (mark_at old (from + n))) 1 0) (given_rows-kept old new from n (λ i h. marks i (omega arith)))
     ∙ sym (given_rows-suc old from n)
 
 entered-is : (given : Shards) (index i : ℕ) (shard : Shard) → entered given index shard i ≡ cond (nat_eq i index) (Some shard) (given i)
@@ -116,92 +116,92 @@ unfolding entered
 entered-is given index i shard = refl
 
 -- one more shard, in a row that is marked
-pub given-entered : (old new : List Place) (before after : Chunks) (size from n index : ℕ) (shard : Shard) → index < n → place_at new (from + index) ≡ Given
-    → shard_put after size (from + index) ≡ shard → ((i : ℕ) → i < n → i ≢ index → place_at new (from + i) ≡ place_at old (from + i))
-    → ((i : ℕ) → i < n → i ≢ index → shard_put after size (from + i) ≡ shard_put before size (from + i))
+pub given-entered : (old new : List Mark) (before after : Chunks) (size from n index : ℕ) (shard : Shard) → index < n → mark_at new (from + index) ≡ Given
+    → shard_laid_out after size (from + index) ≡ shard → ((i : ℕ) → i < n → i ≢ index → mark_at new (from + i) ≡ mark_at old (from + i))
+    → ((i : ℕ) → i < n → i ≢ index → shard_laid_out after size (from + i) ≡ shard_laid_out before size (from + i))
     → given_shards new after size from n ≡ entered (given_shards old before size from n) index shard
 given-entered old new before after size from n index shard inside marked here marks shards =
     fun_ext (λ i. elim (cases_eq i index) [
       | inl same ↦
           ap (given_shards new after size from n) same ∙ given_shards-in new after size from n index inside
-          ∙ ap (λ p. cond (is_given p) (Some (shard_put after size (from + index))) None) marked ∙ ap Some here
+          ∙ ap (λ p. cond (is_given p) (Some (shard_laid_out after size (from + index))) None) marked ∙ ap Some here
           ∙ sym (ap (λ b. cond b (Some shard) (given_shards old before size from n i)) (eq-eqb i index same)) ∙ sym (entered-is (given_shards old before size from n) index i shard)
       | inr apart ↦
           elim (cases_lt i n) [
             | inl within ↦
                 given_shards-in new after size from n i within
-                ∙ ap (λ p. cond (is_given p) (Some (shard_put after size (from + i))) None) (marks i within apart)
-                ∙ ap (λ s. cond (is_given (place_at old (from + i))) (Some s) None) (shards i within apart)
+                ∙ ap (λ p. cond (is_given p) (Some (shard_laid_out after size (from + i))) None) (marks i within apart)
+                ∙ ap (λ s. cond (is_given (mark_at old (from + i))) (Some s) None) (shards i within apart)
                 ∙ sym (given_shards-in old before size from n i within)
             | inr outside ↦ given_shards-out new after size from n i outside ∙ sym (given_shards-out old before size from n i outside)
           ]
           ∙ sym (ap (λ b. cond b (Some shard) (given_shards old before size from n i)) (ne_eqb i index apart)) ∙ sym (entered-is (given_shards old before size from n) index i shard)
     ])
 
-pub given_rows-more : (old new : List Place) (from n index : ℕ) → index < n → place_at new (from + index) ≡ Given → is_given (place_at old (from + index)) ≡ false
-    → ((i : ℕ) → i < n → i ≢ index → place_at new (from + i) ≡ place_at old (from + i)) → given_rows new from n ≡ given_rows old from n + 1
+pub given_rows-more : (old new : List Mark) (from n index : ℕ) → index < n → mark_at new (from + index) ≡ Given → is_given (mark_at old (from + index)) ≡ false
+    → ((i : ℕ) → i < n → i ≢ index → mark_at new (from + i) ≡ mark_at old (from + i)) → given_rows new from n ≡ given_rows old from n + 1
 given_rows-more old new from zero index inside marked before marks = absurd (let no : ⊥ = omega arith in no)
 given_rows-more old new from (suc n) index inside marked before marks =
     elim (cases_eq index n) [
       | inl last ↦
           let kept = given_rows-kept old new from n (λ i h. marks i (omega arith) (let apart : i ≢ index = omega arith in apart)) in
-          let here : ◌≡◌ {A = ℕ} (cond (is_given (place_at new (from + n))) 1 0) 1 = ap (λ j. cond (is_given (place_at new (from + j))) 1 0) (sym last) ∙ ap (λ p. cond (is_given p) 1 0) marked in
-          let there : ◌≡◌ {A = ℕ} (cond (is_given (place_at old (from + n))) 1 0) 0 = ap (λ j. cond (is_given (place_at old (from + j))) 1 0) (sym last) ∙ ap (λ b. cond b 1 0) before in
+          let here : ◌≡◌ {A = ℕ} (cond (is_given (mark_at new (from + n))) 1 0) 1 = ap (λ j. cond (is_given (mark_at new (from + j))) 1 0) (sym last) ∙ ap (λ p. cond (is_given p) 1 0) marked in
+          let there : ◌≡◌ {A = ℕ} (cond (is_given (mark_at old (from + n))) 1 0) 0 = ap (λ j. cond (is_given (mark_at old (from + j))) 1 0) (sym last) ∙ ap (λ b. cond b 1 0) before in
           omega (arith, kept, here, there, given_rows-suc new from n, given_rows-suc old from n)
       | inr earlier ↦
           let more = given_rows-more old new from n index (omega arith) marked before (λ i h. marks i (omega arith)) in
-          let same : ◌≡◌ {A = ℕ} (cond (is_given (place_at new (from + n))) 1 0) (cond (is_given (place_at old (from + n))) 1 0) = ap (λ p. cond (is_given p) 1 0) (marks n (omega arith) (let apart : n ≢ index = omega arith in apart)) in
+          let same : ◌≡◌ {A = ℕ} (cond (is_given (mark_at new (from + n))) 1 0) (cond (is_given (mark_at old (from + n))) 1 0) = ap (λ p. cond (is_given p) 1 0) (marks n (omega arith) (let apart : n ≢ index = omega arith in apart)) in
           omega (arith, more, same, given_rows-suc new from n, given_rows-suc old from n)
     ]
 
 -- the original of an index below the count that was restored
-restored-in : (places : List Place) (chunks : Chunks) (size from n i : ℕ) → i < n
-    → restored_shards places chunks size from n i ≡ cond (is_restored (place_at places (from + i))) (Some (shard_moved chunks size (from + i))) None
+restored-in : (marks : List Mark) (chunks : Chunks) (size from n i : ℕ) → i < n
+    → restored_shards marks chunks size from n i ≡ cond (is_restored (mark_at marks (from + i))) (Some (shard_in_order chunks size (from + i))) None
 unfolding restored_shards
-restored-in places chunks size from n i inside =
-    ap (λ b. cond b (cond (is_restored (place_at places (from + i))) (Some (shard_moved chunks size (from + i))) None) None) (lt-ltb i n inside)
+restored-in marks chunks size from n i inside =
+    ap (λ b. cond b (cond (is_restored (mark_at marks (from + i))) (Some (shard_in_order chunks size (from + i))) None) None) (lt-ltb i n inside)
 
-pub restored-out : (places : List Place) (chunks : Chunks) (size from n i : ℕ) → n ≤ i → restored_shards places chunks size from n i ≡ None
+pub restored-out : (marks : List Mark) (chunks : Chunks) (size from n i : ℕ) → n ≤ i → restored_shards marks chunks size from n i ≡ None
 unfolding restored_shards
-restored-out places chunks size from n i outside =
-    ap (λ b. cond b (cond (is_restored (place_at places (from + i))) (Some (shard_moved chunks size (from + i))) None) None) (le-ltb i n outside)
+restored-out marks chunks size from n i outside =
+    ap (λ b. cond b (cond (is_restored (mark_at marks (from + i))) (Some (shard_in_order chunks size (from + i))) None) None) (le-ltb i n outside)
 
-pub restored-marked : (places : List Place) (chunks : Chunks) (size from n i : ℕ) (b : Bool) → i < n → is_restored (place_at places (from + i)) ≡ b
-    → restored_shards places chunks size from n i ≡ cond b (Some (shard_moved chunks size (from + i))) None
-restored-marked places chunks size from n i b inside mark =
-    restored-in places chunks size from n i inside ∙ ap (λ t. cond t (Some (shard_moved chunks size (from + i))) None) mark
+pub restored-marked : (marks : List Mark) (chunks : Chunks) (size from n i : ℕ) (b : Bool) → i < n → is_restored (mark_at marks (from + i)) ≡ b
+    → restored_shards marks chunks size from n i ≡ cond b (Some (shard_in_order chunks size (from + i))) None
+restored-marked marks chunks size from n i b inside mark =
+    restored-in marks chunks size from n i inside ∙ ap (λ t. cond t (Some (shard_in_order chunks size (from + i))) None) mark
 
 -- after a round no row holds a given shard
-pub ended-given : (from n p : ℕ) (place : Place) → is_given (ended from n p place) ≡ false
-ended-given from n p place = by_test (nat_le from p && nat_lt p (from + n)) place
+pub mark_after-given : (from n p : ℕ) (mark : Mark) → is_given (mark_after from n p mark) ≡ false
+mark_after-given from n p mark = by_test (nat_le from p && nat_lt p (from + n)) mark
   where
-    by_test : (b : Bool) (place : Place) → is_given (cond b (cond (is_given place) Empty Restored) Empty) ≡ false
-    by_test false place = refl
+    by_test : (b : Bool) (mark : Mark) → is_given (cond b (cond (is_given mark) Empty Restored) Empty) ≡ false
+    by_test false mark = refl
     by_test true Empty = refl
     by_test true Given = refl
     by_test true Restored = refl
 
 -- and the row of an original holds a restored shard exactly where none was given
-pub ended-restored : (from n i : ℕ) (place : Place) → i < n → is_restored (ended from n (from + i) place) ≡ not (is_given place)
-ended-restored from n i place inside =
-    ap₂ (λ a b. is_restored (cond (a && b) (cond (is_given place) Empty Restored) Empty)) (le-leb from (from + i) (omega arith)) (lt-ltb (from + i) (from + n) (omega arith)) ∙ by_place place
+pub mark_after-restored : (from n i : ℕ) (mark : Mark) → i < n → is_restored (mark_after from n (from + i) mark) ≡ not (is_given mark)
+mark_after-restored from n i mark inside =
+    ap₂ (λ a b. is_restored (cond (a && b) (cond (is_given mark) Empty Restored) Empty)) (le-leb from (from + i) (omega arith)) (lt-ltb (from + i) (from + n) (omega arith)) ∙ by_mark mark
   where
-    by_place : (place : Place) → is_restored (cond (is_given place) Empty Restored) ≡ not (is_given place)
-    by_place Empty = refl
-    by_place Given = refl
-    by_place Restored = refl
+    by_mark : (mark : Mark) → is_restored (cond (is_given mark) Empty Restored) ≡ not (is_given mark)
+    by_mark Empty = refl
+    by_mark Given = refl
+    by_mark Restored = refl
 
 -- the shards that lie restored after a round fill the missing indexes
-pub fills-missing : (s : DecoderState) (old new : List Place) (before after : Chunks) (from : ℕ)
+pub fills-missing : (s : DecoderState) (old new : List Mark) (before after : Chunks) (from : ℕ)
     → s.originals ≡ given_shards old before s.configuration.shard_bytes from s.configuration.original_count
-    → ((i : ℕ) → i < s.configuration.original_count → is_restored (place_at new (from + i)) ≡ not (is_given (place_at old (from + i))))
-    → ((i : ℕ) → i < s.configuration.original_count → IsShard s.configuration.shard_bytes (shard_moved after s.configuration.shard_bytes (from + i)))
+    → ((i : ℕ) → i < s.configuration.original_count → is_restored (mark_at new (from + i)) ≡ not (is_given (mark_at old (from + i))))
+    → ((i : ℕ) → i < s.configuration.original_count → IsShard s.configuration.shard_bytes (shard_in_order after s.configuration.shard_bytes (from + i)))
     → FillsMissing s (restored_shards new after s.configuration.shard_bytes from s.configuration.original_count)
 fills-missing s old new before after from given marks sized =
     record {
       missing = λ i. (missing_only i, restored_too i);
       shards = λ i shard is. elim (cases_lt i k) [
-        | inl inside ↦ subst (IsShard size) (some_is (not (is_given (place_at old (from + i)))) (shard_moved after size (from + i)) shard (sym (here i inside) ∙ is)) (sized i inside)
+        | inl inside ↦ subst (IsShard size) (some_is (not (is_given (mark_at old (from + i)))) (shard_in_order after size (from + i)) shard (sym (here i inside) ∙ is)) (sized i inside)
         | inr outside ↦ absurd (none_some shard (sym (restored-out new after size from k i outside) ∙ is))
       ];
     }
@@ -212,10 +212,10 @@ fills-missing s old new before after from given marks sized =
     size : ℕ
     size = s.configuration.shard_bytes
 
-    here : (i : ℕ) → i < k → restored_shards new after size from k i ≡ cond (not (is_given (place_at old (from + i)))) (Some (shard_moved after size (from + i))) None
-    here i inside = restored-marked new after size from k i (not (is_given (place_at old (from + i)))) inside (marks i inside)
+    here : (i : ℕ) → i < k → restored_shards new after size from k i ≡ cond (not (is_given (mark_at old (from + i)))) (Some (shard_in_order after size (from + i))) None
+    here i inside = restored-marked new after size from k i (not (is_given (mark_at old (from + i)))) inside (marks i inside)
 
-    was : (i : ℕ) → i < k → is_some (s.originals i) ≡ is_given (place_at old (from + i))
+    was : (i : ℕ) → i < k → is_some (s.originals i) ≡ is_given (mark_at old (from + i))
     was i inside = ap (λ (f : Shards). is_some (f i)) given ∙ given-marked old before size from k i inside
 
     none_some : (shard : Shard) → ◌≡◌ {A = Option Shard} None (Some shard) → ⊥
@@ -231,10 +231,10 @@ fills-missing s old new before after from given marks sized =
 
     missing_only : (i : ℕ) → IsSome (restored_shards new after size from k i) → (i < k) × IsNone (s.originals i)
     missing_only i is = elim (cases_lt i k) [
-      | inl inside ↦ (inside, was i inside ∙ not_true (is_given (place_at old (from + i))) (sym (some_if (not (is_given (place_at old (from + i)))) (shard_moved after size (from + i))) ∙ sym (ap is_some (here i inside)) ∙ is))
+      | inl inside ↦ (inside, was i inside ∙ not_true (is_given (mark_at old (from + i))) (sym (some_if (not (is_given (mark_at old (from + i)))) (shard_in_order after size (from + i))) ∙ sym (ap is_some (here i inside)) ∙ is))
       | inr outside ↦ absurd (true≢false (sym is ∙ ap is_some (restored-out new after size from k i outside)))
     ]
 
     restored_too : (i : ℕ) → (i < k) × IsNone (s.originals i) → IsSome (restored_shards new after size from k i)
     restored_too i (inside, none) =
-        ap is_some (here i inside) ∙ some_if (not (is_given (place_at old (from + i)))) (shard_moved after size (from + i)) ∙ ap not (sym (was i inside) ∙ none)
+        ap is_some (here i inside) ∙ some_if (not (is_given (mark_at old (from + i)))) (shard_in_order after size (from + i)) ∙ ap not (sym (was i inside) ∙ none)

@@ -1,7 +1,9 @@
 pub mod PowerLemmas
-pub mod HeldLemmas
+pub mod ShardRowsLemmas
 pub mod StateLemmas
 pub mod LowCoding
 pub mod DecoderLemmas
 pub mod DecoderSteps
 pub mod DecoderRows
+pub mod ChoiceLemmas
+pub mod RateLemmas

@@ -1,5 +1,5 @@
 -- Steps of an encoder's state, and what setting up answers.
-use Rattle.std.proofs.Common.{◌≡◌, ℕ, ◌<◌, ◌≤◌, ◌*◌, ◌^◌, ◌%◌, ◌++◌, ◌∷◌, [], length, refl, sym, ap, ◌∙◌, subst, inl, inr, Bool, true, false, cond, arith}
+use Rattle.std.proofs.Common.{◌≡◌, ℕ, ◌<◌, ◌≤◌, ◌*◌, ◌^◌, ◌%◌, ◌++◌, ◌∷◌, [], length, refl, sym, ap, ap₂, ◌∙◌, subst, inl, inr, Bool, true, false, cond, arith}
 use Rattle.std.specs.Prelude.{nat_le, Result, Ok, Err, IsOk, OnOk, OnErr, IfOk, IfErr, not, ◌||◌, ◌==◌, Option, Some, None, IfSome, List, nat_lt, is_ok, IsOkAnd, MatchResult}
 use Rattle.std.proofs.lemmas.Bool.{lt-leb, le-leb, eq-eqb, cases_lt, eqb-false, ltb-false}
 use Rattle.rs_field.specs.declared.error.Error.{Error}
@@ -10,7 +10,11 @@ use Rattle.rs_field.specs.Outcome.{answer_of, state_after, result_and_then}
 use Rattle.rs_field.specs.Configuration.{Configuration, validated, space, started, UpToMemory}
 use Rattle.rs_field.specs.Encoder.{EncoderState, fresh_encoder, with_shard, message_of, EncodeAnswers, after_encode}
 use Rattle.rs_field.specs.Code.{AreRecovery}
-use Rattle.rs_rate.specs.Held.{chunk_count}
+use Rattle.rs_field.specs.Layout.{up_to}
+use Rattle.rs_rate.specs.declared.rate.encoder_work.EncoderRows.{EncoderRows}
+use Rattle.rs_rate.specs.declared.rate.encoder_work.EncoderShape.{EncoderShape}
+use Rattle.rs_rate.specs.EncoderView.{configuration_of, encoder_state}
+use Rattle.rs_rate.specs.ShardRows.{chunk_count, shard_laid_out}
 
 -- a shard of the size is added where there is room
 pub with_shard-added : (s : EncoderState) (shard : Shard) → length s.given < s.configuration.original_count → length shard ≡ s.configuration.shard_bytes
@@ -147,3 +151,28 @@ pub encode_answers-made : (s : EncoderState) (recovery : List Shard) → Ok tt �
 encode_answers-made s recovery made right =
     subst (λ (m : Result (List Shard) Error). AnswersOf s m (Ok recovery))
     (sym (message-whole s made).1) right
+
+-- what holds of each value that is there
+pub if_some-is : {S : Type 0} (o : Option S) (P : S → Type 0) → ((x : S) → o ≡ Some x → P x) → IfSome o P
+if_some-is None P each = tt
+if_some-is (Some x) P each = each x refl
+
+-- a want of memory where there was room for rows of a `usize` in bytes: there is no such size
+pub started-short : (rows : ℕ) (c : Configuration) (result : Result (Unit {0}) Error) (e : Error) → result ≡ Err e → validated c ≡ Ok tt
+    → IfErr result (λ f. f ≡ OutOfMemory) → (chunk_count rows c.shard_bytes * 64 < 2 ^ 64 → IsOk result) → Err e ≡ started rows c
+started-short rows c result e is valid short enough =
+    elim (cases_lt (chunk_count rows c.shard_bytes * 64) (2 ^ 64)) [
+      | inl fits ↦ absurd (not_made result is (enough fits))
+      | inr large ↦ ap Err (subst (λ (r : Result (Unit {0}) Error). IfErr r (λ f. f ≡ OutOfMemory)) is short) ∙ sym (started-large rows c valid large)
+    ]
+  where
+    not_made : (r : Result (Unit {0}) Error) → r ≡ Err e → IsOk r → ⊥
+    not_made (Ok x) same made = cc
+    not_made (Err f) same made = cc
+
+-- an encoder over rows of a shape with nothing given is a fresh one
+pub encoder_state-fresh : (rate : Rate) (rows : EncoderRows) (shape : EncoderShape) → rows.shape ≡ shape → rows.given_count ≡ 0
+    → encoder_state rate rows ≡ fresh_encoder (configuration_of rate shape)
+encoder_state-fresh rate rows shape same none =
+    let F : EncoderShape → List Shard → EncoderState = λ s given. record { configuration = configuration_of rate s; given = given } in
+    ap₂ F same (ap (λ n. up_to n (shard_laid_out rows.chunks.items rows.shape.shard_bytes)) none)

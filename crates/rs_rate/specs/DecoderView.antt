@@ -1,47 +1,73 @@
--- What a decoder's working space stands for.
-use Rattle.std.specs.Prelude.{ℕ, zero, suc, ◌+◌, nat_lt, nat_le, ◌&&◌, ◌||◌, if◌then◌else◌, Bool, true, false, List, Some, None, slice_index_or}
+-- What a decoder's rows and working space stand for.
+use Rattle.std.specs.Prelude.{◌≡◌, ◌≤◌, ℕ, Bool, true, false, Option, Some, None}
+use Rattle.std.specs.Vec.{vec_capacity}
+use Rattle.rs_field.specs.Counts.{Rate}
+use Rattle.rs_field.specs.Placement.{placement, decoder_rows}
+use Rattle.rs_field.specs.Configuration.{Configuration, configuration}
 use Rattle.rs_field.specs.Given.{Shards}
-use Rattle.rs_field.specs.Rows.{Chunks}
-use Rattle.rs_rate.specs.declared.rate.places.Place.{Place}
-use Rattle.rs_rate.specs.declared.rate.places.Place.TheVariants.{Empty, Given, Restored}
-use Rattle.rs_rate.specs.Held.{shard_put, shard_moved}
+use Rattle.rs_field.specs.Decoder.{DecoderState}
+use Rattle.rs_rate.specs.declared.rate.marks.Frame.{Frame}
+use Rattle.rs_rate.specs.declared.rate.decoder_work.DecoderShape.{DecoderShape}
+use Rattle.rs_rate.specs.declared.rate.decoder_work.DecoderRows.{DecoderRows}
+use Rattle.rs_rate.specs.declared.rate.decoder_work.DecoderMemory.{DecoderMemory}
+use Rattle.rs_rate.specs.declared.rate.decoder_work.DecoderWork.{DecoderWork}
+use Rattle.rs_rate.specs.ShardRows.{chunk_count}
+use Rattle.rs_rate.specs.Marks.{given_shards, restored_shards}
 
--- what a row is marked as
-abbrev pub place_at : List Place → ℕ → Place
-place_at places p = slice_index_or places p Empty
+-- the configuration of a shape, at this rate
+abbrev pub configuration_of : Rate → DecoderShape → Configuration
+configuration_of rate shape = configuration rate shape.original_count shape.recovery_count shape.shard_bytes
 
--- whether a row holds a given shard
-abbrev pub is_given : Place → Bool
-is_given Empty = false
-is_given Given = true
-is_given Restored = false
+-- the state of a decoder of this rate over the rows
+abbrev pub decoder_state : Rate → DecoderRows → DecoderState
+decoder_state rate rows =
+    let s = rows.shape in
+    record {
+      configuration = configuration_of rate s;
+      originals = given_shards rows.memory.marks.items rows.memory.chunks.items s.shard_bytes s.frame.originals_from s.original_count;
+      recovery = given_shards rows.memory.marks.items rows.memory.chunks.items s.shard_bytes s.frame.recovery_from s.recovery_count;
+    }
 
--- whether a row holds a restored shard
-abbrev pub is_restored : Place → Bool
-is_restored Empty = false
-is_restored Given = false
-is_restored Restored = true
+-- the originals that lie restored in the rows after a round
+abbrev pub restored_of : DecoderRows → Shards
+restored_of rows =
+    restored_shards rows.memory.marks.items rows.memory.chunks.items rows.shape.shard_bytes rows.shape.frame.originals_from rows.shape.original_count
 
--- how many of the n rows from one on hold a given shard
-unfoldable pub given_rows : List Place → ℕ → ℕ → ℕ
-given_rows places from zero = 0
-given_rows places from (suc n) = given_rows places from n + (if is_given (place_at places (from + n)) then 1 else 0)
+-- where a decoder of this rate has its shards and zeros, and its rows
+unfoldable pub frame_of : Rate → ℕ → ℕ → Frame
+frame_of rate k r =
+    let p = placement rate k r in
+    record { row_count = decoder_rows rate k r; originals_from = p.originals_from; recovery_from = p.recovery_from; zeros_from = p.zeros_from; zeros_to = p.zeros_to }
 
--- the shards that were given in the n rows from one on
-unfoldable pub given_shards : List Place → Chunks → ℕ → ℕ → ℕ → Shards
-given_shards places chunks size from n i =
-    if nat_lt i n then (if is_given (place_at places (from + i)) then Some (shard_put chunks size (from + i)) else None) else None
+-- what a decoder of this rate is laid out for at these counts and this size
+abbrev pub decoder_shape : Rate → ℕ → ℕ → ℕ → DecoderShape
+decoder_shape rate k r size = record { original_count = k; recovery_count = r; shard_bytes = size; frame = frame_of rate k r }
 
--- the shards that were restored in the n rows from one on
-unfoldable pub restored_shards : List Place → Chunks → ℕ → ℕ → ℕ → Shards
-restored_shards places chunks size from n i =
-    if nat_lt i n then (if is_restored (place_at places (from + i)) then Some (shard_moved chunks size (from + i)) else None) else None
+-- the room that a working space has: for chunks and for marks of rows, and whether the locator's buffer and tables are there
+pub record DecoderRoom : Type 0 where
+  pub chunks : ℕ
+  pub rows : ℕ
+  pub is_located : Bool
 
--- what row p holds after a round, from what it held: an original that was not given is restored there
-abbrev pub ended : ℕ → ℕ → ℕ → Place → Place
-ended from n p place = if nat_le from p && nat_lt p (from + n) then (if is_given place then Empty else Restored) else Empty
+abbrev pub memory_room : DecoderMemory → DecoderRoom
+memory_room memory = record { chunks = vec_capacity memory.chunks; rows = vec_capacity memory.marks; is_located = true }
 
--- whether a point is erased: it is no known zero, and no given shard stands there
-abbrev pub erased : ℕ → ℕ → ℕ → List Place → ℕ → ℕ
-erased rows zeros_from zeros_to places y =
-    if (nat_le zeros_from y && nat_lt y zeros_to) || (nat_lt y rows && is_given (place_at places y)) then 0 else 1
+abbrev pub room_if : Option DecoderMemory → DecoderRoom
+room_if None = record { chunks = 0; rows = 0; is_located = false }
+room_if (Some memory) = memory_room memory
+
+-- the room of what is handed from one decoder to the next
+abbrev pub work_room : DecoderWork → DecoderRoom
+work_room work = room_if work.memory
+
+-- there is room for so many rows of shards of this size, so that no memory is taken
+pub record HasRoom (room : DecoderRoom) (count size : ℕ) : Type 0 where
+  pub chunks : chunk_count count size ≤ room.chunks
+  pub rows : count ≤ room.rows
+  pub located : room.is_located ≡ true
+
+-- the new room is no less than the old
+pub record Grows (old new : DecoderRoom) : Type 0 where
+  pub chunks : old.chunks ≤ new.chunks
+  pub rows : old.rows ≤ new.rows
+  pub located : old.is_located ≡ true → new.is_located ≡ true

@@ -1,28 +1,42 @@
--- What an encoder's working space stands for.
+-- What an encoder's rows and working space stand for.
 use Rattle.std.specs.Prelude.{ℕ, List}
 use Rattle.rs_field.specs.Column.{Shard}
 use Rattle.rs_field.specs.Counts.{Rate}
-use Rattle.rs_field.specs.Configuration.{configuration}
+use Rattle.rs_field.specs.Placement.{encoder_rows, block_rows}
+use Rattle.rs_field.specs.Configuration.{Configuration, configuration}
 use Rattle.rs_field.specs.Encoder.{EncoderState}
 use Rattle.rs_field.specs.Layout.{up_to}
+use Rattle.rs_rate.specs.declared.rate.encoder_work.EncoderShape.{EncoderShape}
+use Rattle.rs_rate.specs.declared.rate.encoder_work.EncoderRows.{EncoderRows}
 use Rattle.rs_rate.specs.declared.rate.encoder_work.EncoderWork.{EncoderWork}
-use Rattle.rs_rate.specs.Held.{items_of, room_of, shard_put, shard_moved}
+use Rattle.rs_rate.specs.Memory.{room_of}
+use Rattle.rs_rate.specs.ShardRows.{chunk_count, shard_laid_out, shard_in_order}
+
+-- the configuration of a shape, at this rate
+abbrev pub configuration_of : Rate → EncoderShape → Configuration
+configuration_of rate shape = configuration rate shape.original_count shape.recovery_count shape.shard_bytes
+
+-- what an encoder of this rate is laid out for at these counts and this size
+unfoldable pub encoder_shape : Rate → ℕ → ℕ → ℕ → EncoderShape
+encoder_shape rate k r size =
+    record { original_count = k; recovery_count = r; shard_bytes = size; row_count = encoder_rows rate k r; block_rows = block_rows rate k r }
+
+-- the chunks of a shape's rows
+abbrev pub shape_chunks : EncoderShape → ℕ
+shape_chunks shape = chunk_count shape.row_count shape.shard_bytes
 
 -- the originals that were given, in order
-abbrev pub given_of : EncoderWork → List Shard
-given_of work = up_to work.original_received_count (shard_put (items_of work.rows) work.shard_bytes)
+abbrev pub given_of : EncoderRows → List Shard
+given_of rows = up_to rows.given_count (shard_laid_out rows.chunks.items rows.shape.shard_bytes)
 
--- the state of an encoder of this rate over the working space
-abbrev pub encoder_state : Rate → EncoderWork → EncoderState
-encoder_state rate work = record {
-  configuration = configuration rate work.original_count work.recovery_count work.shard_bytes;
-  given = given_of work;
-}
+-- the state of an encoder of this rate over the rows
+abbrev pub encoder_state : Rate → EncoderRows → EncoderState
+encoder_state rate rows = record { configuration = configuration_of rate rows.shape; given = given_of rows }
 
--- the recovery shards that lie in the working space after a round
-abbrev pub lent_of : EncoderWork → List Shard
-lent_of work = up_to work.recovery_count (shard_moved (items_of work.rows) work.shard_bytes)
+-- the recovery shards that lie in the rows after a round
+abbrev pub lent_of : EncoderRows → List Shard
+lent_of rows = up_to rows.shape.recovery_count (shard_in_order rows.chunks.items rows.shape.shard_bytes)
 
--- the chunks that the working space has room for
+-- the chunks that there is room for in a working space
 abbrev pub work_room : EncoderWork → ℕ
-work_room work = room_of work.rows
+work_room work = room_of work.chunks

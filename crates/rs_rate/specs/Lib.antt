@@ -1,7 +1,9 @@
-pub mod Held
+pub mod Memory
+pub mod ShardRows
 pub mod EncoderView
 pub mod ResultView
 pub mod Loan
 pub mod Coding
+pub mod Laws
+pub mod Marks
 pub mod DecoderView
-pub mod DecoderState

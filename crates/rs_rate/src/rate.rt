@@ -1,22 +1,125 @@
-//! The traits of a rate's encoder and decoder.
+//! The traits of a rate, its encoder and its decoder.
+mod code;
 mod counts;
-pub mod decoder_work;
+pub(crate) mod decoder_work;
+mod decoders;
 mod decoding;
-pub mod encoder_work;
-mod growth;
+pub(crate) mod encoder_work;
+mod encoders;
+mod encoding;
+mod high_encoding;
 mod low_encoding;
-mod places;
-mod rate_low;
-mod tails;
+mod marks;
+mod memory;
+mod shard_rows;
 
 use crate::decoder_result::DecoderResult;
 use crate::encoder_result::EncoderResult;
+pub use code::{DefaultRate, HighRate, LowRate};
 pub use decoder_work::DecoderWork;
+pub use decoders::{DefaultRateDecoder, HighRateDecoder, LowRateDecoder};
 pub use encoder_work::EncoderWork;
-pub use rate_low::{LowRate, LowRateDecoder, LowRateEncoder};
+pub use encoders::{DefaultRateEncoder, HighRateEncoder, LowRateEncoder};
 use rs_field::engine::{Engine, Steps};
 use rs_field::error::Error;
 use std::alloc::Global;
+
+/// A rate of the code, over an engine: the counts that it supports, its encoders and its decoders.
+pub trait Rate<E: Engine>: Sized {
+    ghost use Rattle.std.specs.Prelude.{◌≡◌, ◌*◌, ◌≤◌, IfOk, IfSome};
+    ghost use Rattle.rs_field.specs.Counts.{Rate as WhichRate, supports as supports_counts};
+    ghost use Rattle.rs_field.specs.Placement.{encoder_rows, decoder_rows};
+    ghost use Rattle.rs_field.specs.Outcome.{answer_of};
+    ghost use Rattle.rs_field.specs.Configuration.{configuration, validated, started, UpToMemory};
+    ghost use Rattle.rs_field.specs.Encoder.{fresh_encoder};
+    ghost use Rattle.rs_field.specs.Decoder.{fresh_decoder};
+    ghost use Rattle.rs_rate.specs.ShardRows.{chunk_count};
+    ghost use Rattle.rs_rate.specs.EncoderView.{work_room};
+    ghost use Rattle.rs_rate.specs.DecoderView.{HasRoom, Grows, work_room as decoder_work_room};
+
+    /// The encoder of the rate.
+    type RateEncoder: RateEncoder<E, Rate = Self> + Drop;
+
+    /// The decoder of the rate.
+    type RateDecoder: RateDecoder<E, Rate = Self> + Drop;
+
+    ghost rate: { WhichRate };
+
+    /// Whether the rate supports `original_count` originals with `recovery_count` recovery shards.
+    fn supports(original_count: usize, recovery_count: usize) -> bool
+        ensures { result ≡ supports_counts rate original_count recovery_count }
+    {
+        Self::RateEncoder::supports(original_count, recovery_count)
+    }
+
+    /// `UnsupportedShardCount` where the counts aren't supported, else `InvalidShardSize` where the size is zero or odd.
+    fn validate(
+        original_count: usize,
+        recovery_count: usize,
+        shard_bytes: usize,
+    ) -> Result<(), Error>
+        ensures { result ≡ validated (configuration rate original_count recovery_count shard_bytes) }
+    {
+        Self::RateEncoder::validate(original_count, recovery_count, shard_bytes)
+    }
+
+    /// An encoder of the rate, as `RateEncoder::new` makes it.
+    fn encoder(
+        alloc: Global,
+        original_count: usize,
+        recovery_count: usize,
+        shard_bytes: usize,
+        engine: E,
+        work: Option<EncoderWork>,
+    ) -> Result<Self::RateEncoder, Error>
+        ensures answer { let c = configuration rate original_count recovery_count shard_bytes in
+            UpToMemory (started (encoder_rows rate original_count recovery_count) c) (answer_of result) }
+        ensures made { IfOk result (λ x. (Self.RateEncoder.state x ≡ fresh_encoder (configuration rate original_count recovery_count shard_bytes)) × (Self.RateEncoder.engine_of x ≡ engine)) }
+        ensures grown { IfOk result (λ x. IfSome work (λ w. work_room w ≤ Self.RateEncoder.room x)) }
+        ensures roomy { IfSome work (λ w. chunk_count (encoder_rows rate original_count recovery_count) shard_bytes ≤ work_room w
+            → answer_of result ≡ started (encoder_rows rate original_count recovery_count) (configuration rate original_count recovery_count shard_bytes)) }
+    {
+        Self::RateEncoder::new(
+            alloc,
+            original_count,
+            recovery_count,
+            shard_bytes,
+            engine,
+            work,
+        )
+    }
+
+    /// A decoder of the rate, as `RateDecoder::new` makes it.
+    fn decoder(
+        alloc: Global,
+        original_count: usize,
+        recovery_count: usize,
+        shard_bytes: usize,
+        engine: E,
+        work: Option<DecoderWork>,
+    ) -> Result<Self::RateDecoder, Error>
+        ensures answer { let c = configuration rate original_count recovery_count shard_bytes in
+            UpToMemory (started (decoder_rows rate original_count recovery_count) c) (answer_of result) }
+        ensures made { IfOk result (λ x. (Self.RateDecoder.state x ≡ fresh_decoder (configuration rate original_count recovery_count shard_bytes)) × (Self.RateDecoder.engine_of x ≡ engine)) }
+        ensures grown { IfOk result (λ x. IfSome work (λ w. Grows (decoder_work_room w) (Self.RateDecoder.room x))) }
+        ensures roomy { IfSome work (λ w. HasRoom (decoder_work_room w) (decoder_rows rate original_count recovery_count) shard_bytes
+            → answer_of result ≡ started (decoder_rows rate original_count recovery_count) (configuration rate original_count recovery_count shard_bytes)) }
+    {
+        Self::RateDecoder::new(
+            alloc,
+            original_count,
+            recovery_count,
+            shard_bytes,
+            engine,
+            work,
+        )
+    }
+
+    /// Its encoders and decoders are of this rate.
+    ghost encoder_rate: { Self.RateEncoder.rate ≡ rate };
+
+    ghost decoder_rate: { Self.RateDecoder.rate ≡ rate };
+}
 
 /// The encoder of a rate, over an engine.
 ///
@@ -31,8 +134,8 @@ pub trait RateEncoder<E: Engine>: Sized {
     ghost use Rattle.rs_field.specs.Placement.{encoder_rows};
     ghost use Rattle.rs_field.specs.Outcome.{answer_of, state_after};
     ghost use Rattle.rs_field.specs.Configuration.{configuration, validated, started, UpToMemory, FitsWithin};
-    ghost use Rattle.rs_field.specs.Encoder.{EncoderState, fresh_encoder, with_shard, EncodeAnswers, after_encode};
-    ghost use Rattle.rs_rate.specs.Held.{chunk_count};
+    ghost use Rattle.rs_field.specs.Encoder.{EncoderState, IsEncoder, fresh_encoder, with_shard, EncodeAnswers, after_encode};
+    ghost use Rattle.rs_rate.specs.ShardRows.{chunk_count};
     ghost use Rattle.rs_rate.specs.EncoderView.{work_room};
     ghost use Rattle.rs_rate.specs.ResultView.{answered_shards};
     ghost use Rattle.rs_rate.specs.Loan.{EndsWith};
@@ -44,7 +147,7 @@ pub trait RateEncoder<E: Engine>: Sized {
 
     ghost state: { Self → EncoderState };
 
-    ghost held: { Self → E };
+    ghost engine_of: { Self → E };
 
     ghost room: { Self → ℕ };
 
@@ -74,14 +177,15 @@ pub trait RateEncoder<E: Engine>: Sized {
     ) -> Result<Self, Error>
         ensures answer { let c = configuration rate original_count recovery_count shard_bytes in
             UpToMemory (started (encoder_rows rate original_count recovery_count) c) (answer_of result) }
-        ensures made { IfOk result (λ x. (state x ≡ fresh_encoder (configuration rate original_count recovery_count shard_bytes)) × (held x ≡ engine)) }
+        ensures made { IfOk result (λ x. (state x ≡ fresh_encoder (configuration rate original_count recovery_count shard_bytes)) × (engine_of x ≡ engine)) }
         ensures grown { IfOk result (λ x. IfSome work (λ w. work_room w ≤ room x)) }
         ensures roomy { IfSome work (λ w. chunk_count (encoder_rows rate original_count recovery_count) shard_bytes ≤ work_room w
             → answer_of result ≡ started (encoder_rows rate original_count recovery_count) (configuration rate original_count recovery_count shard_bytes)) };
 
     /// The encoder with another configuration and nothing given. Refused as `new`; a refusal changes nothing.
     ///
-    /// `OutOfMemory` never comes where the counts are the encoder's own and the size is not above its own.
+    /// `OutOfMemory` never comes where the rows fit the room that the encoder has: where they are its own and the size
+    /// is not above its own, and where its working space was grown for as much before.
     fn reset(
         &mut self,
         original_count: usize,
@@ -92,8 +196,10 @@ pub trait RateEncoder<E: Engine>: Sized {
             UpToMemory (started (encoder_rows rate original_count recovery_count) c) result }
         ensures ok { OnOk result (state self.new ≡ fresh_encoder (configuration rate original_count recovery_count shard_bytes)) }
         ensures err { OnErr result (state self.new ≡ state self.old) }
-        ensures roomy { FitsWithin (state self.old).configuration (configuration rate original_count recovery_count shard_bytes) → result ≢ Err Error.OutOfMemory }
-        ensures engine { held self.new ≡ held self.old }
+        ensures roomy { chunk_count (encoder_rows rate original_count recovery_count) shard_bytes ≤ room self.old
+            → result ≡ started (encoder_rows rate original_count recovery_count) (configuration rate original_count recovery_count shard_bytes) }
+        ensures own { FitsWithin (state self.old).configuration (configuration rate original_count recovery_count shard_bytes) → result ≢ Err Error.OutOfMemory }
+        ensures engine { engine_of self.new ≡ engine_of self.old }
         ensures grown { room self.old ≤ room self.new };
 
     /// Gives the next original, of the encoder's size in bytes.
@@ -103,7 +209,7 @@ pub trait RateEncoder<E: Engine>: Sized {
     fn add_original_shard(&mut self, original_shard: &[u8]) -> Result<(), Error>
         ensures answer { result ≡ answer_of (with_shard (state self.old) original_shard.now) }
         ensures left { state self.new ≡ state_after (state self.old) (with_shard (state self.old) original_shard.now) }
-        ensures engine { held self.new ≡ held self.old }
+        ensures engine { engine_of self.new ≡ engine_of self.old }
         ensures grown { room self.new ≡ room self.old };
 
     /// Lends the recovery shards of the given originals, and ends the round.
@@ -111,10 +217,20 @@ pub trait RateEncoder<E: Engine>: Sized {
     /// Refused with `TooFewOriginalShards` where originals are missing; a refusal changes nothing.
     fn encode(&mut self, steps: &mut Steps) -> Result<EncoderResult<'_>, Error>
         ensures answer { EncodeAnswers (state self.old) (answered_shards result) }
-        ensures* ends { sem 𝓛 (EndsWith Self.row self.entry (λ now. (state now ≡ after_encode (state self.old)) × (held now ≡ held self.old) × (room now ≡ room self.old))) };
+        ensures* ends { sem 𝓛 (EndsWith Self.row self.entry (λ now. (state now ≡ after_encode (state self.old)) × (engine_of now ≡ engine_of self.old) × (room now ≡ room self.old))) };
 
-    /// Each encoder's configuration is a valid one of its rate.
-    ghost valid: { (x : Self) → ((state x).configuration.rate ≡ rate) × (validated (state x).configuration ≡ Ok tt) };
+    /// The engine and the rows, for another encoder: they have room for this one's configuration.
+    fn into_parts(self) -> (E, EncoderWork)
+        ensures engine { result.0 ≡ engine_of self }
+        ensures room { work_room result.1 ≡ room self }
+        ensures enough { let c = (state self).configuration in
+            chunk_count (encoder_rows rate c.original_count c.recovery_count) c.shard_bytes ≤ work_room result.1 };
+
+    /// An encoder's configuration is a valid one of its rate, and no more is given than it takes.
+    ghost valid: { (x : Self) → IsEncoder rate (state x) };
+
+    /// An encoder has room for its own rows.
+    ghost own_room: { (x : Self) → chunk_count (encoder_rows rate (state x).configuration.original_count (state x).configuration.recovery_count) (state x).configuration.shard_bytes ≤ room x };
 }
 
 /// The decoder of a rate, over an engine.
@@ -130,7 +246,8 @@ pub trait RateDecoder<E: Engine>: Sized {
     ghost use Rattle.rs_field.specs.Placement.{decoder_rows};
     ghost use Rattle.rs_field.specs.Outcome.{answer_of, state_after};
     ghost use Rattle.rs_field.specs.Configuration.{configuration, validated, started, UpToMemory, FitsWithin};
-    ghost use Rattle.rs_field.specs.Decoder.{DecoderState, fresh_decoder, with_original, with_recovery, DecodePlaces, after_decode};
+    ghost use Rattle.rs_field.specs.Decoder.{DecoderState, IsDecoder, fresh_decoder, with_original, with_recovery, DecodePlaces, after_decode};
+    ghost use Rattle.rs_rate.specs.DecoderView.{DecoderRoom, HasRoom, Grows, work_room};
     ghost use Rattle.rs_rate.specs.ResultView.{answered_originals};
     ghost use Rattle.rs_rate.specs.Loan.{EndsWith};
 
@@ -141,7 +258,9 @@ pub trait RateDecoder<E: Engine>: Sized {
 
     ghost state: { Self → DecoderState };
 
-    ghost held: { Self → E };
+    ghost engine_of: { Self → E };
+
+    ghost room: { Self → DecoderRoom };
 
     /// Whether the rate supports `original_count` originals with `recovery_count` recovery shards.
     fn supports(original_count: usize, recovery_count: usize) -> bool
@@ -169,11 +288,15 @@ pub trait RateDecoder<E: Engine>: Sized {
     ) -> Result<Self, Error>
         ensures answer { let c = configuration rate original_count recovery_count shard_bytes in
             UpToMemory (started (decoder_rows rate original_count recovery_count) c) (answer_of result) }
-        ensures made { IfOk result (λ x. (state x ≡ fresh_decoder (configuration rate original_count recovery_count shard_bytes)) × (held x ≡ engine)) };
+        ensures made { IfOk result (λ x. (state x ≡ fresh_decoder (configuration rate original_count recovery_count shard_bytes)) × (engine_of x ≡ engine)) }
+        ensures grown { IfOk result (λ x. IfSome work (λ w. Grows (work_room w) (room x))) }
+        ensures roomy { IfSome work (λ w. HasRoom (work_room w) (decoder_rows rate original_count recovery_count) shard_bytes
+            → answer_of result ≡ started (decoder_rows rate original_count recovery_count) (configuration rate original_count recovery_count shard_bytes)) };
 
     /// The decoder with another configuration and nothing given. Refused as `new`; a refusal changes nothing.
     ///
-    /// `OutOfMemory` never comes where the counts are the decoder's own and the size is not above its own.
+    /// `OutOfMemory` never comes where the rows fit the room that the decoder has: where they are its own and the size
+    /// is not above its own, and where its working space was grown for as much before.
     fn reset(
         &mut self,
         original_count: usize,
@@ -184,8 +307,11 @@ pub trait RateDecoder<E: Engine>: Sized {
             UpToMemory (started (decoder_rows rate original_count recovery_count) c) result }
         ensures ok { OnOk result (state self.new ≡ fresh_decoder (configuration rate original_count recovery_count shard_bytes)) }
         ensures err { OnErr result (state self.new ≡ state self.old) }
-        ensures roomy { FitsWithin (state self.old).configuration (configuration rate original_count recovery_count shard_bytes) → result ≢ Err Error.OutOfMemory }
-        ensures engine { held self.new ≡ held self.old };
+        ensures roomy { HasRoom (room self.old) (decoder_rows rate original_count recovery_count) shard_bytes
+            → result ≡ started (decoder_rows rate original_count recovery_count) (configuration rate original_count recovery_count shard_bytes) }
+        ensures own { FitsWithin (state self.old).configuration (configuration rate original_count recovery_count shard_bytes) → result ≢ Err Error.OutOfMemory }
+        ensures engine { engine_of self.new ≡ engine_of self.old }
+        ensures grown { Grows (room self.old) (room self.new) };
 
     /// Gives the original of this index, of the decoder's size in bytes.
     ///
@@ -194,7 +320,8 @@ pub trait RateDecoder<E: Engine>: Sized {
     fn add_original_shard(&mut self, index: usize, original_shard: &[u8]) -> Result<(), Error>
         ensures answer { result ≡ answer_of (with_original (state self.old) index original_shard.now) }
         ensures left { state self.new ≡ state_after (state self.old) (with_original (state self.old) index original_shard.now) }
-        ensures engine { held self.new ≡ held self.old };
+        ensures engine { engine_of self.new ≡ engine_of self.old }
+        ensures grown { room self.new ≡ room self.old };
 
     /// Gives the recovery shard of this index, of the decoder's size in bytes.
     ///
@@ -203,7 +330,8 @@ pub trait RateDecoder<E: Engine>: Sized {
     fn add_recovery_shard(&mut self, index: usize, recovery_shard: &[u8]) -> Result<(), Error>
         ensures answer { result ≡ answer_of (with_recovery (state self.old) index recovery_shard.now) }
         ensures left { state self.new ≡ state_after (state self.old) (with_recovery (state self.old) index recovery_shard.now) }
-        ensures engine { held self.new ≡ held self.old };
+        ensures engine { engine_of self.new ≡ engine_of self.old }
+        ensures grown { room self.new ≡ room self.old };
 
     /// Lends the originals that were not given, and ends the round.
     ///
@@ -212,8 +340,18 @@ pub trait RateDecoder<E: Engine>: Sized {
     /// indexes that were not given, each of the decoder's size.
     fn decode(&mut self, steps: &mut Steps) -> Result<DecoderResult<'_>, Error>
         ensures answer { DecodePlaces (state self.old) (answered_originals result) }
-        ensures* ends { sem 𝓛 (EndsWith Self.row self.entry (λ now. (state now ≡ after_decode (state self.old)) × (held now ≡ held self.old))) };
+        ensures* ends { sem 𝓛 (EndsWith Self.row self.entry (λ now. (state now ≡ after_decode (state self.old)) × (engine_of now ≡ engine_of self.old) × (room now ≡ room self.old))) };
 
-    /// Each decoder's configuration is a valid one of its rate.
-    ghost valid: { (x : Self) → ((state x).configuration.rate ≡ rate) × (validated (state x).configuration ≡ Ok tt) };
+    /// The engine and the rows, for another decoder: they have room for this one's configuration.
+    fn into_parts(self) -> (E, DecoderWork)
+        ensures engine { result.0 ≡ engine_of self }
+        ensures room { work_room result.1 ≡ room self }
+        ensures enough { let c = (state self).configuration in
+            HasRoom (work_room result.1) (decoder_rows rate c.original_count c.recovery_count) c.shard_bytes };
+
+    /// A decoder's configuration is a valid one of its rate, and what is given fits it.
+    ghost valid: { (x : Self) → IsDecoder rate (state x) };
+
+    /// A decoder has room for its own rows.
+    ghost own_room: { (x : Self) → HasRoom (room x) (decoder_rows rate (state x).configuration.original_count (state x).configuration.recovery_count) (state x).configuration.shard_bytes };
 }

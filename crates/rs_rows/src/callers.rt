@@ -1,10 +1,16 @@
-//! Callers that know an encoder by its trait alone.
-ghost use Rattle.std.specs.Prelude.{◌≡◌, ◌<◌, length, IfErr, Err};
+//! Callers that know an encoder, a decoder or a rate by its trait alone.
+ghost use Rattle.std.specs.Prelude.{◌≡◌, ◌*◌, ◌<◌, ◌⊎◌, length, IfErr, IfOk, OnOk, OnErr, MatchResult, Err};
+ghost use Rattle.reed_solomon_simd.specs.Counts.{default_rate};
+ghost use Rattle.reed_solomon_simd.specs.Placement.{decoder_rows, encoder_rows};
+ghost use Rattle.reed_solomon_simd.specs.Configuration.{configuration, started};
+ghost use Rattle.reed_solomon_simd.specs.Outcome.{answer_of};
 ghost use Rattle.reed_solomon_simd.specs.Encoder.{EncoderState, fresh_encoder};
+ghost use Rattle.reed_solomon_simd.specs.Decoder.{fresh_decoder};
 
 use reed_solomon_simd::Error;
 use reed_solomon_simd::engine::{Engine, Steps};
-use reed_solomon_simd::rate::RateEncoder;
+use reed_solomon_simd::rate::{DefaultRateDecoder, Rate, RateDecoder, RateEncoder};
+use std::alloc::Global;
 
 /// A round ends inside `encode`: once all originals were given and coded, a second `encode` finds nothing given,
 /// whether the first result was dropped or forgotten.
@@ -40,4 +46,52 @@ pub fn encode_too_early<E: Engine, X: RateEncoder<E> + Drop>(
 {
     let _ = encoder.encode(steps)?;
     Ok(())
+}
+
+/// A decoder of the default rate passes from any configuration to one of the high rate; a refusal, also for memory,
+/// leaves all as it was.
+pub fn pass_to_high<E: Engine>(decoder: &mut DefaultRateDecoder<E>) -> Result<(), Error>
+    ensures ok { OnOk result (⟦<DefaultRateDecoder<E> as RateDecoder<E>>⟧.state decoder.new ≡ fresh_decoder (configuration default_rate 3 2 2)) }
+    ensures err { OnErr result (⟦<DefaultRateDecoder<E> as RateDecoder<E>>⟧.state decoder.new ≡ ⟦<DefaultRateDecoder<E> as RateDecoder<E>>⟧.state decoder.old) }
+    ensures engine { ⟦<DefaultRateDecoder<E> as RateDecoder<E>>⟧.held decoder.new ≡ ⟦<DefaultRateDecoder<E> as RateDecoder<E>>⟧.held decoder.old }
+{
+    decoder.reset(3, 2, 2)
+}
+
+/// An encoder of a rate, known by the rate alone: where the rate supports the counts it refuses to encode nothing.
+pub fn encode_nothing<E: Engine, R: Rate<E>>(
+    alloc: Global,
+    engine: E,
+    steps: &mut Steps,
+) -> Result<(), Error>
+    ensures { MatchResult (started (encoder_rows R.rate 2 3) (configuration R.rate 2 3 2))
+        (λ _. (result ≡ Err Error.OutOfMemory) ⊎ (result ≡ Err (Error.TooFewOriginalShards 2 0))) (λ e. result ≡ Err e) }
+{
+    let mut encoder = R::encoder(alloc, 2, 3, 2, engine, None)?;
+    let _ = encoder.encode(steps)?;
+    Ok(())
+}
+
+/// A decoder's parts make another decoder of the rate and of the same configuration, with nothing given and the same
+/// engine: no memory is taken, so none is lacking.
+pub fn make_again<E: Engine, R: Rate<E>>(
+    alloc: Global,
+    decoder: R::RateDecoder,
+    original_count: usize,
+    recovery_count: usize,
+    shard_bytes: usize,
+) -> Result<R::RateDecoder, Error>
+    requires { (R.RateDecoder.state decoder).configuration ≡ configuration R.rate original_count recovery_count shard_bytes }
+    ensures answer { answer_of result ≡ started (decoder_rows R.rate original_count recovery_count) (configuration R.rate original_count recovery_count shard_bytes) }
+    ensures made { IfOk result (λ x. (R.RateDecoder.state x ≡ fresh_decoder (configuration R.rate original_count recovery_count shard_bytes)) × (R.RateDecoder.held x ≡ R.RateDecoder.held decoder)) }
+{
+    let (engine, work) = decoder.into_parts();
+    R::decoder(
+        alloc,
+        original_count,
+        recovery_count,
+        shard_bytes,
+        engine,
+        Some(work),
+    )
 }

@@ -1,6 +1,8 @@
-//! Callers that know an encoder by its trait alone, and rows that cross the crates.
+//! Callers that know an object or a rate by its trait alone, and rows that cross the crates.
 #![tactic(auto)]
 
+#[cfg(test)]
+mod all_rates;
 #[cfg(test)]
 mod answers;
 pub mod callers;

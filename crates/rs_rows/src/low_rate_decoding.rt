@@ -6,7 +6,7 @@ use reed_solomon_simd::{DecoderResult, Error};
 use std::test::Fail;
 
 // A shard by its index.
-type Item = (usize, &'static [u8]);
+pub type Item = (usize, &'static [u8]);
 
 // Counts, the size, given originals, given recovery shards and restored originals.
 type Row = (
@@ -73,7 +73,7 @@ fn restores(lent: &DecoderResult<'_>, restored: &[Item]) -> bool {
 }
 
 // Whether a round of the decoder gives just these restored originals.
-fn decodes<E: Engine, X: RateDecoder<E>>(
+pub fn decodes<E: Engine, X: RateDecoder<E>>(
     decoder: &mut X,
     original: &[Item],
     recovery: &[Item],

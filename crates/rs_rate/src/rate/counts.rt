@@ -1,13 +1,13 @@
 //! Powers of two, supported counts and numbers of rows.
 ghost use Rattle.std.specs.Prelude.{◌≡◌, ◌≢◌, ℕ, ◌+◌, ◌%◌, ◌^◌, ◌<◌, ◌≤◌, true};
-ghost use Rattle.rs_field.specs.Counts.{next_power, supports, low_rate};
-ghost use Rattle.rs_field.specs.Configuration.{configuration, validated};
+ghost use Rattle.rs_field.specs.Counts.{next_power, supports, is_low, low_rate, high_rate, default_rate};
 ghost use Rattle.rs_field.specs.Placement.{encoder_rows};
-ghost use Rattle.rs_rate.specs.DecoderState.{frame_of};
+ghost use Rattle.rs_rate.specs.EncoderView.{encoder_shape};
+ghost use Rattle.rs_rate.specs.DecoderView.{frame_of};
 
-use crate::rate::places::Frame;
+use crate::rate::encoder_work::EncoderShape;
+use crate::rate::marks::Frame;
 use rs_field::engine::GF_ORDER;
-use rs_field::error::Error;
 
 // The least power of two that is not below n.
 pub(crate) fn power_of_two(n: usize) -> usize
@@ -33,36 +33,90 @@ pub(crate) fn low_supports(original_count: usize, recovery_count: usize) -> bool
     power_of_two(original_count) + recovery_count <= GF_ORDER
 }
 
-// What `validate` of the low rate answers.
-pub(crate) fn low_validate(
+// Whether the high rate supports the counts: those that the low rate supports the other way round.
+pub(crate) fn high_supports(original_count: usize, recovery_count: usize) -> bool
+    ensures { result ≡ supports high_rate original_count recovery_count }
+{
+    low_supports(recovery_count, original_count)
+}
+
+// Whether the default rate supports the counts.
+pub(crate) fn default_supports(original_count: usize, recovery_count: usize) -> bool
+    ensures { result ≡ supports default_rate original_count recovery_count }
+{
+    if original_count == 0 || recovery_count == 0 {
+        return false;
+    }
+    if original_count > GF_ORDER || recovery_count > GF_ORDER {
+        return false;
+    }
+    let smaller_power = power_of_two(original_count).min(power_of_two(recovery_count));
+    smaller_power + original_count.max(recovery_count) <= GF_ORDER
+}
+
+// Whether the default rate is the low rate, at counts that it supports.
+pub(crate) fn default_is_low(original_count: usize, recovery_count: usize) -> bool
+    requires { supports default_rate original_count recovery_count ≡ true }
+    ensures { result ≡ is_low default_rate original_count recovery_count }
+{
+    let original_power = power_of_two(original_count);
+    let recovery_power = power_of_two(recovery_count);
+    original_power < recovery_power
+        || (original_power == recovery_power && recovery_count < original_count)
+}
+
+// What a low-rate encoder is laid out for: rows for the recovery shards, in whole blocks of the originals' power of two.
+pub(crate) fn low_encoder_shape(
     original_count: usize,
     recovery_count: usize,
     shard_bytes: usize,
-) -> Result<(), Error>
-    ensures { result ≡ validated (configuration low_rate original_count recovery_count shard_bytes) }
+) -> EncoderShape
+    requires { supports low_rate original_count recovery_count ≡ true }
+    ensures shape { result ≡ encoder_shape low_rate original_count recovery_count shard_bytes }
+    ensures counts { (result.original_count ≡ original_count) × (result.recovery_count ≡ recovery_count) × (result.shard_bytes ≡ shard_bytes) }
+    ensures originals { original_count ≤ result.row_count }
+    ensures recovery { recovery_count ≤ result.row_count }
 {
-    if !low_supports(original_count, recovery_count) {
-        return Err(Error::UnsupportedShardCount {
-            original_count,
-            recovery_count,
-        });
+    let block_rows = power_of_two(original_count);
+    EncoderShape {
+        original_count,
+        recovery_count,
+        shard_bytes,
+        row_count: whole_blocks(recovery_count, original_count),
+        block_rows,
     }
-    if shard_bytes == 0 || shard_bytes % 2 == 1 {
-        return Err(Error::InvalidShardSize { shard_bytes });
-    }
-    Ok(())
 }
 
-// The rows of a low-rate encoder: the recovery shards, in whole chunks of the originals' power of two.
-pub(crate) fn low_encoder_rows(original_count: usize, recovery_count: usize) -> usize
-    requires { supports low_rate original_count recovery_count ≡ true }
-    ensures rows { result ≡ encoder_rows low_rate original_count recovery_count }
-    ensures originals { original_count ≤ result }
-    ensures recovery { recovery_count ≤ result }
-    ensures whole { result % next_power original_count ≡ 0 }
-    ensures points { result + next_power original_count ≤ 65536 }
+// What a high-rate encoder is laid out for: rows for the originals, in whole blocks of the recovery shards' power of two.
+pub(crate) fn high_encoder_shape(
+    original_count: usize,
+    recovery_count: usize,
+    shard_bytes: usize,
+) -> EncoderShape
+    requires { supports high_rate original_count recovery_count ≡ true }
+    ensures shape { result ≡ encoder_shape high_rate original_count recovery_count shard_bytes }
+    ensures counts { (result.original_count ≡ original_count) × (result.recovery_count ≡ recovery_count) × (result.shard_bytes ≡ shard_bytes) }
+    ensures originals { original_count ≤ result.row_count }
+    ensures recovery { recovery_count ≤ result.row_count }
 {
-    recovery_count.next_multiple_of(power_of_two(original_count))
+    let block_rows = power_of_two(recovery_count);
+    EncoderShape {
+        original_count,
+        recovery_count,
+        shard_bytes,
+        row_count: whole_blocks(original_count, recovery_count),
+        block_rows,
+    }
+}
+
+// So many rows, rounded up to whole blocks of the power of two of `block_count`.
+fn whole_blocks(count: usize, block_count: usize) -> usize
+    requires { supports low_rate block_count count ≡ true }
+    ensures rows { result ≡ encoder_rows low_rate block_count count }
+    ensures block { block_count ≤ result }
+    ensures all { count ≤ result }
+{
+    count.next_multiple_of(power_of_two(block_count))
 }
 
 // The frame of a low-rate decoder.
@@ -83,5 +137,26 @@ pub(crate) fn low_frame(original_count: usize, recovery_count: usize) -> Frame
         recovery_from: size,
         zeros_from: original_count,
         zeros_to: size,
+    }
+}
+
+// The frame of a high-rate decoder.
+pub(crate) fn high_frame(original_count: usize, recovery_count: usize) -> Frame
+    requires { supports high_rate original_count recovery_count ≡ true }
+    ensures frame { result ≡ frame_of high_rate original_count recovery_count }
+    ensures some { 0 < result.row_count }
+    ensures few { result.row_count ≤ 65536 }
+    ensures originals { result.originals_from + original_count ≤ result.row_count }
+    ensures recovery { result.recovery_from + recovery_count ≤ result.row_count }
+    ensures apart { (i j : ℕ) → i < original_count → j < recovery_count → result.originals_from + i ≢ result.recovery_from + j }
+{
+    let size = power_of_two(recovery_count);
+    let row_count = power_of_two(size + original_count);
+    Frame {
+        row_count,
+        originals_from: size,
+        recovery_from: 0,
+        zeros_from: size + original_count,
+        zeros_to: GF_ORDER,
     }
 }

@@ -1,107 +1,224 @@
-//! The working space of a decoder: its configuration, its rows and which shards were given.
-ghost use Rattle.std.specs.Prelude.{◌≡◌, ◌≢◌, ℕ, ◌+◌, ◌*◌, ◌%◌, ◌^◌, ◌<◌, ◌≤◌, length, Err, IfOk, IfErr, OnOk, OnErr, IsOk, None, option_copied};
+//! The working space of a decoder: the memory that is handed on, and a decoder's rows in it.
+ghost use Rattle.std.specs.Prelude.{◌≡◌, ◌≢◌, ℕ, ◌+◌, ◌*◌, ◌%◌, ◌^◌, ◌<◌, ◌≤◌, true, length, vec_len, IfOk, IfErr, IfSome, OnOk, OnErr, IsOk, option_copied};
+ghost use Rattle.std.specs.Vec.{vec_capacity};
+ghost use Rattle.rs_field.specs.Column.{IsShard};
 ghost use Rattle.rs_field.specs.Counts.{Rate};
-ghost use Rattle.rs_field.specs.Configuration.{configuration};
 ghost use Rattle.rs_field.specs.Outcome.{answer_of, state_after};
 ghost use Rattle.rs_field.specs.Decoder.{fresh_decoder, with_original, with_recovery, enough_given};
-ghost use Rattle.rs_rate.specs.Held.{items_of, room_of, chunk_count as chunk_count_of};
-ghost use Rattle.rs_rate.specs.DecoderView.{given_rows};
+ghost use Rattle.rs_rate.specs.ShardRows.{chunk_count as chunk_count_of, shard_laid_out};
+ghost use Rattle.rs_rate.specs.Marks.{mark_at, is_given, given_rows};
 
-use crate::rate::growth::{chunk_count, cut, insert_held, make_room, shard_at};
-use crate::rate::places::{Frame, Place, clear_places, is_given_at, is_restored_at, mark_given};
+use crate::rate::marks::{Frame, Mark, is_given_at, is_restored_at, mark_given, set_empty};
+use crate::rate::memory::{make_room, set_chunks};
+use crate::rate::shard_rows::{chunk_count, insert_at, shard_at, shard_is_bytes};
 use rs_field::engine::tables::Tables;
 use rs_field::engine::{GF_ORDER, GfElement};
 use rs_field::error::Error;
 use std::alloc::Global;
 
-/// The rows of a decoder. They can be handed from one decoder to the next, which then takes less memory anew.
+/// The memory of a decoder. It can be handed from one decoder to the next, which then takes less memory anew.
 #[derive(Drop)]
 pub struct DecoderWork {
-    pub(crate) original_count: usize,
-    pub(crate) recovery_count: usize,
-    pub(crate) shard_bytes: usize,
-    pub(crate) original_received_count: usize,
-    pub(crate) recovery_received_count: usize,
-    pub(crate) frame: Frame,
-    pub(crate) places: Option<Vec<Place>>,
-    pub(crate) erasures: Option<Vec<GfElement>>,
-    pub(crate) tables: Option<Tables>,
-    pub(crate) rows: Option<Vec<[u8; 64]>>,
-    pub ghost original_rows: { frame.originals_from + original_count ≤ frame.row_count },
-    pub ghost recovery_rows: { frame.recovery_from + recovery_count ≤ frame.row_count },
-    pub ghost apart: { (i j : ℕ) → i < original_count → j < recovery_count → frame.originals_from + i ≢ frame.recovery_from + j },
-    pub ghost fits: { chunk_count_of frame.row_count shard_bytes ≤ length (items_of rows) },
-    pub ghost sized: { chunk_count_of frame.row_count shard_bytes * 64 < 2 ^ 64 },
-    pub ghost placed: { frame.row_count ≤ length (items_of places) },
-    pub ghost few: { frame.row_count ≤ 65536 },
-    pub ghost buffered: { 0 < frame.row_count → length (items_of erasures) ≡ 65536 },
-    pub ghost tabled: { 0 < frame.row_count → tables ≢ None },
-    pub ghost originals_counted: { original_received_count ≡ given_rows (items_of places) frame.originals_from original_count },
-    pub ghost recovery_counted: { recovery_received_count ≡ given_rows (items_of places) frame.recovery_from recovery_count },
+    pub(crate) memory: Option<DecoderMemory>,
+}
+
+/// Chunks and marks of rows, and what the locator needs: a buffer of an entry for each point, and tables.
+#[derive(Drop)]
+pub struct DecoderMemory {
+    pub(crate) chunks: Vec<[u8; 64]>,
+    pub(crate) marks: Vec<Mark>,
+    pub(crate) erasures: Vec<GfElement>,
+    pub(crate) tables: Tables,
+    pub ghost points: { vec_len erasures ≡ 65536 },
+}
+
+/// What a decoder's rows are laid out for: its counts, the size of a shard, and where its shards stand.
+#[derive(Clone, Copy)]
+pub struct DecoderShape {
+    pub original_count: usize,
+    pub recovery_count: usize,
+    pub shard_bytes: usize,
+    pub frame: Frame,
+}
+
+/// The rows of a decoder, and how many shards were given.
+#[derive(Drop)]
+pub struct DecoderRows {
+    pub(crate) shape: DecoderShape,
+    pub(crate) originals_given: usize,
+    pub(crate) recovery_given: usize,
+    pub(crate) memory: DecoderMemory,
+    pub ghost positive: { 0 < shape.shard_bytes },
+    pub ghost even: { shape.shard_bytes % 2 ≡ 0 },
+    pub ghost few: { shape.frame.row_count ≤ 65536 },
+    pub ghost original_rows: { shape.frame.originals_from + shape.original_count ≤ shape.frame.row_count },
+    pub ghost recovery_rows: { shape.frame.recovery_from + shape.recovery_count ≤ shape.frame.row_count },
+    pub ghost apart: { (i j : ℕ) → i < shape.original_count → j < shape.recovery_count → shape.frame.originals_from + i ≢ shape.frame.recovery_from + j },
+    pub ghost whole: { vec_len memory.chunks ≡ chunk_count_of shape.frame.row_count shape.shard_bytes },
+    pub ghost own_chunks: { chunk_count_of shape.frame.row_count shape.shard_bytes ≤ vec_capacity memory.chunks },
+    pub ghost sized: { chunk_count_of shape.frame.row_count shape.shard_bytes * 64 < 2 ^ 64 },
+    pub ghost marked: { vec_len memory.marks ≡ shape.frame.row_count },
+    pub ghost own_marks: { shape.frame.row_count ≤ vec_capacity memory.marks },
+    pub ghost originals_counted: { originals_given ≡ given_rows memory.marks.items shape.frame.originals_from shape.original_count },
+    pub ghost recovery_counted: { recovery_given ≡ given_rows memory.marks.items shape.frame.recovery_from shape.recovery_count },
+    pub ghost shards: { (p : ℕ) → is_given (mark_at memory.marks.items p) ≡ true → IsShard shape.shard_bytes (shard_laid_out memory.chunks.items shape.shard_bytes p) },
 }
 
 impl DecoderWork {
-    ghost use Rattle.rs_rate.specs.DecoderState.{decoder_room, decoder_state, restored_of};
+    ghost use Rattle.std.specs.Prelude.{false};
+    ghost use Rattle.rs_rate.specs.DecoderView.{work_room};
 
-    /// A working space that holds nothing yet and took no memory.
+    /// A working space that took no memory yet.
     pub fn new() -> DecoderWork
-        ensures { decoder_room result ≡ 0 }
+        ensures { work_room result ≡ record { chunks = 0; rows = 0; is_located = false } }
     {
-        DecoderWork {
-            original_count: 0,
-            recovery_count: 0,
-            shard_bytes: 0,
-            original_received_count: 0,
-            recovery_received_count: 0,
-            frame: Frame {
-                row_count: 0,
-                originals_from: 0,
-                recovery_from: 0,
-                zeros_from: 0,
-                zeros_to: 0,
-            },
-            places: None,
-            erasures: None,
-            tables: None,
-            rows: None,
+        DecoderWork { memory: None }
+    }
+}
+
+impl Default for DecoderWork {
+    ghost use Rattle.std.specs.Prelude.{false};
+    ghost use Rattle.rs_rate.specs.DecoderView.{work_room};
+
+    ghost is_default = { λ work. work_room work ≡ record { chunks = 0; rows = 0; is_located = false } };
+
+    fn default() -> DecoderWork {
+        DecoderWork::new()
+    }
+}
+
+impl DecoderMemory {
+    ghost use Rattle.rs_rate.specs.DecoderView.{HasRoom, Grows, memory_room, work_room};
+
+    // The memory that is handed on, or what a decoder needs before it has rows.
+    fn of(alloc: Global, work: Option<DecoderWork>) -> Result<DecoderMemory, Error>
+        ensures grown { IfOk result (λ m. IfSome work (λ w. Grows (work_room w) (memory_room m))) }
+        ensures memory { IfErr result (λ e. e ≡ Error.OutOfMemory) }
+        ensures enough { IfSome work (λ w. (work_room w).is_located ≡ true → IsOk result) }
+    {
+        let memory = match work {
+            Some(work) => work.memory,
+            None => None,
+        };
+        match memory {
+            Some(memory) => Ok(memory),
+            None => DecoderMemory::new(alloc),
         }
     }
 
-    // Every growth first, then the new configuration.
-    pub(crate) fn configure(
-        &mut self,
-        alloc: Global,
-        original_count: usize,
-        recovery_count: usize,
-        shard_bytes: usize,
-        frame: Frame,
-    ) -> Result<(), Error>
-        requires some { 0 < frame.row_count }
-        requires few { frame.row_count ≤ 65536 }
-        requires original_rows { frame.originals_from + original_count ≤ frame.row_count }
-        requires recovery_rows { frame.recovery_from + recovery_count ≤ frame.row_count }
-        requires apart { (i j : ℕ) → i < original_count → j < recovery_count → frame.originals_from + i ≢ frame.recovery_from + j }
-        ensures ok { OnOk result ((rate : Rate) → decoder_state rate self.new ≡ fresh_decoder (configuration rate original_count recovery_count shard_bytes)) }
-        ensures err { OnErr result ((rate : Rate) → decoder_state rate self.new ≡ decoder_state rate self.old) }
-        ensures counts { OnOk result ((self.new.original_count ≡ original_count) × (self.new.recovery_count ≡ recovery_count) × (self.new.shard_bytes ≡ shard_bytes) × (self.new.frame ≡ frame)) }
-        ensures same_counts { OnErr result ((self.new.original_count ≡ self.old.original_count) × (self.new.recovery_count ≡ self.old.recovery_count) × (self.new.shard_bytes ≡ self.old.shard_bytes) × (self.new.frame ≡ self.old.frame)) }
-        ensures memory { IfErr result (λ e. e ≡ Error.OutOfMemory) }
-        ensures overflow { IfOk result (λ _. chunk_count_of frame.row_count shard_bytes * 64 < 2 ^ 64) }
-        ensures own { frame.row_count ≡ self.old.frame.row_count → shard_bytes ≤ self.old.shard_bytes → IsOk result }
+    fn new(alloc: Global) -> Result<DecoderMemory, Error>
+        ensures { IfErr result (λ e. e ≡ Error.OutOfMemory) }
     {
-        let chunks = chunk_count(frame.row_count, shard_bytes)?;
-        make_room(alloc, &mut self.rows, chunks)?;
-        make_room(alloc, &mut self.places, frame.row_count)?;
-        make_buffer(alloc, &mut self.erasures)?;
-        make_tables(alloc, &mut self.tables)?;
-        cut(&mut self.rows, chunks);
-        clear_places(&mut self.places, frame.row_count);
-        self.original_count = original_count;
-        self.recovery_count = recovery_count;
-        self.shard_bytes = shard_bytes;
-        self.frame = frame;
-        self.original_received_count = 0;
-        self.recovery_received_count = 0;
+        Ok(DecoderMemory {
+            chunks: Vec::new(alloc),
+            marks: Vec::new(alloc),
+            erasures: vec![in alloc; 0; GF_ORDER]?,
+            tables: Tables::new(alloc)?,
+        })
+    }
+
+    // Makes room for so many chunks and rows; nothing else changes.
+    fn make_room(&mut self, chunks: usize, rows: usize) -> Result<(), Error>
+        ensures chunks { self.new.chunks.items ≡ self.old.chunks.items }
+        ensures marks { self.new.marks.items ≡ self.old.marks.items }
+        ensures room { OnOk result ((chunks ≤ vec_capacity self.new.chunks) × (rows ≤ vec_capacity self.new.marks)) }
+        ensures grown { Grows (memory_room self.old) (memory_room self.new) }
+        ensures memory { IfErr result (λ e. e ≡ Error.OutOfMemory) }
+        ensures enough { chunks ≤ vec_capacity self.old.chunks → rows ≤ vec_capacity self.old.marks → IsOk result }
+    {
+        make_room(&mut self.chunks, chunks)?;
+        make_room(&mut self.marks, rows)
+    }
+
+    // Holds so many chunks and so many rows that are marked as empty, for which there is room.
+    fn set_empty(&mut self, chunks: usize, rows: usize)
+        requires chunks { chunks ≤ vec_capacity self.old.chunks }
+        requires rows { rows ≤ vec_capacity self.old.marks }
+        ensures chunks { vec_len self.new.chunks ≡ chunks }
+        ensures marks { vec_len self.new.marks ≡ rows }
+        ensures empty { (p : ℕ) → mark_at self.new.marks.items p ≡ Mark.Empty }
+        ensures grown { Grows (memory_room self.old) (memory_room self.new) }
+    {
+        set_chunks(&mut self.chunks, chunks);
+        set_empty(&mut self.marks, rows);
+    }
+
+    // Lays a shard into row `row` of rows of its size, and marks the row.
+    fn enter(&mut self, row: usize, shard: &[u8])
+        requires room { chunk_count_of (row + 1) (length shard.now) ≤ vec_len self.old.chunks }
+        requires even { length shard.now % 2 ≡ 0 }
+        requires marked { row < vec_len self.old.marks }
+        ensures here { shard_laid_out self.new.chunks.items (length shard.now) row ≡ shard.now }
+        ensures others { (i : ℕ) → i ≢ row → shard_laid_out self.new.chunks.items (length shard.now) i ≡ shard_laid_out self.old.chunks.items (length shard.now) i }
+        ensures shard { IsShard (length shard.now) shard.now }
+        ensures mark { mark_at self.new.marks.items row ≡ Mark.Given }
+        ensures other_marks { (p : ℕ) → p ≢ row → mark_at self.new.marks.items p ≡ mark_at self.old.marks.items p }
+        ensures lengths { (vec_len self.new.chunks ≡ vec_len self.old.chunks) × (vec_len self.new.marks ≡ vec_len self.old.marks) }
+        ensures grown { memory_room self.new ≡ memory_room self.old }
+    {
+        shard_is_bytes(shard);
+        insert_at(self.chunks.as_mut_slice(), shard, row);
+        mark_given(self.marks.as_mut_slice(), row);
+    }
+}
+
+impl DecoderRows {
+    ghost use Rattle.rs_rate.specs.DecoderView.{HasRoom, Grows, configuration_of, decoder_state, memory_room, work_room, restored_of};
+
+    // Rows with nothing given, in the memory of `work` where one is passed.
+    pub(crate) fn new(
+        alloc: Global,
+        shape: DecoderShape,
+        work: Option<DecoderWork>,
+    ) -> Result<DecoderRows, Error>
+        requires positive { 0 < shape.shard_bytes }
+        requires even { shape.shard_bytes % 2 ≡ 0 }
+        requires few { shape.frame.row_count ≤ 65536 }
+        requires original_rows { shape.frame.originals_from + shape.original_count ≤ shape.frame.row_count }
+        requires recovery_rows { shape.frame.recovery_from + shape.recovery_count ≤ shape.frame.row_count }
+        requires apart { (i j : ℕ) → i < shape.original_count → j < shape.recovery_count → shape.frame.originals_from + i ≢ shape.frame.recovery_from + j }
+        ensures shape { IfOk result (λ x. x.shape ≡ shape) }
+        ensures state { IfOk result (λ x. (rate : Rate) → decoder_state rate x ≡ fresh_decoder (configuration_of rate shape)) }
+        ensures memory { IfErr result (λ e. e ≡ Error.OutOfMemory) }
+        ensures grown { IfOk result (λ x. IfSome work (λ w. Grows (work_room w) (memory_room x.memory))) }
+        ensures enough { IfSome work (λ w. chunk_count_of shape.frame.row_count shape.shard_bytes * 64 < 2 ^ 64
+            → HasRoom (work_room w) shape.frame.row_count shape.shard_bytes → IsOk result) }
+    {
+        let chunks = chunk_count(shape.frame.row_count, shape.shard_bytes)?;
+        let mut memory = DecoderMemory::of(alloc, work)?;
+        memory.make_room(chunks, shape.frame.row_count)?;
+        memory.set_empty(chunks, shape.frame.row_count);
+        Ok(DecoderRows {
+            shape,
+            originals_given: 0,
+            recovery_given: 0,
+            memory,
+        })
+    }
+
+    // The rows of another shape, with nothing given: every growth first.
+    pub(crate) fn reset(&mut self, shape: DecoderShape) -> Result<(), Error>
+        requires positive { 0 < shape.shard_bytes }
+        requires even { shape.shard_bytes % 2 ≡ 0 }
+        requires few { shape.frame.row_count ≤ 65536 }
+        requires original_rows { shape.frame.originals_from + shape.original_count ≤ shape.frame.row_count }
+        requires recovery_rows { shape.frame.recovery_from + shape.recovery_count ≤ shape.frame.row_count }
+        requires apart { (i j : ℕ) → i < shape.original_count → j < shape.recovery_count → shape.frame.originals_from + i ≢ shape.frame.recovery_from + j }
+        ensures ok { OnOk result ((rate : Rate) → decoder_state rate self.new ≡ fresh_decoder (configuration_of rate shape)) }
+        ensures err { OnErr result ((rate : Rate) → decoder_state rate self.new ≡ decoder_state rate self.old) }
+        ensures shape { OnOk result (self.new.shape ≡ shape) }
+        ensures same_shape { OnErr result (self.new.shape ≡ self.old.shape) }
+        ensures memory { IfErr result (λ e. e ≡ Error.OutOfMemory) }
+        ensures grown { Grows (memory_room self.old.memory) (memory_room self.new.memory) }
+        ensures enough { chunk_count_of shape.frame.row_count shape.shard_bytes * 64 < 2 ^ 64
+            → HasRoom (memory_room self.old.memory) shape.frame.row_count shape.shard_bytes → IsOk result }
+    {
+        let chunks = chunk_count(shape.frame.row_count, shape.shard_bytes)?;
+        self.memory.make_room(chunks, shape.frame.row_count)?;
+        self.memory.set_empty(chunks, shape.frame.row_count);
+        self.shape = shape;
+        self.originals_given = 0;
+        self.recovery_given = 0;
         Ok(())
     }
 
@@ -110,31 +227,29 @@ impl DecoderWork {
         index: usize,
         original_shard: &[u8],
     ) -> Result<(), Error>
-        requires some { 0 < self.old.shard_bytes }
-        requires even { self.old.shard_bytes % 2 ≡ 0 }
         ensures answer { (rate : Rate) → result ≡ answer_of (with_original (decoder_state rate self.old) index original_shard.now) }
         ensures left { (rate : Rate) → decoder_state rate self.new ≡ state_after (decoder_state rate self.old) (with_original (decoder_state rate self.old) index original_shard.now) }
-        ensures counts { (self.new.original_count ≡ self.old.original_count) × (self.new.recovery_count ≡ self.old.recovery_count) × (self.new.shard_bytes ≡ self.old.shard_bytes) × (self.new.frame ≡ self.old.frame) }
+        ensures shape { self.new.shape ≡ self.old.shape }
+        ensures room { memory_room self.new.memory ≡ memory_room self.old.memory }
     {
-        if index >= self.original_count {
+        if index >= self.shape.original_count {
             return Err(Error::InvalidOriginalShardIndex {
-                original_count: self.original_count,
+                original_count: self.shape.original_count,
                 index,
             });
         }
-        let row = self.frame.originals_from + index;
-        if is_given_at(&self.places, row) {
+        let row = self.shape.frame.originals_from + index;
+        if is_given_at(self.memory.marks.as_slice(), row) {
             return Err(Error::DuplicateOriginalShardIndex { index });
         }
-        if original_shard.len() != self.shard_bytes {
+        if original_shard.len() != self.shape.shard_bytes {
             return Err(Error::DifferentShardSize {
-                shard_bytes: self.shard_bytes,
+                shard_bytes: self.shape.shard_bytes,
                 got: original_shard.len(),
             });
         }
-        insert_held(&mut self.rows, original_shard, row);
-        mark_given(&mut self.places, row);
-        self.original_received_count += 1;
+        self.memory.enter(row, original_shard);
+        self.originals_given += 1;
         Ok(())
     }
 
@@ -143,105 +258,56 @@ impl DecoderWork {
         index: usize,
         recovery_shard: &[u8],
     ) -> Result<(), Error>
-        requires some { 0 < self.old.shard_bytes }
-        requires even { self.old.shard_bytes % 2 ≡ 0 }
         ensures answer { (rate : Rate) → result ≡ answer_of (with_recovery (decoder_state rate self.old) index recovery_shard.now) }
         ensures left { (rate : Rate) → decoder_state rate self.new ≡ state_after (decoder_state rate self.old) (with_recovery (decoder_state rate self.old) index recovery_shard.now) }
-        ensures counts { (self.new.original_count ≡ self.old.original_count) × (self.new.recovery_count ≡ self.old.recovery_count) × (self.new.shard_bytes ≡ self.old.shard_bytes) × (self.new.frame ≡ self.old.frame) }
+        ensures shape { self.new.shape ≡ self.old.shape }
+        ensures room { memory_room self.new.memory ≡ memory_room self.old.memory }
     {
-        if index >= self.recovery_count {
+        if index >= self.shape.recovery_count {
             return Err(Error::InvalidRecoveryShardIndex {
-                recovery_count: self.recovery_count,
+                recovery_count: self.shape.recovery_count,
                 index,
             });
         }
-        let row = self.frame.recovery_from + index;
-        if is_given_at(&self.places, row) {
+        let row = self.shape.frame.recovery_from + index;
+        if is_given_at(self.memory.marks.as_slice(), row) {
             return Err(Error::DuplicateRecoveryShardIndex { index });
         }
-        if recovery_shard.len() != self.shard_bytes {
+        if recovery_shard.len() != self.shape.shard_bytes {
             return Err(Error::DifferentShardSize {
-                shard_bytes: self.shard_bytes,
+                shard_bytes: self.shape.shard_bytes,
                 got: recovery_shard.len(),
             });
         }
-        insert_held(&mut self.rows, recovery_shard, row);
-        mark_given(&mut self.places, row);
-        self.recovery_received_count += 1;
+        self.memory.enter(row, recovery_shard);
+        self.recovery_given += 1;
         Ok(())
     }
 
     // Refuses where too few shards are given.
-    pub(crate) fn begin(&self) -> Result<(), Error>
+    pub(crate) fn check_enough_given(&self) -> Result<(), Error>
         ensures { (rate : Rate) → result ≡ enough_given (decoder_state rate self.now) }
     {
-        let received = self.original_received_count + self.recovery_received_count;
-        if received < self.original_count {
+        if self.originals_given + self.recovery_given < self.shape.original_count {
             return Err(Error::NotEnoughShards {
-                original_count: self.original_count,
-                original_received_count: self.original_received_count,
-                recovery_received_count: self.recovery_received_count,
+                original_count: self.shape.original_count,
+                original_received_count: self.originals_given,
+                recovery_received_count: self.recovery_given,
             });
         }
         Ok(())
     }
 
     pub(crate) fn restored_original(&self, index: usize) -> Option<&[u8]>
-        requires { 0 < self.now.shard_bytes }
         ensures { option_copied result ≡ restored_of self.now index }
     {
-        if index >= self.original_count {
+        if index >= self.shape.original_count {
             return None;
         }
-        let row = self.frame.originals_from + index;
-        if !is_restored_at(&self.places, row) {
+        let row = self.shape.frame.originals_from + index;
+        if !is_restored_at(self.memory.marks.as_slice(), row) {
             return None;
         }
-        match &self.rows {
-            Some(rows) => Some(shard_at(rows.as_slice(), self.shard_bytes, row)),
-            None => None,
-        }
+        Some(shard_at(self.memory.chunks.as_slice(), self.shape.shard_bytes, row))
     }
-}
-
-// Makes the buffer of the locator, of an entry for each point.
-fn make_buffer(alloc: Global, held: &mut Option<Vec<GfElement>>) -> Result<(), Error>
-    ensures made { OnOk result (length (items_of held.new) ≡ 65536) }
-    ensures same { OnErr result (held.new ≡ held.old) }
-    ensures memory { IfErr result (λ e. e ≡ Error.OutOfMemory) }
-    ensures own { length (items_of held.old) ≡ 65536 → IsOk result }
-{
-    if held_len(held) != GF_ORDER {
-        *held = Some(filled(alloc)?);
-    }
-    Ok(())
-}
-
-fn held_len(held: &Option<Vec<GfElement>>) -> usize
-    ensures { result ≡ length (items_of held.now) }
-{
-    match held {
-        Some(values) => values.len(),
-        None => 0,
-    }
-}
-
-fn filled(alloc: Global) -> Result<Vec<GfElement>, Error>
-    ensures made { IfOk result (λ v. length v.items ≡ 65536) }
-    ensures memory { IfErr result (λ e. e ≡ Error.OutOfMemory) }
-{
-    Ok(vec![in alloc; 0; GF_ORDER]?)
-}
-
-// Makes the tables that the locator reads.
-fn make_tables(alloc: Global, held: &mut Option<Tables>) -> Result<(), Error>
-    ensures made { OnOk result (held.new ≢ None) }
-    ensures same { OnErr result (held.new ≡ held.old) }
-    ensures memory { IfErr result (λ e. e ≡ Error.OutOfMemory) }
-    ensures own { held.old ≢ None → IsOk result }
-{
-    if held.is_none() {
-        *held = Some(Tables::new(alloc)?);
-    }
-    Ok(())
 }

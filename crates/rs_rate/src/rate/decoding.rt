@@ -5,22 +5,20 @@
 //! method is that of Lin, Chung and Han in the form of Leopard-RS.
 ghost use Rattle.std.specs.Prelude.{◌≡◌, ℕ, ◌+◌, ◌%◌, ◌^◌, ◌*◌, ◌<◌, ◌≤◌, length, slice_index};
 ghost use Rattle.rs_field.specs.Counts.{Rate};
-ghost use Rattle.rs_field.specs.Configuration.{configuration};
 ghost use Rattle.rs_field.specs.Decoder.{fresh_decoder, FillsMissing};
-ghost use Rattle.rs_field.specs.Column.{IsShard};
 ghost use Rattle.rs_field.specs.Tables.{IsLog};
 ghost use Rattle.rs_field.specs.View.{Fits, SamePlace};
-ghost use Rattle.rs_rate.specs.DecoderState.{decoder_state, restored_of, SameCounts};
-ghost use Rattle.rs_rate.specs.DecoderView.{erased, ended, place_at};
-ghost use Rattle.rs_rate.specs.Held.{items_of, chunk_count, shard_moved};
+ghost use Rattle.rs_rate.specs.DecoderView.{configuration_of, decoder_state, memory_room, restored_of};
+ghost use Rattle.rs_rate.specs.Marks.{erased};
+ghost use Rattle.rs_rate.specs.ShardRows.{chunk_count};
 
-use crate::rate::DecoderWork;
-use crate::rate::places::{Frame, Place, end_places};
-use crate::rate::tails::{move_tail, rows_fit};
+use crate::rate::decoder_work::{DecoderMemory, DecoderRows, DecoderShape};
+use crate::rate::marks::{Frame, Mark, end_marks};
+use crate::rate::shard_rows::{in_order_are_bytes, move_tail};
 use rs_field::engine::layout::row_len;
 use rs_field::engine::locator::locator_at;
 use rs_field::engine::rows::{clear_rows, mul_row};
-use rs_field::engine::tables::{Log, Tables, get_exp_log};
+use rs_field::engine::tables::{Log, get_exp_log};
 use rs_field::engine::utils::formal_derivative;
 use rs_field::engine::{Engine, GF_MODULUS, GF_ORDER, GfElement, ShardsRefMut, Steps};
 
@@ -28,220 +26,131 @@ use rs_field::engine::{Engine, GF_MODULUS, GF_ORDER, GfElement, ShardsRefMut, St
 #[derive(Clone, Copy)]
 struct Located<'a> {
     erasures: &'a [GfElement],
-    places: &'a [Place],
+    marks: &'a [Mark],
     log: Log<'a>,
     ghost points: { length erasures.now ≡ 65536 },
-    ghost marks: { (y : ℕ) → y < 65536 → slice_index erasures.now y ≤ 1 },
+    ghost erased_or_not: { (y : ℕ) → y < 65536 → slice_index erasures.now y ≤ 1 },
     ghost logarithms: { IsLog log.now },
 }
 
 // Restores the missing originals and ends the round.
-pub(crate) fn decode_work<E: Engine>(engine: &E, steps: &mut Steps, work: &mut DecoderWork)
-    requires some { 0 < work.old.shard_bytes }
-    requires even { work.old.shard_bytes % 2 ≡ 0 }
-    requires power { (d : ℕ) × (work.old.frame.row_count ≡ 2 ^ d) }
-    ensures state { (rate : Rate) → decoder_state rate work.new ≡ fresh_decoder (configuration rate work.old.original_count work.old.recovery_count work.old.shard_bytes) }
-    ensures restored { (rate : Rate) → FillsMissing (decoder_state rate work.old) (restored_of work.new) }
-    ensures counts { SameCounts work.old work.new }
+pub(crate) fn decode_rows<E: Engine>(engine: &E, steps: &mut Steps, rows: &mut DecoderRows)
+    requires power { (d : ℕ) × (rows.old.shape.frame.row_count ≡ 2 ^ d) }
+    ensures state { (rate : Rate) → decoder_state rate rows.new ≡ fresh_decoder (configuration_of rate rows.old.shape) }
+    ensures restored { (rate : Rate) → FillsMissing (decoder_state rate rows.old) (restored_of rows.new) }
+    ensures shape { rows.new.shape ≡ rows.old.shape }
+    ensures room { memory_room rows.new.memory ≡ memory_room rows.old.memory }
 {
-    restore_work(engine, steps, work);
-    held_fit(&work.rows, work.frame.row_count, work.shard_bytes);
-    end_round(work);
-}
-
-// Restores the missing originals in their rows, where an original is missing.
-fn restore_work<E: Engine>(engine: &E, steps: &mut Steps, work: &mut DecoderWork)
-    requires even { work.old.shard_bytes % 2 ≡ 0 }
-    requires power { (d : ℕ) × (work.old.frame.row_count ≡ 2 ^ d) }
-    ensures places { work.new.places ≡ work.old.places }
-    ensures counts { SameCounts work.old work.new }
-{
-    let frame = work.frame;
-    let original_count = work.original_count;
-    let shard_bytes = work.shard_bytes;
-    if work.original_received_count >= original_count {
-        return;
+    let shape = rows.shape;
+    if rows.originals_given < shape.original_count {
+        restore(engine, steps, &mut rows.memory, shape);
     }
-    let end = (frame.originals_from + original_count).max(
-        frame.recovery_from + work.recovery_count,
+    in_order_are_bytes(
+        rows.memory.chunks.as_slice(),
+        shape.frame.row_count,
+        shape.shard_bytes,
     );
-    mark_held(&mut work.erasures, &work.places, frame);
-    restore_held(
-        engine,
-        steps,
-        &mut work.rows,
-        &work.erasures,
-        &work.places,
-        &work.tables,
-        frame,
-        original_count,
-        end,
-        shard_bytes,
+    end_marks(
+        rows.memory.marks.as_mut_slice(),
+        shape.frame.originals_from,
+        shape.original_count,
     );
+    rows.originals_given = 0;
+    rows.recovery_given = 0;
 }
 
-// Ends the round: nothing is given any more, and the rows of the missing originals hold restored shards.
-fn end_round(work: &mut DecoderWork)
-    ensures state { (rate : Rate) → decoder_state rate work.new ≡ fresh_decoder (configuration rate work.old.original_count work.old.recovery_count work.old.shard_bytes) }
-    ensures places { (p : ℕ) → p < work.old.frame.row_count → place_at (items_of work.new.places) p ≡ ended work.old.frame.originals_from work.old.original_count p (place_at (items_of work.old.places) p) }
-    ensures rows { work.new.rows ≡ work.old.rows }
-    ensures counts { SameCounts work.old work.new }
-{
-    let originals_from = work.frame.originals_from;
-    let original_count = work.original_count;
-    end_places(&mut work.places, originals_from, original_count);
-    work.original_received_count = 0;
-    work.recovery_received_count = 0;
-}
-
-// Marks the erased points in the buffer that is held.
-fn mark_held(erasures: &mut Option<Vec<GfElement>>, places: &Option<Vec<Place>>, frame: Frame)
-    requires points { length (items_of erasures.old) ≡ 65536 }
-    requires placed { frame.row_count ≤ length (items_of places.now) }
-    requires some { 0 < frame.row_count }
-    ensures points { length (items_of erasures.new) ≡ 65536 }
-    ensures erased { (y : ℕ) → y < 65536 → slice_index (items_of erasures.new) y ≡ erased frame.row_count frame.zeros_from frame.zeros_to (items_of places.now) y }
-    ensures marks { (y : ℕ) → y < 65536 → slice_index (items_of erasures.new) y ≤ 1 }
-{
-    if let (Some(marks), Some(marked)) = (erasures, places) {
-        mark_erasures(marks.as_mut_slice(), marked.as_slice(), frame);
-    }
-}
-
-// Restores the missing originals in the rows that are held.
-fn restore_held<E: Engine>(
+// Restores the missing originals in their rows.
+fn restore<E: Engine>(
     engine: &E,
     steps: &mut Steps,
-    held: &mut Option<Vec<[u8; 64]>>,
-    erasures: &Option<Vec<GfElement>>,
-    places: &Option<Vec<Place>>,
-    tables: &Option<Tables>,
-    frame: Frame,
-    original_count: usize,
-    end: usize,
-    shard_bytes: usize,
+    memory: &mut DecoderMemory,
+    shape: DecoderShape,
 )
-    requires power { (d : ℕ) × (frame.row_count ≡ 2 ^ d) }
-    requires few { frame.row_count ≤ 65536 }
-    requires room { chunk_count frame.row_count shard_bytes ≤ length (items_of held.old) }
-    requires placed { frame.row_count ≤ length (items_of places.now) }
-    requires points { length (items_of erasures.now) ≡ 65536 }
-    requires marks { (y : ℕ) → y < 65536 → slice_index (items_of erasures.now) y ≤ 1 }
-    requires originals { frame.originals_from + original_count ≤ end }
-    requires within { end ≤ frame.row_count }
-    requires even { shard_bytes % 2 ≡ 0 }
-    ensures length { length (items_of held.new) ≡ length (items_of held.old) }
+    requires power { (d : ℕ) × (shape.frame.row_count ≡ 2 ^ d) }
+    requires few { shape.frame.row_count ≤ 65536 }
+    requires even { shape.shard_bytes % 2 ≡ 0 }
+    requires originals { shape.frame.originals_from + shape.original_count ≤ shape.frame.row_count }
+    requires recovery { shape.frame.recovery_from + shape.recovery_count ≤ shape.frame.row_count }
+    requires whole { chunk_count shape.frame.row_count shape.shard_bytes ≤ length memory.old.chunks.items }
+    requires marked { shape.frame.row_count ≤ length memory.old.marks.items }
+    ensures marks { memory.new.marks.items ≡ memory.old.marks.items }
+    ensures length { length memory.new.chunks.items ≡ length memory.old.chunks.items }
+    ensures room { memory_room memory.new ≡ memory_room memory.old }
 {
-    let (Some(rows), Some(marks), Some(marked), Some(known)) = (held, erasures, places, tables)
-    else {
-        return;
-    };
+    mark_erasures(
+        memory.erasures.as_mut_slice(),
+        memory.marks.as_slice(),
+        shape.frame,
+    );
     restore_chunks(
         engine,
         steps,
-        rows.as_mut_slice(),
+        memory.chunks.as_mut_slice(),
         Located {
-            erasures: marks.as_slice(),
-            places: marked.as_slice(),
-            log: get_exp_log(known).log.as_slice(),
+            erasures: memory.erasures.as_slice(),
+            marks: memory.marks.as_slice(),
+            log: get_exp_log(&memory.tables).log.as_slice(),
         },
-        frame,
-        original_count,
-        end,
-        shard_bytes,
+        shape,
     );
 }
 
 // Marks the erased points.
-fn mark_erasures(erasures: &mut [GfElement], places: &[Place], frame: Frame)
+fn mark_erasures(erasures: &mut [GfElement], marks: &[Mark], frame: Frame)
     requires points { length erasures.old ≡ 65536 }
-    requires placed { frame.row_count ≤ length places.now }
-    ensures erased { (y : ℕ) → y < 65536 → slice_index erasures.new y ≡ erased frame.row_count frame.zeros_from frame.zeros_to places.now y }
-    ensures marks { (y : ℕ) → y < 65536 → slice_index erasures.new y ≤ 1 }
+    requires marked { frame.row_count ≤ length marks.now }
+    ensures erased { (y : ℕ) → y < 65536 → slice_index erasures.new y ≡ erased frame.row_count frame.zeros_from frame.zeros_to marks.now y }
+    ensures erased_or_not { (y : ℕ) → y < 65536 → slice_index erasures.new y ≤ 1 }
 {
     for y in 0..GF_ORDER {
-        erasures[y] = erasure(y, places, frame);
+        erasures[y] = erasure(y, marks, frame);
     }
 }
 
-// The mark of point y: 1 where it is no known zero and its shard isn't given.
-fn erasure(y: usize, places: &[Place], frame: Frame) -> GfElement
-    requires placed { frame.row_count ≤ length places.now }
-    ensures erased { result ≡ erased frame.row_count frame.zeros_from frame.zeros_to places.now y }
-    ensures mark { result ≤ 1 }
+// The entry of point y: 1 where it is no known zero and its shard isn't given.
+fn erasure(y: usize, marks: &[Mark], frame: Frame) -> GfElement
+    requires marked { frame.row_count ≤ length marks.now }
+    ensures erased { result ≡ erased frame.row_count frame.zeros_from frame.zeros_to marks.now y }
+    ensures erased_or_not { result ≤ 1 }
 {
     if frame.zeros_from <= y && y < frame.zeros_to {
         return 0;
     }
-    if y < frame.row_count && places[y] == Place::Given {
+    if y < frame.row_count && marks[y] == Mark::Given {
         return 0;
     }
     1
 }
 
-// Restores the missing originals in their rows, and moves their tails.
+// Restores the missing originals over all chunks, and moves their tails.
 fn restore_chunks<E: Engine>(
     engine: &E,
     steps: &mut Steps,
     chunks: &mut [[u8; 64]],
     located: Located<'_>,
-    frame: Frame,
-    original_count: usize,
-    end: usize,
-    shard_bytes: usize,
+    shape: DecoderShape,
 )
-    requires power { (d : ℕ) × (frame.row_count ≡ 2 ^ d) }
-    requires few { frame.row_count ≤ 65536 }
-    requires room { chunk_count frame.row_count shard_bytes ≤ length chunks.old }
-    requires placed { frame.row_count ≤ length located.places.now }
-    requires originals { frame.originals_from + original_count ≤ end }
-    requires within { end ≤ frame.row_count }
-    requires even { shard_bytes % 2 ≡ 0 }
+    requires power { (d : ℕ) × (shape.frame.row_count ≡ 2 ^ d) }
+    requires few { shape.frame.row_count ≤ 65536 }
+    requires even { shape.shard_bytes % 2 ≡ 0 }
+    requires originals { shape.frame.originals_from + shape.original_count ≤ shape.frame.row_count }
+    requires recovery { shape.frame.recovery_from + shape.recovery_count ≤ shape.frame.row_count }
+    requires whole { chunk_count shape.frame.row_count shape.shard_bytes ≤ length chunks.old }
+    requires marked { shape.frame.row_count ≤ length located.marks.now }
 {
-    let len = row_len(shard_bytes);
+    let frame = shape.frame;
     let from = frame.originals_from;
-    restore_words(
-        engine,
-        steps,
-        chunks,
-        located,
-        frame.row_count,
-        len,
-        from,
-        original_count,
-        end,
-    );
-    for i in 0..original_count {
-        if located.places[from + i] != Place::Given {
-            steps.row_step();
-            move_tail(chunks, from + i, shard_bytes);
-        }
-    }
-}
-
-// Makes the words of the missing originals, in rows of `len` chunks.
-fn restore_words<E: Engine>(
-    engine: &E,
-    steps: &mut Steps,
-    chunks: &mut [[u8; 64]],
-    located: Located<'_>,
-    row_count: usize,
-    len: usize,
-    from: usize,
-    original_count: usize,
-    end: usize,
-)
-    requires power { (d : ℕ) × (row_count ≡ 2 ^ d) }
-    requires few { row_count ≤ 65536 }
-    requires room { row_count * len ≤ length chunks.old }
-    requires placed { row_count ≤ length located.places.now }
-    requires originals { from + original_count ≤ end }
-    requires within { end ≤ row_count }
-{
-    let mut data = ShardsRefMut::new(row_count, len, chunks);
+    let end = (from + shape.original_count).max(frame.recovery_from + shape.recovery_count);
+    let mut data = ShardsRefMut::new(frame.row_count, row_len(shape.shard_bytes), chunks);
     locate_rows(engine, steps, &mut data, located, end);
     pass_rows(engine, steps, &mut data, end);
-    reveal_rows(engine, steps, &mut data, located, from, original_count);
+    reveal_rows(engine, steps, &mut data, located, from, shape.original_count);
+    for i in 0..shape.original_count {
+        if located.marks[from + i] != Mark::Given {
+            steps.row_step();
+            move_tail(chunks, from + i, shape.shard_bytes);
+        }
+    }
 }
 
 // Multiplies the given rows by their locator entry, and clears the others.
@@ -254,12 +163,12 @@ fn locate_rows<E: Engine>(
 )
     requires fits { Fits «data».old }
     requires few { «data».old.shard_count ≤ 65536 }
-    requires placed { «data».old.shard_count ≤ length located.places.now }
+    requires marked { «data».old.shard_count ≤ length located.marks.now }
     requires within { end ≤ «data».old.shard_count }
     ensures place { SamePlace «data».old «data».new }
 {
     for p in 0..end {
-        if located.places[p] == Place::Given {
+        if located.marks[p] == Mark::Given {
             let log_m = locator_at(located.erasures, p, located.log);
             mul_row(engine, steps, data, p, log_m);
         } else {
@@ -294,27 +203,15 @@ fn reveal_rows<E: Engine>(
 )
     requires fits { Fits «data».old }
     requires few { «data».old.shard_count ≤ 65536 }
-    requires placed { «data».old.shard_count ≤ length located.places.now }
+    requires marked { «data».old.shard_count ≤ length located.marks.now }
     requires within { from + original_count ≤ «data».old.shard_count }
     ensures place { SamePlace «data».old «data».new }
 {
     for i in 0..original_count {
         let p = from + i;
-        if located.places[p] != Place::Given {
+        if located.marks[p] != Mark::Given {
             let log_m = locator_at(located.erasures, p, located.log);
             mul_row(engine, steps, data, p, GF_MODULUS - log_m);
         }
-    }
-}
-
-// The shards in rows are bytes. It does nothing when it runs: it tells the checker so.
-fn held_fit(held: &Option<Vec<[u8; 64]>>, row_count: usize, shard_bytes: usize)
-    requires some { 0 < shard_bytes }
-    requires room { chunk_count row_count shard_bytes ≤ length (items_of held.now) }
-    ensures { (p : ℕ) → p < row_count → IsShard shard_bytes (shard_moved (items_of held.now) shard_bytes p) }
-{
-    match held {
-        Some(rows) => rows_fit(rows.as_slice(), row_count, shard_bytes),
-        None => {}
     }
 }

@@ -1,129 +1,166 @@
-//! The working space of an encoder: its configuration, its rows and how many originals were given.
-ghost use Rattle.std.specs.Prelude.{◌≡◌, ℕ, ◌+◌, ◌*◌, ◌%◌, ◌^◌, ◌<◌, ◌≤◌, ◌≢◌, [], length, Err, MatchResult, IfOk, OnOk, OnErr, IsOk, MatchOption, IfErr, None};
+//! The working space of an encoder: the memory that is handed on, and an encoder's rows in it.
+ghost use Rattle.std.specs.Prelude.{◌≡◌, ◌≢◌, ℕ, ◌+◌, ◌*◌, ◌%◌, ◌^◌, ◌<◌, ◌≤◌, vec_len, IfOk, OnOk, OnErr, IsOk, IfErr, IfSome, MatchOption};
+ghost use Rattle.std.specs.Vec.{vec_capacity};
+ghost use Rattle.rs_field.specs.Column.{IsShard};
 ghost use Rattle.rs_field.specs.Counts.{Rate};
-ghost use Rattle.rs_field.specs.Configuration.{configuration};
 ghost use Rattle.rs_field.specs.Outcome.{answer_of, state_after};
-ghost use Rattle.rs_field.specs.Encoder.{fresh_encoder, with_shard, message_of};
-ghost use Rattle.rs_rate.specs.Held.{items_of, room_of, chunk_count as chunk_count_of, shard_put, shard_moved};
+ghost use Rattle.rs_field.specs.Encoder.{with_shard, message_of};
+ghost use Rattle.rs_rate.specs.ShardRows.{chunk_count as chunk_count_of, shard_laid_out, shard_in_order};
 
-use crate::rate::growth::{chunk_count, cut, insert_held, make_room, shard_at};
+use crate::rate::memory::{make_room, set_chunks, vec_of};
+use crate::rate::shard_rows::{chunk_count, insert_at, shard_at, shard_is_bytes};
 use rs_field::error::Error;
 use std::alloc::Global;
 
-/// The rows of an encoder. They can be handed from one encoder to the next, which then takes less memory anew.
+/// The memory of an encoder. It can be handed from one encoder to the next, which then takes less memory anew.
 #[derive(Drop)]
 pub struct EncoderWork {
-    pub(crate) original_count: usize,
-    pub(crate) recovery_count: usize,
-    pub(crate) shard_bytes: usize,
-    pub(crate) original_received_count: usize,
-    pub(crate) row_count: usize,
-    pub(crate) rows: Option<Vec<[u8; 64]>>,
-    pub ghost no_more: { original_received_count ≤ original_count },
-    pub ghost original_rows: { original_count ≤ row_count },
-    pub ghost recovery_rows: { recovery_count ≤ row_count },
-    pub ghost fits: { chunk_count_of row_count shard_bytes ≤ length (items_of rows) },
-    pub ghost sized: { chunk_count_of row_count shard_bytes * 64 < 2 ^ 64 },
+    pub(crate) chunks: Option<Vec<[u8; 64]>>,
+}
+
+/// What an encoder's rows are laid out for: its counts, the size of a shard, its rows, and the rows of a block.
+#[derive(Clone, Copy)]
+pub struct EncoderShape {
+    pub original_count: usize,
+    pub recovery_count: usize,
+    pub shard_bytes: usize,
+    pub row_count: usize,
+    pub block_rows: usize,
+}
+
+/// The rows of an encoder, and how many originals were given.
+#[derive(Drop)]
+pub struct EncoderRows {
+    pub(crate) shape: EncoderShape,
+    pub(crate) given_count: usize,
+    pub(crate) chunks: Vec<[u8; 64]>,
+    pub ghost positive: { 0 < shape.shard_bytes },
+    pub ghost even: { shape.shard_bytes % 2 ≡ 0 },
+    pub ghost originals: { shape.original_count ≤ shape.row_count },
+    pub ghost recovery: { shape.recovery_count ≤ shape.row_count },
+    pub ghost no_more: { given_count ≤ shape.original_count },
+    pub ghost whole: { vec_len chunks ≡ chunk_count_of shape.row_count shape.shard_bytes },
+    pub ghost own_room: { chunk_count_of shape.row_count shape.shard_bytes ≤ vec_capacity chunks },
+    pub ghost sized: { chunk_count_of shape.row_count shape.shard_bytes * 64 < 2 ^ 64 },
+    pub ghost shards: { (i : ℕ) → i < given_count → IsShard shape.shard_bytes (shard_laid_out chunks.items shape.shard_bytes i) },
 }
 
 impl EncoderWork {
-    ghost use Rattle.rs_rate.specs.EncoderView.{encoder_state, lent_of, work_room};
+    ghost use Rattle.rs_rate.specs.EncoderView.{work_room};
 
-    /// A working space that holds nothing yet and took no memory.
+    /// A working space that took no memory yet.
     pub fn new() -> EncoderWork
         ensures { work_room result ≡ 0 }
     {
-        EncoderWork {
-            original_count: 0,
-            recovery_count: 0,
-            shard_bytes: 0,
-            original_received_count: 0,
-            row_count: 0,
-            rows: None,
-        }
+        EncoderWork { chunks: None }
+    }
+}
+
+impl Default for EncoderWork {
+    ghost use Rattle.rs_rate.specs.EncoderView.{work_room};
+
+    ghost is_default = { λ work. work_room work ≡ 0 };
+
+    fn default() -> EncoderWork {
+        EncoderWork::new()
+    }
+}
+
+impl EncoderRows {
+    ghost use Rattle.rs_rate.specs.EncoderView.{encoder_state, shape_chunks, work_room};
+
+    // Rows with nothing given, in the memory of `work` where one is passed.
+    pub(crate) fn new(
+        alloc: Global,
+        shape: EncoderShape,
+        work: Option<EncoderWork>,
+    ) -> Result<EncoderRows, Error>
+        requires positive { 0 < shape.shard_bytes }
+        requires even { shape.shard_bytes % 2 ≡ 0 }
+        requires originals { shape.original_count ≤ shape.row_count }
+        requires recovery { shape.recovery_count ≤ shape.row_count }
+        ensures made { IfOk result (λ x. (x.shape ≡ shape) × (x.given_count ≡ 0)) }
+        ensures memory { IfErr result (λ e. e ≡ Error.OutOfMemory) }
+        ensures grown { IfOk result (λ x. IfSome work (λ w. work_room w ≤ vec_capacity x.chunks)) }
+        ensures enough { IfSome work (λ w. shape_chunks shape * 64 < 2 ^ 64 → shape_chunks shape ≤ work_room w → IsOk result) }
+    {
+        let count = chunk_count(shape.row_count, shape.shard_bytes)?;
+        let mut chunks = match work {
+            Some(work) => vec_of(alloc, work.chunks),
+            None => Vec::new(alloc),
+        };
+        make_room(&mut chunks, count)?;
+        set_chunks(&mut chunks, count);
+        Ok(EncoderRows {
+            shape,
+            given_count: 0,
+            chunks,
+        })
     }
 
-    // Every growth first, then the new configuration.
-    pub(crate) fn configure(
-        &mut self,
-        alloc: Global,
-        original_count: usize,
-        recovery_count: usize,
-        shard_bytes: usize,
-        row_count: usize,
-    ) -> Result<(), Error>
-        requires original_rows { original_count ≤ row_count }
-        requires recovery_rows { recovery_count ≤ row_count }
-        ensures ok { OnOk result ((rate : Rate) → encoder_state rate self.new ≡ fresh_encoder (configuration rate original_count recovery_count shard_bytes)) }
-        ensures err { OnErr result ((rate : Rate) → encoder_state rate self.new ≡ encoder_state rate self.old) }
-        ensures counts { OnOk result ((self.new.original_count ≡ original_count) × (self.new.recovery_count ≡ recovery_count) × (self.new.shard_bytes ≡ shard_bytes) × (self.new.row_count ≡ row_count)) }
-        ensures same_counts { OnErr result ((self.new.original_count ≡ self.old.original_count) × (self.new.recovery_count ≡ self.old.recovery_count) × (self.new.shard_bytes ≡ self.old.shard_bytes) × (self.new.row_count ≡ self.old.row_count)) }
+    // The rows of another shape, with nothing given: growth first.
+    pub(crate) fn reset(&mut self, shape: EncoderShape) -> Result<(), Error>
+        requires positive { 0 < shape.shard_bytes }
+        requires even { shape.shard_bytes % 2 ≡ 0 }
+        requires originals { shape.original_count ≤ shape.row_count }
+        requires recovery { shape.recovery_count ≤ shape.row_count }
+        ensures ok { OnOk result ((self.new.shape ≡ shape) × (self.new.given_count ≡ 0)) }
+        ensures err { OnErr result ((self.new.shape ≡ self.old.shape) × (self.new.given_count ≡ self.old.given_count) × (self.new.chunks.items ≡ self.old.chunks.items)) }
         ensures memory { IfErr result (λ e. e ≡ Error.OutOfMemory) }
-        ensures overflow { IfOk result (λ _. chunk_count_of row_count shard_bytes * 64 < 2 ^ 64) }
-        ensures enough { chunk_count_of row_count shard_bytes * 64 < 2 ^ 64 → chunk_count_of row_count shard_bytes ≤ work_room self.old → IsOk result }
-        ensures own { row_count ≡ self.old.row_count → shard_bytes ≤ self.old.shard_bytes → IsOk result }
-        ensures room { work_room self.old ≤ work_room self.new }
+        ensures grown { vec_capacity self.old.chunks ≤ vec_capacity self.new.chunks }
+        ensures enough { shape_chunks shape * 64 < 2 ^ 64 → shape_chunks shape ≤ vec_capacity self.old.chunks → IsOk result }
     {
-        let chunks = chunk_count(row_count, shard_bytes)?;
-        make_room(alloc, &mut self.rows, chunks)?;
-        cut(&mut self.rows, chunks);
-        self.original_count = original_count;
-        self.recovery_count = recovery_count;
-        self.shard_bytes = shard_bytes;
-        self.row_count = row_count;
-        self.original_received_count = 0;
+        let count = chunk_count(shape.row_count, shape.shard_bytes)?;
+        make_room(&mut self.chunks, count)?;
+        self.given_count = 0;
+        set_chunks(&mut self.chunks, count);
+        self.shape = shape;
         Ok(())
     }
 
     pub(crate) fn add_original_shard(&mut self, original_shard: &[u8]) -> Result<(), Error>
-        requires some { 0 < self.old.shard_bytes }
-        requires even { self.old.shard_bytes % 2 ≡ 0 }
         ensures answer { (rate : Rate) → result ≡ answer_of (with_shard (encoder_state rate self.old) original_shard.now) }
         ensures left { (rate : Rate) → encoder_state rate self.new ≡ state_after (encoder_state rate self.old) (with_shard (encoder_state rate self.old) original_shard.now) }
-        ensures room { work_room self.new ≡ work_room self.old }
-        ensures counts { (self.new.original_count ≡ self.old.original_count) × (self.new.recovery_count ≡ self.old.recovery_count) × (self.new.shard_bytes ≡ self.old.shard_bytes) × (self.new.row_count ≡ self.old.row_count) }
+        ensures shape { self.new.shape ≡ self.old.shape }
+        ensures room { vec_capacity self.new.chunks ≡ vec_capacity self.old.chunks }
     {
-        if self.original_received_count == self.original_count {
+        if self.given_count == self.shape.original_count {
             return Err(Error::TooManyOriginalShards {
-                original_count: self.original_count,
+                original_count: self.shape.original_count,
             });
         }
-        if original_shard.len() != self.shard_bytes {
+        if original_shard.len() != self.shape.shard_bytes {
             return Err(Error::DifferentShardSize {
-                shard_bytes: self.shard_bytes,
+                shard_bytes: self.shape.shard_bytes,
                 got: original_shard.len(),
             });
         }
-        let index = self.original_received_count;
-        insert_held(&mut self.rows, original_shard, index);
-        self.original_received_count += 1;
+        shard_is_bytes(original_shard);
+        insert_at(self.chunks.as_mut_slice(), original_shard, self.given_count);
+        self.given_count += 1;
         Ok(())
     }
 
     // Refuses where originals are missing.
-    pub(crate) fn begin(&self) -> Result<(), Error>
+    pub(crate) fn check_all_given(&self) -> Result<(), Error>
         ensures { (rate : Rate) → result ≡ answer_of (message_of (encoder_state rate self.now)) }
     {
-        if self.original_received_count < self.original_count {
+        if self.given_count < self.shape.original_count {
             return Err(Error::TooFewOriginalShards {
-                original_count: self.original_count,
-                original_received_count: self.original_received_count,
+                original_count: self.shape.original_count,
+                original_received_count: self.given_count,
             });
         }
         Ok(())
     }
 
     pub(crate) fn recovery(&self, index: usize) -> Option<&[u8]>
-        requires { 0 < self.now.shard_bytes }
-        ensures { MatchOption result (self.now.recovery_count ≤ index)
-            (λ shard. (index < self.now.recovery_count) × (shard.now ≡ shard_moved (items_of self.now.rows) self.now.shard_bytes index)) }
+        ensures { MatchOption result (self.now.shape.recovery_count ≤ index)
+            (λ shard. (index < self.now.shape.recovery_count) × (shard.now ≡ shard_in_order self.now.chunks.items self.now.shape.shard_bytes index)) }
     {
-        if index >= self.recovery_count {
+        if index >= self.shape.recovery_count {
             return None;
         }
-        match &self.rows {
-            Some(rows) => Some(shard_at(rows.as_slice(), self.shard_bytes, index)),
-            None => Some(&[]),
-        }
+        Some(shard_at(self.chunks.as_slice(), self.shape.shard_bytes, index))
     }
 }

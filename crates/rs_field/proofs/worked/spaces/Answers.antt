@@ -1,12 +1,12 @@
 use Rattle.std.proofs.Common.{refl}
 use Rattle.rs_field.specs.Search.{first_below}
 use Rattle.rs_field.specs.Counts.{next_power, supports, is_low}
-use Rattle.rs_field.specs.Placement.{chunk_rows, encoder_rows, decoder_rows}
+use Rattle.rs_field.specs.Placement.{block_rows, encoder_rows, decoder_rows}
 use Rattle.rs_field.specs.Worked.{ChunkRows, EncoderRows, DecoderRows, Spaces}
 use Rattle.rs_field.proofs.worked.spaces.Goals as goal
 
 chunks : ChunkRows
-unfolding chunk_rows is_low next_power first_below
+unfolding block_rows is_low next_power first_below
 chunks = (refl, refl, refl, refl, refl, refl, refl)
 
 encoders : EncoderRows

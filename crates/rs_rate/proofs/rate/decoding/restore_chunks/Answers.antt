@@ -1,5 +1,5 @@
 use Rattle.std.proofs.Common.{◌+◌, ◌*◌, length, ap, arith}
-use Rattle.rs_rate.proofs.HeldLemmas.{chunk_count-is, chunk_count-within}
+use Rattle.rs_rate.proofs.ShardRowsLemmas.{chunk_count-is, chunk_count-within}
 use Rattle.rs_rate.proofs.rate.decoding.restore_chunks.Goals as goal
 
 pub restore_words-requires-clause-room : goal.restore_words-requires-clause-room

@@ -7,7 +7,7 @@ use Rattle.rs_rate.proofs.LowCoding.{further-more}
 use Rattle.rs_rate.proofs.rate.low_encoding.code_further.Goals as goal
 
 pub fft-requires-clause-shift : goal.fft-requires-clause-shift
-fft-requires-clause-shift g c = add-mod_right c.loop-start.start c.args.size ∙ c.loop-start.invariant.whole
+fft-requires-clause-shift g c = add-mod_right c.loop-start.start c.args.block ∙ c.loop-start.invariant.whole
 
 pub loop-start-preserved : goal.loop-start-preserved
 loop-start-preserved g c =
@@ -16,7 +16,7 @@ loop-start-preserved g c =
     let same_too : c.copy_rows.new.«data».shard_len_64 ≡ c.args.«data».now.shard_len_64 = c.copy_rows.ensures.place.len_64 ∙ same in
     record {
       first = omega arith;
-      whole = add-mod_right c.loop-start.start c.args.size ∙ loop.whole;
+      whole = add-mod_right c.loop-start.start c.args.block ∙ loop.whole;
       fits = fits_kept c.copy_rows.new.«data» c.fft.new.«data» c.fft.ensures.place (fits_kept c.loop-start.«data» c.copy_rows.new.«data» c.copy_rows.ensures.place loop.fits);
       place = record {
         name = c.fft.ensures.place.name ∙ c.copy_rows.ensures.place.name ∙ loop.place.name;
@@ -27,7 +27,7 @@ loop-start-preserved g c =
       combination = λ i k inside small.
           c.fft.ensures.others i k (omega arith) (inl (omega arith)) ∙ c.copy_rows.ensures.others i k (omega arith) (inl (omega arith)) ∙ loop.combination i k inside small;
       values = λ k s i inside symbols low high few.
-          further-more c.args.size c.loop-start.start c.args.recovery_count c.min-wanted.result (word c.args.«data».now k s) (word c.loop-start.«data» k s) (word c.copy_rows.new.«data» k s) (word c.fft.new.«data» k s)
+          further-more c.args.block c.loop-start.start c.args.recovery_count c.min-wanted.result (word c.args.«data».now k s) (word c.loop-start.«data» k s) (word c.copy_rows.new.«data» k s) (word c.fft.new.«data» k s)
           c.min-wanted.ensures loop.first
           (λ q small. ap (λ x. symbol x s) (loop.combination q k inside small))
           (λ j from to below. loop.values k s j inside symbols from to below)

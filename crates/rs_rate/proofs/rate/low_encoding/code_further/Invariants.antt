@@ -5,13 +5,13 @@ use Rattle.rs_rate.proofs.rate.low_encoding.code_further.Given as goal
 
 abbrev pub invariant-loop-start : goal.invariant-loop-start
 invariant-loop-start g l = record {
-  first : l.size ≤ l.start;
-  whole : l.start % l.size ≡ 0;
+  first : l.block ≤ l.start;
+  whole : l.start % l.block ≡ 0;
   fits : Fits l.«data»;
   place : SamePlace l.initial.«data» l.«data»;
-  combination : (i k : ℕ) → k < l.initial.«data».shard_len_64 → i < l.size → cell l.«data» k i ≡ cell l.initial.«data» k i;
-  values : (k s i : ℕ) → k < l.initial.«data».shard_len_64 → s < 32 → l.size ≤ i → i < l.start → i < l.recovery_count
-      → word l.«data» k s i ≡ forward l.size 0 (λ q. word l.initial.«data» k s q) (l.size + i);
+  combination : (i k : ℕ) → k < l.initial.«data».shard_len_64 → i < l.block → cell l.«data» k i ≡ cell l.initial.«data» k i;
+  values : (k s i : ℕ) → k < l.initial.«data».shard_len_64 → s < 32 → l.block ≤ i → i < l.start → i < l.recovery_count
+      → word l.«data» k s i ≡ forward l.block 0 (λ q. word l.initial.«data» k s q) (l.block + i);
 }
 
 abbrev pub decreases-loop-start : goal.decreases-loop-start

@@ -1,0 +1,139 @@
+-- What a rate is at counts that it supports: the low or the high rate, with its rows, frame and recovery shards.
+use Rattle.std.proofs.Common.{◌≡◌, ℕ, ◌+◌, ◌^◌, ◌<◌, ◌≤◌, ◌==◌, ◌%◌, Bool, true, false, List, refl, sym, ap, ◌∙◌, subst, arith}
+use Rattle.std.specs.Prelude.{slice_index, nat_lt, nat_le, ◌&&◌, ◌||◌, not, Ok, Err, Result, if◌then◌else◌}
+use Rattle.rs_field.specs.declared.error.Error.{Error}
+use Rattle.rs_field.specs.declared.error.Error.TheVariants.{UnsupportedShardCount, InvalidShardSize}
+use Rattle.rs_field.specs.Counts.{Rate, next_power, supports, is_low, low_rate, high_rate, default_rate}
+use Rattle.rs_field.specs.Placement.{Placement, placement, low_placement, high_placement, rounded_up, encoder_rows, block_rows, decoder_rows}
+use Rattle.rs_field.specs.Polynomial.{value}
+use Rattle.rs_field.specs.Column.{Shard}
+use Rattle.rs_field.specs.Configuration.{configuration, validated}
+use Rattle.rs_field.specs.Code.{Codes, AreRecoveryWords}
+use Rattle.rs_rate.specs.declared.rate.marks.Frame.{Frame}
+use Rattle.rs_rate.specs.declared.rate.encoder_work.EncoderShape.{EncoderShape}
+use Rattle.rs_rate.specs.EncoderView.{encoder_shape}
+use Rattle.rs_rate.specs.DecoderView.{frame_of}
+use Rattle.rs_rate.proofs.PowerLemmas.{low_fits, low_small, low_supported, low_rows-positive, next_power-small}
+use Rattle.rs_rate.proofs.ChoiceLemmas.{default_fits, low_powers, high_powers}
+use Rattle.rs_rate.proofs.DecoderRows.{low_frame-power}
+
+swapped : (a b : Bool) → (a && b) ≡ (b && a)
+swapped true true = refl
+swapped true false = refl
+swapped false true = refl
+swapped false false = refl
+
+-- the high rate supports the counts that the low rate supports the other way round
+pub high_turned : (k r : ℕ) → supports low_rate r k ≡ supports high_rate k r
+unfolding supports
+high_turned k r = ap (λ b. b && nat_le (next_power r + k) 65536) (swapped (nat_lt 0 r) (nat_lt 0 k))
+
+pub high_fits : (k r : ℕ) → supports high_rate k r ≡ true → (0 < r) × (0 < k) × (next_power r + k ≤ 65536)
+high_fits k r is = low_fits r k (high_turned k r ∙ is)
+
+pub high_small : (k r : ℕ) → supports high_rate k r ≡ true → r ≤ 65536
+high_small k r is = low_small r k (high_turned k r ∙ is)
+
+-- the frame of a decoder of the high rate, written out
+pub high_frame-is : (k r : ℕ) → frame_of high_rate k r
+    ≡ record { row_count = next_power (next_power r + k); originals_from = next_power r; recovery_from = 0; zeros_from = next_power r + k; zeros_to = 65536 }
+unfolding frame_of placement high_placement is_low decoder_rows
+high_frame-is k r = refl
+
+-- what an encoder of the low and of the high rate is laid out for, written out
+pub low_shape-is : (k r size : ℕ) → encoder_shape low_rate k r size
+    ≡ record { original_count = k; recovery_count = r; shard_bytes = size; row_count = encoder_rows low_rate k r; block_rows = next_power k }
+unfolding encoder_shape block_rows is_low
+low_shape-is k r size = refl
+
+pub high_shape-is : (k r size : ℕ) → encoder_shape high_rate k r size
+    ≡ record { original_count = k; recovery_count = r; shard_bytes = size; row_count = encoder_rows low_rate r k; block_rows = next_power r }
+unfolding encoder_shape encoder_rows block_rows is_low
+high_shape-is k r size = refl
+
+-- the choice of the low and of the high rate
+pub low_is : (k r : ℕ) → is_low low_rate k r ≡ true
+unfolding is_low
+low_is k r = refl
+
+pub high_is : (k r : ℕ) → is_low high_rate k r ≡ false
+unfolding is_low
+high_is k r = refl
+
+-- where a rate is the low rate, that one supports its counts, and likewise the high rate
+pub chosen_low : (rate : Rate) (k r : ℕ) → supports rate k r ≡ true → is_low rate k r ≡ true → supports low_rate k r ≡ true
+chosen_low low_rate k r is low = is
+chosen_low high_rate k r is low = absurd (let no : false ≡ true = sym (high_is k r) ∙ low in let never : ⊥ = cc in never)
+chosen_low default_rate k r is low =
+    let fits = default_fits k r is in
+    let powers = low_powers k r low in
+    low_supported k r fits.0 fits.1 (omega (arith, fits.2, powers))
+
+pub chosen_high : (rate : Rate) (k r : ℕ) → supports rate k r ≡ true → is_low rate k r ≡ false → supports high_rate k r ≡ true
+chosen_high low_rate k r is high = absurd (let no : true ≡ false = sym (low_is k r) ∙ high in let never : ⊥ = cc in never)
+chosen_high high_rate k r is high = is
+chosen_high default_rate k r is high =
+    let fits = default_fits k r is in
+    let powers = high_powers k r high in
+    sym (high_turned k r) ∙ low_supported r k fits.1 fits.0 (omega (arith, fits.2, powers))
+
+-- rates that choose alike have the same shape, frame, placement and recovery words
+shape_by : ℕ → ℕ → ℕ → Bool → EncoderShape
+shape_by k r size b =
+    record {
+      original_count = k;
+      recovery_count = r;
+      shard_bytes = size;
+      row_count = if b then rounded_up r (next_power k) else rounded_up k (next_power r);
+      block_rows = if b then next_power k else next_power r;
+    }
+
+pub shape_alike : (one other : Rate) (k r size : ℕ) → is_low one k r ≡ is_low other k r → encoder_shape one k r size ≡ encoder_shape other k r size
+unfolding encoder_shape encoder_rows block_rows shape_by
+shape_alike one other k r size same = ap (shape_by k r size) same
+
+placement_alike : (one other : Rate) (k r : ℕ) → is_low one k r ≡ is_low other k r → placement one k r ≡ placement other k r
+unfolding placement
+placement_alike one other k r same = ap (λ b. if b then low_placement k else high_placement k r) same
+
+framed : ℕ → ℕ → Bool → Frame
+framed k r b =
+    let p = (if b then low_placement k else high_placement k r) in
+    record {
+      row_count = if b then next_power (next_power k + r) else next_power (next_power r + k);
+      originals_from = p.originals_from;
+      recovery_from = p.recovery_from;
+      zeros_from = p.zeros_from;
+      zeros_to = p.zeros_to;
+    }
+
+pub frame_alike : (one other : Rate) (k r : ℕ) → is_low one k r ≡ is_low other k r → frame_of one k r ≡ frame_of other k r
+unfolding frame_of placement decoder_rows framed
+frame_alike one other k r same = ap (framed k r) same
+
+codes_alike : (one other : Rate) (k r : ℕ) (words polynomial : List ℕ) → is_low one k r ≡ is_low other k r → Codes one k r words polynomial → Codes other k r words polynomial
+codes_alike one other k r words polynomial alike codes =
+    let same = placement_alike one other k r alike in
+    record {
+      degree = codes.degree ∙ ap (λ p. p.degree_bound) same;
+      coefficients = codes.coefficients;
+      originals = λ j h. subst (λ (p : Placement). value polynomial (p.originals_from + j) ≡ slice_index words j) same (codes.originals j h);
+      zeros = λ x from to. codes.zeros x (subst (λ (p : Placement). p.zeros_from ≤ x) (sym same) from) (subst (λ (p : Placement). x < p.zeros_to) (sym same) to);
+    }
+
+pub recovery_alike : (one other : Rate) (k r : ℕ) (words recovery : List ℕ) → is_low one k r ≡ is_low other k r
+    → AreRecoveryWords one k r words recovery → AreRecoveryWords other k r words recovery
+recovery_alike one other k r words recovery alike (polynomial, codes, values) =
+    (polynomial, codes_alike one other k r words polynomial alike codes, λ i inside. values i inside ∙ ap (λ p. value polynomial (p.recovery_from + i)) (placement_alike one other k r alike))
+
+-- the rows of a decoder of any rate are a power of two of points
+pub frame-power : (rate : Rate) (k r : ℕ) (frame : Frame) → frame ≡ frame_of rate k r → supports rate k r ≡ true → (d : ℕ) × (frame.row_count ≡ 2 ^ d)
+frame-power rate k r frame same is = by_choice (is_low rate k r) refl
+  where
+    by_choice : (b : Bool) → is_low rate k r ≡ b → (d : ℕ) × (frame.row_count ≡ 2 ^ d)
+    by_choice true low =
+        low_frame-power k r frame (same ∙ frame_alike rate low_rate k r (low ∙ sym (low_is k r))) (chosen_low rate k r is low)
+    by_choice false high =
+        let fits = high_fits k r (chosen_high rate k r is high) in
+        let known = next_power-small (next_power r + k) fits.2 in
+        (known.0, ap (λ f. f.row_count) (same ∙ frame_alike rate high_rate k r (high ∙ sym (high_is k r)) ∙ high_frame-is k r) ∙ known.2)

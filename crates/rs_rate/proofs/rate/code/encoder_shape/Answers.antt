@@ -1,0 +1,44 @@
+use Rattle.std.proofs.Common.{◌%◌, refl, sym, ap, ◌∙◌, arith}
+use Rattle.rs_field.specs.Counts.{low_rate, high_rate}
+use Rattle.rs_field.specs.Configuration.{configuration}
+use Rattle.rs_rate.proofs.StateLemmas.{valid-supported, valid-size}
+use Rattle.rs_rate.proofs.RateLemmas.{chosen_low, chosen_high, low_is, high_is, shape_alike}
+use Rattle.rs_rate.proofs.rate.code.encoder_shape.Goals as goal
+
+pub low_encoder_shape-requires : goal.low_encoder_shape-requires
+low_encoder_shape-requires g c = chosen_low g.C.Code.rate c.args.original_count c.args.recovery_count (valid-supported (configuration g.C.Code.rate c.args.original_count c.args.recovery_count c.args.shard_bytes) c.requires) (sym c.is_low.ensures ∙ c.if-is_low.true)
+
+pub high_encoder_shape-requires : goal.high_encoder_shape-requires
+high_encoder_shape-requires g c = chosen_high g.C.Code.rate c.args.original_count c.args.recovery_count (valid-supported (configuration g.C.Code.rate c.args.original_count c.args.recovery_count c.args.shard_bytes) c.requires) (sym c.is_low.ensures ∙ c.if-is_low.false)
+
+pub returns-then-is_low-clause-shape : goal.returns-then-is_low-clause-shape
+returns-then-is_low-clause-shape g c =
+    let k = c.args.original_count in
+    let r = c.args.recovery_count in
+    c.low_encoder_shape.ensures.shape ∙ shape_alike low_rate g.C.Code.rate k r c.args.shard_bytes (low_is k r ∙ sym c.if-is_low.true ∙ c.is_low.ensures)
+
+pub returns-else-is_low-clause-shape : goal.returns-else-is_low-clause-shape
+returns-else-is_low-clause-shape g c =
+    let k = c.args.original_count in
+    let r = c.args.recovery_count in
+    c.high_encoder_shape.ensures.shape ∙ shape_alike high_rate g.C.Code.rate k r c.args.shard_bytes (high_is k r ∙ sym c.if-is_low.false ∙ c.is_low.ensures)
+
+pub returns-then-is_low-clause-configuration : goal.returns-then-is_low-clause-configuration
+returns-then-is_low-clause-configuration g c =
+    let counts = c.low_encoder_shape.ensures.counts in rw (counts.0, counts.1, counts.2) refl
+
+pub returns-then-is_low-clause-positive : goal.returns-then-is_low-clause-positive
+returns-then-is_low-clause-positive g c = let size = (valid-size (configuration g.C.Code.rate c.args.original_count c.args.recovery_count c.args.shard_bytes) c.requires) in omega (arith, size.0, c.low_encoder_shape.ensures.counts.2)
+
+pub returns-then-is_low-clause-even : goal.returns-then-is_low-clause-even
+returns-then-is_low-clause-even g c = ap (λ n. n % 2) c.low_encoder_shape.ensures.counts.2 ∙ (valid-size (configuration g.C.Code.rate c.args.original_count c.args.recovery_count c.args.shard_bytes) c.requires).1
+
+pub returns-else-is_low-clause-configuration : goal.returns-else-is_low-clause-configuration
+returns-else-is_low-clause-configuration g c =
+    let counts = c.high_encoder_shape.ensures.counts in rw (counts.0, counts.1, counts.2) refl
+
+pub returns-else-is_low-clause-positive : goal.returns-else-is_low-clause-positive
+returns-else-is_low-clause-positive g c = let size = (valid-size (configuration g.C.Code.rate c.args.original_count c.args.recovery_count c.args.shard_bytes) c.requires) in omega (arith, size.0, c.high_encoder_shape.ensures.counts.2)
+
+pub returns-else-is_low-clause-even : goal.returns-else-is_low-clause-even
+returns-else-is_low-clause-even g c = ap (λ n. n % 2) c.high_encoder_shape.ensures.counts.2 ∙ (valid-size (configuration g.C.Code.rate c.args.original_count c.args.recovery_count c.args.shard_bytes) c.requires).1

@@ -1,0 +1,25 @@
+use Rattle.std.proofs.Common.{◌+◌, sym, ap, ap₂, ◌∙◌, ℕ, arith}
+use Rattle.rs_field.specs.Counts.{next_power}
+use Rattle.rs_rate.specs.declared.rate.marks.Frame.{Frame}
+use Rattle.rs_rate.proofs.RateLemmas.{high_fits, high_small, high_frame-is}
+use Rattle.rs_rate.proofs.rate.counts.high_frame.Goals as goal
+
+pub power_of_two-size-requires : goal.power_of_two-size-requires
+power_of_two-size-requires c = high_small c.args.original_count c.args.recovery_count c.requires
+
+pub overflow_add-size : goal.overflow_add-size
+overflow_add-size c =
+    let fits = high_fits c.args.original_count c.args.recovery_count c.requires in
+    omega (arith, fits.2, c.power_of_two-size.ensures.value)
+
+pub power_of_two-row_count-requires : goal.power_of_two-row_count-requires
+power_of_two-row_count-requires c =
+    let fits = high_fits c.args.original_count c.args.recovery_count c.requires in
+    omega (arith, fits.2, c.power_of_two-size.ensures.value)
+
+pub returns-clause-frame : goal.returns-clause-frame
+returns-clause-frame c =
+    let size = c.power_of_two-size.ensures.value in
+    ap₂ (λ (m n : ℕ). let frame : Frame = record { row_count = n; originals_from = m; recovery_from = 0; zeros_from = m + c.args.original_count; zeros_to = 65536 } in frame)
+    size (c.power_of_two-row_count.ensures.value ∙ ap (λ m. next_power (m + c.args.original_count)) size)
+    ∙ sym (high_frame-is c.args.original_count c.args.recovery_count)

@@ -1,9 +1,0 @@
-use Rattle.std.proofs.Common.{rules}
-use Rattle.rs_field.proofs.LayoutLemmas.{length-up_to}
-use Rattle.rs_rate.proofs.rate.encoder_work.EncoderWork.begin.Goals as goal
-
-pub returns-then-self : goal.returns-then-self
-returns-then-self c = λ rate. rw (length-up_to c.args.self.now.original_received_count _) (search rules)
-
-pub returns : goal.returns
-returns c = λ rate. rw (length-up_to c.args.self.now.original_received_count _) (search rules)

@@ -1,0 +1,83 @@
+-- What the traits' laws say of the objects, by what their rows keep.
+use Rattle.std.specs.Prelude.{◌≡◌, ◌+◌, ◌<◌, ◌≤◌, ℕ, length, List, All, Bool, true, false, Option, Some, None, is_some, unwrap_or, nat_lt, if◌then◌else◌, Ok, refl}
+use Rattle.std.proofs.Common.{sym, ap, subst, true≢false}
+use Rattle.std.proofs.lemmas.Bool.{le-ltb}
+use Rattle.std.specs.Vec.{vec_capacity}
+use Rattle.rs_field.specs.Column.{Shard, IsShard}
+use Rattle.rs_field.specs.Counts.{Rate}
+use Rattle.rs_field.specs.Configuration.{validated}
+use Rattle.rs_field.specs.Encoder.{IsEncoder}
+use Rattle.rs_field.specs.Decoder.{IsDecoder}
+use Rattle.rs_field.specs.Given.{AreWithin}
+use Rattle.rs_field.specs.Layout.{up_to}
+use Rattle.rs_field.specs.Placement.{encoder_rows, decoder_rows}
+use Rattle.rs_field.specs.Rows.{Chunks}
+use Rattle.rs_field.proofs.LayoutLemmas.{length-up_to, get-up_to}
+use Rattle.rs_rate.specs.declared.rate.encoder_work.EncoderRows.{EncoderRows}
+use Rattle.rs_rate.specs.declared.rate.decoder_work.DecoderRows.{DecoderRows}
+use Rattle.rs_rate.specs.declared.rate.marks.Mark.{Mark}
+use Rattle.rs_rate.specs.EncoderView.{configuration_of, encoder_shape, encoder_state}
+use Rattle.rs_rate.specs.DecoderView.{configuration_of as decoder_configuration, decoder_shape, decoder_state, frame_of, HasRoom, memory_room}
+use Rattle.rs_rate.specs.Marks.{mark_at, is_given, given_shards}
+use Rattle.rs_rate.specs.ShardRows.{chunk_count, shard_laid_out}
+
+all-up_to : (P : Shard → Type 0) (n : ℕ) (f : ℕ → Shard) → ((i : ℕ) → i < n → P (f i)) → All P (up_to n f)
+all-up_to P n f each i d h =
+    let inside : i < n = subst (λ (m : ℕ). i < m) (length-up_to n f) h in subst P (sym (get-up_to n f i d inside)) (each i inside)
+
+-- an encoder over rows of a valid shape is in a state that an encoder can be in
+pub is_encoder : (rate : Rate) (rows : EncoderRows) → validated (configuration_of rate rows.shape) ≡ Ok tt → IsEncoder rate (encoder_state rate rows)
+is_encoder rate rows valid =
+    record {
+      of_rate = refl;
+      valid = valid;
+      no_more = subst (λ (n : ℕ). n ≤ rows.shape.original_count) (sym (length-up_to rows.given_count (shard_laid_out rows.chunks.items rows.shape.shard_bytes))) rows.no_more;
+      sized = all-up_to (IsShard rows.shape.shard_bytes) rows.given_count (shard_laid_out rows.chunks.items rows.shape.shard_bytes) rows.shards;
+    }
+
+-- and has room for its own rows
+pub has_own_room : (rate : Rate) (rows : EncoderRows)
+    → rows.shape ≡ encoder_shape rate rows.shape.original_count rows.shape.recovery_count rows.shape.shard_bytes
+    → chunk_count (encoder_rows rate rows.shape.original_count rows.shape.recovery_count) rows.shape.shard_bytes ≤ vec_capacity rows.chunks
+unfolding encoder_shape
+has_own_room rate rows shaped =
+    subst (λ (n : ℕ). chunk_count n rows.shape.shard_bytes ≤ vec_capacity rows.chunks) (ap (λ s. s.row_count) shaped) rows.own_room
+
+-- the shards that rows tell of by their marks are of the size
+given_within : (marks : List Mark) (chunks : Chunks) (size from n : ℕ)
+    → ((p : ℕ) → is_given (mark_at marks p) ≡ true → IsShard size (shard_laid_out chunks size p)) → AreWithin n size (given_shards marks chunks size from n)
+unfolding given_shards
+given_within marks chunks size from n shards =
+    record {
+      none_past = λ i outside. ap (λ b. if b then (if is_given (mark_at marks (from + i)) then Some (shard_laid_out chunks size (from + i)) else None) else None) (le-ltb i n outside);
+      sized = λ i shard is. by_tests i shard (nat_lt i n) (is_given (mark_at marks (from + i))) refl is;
+    }
+  where
+    by_tests : (i : ℕ) (shard : Shard) (inside given : Bool) → is_given (mark_at marks (from + i)) ≡ given
+        → (if inside then (if given then Some (shard_laid_out chunks size (from + i)) else None) else None) ≡ Some shard → IsShard size shard
+    by_tests i shard true true mark is = subst (IsShard size) (ap (λ o. unwrap_or o shard) is) (shards (from + i) mark)
+    by_tests i shard true false mark is = absurd (true≢false (sym (ap is_some is)))
+    by_tests i shard false given mark is = absurd (true≢false (sym (ap is_some is)))
+
+-- a decoder over rows of a valid shape is in a state that a decoder can be in
+pub is_decoder : (rate : Rate) (rows : DecoderRows) → validated (decoder_configuration rate rows.shape) ≡ Ok tt → IsDecoder rate (decoder_state rate rows)
+is_decoder rate rows valid =
+    let s = rows.shape in
+    record {
+      of_rate = refl;
+      valid = valid;
+      originals_within = given_within rows.memory.marks.items rows.memory.chunks.items s.shard_bytes s.frame.originals_from s.original_count rows.shards;
+      recovery_within = given_within rows.memory.marks.items rows.memory.chunks.items s.shard_bytes s.frame.recovery_from s.recovery_count rows.shards;
+    }
+
+-- and has room for its own rows
+pub has_own_decoder_room : (rate : Rate) (rows : DecoderRows)
+    → rows.shape ≡ decoder_shape rate rows.shape.original_count rows.shape.recovery_count rows.shape.shard_bytes
+    → HasRoom (memory_room rows.memory) (decoder_rows rate rows.shape.original_count rows.shape.recovery_count) rows.shape.shard_bytes
+unfolding frame_of
+has_own_decoder_room rate rows shaped =
+    record {
+      chunks = subst (λ (n : ℕ). chunk_count n rows.shape.shard_bytes ≤ vec_capacity rows.memory.chunks) (ap (λ s. s.frame.row_count) shaped) rows.own_chunks;
+      rows = subst (λ (n : ℕ). n ≤ vec_capacity rows.memory.marks) (ap (λ s. s.frame.row_count) shaped) rows.own_marks;
+      located = refl;
+    }

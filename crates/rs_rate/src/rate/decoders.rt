@@ -1,0 +1,115 @@
+//! The decoders of the rates.
+ghost use Rattle.std.specs.Prelude.{◌≡◌, Ok};
+ghost use Rattle.rs_field.specs.Configuration.{validated};
+ghost use Rattle.rs_rate.specs.DecoderView.{configuration_of, decoder_shape as decoder_shape_of, decoder_state, memory_room};
+
+use crate::decoder_result::DecoderResult;
+use crate::rate::code::{Code, DefaultCode, HighCode, LowCode, RateOf, decoder_shape, validate};
+use crate::rate::decoder_work::DecoderRows;
+use crate::rate::decoding::decode_rows;
+use crate::rate::{DecoderWork, RateDecoder};
+use rs_field::engine::{Engine, Steps};
+use rs_field::error::Error;
+use std::alloc::Global;
+use std::marker::PhantomData;
+
+/// The decoder of the low rate.
+pub type LowRateDecoder<E> = Decoder<E, LowCode>;
+
+/// The decoder of the high rate.
+pub type HighRateDecoder<E> = Decoder<E, HighCode>;
+
+/// The decoder of the default rate.
+pub type DefaultRateDecoder<E> = Decoder<E, DefaultCode>;
+
+/// The decoder of a rate: an engine, and rows laid out for counts that the rate supports.
+#[derive(Drop)]
+pub struct Decoder<E: Engine, C: Code> {
+    engine: E,
+    rows: DecoderRows,
+    code: PhantomData<C>,
+    pub ghost valid: { validated (configuration_of C.rate rows.shape) ≡ Ok tt },
+    pub ghost shaped: { rows.shape ≡ decoder_shape_of C.rate rows.shape.original_count rows.shape.recovery_count rows.shape.shard_bytes },
+}
+
+impl<E: Engine, C: Code> RateDecoder<E> for Decoder<E, C> {
+    ghost use Rattle.rs_rate.specs.Laws.{is_decoder, has_own_decoder_room};
+
+    type Rate = RateOf<E, C>;
+
+    ghost rate = { C.rate };
+
+    ghost state = { λ x. decoder_state C.rate x.rows };
+
+    ghost engine_of = { λ x. x.engine };
+
+    ghost room = { λ x. memory_room x.rows.memory };
+
+    fn supports(original_count: usize, recovery_count: usize) -> bool {
+        C::supports(original_count, recovery_count)
+    }
+
+    fn validate(
+        original_count: usize,
+        recovery_count: usize,
+        shard_bytes: usize,
+    ) -> Result<(), Error> {
+        validate::<C>(original_count, recovery_count, shard_bytes)
+    }
+
+    fn new(
+        alloc: Global,
+        original_count: usize,
+        recovery_count: usize,
+        shard_bytes: usize,
+        engine: E,
+        work: Option<DecoderWork>,
+    ) -> Result<Decoder<E, C>, Error> {
+        validate::<C>(original_count, recovery_count, shard_bytes)?;
+        let shape = decoder_shape::<C>(original_count, recovery_count, shard_bytes);
+        let rows = DecoderRows::new(alloc, shape, work)?;
+        Ok(Decoder {
+            engine,
+            rows,
+            code: PhantomData,
+        })
+    }
+
+    fn reset(
+        &mut self,
+        original_count: usize,
+        recovery_count: usize,
+        shard_bytes: usize,
+    ) -> Result<(), Error> {
+        validate::<C>(original_count, recovery_count, shard_bytes)?;
+        let shape = decoder_shape::<C>(original_count, recovery_count, shard_bytes);
+        self.rows.reset(shape)
+    }
+
+    fn add_original_shard(&mut self, index: usize, original_shard: &[u8]) -> Result<(), Error> {
+        self.rows.add_original_shard(index, original_shard)
+    }
+
+    fn add_recovery_shard(&mut self, index: usize, recovery_shard: &[u8]) -> Result<(), Error> {
+        self.rows.add_recovery_shard(index, recovery_shard)
+    }
+
+    fn decode(&mut self, steps: &mut Steps) -> Result<DecoderResult<'_>, Error> {
+        self.rows.check_enough_given()?;
+        decode_rows(&self.engine, steps, &mut self.rows);
+        Ok(DecoderResult::new(&self.rows))
+    }
+
+    fn into_parts(self) -> (E, DecoderWork) {
+        (
+            self.engine,
+            DecoderWork {
+                memory: Some(self.rows.memory),
+            },
+        )
+    }
+
+    ghost valid = { λ x. is_decoder C.rate x.rows x.valid };
+
+    ghost own_room = { λ x. has_own_decoder_room C.rate x.rows x.shaped };
+}

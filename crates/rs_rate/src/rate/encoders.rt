@@ -1,0 +1,112 @@
+//! The encoders of the rates.
+ghost use Rattle.std.specs.Prelude.{◌≡◌, Ok};
+ghost use Rattle.std.specs.Vec.{vec_capacity};
+ghost use Rattle.rs_field.specs.Configuration.{validated};
+ghost use Rattle.rs_rate.specs.EncoderView.{configuration_of, encoder_shape as encoder_shape_of, encoder_state};
+
+use crate::encoder_result::EncoderResult;
+use crate::rate::code::{Code, DefaultCode, HighCode, LowCode, RateOf, encoder_shape, validate};
+use crate::rate::encoder_work::EncoderRows;
+use crate::rate::encoding::encode_rows;
+use crate::rate::{EncoderWork, RateEncoder};
+use rs_field::engine::{Engine, Steps};
+use rs_field::error::Error;
+use std::alloc::Global;
+use std::marker::PhantomData;
+
+/// The encoder of the low rate.
+pub type LowRateEncoder<E> = Encoder<E, LowCode>;
+
+/// The encoder of the high rate.
+pub type HighRateEncoder<E> = Encoder<E, HighCode>;
+
+/// The encoder of the default rate.
+pub type DefaultRateEncoder<E> = Encoder<E, DefaultCode>;
+
+/// The encoder of a rate: an engine, and rows laid out for counts that the rate supports.
+#[derive(Drop)]
+pub struct Encoder<E: Engine, C: Code> {
+    engine: E,
+    rows: EncoderRows,
+    code: PhantomData<C>,
+    pub ghost valid: { validated (configuration_of C.rate rows.shape) ≡ Ok tt },
+    pub ghost shaped: { rows.shape ≡ encoder_shape_of C.rate rows.shape.original_count rows.shape.recovery_count rows.shape.shard_bytes },
+}
+
+impl<E: Engine, C: Code> RateEncoder<E> for Encoder<E, C> {
+    ghost use Rattle.rs_rate.specs.Laws.{is_encoder, has_own_room};
+
+    type Rate = RateOf<E, C>;
+
+    ghost rate = { C.rate };
+
+    ghost state = { λ x. encoder_state C.rate x.rows };
+
+    ghost engine_of = { λ x. x.engine };
+
+    ghost room = { λ x. vec_capacity x.rows.chunks };
+
+    fn supports(original_count: usize, recovery_count: usize) -> bool {
+        C::supports(original_count, recovery_count)
+    }
+
+    fn validate(
+        original_count: usize,
+        recovery_count: usize,
+        shard_bytes: usize,
+    ) -> Result<(), Error> {
+        validate::<C>(original_count, recovery_count, shard_bytes)
+    }
+
+    fn new(
+        alloc: Global,
+        original_count: usize,
+        recovery_count: usize,
+        shard_bytes: usize,
+        engine: E,
+        work: Option<EncoderWork>,
+    ) -> Result<Encoder<E, C>, Error> {
+        validate::<C>(original_count, recovery_count, shard_bytes)?;
+        let shape = encoder_shape::<C>(original_count, recovery_count, shard_bytes);
+        let rows = EncoderRows::new(alloc, shape, work)?;
+        Ok(Encoder {
+            engine,
+            rows,
+            code: PhantomData,
+        })
+    }
+
+    fn reset(
+        &mut self,
+        original_count: usize,
+        recovery_count: usize,
+        shard_bytes: usize,
+    ) -> Result<(), Error> {
+        validate::<C>(original_count, recovery_count, shard_bytes)?;
+        let shape = encoder_shape::<C>(original_count, recovery_count, shard_bytes);
+        self.rows.reset(shape)
+    }
+
+    fn add_original_shard(&mut self, original_shard: &[u8]) -> Result<(), Error> {
+        self.rows.add_original_shard(original_shard)
+    }
+
+    fn encode(&mut self, steps: &mut Steps) -> Result<EncoderResult<'_>, Error> {
+        self.rows.check_all_given()?;
+        encode_rows::<E, C>(&self.engine, steps, &mut self.rows);
+        Ok(EncoderResult::new(&self.rows))
+    }
+
+    fn into_parts(self) -> (E, EncoderWork) {
+        (
+            self.engine,
+            EncoderWork {
+                chunks: Some(self.rows.chunks),
+            },
+        )
+    }
+
+    ghost valid = { λ x. is_encoder C.rate x.rows x.valid };
+
+    ghost own_room = { λ x. has_own_room C.rate x.rows x.shaped };
+}

@@ -1,0 +1,38 @@
+//! Growth of vectors: room is made before anything changes.
+ghost use Rattle.std.specs.Prelude.{◌≡◌, ◌*◌, ◌<◌, ◌≤◌, vec_len, IfErr, OnOk};
+ghost use Rattle.std.specs.Vec.{vec_capacity};
+ghost use Rattle.rs_rate.specs.Memory.{room_of};
+
+use rs_field::error::Error;
+use std::alloc::Global;
+
+// The vector that is handed on, or one that took no memory yet.
+pub(crate) fn vec_of<T>(alloc: Global, memory: Option<Vec<T>>) -> Vec<T>
+    ensures { room_of memory ≤ vec_capacity result }
+{
+    match memory {
+        Some(items) => items,
+        None => Vec::new(alloc),
+    }
+}
+
+// Makes room for so many items in all; the items stay.
+pub(crate) fn make_room<T>(items: &mut Vec<T>, count: usize) -> Result<(), Error>
+    ensures same { items.new.items ≡ items.old.items }
+    ensures room { OnOk result (count ≤ vec_capacity items.new) }
+    ensures more { vec_capacity items.old ≤ vec_capacity items.new }
+    ensures refused { IfErr result (λ e. (e ≡ Error.OutOfMemory) × (vec_capacity items.old < count)) }
+{
+    let more = count.saturating_sub(items.len());
+    items.try_reserve_exact(more)?;
+    Ok(())
+}
+
+// Holds so many chunks, for which there is room.
+pub(crate) fn set_chunks(chunks: &mut Vec<[u8; 64]>, count: usize)
+    requires { count ≤ vec_capacity chunks.old }
+    ensures length { vec_len chunks.new ≡ count }
+    ensures room { vec_capacity chunks.old ≤ vec_capacity chunks.new }
+{
+    let _ = chunks.resize(count, [0; 64]);
+}

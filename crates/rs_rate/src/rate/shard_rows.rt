@@ -1,0 +1,107 @@
+//! Shards in rows of chunks: room for them, laying them in, their tails, and reading them.
+ghost use Rattle.std.specs.Prelude.{◌≡◌, ◌≢◌, ℕ, ◌+◌, ◌*◌, ◌%◌, ◌^◌, ◌<◌, ◌≤◌, length, slice_index, MatchResult};
+ghost use Rattle.rs_field.specs.Column.{IsShard};
+ghost use Rattle.rs_field.specs.Layout.{row_len as chunks_for};
+ghost use Rattle.rs_field.specs.Bounds.{CountsRows};
+ghost use Rattle.rs_rate.specs.ShardRows.{chunk_count as chunk_count_of, row_chunk, shard_laid_out, shard_in_order};
+
+use rs_field::engine::Steps;
+use rs_field::engine::layout::{insert, row_len, shard_of, undo_last_chunk_encoding};
+use rs_field::error::Error;
+
+// The chunks of so many rows, where their size in bytes is a `usize`.
+pub(crate) fn chunk_count(row_count: usize, shard_bytes: usize) -> Result<usize, Error>
+    ensures { MatchResult result
+        (λ n. (n ≡ chunk_count_of row_count shard_bytes) × (n * 64 < 2 ^ 64))
+        (λ e. (e ≡ Error.OutOfMemory) × (2 ^ 64 ≤ chunk_count_of row_count shard_bytes * 64)) }
+{
+    let Some(chunks) = row_count.checked_mul(row_len(shard_bytes)) else {
+        return Err(Error::OutOfMemory);
+    };
+    match chunks.checked_mul(64) {
+        Some(_) => Ok(chunks),
+        None => Err(Error::OutOfMemory),
+    }
+}
+
+// Lays a shard into row `index` of rows of its size.
+#[tactic(auto, using(crate::proofs::ShardRowsLemmas::row_end))]
+pub(crate) fn insert_at(chunks: &mut [[u8; 64]], shard: &[u8], index: usize)
+    requires room { chunk_count_of (index + 1) (length shard.now) ≤ length chunks.old }
+    requires even { length shard.now % 2 ≡ 0 }
+    ensures here { shard_laid_out chunks.new (length shard.now) index ≡ shard.now }
+    ensures others { (i : ℕ) → i ≢ index → shard_laid_out chunks.new (length shard.now) i ≡ shard_laid_out chunks.old (length shard.now) i }
+{
+    let len = row_len(shard.len());
+    let start = index * len;
+    insert(&mut chunks[start..start + len], shard);
+}
+
+// The shard that lies in row `index`, once its tail was moved.
+#[tactic(auto, using(crate::proofs::ShardRowsLemmas::row_end))]
+pub(crate) fn shard_at(chunks: &[[u8; 64]], shard_bytes: usize, index: usize) -> &[u8]
+    requires { chunk_count_of (index + 1) shard_bytes ≤ length chunks.now }
+    ensures { result.now ≡ shard_in_order chunks.now shard_bytes index }
+{
+    let len = row_len(shard_bytes);
+    let start = index * len;
+    shard_of(&chunks[start..start + len], shard_bytes)
+}
+
+// Moves the tails of the first rows; a row step each.
+pub(crate) fn move_tails(
+    steps: &mut Steps,
+    chunks: &mut [[u8; 64]],
+    count: usize,
+    shard_bytes: usize,
+)
+    requires room { chunk_count_of count shard_bytes ≤ length chunks.old }
+    requires even { shard_bytes % 2 ≡ 0 }
+    ensures moved { (i : ℕ) → i < count → shard_in_order chunks.new shard_bytes i ≡ shard_laid_out chunks.old shard_bytes i }
+    ensures counts { CountsRows count steps.old steps.new }
+{
+    for i in 0..count {
+        steps.row_step();
+        move_tail(chunks, i, shard_bytes);
+    }
+}
+
+// Moves the tail of row `index`.
+#[tactic(auto, using(crate::proofs::ShardRowsLemmas::row_end))]
+pub(crate) fn move_tail(chunks: &mut [[u8; 64]], index: usize, shard_bytes: usize)
+    requires room { chunk_count_of (index + 1) shard_bytes ≤ length chunks.old }
+    requires even { shard_bytes % 2 ≡ 0 }
+    ensures here { shard_in_order chunks.new shard_bytes index ≡ shard_laid_out chunks.old shard_bytes index }
+    ensures others { (i k : ℕ) → i ≢ index → k < chunks_for shard_bytes → row_chunk chunks.new shard_bytes i k ≡ row_chunk chunks.old shard_bytes i k }
+{
+    let len = row_len(shard_bytes);
+    let start = index * len;
+    undo_last_chunk_encoding(&mut chunks[start..start + len], shard_bytes);
+}
+
+// The shards in rows are bytes. It and the three functions below do nothing when they run: they tell the checker so.
+pub(crate) fn laid_out_are_bytes(chunks: &[[u8; 64]], count: usize, shard_bytes: usize)
+    requires room { chunk_count_of count shard_bytes ≤ length chunks.now }
+    ensures { (i : ℕ) → i < count → IsShard shard_bytes (shard_laid_out chunks.now shard_bytes i) }
+{
+    bytes_are_bytes(chunks.as_flattened());
+}
+
+// The same of shards whose tails were moved.
+pub(crate) fn in_order_are_bytes(chunks: &[[u8; 64]], count: usize, shard_bytes: usize)
+    requires room { chunk_count_of count shard_bytes ≤ length chunks.now }
+    ensures { (i : ℕ) → i < count → IsShard shard_bytes (shard_in_order chunks.now shard_bytes i) }
+{
+    bytes_are_bytes(chunks.as_flattened());
+}
+
+// The same of a shard that is given.
+pub(crate) fn shard_is_bytes(shard: &[u8])
+    ensures { IsShard (length shard.now) shard.now }
+{
+    bytes_are_bytes(shard);
+}
+
+fn bytes_are_bytes(bytes: &[u8])
+    ensures { (j : ℕ) → slice_index bytes.now j < 256 }
+{}
