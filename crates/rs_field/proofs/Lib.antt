@@ -23,6 +23,7 @@ pub mod Combination
 pub mod Factors
 pub mod Halves
 pub mod Coefficients
+pub mod TopBlock
 pub mod Recursion
 pub mod Injective
 pub mod Derivative

@@ -5,3 +5,5 @@ pub mod LowCoding
 pub mod DecoderLemmas
 pub mod DecoderSteps
 pub mod DecoderRows
+pub mod HighCounts
+pub mod HighCoding
