@@ -16,7 +16,8 @@ pub mod Total
 pub mod XorSolver
 pub mod RingSolver
 pub mod Runs
-pub mod Places
+pub mod RowOffsets
+pub mod Pairs
 pub mod LayoutLemmas
 pub mod Symbols
 pub mod Combination
