@@ -9,7 +9,7 @@ ghost use Rattle.rs_field.specs.Configuration.{configuration};
 ghost use Rattle.rs_field.specs.Decoder.{fresh_decoder, FillsMissing};
 ghost use Rattle.rs_field.specs.Column.{IsShard};
 ghost use Rattle.rs_field.specs.Tables.{IsLog};
-ghost use Rattle.rs_field.specs.View.{Fits, SamePlace};
+ghost use Rattle.rs_field.specs.View.{Fits, SameShape};
 ghost use Rattle.rs_rate.specs.DecoderState.{decoder_state, restored_of, SameCounts};
 ghost use Rattle.rs_rate.specs.DecoderView.{erased, ended, place_at};
 ghost use Rattle.rs_rate.specs.Held.{items_of, chunk_count, shard_moved};
@@ -256,7 +256,7 @@ fn locate_rows<E: Engine>(
     requires few { «data».old.shard_count ≤ 65536 }
     requires placed { «data».old.shard_count ≤ length located.places.now }
     requires within { end ≤ «data».old.shard_count }
-    ensures place { SamePlace «data».old «data».new }
+    ensures shape { SameShape «data».old «data».new }
 {
     for p in 0..end {
         if located.places[p] == Place::Given {
@@ -274,7 +274,7 @@ fn pass_rows<E: Engine>(engine: &E, steps: &mut Steps, data: &mut ShardsRefMut<'
     requires power { (d : ℕ) × («data».old.shard_count ≡ 2 ^ d) }
     requires few { «data».old.shard_count ≤ 65536 }
     requires within { end ≤ «data».old.shard_count }
-    ensures place { SamePlace «data».old «data».new }
+    ensures shape { SameShape «data».old «data».new }
 {
     let size = data.len();
     clear_rows(steps, data, end, size);
@@ -296,7 +296,7 @@ fn reveal_rows<E: Engine>(
     requires few { «data».old.shard_count ≤ 65536 }
     requires placed { «data».old.shard_count ≤ length located.places.now }
     requires within { from + original_count ≤ «data».old.shard_count }
-    ensures place { SamePlace «data».old «data».new }
+    ensures shape { SameShape «data».old «data».new }
 {
     for i in 0..original_count {
         let p = from + i;

@@ -7,7 +7,7 @@ ghost use Rattle.rs_field.specs.Configuration.{configuration, validated};
 ghost use Rattle.rs_field.specs.Encoder.{fresh_encoder};
 ghost use Rattle.rs_field.specs.Code.{AreRecovery};
 ghost use Rattle.rs_field.specs.Transform.{forward};
-ghost use Rattle.rs_field.specs.View.{cell, word, Fits, SamePlace};
+ghost use Rattle.rs_field.specs.View.{cell, word, Fits, SameShape};
 ghost use Rattle.rs_field.specs.Layout.{up_to};
 ghost use Rattle.rs_rate.specs.Coding.{CodesLow};
 ghost use Rattle.rs_rate.specs.EncoderView.{encoder_state, given_of, lent_of, work_room};
@@ -151,7 +151,7 @@ fn code_rows<E: Engine>(
     requires enough { recovery_count ≤ «data».old.shard_count }
     requires whole { «data».old.shard_count % size ≡ 0 }
     requires points { «data».old.shard_count + size ≤ 65536 }
-    ensures place { SamePlace «data».old «data».new }
+    ensures shape { SameShape «data».old «data».new }
     ensures values { (k s : ℕ) → k < «data».old.shard_len_64 → s < 32 → CodesLow original_count recovery_count size (word «data».old k s) (word «data».new k s) }
 {
     clear_rows(steps, data, original_count, size);
@@ -173,7 +173,7 @@ fn code_further<E: Engine>(
     requires enough { recovery_count ≤ «data».old.shard_count }
     requires whole { «data».old.shard_count % size ≡ 0 }
     requires points { «data».old.shard_count + size ≤ 65536 }
-    ensures place { SamePlace «data».old «data».new }
+    ensures shape { SameShape «data».old «data».new }
     ensures combination { (i k : ℕ) → k < «data».old.shard_len_64 → i < size → cell «data».new k i ≡ cell «data».old k i }
     ensures values { (k s i : ℕ) → k < «data».old.shard_len_64 → s < 32 → size ≤ i → i < recovery_count
         → word «data».new k s i ≡ forward size 0 (λ q. word «data».old k s q) (size + i) }

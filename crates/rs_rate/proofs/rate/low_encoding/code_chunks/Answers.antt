@@ -10,7 +10,7 @@ unfolding cell
 returns g c = λ k s inside symbols.
     let old : c.new-data.result.chunks.now ≡ c.args.chunks.now = c.new-data.ensures.chunks in
     let len : c.new-data.result.shard_len_64 ≡ c.args.len = c.new-data.ensures.len_64 in
-    let len_too : c.code_rows.new.«data».shard_len_64 ≡ c.args.len = c.code_rows.ensures.place.len_64 ∙ len in
+    let len_too : c.code_rows.new.«data».shard_len_64 ≡ c.args.len = c.code_rows.ensures.shape.len_64 ∙ len in
     let new : c.chunks-1.given.0 ≡ c.code_rows.new.«data».chunks.now = search rules in
     codes-read c.args.original_count c.args.recovery_count c.args.size
     (word c.new-data.result k s) (word c.code_rows.new.«data» k s) (word_in c.args.chunks.now c.args.len k s) (word_in c.chunks-1.given.0 c.args.len k s)
