@@ -1,8 +1,8 @@
 -- The coding of the high rate: what the transforms of one column make of the originals, and that it is the code.
-use Rattle.std.proofs.Common.{◌≡◌, ℕ, zero, suc, ◌+◌, ◌-◌, ◌*◌, ◌/◌, ◌%◌, ◌^◌, ◌<◌, ◌≤◌, Bool, true, cond, eqb, List, length, bit_xor, refl, sym, ap, ap₂, ◌∙◌, subst, inl, inr, arith, zero-add, pow-add, ne_eqb}
+use Rattle.std.proofs.Common.{◌≡◌, ℕ, zero, suc, ◌+◌, ◌-◌, ◌*◌, ◌/◌, ◌%◌, ◌^◌, ◌<◌, ◌≤◌, Bool, true, cond, eqb, List, length, bit_xor, refl, sym, ap, ap₂, ◌∙◌, subst, inl, inr, arith, zero-add, add-one, pow-add, ne_eqb}
 use Rattle.std.specs.Prelude.{All, nat_lt}
 use Rattle.std.specs.Int.Bits.{xor_self, xor_zero_l, xor_zero_r}
-use Rattle.std.proofs.Math.Nat.{zero-mod, mul-le-mul_right}
+use Rattle.std.proofs.Math.Nat.{zero-mod, mul-le-mul_right, div_self, add-div_right}
 use Rattle.std.proofs.lemmas.Bool.{cases_lt, lt-ltb, le-ltb, eq-eqb}
 use Rattle.std.proofs.lemmas.Nat.{pow_pos, div-add-mod'}
 use Rattle.rs_field.specs.Polynomial.{value}
@@ -77,6 +77,36 @@ sums-more m n k old sums one more values zeros added (those, those_values, those
     latest u i e =
         ap (λ v. forward m (v * m + m) (extended n those one v) i) e
         ∙ forward-same m (n * m + m) (extended n those one n) one i (λ q hq. extended-last n those one q)
+
+-- the same of rows: the first block has passed to its combination
+pub sums-start : (m k : ℕ) (old passed : ℕ → ℕ) → 0 < m
+    → ((i : ℕ) → i < m → 0 + i < k → forward m (0 + m) (λ q. passed (0 + q)) i ≡ old (0 + i)) → ((i : ℕ) → i < m → k ≤ 0 + i → forward m (0 + m) (λ q. passed (0 + q)) i ≡ 0)
+    → SumsBlocks m (m / m) k old passed
+sums-start m k old passed some values zeros =
+    subst (λ (n : ℕ). SumsBlocks m n k old passed) (sym (div_self some))
+    (sums-first m k old passed (λ i hi given. at i ∙ values i hi (omega arith) ∙ ap old (zero-add i)) (λ i hi past. at i ∙ zeros i hi (omega arith)))
+  where
+    at : (i : ℕ) → forward m m passed i ≡ forward m (0 + m) (λ q. passed (0 + q)) i
+    at i = ap (λ s. forward m s passed i) (sym (zero-add m)) ∙ forward-same m (0 + m) passed (λ q. passed (0 + q)) i (λ q hq. ap passed (sym (zero-add q)))
+
+-- and the block from a row on, in which the originals still stood, has passed to its combination, and was added to the first block
+pub sums-next : (m start k : ℕ) (old now passed new : ℕ → ℕ) → 0 < m → start % m ≡ 0
+    → ((i : ℕ) → start ≤ i → now i ≡ old i)
+    → ((i : ℕ) → i < m → start + i < k → forward m (start + m) (λ q. passed (start + q)) i ≡ now (start + i))
+    → ((i : ℕ) → i < m → k ≤ start + i → forward m (start + m) (λ q. passed (start + q)) i ≡ 0)
+    → ((q : ℕ) → q < m → passed q ≡ now q)
+    → ((q : ℕ) → q < m → new (0 + q) ≡ bit_xor (passed (0 + q)) (passed (start + q)))
+    → SumsBlocks m (start / m) k old now → SumsBlocks m ((start + m) / m) k old new
+sums-next m start k old now passed new some multiple left values zeros kept added sums =
+    let parts : start / m * m + start % m ≡ start = div-add-mod' start m in
+    let whole : start / m * m ≡ start = omega arith in
+    let next : (start + m) / m ≡ suc (start / m) = add-div_right start some ∙ add-one (start / m) in
+    subst (λ (n : ℕ). SumsBlocks m n k old new) (sym next)
+    (sums-more m (start / m) k old now (λ q. passed (start + q)) new
+    (λ i hi given.
+    ap (λ t. forward m (t + m) (λ q. passed (start + q)) i) whole ∙ values i hi (omega arith) ∙ left (start + i) (omega arith) ∙ ap (λ t. old (t + i)) (sym whole))
+    (λ i hi past. ap (λ t. forward m (t + m) (λ q. passed (start + q)) i) whole ∙ zeros i hi (omega arith))
+    (λ q hq. ap new (sym (zero-add q)) ∙ added q hq ∙ ap (λ v. bit_xor v (passed (start + q))) (ap passed (zero-add q) ∙ kept q hq)) sums)
 
 -- ---- the polynomial
 

@@ -1,11 +1,12 @@
--- Counts that the high rate supports, and the rows of its encoder.
-use Rattle.std.proofs.Common.{◌≡◌, ℕ, ◌+◌, ◌-◌, ◌*◌, ◌/◌, ◌%◌, ◌^◌, ◌<◌, ◌≤◌, Bool, true, false, refl, ap, ◌∙◌, arith}
+-- The rows of the encoders, and counts that the high rate supports.
+use Rattle.std.proofs.Common.{◌≡◌, ℕ, ◌+◌, ◌-◌, ◌*◌, ◌/◌, ◌%◌, ◌^◌, ◌<◌, ◌≤◌, Bool, true, false, refl, sym, ap, ◌∙◌, subst, inl, inr, arith}
 use Rattle.std.specs.Prelude.{nat_le, nat_lt, ◌&&◌}
-use Rattle.std.proofs.Math.Nat.{mul-mod_left}
+use Rattle.std.proofs.Math.Nat.{mul-mod_left, mul-le-mul_right}
+use Rattle.std.proofs.lemmas.Bool.{cases_lt}
 use Rattle.std.proofs.lemmas.Nat.{pow_pos, div-add-mod'}
 use Rattle.rs_field.specs.Counts.{next_power, supports, is_low, low_rate, high_rate}
-use Rattle.rs_field.specs.Placement.{rounded_up, encoder_rows}
-use Rattle.rs_rate.proofs.PowerLemmas.{low_fits, low_small, low_rows-enough, next_power-small, multiple_room}
+use Rattle.rs_field.specs.Placement.{encoder_rows}
+use Rattle.rs_rate.proofs.PowerLemmas.{low_fits, low_small, low_rows-enough, rounded_up-low, next_power-small, multiple_least, multiple_room}
 
 swapped : (a b : Bool) → (a && b) ≡ (b && a)
 swapped true true = refl
@@ -30,30 +31,42 @@ high_fits k r is = low_fits r k (high_turned k r ∙ is)
 pub high_small : (k r : ℕ) → supports high_rate k r ≡ true → r ≤ 65536
 high_small k r is = low_small r k (high_turned k r ∙ is)
 
-rows_is : (k r : ℕ) → encoder_rows high_rate k r ≡ rounded_up k (next_power r)
-unfolding encoder_rows is_low
-rows_is k r = refl
+-- n rows in whole blocks, of which each is the power of k: enough for r shards, and with points for one block more
+pub record HasRows (k r n : ℕ) : Type 0 where
+  pub power : (d : ℕ) × (next_power k ≡ 2 ^ d)
+  pub block : k ≤ next_power k
+  pub some : next_power k ≤ n
+  pub enough : r ≤ n
+  pub whole : n % next_power k ≡ 0
+  pub points : n + next_power k ≤ 65536
 
--- an encoder of the high rate has a row for each original, in whole blocks, and the points after its rows have room for one more block
-pub record HasHighRows (k r rows : ℕ) : Type 0 where
-  pub power : (d : ℕ) × (next_power r ≡ 2 ^ d)
-  pub recovery : r ≤ next_power r
-  pub enough : k ≤ rows
-  pub whole : rows % next_power r ≡ 0
-  pub points : rows + next_power r ≤ 65536
-
-pub high_rows-fit : (k r : ℕ) → supports high_rate k r ≡ true → HasHighRows k r (encoder_rows high_rate k r)
-high_rows-fit k r is =
-    let known = next_power-small r (high_small k r is) in
-    let fits = high_fits k r is in
-    let positive : 0 < next_power r = (let p = pow_pos known.0 in omega (arith, known.2)) in
-    let rows : encoder_rows high_rate k r ≡ (k + next_power r - 1) / next_power r * next_power r = rows_is k r in
-    let parts : (k + next_power r - 1) / next_power r * next_power r + (k + next_power r - 1) % next_power r ≡ k + next_power r - 1 = div-add-mod' (k + next_power r - 1) (next_power r) in
-    let multiple : encoder_rows high_rate k r % next_power r ≡ 0 = ap (λ n. n % next_power r) rows ∙ mul-mod_left ((k + next_power r - 1) / next_power r) (next_power r) in
+pub low_rows-fit : (k r : ℕ) → supports low_rate k r ≡ true → HasRows k r (encoder_rows low_rate k r)
+low_rows-fit k r is =
+    let known = next_power-small k (low_small k r is) in
+    let fits = low_fits k r is in
+    let positive : 0 < next_power k = (let p = pow_pos known.0 in omega (arith, known.2)) in
+    let parts : (r + next_power k - 1) / next_power k * next_power k + (r + next_power k - 1) % next_power k ≡ r + next_power k - 1 = div-add-mod' (r + next_power k - 1) (next_power k) in
+    let rows : encoder_rows low_rate k r ≡ (r + next_power k - 1) / next_power k * next_power k = sym (rounded_up-low k r) in
+    let multiple : encoder_rows low_rate k r % next_power k ≡ 0 = ap (λ n. n % next_power k) rows ∙ mul-mod_left ((r + next_power k - 1) / next_power k) (next_power k) in
+    let enough : r ≤ encoder_rows low_rate k r = low_rows-enough k r is in
     record {
       power = (known.0, known.2);
-      recovery = known.3;
-      enough = (let turned = low_rows-enough r k (high_turned k r ∙ is) in omega (arith, turned, high_rows k r));
+      block = known.3;
+      some = multiple_least (encoder_rows low_rate k r) (next_power k) (omega (arith, fits.1)) multiple;
+      enough = enough;
       whole = multiple;
-      points = multiple_room (encoder_rows high_rate k r) known.0 (next_power r) known.1 known.2 multiple (omega (arith, fits.2));
+      points = multiple_room (encoder_rows low_rate k r) known.0 (next_power k) known.1 known.2 multiple (omega (arith, fits.2));
     }
+
+pub high_rows-fit : (k r : ℕ) → supports high_rate k r ≡ true → HasRows r k (encoder_rows high_rate k r)
+high_rows-fit k r is = subst (λ (n : ℕ). HasRows r k n) (high_rows k r) (low_rows-fit r k (high_turned k r ∙ is))
+
+-- a multiple of m below another leaves room for one more block
+pub next_block : (start rows m : ℕ) → start < rows → start % m ≡ 0 → rows % m ≡ 0 → start + m ≤ rows
+next_block start rows m below from to =
+    let a : start / m * m + start % m ≡ start = div-add-mod' start m in
+    let b : rows / m * m + rows % m ≡ rows = div-add-mod' rows m in
+    elim (cases_lt (start / m) (rows / m)) [
+      | inl less ↦ let more : start / m + 1 ≤ rows / m = omega arith in let rise : (start / m + 1) * m ≤ rows / m * m = mul-le-mul_right m more in omega arith
+      | inr more ↦ let rise : rows / m * m ≤ start / m * m = mul-le-mul_right m more in absurd (let no : ⊥ = omega arith in no)
+    ]

@@ -4,6 +4,7 @@ pub mod decoder_work;
 mod decoding;
 pub mod encoder_work;
 mod growth;
+mod high_encoding;
 mod low_encoding;
 mod places;
 mod rate_low;

@@ -1,7 +1,7 @@
 //! The coding of the low rate: originals and zeros as values at the first points, recovery shards as values at the
 //! points after them.
-ghost use Rattle.std.specs.Prelude.{◌≡◌, ℕ, ◌+◌, ◌%◌, ◌^◌, ◌<◌, ◌≤◌, ◌*◌, Ok, length};
-ghost use Rattle.rs_field.specs.Counts.{low_rate};
+ghost use Rattle.std.specs.Prelude.{◌≡◌, ℕ, ◌+◌, ◌%◌, ◌^◌, ◌<◌, ◌≤◌, ◌*◌, true, Ok, length};
+ghost use Rattle.rs_field.specs.Counts.{next_power, supports, low_rate};
 ghost use Rattle.rs_field.specs.Placement.{encoder_rows};
 ghost use Rattle.rs_field.specs.Configuration.{configuration, validated};
 ghost use Rattle.rs_field.specs.Encoder.{fresh_encoder};
@@ -9,7 +9,7 @@ ghost use Rattle.rs_field.specs.Code.{AreRecovery};
 ghost use Rattle.rs_field.specs.Transform.{forward};
 ghost use Rattle.rs_field.specs.View.{cell, word, Fits, SameShape};
 ghost use Rattle.rs_field.specs.Layout.{up_to};
-ghost use Rattle.rs_rate.specs.Coding.{CodesLow};
+ghost use Rattle.rs_rate.specs.Coding.{CodesLow, CodesWords};
 ghost use Rattle.rs_rate.specs.EncoderView.{encoder_state, given_of, lent_of, work_room};
 ghost use Rattle.rs_rate.specs.Held.{word_in, items_of, room_of, chunk_count, shard_put, shard_moved};
 
@@ -102,6 +102,26 @@ fn encode_chunks<E: Engine>(
     );
     shards_fit(chunks, recovery_count, shard_bytes);
     move_tails(steps, chunks, recovery_count, shard_bytes);
+}
+
+// Makes the recovery shards in the first rows from the originals in the rows; `block` is the power of two of the
+// originals.
+pub(crate) fn code_low<E: Engine>(
+    engine: &E,
+    steps: &mut Steps,
+    data: &mut ShardsRefMut<'_>,
+    original_count: usize,
+    recovery_count: usize,
+    block: usize,
+)
+    requires fits { Fits «data».old }
+    requires supported { supports low_rate original_count recovery_count ≡ true }
+    requires rows { «data».old.shard_count ≡ encoder_rows low_rate original_count recovery_count }
+    requires block { block ≡ next_power original_count }
+    ensures shape { SameShape «data».old «data».new }
+    ensures words { (k s : ℕ) → k < «data».old.shard_len_64 → s < 32 → CodesWords low_rate original_count recovery_count (word «data».old k s) (word «data».new k s) }
+{
+    code_rows(engine, steps, data, original_count, recovery_count, block);
 }
 
 // Makes the words of the recovery shards, in rows of `len` chunks.
