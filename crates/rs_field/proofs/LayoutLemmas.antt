@@ -9,7 +9,7 @@ use Rattle.std.proofs.lemmas.List.{ext_get_or, get_or_append_left, get_or-append
 use Rattle.rs_field.specs.Column.{Shard, IsShard, column}
 use Rattle.std.specs.List.{flat_map}
 use Rattle.rs_field.specs.Rows.{chunk, symbol}
-use Rattle.rs_field.specs.Layout.{row_len, up_to, place, laid_out, in_order}
+use Rattle.rs_field.specs.Layout.{row_len, up_to, byte_offset, laid_out, in_order}
 
 pub length-up_to : {A : Type 0} (n : ℕ) (f : ℕ → A) → length (up_to n f) ≡ n
 length-up_to zero f = refl
@@ -40,16 +40,16 @@ up_to-is d n f s len same =
 
 pub length-laid_out : (size : ℕ) (chunks : ℕ → List ℕ) → length (laid_out size chunks) ≡ size
 unfolding laid_out
-length-laid_out size chunks = length-up_to size (λ b. slice_index (chunks (b / 64)) (place size b))
+length-laid_out size chunks = length-up_to size (λ b. slice_index (chunks (b / 64)) (byte_offset size b))
 
 pub length-in_order : (size : ℕ) (chunks : ℕ → List ℕ) → length (in_order size chunks) ≡ size
 unfolding in_order
 length-in_order size chunks = length-up_to size (λ b. slice_index (chunks (b / 64)) (b % 64))
 
 -- byte b of the shard
-pub get-laid_out : (size b : ℕ) (chunks : ℕ → List ℕ) → b < size → slice_index (laid_out size chunks) b ≡ slice_index (chunks (b / 64)) (place size b)
+pub get-laid_out : (size b : ℕ) (chunks : ℕ → List ℕ) → b < size → slice_index (laid_out size chunks) b ≡ slice_index (chunks (b / 64)) (byte_offset size b)
 unfolding laid_out
-get-laid_out size b chunks h = get-up_to size (λ b. slice_index (chunks (b / 64)) (place size b)) b 0 h
+get-laid_out size b chunks h = get-up_to size (λ b. slice_index (chunks (b / 64)) (byte_offset size b)) b 0 h
 
 -- a byte of the shard lies in a chunk of the row
 chunk_of : (size b : ℕ) → b < size → b / 64 < row_len size
@@ -58,7 +58,7 @@ chunk_of size b h = omega arith
 pub laid_out-same : (size : ℕ) (f g : ℕ → List ℕ) → ((k : ℕ) → k < row_len size → f k ≡ g k) → laid_out size f ≡ laid_out size g
 unfolding laid_out
 laid_out-same size f g same =
-    up_to-same size _ _ (λ b h. ap (λ c. slice_index c (place size b)) (same (b / 64) (chunk_of size b h)))
+    up_to-same size _ _ (λ b h. ap (λ c. slice_index c (byte_offset size b)) (same (b / 64) (chunk_of size b h)))
 
 pub in_order-same : (size : ℕ) (f g : ℕ → List ℕ) → ((k : ℕ) → k < row_len size → f k ≡ g k) → in_order size f ≡ in_order size g
 unfolding in_order
@@ -66,9 +66,9 @@ in_order-same size f g same =
     up_to-same size _ _ (λ b h. ap (λ c. slice_index c (b % 64)) (same (b / 64) (chunk_of size b h)))
 
 -- where half the bytes of a chunk or of the tail are `half`, its first half stays where it is
-pub place-low : (size b half : ℕ) → min 64 (size - b / 64 * 64) / 2 ≡ half → b % 64 < half → place size b ≡ b % 64
-unfolding place
-place-low size b half e h =
+pub byte_offset-low : (size b half : ℕ) → min 64 (size - b / 64 * 64) / 2 ≡ half → b % 64 < half → byte_offset size b ≡ b % 64
+unfolding byte_offset
+byte_offset-low size b half e h =
     let lt : b % 64 < min 64 (size - b / 64 * 64) / 2 = subst (λ n. b % 64 < n) (sym e) h in
     ap (λ t. cond t (b % 64) (b % 64 - min 64 (size - b / 64 * 64) / 2 + 32)) (lt-ltb (b % 64) (min 64 (size - b / 64 * 64) / 2) lt)
 
@@ -76,9 +76,9 @@ not_lt : (a b : ℕ) → b ≤ a → nat_lt a b ≡ false
 not_lt a b h = grind (arith, nat_tests)
 
 -- and its second half begins at byte 32
-pub place-high : (size b half : ℕ) → min 64 (size - b / 64 * 64) / 2 ≡ half → half ≤ b % 64 → place size b ≡ b % 64 - half + 32
-unfolding place
-place-high size b half e h =
+pub byte_offset-high : (size b half : ℕ) → min 64 (size - b / 64 * 64) / 2 ≡ half → half ≤ b % 64 → byte_offset size b ≡ b % 64 - half + 32
+unfolding byte_offset
+byte_offset-high size b half e h =
     let le : min 64 (size - b / 64 * 64) / 2 ≤ b % 64 = subst (λ n. n ≤ b % 64) (sym e) h in
     ap (λ t. cond t (b % 64) (b % 64 - min 64 (size - b / 64 * 64) / 2 + 32)) (not_lt (b % 64) (min 64 (size - b / 64 * 64) / 2) le) ∙ ap (λ n. b % 64 - n + 32) e
 
@@ -92,28 +92,28 @@ half-tail size b h =
     ap (λ n. n / 2) (ap (min 64) left ∙ min-eq_right short)
 
 -- a whole chunk lies as it is
-pub place-whole : (size b : ℕ) → b / 64 < size / 64 → place size b ≡ b % 64
-place-whole size b h =
+pub byte_offset-whole : (size b : ℕ) → b / 64 < size / 64 → byte_offset size b ≡ b % 64
+byte_offset-whole size b h =
     elim (cases_lt (b % 64) 32) [
-      | inl low ↦ place-low size b 32 (half-whole size b (omega arith)) low
-      | inr high ↦ place-high size b 32 (half-whole size b (omega arith)) high ∙ (let e : b % 64 - 32 + 32 ≡ b % 64 = omega arith in e)
+      | inl low ↦ byte_offset-low size b 32 (half-whole size b (omega arith)) low
+      | inr high ↦ byte_offset-high size b 32 (half-whole size b (omega arith)) high ∙ (let e : b % 64 - 32 + 32 ≡ b % 64 = omega arith in e)
     ]
 
-pub place-tail_low : (size b : ℕ) → b / 64 ≡ size / 64 → b % 64 < size % 64 / 2 → place size b ≡ b % 64
-place-tail_low size b q h = place-low size b (size % 64 / 2) (half-tail size b q) h
+pub byte_offset-tail_low : (size b : ℕ) → b / 64 ≡ size / 64 → b % 64 < size % 64 / 2 → byte_offset size b ≡ b % 64
+byte_offset-tail_low size b q h = byte_offset-low size b (size % 64 / 2) (half-tail size b q) h
 
-pub place-tail_high : (size b : ℕ) → b / 64 ≡ size / 64 → size % 64 / 2 ≤ b % 64 → place size b ≡ b % 64 - size % 64 / 2 + 32
-place-tail_high size b q h = place-high size b (size % 64 / 2) (half-tail size b q) h
+pub byte_offset-tail_high : (size b : ℕ) → b / 64 ≡ size / 64 → size % 64 / 2 ≤ b % 64 → byte_offset size b ≡ b % 64 - size % 64 / 2 + 32
+byte_offset-tail_high size b q h = byte_offset-high size b (size % 64 / 2) (half-tail size b q) h
 
-place_lt : (size b : ℕ) → b < size → place size b < 64
-place_lt size b h =
+byte_offset_lt : (size b : ℕ) → b < size → byte_offset size b < 64
+byte_offset_lt size b h =
     elim (cases_lt (b / 64) (size / 64)) [
-      | inl whole ↦ subst (λ n. n < 64) (sym (place-whole size b whole)) (omega arith)
+      | inl whole ↦ subst (λ n. n < 64) (sym (byte_offset-whole size b whole)) (omega arith)
       | inr last ↦
           let q : b / 64 ≡ size / 64 = omega arith in
           elim (cases_lt (b % 64) (size % 64 / 2)) [
-            | inl low ↦ subst (λ n. n < 64) (sym (place-tail_low size b q low)) (omega arith)
-            | inr high ↦ subst (λ n. n < 64) (sym (place-tail_high size b q high)) (omega arith)
+            | inl low ↦ subst (λ n. n < 64) (sym (byte_offset-tail_low size b q low)) (omega arith)
+            | inr high ↦ subst (λ n. n < 64) (sym (byte_offset-tail_high size b q high)) (omega arith)
           ]
     ]
 
@@ -122,9 +122,9 @@ pub bytes-laid_out : (size : ℕ) (chunks : ℕ → List ℕ) → ((k b : ℕ) �
 unfolding laid_out
 bytes-laid_out size chunks small i d h =
     let lt : i < size = subst (λ n. i < n) (length-laid_out size chunks) h in
-    let e : get_or (laid_out size chunks) i d ≡ slice_index (chunks (i / 64)) (place size i)
-    = get-up_to size (λ b. slice_index (chunks (b / 64)) (place size b)) i d lt in
-    subst (λ n. n < 256) (sym e) (small (i / 64) (place size i) (chunk_of size i lt) (place_lt size i lt))
+    let e : get_or (laid_out size chunks) i d ≡ slice_index (chunks (i / 64)) (byte_offset size i)
+    = get-up_to size (λ b. slice_index (chunks (b / 64)) (byte_offset size b)) i d lt in
+    subst (λ n. n < 256) (sym e) (small (i / 64) (byte_offset size i) (chunk_of size i lt) (byte_offset_lt size i lt))
 
 pub shard-laid_out : (size : ℕ) (chunks : ℕ → List ℕ) → ((k b : ℕ) → k < row_len size → b < 64 → slice_index (chunks k) b < 256)
     → IsShard size (laid_out size chunks)
@@ -153,9 +153,9 @@ word-laid_out size q i half chunks e low most fits =
     let rh : (q * 64 + i + half) % 64 ≡ i + half = omega arith in
     let el : min 64 (size - (q * 64 + i) / 64 * 64) / 2 ≡ half = ap (λ n. min 64 (size - n * 64) / 2) ql ∙ e in
     let eh : min 64 (size - (q * 64 + i + half) / 64 * 64) / 2 ≡ half = ap (λ n. min 64 (size - n * 64) / 2) qh ∙ e in
-    let pl : place size (q * 64 + i) ≡ i = place-low size (q * 64 + i) half el (subst (λ n. n < half) (sym rl) low) ∙ rl in
-    let ph : place size (q * 64 + i + half) ≡ i + 32
-    = place-high size (q * 64 + i + half) half eh (omega arith) ∙ ap (λ n. n - half + 32) rh ∙ (let r : i + half - half + 32 ≡ i + 32 = omega arith in r) in
+    let pl : byte_offset size (q * 64 + i) ≡ i = byte_offset-low size (q * 64 + i) half el (subst (λ n. n < half) (sym rl) low) ∙ rl in
+    let ph : byte_offset size (q * 64 + i + half) ≡ i + 32
+    = byte_offset-high size (q * 64 + i + half) half eh (omega arith) ∙ ap (λ n. n - half + 32) rh ∙ (let r : i + half - half + 32 ≡ i + 32 = omega arith in r) in
     ap₂ (λ u v. u + 256 * v)
     (get-laid_out size (q * 64 + i) chunks (omega arith) ∙ ap₂ (λ k n. slice_index (chunks k) n) ql pl)
     (get-laid_out size (q * 64 + i + half) chunks (omega arith) ∙ ap₂ (λ k n. slice_index (chunks k) n) qh ph)
@@ -185,24 +185,24 @@ pub laid_out-is : (size : ℕ) (chunks : ℕ → List ℕ) (s : Shard) → lengt
     → ((b : ℕ) → b < size % 64 / 2 → slice_index (chunks (size / 64)) (32 + b) ≡ slice_index s (size / 64 * 64 + (size % 64 / 2 + b)))
     → laid_out size chunks ≡ s
 unfolding laid_out
-laid_out-is size chunks s len even whole low high = up_to-is 0 size (λ b. slice_index (chunks (b / 64)) (place size b)) s len byte
+laid_out-is size chunks s len even whole low high = up_to-is 0 size (λ b. slice_index (chunks (b / 64)) (byte_offset size b)) s len byte
   where
-    byte : (b : ℕ) → b < size → slice_index (chunks (b / 64)) (place size b) ≡ slice_index s b
+    byte : (b : ℕ) → b < size → slice_index (chunks (b / 64)) (byte_offset size b) ≡ slice_index s b
     byte b h =
         elim (cases_lt (b / 64) (size / 64)) [
           | inl before ↦
               let e : b / 64 * 64 + b % 64 ≡ b = omega arith in
-              ap (slice_index (chunks (b / 64))) (place-whole size b before) ∙ whole (b / 64) (b % 64) before (omega arith) ∙ ap (slice_index s) e
+              ap (slice_index (chunks (b / 64))) (byte_offset-whole size b before) ∙ whole (b / 64) (b % 64) before (omega arith) ∙ ap (slice_index s) e
           | inr last ↦
               let q : b / 64 ≡ size / 64 = omega arith in
               elim (cases_lt (b % 64) (size % 64 / 2)) [
                 | inl first ↦
                     let e : size / 64 * 64 + b % 64 ≡ b = omega arith in
-                    ap₂ (λ k n. slice_index (chunks k) n) q (place-tail_low size b q first) ∙ low (b % 64) first ∙ ap (slice_index s) e
+                    ap₂ (λ k n. slice_index (chunks k) n) q (byte_offset-tail_low size b q first) ∙ low (b % 64) first ∙ ap (slice_index s) e
                 | inr second ↦
                     let at : b % 64 - size % 64 / 2 + 32 ≡ 32 + (b % 64 - size % 64 / 2) = omega arith in
                     let e : size / 64 * 64 + (size % 64 / 2 + (b % 64 - size % 64 / 2)) ≡ b = omega arith in
-                    ap₂ (λ k n. slice_index (chunks k) n) q (place-tail_high size b q second ∙ at)
+                    ap₂ (λ k n. slice_index (chunks k) n) q (byte_offset-tail_high size b q second ∙ at)
                     ∙ high (b % 64 - size % 64 / 2) (omega arith) ∙ ap (slice_index s) e
               ]
         ]
@@ -216,21 +216,21 @@ pub in_order-is : (size : ℕ) (new old : ℕ → List ℕ) → size % 2 ≡ 0
 unfolding in_order laid_out
 in_order-is size new old even whole low high = up_to-same size _ _ byte
   where
-    byte : (b : ℕ) → b < size → slice_index (new (b / 64)) (b % 64) ≡ slice_index (old (b / 64)) (place size b)
+    byte : (b : ℕ) → b < size → slice_index (new (b / 64)) (b % 64) ≡ slice_index (old (b / 64)) (byte_offset size b)
     byte b h =
         elim (cases_lt (b / 64) (size / 64)) [
-          | inl before ↦ ap₂ slice_index (whole (b / 64) before) (sym (place-whole size b before))
+          | inl before ↦ ap₂ slice_index (whole (b / 64) before) (sym (byte_offset-whole size b before))
           | inr last ↦
               let q : b / 64 ≡ size / 64 = omega arith in
               elim (cases_lt (b % 64) (size % 64 / 2)) [
                 | inl first ↦
                     ap (λ k. slice_index (new k) (b % 64)) q ∙ low (b % 64) first
-                    ∙ sym (ap₂ (λ k n. slice_index (old k) n) q (place-tail_low size b q first))
+                    ∙ sym (ap₂ (λ k n. slice_index (old k) n) q (byte_offset-tail_low size b q first))
                 | inr second ↦
                     let at : b % 64 - size % 64 / 2 + 32 ≡ 32 + (b % 64 - size % 64 / 2) = omega arith in
                     let e : b % 64 ≡ size % 64 / 2 + (b % 64 - size % 64 / 2) = omega arith in
                     ap₂ (λ k n. slice_index (new k) n) q e ∙ high (b % 64 - size % 64 / 2) (omega arith)
-                    ∙ sym (ap₂ (λ k n. slice_index (old k) n) q (place-tail_high size b q second ∙ at))
+                    ∙ sym (ap₂ (λ k n. slice_index (old k) n) q (byte_offset-tail_high size b q second ∙ at))
               ]
         ]
 

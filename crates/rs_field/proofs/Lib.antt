@@ -16,13 +16,15 @@ pub mod Total
 pub mod XorSolver
 pub mod RingSolver
 pub mod Runs
-pub mod Places
+pub mod RowOffsets
+pub mod Pairs
 pub mod LayoutLemmas
 pub mod Symbols
 pub mod Combination
 pub mod Factors
 pub mod Halves
 pub mod Coefficients
+pub mod TopBlock
 pub mod Recursion
 pub mod Injective
 pub mod Derivative

@@ -7,14 +7,14 @@ use Rattle.rs_field.specs.Subspace.{subspace}
 use Rattle.rs_field.specs.Transform.{forward}
 use Rattle.rs_field.specs.Tables.{IsSkew, scaled}
 use Rattle.rs_field.specs.Rows.{symbol}
-use Rattle.rs_field.specs.View.{cell, word, Fits, SamePlace}
+use Rattle.rs_field.specs.View.{cell, word, Fits, SameShape}
 use Rattle.rs_field.specs.Bounds.{CountsRows, CountsUpTo, TransformCounts, transform_steps}
 use Rattle.rs_field.specs.declared.engine.shards.ShardsRefMut.{ShardsRefMut}
 use Rattle.rs_field.specs.declared.engine.steps.Steps.{Steps}
 use Rattle.rs_field.proofs.Combination.{forward-one, forward-zero, lower_half, upper_half}
 use Rattle.rs_field.proofs.Halves.{half_power, few_halves, table_factor, xor_undo, steps_half}
 
-pub fits_kept : (a b : ShardsRefMut) → SamePlace a b → Fits a → Fits b
+pub fits_kept : (a b : ShardsRefMut) → SameShape a b → Fits a → Fits b
 fits_kept a b p h = rw (p.count, p.len_64, p.length) h
 
 pub word_same : (a b : ShardsRefMut) (k s i j : ℕ) → cell a k i ≡ cell b k j → word a k s i ≡ word b k s j

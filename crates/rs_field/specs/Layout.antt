@@ -13,14 +13,14 @@ up_to zero f = []
 up_to (suc n) f = up_to n f ++ f n ∷ []
 
 -- where byte b of a shard of this size lies in its chunk: the first half of a chunk or of the tail lies from byte 0 on, the second half from byte 32 on
-unfoldable pub place : ℕ → ℕ → ℕ
-place size b =
+unfoldable pub byte_offset : ℕ → ℕ → ℕ
+byte_offset size b =
     let half = min 64 (size - b / 64 * 64) / 2 in
     if nat_lt (b % 64) half then b % 64 else b % 64 - half + 32
 
 -- the shard that lies in a row with these chunks
 unfoldable pub laid_out : ℕ → (ℕ → List ℕ) → Shard
-laid_out size chunks = up_to size (λ b. slice_index (chunks (b / 64)) (place size b))
+laid_out size chunks = up_to size (λ b. slice_index (chunks (b / 64)) (byte_offset size b))
 
 -- the first bytes of the chunks, one after another: the shard once its tail was moved
 unfoldable pub in_order : ℕ → (ℕ → List ℕ) → Shard

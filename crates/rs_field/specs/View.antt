@@ -1,6 +1,6 @@
 -- The rows of a `ShardsRefMut`, by row, chunk and symbol.
-use Rattle.std.specs.Prelude.{◌≡◌, ℕ, List, ◌+◌, ◌*◌, ◌≤◌, ◌<◌, ◌⊎◌, length, replicate, take, drop}
-use Rattle.rs_field.specs.Rows.{Chunks, chunk, symbol}
+use Rattle.std.specs.Prelude.{◌≡◌, ℕ, List, ◌+◌, ◌*◌, ◌≤◌, ◌<◌, length, replicate, take, drop}
+use Rattle.rs_field.specs.Rows.{Chunks, chunk, symbol, SameOutside, SameOutsideTwo}
 use Rattle.rs_field.specs.declared.engine.shards.ShardsRefMut.{ShardsRefMut}
 
 -- there are chunks enough for the rows
@@ -19,16 +19,21 @@ cell r k i = chunk r.chunks.now (i * r.shard_len_64 + k)
 abbrev pub word : ShardsRefMut → ℕ → ℕ → ℕ → ℕ
 word r k s i = symbol (cell r k i) s
 
--- as many rows as before, in the same place
-pub record SamePlace (old new : ShardsRefMut) : Type 0 where
+-- as many rows as before, of the same length, over as many chunks of the same loan
+pub record SameShape (old new : ShardsRefMut) : Type 0 where
   pub name : new.chunks.ghost_name ≡ old.chunks.ghost_name
   pub count : new.shard_count ≡ old.shard_count
   pub len_64 : new.shard_len_64 ≡ old.shard_len_64
   pub length : length new.chunks.now ≡ length old.chunks.now
 
--- the rows before row a and from row b on are the same in both, and so is what lies past the rows
+-- the chunks before row a and from row b on are the same in both, to the last one past the rows
 abbrev pub SameRowsOutside : ℕ → ℕ → ShardsRefMut → ShardsRefMut → Type 0
-SameRowsOutside a b old new = (i k : ℕ) → k < old.shard_len_64 → (i < a) ⊎ (b ≤ i) → cell new k i ≡ cell old k i
+SameRowsOutside a b old new = SameOutside (a * old.shard_len_64) (b * old.shard_len_64) old.chunks.now new.chunks.now
+
+-- the same of the chunks outside rows a to b - 1 and outside rows c to d - 1
+abbrev pub SameRowsOutsideTwo : ℕ → ℕ → ℕ → ℕ → ShardsRefMut → ShardsRefMut → Type 0
+SameRowsOutsideTwo a b c d old new =
+    let n = old.shard_len_64 in SameOutsideTwo (a * n) (b * n) (c * n) (d * n) old.chunks.now new.chunks.now
 
 -- rows a to b - 1 are zero bytes
 abbrev pub AreZero : ℕ → ℕ → ShardsRefMut → Type 0

@@ -3,7 +3,7 @@ ghost use Rattle.std.specs.Prelude.{◌≡◌, ℕ, ◌+◌, ◌%◌, ◌^◌, �
 ghost use Rattle.rs_field.specs.Field.{product, power};
 ghost use Rattle.rs_field.specs.Transform.{forward};
 ghost use Rattle.rs_field.specs.Rows.{chunk, symbol};
-ghost use Rattle.rs_field.specs.View.{word, Fits, SamePlace, SameRowsOutside, AreZero};
+ghost use Rattle.rs_field.specs.View.{word, Fits, SameShape, SameRowsOutside, AreZero};
 ghost use Rattle.rs_field.specs.Bounds.{TransformCounts, RowProductCounts};
 
 pub mod engine_naive;
@@ -66,7 +66,7 @@ pub trait Engine: Drop {
         requires within { pos + size ≤ «data».old.shard_count }
         requires shift { skew_delta % size ≡ 0 }
         requires points { skew_delta + size ≤ 65536 }
-        ensures place { SamePlace «data».old «data».new }
+        ensures shape { SameShape «data».old «data».new }
         ensures others { SameRowsOutside pos (pos + size) «data».old «data».new }
         ensures values { (k s i : ℕ) → k < «data».old.shard_len_64 → s < 32 → i < truncated_size
             → word «data».new k s (pos + i) ≡ forward size skew_delta (λ q. word «data».old k s (pos + q)) i }
@@ -92,7 +92,7 @@ pub trait Engine: Drop {
         requires shift { skew_delta % size ≡ 0 }
         requires points { skew_delta + size ≤ 65536 }
         requires tail { AreZero (pos + truncated_size) (pos + size) «data».old }
-        ensures place { SamePlace «data».old «data».new }
+        ensures shape { SameShape «data».old «data».new }
         ensures others { SameRowsOutside pos (pos + size) «data».old «data».new }
         ensures values { (k s i : ℕ) → k < «data».old.shard_len_64 → s < 32 → i < size
             → word «data».old k s (pos + i) ≡ forward size skew_delta (λ q. word «data».new k s (pos + q)) i }

@@ -7,3 +7,5 @@ pub mod DecoderSteps
 pub mod DecoderRows
 pub mod ChoiceLemmas
 pub mod RateLemmas
+pub mod HighCounts
+pub mod HighCoding

@@ -1,5 +1,5 @@
 -- The coding of the low rate: what the transforms of one column make of the originals, and that it is the code.
-use Rattle.std.proofs.Common.{◌≡◌, ℕ, ◌+◌, ◌-◌, ◌*◌, ◌/◌, ◌^◌, ◌<◌, ◌≤◌, List, [], min, sym, ap, ◌∙◌, subst, arith, inl, inr, zero-add, replicate, ap₂}
+use Rattle.std.proofs.Common.{◌≡◌, ℕ, true, ◌+◌, ◌-◌, ◌*◌, ◌/◌, ◌^◌, ◌<◌, ◌≤◌, List, [], min, sym, ap, ◌∙◌, subst, arith, inl, inr, zero-add, replicate, ap₂}
 use Rattle.std.specs.Prelude.{slice_index, Ok}
 use Rattle.std.proofs.lemmas.Bool.{cases_lt}
 use Rattle.std.proofs.lemmas.List.{get_or-replicate}
@@ -7,7 +7,7 @@ use Rattle.rs_field.specs.Rows.{symbol}
 use Rattle.rs_field.specs.Polynomial.{value}
 use Rattle.rs_field.specs.Transform.{forward}
 use Rattle.rs_field.specs.Column.{Shard, IsShard, column, columns}
-use Rattle.rs_field.specs.Counts.{next_power, is_low, low_rate}
+use Rattle.rs_field.specs.Counts.{next_power, supports, is_low, low_rate}
 use Rattle.rs_field.specs.Placement.{placement, low_placement}
 use Rattle.rs_field.specs.Configuration.{configuration, validated}
 use Rattle.rs_field.specs.Code.{AreRecoveryWords, AreRecovery}
@@ -16,7 +16,7 @@ use Rattle.rs_field.proofs.Columns.{columns-at}
 use Rattle.rs_field.proofs.Combination.{forward-same, forward-moved}
 use Rattle.rs_field.proofs.Coefficients.{combination_polynomial}
 use Rattle.rs_field.proofs.LayoutLemmas.{length-up_to, get-up_to}
-use Rattle.rs_rate.specs.Coding.{CodesLow}
+use Rattle.rs_rate.specs.Coding.{CodesLow, CodesWords}
 use Rattle.rs_rate.proofs.PowerLemmas.{low_small, low_fits, next_power-small}
 use Rattle.rs_rate.proofs.StateLemmas.{valid-supported}
 
@@ -121,3 +121,10 @@ pub codes-read : (k r m : ℕ) (old new old_read new_read : ℕ → ℕ) → ((i
     → CodesLow k r m old new → CodesLow k r m old_read new_read
 codes-read k r m old new old_read new_read same_old same_new (combination, originals, zeros, values) =
     (combination, (λ j h. originals j h ∙ sym (same_old j h)), zeros, (λ i h. same_new i h ∙ values i h))
+
+-- in each column they are the recovery words
+pub codes_words : (k r : ℕ) (old new : ℕ → ℕ) → supports low_rate k r ≡ true → CodesLow k r (next_power k) old new → CodesWords low_rate k r old new
+codes_words k r old new supported coded_column =
+    let known = next_power-small k (low_small k r supported) in
+    recovery_words k r known.0 old new (up_to k old) (up_to r new) known.1 known.2 known.3 coded_column
+    (λ j h. get-up_to k old j 0 h) (λ i h. get-up_to r new i 0 h) (low_fits k r supported).2

@@ -11,7 +11,7 @@ use Rattle.rs_field.specs.Layout.{row_len, up_to, laid_out, in_order}
 use Rattle.rs_field.specs.Column.{Shard, IsShard, column}
 use Rattle.rs_rate.specs.ShardRows.{chunk_count, row_chunk, shard_laid_out, shard_in_order, word_in}
 use Rattle.rs_field.proofs.LayoutLemmas.{up_to-same, laid_out-same, in_order-same, column-laid_out}
-use Rattle.rs_field.proofs.Places.{place_apart}
+use Rattle.rs_field.proofs.RowOffsets.{offset_apart}
 
 pub chunk_count-is : (rows size : ℕ) → chunk_count rows size ≡ rows * row_len size
 unfolding chunk_count
@@ -88,7 +88,7 @@ pub row_chunk-other : (chunks part : Chunks) (size i j k : ℕ) → i * row_len 
     → row_chunk (put_mid (i * row_len size) (row_len size) chunks part) size j k ≡ row_chunk chunks size j k
 unfolding row_chunk
 row_chunk-other chunks part size i j k fits same inside apart =
-    part-outside chunks part (i * row_len size) (row_len size) (j * row_len size + k) fits same (place_apart i j k (row_len size) inside apart)
+    part-outside chunks part (i * row_len size) (row_len size) (j * row_len size + k) fits same (offset_apart i j k (row_len size) inside apart)
 
 -- after a part that is a row was written, the shard in that row is the part's
 pub put-here : (chunks part : Chunks) (size i start n : ℕ) → start ≡ i * row_len size → n ≡ row_len size → start + n ≤ length chunks → length part ≡ n

@@ -1,13 +1,9 @@
 -- How the words of one column become recovery words.
-use Rattle.std.specs.Prelude.{◌≡◌, ℕ, ◌+◌, ◌<◌, ◌≤◌}
-use Rattle.rs_field.specs.Code.{AreRecoveryWords}
+use Rattle.std.specs.Prelude.{◌≡◌, ℕ, ◌+◌, ◌*◌, ◌<◌, ◌≤◌}
 use Rattle.rs_field.specs.Counts.{Rate}
 use Rattle.rs_field.specs.Layout.{up_to}
-use Rattle.rs_field.specs.Transform.{forward}
-
--- in one column, the r new words are the recovery words of the k old ones
-abbrev pub CodesWords : Rate → ℕ → ℕ → (ℕ → ℕ) → (ℕ → ℕ) → Type 0
-CodesWords rate k r old new = AreRecoveryWords rate k r (up_to k old) (up_to r new)
+use Rattle.rs_field.specs.Code.{AreRecoveryWords}
+use Rattle.rs_field.specs.Transform.{sum_below, forward}
 
 -- the k old words are the first values of a combination of m basis polynomials that is zero at the points from k to m - 1, and the r new words are its values from the point m on
 abbrev pub CodesLow : ℕ → ℕ → ℕ → (ℕ → ℕ) → (ℕ → ℕ) → Type 0
@@ -16,3 +12,15 @@ CodesLow k r m old new =
     × ((j : ℕ) → j < k → forward m 0 combination j ≡ old j)
     × ((j : ℕ) → k ≤ j → j < m → forward m 0 combination j ≡ 0)
     × ((i : ℕ) → i < r → new i ≡ forward m 0 combination (m + i))
+
+-- the first m words are the sum of n combinations of m basis polynomials: number u takes, at the m points from (u + 1) * m on, those of the k old words from u * m on, and zero past the last of them
+abbrev pub SumsBlocks : ℕ → ℕ → ℕ → (ℕ → ℕ) → (ℕ → ℕ) → Type 0
+SumsBlocks m n k old sums =
+    (combinations : ℕ → ℕ → ℕ)
+    × ((u i : ℕ) → u < n → i < m → u * m + i < k → forward m (u * m + m) (combinations u) i ≡ old (u * m + i))
+    × ((u i : ℕ) → u < n → i < m → k ≤ u * m + i → forward m (u * m + m) (combinations u) i ≡ 0)
+    × ((q : ℕ) → q < m → sums q ≡ sum_below n (λ u. combinations u q))
+
+-- in one column, the r new words are the recovery words of the k old ones
+abbrev pub CodesWords : Rate → ℕ → ℕ → (ℕ → ℕ) → (ℕ → ℕ) → Type 0
+CodesWords rate k r old new = AreRecoveryWords rate k r (up_to k old) (up_to r new)

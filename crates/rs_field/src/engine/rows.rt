@@ -2,7 +2,7 @@
 ghost use Rattle.std.specs.Prelude.{◌≡◌, ℕ, ◌+◌, ◌-◌, ◌<◌, ◌≤◌, ◌≢◌, length};
 ghost use Rattle.rs_field.specs.Field.{product, power};
 ghost use Rattle.rs_field.specs.Rows.{chunk, symbol, SameOutside};
-ghost use Rattle.rs_field.specs.View.{cell, word, Fits, SamePlace, SameRowsOutside, AreZero};
+ghost use Rattle.rs_field.specs.View.{cell, word, Fits, SameShape, SameRowsOutside, AreZero};
 ghost use Rattle.rs_field.specs.Bounds.{CountsRows, RowProductCounts};
 
 use super::{Engine, GfElement, ShardsRefMut, Steps};
@@ -12,7 +12,7 @@ pub fn clear_rows(steps: &mut Steps, data: &mut ShardsRefMut<'_>, start: usize, 
     requires fits { Fits «data».old }
     requires ordered { start ≤ end }
     requires within { end ≤ «data».old.shard_count }
-    ensures place { SamePlace «data».old «data».new }
+    ensures shape { SameShape «data».old «data».new }
     ensures zeros { AreZero start end «data».new }
     ensures others { SameRowsOutside start end «data».old «data».new }
     ensures counts { CountsRows (end - start) steps.old steps.new }
@@ -34,7 +34,7 @@ pub fn copy_rows(
     requires fits { Fits «data».old }
     requires apart { from + count ≤ to }
     requires within { to + count ≤ «data».old.shard_count }
-    ensures place { SamePlace «data».old «data».new }
+    ensures shape { SameShape «data».old «data».new }
     ensures copied { (i k : ℕ) → k < «data».old.shard_len_64 → i < count → cell «data».new k (to + i) ≡ cell «data».old k (from + i) }
     ensures others { SameRowsOutside to (to + count) «data».old «data».new }
     ensures counts { CountsRows count steps.old steps.new }
@@ -50,7 +50,7 @@ fn copy_row(data: &mut ShardsRefMut<'_>, from: usize, to: usize)
     requires fits { Fits «data».old }
     requires apart { from < to }
     requires within { to < «data».old.shard_count }
-    ensures place { SamePlace «data».old «data».new }
+    ensures shape { SameShape «data».old «data».new }
     ensures copied { (k : ℕ) → k < «data».old.shard_len_64 → cell «data».new k to ≡ cell «data».old k from }
     ensures others { SameRowsOutside to (to + 1) «data».old «data».new }
 {
@@ -78,7 +78,7 @@ pub fn mul_row<E: Engine>(
 )
     requires fits { Fits «data».old }
     requires within { index < «data».old.shard_count }
-    ensures place { SamePlace «data».old «data».new }
+    ensures shape { SameShape «data».old «data».new }
     ensures products { (k s : ℕ) → k < «data».old.shard_len_64 → s < 32 → word «data».new k s index ≡ product (word «data».old k s index) (power log_m) }
     ensures others { SameRowsOutside index (index + 1) «data».old «data».new }
     ensures counts { RowProductCounts steps.old steps.new }

@@ -2,7 +2,7 @@
 ghost use Rattle.std.specs.Prelude.{◌≡◌, ℕ, ◌+◌, ◌*◌, ◌<◌, ◌≤◌, length, take, drop, replicate};
 ghost use Rattle.std.specs.Borrow.{sem};
 ghost use Rattle.rs_field.specs.Rows.{chunk, SameOutside};
-ghost use Rattle.rs_field.specs.View.{cell, row_at, Fits, SamePlace, SameRowsOutside, AreZero};
+ghost use Rattle.rs_field.specs.View.{cell, row_at, Fits, SameShape, SameRowsOutside, AreZero};
 ghost use Rattle.rs_field.specs.Lending.{LendsAll, LendsPart, LendsRow, LendsTwoParts, LendsTwoRows, with_part};
 
 use std::cell::UnsafeCell;
@@ -68,7 +68,7 @@ impl<'a> ShardsRefMut<'a> {
         requires fits { Fits self.old }
         requires ordered { range.start ≤ range.end }
         requires within { range.end ≤ self.old.shard_count }
-        ensures place { SamePlace self.old self.new }
+        ensures shape { SameShape self.old self.new }
         ensures zeros { AreZero range.start range.end self.new }
         ensures others { SameRowsOutside range.start range.end self.old self.new }
     {

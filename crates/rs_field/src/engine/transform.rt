@@ -6,8 +6,8 @@
 ghost use Rattle.std.specs.Prelude.{◌≡◌, ℕ, ◌+◌, ◌*◌, ◌%◌, ◌^◌, ◌<◌, ◌≤◌, ◌≢◌, ◌⊎◌, length, slice_index, bit_xor};
 ghost use Rattle.rs_field.specs.Transform.{forward};
 ghost use Rattle.rs_field.specs.Tables.{IsSkew, scaled};
-ghost use Rattle.rs_field.specs.Rows.{chunk, symbol};
-ghost use Rattle.rs_field.specs.View.{cell, word, Fits, SamePlace, SameRowsOutside, AreZero};
+ghost use Rattle.rs_field.specs.Rows.{chunk, symbol, SameOutsideTwo};
+ghost use Rattle.rs_field.specs.View.{cell, word, Fits, SameShape, SameRowsOutside, SameRowsOutsideTwo, AreZero};
 ghost use Rattle.rs_field.specs.Bounds.{CountsRows, TransformCounts};
 ghost use Rattle.rs_field.specs.Inverse.{TransformsAreInverse};
 
@@ -72,7 +72,7 @@ fn fft_parts<B: Butterfly>(
         → symbol (chunk chunks.new (a + k)) s ≡ bit_xor (symbol (chunk chunks.old (a + k)) s) (scaled log_m (symbol (chunk chunks.old (b + k)) s)) }
     ensures second { (k s : ℕ) → k < n → s < 32
         → symbol (chunk chunks.new (b + k)) s ≡ bit_xor (symbol (chunk chunks.old (b + k)) s) (symbol (chunk chunks.new (a + k)) s) }
-    ensures others { (k : ℕ) → (k < a) ⊎ (a + n ≤ k) → (k < b) ⊎ (b + n ≤ k) → chunk chunks.new k ≡ chunk chunks.old k }
+    ensures others { SameOutsideTwo a (a + n) b (b + n) chunks.old chunks.new }
 {
     let (front, back) = chunks.split_at_mut(b);
     let x = &mut front[a..a + n];
@@ -95,7 +95,7 @@ fn ifft_parts<B: Butterfly>(
         → symbol (chunk chunks.new (a + k)) s ≡ bit_xor (symbol (chunk chunks.old (a + k)) s) (scaled log_m (symbol (chunk chunks.new (b + k)) s)) }
     ensures second { (k s : ℕ) → k < n → s < 32
         → symbol (chunk chunks.new (b + k)) s ≡ bit_xor (symbol (chunk chunks.old (b + k)) s) (symbol (chunk chunks.old (a + k)) s) }
-    ensures others { (k : ℕ) → (k < a) ⊎ (a + n ≤ k) → (k < b) ⊎ (b + n ≤ k) → chunk chunks.new k ≡ chunk chunks.old k }
+    ensures others { SameOutsideTwo a (a + n) b (b + n) chunks.old chunks.new }
 {
     let (front, back) = chunks.split_at_mut(b);
     let x = &mut front[a..a + n];
@@ -115,12 +115,12 @@ fn fft_rows<B: Butterfly>(
     requires fits { Fits rows.old }
     requires apart { a < b }
     requires within { b < rows.old.shard_count }
-    ensures place { SamePlace rows.old rows.new }
+    ensures shape { SameShape rows.old rows.new }
     ensures first { (k s : ℕ) → k < rows.old.shard_len_64 → s < 32
         → word rows.new k s a ≡ bit_xor (word rows.old k s a) (scaled log_m (word rows.old k s b)) }
     ensures second { (k s : ℕ) → k < rows.old.shard_len_64 → s < 32
         → word rows.new k s b ≡ bit_xor (word rows.old k s b) (word rows.new k s a) }
-    ensures others { (i k : ℕ) → k < rows.old.shard_len_64 → i ≢ a → i ≢ b → cell rows.new k i ≡ cell rows.old k i }
+    ensures others { SameRowsOutsideTwo a (a + 1) b (b + 1) rows.old rows.new }
     ensures counts { CountsRows 1 steps.old steps.new }
 {
     steps.row_step();
@@ -140,12 +140,12 @@ fn ifft_rows<B: Butterfly>(
     requires fits { Fits rows.old }
     requires apart { a < b }
     requires within { b < rows.old.shard_count }
-    ensures place { SamePlace rows.old rows.new }
+    ensures shape { SameShape rows.old rows.new }
     ensures first { (k s : ℕ) → k < rows.old.shard_len_64 → s < 32
         → word rows.new k s a ≡ bit_xor (word rows.old k s a) (scaled log_m (word rows.new k s b)) }
     ensures second { (k s : ℕ) → k < rows.old.shard_len_64 → s < 32
         → word rows.new k s b ≡ bit_xor (word rows.old k s b) (word rows.old k s a) }
-    ensures others { (i k : ℕ) → k < rows.old.shard_len_64 → i ≢ a → i ≢ b → cell rows.new k i ≡ cell rows.old k i }
+    ensures others { SameRowsOutsideTwo a (a + 1) b (b + 1) rows.old rows.new }
     ensures counts { CountsRows 1 steps.old steps.new }
 {
     steps.row_step();
@@ -164,7 +164,7 @@ fn fft_block<B: Butterfly>(
 )
     requires fits { Fits rows.old }
     requires within { start + 2 * dist ≤ rows.old.shard_count }
-    ensures place { SamePlace rows.old rows.new }
+    ensures shape { SameShape rows.old rows.new }
     ensures first { (i k s : ℕ) → i < dist → k < rows.old.shard_len_64 → s < 32
         → word rows.new k s (start + i) ≡ bit_xor (word rows.old k s (start + i)) (scaled log_m (word rows.old k s (start + dist + i))) }
     ensures second { (i k s : ℕ) → i < dist → k < rows.old.shard_len_64 → s < 32
@@ -188,7 +188,7 @@ fn ifft_block<B: Butterfly>(
 )
     requires fits { Fits rows.old }
     requires within { start + 2 * dist ≤ rows.old.shard_count }
-    ensures place { SamePlace rows.old rows.new }
+    ensures shape { SameShape rows.old rows.new }
     ensures first { (i k s : ℕ) → i < dist → k < rows.old.shard_len_64 → s < 32
         → word rows.new k s (start + i) ≡ bit_xor (word rows.old k s (start + i)) (scaled log_m (word rows.new k s (start + dist + i))) }
     ensures second { (i k s : ℕ) → i < dist → k < rows.old.shard_len_64 → s < 32
@@ -225,7 +225,7 @@ pub fn fft<B: Butterfly>(
     requires within { pos + size ≤ rows.old.shard_count }
     requires shift { skew_delta % size ≡ 0 }
     requires points { skew_delta + size ≤ 65536 }
-    ensures place { SamePlace rows.old rows.new }
+    ensures shape { SameShape rows.old rows.new }
     ensures others { SameRowsOutside pos (pos + size) rows.old rows.new }
     ensures values { (k s i : ℕ) → k < rows.old.shard_len_64 → s < 32 → i < truncated_size
         → word rows.new k s (pos + i) ≡ forward size skew_delta (λ q. word rows.old k s (pos + q)) i }
@@ -280,7 +280,7 @@ pub fn ifft<B: Butterfly>(
     requires shift { skew_delta % size ≡ 0 }
     requires points { skew_delta + size ≤ 65536 }
     requires tail { AreZero (pos + truncated_size) (pos + size) rows.old }
-    ensures place { SamePlace rows.old rows.new }
+    ensures shape { SameShape rows.old rows.new }
     ensures others { SameRowsOutside pos (pos + size) rows.old rows.new }
     ensures values { (k s i : ℕ) → k < rows.old.shard_len_64 → s < 32 → i < size
         → word rows.old k s (pos + i) ≡ forward size skew_delta (λ q. word rows.new k s (pos + q)) i }

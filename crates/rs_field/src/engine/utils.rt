@@ -1,7 +1,7 @@
 //! What every engine does to lists of chunks in the same way: sums of rows, and the derivative in the subspace basis.
 ghost use Rattle.std.specs.Prelude.{◌≡◌, ℕ, ◌+◌, ◌*◌, ◌^◌, ◌<◌, ◌≤◌, ◌≢◌, ◌⊎◌, length, slice_index, bit_xor};
 ghost use Rattle.rs_field.specs.Rows.{chunk, symbol, SameOutside};
-ghost use Rattle.rs_field.specs.View.{cell, word, Fits, SamePlace, SameRowsOutside};
+ghost use Rattle.rs_field.specs.View.{cell, word, Fits, SameShape, SameRowsOutside};
 ghost use Rattle.rs_field.specs.Derivative.{IsDerivativeAdded};
 ghost use Rattle.rs_field.specs.Bounds.{CountsRows, TransformCounts};
 
@@ -52,7 +52,7 @@ fn xor_row(data: &mut ShardsRefMut<'_>, a: usize, b: usize)
     requires apart { a ≢ b }
     requires a_in { a < «data».old.shard_count }
     requires b_in { b < «data».old.shard_count }
-    ensures place { SamePlace «data».old «data».new }
+    ensures shape { SameShape «data».old «data».new }
     ensures sums { (k s : ℕ) → k < «data».old.shard_len_64 → s < 32
         → word «data».new k s a ≡ bit_xor (word «data».old k s a) (word «data».old k s b) }
     ensures others { SameRowsOutside a (a + 1) «data».old «data».new }
@@ -69,7 +69,7 @@ pub fn xor_within(steps: &mut Steps, data: &mut ShardsRefMut<'_>, x: usize, y: u
     requires apart { (x + count ≤ y) ⊎ (y + count ≤ x) }
     requires x_in { x + count ≤ «data».old.shard_count }
     requires y_in { y + count ≤ «data».old.shard_count }
-    ensures place { SamePlace «data».old «data».new }
+    ensures shape { SameShape «data».old «data».new }
     ensures sums { (i k s : ℕ) → i < count → k < «data».old.shard_len_64 → s < 32
         → word «data».new k s (x + i) ≡ bit_xor (word «data».old k s (x + i)) (word «data».old k s (y + i)) }
     ensures others { SameRowsOutside x (x + count) «data».old «data».new }
@@ -90,7 +90,7 @@ pub fn formal_derivative(steps: &mut Steps, data: &mut ShardsRefMut<'_>)
     requires fits { Fits «data».old }
     requires power { (d : ℕ) × («data».old.shard_count ≡ 2 ^ d) }
     requires words { «data».old.shard_count ≤ 65536 }
-    ensures place { SamePlace «data».old «data».new }
+    ensures shape { SameShape «data».old «data».new }
     ensures others { SameRowsOutside 0 «data».old.shard_count «data».old «data».new }
     ensures derivative { (k s : ℕ) → k < «data».old.shard_len_64 → s < 32
         → IsDerivativeAdded «data».old.shard_count (word «data».old k s) (word «data».new k s) }
@@ -107,7 +107,7 @@ fn derivative_step(steps: &mut Steps, data: &mut ShardsRefMut<'_>, pos: usize, s
     requires power { (d : ℕ) × (size ≡ 2 ^ d) }
     requires words { size ≤ 65536 }
     requires within { pos + size ≤ «data».old.shard_count }
-    ensures place { SamePlace «data».old «data».new }
+    ensures shape { SameShape «data».old «data».new }
     ensures others { SameRowsOutside pos (pos + size) «data».old «data».new }
     ensures derivative { (k s : ℕ) → k < «data».old.shard_len_64 → s < 32
         → IsDerivativeAdded size (λ q. word «data».old k s (pos + q)) (λ q. word «data».new k s (pos + q)) }

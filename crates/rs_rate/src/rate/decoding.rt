@@ -7,7 +7,7 @@ ghost use Rattle.std.specs.Prelude.{◌≡◌, ℕ, ◌+◌, ◌%◌, ◌^◌, �
 ghost use Rattle.rs_field.specs.Counts.{Rate};
 ghost use Rattle.rs_field.specs.Decoder.{fresh_decoder, FillsMissing};
 ghost use Rattle.rs_field.specs.Tables.{IsLog};
-ghost use Rattle.rs_field.specs.View.{Fits, SamePlace};
+ghost use Rattle.rs_field.specs.View.{Fits, SameShape};
 ghost use Rattle.rs_rate.specs.DecoderView.{configuration_of, decoder_state, memory_room, restored_of};
 ghost use Rattle.rs_rate.specs.Marks.{erased};
 ghost use Rattle.rs_rate.specs.ShardRows.{chunk_count};
@@ -165,7 +165,7 @@ fn locate_rows<E: Engine>(
     requires few { «data».old.shard_count ≤ 65536 }
     requires marked { «data».old.shard_count ≤ length located.marks.now }
     requires within { end ≤ «data».old.shard_count }
-    ensures place { SamePlace «data».old «data».new }
+    ensures shape { SameShape «data».old «data».new }
 {
     for p in 0..end {
         if located.marks[p] == Mark::Given {
@@ -183,7 +183,7 @@ fn pass_rows<E: Engine>(engine: &E, steps: &mut Steps, data: &mut ShardsRefMut<'
     requires power { (d : ℕ) × («data».old.shard_count ≡ 2 ^ d) }
     requires few { «data».old.shard_count ≤ 65536 }
     requires within { end ≤ «data».old.shard_count }
-    ensures place { SamePlace «data».old «data».new }
+    ensures shape { SameShape «data».old «data».new }
 {
     let size = data.len();
     clear_rows(steps, data, end, size);
@@ -205,7 +205,7 @@ fn reveal_rows<E: Engine>(
     requires few { «data».old.shard_count ≤ 65536 }
     requires marked { «data».old.shard_count ≤ length located.marks.now }
     requires within { from + original_count ≤ «data».old.shard_count }
-    ensures place { SamePlace «data».old «data».new }
+    ensures shape { SameShape «data».old «data».new }
 {
     for i in 0..original_count {
         let p = from + i;

@@ -6,7 +6,7 @@ ghost use Rattle.rs_field.specs.Configuration.{validated};
 ghost use Rattle.rs_field.specs.Counts.{supports};
 ghost use Rattle.rs_field.specs.Layout.{row_len as chunks_for, up_to};
 ghost use Rattle.rs_field.specs.Placement.{encoder_rows, block_rows};
-ghost use Rattle.rs_field.specs.View.{Fits, SamePlace, word};
+ghost use Rattle.rs_field.specs.View.{Fits, SameShape, word};
 ghost use Rattle.rs_rate.specs.Coding.{CodesWords};
 ghost use Rattle.rs_rate.specs.EncoderView.{configuration_of, encoder_shape, shape_chunks, given_of, lent_of};
 ghost use Rattle.rs_rate.specs.ShardRows.{shard_laid_out, shard_in_order, word_in};
@@ -81,7 +81,7 @@ fn code_rows<E: Engine, C: Code>(
     requires supported { supports C.rate shape.original_count shape.recovery_count ≡ true }
     requires rows { «data».old.shard_count ≡ encoder_rows C.rate shape.original_count shape.recovery_count }
     requires block { shape.block_rows ≡ block_rows C.rate shape.original_count shape.recovery_count }
-    ensures place { SamePlace «data».old «data».new }
+    ensures shape { SameShape «data».old «data».new }
     ensures words { (k s : ℕ) → k < «data».old.shard_len_64 → s < 32
         → CodesWords C.rate shape.original_count shape.recovery_count (word «data».old k s) (word «data».new k s) }
 {

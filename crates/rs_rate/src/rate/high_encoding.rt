@@ -1,12 +1,18 @@
-//! The coding of the high rate.
-ghost use Rattle.std.specs.Prelude.{◌≡◌, ℕ, ◌<◌, true};
-ghost use Rattle.rs_field.specs.Counts.{high_rate, next_power, supports};
+//! The coding of the high rate: originals as values at the points from the first block's end on, recovery shards as
+//! values at the first points.
+ghost use Rattle.std.specs.Prelude.{◌≡◌, ℕ, ◌+◌, ◌*◌, ◌%◌, ◌^◌, ◌<◌, ◌≤◌, true};
+ghost use Rattle.rs_field.specs.Counts.{next_power, supports, high_rate};
 ghost use Rattle.rs_field.specs.Placement.{encoder_rows};
-ghost use Rattle.rs_field.specs.View.{word, Fits, SamePlace};
-ghost use Rattle.rs_rate.specs.Coding.{CodesWords};
+ghost use Rattle.rs_field.specs.Transform.{forward};
+ghost use Rattle.rs_field.specs.View.{word, Fits, SameShape, SameRowsOutside};
+ghost use Rattle.rs_rate.specs.Coding.{SumsBlocks, CodesWords};
 
+use rs_field::engine::rows::clear_rows;
+use rs_field::engine::utils::xor_within;
 use rs_field::engine::{Engine, ShardsRefMut, Steps};
 
+// Makes the recovery shards in the first rows from the originals in the rows; `block` is the power of two of the
+// recovery shards.
 pub(crate) fn code_high<E: Engine>(
     engine: &E,
     steps: &mut Steps,
@@ -19,7 +25,64 @@ pub(crate) fn code_high<E: Engine>(
     requires supported { supports high_rate original_count recovery_count ≡ true }
     requires rows { «data».old.shard_count ≡ encoder_rows high_rate original_count recovery_count }
     requires block { block ≡ next_power recovery_count }
-    ensures place { SamePlace «data».old «data».new }
+    ensures shape { SameShape «data».old «data».new }
     ensures words { (k s : ℕ) → k < «data».old.shard_len_64 → s < 32 → CodesWords high_rate original_count recovery_count (word «data».old k s) (word «data».new k s) }
 {
+    sum_blocks(engine, steps, data, original_count, block);
+    engine.fft(steps, data, 0, block, recovery_count, 0);
+}
+
+// Passes each block of originals to its combination, and sums these in the first block.
+fn sum_blocks<E: Engine>(
+    engine: &E,
+    steps: &mut Steps,
+    data: &mut ShardsRefMut<'_>,
+    original_count: usize,
+    block: usize,
+)
+    requires fits { Fits «data».old }
+    requires power { (d : ℕ) × (block ≡ 2 ^ d) }
+    requires some { 0 < original_count }
+    requires enough { original_count ≤ «data».old.shard_count }
+    requires whole { «data».old.shard_count % block ≡ 0 }
+    requires points { «data».old.shard_count + block ≤ 65536 }
+    ensures shape { SameShape «data».old «data».new }
+    ensures sums { (n : ℕ) × (original_count ≤ n * block) × (n * block + block ≤ 65536)
+        × ((k s : ℕ) → k < «data».old.shard_len_64 → s < 32 → SumsBlocks block n original_count (word «data».old k s) (word «data».new k s)) }
+{
+    pass_block(engine, steps, data, 0, original_count, block);
+    let mut start = block;
+    while start < original_count {
+        pass_block(engine, steps, data, start, original_count, block);
+        xor_within(steps, data, 0, start, block);
+        start += block;
+    }
+}
+
+// The block of `block` rows from `start` on passes to the combination that takes its originals at the points from
+// `start + block` on, and zero after them.
+fn pass_block<E: Engine>(
+    engine: &E,
+    steps: &mut Steps,
+    data: &mut ShardsRefMut<'_>,
+    start: usize,
+    original_count: usize,
+    block: usize,
+)
+    requires fits { Fits «data».old }
+    requires power { (d : ℕ) × (block ≡ 2 ^ d) }
+    requires some { start < original_count }
+    requires aligned { start % block ≡ 0 }
+    requires within { start + block ≤ «data».old.shard_count }
+    requires points { «data».old.shard_count + block ≤ 65536 }
+    ensures shape { SameShape «data».old «data».new }
+    ensures others { SameRowsOutside start (start + block) «data».old «data».new }
+    ensures values { (k s i : ℕ) → k < «data».old.shard_len_64 → s < 32 → i < block → start + i < original_count
+        → forward block (start + block) (λ q. word «data».new k s (start + q)) i ≡ word «data».old k s (start + i) }
+    ensures zeros { (k s i : ℕ) → k < «data».old.shard_len_64 → s < 32 → i < block → original_count ≤ start + i
+        → forward block (start + block) (λ q. word «data».new k s (start + q)) i ≡ 0 }
+{
+    let count = block.min(original_count - start);
+    clear_rows(steps, data, start + count, start + block);
+    engine.ifft(steps, data, start, block, count, start + block);
 }

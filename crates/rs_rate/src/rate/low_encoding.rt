@@ -4,13 +4,14 @@ ghost use Rattle.std.specs.Prelude.{◌≡◌, ℕ, ◌+◌, ◌%◌, ◌^◌, �
 ghost use Rattle.rs_field.specs.Counts.{low_rate, next_power, supports};
 ghost use Rattle.rs_field.specs.Placement.{encoder_rows};
 ghost use Rattle.rs_field.specs.Transform.{forward};
-ghost use Rattle.rs_field.specs.View.{cell, word, Fits, SamePlace};
-ghost use Rattle.rs_rate.specs.Coding.{CodesWords};
+ghost use Rattle.rs_field.specs.View.{cell, word, Fits, SameShape};
+ghost use Rattle.rs_rate.specs.Coding.{CodesLow, CodesWords};
 
 use rs_field::engine::rows::{clear_rows, copy_rows};
 use rs_field::engine::{Engine, ShardsRefMut, Steps};
 
-// Clears the rows of the zeros, passes from values to a combination, and from it to the values further on.
+// Makes the recovery shards in the first rows from the originals in the rows; `block` is the power of two of the
+// originals.
 pub(crate) fn code_low<E: Engine>(
     engine: &E,
     steps: &mut Steps,
@@ -23,8 +24,30 @@ pub(crate) fn code_low<E: Engine>(
     requires supported { supports low_rate original_count recovery_count ≡ true }
     requires rows { «data».old.shard_count ≡ encoder_rows low_rate original_count recovery_count }
     requires block { block ≡ next_power original_count }
-    ensures place { SamePlace «data».old «data».new }
+    ensures shape { SameShape «data».old «data».new }
     ensures words { (k s : ℕ) → k < «data».old.shard_len_64 → s < 32 → CodesWords low_rate original_count recovery_count (word «data».old k s) (word «data».new k s) }
+{
+    code_rows(engine, steps, data, original_count, recovery_count, block);
+}
+
+// Clears the rows of the zeros, passes from values to a combination, and from it to the values further on.
+fn code_rows<E: Engine>(
+    engine: &E,
+    steps: &mut Steps,
+    data: &mut ShardsRefMut<'_>,
+    original_count: usize,
+    recovery_count: usize,
+    block: usize,
+)
+    requires fits { Fits «data».old }
+    requires power { (d : ℕ) × (block ≡ 2 ^ d) }
+    requires originals { original_count ≤ block }
+    requires recovery { 0 < recovery_count }
+    requires enough { recovery_count ≤ «data».old.shard_count }
+    requires whole { «data».old.shard_count % block ≡ 0 }
+    requires points { «data».old.shard_count + block ≤ 65536 }
+    ensures shape { SameShape «data».old «data».new }
+    ensures values { (k s : ℕ) → k < «data».old.shard_len_64 → s < 32 → CodesLow original_count recovery_count block (word «data».old k s) (word «data».new k s) }
 {
     clear_rows(steps, data, original_count, block);
     engine.ifft(steps, data, 0, block, original_count, 0);
@@ -45,7 +68,7 @@ fn code_further<E: Engine>(
     requires enough { recovery_count ≤ «data».old.shard_count }
     requires whole { «data».old.shard_count % block ≡ 0 }
     requires points { «data».old.shard_count + block ≤ 65536 }
-    ensures place { SamePlace «data».old «data».new }
+    ensures shape { SameShape «data».old «data».new }
     ensures combination { (i k : ℕ) → k < «data».old.shard_len_64 → i < block → cell «data».new k i ≡ cell «data».old k i }
     ensures values { (k s i : ℕ) → k < «data».old.shard_len_64 → s < 32 → block ≤ i → i < recovery_count
         → word «data».new k s i ≡ forward block 0 (λ q. word «data».old k s q) (block + i) }

@@ -1,7 +1,7 @@
 -- The butterflies come last: the rows before them are those that they make of the rows afterwards.
-use Rattle.std.proofs.Common.{◌≡◌, ℕ, ◌+◌, ◌-◌, ◌/◌, ◌<◌, arith, ap, ◌∙◌, sym, refl, subst, inl, inr}
+use Rattle.std.proofs.Common.{◌≡◌, ℕ, ◌+◌, ◌*◌, ◌-◌, ◌/◌, ◌<◌, arith, ap, ◌∙◌, sym, refl, subst, inl, inr}
 use Rattle.std.proofs.lemmas.Bool.{cases_lt}
-use Rattle.rs_field.specs.View.{word}
+use Rattle.rs_field.specs.View.{word, SameShape, SameRowsOutside}
 use Rattle.rs_field.specs.Transform.{forward}
 use Rattle.rs_field.specs.Bounds.{CountsRows, transform_steps}
 use Rattle.rs_field.specs.declared.engine.shards.ShardsRefMut.{ShardsRefMut}
@@ -9,6 +9,7 @@ use Rattle.rs_field.specs.declared.engine.steps.Steps.{Steps}
 use Rattle.rs_field.proofs.Halves.{half_power, two_halves, shift_half}
 use Rattle.rs_field.proofs.Combination.{forward-same}
 use Rattle.rs_field.proofs.Recursion.{fits_kept, word_same, above_one, one_row, zero_rows, IsBlock, IsUpperDone, ifft_lower, ifft_upper, counts_of_whole, counts_both_back, counts_lower_back}
+use Rattle.rs_field.proofs.RowOffsets.{outside_cell, outside_more, outside_both, shape_then}
 use Rattle.rs_field.proofs.engine.transform.+ifft.Goals as goal
 use Rattle.rs_field.proofs.engine.transform.+ifft.Goals.{then-truncated_size-half, else-truncated_size-half}
 
@@ -34,9 +35,11 @@ pub ifft-requires-then-truncated_size-half : goal.ifft-requires-then-truncated_s
 ifft-requires-then-truncated_size-half g t c κs within =
     let large : 1 < c.args.size = above_one c.args.size c.if-size-eq1.false c.requires.power in
     let p = half_power c.args.size large c.requires.power in
-    let place = c.ifft.ensures.place in
+    let shape = c.ifft.ensures.shape in
+    let half = c.args.size / 2 in
+    let kept_low = outside_cell c.args.pos (c.args.pos + half) c.args.rows.now c.ifft.new.rows shape c.ifft.ensures.others in
     let s = shift_half c.args.size p.0 c.args.skew_delta p.1 c.requires.shift in
-    let fits = fits_kept c.args.rows.now c.ifft.new.rows place c.requires.fits in (
+    let fits = fits_kept c.args.rows.now c.ifft.new.rows shape c.requires.fits in (
       omega arith,
       (
         within,
@@ -54,7 +57,7 @@ ifft-requires-then-truncated_size-half g t c κs within =
                     rw p.2 s.1,
                     (
                       omega arith,
-                      λ i k hk from to. c.ifft.ensures.others i k (omega arith) (inr (omega arith)) ∙ c.requires.tail i k (omega arith) (omega arith) (omega arith),
+                      λ i k hk from to. kept_low i k (omega arith) (inr (omega arith)) ∙ c.requires.tail i k (omega arith) (omega arith) (omega arith),
                     ),
                   ),
                 ),
@@ -80,16 +83,18 @@ pub returns-after-truncated_size-half-clause-values :
 returns-after-truncated_size-half-clause-values g t c k s i hk hs hi =
     let large : 1 < c.args.size = above_one c.args.size c.if-size-eq1.false c.requires.power in
     let even = two_halves c.args.size large c.requires.power in
-    let place = c.ifft.ensures.place in
+    let shape = c.ifft.ensures.shape in
+    let half = c.args.size / 2 in
+    let kept_low = outside_cell c.args.pos (c.args.pos + half) c.args.rows.now c.ifft.new.rows shape c.ifft.ensures.others in
     let block : IsBlock c.args.skew.now c.args.size c.args.skew_delta = record { table = c.requires.skew; large = large; power = c.requires.power; aligned = c.requires.shift; points = c.requires.points } in
     let done : IsUpperDone c.ifft.new.rows c.if-truncated_size-half.rows c.args.pos (c.args.size / 2) c.args.skew_delta =
     elim c.if-truncated_size-half.branch [
       | then-truncated_size-half w ↦
-          let place_high = w.ifft-then-truncated_size-half.ensures.place in
+          let shape_high = w.ifft-then-truncated_size-half.ensures.shape in
           subst (λ (r : ShardsRefMut). IsUpperDone c.ifft.new.rows r c.args.pos (c.args.size / 2) c.args.skew_delta) (sym w.rows-is)
           (record {
-            len_64 = place_high.len_64;
-            same = λ k q hk hq. w.ifft-then-truncated_size-half.ensures.others (c.args.pos + q) k (omega arith) (inl (omega arith));
+            len_64 = shape_high.len_64;
+            same = λ k q hk hq. outside_cell (c.args.pos + half) (c.args.pos + half + half) c.ifft.new.rows w.ifft-then-truncated_size-half.new.rows shape_high w.ifft-then-truncated_size-half.ensures.others (c.args.pos + q) k (omega arith) (inl (omega arith));
             values = λ k s j hk hs hj. w.ifft-then-truncated_size-half.ensures.values k s j (omega arith) hs (omega arith);
           })
       | else-truncated_size-half w ↦
@@ -99,7 +104,7 @@ returns-after-truncated_size-half-clause-values g t c k s i hk hs hi =
             same = λ k q hk hq. refl;
             values = λ k s j hk hs hj.
                 zero_rows c.ifft.new.rows k s (c.args.pos + c.args.size / 2) (c.args.size / 2) (c.args.skew_delta + c.args.size / 2) j hs hj
-                (λ q hq. c.ifft.ensures.others (c.args.pos + c.args.size / 2 + q) k (omega arith) (inr (omega arith))
+                (λ q hq. kept_low (c.args.pos + c.args.size / 2 + q) k (omega arith) (inr (omega arith))
                 ∙ c.requires.tail (c.args.pos + c.args.size / 2 + q) k (omega arith) (omega arith) (omega arith));
           })
     ] in
@@ -116,7 +121,7 @@ returns-after-truncated_size-half-clause-values g t c k s i hk hs hi =
           let back : c.args.size / 2 + j ≡ i = omega arith in
           let there : c.args.pos + i ≡ c.args.pos + c.args.size / 2 + j = omega arith in
           sym (word_same c.ifft.new.rows c.args.rows.now k s (c.args.pos + i) (c.args.pos + i)
-          (c.ifft.ensures.others (c.args.pos + i) k (omega arith) (inr (omega arith))))
+          (kept_low (c.args.pos + i) k (omega arith) (inr (omega arith))))
           ∙ ap (λ p. word c.ifft.new.rows k s p) there
           ∙ done.values k s j (omega arith) hs (omega arith)
           ∙ ifft_upper c.args.skew.now c.if-truncated_size-half.rows c.ifft_block.new.rows k s c.args.pos c.args.size c.args.skew_delta j block (omega arith)
@@ -140,3 +145,33 @@ returns-after-truncated_size-half-clause-counts g t c =
           c.ifft.ensures.counts
           (subst (λ (x : Steps). CountsRows (c.args.size / 2) x c.ifft_block.new.steps) w.steps-is c.ifft_block.ensures.counts)
     ])
+
+pub returns-after-truncated_size-half-clause-others :
+    goal.returns-after-truncated_size-half-clause-others
+returns-after-truncated_size-half-clause-others g t c =
+    let large : 1 < c.args.size = above_one c.args.size c.if-size-eq1.false c.requires.power in
+    let even = two_halves c.args.size large c.requires.power in
+    let pos = c.args.pos in
+    let half = c.args.size / 2 in
+    let size = c.args.size in
+    let old = c.args.rows.now in
+    let low = c.ifft.ensures in
+    let last = c.ifft_block.ensures in
+    let most : SameShape old c.if-truncated_size-half.rows × SameRowsOutside pos (pos + size) old c.if-truncated_size-half.rows =
+    elim c.if-truncated_size-half.branch [
+      | then-truncated_size-half w ↦
+          let high = w.ifft-then-truncated_size-half.ensures in
+          let new = w.ifft-then-truncated_size-half.new.rows in
+          subst (λ (r : ShardsRefMut). SameShape old r × SameRowsOutside pos (pos + size) old r) (sym w.rows-is) (
+            shape_then old c.ifft.new.rows new low.shape high.shape,
+            outside_both pos (pos + half) (pos + half) (pos + half + half) pos (pos + size) old c.ifft.new.rows new low.shape low.others high.others
+                (omega arith) (omega arith) (omega arith) (omega arith),
+          )
+      | else-truncated_size-half w ↦
+          subst (λ (r : ShardsRefMut). SameShape old r × SameRowsOutside pos (pos + size) old r) (sym w.rows-is) (
+            low.shape,
+            outside_more pos (pos + half) pos (pos + size) old c.ifft.new.rows low.others (omega arith) (omega arith),
+          )
+    ] in
+    outside_both pos (pos + size) pos (pos + 2 * half) pos (pos + size) old c.if-truncated_size-half.rows c.ifft_block.new.rows most.0 most.1 last.others
+    (omega arith) (omega arith) (omega arith) (omega arith)

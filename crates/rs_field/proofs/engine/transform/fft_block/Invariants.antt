@@ -1,16 +1,15 @@
-use Rattle.std.proofs.Common.{◌≡◌, ℕ, ◌+◌, ◌*◌, ◌<◌, ◌≤◌, bit_xor}
-use Rattle.rs_field.specs.View.{word, cell, SamePlace, SameRowsOutside}
+use Rattle.std.proofs.Common.{◌≡◌, ℕ, ◌+◌, ◌<◌, bit_xor}
+use Rattle.rs_field.specs.Rows.{symbol}
 use Rattle.rs_field.specs.Tables.{scaled}
 use Rattle.rs_field.specs.Bounds.{CountsRows}
+use Rattle.rs_field.proofs.Pairs.{OnChunks, PairsDone}
 use Rattle.rs_field.proofs.engine.transform.fft_block.Given as goal
+
+abbrev pub butterfly_made : ℕ → OnChunks
+butterfly_made log_m x y x' y' = (s : ℕ) → s < 32 → (symbol x' s ≡ bit_xor (symbol x s) (scaled log_m (symbol y s))) × (symbol y' s ≡ bit_xor (symbol y s) (symbol x' s))
 
 abbrev pub invariant-loop-i : goal.invariant-loop-i
 invariant-loop-i g l = record {
-  place : SamePlace l.initial.rows l.rows;
-  first : (i k s : ℕ) → i < l.i → k < l.initial.rows.shard_len_64 → s < 32 → word l.rows k s (l.start + i) ≡ bit_xor (word l.initial.rows k s (l.start + i)) (scaled l.log_m (word l.initial.rows k s (l.start + l.dist + i)));
-  second : (i k s : ℕ) → i < l.i → k < l.initial.rows.shard_len_64 → s < 32 → word l.rows k s (l.start + l.dist + i) ≡ bit_xor (word l.initial.rows k s (l.start + l.dist + i)) (word l.rows k s (l.start + i));
-  front : (i k : ℕ) → l.i ≤ i → i < l.dist → k < l.initial.rows.shard_len_64 → cell l.rows k (l.start + i) ≡ cell l.initial.rows k (l.start + i);
-  back : (i k : ℕ) → l.i ≤ i → i < l.dist → k < l.initial.rows.shard_len_64 → cell l.rows k (l.start + l.dist + i) ≡ cell l.initial.rows k (l.start + l.dist + i);
-  others : SameRowsOutside l.start (l.start + 2 * l.dist) l.initial.rows l.rows;
+  pairs : PairsDone (butterfly_made l.log_m) l.start (l.start + l.dist) l.i l.initial.rows l.rows;
   counts : CountsRows l.i l.initial.steps l.steps;
 }

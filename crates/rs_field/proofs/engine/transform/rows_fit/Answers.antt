@@ -1,6 +1,6 @@
 use Rattle.std.proofs.Common.{◌+◌, ◌*◌, arith}
 use Rattle.rs_field.specs.View.{cell}
-use Rattle.rs_field.proofs.Places.{row_ends}
+use Rattle.rs_field.proofs.RowOffsets.{row_ends}
 use Rattle.rs_field.proofs.engine.transform.rows_fit.Goals as goal
 
 pub returns : goal.returns

@@ -5,6 +5,7 @@ use Rattle.rs_field.specs.Bounds.{transform_steps}
 use Rattle.rs_field.proofs.Halves.{half_power, two_halves}
 use Rattle.rs_field.proofs.Recursion.{fits_kept, counts_of_whole}
 use Rattle.rs_field.proofs.DerivativeStep.{derivative_one, derivative_rows, counts_around}
+use Rattle.rs_field.proofs.RowOffsets.{outside_cell, outside_both}
 use Rattle.rs_field.proofs.engine.utils.+derivative_step.Goals as goal
 
 pub derivative_step-requires : goal.derivative_step-requires
@@ -16,24 +17,29 @@ pub derivative_step-requires-then-size-gt1 : goal.derivative_step-requires-then-
 derivative_step-requires-then-size-gt1 t c =
     let p = half_power c.args.size c.if-size-gt1.true c.requires.power in
     let even = two_halves c.args.size c.if-size-gt1.true c.requires.power in
-    let place_low = c.derivative_step.ensures.place in
-    let place_mid = c.xor_within.ensures.place in
-    let fits = fits_kept c.derivative_step.new.«data» c.xor_within.new.«data» place_mid (fits_kept c.args.«data».now c.derivative_step.new.«data» place_low c.requires.fits) in
+    let shape_low = c.derivative_step.ensures.shape in
+    let shape_mid = c.xor_within.ensures.shape in
+    let fits = fits_kept c.derivative_step.new.«data» c.xor_within.new.«data» shape_mid (fits_kept c.args.«data».now c.derivative_step.new.«data» shape_low c.requires.fits) in
     (omega arith, (fits, ((p.0, p.2), (omega arith, omega arith))))
 
 pub returns-then-size-gt1-clause-derivative : goal.returns-then-size-gt1-clause-derivative
 returns-then-size-gt1-clause-derivative t c k s hk hs =
     let even = two_halves c.args.size c.if-size-gt1.true c.requires.power in
-    let place_low = c.derivative_step.ensures.place in
-    let place_mid = c.xor_within.ensures.place in
+    let shape_low = c.derivative_step.ensures.shape in
+    let shape_mid = c.xor_within.ensures.shape in
+    let pos = c.args.pos in
+    let half = c.args.size / 2 in
+    let kept_low = outside_cell pos (pos + half) c.args.«data».now c.derivative_step.new.«data» shape_low c.derivative_step.ensures.others in
+    let kept_mid = outside_cell pos (pos + half) c.derivative_step.new.«data» c.xor_within.new.«data» shape_mid c.xor_within.ensures.others in
+    let kept_high = outside_cell (pos + half) (pos + half + half) c.xor_within.new.«data» c.derivative_step-then-size-gt1.new.«data» c.derivative_step-then-size-gt1.ensures.shape c.derivative_step-then-size-gt1.ensures.others in
     derivative_rows c.args.«data».now c.derivative_step.new.«data» c.xor_within.new.«data» c.derivative_step-then-size-gt1.new.«data» k s c.args.pos c.args.size
     c.if-size-gt1.true c.requires.power c.requires.words
     (c.derivative_step.ensures.derivative k s hk hs)
-    (λ q hq. c.derivative_step.ensures.others (c.args.pos + c.args.size / 2 + q) k hk (inr (omega arith)))
+    (λ q hq. kept_low (c.args.pos + c.args.size / 2 + q) k hk (inr (omega arith)))
     (λ q hq. c.xor_within.ensures.sums q k s hq (omega arith) hs)
-    (λ q hq. c.xor_within.ensures.others (c.args.pos + c.args.size / 2 + q) k (omega arith) (inr (omega arith)))
+    (λ q hq. kept_mid (c.args.pos + c.args.size / 2 + q) k (omega arith) (inr (omega arith)))
     (c.derivative_step-then-size-gt1.ensures.derivative k s (omega arith) hs)
-    (λ q hq. c.derivative_step-then-size-gt1.ensures.others (c.args.pos + q) k (omega arith) (inl (omega arith)))
+    (λ q hq. kept_high (c.args.pos + q) k (omega arith) (inl (omega arith)))
 
 pub returns-then-size-gt1-clause-counts : goal.returns-then-size-gt1-clause-counts
 returns-then-size-gt1-clause-counts t c =

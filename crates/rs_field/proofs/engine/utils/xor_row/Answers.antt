@@ -1,7 +1,7 @@
-use Rattle.std.proofs.Common.{◌+◌, ◌*◌, ◌<◌, inl, inr, arith}
+use Rattle.std.proofs.Common.{◌<◌, inl, inr, arith}
 use Rattle.std.proofs.lemmas.Bool.{cases_lt}
 use Rattle.rs_field.specs.View.{cell}
-use Rattle.rs_field.proofs.Places.{row_ends, rows_outside}
+use Rattle.rs_field.proofs.RowOffsets.{row_ends}
 use Rattle.rs_field.proofs.engine.utils.xor_row.Goals as goal
 
 pub xor_part-requires-clause-apart : goal.xor_part-requires-clause-apart
@@ -15,9 +15,3 @@ xor_part-requires-clause-apart c =
 pub returns-clause-sums : goal.returns-clause-sums
 unfolding cell
 returns-clause-sums c k s q r = c.xor_part.ensures.sums k s q r
-
-pub returns-clause-others : goal.returns-clause-others
-unfolding cell
-returns-clause-others c i k q h =
-    let n = c.args.«data».now.shard_len_64 in
-    c.xor_part.ensures.others (i * n + k) (elim (rows_outside c.args.a 1 i k n q h) [ inl before ↦ inl before | inr after ↦ inr (omega arith) ])

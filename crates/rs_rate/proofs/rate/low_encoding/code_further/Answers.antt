@@ -1,7 +1,8 @@
-use Rattle.std.proofs.Common.{◌≡◌, arith, ap, ◌∙◌, inl, zero-add}
+use Rattle.std.proofs.Common.{◌≡◌, ℕ, ◌<◌, arith, ap, ◌∙◌, inl, zero-add}
 use Rattle.std.proofs.Math.Nat.{add-mod_right}
 use Rattle.rs_field.specs.Rows.{symbol}
-use Rattle.rs_field.specs.View.{word}
+use Rattle.rs_field.specs.View.{cell, word}
+use Rattle.rs_field.proofs.RowOffsets.{outside_cell}
 use Rattle.rs_field.proofs.Recursion.{fits_kept}
 use Rattle.rs_rate.proofs.LowCoding.{further-more}
 use Rattle.rs_rate.proofs.rate.low_encoding.code_further.Goals as goal
@@ -12,28 +13,32 @@ fft-requires-clause-shift g c = add-mod_right c.loop-start.start c.args.block �
 pub loop-start-preserved : goal.loop-start-preserved
 loop-start-preserved g c =
     let loop = c.loop-start.invariant in
-    let same : c.loop-start.«data».shard_len_64 ≡ c.args.«data».now.shard_len_64 = loop.place.len_64 in
-    let same_too : c.copy_rows.new.«data».shard_len_64 ≡ c.args.«data».now.shard_len_64 = c.copy_rows.ensures.place.len_64 ∙ same in
+    let same : c.loop-start.«data».shard_len_64 ≡ c.args.«data».now.shard_len_64 = loop.shape.len_64 in
+    let same_too : c.copy_rows.new.«data».shard_len_64 ≡ c.args.«data».now.shard_len_64 = c.copy_rows.ensures.shape.len_64 ∙ same in
+    let kept_before : (i k : ℕ) → k < c.args.«data».now.shard_len_64 → i < c.loop-start.start → cell c.copy_rows.new.«data» k i ≡ cell c.loop-start.«data» k i
+    = λ i k inside before. outside_cell _ _ c.loop-start.«data» c.copy_rows.new.«data» c.copy_rows.ensures.shape c.copy_rows.ensures.others i k (omega arith) (inl before) in
+    let kept_after : (i k : ℕ) → k < c.args.«data».now.shard_len_64 → i < c.loop-start.start → cell c.fft.new.«data» k i ≡ cell c.copy_rows.new.«data» k i
+    = λ i k inside before. outside_cell _ _ c.copy_rows.new.«data» c.fft.new.«data» c.fft.ensures.shape c.fft.ensures.others i k (omega arith) (inl before) in
     record {
       first = omega arith;
       whole = add-mod_right c.loop-start.start c.args.block ∙ loop.whole;
-      fits = fits_kept c.copy_rows.new.«data» c.fft.new.«data» c.fft.ensures.place (fits_kept c.loop-start.«data» c.copy_rows.new.«data» c.copy_rows.ensures.place loop.fits);
-      place = record {
-        name = c.fft.ensures.place.name ∙ c.copy_rows.ensures.place.name ∙ loop.place.name;
-        count = c.fft.ensures.place.count ∙ c.copy_rows.ensures.place.count ∙ loop.place.count;
-        len_64 = c.fft.ensures.place.len_64 ∙ same_too;
-        length = c.fft.ensures.place.length ∙ c.copy_rows.ensures.place.length ∙ loop.place.length;
+      fits = fits_kept c.copy_rows.new.«data» c.fft.new.«data» c.fft.ensures.shape (fits_kept c.loop-start.«data» c.copy_rows.new.«data» c.copy_rows.ensures.shape loop.fits);
+      shape = record {
+        name = c.fft.ensures.shape.name ∙ c.copy_rows.ensures.shape.name ∙ loop.shape.name;
+        count = c.fft.ensures.shape.count ∙ c.copy_rows.ensures.shape.count ∙ loop.shape.count;
+        len_64 = c.fft.ensures.shape.len_64 ∙ same_too;
+        length = c.fft.ensures.shape.length ∙ c.copy_rows.ensures.shape.length ∙ loop.shape.length;
       };
       combination = λ i k inside small.
-          c.fft.ensures.others i k (omega arith) (inl (omega arith)) ∙ c.copy_rows.ensures.others i k (omega arith) (inl (omega arith)) ∙ loop.combination i k inside small;
+          kept_after i k inside (omega arith) ∙ kept_before i k inside (omega arith) ∙ loop.combination i k inside small;
       values = λ k s i inside symbols low high few.
           further-more c.args.block c.loop-start.start c.args.recovery_count c.min-wanted.result (word c.args.«data».now k s) (word c.loop-start.«data» k s) (word c.copy_rows.new.«data» k s) (word c.fft.new.«data» k s)
           c.min-wanted.ensures loop.first
           (λ q small. ap (λ x. symbol x s) (loop.combination q k inside small))
           (λ j from to below. loop.values k s j inside symbols from to below)
           (λ q small. ap (λ x. symbol x s) (c.copy_rows.ensures.copied q k (omega arith) small) ∙ ap (word c.loop-start.«data» k s) (zero-add q))
-          (λ j before. ap (λ x. symbol x s) (c.copy_rows.ensures.others j k (omega arith) (inl before)))
+          (λ j before. ap (λ x. symbol x s) (kept_before j k inside before))
           (λ j wanted. c.fft.ensures.values k s j (omega arith) symbols wanted)
-          (λ j before. ap (λ x. symbol x s) (c.fft.ensures.others j k (omega arith) (inl before)))
+          (λ j before. ap (λ x. symbol x s) (kept_after j k inside before))
           i low high few;
     }

@@ -1,6 +1,6 @@
 use Rattle.std.proofs.Common.{◌≡◌, ℕ, ◌+◌, ◌-◌, ◌%◌, ◌<◌, ◌≤◌}
 use Rattle.rs_field.specs.Transform.{forward}
-use Rattle.rs_field.specs.View.{cell, word, Fits, SamePlace}
+use Rattle.rs_field.specs.View.{cell, word, Fits, SameShape}
 use Rattle.rs_rate.proofs.rate.low_encoding.code_further.Given as goal
 
 abbrev pub invariant-loop-start : goal.invariant-loop-start
@@ -8,7 +8,7 @@ invariant-loop-start g l = record {
   first : l.block ≤ l.start;
   whole : l.start % l.block ≡ 0;
   fits : Fits l.«data»;
-  place : SamePlace l.initial.«data» l.«data»;
+  shape : SameShape l.initial.«data» l.«data»;
   combination : (i k : ℕ) → k < l.initial.«data».shard_len_64 → i < l.block → cell l.«data» k i ≡ cell l.initial.«data» k i;
   values : (k s i : ℕ) → k < l.initial.«data».shard_len_64 → s < 32 → l.block ≤ i → i < l.start → i < l.recovery_count
       → word l.«data» k s i ≡ forward l.block 0 (λ q. word l.initial.«data» k s q) (l.block + i);

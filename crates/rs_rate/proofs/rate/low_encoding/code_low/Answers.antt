@@ -1,21 +1,27 @@
-use Rattle.std.proofs.Common.{◌≡◌, arith, ap, ◌∙◌, inl, inr}
-use Rattle.rs_field.specs.Rows.{symbol}
+use Rattle.std.proofs.Common.{ℕ, ◌∙◌, subst, arith}
 use Rattle.rs_field.specs.View.{word}
-use Rattle.rs_rate.proofs.LowCoding.{coded, symbol-zero}
+use Rattle.rs_rate.specs.Coding.{CodesLow}
+use Rattle.rs_rate.proofs.PowerLemmas.{low_fits}
+use Rattle.rs_rate.proofs.HighCounts.{low_rows-fit}
+use Rattle.rs_rate.proofs.LowCoding.{codes_words}
 use Rattle.rs_rate.proofs.rate.low_encoding.code_low.Goals as goal
 
-pub returns-clause-values : goal.returns-clause-values
-returns-clause-values g c = λ k s inside symbols.
-    let len_1 : c.clear_rows.new.«data».shard_len_64 ≡ c.args.«data».now.shard_len_64 = c.clear_rows.ensures.place.len_64 in
-    let len_2 : c.ifft.new.«data».shard_len_64 ≡ c.args.«data».now.shard_len_64 = c.ifft.ensures.place.len_64 ∙ len_1 in
-    let len_3 : c.code_further.new.«data».shard_len_64 ≡ c.args.«data».now.shard_len_64 = c.code_further.ensures.place.len_64 ∙ len_2 in
-    coded c.args.original_count c.args.recovery_count c.args.block
-    (word c.args.«data».now k s) (word c.clear_rows.new.«data» k s) (word c.ifft.new.«data» k s) (word c.code_further.new.«data» k s) (word c.fft.new.«data» k s)
-    (λ j given. ap (λ x. symbol x s) (c.clear_rows.ensures.others j k inside (inl given)))
-    (λ j low high. ap (λ x. symbol x s) (c.clear_rows.ensures.zeros j k (omega arith) low high) ∙ symbol-zero s symbols)
-    (λ j small. c.ifft.ensures.values k s j (omega arith) symbols small)
-    (λ q small. ap (λ x. symbol x s) (c.code_further.ensures.combination q k (omega arith) small))
-    (λ i low few. c.code_further.ensures.values k s i (omega arith) symbols low few)
-    (λ i wanted. c.fft.ensures.values k s i (omega arith) symbols (omega arith))
-    (λ i low. ap (λ x. symbol x s) (c.fft.ensures.others i k (omega arith) (inr (omega arith))))
-    c.requires.originals
+pub code_rows-requires : goal.code_rows-requires
+code_rows-requires g c =
+    let rows = low_rows-fit c.args.original_count c.args.recovery_count c.requires.supported in
+    record {
+      fits = c.requires.fits;
+      power = (rows.power.0, c.requires.block ∙ rows.power.1);
+      originals = omega (arith, rows.block, c.requires.block);
+      recovery = (low_fits c.args.original_count c.args.recovery_count c.requires.supported).1;
+      enough = omega (arith, rows.enough, c.requires.rows);
+      whole = rw (c.requires.rows, c.requires.block) rows.whole;
+      points = omega (arith, rows.points, c.requires.rows, c.requires.block);
+    }
+
+pub returns-clause-words : goal.returns-clause-words
+returns-clause-words g c = λ k s inside symbols.
+    let old : ℕ → ℕ = word c.args.«data».now k s in
+    let new : ℕ → ℕ = word c.code_rows.new.«data» k s in
+    codes_words c.args.original_count c.args.recovery_count old new c.requires.supported
+    (subst (λ (m : ℕ). CodesLow c.args.original_count c.args.recovery_count m old new) c.requires.block (c.code_rows.ensures.values k s inside symbols))

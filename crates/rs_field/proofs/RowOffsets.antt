@@ -1,0 +1,77 @@
+-- Where row i of rows of n chunks lies among the chunks, and what is unchanged outside some rows.
+use Rattle.std.proofs.Common.{◌≡◌, ℕ, ◌+◌, ◌*◌, ◌<◌, ◌≤◌, ◌⊎◌, ◌≢◌, inl, inr, arith, ap, ◌∙◌, subst, sym}
+use Rattle.std.proofs.Math.Nat.{mul-le-mul_right}
+use Rattle.std.proofs.lemmas.Bool.{cases_lt}
+use Rattle.rs_field.specs.Rows.{chunk, SameOutside, SameOutsideTwo}
+use Rattle.rs_field.specs.View.{cell, SameShape, SameRowsOutside, SameRowsOutsideTwo}
+use Rattle.rs_field.specs.declared.engine.shards.ShardsRefMut.{ShardsRefMut}
+
+pub row_ends : (i m n : ℕ) → i < m → i * n + n ≤ m * n
+row_ends i m n h = let p : (i + 1) * n ≤ m * n = mul-le-mul_right n (omega arith) in omega arith
+
+-- a chunk of a row below a lies before row a, and one of a row from b on lies from row b on
+pub offset_outside : (a b i k n : ℕ) → k < n → (i < a) ⊎ (b ≤ i) → (i * n + k < a * n) ⊎ (b * n ≤ i * n + k)
+offset_outside a b i k n q h =
+    elim h [ inl p ↦ inl (let r = row_ends i a n p in omega arith) | inr p ↦ inr (let r = mul-le-mul_right n p in omega arith) ]
+
+-- a chunk of another row lies outside row a
+pub offset_apart : (a i k n : ℕ) → k < n → i ≢ a → (i * n + k < a * n) ⊎ (a * n + n ≤ i * n + k)
+offset_apart a i k n q ne =
+    elim (cases_lt i a) [ inl p ↦ inl (let r = row_ends i a n p in omega arith) | inr p ↦ inr (let l : a < i = omega arith in let r = row_ends a i n l in omega arith) ]
+
+-- the chunks of the rows outside are unchanged
+pub outside_cell : (a b : ℕ) (old new : ShardsRefMut) → SameShape old new → SameRowsOutside a b old new
+    → (i k : ℕ) → k < old.shard_len_64 → (i < a) ⊎ (b ≤ i) → cell new k i ≡ cell old k i
+unfolding cell
+outside_cell a b old new shape others i k hk h =
+    ap (λ n. chunk new.chunks.now (i * n + k)) shape.len_64
+    ∙ others (i * old.shard_len_64 + k) (offset_outside a b i k old.shard_len_64 hk h)
+
+-- outside count rows from row a on, from a change of their chunks
+pub outside_rows : (a count : ℕ) (old new : ShardsRefMut)
+    → SameOutside (a * old.shard_len_64) (a * old.shard_len_64 + count * old.shard_len_64) old.chunks.now new.chunks.now
+    → SameRowsOutside a (a + count) old new
+outside_rows a count old new others k h = others k (elim h [ inl before ↦ inl before | inr after ↦ inr (omega arith) ])
+
+-- a change within fewer rows
+pub outside_more : (a b e f : ℕ) (old new : ShardsRefMut) → SameRowsOutside a b old new → e ≤ a → b ≤ f → SameRowsOutside e f old new
+outside_more a b e f old new others ea bf k h =
+    let n : ℕ = old.shard_len_64 in
+    let ea_n : e * n ≤ a * n = mul-le-mul_right n ea in
+    let bf_n : b * n ≤ f * n = mul-le-mul_right n bf in
+    others k (elim h [ inl before ↦ inl (omega arith) | inr after ↦ inr (omega arith) ])
+
+-- two changes one after another, each within rows e to f - 1
+pub outside_both : (a b c d e f : ℕ) (old mid new : ShardsRefMut) → SameShape old mid → SameRowsOutside a b old mid → SameRowsOutside c d mid new
+    → e ≤ a → b ≤ f → e ≤ c → d ≤ f → SameRowsOutside e f old new
+outside_both a b c d e f old mid new shape first second ea bf ec df k h =
+    let n : ℕ = old.shard_len_64 in
+    let ea_n : e * n ≤ a * n = mul-le-mul_right n ea in
+    let bf_n : b * n ≤ f * n = mul-le-mul_right n bf in
+    let ec_n : e * n ≤ c * n = mul-le-mul_right n ec in
+    let df_n : d * n ≤ f * n = mul-le-mul_right n df in
+    let then : SameOutside (c * n) (d * n) mid.chunks.now new.chunks.now =
+    subst (λ (m : ℕ). SameOutside (c * m) (d * m) mid.chunks.now new.chunks.now) shape.len_64 second in
+    then k (elim h [ inl before ↦ inl (omega arith) | inr after ↦ inr (omega arith) ])
+    ∙ first k (elim h [ inl before ↦ inl (omega arith) | inr after ↦ inr (omega arith) ])
+
+-- the same where all but two ranges of rows are unchanged
+pub outside_two_cell : (a b c d : ℕ) (old new : ShardsRefMut) → SameShape old new → SameRowsOutsideTwo a b c d old new
+    → (i k : ℕ) → k < old.shard_len_64 → (i < a) ⊎ (b ≤ i) → (i < c) ⊎ (d ≤ i) → cell new k i ≡ cell old k i
+unfolding cell
+outside_two_cell a b c d old new shape others i k hk h h' =
+    ap (λ n. chunk new.chunks.now (i * n + k)) shape.len_64
+    ∙ others (i * old.shard_len_64 + k) (offset_outside a b i k old.shard_len_64 hk h) (offset_outside c d i k old.shard_len_64 hk h')
+
+-- one more row of each of two ranges was changed
+pub outside_two_next : (a b i : ℕ) (old mid new : ShardsRefMut) → SameShape old mid → SameRowsOutsideTwo a (a + i) b (b + i) old mid
+    → SameRowsOutsideTwo (a + i) (a + i + 1) (b + i) (b + i + 1) mid new → SameRowsOutsideTwo a (a + (i + 1)) b (b + (i + 1)) old new
+outside_two_next a b i old mid new shape first second k h h' =
+    let n : ℕ = old.shard_len_64 in
+    let then : SameOutsideTwo ((a + i) * n) ((a + i + 1) * n) ((b + i) * n) ((b + i + 1) * n) mid.chunks.now new.chunks.now =
+    subst (λ (m : ℕ). SameOutsideTwo ((a + i) * m) ((a + i + 1) * m) ((b + i) * m) ((b + i + 1) * m) mid.chunks.now new.chunks.now) shape.len_64 second in
+    then k (elim h [ inl before ↦ inl (omega arith) | inr after ↦ inr (omega arith) ]) (elim h' [ inl before ↦ inl (omega arith) | inr after ↦ inr (omega arith) ])
+    ∙ first k (elim h [ inl before ↦ inl before | inr after ↦ inr (omega arith) ]) (elim h' [ inl before ↦ inl before | inr after ↦ inr (omega arith) ])
+
+pub shape_then : (old mid new : ShardsRefMut) → SameShape old mid → SameShape mid new → SameShape old new
+shape_then old mid new p q = record { name = q.name ∙ p.name; count = q.count ∙ p.count; len_64 = q.len_64 ∙ p.len_64; length = q.length ∙ p.length }
