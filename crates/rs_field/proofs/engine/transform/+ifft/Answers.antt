@@ -9,7 +9,7 @@ use Rattle.rs_field.specs.declared.engine.steps.Steps.{Steps}
 use Rattle.rs_field.proofs.Halves.{half_power, two_halves, shift_half}
 use Rattle.rs_field.proofs.Combination.{forward-same}
 use Rattle.rs_field.proofs.Recursion.{fits_kept, word_same, above_one, one_row, zero_rows, IsBlock, IsUpperDone, ifft_lower, ifft_upper, counts_of_whole, counts_both_back, counts_lower_back}
-use Rattle.rs_field.proofs.RowOffsets.{outside_cell, outside_more, outside_both, shape_then}
+use Rattle.rs_field.proofs.RowOffsets.{outside_cell, outside_more, outside_both, outside_halves, shape_then}
 use Rattle.rs_field.proofs.engine.transform.+ifft.Goals as goal
 use Rattle.rs_field.proofs.engine.transform.+ifft.Goals.{then-truncated_size-half, else-truncated_size-half}
 
@@ -114,8 +114,8 @@ returns-after-truncated_size-half-clause-values g t c k s i hk hs hi =
           c.ifft.ensures.values k s i (omega arith) hs (omega arith)
           ∙ forward-same (c.args.size / 2) c.args.skew_delta (λ q. word c.ifft.new.rows k s (c.args.pos + q)) (λ q. word c.if-truncated_size-half.rows k s (c.args.pos + q)) i
           (λ q hq. sym (word_same c.if-truncated_size-half.rows c.ifft.new.rows k s (c.args.pos + q) (c.args.pos + q) (done.same k q (omega arith) hq)))
-          ∙ ifft_lower c.args.skew.now c.if-truncated_size-half.rows c.ifft_block.new.rows k s c.args.pos c.args.size c.args.skew_delta i block low
-          (λ q hq. c.ifft_block.ensures.first q k s hq (omega arith) hs)
+          ∙ ifft_lower c.args.skew.now c.if-truncated_size-half.rows c.step_pairs.new.rows k s c.args.pos c.args.size c.args.skew_delta i block low
+          (λ q hq. (c.step_pairs.ensures.pairs q k hq (omega arith) s hs).0)
       | inr high ↦
           let j : ℕ = i - c.args.size / 2 in
           let back : c.args.size / 2 + j ≡ i = omega arith in
@@ -124,26 +124,26 @@ returns-after-truncated_size-half-clause-values g t c k s i hk hs hi =
           (kept_low (c.args.pos + i) k (omega arith) (inr (omega arith))))
           ∙ ap (λ p. word c.ifft.new.rows k s p) there
           ∙ done.values k s j (omega arith) hs (omega arith)
-          ∙ ifft_upper c.args.skew.now c.if-truncated_size-half.rows c.ifft_block.new.rows k s c.args.pos c.args.size c.args.skew_delta j block (omega arith)
-          (λ q hq. c.ifft_block.ensures.first q k s hq (omega arith) hs)
-          (λ q hq. c.ifft_block.ensures.second q k s hq (omega arith) hs)
-          ∙ ap (λ p. forward c.args.size c.args.skew_delta (λ q. word c.ifft_block.new.rows k s (c.args.pos + q)) p) back
+          ∙ ifft_upper c.args.skew.now c.if-truncated_size-half.rows c.step_pairs.new.rows k s c.args.pos c.args.size c.args.skew_delta j block (omega arith)
+          (λ q hq. (c.step_pairs.ensures.pairs q k hq (omega arith) s hs).0)
+          (λ q hq. (c.step_pairs.ensures.pairs q k hq (omega arith) s hs).1)
+          ∙ ap (λ p. forward c.args.size c.args.skew_delta (λ q. word c.step_pairs.new.rows k s (c.args.pos + q)) p) back
     ]
 
 pub returns-after-truncated_size-half-clause-counts :
     goal.returns-after-truncated_size-half-clause-counts
 returns-after-truncated_size-half-clause-counts g t c =
     let large : 1 < c.args.size = above_one c.args.size c.if-size-eq1.false c.requires.power in
-    counts_of_whole c.args.size c.args.skew_delta c.args.steps.now c.ifft_block.new.steps large c.requires.power c.requires.points
+    counts_of_whole c.args.size c.args.skew_delta c.args.steps.now c.step_pairs.new.steps large c.requires.power c.requires.points
     (elim c.if-truncated_size-half.branch [
       | then-truncated_size-half w ↦
-          counts_both_back (c.args.size / 2) (transform_steps (c.args.size / 2)) c.args.steps.now c.ifft.new.steps w.ifft-then-truncated_size-half.new.steps c.ifft_block.new.steps
+          counts_both_back (c.args.size / 2) (transform_steps (c.args.size / 2)) c.args.steps.now c.ifft.new.steps w.ifft-then-truncated_size-half.new.steps c.step_pairs.new.steps
           c.ifft.ensures.counts w.ifft-then-truncated_size-half.ensures.counts
-          (subst (λ (x : Steps). CountsRows (c.args.size / 2) x c.ifft_block.new.steps) w.steps-is c.ifft_block.ensures.counts)
+          (subst (λ (x : Steps). CountsRows (c.args.size / 2) x c.step_pairs.new.steps) w.steps-is c.step_pairs.ensures.counts)
       | else-truncated_size-half w ↦
-          counts_lower_back (c.args.size / 2) (transform_steps (c.args.size / 2)) c.args.steps.now c.ifft.new.steps c.ifft_block.new.steps
+          counts_lower_back (c.args.size / 2) (transform_steps (c.args.size / 2)) c.args.steps.now c.ifft.new.steps c.step_pairs.new.steps
           c.ifft.ensures.counts
-          (subst (λ (x : Steps). CountsRows (c.args.size / 2) x c.ifft_block.new.steps) w.steps-is c.ifft_block.ensures.counts)
+          (subst (λ (x : Steps). CountsRows (c.args.size / 2) x c.step_pairs.new.steps) w.steps-is c.step_pairs.ensures.counts)
     ])
 
 pub returns-after-truncated_size-half-clause-others :
@@ -156,7 +156,7 @@ returns-after-truncated_size-half-clause-others g t c =
     let size = c.args.size in
     let old = c.args.rows.now in
     let low = c.ifft.ensures in
-    let last = c.ifft_block.ensures in
+    let last = c.step_pairs.ensures in
     let most : SameShape old c.if-truncated_size-half.rows × SameRowsOutside pos (pos + size) old c.if-truncated_size-half.rows =
     elim c.if-truncated_size-half.branch [
       | then-truncated_size-half w ↦
@@ -173,5 +173,6 @@ returns-after-truncated_size-half-clause-others g t c =
             outside_more pos (pos + half) pos (pos + size) old c.ifft.new.rows low.others (omega arith) (omega arith),
           )
     ] in
-    outside_both pos (pos + size) pos (pos + 2 * half) pos (pos + size) old c.if-truncated_size-half.rows c.ifft_block.new.rows most.0 most.1 last.others
+    let changed = outside_halves pos half c.if-truncated_size-half.rows c.step_pairs.new.rows last.others in
+    outside_both pos (pos + size) pos (pos + half + half) pos (pos + size) old c.if-truncated_size-half.rows c.step_pairs.new.rows most.0 most.1 changed
     (omega arith) (omega arith) (omega arith) (omega arith)
