@@ -27,12 +27,6 @@ outside_cell a b old new shape others i k hk h =
     ap (λ n. chunk new.chunks.now (i * n + k)) shape.len_64
     ∙ others (i * old.shard_len_64 + k) (offset_outside a b i k old.shard_len_64 hk h)
 
--- outside count rows from row a on, from a change of their chunks
-pub outside_rows : (a count : ℕ) (old new : ShardsRefMut)
-    → SameOutside (a * old.shard_len_64) (a * old.shard_len_64 + count * old.shard_len_64) old.chunks.now new.chunks.now
-    → SameRowsOutside a (a + count) old new
-outside_rows a count old new others k h = others k (elim h [ inl before ↦ inl before | inr after ↦ inr (omega arith) ])
-
 -- a change within fewer rows
 pub outside_more : (a b e f : ℕ) (old new : ShardsRefMut) → SameRowsOutside a b old new → e ≤ a → b ≤ f → SameRowsOutside e f old new
 outside_more a b e f old new others ea bf k h =

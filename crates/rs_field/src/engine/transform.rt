@@ -8,8 +8,8 @@ ghost use Rattle.rs_field.specs.Transform.{forward};
 ghost use Rattle.rs_field.specs.Tables.{IsSkew, scaled};
 ghost use Rattle.rs_field.specs.Rows.{chunk, symbol};
 ghost use Rattle.rs_field.specs.Pairs.{IsForwardStep, IsBackwardStep};
-ghost use Rattle.rs_field.specs.View.{cell, word, Fits, SameShape, SameRowsOutside, AreZero};
-ghost use Rattle.rs_field.specs.Bounds.{CountsRows, TransformCounts};
+ghost use Rattle.rs_field.specs.View.{word, Fits, SameShape, SameRowsOutside, AreZero};
+ghost use Rattle.rs_field.specs.Bounds.{TransformCounts};
 ghost use Rattle.rs_field.specs.Inverse.{TransformsAreInverse};
 
 use super::pairs::{PairStep, step_pairs};
