@@ -8,7 +8,7 @@ use Rattle.rs_field.specs.Subspace.{product_below, subspace, basis}
 use Rattle.rs_field.specs.Transform.{forward}
 use Rattle.rs_field.proofs.Product.{product_lt, product_zero}
 use Rattle.rs_field.proofs.Total.{product-comm}
-use Rattle.rs_field.proofs.Roots.{AreWords, value-nil, value-cons}
+use Rattle.rs_field.proofs.Roots.{WordsOneByOne, value-nil, value-cons}
 use Rattle.rs_field.proofs.Subspace.{product_below-same}
 use Rattle.rs_field.proofs.Factors.{add, points, times, value_add, value-times, length-add, length-times, words_add, words_times, all_words}
 use Rattle.rs_field.proofs.Combination.{sum_below-suc, sum_below-zero, basis-zero, forward_is, forward-half}
@@ -37,11 +37,11 @@ length-joined e p q size_p size_q =
     let double : 2 ^ suc e ≡ 2 ^ e * 2 = pow-suc 2 e in
     length-add (times (points 0 (2 ^ e)) q) p (omega arith) ∙ omega arith
 
-pub words_joined : (e : ℕ) (p q : List ℕ) → AreWords p → AreWords q → AreWords (joined e p q)
+pub words_joined : (e : ℕ) (p q : List ℕ) → WordsOneByOne p → WordsOneByOne q → WordsOneByOne (joined e p q)
 unfolding joined
 words_joined e p q words_p words_q = words_add (times (points 0 (2 ^ e)) q) p (words_times (points 0 (2 ^ e)) q words_q) words_p
 
-pub value-joined : (e : ℕ) (f : ℕ → ℕ) (p q : List ℕ) → e < 16 → AreWords q
+pub value-joined : (e : ℕ) (f : ℕ → ℕ) (p q : List ℕ) → e < 16 → WordsOneByOne q
     → ((x : ℕ) → value p x ≡ forward (2 ^ e) 0 f x) → ((x : ℕ) → value q x ≡ forward (2 ^ e) 0 (λ i. f (2 ^ e + i)) x)
     → (x : ℕ) → value (joined e p q) x ≡ forward (2 ^ suc e) 0 f x
 unfolding joined
@@ -56,7 +56,7 @@ value-joined e f p q he words_q at_p at_q x =
 
 -- the coefficients of the sum of 2 ^ e basis polynomials, at every point
 pub coefficients : (e : ℕ) (f : ℕ → ℕ) → e ≤ 16
-    → (p : List ℕ) × (length p ≡ 2 ^ e) × AreWords p × ((x : ℕ) → value p x ≡ forward (2 ^ e) 0 f x)
+    → (p : List ℕ) × (length p ≡ 2 ^ e) × WordsOneByOne p × ((x : ℕ) → value p x ≡ forward (2 ^ e) 0 f x)
 coefficients zero f he =
     (product (f 0) 1 ∷ [], refl, (product_lt (f 0) 1, tt), λ x. of_constant (product (f 0) 1) x ∙ sym (of_one f x))
 coefficients (suc e) f he =

@@ -12,7 +12,7 @@ use Rattle.rs_field.specs.Bounds.{CountsRows, CountsUpTo}
 use Rattle.rs_field.specs.declared.engine.shards.ShardsRefMut.{ShardsRefMut}
 use Rattle.rs_field.specs.declared.engine.steps.Steps.{Steps}
 use Rattle.rs_field.proofs.Product.{product_zero}
-use Rattle.rs_field.proofs.Roots.{AreWords, value_lt, value-nil, same_from_values}
+use Rattle.rs_field.proofs.Roots.{WordsOneByOne, value_lt, value-nil, same_from_values}
 use Rattle.rs_field.proofs.Factors.{times, points, all_words}
 use Rattle.rs_field.proofs.Combination.{forward-same, forward-xor, forward-half}
 use Rattle.rs_field.proofs.Coefficients.{joined, length-joined, words_joined, value-joined, coefficients}
@@ -22,12 +22,12 @@ use Rattle.rs_field.proofs.Recursion.{word_same}
 use Rattle.rs_field.proofs.RingSolver.{plus, v, times as both, by_algebra}
 
 -- words by entry are words one after another
-pub words_all : (p : List ℕ) → All (λ w. w < 65536) p → AreWords p
+pub words_all : (p : List ℕ) → All (λ w. w < 65536) p → WordsOneByOne p
 words_all [] h = tt
 words_all (c ∷ cs) h = (h 0 0 (omega arith), words_all cs (λ k d hk. h (suc k) d (omega arith)))
 
 -- there is one such polynomial
-one_polynomial : (n : ℕ) (f : ℕ → ℕ) (p q : List ℕ) → n ≤ 65536 → length p ≡ n → length q ≡ n → AreWords p → AreWords q
+one_polynomial : (n : ℕ) (f : ℕ → ℕ) (p q : List ℕ) → n ≤ 65536 → length p ≡ n → length q ≡ n → WordsOneByOne p → WordsOneByOne q
     → IsInBasis n f p → ((x : ℕ) → value q x ≡ forward n 0 f x) → p ≡ q
 one_polynomial n f p q hn size_p size_q words_p words_q at_p at_q =
     same_from_values n p q size_p size_q words_p words_q (λ i. i) (λ i hi. omega arith) (λ i j hi hj e. e)
@@ -42,7 +42,7 @@ rule s l dl h dh hs hl hdl hh hdh =
     (plus (plus (v 1) (both (v 3) (v 0))) (plus (plus (both (v 0) (v 4)) (v 3)) (v 2)))
     (hs, (hl, (hdl, (hh, (hdh, tt))))) refl
 
-derivative-joined : (e : ℕ) (p q : List ℕ) → e < 16 → AreWords q → (x : ℕ) → x < 2 ^ 16
+derivative-joined : (e : ℕ) (p q : List ℕ) → e < 16 → WordsOneByOne q → (x : ℕ) → x < 2 ^ 16
     → derivative_value (joined e p q) x ≡ bit_xor (bit_xor (product (subspace e x) (derivative_value q x)) (value q x)) (derivative_value p x)
 unfolding joined
 derivative-joined e p q he words_q x hx =
@@ -70,7 +70,7 @@ derivative_halves e f a b g he of_low of_high first second p size words at x hx 
     (sym (derivative-joined e low.0 high.0 he high.2 x hx))
     ∙ sym (ap (λ (r : List ℕ). bit_xor (value r x) (derivative_value r x)) is)
   where
-    of_parts : (l h : List ℕ) → AreWords l → AreWords h
+    of_parts : (l h : List ℕ) → WordsOneByOne l → WordsOneByOne h
         → ((x : ℕ) → value l x ≡ forward (2 ^ e) 0 f x) → ((x : ℕ) → value h x ≡ forward (2 ^ e) 0 (λ q. f (2 ^ e + q)) x)
         → forward (2 ^ e) 0 a x ≡ bit_xor (value l x) (derivative_value l x)
         → forward (2 ^ e) 0 b x ≡ bit_xor (value h x) (derivative_value h x)

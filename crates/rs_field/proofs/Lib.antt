@@ -1,3 +1,4 @@
+pub mod Search
 pub mod Linear
 pub mod Product
 pub mod Inverse
@@ -9,11 +10,10 @@ pub mod Roots
 pub mod Columns
 pub mod Given
 pub mod Unique
-pub mod Times
+pub mod HighCodes
 pub mod Decided
 pub mod Locator
 pub mod Total
-pub mod XorSolver
 pub mod RingSolver
 pub mod Runs
 pub mod RowOffsets

@@ -1,5 +1,5 @@
 -- A loop over pairs of rows: row i of one range with row i of another that has no row in common with it.
-use Rattle.std.proofs.Common.{◌≡◌, ℕ, ◌+◌, ◌*◌, ◌<◌, ◌≤◌, ◌⊎◌, List, inl, inr, arith, subst, sym}
+use Rattle.std.proofs.Common.{◌≡◌, ℕ, ◌+◌, ◌<◌, ◌≤◌, ◌⊎◌, List, inl, inr, arith, subst, sym}
 use Rattle.std.proofs.lemmas.Bool.{cases_lt}
 use Rattle.rs_field.specs.View.{cell, SameShape, SameRowsOutsideTwo}
 use Rattle.rs_field.specs.Pairs.{OnChunks}

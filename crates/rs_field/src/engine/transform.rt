@@ -42,20 +42,20 @@ pub trait Butterfly {
 
 // A symbol is a word, as its bytes are bytes. This and the two functions below do nothing when they run: they tell the
 // checker so where a transform of one row leaves that row as it is.
-fn rows_fit(rows: &ShardsRefMut<'_>)
+fn row_symbols_are_words(rows: &ShardsRefMut<'_>)
     requires { Fits rows.now }
     ensures { (k s i : ℕ) → k < rows.now.shard_len_64 → s < 32 → i < rows.now.shard_count → word rows.now k s i < 65536 }
 {
-    symbols_fit(rows.chunks);
+    symbols_are_words(rows.chunks);
 }
 
-fn symbols_fit(chunks: &[[u8; 64]])
+fn symbols_are_words(chunks: &[[u8; 64]])
     ensures { (k s : ℕ) → k < length chunks.now → s < 32 → symbol (chunk chunks.now k) s < 65536 }
 {
-    bytes_fit(chunks.as_flattened());
+    bytes_are_small(chunks.as_flattened());
 }
 
-fn bytes_fit(bytes: &[u8])
+fn bytes_are_small(bytes: &[u8])
     ensures { (j : ℕ) → slice_index bytes.now j < 256 }
 {}
 
@@ -120,7 +120,7 @@ pub fn fft<B: Butterfly>(
     ensures counts { TransformCounts size steps.old steps.new }
 {
     if size == 1 {
-        rows_fit(rows);
+        row_symbols_are_words(rows);
     } else if truncated_size > 0 {
         let half = size / 2;
         let low = truncated_size.min(half);
@@ -176,7 +176,7 @@ pub fn ifft<B: Butterfly>(
     ensures counts { TransformCounts size steps.old steps.new }
 {
     if size == 1 {
-        rows_fit(rows);
+        row_symbols_are_words(rows);
     } else if truncated_size > 0 {
         let half = size / 2;
         let low = truncated_size.min(half);

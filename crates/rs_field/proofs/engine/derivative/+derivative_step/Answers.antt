@@ -5,7 +5,7 @@ use Rattle.rs_field.specs.Bounds.{transform_steps}
 use Rattle.rs_field.proofs.Halves.{half_power, two_halves}
 use Rattle.rs_field.proofs.Recursion.{fits_kept, counts_of_whole}
 use Rattle.rs_field.proofs.DerivativeStep.{derivative_one, derivative_rows, counts_around}
-use Rattle.rs_field.proofs.RowOffsets.{outside_cell, outside_both}
+use Rattle.rs_field.proofs.RowOffsets.{outside_cell}
 use Rattle.rs_field.proofs.engine.derivative.+derivative_step.Goals as goal
 
 pub derivative_step-requires : goal.derivative_step-requires

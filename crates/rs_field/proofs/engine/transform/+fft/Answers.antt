@@ -1,5 +1,5 @@
 -- The butterflies made the rows that the halves' transforms need: what each of them then makes is a part of the whole.
-use Rattle.std.proofs.Common.{◌≡◌, ℕ, ◌+◌, ◌*◌, ◌-◌, ◌/◌, ◌<◌, arith, ap, ◌∙◌, inl, inr}
+use Rattle.std.proofs.Common.{◌≡◌, ℕ, ◌+◌, ◌-◌, ◌/◌, ◌<◌, arith, ap, ◌∙◌, inl, inr}
 use Rattle.std.proofs.lemmas.Bool.{cases_lt}
 use Rattle.rs_field.specs.View.{word}
 use Rattle.rs_field.specs.Transform.{forward}
@@ -31,7 +31,7 @@ fft-requires-then-truncated_size-half g t c κs within =
 pub returns-then-size-eq1-clause-values : goal.returns-then-size-eq1-clause-values
 returns-then-size-eq1-clause-values g t c k s i hk hs hi =
     one_row c.args.size c.args.skew_delta i (λ q. word c.args.rows.now k s (c.args.pos + q)) c.if-size-eq1.true (omega arith)
-    (c.rows_fit.ensures k s (c.args.pos + 0) hk hs (omega arith))
+    (c.row_symbols_are_words.ensures k s (c.args.pos + 0) hk hs (omega arith))
 
 pub returns-else-truncated_size-half-clause-values : goal.returns-else-truncated_size-half-clause-values
 returns-else-truncated_size-half-clause-values g t c k s i hk hs hi =

@@ -1,5 +1,5 @@
 -- The butterflies come last: the rows before them are those that they make of the rows afterwards.
-use Rattle.std.proofs.Common.{◌≡◌, ℕ, ◌+◌, ◌*◌, ◌-◌, ◌/◌, ◌<◌, arith, ap, ◌∙◌, sym, refl, subst, inl, inr}
+use Rattle.std.proofs.Common.{◌≡◌, ℕ, ◌+◌, ◌-◌, ◌/◌, ◌<◌, arith, ap, ◌∙◌, sym, refl, subst, inl, inr}
 use Rattle.std.proofs.lemmas.Bool.{cases_lt}
 use Rattle.rs_field.specs.View.{word, SameShape, SameRowsOutside}
 use Rattle.rs_field.specs.Transform.{forward}
@@ -71,7 +71,7 @@ ifft-requires-then-truncated_size-half g t c κs within =
 pub returns-then-size-eq1-clause-values : goal.returns-then-size-eq1-clause-values
 returns-then-size-eq1-clause-values g t c k s i hk hs hi =
     one_row c.args.size c.args.skew_delta i (λ q. word c.args.rows.now k s (c.args.pos + q)) c.if-size-eq1.true (omega arith)
-    (c.rows_fit.ensures k s (c.args.pos + 0) hk hs (omega arith))
+    (c.row_symbols_are_words.ensures k s (c.args.pos + 0) hk hs (omega arith))
 
 pub returns-else-truncated_size-gt0-clause-values : goal.returns-else-truncated_size-gt0-clause-values
 returns-else-truncated_size-gt0-clause-values g t c k s i hk hs hi =
