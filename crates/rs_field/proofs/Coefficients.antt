@@ -1,14 +1,14 @@
 -- A sum of basis polynomials with a power of two of terms is a polynomial with as many coefficients.
 use Rattle.std.proofs.Common.{◌≡◌, ℕ, zero, suc, ◌+◌, ◌*◌, ◌^◌, ◌<◌, ◌≤◌, List, [], ◌∷◌, length, bit_xor, refl, ap, ap₂, sym, ◌∙◌, arith, pow-suc, zero-add}
 use Rattle.std.specs.Prelude.{All}
-use Rattle.std.specs.Int.Bits.{xor_comm, xor_zero_r}
+use Rattle.std.specs.Int.Bits.{xor_comm}
 use Rattle.rs_field.specs.Field.{product}
 use Rattle.rs_field.specs.Polynomial.{value}
 use Rattle.rs_field.specs.Subspace.{product_below, subspace, basis}
 use Rattle.rs_field.specs.Transform.{forward}
-use Rattle.rs_field.proofs.Product.{product_lt, product_zero}
+use Rattle.rs_field.proofs.Product.{product_lt}
 use Rattle.rs_field.proofs.Total.{product-comm}
-use Rattle.rs_field.proofs.Roots.{WordsOneByOne, value-nil, value-cons}
+use Rattle.rs_field.proofs.Roots.{WordsOneByOne, value-one}
 use Rattle.rs_field.proofs.Subspace.{product_below-same}
 use Rattle.rs_field.proofs.Factors.{add, points, times, value_add, value-times, length-add, length-times, words_add, words_times, all_words}
 use Rattle.rs_field.proofs.Combination.{sum_below-suc, sum_below-zero, basis-zero, forward_is, forward-half}
@@ -22,9 +22,6 @@ of_one f x =
     forward_is 1 0 f x ∙ sum_below-suc 0 (λ q. product (f q) (basis q (0 + x)))
     ∙ ap₂ bit_xor (sum_below-zero 0 (λ q. product (f q) (basis q (0 + x))) (λ q h. let no : ⊥ = omega arith in absurd no))
     (ap (product (f 0)) (basis-zero (0 + x)))
-
-of_constant : (c x : ℕ) → value (c ∷ []) x ≡ c
-of_constant c x = value-cons c [] x ∙ ap (bit_xor c) (ap (product x) (value-nil x) ∙ product_zero x) ∙ xor_zero_r c
 
 -- a polynomial for the first half of a sum of 2 ^ (e + 1) terms, and one for its second half, joined
 unfoldable pub joined : ℕ → List ℕ → List ℕ → List ℕ
@@ -58,7 +55,7 @@ value-joined e f p q he words_q at_p at_q x =
 pub coefficients : (e : ℕ) (f : ℕ → ℕ) → e ≤ 16
     → (p : List ℕ) × (length p ≡ 2 ^ e) × WordsOneByOne p × ((x : ℕ) → value p x ≡ forward (2 ^ e) 0 f x)
 coefficients zero f he =
-    (product (f 0) 1 ∷ [], refl, (product_lt (f 0) 1, tt), λ x. of_constant (product (f 0) 1) x ∙ sym (of_one f x))
+    (product (f 0) 1 ∷ [], refl, (product_lt (f 0) 1, tt), λ x. value-one (product (f 0) 1) x ∙ sym (of_one f x))
 coefficients (suc e) f he =
     let low = coefficients e f (omega arith) in
     let high = coefficients e (λ q. f (2 ^ e + q)) (omega arith) in (

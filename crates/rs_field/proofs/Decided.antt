@@ -11,7 +11,7 @@ use Rattle.rs_field.specs.Placement.{Placement, placement, low_placement, high_p
 use Rattle.rs_field.specs.Configuration.{Configuration}
 use Rattle.rs_field.specs.Code.{Codes, AreRecoveryWords, AreRecovery}
 use Rattle.rs_field.proofs.Linear.{passes_below, from_passes_below}
-use Rattle.rs_field.proofs.Unique.{words_from}
+use Rattle.rs_field.proofs.Roots.{words_from}
 use Rattle.rs_field.proofs.Factors.{times, points}
 use Rattle.rs_field.proofs.HighCodes.{high_codes, value-inside}
 

@@ -51,11 +51,11 @@ shift_half size e shift is whole =
     multiple : (u n x : ℕ) → x ≡ u * n → 0 < n → x % n ≡ 0
     multiple u n x e pos = ap (λ v. v % n) e ∙ mul-mod_left u n
 
-mark_zero : log_or_mark 0 ≡ 65535
+pub mark_zero : log_or_mark 0 ≡ 65535
 unfolding log_or_mark
 mark_zero = refl
 
-mark_word : (z : ℕ) → eqb z 0 ≡ false → log_or_mark z ≡ log z
+pub mark_word : (z : ℕ) → eqb z 0 ≡ false → log_or_mark z ≡ log z
 unfolding log_or_mark
 mark_word z e = ap (λ (b : Bool). cond b 65535 (log z)) e
 

@@ -24,6 +24,7 @@ pub mod Combination
 pub mod Factors
 pub mod Halves
 pub mod Coefficients
+pub mod Counting
 pub mod Recursion
 pub mod Injective
 pub mod Derivative

@@ -1,6 +1,6 @@
 -- A message has one list of recovery shards at most.
-use Rattle.std.proofs.Common.{◌≡◌, ℕ, suc, ◌+◌, ◌-◌, ◌%◌, ◌^◌, ◌<◌, ◌≤◌, List, [], ◌∷◌, true, false, cond, length, refl, sym, ap, ◌∙◌, subst, arith, ◌⊎◌, inl, inr, pow_mono}
-use Rattle.std.specs.Prelude.{All, slice_index, nat_le}
+use Rattle.std.proofs.Common.{◌≡◌, ℕ, ◌+◌, ◌-◌, ◌%◌, ◌^◌, ◌<◌, ◌≤◌, List, [], true, false, cond, length, refl, sym, ap, ◌∙◌, subst, arith, ◌⊎◌, inl, inr, pow_mono}
+use Rattle.std.specs.Prelude.{slice_index, nat_le}
 use Rattle.std.proofs.lemmas.Bool.{cases_lt, le-leb}
 use Rattle.std.proofs.lemmas.List.{ext_get_or}
 use Rattle.rs_field.specs.Search.{first_below}
@@ -11,7 +11,7 @@ use Rattle.rs_field.specs.Placement.{Placement, placement, low_placement, high_p
 use Rattle.rs_field.specs.Configuration.{Configuration}
 use Rattle.rs_field.specs.Code.{Codes, AreRecoveryWords, AreRecovery}
 use Rattle.rs_field.proofs.Search.{first_below_most}
-use Rattle.rs_field.proofs.Roots.{WordsOneByOne, same_from_values}
+use Rattle.rs_field.proofs.Roots.{words_from, same_from_values}
 use Rattle.rs_field.proofs.Columns.{shard_from_columns, columns-at}
 
 -- the power of a count is a count
@@ -21,11 +21,6 @@ next_power_most k h =
     let d : first_below 64 (λ d. nat_le k (2 ^ d)) ≤ 16 = first_below_most 64 (λ d. nat_le k (2 ^ d)) 16 (omega arith) (le-leb k 65536 h) in
     let e : 2 ^ first_below 64 (λ d. nat_le k (2 ^ d)) ≤ 2 ^ 16 = pow_mono {i = first_below 64 (λ d. nat_le k (2 ^ d))} d in
     e
-
--- words by entry are words one after another
-pub words_from : (P : List ℕ) → All (λ w. w < 65536) P → WordsOneByOne P
-words_from [] h = tt
-words_from (c ∷ cs) h = (h 0 0 (omega arith), words_from cs (λ k d hk. h (suc k) d (omega arith)))
 
 -- each placement is that of the low rate or that of the high rate
 low_or_high : (rate : Rate) (k r : ℕ) → (placement rate k r ≡ low_placement k) ⊎ (placement rate k r ≡ high_placement k r)

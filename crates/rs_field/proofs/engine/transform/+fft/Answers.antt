@@ -5,7 +5,8 @@ use Rattle.rs_field.specs.View.{word}
 use Rattle.rs_field.specs.Transform.{forward}
 use Rattle.rs_field.specs.Bounds.{transform_steps}
 use Rattle.rs_field.proofs.Halves.{half_power, two_halves, shift_half}
-use Rattle.rs_field.proofs.Recursion.{fits_kept, word_same, above_one, one_row, IsBlock, fft_lower, fft_upper, counts_of_whole, counts_both, counts_lower}
+use Rattle.rs_field.proofs.Recursion.{fits_kept, word_same, above_one, one_row, IsBlock, fft_lower, fft_upper}
+use Rattle.rs_field.proofs.Counting.{counts_rows, counts_then, counts_of_whole}
 use Rattle.rs_field.proofs.RowOffsets.{outside_cell, outside_both, outside_halves, shape_then}
 use Rattle.rs_field.proofs.engine.transform.+fft.Goals as goal
 
@@ -75,16 +76,26 @@ returns-then-truncated_size-half-clause-values g t c k s i hk hs hi =
 pub returns-then-truncated_size-half-clause-counts : goal.returns-then-truncated_size-half-clause-counts
 returns-then-truncated_size-half-clause-counts g t c =
     let large : 1 < c.args.size = above_one c.args.size c.if-size-eq1.false c.requires.power in
-    counts_of_whole c.args.size c.args.skew_delta c.args.steps.now c.fft-then-truncated_size-half.new.steps large c.requires.power c.requires.points
-    (counts_both (c.args.size / 2) (transform_steps (c.args.size / 2)) c.args.steps.now c.step_pairs.new.steps c.fft.new.steps c.fft-then-truncated_size-half.new.steps
-    c.step_pairs.ensures.counts c.fft.ensures.counts c.fft-then-truncated_size-half.ensures.counts)
+    let half = c.args.size / 2 in
+    let n = transform_steps half in
+    let old = c.args.steps.now in
+    let block = c.step_pairs.new.steps in
+    let low = c.fft.new.steps in
+    let high = c.fft-then-truncated_size-half.new.steps in
+    counts_of_whole c.args.size c.args.skew_delta (half + n + n) old high large c.requires.power c.requires.points (omega arith)
+    (counts_then (half + n) n old low high (counts_then half n old block low (counts_rows half old block c.step_pairs.ensures.counts) c.fft.ensures.counts)
+    c.fft-then-truncated_size-half.ensures.counts)
 
 pub returns-else-truncated_size-half-clause-counts : goal.returns-else-truncated_size-half-clause-counts
 returns-else-truncated_size-half-clause-counts g t c =
     let large : 1 < c.args.size = above_one c.args.size c.if-size-eq1.false c.requires.power in
-    counts_of_whole c.args.size c.args.skew_delta c.args.steps.now c.fft.new.steps large c.requires.power c.requires.points
-    (counts_lower (c.args.size / 2) (transform_steps (c.args.size / 2)) c.args.steps.now c.step_pairs.new.steps c.fft.new.steps
-    c.step_pairs.ensures.counts c.fft.ensures.counts)
+    let half = c.args.size / 2 in
+    let n = transform_steps half in
+    let old = c.args.steps.now in
+    let block = c.step_pairs.new.steps in
+    let low = c.fft.new.steps in
+    counts_of_whole c.args.size c.args.skew_delta (half + n) old low large c.requires.power c.requires.points (omega arith)
+    (counts_then half n old block low (counts_rows half old block c.step_pairs.ensures.counts) c.fft.ensures.counts)
 
 pub returns-then-truncated_size-half-clause-others : goal.returns-then-truncated_size-half-clause-others
 returns-then-truncated_size-half-clause-others g t c =

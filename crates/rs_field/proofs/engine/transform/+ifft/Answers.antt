@@ -3,12 +3,13 @@ use Rattle.std.proofs.Common.{◌≡◌, ℕ, ◌+◌, ◌-◌, ◌/◌, ◌<◌
 use Rattle.std.proofs.lemmas.Bool.{cases_lt}
 use Rattle.rs_field.specs.View.{word, SameShape, SameRowsOutside}
 use Rattle.rs_field.specs.Transform.{forward}
-use Rattle.rs_field.specs.Bounds.{CountsRows, transform_steps}
+use Rattle.rs_field.specs.Bounds.{CountsUpTo, transform_steps}
 use Rattle.rs_field.specs.declared.engine.shards.ShardsRefMut.{ShardsRefMut}
 use Rattle.rs_field.specs.declared.engine.steps.Steps.{Steps}
 use Rattle.rs_field.proofs.Halves.{half_power, two_halves, shift_half}
 use Rattle.rs_field.proofs.Combination.{forward-same}
-use Rattle.rs_field.proofs.Recursion.{fits_kept, word_same, above_one, one_row, zero_rows, IsBlock, IsUpperDone, ifft_lower, ifft_upper, counts_of_whole, counts_both_back, counts_lower_back}
+use Rattle.rs_field.proofs.Recursion.{fits_kept, word_same, above_one, one_row, zero_rows, IsBlock, IsUpperDone, ifft_lower, ifft_upper}
+use Rattle.rs_field.proofs.Counting.{counts_rows, counts_then, counts_within, counts_of_whole}
 use Rattle.rs_field.proofs.RowOffsets.{outside_cell, outside_more, outside_both, outside_halves, shape_then}
 use Rattle.rs_field.proofs.engine.transform.+ifft.Goals as goal
 use Rattle.rs_field.proofs.engine.transform.+ifft.Goals.{then-truncated_size-half, else-truncated_size-half}
@@ -134,17 +135,23 @@ pub returns-after-truncated_size-half-clause-counts :
     goal.returns-after-truncated_size-half-clause-counts
 returns-after-truncated_size-half-clause-counts g t c =
     let large : 1 < c.args.size = above_one c.args.size c.if-size-eq1.false c.requires.power in
-    counts_of_whole c.args.size c.args.skew_delta c.args.steps.now c.step_pairs.new.steps large c.requires.power c.requires.points
-    (elim c.if-truncated_size-half.branch [
+    let half = c.args.size / 2 in
+    let n = transform_steps half in
+    let old = c.args.steps.now in
+    let low = c.ifft.new.steps in
+    let both = c.if-truncated_size-half.steps in
+    let new = c.step_pairs.new.steps in
+    let most : CountsUpTo (n + n) 0 0 old both =
+    elim c.if-truncated_size-half.branch [
       | then-truncated_size-half w ↦
-          counts_both_back (c.args.size / 2) (transform_steps (c.args.size / 2)) c.args.steps.now c.ifft.new.steps w.ifft-then-truncated_size-half.new.steps c.step_pairs.new.steps
-          c.ifft.ensures.counts w.ifft-then-truncated_size-half.ensures.counts
-          (subst (λ (x : Steps). CountsRows (c.args.size / 2) x c.step_pairs.new.steps) w.steps-is c.step_pairs.ensures.counts)
+          let high = w.ifft-then-truncated_size-half.new.steps in
+          subst (λ (x : Steps). CountsUpTo (n + n) 0 0 old x) (sym w.steps-is)
+          (counts_then n n old low high c.ifft.ensures.counts w.ifft-then-truncated_size-half.ensures.counts)
       | else-truncated_size-half w ↦
-          counts_lower_back (c.args.size / 2) (transform_steps (c.args.size / 2)) c.args.steps.now c.ifft.new.steps c.step_pairs.new.steps
-          c.ifft.ensures.counts
-          (subst (λ (x : Steps). CountsRows (c.args.size / 2) x c.step_pairs.new.steps) w.steps-is c.step_pairs.ensures.counts)
-    ])
+          subst (λ (x : Steps). CountsUpTo (n + n) 0 0 old x) (sym w.steps-is) (counts_within n (n + n) old low (omega arith) c.ifft.ensures.counts)
+    ] in
+    counts_of_whole c.args.size c.args.skew_delta (n + n + half) old new large c.requires.power c.requires.points (omega arith)
+    (counts_then (n + n) half old both new most (counts_rows half both new c.step_pairs.ensures.counts))
 
 pub returns-after-truncated_size-half-clause-others :
     goal.returns-after-truncated_size-half-clause-others
