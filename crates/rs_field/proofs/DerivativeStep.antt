@@ -9,7 +9,8 @@ use Rattle.rs_field.specs.Derivative.{IsInBasis, IsDerivativeAdded}
 use Rattle.rs_field.specs.View.{cell, word}
 use Rattle.rs_field.specs.declared.engine.shards.ShardsRefMut.{ShardsRefMut}
 use Rattle.rs_field.proofs.Product.{product_zero}
-use Rattle.rs_field.proofs.Roots.{WordsOneByOne, words_from, value_lt, value-nil, same_from_values}
+use Rattle.rs_field.proofs.Roots.{WordsOneByOne, words_from, value_lt, value-nil}
+use Rattle.rs_field.proofs.Values.{same_from_values}
 use Rattle.rs_field.proofs.Factors.{times, points, all_words}
 use Rattle.rs_field.proofs.Combination.{forward-same, forward-xor, forward-half}
 use Rattle.rs_field.proofs.Coefficients.{joined, length-joined, words_joined, value-joined, coefficients}

@@ -7,6 +7,7 @@ pub mod Power
 pub mod Tables
 pub mod Subspace
 pub mod Roots
+pub mod Values
 pub mod Columns
 pub mod Given
 pub mod Unique

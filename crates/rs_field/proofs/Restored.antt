@@ -8,7 +8,8 @@ use Rattle.rs_field.specs.Transform.{forward}
 use Rattle.rs_field.specs.Locator.{log_sum}
 use Rattle.rs_field.specs.Derivative.{IsInBasis, IsDerivativeAdded}
 use Rattle.rs_field.proofs.Product.{product_zero}
-use Rattle.rs_field.proofs.Roots.{WordsOneByOne, value-nil, value-cons, same_from_values}
+use Rattle.rs_field.proofs.Roots.{WordsOneByOne, value-nil, value-cons}
+use Rattle.rs_field.proofs.Values.{same_from_values}
 use Rattle.rs_field.proofs.Factors.{times, words_times, all_words}
 use Rattle.rs_field.proofs.Coefficients.{coefficients}
 use Rattle.rs_field.proofs.Derivative.{derivative-nil, derivative-cons}

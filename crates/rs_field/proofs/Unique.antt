@@ -11,7 +11,8 @@ use Rattle.rs_field.specs.Placement.{Placement, placement, low_placement, high_p
 use Rattle.rs_field.specs.Configuration.{Configuration}
 use Rattle.rs_field.specs.Code.{Codes, AreRecoveryWords, AreRecovery}
 use Rattle.rs_field.proofs.Search.{first_below_most}
-use Rattle.rs_field.proofs.Roots.{words_from, same_from_values}
+use Rattle.rs_field.proofs.Roots.{words_from}
+use Rattle.rs_field.proofs.Values.{same_from_values}
 use Rattle.rs_field.proofs.Columns.{shard_from_columns, columns-at}
 
 -- the power of a count is a count
