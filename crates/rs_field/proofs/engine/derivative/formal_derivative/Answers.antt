@@ -1,6 +1,6 @@
 -- The rows from row 0 on are all rows.
 use Rattle.rs_field.proofs.DerivativeStep.{derivative_all}
-use Rattle.rs_field.proofs.engine.utils.formal_derivative.Goals as goal
+use Rattle.rs_field.proofs.engine.derivative.formal_derivative.Goals as goal
 
 pub returns-clause-derivative : goal.returns-clause-derivative
 returns-clause-derivative c k s hk hs =

@@ -3,10 +3,11 @@ use Rattle.std.proofs.Common.{◌+◌, ◌/◌, arith, inl, inr}
 use Rattle.rs_field.specs.View.{word}
 use Rattle.rs_field.specs.Bounds.{transform_steps}
 use Rattle.rs_field.proofs.Halves.{half_power, two_halves}
-use Rattle.rs_field.proofs.Recursion.{fits_kept, counts_of_whole}
-use Rattle.rs_field.proofs.DerivativeStep.{derivative_one, derivative_rows, counts_around}
-use Rattle.rs_field.proofs.RowOffsets.{outside_cell, outside_both}
-use Rattle.rs_field.proofs.engine.utils.+derivative_step.Goals as goal
+use Rattle.rs_field.proofs.Recursion.{fits_kept}
+use Rattle.rs_field.proofs.Counting.{counts_rows, counts_then, counts_of_whole}
+use Rattle.rs_field.proofs.DerivativeStep.{derivative_one, derivative_rows}
+use Rattle.rs_field.proofs.RowOffsets.{outside_cell}
+use Rattle.rs_field.proofs.engine.derivative.+derivative_step.Goals as goal
 
 pub derivative_step-requires : goal.derivative_step-requires
 derivative_step-requires t c =
@@ -43,9 +44,15 @@ returns-then-size-gt1-clause-derivative t c k s hk hs =
 
 pub returns-then-size-gt1-clause-counts : goal.returns-then-size-gt1-clause-counts
 returns-then-size-gt1-clause-counts t c =
-    counts_of_whole c.args.size 0 c.args.steps.now c.derivative_step-then-size-gt1.new.steps c.if-size-gt1.true c.requires.power (omega arith)
-    (counts_around (c.args.size / 2) (transform_steps (c.args.size / 2)) c.args.steps.now c.derivative_step.new.steps c.xor_within.new.steps c.derivative_step-then-size-gt1.new.steps
-    c.derivative_step.ensures.counts c.xor_within.ensures.counts c.derivative_step-then-size-gt1.ensures.counts)
+    let half = c.args.size / 2 in
+    let n = transform_steps half in
+    let old = c.args.steps.now in
+    let low = c.derivative_step.new.steps in
+    let sums = c.xor_within.new.steps in
+    let high = c.derivative_step-then-size-gt1.new.steps in
+    counts_of_whole c.args.size 0 (n + half + n) old high c.if-size-gt1.true c.requires.power (omega arith) (omega arith)
+    (counts_then (n + half) n old sums high (counts_then n half old low sums c.derivative_step.ensures.counts (counts_rows half low sums c.xor_within.ensures.counts))
+    c.derivative_step-then-size-gt1.ensures.counts)
 
 pub returns-else-size-gt1-clause-derivative : goal.returns-else-size-gt1-clause-derivative
 returns-else-size-gt1-clause-derivative t c k s hk hs =
