@@ -10,7 +10,7 @@ use Rattle.rs_field.specs.Subspace.{product_below, subspace, basis}
 use Rattle.rs_field.specs.Transform.{sum_below, forward}
 use Rattle.rs_field.proofs.Product.{zero_product}
 use Rattle.rs_field.proofs.Total.{product-comm, product-assoc}
-use Rattle.rs_field.proofs.Roots.{AreWords, value-nil}
+use Rattle.rs_field.proofs.Roots.{WordsOneByOne, value-nil}
 use Rattle.rs_field.proofs.Subspace.{product_below-same}
 use Rattle.rs_field.proofs.Factors.{add, points, times, value_add, value-times, length-add, length-times, words_add, words_times, all_words}
 use Rattle.rs_field.proofs.Combination.{sum_below-suc, sum_below-zero, sum_below-add, sum_below-same, sum_below-product, basis-half, forward_is, lower_half, upper_half}
@@ -163,7 +163,7 @@ subspace_is e x = product_below-same (2 ^ e) (λ i. bit_xor x (0 + i)) (λ y. bi
 -- a polynomial of n coefficients with the values of a sum of n terms
 record IsSum (n : ℕ) (f : ℕ → ℕ) (p : List ℕ) : Type 0 where
   size : length p ≡ n
-  words : AreWords p
+  words : WordsOneByOne p
   at : (x : ℕ) → value p x ≡ forward n 0 f x
 
 sum_none : (f : ℕ → ℕ) → IsSum 0 f []

@@ -20,7 +20,7 @@ use rs_field::engine::layout::row_len;
 use rs_field::engine::locator::locator_at;
 use rs_field::engine::rows::{clear_rows, mul_row};
 use rs_field::engine::tables::{Log, get_exp_log};
-use rs_field::engine::utils::formal_derivative;
+use rs_field::engine::derivative::formal_derivative;
 use rs_field::engine::{Engine, GF_MODULUS, GF_ORDER, GfElement, ShardsRefMut, Steps};
 
 // What multiplies the rows: which points are erased, which rows hold given shards, and the logarithms.
