@@ -1,6 +1,6 @@
 -- Sums of basis polynomials: how one of 2n terms is two of n terms, and what it is on a block of points.
-use Rattle.std.proofs.Common.{◌≡◌, ℕ, zero, suc, ◌+◌, ◌-◌, ◌*◌, ◌/◌, ◌%◌, ◌^◌, ◌<◌, ◌≤◌, ◌≢◌, cond, eqb, bit_xor, refl, sym, ap, ap₂, ◌∙◌, inl, inr, arith, one-mul, zero-add, add-zero, add-suc, add_assoc, pow-suc, pow-add, pow_mono}
-use Rattle.std.proofs.Math.Nat.{div-eq_of_lt, mul-add-div_right, zero-div}
+use Rattle.std.proofs.Common.{◌≡◌, ℕ, zero, suc, ◌+◌, ◌-◌, ◌*◌, ◌/◌, ◌%◌, ◌^◌, ◌<◌, ◌≤◌, ◌≢◌, cond, eqb, bit_xor, refl, sym, ap, ap₂, ◌∙◌, inl, inr, arith, one-mul, add-zero, add-suc, add_assoc, pow-suc, pow-add, pow_mono}
+use Rattle.std.proofs.Math.Nat.{div-eq_of_lt, mul-add-div_right, zero-div, two-pow-succ}
 use Rattle.std.specs.Int.Bits.{xor_comm, xor_assoc, xor_zero_r, xor_lt, xor_shifted}
 use Rattle.std.proofs.lemmas.Bool.{cases_eq, cases_lt}
 use Rattle.std.proofs.lemmas.Nat.{pow_pos, div-mul-add, div-add-mod'}
@@ -9,7 +9,7 @@ use Rattle.rs_field.specs.Subspace.{product_below, subspace, basis}
 use Rattle.rs_field.specs.Transform.{sum_below, forward}
 use Rattle.rs_field.proofs.Linear.{xor_swap}
 use Rattle.rs_field.proofs.Product.{product_lt, product_one, zero_product, product_xor_left, product_xor_right}
-use Rattle.rs_field.proofs.Total.{product-comm, product-assoc}
+use Rattle.rs_field.proofs.Total.{product-comm, product-assoc, product-right_comm}
 use Rattle.rs_field.proofs.Subspace.{product_below_lt, product_below-same, product_below-suc, product_below-zero, subspace_shift}
 
 -- ---- sums
@@ -174,23 +174,17 @@ forward-xor n shift f g i =
     (λ q h. product_xor_left (f q) (g q) (basis q (shift + i)))
     ∙ sum_below-xor n (λ q. product (f q) (basis q (shift + i))) (λ q. product (g q) (basis q (shift + i)))
 
-turned : (a b c : ℕ) → product (product a b) c ≡ product (product a c) b
-turned a b c = product-assoc a b c ∙ ap (product a) (product-comm b c) ∙ sym (product-assoc a c b)
-
 pub forward-product : (n shift : ℕ) (f : ℕ → ℕ) (c i : ℕ) → forward n shift (λ q. product (f q) c) i ≡ product (forward n shift f i) c
 unfolding forward
 forward-product n shift f c i =
     sum_below-same n (λ q. product (product (f q) c) (basis q (shift + i))) (λ q. product (product (f q) (basis q (shift + i))) c)
-    (λ q h. turned (f q) c (basis q (shift + i)))
+    (λ q h. product-right_comm (f q) c (basis q (shift + i)))
     ∙ sum_below-product n (λ q. product (f q) (basis q (shift + i))) c
 
 -- only the point counts
 pub forward-moved : (n shift more : ℕ) (f : ℕ → ℕ) (i : ℕ) → forward n (shift + more) f i ≡ forward n shift f (more + i)
 unfolding forward
 forward-moved n shift more f i = ap (λ x. sum_below n (λ q. product (f q) (basis q x))) (add_assoc shift more i)
-
-pub forward-origin : (n shift : ℕ) (f : ℕ → ℕ) (i : ℕ) → forward n shift f i ≡ forward n 0 f (shift + i)
-forward-origin n shift f i = ap (λ s. forward n s f i) (sym (zero-add shift)) ∙ forward-moved n 0 shift f i
 
 -- of one word the transform is that word
 pub forward-one : (shift : ℕ) (f : ℕ → ℕ) (i : ℕ) → f 0 < 2 ^ 16 → forward 1 shift f i ≡ f 0
@@ -199,9 +193,6 @@ forward-one shift f i word =
     ∙ ap₂ bit_xor (sum_below-zero 0 (λ q. product (f q) (basis q (shift + i))) (λ q h. let no : ⊥ = omega arith in absurd no))
     (ap (product (f 0)) (basis-zero (shift + i)) ∙ product_one (f 0) word)
 
-double : (e : ℕ) → 2 ^ suc e ≡ 2 ^ e + 2 ^ e
-double e = omega (arith, pow-suc 2 e)
-
 -- a sum of 2 ^ (e + 1) terms is one of its first half, and the subspace polynomial e times one of its second half
 pub forward-half : (e shift : ℕ) (f : ℕ → ℕ) (i : ℕ) → e < 16
     → forward (2 ^ suc e) shift f i ≡ bit_xor (forward (2 ^ e) shift f i) (product (forward (2 ^ e) shift (λ q. f (2 ^ e + q)) i) (subspace e (shift + i)))
@@ -209,7 +200,7 @@ forward-half e shift f i he =
     let x : ℕ = shift + i in
     let s : ℕ = subspace e x in
     forward_is (2 ^ suc e) shift f i
-    ∙ ap (λ n. sum_below n (λ q. product (f q) (basis q x))) (double e)
+    ∙ ap (λ n. sum_below n (λ q. product (f q) (basis q x))) (two-pow-succ e)
     ∙ sum_below-add (2 ^ e) (2 ^ e) (λ q. product (f q) (basis q x))
     ∙ ap₂ bit_xor (sym (forward_is (2 ^ e) shift f i))
     (sum_below-same (2 ^ e) (λ q. product (f (2 ^ e + q)) (basis (2 ^ e + q) x)) (λ q. product (product (f (2 ^ e + q)) (basis q x)) s)
@@ -230,7 +221,7 @@ even_block e shift h =
 -- on the first half of the block the subspace polynomial e is what it is at the block's start
 pub lower_factor : (e shift i : ℕ) → e < 16 → shift % 2 ^ suc e ≡ 0 → shift + 2 ^ suc e ≤ 65536 → i < 2 ^ e → subspace e (shift + i) ≡ subspace e shift
 lower_factor e shift i he whole fits hi =
-    let d : 2 ^ suc e ≡ 2 ^ e + 2 ^ e = double e in
+    let d : 2 ^ suc e ≡ 2 ^ e + 2 ^ e = two-pow-succ e in
     let b = even_block e shift whole in
     subspace_shift e (shift + i) (omega arith) (omega arith)
     ∙ ap (λ v. (v + i) / 2 ^ e) b.1 ∙ div-mul-add (b.0 * 2) (2 ^ e) i hi
@@ -239,7 +230,7 @@ lower_factor e shift i he whole fits hi =
 -- and on the second half that XOR 1
 pub upper_factor : (e shift i : ℕ) → e < 16 → shift % 2 ^ suc e ≡ 0 → shift + 2 ^ suc e ≤ 65536 → i < 2 ^ e → subspace e (shift + (2 ^ e + i)) ≡ bit_xor (subspace e shift) 1
 upper_factor e shift i he whole fits hi =
-    let d : 2 ^ suc e ≡ 2 ^ e + 2 ^ e = double e in
+    let d : 2 ^ suc e ≡ 2 ^ e + 2 ^ e = two-pow-succ e in
     let b = even_block e shift whole in
     subspace_shift e (shift + (2 ^ e + i)) (omega arith) (omega arith)
     ∙ ap (λ v. (v + (2 ^ e + i)) / 2 ^ e) b.1 ∙ ap (λ v. v / 2 ^ e) (next (b.0 * 2) (2 ^ e) i) ∙ div-mul-add (b.0 * 2 + 1) (2 ^ e) i hi

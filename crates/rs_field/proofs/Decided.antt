@@ -2,7 +2,7 @@
 use Rattle.std.proofs.Common.{◌≡◌, ℕ, ◌+◌, ◌-◌, ◌/◌, ◌^◌, ◌<◌, ◌≤◌, List, [], ◌∷◌, Bool, true, false, ◌&&◌, cond, length, refl, sym, ap, ◌∙◌, arith, pow_mono}
 use Rattle.std.specs.Prelude.{All, not, slice_index, slice_index_or, nat_eq, nat_lt, nat_le}
 use Rattle.std.specs.List.{list_all}
-use Rattle.std.proofs.lemmas.Bool.{eqb-true, ltb-true, leb-true}
+use Rattle.std.proofs.lemmas.Bool.{and_parts, eqb-true, ltb-true, leb-true}
 use Rattle.std.proofs.lemmas.List.Elements.{All-nil, All-cons}
 use Rattle.rs_field.specs.Polynomial.{value}
 use Rattle.rs_field.specs.Column.{Shard, IsShard, AreShards, columns}
@@ -11,19 +11,15 @@ use Rattle.rs_field.specs.Placement.{Placement, placement, low_placement, high_p
 use Rattle.rs_field.specs.Configuration.{Configuration}
 use Rattle.rs_field.specs.Code.{Codes, AreRecoveryWords, AreRecovery}
 use Rattle.rs_field.proofs.Linear.{passes_below, from_passes_below}
-use Rattle.rs_field.proofs.Unique.{words_from}
-use Rattle.rs_field.proofs.Times.{times, points, high_codes, value-inside}
-
--- both tests pass
-both : (a b : Bool) → (a && b) ≡ true → (a ≡ true) × (b ≡ true)
-both true b h = (refl, h)
-both false b h = cc
+use Rattle.rs_field.proofs.Roots.{words_from}
+use Rattle.rs_field.proofs.Factors.{times, points}
+use Rattle.rs_field.proofs.HighCodes.{high_codes, value-inside}
 
 -- each element passes, so each has the property
 all_from : {A : Type 0} (p : A → Bool) (P : A → Type 0) → ((x : A) → p x ≡ true → P x) → (xs : List A) → list_all p xs ≡ true → All P xs
 all_from p P sound [] h = All-nil P
 all_from p P sound (x ∷ xs) h =
-    let parts : (p x ≡ true) × (list_all p xs ≡ true) = both (p x) (list_all p xs) h in
+    let parts : (p x ≡ true) × (list_all p xs ≡ true) = and_parts (p x) (list_all p xs) h in
     All-cons P x xs (sound x parts.0) (all_from p P sound xs parts.1)
 
 -- each entry is below a bound
@@ -41,13 +37,13 @@ are_shards count size shards = nat_eq (length shards) count && list_all (is_shar
 -- what passes `is_shard` is a shard
 shard_from : (size : ℕ) (shard : Shard) → is_shard size shard ≡ true → IsShard size shard
 shard_from size shard h =
-    let parts : (nat_eq (length shard) size ≡ true) × (all_below 256 shard ≡ true) = both _ _ h in
+    let parts : (nat_eq (length shard) size ≡ true) × (all_below 256 shard ≡ true) = and_parts _ _ h in
     record { length_is = eqb-true _ _ parts.0; bytes = all_from (λ b. nat_lt b 256) (λ b. b < 256) (λ b. ltb-true b 256) shard parts.1 }
 
 -- what passes `are_shards` are shards
 pub shards_from : (count size : ℕ) (shards : List Shard) → are_shards count size shards ≡ true → AreShards count size shards
 shards_from count size shards h =
-    let parts : (nat_eq (length shards) count ≡ true) × (list_all (is_shard size) shards ≡ true) = both _ _ h in
+    let parts : (nat_eq (length shards) count ≡ true) × (list_all (is_shard size) shards ≡ true) = and_parts _ _ h in
     record { length_is = eqb-true _ _ parts.0; each = all_from (is_shard size) (IsShard size) (shard_from size) shards parts.1 }
 
 -- two functions are equal at the numbers below n
@@ -73,10 +69,10 @@ codes rate k r words polynomial = codes_at (placement rate k r) k words polynomi
 -- what passes `codes` codes the words
 pub codes_from : (rate : Rate) (k r : ℕ) (words polynomial : List ℕ) → codes rate k r words polynomial ≡ true → Codes rate k r words polynomial
 codes_from rate k r words P h =
-    let one : (nat_eq (length P) (placement rate k r).degree_bound ≡ true) × _ = both _ _ h in
-    let two : (all_below 65536 P ≡ true) × _ = both _ _ one.1 in
+    let one : (nat_eq (length P) (placement rate k r).degree_bound ≡ true) × _ = and_parts _ _ h in
+    let two : (all_below 65536 P ≡ true) × _ = and_parts _ _ one.1 in
     let three : (same_below k (λ j. value P ((placement rate k r).originals_from + j)) (slice_index words) ≡ true)
-    × (same_below ((placement rate k r).zeros_to - (placement rate k r).zeros_from) (λ x. value P ((placement rate k r).zeros_from + x)) (λ x. 0) ≡ true) = both _ _ two.1 in
+    × (same_below ((placement rate k r).zeros_to - (placement rate k r).zeros_from) (λ x. value P ((placement rate k r).zeros_from + x)) (λ x. 0) ≡ true) = and_parts _ _ two.1 in
     record {
       degree = eqb-true _ _ one.0;
       coefficients = all_from (λ w. nat_lt w 65536) (λ w. w < 65536) (λ w. ltb-true w 65536) P two.0;
@@ -104,11 +100,11 @@ pub recovery_from : (c : Configuration) (message recovery : List Shard) (polynom
 recovery_from c message recovery polynomials h =
     let P : ℕ → List ℕ = λ j. slice_index_or polynomials j [] in
     let test : ℕ → Bool = λ j. recovers_words c.rate c.original_count c.recovery_count (columns j message) (columns j recovery) (P j) in
-    let parts : (are_shards c.recovery_count c.shard_bytes recovery ≡ true) × (passes_below (c.shard_bytes / 2) test ≡ true) = both _ _ h in
+    let parts : (are_shards c.recovery_count c.shard_bytes recovery ≡ true) × (passes_below (c.shard_bytes / 2) test ≡ true) = and_parts _ _ h in
     record {
       shards = shards_from c.recovery_count c.shard_bytes recovery parts.0;
       words = λ j below.
-          let column : (codes c.rate c.original_count c.recovery_count (columns j message) (P j) ≡ true) × _ = both _ _ (from_passes_below (c.shard_bytes / 2) test parts.1 j below) in (
+          let column : (codes c.rate c.original_count c.recovery_count (columns j message) (P j) ≡ true) × _ = and_parts _ _ (from_passes_below (c.shard_bytes / 2) test parts.1 j below) in (
             P j,
             codes_from c.rate c.original_count c.recovery_count (columns j message) (P j) column.0,
             same_from c.recovery_count (slice_index (columns j recovery)) (λ i. value (P j) ((placement c.rate c.original_count c.recovery_count).recovery_from + i)) column.1,
@@ -147,13 +143,13 @@ words_high : (d : ℕ) (rate : Rate) (k r : ℕ) (words recovery P : List ℕ) �
 unfolding high_placement
 words_high d rate k r words recovery P lie join =
     let m = next_power r in
-    let a : (not (is_low rate k r) ≡ true) × _ = both _ _ lie in
-    let b : (nat_le (m + k) (2 ^ d) ≡ true) × _ = both _ _ a.1 in
-    let c : (nat_le d 16 ≡ true) × (nat_le r (2 ^ d) ≡ true) = both _ _ b.1 in
-    let e : (nat_eq (length P) (2 ^ d - m) ≡ true) × _ = both _ _ join in
-    let f : (all_below 65536 P ≡ true) × _ = both _ _ e.1 in
-    let g : (same_below k (λ j. value P (m + j)) (slice_index words) ≡ true) × _ = both _ _ f.1 in
-    let h : (same_below (2 ^ d - (m + k)) (λ x. value P (m + k + x)) (λ x. 0) ≡ true) × (same_below r (slice_index recovery) (value P) ≡ true) = both _ _ g.1 in
+    let a : (not (is_low rate k r) ≡ true) × _ = and_parts _ _ lie in
+    let b : (nat_le (m + k) (2 ^ d) ≡ true) × _ = and_parts _ _ a.1 in
+    let c : (nat_le d 16 ≡ true) × (nat_le r (2 ^ d) ≡ true) = and_parts _ _ b.1 in
+    let e : (nat_eq (length P) (2 ^ d - m) ≡ true) × _ = and_parts _ _ join in
+    let f : (all_below 65536 P ≡ true) × _ = and_parts _ _ e.1 in
+    let g : (same_below k (λ j. value P (m + j)) (slice_index words) ≡ true) × _ = and_parts _ _ f.1 in
+    let h : (same_below (2 ^ d - (m + k)) (λ x. value P (m + k + x)) (λ x. 0) ≡ true) × (same_below r (slice_index recovery) (value P) ≡ true) = and_parts _ _ g.1 in
     let high : placement rate k r ≡ high_placement k r = placed_high rate k r (not_true (is_low rate k r) a.0) in
     let depth : d ≤ 16 = leb-true d 16 c.0 in
     let top : 2 ^ d ≤ 2 ^ 16 = pow_mono {i = d} depth in
@@ -175,8 +171,8 @@ pub recovery_from_high : (d : ℕ) (c : Configuration) (message recovery : List 
 recovery_from_high d c message recovery polynomials h =
     let P : ℕ → List ℕ = λ j. slice_index_or polynomials j [] in
     let test : ℕ → Bool = λ j. joins d c.original_count c.recovery_count (next_power c.recovery_count) (columns j message) (columns j recovery) (P j) in
-    let a : (lie_below d c.rate c.original_count c.recovery_count ≡ true) × _ = both _ _ h in
-    let b : (are_shards c.recovery_count c.shard_bytes recovery ≡ true) × (passes_below (c.shard_bytes / 2) test ≡ true) = both _ _ a.1 in
+    let a : (lie_below d c.rate c.original_count c.recovery_count ≡ true) × _ = and_parts _ _ h in
+    let b : (are_shards c.recovery_count c.shard_bytes recovery ≡ true) × (passes_below (c.shard_bytes / 2) test ≡ true) = and_parts _ _ a.1 in
     record {
       shards = shards_from c.recovery_count c.shard_bytes recovery b.0;
       words = λ j below.

@@ -7,8 +7,8 @@ use Rattle.rs_field.specs.Polynomial.{value, derivative_value}
 use Rattle.rs_field.specs.Subspace.{product_below, subspace}
 use Rattle.rs_field.proofs.Linear.{xor_swap}
 use Rattle.rs_field.proofs.Product.{product_lt, product_zero, product_one, one_product, product_xor_left, product_xor_right}
-use Rattle.rs_field.proofs.Total.{product-comm, product-assoc}
-use Rattle.rs_field.proofs.Roots.{AreWords, value_lt}
+use Rattle.rs_field.proofs.Total.{product-comm, product-left_comm}
+use Rattle.rs_field.proofs.Roots.{WordsOneByOne, value_lt}
 use Rattle.rs_field.proofs.Subspace.{product_below_lt, product_below-same, product_below-suc, product_below-zero, product_below-add, subspace_shift}
 use Rattle.rs_field.proofs.Factors.{add, scale, with_root, points, times, value_add, value_scale, value-times}
 use Rattle.rs_field.proofs.RingSolver.{plus, v, times as both, by_algebra}
@@ -21,13 +21,10 @@ pub derivative-cons : (c : ℕ) (cs : List ℕ) (x : ℕ) → derivative_value (
 unfolding derivative_value
 derivative-cons c cs x = refl
 
-pub derivative_lt : (cs : List ℕ) (x : ℕ) → AreWords cs → derivative_value cs x < 2 ^ 16
+pub derivative_lt : (cs : List ℕ) (x : ℕ) → WordsOneByOne cs → derivative_value cs x < 2 ^ 16
 unfolding derivative_value
 derivative_lt [] x h = pow_pos 16
 derivative_lt (c ∷ cs) x h = xor_lt 16 (value cs x) (product x (derivative_value cs x)) (value_lt cs x h.1) (product_lt x (derivative_value cs x))
-
-outer : (x y z : ℕ) → product x (product y z) ≡ product y (product x z)
-outer x y z = sym (product-assoc x y z) ∙ ap (λ (w : ℕ). product w z) (product-comm x y) ∙ product-assoc y x z
 
 -- of a sum it is the sum
 pub derivative_add : (p q : List ℕ) (x : ℕ) → derivative_value (add p q) x ≡ bit_xor (derivative_value p x) (derivative_value q x)
@@ -43,7 +40,7 @@ pub derivative_scale : (c : ℕ) (p : List ℕ) (x : ℕ) → derivative_value (
 unfolding derivative_value scale
 derivative_scale c [] x = sym (product_zero c)
 derivative_scale c (a ∷ p) x =
-    ap₂ bit_xor (value_scale c p x) (ap (product x) (derivative_scale c p x) ∙ outer x c (derivative_value p x))
+    ap₂ bit_xor (value_scale c p x) (ap (product x) (derivative_scale c p x) ∙ product-left_comm x c (derivative_value p x))
     ∙ sym (product_xor_right c (value p x) (product x (derivative_value p x)))
 
 -- one more factor x + a
@@ -100,7 +97,7 @@ rule s f g p d hs hf hg hp hd =
     (hs, (hf, (hg, (hp, (hd, tt))))) refl
 
 -- the derivative of a polynomial times the factors
-derivative-times : (a n : ℕ) (p : List ℕ) → AreWords p → (x : ℕ) → x < 2 ^ 16 → a + n ≤ 2 ^ 16
+derivative-times : (a n : ℕ) (p : List ℕ) → WordsOneByOne p → (x : ℕ) → x < 2 ^ 16 → a + n ≤ 2 ^ 16
     → derivative_value (times (points a n) p) x ≡ bit_xor (product (factors a n x) (derivative_value p x)) (product (slope a n x) (value p x))
 unfolding times points
 derivative-times a zero p w x hx hn =
@@ -203,7 +200,7 @@ slope_subspace (suc e) x he hx =
     ∙ xor_comm (bit_xor (x / 2 ^ e) 1) (x / 2 ^ e) ∙ sym (xor_assoc (x / 2 ^ e) (x / 2 ^ e) 1) ∙ ap (λ k. bit_xor k 1) (xor_self (x / 2 ^ e))
 
 -- a polynomial times the subspace polynomial e: of the two terms of the product rule the second is the polynomial itself
-pub derivative-subspace : (e : ℕ) (p : List ℕ) → e < 16 → AreWords p → (x : ℕ) → x < 2 ^ 16
+pub derivative-subspace : (e : ℕ) (p : List ℕ) → e < 16 → WordsOneByOne p → (x : ℕ) → x < 2 ^ 16
     → derivative_value (times (points 0 (2 ^ e)) p) x ≡ bit_xor (product (subspace e x) (derivative_value p x)) (value p x)
 derivative-subspace e p he w x hx =
     let bit : 2 ^ e < 2 ^ 16 = pow_below e 16 he in

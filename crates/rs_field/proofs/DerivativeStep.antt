@@ -1,6 +1,5 @@
 -- The derivative step by halves: of the polynomial with given coefficients in the subspace basis, for one symbol of the rows.
-use Rattle.std.proofs.Common.{◌≡◌, ℕ, suc, ◌+◌, ◌*◌, ◌/◌, ◌^◌, ◌<◌, ◌≤◌, List, [], ◌∷◌, length, bit_xor, refl, sym, ap, ap₂, ◌∙◌, subst, arith, add_assoc, zero-add, pow_mono}
-use Rattle.std.specs.Prelude.{All}
+use Rattle.std.proofs.Common.{◌≡◌, ℕ, suc, ◌+◌, ◌/◌, ◌^◌, ◌<◌, ◌≤◌, List, [], ◌∷◌, length, bit_xor, refl, sym, ap, ap₂, ◌∙◌, subst, arith, add_assoc, zero-add, pow_mono}
 use Rattle.std.specs.Int.Bits.{xor_zero_r}
 use Rattle.rs_field.specs.Field.{product}
 use Rattle.rs_field.specs.Polynomial.{value, derivative_value}
@@ -8,11 +7,10 @@ use Rattle.rs_field.specs.Subspace.{subspace}
 use Rattle.rs_field.specs.Transform.{forward}
 use Rattle.rs_field.specs.Derivative.{IsInBasis, IsDerivativeAdded}
 use Rattle.rs_field.specs.View.{cell, word}
-use Rattle.rs_field.specs.Bounds.{CountsRows, CountsUpTo}
 use Rattle.rs_field.specs.declared.engine.shards.ShardsRefMut.{ShardsRefMut}
-use Rattle.rs_field.specs.declared.engine.steps.Steps.{Steps}
 use Rattle.rs_field.proofs.Product.{product_zero}
-use Rattle.rs_field.proofs.Roots.{AreWords, value_lt, value-nil, same_from_values}
+use Rattle.rs_field.proofs.Roots.{WordsOneByOne, words_from, value_lt, value-nil}
+use Rattle.rs_field.proofs.Values.{same_from_values}
 use Rattle.rs_field.proofs.Factors.{times, points, all_words}
 use Rattle.rs_field.proofs.Combination.{forward-same, forward-xor, forward-half}
 use Rattle.rs_field.proofs.Coefficients.{joined, length-joined, words_joined, value-joined, coefficients}
@@ -21,13 +19,8 @@ use Rattle.rs_field.proofs.Halves.{half_power, few_halves, subspace_lt}
 use Rattle.rs_field.proofs.Recursion.{word_same}
 use Rattle.rs_field.proofs.RingSolver.{plus, v, times as both, by_algebra}
 
--- words by entry are words one after another
-pub words_all : (p : List ℕ) → All (λ w. w < 65536) p → AreWords p
-words_all [] h = tt
-words_all (c ∷ cs) h = (h 0 0 (omega arith), words_all cs (λ k d hk. h (suc k) d (omega arith)))
-
 -- there is one such polynomial
-one_polynomial : (n : ℕ) (f : ℕ → ℕ) (p q : List ℕ) → n ≤ 65536 → length p ≡ n → length q ≡ n → AreWords p → AreWords q
+one_polynomial : (n : ℕ) (f : ℕ → ℕ) (p q : List ℕ) → n ≤ 65536 → length p ≡ n → length q ≡ n → WordsOneByOne p → WordsOneByOne q
     → IsInBasis n f p → ((x : ℕ) → value q x ≡ forward n 0 f x) → p ≡ q
 one_polynomial n f p q hn size_p size_q words_p words_q at_p at_q =
     same_from_values n p q size_p size_q words_p words_q (λ i. i) (λ i hi. omega arith) (λ i j hi hj e. e)
@@ -42,7 +35,7 @@ rule s l dl h dh hs hl hdl hh hdh =
     (plus (plus (v 1) (both (v 3) (v 0))) (plus (plus (both (v 0) (v 4)) (v 3)) (v 2)))
     (hs, (hl, (hdl, (hh, (hdh, tt))))) refl
 
-derivative-joined : (e : ℕ) (p q : List ℕ) → e < 16 → AreWords q → (x : ℕ) → x < 2 ^ 16
+derivative-joined : (e : ℕ) (p q : List ℕ) → e < 16 → WordsOneByOne q → (x : ℕ) → x < 2 ^ 16
     → derivative_value (joined e p q) x ≡ bit_xor (bit_xor (product (subspace e x) (derivative_value q x)) (value q x)) (derivative_value p x)
 unfolding joined
 derivative-joined e p q he words_q x hx =
@@ -59,7 +52,7 @@ derivative_halves e f a b g he of_low of_high first second p size words at x hx 
     let high = coefficients e (λ q. f (2 ^ e + q)) (omega arith) in
     let room : 2 ^ suc e ≤ 2 ^ 16 = pow_mono he in
     let is : p ≡ joined e low.0 high.0 =
-    one_polynomial (2 ^ suc e) f p (joined e low.0 high.0) room size (length-joined e low.0 high.0 low.1 high.1) (words_all p words)
+    one_polynomial (2 ^ suc e) f p (joined e low.0 high.0) room size (length-joined e low.0 high.0 low.1 high.1) (words_from p words)
     (words_joined e low.0 high.0 low.2 high.2) at (value-joined e f low.0 high.0 he high.2 low.3 high.3) in
     of_parts low.0 high.0 low.2 high.2 low.3 high.3
     (of_low low.0 low.1 (all_words low.0 low.2) (λ y hy. sym (low.3 y)) x hx)
@@ -70,7 +63,7 @@ derivative_halves e f a b g he of_low of_high first second p size words at x hx 
     (sym (derivative-joined e low.0 high.0 he high.2 x hx))
     ∙ sym (ap (λ (r : List ℕ). bit_xor (value r x) (derivative_value r x)) is)
   where
-    of_parts : (l h : List ℕ) → AreWords l → AreWords h
+    of_parts : (l h : List ℕ) → WordsOneByOne l → WordsOneByOne h
         → ((x : ℕ) → value l x ≡ forward (2 ^ e) 0 f x) → ((x : ℕ) → value h x ≡ forward (2 ^ e) 0 (λ q. f (2 ^ e + q)) x)
         → forward (2 ^ e) 0 a x ≡ bit_xor (value l x) (derivative_value l x)
         → forward (2 ^ e) 0 b x ≡ bit_xor (value h x) (derivative_value h x)
@@ -141,17 +134,6 @@ derivative_rows old low mid new k s pos size large power few of_low low_kept sum
         word_same new mid k s (pos + q) (pos + q) (new_kept q below) ∙ sums q below ∙ ap (bit_xor (word low k s (pos + q))) (old_high q below)
         ∙ ap (λ n. bit_xor (word low k s (pos + q)) (word old k s (pos + (n + q)))) h)
         (λ q hq. ap (λ n. word new k s (pos + (n + q))) (sym h) ∙ ap (word new k s) (sym (there q))))
-
--- the steps of both halves, and the sums between them
-pub counts_around : (half t : ℕ) (a b c d : Steps) → CountsUpTo t 0 0 a b → CountsRows half b c → CountsUpTo t 0 0 c d → CountsUpTo (half + 2 * t) 0 0 a d
-counts_around half t a b c d p (x, y, z) q = record {
-  row_steps_rise = omega arith;
-  pair_sums_rise = omega arith;
-  products_rise = omega arith;
-  row_steps_most = omega arith;
-  pair_sums_most = omega arith;
-  products_most = omega arith;
-}
 
 -- the rows from row 0 on
 pub derivative_all : (old new : ShardsRefMut) (k s n size : ℕ) → size ≡ n

@@ -7,8 +7,8 @@ use Rattle.rs_field.specs.Polynomial.{value}
 use Rattle.rs_field.specs.Subspace.{product_below}
 use Rattle.rs_field.proofs.Linear.{xor_swap}
 use Rattle.rs_field.proofs.Product.{product_lt, product_zero, one_product, product_xor_left, product_xor_right}
-use Rattle.rs_field.proofs.Total.{product-comm, product-assoc}
-use Rattle.rs_field.proofs.Roots.{AreWords, value_lt}
+use Rattle.rs_field.proofs.Total.{product-comm, product-assoc, product-left_comm}
+use Rattle.rs_field.proofs.Roots.{WordsOneByOne, value_lt}
 use Rattle.rs_field.proofs.Subspace.{product_below-suc, product_below-zero}
 
 -- the sum of two polynomials
@@ -36,9 +36,6 @@ unfoldable pub times : List ℕ → List ℕ → List ℕ
 times [] p = p
 times (a ∷ r) p = with_root a (times r p)
 
-outer : (x y z : ℕ) → product x (product y z) ≡ product y (product x z)
-outer x y z = sym (product-assoc x y z) ∙ ap (λ (w : ℕ). product w z) (product-comm x y) ∙ product-assoc y x z
-
 -- the value of a sum is the sum of the values
 pub value_add : (p q : List ℕ) (x : ℕ) → value (add p q) x ≡ bit_xor (value p x) (value q x)
 unfolding value add
@@ -52,7 +49,7 @@ pub value_scale : (c : ℕ) (p : List ℕ) (x : ℕ) → value (scale c p) x ≡
 unfolding value scale
 value_scale c [] x = sym (product_zero c)
 value_scale c (a ∷ p) x =
-    ap (bit_xor (product c a)) (ap (product x) (value_scale c p x) ∙ outer x c (value p x)) ∙ sym (product_xor_right c a (product x (value p x)))
+    ap (bit_xor (product c a)) (ap (product x) (value_scale c p x) ∙ product-left_comm x c (value p x)) ∙ sym (product_xor_right c a (product x (value p x)))
 
 -- a factor x + a multiplies the value
 pub value_with_root : (a : ℕ) (p : List ℕ) (x : ℕ) → value (with_root a p) x ≡ product (bit_xor x a) (value p x)
@@ -78,22 +75,22 @@ length-with_root a p =
     let same : length (scale a p) ≡ length p = length-scale a p in
     length-add (0 ∷ p) (scale a p) (let le : length (scale a p) ≤ suc (length p) = omega arith in le)
 
-pub words_add : (p q : List ℕ) → AreWords p → AreWords q → AreWords (add p q)
+pub words_add : (p q : List ℕ) → WordsOneByOne p → WordsOneByOne q → WordsOneByOne (add p q)
 unfolding add
 words_add [] q hp hq = hq
 words_add (a ∷ p) [] hp hq = hp
 words_add (a ∷ p) (b ∷ q) hp hq = (xor_lt 16 a b hp.0 hq.0, words_add p q hp.1 hq.1)
 
-pub words_scale : (c : ℕ) (p : List ℕ) → AreWords (scale c p)
+pub words_scale : (c : ℕ) (p : List ℕ) → WordsOneByOne (scale c p)
 unfolding scale
 words_scale c [] = tt
 words_scale c (a ∷ p) = (product_lt c a, words_scale c p)
 
-pub words_with_root : (a : ℕ) (p : List ℕ) → AreWords p → AreWords (with_root a p)
+pub words_with_root : (a : ℕ) (p : List ℕ) → WordsOneByOne p → WordsOneByOne (with_root a p)
 unfolding with_root
 words_with_root a p h = words_add (0 ∷ p) (scale a p) (omega arith, h) (words_scale a p)
 
-pub words_times : (r p : List ℕ) → AreWords p → AreWords (times r p)
+pub words_times : (r p : List ℕ) → WordsOneByOne p → WordsOneByOne (times r p)
 unfolding times
 words_times [] p h = h
 words_times (a ∷ r) p h = words_with_root a (times r p) (words_times r p h)
@@ -104,7 +101,7 @@ length-times a zero p = omega arith
 length-times a (suc n) p = let e : length (times (points a n) p) ≡ n + length p = length-times a n p in length-with_root (a + n) (times (points a n) p) ∙ omega arith
 
 -- its value is the polynomial's times the product of the factors
-pub value-times : (a n : ℕ) (p : List ℕ) → AreWords p → (x : ℕ) → value (times (points a n) p) x ≡ product (product_below n (λ i. bit_xor x (a + i))) (value p x)
+pub value-times : (a n : ℕ) (p : List ℕ) → WordsOneByOne p → (x : ℕ) → value (times (points a n) p) x ≡ product (product_below n (λ i. bit_xor x (a + i))) (value p x)
 unfolding times points
 value-times a zero p w x = sym (ap (λ v. product v (value p x)) (product_below-zero (λ i. bit_xor x (a + i))) ∙ one_product (value p x) (value_lt p x w))
 value-times a (suc n) p w x =
@@ -113,7 +110,7 @@ value-times a (suc n) p w x =
     ∙ ap (λ v. product v (value p x)) (product-comm (bit_xor x (a + n)) (product_below n (λ i. bit_xor x (a + i))) ∙ sym (product_below-suc n (λ i. bit_xor x (a + i))))
 
 -- words one after another are words by entry
-pub all_words : (p : List ℕ) → AreWords p → All (λ w. w < 65536) p
+pub all_words : (p : List ℕ) → WordsOneByOne p → All (λ w. w < 65536) p
 all_words [] h k d hk = absurd (let no : ⊥ = omega arith in no)
 all_words (c ∷ cs) h zero d hk = h.0
 all_words (c ∷ cs) h (suc k) d hk = all_words cs h.1 k d (omega arith)

@@ -1,15 +1,15 @@
 -- How a transform goes by halves: the sizes, the factor in the table, and the row steps.
-use Rattle.std.proofs.Common.{◌≡◌, ℕ, zero, suc, ◌+◌, ◌-◌, ◌*◌, ◌/◌, ◌%◌, ◌^◌, ◌<◌, ◌≤◌, ◌≢◌, Bool, true, false, cond, eqb, List, get_or, bit_xor, refl, sym, ap, ap₂, ◌∙◌, inl, inr, arith, pow-suc, pow_mono, ne_eqb}
+use Rattle.std.proofs.Common.{◌≡◌, ℕ, zero, suc, ◌+◌, ◌-◌, ◌*◌, ◌/◌, ◌%◌, ◌^◌, ◌<◌, ◌≤◌, ◌≢◌, Bool, false, cond, eqb, List, get_or, bit_xor, refl, sym, ap, ap₂, ◌∙◌, inl, inr, arith, pow-suc, pow_mono, ne_eqb}
 use Rattle.std.specs.Prelude.{nat_le}
 use Rattle.std.proofs.Math.Nat.{mul-le-mul_right, mul-mod_left}
 use Rattle.std.specs.Int.Bits.{xor_assoc, xor_self, xor_zero_r}
 use Rattle.std.proofs.lemmas.Bool.{cases_eq, cases_lt}
 use Rattle.std.proofs.lemmas.Nat.{pow_pos, pow_below, div-add-mod'}
-use Rattle.rs_field.specs.Search.{first_below}
 use Rattle.rs_field.specs.Field.{product, power, log}
 use Rattle.rs_field.specs.Subspace.{subspace}
 use Rattle.rs_field.specs.Tables.{IsSkew, log_or_mark, scaled}
 use Rattle.rs_field.specs.Bounds.{log2, transform_steps}
+use Rattle.rs_field.proofs.Search.{first_below-is}
 use Rattle.rs_field.proofs.Product.{product_zero}
 use Rattle.rs_field.proofs.Power.{log_lt, power-log}
 use Rattle.rs_field.proofs.Subspace.{product_below_lt}
@@ -51,11 +51,11 @@ shift_half size e shift is whole =
     multiple : (u n x : ℕ) → x ≡ u * n → 0 < n → x % n ≡ 0
     multiple u n x e pos = ap (λ v. v % n) e ∙ mul-mod_left u n
 
-mark_zero : log_or_mark 0 ≡ 65535
+pub mark_zero : log_or_mark 0 ≡ 65535
 unfolding log_or_mark
 mark_zero = refl
 
-mark_word : (z : ℕ) → eqb z 0 ≡ false → log_or_mark z ≡ log z
+pub mark_word : (z : ℕ) → eqb z 0 ≡ false → log_or_mark z ≡ log z
 unfolding log_or_mark
 mark_word z e = ap (λ (b : Bool). cond b 65535 (log z)) e
 
@@ -99,18 +99,10 @@ xor_undo a b = xor_assoc a b b ∙ ap (bit_xor a) (xor_self b) ∙ xor_zero_r a
 
 -- ---- row steps
 
-first_below-is : (n k : ℕ) (p : ℕ → Bool) → k < n → p k ≡ true → ((j : ℕ) → j < k → p j ≡ false) → first_below n p ≡ k
-unfolding first_below
-first_below-is zero k p hk passes fails = absurd (omega arith)
-first_below-is (suc n) zero p hk passes fails = ap (λ (b : Bool). cond b zero (suc (first_below n (λ j. p (suc j))))) passes
-first_below-is (suc n) (suc k) p hk passes fails =
-    ap (λ (b : Bool). cond b zero (suc (first_below n (λ j. p (suc j))))) (fails zero (omega arith))
-    ∙ ap suc (first_below-is n k (λ j. p (suc j)) (omega arith) passes (λ j h. fails (suc j) (omega arith)))
-
 log2-power : (e : ℕ) → e < 64 → log2 (2 ^ e) ≡ e
 unfolding log2
 log2-power e he =
-    first_below-is 64 e (λ d. nat_le (2 ^ e) (2 ^ d)) he (grind arith) (λ j h. let small : 2 ^ j < 2 ^ e = pow_below j e h in grind arith)
+    first_below-is 64 (λ d. nat_le (2 ^ e) (2 ^ d)) e he (grind arith) (λ j h. let small : 2 ^ j < 2 ^ e = pow_below j e h in grind arith)
 
 -- the butterflies between the halves and the steps of both halves are no more than those of the whole
 pub steps_half : (size e half : ℕ) → e < 16 → size ≡ 2 ^ suc e → half ≡ 2 ^ e → half + 2 * transform_steps half ≤ transform_steps size

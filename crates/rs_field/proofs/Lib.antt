@@ -1,3 +1,4 @@
+pub mod Search
 pub mod Linear
 pub mod Product
 pub mod Inverse
@@ -6,14 +7,14 @@ pub mod Power
 pub mod Tables
 pub mod Subspace
 pub mod Roots
+pub mod Values
 pub mod Columns
 pub mod Given
 pub mod Unique
-pub mod Times
+pub mod HighCodes
 pub mod Decided
 pub mod Locator
 pub mod Total
-pub mod XorSolver
 pub mod RingSolver
 pub mod Runs
 pub mod RowOffsets
@@ -25,6 +26,7 @@ pub mod Factors
 pub mod Halves
 pub mod Coefficients
 pub mod TopBlock
+pub mod Counting
 pub mod Recursion
 pub mod Injective
 pub mod Derivative

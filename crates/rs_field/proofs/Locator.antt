@@ -7,14 +7,9 @@ use Rattle.std.proofs.lemmas.Bool.Decides.{eqb_tells}
 use Rattle.rs_field.specs.Field.{product, raised, power, log, generator}
 use Rattle.rs_field.specs.Subspace.{product_below}
 use Rattle.rs_field.specs.Locator.{log_sum}
-use Rattle.rs_field.proofs.Power.{raised-mul, power-add, power_zero, power-log}
+use Rattle.rs_field.proofs.Power.{generator_lt, raised-mul, power-add, power_zero, power-log}
 use Rattle.rs_field.proofs.Roots.{same_from_xor}
 use Rattle.rs_field.proofs.Subspace.{product_below-suc, product_below-zero}
-
--- the generator is a word
-generator_lt : generator < 2 ^ 16
-unfolding generator
-generator_lt = omega arith
 
 -- a multiple of a logarithm is the logarithm of a power
 power-mul_log : (z k : ℕ) → 0 < z → z < 2 ^ 16 → power (k * log z) ≡ raised z k

@@ -8,8 +8,8 @@ use Rattle.rs_field.specs.Subspace.{product_below}
 use Rattle.rs_field.specs.Locator.{log_sum}
 use Rattle.rs_field.proofs.Product.{product_zero, zero_product, product_one, one_product}
 use Rattle.rs_field.proofs.Total.{product-comm, product-assoc}
-use Rattle.rs_field.proofs.Power.{power_lt, power-add, power_zero, power-log, power-mod, power_65535}
-use Rattle.rs_field.proofs.Roots.{AreWords, value_lt}
+use Rattle.rs_field.proofs.Power.{power_lt, power-add, power_zero, power-log, power-mod, power_turn}
+use Rattle.rs_field.proofs.Roots.{WordsOneByOne, value_lt}
 use Rattle.rs_field.proofs.Subspace.{product_below-suc, product_below-zero, outside}
 use Rattle.rs_field.proofs.Factors.{times, value_with_root, length-with_root}
 use Rattle.rs_field.proofs.Derivative.{derivative_with_root}
@@ -56,7 +56,7 @@ moved_in : (s l w : ℕ) → product s (product l w) ≡ product (product l s) w
 moved_in s l w = sym (product-assoc s l w) ∙ ap (λ k. product k w) (product-comm s l)
 
 -- where x is not marked: the value of the polynomial with a root at each marked point
-pub locator_value : (n : ℕ) (e : ℕ → ℕ) (p : List ℕ) (x : ℕ) → n ≤ 2 ^ 16 → x < 2 ^ 16 → AreWords p → AreMarks n e
+pub locator_value : (n : ℕ) (e : ℕ → ℕ) (p : List ℕ) (x : ℕ) → n ≤ 2 ^ 16 → x < 2 ^ 16 → WordsOneByOne p → AreMarks n e
     → ((y : ℕ) → y < n → e y ≡ 1 → y ≢ x) → value (times (marked n e) p) x ≡ product (power (log_sum n e x)) (value p x)
 unfolding marked times
 locator_value zero e p x hn hx w m apart =
@@ -94,7 +94,7 @@ locator_root (suc n) e p x m hx one =
     below x n h differs = omega arith
 
 -- where x is marked: the derivative there of that polynomial
-pub locator_derivative : (n : ℕ) (e : ℕ → ℕ) (p : List ℕ) (x : ℕ) → n ≤ 2 ^ 16 → AreWords p → AreMarks n e → x < n → e x ≡ 1
+pub locator_derivative : (n : ℕ) (e : ℕ → ℕ) (p : List ℕ) (x : ℕ) → n ≤ 2 ^ 16 → WordsOneByOne p → AreMarks n e → x < n → e x ≡ 1
     → derivative_value (times (marked n e) p) x ≡ product (power (log_sum n e x)) (value p x)
 unfolding marked times
 locator_derivative zero e p x hn w m hx one = absurd (let no : ⊥ = omega arith in no)
@@ -184,5 +184,5 @@ pub residue_undone : (l w : ℕ) → l ≤ 65535 → w < 2 ^ 16 → product (pro
 residue_undone l w hl hw =
     let whole : l + (65535 - l) ≡ 65535 = omega arith in
     product-assoc w (power l) (power (65535 - l))
-    ∙ ap (product w) (sym (power-add l (65535 - l)) ∙ ap power whole ∙ power_65535)
+    ∙ ap (product w) (sym (power-add l (65535 - l)) ∙ ap power whole ∙ power_turn)
     ∙ product_one w hw

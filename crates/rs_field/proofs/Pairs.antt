@@ -1,13 +1,10 @@
 -- A loop over pairs of rows: row i of one range with row i of another that has no row in common with it.
-use Rattle.std.proofs.Common.{◌≡◌, ℕ, ◌+◌, ◌*◌, ◌<◌, ◌≤◌, ◌⊎◌, List, inl, inr, arith, subst, sym}
+use Rattle.std.proofs.Common.{◌≡◌, ℕ, ◌+◌, ◌<◌, ◌≤◌, ◌⊎◌, List, inl, inr, arith, subst, sym}
 use Rattle.std.proofs.lemmas.Bool.{cases_lt}
 use Rattle.rs_field.specs.View.{cell, SameShape, SameRowsOutsideTwo}
+use Rattle.rs_field.specs.Pairs.{OnChunks}
 use Rattle.rs_field.specs.declared.engine.shards.ShardsRefMut.{ShardsRefMut}
 use Rattle.rs_field.proofs.RowOffsets.{outside_two_cell, outside_two_next, shape_then}
-
--- what is known of the chunks of two rows before and after
-abbrev pub OnChunks : Type 1
-OnChunks = List ℕ → List ℕ → List ℕ → List ℕ → Type 0
 
 -- the pairs before the i-th are done, and no other row is changed
 pub record PairsDone (related : OnChunks) (a b i : ℕ) (old new : ShardsRefMut) : Type 0 where

@@ -1,18 +1,16 @@
 -- What the calls of a transform's recursion made, put together: for one symbol of the rows, and for the counts.
-use Rattle.std.proofs.Common.{◌≡◌, ℕ, ◌+◌, ◌-◌, ◌*◌, ◌/◌, ◌%◌, ◌^◌, ◌<◌, ◌≤◌, suc, List, get_or, replicate, bit_xor, refl, sym, ap, ap₂, ◌∙◌, subst, arith, add_assoc}
+use Rattle.std.proofs.Common.{◌≡◌, ℕ, ◌+◌, ◌-◌, ◌/◌, ◌%◌, ◌^◌, ◌<◌, ◌≤◌, suc, List, get_or, replicate, bit_xor, refl, sym, ap, ap₂, ◌∙◌, subst, arith, add_assoc}
 use Rattle.std.proofs.lemmas.Nat.{pow_pos}
-use Rattle.std.proofs.lemmas.List.{get_or-replicate}
 use Rattle.rs_field.specs.Field.{product}
 use Rattle.rs_field.specs.Subspace.{subspace}
 use Rattle.rs_field.specs.Transform.{forward}
 use Rattle.rs_field.specs.Tables.{IsSkew, scaled}
 use Rattle.rs_field.specs.Rows.{symbol}
 use Rattle.rs_field.specs.View.{cell, word, Fits, SameShape}
-use Rattle.rs_field.specs.Bounds.{CountsRows, CountsUpTo, TransformCounts, transform_steps}
 use Rattle.rs_field.specs.declared.engine.shards.ShardsRefMut.{ShardsRefMut}
-use Rattle.rs_field.specs.declared.engine.steps.Steps.{Steps}
+use Rattle.rs_field.proofs.Symbols.{symbol-zero}
 use Rattle.rs_field.proofs.Combination.{forward-one, forward-zero, lower_half, upper_half}
-use Rattle.rs_field.proofs.Halves.{half_power, few_halves, table_factor, xor_undo, steps_half}
+use Rattle.rs_field.proofs.Halves.{half_power, few_halves, table_factor, xor_undo}
 
 pub fits_kept : (a b : ShardsRefMut) → SameShape a b → Fits a → Fits b
 fits_kept a b p h = rw (p.count, p.len_64, p.length) h
@@ -121,16 +119,11 @@ ifft_upper skew mid new k s pos size shift i b hi first second =
     (λ q hq. sym (ap (λ v. bit_xor v (word mid k s (pos + q))) (second q hq) ∙ xor_undo (word mid k s (pos + size / 2 + q)) (word mid k s (pos + q))))
     (λ q hq. refl)
 
-zero_bytes : (s : ℕ) → s < 32 → symbol (replicate 64 0) s ≡ 0
-zero_bytes s h =
-    let P : ℕ → ℕ → ℕ = λ a b. a + 256 * b in
-    ap₂ P (get_or-replicate 64 s 0 0 (omega arith)) (get_or-replicate 64 (s + 32) 0 0 (omega arith))
-
 -- rows of zeros are the transform of rows of zeros
 pub zero_rows : (rows : ShardsRefMut) (k s a size shift i : ℕ) → s < 32 → i < size → ((q : ℕ) → q < size → cell rows k (a + q) ≡ replicate 64 0)
     → word rows k s (a + i) ≡ forward size shift (λ q. word rows k s (a + q)) i
 zero_rows rows k s a size shift i hs hi zeros =
-    let none : (q : ℕ) → q < size → word rows k s (a + q) ≡ 0 = λ q hq. ap (λ (c : List ℕ). symbol c s) (zeros q hq) ∙ zero_bytes s hs in
+    let none : (q : ℕ) → q < size → word rows k s (a + q) ≡ 0 = λ q hq. ap (λ (c : List ℕ). symbol c s) (zeros q hq) ∙ symbol-zero s hs in
     none i hi ∙ sym (forward-zero size shift (λ q. word rows k s (a + q)) i none)
 
 -- what the transform of the second half, or leaving it out where it is zeros, made of the rows
@@ -139,62 +132,3 @@ pub record IsUpperDone (low mid : ShardsRefMut) (pos half shift : ℕ) : Type 0 
   pub same : (k q : ℕ) → k < low.shard_len_64 → q < half → cell mid k (pos + q) ≡ cell low k (pos + q)
   pub values : (k s j : ℕ) → k < low.shard_len_64 → s < 32 → j < half
       → word low k s (pos + half + j) ≡ forward half (shift + half) (λ q. word mid k s (pos + half + q)) j
-
--- ---- counts
-
-pub counts_of_whole : (size shift : ℕ) (from to : Steps) → 1 < size → (d : ℕ) × (size ≡ 2 ^ d) → shift + size ≤ 65536
-    → CountsUpTo (size / 2 + 2 * transform_steps (size / 2)) 0 0 from to → TransformCounts size from to
-counts_of_whole size shift from to large power points c =
-    let p = half_power size large power in
-    let le : size / 2 + 2 * transform_steps (size / 2) ≤ transform_steps size = steps_half size p.0 (size / 2) (few_halves size p.0 shift p.1 points) p.1 p.2 in
-    record {
-      row_steps_rise = c.row_steps_rise;
-      pair_sums_rise = c.pair_sums_rise;
-      products_rise = c.products_rise;
-      row_steps_most = let m = c.row_steps_most in omega arith;
-      pair_sums_most = c.pair_sums_most;
-      products_most = c.products_most;
-    }
-
--- the butterflies and the transforms of both halves
-pub counts_both : (half t : ℕ) (a b c d : Steps) → CountsRows half a b → CountsUpTo t 0 0 b c → CountsUpTo t 0 0 c d → CountsUpTo (half + 2 * t) 0 0 a d
-counts_both half t a b c d (x, y, z) p q = record {
-  row_steps_rise = omega arith;
-  pair_sums_rise = omega arith;
-  products_rise = omega arith;
-  row_steps_most = omega arith;
-  pair_sums_most = omega arith;
-  products_most = omega arith;
-}
-
--- the butterflies and the transform of the first half alone
-pub counts_lower : (half t : ℕ) (a b c : Steps) → CountsRows half a b → CountsUpTo t 0 0 b c → CountsUpTo (half + 2 * t) 0 0 a c
-counts_lower half t a b c (x, y, z) p = record {
-  row_steps_rise = omega arith;
-  pair_sums_rise = omega arith;
-  products_rise = omega arith;
-  row_steps_most = omega arith;
-  pair_sums_most = omega arith;
-  products_most = omega arith;
-}
-
--- the same with the butterflies last
-pub counts_both_back : (half t : ℕ) (a b c d : Steps) → CountsUpTo t 0 0 a b → CountsUpTo t 0 0 b c → CountsRows half c d → CountsUpTo (half + 2 * t) 0 0 a d
-counts_both_back half t a b c d p q (x, y, z) = record {
-  row_steps_rise = omega arith;
-  pair_sums_rise = omega arith;
-  products_rise = omega arith;
-  row_steps_most = omega arith;
-  pair_sums_most = omega arith;
-  products_most = omega arith;
-}
-
-pub counts_lower_back : (half t : ℕ) (a b c : Steps) → CountsUpTo t 0 0 a b → CountsRows half b c → CountsUpTo (half + 2 * t) 0 0 a c
-counts_lower_back half t a b c p (x, y, z) = record {
-  row_steps_rise = omega arith;
-  pair_sums_rise = omega arith;
-  products_rise = omega arith;
-  row_steps_most = omega arith;
-  pair_sums_most = omega arith;
-  products_most = omega arith;
-}

@@ -8,7 +8,8 @@ use Rattle.rs_field.specs.Transform.{forward}
 use Rattle.rs_field.specs.Locator.{log_sum}
 use Rattle.rs_field.specs.Derivative.{IsInBasis, IsDerivativeAdded}
 use Rattle.rs_field.proofs.Product.{product_zero}
-use Rattle.rs_field.proofs.Roots.{AreWords, value-nil, value-cons, same_from_values}
+use Rattle.rs_field.proofs.Roots.{WordsOneByOne, value-nil, value-cons}
+use Rattle.rs_field.proofs.Values.{same_from_values}
 use Rattle.rs_field.proofs.Factors.{times, words_times, all_words}
 use Rattle.rs_field.proofs.Coefficients.{coefficients}
 use Rattle.rs_field.proofs.Derivative.{derivative-nil, derivative-cons}
@@ -23,11 +24,11 @@ pub length-padded : (n : ℕ) (p : List ℕ) → length (padded n p) ≡ length 
 unfolding padded
 length-padded n p = length-append p (replicate n 0) ∙ ap (λ k. length p + k) (length-replicate n 0)
 
-words_zeros : (n : ℕ) → AreWords (replicate n 0)
+words_zeros : (n : ℕ) → WordsOneByOne (replicate n 0)
 words_zeros zero = tt
 words_zeros (suc n) = (omega arith, words_zeros n)
 
-pub words_padded : (n : ℕ) (p : List ℕ) → AreWords p → AreWords (padded n p)
+pub words_padded : (n : ℕ) (p : List ℕ) → WordsOneByOne p → WordsOneByOne (padded n p)
 unfolding padded
 words_padded n [] h = words_zeros n
 words_padded n (c ∷ cs) h = (h.0, words_padded n cs h.1)
@@ -55,7 +56,7 @@ derivative-padded n (c ∷ cs) x =
 -- ---- the law
 
 -- coefficients in the subspace basis that give the values of a polynomial at the first 2 ^ e points give them at every point
-pub in_basis : (e : ℕ) (f : ℕ → ℕ) (p : List ℕ) → e ≤ 16 → length p ≡ 2 ^ e → AreWords p
+pub in_basis : (e : ℕ) (f : ℕ → ℕ) (p : List ℕ) → e ≤ 16 → length p ≡ 2 ^ e → WordsOneByOne p
     → ((i : ℕ) → i < 2 ^ e → forward (2 ^ e) 0 f i ≡ value p i) → IsInBasis (2 ^ e) f p
 in_basis e f p he size words at x hx =
     let q = coefficients e f he in
@@ -65,7 +66,7 @@ in_basis e f p he size words at x hx =
 
 -- The rows f are the coefficients of a polynomial p with a root at each marked point put in, and g those after the
 -- derivative step: then g's value at a marked point is p's there, times the power of the locator.
-pub restored : (e : ℕ) (f g marks : ℕ → ℕ) (p : List ℕ) → e ≤ 16 → AreWords p → AreMarks (2 ^ e) marks
+pub restored : (e : ℕ) (f g marks : ℕ → ℕ) (p : List ℕ) → e ≤ 16 → WordsOneByOne p → AreMarks (2 ^ e) marks
     → length (marked (2 ^ e) marks) + length p ≤ 2 ^ e
     → ((i : ℕ) → i < 2 ^ e → forward (2 ^ e) 0 f i ≡ value (times (marked (2 ^ e) marks) p) i)
     → IsDerivativeAdded (2 ^ e) f g
@@ -74,11 +75,11 @@ restored e f g marks p he words m size at step x hx one =
     let room : 2 ^ e ≤ 2 ^ 16 = pow_mono he in
     let r : List ℕ = marked (2 ^ e) marks in
     let h : List ℕ = times (marked (2 ^ e) marks) p in
-    let h_words : AreWords (times (marked (2 ^ e) marks) p) = words_times (marked (2 ^ e) marks) p words in
+    let h_words : WordsOneByOne (times (marked (2 ^ e) marks) p) = words_times (marked (2 ^ e) marks) p words in
     let n : ℕ = 2 ^ e - length (times (marked (2 ^ e) marks) p) in
     let h_size : length (times (marked (2 ^ e) marks) p) ≡ length (marked (2 ^ e) marks) + length p = length-marked_times (marked (2 ^ e) marks) p in
     let full : length (padded n h) ≡ 2 ^ e = length-padded n h ∙ omega arith in
-    let full_words : AreWords (padded n h) = words_padded n h h_words in
+    let full_words : WordsOneByOne (padded n h) = words_padded n h h_words in
     step (padded n h) full (all_words (padded n h) full_words) (in_basis e f (padded n h) he full full_words (λ i hi. at i hi ∙ sym (value-padded n h i))) x (omega arith)
     ∙ ap₂ bit_xor (value-padded n h x ∙ locator_root (2 ^ e) marks p x m hx one)
     (derivative-padded n h x ∙ locator_derivative (2 ^ e) marks p x room words m hx one)

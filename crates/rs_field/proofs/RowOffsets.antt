@@ -1,5 +1,5 @@
 -- Where row i of rows of n chunks lies among the chunks, and what is unchanged outside some rows.
-use Rattle.std.proofs.Common.{◌≡◌, ℕ, ◌+◌, ◌*◌, ◌<◌, ◌≤◌, ◌⊎◌, ◌≢◌, inl, inr, arith, ap, ◌∙◌, subst, sym}
+use Rattle.std.proofs.Common.{◌≡◌, ℕ, zero, suc, ◌+◌, ◌-◌, ◌*◌, ◌<◌, ◌≤◌, ◌⊎◌, ◌≢◌, inl, inr, arith, ap, ◌∙◌, subst, sym}
 use Rattle.std.proofs.Math.Nat.{mul-le-mul_right}
 use Rattle.std.proofs.lemmas.Bool.{cases_lt}
 use Rattle.rs_field.specs.Rows.{chunk, SameOutside, SameOutsideTwo}
@@ -26,12 +26,6 @@ unfolding cell
 outside_cell a b old new shape others i k hk h =
     ap (λ n. chunk new.chunks.now (i * n + k)) shape.len_64
     ∙ others (i * old.shard_len_64 + k) (offset_outside a b i k old.shard_len_64 hk h)
-
--- outside count rows from row a on, from a change of their chunks
-pub outside_rows : (a count : ℕ) (old new : ShardsRefMut)
-    → SameOutside (a * old.shard_len_64) (a * old.shard_len_64 + count * old.shard_len_64) old.chunks.now new.chunks.now
-    → SameRowsOutside a (a + count) old new
-outside_rows a count old new others k h = others k (elim h [ inl before ↦ inl before | inr after ↦ inr (omega arith) ])
 
 -- a change within fewer rows
 pub outside_more : (a b e f : ℕ) (old new : ShardsRefMut) → SameRowsOutside a b old new → e ≤ a → b ≤ f → SameRowsOutside e f old new
@@ -72,6 +66,38 @@ outside_two_next a b i old mid new shape first second k h h' =
     subst (λ (m : ℕ). SameOutsideTwo ((a + i) * m) ((a + i + 1) * m) ((b + i) * m) ((b + i + 1) * m) mid.chunks.now new.chunks.now) shape.len_64 second in
     then k (elim h [ inl before ↦ inl (omega arith) | inr after ↦ inr (omega arith) ]) (elim h' [ inl before ↦ inl (omega arith) | inr after ↦ inr (omega arith) ])
     ∙ first k (elim h [ inl before ↦ inl before | inr after ↦ inr (omega arith) ]) (elim h' [ inl before ↦ inl before | inr after ↦ inr (omega arith) ])
+
+-- two ranges of count rows, one after the other
+pub outside_halves : (a count : ℕ) (old new : ShardsRefMut) → SameRowsOutsideTwo a (a + count) (a + count) (a + count + count) old new
+    → SameRowsOutside a (a + count + count) old new
+outside_halves a count old new others k h =
+    others k (elim h [ inl before ↦ inl before | inr after ↦ inr (omega arith) ]) (elim h [ inl before ↦ inl (omega arith) | inr after ↦ inr after ])
+
+-- where the rows of the second range hold the same chunks as before, the first range alone was changed
+pub outside_first : (a b count : ℕ) (old new : ShardsRefMut) → SameShape old new → SameRowsOutsideTwo a (a + count) b (b + count) old new
+    → ((i k : ℕ) → i < count → k < old.shard_len_64 → cell new k (b + i) ≡ cell old k (b + i)) → SameRowsOutside a (a + count) old new
+unfolding cell
+outside_first a b count old new shape others kept k h =
+    elim (cases_lt k (b * old.shard_len_64)) [
+      | inl before ↦ others k h (inl before)
+      | inr from ↦ elim (cases_lt k ((b + count) * old.shard_len_64)) [
+        | inl inside ↦ within count
+            (λ i r hi hr. ap (λ n. chunk new.chunks.now ((b + i) * n + r)) (sym shape.len_64) ∙ kept i r hi hr) k from inside
+        | inr after ↦ others k h (inr after)
+      ]
+    ]
+  where
+    within : (m : ℕ) → ((i r : ℕ) → i < m → r < old.shard_len_64 → chunk new.chunks.now ((b + i) * old.shard_len_64 + r) ≡ chunk old.chunks.now ((b + i) * old.shard_len_64 + r))
+        → (k : ℕ) → b * old.shard_len_64 ≤ k → k < (b + m) * old.shard_len_64 → chunk new.chunks.now k ≡ chunk old.chunks.now k
+    within zero same k from to = absurd (let no : ⊥ = omega arith in no)
+    within (suc m) same k from to =
+        elim (cases_lt k ((b + m) * old.shard_len_64)) [
+          | inl low ↦ within m (λ i r hi hr. same i r (omega arith) hr) k from low
+          | inr high ↦
+              let r : ℕ = k - (b + m) * old.shard_len_64 in
+              let is : (b + m) * old.shard_len_64 + r ≡ k = omega arith in
+              subst (λ (p : ℕ). chunk new.chunks.now p ≡ chunk old.chunks.now p) is (same m r (omega arith) (omega arith))
+        ]
 
 pub shape_then : (old mid new : ShardsRefMut) → SameShape old mid → SameShape mid new → SameShape old new
 shape_then old mid new p q = record { name = q.name ∙ p.name; count = q.count ∙ p.count; len_64 = q.len_64 ∙ p.len_64; length = q.length ∙ p.length }

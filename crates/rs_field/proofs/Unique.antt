@@ -1,6 +1,6 @@
 -- A message has one list of recovery shards at most.
-use Rattle.std.proofs.Common.{◌≡◌, ℕ, zero, suc, ◌+◌, ◌-◌, ◌%◌, ◌^◌, ◌<◌, ◌≤◌, List, [], ◌∷◌, Bool, true, false, cond, length, refl, sym, ap, ◌∙◌, subst, arith, ◌⊎◌, inl, inr, pow_mono}
-use Rattle.std.specs.Prelude.{All, slice_index, nat_le}
+use Rattle.std.proofs.Common.{◌≡◌, ℕ, ◌+◌, ◌-◌, ◌%◌, ◌^◌, ◌<◌, ◌≤◌, List, [], true, false, cond, length, refl, sym, ap, ◌∙◌, subst, arith, ◌⊎◌, inl, inr, pow_mono}
+use Rattle.std.specs.Prelude.{slice_index, nat_le}
 use Rattle.std.proofs.lemmas.Bool.{cases_lt, le-leb}
 use Rattle.std.proofs.lemmas.List.{ext_get_or}
 use Rattle.rs_field.specs.Search.{first_below}
@@ -10,30 +10,18 @@ use Rattle.rs_field.specs.Counts.{Rate, next_power, is_low}
 use Rattle.rs_field.specs.Placement.{Placement, placement, low_placement, high_placement}
 use Rattle.rs_field.specs.Configuration.{Configuration}
 use Rattle.rs_field.specs.Code.{Codes, AreRecoveryWords, AreRecovery}
-use Rattle.rs_field.proofs.Roots.{AreWords, same_from_values}
+use Rattle.rs_field.proofs.Search.{first_below_most}
+use Rattle.rs_field.proofs.Roots.{words_from}
+use Rattle.rs_field.proofs.Values.{same_from_values}
 use Rattle.rs_field.proofs.Columns.{shard_from_columns, columns-at}
-
--- a search ends no later than at a number that passes
-first_below_le : (n : ℕ) (p : ℕ → Bool) (i : ℕ) → i < n → p i ≡ true → first_below n p ≤ i
-unfolding first_below
-first_below_le zero p i h e = absurd (let no : ⊥ = omega arith in no)
-first_below_le (suc n) p zero h e = subst (λ (b : Bool). cond b 0 (suc (first_below n (λ k. p (suc k)))) ≤ 0) (sym e) (omega arith)
-first_below_le (suc n) p (suc i) h e =
-    let rest : first_below n (λ k. p (suc k)) ≤ i = first_below_le n (λ k. p (suc k)) i (omega arith) e in
-    elim (p 0) as (λ b. cond b 0 (suc (first_below n (λ k. p (suc k)))) ≤ suc i) [ true ↦ omega arith | false ↦ omega arith ]
 
 -- the power of a count is a count
 pub next_power_most : (k : ℕ) → k ≤ 65536 → next_power k ≤ 65536
 unfolding next_power
 next_power_most k h =
-    let d : first_below 64 (λ d. nat_le k (2 ^ d)) ≤ 16 = first_below_le 64 (λ d. nat_le k (2 ^ d)) 16 (omega arith) (le-leb k 65536 h) in
+    let d : first_below 64 (λ d. nat_le k (2 ^ d)) ≤ 16 = first_below_most 64 (λ d. nat_le k (2 ^ d)) 16 (omega arith) (le-leb k 65536 h) in
     let e : 2 ^ first_below 64 (λ d. nat_le k (2 ^ d)) ≤ 2 ^ 16 = pow_mono {i = first_below 64 (λ d. nat_le k (2 ^ d))} d in
     e
-
--- words by entry are words one after another
-pub words_from : (P : List ℕ) → All (λ w. w < 65536) P → AreWords P
-words_from [] h = tt
-words_from (c ∷ cs) h = (h 0 0 (omega arith), words_from cs (λ k d hk. h (suc k) d (omega arith)))
 
 -- each placement is that of the low rate or that of the high rate
 low_or_high : (rate : Rate) (k r : ℕ) → (placement rate k r ≡ low_placement k) ⊎ (placement rate k r ≡ high_placement k r)

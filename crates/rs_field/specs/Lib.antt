@@ -19,6 +19,7 @@ pub mod Tables
 pub mod Laws
 pub mod Rows
 pub mod View
+pub mod Pairs
 pub mod Lending
 pub mod Layout
 pub mod Worked

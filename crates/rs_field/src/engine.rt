@@ -6,9 +6,11 @@ ghost use Rattle.rs_field.specs.Rows.{chunk, symbol};
 ghost use Rattle.rs_field.specs.View.{word, Fits, SameShape, SameRowsOutside, AreZero};
 ghost use Rattle.rs_field.specs.Bounds.{TransformCounts, RowProductCounts};
 
+pub mod derivative;
 pub mod engine_naive;
 pub mod layout;
 pub mod locator;
+mod pairs;
 pub mod rows;
 pub mod shards;
 mod steps;

@@ -1,10 +1,24 @@
 //! Laws of the definitions, as contracts of functions that do nothing.
+ghost use Rattle.std.specs.Prelude.{◌≡◌, ◌+◌, ◌^◌, length};
 ghost use Rattle.rs_field.specs.Code.{HasOnePolynomial, HasOneRecovery};
 ghost use Rattle.rs_field.specs.Column.{ColumnsTellShard, IsColumn};
+ghost use Rattle.rs_field.specs.Field.{cantor_basis, polynomial};
 ghost use Rattle.rs_field.specs.Layout.{LaysColumns};
 ghost use Rattle.rs_field.specs.Laws.{IsField, IsGenerated, IsProductOfBits};
 ghost use Rattle.rs_field.specs.Locator.{LocatesByProduct};
 ghost use Rattle.rs_field.specs.Subspace.{SubspaceIsShift};
+
+use crate::engine::{CANTOR_BASIS, GF_BITS, GF_MODULUS, GF_ORDER, GF_POLYNOMIAL};
+
+/// The constants of the field are those of the definitions.
+#[tactic(auto, unfolding(crate::specs::Field::cantor_basis))]
+pub fn field_constants()
+    ensures basis { CANTOR_BASIS ≡ cantor_basis }
+    ensures polynomial { GF_POLYNOMIAL ≡ polynomial }
+    ensures bits { GF_BITS ≡ length CANTOR_BASIS }
+    ensures order { GF_ORDER ≡ 2 ^ GF_BITS }
+    ensures modulus { GF_MODULUS + 1 ≡ GF_ORDER }
+{}
 
 /// The words are a field: sums and products obey its laws, the product is the reduced carry-less product of the
 /// words' bits, and the nonzero words are the 65535 powers of the generator.

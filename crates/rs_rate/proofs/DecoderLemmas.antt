@@ -1,14 +1,18 @@
 -- The shards that a decoder's rows stand for.
-use Rattle.std.proofs.Common.{◌≡◌, ◌≢◌, ℕ, zero, suc, ◌+◌, ◌<◌, ◌≤◌, List, Bool, true, false, cond, refl, sym, ap, ap₂, ◌∙◌, subst, arith, inl, inr, true≢false}
+use Rattle.std.proofs.Common.{◌≡◌, ◌≢◌, ℕ, zero, suc, ◌+◌, ◌<◌, ◌≤◌, List, length, Bool, true, false, cond, refl, sym, ap, ap₂, ◌∙◌, subst, arith, inl, inr, true≢false}
 use Rattle.std.specs.Prelude.{Option, Some, None, is_some, IsSome, IsNone, unwrap_or, not, ◌&&◌, nat_lt, nat_le, nat_eq}
 use Rattle.std.proofs.lemmas.Bool.{cases_lt, cases_eq, lt-ltb, le-leb, le-ltb, eq-eqb, ne_eqb}
+use Rattle.std.proofs.lemmas.List.{get_or_past}
 use mathlib.Core.Path.{fun_ext}
 use Rattle.rs_field.specs.Column.{Shard, IsShard}
-use Rattle.rs_field.specs.Decoder.{DecoderState, FillsMissing}
+use Rattle.rs_field.specs.Counts.{Rate}
+use Rattle.rs_field.specs.Decoder.{DecoderState, FillsMissing, fresh_decoder}
 use Rattle.rs_field.specs.Given.{Shards, nothing, entered, count_below}
 use Rattle.rs_field.specs.Rows.{Chunks}
 use Rattle.rs_rate.specs.declared.rate.marks.Mark.{Mark}
 use Rattle.rs_rate.specs.declared.rate.marks.Mark.TheVariants.{Empty, Given, Restored}
+use Rattle.rs_rate.specs.declared.rate.decoder_work.DecoderShape.{DecoderShape}
+use Rattle.rs_rate.specs.DecoderView.{configuration_of}
 use Rattle.rs_rate.specs.Marks.{mark_at, is_given, is_restored, given_rows, given_shards, restored_shards, mark_after}
 use Rattle.rs_rate.specs.ShardRows.{shard_laid_out, shard_in_order}
 
@@ -238,3 +242,26 @@ fills-missing s old new before after from given marks sized =
     restored_too : (i : ℕ) → (i < k) × IsNone (s.originals i) → IsSome (restored_shards new after size from k i)
     restored_too i (inside, none) =
         ap is_some (here i inside) ∙ some_if (not (is_given (mark_at old (from + i)))) (shard_in_order after size (from + i)) ∙ ap not (sym (was i inside) ∙ none)
+
+-- a decoder in whose rows no shard is marked as given is a fresh one
+pub nothing-given : (rate : Rate) (s : DecoderShape) (marks : List Mark) (chunks : Chunks) → ((p : ℕ) → is_given (mark_at marks p) ≡ false)
+    → ◌≡◌ {A = DecoderState}
+    (record {
+      configuration = configuration_of rate s;
+      originals = given_shards marks chunks s.shard_bytes s.frame.originals_from s.original_count;
+      recovery = given_shards marks chunks s.shard_bytes s.frame.recovery_from s.recovery_count;
+    })
+    (fresh_decoder (configuration_of rate s))
+nothing-given rate s marks chunks empty =
+    ap₂ (λ (o r : Shards). let state : DecoderState = record { configuration = configuration_of rate s; originals = o; recovery = r } in state)
+    (given-nothing marks chunks s.shard_bytes s.frame.originals_from s.original_count (λ i inside. empty (s.frame.originals_from + i)))
+    (given-nothing marks chunks s.shard_bytes s.frame.recovery_from s.recovery_count (λ i inside. empty (s.frame.recovery_from + i)))
+
+-- after a round no row of any number is marked as given
+pub none_after : (from n : ℕ) (old new : List Mark) → length new ≡ length old → ((p : ℕ) → p < length old → mark_at new p ≡ mark_after from n p (mark_at old p))
+    → (p : ℕ) → is_given (mark_at new p) ≡ false
+none_after from n old new same after p =
+    elim (cases_lt p (length old)) [
+      | inl inside ↦ ap is_given (after p inside) ∙ mark_after-given from n p (mark_at old p)
+      | inr past ↦ ap is_given (get_or_past new p Empty (omega arith))
+    ]

@@ -23,9 +23,10 @@ low_frame-power k r frame same is =
     let known = next_power-small (next_power k + r) fits.2 in
     (known.0, ap (λ f. f.row_count) (same ∙ low_frame-is k r) ∙ known.2)
 
-pub frame_rows : (rate : Rate) (k r : ℕ) (frame : Frame) → frame ≡ frame_of rate k r → frame.row_count ≡ decoder_rows rate k r
+-- a frame has the rows of a decoder
+pub frame-rows : (rate : Rate) (k r : ℕ) → (frame_of rate k r).row_count ≡ decoder_rows rate k r
 unfolding frame_of
-frame_rows rate k r frame same = ap (λ f. f.row_count) same
+frame-rows rate k r = refl
 
 -- what is left and what is answered, by whether shards enough are given
 abbrev LeftBy : DecoderState → Result (Unit {0}) Error → DecoderState

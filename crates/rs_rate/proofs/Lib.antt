@@ -9,3 +9,4 @@ pub mod ChoiceLemmas
 pub mod RateLemmas
 pub mod HighCounts
 pub mod HighCoding
+pub mod Coded

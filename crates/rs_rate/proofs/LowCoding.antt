@@ -91,36 +91,10 @@ recovery_words k r e old new words recovery few power room (combination, origina
       (λ i h. read_recovery i h ∙ values i h ∙ sym (of_size (next_power k + i))),
     )
 
--- the shards that hold such columns are the message's recovery shards
-pub are_recovery : (k r size : ℕ) (put moved : ℕ → Shard) → validated (configuration low_rate k r size) ≡ Ok tt
-    → ((i : ℕ) → i < r → IsShard size (moved i))
-    → ((j : ℕ) → j < size / 2 → CodesLow k r (next_power k) (λ q. column j (put q)) (λ q. column j (moved q)))
-    → AreRecovery (configuration low_rate k r size) (up_to k put) (up_to r moved)
-are_recovery k r size put moved valid shards coded_columns =
-    let supported = valid-supported (configuration low_rate k r size) valid in
-    let known = next_power-small k (low_small k r supported) in
-    record {
-      shards = record {
-        length_is = length-up_to r moved;
-        each = λ i d h. (let inside : i < r = subst (λ (n : ℕ). i < n) (length-up_to r moved) h in subst (λ (s : Shard). IsShard size s) (sym (get-up_to r moved i d inside)) (shards i inside));
-      };
-      words = λ j h. recovery_words k r known.0 (λ q. column j (put q)) (λ q. column j (moved q)) (columns j (up_to k put)) (columns j (up_to r moved))
-          known.1 known.2 known.3 (coded_columns j h)
-          (λ i inside. columns-at j (up_to k put) i ∙ ap (column j) (get-up_to k put i [] inside))
-          (λ i inside. columns-at j (up_to r moved) i ∙ ap (column j) (get-up_to r moved i [] inside))
-          (low_fits k r supported).2;
-    }
-
 -- a symbol of a cleared chunk
 pub symbol-zero : (s : ℕ) → s < 32 → symbol (replicate 64 0) s ≡ 0
 symbol-zero s h =
     ap₂ (λ low high. low + 256 * high) (get_or-replicate 64 s 0 0 (omega arith)) (get_or-replicate 64 (s + 32) 0 0 (omega arith))
-
--- the same coding, of words that are read in another way
-pub codes-read : (k r m : ℕ) (old new old_read new_read : ℕ → ℕ) → ((i : ℕ) → i < k → old_read i ≡ old i) → ((i : ℕ) → i < r → new_read i ≡ new i)
-    → CodesLow k r m old new → CodesLow k r m old_read new_read
-codes-read k r m old new old_read new_read same_old same_new (combination, originals, zeros, values) =
-    (combination, (λ j h. originals j h ∙ sym (same_old j h)), zeros, (λ i h. same_new i h ∙ values i h))
 
 -- in each column they are the recovery words
 pub codes_words : (k r : ℕ) (old new : ℕ → ℕ) → supports low_rate k r ≡ true → CodesLow k r (next_power k) old new → CodesWords low_rate k r old new

@@ -11,28 +11,13 @@ use Rattle.rs_field.specs.Configuration.{configuration, validated}
 use Rattle.rs_field.specs.Code.{Codes, AreRecoveryWords}
 use Rattle.rs_rate.specs.declared.rate.marks.Frame.{Frame}
 use Rattle.rs_rate.specs.declared.rate.encoder_work.EncoderShape.{EncoderShape}
-use Rattle.rs_rate.specs.EncoderView.{encoder_shape}
+use Rattle.rs_rate.specs.EncoderView.{encoder_shape, shape_chunks}
+use Rattle.rs_rate.specs.ShardRows.{chunk_count}
 use Rattle.rs_rate.specs.DecoderView.{frame_of}
 use Rattle.rs_rate.proofs.PowerLemmas.{low_fits, low_small, low_supported, low_rows-positive, next_power-small}
+use Rattle.rs_rate.proofs.HighCounts.{high_turned, high_fits}
 use Rattle.rs_rate.proofs.ChoiceLemmas.{default_fits, low_powers, high_powers}
 use Rattle.rs_rate.proofs.DecoderRows.{low_frame-power}
-
-swapped : (a b : Bool) → (a && b) ≡ (b && a)
-swapped true true = refl
-swapped true false = refl
-swapped false true = refl
-swapped false false = refl
-
--- the high rate supports the counts that the low rate supports the other way round
-pub high_turned : (k r : ℕ) → supports low_rate r k ≡ supports high_rate k r
-unfolding supports
-high_turned k r = ap (λ b. b && nat_le (next_power r + k) 65536) (swapped (nat_lt 0 r) (nat_lt 0 k))
-
-pub high_fits : (k r : ℕ) → supports high_rate k r ≡ true → (0 < r) × (0 < k) × (next_power r + k ≤ 65536)
-high_fits k r is = low_fits r k (high_turned k r ∙ is)
-
-pub high_small : (k r : ℕ) → supports high_rate k r ≡ true → r ≤ 65536
-high_small k r is = low_small r k (high_turned k r ∙ is)
 
 -- the frame of a decoder of the high rate, written out
 pub high_frame-is : (k r : ℕ) → frame_of high_rate k r
@@ -50,6 +35,19 @@ pub high_shape-is : (k r size : ℕ) → encoder_shape high_rate k r size
     ≡ record { original_count = k; recovery_count = r; shard_bytes = size; row_count = encoder_rows low_rate r k; block_rows = next_power r }
 unfolding encoder_shape encoder_rows block_rows is_low
 high_shape-is k r size = refl
+
+-- the rows and the block of an encoder of any rate
+pub shape-rows : (rate : Rate) (k r size : ℕ) → (encoder_shape rate k r size).row_count ≡ encoder_rows rate k r
+unfolding encoder_shape
+shape-rows rate k r size = refl
+
+pub shape-block : (rate : Rate) (k r size : ℕ) → (encoder_shape rate k r size).block_rows ≡ block_rows rate k r
+unfolding encoder_shape
+shape-block rate k r size = refl
+
+pub shape-chunks : (rate : Rate) (k r size : ℕ) → shape_chunks (encoder_shape rate k r size) ≡ chunk_count (encoder_rows rate k r) size
+unfolding encoder_shape
+shape-chunks rate k r size = refl
 
 -- the choice of the low and of the high rate
 pub low_is : (k r : ℕ) → is_low low_rate k r ≡ true
@@ -91,6 +89,23 @@ shape_by k r size b =
 pub shape_alike : (one other : Rate) (k r size : ℕ) → is_low one k r ≡ is_low other k r → encoder_shape one k r size ≡ encoder_shape other k r size
 unfolding encoder_shape encoder_rows block_rows shape_by
 shape_alike one other k r size same = ap (shape_by k r size) same
+
+pub rows_alike : (one other : Rate) (k r : ℕ) → is_low one k r ≡ is_low other k r → encoder_rows one k r ≡ encoder_rows other k r
+unfolding encoder_rows
+rows_alike one other k r same = ap (λ b. if b then rounded_up r (next_power k) else rounded_up k (next_power r)) same
+
+pub block_alike : (one other : Rate) (k r : ℕ) → is_low one k r ≡ is_low other k r → block_rows one k r ≡ block_rows other k r
+unfolding block_rows
+block_alike one other k r same = ap (λ b. if b then next_power k else next_power r) same
+
+-- the rows of a block, written out
+pub low_block : (k r : ℕ) → block_rows low_rate k r ≡ next_power k
+unfolding block_rows is_low
+low_block k r = refl
+
+pub high_block : (k r : ℕ) → block_rows high_rate k r ≡ next_power r
+unfolding block_rows is_low
+high_block k r = refl
 
 placement_alike : (one other : Rate) (k r : ℕ) → is_low one k r ≡ is_low other k r → placement one k r ≡ placement other k r
 unfolding placement

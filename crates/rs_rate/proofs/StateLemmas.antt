@@ -152,23 +152,34 @@ encode_answers-made s recovery made right =
     subst (λ (m : Result (List Shard) Error). AnswersOf s m (Ok recovery))
     (sym (message-whole s made).1) right
 
--- what holds of each value that is there
-pub if_some-is : {S : Type 0} (o : Option S) (P : S → Type 0) → ((x : S) → o ≡ Some x → P x) → IfSome o P
-if_some-is None P each = tt
-if_some-is (Some x) P each = each x refl
+-- what follows from a fact of a value that may be there
+pub if_some-map : {S : Type 0} (o : Option S) (P Q : S → Type 0) → ((x : S) → P x → Q x) → IfSome o P → IfSome o Q
+if_some-map None P Q follows h = tt
+if_some-map (Some x) P Q follows h = follows x h
 
 -- a want of memory where there was room for rows of a `usize` in bytes: there is no such size
-pub started-short : (rows : ℕ) (c : Configuration) (result : Result (Unit {0}) Error) (e : Error) → result ≡ Err e → validated c ≡ Ok tt
+pub started-short : {S : Type 0} (rows : ℕ) (c : Configuration) (result : Result S Error) (e : Error) → result ≡ Err e → validated c ≡ Ok tt
     → IfErr result (λ f. f ≡ OutOfMemory) → (chunk_count rows c.shard_bytes * 64 < 2 ^ 64 → IsOk result) → Err e ≡ started rows c
-started-short rows c result e is valid short enough =
+started-short {S} rows c result e is valid short enough =
     elim (cases_lt (chunk_count rows c.shard_bytes * 64) (2 ^ 64)) [
       | inl fits ↦ absurd (not_made result is (enough fits))
-      | inr large ↦ ap Err (subst (λ (r : Result (Unit {0}) Error). IfErr r (λ f. f ≡ OutOfMemory)) is short) ∙ sym (started-large rows c valid large)
+      | inr large ↦ ap Err (subst (λ (r : Result S Error). IfErr r (λ f. f ≡ OutOfMemory)) is short) ∙ sym (started-large rows c valid large)
     ]
   where
-    not_made : (r : Result (Unit {0}) Error) → r ≡ Err e → IsOk r → ⊥
+    not_made : (r : Result S Error) → r ≡ Err e → IsOk r → ⊥
     not_made (Ok x) same made = cc
     not_made (Err f) same made = cc
+
+-- where rows have room, what their growth answers is what setting up answers
+pub grown-roomy : (rows : ℕ) (c : Configuration) (result : Result (Unit {0}) Error) → validated c ≡ Ok tt → IfErr result (λ e. e ≡ OutOfMemory)
+    → IfOk result (λ _. chunk_count rows c.shard_bytes * 64 < 2 ^ 64) → (chunk_count rows c.shard_bytes * 64 < 2 ^ 64 → IsOk result) → result ≡ started rows c
+grown-roomy rows c (Ok tt) valid short fits enough = sym (started-roomy rows c valid fits)
+grown-roomy rows c (Err e) valid short fits enough = started-short {S = Unit {0}} rows c (Err e) e refl valid short enough
+
+-- a success is no want of memory
+pub made-not_short : (result : Result (Unit {0}) Error) → IsOk result → result ≡ Err OutOfMemory → ⊥
+made-not_short (Ok x) made is = cc
+made-not_short (Err e) made is = cc
 
 -- an encoder over rows of a shape with nothing given is a fresh one
 pub encoder_state-fresh : (rate : Rate) (rows : EncoderRows) (shape : EncoderShape) → rows.shape ≡ shape → rows.given_count ≡ 0

@@ -21,7 +21,8 @@ use Rattle.rs_rate.specs.DecoderView.{configuration_of as decoder_configuration,
 use Rattle.rs_rate.specs.Marks.{mark_at, is_given, given_shards}
 use Rattle.rs_rate.specs.ShardRows.{chunk_count, shard_laid_out}
 
-all-up_to : (P : Shard → Type 0) (n : ℕ) (f : ℕ → Shard) → ((i : ℕ) → i < n → P (f i)) → All P (up_to n f)
+-- what holds of each of the first n values holds of their list
+pub all-up_to : (P : Shard → Type 0) (n : ℕ) (f : ℕ → Shard) → ((i : ℕ) → i < n → P (f i)) → All P (up_to n f)
 all-up_to P n f each i d h =
     let inside : i < n = subst (λ (m : ℕ). i < m) (length-up_to n f) h in subst P (sym (get-up_to n f i d inside)) (each i inside)
 

@@ -6,11 +6,13 @@
 ghost use Rattle.std.specs.Prelude.{◌≡◌, ℕ, ◌+◌, ◌*◌, ◌%◌, ◌^◌, ◌<◌, ◌≤◌, ◌≢◌, ◌⊎◌, length, slice_index, bit_xor};
 ghost use Rattle.rs_field.specs.Transform.{forward};
 ghost use Rattle.rs_field.specs.Tables.{IsSkew, scaled};
-ghost use Rattle.rs_field.specs.Rows.{chunk, symbol, SameOutsideTwo};
-ghost use Rattle.rs_field.specs.View.{cell, word, Fits, SameShape, SameRowsOutside, SameRowsOutsideTwo, AreZero};
-ghost use Rattle.rs_field.specs.Bounds.{CountsRows, TransformCounts};
+ghost use Rattle.rs_field.specs.Rows.{chunk, symbol};
+ghost use Rattle.rs_field.specs.Pairs.{IsForwardStep, IsBackwardStep};
+ghost use Rattle.rs_field.specs.View.{word, Fits, SameShape, SameRowsOutside, AreZero};
+ghost use Rattle.rs_field.specs.Bounds.{TransformCounts};
 ghost use Rattle.rs_field.specs.Inverse.{TransformsAreInverse};
 
+use super::pairs::{PairStep, step_pairs};
 use super::tables::Skew;
 use super::{GfElement, ShardsRefMut, Steps};
 
@@ -40,164 +42,50 @@ pub trait Butterfly {
 
 // A symbol is a word, as its bytes are bytes. This and the two functions below do nothing when they run: they tell the
 // checker so where a transform of one row leaves that row as it is.
-fn rows_fit(rows: &ShardsRefMut<'_>)
+fn row_symbols_are_words(rows: &ShardsRefMut<'_>)
     requires { Fits rows.now }
     ensures { (k s i : ℕ) → k < rows.now.shard_len_64 → s < 32 → i < rows.now.shard_count → word rows.now k s i < 65536 }
 {
-    symbols_fit(rows.chunks);
+    symbols_are_words(rows.chunks);
 }
 
-fn symbols_fit(chunks: &[[u8; 64]])
+fn symbols_are_words(chunks: &[[u8; 64]])
     ensures { (k s : ℕ) → k < length chunks.now → s < 32 → symbol (chunk chunks.now k) s < 65536 }
 {
-    bytes_fit(chunks.as_flattened());
+    bytes_are_small(chunks.as_flattened());
 }
 
-fn bytes_fit(bytes: &[u8])
+fn bytes_are_small(bytes: &[u8])
     ensures { (j : ℕ) → slice_index bytes.now j < 256 }
 {}
 
-// The forward butterfly of the n chunks from a on and those from b on.
-fn fft_parts<B: Butterfly>(
-    butterfly: &B,
-    chunks: &mut [[u8; 64]],
-    a: usize,
-    b: usize,
-    n: usize,
+// The forward butterfly of a factor.
+#[derive(Drop)]
+struct Forward<'b, B> {
+    butterfly: &'b B,
     log_m: GfElement,
-)
-    requires apart { a + n ≤ b }
-    requires within { b + n ≤ length chunks.old }
-    ensures first { (k s : ℕ) → k < n → s < 32
-        → symbol (chunk chunks.new (a + k)) s ≡ bit_xor (symbol (chunk chunks.old (a + k)) s) (scaled log_m (symbol (chunk chunks.old (b + k)) s)) }
-    ensures second { (k s : ℕ) → k < n → s < 32
-        → symbol (chunk chunks.new (b + k)) s ≡ bit_xor (symbol (chunk chunks.old (b + k)) s) (symbol (chunk chunks.new (a + k)) s) }
-    ensures others { SameOutsideTwo a (a + n) b (b + n) chunks.old chunks.new }
-{
-    let (front, back) = chunks.split_at_mut(b);
-    let x = &mut front[a..a + n];
-    let y = &mut back[..n];
-    butterfly.fft_butterfly(x, y, log_m);
 }
 
-// The backward butterfly of the n chunks from a on and those from b on.
-fn ifft_parts<B: Butterfly>(
-    butterfly: &B,
-    chunks: &mut [[u8; 64]],
-    a: usize,
-    b: usize,
-    n: usize,
-    log_m: GfElement,
-)
-    requires apart { a + n ≤ b }
-    requires within { b + n ≤ length chunks.old }
-    ensures first { (k s : ℕ) → k < n → s < 32
-        → symbol (chunk chunks.new (a + k)) s ≡ bit_xor (symbol (chunk chunks.old (a + k)) s) (scaled log_m (symbol (chunk chunks.new (b + k)) s)) }
-    ensures second { (k s : ℕ) → k < n → s < 32
-        → symbol (chunk chunks.new (b + k)) s ≡ bit_xor (symbol (chunk chunks.old (b + k)) s) (symbol (chunk chunks.old (a + k)) s) }
-    ensures others { SameOutsideTwo a (a + n) b (b + n) chunks.old chunks.new }
-{
-    let (front, back) = chunks.split_at_mut(b);
-    let x = &mut front[a..a + n];
-    let y = &mut back[..n];
-    butterfly.ifft_butterfly(x, y, log_m);
-}
+impl<B: Butterfly> PairStep for Forward<'_, B> {
+    ghost related = { λ step. IsForwardStep step.log_m };
 
-// The forward butterfly of rows a and b.
-fn fft_rows<B: Butterfly>(
-    butterfly: &B,
-    steps: &mut Steps,
-    rows: &mut ShardsRefMut<'_>,
-    a: usize,
-    b: usize,
-    log_m: GfElement,
-)
-    requires fits { Fits rows.old }
-    requires apart { a < b }
-    requires within { b < rows.old.shard_count }
-    ensures shape { SameShape rows.old rows.new }
-    ensures first { (k s : ℕ) → k < rows.old.shard_len_64 → s < 32
-        → word rows.new k s a ≡ bit_xor (word rows.old k s a) (scaled log_m (word rows.old k s b)) }
-    ensures second { (k s : ℕ) → k < rows.old.shard_len_64 → s < 32
-        → word rows.new k s b ≡ bit_xor (word rows.old k s b) (word rows.new k s a) }
-    ensures others { SameRowsOutsideTwo a (a + 1) b (b + 1) rows.old rows.new }
-    ensures counts { CountsRows 1 steps.old steps.new }
-{
-    steps.row_step();
-    let n = rows.shard_len_64;
-    fft_parts(butterfly, rows.chunks, a * n, b * n, n, log_m);
-}
-
-// The backward butterfly of rows a and b.
-fn ifft_rows<B: Butterfly>(
-    butterfly: &B,
-    steps: &mut Steps,
-    rows: &mut ShardsRefMut<'_>,
-    a: usize,
-    b: usize,
-    log_m: GfElement,
-)
-    requires fits { Fits rows.old }
-    requires apart { a < b }
-    requires within { b < rows.old.shard_count }
-    ensures shape { SameShape rows.old rows.new }
-    ensures first { (k s : ℕ) → k < rows.old.shard_len_64 → s < 32
-        → word rows.new k s a ≡ bit_xor (word rows.old k s a) (scaled log_m (word rows.new k s b)) }
-    ensures second { (k s : ℕ) → k < rows.old.shard_len_64 → s < 32
-        → word rows.new k s b ≡ bit_xor (word rows.old k s b) (word rows.old k s a) }
-    ensures others { SameRowsOutsideTwo a (a + 1) b (b + 1) rows.old rows.new }
-    ensures counts { CountsRows 1 steps.old steps.new }
-{
-    steps.row_step();
-    let n = rows.shard_len_64;
-    ifft_parts(butterfly, rows.chunks, a * n, b * n, n, log_m);
-}
-
-// The forward butterflies of rows start to start + dist - 1, each with the row that is dist further on.
-fn fft_block<B: Butterfly>(
-    butterfly: &B,
-    steps: &mut Steps,
-    rows: &mut ShardsRefMut<'_>,
-    start: usize,
-    dist: usize,
-    log_m: GfElement,
-)
-    requires fits { Fits rows.old }
-    requires within { start + 2 * dist ≤ rows.old.shard_count }
-    ensures shape { SameShape rows.old rows.new }
-    ensures first { (i k s : ℕ) → i < dist → k < rows.old.shard_len_64 → s < 32
-        → word rows.new k s (start + i) ≡ bit_xor (word rows.old k s (start + i)) (scaled log_m (word rows.old k s (start + dist + i))) }
-    ensures second { (i k s : ℕ) → i < dist → k < rows.old.shard_len_64 → s < 32
-        → word rows.new k s (start + dist + i) ≡ bit_xor (word rows.old k s (start + dist + i)) (word rows.new k s (start + i)) }
-    ensures others { SameRowsOutside start (start + 2 * dist) rows.old rows.new }
-    ensures counts { CountsRows dist steps.old steps.new }
-{
-    for i in 0..dist {
-        fft_rows(butterfly, steps, rows, start + i, start + dist + i, log_m);
+    fn step(&self, x: &mut [[u8; 64]], y: &mut [[u8; 64]]) {
+        self.butterfly.fft_butterfly(x, y, self.log_m);
     }
 }
 
-// The backward butterflies of rows start to start + dist - 1, each with the row that is dist further on.
-fn ifft_block<B: Butterfly>(
-    butterfly: &B,
-    steps: &mut Steps,
-    rows: &mut ShardsRefMut<'_>,
-    start: usize,
-    dist: usize,
+// The backward butterfly of a factor.
+#[derive(Drop)]
+struct Backward<'b, B> {
+    butterfly: &'b B,
     log_m: GfElement,
-)
-    requires fits { Fits rows.old }
-    requires within { start + 2 * dist ≤ rows.old.shard_count }
-    ensures shape { SameShape rows.old rows.new }
-    ensures first { (i k s : ℕ) → i < dist → k < rows.old.shard_len_64 → s < 32
-        → word rows.new k s (start + i) ≡ bit_xor (word rows.old k s (start + i)) (scaled log_m (word rows.new k s (start + dist + i))) }
-    ensures second { (i k s : ℕ) → i < dist → k < rows.old.shard_len_64 → s < 32
-        → word rows.new k s (start + dist + i) ≡ bit_xor (word rows.old k s (start + dist + i)) (word rows.old k s (start + i)) }
-    ensures others { SameRowsOutside start (start + 2 * dist) rows.old rows.new }
-    ensures counts { CountsRows dist steps.old steps.new }
-{
-    for i in 0..dist {
-        ifft_rows(butterfly, steps, rows, start + i, start + dist + i, log_m);
+}
+
+impl<B: Butterfly> PairStep for Backward<'_, B> {
+    ghost related = { λ step. IsBackwardStep step.log_m };
+
+    fn step(&self, x: &mut [[u8; 64]], y: &mut [[u8; 64]]) {
+        self.butterfly.ifft_butterfly(x, y, self.log_m);
     }
 }
 
@@ -232,12 +120,13 @@ pub fn fft<B: Butterfly>(
     ensures counts { TransformCounts size steps.old steps.new }
 {
     if size == 1 {
-        rows_fit(rows);
+        row_symbols_are_words(rows);
     } else if truncated_size > 0 {
         let half = size / 2;
         let low = truncated_size.min(half);
         let log_m = skew[skew_delta + half - 1];
-        fft_block(butterfly, steps, rows, pos, half, log_m);
+        let forward = Forward { butterfly, log_m };
+        step_pairs(&forward, steps, rows, pos, pos + half, half);
         fft(butterfly, skew, steps, rows, pos, half, low, skew_delta);
         if truncated_size > half {
             let high = truncated_size - half;
@@ -287,7 +176,7 @@ pub fn ifft<B: Butterfly>(
     ensures counts { TransformCounts size steps.old steps.new }
 {
     if size == 1 {
-        rows_fit(rows);
+        row_symbols_are_words(rows);
     } else if truncated_size > 0 {
         let half = size / 2;
         let low = truncated_size.min(half);
@@ -306,7 +195,8 @@ pub fn ifft<B: Butterfly>(
                 skew_delta + half,
             );
         }
-        ifft_block(butterfly, steps, rows, pos, half, log_m);
+        let backward = Backward { butterfly, log_m };
+        step_pairs(&backward, steps, rows, pos, pos + half, half);
     }
 }
 

@@ -180,6 +180,7 @@ impl DecoderRows {
         ensures shape { IfOk result (λ x. x.shape ≡ shape) }
         ensures state { IfOk result (λ x. (rate : Rate) → decoder_state rate x ≡ fresh_decoder (configuration_of rate shape)) }
         ensures memory { IfErr result (λ e. e ≡ Error.OutOfMemory) }
+        ensures fits { IfOk result (λ _. chunk_count_of shape.frame.row_count shape.shard_bytes * 64 < 2 ^ 64) }
         ensures grown { IfOk result (λ x. IfSome work (λ w. Grows (work_room w) (memory_room x.memory))) }
         ensures enough { IfSome work (λ w. chunk_count_of shape.frame.row_count shape.shard_bytes * 64 < 2 ^ 64
             → HasRoom (work_room w) shape.frame.row_count shape.shard_bytes → IsOk result) }
@@ -209,6 +210,7 @@ impl DecoderRows {
         ensures shape { OnOk result (self.new.shape ≡ shape) }
         ensures same_shape { OnErr result (self.new.shape ≡ self.old.shape) }
         ensures memory { IfErr result (λ e. e ≡ Error.OutOfMemory) }
+        ensures fits { IfOk result (λ _. chunk_count_of shape.frame.row_count shape.shard_bytes * 64 < 2 ^ 64) }
         ensures grown { Grows (memory_room self.old.memory) (memory_room self.new.memory) }
         ensures enough { chunk_count_of shape.frame.row_count shape.shard_bytes * 64 < 2 ^ 64
             → HasRoom (memory_room self.old.memory) shape.frame.row_count shape.shard_bytes → IsOk result }

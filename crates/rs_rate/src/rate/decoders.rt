@@ -65,7 +65,7 @@ impl<E: Engine, C: Code> RateDecoder<E> for Decoder<E, C> {
         engine: E,
         work: Option<DecoderWork>,
     ) -> Result<Decoder<E, C>, Error> {
-        validate::<C>(original_count, recovery_count, shard_bytes)?;
+        Self::validate(original_count, recovery_count, shard_bytes)?;
         let shape = decoder_shape::<C>(original_count, recovery_count, shard_bytes);
         let rows = DecoderRows::new(alloc, shape, work)?;
         Ok(Decoder {

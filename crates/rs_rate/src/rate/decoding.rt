@@ -6,6 +6,7 @@
 ghost use Rattle.std.specs.Prelude.{◌≡◌, ℕ, ◌+◌, ◌%◌, ◌^◌, ◌*◌, ◌<◌, ◌≤◌, length, slice_index};
 ghost use Rattle.rs_field.specs.Counts.{Rate};
 ghost use Rattle.rs_field.specs.Decoder.{fresh_decoder, FillsMissing};
+ghost use Rattle.rs_field.specs.Layout.{row_len as chunks_for};
 ghost use Rattle.rs_field.specs.Tables.{IsLog};
 ghost use Rattle.rs_field.specs.View.{Fits, SameShape};
 ghost use Rattle.rs_rate.specs.DecoderView.{configuration_of, decoder_state, memory_room, restored_of};
@@ -42,9 +43,7 @@ pub(crate) fn decode_rows<E: Engine>(engine: &E, steps: &mut Steps, rows: &mut D
     ensures room { memory_room rows.new.memory ≡ memory_room rows.old.memory }
 {
     let shape = rows.shape;
-    if rows.originals_given < shape.original_count {
-        restore(engine, steps, &mut rows.memory, shape);
-    }
+    restore(engine, steps, &mut rows.memory, shape, rows.originals_given);
     in_order_are_bytes(
         rows.memory.chunks.as_slice(),
         shape.frame.row_count,
@@ -59,12 +58,13 @@ pub(crate) fn decode_rows<E: Engine>(engine: &E, steps: &mut Steps, rows: &mut D
     rows.recovery_given = 0;
 }
 
-// Restores the missing originals in their rows.
+// Restores the missing originals in their rows, where an original is missing.
 fn restore<E: Engine>(
     engine: &E,
     steps: &mut Steps,
     memory: &mut DecoderMemory,
     shape: DecoderShape,
+    originals_given: usize,
 )
     requires power { (d : ℕ) × (shape.frame.row_count ≡ 2 ^ d) }
     requires few { shape.frame.row_count ≤ 65536 }
@@ -77,6 +77,9 @@ fn restore<E: Engine>(
     ensures length { length memory.new.chunks.items ≡ length memory.old.chunks.items }
     ensures room { memory_room memory.new ≡ memory_room memory.old }
 {
+    if originals_given >= shape.original_count {
+        return;
+    }
     mark_erasures(
         memory.erasures.as_mut_slice(),
         memory.marks.as_slice(),
@@ -138,6 +141,31 @@ fn restore_chunks<E: Engine>(
     requires whole { chunk_count shape.frame.row_count shape.shard_bytes ≤ length chunks.old }
     requires marked { shape.frame.row_count ≤ length located.marks.now }
 {
+    restore_words(engine, steps, chunks, located, shape);
+    for i in 0..shape.original_count {
+        let row = shape.frame.originals_from + i;
+        if located.marks[row] != Mark::Given {
+            steps.row_step();
+            move_tail(chunks, row, shape.shard_bytes);
+        }
+    }
+}
+
+// Makes the words of the missing originals, over all chunks.
+fn restore_words<E: Engine>(
+    engine: &E,
+    steps: &mut Steps,
+    chunks: &mut [[u8; 64]],
+    located: Located<'_>,
+    shape: DecoderShape,
+)
+    requires power { (d : ℕ) × (shape.frame.row_count ≡ 2 ^ d) }
+    requires few { shape.frame.row_count ≤ 65536 }
+    requires originals { shape.frame.originals_from + shape.original_count ≤ shape.frame.row_count }
+    requires recovery { shape.frame.recovery_from + shape.recovery_count ≤ shape.frame.row_count }
+    requires whole { shape.frame.row_count * chunks_for shape.shard_bytes ≤ length chunks.old }
+    requires marked { shape.frame.row_count ≤ length located.marks.now }
+{
     let frame = shape.frame;
     let from = frame.originals_from;
     let end = (from + shape.original_count).max(frame.recovery_from + shape.recovery_count);
@@ -145,12 +173,6 @@ fn restore_chunks<E: Engine>(
     locate_rows(engine, steps, &mut data, located, end);
     pass_rows(engine, steps, &mut data, end);
     reveal_rows(engine, steps, &mut data, located, from, shape.original_count);
-    for i in 0..shape.original_count {
-        if located.marks[from + i] != Mark::Given {
-            steps.row_step();
-            move_tail(chunks, from + i, shape.shard_bytes);
-        }
-    }
 }
 
 // Multiplies the given rows by their locator entry, and clears the others.

@@ -81,6 +81,7 @@ impl EncoderRows {
         requires recovery { shape.recovery_count ≤ shape.row_count }
         ensures made { IfOk result (λ x. (x.shape ≡ shape) × (x.given_count ≡ 0)) }
         ensures memory { IfErr result (λ e. e ≡ Error.OutOfMemory) }
+        ensures fits { IfOk result (λ _. shape_chunks shape * 64 < 2 ^ 64) }
         ensures grown { IfOk result (λ x. IfSome work (λ w. work_room w ≤ vec_capacity x.chunks)) }
         ensures enough { IfSome work (λ w. shape_chunks shape * 64 < 2 ^ 64 → shape_chunks shape ≤ work_room w → IsOk result) }
     {
@@ -107,6 +108,7 @@ impl EncoderRows {
         ensures ok { OnOk result ((self.new.shape ≡ shape) × (self.new.given_count ≡ 0)) }
         ensures err { OnErr result ((self.new.shape ≡ self.old.shape) × (self.new.given_count ≡ self.old.given_count) × (self.new.chunks.items ≡ self.old.chunks.items)) }
         ensures memory { IfErr result (λ e. e ≡ Error.OutOfMemory) }
+        ensures fits { IfOk result (λ _. shape_chunks shape * 64 < 2 ^ 64) }
         ensures grown { vec_capacity self.old.chunks ≤ vec_capacity self.new.chunks }
         ensures enough { shape_chunks shape * 64 < 2 ^ 64 → shape_chunks shape ≤ vec_capacity self.old.chunks → IsOk result }
     {

@@ -66,7 +66,7 @@ impl<E: Engine, C: Code> RateEncoder<E> for Encoder<E, C> {
         engine: E,
         work: Option<EncoderWork>,
     ) -> Result<Encoder<E, C>, Error> {
-        validate::<C>(original_count, recovery_count, shard_bytes)?;
+        Self::validate(original_count, recovery_count, shard_bytes)?;
         let shape = encoder_shape::<C>(original_count, recovery_count, shard_bytes);
         let rows = EncoderRows::new(alloc, shape, work)?;
         Ok(Encoder {

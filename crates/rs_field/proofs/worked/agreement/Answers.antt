@@ -15,10 +15,10 @@ use Rattle.rs_field.specs.Decoder.{IsAgreeing, IsConsistent, Restored}
 use Rattle.rs_field.specs.WorkedCode.{low_bytes, two_given, surplus_given, MixtureRow}
 use Rattle.rs_field.proofs.Linear.{passes_below}
 use Rattle.rs_field.proofs.Product.{product_zero}
-use Rattle.rs_field.proofs.Roots.{value-nil, value-cons, same_from_values}
+use Rattle.rs_field.proofs.Roots.{words_from, value-nil, value-cons}
+use Rattle.rs_field.proofs.Values.{same_from_values}
 use Rattle.rs_field.proofs.Columns.{shard_from_columns, columns-at}
 use Rattle.rs_field.proofs.Given.{entered_cases, nothing_among, entered_among}
-use Rattle.rs_field.proofs.Unique.{words_from}
 use Rattle.rs_field.proofs.Decided.{shards_from, recovery_from, recovery_from_high}
 use Rattle.rs_field.proofs.worked.agreement.Goals as goal
 

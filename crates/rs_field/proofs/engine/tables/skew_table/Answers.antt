@@ -1,10 +1,10 @@
-use Rattle.std.proofs.Common.{◌≡◌, ◌≤◌, ◌<◌, ◌*◌, ◌^◌, ◌+◌, ◌-◌, ℕ, zero, suc, List, [], ◌∷◌, ◌++◌, get_or, length, cond, eqb, false, Bool, sym, ap, ◌∙◌, arith, refl, inl, inr, ne_eqb, pow_mono, one-mul, add-mul, mul-pos}
+use Rattle.std.proofs.Common.{◌≡◌, ◌≤◌, ◌<◌, ◌*◌, ◌^◌, ◌+◌, ◌-◌, ℕ, zero, suc, List, [], ◌∷◌, ◌++◌, get_or, length, sym, ap, ◌∙◌, arith, refl, inl, inr, ne_eqb, pow_mono, one-mul, add-mul, mul-pos}
 use Rattle.std.proofs.lemmas.List.{get_or_push, get_or_append_left, length-append}
 use Rattle.std.proofs.lemmas.Bool.{cases_eq, cases_lt}
 use Rattle.std.proofs.lemmas.Nat.{pow_pos, shl-shr}
-use Rattle.rs_field.specs.Field.{log}
 use Rattle.rs_field.specs.Subspace.{subspace}
 use Rattle.rs_field.specs.Tables.{IsExpLog}
+use Rattle.rs_field.proofs.Halves.{mark_zero, mark_word}
 use Rattle.rs_field.proofs.Subspace.{subspace_shift}
 use Rattle.rs_field.specs.Tables.{log_or_mark}
 use Rattle.rs_field.proofs.engine.tables.skew_table.Goals as goal
@@ -14,18 +14,10 @@ any_default [] i d e h = absurd (omega arith)
 any_default (x ∷ xs) zero d e h = refl
 any_default (x ∷ xs) (suc i) d e h = any_default xs i d e (omega arith)
 
-entry_zero : log_or_mark 0 ≡ 65535
-unfolding log_or_mark
-entry_zero = refl
-
-entry_word : (z : ℕ) → eqb z 0 ≡ false → log_or_mark z ≡ log z
-unfolding log_or_mark
-entry_word z e = ap (λ (b : Bool). cond b 65535 (log z)) e
-
 read : (exps logs : List ℕ) (z : ℕ) → IsExpLog exps logs → z < 65536 → get_or logs z 0 ≡ log_or_mark z
 read exps logs z h hz = elim (cases_eq z 0) [
-  | inl e ↦ ap (λ v. get_or logs v 0) e ∙ h.log_zero ∙ sym entry_zero ∙ ap log_or_mark (sym e)
-  | inr apart ↦ h.log_entry z (omega arith) hz ∙ sym (entry_word z (ne_eqb z 0 apart))
+  | inl e ↦ ap (λ v. get_or logs v 0) e ∙ h.log_zero ∙ sym mark_zero ∙ ap log_or_mark (sym e)
+  | inr apart ↦ h.log_entry z (omega arith) hz ∙ sym (mark_word z (ne_eqb z 0 apart))
 ]
 
 -- s_d(j - 2 ^ d) is 2u, for j = (2u + 1) * 2 ^ d

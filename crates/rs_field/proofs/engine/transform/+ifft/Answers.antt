@@ -1,15 +1,16 @@
 -- The butterflies come last: the rows before them are those that they make of the rows afterwards.
-use Rattle.std.proofs.Common.{◌≡◌, ℕ, ◌+◌, ◌*◌, ◌-◌, ◌/◌, ◌<◌, arith, ap, ◌∙◌, sym, refl, subst, inl, inr}
+use Rattle.std.proofs.Common.{◌≡◌, ℕ, ◌+◌, ◌-◌, ◌/◌, ◌<◌, arith, ap, ◌∙◌, sym, refl, subst, inl, inr}
 use Rattle.std.proofs.lemmas.Bool.{cases_lt}
 use Rattle.rs_field.specs.View.{word, SameShape, SameRowsOutside}
 use Rattle.rs_field.specs.Transform.{forward}
-use Rattle.rs_field.specs.Bounds.{CountsRows, transform_steps}
+use Rattle.rs_field.specs.Bounds.{CountsUpTo, transform_steps}
 use Rattle.rs_field.specs.declared.engine.shards.ShardsRefMut.{ShardsRefMut}
 use Rattle.rs_field.specs.declared.engine.steps.Steps.{Steps}
 use Rattle.rs_field.proofs.Halves.{half_power, two_halves, shift_half}
 use Rattle.rs_field.proofs.Combination.{forward-same}
-use Rattle.rs_field.proofs.Recursion.{fits_kept, word_same, above_one, one_row, zero_rows, IsBlock, IsUpperDone, ifft_lower, ifft_upper, counts_of_whole, counts_both_back, counts_lower_back}
-use Rattle.rs_field.proofs.RowOffsets.{outside_cell, outside_more, outside_both, shape_then}
+use Rattle.rs_field.proofs.Recursion.{fits_kept, word_same, above_one, one_row, zero_rows, IsBlock, IsUpperDone, ifft_lower, ifft_upper}
+use Rattle.rs_field.proofs.Counting.{counts_rows, counts_then, counts_within, counts_of_whole}
+use Rattle.rs_field.proofs.RowOffsets.{outside_cell, outside_more, outside_both, outside_halves, shape_then}
 use Rattle.rs_field.proofs.engine.transform.+ifft.Goals as goal
 use Rattle.rs_field.proofs.engine.transform.+ifft.Goals.{then-truncated_size-half, else-truncated_size-half}
 
@@ -71,7 +72,7 @@ ifft-requires-then-truncated_size-half g t c κs within =
 pub returns-then-size-eq1-clause-values : goal.returns-then-size-eq1-clause-values
 returns-then-size-eq1-clause-values g t c k s i hk hs hi =
     one_row c.args.size c.args.skew_delta i (λ q. word c.args.rows.now k s (c.args.pos + q)) c.if-size-eq1.true (omega arith)
-    (c.rows_fit.ensures k s (c.args.pos + 0) hk hs (omega arith))
+    (c.row_symbols_are_words.ensures k s (c.args.pos + 0) hk hs (omega arith))
 
 pub returns-else-truncated_size-gt0-clause-values : goal.returns-else-truncated_size-gt0-clause-values
 returns-else-truncated_size-gt0-clause-values g t c k s i hk hs hi =
@@ -114,8 +115,8 @@ returns-after-truncated_size-half-clause-values g t c k s i hk hs hi =
           c.ifft.ensures.values k s i (omega arith) hs (omega arith)
           ∙ forward-same (c.args.size / 2) c.args.skew_delta (λ q. word c.ifft.new.rows k s (c.args.pos + q)) (λ q. word c.if-truncated_size-half.rows k s (c.args.pos + q)) i
           (λ q hq. sym (word_same c.if-truncated_size-half.rows c.ifft.new.rows k s (c.args.pos + q) (c.args.pos + q) (done.same k q (omega arith) hq)))
-          ∙ ifft_lower c.args.skew.now c.if-truncated_size-half.rows c.ifft_block.new.rows k s c.args.pos c.args.size c.args.skew_delta i block low
-          (λ q hq. c.ifft_block.ensures.first q k s hq (omega arith) hs)
+          ∙ ifft_lower c.args.skew.now c.if-truncated_size-half.rows c.step_pairs.new.rows k s c.args.pos c.args.size c.args.skew_delta i block low
+          (λ q hq. (c.step_pairs.ensures.pairs q k hq (omega arith) s hs).0)
       | inr high ↦
           let j : ℕ = i - c.args.size / 2 in
           let back : c.args.size / 2 + j ≡ i = omega arith in
@@ -124,27 +125,33 @@ returns-after-truncated_size-half-clause-values g t c k s i hk hs hi =
           (kept_low (c.args.pos + i) k (omega arith) (inr (omega arith))))
           ∙ ap (λ p. word c.ifft.new.rows k s p) there
           ∙ done.values k s j (omega arith) hs (omega arith)
-          ∙ ifft_upper c.args.skew.now c.if-truncated_size-half.rows c.ifft_block.new.rows k s c.args.pos c.args.size c.args.skew_delta j block (omega arith)
-          (λ q hq. c.ifft_block.ensures.first q k s hq (omega arith) hs)
-          (λ q hq. c.ifft_block.ensures.second q k s hq (omega arith) hs)
-          ∙ ap (λ p. forward c.args.size c.args.skew_delta (λ q. word c.ifft_block.new.rows k s (c.args.pos + q)) p) back
+          ∙ ifft_upper c.args.skew.now c.if-truncated_size-half.rows c.step_pairs.new.rows k s c.args.pos c.args.size c.args.skew_delta j block (omega arith)
+          (λ q hq. (c.step_pairs.ensures.pairs q k hq (omega arith) s hs).0)
+          (λ q hq. (c.step_pairs.ensures.pairs q k hq (omega arith) s hs).1)
+          ∙ ap (λ p. forward c.args.size c.args.skew_delta (λ q. word c.step_pairs.new.rows k s (c.args.pos + q)) p) back
     ]
 
 pub returns-after-truncated_size-half-clause-counts :
     goal.returns-after-truncated_size-half-clause-counts
 returns-after-truncated_size-half-clause-counts g t c =
     let large : 1 < c.args.size = above_one c.args.size c.if-size-eq1.false c.requires.power in
-    counts_of_whole c.args.size c.args.skew_delta c.args.steps.now c.ifft_block.new.steps large c.requires.power c.requires.points
-    (elim c.if-truncated_size-half.branch [
+    let half = c.args.size / 2 in
+    let n = transform_steps half in
+    let old = c.args.steps.now in
+    let low = c.ifft.new.steps in
+    let both = c.if-truncated_size-half.steps in
+    let new = c.step_pairs.new.steps in
+    let most : CountsUpTo (n + n) 0 0 old both =
+    elim c.if-truncated_size-half.branch [
       | then-truncated_size-half w ↦
-          counts_both_back (c.args.size / 2) (transform_steps (c.args.size / 2)) c.args.steps.now c.ifft.new.steps w.ifft-then-truncated_size-half.new.steps c.ifft_block.new.steps
-          c.ifft.ensures.counts w.ifft-then-truncated_size-half.ensures.counts
-          (subst (λ (x : Steps). CountsRows (c.args.size / 2) x c.ifft_block.new.steps) w.steps-is c.ifft_block.ensures.counts)
+          let high = w.ifft-then-truncated_size-half.new.steps in
+          subst (λ (x : Steps). CountsUpTo (n + n) 0 0 old x) (sym w.steps-is)
+          (counts_then n n old low high c.ifft.ensures.counts w.ifft-then-truncated_size-half.ensures.counts)
       | else-truncated_size-half w ↦
-          counts_lower_back (c.args.size / 2) (transform_steps (c.args.size / 2)) c.args.steps.now c.ifft.new.steps c.ifft_block.new.steps
-          c.ifft.ensures.counts
-          (subst (λ (x : Steps). CountsRows (c.args.size / 2) x c.ifft_block.new.steps) w.steps-is c.ifft_block.ensures.counts)
-    ])
+          subst (λ (x : Steps). CountsUpTo (n + n) 0 0 old x) (sym w.steps-is) (counts_within n (n + n) old low (omega arith) c.ifft.ensures.counts)
+    ] in
+    counts_of_whole c.args.size c.args.skew_delta (n + n + half) old new large c.requires.power c.requires.points (omega arith)
+    (counts_then (n + n) half old both new most (counts_rows half both new c.step_pairs.ensures.counts))
 
 pub returns-after-truncated_size-half-clause-others :
     goal.returns-after-truncated_size-half-clause-others
@@ -156,7 +163,7 @@ returns-after-truncated_size-half-clause-others g t c =
     let size = c.args.size in
     let old = c.args.rows.now in
     let low = c.ifft.ensures in
-    let last = c.ifft_block.ensures in
+    let last = c.step_pairs.ensures in
     let most : SameShape old c.if-truncated_size-half.rows × SameRowsOutside pos (pos + size) old c.if-truncated_size-half.rows =
     elim c.if-truncated_size-half.branch [
       | then-truncated_size-half w ↦
@@ -173,5 +180,6 @@ returns-after-truncated_size-half-clause-others g t c =
             outside_more pos (pos + half) pos (pos + size) old c.ifft.new.rows low.others (omega arith) (omega arith),
           )
     ] in
-    outside_both pos (pos + size) pos (pos + 2 * half) pos (pos + size) old c.if-truncated_size-half.rows c.ifft_block.new.rows most.0 most.1 last.others
+    let changed = outside_halves pos half c.if-truncated_size-half.rows c.step_pairs.new.rows last.others in
+    outside_both pos (pos + size) pos (pos + half + half) pos (pos + size) old c.if-truncated_size-half.rows c.step_pairs.new.rows most.0 most.1 changed
     (omega arith) (omega arith) (omega arith) (omega arith)

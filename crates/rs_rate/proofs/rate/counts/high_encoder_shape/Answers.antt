@@ -1,6 +1,7 @@
 use Rattle.std.proofs.Common.{ℕ, sym, ap₂, ◌∙◌}
 use Rattle.rs_rate.specs.declared.rate.encoder_work.EncoderShape.{EncoderShape}
-use Rattle.rs_rate.proofs.RateLemmas.{high_turned, high_small, high_shape-is}
+use Rattle.rs_rate.proofs.HighCounts.{high_turned, high_small}
+use Rattle.rs_rate.proofs.RateLemmas.{high_shape-is}
 use Rattle.rs_rate.proofs.rate.counts.high_encoder_shape.Goals as goal
 
 pub power_of_two-block_rows-requires : goal.power_of_two-block_rows-requires

@@ -1,5 +1,5 @@
 use Rattle.std.proofs.Common.{◌∙◌}
-use Rattle.rs_rate.proofs.RateLemmas.{high_turned}
+use Rattle.rs_rate.proofs.HighCounts.{high_turned}
 use Rattle.rs_rate.proofs.rate.counts.high_supports.Goals as goal
 
 pub returns : goal.returns

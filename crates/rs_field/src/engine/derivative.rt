@@ -1,0 +1,80 @@
+//! The derivative of a polynomial whose coefficients in the subspace basis are rows.
+ghost use Rattle.std.specs.Prelude.{◌≡◌, ℕ, ◌+◌, ◌*◌, ◌^◌, ◌<◌, ◌≤◌};
+ghost use Rattle.rs_field.specs.View.{word, Fits, SameShape, SameRowsOutside};
+ghost use Rattle.rs_field.specs.Derivative.{IsDerivativeAdded};
+ghost use Rattle.rs_field.specs.Bounds.{TransformCounts};
+
+use super::utils::xor_within;
+use super::{ShardsRefMut, Steps};
+
+/// Adds to a polynomial its derivative, where the rows are its coefficients in the subspace basis.
+///
+/// In each symbol by itself, the rows become the coefficients of polynomial plus derivative. There is a power of two of
+/// rows, at most 65536. Each subspace polynomial has derivative one, so the step is XORs of rows alone; the method is
+/// that of Lin, Chung and Han in the form of Leopard-RS.
+pub fn formal_derivative(steps: &mut Steps, data: &mut ShardsRefMut<'_>)
+    requires fits { Fits «data».old }
+    requires power { (d : ℕ) × («data».old.shard_count ≡ 2 ^ d) }
+    requires words { «data».old.shard_count ≤ 65536 }
+    ensures shape { SameShape «data».old «data».new }
+    ensures others { SameRowsOutside 0 «data».old.shard_count «data».old «data».new }
+    ensures derivative { (k s : ℕ) → k < «data».old.shard_len_64 → s < 32
+        → IsDerivativeAdded «data».old.shard_count (word «data».old k s) (word «data».new k s) }
+    ensures counts { TransformCounts «data».old.shard_count steps.old steps.new }
+{
+    let size = data.len();
+    derivative_step(steps, data, 0, size);
+}
+
+// The same of the `size` rows from `pos` on, depth first. The rows of the second half are added to the first half's
+// sums before the step changes them: they then are still the polynomial's own.
+fn derivative_step(steps: &mut Steps, data: &mut ShardsRefMut<'_>, pos: usize, size: usize)
+    requires fits { Fits «data».old }
+    requires power { (d : ℕ) × (size ≡ 2 ^ d) }
+    requires words { size ≤ 65536 }
+    requires within { pos + size ≤ «data».old.shard_count }
+    ensures shape { SameShape «data».old «data».new }
+    ensures others { SameRowsOutside pos (pos + size) «data».old «data».new }
+    ensures derivative { (k s : ℕ) → k < «data».old.shard_len_64 → s < 32
+        → IsDerivativeAdded size (λ q. word «data».old k s (pos + q)) (λ q. word «data».new k s (pos + q)) }
+    ensures counts { TransformCounts size steps.old steps.new }
+{
+    if size > 1 {
+        let half = size / 2;
+        derivative_step(steps, data, pos, half);
+        xor_within(steps, data, pos, pos + half, half);
+        derivative_step(steps, data, pos + half, half);
+    }
+}
+
+#[cfg(test)]
+mod tests {
+    use super::*;
+
+    // What the rows are by Leopard-RS's loop: for i = 1, 2, .. and w the lowest set bit of i, rows i to i + w - 1 are
+    // XORed into rows i - w to i - 1.
+    #[test]
+    fn the_derivative_adds_rows(rt: HostRuntime) {
+        let mut steps = Steps::new();
+        let mut four = [[0x01; 64], [0x02; 64], [0x04; 64], [0x08; 64]];
+        let mut rows = ShardsRefMut::new(4, 1, &mut four);
+        formal_derivative(&mut steps, &mut rows);
+        // 0 ^= 1; 0 ^= 2, 1 ^= 3; 2 ^= 3
+        assert_eq!(rt; four, [[0x07; 64], [0x0A; 64], [0x0C; 64], [0x08; 64]]);
+
+        let mut eight = [
+            [0x01; 64], [0x02; 64], [0x04; 64], [0x08; 64], [0x10; 64], [0x20; 64], [0x40; 64],
+            [0x80; 64],
+        ];
+        let mut rows = ShardsRefMut::new(8, 1, &mut eight);
+        formal_derivative(&mut steps, &mut rows);
+        // 0 ^= 1; 0 ^= 2, 1 ^= 3; 2 ^= 3; 0 ^= 4, 1 ^= 5, 2 ^= 6, 3 ^= 7; 4 ^= 5; 4 ^= 6, 5 ^= 7; 6 ^= 7
+        assert_eq!(rt;
+            eight,
+            [
+                [0x17; 64], [0x2A; 64], [0x4C; 64], [0x88; 64], [0x70; 64], [0xA0; 64], [0xC0; 64],
+                [0x80; 64],
+            ]
+        );
+    }
+}

@@ -1,0 +1,35 @@
+-- The recovery shards of a message, from the words of each column.
+use Rattle.std.proofs.Common.{◌≡◌, ℕ, zero, suc, ◌+◌, ◌/◌, ◌<◌, List, [], ◌∷◌, ◌++◌, map, refl, sym, ap, ap₂, ◌∙◌, subst, arith}
+use Rattle.std.proofs.lemmas.List.{map-append}
+use Rattle.rs_field.specs.Column.{Shard, IsShard, column, columns}
+use Rattle.rs_field.specs.Code.{AreRecovery, AreRecoveryWords}
+use Rattle.rs_field.specs.Configuration.{Configuration}
+use Rattle.rs_field.specs.Counts.{Rate}
+use Rattle.rs_field.specs.Layout.{up_to}
+use Rattle.rs_field.proofs.LayoutLemmas.{length-up_to, up_to-same}
+use Rattle.rs_rate.specs.Coding.{CodesWords}
+use Rattle.rs_rate.specs.Laws.{all-up_to}
+
+-- the same coding, of words that are read in another way
+pub words-read : (rate : Rate) (k r : ℕ) (old new old_read new_read : ℕ → ℕ) → ((i : ℕ) → i < k → old_read i ≡ old i) → ((i : ℕ) → i < r → new_read i ≡ new i)
+    → CodesWords rate k r old new → CodesWords rate k r old_read new_read
+words-read rate k r old new old_read new_read same_old same_new coded =
+    subst (λ (words : List ℕ). AreRecoveryWords rate k r words (up_to r new_read)) (sym (up_to-same k old_read old same_old))
+    (subst (λ (words : List ℕ). AreRecoveryWords rate k r (up_to k old) words) (sym (up_to-same r new_read new same_new)) coded)
+
+columns-up_to : (j n : ℕ) (shards : ℕ → Shard) → columns j (up_to n shards) ≡ up_to n (λ i. column j (shards i))
+columns-up_to j zero shards = refl
+columns-up_to j (suc n) shards =
+    map-append (column j) (up_to n shards) (shards n ∷ []) ∙ ap (λ words. words ++ column j (shards n) ∷ []) (columns-up_to j n shards)
+
+-- shards whose words are the recovery words in each column are the message's recovery shards
+pub are_recovery : (c : Configuration) (laid moved : ℕ → Shard) → ((i : ℕ) → i < c.recovery_count → IsShard c.shard_bytes (moved i))
+    → ((j : ℕ) → j < c.shard_bytes / 2 → CodesWords c.rate c.original_count c.recovery_count (λ i. column j (laid i)) (λ i. column j (moved i)))
+    → AreRecovery c (up_to c.original_count laid) (up_to c.recovery_count moved)
+are_recovery c laid moved shards coded =
+    record {
+      shards = record { length_is = length-up_to c.recovery_count moved; each = all-up_to (IsShard c.shard_bytes) c.recovery_count moved shards };
+      words = λ j inside.
+          subst (λ (words : List ℕ). AreRecoveryWords c.rate c.original_count c.recovery_count words (columns j (up_to c.recovery_count moved))) (sym (columns-up_to j c.original_count laid))
+          (subst (λ (words : List ℕ). AreRecoveryWords c.rate c.original_count c.recovery_count (up_to c.original_count (λ i. column j (laid i))) words) (sym (columns-up_to j c.recovery_count moved)) (coded j inside));
+    }

@@ -1,0 +1,32 @@
+use Rattle.std.proofs.Common.{◌≡◌, ℕ, ◌+◌, true, false, sym, ap, ◌∙◌, arith}
+use Rattle.rs_rate.specs.Marks.{is_given}
+use Rattle.rs_rate.proofs.DecoderLemmas.{given_rows-nothing, nothing-given}
+use Rattle.rs_rate.proofs.rate.decoder_work.DecoderRows.new.Goals as goal
+
+pub invariant_of-result : goal.invariant_of-result
+invariant_of-result c =
+    let s = c.args.shape in
+    let marks = c.set_empty.new.self.marks.items in
+    let empty = λ (p : ℕ). ap is_given (c.set_empty.ensures.empty p) in
+    let room = c.in_ok-make_room.ensures.room in
+    let grown = c.set_empty.ensures.grown in
+    record {
+      positive = c.requires.positive;
+      even = c.requires.even;
+      few = c.requires.few;
+      original_rows = c.requires.original_rows;
+      recovery_rows = c.requires.recovery_rows;
+      apart = c.requires.apart;
+      whole = omega (arith, c.set_empty.ensures.chunks, c.in_ok-chunks.ensures.0);
+      own_chunks = omega (arith, room.0, grown.chunks, c.in_ok-chunks.ensures.0);
+      sized = omega (arith, c.in_ok-chunks.ensures.0, c.in_ok-chunks.ensures.1);
+      marked = c.set_empty.ensures.marks;
+      own_marks = omega (arith, room.1, grown.rows);
+      originals_counted = sym (given_rows-nothing marks s.frame.originals_from s.original_count (λ i inside. empty (s.frame.originals_from + i)));
+      recovery_counted = sym (given_rows-nothing marks s.frame.recovery_from s.recovery_count (λ i inside. empty (s.frame.recovery_from + i)));
+      shards = λ p given. absurd (let no : true ≡ false = sym given ∙ empty p in let never : ⊥ = cc in never);
+    }
+
+pub returns-clause-state : goal.returns-clause-state
+returns-clause-state c = λ rate.
+    nothing-given rate c.args.shape c.set_empty.new.self.marks.items c.set_empty.new.self.chunks.items (λ p. ap is_given (c.set_empty.ensures.empty p))
