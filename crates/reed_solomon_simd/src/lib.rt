@@ -10,19 +10,27 @@ pub use rs_rate::{DecoderResult, EncoderResult};
 pub mod engine {
     pub use rs_field::engine::{
         CANTOR_BASIS, Engine, GF_BITS, GF_MODULUS, GF_ORDER, GF_POLYNOMIAL, GfElement, Naive,
-        ShardsRefMut, Steps, tables,
+        ShardsRefMut, Steps,
     };
+
+    /// The powers of the generator, the logarithms and the factors of butterflies.
+    pub mod tables {
+        pub use rs_field::engine::tables::{
+            Exp, ExpLog, Log, Skew, Tables, get_exp_log, get_skew, mul,
+        };
+    }
 
     /// Row functions that engines share.
     pub mod utils {
-        pub use rs_field::engine::utils::xor;
+        pub use rs_field::engine::utils::{xor, xor_within};
     }
 }
 
 /// The rates of the code, their encoders and decoders.
 pub mod rate {
     pub use rs_rate::rate::{
-        DecoderWork, DefaultRate, DefaultRateDecoder, EncoderWork, HighRate, HighRateDecoder,
-        LowRate, LowRateDecoder, LowRateEncoder, Rate, RateDecoder, RateEncoder,
+        DecoderWork, DefaultRate, DefaultRateDecoder, DefaultRateEncoder, EncoderWork, HighRate,
+        HighRateDecoder, HighRateEncoder, LowRate, LowRateDecoder, LowRateEncoder, Rate,
+        RateDecoder, RateEncoder,
     };
 }

@@ -1,7 +1,6 @@
 //! `rs encode ENGINE K R HEX..` prints the recovery shards of the originals HEX.
 #![tactic(auto)]
 
-mod choice;
 pub mod hexadecimal;
 mod number;
 pub mod program;

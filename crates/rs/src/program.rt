@@ -1,20 +1,18 @@
 //! The words of a command line read, coded and printed.
-ghost use Rattle.std.specs.Prelude.{◌≡◌, ◌≤◌, ℕ, List, true, Some, length, map, IfOk, OnOk};
+ghost use Rattle.std.specs.Prelude.{◌≡◌, ◌≤◌, ℕ, List, Some, length, map, IfOk, OnOk};
 ghost use Rattle.std.specs.String.{string_bytes};
 ghost use Rattle.std.specs.Io.KnownBytes.{Appends};
-ghost use Rattle.reed_solomon_simd.specs.Counts.{low_rate, default_rate};
+ghost use Rattle.reed_solomon_simd.specs.Counts.{default_rate};
 ghost use Rattle.reed_solomon_simd.specs.ResultView.{recovery_shards};
 ghost use Rattle.rs.specs.Hex.{bytes_of_hex};
 ghost use Rattle.rs.specs.Number.{number_of};
-ghost use Rattle.rs.specs.Known.{known_counts};
 ghost use Rattle.rs.specs.Printed.{with_given, lines_with, PrintsRecovery, AsksFor, Answers};
 
-use crate::choice::{default_is_low, default_supports};
 use crate::hexadecimal::{line, word};
 use crate::number::number;
 use reed_solomon_simd::engine::tables::Tables;
 use reed_solomon_simd::engine::{Engine, Naive, Steps};
-use reed_solomon_simd::rate::{LowRateEncoder, RateEncoder};
+use reed_solomon_simd::rate::{DefaultRateEncoder, RateEncoder};
 use reed_solomon_simd::{EncoderResult, Error};
 use std::alloc::{AllocError, AllocFailed, Global};
 use std::io::Write;
@@ -52,16 +50,6 @@ struct Counts {
     recovery: usize,
 }
 
-impl Counts {
-    // Whether the program codes these counts or tells why they are refused: the high rate isn't known yet.
-    fn is_known(&self) -> bool
-        ensures { result ≡ known_counts self.now.original self.now.recovery }
-    {
-        !default_supports(self.original, self.recovery)
-            || default_is_low(self.original, self.recovery)
-    }
-}
-
 // A command line that asks for recovery shards.
 #[derive(Drop)]
 struct Encoding {
@@ -72,7 +60,6 @@ struct Encoding {
 fn counts_of(original: &str, recovery: &str) -> Result<Counts, Fault>
     ensures original { IfOk result (λ counts. number_of original.now ≡ Some counts.original) }
     ensures recovery { IfOk result (λ counts. number_of recovery.now ≡ Some counts.recovery) }
-    ensures known { IfOk result (λ counts. known_counts counts.original counts.recovery ≡ true) }
 {
     let Some(original) = number(original) else {
         return Err(Fault::Usage);
@@ -80,12 +67,7 @@ fn counts_of(original: &str, recovery: &str) -> Result<Counts, Fault>
     let Some(recovery) = number(recovery) else {
         return Err(Fault::Usage);
     };
-    let counts = Counts { original, recovery };
-    if counts.is_known() {
-        Ok(counts)
-    } else {
-        Err(Fault::Usage)
-    }
+    Ok(Counts { original, recovery })
 }
 
 fn shards_of(alloc: Global, words: &[String]) -> Result<Vec<Vec<u8>>, Fault>
@@ -103,8 +85,7 @@ fn shards_of(alloc: Global, words: &[String]) -> Result<Vec<Vec<u8>>, Fault>
 
 // Reads the words from left to right; the first fault decides.
 fn encoding_of(alloc: Global, words: &[String]) -> Result<Encoding, Fault>
-    ensures asks { IfOk result (λ e. AsksFor (map string_bytes words.now) e.counts.original e.counts.recovery (map (λ v. v.items) e.original.items)) }
-    ensures known { IfOk result (λ e. known_counts e.counts.original e.counts.recovery ≡ true) }
+    ensures { IfOk result (λ e. AsksFor (map string_bytes words.now) e.counts.original e.counts.recovery (map (λ v. v.items) e.original.items)) }
 {
     let [command, engine, original, recovery, shards @ ..] = words else {
         return Err(Fault::Usage);
@@ -143,15 +124,21 @@ fn lines_of(alloc: Global, lent: &EncoderResult<'_>, count: usize) -> Result<Str
     Ok(lines)
 }
 
-// The recovery shards of the originals at the low rate, a line each.
-fn low_lines(
+// The recovery shards of the originals, a line each.
+fn coded_lines(
     alloc: Global,
     counts: Counts,
     original: &[Vec<u8>],
     engine: Naive<'_>,
 ) -> Result<String, Error>
-    ensures { IfOk result (λ lines. PrintsRecovery low_rate counts.original counts.recovery (map (λ v. v.items) original.now) (string_bytes lines)) }
+    ensures { IfOk result (λ lines. PrintsRecovery default_rate counts.original counts.recovery (map (λ v. v.items) original.now) (string_bytes lines)) }
 {
+    if !DefaultRateEncoder::<Naive<'_>>::supports(counts.original, counts.recovery) {
+        return Err(Error::UnsupportedShardCount {
+            original_count: counts.original,
+            recovery_count: counts.recovery,
+        });
+    }
     let Some(first) = original.first() else {
         return Err(Error::TooFewOriginalShards {
             original_count: counts.original,
@@ -159,7 +146,7 @@ fn low_lines(
         });
     };
     let size = first.len();
-    let mut encoder = LowRateEncoder::new(
+    let mut encoder = DefaultRateEncoder::new(
         alloc,
         counts.original,
         counts.recovery,
@@ -171,25 +158,6 @@ fn low_lines(
     let mut steps = Steps::new();
     let lent = encoder.encode(&mut steps)?;
     lines_of(alloc, &lent, counts.recovery)
-}
-
-// The recovery shards of the originals, a line each.
-fn coded_lines(
-    alloc: Global,
-    counts: Counts,
-    original: &[Vec<u8>],
-    engine: Naive<'_>,
-) -> Result<String, Error>
-    requires { known_counts counts.original counts.recovery ≡ true }
-    ensures { IfOk result (λ lines. PrintsRecovery default_rate counts.original counts.recovery (map (λ v. v.items) original.now) (string_bytes lines)) }
-{
-    if !default_supports(counts.original, counts.recovery) {
-        return Err(Error::UnsupportedShardCount {
-            original_count: counts.original,
-            recovery_count: counts.recovery,
-        });
-    }
-    low_lines(alloc, counts, original, engine)
 }
 
 fn answer_to(alloc: Global, words: &[String]) -> Result<String, Fault>

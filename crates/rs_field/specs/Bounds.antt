@@ -26,7 +26,7 @@ log2 n = first_below 64 (λ d. nat_le n (2 ^ d))
 unfoldable pub transform_steps : ℕ → ℕ
 transform_steps n = n / 2 * log2 n
 
--- the row steps of an encode with c chunks of m rows
+-- the row steps of an encode with c blocks of m rows
 unfoldable pub encode_steps : ℕ → ℕ → ℕ
 encode_steps c m = (c + 1) * transform_steps m + 2 * c * m
 
@@ -46,7 +46,7 @@ TransformCounts n old new = CountsUpTo (transform_steps n) 0 0 old new
 abbrev pub RowProductCounts : Steps → Steps → Type 0
 RowProductCounts old new = CountsUpTo 1 0 0 old new
 
--- what an encode with c chunks of m rows may count
+-- what an encode with c blocks of m rows may count
 abbrev pub EncodeCounts : ℕ → ℕ → Steps → Steps → Type 0
 EncodeCounts c m old new = CountsUpTo (encode_steps c m) 0 0 old new
 

@@ -1,10 +1,11 @@
 -- A decoder: what is given, and what its calls do.
-use Rattle.std.specs.Prelude.{◌≡◌, ℕ, ◌+◌, ◌<◌, ◌==◌, ◌↔◌, not, length, nat_le, nat_lt, if◌then◌else◌, List, Some, is_some, IsSome, IsNone, Result, Ok, Err, is_ok, IsOkAnd, MatchResult}
+use Rattle.std.specs.Prelude.{◌≡◌, ℕ, ◌+◌, ◌^◌, ◌<◌, ◌==◌, ◌↔◌, not, length, nat_le, nat_lt, if◌then◌else◌, List, Some, is_some, IsSome, IsNone, Result, Ok, Err, is_ok, IsOkAnd, MatchResult}
 use Rattle.rs_field.specs.declared.error.Error.{Error}
 use Rattle.rs_field.specs.declared.error.Error.TheVariants.{InvalidOriginalShardIndex, InvalidRecoveryShardIndex, DuplicateOriginalShardIndex, DuplicateRecoveryShardIndex, DifferentShardSize, NotEnoughShards}
 use Rattle.rs_field.specs.Column.{Shard, IsShard, shard_at}
 use Rattle.rs_field.specs.Counts.{Rate}
-use Rattle.rs_field.specs.Configuration.{Configuration, validated}
+use Rattle.rs_field.specs.Configuration.{Configuration, validated, space}
+use Rattle.rs_field.specs.Placement.{decoder_rows}
 use Rattle.rs_field.specs.Given.{Shards, AreWithin, nothing, entered, count_below, Agrees, Consistent}
 
 -- a configuration, and the shards given so far
@@ -13,10 +14,11 @@ pub record DecoderState : Type 0 where
   pub originals : Shards
   pub recovery : Shards
 
--- a state that a decoder of this rate can be in: a valid configuration, and shards of the size given at indexes below the counts
+-- a state that a decoder of this rate can be in: a valid configuration whose rows' bytes are a `usize`, and shards of the size given at indexes below the counts
 pub record IsDecoder (rate : Rate) (s : DecoderState) : Type 0 where
   pub of_rate : s.configuration.rate ≡ rate
   pub valid : validated s.configuration ≡ Ok tt
+  pub fits : space (decoder_rows rate s.configuration.original_count s.configuration.recovery_count) s.configuration.shard_bytes < 2 ^ 64
   pub originals_within : AreWithin s.configuration.original_count s.configuration.shard_bytes s.originals
   pub recovery_within : AreWithin s.configuration.recovery_count s.configuration.shard_bytes s.recovery
 
@@ -80,8 +82,8 @@ abbrev pub DecodeAnswers : DecoderState → Result Shards Error → Type 0
 DecodeAnswers s result = MatchResult (enough_given s) (λ _. IsOkAnd result (Restored s)) (λ e. result ≡ Err e)
 
 -- what `decode` answers, as far as the places and sizes of the restored shards: a refusal, or shards at exactly the missing indexes
-abbrev pub DecodePlaces : DecoderState → Result Shards Error → Type 0
-DecodePlaces s result = MatchResult (enough_given s) (λ _. IsOkAnd result (FillsMissing s)) (λ e. result ≡ Err e)
+abbrev pub DecodeFills : DecoderState → Result Shards Error → Type 0
+DecodeFills s result = MatchResult (enough_given s) (λ _. IsOkAnd result (FillsMissing s)) (λ e. result ≡ Err e)
 
 -- the state that `decode` leaves: where too few were given the same, else with nothing given
 abbrev pub after_decode : DecoderState → DecoderState

@@ -3,7 +3,7 @@ use Rattle.std.proofs.Common.{◌≡◌, ℕ, ◌+◌, ◌^◌, true, refl, sym,
 use Rattle.std.specs.Prelude.{Result, Ok, Err, is_ok, cond, IsOkAnd, MatchResult}
 use Rattle.rs_field.specs.declared.error.Error.{Error}
 use Rattle.rs_field.specs.Given.{Shards}
-use Rattle.rs_field.specs.Decoder.{DecoderState, fresh_decoder, enough_given, FillsMissing, DecodePlaces, after_decode}
+use Rattle.rs_field.specs.Decoder.{DecoderState, fresh_decoder, enough_given, FillsMissing, DecodeFills, after_decode}
 use Rattle.rs_field.specs.Counts.{Rate, next_power, supports, is_low, low_rate}
 use Rattle.rs_field.specs.Placement.{placement, low_placement, decoder_rows}
 use Rattle.rs_rate.specs.declared.rate.marks.Frame.{Frame}
@@ -39,12 +39,12 @@ AnswersBy s enough result = MatchResult enough (λ _. IsOkAnd result (FillsMissi
 pub after_decode-refused : (s : DecoderState) (e : Error) → Err e ≡ enough_given s → s ≡ after_decode s
 after_decode-refused s e refused = ap (LeftBy s) refused
 
-pub decode_places-refused : (s : DecoderState) (e : Error) → Err e ≡ enough_given s → DecodePlaces s (Err e)
-decode_places-refused s e refused = subst (λ enough. AnswersBy s enough (Err e)) refused refl
+pub decode_fills-refused : (s : DecoderState) (e : Error) → Err e ≡ enough_given s → DecodeFills s (Err e)
+decode_fills-refused s e refused = subst (λ enough. AnswersBy s enough (Err e)) refused refl
 
 -- else nothing is given any more, and the answer is shards at the missing indexes
 pub after_decode-made : (s : DecoderState) → Ok tt ≡ enough_given s → after_decode s ≡ fresh_decoder s.configuration
 after_decode-made s made = sym (ap (LeftBy s) made)
 
-pub decode_places-made : (s : DecoderState) (out : Shards) → Ok tt ≡ enough_given s → FillsMissing s out → DecodePlaces s (Ok out)
-decode_places-made s out made fills = subst (λ enough. AnswersBy s enough (Ok out)) made fills
+pub decode_fills-made : (s : DecoderState) (out : Shards) → Ok tt ≡ enough_given s → FillsMissing s out → DecodeFills s (Ok out)
+decode_fills-made s out made fills = subst (λ enough. AnswersBy s enough (Ok out)) made fills

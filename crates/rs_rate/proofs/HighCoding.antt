@@ -195,11 +195,11 @@ record CodesHigh (k m all : ℕ) (old sums : ℕ → ℕ) (p : List ℕ) : Type 
   originals : (j : ℕ) → j < k → value p (m + j) ≡ old j
   zeros : (x : ℕ) → m + k ≤ x → x < all → value p x ≡ 0
 
-high_codes : (k m all n : ℕ) (old sums : ℕ → ℕ) (those : ℕ → ℕ → ℕ) (p : List ℕ) → 0 < m → k ≤ n * m → n * m + m ≤ all
+sums_code : (k m all n : ℕ) (old sums : ℕ → ℕ) (those : ℕ → ℕ → ℕ) (p : List ℕ) → 0 < m → k ≤ n * m → n * m + m ≤ all
     → ((u i : ℕ) → u < n → i < m → u * m + i < k → forward m (u * m + m) (those u) i ≡ old (u * m + i))
     → ((u i : ℕ) → u < n → i < m → k ≤ u * m + i → forward m (u * m + m) (those u) i ≡ 0)
     → IsHigh m all n sums those p → CodesHigh k m all old sums p
-high_codes k m all n old sums those p some enough room values zeros h =
+sums_code k m all n old sums those p some enough room values zeros h =
     record {
       size = h.size;
       words = h.words;
@@ -255,7 +255,7 @@ high_coded k r n old sums new is enough room (those, values, zeros, sum) first =
     let made = high_polynomial d (16 - d) n sums those (omega arith) (blocks d (16 - d) n (next_power r) power all room) (λ q h. sum q (omega arith)) in
     let shape : IsHigh (next_power r) 65536 n sums those made.0
     = subst (λ (c : ℕ). IsHigh c 65536 n sums those made.0) (sym power) (subst (λ (c : ℕ). IsHigh (2 ^ d) c n sums those made.0) all made.1) in
-    let codes = high_codes k m 65536 n old sums those made.0 positive enough room values zeros shape in (
+    let codes = sums_code k m 65536 n old sums those made.0 positive enough room values zeros shape in (
       made.0,
       record {
         degree = codes.size;

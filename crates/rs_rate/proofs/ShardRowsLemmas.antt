@@ -17,10 +17,6 @@ pub chunk_count-is : (rows size : ℕ) → chunk_count rows size ≡ rows * row_
 unfolding chunk_count
 chunk_count-is rows size = refl
 
-pub chunk_count-none : (size : ℕ) → chunk_count 0 size ≡ 0
-unfolding chunk_count
-chunk_count-none size = zero-mul (row_len size)
-
 pub chunk_count-more : (m n size : ℕ) → m ≤ n → chunk_count m size ≤ chunk_count n size
 unfolding chunk_count
 chunk_count-more m n size h = mul-le-mul_right (row_len size) h
@@ -37,15 +33,6 @@ row_end i size = omega arith
 -- a row below the last has its chunks
 pub chunk_count-within : (i m size l : ℕ) → i < m → chunk_count m size ≤ l → chunk_count (i + 1) size ≤ l
 chunk_count-within i m size l less all = let rise = chunk_count-more (i + 1) m size (omega (arith, less)) in omega (arith, rise, all)
-
--- rows of a positive size have chunks
-pub chunk_count-positive : (n m size : ℕ) → n < m → 0 < size → chunk_count m size ≤ 0 → ⊥
-unfolding chunk_count
-chunk_count-positive n m size less some none =
-    let one : 1 ≤ m = omega (arith, less) in
-    let longer : 0 < row_len size = omega (arith, some) in
-    let rise = mul-le-mul_right (row_len size) one in
-    omega (arith, rise, none, longer)
 
 -- one more shard put into the next row, of rows of this size
 pub given-more : (old new : Chunks) (size n length_ : ℕ) (shard : Shard) → length_ ≡ size → shard_laid_out new length_ n ≡ shard

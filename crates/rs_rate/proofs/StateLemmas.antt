@@ -42,10 +42,6 @@ pub started-refused : (rows : ℕ) (c : Configuration) (e : Error) → validated
 started-refused rows c e refused =
     ap (result_and_then (λ _. cond (nat_le (2 ^ 64) (space rows c.shard_bytes)) (Err OutOfMemory) (Ok tt))) refused
 
--- what may be answered: the refusal of a configuration
-pub answers-refused : (rows : ℕ) (c : Configuration) (e : Error) → Err e ≡ validated c → UpToMemory (started rows c) (Err e)
-answers-refused rows c e refused = inl (sym (started-refused rows c e (sym refused)))
-
 -- success, where the space is a `usize`
 pub answers-made : (rows : ℕ) (c : Configuration) → validated c ≡ Ok tt → chunk_count rows c.shard_bytes * 64 < 2 ^ 64 → UpToMemory (started rows c) (Ok tt)
 answers-made rows c valid fits = inl (sym (started-roomy rows c valid fits))

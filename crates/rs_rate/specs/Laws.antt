@@ -1,5 +1,5 @@
 -- What the traits' laws say of the objects, by what their rows keep.
-use Rattle.std.specs.Prelude.{◌≡◌, ◌+◌, ◌<◌, ◌≤◌, ℕ, length, List, All, Bool, true, false, Option, Some, None, is_some, unwrap_or, nat_lt, if◌then◌else◌, Ok, refl}
+use Rattle.std.specs.Prelude.{◌≡◌, ◌+◌, ◌*◌, ◌^◌, ◌<◌, ◌≤◌, ℕ, length, List, All, Bool, true, false, Option, Some, None, is_some, unwrap_or, nat_lt, if◌then◌else◌, Ok, refl}
 use Rattle.std.proofs.Common.{sym, ap, subst, true≢false}
 use Rattle.std.proofs.lemmas.Bool.{le-ltb}
 use Rattle.std.specs.Vec.{vec_capacity}
@@ -27,11 +27,14 @@ all-up_to P n f each i d h =
     let inside : i < n = subst (λ (m : ℕ). i < m) (length-up_to n f) h in subst P (sym (get-up_to n f i d inside)) (each i inside)
 
 -- an encoder over rows of a valid shape is in a state that an encoder can be in
-pub is_encoder : (rate : Rate) (rows : EncoderRows) → validated (configuration_of rate rows.shape) ≡ Ok tt → IsEncoder rate (encoder_state rate rows)
-is_encoder rate rows valid =
+pub is_encoder : (rate : Rate) (rows : EncoderRows) → validated (configuration_of rate rows.shape) ≡ Ok tt
+    → rows.shape ≡ encoder_shape rate rows.shape.original_count rows.shape.recovery_count rows.shape.shard_bytes → IsEncoder rate (encoder_state rate rows)
+unfolding encoder_shape chunk_count
+is_encoder rate rows valid shaped =
     record {
       of_rate = refl;
       valid = valid;
+      fits = subst (λ (n : ℕ). chunk_count n rows.shape.shard_bytes * 64 < 2 ^ 64) (ap (λ s. s.row_count) shaped) rows.sized;
       no_more = subst (λ (n : ℕ). n ≤ rows.shape.original_count) (sym (length-up_to rows.given_count (shard_laid_out rows.chunks.items rows.shape.shard_bytes))) rows.no_more;
       sized = all-up_to (IsShard rows.shape.shard_bytes) rows.given_count (shard_laid_out rows.chunks.items rows.shape.shard_bytes) rows.shards;
     }
@@ -61,12 +64,15 @@ given_within marks chunks size from n shards =
     by_tests i shard false given mark is = absurd (true≢false (sym (ap is_some is)))
 
 -- a decoder over rows of a valid shape is in a state that a decoder can be in
-pub is_decoder : (rate : Rate) (rows : DecoderRows) → validated (decoder_configuration rate rows.shape) ≡ Ok tt → IsDecoder rate (decoder_state rate rows)
-is_decoder rate rows valid =
+pub is_decoder : (rate : Rate) (rows : DecoderRows) → validated (decoder_configuration rate rows.shape) ≡ Ok tt
+    → rows.shape ≡ decoder_shape rate rows.shape.original_count rows.shape.recovery_count rows.shape.shard_bytes → IsDecoder rate (decoder_state rate rows)
+unfolding frame_of chunk_count
+is_decoder rate rows valid shaped =
     let s = rows.shape in
     record {
       of_rate = refl;
       valid = valid;
+      fits = subst (λ (n : ℕ). chunk_count n rows.shape.shard_bytes * 64 < 2 ^ 64) (ap (λ t. t.frame.row_count) shaped) rows.sized;
       originals_within = given_within rows.memory.marks.items rows.memory.chunks.items s.shard_bytes s.frame.originals_from s.original_count rows.shards;
       recovery_within = given_within rows.memory.marks.items rows.memory.chunks.items s.shard_bytes s.frame.recovery_from s.recovery_count rows.shards;
     }

@@ -246,7 +246,7 @@ pub trait RateDecoder<E: Engine>: Sized {
     ghost use Rattle.rs_field.specs.Placement.{decoder_rows};
     ghost use Rattle.rs_field.specs.Outcome.{answer_of, state_after};
     ghost use Rattle.rs_field.specs.Configuration.{configuration, validated, started, UpToMemory, FitsWithin};
-    ghost use Rattle.rs_field.specs.Decoder.{DecoderState, IsDecoder, fresh_decoder, with_original, with_recovery, DecodePlaces, after_decode};
+    ghost use Rattle.rs_field.specs.Decoder.{DecoderState, IsDecoder, fresh_decoder, with_original, with_recovery, DecodeFills, after_decode};
     ghost use Rattle.rs_rate.specs.DecoderView.{DecoderRoom, HasRoom, Grows, work_room};
     ghost use Rattle.rs_rate.specs.ResultView.{answered_originals};
     ghost use Rattle.rs_rate.specs.Loan.{EndsWith};
@@ -339,7 +339,7 @@ pub trait RateDecoder<E: Engine>: Sized {
     /// The method is that of Lin, Chung and Han in the form of Leopard-RS. The restored shards stand at exactly the
     /// indexes that were not given, each of the decoder's size.
     fn decode(&mut self, steps: &mut Steps) -> Result<DecoderResult<'_>, Error>
-        ensures answer { DecodePlaces (state self.old) (answered_originals result) }
+        ensures answer { DecodeFills (state self.old) (answered_originals result) }
         ensures* ends { sem 𝓛 (EndsWith Self.row self.entry (λ now. (state now ≡ after_decode (state self.old)) × (engine_of now ≡ engine_of self.old) × (room now ≡ room self.old))) };
 
     /// The engine and the rows, for another decoder: they have room for this one's configuration.

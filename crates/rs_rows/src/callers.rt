@@ -1,10 +1,10 @@
 //! Callers that know an encoder, a decoder or a rate by its trait alone.
-ghost use Rattle.std.specs.Prelude.{◌≡◌, ◌*◌, ◌<◌, ◌⊎◌, length, IfErr, IfOk, OnOk, OnErr, MatchResult, Err};
+ghost use Rattle.std.specs.Prelude.{◌≡◌, ◌*◌, ◌<◌, ◌⊎◌, length, IfOk, OnOk, OnErr, MatchResult, Err};
 ghost use Rattle.reed_solomon_simd.specs.Counts.{default_rate};
 ghost use Rattle.reed_solomon_simd.specs.Placement.{decoder_rows, encoder_rows};
 ghost use Rattle.reed_solomon_simd.specs.Configuration.{configuration, started};
 ghost use Rattle.reed_solomon_simd.specs.Outcome.{answer_of};
-ghost use Rattle.reed_solomon_simd.specs.Encoder.{EncoderState, fresh_encoder};
+ghost use Rattle.reed_solomon_simd.specs.Encoder.{fresh_encoder};
 ghost use Rattle.reed_solomon_simd.specs.Decoder.{fresh_decoder};
 
 use reed_solomon_simd::Error;
@@ -22,7 +22,7 @@ pub fn encode_twice<E: Engine, X: RateEncoder<E> + Drop>(
     requires { length (X.state encoder.old).given ≡ (X.state encoder.old).configuration.original_count }
     ensures answer { result ≡ Err (Error.TooFewOriginalShards (X.state encoder.old).configuration.original_count 0) }
     ensures state { X.state encoder.new ≡ fresh_encoder (X.state encoder.old).configuration }
-    ensures engine { X.held encoder.new ≡ X.held encoder.old }
+    ensures engine { X.engine_of encoder.new ≡ X.engine_of encoder.old }
 {
     let result = encoder.encode(steps)?;
     if forget {
@@ -42,7 +42,7 @@ pub fn encode_too_early<E: Engine, X: RateEncoder<E> + Drop>(
     requires { length (X.state encoder.old).given < (X.state encoder.old).configuration.original_count }
     ensures answer { result ≡ Err (Error.TooFewOriginalShards (X.state encoder.old).configuration.original_count (length (X.state encoder.old).given)) }
     ensures state { X.state encoder.new ≡ X.state encoder.old }
-    ensures engine { X.held encoder.new ≡ X.held encoder.old }
+    ensures engine { X.engine_of encoder.new ≡ X.engine_of encoder.old }
 {
     let _ = encoder.encode(steps)?;
     Ok(())
@@ -53,7 +53,7 @@ pub fn encode_too_early<E: Engine, X: RateEncoder<E> + Drop>(
 pub fn pass_to_high<E: Engine>(decoder: &mut DefaultRateDecoder<E>) -> Result<(), Error>
     ensures ok { OnOk result (⟦<DefaultRateDecoder<E> as RateDecoder<E>>⟧.state decoder.new ≡ fresh_decoder (configuration default_rate 3 2 2)) }
     ensures err { OnErr result (⟦<DefaultRateDecoder<E> as RateDecoder<E>>⟧.state decoder.new ≡ ⟦<DefaultRateDecoder<E> as RateDecoder<E>>⟧.state decoder.old) }
-    ensures engine { ⟦<DefaultRateDecoder<E> as RateDecoder<E>>⟧.held decoder.new ≡ ⟦<DefaultRateDecoder<E> as RateDecoder<E>>⟧.held decoder.old }
+    ensures engine { ⟦<DefaultRateDecoder<E> as RateDecoder<E>>⟧.engine_of decoder.new ≡ ⟦<DefaultRateDecoder<E> as RateDecoder<E>>⟧.engine_of decoder.old }
 {
     decoder.reset(3, 2, 2)
 }
@@ -83,7 +83,7 @@ pub fn make_again<E: Engine, R: Rate<E>>(
 ) -> Result<R::RateDecoder, Error>
     requires { (R.RateDecoder.state decoder).configuration ≡ configuration R.rate original_count recovery_count shard_bytes }
     ensures answer { answer_of result ≡ started (decoder_rows R.rate original_count recovery_count) (configuration R.rate original_count recovery_count shard_bytes) }
-    ensures made { IfOk result (λ x. (R.RateDecoder.state x ≡ fresh_decoder (configuration R.rate original_count recovery_count shard_bytes)) × (R.RateDecoder.held x ≡ R.RateDecoder.held decoder)) }
+    ensures made { IfOk result (λ x. (R.RateDecoder.state x ≡ fresh_decoder (configuration R.rate original_count recovery_count shard_bytes)) × (R.RateDecoder.engine_of x ≡ R.RateDecoder.engine_of decoder)) }
 {
     let (engine, work) = decoder.into_parts();
     R::decoder(

@@ -1,26 +1,57 @@
-//! What the rows share.
-use reed_solomon_simd::Error;
+//! What the tests share.
+use crate::rows::{Item, Message, Received};
 use reed_solomon_simd::engine::tables::Tables;
-use reed_solomon_simd::engine::{Engine, Steps};
-use reed_solomon_simd::rate::{LowRateEncoder, RateEncoder};
-use sha2::{Digest, Sha256};
-use std::alloc::Global;
+use reed_solomon_simd::engine::{Engine, Naive, Steps};
+use reed_solomon_simd::rate::{Rate, RateDecoder, RateEncoder};
+use reed_solomon_simd::{DecoderResult, Error};
+use std::alloc::{AllocError, Global};
 use std::process::Abort;
 
 pub fn tables_of(rt: &(impl Abort + AllocGlobal)) -> Tables {
     Tables::new(rt.alloc()).expect(rt, "memory for the tables")
 }
 
-/// Whether a round of the encoder gives just these recovery shards.
+/// An encoder of the rate for the message.
+pub fn encoder_for<'t, R: Rate<Naive<'t>>>(
+    alloc: Global,
+    tables: &'t Tables,
+    message: &Message<'_>,
+) -> Result<R::RateEncoder, Error> {
+    R::encoder(
+        alloc,
+        message.original_count(),
+        message.recovery_count(),
+        message.shard_bytes(),
+        Naive::new(tables),
+        None,
+    )
+}
+
+/// A decoder of the rate for the received shards.
+pub fn decoder_for<'t, R: Rate<Naive<'t>>>(
+    alloc: Global,
+    tables: &'t Tables,
+    received: &Received<'_>,
+) -> Result<R::RateDecoder, Error> {
+    R::decoder(
+        alloc,
+        received.original_count,
+        received.recovery_count,
+        received.shard_bytes,
+        Naive::new(tables),
+        None,
+    )
+}
+
+/// Whether a round of the encoder gives just the message's recovery shards.
 pub fn encodes<E: Engine, X: RateEncoder<E>>(
     encoder: &mut X,
-    original: &[&[u8]],
-    recovery: &[&[u8]],
+    message: &Message<'_>,
 ) -> Result<bool, Error> {
-    for shard in original {
+    for shard in message.original {
         encoder.add_original_shard(shard)?;
     }
-    gives(encoder, recovery)
+    gives(encoder, message.recovery)
 }
 
 /// Whether the encoder's `encode` gives just these recovery shards.
@@ -31,10 +62,49 @@ pub fn gives<E: Engine, X: RateEncoder<E>>(
     let mut steps = Steps::new();
     let result = encoder.encode(&mut steps)?;
     let mut good = result.recovery(recovery.len()).is_none();
+    good = good && result.recovery(usize::MAX).is_none();
     for (index, shard) in recovery.iter().enumerate() {
         good = good && result.recovery(index) == Some(*shard);
     }
     Ok(good)
+}
+
+/// Whether the decoder, given the received shards, restores just the originals that it is to.
+pub fn decodes<E: Engine, X: RateDecoder<E>>(
+    decoder: &mut X,
+    received: &Received<'_>,
+) -> Result<bool, Error> {
+    for (index, shard) in received.original {
+        decoder.add_original_shard(*index, *shard)?;
+    }
+    for (index, shard) in received.recovery {
+        decoder.add_recovery_shard(*index, *shard)?;
+    }
+    restores(decoder, received.restored)
+}
+
+/// Whether the decoder's `decode` restores just these originals.
+pub fn restores<E: Engine, X: RateDecoder<E>>(
+    decoder: &mut X,
+    restored: &[Item<'_>],
+) -> Result<bool, Error> {
+    let mut steps = Steps::new();
+    let result = decoder.decode(&mut steps)?;
+    Ok(has_just(&result, restored))
+}
+
+/// Whether a result has just these restored originals.
+pub fn has_just(lent: &DecoderResult<'_>, restored: &[Item<'_>]) -> bool {
+    for index in 0..9 {
+        let good = match restored.iter().find(|item| item.0 == index) {
+            Some(item) => lent.restored_original(index) == Some(item.1),
+            None => lent.restored_original(index).is_none(),
+        };
+        if !good {
+            return false;
+        }
+    }
+    lent.restored_original(usize::MAX).is_none()
 }
 
 /// Whether the answer is this refusal.
@@ -45,26 +115,29 @@ pub fn is_err<T: Drop>(answer: Result<T, Error>, refusal: Error) -> bool {
     }
 }
 
-/// The digest of the low rate's recovery shards, one after another.
-pub fn digest_of<E: Engine>(
+/// So many originals, of which byte i of number j is (7 i + 13 j + 5) mod 251.
+pub fn counted(
     alloc: Global,
-    recovery_count: usize,
-    original: &[Vec<u8>],
-    engine: E,
-) -> Result<String, Error> {
-    let size = original.first().map_or(0, |shard| shard.len());
-    let count = original.len();
-    let mut encoder = LowRateEncoder::new(alloc, count, recovery_count, size, engine, None)?;
-    for shard in original {
-        encoder.add_original_shard(shard.as_slice())?;
-    }
-    let mut steps = Steps::new();
-    let result = encoder.encode(&mut steps)?;
-    let mut hasher = Sha256::new();
-    for index in 0..recovery_count {
-        if let Some(shard) = result.recovery(index) {
-            hasher.update(shard);
+    original_count: usize,
+    shard_bytes: usize,
+) -> Result<Vec<Vec<u8>>, AllocError> {
+    let mut shards = Vec::new(alloc);
+    // The byte at the shard's head, and the next byte.
+    let mut head: u8 = 5;
+    for _ in 0..original_count {
+        let mut shard: Vec<u8> = Vec::new(alloc);
+        let mut byte = head;
+        for _ in 0..shard_bytes {
+            shard.push(byte)?;
+            byte = advanced(byte, 7);
         }
+        shards.push(shard)?;
+        head = advanced(head, 13);
     }
-    Ok(hex::encode(alloc, hasher.finalize().as_slice())?)
+    Ok(shards)
+}
+
+// The sum modulo 251.
+fn advanced(byte: u8, by: u8) -> u8 {
+    ((u16::from(byte) + u16::from(by)) % 251) as u8
 }

@@ -1,16 +1,20 @@
 //! Callers that know an object or a rate by its trait alone, and rows that cross the crates.
 #![tactic(auto)]
 
-#[cfg(test)]
-mod all_rates;
-#[cfg(test)]
-mod answers;
 pub mod callers;
+#[cfg(test)]
+mod choice;
+#[cfg(test)]
+mod decoding;
 #[cfg(test)]
 mod digests;
 #[cfg(test)]
+mod encoding;
+#[cfg(test)]
 mod help;
 #[cfg(test)]
-mod low_rate;
+mod refusals;
 #[cfg(test)]
-mod low_rate_decoding;
+mod resets;
+#[cfg(test)]
+mod rows;

@@ -8,7 +8,7 @@ use std::test::Fail;
 // A command line, what stands on standard output and on standard error, and the status.
 type Row = (&'static [&'static str], &'static str, &'static str, u8);
 
-const CODED: [Row; 5] = [
+const CODED: [Row; 9] = [
     (
         &["encode", "naive", "2", "3", "0000", "0100"],
         "0200\n0300\n0400\n",
@@ -46,19 +46,38 @@ const CODED: [Row; 5] = [
         "",
         0,
     ),
-];
-
-const REFUSED: [Row; 6] = [
     (
-        &["encode", "naive", "2", "3"],
+        &["encode", "naive", "3", "1", "0102", "0408", "1020"],
+        "152a\n",
         "",
-        "too few original shards: got 0 shards while original_count is 2\n",
-        1,
+        0,
     ),
     (
-        &["encode", "naive", "2", "3", "", "0000"],
+        &["encode", "naive", "2", "2", "0000", "0100"],
+        "0200\n0300\n",
         "",
-        "invalid shard size: 0 bytes (must non-zero and multiple of 2)\n",
+        0,
+    ),
+    (
+        &["encode", "naive", "3", "2", "0200", "0000", "0400"],
+        "0300\n0500\n",
+        "",
+        0,
+    ),
+    (
+        &["encode", "naive", "4", "4", "0000", "0000", "0200", "0300"],
+        "0b00\n0900\n0e00\n0d00\n",
+        "",
+        0,
+    ),
+];
+
+// The counts first, then whether a shard is there, the size of the first, each shard in order, and the number of shards.
+const REFUSED: [Row; 12] = [
+    (
+        &["encode", "naive", "0", "0"],
+        "",
+        "unsupported shard count: 0 original shards with 0 recovery shards\n",
         1,
     ),
     (
@@ -68,9 +87,51 @@ const REFUSED: [Row; 6] = [
         1,
     ),
     (
+        &["encode", "naive", "60000", "5000", "00"],
+        "",
+        "unsupported shard count: 60000 original shards with 5000 recovery shards\n",
+        1,
+    ),
+    (
         &["encode", "naive", "18446744073709551615", "1", "00"],
         "",
         "unsupported shard count: 18446744073709551615 original shards with 1 recovery shards\n",
+        1,
+    ),
+    (
+        &["encode", "naive", "2", "3"],
+        "",
+        "too few original shards: got 0 shards while original_count is 2\n",
+        1,
+    ),
+    (
+        &["encode", "naive", "61440", "4096"],
+        "",
+        "too few original shards: got 0 shards while original_count is 61440\n",
+        1,
+    ),
+    (
+        &["encode", "naive", "2", "3", "", "0000"],
+        "",
+        "invalid shard size: 0 bytes (must non-zero and multiple of 2)\n",
+        1,
+    ),
+    (
+        &["encode", "naive", "2", "1", "000000", "0000", "0000"],
+        "",
+        "invalid shard size: 3 bytes (must non-zero and multiple of 2)\n",
+        1,
+    ),
+    (
+        &["encode", "naive", "2", "3", "0000", "000000"],
+        "",
+        "different shard size: expected 2 bytes, got 3 bytes\n",
+        1,
+    ),
+    (
+        &["encode", "naive", "3", "1", "0102", "04081020"],
+        "",
+        "different shard size: expected 2 bytes, got 4 bytes\n",
         1,
     ),
     (
@@ -80,22 +141,20 @@ const REFUSED: [Row; 6] = [
         1,
     ),
     (
-        &["encode", "naive", "2", "3", "0000", "000000"],
+        &["encode", "naive", "3", "1", "0102", "0408"],
         "",
-        "different shard size: expected 2 bytes, got 3 bytes\n",
+        "too few original shards: got 2 shards while original_count is 3\n",
         1,
     ),
 ];
 
-const BAD: [&[&str]; 16] = [
+const BAD: [&[&str]; 14] = [
     &[],
     &["encode"],
     &["encode", "naive", "2"],
     &["code", "naive", "2", "3", "0000", "0100"],
     &["decode", "naive", "1", "2", "r0=0000"],
     &["encode", "plain", "2", "3", "0000", "0100"],
-    &["encode", "naive", "3", "1", "0102", "0408", "1020"],
-    &["encode", "naive", "2", "2", "0000", "0100"],
     &["encode", "naive", "1", "2", "0"],
     &["encode", "naive", "0", "1", "0g"],
     &["encode", "naive", "18446744073709551616", "1"],

@@ -73,7 +73,7 @@ pub(crate) fn low_encoder_shape(
 ) -> EncoderShape
     requires { supports low_rate original_count recovery_count ≡ true }
     ensures shape { result ≡ encoder_shape low_rate original_count recovery_count shard_bytes }
-    ensures counts { (result.original_count ≡ original_count) × (result.recovery_count ≡ recovery_count) × (result.shard_bytes ≡ shard_bytes) }
+    ensures configuration { (result.original_count ≡ original_count) × (result.recovery_count ≡ recovery_count) × (result.shard_bytes ≡ shard_bytes) }
     ensures originals { original_count ≤ result.row_count }
     ensures recovery { recovery_count ≤ result.row_count }
 {
@@ -95,7 +95,7 @@ pub(crate) fn high_encoder_shape(
 ) -> EncoderShape
     requires { supports high_rate original_count recovery_count ≡ true }
     ensures shape { result ≡ encoder_shape high_rate original_count recovery_count shard_bytes }
-    ensures counts { (result.original_count ≡ original_count) × (result.recovery_count ≡ recovery_count) × (result.shard_bytes ≡ shard_bytes) }
+    ensures configuration { (result.original_count ≡ original_count) × (result.recovery_count ≡ recovery_count) × (result.shard_bytes ≡ shard_bytes) }
     ensures originals { original_count ≤ result.row_count }
     ensures recovery { recovery_count ≤ result.row_count }
 {
@@ -129,14 +129,14 @@ pub(crate) fn low_frame(original_count: usize, recovery_count: usize) -> Frame
     ensures recovery { result.recovery_from + recovery_count ≤ result.row_count }
     ensures apart { (i j : ℕ) → i < original_count → j < recovery_count → result.originals_from + i ≢ result.recovery_from + j }
 {
-    let size = power_of_two(original_count);
-    let row_count = power_of_two(size + recovery_count);
+    let block = power_of_two(original_count);
+    let row_count = power_of_two(block + recovery_count);
     Frame {
         row_count,
         originals_from: 0,
-        recovery_from: size,
+        recovery_from: block,
         zeros_from: original_count,
-        zeros_to: size,
+        zeros_to: block,
     }
 }
 
@@ -150,13 +150,13 @@ pub(crate) fn high_frame(original_count: usize, recovery_count: usize) -> Frame
     ensures recovery { result.recovery_from + recovery_count ≤ result.row_count }
     ensures apart { (i j : ℕ) → i < original_count → j < recovery_count → result.originals_from + i ≢ result.recovery_from + j }
 {
-    let size = power_of_two(recovery_count);
-    let row_count = power_of_two(size + original_count);
+    let block = power_of_two(recovery_count);
+    let row_count = power_of_two(block + original_count);
     Frame {
         row_count,
-        originals_from: size,
+        originals_from: block,
         recovery_from: 0,
-        zeros_from: size + original_count,
+        zeros_from: block + original_count,
         zeros_to: GF_ORDER,
     }
 }

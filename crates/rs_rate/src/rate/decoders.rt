@@ -109,7 +109,7 @@ impl<E: Engine, C: Code> RateDecoder<E> for Decoder<E, C> {
         )
     }
 
-    ghost valid = { λ x. is_decoder C.rate x.rows x.valid };
+    ghost valid = { λ x. is_decoder C.rate x.rows x.valid x.shaped };
 
     ghost own_room = { λ x. has_own_decoder_room C.rate x.rows x.shaped };
 }

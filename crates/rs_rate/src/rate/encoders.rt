@@ -106,7 +106,7 @@ impl<E: Engine, C: Code> RateEncoder<E> for Encoder<E, C> {
         )
     }
 
-    ghost valid = { λ x. is_encoder C.rate x.rows x.valid };
+    ghost valid = { λ x. is_encoder C.rate x.rows x.valid x.shaped };
 
     ghost own_room = { λ x. has_own_room C.rate x.rows x.shaped };
 }

@@ -3,8 +3,8 @@ use Rattle.std.specs.String.{string_bytes}
 use Rattle.rs.proofs.WordLemmas.{first_four, map-first_four}
 use Rattle.rs.proofs.program.encoding_of.Goals as goal
 
-pub returns-clause-asks : goal.returns-clause-asks
-returns-clause-asks c =
+pub returns : goal.returns
+returns c =
     let words = c.args.words.now in
     let four = first_four words c.command-item.result c.engine-item.result c.original-item.result c.recovery-item.result c.in-len4-up.len_at_least
     c.command-item.is c.engine-item.is c.original-item.is c.recovery-item.is in

@@ -5,22 +5,22 @@ use Rattle.rs_rate.proofs.HighCounts.{high_fits, high_small}
 use Rattle.rs_rate.proofs.RateLemmas.{high_frame-is}
 use Rattle.rs_rate.proofs.rate.counts.high_frame.Goals as goal
 
-pub power_of_two-size-requires : goal.power_of_two-size-requires
-power_of_two-size-requires c = high_small c.args.original_count c.args.recovery_count c.requires
+pub power_of_two-block-requires : goal.power_of_two-block-requires
+power_of_two-block-requires c = high_small c.args.original_count c.args.recovery_count c.requires
 
-pub overflow_add-size : goal.overflow_add-size
-overflow_add-size c =
+pub overflow_add-block : goal.overflow_add-block
+overflow_add-block c =
     let fits = high_fits c.args.original_count c.args.recovery_count c.requires in
-    omega (arith, fits.2, c.power_of_two-size.ensures.value)
+    omega (arith, fits.2, c.power_of_two-block.ensures.value)
 
 pub power_of_two-row_count-requires : goal.power_of_two-row_count-requires
 power_of_two-row_count-requires c =
     let fits = high_fits c.args.original_count c.args.recovery_count c.requires in
-    omega (arith, fits.2, c.power_of_two-size.ensures.value)
+    omega (arith, fits.2, c.power_of_two-block.ensures.value)
 
 pub returns-clause-frame : goal.returns-clause-frame
 returns-clause-frame c =
-    let size = c.power_of_two-size.ensures.value in
+    let block = c.power_of_two-block.ensures.value in
     ap₂ (λ (m n : ℕ). let frame : Frame = record { row_count = n; originals_from = m; recovery_from = 0; zeros_from = m + c.args.original_count; zeros_to = 65536 } in frame)
-    size (c.power_of_two-row_count.ensures.value ∙ ap (λ m. next_power (m + c.args.original_count)) size)
+    block (c.power_of_two-row_count.ensures.value ∙ ap (λ m. next_power (m + c.args.original_count)) block)
     ∙ sym (high_frame-is c.args.original_count c.args.recovery_count)

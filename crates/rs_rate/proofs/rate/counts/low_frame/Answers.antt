@@ -5,22 +5,22 @@ use Rattle.rs_rate.proofs.PowerLemmas.{low_fits, low_small}
 use Rattle.rs_rate.proofs.DecoderRows.{low_frame-is}
 use Rattle.rs_rate.proofs.rate.counts.low_frame.Goals as goal
 
-pub power_of_two-size-requires : goal.power_of_two-size-requires
-power_of_two-size-requires c = low_small c.args.original_count c.args.recovery_count c.requires
+pub power_of_two-block-requires : goal.power_of_two-block-requires
+power_of_two-block-requires c = low_small c.args.original_count c.args.recovery_count c.requires
 
-pub overflow_add-size : goal.overflow_add-size
-overflow_add-size c =
+pub overflow_add-block : goal.overflow_add-block
+overflow_add-block c =
     let fits = low_fits c.args.original_count c.args.recovery_count c.requires in
-    omega (arith, fits.2, c.power_of_two-size.ensures.value)
+    omega (arith, fits.2, c.power_of_two-block.ensures.value)
 
 pub power_of_two-row_count-requires : goal.power_of_two-row_count-requires
 power_of_two-row_count-requires c =
     let fits = low_fits c.args.original_count c.args.recovery_count c.requires in
-    omega (arith, fits.2, c.power_of_two-size.ensures.value)
+    omega (arith, fits.2, c.power_of_two-block.ensures.value)
 
 pub returns-clause-frame : goal.returns-clause-frame
 returns-clause-frame c =
-    let size = c.power_of_two-size.ensures.value in
+    let block = c.power_of_two-block.ensures.value in
     ap₂ (λ (m n : ℕ). let frame : Frame = record { row_count = n; originals_from = 0; recovery_from = m; zeros_from = c.args.original_count; zeros_to = m } in frame)
-    size (c.power_of_two-row_count.ensures.value ∙ ap (λ m. next_power (m + c.args.recovery_count)) size)
+    block (c.power_of_two-row_count.ensures.value ∙ ap (λ m. next_power (m + c.args.recovery_count)) block)
     ∙ sym (low_frame-is c.args.original_count c.args.recovery_count)

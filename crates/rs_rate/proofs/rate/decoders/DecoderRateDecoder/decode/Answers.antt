@@ -2,18 +2,18 @@ use Rattle.std.proofs.Common.{refl, sym, ap, ◌∙◌, subst}
 use Rattle.std.specs.Prelude.{Ok}
 use Rattle.std.proofs.lemmas.Result.{err_from_is_err_and}
 use Rattle.rs_field.specs.Given.{Shards}
-use Rattle.rs_field.specs.Decoder.{DecodePlaces}
+use Rattle.rs_field.specs.Decoder.{DecodeFills}
 use Rattle.rs_rate.specs.DecoderView.{configuration_of, decoder_state, restored_of}
 use Rattle.rs_rate.proofs.StateLemmas.{valid-supported}
 use Rattle.rs_rate.proofs.RateLemmas.{frame-power}
-use Rattle.rs_rate.proofs.DecoderRows.{after_decode-refused, after_decode-made, decode_places-refused, decode_places-made}
+use Rattle.rs_rate.proofs.DecoderRows.{after_decode-refused, after_decode-made, decode_fills-refused, decode_fills-made}
 use Rattle.rs_rate.proofs.rate.decoders.DecoderRateDecoder.decode.Goals as goal
 
 pub returns-in_err-check_enough_given : goal.returns-in_err-check_enough_given
 returns-in_err-check_enough_given g c =
     let state = decoder_state g.C.Code.rate c.args.self.now.rows in
     let refused = c.in_err-check_enough_given.ensures g.C.Code.rate in
-    ((refl, (λ _. tt), (after_decode-refused state _ refused, refl, refl)), record { answer = (let p = err_from_is_err_and c.from_residual.result c.from_residual.ensures.1 in rw (p.1, p.2) (decode_places-refused state _ refused)); ends = tt })
+    ((refl, (λ _. tt), (after_decode-refused state _ refused, refl, refl)), record { answer = (let p = err_from_is_err_and c.from_residual.result c.from_residual.ensures.1 in rw (p.1, p.2) (decode_fills-refused state _ refused)); ends = tt })
 
 pub decode_rows-requires : goal.decode_rows-requires
 decode_rows-requires g c =
@@ -30,7 +30,7 @@ returns g c =
     let made = c.in_ok-check_enough_given.ensures g.C.Code.rate in (
       (refl, (λ _. tt), (c.decode_rows.ensures.state g.C.Code.rate ∙ sym (after_decode-made state made), refl, c.decode_rows.ensures.room)),
       record {
-        answer = subst (λ (restored : Shards). DecodePlaces state (Ok restored)) (sym c.new.ensures) (decode_places-made state (restored_of c.decode_rows.new.rows) made (c.decode_rows.ensures.restored g.C.Code.rate));
+        answer = subst (λ (restored : Shards). DecodeFills state (Ok restored)) (sym c.new.ensures) (decode_fills-made state (restored_of c.decode_rows.new.rows) made (c.decode_rows.ensures.restored g.C.Code.rate));
         ends = tt;
       },
     )

@@ -1,0 +1,203 @@
+//! Messages with their recovery shards, and received shards with the originals that they restore.
+
+/// A message and its recovery shards.
+#[derive(Clone, Copy)]
+pub struct Message<'a> {
+    pub original: &'a [&'a [u8]],
+    pub recovery: &'a [&'a [u8]],
+}
+
+impl Message<'_> {
+    pub fn original_count(&self) -> usize {
+        self.original.len()
+    }
+
+    pub fn recovery_count(&self) -> usize {
+        self.recovery.len()
+    }
+
+    pub fn shard_bytes(&self) -> usize {
+        self.original.first().map_or(0, |shard| shard.len())
+    }
+}
+
+/// A shard by its index.
+pub type Item<'a> = (usize, &'a [u8]);
+
+/// Shards that a decoder is given, and the originals that it restores.
+#[derive(Clone, Copy)]
+pub struct Received<'a> {
+    pub original_count: usize,
+    pub recovery_count: usize,
+    pub shard_bytes: usize,
+    pub original: &'a [Item<'a>],
+    pub recovery: &'a [Item<'a>],
+    pub restored: &'a [Item<'a>],
+}
+
+/// One recovery shard: the sum of all originals.
+pub const SUM: Message<'static> = Message {
+    original: &[&[1, 2], &[4, 8], &[16, 32]],
+    recovery: &[&[21, 42]],
+};
+
+/// The constant polynomial.
+pub const CONSTANT: Message<'static> = Message {
+    original: &[&[7, 9]],
+    recovery: &[&[7, 9], &[7, 9], &[7, 9]],
+};
+
+/// The polynomial x at the points 2, 3 and 4.
+pub const LINE: Message<'static> = Message {
+    original: &[&[0, 0], &[1, 0]],
+    recovery: &[&[2, 0], &[3, 0], &[4, 0]],
+};
+
+/// The same in the second symbol: byte 1 with byte 3.
+pub const LINE_SECOND: Message<'static> = Message {
+    original: &[&[0, 0, 0, 0], &[0, 1, 0, 0]],
+    recovery: &[&[0, 2, 0, 0], &[0, 3, 0, 0], &[0, 4, 0, 0]],
+};
+
+/// The low rate's chunk of four rows, of which the originals fill three.
+pub const THREE_OF_FOUR: Message<'static> = Message {
+    original: &[&[0, 0], &[0, 0], &[1, 0]],
+    recovery: &[&[10, 0], &[8, 0], &[12, 0], &[15, 0], &[8, 0]],
+};
+
+/// As many recovery shards as originals, two of each: x + 2 in the high rate, x in the low rate.
+pub const TWO_AND_TWO: Message<'static> = Message {
+    original: &[&[0, 0], &[1, 0]],
+    recovery: &[&[2, 0], &[3, 0]],
+};
+
+/// Four of each, with products in two layers: x (x x + x) in the low rate.
+pub const FOUR_AND_FOUR: Message<'static> = Message {
+    original: &[&[0, 0], &[0, 0], &[2, 0], &[3, 0]],
+    recovery: &[&[11, 0], &[9, 0], &[14, 0], &[13, 0]],
+};
+
+/// The high rate's two chunks of two rows, of which the originals fill three.
+pub const THREE_IN_TWOS: Message<'static> = Message {
+    original: &[&[2, 0], &[0, 0], &[4, 0]],
+    recovery: &[&[3, 0], &[5, 0]],
+};
+
+/// The messages of which the low rate gives these recovery shards, and the default rate too.
+pub const LOW_MESSAGES: [Message<'static>; 6] = [
+    CONSTANT,
+    LINE,
+    LINE_SECOND,
+    THREE_OF_FOUR,
+    TWO_AND_TWO,
+    FOUR_AND_FOUR,
+];
+
+/// The messages of which the high rate gives these recovery shards, and the default rate too.
+pub const HIGH_MESSAGES: [Message<'static>; 4] = [SUM, TWO_AND_TWO, FOUR_AND_FOUR, THREE_IN_TWOS];
+
+/// Both recovery shards of `THREE_IN_TWOS`, and the original between those that are missing.
+pub const OUTER_LOST: Received<'static> = Received {
+    original_count: 3,
+    recovery_count: 2,
+    shard_bytes: 2,
+    original: &[(1, &[0, 0])],
+    recovery: &[(0, &[3, 0]), (1, &[5, 0])],
+    restored: &[(0, &[2, 0]), (2, &[4, 0])],
+};
+
+/// The same with the last original.
+pub const FIRST_LOST: Received<'static> = Received {
+    original: &[(2, &[4, 0])],
+    restored: &[(0, &[2, 0]), (1, &[0, 0])],
+    ..OUTER_LOST
+};
+
+/// A mixture of `FOUR_AND_FOUR`, out of order.
+pub const MIXTURE: Received<'static> = Received {
+    original_count: 4,
+    recovery_count: 4,
+    shard_bytes: 2,
+    original: &[(3, &[3, 0]), (1, &[0, 0])],
+    recovery: &[(2, &[14, 0]), (0, &[11, 0])],
+    restored: &[(0, &[0, 0]), (2, &[2, 0])],
+};
+
+/// Recovery shards of `LINE` alone.
+pub const LINE_LOST: Received<'static> = Received {
+    original_count: 2,
+    recovery_count: 3,
+    shard_bytes: 2,
+    original: &[],
+    recovery: &[(0, &[2, 0]), (1, &[3, 0])],
+    restored: &[(0, &[0, 0]), (1, &[1, 0])],
+};
+
+/// Recovery shards that no one coded: the constant polynomial.
+pub const BOTH_LOST: Received<'static> = Received {
+    original_count: 2,
+    recovery_count: 2,
+    shard_bytes: 2,
+    original: &[],
+    recovery: &[(0, &[1, 0]), (1, &[1, 0])],
+    restored: &[(0, &[1, 0]), (1, &[1, 0])],
+};
+
+/// One shard that stands for all.
+pub const CONSTANT_LOST: Received<'static> = Received {
+    original_count: 1,
+    recovery_count: 3,
+    shard_bytes: 2,
+    original: &[],
+    recovery: &[(2, &[7, 9])],
+    restored: &[(0, &[7, 9])],
+};
+
+/// A shard of `LINE_SECOND`.
+pub const SECOND_LOST: Received<'static> = Received {
+    original_count: 2,
+    recovery_count: 3,
+    shard_bytes: 4,
+    original: &[(0, &[0, 0, 0, 0])],
+    recovery: &[(2, &[0, 4, 0, 0])],
+    restored: &[(1, &[0, 1, 0, 0])],
+};
+
+/// The sum of all originals, and all but one of them.
+pub const SUMMAND_LOST: Received<'static> = Received {
+    original_count: 3,
+    recovery_count: 1,
+    shard_bytes: 2,
+    original: &[(0, &[1, 2]), (2, &[16, 32])],
+    recovery: &[(0, &[21, 42])],
+    restored: &[(1, &[4, 8])],
+};
+
+/// All originals of `LINE`, with a recovery shard.
+pub const NONE_LOST: Received<'static> = Received {
+    original_count: 2,
+    recovery_count: 3,
+    shard_bytes: 2,
+    original: &[(1, &[1, 0]), (0, &[0, 0])],
+    recovery: &[(1, &[3, 0])],
+    restored: &[],
+};
+
+/// What the low rate restores so, and the default rate too.
+pub const LOW_RECEIVED: [Received<'static>; 6] = [
+    MIXTURE,
+    LINE_LOST,
+    BOTH_LOST,
+    CONSTANT_LOST,
+    SECOND_LOST,
+    NONE_LOST,
+];
+
+/// What the high rate restores so, and the default rate too.
+pub const HIGH_RECEIVED: [Received<'static>; 5] = [
+    OUTER_LOST,
+    FIRST_LOST,
+    MIXTURE,
+    BOTH_LOST,
+    SUMMAND_LOST,
+];
