@@ -1,6 +1,7 @@
 //! Worked rows: what the definitions say at small numbers, as contracts of functions that do nothing.
 ghost use Rattle.rs_field.specs.Counts.{low_rate, high_rate, default_rate};
-ghost use Rattle.rs_field.specs.Worked.{Products, ColumnsOfShards, Powers, Supported, Unsupported, OfOneRate, Choices, Validated, Spaces, ChunkRows, EncoderRows, DecoderRows, TransformOfTwo, StepBounds};
+ghost use Rattle.rs_field.specs.Worked.{Products, ColumnsOfShards, Powers, Supported, Unsupported, OfOneRate, Choices};
+ghost use Rattle.rs_field.specs.Worked.{Validated, Spaces, ChunkRows, EncoderRows, DecoderRows, TransformOfTwo, StepBounds};
 ghost use Rattle.rs_field.specs.WorkedCode.{ConstantRow, LineRow, ShortLineRow, CubicRow, PaddedRow, TailRow, ChunkAndTailRow, SumRow, HighLineRow, HighCubicRow, HighPaddedRow, RestoredRow, MixtureRow, SurplusRow};
 ghost use Rattle.rs_field.specs.WorkedCalls.{EncodeOrder, DecodeOrder, NoRecoveryOrder, EncoderRound, DecoderRound, LargestIndex, MemoryOrder};
 

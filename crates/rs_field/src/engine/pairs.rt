@@ -14,7 +14,7 @@ pub(crate) trait PairStep {
     ghost related: { Self → OnChunks };
 
     /// Does the step to two rows.
-    fn step(&self, x: &mut [[u8; 64]], y: &mut [[u8; 64]])
+    fn apply(&self, x: &mut [[u8; 64]], y: &mut [[u8; 64]])
         requires { length x.old ≡ length y.old }
         ensures { (k : ℕ) → k < length x.old → related self.now (chunk x.old k) (chunk y.old k) (chunk x.new k) (chunk y.new k) };
 }
@@ -30,9 +30,9 @@ fn step_parts<P: PairStep>(step: &P, chunks: &mut [[u8; 64]], a: usize, b: usize
 {
     let (front, back) = chunks.split_at_mut(a.max(b));
     if a < b {
-        step.step(&mut front[a..a + n], &mut back[..n]);
+        step.apply(&mut front[a..a + n], &mut back[..n]);
     } else {
-        step.step(&mut back[..n], &mut front[b..b + n]);
+        step.apply(&mut back[..n], &mut front[b..b + n]);
     }
 }
 

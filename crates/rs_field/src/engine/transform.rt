@@ -69,7 +69,7 @@ struct Forward<'b, B> {
 impl<B: Butterfly> PairStep for Forward<'_, B> {
     ghost related = { λ step. IsForwardStep step.log_m };
 
-    fn step(&self, x: &mut [[u8; 64]], y: &mut [[u8; 64]]) {
+    fn apply(&self, x: &mut [[u8; 64]], y: &mut [[u8; 64]]) {
         self.butterfly.fft_butterfly(x, y, self.log_m);
     }
 }
@@ -84,7 +84,7 @@ struct Backward<'b, B> {
 impl<B: Butterfly> PairStep for Backward<'_, B> {
     ghost related = { λ step. IsBackwardStep step.log_m };
 
-    fn step(&self, x: &mut [[u8; 64]], y: &mut [[u8; 64]]) {
+    fn apply(&self, x: &mut [[u8; 64]], y: &mut [[u8; 64]]) {
         self.butterfly.ifft_butterfly(x, y, self.log_m);
     }
 }

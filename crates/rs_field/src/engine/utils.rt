@@ -36,7 +36,7 @@ struct Sum;
 impl PairStep for Sum {
     ghost related = { λ _. IsSumStep };
 
-    fn step(&self, x: &mut [[u8; 64]], y: &mut [[u8; 64]]) {
+    fn apply(&self, x: &mut [[u8; 64]], y: &mut [[u8; 64]]) {
         xor(x, y);
     }
 }
