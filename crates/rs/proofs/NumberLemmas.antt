@@ -11,11 +11,6 @@ use Rattle.rs.specs.Number.{number_of}
 model : IsNumeralModel (λ ds. all_ascii_digits ds ≡ true) (digits_value 10)
 model = numerals_by_value _ tells_all_ascii_digits
 
--- a text that begins with a plus is no number
-pub number_of-plus : (text : List ℕ) → 0 < length text → get_or text 0 0 ≡ 43 → number_of text ≡ None
-number_of-plus [] some plus = absurd (let no : ⊥ = omega arith in no)
-number_of-plus (c ∷ rest) some plus = rw plus refl
-
 by_tests : (n : ℕ) (digits some few : Bool) {E : Type 0} (r : Result ℕ E) → OkIff r ((digits ≡ true) × (some ≡ true) × (few ≡ true)) n
     → result_ok r ≡ (if digits && some && few then Some n else None)
 by_tests n digits some few (Ok x) q = rw (q.0.0, q.0.1, q.0.2, q.1) refl

@@ -92,51 +92,65 @@ fn received_shards_are_refused(rt: HostRuntime) -> Result<(), Fail> {
     received::<DefaultRate<Naive<'_>>, _>(&rt, &tables)
 }
 
-// Configurations with odd sizes and with counts, these among them, that the rate doesn't support: to `validate`, to new
-// objects, and to resets of objects that were given a shard.
+// New objects are refused so, and resets of these.
+fn refuses<'t, R: Rate<Naive<'t>>, A: Abort + AllocGlobal>(
+    rt: &A,
+    encoder: &mut R::RateEncoder,
+    decoder: &mut R::RateDecoder,
+    engine: Naive<'t>,
+    (k, r, size): (usize, usize, usize),
+    refusal: Error,
+) {
+    let alloc = rt.alloc();
+    let made = R::encoder(alloc, k, r, size, engine, None);
+    assert!(rt; is_err(made, refusal), "{k} {r} {size}");
+    let made = R::decoder(alloc, k, r, size, engine, None);
+    assert!(rt; is_err(made, refusal), "{k} {r} {size}");
+    assert_eq!(rt; encoder.reset(k, r, size), Err(refusal), "{k} {r} {size}");
+    assert_eq!(rt; decoder.reset(k, r, size), Err(refusal), "{k} {r} {size}");
+}
+
+// Configurations with counts, these among them, that the rate doesn't support, with odd sizes, and with one that no
+// memory has room for. The objects were given a shard, and keep it.
 fn configurations<'t, R: Rate<Naive<'t>>, A: Abort + AllocGlobal>(
     rt: &A,
     tables: &'t Tables,
     unsupported: (usize, usize),
 ) -> Result<(), Fail> {
-    let alloc = rt.alloc();
     let engine = Naive::new(tables);
-    let mut encoder = R::encoder(alloc, 2, 2, 2, engine, None)?;
-    let mut decoder = R::decoder(alloc, 2, 2, 2, engine, None)?;
+    let mut encoder = R::encoder(rt.alloc(), 2, 2, 2, engine, None)?;
+    let mut decoder = R::decoder(rt.alloc(), 2, 2, 2, engine, None)?;
     encoder.add_original_shard(&[0, 0])?;
     decoder.add_original_shard(0, &[0, 0])?;
     for (k, r) in [unsupported, (0, 1), (1, 0), (usize::MAX, usize::MAX)] {
-        let counts = Error::UnsupportedShardCount {
-            original_count: k,
-            recovery_count: r,
-        };
         for size in [0, 64, 123] {
+            let counts = Error::UnsupportedShardCount {
+                original_count: k,
+                recovery_count: r,
+            };
             assert_eq!(rt; R::validate(k, r, size), Err(counts), "{k} {r} {size}");
-            assert!(rt; is_err(R::encoder(alloc, k, r, size, engine, None), counts));
-            assert!(rt; is_err(R::decoder(alloc, k, r, size, engine, None), counts));
-            assert_eq!(rt; encoder.reset(k, r, size), Err(counts), "{k} {r} {size}");
-            assert_eq!(rt; decoder.reset(k, r, size), Err(counts), "{k} {r} {size}");
+            let row = (k, r, size);
+            refuses::<R, A>(rt, &mut encoder, &mut decoder, engine, row, counts);
         }
     }
     for (k, r) in [(1, 1), (2, 2), (2, 3), (3, 2)] {
         for size in [0, 1, 3, 123, usize::MAX] {
             let sized = Error::InvalidShardSize { shard_bytes: size };
             assert_eq!(rt; R::validate(k, r, size), Err(sized), "{k} {r} {size}");
-            assert!(rt; is_err(R::encoder(alloc, k, r, size, engine, None), sized));
-            assert!(rt; is_err(R::decoder(alloc, k, r, size, engine, None), sized));
-            assert_eq!(rt; encoder.reset(k, r, size), Err(sized), "{k} {r} {size}");
-            assert_eq!(rt; decoder.reset(k, r, size), Err(sized), "{k} {r} {size}");
+            let row = (k, r, size);
+            refuses::<R, A>(rt, &mut encoder, &mut decoder, engine, row, sized);
         }
-        // The size is good, and no memory has room for it.
-        let size = usize::MAX - 1;
-        let memory = Error::OutOfMemory;
-        assert_eq!(rt; R::validate(k, r, size), Ok(()));
-        assert!(rt; is_err(R::encoder(alloc, k, r, size, engine, None), memory));
-        assert!(rt; is_err(R::decoder(alloc, k, r, size, engine, None), memory));
-        assert_eq!(rt; encoder.reset(k, r, size), Err(memory), "{k} {r}");
-        assert_eq!(rt; decoder.reset(k, r, size), Err(memory), "{k} {r}");
+        let row = (k, r, usize::MAX - 1);
+        assert_eq!(rt; R::validate(k, r, usize::MAX - 1), Ok(()), "{k} {r}");
+        refuses::<R, A>(
+            rt,
+            &mut encoder,
+            &mut decoder,
+            engine,
+            row,
+            Error::OutOfMemory,
+        );
     }
-    // The refused resets left the configurations and what was given.
     encoder.add_original_shard(&[1, 0])?;
     assert!(rt; gives(&mut encoder, TWO_AND_TWO.recovery)?);
     decoder.add_recovery_shard(1, &[3, 0])?;

@@ -8,7 +8,9 @@ use crate::rows::{
 use reed_solomon_simd::Error;
 use reed_solomon_simd::engine::tables::Tables;
 use reed_solomon_simd::engine::{Engine, Naive, Steps};
-use reed_solomon_simd::rate::{DefaultRate, HighRate, LowRate, Rate, RateDecoder, RateEncoder};
+use reed_solomon_simd::rate::{
+    DecoderWork, DefaultRate, EncoderWork, HighRate, LowRate, Rate, RateDecoder, RateEncoder,
+};
 use std::alloc::Global;
 use std::process::Abort;
 use std::test::Fail;
@@ -297,6 +299,21 @@ fn resets_grow(rt: HostRuntime) -> Result<(), Fail> {
     grows::<LowRate<Naive<'_>>, _>(&rt, &tables)?;
     grows::<HighRate<Naive<'_>>, _>(&rt, &tables)?;
     grows::<DefaultRate<Naive<'_>>, _>(&rt, &tables)
+}
+
+// Working spaces that took no memory yet grow as none at all do.
+#[test]
+fn default_working_spaces_grow(rt: HostRuntime) -> Result<(), Fail> {
+    let alloc = rt.alloc();
+    let tables = tables_of(&rt);
+    let engine = Naive::new(&tables);
+    let work = Some(EncoderWork::default());
+    let mut encoder = DefaultRate::<Naive<'_>>::encoder(alloc, 2, 3, 2, engine, work)?;
+    assert!(rt; encodes(&mut encoder, &LINE)?);
+    let work = Some(DecoderWork::default());
+    let mut decoder = DefaultRate::<Naive<'_>>::decoder(alloc, 3, 2, 2, engine, work)?;
+    assert!(rt; decodes(&mut decoder, &OUTER_LOST)?);
+    Ok(())
 }
 
 // A decoder's parts make one like it.
