@@ -1,7 +1,7 @@
 //! Callers that know an encoder, a decoder or a rate by its trait alone.
-ghost use Rattle.std.specs.Prelude.{◌≡◌, ◌*◌, ◌<◌, ◌⊎◌, length, IfOk, OnOk, OnErr, MatchResult, Err};
+ghost use Rattle.std.specs.Prelude.{◌≡◌, ◌*◌, ◌<◌, ◌⊎◌, length, Ok, IfOk, OnOk, OnErr, MatchResult, Err};
 ghost use Rattle.reed_solomon_simd.specs.Counts.{default_rate};
-ghost use Rattle.reed_solomon_simd.specs.Placement.{decoder_rows, encoder_rows};
+ghost use Rattle.reed_solomon_simd.specs.Placement.{encoder_rows};
 ghost use Rattle.reed_solomon_simd.specs.Configuration.{configuration, started};
 ghost use Rattle.reed_solomon_simd.specs.Outcome.{answer_of};
 ghost use Rattle.reed_solomon_simd.specs.Encoder.{fresh_encoder};
@@ -82,7 +82,7 @@ pub fn make_again<E: Engine, R: Rate<E>>(
     shard_bytes: usize,
 ) -> Result<R::RateDecoder, Error>
     requires { (R.RateDecoder.state decoder).configuration ≡ configuration R.rate original_count recovery_count shard_bytes }
-    ensures answer { answer_of result ≡ started (decoder_rows R.rate original_count recovery_count) (configuration R.rate original_count recovery_count shard_bytes) }
+    ensures answer { answer_of result ≡ Ok tt }
     ensures made { IfOk result (λ x. (R.RateDecoder.state x ≡ fresh_decoder (configuration R.rate original_count recovery_count shard_bytes)) × (R.RateDecoder.engine_of x ≡ R.RateDecoder.engine_of decoder)) }
 {
     let (engine, work) = decoder.into_parts();
@@ -94,4 +94,21 @@ pub fn make_again<E: Engine, R: Rate<E>>(
         engine,
         Some(work),
     )
+}
+
+/// An encoder comes back to its own configuration, whatever it was reset to in between: its room never shrinks, so
+/// memory is never lacking.
+pub fn reset_and_back<E: Engine, X: RateEncoder<E>>(
+    encoder: &mut X,
+    original_count: usize,
+    recovery_count: usize,
+    shard_bytes: usize,
+    between: (usize, usize, usize),
+) -> Result<(), Error>
+    requires { (X.state encoder.old).configuration ≡ configuration X.rate original_count recovery_count shard_bytes }
+    ensures answer { result ≡ Ok tt }
+    ensures state { X.state encoder.new ≡ fresh_encoder (configuration X.rate original_count recovery_count shard_bytes) }
+{
+    let _ = encoder.reset(between.0, between.1, between.2);
+    encoder.reset(original_count, recovery_count, shard_bytes)
 }
