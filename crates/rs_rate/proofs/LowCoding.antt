@@ -91,11 +91,6 @@ recovery_words k r e old new words recovery few power room (combination, origina
       (λ i h. read_recovery i h ∙ values i h ∙ sym (of_size (next_power k + i))),
     )
 
--- a symbol of a cleared chunk
-pub symbol-zero : (s : ℕ) → s < 32 → symbol (replicate 64 0) s ≡ 0
-symbol-zero s h =
-    ap₂ (λ low high. low + 256 * high) (get_or-replicate 64 s 0 0 (omega arith)) (get_or-replicate 64 (s + 32) 0 0 (omega arith))
-
 -- in each column they are the recovery words
 pub codes_words : (k r : ℕ) (old new : ℕ → ℕ) → supports low_rate k r ≡ true → CodesLow k r (next_power k) old new → CodesWords low_rate k r old new
 codes_words k r old new supported coded_column =

@@ -1,35 +1,15 @@
 -- Powers of two, and counts that a rate supports.
 use Rattle.std.proofs.Common.{◌≡◌, ℕ, zero, suc, ◌+◌, ◌-◌, ◌*◌, ◌/◌, ◌%◌, ◌^◌, ◌<◌, ◌≤◌, Bool, true, false, cond, max, refl, sym, ap, ◌∙◌, subst, arith, inl, inr, pow_mono, pow-suc}
 use Rattle.std.specs.Prelude.{nat_le, nat_lt, ◌&&◌}
-use Rattle.std.proofs.lemmas.Bool.{cases_lt, le-leb, lt-leb, lt-ltb, leb-true, ltb-true}
+use Rattle.std.proofs.lemmas.Bool.{and_parts, cases_lt, le-leb, lt-leb, lt-ltb, leb-true, ltb-true}
 use Rattle.std.proofs.lemmas.Nat.{pow_pos, pow-add, div-add-mod'}
 use Rattle.std.proofs.Math.Nat.{div-eq_of_lt-le, mod-eq_of_lt, mul-le-mul_right}
 use Rattle.std.specs.Int.{next_multiple_of}
 use Rattle.std.proofs.Math.Bool.{and-false}
 use Rattle.rs_field.specs.Search.{first_below}
+use Rattle.rs_field.proofs.Search.{first_below-is, first_below-passes, first_below_most}
 use Rattle.rs_field.specs.Counts.{next_power, supports, is_low, low_rate}
 use Rattle.rs_field.specs.Placement.{rounded_up, encoder_rows}
-
--- a search finds the first number that passes
-first_below-is : (n : ℕ) (p : ℕ → Bool) (i : ℕ) → i < n → p i ≡ true → ((j : ℕ) → j < i → p j ≡ false) → first_below n p ≡ i
-unfolding first_below
-first_below-is zero p i h passes before = absurd (let no : ⊥ = omega arith in no)
-first_below-is (suc n) p zero h passes before = ap (λ b. cond b 0 (suc (first_below n (λ k. p (suc k))))) passes
-first_below-is (suc n) p (suc i) h passes before =
-    ap (λ b. cond b 0 (suc (first_below n (λ k. p (suc k))))) (before 0 (omega arith))
-    ∙ ap suc (first_below-is n (λ k. p (suc k)) i (omega arith) passes (λ j hj. before (suc j) (omega arith)))
-
--- a search that ends before its limit ends at a number that passes
-first_below-passes : (n : ℕ) (p : ℕ → Bool) → first_below n p < n → p (first_below n p) ≡ true
-unfolding first_below
-first_below-passes zero p h = absurd (let no : ⊥ = omega arith in no)
-first_below-passes (suc n) p h = by_first (first_below-passes n (λ k. p (suc k))) (p 0) refl
-  where
-    by_first : (first_below n (λ k. p (suc k)) < n → p (suc (first_below n (λ k. p (suc k)))) ≡ true) → (b : Bool) → p 0 ≡ b → p (cond (p 0) 0 (suc (first_below n (λ k. p (suc k))))) ≡ true
-    by_first later true e = ap (λ b. p (cond b 0 (suc (first_below n (λ k. p (suc k)))))) e ∙ e
-    by_first later false e =
-        let rest : suc (first_below n (λ k. p (suc k))) < suc n = subst (λ (b : Bool). cond b 0 (suc (first_below n (λ k. p (suc k)))) < suc n) e h in
-        ap (λ b. p (cond b 0 (suc (first_below n (λ k. p (suc k)))))) e ∙ later (omega arith)
 
 -- the power of two that is not below n, of which half is below n
 pub next_power-is : (n p x : ℕ) → p ≡ 2 ^ x → x < 64 → n ≤ p → p / 2 < max 1 n → p ≡ next_power n
@@ -50,15 +30,6 @@ next_power-is n p x power few above half =
 
     below : (j : ℕ) → j < x → 2 ^ j < n
     below j less = at j x refl less (subst (λ (q : ℕ). q / 2 < max 1 n) power half)
-
--- a search ends no later than at a number that passes
-first_below_most : (m : ℕ) (p : ℕ → Bool) (i : ℕ) → i < m → p i ≡ true → first_below m p ≤ i
-unfolding first_below
-first_below_most zero p i h e = absurd (let no : ⊥ = omega arith in no)
-first_below_most (suc m) p zero h e = subst (λ (b : Bool). cond b 0 (suc (first_below m (λ k. p (suc k)))) ≤ 0) (sym e) (omega arith)
-first_below_most (suc m) p (suc i) h e =
-    let rest : first_below m (λ k. p (suc k)) ≤ i = first_below_most m (λ k. p (suc k)) i (omega arith) e in
-    elim (p 0) as (λ b. cond b 0 (suc (first_below m (λ k. p (suc k)))) ≤ suc i) [ true ↦ omega arith | false ↦ omega arith ]
 
 -- the least power of two that is not below n, for small n
 pub next_power-small : (n : ℕ) → n ≤ 65536 → (d : ℕ) × (d ≤ 16) × (next_power n ≡ 2 ^ d) × (n ≤ next_power n)
@@ -102,20 +73,9 @@ low_no_recovery k = low_test k 0 ∙ ap (λ b. b && nat_le (next_power k + 0) 65
 -- what it means that the low rate supports the counts
 pub low_fits : (k r : ℕ) → supports low_rate k r ≡ true → (0 < k) × (0 < r) × (next_power k + r ≤ 65536)
 low_fits k r is =
-    let tests : (nat_lt 0 k && nat_lt 0 r && nat_le (next_power k + r) 65536) ≡ true = sym (low_test k r) ∙ is in
-    let counts = and-left (nat_lt 0 k && nat_lt 0 r) (nat_le (next_power k + r) 65536) tests in (
-      ltb-true 0 k (and-left (nat_lt 0 k) (nat_lt 0 r) counts),
-      ltb-true 0 r (and-right (nat_lt 0 k) (nat_lt 0 r) counts),
-      leb-true (next_power k + r) 65536 (and-right (nat_lt 0 k && nat_lt 0 r) (nat_le (next_power k + r) 65536) tests),
-    )
-  where
-    and-left : (a b : Bool) → (a && b) ≡ true → a ≡ true
-    and-left true b h = refl
-    and-left false b h = h
-
-    and-right : (a b : Bool) → (a && b) ≡ true → b ≡ true
-    and-right true b h = h
-    and-right false b h = absurd (let no : ⊥ = cc in no)
+    let tests = and_parts (nat_lt 0 k && nat_lt 0 r) (nat_le (next_power k + r) 65536) (sym (low_test k r) ∙ is) in
+    let some = and_parts (nat_lt 0 k) (nat_lt 0 r) tests.0 in
+    (ltb-true 0 k some.0, ltb-true 0 r some.1, leb-true (next_power k + r) 65536 tests.1)
 
 -- the multiple of m that is not below n and below n + m is n rounded up
 pub rounded_up-is : (n m result : ℕ) → 0 < m → n ≤ result → result < n + m → result % m ≡ 0 → result ≡ rounded_up n m

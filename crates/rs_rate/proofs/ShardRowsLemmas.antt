@@ -10,6 +10,7 @@ use Rattle.rs_field.specs.Rows.{Chunks, chunk}
 use Rattle.rs_field.specs.Layout.{row_len, up_to, laid_out, in_order}
 use Rattle.rs_field.specs.Column.{Shard, IsShard, column}
 use Rattle.rs_rate.specs.ShardRows.{chunk_count, row_chunk, shard_laid_out, shard_in_order, word_in}
+use Rattle.rs_field.proofs.Symbols.{byte_fits}
 use Rattle.rs_field.proofs.LayoutLemmas.{up_to-same, laid_out-same, in_order-same, column-laid_out}
 use Rattle.rs_field.proofs.RowOffsets.{offset_apart}
 
@@ -132,14 +133,6 @@ row_chunk-apart chunks part size i j k start n at width fits same inside apart =
 pub column-put : (chunks : Chunks) (size i j : ℕ) → size % 2 ≡ 0 → j < size / 2 → column j (shard_laid_out chunks size i) ≡ word_in chunks (row_len size) (j / 32) (j % 32) i
 unfolding row_chunk
 column-put chunks size i j even inside = column-laid_out size j (row_chunk chunks size i) even inside
-
--- a byte of a chunk is one of the bytes of all chunks
-byte_fits : (chunks : Chunks) (bytes : List ℕ) → bytes ≡ flat_map (λ x. x) chunks → ((j : ℕ) → get_or bytes j 0 < 256)
-    → (k i : ℕ) → k < length chunks → i < length (chunk chunks k) → get_or (chunk chunks k) i 0 < 256
-byte_fits chunks bytes whole fits k i hk hi =
-    let place : ℕ = length (flat_map (λ (x : List ℕ). x) (take k chunks)) + i in
-    let P : ℕ → Type 0 = λ n. n < 256 in
-    subst P (ap (λ b. get_or b place 0) whole ∙ get_or-flat_map (λ x. x) chunks k i [] 0 hk hi) (fits place)
 
 -- what lies in the chunks of a row are bytes
 pub row-fits : (chunks : Chunks) (bytes : List ℕ) (size rows i k b : ℕ) → bytes ≡ flat_map (λ x. x) chunks → ((j : ℕ) → get_or bytes j 0 < 256)

@@ -2,7 +2,8 @@ use Rattle.std.proofs.Common.{◌≡◌, arith, ap, ◌∙◌, inl, inr}
 use Rattle.rs_field.specs.Rows.{symbol}
 use Rattle.rs_field.specs.View.{word}
 use Rattle.rs_field.proofs.RowOffsets.{outside_cell}
-use Rattle.rs_rate.proofs.LowCoding.{coded, symbol-zero}
+use Rattle.rs_field.proofs.Symbols.{symbol-zero}
+use Rattle.rs_rate.proofs.LowCoding.{coded}
 use Rattle.rs_rate.proofs.rate.low_encoding.code_rows.Goals as goal
 
 pub returns-clause-values : goal.returns-clause-values
