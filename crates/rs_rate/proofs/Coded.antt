@@ -8,7 +8,7 @@ use Rattle.rs_field.specs.Counts.{Rate}
 use Rattle.rs_field.specs.Layout.{up_to}
 use Rattle.rs_field.proofs.LayoutLemmas.{length-up_to, up_to-same}
 use Rattle.rs_rate.specs.Coding.{CodesWords}
-use Rattle.rs_rate.specs.Laws.{all-up_to}
+use Rattle.rs_rate.specs.ObjectLaws.{all-up_to}
 
 -- the same coding, of words that are read in another way
 pub words-read : (rate : Rate) (k r : ℕ) (old new old_read new_read : ℕ → ℕ) → ((i : ℕ) → i < k → old_read i ≡ old i) → ((i : ℕ) → i < r → new_read i ≡ new i)

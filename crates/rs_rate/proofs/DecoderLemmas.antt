@@ -13,7 +13,7 @@ use Rattle.rs_rate.specs.declared.rate.marks.Mark.{Mark}
 use Rattle.rs_rate.specs.declared.rate.marks.Mark.TheVariants.{Empty, Given, Restored}
 use Rattle.rs_rate.specs.declared.rate.decoder_work.DecoderShape.{DecoderShape}
 use Rattle.rs_rate.specs.DecoderView.{configuration_of}
-use Rattle.rs_rate.specs.Marks.{mark_at, is_given, is_restored, given_rows, given_shards, restored_shards, mark_after}
+use Rattle.rs_rate.specs.Marks.{mark_at, is_given, is_restored, given_row_count, given_shards, restored_shards, mark_after}
 use Rattle.rs_rate.specs.ShardRows.{shard_laid_out, shard_in_order}
 
 -- the shard of an index below the count, by its row's mark
@@ -38,24 +38,24 @@ pub given-marked : (marks : List Mark) (chunks : Chunks) (size from n i : ℕ) �
 given-marked marks chunks size from n i inside =
     ap is_some (given_shards-in marks chunks size from n i inside) ∙ some_if (is_given (mark_at marks (from + i))) (shard_laid_out chunks size (from + i))
 
-pub given_rows-zero : (marks : List Mark) (from : ℕ) → given_rows marks from 0 ≡ 0
-unfolding given_rows
-given_rows-zero marks from = refl
+pub given_row_count-zero : (marks : List Mark) (from : ℕ) → given_row_count marks from 0 ≡ 0
+unfolding given_row_count
+given_row_count-zero marks from = refl
 
-given_rows-suc : (marks : List Mark) (from n : ℕ) → given_rows marks from (suc n) ≡ given_rows marks from n + cond (is_given (mark_at marks (from + n))) 1 0
-unfolding given_rows
-given_rows-suc marks from n = refl
+given_row_count-suc : (marks : List Mark) (from n : ℕ) → given_row_count marks from (suc n) ≡ given_row_count marks from n + cond (is_given (mark_at marks (from + n))) 1 0
+unfolding given_row_count
+given_row_count-suc marks from n = refl
 
 one_at_most : (b : Bool) → cond b 1 0 ≤ 1
 one_at_most true = omega arith
 one_at_most false = omega arith
 
 -- no more shards are given than there are rows
-pub given_rows-most : (marks : List Mark) (from n : ℕ) → given_rows marks from n ≤ n
-given_rows-most marks from zero = (let none = given_rows-zero marks from in omega arith)
-given_rows-most marks from (suc n) =
-    let rest = given_rows-most marks from n in
-    let more = given_rows-suc marks from n in
+pub given_row_count-most : (marks : List Mark) (from n : ℕ) → given_row_count marks from n ≤ n
+given_row_count-most marks from zero = (let none = given_row_count-zero marks from in omega arith)
+given_row_count-most marks from (suc n) =
+    let rest = given_row_count-most marks from n in
+    let more = given_row_count-suc marks from n in
     let one = one_at_most (is_given (mark_at marks (from + n))) in
     omega arith
 
@@ -68,15 +68,15 @@ unfolding count_below
 count_below-zero given = refl
 
 -- as many shards are given as rows are marked so
-count-below : (marks : List Mark) (chunks : Chunks) (size from m n : ℕ) → n ≤ m → count_below n (given_shards marks chunks size from m) ≡ given_rows marks from n
-count-below marks chunks size from m zero fits = count_below-zero (given_shards marks chunks size from m) ∙ sym (given_rows-zero marks from)
+count-below : (marks : List Mark) (chunks : Chunks) (size from m n : ℕ) → n ≤ m → count_below n (given_shards marks chunks size from m) ≡ given_row_count marks from n
+count-below marks chunks size from m zero fits = count_below-zero (given_shards marks chunks size from m) ∙ sym (given_row_count-zero marks from)
 count-below marks chunks size from m (suc n) fits =
     count_below-suc n (given_shards marks chunks size from m)
     ∙ ap (λ b. count_below n (given_shards marks chunks size from m) + cond b 1 0) (given-marked marks chunks size from m n (omega arith))
     ∙ ap (λ c. c + cond (is_given (mark_at marks (from + n))) 1 0) (count-below marks chunks size from m n (omega arith))
-    ∙ sym (given_rows-suc marks from n)
+    ∙ sym (given_row_count-suc marks from n)
 
-pub count-given : (marks : List Mark) (chunks : Chunks) (size from n : ℕ) → count_below n (given_shards marks chunks size from n) ≡ given_rows marks from n
+pub count-given : (marks : List Mark) (chunks : Chunks) (size from n : ℕ) → count_below n (given_shards marks chunks size from n) ≡ given_row_count marks from n
 count-given marks chunks size from n = count-below marks chunks size from n n (omega arith)
 
 -- with no row marked, nothing is given
@@ -88,11 +88,11 @@ given-nothing marks chunks size from n empty =
       | inr outside ↦ given_shards-out marks chunks size from n i outside
     ])
 
-pub given_rows-nothing : (marks : List Mark) (from n : ℕ) → ((i : ℕ) → i < n → is_given (mark_at marks (from + i)) ≡ false) → given_rows marks from n ≡ 0
-given_rows-nothing marks from zero empty = given_rows-zero marks from
-given_rows-nothing marks from (suc n) empty =
-    let rest = given_rows-nothing marks from n (λ i h. empty i (omega arith)) in
-    given_rows-suc marks from n ∙ ap (λ b. given_rows marks from n + cond b 1 0) (empty n (omega arith)) ∙ (let none : given_rows marks from n + 0 ≡ 0 = omega arith in none)
+pub given_row_count-nothing : (marks : List Mark) (from n : ℕ) → ((i : ℕ) → i < n → is_given (mark_at marks (from + i)) ≡ false) → given_row_count marks from n ≡ 0
+given_row_count-nothing marks from zero empty = given_row_count-zero marks from
+given_row_count-nothing marks from (suc n) empty =
+    let rest = given_row_count-nothing marks from n (λ i h. empty i (omega arith)) in
+    given_row_count-suc marks from n ∙ ap (λ b. given_row_count marks from n + cond b 1 0) (empty n (omega arith)) ∙ (let none : given_row_count marks from n + 0 ≡ 0 = omega arith in none)
 
 -- the same rows, marked in the same way, stand for the same shards
 pub given-kept : (old new : List Mark) (before after : Chunks) (size from n : ℕ) → ((i : ℕ) → i < n → mark_at new (from + i) ≡ mark_at old (from + i))
@@ -107,13 +107,13 @@ given-kept old new before after size from n marks shards =
       | inr outside ↦ given_shards-out new after size from n i outside ∙ sym (given_shards-out old before size from n i outside)
     ])
 
-pub given_rows-kept : (old new : List Mark) (from n : ℕ) → ((i : ℕ) → i < n → mark_at new (from + i) ≡ mark_at old (from + i)) → given_rows new from n ≡ given_rows old from n
-given_rows-kept old new from zero marks = given_rows-zero new from ∙ sym (given_rows-zero old from)
-given_rows-kept old new from (suc n) marks =
-    given_rows-suc new from n
-    ∙ ap (λ p. given_rows new from n + cond (is_given p) 1 0) (marks n (omega arith))
-    ∙ ap (λ c. c + cond (is_given (mark_at old (from + n))) 1 0) (given_rows-kept old new from n (λ i h. marks i (omega arith)))
-    ∙ sym (given_rows-suc old from n)
+pub given_row_count-kept : (old new : List Mark) (from n : ℕ) → ((i : ℕ) → i < n → mark_at new (from + i) ≡ mark_at old (from + i)) → given_row_count new from n ≡ given_row_count old from n
+given_row_count-kept old new from zero marks = given_row_count-zero new from ∙ sym (given_row_count-zero old from)
+given_row_count-kept old new from (suc n) marks =
+    given_row_count-suc new from n
+    ∙ ap (λ p. given_row_count new from n + cond (is_given p) 1 0) (marks n (omega arith))
+    ∙ ap (λ c. c + cond (is_given (mark_at old (from + n))) 1 0) (given_row_count-kept old new from n (λ i h. marks i (omega arith)))
+    ∙ sym (given_row_count-suc old from n)
 
 entered-is : (given : Shards) (index i : ℕ) (shard : Shard) → entered given index shard i ≡ cond (nat_eq i index) (Some shard) (given i)
 unfolding entered
@@ -142,20 +142,20 @@ given-entered old new before after size from n index shard inside marked here ma
           ∙ sym (ap (λ b. cond b (Some shard) (given_shards old before size from n i)) (ne_eqb i index apart)) ∙ sym (entered-is (given_shards old before size from n) index i shard)
     ])
 
-pub given_rows-more : (old new : List Mark) (from n index : ℕ) → index < n → mark_at new (from + index) ≡ Given → is_given (mark_at old (from + index)) ≡ false
-    → ((i : ℕ) → i < n → i ≢ index → mark_at new (from + i) ≡ mark_at old (from + i)) → given_rows new from n ≡ given_rows old from n + 1
-given_rows-more old new from zero index inside marked before marks = absurd (let no : ⊥ = omega arith in no)
-given_rows-more old new from (suc n) index inside marked before marks =
+pub given_row_count-more : (old new : List Mark) (from n index : ℕ) → index < n → mark_at new (from + index) ≡ Given → is_given (mark_at old (from + index)) ≡ false
+    → ((i : ℕ) → i < n → i ≢ index → mark_at new (from + i) ≡ mark_at old (from + i)) → given_row_count new from n ≡ given_row_count old from n + 1
+given_row_count-more old new from zero index inside marked before marks = absurd (let no : ⊥ = omega arith in no)
+given_row_count-more old new from (suc n) index inside marked before marks =
     elim (cases_eq index n) [
       | inl last ↦
-          let kept = given_rows-kept old new from n (λ i h. marks i (omega arith) (let apart : i ≢ index = omega arith in apart)) in
+          let kept = given_row_count-kept old new from n (λ i h. marks i (omega arith) (let apart : i ≢ index = omega arith in apart)) in
           let here : ◌≡◌ {A = ℕ} (cond (is_given (mark_at new (from + n))) 1 0) 1 = ap (λ j. cond (is_given (mark_at new (from + j))) 1 0) (sym last) ∙ ap (λ p. cond (is_given p) 1 0) marked in
           let there : ◌≡◌ {A = ℕ} (cond (is_given (mark_at old (from + n))) 1 0) 0 = ap (λ j. cond (is_given (mark_at old (from + j))) 1 0) (sym last) ∙ ap (λ b. cond b 1 0) before in
-          omega (arith, kept, here, there, given_rows-suc new from n, given_rows-suc old from n)
+          omega (arith, kept, here, there, given_row_count-suc new from n, given_row_count-suc old from n)
       | inr earlier ↦
-          let more = given_rows-more old new from n index (omega arith) marked before (λ i h. marks i (omega arith)) in
+          let more = given_row_count-more old new from n index (omega arith) marked before (λ i h. marks i (omega arith)) in
           let same : ◌≡◌ {A = ℕ} (cond (is_given (mark_at new (from + n))) 1 0) (cond (is_given (mark_at old (from + n))) 1 0) = ap (λ p. cond (is_given p) 1 0) (marks n (omega arith) (let apart : n ≢ index = omega arith in apart)) in
-          omega (arith, more, same, given_rows-suc new from n, given_rows-suc old from n)
+          omega (arith, more, same, given_row_count-suc new from n, given_row_count-suc old from n)
     ]
 
 -- the original of an index below the count that was restored

@@ -6,7 +6,7 @@ use Rattle.rs_field.specs.Given.{Shards}
 use Rattle.rs_field.specs.Decoder.{DecoderState, fresh_decoder, enough_given, FillsMissing, DecodeFills, after_decode}
 use Rattle.rs_field.specs.Counts.{Rate, next_power, supports, is_low, low_rate}
 use Rattle.rs_field.specs.Placement.{placement, low_placement, decoder_rows}
-use Rattle.rs_rate.specs.declared.rate.marks.Frame.{Frame}
+use Rattle.rs_rate.specs.declared.rate.decoder_work.Frame.{Frame}
 use Rattle.rs_rate.specs.DecoderView.{frame_of}
 use Rattle.rs_rate.proofs.PowerLemmas.{low_fits, next_power-small}
 

@@ -9,7 +9,7 @@ use Rattle.rs_field.specs.Polynomial.{value}
 use Rattle.rs_field.specs.Column.{Shard}
 use Rattle.rs_field.specs.Configuration.{configuration, validated}
 use Rattle.rs_field.specs.Code.{Codes, AreRecoveryWords}
-use Rattle.rs_rate.specs.declared.rate.marks.Frame.{Frame}
+use Rattle.rs_rate.specs.declared.rate.decoder_work.Frame.{Frame}
 use Rattle.rs_rate.specs.declared.rate.encoder_work.EncoderShape.{EncoderShape}
 use Rattle.rs_rate.specs.EncoderView.{encoder_shape, shape_chunks}
 use Rattle.rs_rate.specs.ShardRows.{chunk_count}
@@ -25,7 +25,7 @@ pub high_frame-is : (k r : ℕ) → frame_of high_rate k r
 unfolding frame_of placement high_placement is_low decoder_rows
 high_frame-is k r = refl
 
--- what an encoder of the low and of the high rate is laid out for, written out
+-- what an encoder of the low and of the high rate is set up for, written out
 pub low_shape-is : (k r size : ℕ) → encoder_shape low_rate k r size
     ≡ record { original_count = k; recovery_count = r; shard_bytes = size; row_count = encoder_rows low_rate k r; block_rows = next_power k }
 unfolding encoder_shape block_rows is_low

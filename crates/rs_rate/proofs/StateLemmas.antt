@@ -29,18 +29,15 @@ unfolding chunk_count
 started-valid rows c valid =
     ap (result_and_then (λ _. cond (nat_le (2 ^ 64) (space rows c.shard_bytes)) (Err OutOfMemory) (Ok tt))) valid
 
--- a valid configuration whose space is no `usize` lacks memory
+-- a valid configuration whose space is a `usize` is set up
 pub started-roomy : (rows : ℕ) (c : Configuration) → validated c ≡ Ok tt → chunk_count rows c.shard_bytes * 64 < 2 ^ 64 → started rows c ≡ Ok tt
 started-roomy rows c valid fits =
     started-valid rows c valid ∙ ap (λ (b : Bool). cond b (Err OutOfMemory) (Ok tt)) (lt-leb (2 ^ 64) (chunk_count rows c.shard_bytes * 64) fits)
 
+-- and one whose space is no `usize` lacks memory
 pub started-large : (rows : ℕ) (c : Configuration) → validated c ≡ Ok tt → 2 ^ 64 ≤ chunk_count rows c.shard_bytes * 64 → started rows c ≡ Err OutOfMemory
 started-large rows c valid large =
     started-valid rows c valid ∙ ap (λ (b : Bool). cond b (Err OutOfMemory) (Ok tt)) (le-leb (2 ^ 64) (chunk_count rows c.shard_bytes * 64) large)
-
-pub started-refused : (rows : ℕ) (c : Configuration) (e : Error) → validated c ≡ Err e → started rows c ≡ Err e
-started-refused rows c e refused =
-    ap (result_and_then (λ _. cond (nat_le (2 ^ 64) (space rows c.shard_bytes)) (Err OutOfMemory) (Ok tt))) refused
 
 -- success, where the space is a `usize`
 pub answers-made : (rows : ℕ) (c : Configuration) → validated c ≡ Ok tt → chunk_count rows c.shard_bytes * 64 < 2 ^ 64 → UpToMemory (started rows c) (Ok tt)
@@ -178,7 +175,7 @@ made-not_short (Ok x) made is = cc
 made-not_short (Err e) made is = cc
 
 -- an encoder over rows of a shape with nothing given is a fresh one
-pub encoder_state-fresh : (rate : Rate) (rows : EncoderRows) (shape : EncoderShape) → rows.shape ≡ shape → rows.given_count ≡ 0
+pub encoder_state-fresh : (rate : Rate) (rows : EncoderRows) (shape : EncoderShape) → rows.shape ≡ shape → rows.originals_given ≡ 0
     → encoder_state rate rows ≡ fresh_encoder (configuration_of rate shape)
 encoder_state-fresh rate rows shape same none =
     let F : EncoderShape → List Shard → EncoderState = λ s given. record { configuration = configuration_of rate s; given = given } in

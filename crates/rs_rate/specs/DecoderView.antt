@@ -6,7 +6,7 @@ use Rattle.rs_field.specs.Placement.{placement, decoder_rows}
 use Rattle.rs_field.specs.Configuration.{Configuration, configuration}
 use Rattle.rs_field.specs.Given.{Shards}
 use Rattle.rs_field.specs.Decoder.{DecoderState}
-use Rattle.rs_rate.specs.declared.rate.marks.Frame.{Frame}
+use Rattle.rs_rate.specs.declared.rate.decoder_work.Frame.{Frame}
 use Rattle.rs_rate.specs.declared.rate.decoder_work.DecoderShape.{DecoderShape}
 use Rattle.rs_rate.specs.declared.rate.decoder_work.DecoderRows.{DecoderRows}
 use Rattle.rs_rate.specs.declared.rate.decoder_work.DecoderMemory.{DecoderMemory}
@@ -39,7 +39,7 @@ frame_of rate k r =
     let p = placement rate k r in
     record { row_count = decoder_rows rate k r; originals_from = p.originals_from; recovery_from = p.recovery_from; zeros_from = p.zeros_from; zeros_to = p.zeros_to }
 
--- what a decoder of this rate is laid out for at these counts and this size
+-- what a decoder of this rate is set up for at these counts and this size
 abbrev pub decoder_shape : Rate → ℕ → ℕ → ℕ → DecoderShape
 decoder_shape rate k r size = record { original_count = k; recovery_count = r; shard_bytes = size; frame = frame_of rate k r }
 

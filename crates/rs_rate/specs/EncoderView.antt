@@ -16,7 +16,7 @@ use Rattle.rs_rate.specs.ShardRows.{chunk_count, shard_laid_out, shard_in_order}
 abbrev pub configuration_of : Rate → EncoderShape → Configuration
 configuration_of rate shape = configuration rate shape.original_count shape.recovery_count shape.shard_bytes
 
--- what an encoder of this rate is laid out for at these counts and this size
+-- what an encoder of this rate is set up for at these counts and this size
 unfoldable pub encoder_shape : Rate → ℕ → ℕ → ℕ → EncoderShape
 encoder_shape rate k r size =
     record { original_count = k; recovery_count = r; shard_bytes = size; row_count = encoder_rows rate k r; block_rows = block_rows rate k r }
@@ -27,7 +27,7 @@ shape_chunks shape = chunk_count shape.row_count shape.shard_bytes
 
 -- the originals that were given, in order
 abbrev pub given_of : EncoderRows → List Shard
-given_of rows = up_to rows.given_count (shard_laid_out rows.chunks.items rows.shape.shard_bytes)
+given_of rows = up_to rows.originals_given (shard_laid_out rows.chunks.items rows.shape.shard_bytes)
 
 -- the state of an encoder of this rate over the rows
 abbrev pub encoder_state : Rate → EncoderRows → EncoderState

@@ -4,6 +4,6 @@ pub mod EncoderView
 pub mod ResultView
 pub mod Loan
 pub mod Coding
-pub mod Laws
+pub mod ObjectLaws
 pub mod Marks
 pub mod DecoderView

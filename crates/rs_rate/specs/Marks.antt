@@ -23,9 +23,9 @@ is_restored Given = false
 is_restored Restored = true
 
 -- how many of the n rows from one on hold a given shard
-unfoldable pub given_rows : List Mark → ℕ → ℕ → ℕ
-given_rows marks from zero = 0
-given_rows marks from (suc n) = given_rows marks from n + (if is_given (mark_at marks (from + n)) then 1 else 0)
+unfoldable pub given_row_count : List Mark → ℕ → ℕ → ℕ
+given_row_count marks from zero = 0
+given_row_count marks from (suc n) = given_row_count marks from n + (if is_given (mark_at marks (from + n)) then 1 else 0)
 
 -- the shards that were given in the n rows from one on
 unfoldable pub given_shards : List Mark → Chunks → ℕ → ℕ → ℕ → Shards

@@ -182,7 +182,8 @@ pub trait RateEncoder<E: Engine>: Sized {
         ensures roomy { IfSome work (λ w. chunk_count (encoder_rows rate original_count recovery_count) shard_bytes ≤ work_room w
             → answer_of result ≡ started (encoder_rows rate original_count recovery_count) (configuration rate original_count recovery_count shard_bytes)) };
 
-    /// The encoder with another configuration and nothing given. Refused as `new`; a refusal changes nothing.
+    /// The encoder with another configuration and nothing given. Refused as `new`; a refusal leaves the configuration and
+    /// the given shards.
     ///
     /// `OutOfMemory` never comes where the rows fit the room that the encoder has: where they are its own and the size
     /// is not above its own, and where its working space was grown for as much before.
@@ -210,7 +211,7 @@ pub trait RateEncoder<E: Engine>: Sized {
         ensures answer { result ≡ answer_of (with_shard (state self.old) original_shard.now) }
         ensures left { state self.new ≡ state_after (state self.old) (with_shard (state self.old) original_shard.now) }
         ensures engine { engine_of self.new ≡ engine_of self.old }
-        ensures grown { room self.new ≡ room self.old };
+        ensures room { room self.new ≡ room self.old };
 
     /// Lends the recovery shards of the given originals, and ends the round.
     ///
@@ -293,7 +294,8 @@ pub trait RateDecoder<E: Engine>: Sized {
         ensures roomy { IfSome work (λ w. HasRoom (work_room w) (decoder_rows rate original_count recovery_count) shard_bytes
             → answer_of result ≡ started (decoder_rows rate original_count recovery_count) (configuration rate original_count recovery_count shard_bytes)) };
 
-    /// The decoder with another configuration and nothing given. Refused as `new`; a refusal changes nothing.
+    /// The decoder with another configuration and nothing given. Refused as `new`; a refusal leaves the configuration and
+    /// the given shards.
     ///
     /// `OutOfMemory` never comes where the rows fit the room that the decoder has: where they are its own and the size
     /// is not above its own, and where its working space was grown for as much before.
@@ -321,7 +323,7 @@ pub trait RateDecoder<E: Engine>: Sized {
         ensures answer { result ≡ answer_of (with_original (state self.old) index original_shard.now) }
         ensures left { state self.new ≡ state_after (state self.old) (with_original (state self.old) index original_shard.now) }
         ensures engine { engine_of self.new ≡ engine_of self.old }
-        ensures grown { room self.new ≡ room self.old };
+        ensures room { room self.new ≡ room self.old };
 
     /// Gives the recovery shard of this index, of the decoder's size in bytes.
     ///
@@ -331,7 +333,7 @@ pub trait RateDecoder<E: Engine>: Sized {
         ensures answer { result ≡ answer_of (with_recovery (state self.old) index recovery_shard.now) }
         ensures left { state self.new ≡ state_after (state self.old) (with_recovery (state self.old) index recovery_shard.now) }
         ensures engine { engine_of self.new ≡ engine_of self.old }
-        ensures grown { room self.new ≡ room self.old };
+        ensures room { room self.new ≡ room self.old };
 
     /// Lends the originals that were not given, and ends the round.
     ///

@@ -132,7 +132,7 @@ pub(crate) fn validate<C: Code>(
     Ok(())
 }
 
-// What an encoder of a rate is laid out for.
+// What an encoder of a rate is set up for.
 pub(crate) fn encoder_shape<C: Code>(
     original_count: usize,
     recovery_count: usize,
@@ -153,7 +153,7 @@ pub(crate) fn encoder_shape<C: Code>(
     }
 }
 
-// What a decoder of a rate is laid out for.
+// What a decoder of a rate is set up for.
 pub(crate) fn decoder_shape<C: Code>(
     original_count: usize,
     recovery_count: usize,

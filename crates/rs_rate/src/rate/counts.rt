@@ -6,7 +6,7 @@ ghost use Rattle.rs_rate.specs.EncoderView.{encoder_shape};
 ghost use Rattle.rs_rate.specs.DecoderView.{frame_of};
 
 use crate::rate::encoder_work::EncoderShape;
-use crate::rate::marks::Frame;
+use crate::rate::decoder_work::Frame;
 use rs_field::engine::GF_ORDER;
 
 // The least power of two that is not below n.
@@ -65,7 +65,7 @@ pub(crate) fn default_is_low(original_count: usize, recovery_count: usize) -> bo
         || (original_power == recovery_power && recovery_count < original_count)
 }
 
-// What a low-rate encoder is laid out for: rows for the recovery shards, in whole blocks of the originals' power of two.
+// What a low-rate encoder is set up for: rows for the recovery shards, in whole blocks of the originals' power of two.
 pub(crate) fn low_encoder_shape(
     original_count: usize,
     recovery_count: usize,
@@ -87,7 +87,7 @@ pub(crate) fn low_encoder_shape(
     }
 }
 
-// What a high-rate encoder is laid out for: rows for the originals, in whole blocks of the recovery shards' power of two.
+// What a high-rate encoder is set up for: rows for the originals, in whole blocks of the recovery shards' power of two.
 pub(crate) fn high_encoder_shape(
     original_count: usize,
     recovery_count: usize,
@@ -123,7 +123,6 @@ fn whole_blocks(count: usize, block_count: usize) -> usize
 pub(crate) fn low_frame(original_count: usize, recovery_count: usize) -> Frame
     requires { supports low_rate original_count recovery_count ≡ true }
     ensures frame { result ≡ frame_of low_rate original_count recovery_count }
-    ensures some { 0 < result.row_count }
     ensures few { result.row_count ≤ 65536 }
     ensures originals { result.originals_from + original_count ≤ result.row_count }
     ensures recovery { result.recovery_from + recovery_count ≤ result.row_count }
@@ -144,7 +143,6 @@ pub(crate) fn low_frame(original_count: usize, recovery_count: usize) -> Frame
 pub(crate) fn high_frame(original_count: usize, recovery_count: usize) -> Frame
     requires { supports high_rate original_count recovery_count ≡ true }
     ensures frame { result ≡ frame_of high_rate original_count recovery_count }
-    ensures some { 0 < result.row_count }
     ensures few { result.row_count ≤ 65536 }
     ensures originals { result.originals_from + original_count ≤ result.row_count }
     ensures recovery { result.recovery_from + recovery_count ≤ result.row_count }

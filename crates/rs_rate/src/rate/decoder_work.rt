@@ -6,9 +6,9 @@ ghost use Rattle.rs_field.specs.Counts.{Rate};
 ghost use Rattle.rs_field.specs.Outcome.{answer_of, state_after};
 ghost use Rattle.rs_field.specs.Decoder.{fresh_decoder, with_original, with_recovery, enough_given};
 ghost use Rattle.rs_rate.specs.ShardRows.{chunk_count as chunk_count_of, shard_laid_out};
-ghost use Rattle.rs_rate.specs.Marks.{mark_at, is_given, given_rows};
+ghost use Rattle.rs_rate.specs.Marks.{mark_at, is_given, given_row_count};
 
-use crate::rate::marks::{Frame, Mark, is_given_at, is_restored_at, mark_given, set_empty};
+use crate::rate::marks::{Mark, is_given_at, is_restored_at, mark_given, set_empty};
 use crate::rate::memory::{make_room, set_chunks};
 use crate::rate::shard_rows::{chunk_count, insert_at, shard_at, shard_is_bytes};
 use rs_field::engine::tables::Tables;
@@ -32,7 +32,17 @@ pub struct DecoderMemory {
     pub ghost points: { vec_len erasures ≡ 65536 },
 }
 
-/// What a decoder's rows are laid out for: its counts, the size of a shard, and where its shards stand.
+/// Where a decoder's shards stand among the points, which points are known zeros, and how many rows it works on.
+#[derive(Clone, Copy)]
+pub struct Frame {
+    pub row_count: usize,
+    pub originals_from: usize,
+    pub recovery_from: usize,
+    pub zeros_from: usize,
+    pub zeros_to: usize,
+}
+
+/// What a decoder's rows are set up for: its counts, the size of a shard, and where its shards stand.
 #[derive(Clone, Copy)]
 pub struct DecoderShape {
     pub original_count: usize,
@@ -59,8 +69,8 @@ pub struct DecoderRows {
     pub ghost sized: { chunk_count_of shape.frame.row_count shape.shard_bytes * 64 < 2 ^ 64 },
     pub ghost marked: { vec_len memory.marks ≡ shape.frame.row_count },
     pub ghost own_marks: { shape.frame.row_count ≤ vec_capacity memory.marks },
-    pub ghost originals_counted: { originals_given ≡ given_rows memory.marks.items shape.frame.originals_from shape.original_count },
-    pub ghost recovery_counted: { recovery_given ≡ given_rows memory.marks.items shape.frame.recovery_from shape.recovery_count },
+    pub ghost originals_counted: { originals_given ≡ given_row_count memory.marks.items shape.frame.originals_from shape.original_count },
+    pub ghost recovery_counted: { recovery_given ≡ given_row_count memory.marks.items shape.frame.recovery_from shape.recovery_count },
     pub ghost shards: { (p : ℕ) → is_given (mark_at memory.marks.items p) ≡ true → IsShard shape.shard_bytes (shard_laid_out memory.chunks.items shape.shard_bytes p) },
 }
 

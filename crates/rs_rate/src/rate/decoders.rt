@@ -22,7 +22,7 @@ pub type HighRateDecoder<E> = Decoder<E, HighCode>;
 /// The decoder of the default rate.
 pub type DefaultRateDecoder<E> = Decoder<E, DefaultCode>;
 
-/// The decoder of a rate: an engine, and rows laid out for counts that the rate supports.
+/// The decoder of a rate: an engine, and rows set up for counts that the rate supports.
 #[derive(Drop)]
 pub struct Decoder<E: Engine, C: Code> {
     engine: E,
@@ -33,7 +33,7 @@ pub struct Decoder<E: Engine, C: Code> {
 }
 
 impl<E: Engine, C: Code> RateDecoder<E> for Decoder<E, C> {
-    ghost use Rattle.rs_rate.specs.Laws.{is_decoder, has_own_decoder_room};
+    ghost use Rattle.rs_rate.specs.ObjectLaws.{is_decoder, has_own_decoder_room};
 
     type Rate = RateOf<E, C>;
 

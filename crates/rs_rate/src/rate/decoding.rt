@@ -13,8 +13,8 @@ ghost use Rattle.rs_rate.specs.DecoderView.{configuration_of, decoder_state, mem
 ghost use Rattle.rs_rate.specs.Marks.{erased};
 ghost use Rattle.rs_rate.specs.ShardRows.{chunk_count};
 
-use crate::rate::decoder_work::{DecoderMemory, DecoderRows, DecoderShape};
-use crate::rate::marks::{Frame, Mark, end_marks};
+use crate::rate::decoder_work::{DecoderMemory, DecoderRows, DecoderShape, Frame};
+use crate::rate::marks::{Mark, end_marks};
 use crate::rate::shard_rows::{in_order_are_bytes, move_tail};
 use rs_field::engine::layout::row_len;
 use rs_field::engine::locator::locator_at;
@@ -207,11 +207,11 @@ fn pass_rows<E: Engine>(engine: &E, steps: &mut Steps, data: &mut ShardsRefMut<'
     requires within { end ≤ «data».old.shard_count }
     ensures shape { SameShape «data».old «data».new }
 {
-    let size = data.len();
-    clear_rows(steps, data, end, size);
-    engine.ifft(steps, data, 0, size, end, 0);
+    let row_count = data.len();
+    clear_rows(steps, data, end, row_count);
+    engine.ifft(steps, data, 0, row_count, end, 0);
     formal_derivative(steps, data);
-    engine.fft(steps, data, 0, size, end, 0);
+    engine.fft(steps, data, 0, row_count, end, 0);
 }
 
 // Divides the rows of the missing originals by their locator entry.

@@ -18,7 +18,7 @@ pub struct EncoderWork {
     pub(crate) chunks: Option<Vec<[u8; 64]>>,
 }
 
-/// What an encoder's rows are laid out for: its counts, the size of a shard, its rows, and the rows of a block.
+/// What an encoder's rows are set up for: its counts, the size of a shard, its rows, and the rows of a block.
 #[derive(Clone, Copy)]
 pub struct EncoderShape {
     pub original_count: usize,
@@ -32,17 +32,17 @@ pub struct EncoderShape {
 #[derive(Drop)]
 pub struct EncoderRows {
     pub(crate) shape: EncoderShape,
-    pub(crate) given_count: usize,
+    pub(crate) originals_given: usize,
     pub(crate) chunks: Vec<[u8; 64]>,
     pub ghost positive: { 0 < shape.shard_bytes },
     pub ghost even: { shape.shard_bytes % 2 ≡ 0 },
     pub ghost originals: { shape.original_count ≤ shape.row_count },
     pub ghost recovery: { shape.recovery_count ≤ shape.row_count },
-    pub ghost no_more: { given_count ≤ shape.original_count },
+    pub ghost no_more: { originals_given ≤ shape.original_count },
     pub ghost whole: { vec_len chunks ≡ chunk_count_of shape.row_count shape.shard_bytes },
     pub ghost own_room: { chunk_count_of shape.row_count shape.shard_bytes ≤ vec_capacity chunks },
     pub ghost sized: { chunk_count_of shape.row_count shape.shard_bytes * 64 < 2 ^ 64 },
-    pub ghost shards: { (i : ℕ) → i < given_count → IsShard shape.shard_bytes (shard_laid_out chunks.items shape.shard_bytes i) },
+    pub ghost shards: { (i : ℕ) → i < originals_given → IsShard shape.shard_bytes (shard_laid_out chunks.items shape.shard_bytes i) },
 }
 
 impl EncoderWork {
@@ -79,7 +79,7 @@ impl EncoderRows {
         requires even { shape.shard_bytes % 2 ≡ 0 }
         requires originals { shape.original_count ≤ shape.row_count }
         requires recovery { shape.recovery_count ≤ shape.row_count }
-        ensures made { IfOk result (λ x. (x.shape ≡ shape) × (x.given_count ≡ 0)) }
+        ensures made { IfOk result (λ x. (x.shape ≡ shape) × (x.originals_given ≡ 0)) }
         ensures memory { IfErr result (λ e. e ≡ Error.OutOfMemory) }
         ensures fits { IfOk result (λ _. shape_chunks shape * 64 < 2 ^ 64) }
         ensures grown { IfOk result (λ x. IfSome work (λ w. work_room w ≤ vec_capacity x.chunks)) }
@@ -94,7 +94,7 @@ impl EncoderRows {
         set_chunks(&mut chunks, count);
         Ok(EncoderRows {
             shape,
-            given_count: 0,
+            originals_given: 0,
             chunks,
         })
     }
@@ -105,8 +105,8 @@ impl EncoderRows {
         requires even { shape.shard_bytes % 2 ≡ 0 }
         requires originals { shape.original_count ≤ shape.row_count }
         requires recovery { shape.recovery_count ≤ shape.row_count }
-        ensures ok { OnOk result ((self.new.shape ≡ shape) × (self.new.given_count ≡ 0)) }
-        ensures err { OnErr result ((self.new.shape ≡ self.old.shape) × (self.new.given_count ≡ self.old.given_count) × (self.new.chunks.items ≡ self.old.chunks.items)) }
+        ensures ok { OnOk result ((self.new.shape ≡ shape) × (self.new.originals_given ≡ 0)) }
+        ensures err { OnErr result ((self.new.shape ≡ self.old.shape) × (self.new.originals_given ≡ self.old.originals_given) × (self.new.chunks.items ≡ self.old.chunks.items)) }
         ensures memory { IfErr result (λ e. e ≡ Error.OutOfMemory) }
         ensures fits { IfOk result (λ _. shape_chunks shape * 64 < 2 ^ 64) }
         ensures grown { vec_capacity self.old.chunks ≤ vec_capacity self.new.chunks }
@@ -114,7 +114,7 @@ impl EncoderRows {
     {
         let count = chunk_count(shape.row_count, shape.shard_bytes)?;
         make_room(&mut self.chunks, count)?;
-        self.given_count = 0;
+        self.originals_given = 0;
         set_chunks(&mut self.chunks, count);
         self.shape = shape;
         Ok(())
@@ -126,7 +126,7 @@ impl EncoderRows {
         ensures shape { self.new.shape ≡ self.old.shape }
         ensures room { vec_capacity self.new.chunks ≡ vec_capacity self.old.chunks }
     {
-        if self.given_count == self.shape.original_count {
+        if self.originals_given == self.shape.original_count {
             return Err(Error::TooManyOriginalShards {
                 original_count: self.shape.original_count,
             });
@@ -138,8 +138,8 @@ impl EncoderRows {
             });
         }
         shard_is_bytes(original_shard);
-        insert_at(self.chunks.as_mut_slice(), original_shard, self.given_count);
-        self.given_count += 1;
+        insert_at(self.chunks.as_mut_slice(), original_shard, self.originals_given);
+        self.originals_given += 1;
         Ok(())
     }
 
@@ -147,10 +147,10 @@ impl EncoderRows {
     pub(crate) fn check_all_given(&self) -> Result<(), Error>
         ensures { (rate : Rate) → result ≡ answer_of (message_of (encoder_state rate self.now)) }
     {
-        if self.given_count < self.shape.original_count {
+        if self.originals_given < self.shape.original_count {
             return Err(Error::TooFewOriginalShards {
                 original_count: self.shape.original_count,
-                original_received_count: self.given_count,
+                original_received_count: self.originals_given,
             });
         }
         Ok(())

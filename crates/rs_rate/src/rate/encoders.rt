@@ -23,7 +23,7 @@ pub type HighRateEncoder<E> = Encoder<E, HighCode>;
 /// The encoder of the default rate.
 pub type DefaultRateEncoder<E> = Encoder<E, DefaultCode>;
 
-/// The encoder of a rate: an engine, and rows laid out for counts that the rate supports.
+/// The encoder of a rate: an engine, and rows set up for counts that the rate supports.
 #[derive(Drop)]
 pub struct Encoder<E: Engine, C: Code> {
     engine: E,
@@ -34,7 +34,7 @@ pub struct Encoder<E: Engine, C: Code> {
 }
 
 impl<E: Engine, C: Code> RateEncoder<E> for Encoder<E, C> {
-    ghost use Rattle.rs_rate.specs.Laws.{is_encoder, has_own_room};
+    ghost use Rattle.rs_rate.specs.ObjectLaws.{is_encoder, has_own_room};
 
     type Rate = RateOf<E, C>;
 

@@ -23,14 +23,14 @@ use rs_field::engine::{Engine, ShardsRefMut, Steps};
 pub(crate) fn encode_rows<E: Engine, C: Code>(engine: &E, steps: &mut Steps, rows: &mut EncoderRows)
     requires valid { validated (configuration_of C.rate rows.old.shape) ≡ Ok tt }
     requires shaped { rows.old.shape ≡ encoder_shape C.rate rows.old.shape.original_count rows.old.shape.recovery_count rows.old.shape.shard_bytes }
-    requires full { rows.old.given_count ≡ rows.old.shape.original_count }
+    requires full { rows.old.originals_given ≡ rows.old.shape.original_count }
     ensures shape { rows.new.shape ≡ rows.old.shape }
-    ensures none { rows.new.given_count ≡ 0 }
+    ensures none { rows.new.originals_given ≡ 0 }
     ensures recovery { AreRecovery (configuration_of C.rate rows.old.shape) (given_of rows.old) (lent_of rows.new) }
     ensures room { vec_capacity rows.new.chunks ≡ vec_capacity rows.old.chunks }
 {
     let shape = rows.shape;
-    rows.given_count = 0;
+    rows.originals_given = 0;
     encode_chunks::<E, C>(engine, steps, rows.chunks.as_mut_slice(), shape);
 }
 

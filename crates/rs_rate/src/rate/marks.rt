@@ -1,4 +1,4 @@
-//! What each row of a decoder is marked as, and where its shards stand.
+//! What each row of a decoder is marked as.
 ghost use Rattle.std.specs.Prelude.{◌≡◌, ◌≢◌, ℕ, ◌+◌, ◌^◌, ◌<◌, ◌≤◌, length, vec_len};
 ghost use Rattle.std.specs.Vec.{vec_capacity};
 ghost use Rattle.rs_rate.specs.Marks.{mark_at, is_given, is_restored, mark_after};
@@ -9,16 +9,6 @@ pub enum Mark {
     Empty,
     Given,
     Restored,
-}
-
-/// Where a decoder's shards stand among the points, which points are known zeros, and how many rows it works on.
-#[derive(Clone, Copy)]
-pub struct Frame {
-    pub row_count: usize,
-    pub originals_from: usize,
-    pub recovery_from: usize,
-    pub zeros_from: usize,
-    pub zeros_to: usize,
 }
 
 // Whether row `index` holds a given shard.

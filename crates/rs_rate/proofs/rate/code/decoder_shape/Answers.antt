@@ -3,7 +3,7 @@ use Rattle.rs_field.specs.Counts.{low_rate, high_rate}
 use Rattle.rs_field.specs.Configuration.{configuration}
 use Rattle.rs_rate.proofs.StateLemmas.{valid-supported, valid-size}
 use Rattle.rs_rate.proofs.RateLemmas.{chosen_low, chosen_high, low_is, high_is, frame_alike}
-use Rattle.rs_rate.specs.declared.rate.marks.Frame.{Frame}
+use Rattle.rs_rate.specs.declared.rate.decoder_work.Frame.{Frame}
 use Rattle.rs_rate.specs.declared.rate.decoder_work.DecoderShape.{DecoderShape}
 use Rattle.rs_rate.proofs.rate.code.decoder_shape.Goals as goal
 

@@ -7,7 +7,7 @@ use Rattle.rs_rate.specs.declared.rate.marks.Mark.{Mark}
 use Rattle.rs_rate.specs.Marks.{mark_at, mark_after, is_given, is_restored, restored_shards}
 use Rattle.rs_rate.specs.ShardRows.{shard_in_order}
 use Rattle.rs_rate.specs.DecoderView.{decoder_state}
-use Rattle.rs_rate.proofs.DecoderLemmas.{given_rows-nothing, nothing-given, none_after, mark_after-restored, fills-missing}
+use Rattle.rs_rate.proofs.DecoderLemmas.{given_row_count-nothing, nothing-given, none_after, mark_after-restored, fills-missing}
 use Rattle.rs_rate.proofs.rate.decoding.decode_rows.Goals as goal
 
 pub invariant_of-rows-3 : goal.invariant_of-rows-3
@@ -34,8 +34,8 @@ invariant_of-rows-3 g c =
       sized = old.sized;
       marked = omega (arith, old.marked, same_marks);
       own_marks = omega (arith, old.own_marks, mark_room);
-      originals_counted = sym (given_rows-nothing _ s.frame.originals_from s.original_count (λ i inside. empty (s.frame.originals_from + i)));
-      recovery_counted = sym (given_rows-nothing _ s.frame.recovery_from s.recovery_count (λ i inside. empty (s.frame.recovery_from + i)));
+      originals_counted = sym (given_row_count-nothing _ s.frame.originals_from s.original_count (λ i inside. empty (s.frame.originals_from + i)));
+      recovery_counted = sym (given_row_count-nothing _ s.frame.recovery_from s.recovery_count (λ i inside. empty (s.frame.recovery_from + i)));
       shards = λ p given. absurd (let no : true ≡ false = sym given ∙ empty p in let never : ⊥ = cc in never);
     }
 

@@ -6,7 +6,7 @@ use Rattle.rs_rate.specs.declared.rate.marks.Mark.{Mark}
 use Rattle.rs_rate.specs.Marks.{mark_at, is_given}
 use Rattle.rs_rate.specs.DecoderView.{configuration_of, decoder_state}
 use Rattle.rs_rate.proofs.ShardRowsLemmas.{chunk_count-within, shard-entered}
-use Rattle.rs_rate.proofs.DecoderLemmas.{given-marked, given-kept, given-entered, given_rows-kept, given_rows-more, given_rows-most}
+use Rattle.rs_rate.proofs.DecoderLemmas.{given-marked, given-kept, given-entered, given_row_count-kept, given_row_count-more, given_row_count-most}
 use Rattle.rs_rate.proofs.DecoderSteps.{recovery-repeated, recovery-sized, recovery-added}
 use Rattle.rs_rate.proofs.rate.decoder_work.DecoderRows.add_recovery_shard.Goals as goal
 
@@ -38,7 +38,7 @@ enter-requires-clause-room c =
 pub overflow_add-self : goal.overflow_add-self
 overflow_add-self c =
     let w = c.args.self.now in
-    let most = given_rows-most w.memory.marks.items w.shape.frame.recovery_from w.shape.recovery_count in
+    let most = given_row_count-most w.memory.marks.items w.shape.frame.recovery_from w.shape.recovery_count in
     omega (arith, most, w.recovery_counted, w.recovery_rows, w.few)
 
 pub returns-clause-answer : goal.returns-clause-answer
@@ -87,11 +87,11 @@ invariant_of-self c =
       marked = omega (arith, w.marked, lengths.1);
       own_marks = omega (arith, w.own_marks, rows);
       recovery_counted =
-          let more = given_rows-more w.memory.marks.items c.enter.new.self.marks.items w.shape.frame.recovery_from w.shape.recovery_count c.args.index c.if-index-self.false c.enter.ensures.mark (sym (c.if-is_given_at.ensures ∙ ap (λ (marks : List Mark). is_given (mark_at marks (w.shape.frame.recovery_from + c.args.index))) c.as_slice.ensures.value))
+          let more = given_row_count-more w.memory.marks.items c.enter.new.self.marks.items w.shape.frame.recovery_from w.shape.recovery_count c.args.index c.if-index-self.false c.enter.ensures.mark (sym (c.if-is_given_at.ensures ∙ ap (λ (marks : List Mark). is_given (mark_at marks (w.shape.frame.recovery_from + c.args.index))) c.as_slice.ensures.value))
           (λ i inside apart. c.enter.ensures.other_marks (w.shape.frame.recovery_from + i) (let away : w.shape.frame.recovery_from + i ≢ row = omega arith in away)) in
           omega (arith, more, w.recovery_counted);
       originals_counted =
-          let same = given_rows-kept w.memory.marks.items c.enter.new.self.marks.items w.shape.frame.originals_from w.shape.original_count
+          let same = given_row_count-kept w.memory.marks.items c.enter.new.self.marks.items w.shape.frame.originals_from w.shape.original_count
           (λ i inside. c.enter.ensures.other_marks (w.shape.frame.originals_from + i) (λ same. w.apart i c.args.index inside c.if-index-self.false same)) in
           omega (arith, same, w.originals_counted);
       shards = λ p given.

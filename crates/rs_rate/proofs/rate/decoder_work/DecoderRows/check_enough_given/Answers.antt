@@ -1,14 +1,14 @@
 use Rattle.std.proofs.Common.{arith, sym, ◌∙◌}
 use Rattle.rs_rate.specs.DecoderView.{decoder_state}
 use Rattle.rs_rate.proofs.DecoderSteps.{enough-few, enough-many}
-use Rattle.rs_rate.proofs.DecoderLemmas.{count-given, given_rows-most}
+use Rattle.rs_rate.proofs.DecoderLemmas.{count-given, given_row_count-most}
 use Rattle.rs_rate.proofs.rate.decoder_work.DecoderRows.check_enough_given.Goals as goal
 
 pub overflow_add-self : goal.overflow_add-self
 overflow_add-self c =
     let w = c.args.self.now in
-    let originals = given_rows-most w.memory.marks.items w.shape.frame.originals_from w.shape.original_count in
-    let recovery = given_rows-most w.memory.marks.items w.shape.frame.recovery_from w.shape.recovery_count in
+    let originals = given_row_count-most w.memory.marks.items w.shape.frame.originals_from w.shape.original_count in
+    let recovery = given_row_count-most w.memory.marks.items w.shape.frame.recovery_from w.shape.recovery_count in
     omega (arith, w.originals_counted, w.recovery_counted, w.original_rows, w.recovery_rows, w.few)
 
 pub returns-then-self : goal.returns-then-self

@@ -1,6 +1,6 @@
 use Rattle.std.proofs.Common.{◌≡◌, ℕ, ◌+◌, true, false, sym, ap, ◌∙◌, arith}
 use Rattle.rs_rate.specs.Marks.{is_given}
-use Rattle.rs_rate.proofs.DecoderLemmas.{given_rows-nothing, nothing-given}
+use Rattle.rs_rate.proofs.DecoderLemmas.{given_row_count-nothing, nothing-given}
 use Rattle.rs_rate.proofs.rate.decoder_work.DecoderRows.reset.Goals as goal
 
 pub invariant_of-self-2 : goal.invariant_of-self-2
@@ -22,8 +22,8 @@ invariant_of-self-2 c =
       sized = omega (arith, c.in_ok-chunks.ensures.0, c.in_ok-chunks.ensures.1);
       marked = c.set_empty.ensures.marks;
       own_marks = omega (arith, room.1, grown.rows);
-      originals_counted = sym (given_rows-nothing marks s.frame.originals_from s.original_count (λ i inside. empty (s.frame.originals_from + i)));
-      recovery_counted = sym (given_rows-nothing marks s.frame.recovery_from s.recovery_count (λ i inside. empty (s.frame.recovery_from + i)));
+      originals_counted = sym (given_row_count-nothing marks s.frame.originals_from s.original_count (λ i inside. empty (s.frame.originals_from + i)));
+      recovery_counted = sym (given_row_count-nothing marks s.frame.recovery_from s.recovery_count (λ i inside. empty (s.frame.recovery_from + i)));
       shards = λ p given. absurd (let no : true ≡ false = sym given ∙ empty p in let never : ⊥ = cc in never);
     }
 

@@ -6,7 +6,7 @@ use Rattle.rs_field.specs.Decoder.{fresh_decoder}
 use Rattle.rs_field.specs.Placement.{decoder_rows}
 use Rattle.rs_rate.specs.declared.rate.decoder_work.DecoderShape.{DecoderShape}
 use Rattle.rs_rate.specs.DecoderView.{configuration_of, decoder_state}
-use Rattle.rs_rate.specs.Laws.{has_own_decoder_room}
+use Rattle.rs_rate.specs.ObjectLaws.{has_own_decoder_room}
 use Rattle.rs_rate.specs.ShardRows.{chunk_count}
 use Rattle.rs_rate.proofs.ShardRowsLemmas.{chunk_count-size}
 use Rattle.rs_rate.proofs.DecoderRows.{frame-rows}

@@ -3,7 +3,7 @@ use Rattle.rs_field.proofs.LayoutLemmas.{length-up_to}
 use Rattle.rs_rate.proofs.rate.encoder_work.EncoderRows.check_all_given.Goals as goal
 
 pub returns-then-self : goal.returns-then-self
-returns-then-self c = λ rate. rw (length-up_to c.args.self.now.given_count _) (search rules)
+returns-then-self c = λ rate. rw (length-up_to c.args.self.now.originals_given _) (search rules)
 
 pub returns : goal.returns
-returns c = λ rate. rw (length-up_to c.args.self.now.given_count _) (search rules)
+returns c = λ rate. rw (length-up_to c.args.self.now.originals_given _) (search rules)

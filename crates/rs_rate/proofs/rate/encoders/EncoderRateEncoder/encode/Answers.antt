@@ -19,7 +19,7 @@ pub encode_rows-requires-clause-full : goal.encode_rows-requires-clause-full
 encode_rows-requires-clause-full g c =
     let rows = c.args.self.now.rows in
     let whole = message-whole (encoder_state g.C.Code.rate rows) (c.in_ok-check_all_given.ensures g.C.Code.rate) in
-    let given = length-up_to rows.given_count (shard_laid_out rows.chunks.items rows.shape.shard_bytes) in
+    let given = length-up_to rows.originals_given (shard_laid_out rows.chunks.items rows.shape.shard_bytes) in
     omega (arith, whole.0, given, rows.no_more)
 
 pub returns : goal.returns

@@ -3,7 +3,7 @@ use Rattle.std.specs.Prelude.{IfOk}
 use Rattle.rs_field.specs.Configuration.{configuration}
 use Rattle.rs_field.specs.Placement.{encoder_rows}
 use Rattle.rs_rate.specs.EncoderView.{shape_chunks}
-use Rattle.rs_rate.specs.Laws.{has_own_room}
+use Rattle.rs_rate.specs.ObjectLaws.{has_own_room}
 use Rattle.rs_rate.specs.ShardRows.{chunk_count}
 use Rattle.rs_rate.proofs.ShardRowsLemmas.{chunk_count-size}
 use Rattle.rs_rate.proofs.RateLemmas.{shape-chunks}

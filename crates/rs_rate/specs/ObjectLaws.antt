@@ -35,8 +35,8 @@ is_encoder rate rows valid shaped =
       of_rate = refl;
       valid = valid;
       fits = subst (λ (n : ℕ). chunk_count n rows.shape.shard_bytes * 64 < 2 ^ 64) (ap (λ s. s.row_count) shaped) rows.sized;
-      no_more = subst (λ (n : ℕ). n ≤ rows.shape.original_count) (sym (length-up_to rows.given_count (shard_laid_out rows.chunks.items rows.shape.shard_bytes))) rows.no_more;
-      sized = all-up_to (IsShard rows.shape.shard_bytes) rows.given_count (shard_laid_out rows.chunks.items rows.shape.shard_bytes) rows.shards;
+      no_more = subst (λ (n : ℕ). n ≤ rows.shape.original_count) (sym (length-up_to rows.originals_given (shard_laid_out rows.chunks.items rows.shape.shard_bytes))) rows.no_more;
+      sized = all-up_to (IsShard rows.shape.shard_bytes) rows.originals_given (shard_laid_out rows.chunks.items rows.shape.shard_bytes) rows.shards;
     }
 
 -- and has room for its own rows
