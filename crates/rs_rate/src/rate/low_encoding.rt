@@ -5,7 +5,7 @@ ghost use Rattle.rs_field.specs.Counts.{low_rate, next_power, supports};
 ghost use Rattle.rs_field.specs.Placement.{encoder_rows};
 ghost use Rattle.rs_field.specs.Transform.{forward};
 ghost use Rattle.rs_field.specs.View.{cell, word, Fits, SameShape};
-ghost use Rattle.rs_rate.specs.Coding.{CodesLow, CodesWords};
+ghost use Rattle.rs_rate.specs.Coding.{CodesWords};
 
 use rs_field::engine::rows::{clear_rows, copy_rows};
 use rs_field::engine::{Engine, ShardsRefMut, Steps};
@@ -26,28 +26,6 @@ pub(crate) fn code_low<E: Engine>(
     requires block { block ≡ next_power original_count }
     ensures shape { SameShape «data».old «data».new }
     ensures words { (k s : ℕ) → k < «data».old.shard_len_64 → s < 32 → CodesWords low_rate original_count recovery_count (word «data».old k s) (word «data».new k s) }
-{
-    code_rows(engine, steps, data, original_count, recovery_count, block);
-}
-
-// Clears the rows of the zeros, passes from values to a combination, and from it to the values further on.
-fn code_rows<E: Engine>(
-    engine: &E,
-    steps: &mut Steps,
-    data: &mut ShardsRefMut<'_>,
-    original_count: usize,
-    recovery_count: usize,
-    block: usize,
-)
-    requires fits { Fits «data».old }
-    requires power { (d : ℕ) × (block ≡ 2 ^ d) }
-    requires originals { original_count ≤ block }
-    requires recovery { 0 < recovery_count }
-    requires enough { recovery_count ≤ «data».old.shard_count }
-    requires whole { «data».old.shard_count % block ≡ 0 }
-    requires points { «data».old.shard_count + block ≤ 65536 }
-    ensures shape { SameShape «data».old «data».new }
-    ensures values { (k s : ℕ) → k < «data».old.shard_len_64 → s < 32 → CodesLow original_count recovery_count block (word «data».old k s) (word «data».new k s) }
 {
     clear_rows(steps, data, original_count, block);
     engine.ifft(steps, data, 0, block, original_count, 0);

@@ -1,27 +1,96 @@
-use Rattle.std.proofs.Common.{ℕ, ◌∙◌, subst, arith}
-use Rattle.rs_field.specs.View.{word}
+use Rattle.std.proofs.Common.{◌≡◌, ℕ, ◌≤◌, ◌∙◌, ap, subst, arith, inl, inr}
+use Rattle.std.proofs.Math.Nat.{zero-mod}
+use Rattle.rs_field.specs.Rows.{symbol}
+use Rattle.rs_field.specs.Counts.{next_power}
+use Rattle.rs_field.specs.View.{word, SameShape}
+use Rattle.rs_field.proofs.Recursion.{fits_kept}
+use Rattle.rs_field.proofs.RowOffsets.{outside_cell}
+use Rattle.rs_field.proofs.Symbols.{symbol-zero}
 use Rattle.rs_rate.specs.Coding.{CodesLow}
 use Rattle.rs_rate.proofs.PowerLemmas.{low_fits}
 use Rattle.rs_rate.proofs.HighCounts.{low_rows-fit}
-use Rattle.rs_rate.proofs.LowCoding.{codes_words}
+use Rattle.rs_rate.proofs.LowCoding.{coded, codes_words}
 use Rattle.rs_rate.proofs.rate.low_encoding.code_low.Goals as goal
 
-pub code_rows-requires : goal.code_rows-requires
-code_rows-requires g c =
+pub clear_rows-requires : goal.clear_rows-requires
+clear_rows-requires g c =
     let rows = low_rows-fit c.args.original_count c.args.recovery_count c.requires.supported in
     record {
       fits = c.requires.fits;
-      power = (rows.power.0, c.requires.block ∙ rows.power.1);
-      originals = omega (arith, rows.block, c.requires.block);
-      recovery = (low_fits c.args.original_count c.args.recovery_count c.requires.supported).1;
-      enough = omega (arith, rows.enough, c.requires.rows);
-      whole = rw (c.requires.rows, c.requires.block) rows.whole;
-      points = omega (arith, rows.points, c.requires.rows, c.requires.block);
+      ordered = omega (arith, rows.block, c.requires.block);
+      within = omega (arith, rows.some, c.requires.rows, c.requires.block);
     }
+
+pub ifft-requires-clause-power : goal.ifft-requires-clause-power
+ifft-requires-clause-power g c =
+    let rows = low_rows-fit c.args.original_count c.args.recovery_count c.requires.supported in
+    (rows.power.0, c.requires.block ∙ rows.power.1)
+
+pub ifft-requires-clause-truncated : goal.ifft-requires-clause-truncated
+ifft-requires-clause-truncated g c =
+    let rows = low_rows-fit c.args.original_count c.args.recovery_count c.requires.supported in
+    omega (arith, rows.block, c.requires.block)
+
+pub ifft-requires-clause-within : goal.ifft-requires-clause-within
+ifft-requires-clause-within g c =
+    let rows = low_rows-fit c.args.original_count c.args.recovery_count c.requires.supported in
+    omega (arith, rows.some, c.requires.rows, c.requires.block, c.clear_rows.ensures.shape.count)
+
+pub ifft-requires-clause-points : goal.ifft-requires-clause-points
+ifft-requires-clause-points g c =
+    let rows = low_rows-fit c.args.original_count c.args.recovery_count c.requires.supported in
+    omega (arith, rows.points, c.requires.block)
+
+pub code_further-requires : goal.code_further-requires
+code_further-requires g c =
+    let rows = low_rows-fit c.args.original_count c.args.recovery_count c.requires.supported in
+    let passed = c.args.«data».now in
+    let count : c.ifft.new.«data».shard_count ≡ passed.shard_count = c.ifft.ensures.shape.count ∙ c.clear_rows.ensures.shape.count in
+    record {
+      fits = fits_kept c.clear_rows.new.«data» c.ifft.new.«data» c.ifft.ensures.shape (fits_kept passed c.clear_rows.new.«data» c.clear_rows.ensures.shape c.requires.fits);
+      power = (rows.power.0, c.requires.block ∙ rows.power.1);
+      enough = omega (arith, rows.enough, c.requires.rows, count);
+      whole = rw (count, c.requires.rows, c.requires.block) rows.whole;
+      points = omega (arith, rows.points, c.requires.rows, c.requires.block, count);
+    }
+
+pub fft-requires-clause-power : goal.fft-requires-clause-power
+fft-requires-clause-power g c =
+    let rows = low_rows-fit c.args.original_count c.args.recovery_count c.requires.supported in
+    (rows.power.0, c.requires.block ∙ rows.power.1)
+
+pub fft-requires-clause-within : goal.fft-requires-clause-within
+fft-requires-clause-within g c =
+    let rows = low_rows-fit c.args.original_count c.args.recovery_count c.requires.supported in
+    omega (arith, rows.some, c.requires.rows, c.requires.block, c.clear_rows.ensures.shape.count, c.ifft.ensures.shape.count, c.code_further.ensures.shape.count)
+
+pub fft-requires-clause-points : goal.fft-requires-clause-points
+fft-requires-clause-points g c =
+    let rows = low_rows-fit c.args.original_count c.args.recovery_count c.requires.supported in
+    omega (arith, rows.some, rows.points, c.requires.block)
 
 pub returns-clause-words : goal.returns-clause-words
 returns-clause-words g c = λ k s inside symbols.
+    let rows = low_rows-fit c.args.original_count c.args.recovery_count c.requires.supported in
+    let block : c.args.block ≡ next_power c.args.original_count = c.requires.block in
+    let enough : c.args.recovery_count ≤ c.args.«data».now.shard_count = omega (arith, rows.enough, c.requires.rows) in
+    let some : c.args.block ≤ c.args.«data».now.shard_count = omega (arith, rows.some, c.requires.rows, block) in
+    let given : c.args.original_count ≤ c.args.block = omega (arith, rows.block, block) in
+    let len_1 : c.clear_rows.new.«data».shard_len_64 ≡ c.args.«data».now.shard_len_64 = c.clear_rows.ensures.shape.len_64 in
+    let len_2 : c.ifft.new.«data».shard_len_64 ≡ c.args.«data».now.shard_len_64 = c.ifft.ensures.shape.len_64 ∙ len_1 in
+    let len_3 : c.code_further.new.«data».shard_len_64 ≡ c.args.«data».now.shard_len_64 = c.code_further.ensures.shape.len_64 ∙ len_2 in
     let old : ℕ → ℕ = word c.args.«data».now k s in
-    let new : ℕ → ℕ = word c.code_rows.new.«data» k s in
+    let new : ℕ → ℕ = word c.fft.new.«data» k s in
+    let column : CodesLow c.args.original_count c.args.recovery_count c.args.block old new =
+      coded c.args.original_count c.args.recovery_count c.args.block
+      old (word c.clear_rows.new.«data» k s) (word c.ifft.new.«data» k s) (word c.code_further.new.«data» k s) new
+      (λ j small. ap (λ x. symbol x s) (outside_cell _ _ c.args.«data».now c.clear_rows.new.«data» c.clear_rows.ensures.shape c.clear_rows.ensures.others j k inside (inl small)))
+      (λ j low high. ap (λ x. symbol x s) (c.clear_rows.ensures.zeros j k (omega arith) low high) ∙ symbol-zero s symbols)
+      (λ j small. c.ifft.ensures.values k s j (omega arith) symbols small)
+      (λ q small. ap (λ x. symbol x s) (c.code_further.ensures.combination q k (omega arith) small))
+      (λ i low few. c.code_further.ensures.values k s i (omega arith) symbols low few)
+      (λ i wanted. c.fft.ensures.values k s i (omega arith) symbols (omega arith))
+      (λ i low. ap (λ x. symbol x s) (outside_cell _ _ c.code_further.new.«data» c.fft.new.«data» c.fft.ensures.shape c.fft.ensures.others i k (omega arith) (inr (omega arith))))
+      given in
     codes_words c.args.original_count c.args.recovery_count old new c.requires.supported
-    (subst (λ (m : ℕ). CodesLow c.args.original_count c.args.recovery_count m old new) c.requires.block (c.code_rows.ensures.values k s inside symbols))
+    (subst (λ (m : ℕ). CodesLow c.args.original_count c.args.recovery_count m old new) block column)
