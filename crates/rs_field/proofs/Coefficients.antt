@@ -9,13 +9,9 @@ use Rattle.rs_field.specs.Transform.{forward}
 use Rattle.rs_field.proofs.Product.{product_lt}
 use Rattle.rs_field.proofs.Total.{product-comm}
 use Rattle.rs_field.proofs.Roots.{WordsOneByOne, value-one}
-use Rattle.rs_field.proofs.Subspace.{product_below-same}
+use Rattle.rs_field.proofs.Subspace.{product_below-same, subspace_from_zero}
 use Rattle.rs_field.proofs.Factors.{add, points, times, value_add, value-times, length-add, length-times, words_add, words_times, all_words}
 use Rattle.rs_field.proofs.Combination.{sum_below-suc, sum_below-zero, basis-zero, forward_is, forward-half}
-
-subspace_is : (e x : ℕ) → product_below (2 ^ e) (λ i. bit_xor x (0 + i)) ≡ subspace e x
-unfolding subspace
-subspace_is e x = product_below-same (2 ^ e) (λ i. bit_xor x (0 + i)) (λ y. bit_xor x y) (λ i h. ap (bit_xor x) (zero-add i))
 
 of_one : (f : ℕ → ℕ) (x : ℕ) → forward 1 0 f x ≡ product (f 0) 1
 of_one f x =
@@ -45,7 +41,7 @@ unfolding joined
 value-joined e f p q he words_q at_p at_q x =
     value_add (times (points 0 (2 ^ e)) q) p x
     ∙ ap₂ bit_xor
-    (value-times 0 (2 ^ e) q words_q x ∙ ap₂ product (subspace_is e x ∙ ap (subspace e) (sym (zero-add x))) (at_q x)
+    (value-times 0 (2 ^ e) q words_q x ∙ ap₂ product (subspace_from_zero e x ∙ ap (subspace e) (sym (zero-add x))) (at_q x)
     ∙ product-comm (subspace e (0 + x)) (forward (2 ^ e) 0 (λ i. f (2 ^ e + i)) x))
     (at_p x)
     ∙ xor_comm (product (forward (2 ^ e) 0 (λ i. f (2 ^ e + i)) x) (subspace e (0 + x))) (forward (2 ^ e) 0 f x)

@@ -2,7 +2,7 @@
 use Rattle.std.proofs.Common.{◌≡◌, ℕ, ◌+◌, ◌-◌, ◌/◌, ◌^◌, ◌<◌, ◌≤◌, List, [], ◌∷◌, Bool, true, false, ◌&&◌, cond, length, refl, sym, ap, ◌∙◌, arith, pow_mono}
 use Rattle.std.specs.Prelude.{All, not, slice_index, slice_index_or, nat_eq, nat_lt, nat_le}
 use Rattle.std.specs.List.{list_all}
-use Rattle.std.proofs.lemmas.Bool.{and_parts, eqb-true, ltb-true, leb-true}
+use Rattle.std.proofs.lemmas.Bool.{and_parts, not-true, eqb-true, ltb-true, leb-true}
 use Rattle.std.proofs.lemmas.List.Elements.{All-nil, All-cons}
 use Rattle.rs_field.specs.Polynomial.{value}
 use Rattle.rs_field.specs.Column.{Shard, IsShard, AreShards, columns}
@@ -134,10 +134,6 @@ recovers_high d c message recovery polynomials =
     && passes_below (c.shard_bytes / 2) (λ j. joins d c.original_count c.recovery_count (next_power c.recovery_count) (columns j message) (columns j recovery) (slice_index_or polynomials j [])))
 
 -- what is not true is false
-not_true : (b : Bool) → not b ≡ true → b ≡ false
-not_true true h = cc
-not_true false h = refl
-
 -- what passes `joins` is a code with its recovery words, once it is made zero at the points from 2 ^ d on
 words_high : (d : ℕ) (rate : Rate) (k r : ℕ) (words recovery P : List ℕ) → lie_below d rate k r ≡ true → joins d k r (next_power r) words recovery P ≡ true → AreRecoveryWords rate k r words recovery
 unfolding high_placement
@@ -150,7 +146,7 @@ words_high d rate k r words recovery P lie join =
     let f : (all_below 65536 P ≡ true) × _ = and_parts _ _ e.1 in
     let g : (same_below k (λ j. value P (m + j)) (slice_index words) ≡ true) × _ = and_parts _ _ f.1 in
     let h : (same_below (2 ^ d - (m + k)) (λ x. value P (m + k + x)) (λ x. 0) ≡ true) × (same_below r (slice_index recovery) (value P) ≡ true) = and_parts _ _ g.1 in
-    let high : placement rate k r ≡ high_placement k r = placed_high rate k r (not_true (is_low rate k r) a.0) in
+    let high : placement rate k r ≡ high_placement k r = placed_high rate k r (not-true (is_low rate k r) a.0) in
     let depth : d ≤ 16 = leb-true d 16 c.0 in
     let top : 2 ^ d ≤ 2 ^ 16 = pow_mono {i = d} depth in
     let room : r ≤ 2 ^ d = leb-true r (2 ^ d) c.1 in

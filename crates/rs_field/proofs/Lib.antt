@@ -1,4 +1,5 @@
 pub mod Search
+pub mod NextPower
 pub mod Linear
 pub mod Product
 pub mod Inverse

@@ -73,6 +73,9 @@ locator_value (suc n) e p x hn hx w m apart =
           ap (λ (r : List ℕ). value (times r p) x) (marked-same n e none) ∙ ih ∙ ap (λ k. product (power k) (value p x)) (sym (kept n e x none))
     ]
 
+below : (x n : ℕ) → x < suc n → x ≢ n → x < n
+below x n h differs = omega arith
+
 -- at a marked point it is zero
 pub locator_root : (n : ℕ) (e : ℕ → ℕ) (p : List ℕ) (x : ℕ) → AreMarks n e → x < n → e x ≡ 1 → value (times (marked n e) p) x ≡ 0
 unfolding marked times
@@ -89,9 +92,6 @@ locator_root (suc n) e p x m hx one =
           ap (λ (r : List ℕ). value (times r p) x) (marked-same n e none)
           ∙ locator_root n e p x (fewer n e m) (below x n hx (λ (same : x ≡ n). let differ : e x ≡ e n = ap e same in let no : ⊥ = omega arith in no)) one
     ]
-  where
-    below : (x n : ℕ) → x < suc n → x ≢ n → x < n
-    below x n h differs = omega arith
 
 -- where x is marked: the derivative there of that polynomial
 pub locator_derivative : (n : ℕ) (e : ℕ → ℕ) (p : List ℕ) (x : ℕ) → n ≤ 2 ^ 16 → WordsOneByOne p → AreMarks n e → x < n → e x ≡ 1
@@ -123,9 +123,6 @@ locator_derivative (suc n) e p x hn w m hx one =
           ∙ locator_derivative n e p x (omega arith) w (fewer n e m) (below x n hx (λ (same : x ≡ n). let differ : e x ≡ e n = ap e same in let no : ⊥ = omega arith in no)) one
           ∙ ap (λ k. product (power k) (value p x)) (sym (kept n e x none))
     ]
-  where
-    below : (x n : ℕ) → x < suc n → x ≢ n → x < n
-    below x n h differs = omega arith
 
 pub length-marked_times : (r p : List ℕ) → length (times r p) ≡ length r + length p
 unfolding times

@@ -11,7 +11,7 @@ use Rattle.rs_field.specs.Transform.{sum_below, forward}
 use Rattle.rs_field.proofs.Product.{zero_product}
 use Rattle.rs_field.proofs.Total.{product-comm, product-assoc}
 use Rattle.rs_field.proofs.Roots.{WordsOneByOne, value-nil}
-use Rattle.rs_field.proofs.Subspace.{product_below-same}
+use Rattle.rs_field.proofs.Subspace.{product_below-same, subspace_from_zero}
 use Rattle.rs_field.proofs.Factors.{add, points, times, value_add, value-times, length-add, length-times, words_add, words_times, all_words}
 use Rattle.rs_field.proofs.Combination.{sum_below-suc, sum_below-zero, sum_below-add, sum_below-same, sum_below-product, basis-half, forward_is, lower_half, upper_half}
 use Rattle.rs_field.proofs.Halves.{shift_half, few_halves, xor_undo}
@@ -156,10 +156,6 @@ forward-beyond e n f x he hn =
     ∙ sum_below-product n (λ q. product (f (2 ^ e + q)) (basis q (0 + x))) s
     ∙ ap (λ v. product v s) (sym (forward_is n 0 (λ q. f (2 ^ e + q)) x)))
 
-subspace_is : (e x : ℕ) → product_below (2 ^ e) (λ i. bit_xor x (0 + i)) ≡ subspace e x
-unfolding subspace
-subspace_is e x = product_below-same (2 ^ e) (λ i. bit_xor x (0 + i)) (λ y. bit_xor x y) (λ i h. ap (bit_xor x) (zero-add i))
-
 -- a polynomial of n coefficients with the values of a sum of n terms
 record IsSum (n : ℕ) (f : ℕ → ℕ) (p : List ℕ) : Type 0 where
   size : length p ≡ n
@@ -183,7 +179,7 @@ sum_beyond e n f low high he hn l h =
       size = length-add (times (points 0 (2 ^ e)) high) low (omega arith) ∙ omega arith;
       words = words_add (times (points 0 (2 ^ e)) high) low (words_times (points 0 (2 ^ e)) high h.words) l.words;
       at = λ x. value_add (times (points 0 (2 ^ e)) high) low x
-          ∙ ap₂ bit_xor (value-times 0 (2 ^ e) high h.words x ∙ ap₂ product (subspace_is e x) (h.at x) ∙ product-comm (subspace e x) (forward n 0 (λ q. f (2 ^ e + q)) x)) (l.at x)
+          ∙ ap₂ bit_xor (value-times 0 (2 ^ e) high h.words x ∙ ap₂ product (subspace_from_zero e x) (h.at x) ∙ product-comm (subspace e x) (forward n 0 (λ q. f (2 ^ e + q)) x)) (l.at x)
           ∙ xor_comm (product (forward n 0 (λ q. f (2 ^ e + q)) x) (subspace e x)) (forward (2 ^ e) 0 f x)
           ∙ sym (forward-beyond e n f x he hn);
     }

@@ -3,25 +3,16 @@ use Rattle.std.proofs.Common.{◌≡◌, ℕ, ◌+◌, ◌-◌, ◌%◌, ◌^◌
 use Rattle.std.specs.Prelude.{slice_index, nat_le}
 use Rattle.std.proofs.lemmas.Bool.{cases_lt, le-leb}
 use Rattle.std.proofs.lemmas.List.{ext_get_or}
-use Rattle.rs_field.specs.Search.{first_below}
 use Rattle.rs_field.specs.Polynomial.{value}
 use Rattle.rs_field.specs.Column.{Shard, shard_at, columns}
 use Rattle.rs_field.specs.Counts.{Rate, next_power, is_low}
 use Rattle.rs_field.specs.Placement.{Placement, placement, low_placement, high_placement}
 use Rattle.rs_field.specs.Configuration.{Configuration}
 use Rattle.rs_field.specs.Code.{Codes, AreRecoveryWords, AreRecovery}
-use Rattle.rs_field.proofs.Search.{first_below_most}
+use Rattle.rs_field.proofs.NextPower.{next_power-small}
 use Rattle.rs_field.proofs.Roots.{words_from}
 use Rattle.rs_field.proofs.Values.{same_from_values}
 use Rattle.rs_field.proofs.Columns.{shard_from_columns, columns-at}
-
--- the power of a count is a count
-pub next_power_most : (k : ℕ) → k ≤ 65536 → next_power k ≤ 65536
-unfolding next_power
-next_power_most k h =
-    let d : first_below 64 (λ d. nat_le k (2 ^ d)) ≤ 16 = first_below_most 64 (λ d. nat_le k (2 ^ d)) 16 (omega arith) (le-leb k 65536 h) in
-    let e : 2 ^ first_below 64 (λ d. nat_le k (2 ^ d)) ≤ 2 ^ 16 = pow_mono {i = first_below 64 (λ d. nat_le k (2 ^ d))} d in
-    e
 
 -- each placement is that of the low rate or that of the high rate
 low_or_high : (rate : Rate) (k r : ℕ) → (placement rate k r ≡ low_placement k) ⊎ (placement rate k r ≡ high_placement k r)
@@ -38,7 +29,9 @@ codes_unique rate k r words P Q most p q =
           let from : (placement rate k r).originals_from ≡ 0 = ap (λ (x : Placement). x.originals_from) low in
           let zeros_from : (placement rate k r).zeros_from ≡ k = ap (λ (x : Placement). x.zeros_from) low in
           let zeros_to : (placement rate k r).zeros_to ≡ next_power k = ap (λ (x : Placement). x.zeros_to) low in
-          let room : next_power k ≤ 65536 = next_power_most k most in
+          let power = next_power-small k most in
+          let least : 2 ^ power.0 ≤ 2 ^ 16 = pow_mono {i = power.0} power.1 in
+          let room : next_power k ≤ 65536 = omega (arith, power.2, least) in
           let at : (S : List ℕ) → Codes rate k r words S → (j : ℕ) → j < k → value S j ≡ slice_index words j =
           λ S s j h. ap (value S) (let e : j ≡ (placement rate k r).originals_from + j = omega arith in e) ∙ s.originals j h in
           same_from_values (next_power k) P Q (p.degree ∙ bound) (q.degree ∙ bound) (words_from P p.coefficients) (words_from Q q.coefficients)

@@ -1,7 +1,7 @@
 -- The shards that a decoder's rows stand for.
 use Rattle.std.proofs.Common.{◌≡◌, ◌≢◌, ℕ, zero, suc, ◌+◌, ◌<◌, ◌≤◌, List, length, Bool, true, false, cond, refl, sym, ap, ap₂, ◌∙◌, subst, arith, inl, inr, true≢false}
 use Rattle.std.specs.Prelude.{Option, Some, None, is_some, IsSome, IsNone, unwrap_or, not, ◌&&◌, nat_lt, nat_le, nat_eq}
-use Rattle.std.proofs.lemmas.Bool.{cases_lt, cases_eq, lt-ltb, le-leb, le-ltb, eq-eqb, ne_eqb}
+use Rattle.std.proofs.lemmas.Bool.{cases_lt, cases_eq, lt-ltb, le-leb, le-ltb, eq-eqb, ne_eqb, not-true}
 use Rattle.std.proofs.lemmas.List.{get_or_past}
 use mathlib.Core.Path.{fun_ext}
 use Rattle.rs_field.specs.Column.{Shard, IsShard}
@@ -229,13 +229,9 @@ fills-missing s old new before after from given marks sized =
     some_is true x y e = ap (λ o. unwrap_or o x) e
     some_is false x y e = absurd (none_some y e)
 
-    not_true : (b : Bool) → not b ≡ true → b ≡ false
-    not_true false e = refl
-    not_true true e = absurd (true≢false (sym e))
-
     missing_only : (i : ℕ) → IsSome (restored_shards new after size from k i) → (i < k) × IsNone (s.originals i)
     missing_only i is = elim (cases_lt i k) [
-      | inl inside ↦ (inside, was i inside ∙ not_true (is_given (mark_at old (from + i))) (sym (some_if (not (is_given (mark_at old (from + i)))) (shard_in_order after size (from + i))) ∙ sym (ap is_some (here i inside)) ∙ is))
+      | inl inside ↦ (inside, was i inside ∙ not-true (is_given (mark_at old (from + i))) (sym (some_if (not (is_given (mark_at old (from + i)))) (shard_in_order after size (from + i))) ∙ sym (ap is_some (here i inside)) ∙ is))
       | inr outside ↦ absurd (true≢false (sym is ∙ ap is_some (restored-out new after size from k i outside)))
     ]
 

@@ -8,7 +8,8 @@ use Rattle.rs_field.specs.Counts.{Rate, next_power, supports, is_low, low_rate}
 use Rattle.rs_field.specs.Placement.{placement, low_placement, decoder_rows}
 use Rattle.rs_rate.specs.declared.rate.decoder_work.Frame.{Frame}
 use Rattle.rs_rate.specs.DecoderView.{frame_of}
-use Rattle.rs_rate.proofs.PowerLemmas.{low_fits, next_power-small}
+use Rattle.rs_field.proofs.NextPower.{next_power-small}
+use Rattle.rs_rate.proofs.PowerLemmas.{low_fits}
 
 -- the frame of a decoder of the low rate, written out
 pub low_frame-is : (k r : ℕ) → frame_of low_rate k r

@@ -13,7 +13,7 @@ use Rattle.rs_field.proofs.LayoutLemmas.{get-up_to}
 use Rattle.rs_field.proofs.Combination.{sum_below-suc, sum_below-zero, sum_below-same, sum_below-add, forward-same, forward-zero}
 use Rattle.rs_field.proofs.TopBlock.{joined_blocks, values-joined, last-joined, forward-fewer, polynomial_of_terms}
 use Rattle.rs_rate.specs.Coding.{SumsBlocks, CodesWords}
-use Rattle.rs_rate.proofs.PowerLemmas.{next_power-small}
+use Rattle.rs_field.proofs.NextPower.{next_power-small}
 use Rattle.rs_rate.proofs.HighCounts.{high_small}
 
 -- ---- sums of combinations

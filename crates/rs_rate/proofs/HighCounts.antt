@@ -6,7 +6,8 @@ use Rattle.std.proofs.lemmas.Bool.{cases_lt}
 use Rattle.std.proofs.lemmas.Nat.{pow_pos, div-add-mod'}
 use Rattle.rs_field.specs.Counts.{next_power, supports, is_low, low_rate, high_rate}
 use Rattle.rs_field.specs.Placement.{encoder_rows}
-use Rattle.rs_rate.proofs.PowerLemmas.{low_fits, low_small, low_rows-enough, rounded_up-low, next_power-small, multiple_least, multiple_room}
+use Rattle.rs_field.proofs.NextPower.{next_power-small}
+use Rattle.rs_rate.proofs.PowerLemmas.{low_fits, low_small, low_rows-enough, rounded_up-low, multiple_least, multiple_room}
 
 swapped : (a b : Bool) → (a && b) ≡ (b && a)
 swapped true true = refl

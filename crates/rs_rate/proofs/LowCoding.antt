@@ -17,7 +17,8 @@ use Rattle.rs_field.proofs.Combination.{forward-same, forward-moved}
 use Rattle.rs_field.proofs.Coefficients.{combination_polynomial}
 use Rattle.rs_field.proofs.LayoutLemmas.{length-up_to, get-up_to}
 use Rattle.rs_rate.specs.Coding.{CodesLow, CodesWords}
-use Rattle.rs_rate.proofs.PowerLemmas.{low_small, low_fits, next_power-small}
+use Rattle.rs_field.proofs.NextPower.{next_power-small}
+use Rattle.rs_rate.proofs.PowerLemmas.{low_small, low_fits}
 use Rattle.rs_rate.proofs.StateLemmas.{valid-supported}
 
 -- a transform at a shift takes its values from there on

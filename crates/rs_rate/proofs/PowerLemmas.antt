@@ -8,6 +8,7 @@ use Rattle.std.specs.Int.{next_multiple_of}
 use Rattle.std.proofs.Math.Bool.{and-false}
 use Rattle.rs_field.specs.Search.{first_below}
 use Rattle.rs_field.proofs.Search.{first_below-is, first_below-passes, first_below_most}
+use Rattle.rs_field.proofs.NextPower.{next_power-small}
 use Rattle.rs_field.specs.Counts.{next_power, supports, is_low, low_rate}
 use Rattle.rs_field.specs.Placement.{rounded_up, encoder_rows}
 
@@ -30,14 +31,6 @@ next_power-is n p x power few above half =
 
     below : (j : ℕ) → j < x → 2 ^ j < n
     below j less = at j x refl less (subst (λ (q : ℕ). q / 2 < max 1 n) power half)
-
--- the least power of two that is not below n, for small n
-pub next_power-small : (n : ℕ) → n ≤ 65536 → (d : ℕ) × (d ≤ 16) × (next_power n ≡ 2 ^ d) × (n ≤ next_power n)
-unfolding next_power
-next_power-small n small =
-    let d : ℕ = first_below 64 (λ e. nat_le n (2 ^ e)) in
-    let most : first_below 64 (λ e. nat_le n (2 ^ e)) ≤ 16 = first_below_most 64 (λ e. nat_le n (2 ^ e)) 16 (omega arith) (le-leb n 65536 small) in
-    (d, most, refl, leb-true n (2 ^ d) (first_below-passes 64 (λ e. nat_le n (2 ^ e)) (omega arith)))
 
 -- the power of a large number is large
 pub next_power-large : (n : ℕ) → 65536 < n → 65536 < next_power n

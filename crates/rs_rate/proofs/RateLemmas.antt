@@ -14,7 +14,8 @@ use Rattle.rs_rate.specs.declared.rate.encoder_work.EncoderShape.{EncoderShape}
 use Rattle.rs_rate.specs.EncoderView.{encoder_shape, shape_chunks}
 use Rattle.rs_rate.specs.ShardRows.{chunk_count}
 use Rattle.rs_rate.specs.DecoderView.{frame_of}
-use Rattle.rs_rate.proofs.PowerLemmas.{low_fits, low_small, low_supported, low_rows-positive, next_power-small}
+use Rattle.rs_field.proofs.NextPower.{next_power-small}
+use Rattle.rs_rate.proofs.PowerLemmas.{low_fits, low_small, low_supported, low_rows-positive}
 use Rattle.rs_rate.proofs.HighCounts.{high_turned, high_fits}
 use Rattle.rs_rate.proofs.ChoiceLemmas.{default_fits, low_powers, high_powers}
 use Rattle.rs_rate.proofs.DecoderRows.{low_frame-power}

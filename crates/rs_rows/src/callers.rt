@@ -1,8 +1,8 @@
-//! Callers that know an encoder, a decoder or a rate by its trait alone.
+//! Callers that know encoders, decoders and rates by their contracts alone.
 ghost use Rattle.std.specs.Prelude.{◌≡◌, ◌*◌, ◌<◌, ◌⊎◌, length, Ok, IfOk, OnOk, OnErr, MatchResult, Err};
 ghost use Rattle.reed_solomon_simd.specs.Counts.{default_rate};
-ghost use Rattle.reed_solomon_simd.specs.Placement.{encoder_rows};
-ghost use Rattle.reed_solomon_simd.specs.Configuration.{configuration, started};
+ghost use Rattle.reed_solomon_simd.specs.Placement.{encoder_rows, decoder_rows};
+ghost use Rattle.reed_solomon_simd.specs.Configuration.{configuration, started, UpToMemory};
 ghost use Rattle.reed_solomon_simd.specs.Outcome.{answer_of};
 ghost use Rattle.reed_solomon_simd.specs.Encoder.{fresh_encoder};
 ghost use Rattle.reed_solomon_simd.specs.Decoder.{fresh_decoder};
@@ -51,6 +51,7 @@ pub fn encode_too_early<E: Engine, X: RateEncoder<E> + Drop>(
 /// A decoder of the default rate passes from any configuration to one of the high rate; a refusal, also for memory,
 /// leaves all as it was.
 pub fn pass_to_high<E: Engine>(decoder: &mut DefaultRateDecoder<E>) -> Result<(), Error>
+    ensures answer { UpToMemory (started (decoder_rows default_rate 3 2) (configuration default_rate 3 2 2)) result }
     ensures ok { OnOk result (⟦<DefaultRateDecoder<E> as RateDecoder<E>>⟧.state decoder.new ≡ fresh_decoder (configuration default_rate 3 2 2)) }
     ensures err { OnErr result (⟦<DefaultRateDecoder<E> as RateDecoder<E>>⟧.state decoder.new ≡ ⟦<DefaultRateDecoder<E> as RateDecoder<E>>⟧.state decoder.old) }
     ensures engine { ⟦<DefaultRateDecoder<E> as RateDecoder<E>>⟧.engine_of decoder.new ≡ ⟦<DefaultRateDecoder<E> as RateDecoder<E>>⟧.engine_of decoder.old }

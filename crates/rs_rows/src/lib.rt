@@ -1,4 +1,4 @@
-//! Callers that know an object or a rate by its trait alone, and rows that cross the crates.
+//! Callers that know objects and rates by their contracts alone, and rows that cross the crates.
 #![tactic(auto)]
 
 pub mod callers;

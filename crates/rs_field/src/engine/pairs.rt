@@ -8,7 +8,6 @@ ghost use Rattle.rs_field.specs.Bounds.{CountsRows};
 use super::{ShardsRefMut, Steps};
 
 /// A step on two rows of the same number of chunks.
-// A step on four rows, for two layers at a time, would be a trait beside this one, with a passage over quarters.
 pub(crate) trait PairStep {
     /// What the step makes of a chunk of each row, from the two old ones.
     ghost related: { Self → OnChunks };

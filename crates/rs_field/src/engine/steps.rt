@@ -8,7 +8,7 @@ use std::marker::{Model, PhantomData};
 ///
 /// A row step is one butterfly on two rows, or one sum, product, copy, clearing or tail move of a row.
 /// A pair sum is one sum with its difference modulo 65535, a product one product modulo 65535.
-/// A running program can't read a count, and no call lowers one.
+/// A running program can't read a count, and no call of `Steps` lowers one.
 #[derive(Drop)]
 pub struct Steps {
     marker: PhantomData<u8>,

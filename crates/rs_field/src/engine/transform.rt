@@ -20,8 +20,6 @@ use super::{GfElement, ShardsRefMut, Steps};
 ///
 /// The factor is given by its logarithm `log_m`; 65535 marks the factor zero. `Butterfly` and `fft` and `ifft` below
 /// are all that an engine needs for its transforms: they take care of blocks, cosets and truncation.
-// A method on four rows, for two layers at a time, would stand here, with four butterflies of two rows as its default
-// body; `fft` and `ifft` would then go by quarters.
 pub trait Butterfly {
     /// Adds `y` times the factor to `x`, and then the new `x` to `y`. Both rows have the same number of chunks.
     fn fft_butterfly(&self, x: &mut [[u8; 64]], y: &mut [[u8; 64]], log_m: GfElement)
