@@ -4,12 +4,12 @@ use Rattle.std.specs.Prelude.{All}
 use Rattle.std.specs.Int.Bits.{xor_comm}
 use Rattle.rs_field.specs.Field.{product}
 use Rattle.rs_field.specs.Polynomial.{value}
-use Rattle.rs_field.specs.Subspace.{product_below, subspace, basis}
+use Rattle.rs_field.specs.Subspace.{subspace, basis}
 use Rattle.rs_field.specs.Transform.{forward}
 use Rattle.rs_field.proofs.Product.{product_lt}
 use Rattle.rs_field.proofs.Total.{product-comm}
 use Rattle.rs_field.proofs.Roots.{WordsOneByOne, value-one}
-use Rattle.rs_field.proofs.Subspace.{product_below-same, subspace_from_zero}
+use Rattle.rs_field.proofs.Subspace.{subspace_from_zero}
 use Rattle.rs_field.proofs.Factors.{add, points, times, value_add, value-times, length-add, length-times, words_add, words_times, all_words}
 use Rattle.rs_field.proofs.Combination.{sum_below-suc, sum_below-zero, basis-zero, forward_is, forward-half}
 

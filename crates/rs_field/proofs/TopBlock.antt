@@ -6,12 +6,12 @@ use Rattle.std.proofs.Math.Nat.{mul-le-mul_right}
 use Rattle.std.proofs.lemmas.Bool.{cases_lt, lt-ltb, le-ltb}
 use Rattle.rs_field.specs.Field.{product}
 use Rattle.rs_field.specs.Polynomial.{value}
-use Rattle.rs_field.specs.Subspace.{product_below, subspace, basis}
+use Rattle.rs_field.specs.Subspace.{subspace, basis}
 use Rattle.rs_field.specs.Transform.{sum_below, forward}
 use Rattle.rs_field.proofs.Product.{zero_product}
 use Rattle.rs_field.proofs.Total.{product-comm, product-assoc}
 use Rattle.rs_field.proofs.Roots.{WordsOneByOne, value-nil}
-use Rattle.rs_field.proofs.Subspace.{product_below-same, subspace_from_zero}
+use Rattle.rs_field.proofs.Subspace.{subspace_from_zero}
 use Rattle.rs_field.proofs.Factors.{add, points, times, value_add, value-times, length-add, length-times, words_add, words_times, all_words}
 use Rattle.rs_field.proofs.Combination.{sum_below-suc, sum_below-zero, sum_below-add, sum_below-same, sum_below-product, basis-half, forward_is, lower_half, upper_half}
 use Rattle.rs_field.proofs.Halves.{shift_half, few_halves, xor_undo}

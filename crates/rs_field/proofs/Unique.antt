@@ -1,7 +1,7 @@
 -- A message has one list of recovery shards at most.
 use Rattle.std.proofs.Common.{◌≡◌, ℕ, ◌+◌, ◌-◌, ◌%◌, ◌^◌, ◌<◌, ◌≤◌, List, [], true, false, cond, length, refl, sym, ap, ◌∙◌, subst, arith, ◌⊎◌, inl, inr, pow_mono}
-use Rattle.std.specs.Prelude.{slice_index, nat_le}
-use Rattle.std.proofs.lemmas.Bool.{cases_lt, le-leb}
+use Rattle.std.specs.Prelude.{slice_index}
+use Rattle.std.proofs.lemmas.Bool.{cases_lt}
 use Rattle.std.proofs.lemmas.List.{ext_get_or}
 use Rattle.rs_field.specs.Polynomial.{value}
 use Rattle.rs_field.specs.Column.{Shard, shard_at, columns}

@@ -1,5 +1,5 @@
 -- The recovery shards of a message, from the words of each column.
-use Rattle.std.proofs.Common.{◌≡◌, ℕ, zero, suc, ◌+◌, ◌/◌, ◌<◌, List, [], ◌∷◌, ◌++◌, map, refl, sym, ap, ap₂, ◌∙◌, subst, arith}
+use Rattle.std.proofs.Common.{◌≡◌, ℕ, zero, suc, ◌/◌, ◌<◌, List, [], ◌∷◌, ◌++◌, refl, sym, ap, ◌∙◌, subst}
 use Rattle.std.proofs.lemmas.List.{map-append}
 use Rattle.rs_field.specs.Column.{Shard, IsShard, column, columns}
 use Rattle.rs_field.specs.Code.{AreRecovery, AreRecoveryWords}

@@ -1,25 +1,19 @@
 -- The coding of the low rate: what the transforms of one column make of the originals, and that it is the code.
-use Rattle.std.proofs.Common.{◌≡◌, ℕ, true, ◌+◌, ◌-◌, ◌*◌, ◌/◌, ◌^◌, ◌<◌, ◌≤◌, List, [], min, sym, ap, ◌∙◌, subst, arith, inl, inr, zero-add, replicate, ap₂}
-use Rattle.std.specs.Prelude.{slice_index, Ok}
+use Rattle.std.proofs.Common.{◌≡◌, ℕ, true, ◌+◌, ◌-◌, ◌^◌, ◌<◌, ◌≤◌, List, min, sym, ap, ◌∙◌, arith, inl, inr, zero-add}
+use Rattle.std.specs.Prelude.{slice_index}
 use Rattle.std.proofs.lemmas.Bool.{cases_lt}
-use Rattle.std.proofs.lemmas.List.{get_or-replicate}
-use Rattle.rs_field.specs.Rows.{symbol}
 use Rattle.rs_field.specs.Polynomial.{value}
 use Rattle.rs_field.specs.Transform.{forward}
-use Rattle.rs_field.specs.Column.{Shard, IsShard, column, columns}
 use Rattle.rs_field.specs.Counts.{next_power, supports, is_low, low_rate}
 use Rattle.rs_field.specs.Placement.{placement, low_placement}
-use Rattle.rs_field.specs.Configuration.{configuration, validated}
-use Rattle.rs_field.specs.Code.{AreRecoveryWords, AreRecovery}
+use Rattle.rs_field.specs.Code.{AreRecoveryWords}
 use Rattle.rs_field.specs.Layout.{up_to}
-use Rattle.rs_field.proofs.Columns.{columns-at}
 use Rattle.rs_field.proofs.Combination.{forward-same, forward-moved}
 use Rattle.rs_field.proofs.Coefficients.{combination_polynomial}
-use Rattle.rs_field.proofs.LayoutLemmas.{length-up_to, get-up_to}
+use Rattle.rs_field.proofs.LayoutLemmas.{get-up_to}
 use Rattle.rs_rate.specs.Coding.{CodesLow, CodesWords}
 use Rattle.rs_field.proofs.NextPower.{next_power-small}
 use Rattle.rs_rate.proofs.PowerLemmas.{low_small, low_fits}
-use Rattle.rs_rate.proofs.StateLemmas.{valid-supported}
 
 -- a transform at a shift takes its values from there on
 from_start : (n shift : ℕ) (f : ℕ → ℕ) (i : ℕ) → forward n shift f i ≡ forward n 0 f (shift + i)

@@ -1,5 +1,5 @@
 -- Powers of two, and counts that a rate supports.
-use Rattle.std.proofs.Common.{◌≡◌, ℕ, zero, suc, ◌+◌, ◌-◌, ◌*◌, ◌/◌, ◌%◌, ◌^◌, ◌<◌, ◌≤◌, Bool, true, false, cond, max, refl, sym, ap, ◌∙◌, subst, arith, inl, inr, pow_mono, pow-suc}
+use Rattle.std.proofs.Common.{◌≡◌, ℕ, zero, suc, ◌+◌, ◌-◌, ◌*◌, ◌/◌, ◌%◌, ◌^◌, ◌<◌, ◌≤◌, true, false, max, refl, sym, ap, ◌∙◌, subst, arith, inl, inr, pow_mono, pow-suc}
 use Rattle.std.specs.Prelude.{nat_le, nat_lt, ◌&&◌}
 use Rattle.std.proofs.lemmas.Bool.{and_parts, cases_lt, le-leb, lt-leb, lt-ltb, leb-true, ltb-true}
 use Rattle.std.proofs.lemmas.Nat.{pow_pos, pow-add, div-add-mod'}
@@ -7,7 +7,7 @@ use Rattle.std.proofs.Math.Nat.{div-eq_of_lt-le, mod-eq_of_lt, mul-le-mul_right}
 use Rattle.std.specs.Int.{next_multiple_of}
 use Rattle.std.proofs.Math.Bool.{and-false}
 use Rattle.rs_field.specs.Search.{first_below}
-use Rattle.rs_field.proofs.Search.{first_below-is, first_below-passes, first_below_most}
+use Rattle.rs_field.proofs.Search.{first_below-is, first_below-passes}
 use Rattle.rs_field.proofs.NextPower.{next_power-small}
 use Rattle.rs_field.specs.Counts.{next_power, supports, is_low, low_rate}
 use Rattle.rs_field.specs.Placement.{rounded_up, encoder_rows}

@@ -1,13 +1,9 @@
 -- What a rate is at counts that it supports: the low or the high rate, with its rows, frame and recovery shards.
-use Rattle.std.proofs.Common.{◌≡◌, ℕ, ◌+◌, ◌^◌, ◌<◌, ◌≤◌, ◌==◌, ◌%◌, Bool, true, false, List, refl, sym, ap, ◌∙◌, subst, arith}
-use Rattle.std.specs.Prelude.{slice_index, nat_lt, nat_le, ◌&&◌, ◌||◌, not, Ok, Err, Result, if◌then◌else◌}
-use Rattle.rs_field.specs.declared.error.Error.{Error}
-use Rattle.rs_field.specs.declared.error.Error.TheVariants.{UnsupportedShardCount, InvalidShardSize}
+use Rattle.std.proofs.Common.{◌≡◌, ℕ, ◌+◌, ◌^◌, ◌<◌, ◌≤◌, Bool, true, false, List, refl, sym, ap, ◌∙◌, subst, arith}
+use Rattle.std.specs.Prelude.{slice_index, if◌then◌else◌}
 use Rattle.rs_field.specs.Counts.{Rate, next_power, supports, is_low, low_rate, high_rate, default_rate}
 use Rattle.rs_field.specs.Placement.{Placement, placement, low_placement, high_placement, rounded_up, encoder_rows, block_rows, decoder_rows}
 use Rattle.rs_field.specs.Polynomial.{value}
-use Rattle.rs_field.specs.Column.{Shard}
-use Rattle.rs_field.specs.Configuration.{configuration, validated}
 use Rattle.rs_field.specs.Code.{Codes, AreRecoveryWords}
 use Rattle.rs_rate.specs.declared.rate.decoder_work.Frame.{Frame}
 use Rattle.rs_rate.specs.declared.rate.encoder_work.EncoderShape.{EncoderShape}
@@ -15,7 +11,7 @@ use Rattle.rs_rate.specs.EncoderView.{encoder_shape, shape_chunks}
 use Rattle.rs_rate.specs.ShardRows.{chunk_count}
 use Rattle.rs_rate.specs.DecoderView.{frame_of}
 use Rattle.rs_field.proofs.NextPower.{next_power-small}
-use Rattle.rs_rate.proofs.PowerLemmas.{low_fits, low_small, low_supported, low_rows-positive}
+use Rattle.rs_rate.proofs.PowerLemmas.{low_supported}
 use Rattle.rs_rate.proofs.HighCounts.{high_turned, high_fits}
 use Rattle.rs_rate.proofs.ChoiceLemmas.{default_fits, low_powers, high_powers}
 use Rattle.rs_rate.proofs.DecoderRows.{low_frame-power}

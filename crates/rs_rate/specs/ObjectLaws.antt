@@ -1,5 +1,5 @@
 -- What the traits' laws say of the objects, by what their rows keep.
-use Rattle.std.specs.Prelude.{◌≡◌, ◌+◌, ◌*◌, ◌^◌, ◌<◌, ◌≤◌, ℕ, length, List, All, Bool, true, false, Option, Some, None, is_some, unwrap_or, nat_lt, if◌then◌else◌, Ok, refl}
+use Rattle.std.specs.Prelude.{◌≡◌, ◌+◌, ◌*◌, ◌^◌, ◌<◌, ◌≤◌, ℕ, List, All, Bool, true, false, Some, None, is_some, unwrap_or, nat_lt, if◌then◌else◌, Ok, refl}
 use Rattle.std.proofs.Common.{sym, ap, subst, true≢false}
 use Rattle.std.proofs.lemmas.Bool.{le-ltb}
 use Rattle.std.specs.Vec.{vec_capacity}

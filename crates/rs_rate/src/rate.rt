@@ -26,7 +26,7 @@ use std::alloc::Global;
 
 /// A rate of the code, over an engine: the counts that it supports, its encoders and its decoders.
 pub trait Rate<E: Engine>: Sized {
-    ghost use Rattle.std.specs.Prelude.{◌≡◌, ◌*◌, ◌≤◌, IfOk, IfSome};
+    ghost use Rattle.std.specs.Prelude.{◌≡◌, ◌≤◌, IfOk, IfSome};
     ghost use Rattle.rs_field.specs.Counts.{Rate as WhichRate, supports as supports_counts};
     ghost use Rattle.rs_field.specs.Placement.{encoder_rows, decoder_rows};
     ghost use Rattle.rs_field.specs.Outcome.{answer_of};
@@ -128,7 +128,7 @@ pub trait Rate<E: Engine>: Sized {
 /// forgotten. A refused call leaves the configuration and the given shards as they were. Memory is taken by `new` and
 /// by `reset` alone.
 pub trait RateEncoder<E: Engine>: Sized {
-    ghost use Rattle.std.specs.Prelude.{◌≡◌, ◌≢◌, ◌*◌, ◌^◌, ◌<◌, ◌≤◌, ℕ, Ok, Err, IsOk, IfOk, IfSome, OnOk, OnErr};
+    ghost use Rattle.std.specs.Prelude.{◌≡◌, ◌≢◌, ◌≤◌, ℕ, Err, IfOk, IfSome, OnOk, OnErr};
     ghost use Rattle.std.specs.Borrow.{sem};
     ghost use Rattle.rs_field.specs.Counts.{Rate as WhichRate, supports as supports_counts};
     ghost use Rattle.rs_field.specs.Placement.{encoder_rows};
@@ -241,7 +241,7 @@ pub trait RateEncoder<E: Engine>: Sized {
 /// whether the result was dropped or forgotten. A refused call leaves the configuration and the given shards as they
 /// were. Memory is taken by `new` and by `reset` alone.
 pub trait RateDecoder<E: Engine>: Sized {
-    ghost use Rattle.std.specs.Prelude.{◌≡◌, ◌≢◌, ◌*◌, ◌^◌, ◌<◌, ◌≤◌, ℕ, Ok, Err, IsOk, IfOk, IfSome, OnOk, OnErr};
+    ghost use Rattle.std.specs.Prelude.{◌≡◌, ◌≢◌, ◌≤◌, ℕ, Err, IfOk, IfSome, OnOk, OnErr};
     ghost use Rattle.std.specs.Borrow.{sem};
     ghost use Rattle.rs_field.specs.Counts.{Rate as WhichRate, supports as supports_counts};
     ghost use Rattle.rs_field.specs.Placement.{decoder_rows};

@@ -1,5 +1,5 @@
 //! Callers that know encoders, decoders and rates by their contracts alone.
-ghost use Rattle.std.specs.Prelude.{◌≡◌, ◌*◌, ◌<◌, ◌⊎◌, length, Ok, IfOk, OnOk, OnErr, MatchResult, Err};
+ghost use Rattle.std.specs.Prelude.{◌≡◌, ◌<◌, ◌⊎◌, length, Ok, IfOk, OnOk, OnErr, MatchResult, Err};
 ghost use Rattle.reed_solomon_simd.specs.Counts.{default_rate};
 ghost use Rattle.reed_solomon_simd.specs.Placement.{encoder_rows, decoder_rows};
 ghost use Rattle.reed_solomon_simd.specs.Configuration.{configuration, started, UpToMemory};

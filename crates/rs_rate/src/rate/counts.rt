@@ -1,12 +1,12 @@
 //! Powers of two, supported counts and numbers of rows.
-ghost use Rattle.std.specs.Prelude.{◌≡◌, ◌≢◌, ℕ, ◌+◌, ◌%◌, ◌^◌, ◌<◌, ◌≤◌, true};
+ghost use Rattle.std.specs.Prelude.{◌≡◌, ◌≢◌, ℕ, ◌+◌, ◌^◌, ◌<◌, ◌≤◌, true};
 ghost use Rattle.rs_field.specs.Counts.{next_power, supports, is_low, low_rate, high_rate, default_rate};
 ghost use Rattle.rs_field.specs.Placement.{encoder_rows};
 ghost use Rattle.rs_rate.specs.EncoderView.{encoder_shape};
 ghost use Rattle.rs_rate.specs.DecoderView.{frame_of};
 
-use crate::rate::encoder_work::EncoderShape;
 use crate::rate::decoder_work::Frame;
+use crate::rate::encoder_work::EncoderShape;
 use rs_field::engine::GF_ORDER;
 
 // The least power of two that is not below n.

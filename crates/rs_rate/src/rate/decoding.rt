@@ -16,11 +16,11 @@ ghost use Rattle.rs_rate.specs.ShardRows.{chunk_count};
 use crate::rate::decoder_work::{DecoderMemory, DecoderRows, DecoderShape, Frame};
 use crate::rate::marks::{Mark, end_marks};
 use crate::rate::shard_rows::{in_order_are_bytes, move_tail};
+use rs_field::engine::derivative::formal_derivative;
 use rs_field::engine::layout::row_len;
 use rs_field::engine::locator::locator_at;
 use rs_field::engine::rows::{clear_rows, mul_row};
 use rs_field::engine::tables::{Log, get_exp_log};
-use rs_field::engine::derivative::formal_derivative;
 use rs_field::engine::{Engine, GF_MODULUS, GF_ORDER, GfElement, ShardsRefMut, Steps};
 
 // What multiplies the rows: which points are erased, which rows hold given shards, and the logarithms.
@@ -172,7 +172,14 @@ fn restore_words<E: Engine>(
     let mut data = ShardsRefMut::new(frame.row_count, row_len(shape.shard_bytes), chunks);
     locate_rows(engine, steps, &mut data, located, end);
     pass_rows(engine, steps, &mut data, end);
-    reveal_rows(engine, steps, &mut data, located, from, shape.original_count);
+    reveal_rows(
+        engine,
+        steps,
+        &mut data,
+        located,
+        from,
+        shape.original_count,
+    );
 }
 
 // Multiplies the given rows by their locator entry, and clears the others.

@@ -1,5 +1,5 @@
 //! The working space of an encoder: the memory that is handed on, and an encoder's rows in it.
-ghost use Rattle.std.specs.Prelude.{◌≡◌, ◌≢◌, ℕ, ◌+◌, ◌*◌, ◌%◌, ◌^◌, ◌<◌, ◌≤◌, vec_len, IfOk, OnOk, OnErr, IsOk, IfErr, IfSome, MatchOption};
+ghost use Rattle.std.specs.Prelude.{◌≡◌, ℕ, ◌*◌, ◌%◌, ◌^◌, ◌<◌, ◌≤◌, vec_len, IfOk, OnOk, OnErr, IsOk, IfErr, IfSome, MatchOption};
 ghost use Rattle.std.specs.Vec.{vec_capacity};
 ghost use Rattle.rs_field.specs.Column.{IsShard};
 ghost use Rattle.rs_field.specs.Counts.{Rate};
@@ -138,7 +138,11 @@ impl EncoderRows {
             });
         }
         shard_is_bytes(original_shard);
-        insert_at(self.chunks.as_mut_slice(), original_shard, self.originals_given);
+        insert_at(
+            self.chunks.as_mut_slice(),
+            original_shard,
+            self.originals_given,
+        );
         self.originals_given += 1;
         Ok(())
     }

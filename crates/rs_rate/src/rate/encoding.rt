@@ -88,8 +88,22 @@ fn code_rows<E: Engine, C: Code>(
     let original_count = shape.original_count;
     let recovery_count = shape.recovery_count;
     if C::is_low(original_count, recovery_count) {
-        code_low(engine, steps, data, original_count, recovery_count, shape.block_rows);
+        code_low(
+            engine,
+            steps,
+            data,
+            original_count,
+            recovery_count,
+            shape.block_rows,
+        );
     } else {
-        code_high(engine, steps, data, original_count, recovery_count, shape.block_rows);
+        code_high(
+            engine,
+            steps,
+            data,
+            original_count,
+            recovery_count,
+            shape.block_rows,
+        );
     }
 }

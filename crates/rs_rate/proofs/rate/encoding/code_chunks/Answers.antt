@@ -1,4 +1,4 @@
-use Rattle.std.proofs.Common.{◌≡◌, ℕ, ◌+◌, ◌*◌, ◌<◌, rules, ap, ap₂, sym, ◌∙◌, arith}
+use Rattle.std.proofs.Common.{◌≡◌, ℕ, ◌+◌, ◌*◌, rules, ap, ap₂, sym, ◌∙◌, arith}
 use Rattle.rs_field.specs.Layout.{row_len}
 use Rattle.rs_field.specs.Rows.{chunk, symbol, Chunks}
 use Rattle.rs_field.specs.View.{cell, word}

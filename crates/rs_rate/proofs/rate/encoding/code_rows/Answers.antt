@@ -1,4 +1,4 @@
-use Rattle.std.proofs.Common.{sym, ◌∙◌, ℕ}
+use Rattle.std.proofs.Common.{sym, ◌∙◌}
 use Rattle.rs_field.specs.Counts.{low_rate, high_rate}
 use Rattle.rs_field.specs.Layout.{up_to}
 use Rattle.rs_field.specs.View.{word}

@@ -1,13 +1,11 @@
 use Rattle.std.proofs.Common.{◌≡◌, ℕ, ◌≤◌, ◌∙◌, ap, subst, arith, inl, inr}
-use Rattle.std.proofs.Math.Nat.{zero-mod}
 use Rattle.rs_field.specs.Rows.{symbol}
 use Rattle.rs_field.specs.Counts.{next_power}
-use Rattle.rs_field.specs.View.{word, SameShape}
+use Rattle.rs_field.specs.View.{word}
 use Rattle.rs_field.proofs.Recursion.{fits_kept}
 use Rattle.rs_field.proofs.RowOffsets.{outside_cell}
 use Rattle.rs_field.proofs.Symbols.{symbol-zero}
 use Rattle.rs_rate.specs.Coding.{CodesLow}
-use Rattle.rs_rate.proofs.PowerLemmas.{low_fits}
 use Rattle.rs_rate.proofs.HighCounts.{low_rows-fit}
 use Rattle.rs_rate.proofs.LowCoding.{coded, codes_words}
 use Rattle.rs_rate.proofs.rate.low_encoding.code_low.Goals as goal
@@ -82,15 +80,15 @@ returns-clause-words g c = λ k s inside symbols.
     let old : ℕ → ℕ = word c.args.«data».now k s in
     let new : ℕ → ℕ = word c.fft.new.«data» k s in
     let column : CodesLow c.args.original_count c.args.recovery_count c.args.block old new =
-      coded c.args.original_count c.args.recovery_count c.args.block
-      old (word c.clear_rows.new.«data» k s) (word c.ifft.new.«data» k s) (word c.code_further.new.«data» k s) new
-      (λ j small. ap (λ x. symbol x s) (outside_cell _ _ c.args.«data».now c.clear_rows.new.«data» c.clear_rows.ensures.shape c.clear_rows.ensures.others j k inside (inl small)))
-      (λ j low high. ap (λ x. symbol x s) (c.clear_rows.ensures.zeros j k (omega arith) low high) ∙ symbol-zero s symbols)
-      (λ j small. c.ifft.ensures.values k s j (omega arith) symbols small)
-      (λ q small. ap (λ x. symbol x s) (c.code_further.ensures.combination q k (omega arith) small))
-      (λ i low few. c.code_further.ensures.values k s i (omega arith) symbols low few)
-      (λ i wanted. c.fft.ensures.values k s i (omega arith) symbols (omega arith))
-      (λ i low. ap (λ x. symbol x s) (outside_cell _ _ c.code_further.new.«data» c.fft.new.«data» c.fft.ensures.shape c.fft.ensures.others i k (omega arith) (inr (omega arith))))
-      given in
+    coded c.args.original_count c.args.recovery_count c.args.block
+    old (word c.clear_rows.new.«data» k s) (word c.ifft.new.«data» k s) (word c.code_further.new.«data» k s) new
+    (λ j small. ap (λ x. symbol x s) (outside_cell _ _ c.args.«data».now c.clear_rows.new.«data» c.clear_rows.ensures.shape c.clear_rows.ensures.others j k inside (inl small)))
+    (λ j low high. ap (λ x. symbol x s) (c.clear_rows.ensures.zeros j k (omega arith) low high) ∙ symbol-zero s symbols)
+    (λ j small. c.ifft.ensures.values k s j (omega arith) symbols small)
+    (λ q small. ap (λ x. symbol x s) (c.code_further.ensures.combination q k (omega arith) small))
+    (λ i low few. c.code_further.ensures.values k s i (omega arith) symbols low few)
+    (λ i wanted. c.fft.ensures.values k s i (omega arith) symbols (omega arith))
+    (λ i low. ap (λ x. symbol x s) (outside_cell _ _ c.code_further.new.«data» c.fft.new.«data» c.fft.ensures.shape c.fft.ensures.others i k (omega arith) (inr (omega arith))))
+    given in
     codes_words c.args.original_count c.args.recovery_count old new c.requires.supported
     (subst (λ (m : ℕ). CodesLow c.args.original_count c.args.recovery_count m old new) block column)

@@ -1,4 +1,4 @@
-use Rattle.std.proofs.Common.{rules, ◌≡◌, ◌≢◌, ℕ, ◌+◌, arith, ap, ◌<◌, ◌∙◌, sym, length, List, subst, inl, inr}
+use Rattle.std.proofs.Common.{rules, ◌≡◌, ◌≢◌, ℕ, ◌+◌, arith, ap, ◌<◌, ◌∙◌, sym, length, List, subst}
 use Rattle.std.proofs.lemmas.List.{with_items_is}
 use Rattle.rs_field.proofs.LayoutLemmas.{length-up_to}
 use Rattle.rs_rate.proofs.ShardRowsLemmas.{chunk_count-within, given-more, shard-entered}

@@ -1,4 +1,4 @@
-use Rattle.std.proofs.Common.{◌≡◌, ◌<◌, ◌*◌, ◌^◌, ℕ, sym, ap, ap₂, ◌∙◌, arith, subst}
+use Rattle.std.proofs.Common.{◌<◌, ◌*◌, ◌^◌, ℕ, sym, ap, ap₂, ◌∙◌, arith, subst}
 use Rattle.std.specs.Prelude.{IfOk}
 use Rattle.rs_field.specs.Configuration.{configuration}
 use Rattle.rs_field.specs.Placement.{encoder_rows}
