@@ -13,16 +13,16 @@ pub mod engine {
         ShardsRefMut, Steps,
     };
 
-    /// The powers of the generator, the logarithms and the factors of butterflies.
+    /// The powers of the generator, the logarithms, their transform and the factors of butterflies.
     pub mod tables {
         pub use rs_field::engine::tables::{
-            Exp, ExpLog, Log, Skew, Tables, get_exp_log, get_skew, mul,
+            Exp, ExpLog, Log, LogWalsh, Skew, Tables, get_exp_log, get_log_walsh, get_skew, mul,
         };
     }
 
-    /// Row functions that engines share.
+    /// Row functions and the locator, which engines share.
     pub mod utils {
-        pub use rs_field::engine::utils::{xor, xor_within};
+        pub use rs_field::engine::utils::{eval_poly, xor, xor_within};
     }
 }
 

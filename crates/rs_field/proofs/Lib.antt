@@ -34,4 +34,8 @@ pub mod Derivative
 pub mod DerivativeStep
 pub mod LocatorLemmas
 pub mod LocatorProduct
+pub mod Totals
+pub mod Signs
+pub mod Halving
+pub mod Convolution
 pub mod Restored

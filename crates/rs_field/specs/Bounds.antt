@@ -18,6 +18,14 @@ pub record CountsUpTo (row_steps pair_sums products : ℕ) (old new : Steps) : T
 abbrev pub CountsRows : ℕ → Steps → Steps → Type 0
 CountsRows n old new = (new.row_steps ≡ old.row_steps + n) × (new.pair_sums ≡ old.pair_sums) × (new.products ≡ old.products)
 
+-- exactly n pair sums were counted and nothing else
+abbrev pub CountsPairs : ℕ → Steps → Steps → Type 0
+CountsPairs n old new = (new.row_steps ≡ old.row_steps) × (new.pair_sums ≡ old.pair_sums + n) × (new.products ≡ old.products)
+
+-- exactly n products were counted and nothing else
+abbrev pub CountsProducts : ℕ → Steps → Steps → Type 0
+CountsProducts n old new = (new.row_steps ≡ old.row_steps) × (new.pair_sums ≡ old.pair_sums) × (new.products ≡ old.products + n)
+
 -- the logarithm to base 2 of a power of two
 unfoldable pub log2 : ℕ → ℕ
 log2 n = first_below 64 (λ d. nat_le n (2 ^ d))
@@ -33,6 +41,10 @@ encode_steps c m = (c + 1) * transform_steps m + 2 * c * m
 -- the row steps of a decode with w rows
 unfoldable pub decode_steps : ℕ → ℕ
 decode_steps w = 3 * w / 2 * log2 w + 3 * w
+
+-- what a Walsh-Hadamard transform of n entries may count: n/2 * log2 n pair sums
+abbrev pub WalshCounts : ℕ → Steps → Steps → Type 0
+WalshCounts n old new = CountsUpTo 0 (transform_steps n) 0 old new
 
 -- what a locator may count: no row step
 abbrev pub LocatorCounts : Steps → Steps → Type 0

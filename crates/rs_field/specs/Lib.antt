@@ -4,6 +4,7 @@ pub mod Polynomial
 pub mod Subspace
 pub mod Transform
 pub mod Locator
+pub mod Walsh
 pub mod Column
 pub mod Counts
 pub mod Placement

@@ -2,6 +2,7 @@
 use Rattle.std.specs.Prelude.{ℕ, ◌≡◌, ◌+◌, ◌-◌, ◌*◌, ◌^◌, ◌<◌, ◌==◌, if◌then◌else◌, List, length, slice_index}
 use Rattle.rs_field.specs.Field.{product, power, log}
 use Rattle.rs_field.specs.Subspace.{subspace}
+use Rattle.rs_field.specs.Walsh.{IsWalsh, log_or_zero}
 
 -- the powers of the generator and the logarithms of the words; the logarithm of 0 reads 65535
 pub record IsExpLog (exp_table log_table : List ℕ) : Type 0 where
@@ -28,3 +29,8 @@ pub record IsSkew (skew_table : List ℕ) : Type 0 where
 -- a word times the factor with this logarithm, where 65535 marks the factor zero
 abbrev pub scaled : ℕ → ℕ → ℕ
 scaled log_m w = if log_m == 65535 then 0 else product w (power log_m)
+
+-- the Walsh-Hadamard transform of the logarithms, as residues modulo 65535, where that of 0 counts as 0
+pub record IsLogWalsh (log_walsh : List ℕ) : Type 0 where
+  pub walsh_length : length log_walsh ≡ 65536
+  pub walsh_entry : IsWalsh 65536 log_or_zero (λ w. slice_index log_walsh w)

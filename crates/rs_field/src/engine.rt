@@ -1,13 +1,15 @@
 //! Constants of the field, the count of steps, and the trait of an engine.
-ghost use Rattle.std.specs.Prelude.{◌≡◌, ℕ, ◌+◌, ◌%◌, ◌^◌, ◌<◌, ◌≤◌, length};
+ghost use Rattle.std.specs.Prelude.{◌≡◌, ℕ, ◌+◌, ◌%◌, ◌^◌, ◌<◌, ◌≤◌, length, slice_index};
 ghost use Rattle.rs_field.specs.Field.{product, power};
 ghost use Rattle.rs_field.specs.Transform.{forward};
 ghost use Rattle.rs_field.specs.Rows.{chunk, symbol};
 ghost use Rattle.rs_field.specs.View.{word, Fits, SameShape, SameRowsOutside, AreZero};
-ghost use Rattle.rs_field.specs.Bounds.{TransformCounts, RowProductCounts};
+ghost use Rattle.rs_field.specs.Locator.{IsLocator};
+ghost use Rattle.rs_field.specs.Bounds.{LocatorCounts, TransformCounts, RowProductCounts};
 
 pub mod derivative;
 pub mod engine_naive;
+mod fwht;
 pub mod layout;
 pub mod locator;
 mod pairs;
@@ -43,7 +45,7 @@ pub const CANTOR_BASIS: [GfElement; GF_BITS] = [
     0xFDB8, 0xFB34, 0xFF38, 0x991E,
 ];
 
-/// What the coder asks of an engine: transforms of rows, and the product of a row.
+/// What the coder asks of an engine: transforms of rows, the product of a row, and the locator.
 ///
 /// The transforms are those of Lin, Chung and Han ("Novel polynomial basis and its application to Reed-Solomon
 /// erasure codes"), in the form of Leopard-RS: between coefficients in the basis of subspace polynomials and values
@@ -105,4 +107,15 @@ pub trait Engine: Drop {
         ensures products { (k s : ℕ) → k < length x.old → s < 32
             → symbol (chunk x.new k) s ≡ product (symbol (chunk x.old k) s) (power log_m) }
         ensures counts { RowProductCounts steps.old steps.new };
+
+    /// The locator of the marked points, at all points at once: entry x becomes, modulo 65535, the sum over all points y
+    /// other than x of entry y times the logarithm of `x XOR y`.
+    ///
+    /// There are 65536 entries, and those from `truncated_size` on are 0. Of a new entry the residue alone is fixed: 0
+    /// and 65535 both stand for zero. The locator is that of Leopard-RS.
+    fn eval_poly(&self, steps: &mut Steps, erasures: &mut [GfElement], truncated_size: usize)
+        requires size { length erasures.old ≡ 65536 }
+        requires tail { (y : ℕ) → truncated_size ≤ y → y < 65536 → slice_index erasures.old y ≡ 0 }
+        ensures values { IsLocator (λ y. slice_index erasures.old y) (λ x. slice_index erasures.new x) }
+        ensures counts { LocatorCounts steps.old steps.new };
 }

@@ -153,6 +153,10 @@ impl Engine for Watching<'_> {
     fn mul(&self, steps: &mut Steps, x: &mut [[u8; 64]], log_m: GfElement) {
         self.naive.mul(steps, x, log_m);
     }
+
+    fn eval_poly(&self, steps: &mut Steps, erasures: &mut [GfElement], truncated_size: usize) {
+        self.naive.eval_poly(steps, erasures, truncated_size);
+    }
 }
 
 // Whether an encoder of the rate codes as the low rate does.

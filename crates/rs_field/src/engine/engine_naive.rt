@@ -4,7 +4,7 @@ ghost use Rattle.rs_field.specs.Field.{product, power};
 ghost use Rattle.rs_field.specs.Tables.{IsExpLog, scaled};
 ghost use Rattle.rs_field.specs.Rows.{chunk, symbol};
 
-use super::tables::{self, ExpLog, Tables, get_exp_log, get_skew};
+use super::tables::{self, ExpLog, Tables, get_exp_log, get_log_walsh, get_skew};
 use super::transform::{self, Butterfly};
 use super::{Engine, GF_MODULUS, GfElement, ShardsRefMut, Steps, utils};
 
@@ -160,11 +160,17 @@ impl Engine for Naive<'_> {
             mul_chunk(&mut x[k], log_m, t);
         }
     }
+
+    fn eval_poly(&self, steps: &mut Steps, erasures: &mut [GfElement], truncated_size: usize) {
+        let log_walsh = get_log_walsh(self.tables);
+        utils::eval_poly(steps, erasures, truncated_size, log_walsh);
+    }
 }
 
 #[cfg(test)]
 mod tests {
     use super::*;
+    use crate::engine::GF_ORDER;
     use std::process::Abort;
     use std::test::Fail;
 
@@ -265,6 +271,43 @@ mod tests {
         assert_eq!(rt; column(&chunks), [2, 6, 11, 0]);
     }
 
+    // The locator of the points from `first` up to `end`.
+    fn located(naive: &Naive<'_>, first: usize, end: usize) -> [GfElement; 65536]
+        requires { end ≤ 65536 }
+    {
+        let mut erasures = [0; 65536];
+        for y in first..end {
+            erasures[y] = 1;
+        }
+        let mut steps = Steps::new();
+        naive.eval_poly(&mut steps, &mut erasures, end);
+        erasures
+    }
+
+    fn check_eval_poly(rt: &impl Abort, naive: &Naive<'_>, log: &[GfElement])
+        requires { length log.now ≡ 65536 }
+    {
+        let erasures = located(naive, 0, 0);
+        for x in 0..GF_ORDER {
+            assert_eq!(rt; erasures[x] % 65535, 0, "at {x}, none marked");
+        }
+        let erasures = located(naive, 0, 1);
+        assert_eq!(rt; erasures[0] % 65535, 0);
+        assert_eq!(rt; erasures[1] % 65535, 0);
+        assert_eq!(rt; erasures[2], log[2]);
+        assert_eq!(rt; erasures[3], log[3]);
+        // The differences are 2 and 3 at 0 and 1, whose product is 1, and 1 at 2 and 3.
+        let erasures = located(naive, 2, 4);
+        for x in 0..4 {
+            assert_eq!(rt; erasures[x] % 65535, 0, "at {x}");
+        }
+        // The differences are all nonzero elements, whose product is 1.
+        let erasures = located(naive, 0, GF_ORDER);
+        for x in 0..GF_ORDER {
+            assert_eq!(rt; erasures[x] % 65535, 0, "at {x}, all marked");
+        }
+    }
+
     // One test, since making the tables takes most of its time.
     #[test]
     fn worked_examples(rt: HostRuntime) -> Result<(), Fail> {
@@ -273,6 +316,7 @@ mod tests {
         let naive = Naive::new(&tables);
         check_transforms(&rt, &naive);
         check_mul(&rt, &naive, get_exp_log(&tables).log[4]);
+        check_eval_poly(&rt, &naive, get_exp_log(&tables).log.as_slice());
         Ok(())
     }
 }

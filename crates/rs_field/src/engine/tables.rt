@@ -1,9 +1,10 @@
 //! The tables of the field, made at run time and lent.
 ghost use Rattle.std.specs.Prelude.{◌≡◌, ◌+◌, ◌*◌, ◌%◌, ◌^◌, ◌<◌, IfOk, IfErr, length, slice_index, ℕ};
 ghost use Rattle.rs_field.specs.Field.{product, power, generator};
-ghost use Rattle.rs_field.specs.Tables.{IsExpLog, IsSkew};
+ghost use Rattle.rs_field.specs.Tables.{IsExpLog, IsLog, IsLogWalsh, IsSkew};
 
-use super::{GF_BITS, GF_MODULUS, GF_ORDER, GfElement};
+use super::fwht::fwht;
+use super::{GF_BITS, GF_MODULUS, GF_ORDER, GfElement, Steps};
 use crate::error::Error;
 use std::alloc::{AllocError, Global};
 
@@ -15,6 +16,11 @@ pub type Log<'a> = &'a [GfElement];
 
 /// A lent table of the 65535 factors of butterflies, by their logarithms; 65535 marks the factor zero.
 pub type Skew<'a> = &'a [GfElement];
+
+/// A lent table of 65536 entries: the Walsh-Hadamard transform of the logarithms, where that of 0 counts as 0.
+///
+/// Its entries are residues modulo 65535: 0 and 65535 both stand for zero.
+pub type LogWalsh<'a> = &'a [GfElement];
 
 /// The tables of powers and logarithms.
 #[derive(Drop)]
@@ -30,8 +36,10 @@ pub struct ExpLog {
 pub struct Tables {
     exp_log: ExpLog,
     skew: Vec<GfElement>,
+    log_walsh: Vec<GfElement>,
     pub ghost exp_log_entries: { IsExpLog exp_log.exp.items exp_log.log.items },
     pub ghost skew_entries: { IsSkew skew.items },
+    pub ghost log_walsh_entries: { IsLogWalsh log_walsh.items },
 }
 
 impl Tables {
@@ -41,7 +49,12 @@ impl Tables {
     {
         let exp_log = ExpLog::new(alloc)?;
         let skew = skew_table(alloc, &exp_log)?;
-        Ok(Tables { exp_log, skew })
+        let log_walsh = log_walsh_table(alloc, &exp_log.log)?;
+        Ok(Tables {
+            exp_log,
+            skew,
+            log_walsh,
+        })
     }
 }
 
@@ -59,6 +72,13 @@ pub fn get_skew(tables: &Tables) -> Skew<'_>
     tables.skew.as_slice()
 }
 
+/// The transform of the logarithms, of which locators are made.
+pub fn get_log_walsh(tables: &Tables) -> LogWalsh<'_>
+    ensures { IsLogWalsh result.now }
+{
+    tables.log_walsh.as_slice()
+}
+
 /// `x` times the generator to the power `log_m`; 65535 is the factor one. The tables are those of an `ExpLog`.
 pub fn mul(x: GfElement, log_m: GfElement, exp: Exp<'_>, log: Log<'_>) -> GfElement
     requires { IsExpLog exp.now log.now }
@@ -72,11 +92,12 @@ pub fn mul(x: GfElement, log_m: GfElement, exp: Exp<'_>, log: Log<'_>) -> GfElem
 }
 
 /// The sum modulo 65535, where 0 and 65535 both stand for zero.
+#[inline(always)]
 pub fn add_mod(x: GfElement, y: GfElement) -> GfElement
     ensures { result % 65535 ≡ (x + y) % 65535 }
 {
-    let sum = u32::from(x) + u32::from(y);
-    ((sum + (sum >> GF_BITS)) & 0xFFFF) as u16
+    let sum = x.wrapping_add(y);
+    if sum < x { sum + 1 } else { sum }
 }
 
 // The products of the generator with the words 1, 2, 4, .., 0x8000.
@@ -149,5 +170,17 @@ fn skew_table(alloc: Global, exp_log: &ExpLog) -> Result<Vec<GfElement>, AllocEr
         let word = skew_word(i + 1);
         table.push(exp_log.log[word as usize])?;
     }
+    Ok(table)
+}
+
+// The transform of the logarithms, for which nothing is counted.
+fn log_walsh_table(alloc: Global, log: Log<'_>) -> Result<Vec<GfElement>, AllocError>
+    requires { IsLog log.now }
+    ensures { IfOk result (λ v. IsLogWalsh v.items) }
+{
+    let mut table = log.to_vec(alloc)?;
+    table[0] = 0;
+    let mut steps = Steps::new();
+    fwht(&mut steps, &mut table, GF_ORDER);
     Ok(table)
 }

@@ -1,12 +1,16 @@
-//! Sums of rows: of two lists of chunks, and of ranges of rows.
-ghost use Rattle.std.specs.Prelude.{◌≡◌, ℕ, ◌+◌, ◌*◌, ◌<◌, ◌≤◌, ◌⊎◌, length, slice_index, bit_xor};
+//! Sums of rows: of two lists of chunks, and of ranges of rows; and the locator at all points.
+ghost use Rattle.std.specs.Prelude.{◌≡◌, ℕ, ◌+◌, ◌*◌, ◌%◌, ◌<◌, ◌≤◌, ◌⊎◌, length, slice_index, bit_xor};
 ghost use Rattle.rs_field.specs.Rows.{chunk, symbol};
 ghost use Rattle.rs_field.specs.View.{word, Fits, SameShape, SameRowsOutside};
 ghost use Rattle.rs_field.specs.Pairs.{IsSumStep};
-ghost use Rattle.rs_field.specs.Bounds.{CountsRows};
+ghost use Rattle.rs_field.specs.Bounds.{CountsProducts, CountsRows, LocatorCounts};
+ghost use Rattle.rs_field.specs.Locator.{IsLocator};
+ghost use Rattle.rs_field.specs.Tables.{IsLogWalsh};
 
+use super::fwht::fwht;
 use super::pairs::{PairStep, step_pairs};
-use super::{ShardsRefMut, Steps};
+use super::tables::{LogWalsh, add_mod};
+use super::{GF_ORDER, GfElement, ShardsRefMut, Steps};
 
 fn xor_chunk(x: &mut [u8; 64], y: &[u8; 64])
     ensures bytes { (i : ℕ) → i < 64 → slice_index x.new i ≡ bit_xor (slice_index x.old i) (slice_index y.now i) }
@@ -56,4 +60,51 @@ pub fn xor_within(steps: &mut Steps, data: &mut ShardsRefMut<'_>, x: usize, y: u
     ensures counts { CountsRows count steps.old steps.new }
 {
     step_pairs(&Sum, steps, data, x, y, count);
+}
+
+// The product modulo 65535, where 0 and 65535 both stand for zero.
+#[inline(always)]
+fn product_step(steps: &mut Steps, x: GfElement, y: GfElement) -> GfElement
+    ensures product { result % 65535 ≡ x * y % 65535 }
+    ensures counts { CountsProducts 1 steps.old steps.new }
+{
+    steps.product();
+    let product = u32::from(x) * u32::from(y);
+    add_mod((product & 0xFFFF) as u16, (product >> 16) as u16)
+}
+
+// Each entry becomes its product with the factor at the same place.
+fn products(steps: &mut Steps, entries: &mut [GfElement], factors: &[GfElement])
+    requires { length entries.old ≡ length factors.now }
+    ensures products { (i : ℕ) → i < length entries.old → slice_index entries.new i % 65535 ≡ slice_index entries.old i * slice_index factors.now i % 65535 }
+    ensures counts { CountsProducts (length entries.old) steps.old steps.new }
+{
+    for i in 0..entries.len() {
+        entries[i] = product_step(steps, entries[i], factors[i]);
+    }
+}
+
+/// The locator of the marked points, at all points at once: entry x becomes, modulo 65535, the sum over all points y
+/// other than x of entry y times the logarithm of `x XOR y`.
+///
+/// There are 65536 entries, and those from `truncated_size` on are 0; `log_walsh` is the table of `get_log_walsh`. Of a
+/// new entry the residue alone is fixed: 0 and 65535 both stand for zero. Where the old entries are 0 or 1, the new one
+/// is the logarithm of the locator's value at a point whose entry was 0, and of its derivative's where that was 1. The
+/// method is that of Lin, Chung and Han in the form of Leopard-RS: two Walsh-Hadamard transforms and the products
+/// between them. No row step is counted, and at most 1048576 pair sums and 65536 products.
+pub fn eval_poly(
+    steps: &mut Steps,
+    erasures: &mut [GfElement],
+    truncated_size: usize,
+    log_walsh: LogWalsh<'_>,
+)
+    requires size { length erasures.old ≡ 65536 }
+    requires tail { (y : ℕ) → truncated_size ≤ y → y < 65536 → slice_index erasures.old y ≡ 0 }
+    requires table { IsLogWalsh log_walsh.now }
+    ensures values { IsLocator (λ y. slice_index erasures.old y) (λ x. slice_index erasures.new x) }
+    ensures counts { LocatorCounts steps.old steps.new }
+{
+    fwht(steps, erasures, truncated_size);
+    products(steps, erasures, log_walsh);
+    fwht(steps, erasures, GF_ORDER);
 }

@@ -1,0 +1,24 @@
+-- The Walsh-Hadamard transform modulo 65535, where 65534 is minus one.
+use Rattle.std.specs.Prelude.{◌≡◌, ℕ, zero, suc, ◌+◌, ◌*◌, ◌%◌, ◌<◌, ◌==◌, if◌then◌else◌, bit_and, count_ones}
+use Rattle.rs_field.specs.Field.{log}
+
+-- the sum of g y over the numbers y below n
+unfoldable pub total : ℕ → (ℕ → ℕ) → ℕ
+total zero g = 0
+total (suc n) g = total n g + g n
+
+-- minus one where `w AND y` has an odd number of set bits, else one
+unfoldable pub sign : ℕ → ℕ → ℕ
+sign w y = if count_ones (bit_and w y) % 2 == 1 then 65534 else 1
+
+-- the sum of the values f y for y below n, each with that sign
+abbrev pub signed_sum : ℕ → (ℕ → ℕ) → ℕ → ℕ
+signed_sum n f w = total n (λ y. sign w y * f y)
+
+-- each of n values became, modulo 65535, the signed sum of all n old ones
+abbrev pub IsWalsh : ℕ → (ℕ → ℕ) → (ℕ → ℕ) → Type 0
+IsWalsh n old new = (w : ℕ) → w < n → new w % 65535 ≡ signed_sum n old w % 65535
+
+-- the logarithm of a word, and 0 at the word 0
+unfoldable pub log_or_zero : ℕ → ℕ
+log_or_zero z = if z == 0 then 0 else log z
