@@ -113,16 +113,6 @@ walsh-joined e n half old low high low_new high_new is h j =
 
 -- ---- counts
 
-pub nothing_counted : (n : ℕ) (a : Steps) → WalshCounts n a a
-nothing_counted n a = record {
-  row_steps_rise = omega arith;
-  pair_sums_rise = omega arith;
-  products_rise = omega arith;
-  row_steps_most = omega arith;
-  pair_sums_most = omega arith;
-  products_most = omega arith;
-}
-
 pub walsh-counts : (e n half : ℕ) (a b c d : Steps) → e < 16 → n ≡ 2 ^ suc e → half ≡ 2 ^ e
     → WalshCounts half a b → WalshCounts half b c → CountsPairs half c d → WalshCounts n a d
 walsh-counts e n half a b c d small is h p q (x, y, z) =

@@ -1,9 +1,8 @@
 -- The sum of logarithms that a locator is, point by point.
-use Rattle.std.proofs.Common.{◌≡◌, ℕ, suc, ◌+◌, ◌*◌, ◌%◌, ◌<◌, ◌≢◌, List, Bool, cond, eqb, bit_xor, refl, sym, ap, ◌∙◌, arith, add-zero, zero-mul, one-mul, ne_eqb, eq-eqb, inl, inr}
+use Rattle.std.proofs.Common.{◌≡◌, ℕ, suc, ◌+◌, ◌*◌, ◌%◌, ◌<◌, ◌≢◌, Bool, cond, eqb, bit_xor, refl, sym, ap, ◌∙◌, arith, add-zero, zero-mul, one-mul, ne_eqb, eq-eqb, inl, inr}
 use Rattle.std.proofs.lemmas.Bool.{cases_eq}
 use Rattle.rs_field.specs.Field.{log}
 use Rattle.rs_field.specs.Locator.{log_sum}
-use Rattle.rs_field.specs.Tables.{IsExpLog, IsLog}
 use Rattle.rs_field.proofs.Roots.{same_from_xor}
 
 pub log_sum-zero : (e : ℕ → ℕ) (x : ℕ) → log_sum 0 e x ≡ 0
@@ -43,7 +42,3 @@ one_more_term sum more before after term a b c = omega arith
 pub difference_pos : (x y : ℕ) → y ≢ x → 0 < bit_xor x y
 difference_pos x y differs =
     elim (cases_eq (bit_xor x y) 0) [ inl none ↦ absurd (differs (sym (same_from_xor x y none))) | inr some ↦ omega arith ]
-
--- the logarithms of both tables
-pub log_of_both : (exp_table log_table : List ℕ) → IsExpLog exp_table log_table → IsLog log_table
-log_of_both exp_table log_table h = record { log_length = h.log_length; log_entry = h.log_entry }

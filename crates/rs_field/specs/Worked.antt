@@ -81,9 +81,9 @@ EncoderRows =
     (encoder_rows low_rate 1 1 ≡ 1) × (encoder_rows low_rate 2 3 ≡ 4) × (encoder_rows low_rate 1024 4097 ≡ 5120) × (encoder_rows low_rate 1025 4097 ≡ 6144)
     × (encoder_rows high_rate 4097 1024 ≡ 5120) × (encoder_rows high_rate 4097 1025 ≡ 6144)
 
--- rows of chunks
-abbrev pub ChunkRows : Type 0
-ChunkRows =
+-- rows of a block
+abbrev pub BlockRows : Type 0
+BlockRows =
     (block_rows low_rate 1 1 ≡ 1) × (block_rows low_rate 2 3 ≡ 2) × (block_rows low_rate 1025 4097 ≡ 2048) × (block_rows high_rate 3 2 ≡ 2)
     × (block_rows high_rate 4097 1025 ≡ 2048) × (block_rows default_rate 4 3 ≡ 4) × (block_rows default_rate 5 3 ≡ 4)
 

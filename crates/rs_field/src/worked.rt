@@ -1,7 +1,7 @@
 //! Worked rows: what the definitions say at small numbers, as contracts of functions that do nothing.
 ghost use Rattle.rs_field.specs.Counts.{low_rate, high_rate, default_rate};
 ghost use Rattle.rs_field.specs.Worked.{Products, ColumnsOfShards, Powers, Supported, Unsupported, OfOneRate, Choices};
-ghost use Rattle.rs_field.specs.Worked.{Validated, Spaces, ChunkRows, EncoderRows, DecoderRows, TransformOfTwo, StepBounds};
+ghost use Rattle.rs_field.specs.Worked.{Validated, Spaces, BlockRows, EncoderRows, DecoderRows, TransformOfTwo, StepBounds};
 ghost use Rattle.rs_field.specs.WorkedCode.{ConstantRow, LineRow, ShortLineRow, CubicRow, PaddedRow, TailRow, ChunkAndTailRow, SumRow, HighLineRow, HighCubicRow, HighPaddedRow, RestoredRow, MixtureRow, SurplusRow};
 ghost use Rattle.rs_field.specs.WorkedCalls.{EncodeOrder, DecodeOrder, NoRecoveryOrder, EncoderRound, DecoderRound, LargestIndex, MemoryOrder};
 
@@ -23,7 +23,7 @@ pub fn counts()
 
 /// How many rows encoders and decoders have, and which spaces are too large.
 pub fn spaces()
-    ensures chunks { ChunkRows }
+    ensures blocks { BlockRows }
     ensures encoders { EncoderRows }
     ensures decoders { DecoderRows }
     ensures spaces { Spaces }

@@ -110,9 +110,6 @@ low_rows-enough k r is =
     let enough : r ≤ rounded_up r m = omega arith in
     omega (arith, enough, rounded_up-low k r)
 
-pub low_rows-positive : (k r : ℕ) → supports low_rate k r ≡ true → 0 < encoder_rows low_rate k r
-low_rows-positive k r is = let fits = low_fits k r is in let enough = low_rows-enough k r is in omega arith
-
 -- a multiple of a power of two m that is below 65536 leaves room for m
 pub multiple_room : (n d m : ℕ) → d ≤ 16 → m ≡ 2 ^ d → n % m ≡ 0 → n < 65536 → n + m ≤ 65536
 multiple_room n d m few power multiple below =

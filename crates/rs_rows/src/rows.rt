@@ -59,7 +59,7 @@ pub const LINE_SECOND: Message<'static> = Message {
     recovery: &[&[0, 2, 0, 0], &[0, 3, 0, 0], &[0, 4, 0, 0]],
 };
 
-/// The low rate's chunk of four rows, of which the originals fill three.
+/// The low rate's block of four rows, of which the originals fill three.
 pub const THREE_OF_FOUR: Message<'static> = Message {
     original: &[&[0, 0], &[0, 0], &[1, 0]],
     recovery: &[&[10, 0], &[8, 0], &[12, 0], &[15, 0], &[8, 0]],
@@ -77,7 +77,7 @@ pub const FOUR_AND_FOUR: Message<'static> = Message {
     recovery: &[&[11, 0], &[9, 0], &[14, 0], &[13, 0]],
 };
 
-/// The high rate's two chunks of two rows, of which the originals fill three.
+/// The high rate's two blocks of two rows, of which the originals fill three.
 pub const THREE_IN_TWOS: Message<'static> = Message {
     original: &[&[2, 0], &[0, 0], &[4, 0]],
     recovery: &[&[3, 0], &[5, 0]],

@@ -1,5 +1,5 @@
 //! The derivative of a polynomial whose coefficients in the subspace basis are rows.
-ghost use Rattle.std.specs.Prelude.{◌≡◌, ℕ, ◌+◌, ◌*◌, ◌^◌, ◌<◌, ◌≤◌};
+ghost use Rattle.std.specs.Prelude.{◌≡◌, ℕ, ◌+◌, ◌^◌, ◌<◌, ◌≤◌};
 ghost use Rattle.rs_field.specs.View.{word, Fits, SameShape, SameRowsOutside};
 ghost use Rattle.rs_field.specs.Derivative.{IsDerivativeAdded};
 ghost use Rattle.rs_field.specs.Bounds.{TransformCounts};

@@ -1,5 +1,5 @@
 //! The plain engine: each product by the tables of powers and logarithms, symbol by symbol.
-ghost use Rattle.std.specs.Prelude.{◌≡◌, ℕ, ◌+◌, ◌*◌, ◌<◌, ◌≤◌, ◌≢◌, ◌⊎◌, length, bit_xor};
+ghost use Rattle.std.specs.Prelude.{◌≡◌, ℕ, ◌<◌, ◌≤◌, ◌≢◌, ◌⊎◌, length, bit_xor};
 ghost use Rattle.rs_field.specs.Field.{product, power};
 ghost use Rattle.rs_field.specs.Tables.{IsExpLog, scaled};
 ghost use Rattle.rs_field.specs.Rows.{chunk, symbol};

@@ -1,5 +1,5 @@
 //! One passage over pairs of rows, around a step on two rows: the butterflies of the transforms and the sums of rows.
-ghost use Rattle.std.specs.Prelude.{◌≡◌, ℕ, ◌+◌, ◌*◌, ◌<◌, ◌≤◌, ◌≢◌, ◌⊎◌, length};
+ghost use Rattle.std.specs.Prelude.{◌≡◌, ℕ, ◌+◌, ◌<◌, ◌≤◌, ◌≢◌, ◌⊎◌, length};
 ghost use Rattle.rs_field.specs.Rows.{chunk, SameOutsideTwo};
 ghost use Rattle.rs_field.specs.View.{cell, Fits, SameShape, SameRowsOutsideTwo};
 ghost use Rattle.rs_field.specs.Pairs.{OnChunks};

@@ -1,5 +1,5 @@
 //! Row functions that count their steps: clearing, copying and products.
-ghost use Rattle.std.specs.Prelude.{◌≡◌, ℕ, ◌+◌, ◌-◌, ◌<◌, ◌≤◌, ◌≢◌, length};
+ghost use Rattle.std.specs.Prelude.{◌≡◌, ℕ, ◌+◌, ◌-◌, ◌<◌, ◌≤◌, length};
 ghost use Rattle.rs_field.specs.Field.{product, power};
 ghost use Rattle.rs_field.specs.Rows.{chunk, symbol, SameOutside};
 ghost use Rattle.rs_field.specs.View.{cell, word, Fits, SameShape, SameRowsOutside, AreZero};

@@ -2,7 +2,7 @@
 ghost use Rattle.std.specs.Prelude.{◌≡◌, ℕ, ◌+◌, ◌*◌, ◌<◌, ◌≤◌, length, take, drop, replicate};
 ghost use Rattle.std.specs.Borrow.{sem};
 ghost use Rattle.rs_field.specs.Rows.{chunk, SameOutside};
-ghost use Rattle.rs_field.specs.View.{cell, row_at, Fits, SameShape, SameRowsOutside, AreZero};
+ghost use Rattle.rs_field.specs.View.{row_at, Fits, SameShape, SameRowsOutside, AreZero};
 ghost use Rattle.rs_field.specs.Lending.{LendsAll, LendsPart, LendsRow, LendsTwoParts, LendsTwoRows, with_part};
 
 use std::cell::UnsafeCell;

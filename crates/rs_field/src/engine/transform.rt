@@ -3,7 +3,7 @@
 //! The method is that of Lin, Chung and Han in the form of Leopard-RS. A transform of `size` rows is one loop of
 //! butterflies between its two halves and a transform of each half, so the recursion goes depth first and a block
 //! that fits the cache stays in it.
-ghost use Rattle.std.specs.Prelude.{◌≡◌, ℕ, ◌+◌, ◌*◌, ◌%◌, ◌^◌, ◌<◌, ◌≤◌, ◌≢◌, ◌⊎◌, length, slice_index, bit_xor};
+ghost use Rattle.std.specs.Prelude.{◌≡◌, ℕ, ◌+◌, ◌%◌, ◌^◌, ◌<◌, ◌≤◌, length, slice_index, bit_xor};
 ghost use Rattle.rs_field.specs.Transform.{forward};
 ghost use Rattle.rs_field.specs.Tables.{IsSkew, scaled};
 ghost use Rattle.rs_field.specs.Rows.{chunk, symbol};
