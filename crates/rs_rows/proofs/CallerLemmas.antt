@@ -1,5 +1,5 @@
 -- What an encoder's configuration is known to be.
-use Rattle.std.proofs.Common.{◌≡◌, ℕ, ◌+◌, ◌<◌, Bool, true, false, min, max, refl, Ok}
+use Rattle.std.proofs.Common.{◌≡◌, ℕ, ◌+◌, ◌<◌, true, min, max, Ok}
 use Rattle.std.specs.Prelude.{nat_le, nat_lt, ◌&&◌}
 use Rattle.std.proofs.lemmas.Bool.{and_parts, ltb-true}
 use Rattle.reed_solomon_simd.specs.Counts.{Rate, low_rate, high_rate, default_rate, next_power, supports}

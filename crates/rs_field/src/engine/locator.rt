@@ -12,7 +12,7 @@ use super::{GF_ORDER, GfElement};
 /// result 65535 stands for zero too. `erasures` has an entry for each of the 65536 points, 0 or 1; `log` is the table
 /// of logarithms. At a point that is not erased this is the logarithm of the locator's value, at an erased one that of
 /// its derivative. The method is that of Lin, Chung and Han in the form of Leopard-RS. The sum is made term by term,
-/// 65536 of them; a transform that makes it at all points at once can take its place under the same contract.
+/// 65536 of them; `utils::eval_poly` makes it at all points at once.
 pub fn locator_at(erasures: &[GfElement], x: usize, log: Log<'_>) -> GfElement
     requires size { length erasures.now ≡ 65536 }
     requires marks { (y : ℕ) → y < 65536 → slice_index erasures.now y ≤ 1 }
