@@ -25,6 +25,7 @@ pub mod Symbols
 pub mod Combination
 pub mod Factors
 pub mod Halves
+pub mod Padding
 pub mod Coefficients
 pub mod TopBlock
 pub mod Counting
@@ -39,3 +40,18 @@ pub mod Signs
 pub mod Halving
 pub mod Convolution
 pub mod Restored
+pub mod Division
+pub mod ZerosPast
+pub mod Frame
+pub mod RateFrames
+pub mod ErasedCount
+pub mod Erasures
+pub mod ExactCheck
+pub mod DecodedColumn
+pub mod Determined
+pub mod Interpolation
+pub mod CodedWords
+pub mod MadeShards
+pub mod EqualPowers
+pub mod AgreeingMessages
+pub mod Agreement
