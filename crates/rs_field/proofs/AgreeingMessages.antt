@@ -23,7 +23,8 @@ pub record HasWords (p : Placement) (originals recovery : Shards) (j : ℕ) (wor
   pub own : (i : ℕ) (shard : Shard) → originals i ≡ Some shard → words (p.originals_from + i) ≡ column j shard
   pub coded : (i : ℕ) (shard : Shard) → recovery i ≡ Some shard → words (p.recovery_from + i) ≡ column j shard
 
-some_of : (o : Option Shard) → is_some o ≡ true → (shard : Shard) × (o ≡ Some shard)
+-- the shard of an entry that has one
+pub some_of : (o : Option Shard) → is_some o ≡ true → (shard : Shard) × (o ≡ Some shard)
 some_of (Some s) h = (s, refl)
 some_of None h = absurd (let no : ⊥ = cc in no)
 

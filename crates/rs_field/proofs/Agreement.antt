@@ -1,7 +1,9 @@
 -- A decode column by column: whether some message agrees, and what is restored.
-use Rattle.std.proofs.Common.{◌≡◌, ℕ, ◌+◌, ◌-◌, ◌/◌, ◌%◌, ◌^◌, ◌<◌, ◌≤◌, List, length, ◌∙◌, arith}
-use Rattle.std.specs.Prelude.{◌↔◌}
+use Rattle.std.proofs.Common.{◌≡◌, ℕ, ◌+◌, ◌-◌, ◌/◌, ◌%◌, ◌^◌, ◌<◌, ◌≤◌, List, length, sym, ap, ◌∙◌, arith}
+use Rattle.std.specs.Prelude.{◌↔◌, true, slice_index}
 use Rattle.rs_field.specs.Field.{product, power}
+use Rattle.rs_field.specs.Polynomial.{value}
+use Rattle.rs_field.specs.Counts.{supports}
 use Rattle.rs_field.specs.Transform.{forward}
 use Rattle.rs_field.specs.Locator.{log_sum}
 use Rattle.rs_field.specs.Derivative.{IsDerivativeAdded}
@@ -9,11 +11,11 @@ use Rattle.rs_field.specs.Column.{Shard, shard_at, column, columns}
 use Rattle.rs_field.specs.Placement.{placement}
 use Rattle.rs_field.specs.Configuration.{Configuration}
 use Rattle.rs_field.specs.Given.{Shards, count_below, Agrees, Consistent}
-use Rattle.rs_field.specs.Code.{Codes}
-use Rattle.rs_field.proofs.Columns.{columns-at}
-use Rattle.rs_field.proofs.DecodedColumn.{TakesGiven}
-use Rattle.rs_field.proofs.DecodedColumn.{IsColumnOf, surplus_rows, some_message, restored_word}
-use Rattle.rs_field.proofs.AgreeingMessages.{AreSized, HasWords, IsTaken, column_taken, consistent}
+use Rattle.rs_field.specs.Code.{Codes, AreRecoveryWords}
+use Rattle.rs_field.proofs.Columns.{columns-at, shards_from_columns}
+use Rattle.rs_field.proofs.Determined.{determined}
+use Rattle.rs_field.proofs.DecodedColumn.{TakesGiven, IsColumnOf, surplus_rows, some_message, restored_word}
+use Rattle.rs_field.proofs.AgreeingMessages.{some_of, AreSized, HasWords, IsTaken, column_taken, consistent}
 
 -- The columns of a decode: shards given of one even size, in each column the words at their places, and the rows.
 pub record AreColumns (c : Configuration) (originals recovery : Shards) (e bound zeros_end : ℕ) (marks : ℕ → ℕ) (words located rows : ℕ → ℕ → ℕ) : Type 0 where
@@ -74,3 +76,26 @@ restored_column c originals recovery e bound zeros_end marks words located rows 
         restored_word c.rate c.original_count c.recovery_count e bound zeros_end originals recovery marks (words j) (located j) (rows j) added (columns j message) p rows_of enough codes takes step
         ((placement c.rate c.original_count c.recovery_count).originals_from + i) l (omega arith) one hl same
         ∙ codes.originals i hi ∙ columns-at j message i
+
+-- With at least k shards given one message at most agrees.
+pub one_message : (c : Configuration) (originals recovery : Shards) (one other : List Shard) → supports c.rate c.original_count c.recovery_count ≡ true → c.shard_bytes % 2 ≡ 0
+    → c.original_count ≤ count_below c.original_count originals + count_below c.recovery_count recovery
+    → Agrees c originals recovery one → Agrees c originals recovery other → one ≡ other
+one_message c originals recovery one other is even enough a b =
+    shards_from_columns c.original_count c.shard_bytes one other a.shards b.shards even (λ i j hi hj. in_column j i hi (a.coded.1.words j hj) (b.coded.1.words j hj))
+  where
+    in_column : (j i : ℕ) → i < c.original_count → AreRecoveryWords c.rate c.original_count c.recovery_count (columns j one) (columns j a.coded.0)
+        → AreRecoveryWords c.rate c.original_count c.recovery_count (columns j other) (columns j b.coded.0) → slice_index (columns j one) i ≡ slice_index (columns j other) i
+    in_column j i hi (p, codes_p, at_p) (o, codes_o, at_o) =
+        let takes : TakesGiven (placement c.rate c.original_count c.recovery_count) c.original_count c.recovery_count originals recovery (value p) o = record {
+          own = λ n hn some.
+              let s = some_of (originals n) some in
+              codes_o.originals n hn ∙ columns-at j other n ∙ ap (column j) (b.own n s.0 s.1 ∙ sym (a.own n s.0 s.1)) ∙ sym (columns-at j one n) ∙ sym (codes_p.originals n hn);
+          coded = λ n hn some.
+              let s = some_of (recovery n) some in
+              sym (at_o n hn) ∙ columns-at j b.coded.0 n ∙ ap (column j) (b.coded.2 n s.0 s.1 ∙ sym (a.coded.2 n s.0 s.1)) ∙ sym (columns-at j a.coded.0 n) ∙ at_p n hn;
+        } in
+        sym (codes_p.originals i hi)
+        ∙ ap (λ (q : List ℕ). value q ((placement c.rate c.original_count c.recovery_count).originals_from + i))
+        (determined c.rate c.original_count c.recovery_count originals recovery (columns j one) (columns j other) p o is enough codes_p codes_o takes)
+        ∙ codes_o.originals i hi

@@ -108,3 +108,12 @@ pub columns_lt : (n size : ℕ) (shards : List Shard) → AreShards n size shard
 columns_lt n size shards h j i hi =
     subst (λ (v : ℕ). v < 65536) (sym (columns-at j shards i))
     (column_lt size (shard_at shards i) j (h.each i [] (subst (λ (k : ℕ). i < k) (sym h.length_is) hi)))
+
+-- lists of so many shards of one even size with the same columns are equal
+pub shards_from_columns : (count size : ℕ) (a b : List Shard) → AreShards count size a → AreShards count size b → size % 2 ≡ 0
+    → ((i j : ℕ) → i < count → j < size / 2 → slice_index (columns j a) i ≡ slice_index (columns j b) i) → a ≡ b
+shards_from_columns count size a b ha hb even same =
+    ext_get_or [] a b (ha.length_is ∙ sym hb.length_is) (λ i h.
+    let below : i < count = subst (λ (n : ℕ). i < n) ha.length_is h in
+    shard_from_columns size (shard_at a i) (shard_at b i) (ha.each i [] h) (hb.each i [] (subst (λ (n : ℕ). i < n) (sym hb.length_is) below)) even
+    (λ j hj. sym (columns-at j a i) ∙ same i j below hj ∙ columns-at j b i))

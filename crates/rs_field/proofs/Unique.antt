@@ -1,10 +1,9 @@
 -- A message has one list of recovery shards at most.
-use Rattle.std.proofs.Common.{◌≡◌, ℕ, ◌+◌, ◌-◌, ◌%◌, ◌^◌, ◌<◌, ◌≤◌, List, [], true, false, cond, length, refl, sym, ap, ◌∙◌, subst, arith, ◌⊎◌, inl, inr, pow_mono}
+use Rattle.std.proofs.Common.{◌≡◌, ℕ, ◌+◌, ◌-◌, ◌%◌, ◌^◌, ◌<◌, ◌≤◌, List, true, false, cond, refl, sym, ap, ◌∙◌, arith, ◌⊎◌, inl, inr, pow_mono}
 use Rattle.std.specs.Prelude.{slice_index}
 use Rattle.std.proofs.lemmas.Bool.{cases_lt}
-use Rattle.std.proofs.lemmas.List.{ext_get_or}
 use Rattle.rs_field.specs.Polynomial.{value}
-use Rattle.rs_field.specs.Column.{Shard, shard_at, columns}
+use Rattle.rs_field.specs.Column.{Shard, columns}
 use Rattle.rs_field.specs.Counts.{Rate, next_power, is_low}
 use Rattle.rs_field.specs.Placement.{Placement, placement, low_placement, high_placement}
 use Rattle.rs_field.specs.Configuration.{Configuration}
@@ -12,7 +11,7 @@ use Rattle.rs_field.specs.Code.{Codes, AreRecoveryWords, AreRecovery}
 use Rattle.rs_field.proofs.NextPower.{next_power-small}
 use Rattle.rs_field.proofs.Roots.{words_from}
 use Rattle.rs_field.proofs.Values.{same_from_values}
-use Rattle.rs_field.proofs.Columns.{shard_from_columns, columns-at}
+use Rattle.rs_field.proofs.Columns.{shards_from_columns}
 
 -- each placement is that of the low rate or that of the high rate
 low_or_high : (rate : Rate) (k r : ℕ) → (placement rate k r ≡ low_placement k) ⊎ (placement rate k r ≡ high_placement k r)
@@ -59,12 +58,11 @@ codes_unique rate k r words P Q most p q =
 -- two lists of recovery shards of one message are equal
 pub recovery_unique : (c : Configuration) (message a b : List Shard) → c.original_count ≤ 65536 → c.shard_bytes % 2 ≡ 0 → AreRecovery c message a → AreRecovery c message b → a ≡ b
 recovery_unique c message a b most even ha hb =
-    ext_get_or [] a b (ha.shards.length_is ∙ sym hb.shards.length_is) (λ i h.
-    let below : i < c.recovery_count = subst (λ (n : ℕ). i < n) ha.shards.length_is h in
-    let other : i < length b = subst (λ (n : ℕ). i < n) (sym hb.shards.length_is) below in
-    shard_from_columns c.shard_bytes (shard_at a i) (shard_at b i) (ha.shards.each i [] h) (hb.shards.each i [] other) even
-    (λ j hj.
-    let wa : AreRecoveryWords c.rate c.original_count c.recovery_count (columns j message) (columns j a) = ha.words j hj in
-    let wb : AreRecoveryWords c.rate c.original_count c.recovery_count (columns j message) (columns j b) = hb.words j hj in
-    let same : wa.0 ≡ wb.0 = codes_unique c.rate c.original_count c.recovery_count (columns j message) (wa.0) (wb.0) most (wa.1) (wb.1) in
-    sym (columns-at j a i) ∙ wa.2 i below ∙ ap (λ p. value p ((placement c.rate c.original_count c.recovery_count).recovery_from + i)) same ∙ sym (wb.2 i below) ∙ columns-at j b i))
+    shards_from_columns c.recovery_count c.shard_bytes a b ha.shards hb.shards even (λ i j below hj. in_column j i below (ha.words j hj) (hb.words j hj))
+  where
+    in_column : (j i : ℕ) → i < c.recovery_count → AreRecoveryWords c.rate c.original_count c.recovery_count (columns j message) (columns j a)
+        → AreRecoveryWords c.rate c.original_count c.recovery_count (columns j message) (columns j b) → slice_index (columns j a) i ≡ slice_index (columns j b) i
+    in_column j i below (p, codes_p, at_p) (o, codes_o, at_o) =
+        at_p i below
+        ∙ ap (λ (q : List ℕ). value q ((placement c.rate c.original_count c.recovery_count).recovery_from + i)) (codes_unique c.rate c.original_count c.recovery_count (columns j message) p o most codes_p codes_o)
+        ∙ sym (at_o i below)
