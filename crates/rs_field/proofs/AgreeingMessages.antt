@@ -1,6 +1,6 @@
 -- Messages that agree with given shards, column by column.
-use Rattle.std.proofs.Common.{◌≡◌, ℕ, zero, suc, ◌+◌, ◌/◌, ◌%◌, ◌<◌, Bool, true, cond, eqb, List, [], refl, sym, ap, ◌∙◌, subst, arith, inl, inr, eq-eqb, ne_eqb}
-use Rattle.std.specs.Prelude.{slice_index, Option, Some, None, is_some}
+use Rattle.std.proofs.Common.{◌≡◌, ℕ, zero, suc, ◌+◌, ◌/◌, ◌%◌, ◌<◌, Bool, cond, eqb, List, [], sym, ap, ◌∙◌, subst, arith, inl, inr, eq-eqb, ne_eqb}
+use Rattle.std.specs.Prelude.{slice_index, Some, is_some}
 use Rattle.std.proofs.lemmas.Bool.{cases_eq}
 use Rattle.std.proofs.Math.Nat.{mod-eq_of_lt}
 use Rattle.rs_field.specs.Polynomial.{value}
@@ -10,6 +10,7 @@ use Rattle.rs_field.specs.Configuration.{Configuration}
 use Rattle.rs_field.specs.Given.{Shards, Agrees, Consistent}
 use Rattle.rs_field.specs.Code.{Codes, AreRecoveryWords}
 use Rattle.rs_field.proofs.Roots.{value_lt, words_from}
+use Rattle.rs_field.proofs.Given.{some_of}
 use Rattle.rs_field.proofs.Columns.{columns-at, shard_from_columns}
 use Rattle.rs_field.proofs.DecodedColumn.{TakesGiven}
 use Rattle.rs_field.proofs.MadeShards.{shards_of}
@@ -22,11 +23,6 @@ pub record AreSized (count size : ℕ) (given : Shards) : Type 0 where
 pub record HasWords (p : Placement) (originals recovery : Shards) (j : ℕ) (words : ℕ → ℕ) : Type 0 where
   pub own : (i : ℕ) (shard : Shard) → originals i ≡ Some shard → words (p.originals_from + i) ≡ column j shard
   pub coded : (i : ℕ) (shard : Shard) → recovery i ≡ Some shard → words (p.recovery_from + i) ≡ column j shard
-
--- the shard of an entry that has one
-pub some_of : (o : Option Shard) → is_some o ≡ true → (shard : Shard) × (o ≡ Some shard)
-some_of (Some s) h = (s, refl)
-some_of None h = absurd (let no : ⊥ = cc in no)
 
 -- the polynomial of each column of a message that agrees takes the words given
 pub column_taken : (c : Configuration) (originals recovery : Shards) (message : List Shard) (j : ℕ) (words : ℕ → ℕ) → j < c.shard_bytes / 2

@@ -13,9 +13,10 @@ use Rattle.rs_field.specs.Configuration.{Configuration}
 use Rattle.rs_field.specs.Given.{Shards, count_below, Agrees, Consistent}
 use Rattle.rs_field.specs.Code.{Codes, AreRecoveryWords}
 use Rattle.rs_field.proofs.Columns.{columns-at, shards_from_columns}
+use Rattle.rs_field.proofs.Given.{some_of}
 use Rattle.rs_field.proofs.Determined.{determined}
 use Rattle.rs_field.proofs.DecodedColumn.{TakesGiven, IsColumnOf, surplus_rows, some_message, restored_word}
-use Rattle.rs_field.proofs.AgreeingMessages.{some_of, AreSized, HasWords, IsTaken, column_taken, consistent}
+use Rattle.rs_field.proofs.AgreeingMessages.{AreSized, HasWords, IsTaken, column_taken, consistent}
 
 -- The columns of a decode: shards given of one even size, in each column the words at their places, and the rows.
 pub record AreColumns (c : Configuration) (originals recovery : Shards) (e bound zeros_end : ℕ) (marks : ℕ → ℕ) (words located rows : ℕ → ℕ → ℕ) : Type 0 where

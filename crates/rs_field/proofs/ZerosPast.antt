@@ -36,14 +36,20 @@ root_there a (suc n) p i hi =
     ]
 
 -- below 2 ^ e the roots at all points from there on change nothing
-same_below : (e x : ℕ) (q : List ℕ) → e ≤ 16 → x < 2 ^ e → WordsOneByOne q → value (times (points (2 ^ e) (65536 - 2 ^ e)) q) x ≡ value q x
-same_below e x q he hx words =
+pub value-inside : (e : ℕ) (q : List ℕ) → e ≤ 16 → WordsOneByOne q → (x : ℕ) → x < 2 ^ e → value (times (points (2 ^ e) (65536 - 2 ^ e)) q) x ≡ value q x
+value-inside e q he words x hx =
     value-times (2 ^ e) (65536 - 2 ^ e) q words x
     ∙ ap (λ k. product k (value q x)) (outside e x he hx) ∙ one_product (value q x) (value_lt q x words)
 
+-- at a point from 2 ^ e on it is zero
+pub zero_outside : (e : ℕ) (q : List ℕ) (x : ℕ) → 2 ^ e ≤ x → x < 65536 → value (times (points (2 ^ e) (65536 - 2 ^ e)) q) x ≡ 0
+zero_outside e q x above below =
+    let back : x ≡ 2 ^ e + (x - 2 ^ e) = omega arith in
+    ap (value (times (points (2 ^ e) (65536 - 2 ^ e)) q)) back ∙ root_there (2 ^ e) (65536 - 2 ^ e) q (x - 2 ^ e) (omega arith)
+
 divided_out : (e b : ℕ) (p : List ℕ) → e ≤ 16 → (q : List ℕ) × (length q ≡ b) × WordsOneByOne q × ((x : ℕ) → value p x ≡ value (times (points (2 ^ e) (65536 - 2 ^ e)) q) x)
     → (q : List ℕ) × (length q ≡ b) × WordsOneByOne q × ((x : ℕ) → x < 2 ^ e → value q x ≡ value p x)
-divided_out e b p he (q, size, words, at) = (q, size, words, λ x hx. sym (at x ∙ same_below e x q he hx words))
+divided_out e b p he (q, size, words, at) = (q, size, words, λ x hx. sym (at x ∙ value-inside e q he words x hx))
 
 -- a polynomial that is zero at each point from 2 ^ e on has the values of one of as many fewer coefficients below 2 ^ e
 pub narrowed : (e b : ℕ) (p : List ℕ) → e ≤ 16 → length p ≡ b + (65536 - 2 ^ e) → WordsOneByOne p → ((x : ℕ) → 2 ^ e ≤ x → x < 65536 → value p x ≡ 0)
@@ -60,13 +66,10 @@ narrowed e b p he size words none =
 -- and back
 pub widened : (e b : ℕ) (q : List ℕ) → e ≤ 16 → length q ≡ b → WordsOneByOne q
     → (p : List ℕ) × (length p ≡ b + (65536 - 2 ^ e)) × WordsOneByOne p × ((x : ℕ) → x < 2 ^ e → value p x ≡ value q x) × ((x : ℕ) → 2 ^ e ≤ x → x < 65536 → value p x ≡ 0)
-widened e b q he size words =
-    let n : ℕ = 65536 - 2 ^ e in (
-      times (points (2 ^ e) (65536 - 2 ^ e)) q,
-      length-times (2 ^ e) (65536 - 2 ^ e) q ∙ omega arith,
-      words_times (points (2 ^ e) (65536 - 2 ^ e)) q words,
-      λ x hx. same_below e x q he hx words,
-      λ x above below.
-          let back : x ≡ 2 ^ e + (x - 2 ^ e) = omega arith in
-          ap (value (times (points (2 ^ e) (65536 - 2 ^ e)) q)) back ∙ root_there (2 ^ e) (65536 - 2 ^ e) q (x - 2 ^ e) (omega arith),
-    )
+widened e b q he size words = (
+  times (points (2 ^ e) (65536 - 2 ^ e)) q,
+  length-times (2 ^ e) (65536 - 2 ^ e) q ∙ omega arith,
+  words_times (points (2 ^ e) (65536 - 2 ^ e)) q words,
+  value-inside e q he words,
+  zero_outside e q,
+)
