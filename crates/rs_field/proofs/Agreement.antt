@@ -1,8 +1,7 @@
 -- A decode column by column: whether some message agrees, and what is restored.
-use Rattle.std.proofs.Common.{◌≡◌, ℕ, ◌+◌, ◌-◌, ◌/◌, ◌%◌, ◌^◌, ◌<◌, ◌≤◌, List, length, sym, ap, ◌∙◌, arith}
-use Rattle.std.specs.Prelude.{◌↔◌, true, slice_index}
+use Rattle.std.proofs.Common.{◌≡◌, ℕ, ◌+◌, ◌-◌, ◌/◌, ◌%◌, ◌^◌, ◌<◌, ◌≤◌, List, length, sym, ◌∙◌, arith}
+use Rattle.std.specs.Prelude.{◌↔◌, true, is_some}
 use Rattle.rs_field.specs.Field.{product, power}
-use Rattle.rs_field.specs.Polynomial.{value}
 use Rattle.rs_field.specs.Counts.{supports}
 use Rattle.rs_field.specs.Transform.{forward}
 use Rattle.rs_field.specs.Locator.{log_sum}
@@ -11,10 +10,11 @@ use Rattle.rs_field.specs.Column.{Shard, shard_at, column, columns}
 use Rattle.rs_field.specs.Placement.{placement}
 use Rattle.rs_field.specs.Configuration.{Configuration}
 use Rattle.rs_field.specs.Given.{Shards, count_below, Agrees, Consistent}
-use Rattle.rs_field.specs.Code.{Codes, AreRecoveryWords}
-use Rattle.rs_field.proofs.Columns.{columns-at, shards_from_columns}
+use Rattle.rs_field.specs.Code.{Codes}
+use Rattle.rs_field.proofs.Columns.{columns-at}
 use Rattle.rs_field.proofs.Given.{some_of}
-use Rattle.rs_field.proofs.Determined.{determined}
+use Rattle.rs_field.proofs.Places.{fixed_by_places, places_given, by_place, count-by_place, codeword_given}
+use Rattle.rs_field.specs.CodeLaws.{ArePlaces}
 use Rattle.rs_field.proofs.DecodedColumn.{TakesGiven, IsColumnOf, surplus_rows, some_message, restored_word}
 use Rattle.rs_field.proofs.AgreeingMessages.{AreSized, HasWords, IsTaken, column_taken, consistent}
 
@@ -82,21 +82,15 @@ restored_column c originals recovery e bound zeros_end marks words located rows 
 pub one_message : (c : Configuration) (originals recovery : Shards) (one other : List Shard) → supports c.rate c.original_count c.recovery_count ≡ true → c.shard_bytes % 2 ≡ 0
     → c.original_count ≤ count_below c.original_count originals + count_below c.recovery_count recovery
     → Agrees c originals recovery one → Agrees c originals recovery other → one ≡ other
-one_message c originals recovery one other is even enough a b =
-    shards_from_columns c.original_count c.shard_bytes one other a.shards b.shards even (λ i j hi hj. in_column j i hi (a.coded.1.words j hj) (b.coded.1.words j hj))
+one_message c originals recovery one other is even enough a b = by_places (places_given (c.original_count + c.recovery_count) (by_place c.original_count originals recovery))
   where
-    in_column : (j i : ℕ) → i < c.original_count → AreRecoveryWords c.rate c.original_count c.recovery_count (columns j one) (columns j a.coded.0)
-        → AreRecoveryWords c.rate c.original_count c.recovery_count (columns j other) (columns j b.coded.0) → slice_index (columns j one) i ≡ slice_index (columns j other) i
-    in_column j i hi (p, codes_p, at_p) (o, codes_o, at_o) =
-        let takes : TakesGiven (placement c.rate c.original_count c.recovery_count) c.original_count c.recovery_count originals recovery (value p) o = record {
-          own = λ n hn some.
-              let s = some_of (originals n) some in
-              codes_o.originals n hn ∙ columns-at j other n ∙ ap (column j) (b.own n s.0 s.1 ∙ sym (a.own n s.0 s.1)) ∙ sym (columns-at j one n) ∙ sym (codes_p.originals n hn);
-          coded = λ n hn some.
-              let s = some_of (recovery n) some in
-              sym (at_o n hn) ∙ columns-at j b.coded.0 n ∙ ap (column j) (b.coded.2 n s.0 s.1 ∙ sym (a.coded.2 n s.0 s.1)) ∙ sym (columns-at j a.coded.0 n) ∙ at_p n hn;
-        } in
-        sym (codes_p.originals i hi)
-        ∙ ap (λ (q : List ℕ). value q ((placement c.rate c.original_count c.recovery_count).originals_from + i))
-        (determined c.rate c.original_count c.recovery_count originals recovery (columns j one) (columns j other) p o is enough codes_p codes_o takes)
-        ∙ codes_o.originals i hi
+    by_places : (place : ℕ → ℕ) × ArePlaces (count_below (c.original_count + c.recovery_count) (by_place c.original_count originals recovery)) (c.original_count + c.recovery_count) place
+        × ((i : ℕ) → i < count_below (c.original_count + c.recovery_count) (by_place c.original_count originals recovery) → is_some (by_place c.original_count originals recovery (place i)) ≡ true)
+        → one ≡ other
+    by_places (place, are, some) =
+        let count = count-by_place c.original_count c.recovery_count originals recovery in
+        fixed_by_places c one other a.coded.0 b.coded.0 place is even a.shards b.shards a.coded.1 b.coded.1
+        (record { below = λ i h. are.below i (omega arith); once = λ i j h k. are.once i j (omega arith) (omega arith) })
+        (λ i h.
+        let s = some_of (by_place c.original_count originals recovery (place i)) (some i (omega arith)) in
+        codeword_given c originals recovery one a (place i) s.0 s.1 ∙ sym (codeword_given c originals recovery other b (place i) s.0 s.1))

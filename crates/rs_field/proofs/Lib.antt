@@ -45,10 +45,9 @@ pub mod ZerosPast
 pub mod Frame
 pub mod RateFrames
 pub mod ErasedCount
-pub mod Erasures
 pub mod ExactCheck
 pub mod DecodedColumn
-pub mod Determined
+pub mod Places
 pub mod Interpolation
 pub mod CodedWords
 pub mod MadeShards
