@@ -1,11 +1,12 @@
 -- Any k words are coded by a polynomial, so they have recovery words.
-use Rattle.std.proofs.Common.{◌≡◌, ℕ, zero, suc, ◌+◌, ◌-◌, ◌^◌, ◌<◌, ◌≤◌, Bool, true, cond, List, [], ◌∷◌, length, refl, ap, ◌∙◌, arith, inl, inr, pow_mono}
+use Rattle.std.proofs.Common.{◌≡◌, ℕ, zero, suc, ◌+◌, ◌-◌, ◌^◌, ◌<◌, ◌≤◌, Bool, true, cond, List, [], ◌∷◌, length, refl, ap, ◌∙◌, arith, inl, inr, pow_mono, subst}
 use Rattle.std.specs.Prelude.{slice_index, nat_lt}
 use Rattle.std.proofs.lemmas.Bool.{cases_lt, lt-ltb, le-ltb}
 use Rattle.rs_field.specs.Polynomial.{value}
 use Rattle.rs_field.specs.Counts.{Rate, supports}
 use Rattle.rs_field.specs.Placement.{Placement, placement}
 use Rattle.rs_field.specs.Code.{Codes, AreRecoveryWords}
+use Rattle.rs_field.proofs.Roots.{value_lt, words_from}
 use Rattle.rs_field.proofs.Interpolation.{interpolated}
 use Rattle.rs_field.proofs.Frame.{IsFrame, CodesIn, unframed}
 use Rattle.rs_field.proofs.RateFrames.{has_frame}
@@ -57,6 +58,11 @@ coded rate k r words is are_words =
     let q = coded_in (placement rate k r) k r f.exponent f.bound f.zeros_end words f.frame are_words in
     let p = unframed rate k r f.exponent f.bound f.zeros_end words q.0 f.frame q.1 in
     (p.0, p.1)
+
+-- words that are coded are words
+pub coded_lt : (rate : Rate) (k r : ℕ) (words p : List ℕ) → Codes rate k r words p → (j : ℕ) → j < k → slice_index words j < 65536
+coded_lt rate k r words p codes j hj =
+    subst (λ (w : ℕ). w < 65536) (codes.originals j hj) (value_lt p ((placement rate k r).originals_from + j) (words_from p codes.coefficients))
 
 -- the first n values of a function
 unfoldable pub values_of : ℕ → (ℕ → ℕ) → List ℕ

@@ -33,7 +33,7 @@ halves : (a b c d : ℕ) → a < 256 → c < 256 → a + 256 * b ≡ c + 256 * d
 halves a b c d ha hc e = (omega arith, omega arith)
 
 -- an entry of a shard is a byte, also the zero past its end
-byte_lt : (size : ℕ) (s : Shard) → IsShard size s → (i : ℕ) → slice_index s i < 256
+pub byte_lt : (size : ℕ) (s : Shard) → IsShard size s → (i : ℕ) → slice_index s i < 256
 byte_lt size s h i =
     elim (cases_lt i (length s)) [
       | inl inside ↦ h.bytes i 0 inside
@@ -96,6 +96,10 @@ column-none j = refl
 pub columns-at : (j : ℕ) (xs : List Shard) (i : ℕ) → slice_index (columns j xs) i ≡ column j (shard_at xs i)
 columns-at j xs i = ap (λ d. get_or (columns j xs) i d) (sym (column-none j)) ∙ get_or-map (column j) xs i []
 
+-- shard i of so many
+pub shard_in : (count size : ℕ) (shards : List Shard) → AreShards count size shards → (i : ℕ) → i < count → IsShard size (shard_at shards i)
+shard_in count size shards h i hi = h.each i [] (subst (λ (n : ℕ). i < n) (sym h.length_is) hi)
+
 -- columns are words
 column_lt : (size : ℕ) (s : Shard) (j : ℕ) → IsShard size s → column j s < 65536
 unfolding column
@@ -107,7 +111,7 @@ column_lt size s j h =
 pub columns_lt : (n size : ℕ) (shards : List Shard) → AreShards n size shards → (j i : ℕ) → i < n → slice_index (columns j shards) i < 65536
 columns_lt n size shards h j i hi =
     subst (λ (v : ℕ). v < 65536) (sym (columns-at j shards i))
-    (column_lt size (shard_at shards i) j (h.each i [] (subst (λ (k : ℕ). i < k) (sym h.length_is) hi)))
+    (column_lt size (shard_at shards i) j (shard_in n size shards h i hi))
 
 -- lists of so many shards of one even size with the same columns are equal
 pub shards_from_columns : (count size : ℕ) (a b : List Shard) → AreShards count size a → AreShards count size b → size % 2 ≡ 0

@@ -1,20 +1,24 @@
 -- Where both counts have one power, both rates have the same recovery words.
 use Rattle.std.proofs.Common.{◌≡◌, ℕ, suc, ◌+◌, ◌-◌, ◌*◌, ◌^◌, ◌<◌, ◌≤◌, List, [], ◌∷◌, length, bit_xor, refl, sym, ap, ap₂, ◌∙◌, arith, inl, inr, one-mul, zero-add, pow_mono, pow-suc}
-use Rattle.std.specs.Prelude.{slice_index}
+use Rattle.std.specs.Prelude.{slice_index, ◌↔◌, true}
 use Rattle.std.specs.Int.Bits.{xor_comm, xor_shifted}
 use Rattle.std.proofs.lemmas.Bool.{cases_lt}
 use Rattle.rs_field.specs.Field.{product}
 use Rattle.rs_field.specs.Polynomial.{value}
-use Rattle.rs_field.specs.Counts.{low_rate, high_rate, next_power, is_low}
+use Rattle.rs_field.specs.Counts.{low_rate, high_rate, next_power, supports, is_low}
 use Rattle.rs_field.specs.Placement.{placement, low_placement, high_placement}
-use Rattle.rs_field.specs.Code.{Codes, AreRecoveryWords}
+use Rattle.rs_field.specs.Code.{Codes, AreRecoveryWords, AreRecovery}
+use Rattle.rs_field.specs.Column.{Shard, columns}
+use Rattle.rs_field.specs.Configuration.{configuration}
 use Rattle.rs_field.proofs.Halves.{xor_undo}
 use Rattle.rs_field.proofs.Roots.{WordsOneByOne, value-nil, value-cons, value-one}
 use Rattle.rs_field.proofs.Factors.{add, with_root, value_add, value_with_root, length-add, length-with_root, words_add, words_with_root, all_words}
 use Rattle.rs_field.proofs.Unique.{codes_unique}
 use Rattle.rs_field.proofs.NextPower.{next_power-small, next_power-least, next_power-above}
 use Rattle.rs_field.proofs.Frame.{CodesIn, framed}
+use Rattle.rs_field.proofs.SupportedCounts.{high_fits}
 use Rattle.rs_field.proofs.RateFrames.{high_frame}
+use Rattle.rs_field.proofs.CodedWords.{recovered, coded_lt}
 
 -- ---- a polynomial with its argument moved by c
 
@@ -91,7 +95,7 @@ moved_codes k r d words p some hd power_r power_k most_k most_r fit codes =
       },
     )
 
-pub equal_powers : (k r : ℕ) (words low high : List ℕ) → 0 < k → next_power k ≡ next_power r → next_power r + k ≤ 65536
+equal_powers : (k r : ℕ) (words low high : List ℕ) → 0 < k → next_power k ≡ next_power r → next_power r + k ≤ 65536
     → AreRecoveryWords low_rate k r words low → AreRecoveryWords high_rate k r words high → (i : ℕ) → i < r → slice_index low i ≡ slice_index high i
 unfolding placement low_placement high_placement is_low
 equal_powers k r words low high some same fit (p, hp, at_low) (o, ho, at_high) i hi =
@@ -111,3 +115,31 @@ equal_powers k r words low high some same fit (p, hp, at_low) (o, ho, at_high) i
     by_power (d, hd, power, most_r) =
         let most_k : k ≤ next_power k = next_power-above k (omega arith) in
         by_moved d (same ∙ power) (omega arith) (moved_codes k r d words o some hd power (same ∙ power) (omega arith) (omega arith) fit ho)
+
+-- so recovery words at the one rate are those at the other
+to_high : (k r : ℕ) (words recovery : List ℕ) → supports low_rate k r ≡ true → supports high_rate k r ≡ true → next_power k ≡ next_power r
+    → AreRecoveryWords low_rate k r words recovery → AreRecoveryWords high_rate k r words recovery
+to_high k r words recovery low high same own =
+    by_recovery (recovered high_rate k r words high (coded_lt low_rate k r words own.0 own.1))
+  where
+    by_recovery : (other : List ℕ) × (length other ≡ r) × AreRecoveryWords high_rate k r words other → AreRecoveryWords high_rate k r words recovery
+    by_recovery (other, size, (o, codes, at)) =
+        let f = high_fits k r high in
+        (o, codes, λ i hi. equal_powers k r words recovery other f.0 same f.2 own (o, codes, at) i hi ∙ at i hi)
+
+to_low : (k r : ℕ) (words recovery : List ℕ) → supports low_rate k r ≡ true → supports high_rate k r ≡ true → next_power k ≡ next_power r
+    → AreRecoveryWords high_rate k r words recovery → AreRecoveryWords low_rate k r words recovery
+to_low k r words recovery low high same own = by_recovery (recovered low_rate k r words low (coded_lt high_rate k r words own.0 own.1))
+  where
+    by_recovery : (other : List ℕ) × (length other ≡ r) × AreRecoveryWords low_rate k r words other → AreRecoveryWords low_rate k r words recovery
+    by_recovery (other, size, (o, codes, at)) =
+        let f = high_fits k r high in
+        (o, codes, λ i hi. sym (equal_powers k r words other recovery f.0 same f.2 (o, codes, at) own i hi) ∙ at i hi)
+
+-- and recovery shards
+pub one_code : (k r size : ℕ) (message recovery : List Shard) → supports low_rate k r ≡ true → supports high_rate k r ≡ true → next_power k ≡ next_power r
+    → AreRecovery (configuration low_rate k r size) message recovery ↔ AreRecovery (configuration high_rate k r size) message recovery
+one_code k r size message recovery low high same = (
+  λ h. record { shards = h.shards; words = λ j hj. to_high k r (columns j message) (columns j recovery) low high same (h.words j hj) },
+  λ h. record { shards = h.shards; words = λ j hj. to_low k r (columns j message) (columns j recovery) low high same (h.words j hj) },
+)

@@ -43,14 +43,17 @@ pub mod Restored
 pub mod Division
 pub mod ZerosPast
 pub mod Frame
+pub mod SupportedCounts
 pub mod RateFrames
 pub mod ErasedCount
 pub mod ExactCheck
 pub mod DecodedColumn
 pub mod Places
+pub mod Linearity
 pub mod Interpolation
 pub mod CodedWords
 pub mod MadeShards
 pub mod EqualPowers
 pub mod AgreeingMessages
 pub mod Agreement
+pub mod Changes

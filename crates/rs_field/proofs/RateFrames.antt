@@ -1,11 +1,9 @@
 -- Every rate has its frame at supported counts.
 use Rattle.std.proofs.Common.{◌≡◌, ℕ, ◌+◌, ◌-◌, ◌^◌, ◌≤◌, Bool, true, false, cond, min, max, refl, sym, ap, ◌∙◌, arith, inl, inr, pow_mono, subst}
-use Rattle.std.specs.Prelude.{nat_le, nat_lt, ◌&&◌, ◌||◌, ◌==◌}
-use Rattle.std.proofs.lemmas.Bool.{and_parts, leb-true}
-use Rattle.std.proofs.lemmas.Bool.Decides.{nat_tests}
 use Rattle.rs_field.specs.Counts.{Rate, low_rate, high_rate, default_rate, next_power, supports, is_low}
 use Rattle.rs_field.specs.Placement.{low_placement, high_placement, placement, decoder_rows}
 use Rattle.rs_field.proofs.NextPower.{next_power-small, next_power-above}
+use Rattle.rs_field.proofs.SupportedCounts.{low_fits, high_fits, default_fits, low_powers, high_powers}
 use Rattle.rs_field.proofs.Frame.{IsFrame}
 
 pub low_frame : (k r : ℕ) → next_power k + r ≤ 65536 → k ≤ next_power k
@@ -81,26 +79,32 @@ frame_by rate k r low high = by_rate (is_low rate k r) refl
           frame = subst (λ (b : Bool). IsFrame (cond b (low_placement k) (high_placement k r)) k r f.0 (2 ^ f.0 - next_power r) (2 ^ f.0)) (sym e) f.2;
         }
 
-low_or_equal : (a b : ℕ) (c : Bool) → (nat_lt a b || ((a == b) && c)) ≡ true → a ≤ b
-low_or_equal a b true h = grind (arith, nat_tests)
-low_or_equal a b false h = grind (arith, nat_tests)
+low_chosen : (k r : ℕ) → is_low low_rate k r ≡ true
+unfolding is_low
+low_chosen k r = refl
 
-not_low : (a b : ℕ) (c : Bool) → (nat_lt a b || ((a == b) && c)) ≡ false → b ≤ a
-not_low a b true h = grind (arith, nat_tests)
-not_low a b false h = grind (arith, nat_tests)
+high_chosen : (k r : ℕ) → is_low high_rate k r ≡ false
+unfolding is_low
+high_chosen k r = refl
 
 -- at supported counts the rate has a frame
 pub has_frame : (rate : Rate) (k r : ℕ) → supports rate k r ≡ true → HasFrame rate k r
-unfolding supports is_low
 has_frame low_rate k r is =
-    let fit : next_power k + r ≤ 65536 = leb-true (next_power k + r) 65536 (and_parts (nat_lt 0 k && nat_lt 0 r) (nat_le (next_power k + r) 65536) is).1 in
-    frame_by low_rate k r (λ e. fit) (λ e. absurd (let no : ⊥ = cc in no))
+    frame_by low_rate k r (λ e. (low_fits k r is).2) (λ e. absurd (let no : true ≡ false = sym (low_chosen k r) ∙ e in let never : ⊥ = cc in never))
 has_frame high_rate k r is =
-    let fit : next_power r + k ≤ 65536 = leb-true (next_power r + k) 65536 (and_parts (nat_lt 0 k && nat_lt 0 r) (nat_le (next_power r + k) 65536) is).1 in
-    frame_by high_rate k r (λ e. absurd (let no : ⊥ = cc in no)) (λ e. fit)
+    frame_by high_rate k r (λ e. absurd (let no : false ≡ true = sym (high_chosen k r) ∙ e in let never : ⊥ = cc in never)) (λ e. (high_fits k r is).2)
 has_frame default_rate k r is =
-    let fit : min (next_power k) (next_power r) + max k r ≤ 65536 =
-    leb-true (min (next_power k) (next_power r) + max k r) 65536 (and_parts (nat_lt 0 k && nat_lt 0 r) (nat_le (min (next_power k) (next_power r) + max k r) 65536) is).1 in
+    let fit : min (next_power k) (next_power r) + max k r ≤ 65536 = (default_fits k r is).2 in
     frame_by default_rate k r
-    (λ e. let le : next_power k ≤ next_power r = low_or_equal (next_power k) (next_power r) (nat_lt r k) e in omega arith)
-    (λ e. let le : next_power r ≤ next_power k = not_low (next_power k) (next_power r) (nat_lt r k) e in omega arith)
+    (λ e. let le : next_power k ≤ next_power r = low_powers k r e in omega arith)
+    (λ e. let le : next_power r ≤ next_power k = high_powers k r e in omega arith)
+
+-- so originals are at most as many as the points
+pub few_originals : (rate : Rate) (k r : ℕ) → supports rate k r ≡ true → k ≤ 65536
+few_originals rate k r is = by_frame (has_frame rate k r is)
+  where
+    by_frame : HasFrame rate k r → k ≤ 65536
+    by_frame h =
+        let most : (placement rate k r).originals_from + k ≤ 2 ^ h.exponent = h.frame.originals in
+        let room : 2 ^ h.exponent ≤ 2 ^ 16 = pow_mono h.frame.few in
+        omega arith

@@ -24,7 +24,7 @@ xor_shards one other = map (λ pair. xor_bytes pair.0 pair.1) (zip one other)
 -- the recovery shards of the XOR of two messages are the XOR of their recovery shards
 abbrev pub IsLinear : Type 0
 IsLinear =
-    (c : Configuration) (one other one_recovery other_recovery : List Shard) → c.shard_bytes % 2 ≡ 0
+    (c : Configuration) (one other one_recovery other_recovery : List Shard)
     → AreShards c.original_count c.shard_bytes one → AreShards c.original_count c.shard_bytes other
     → AreRecovery c one one_recovery → AreRecovery c other other_recovery
     → AreRecovery c (xor_shards one other) (xor_shards one_recovery other_recovery)
