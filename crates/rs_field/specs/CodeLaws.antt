@@ -65,7 +65,7 @@ HasOneRestoration = (s : DecoderState) (one other : Shards) → Restored s one �
 unfoldable pub changed : Shards → List Shard → Shards
 changed given shards i = if bytes_eq (unwrap_or (given i) []) (shard_at shards i) then None else given i
 
--- where n shards at places of a codeword are given, and at least one but at most n - k of them are other than the codeword's, no message agrees
+-- where n shards are given at places of a codeword, and at least one but at most n - k of them are other than the codeword's, of any size, no message agrees
 abbrev pub NoticesChanges : Type 0
 NoticesChanges =
     (c : Configuration) (message all : List Shard) (originals recovery : Shards)
