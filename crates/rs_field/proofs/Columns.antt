@@ -3,9 +3,9 @@ use Rattle.std.proofs.Common.{◌≡◌, ℕ, ◌+◌, ◌-◌, ◌*◌, ◌/◌
 use Rattle.std.specs.Prelude.{slice_index}
 use Rattle.std.proofs.Math.Nat.{min-eq_left, min-eq_right}
 use Rattle.std.proofs.lemmas.Bool.{cases_lt}
-use Rattle.std.proofs.lemmas.List.{ext_get_or}
+use Rattle.std.proofs.lemmas.List.{ext_get_or, get_or_past}
 use Rattle.std.proofs.Math.ListN.{get_or, get_or-map}
-use Rattle.rs_field.specs.Column.{Shard, IsShard, shard_at, column, columns, chunk_words}
+use Rattle.rs_field.specs.Column.{Shard, IsShard, AreShards, shard_at, column, columns, chunk_words}
 
 -- word i of chunk q
 pub column-at : (q i : ℕ) (s : Shard) → i < 32 → column (q * 32 + i) s ≡ slice_index s (q * 64 + i) + 256 * slice_index s (q * 64 + i + chunk_words s (q * 64))
@@ -32,9 +32,13 @@ column-tail q i s h last =
 halves : (a b c d : ℕ) → a < 256 → c < 256 → a + 256 * b ≡ c + 256 * d → (a ≡ c) × (b ≡ d)
 halves a b c d ha hc e = (omega arith, omega arith)
 
--- an entry of a shard is a byte
-byte_lt : (size : ℕ) (s : Shard) → IsShard size s → (i : ℕ) → i < size → slice_index s i < 256
-byte_lt size s h i hi = h.bytes i 0 (subst (λ (n : ℕ). i < n) (sym h.length_is) hi)
+-- an entry of a shard is a byte, also the zero past its end
+pub byte_lt : (size : ℕ) (s : Shard) → IsShard size s → (i : ℕ) → slice_index s i < 256
+byte_lt size s h i =
+    elim (cases_lt i (length s)) [
+      | inl inside ↦ h.bytes i 0 inside
+      | inr past ↦ (let none : slice_index s i ≡ 0 = get_or_past s i 0 past in omega arith)
+    ]
 
 -- shards of one size with the same columns are equal
 pub shard_from_columns : (size : ℕ) (s t : Shard) → IsShard size s → IsShard size t → size % 2 ≡ 0
@@ -48,8 +52,7 @@ shard_from_columns size s t hs ht even same =
     both q i w hi hw fits ws wt =
         let small : i < 32 = omega arith in
         let place : q * 32 + i < size / 2 = omega arith in
-        let inside : q * 64 + i < size = omega arith in
-        halves (slice_index s (q * 64 + i)) _ (slice_index t (q * 64 + i)) _ (byte_lt size s hs (q * 64 + i) inside) (byte_lt size t ht (q * 64 + i) inside)
+        halves (slice_index s (q * 64 + i)) _ (slice_index t (q * 64 + i)) _ (byte_lt size s hs (q * 64 + i)) (byte_lt size t ht (q * 64 + i))
         (ap (λ v. slice_index s (q * 64 + i) + 256 * slice_index s (q * 64 + i + v)) (sym ws) ∙ sym (column-at q i s small) ∙ same (q * 32 + i) place
         ∙ column-at q i t small ∙ ap (λ v. slice_index t (q * 64 + i) + 256 * slice_index t (q * 64 + i + v)) wt)
 
@@ -92,3 +95,29 @@ column-none j = refl
 -- column j of shard i
 pub columns-at : (j : ℕ) (xs : List Shard) (i : ℕ) → slice_index (columns j xs) i ≡ column j (shard_at xs i)
 columns-at j xs i = ap (λ d. get_or (columns j xs) i d) (sym (column-none j)) ∙ get_or-map (column j) xs i []
+
+-- shard i of so many
+pub shard_in : (count size : ℕ) (shards : List Shard) → AreShards count size shards → (i : ℕ) → i < count → IsShard size (shard_at shards i)
+shard_in count size shards h i hi = h.each i [] (subst (λ (n : ℕ). i < n) (sym h.length_is) hi)
+
+-- columns are words
+column_lt : (size : ℕ) (s : Shard) (j : ℕ) → IsShard size s → column j s < 65536
+unfolding column
+column_lt size s j h =
+    let low : slice_index s (j / 32 * 64 + j % 32) < 256 = byte_lt size s h (j / 32 * 64 + j % 32) in
+    let high : slice_index s (j / 32 * 64 + j % 32 + chunk_words s (j / 32 * 64)) < 256 = byte_lt size s h (j / 32 * 64 + j % 32 + chunk_words s (j / 32 * 64)) in
+    omega arith
+
+pub columns_lt : (n size : ℕ) (shards : List Shard) → AreShards n size shards → (j i : ℕ) → i < n → slice_index (columns j shards) i < 65536
+columns_lt n size shards h j i hi =
+    subst (λ (v : ℕ). v < 65536) (sym (columns-at j shards i))
+    (column_lt size (shard_at shards i) j (shard_in n size shards h i hi))
+
+-- lists of so many shards of one even size with the same columns are equal
+pub shards_from_columns : (count size : ℕ) (a b : List Shard) → AreShards count size a → AreShards count size b → size % 2 ≡ 0
+    → ((i j : ℕ) → i < count → j < size / 2 → slice_index (columns j a) i ≡ slice_index (columns j b) i) → a ≡ b
+shards_from_columns count size a b ha hb even same =
+    ext_get_or [] a b (ha.length_is ∙ sym hb.length_is) (λ i h.
+    let below : i < count = subst (λ (n : ℕ). i < n) ha.length_is h in
+    shard_from_columns size (shard_at a i) (shard_at b i) (ha.each i [] h) (hb.each i [] (subst (λ (n : ℕ). i < n) (sym hb.length_is) below)) even
+    (λ j hj. sym (columns-at j a i) ∙ same i j below hj ∙ columns-at j b i))

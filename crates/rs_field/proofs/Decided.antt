@@ -13,7 +13,8 @@ use Rattle.rs_field.specs.Code.{Codes, AreRecoveryWords, AreRecovery}
 use Rattle.rs_field.proofs.Linear.{passes_below, from_passes_below}
 use Rattle.rs_field.proofs.Roots.{words_from}
 use Rattle.rs_field.proofs.Factors.{times, points}
-use Rattle.rs_field.proofs.HighCodes.{high_codes, value-inside}
+use Rattle.rs_field.proofs.ZerosPast.{value-inside}
+use Rattle.rs_field.proofs.HighCodes.{high_codes}
 
 -- each element passes, so each has the property
 all_from : {A : Type 0} (p : A → Bool) (P : A → Type 0) → ((x : A) → p x ≡ true → P x) → (xs : List A) → list_all p xs ≡ true → All P xs

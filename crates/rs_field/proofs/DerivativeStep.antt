@@ -1,6 +1,6 @@
 -- The derivative step by halves: of the polynomial with given coefficients in the subspace basis, for one symbol of the rows.
-use Rattle.std.proofs.Common.{◌≡◌, ℕ, suc, ◌+◌, ◌/◌, ◌^◌, ◌<◌, ◌≤◌, List, [], ◌∷◌, length, bit_xor, refl, sym, ap, ap₂, ◌∙◌, subst, arith, add_assoc, zero-add, pow_mono}
-use Rattle.std.specs.Int.Bits.{xor_zero_r}
+use Rattle.std.proofs.Common.{◌≡◌, ℕ, suc, ◌+◌, ◌*◌, ◌/◌, ◌^◌, ◌<◌, ◌≤◌, List, [], ◌∷◌, length, bit_xor, refl, sym, ap, ap₂, ◌∙◌, subst, arith, add_assoc, zero-add, pow-suc, pow_mono}
+use Rattle.std.specs.Int.Bits.{xor_comm, xor_zero_r}
 use Rattle.rs_field.specs.Field.{product}
 use Rattle.rs_field.specs.Polynomial.{value, derivative_value}
 use Rattle.rs_field.specs.Subspace.{subspace}
@@ -9,11 +9,13 @@ use Rattle.rs_field.specs.Derivative.{IsInBasis, IsDerivativeAdded}
 use Rattle.rs_field.specs.View.{cell, word}
 use Rattle.rs_field.specs.declared.engine.shards.ShardsRefMut.{ShardsRefMut}
 use Rattle.rs_field.proofs.Product.{product_zero}
+use Rattle.rs_field.proofs.Total.{product-comm}
+use Rattle.rs_field.proofs.Subspace.{subspace_from_zero}
 use Rattle.rs_field.proofs.Roots.{WordsOneByOne, words_from, value_lt, value-nil}
 use Rattle.rs_field.proofs.Values.{same_from_values}
-use Rattle.rs_field.proofs.Factors.{times, points, all_words}
+use Rattle.rs_field.proofs.Factors.{add, times, points, value_add, value-times, length-add, length-times, words_add, words_times}
 use Rattle.rs_field.proofs.Combination.{forward-same, forward-xor, forward-half}
-use Rattle.rs_field.proofs.Coefficients.{joined, length-joined, words_joined, value-joined, coefficients}
+use Rattle.rs_field.proofs.Coefficients.{polynomial_of_terms}
 use Rattle.rs_field.proofs.Derivative.{derivative_lt, derivative-nil, derivative-cons, derivative_add, derivative-subspace}
 use Rattle.rs_field.proofs.Halves.{half_power, few_halves, subspace_lt}
 use Rattle.rs_field.proofs.Recursion.{word_same}
@@ -35,6 +37,34 @@ rule s l dl h dh hs hl hdl hh hdh =
     (plus (plus (v 1) (both (v 3) (v 0))) (plus (plus (both (v 0) (v 4)) (v 3)) (v 2)))
     (hs, (hl, (hdl, (hh, (hdh, tt))))) refl
 
+-- a polynomial for the first half of a sum of 2 ^ (e + 1) terms, and one for its second half, joined
+joined : ℕ → List ℕ → List ℕ → List ℕ
+joined e low high = add (times (points 0 (2 ^ e)) high) low
+
+length-joined : (e : ℕ) (p q : List ℕ) → length p ≡ 2 ^ e → length q ≡ 2 ^ e → length (joined e p q) ≡ 2 ^ suc e
+unfolding joined
+length-joined e p q size_p size_q =
+    let size : length (times (points 0 (2 ^ e)) q) ≡ 2 ^ e + length q = length-times 0 (2 ^ e) q in
+    let double : 2 ^ suc e ≡ 2 ^ e * 2 = pow-suc 2 e in
+    length-add (times (points 0 (2 ^ e)) q) p (omega arith) ∙ omega arith
+
+words_joined : (e : ℕ) (p q : List ℕ) → WordsOneByOne p → WordsOneByOne q → WordsOneByOne (joined e p q)
+unfolding joined
+words_joined e p q words_p words_q = words_add (times (points 0 (2 ^ e)) q) p (words_times (points 0 (2 ^ e)) q words_q) words_p
+
+value-joined : (e : ℕ) (f : ℕ → ℕ) (p q : List ℕ) → e < 16 → WordsOneByOne q
+    → ((x : ℕ) → value p x ≡ forward (2 ^ e) 0 f x) → ((x : ℕ) → value q x ≡ forward (2 ^ e) 0 (λ i. f (2 ^ e + i)) x)
+    → (x : ℕ) → value (joined e p q) x ≡ forward (2 ^ suc e) 0 f x
+unfolding joined
+value-joined e f p q he words_q at_p at_q x =
+    value_add (times (points 0 (2 ^ e)) q) p x
+    ∙ ap₂ bit_xor
+    (value-times 0 (2 ^ e) q words_q x ∙ ap₂ product (subspace_from_zero e x ∙ ap (subspace e) (sym (zero-add x))) (at_q x)
+    ∙ product-comm (subspace e (0 + x)) (forward (2 ^ e) 0 (λ i. f (2 ^ e + i)) x))
+    (at_p x)
+    ∙ xor_comm (product (forward (2 ^ e) 0 (λ i. f (2 ^ e + i)) x) (subspace e (0 + x))) (forward (2 ^ e) 0 f x)
+    ∙ sym (forward-half e 0 f x he)
+
 derivative-joined : (e : ℕ) (p q : List ℕ) → e < 16 → WordsOneByOne q → (x : ℕ) → x < 2 ^ 16
     → derivative_value (joined e p q) x ≡ bit_xor (bit_xor (product (subspace e x) (derivative_value q x)) (value q x)) (derivative_value p x)
 unfolding joined
@@ -48,19 +78,22 @@ pub derivative_halves : (e : ℕ) (f a b g : ℕ → ℕ) → e < 16
     → ((q : ℕ) → q < 2 ^ e → g (2 ^ e + q) ≡ b q)
     → IsDerivativeAdded (2 ^ suc e) f g
 derivative_halves e f a b g he of_low of_high first second p size words at x hx =
-    let low = coefficients e f (omega arith) in
-    let high = coefficients e (λ q. f (2 ^ e + q)) (omega arith) in
     let room : 2 ^ suc e ≤ 2 ^ 16 = pow_mono he in
+    let double : 2 ^ suc e ≡ 2 ^ e * 2 = pow-suc 2 e in
+    let low = polynomial_of_terms (2 ^ e) f (omega arith) in
+    let high = polynomial_of_terms (2 ^ e) (λ q. f (2 ^ e + q)) (omega arith) in
+    let words_low : WordsOneByOne low.0 = words_from low.0 low.2 in
+    let words_high : WordsOneByOne high.0 = words_from high.0 high.2 in
     let is : p ≡ joined e low.0 high.0 =
     one_polynomial (2 ^ suc e) f p (joined e low.0 high.0) room size (length-joined e low.0 high.0 low.1 high.1) (words_from p words)
-    (words_joined e low.0 high.0 low.2 high.2) at (value-joined e f low.0 high.0 he high.2 low.3 high.3) in
-    of_parts low.0 high.0 low.2 high.2 low.3 high.3
-    (of_low low.0 low.1 (all_words low.0 low.2) (λ y hy. sym (low.3 y)) x hx)
-    (of_high high.0 high.1 (all_words high.0 high.2) (λ y hy. sym (high.3 y)) x hx)
+    (words_joined e low.0 high.0 words_low words_high) at (value-joined e f low.0 high.0 he words_high low.3 high.3) in
+    of_parts low.0 high.0 words_low words_high low.3 high.3
+    (of_low low.0 low.1 low.2 (λ y hy. sym (low.3 y)) x hx)
+    (of_high high.0 high.1 high.2 (λ y hy. sym (high.3 y)) x hx)
     ∙ ap₂ bit_xor
-    (sym (value-joined e f low.0 high.0 he high.2 low.3 high.3 x ∙ forward-half e 0 f x he
+    (sym (value-joined e f low.0 high.0 he words_high low.3 high.3 x ∙ forward-half e 0 f x he
     ∙ ap₂ (λ k m. bit_xor k (product m (subspace e (0 + x)))) (sym (low.3 x)) (sym (high.3 x))))
-    (sym (derivative-joined e low.0 high.0 he high.2 x hx))
+    (sym (derivative-joined e low.0 high.0 he words_high x hx))
     ∙ sym (ap (λ (r : List ℕ). bit_xor (value r x) (derivative_value r x)) is)
   where
     of_parts : (l h : List ℕ) → WordsOneByOne l → WordsOneByOne h

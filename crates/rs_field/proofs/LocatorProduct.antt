@@ -1,5 +1,5 @@
 -- The locator as a polynomial: what its logarithms at a point stand for.
-use Rattle.std.proofs.Common.{◌≡◌, ℕ, zero, suc, ◌+◌, ◌-◌, ◌^◌, ◌<◌, ◌≤◌, ◌≢◌, ◌⊎◌, Bool, cond, eqb, List, [], ◌∷◌, length, bit_xor, sym, ap, ap₂, ◌∙◌, inl, inr, arith, add-zero, add-suc, ne_eqb, eq-eqb, pow_mono}
+use Rattle.std.proofs.Common.{◌≡◌, ℕ, zero, suc, ◌+◌, ◌-◌, ◌%◌, ◌^◌, ◌<◌, ◌≤◌, ◌≢◌, ◌⊎◌, Bool, cond, eqb, List, [], ◌∷◌, length, bit_xor, sym, ap, ap₂, ◌∙◌, inl, inr, arith, add-zero, add-suc, ne_eqb, eq-eqb, pow_mono}
 use Rattle.std.specs.Int.Bits.{xor_self, xor_zero_l, xor_zero_r, xor_lt}
 use Rattle.std.proofs.lemmas.Bool.{cases_eq}
 use Rattle.rs_field.specs.Field.{product, power, log}
@@ -8,7 +8,7 @@ use Rattle.rs_field.specs.Subspace.{product_below}
 use Rattle.rs_field.specs.Locator.{log_sum}
 use Rattle.rs_field.proofs.Product.{product_zero, zero_product, product_one, one_product}
 use Rattle.rs_field.proofs.Total.{product-comm, product-assoc}
-use Rattle.rs_field.proofs.Power.{power_lt, power-add, power_zero, power-log, power_turn}
+use Rattle.rs_field.proofs.Power.{power_lt, power-add, power-mod, power_zero, power-log, power_turn}
 use Rattle.rs_field.proofs.Roots.{WordsOneByOne, value_lt}
 use Rattle.rs_field.proofs.Subspace.{product_below-suc, product_below-zero, outside}
 use Rattle.rs_field.proofs.Factors.{times, value_with_root, length-with_root}
@@ -171,6 +171,10 @@ none_marked_past d e x hd none =
     ap (λ k. log_sum k e x) (sym whole) ∙ unmarked_past (2 ^ d) (65536 - 2 ^ d) e x (λ y a b. none y a (omega arith))
 
 -- ---- residues
+
+-- equal residues are the logarithms of one word
+pub same_residue : (l s : ℕ) → l % 65535 ≡ s % 65535 → power l ≡ power s
+same_residue l s e = sym (power-mod l) ∙ ap power e ∙ power-mod s
 
 -- 65535 less a logarithm undoes it
 pub residue_undone : (l w : ℕ) → l ≤ 65535 → w < 2 ^ 16 → product (product w (power l)) (power (65535 - l)) ≡ w

@@ -1,21 +1,14 @@
--- Many blocks of points at once: the last coefficients of the whole are the sum of the blocks' own. And a sum of any number of basis polynomials is a polynomial with as many coefficients.
-use Rattle.std.proofs.Common.{◌≡◌, ℕ, zero, suc, ◌+◌, ◌-◌, ◌*◌, ◌%◌, ◌^◌, ◌<◌, ◌≤◌, Bool, cond, List, [], length, bit_xor, refl, sym, ap, ap₂, ◌∙◌, subst, inl, inr, arith, zero-add, add-zero, add-suc, add_assoc, pow-suc, pow-add, pow_mono}
-use Rattle.std.specs.Prelude.{All, nat_lt}
-use Rattle.std.specs.Int.Bits.{xor_comm, xor_zero_l, xor_zero_r}
+-- Many blocks of points at once: the last coefficients of the whole are the sum of the blocks' own.
+use Rattle.std.proofs.Common.{◌≡◌, ℕ, zero, suc, ◌+◌, ◌-◌, ◌*◌, ◌%◌, ◌^◌, ◌<◌, ◌≤◌, Bool, cond, bit_xor, refl, sym, ap, ap₂, ◌∙◌, subst, inl, inr, arith, add-zero, add-suc, add_assoc, pow-suc, pow-add, pow_mono}
+use Rattle.std.specs.Prelude.{nat_lt}
+use Rattle.std.specs.Int.Bits.{xor_comm, xor_zero_l}
 use Rattle.std.proofs.Math.Nat.{mul-le-mul_right}
 use Rattle.std.proofs.lemmas.Bool.{cases_lt, lt-ltb, le-ltb}
 use Rattle.rs_field.specs.Field.{product}
-use Rattle.rs_field.specs.Polynomial.{value}
-use Rattle.rs_field.specs.Subspace.{subspace, basis}
+use Rattle.rs_field.specs.Subspace.{subspace}
 use Rattle.rs_field.specs.Transform.{sum_below, forward}
-use Rattle.rs_field.proofs.Product.{zero_product}
-use Rattle.rs_field.proofs.Total.{product-comm, product-assoc}
-use Rattle.rs_field.proofs.Roots.{WordsOneByOne, value-nil}
-use Rattle.rs_field.proofs.Subspace.{subspace_from_zero}
-use Rattle.rs_field.proofs.Factors.{add, points, times, value_add, value-times, length-add, length-times, words_add, words_times, all_words}
-use Rattle.rs_field.proofs.Combination.{sum_below-suc, sum_below-zero, sum_below-add, sum_below-same, sum_below-product, basis-half, forward_is, lower_half, upper_half}
+use Rattle.rs_field.proofs.Combination.{sum_below-suc, sum_below-zero, sum_below-add, sum_below-same, lower_half, upper_half}
 use Rattle.rs_field.proofs.Halves.{shift_half, few_halves, xor_undo}
-use Rattle.rs_field.proofs.Coefficients.{coefficients}
 
 -- ---- the coefficients behind many blocks
 
@@ -132,79 +125,3 @@ last-joined d (suc n) u g before q is =
     ∙ ap₂ bit_xor (last-joined d n u g rest q whole) (last-joined d n (u + 2 ^ n) g rest q whole)
     ∙ sym (ap (λ m. sum_below m (λ j. g (u + j) q)) double ∙ sum_below-add (2 ^ n) (2 ^ n) (λ j. g (u + j) q)
     ∙ ap (bit_xor (sum_below (2 ^ n) (λ j. g (u + j) q))) (sum_below-same (2 ^ n) (λ j. g (u + (2 ^ n + j)) q) (λ j. g (u + 2 ^ n + j) q) (λ j h. ap (λ v. g v q) (sym (add_assoc u (2 ^ n) j)))))
-
--- ---- sums of any number of terms
-
--- terms that are zero can be left out
-pub forward-fewer : (n t : ℕ) (f : ℕ → ℕ) (x : ℕ) → ((i : ℕ) → i < t → f (n + i) ≡ 0) → forward (n + t) 0 f x ≡ forward n 0 f x
-forward-fewer n t f x none =
-    let term : ℕ → ℕ = λ q. product (f q) (basis q (0 + x)) in
-    forward_is (n + t) 0 f x ∙ sum_below-add n t term
-    ∙ ap (bit_xor (sum_below n term)) (sum_below-zero t (λ i. term (n + i)) (λ i h. ap (λ v. product v (basis (n + i) (0 + x))) (none i h) ∙ zero_product (basis (n + i) (0 + x))))
-    ∙ xor_zero_r (sum_below n term) ∙ sym (forward_is n 0 f x)
-
--- n terms after the first 2 ^ e, for n no more than 2 ^ e, are the subspace polynomial e times a sum of n terms
-forward-beyond : (e n : ℕ) (f : ℕ → ℕ) (x : ℕ) → e < 16 → n ≤ 2 ^ e
-    → forward (2 ^ e + n) 0 f x ≡ bit_xor (forward (2 ^ e) 0 f x) (product (forward n 0 (λ q. f (2 ^ e + q)) x) (subspace e x))
-forward-beyond e n f x he hn =
-    let term : ℕ → ℕ = λ q. product (f q) (basis q (0 + x)) in
-    let s : ℕ = subspace e x in
-    forward_is (2 ^ e + n) 0 f x ∙ sum_below-add (2 ^ e) n term
-    ∙ ap₂ bit_xor (sym (forward_is (2 ^ e) 0 f x))
-    (sum_below-same n (λ q. term (2 ^ e + q)) (λ q. product (product (f (2 ^ e + q)) (basis q (0 + x))) s)
-    (λ q h. ap (product (f (2 ^ e + q))) (basis-half e q (0 + x) he (omega arith) ∙ ap (λ y. product (basis q (0 + x)) (subspace e y)) (zero-add x)) ∙ sym (product-assoc (f (2 ^ e + q)) (basis q (0 + x)) s))
-    ∙ sum_below-product n (λ q. product (f (2 ^ e + q)) (basis q (0 + x))) s
-    ∙ ap (λ v. product v s) (sym (forward_is n 0 (λ q. f (2 ^ e + q)) x)))
-
--- a polynomial of n coefficients with the values of a sum of n terms
-record IsSum (n : ℕ) (f : ℕ → ℕ) (p : List ℕ) : Type 0 where
-  size : length p ≡ n
-  words : WordsOneByOne p
-  at : (x : ℕ) → value p x ≡ forward n 0 f x
-
-sum_none : (f : ℕ → ℕ) → IsSum 0 f []
-sum_none f = record {
-  size = refl;
-  words = tt;
-  at = λ x. value-nil x ∙ sym (forward_is 0 0 f x ∙ sum_below-zero 0 (λ q. product (f q) (basis q (0 + x))) (λ q h. let no : ⊥ = omega arith in absurd no));
-}
-
-sum_beyond : (e n : ℕ) (f : ℕ → ℕ) (low high : List ℕ) → e < 16 → n ≤ 2 ^ e → IsSum (2 ^ e) f low → IsSum n (λ q. f (2 ^ e + q)) high
-    → IsSum (2 ^ e + n) f (add (times (points 0 (2 ^ e)) high) low)
-sum_beyond e n f low high he hn l h =
-    let sl : length low ≡ 2 ^ e = l.size in
-    let sh : length high ≡ n = h.size in
-    let size : length (times (points 0 (2 ^ e)) high) ≡ 2 ^ e + length high = length-times 0 (2 ^ e) high in
-    record {
-      size = length-add (times (points 0 (2 ^ e)) high) low (omega arith) ∙ omega arith;
-      words = words_add (times (points 0 (2 ^ e)) high) low (words_times (points 0 (2 ^ e)) high h.words) l.words;
-      at = λ x. value_add (times (points 0 (2 ^ e)) high) low x
-          ∙ ap₂ bit_xor (value-times 0 (2 ^ e) high h.words x ∙ ap₂ product (subspace_from_zero e x) (h.at x) ∙ product-comm (subspace e x) (forward n 0 (λ q. f (2 ^ e + q)) x)) (l.at x)
-          ∙ xor_comm (product (forward n 0 (λ q. f (2 ^ e + q)) x) (subspace e x)) (forward (2 ^ e) 0 f x)
-          ∙ sym (forward-beyond e n f x he hn);
-    }
-
-sum_whole : (e : ℕ) (f : ℕ → ℕ) → e ≤ 16 → (p : List ℕ) × IsSum (2 ^ e) f p
-sum_whole e f he = let c = coefficients e f he in (c.0, record { size = c.1; words = c.2; at = c.3 })
-
-sum_polynomial : (e n : ℕ) (f : ℕ → ℕ) → e ≤ 16 → n ≤ 2 ^ e → (p : List ℕ) × IsSum n f p
-sum_polynomial zero n f he hn =
-    elim (cases_lt n 1) [
-      | inl none ↦ let e : 0 ≡ n = omega arith in ([], subst (λ (m : ℕ). IsSum m f []) e (sum_none f))
-      | inr one ↦ let c = sum_whole 0 f he in let e : 2 ^ 0 ≡ n = omega arith in (c.0, subst (λ (m : ℕ). IsSum m f c.0) e c.1)
-    ]
-sum_polynomial (suc e) n f he hn =
-    let double : 2 ^ suc e ≡ 2 ^ e * 2 = pow-suc 2 e in
-    elim (cases_lt n (2 ^ e)) [
-      | inl few ↦ sum_polynomial e n f (omega arith) (omega arith)
-      | inr many ↦
-          let parts : 2 ^ e + (n - 2 ^ e) ≡ n = omega arith in
-          let low = sum_whole e f (omega arith) in
-          let high = sum_polynomial e (n - 2 ^ e) (λ q. f (2 ^ e + q)) (omega arith) (omega arith) in
-          let p : List ℕ = add (times (points 0 (2 ^ e)) high.0) low.0 in
-          (p, subst (λ (m : ℕ). IsSum m f p) parts (sum_beyond e (n - 2 ^ e) f low.0 high.0 (omega arith) (omega arith) low.1 high.1))
-    ]
-
--- a sum of n basis polynomials is a polynomial of n coefficients
-pub polynomial_of_terms : (n : ℕ) (f : ℕ → ℕ) → n ≤ 65536 → (p : List ℕ) × (length p ≡ n) × All (λ w. w < 65536) p × ((x : ℕ) → value p x ≡ forward n 0 f x)
-polynomial_of_terms n f hn = let p = sum_polynomial 16 n f (omega arith) (omega arith) in (p.0, p.1.size, all_words p.0 p.1.words, p.1.at)

@@ -1,18 +1,18 @@
--- A message has one list of recovery shards at most.
-use Rattle.std.proofs.Common.{◌≡◌, ℕ, ◌+◌, ◌-◌, ◌%◌, ◌^◌, ◌<◌, ◌≤◌, List, [], true, false, cond, length, refl, sym, ap, ◌∙◌, subst, arith, ◌⊎◌, inl, inr, pow_mono}
+-- A message has one list of recovery shards at most, and a column one column of them.
+use Rattle.std.proofs.Common.{◌≡◌, ℕ, ◌+◌, ◌-◌, ◌/◌, ◌%◌, ◌^◌, ◌<◌, ◌≤◌, List, length, true, false, cond, refl, sym, ap, ◌∙◌, subst, arith, ◌⊎◌, inl, inr, pow_mono}
 use Rattle.std.specs.Prelude.{slice_index}
 use Rattle.std.proofs.lemmas.Bool.{cases_lt}
-use Rattle.std.proofs.lemmas.List.{ext_get_or}
+use Rattle.std.proofs.lemmas.List.{ext_get_or, length-map}
 use Rattle.rs_field.specs.Polynomial.{value}
-use Rattle.rs_field.specs.Column.{Shard, shard_at, columns}
+use Rattle.rs_field.specs.Column.{Shard, column, columns}
 use Rattle.rs_field.specs.Counts.{Rate, next_power, is_low}
 use Rattle.rs_field.specs.Placement.{Placement, placement, low_placement, high_placement}
-use Rattle.rs_field.specs.Configuration.{Configuration}
+use Rattle.rs_field.specs.Configuration.{Configuration, configuration}
 use Rattle.rs_field.specs.Code.{Codes, AreRecoveryWords, AreRecovery}
 use Rattle.rs_field.proofs.NextPower.{next_power-small}
 use Rattle.rs_field.proofs.Roots.{words_from}
 use Rattle.rs_field.proofs.Values.{same_from_values}
-use Rattle.rs_field.proofs.Columns.{shard_from_columns, columns-at}
+use Rattle.rs_field.proofs.Columns.{shards_from_columns}
 
 -- each placement is that of the low rate or that of the high rate
 low_or_high : (rate : Rate) (k r : ℕ) → (placement rate k r ≡ low_placement k) ⊎ (placement rate k r ≡ high_placement k r)
@@ -56,15 +56,25 @@ codes_unique rate k r words P Q most p q =
           ])
     ]
 
+-- words have one list of recovery words
+recovery_words-unique : (rate : Rate) (k r : ℕ) (words a b : List ℕ) → k ≤ 65536 → AreRecoveryWords rate k r words a → AreRecoveryWords rate k r words b
+    → (i : ℕ) → i < r → slice_index a i ≡ slice_index b i
+recovery_words-unique rate k r words a b most (p, codes_p, at_p) (o, codes_o, at_o) i below =
+    at_p i below ∙ ap (λ (q : List ℕ). value q ((placement rate k r).recovery_from + i)) (codes_unique rate k r words p o most codes_p codes_o) ∙ sym (at_o i below)
+
 -- two lists of recovery shards of one message are equal
 pub recovery_unique : (c : Configuration) (message a b : List Shard) → c.original_count ≤ 65536 → c.shard_bytes % 2 ≡ 0 → AreRecovery c message a → AreRecovery c message b → a ≡ b
 recovery_unique c message a b most even ha hb =
-    ext_get_or [] a b (ha.shards.length_is ∙ sym hb.shards.length_is) (λ i h.
-    let below : i < c.recovery_count = subst (λ (n : ℕ). i < n) ha.shards.length_is h in
-    let other : i < length b = subst (λ (n : ℕ). i < n) (sym hb.shards.length_is) below in
-    shard_from_columns c.shard_bytes (shard_at a i) (shard_at b i) (ha.shards.each i [] h) (hb.shards.each i [] other) even
-    (λ j hj.
-    let wa : AreRecoveryWords c.rate c.original_count c.recovery_count (columns j message) (columns j a) = ha.words j hj in
-    let wb : AreRecoveryWords c.rate c.original_count c.recovery_count (columns j message) (columns j b) = hb.words j hj in
-    let same : wa.0 ≡ wb.0 = codes_unique c.rate c.original_count c.recovery_count (columns j message) (wa.0) (wb.0) most (wa.1) (wb.1) in
-    sym (columns-at j a i) ∙ wa.2 i below ∙ ap (λ p. value p ((placement c.rate c.original_count c.recovery_count).recovery_from + i)) same ∙ sym (wb.2 i below) ∙ columns-at j b i))
+    shards_from_columns c.recovery_count c.shard_bytes a b ha.shards hb.shards even
+    (λ i j below hj. recovery_words-unique c.rate c.original_count c.recovery_count (columns j message) (columns j a) (columns j b) most (ha.words j hj) (hb.words j hj) i below)
+
+-- equal columns have equal columns of recovery shards
+pub columns_unique : (rate : Rate) (k r size other_size j i : ℕ) (one other one_recovery other_recovery : List Shard) → k ≤ 65536 → j < size / 2 → i < other_size / 2
+    → AreRecovery (configuration rate k r size) one one_recovery → AreRecovery (configuration rate k r other_size) other other_recovery
+    → columns j one ≡ columns i other → columns j one_recovery ≡ columns i other_recovery
+columns_unique rate k r size other_size j i one other one_recovery other_recovery most hj hi a b same =
+    let rows : (n : ℕ) (xs : List Shard) → length xs ≡ r → length (columns n xs) ≡ r = λ n xs e. length-map xs (column n) ∙ e in
+    ext_get_or 0 (columns j one_recovery) (columns i other_recovery) (rows j one_recovery a.shards.length_is ∙ sym (rows i other_recovery b.shards.length_is)) (λ n h.
+    recovery_words-unique rate k r (columns i other) (columns j one_recovery) (columns i other_recovery) most
+    (subst (λ (words : List ℕ). AreRecoveryWords rate k r words (columns j one_recovery)) same (a.words j hj)) (b.words i hi)
+    n (subst (λ (m : ℕ). n < m) (rows j one_recovery a.shards.length_is) h))

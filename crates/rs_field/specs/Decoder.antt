@@ -1,5 +1,5 @@
 -- A decoder: what is given, and what its calls do.
-use Rattle.std.specs.Prelude.{◌≡◌, ℕ, ◌+◌, ◌^◌, ◌<◌, ◌==◌, ◌↔◌, not, length, nat_le, nat_lt, if◌then◌else◌, List, Some, is_some, IsSome, IsNone, Result, Ok, Err, is_ok, IsOkAnd, MatchResult}
+use Rattle.std.specs.Prelude.{◌≡◌, ℕ, ◌+◌, ◌^◌, ◌<◌, ◌==◌, ◌↔◌, not, ◌&&◌, length, nat_le, nat_lt, if◌then◌else◌, List, Some, None, is_some, IsSome, IsNone, Result, Ok, Err, is_ok, IsOkAnd, MatchResult}
 use Rattle.rs_field.specs.declared.error.Error.{Error}
 use Rattle.rs_field.specs.declared.error.Error.TheVariants.{InvalidOriginalShardIndex, InvalidRecoveryShardIndex, DuplicateOriginalShardIndex, DuplicateRecoveryShardIndex, DifferentShardSize, NotEnoughShards}
 use Rattle.rs_field.specs.Column.{Shard, IsShard, shard_at}
@@ -71,11 +71,17 @@ pub record FillsMissing (s : DecoderState) (out : Shards) : Type 0 where
   pub missing : (i : ℕ) → IsSome (out i) ↔ (i < s.configuration.original_count × IsNone (s.originals i))
   pub shards : (i : ℕ) (shard : Shard) → out i ≡ Some shard → IsShard s.configuration.shard_bytes shard
 
--- the restored originals: at exactly the missing indexes, those of any message that agrees; with exactly k shards given, one does
+-- a message's shards at exactly the indexes of the originals that were not given
+unfoldable pub missing_of : DecoderState → List Shard → Shards
+missing_of s message i =
+    if nat_lt i s.configuration.original_count && not (is_some (s.originals i)) then Some (shard_at message i) else None
+
+-- the restored originals: at exactly the missing indexes, those of the only message that agrees
 pub record Restored (s : DecoderState) (out : Shards) : Type 0 where
-  pub filled : FillsMissing s out
-  pub agreeing : (message : List Shard) → IsAgreeing s message → (i : ℕ) (shard : Shard) → out i ≡ Some shard → shard_at message i ≡ shard
-  pub no_surplus : originals_given s + recovery_given s ≡ s.configuration.original_count → IsConsistent s
+  pub message : List Shard
+  pub agrees : IsAgreeing s message
+  pub only : (other : List Shard) → IsAgreeing s other → other ≡ message
+  pub missing : (i : ℕ) → out i ≡ missing_of s message i
 
 -- what `decode` answers: a refusal, or the restored originals
 abbrev pub DecodeAnswers : DecoderState → Result Shards Error → Type 0

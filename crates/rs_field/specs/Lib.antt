@@ -18,6 +18,7 @@ pub mod OneCall
 pub mod Bounds
 pub mod Tables
 pub mod Laws
+pub mod CodeLaws
 pub mod Rows
 pub mod View
 pub mod Pairs

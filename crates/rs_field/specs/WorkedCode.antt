@@ -4,6 +4,7 @@ use Rattle.rs_field.specs.Column.{Shard, columns}
 use Rattle.rs_field.specs.Counts.{Rate, default_rate}
 use Rattle.rs_field.specs.Configuration.{configuration}
 use Rattle.rs_field.specs.Code.{Codes, AreRecovery}
+use Rattle.rs_field.specs.CodeLaws.{xor_shards}
 use Rattle.rs_field.specs.Given.{nothing, entered}
 use Rattle.rs_field.specs.Decoder.{DecoderState, IsAgreeing, IsConsistent, Restored}
 
@@ -25,7 +26,15 @@ ConstantRow rate = Recovers rate ((7 ∷ 9 ∷ []) ∷ []) ((7 + 256 * 9) ∷ []
 abbrev pub LineRow : Rate → Type 0
 LineRow rate = Recovers rate (low_bytes (0 ∷ 1 ∷ [])) (0 ∷ 1 ∷ []) (low_bytes (2 ∷ 3 ∷ 4 ∷ []))
 
--- the same polynomial at two points
+-- 1, 1 are a constant; their XOR with the line's 0, 1 is 1, 0, the polynomial 1 + x, whose recovery shards are the XOR of both
+abbrev pub LinearRow : Rate → Type 0
+LinearRow rate =
+    Recovers rate (low_bytes (1 ∷ 1 ∷ [])) (1 ∷ 0 ∷ []) (low_bytes (1 ∷ 1 ∷ 1 ∷ []))
+    × (xor_shards (low_bytes (1 ∷ 1 ∷ [])) (low_bytes (0 ∷ 1 ∷ [])) ≡ low_bytes (1 ∷ 0 ∷ []))
+    × Recovers rate (low_bytes (1 ∷ 0 ∷ [])) (1 ∷ 1 ∷ []) (low_bytes (3 ∷ 2 ∷ 5 ∷ []))
+    × (xor_shards (low_bytes (1 ∷ 1 ∷ 1 ∷ [])) (low_bytes (2 ∷ 3 ∷ 4 ∷ [])) ≡ low_bytes (3 ∷ 2 ∷ 5 ∷ []))
+
+-- the line at two points
 abbrev pub ShortLineRow : Rate → Type 0
 ShortLineRow rate = Recovers rate (low_bytes (0 ∷ 1 ∷ [])) (0 ∷ 1 ∷ []) (low_bytes (2 ∷ 3 ∷ []))
 

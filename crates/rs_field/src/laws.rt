@@ -1,6 +1,7 @@
 //! Laws of the definitions, as contracts of functions that do nothing.
 ghost use Rattle.std.specs.Prelude.{◌≡◌, ◌+◌, ◌^◌, length};
 ghost use Rattle.rs_field.specs.Code.{HasOnePolynomial, HasOneRecovery};
+ghost use Rattle.rs_field.specs.CodeLaws.{HasRecovery, IsLinear, IsColumnwise, HasOneCodeAtOnePower, IsFixedByPlaces, HasOneRestoration, NoticesChanges};
 ghost use Rattle.rs_field.specs.Column.{ColumnsTellShard, IsColumn};
 ghost use Rattle.rs_field.specs.Field.{cantor_basis, polynomial};
 ghost use Rattle.rs_field.specs.Layout.{LaysColumns};
@@ -35,6 +36,23 @@ pub fn code_laws()
     ensures shard { ColumnsTellShard }
     ensures polynomial { HasOnePolynomial }
     ensures recovery { HasOneRecovery }
+{}
+
+/// Every message has recovery shards. The XOR of messages has the XOR of their recovery shards, columns are coded each by
+/// itself, and at counts of one power the low and the high rate are one code.
+pub fn recovery_laws()
+    ensures some { HasRecovery }
+    ensures linear { IsLinear }
+    ensures columns { IsColumnwise }
+    ensures one_code { HasOneCodeAtOnePower }
+{}
+
+/// Shards at k places of a codeword fix its message. So at most one result restores what a decoder was given, and among n
+/// given shards up to n - k changed ones are noticed.
+pub fn codeword_laws()
+    ensures places { IsFixedByPlaces }
+    ensures restored { HasOneRestoration }
+    ensures changes { NoticesChanges }
 {}
 
 /// A shard that lies in a row has its columns as the row's symbols.

@@ -2,7 +2,7 @@
 ghost use Rattle.rs_field.specs.Counts.{low_rate, high_rate, default_rate};
 ghost use Rattle.rs_field.specs.Worked.{Products, ColumnsOfShards, Powers, Supported, Unsupported, OfOneRate, Choices};
 ghost use Rattle.rs_field.specs.Worked.{Validated, Spaces, BlockRows, EncoderRows, DecoderRows, TransformOfTwo, StepBounds};
-ghost use Rattle.rs_field.specs.WorkedCode.{ConstantRow, LineRow, ShortLineRow, CubicRow, PaddedRow, TailRow, ChunkAndTailRow, SumRow, HighLineRow, HighCubicRow, HighPaddedRow, RestoredRow, MixtureRow, SurplusRow};
+ghost use Rattle.rs_field.specs.WorkedCode.{ConstantRow, LineRow, LinearRow, ShortLineRow, CubicRow, PaddedRow, TailRow, ChunkAndTailRow, SumRow, HighLineRow, HighCubicRow, HighPaddedRow, RestoredRow, MixtureRow, SurplusRow};
 ghost use Rattle.rs_field.specs.WorkedCalls.{EncodeOrder, DecodeOrder, NoRecoveryOrder, EncoderRound, DecoderRound, LargestIndex, MemoryOrder};
 
 /// Products of words, and columns of shards with and without a tail.
@@ -33,6 +33,7 @@ pub fn spaces()
 pub fn low_codes()
     ensures constant { ConstantRow low_rate }
     ensures line { LineRow low_rate }
+    ensures linear { LinearRow low_rate }
     ensures short_line { ShortLineRow low_rate }
     ensures cubic { CubicRow low_rate }
     ensures padded { PaddedRow low_rate }
@@ -50,6 +51,7 @@ pub fn high_codes()
 pub fn default_codes()
     ensures constant { ConstantRow default_rate }
     ensures line { LineRow default_rate }
+    ensures linear { LinearRow default_rate }
     ensures padded { PaddedRow default_rate }
     ensures tail { TailRow }
     ensures chunk_and_tail { ChunkAndTailRow }

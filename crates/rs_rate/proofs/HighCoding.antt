@@ -11,7 +11,8 @@ use Rattle.rs_field.specs.Counts.{next_power, supports, is_low, high_rate}
 use Rattle.rs_field.specs.Placement.{placement, high_placement}
 use Rattle.rs_field.proofs.LayoutLemmas.{get-up_to}
 use Rattle.rs_field.proofs.Combination.{sum_below-suc, sum_below-zero, sum_below-same, sum_below-add, forward-same, forward-zero}
-use Rattle.rs_field.proofs.TopBlock.{joined_blocks, values-joined, last-joined, forward-fewer, polynomial_of_terms}
+use Rattle.rs_field.proofs.Coefficients.{forward-fewer, polynomial_of_terms}
+use Rattle.rs_field.proofs.TopBlock.{joined_blocks, values-joined, last-joined}
 use Rattle.rs_rate.specs.Coding.{SumsBlocks, CodesWords}
 use Rattle.rs_field.proofs.NextPower.{next_power-small}
 use Rattle.rs_rate.proofs.HighCounts.{high_small}

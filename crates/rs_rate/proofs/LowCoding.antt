@@ -1,5 +1,5 @@
 -- The coding of the low rate: what the transforms of one column make of the originals, and that it is the code.
-use Rattle.std.proofs.Common.{◌≡◌, ℕ, true, ◌+◌, ◌-◌, ◌^◌, ◌<◌, ◌≤◌, List, min, sym, ap, ◌∙◌, arith, inl, inr, zero-add}
+use Rattle.std.proofs.Common.{◌≡◌, ℕ, true, ◌+◌, ◌-◌, ◌<◌, ◌≤◌, List, min, sym, ap, ◌∙◌, arith, inl, inr, zero-add}
 use Rattle.std.specs.Prelude.{slice_index}
 use Rattle.std.proofs.lemmas.Bool.{cases_lt}
 use Rattle.rs_field.specs.Polynomial.{value}
@@ -9,11 +9,10 @@ use Rattle.rs_field.specs.Placement.{placement, low_placement}
 use Rattle.rs_field.specs.Code.{AreRecoveryWords}
 use Rattle.rs_field.specs.Layout.{up_to}
 use Rattle.rs_field.proofs.Combination.{forward-same, forward-moved}
-use Rattle.rs_field.proofs.Coefficients.{combination_polynomial}
+use Rattle.rs_field.proofs.Coefficients.{polynomial_of_terms}
 use Rattle.rs_field.proofs.LayoutLemmas.{get-up_to}
 use Rattle.rs_rate.specs.Coding.{CodesLow, CodesWords}
-use Rattle.rs_field.proofs.NextPower.{next_power-small}
-use Rattle.rs_rate.proofs.PowerLemmas.{low_small, low_fits}
+use Rattle.rs_rate.proofs.PowerLemmas.{low_fits}
 
 -- a transform at a shift takes its values from there on
 from_start : (n shift : ℕ) (f : ℕ → ℕ) (i : ℕ) → forward n shift f i ≡ forward n 0 f (shift + i)
@@ -68,27 +67,24 @@ coded k r size old cleared combination further new originals zeros back same val
         ∙ forward-same size 0 (λ q. combination (0 + q)) combination j (λ q hq. ap combination (zero-add q))
 
 -- in a column that was coded so, the recovery words are values of the polynomial through originals and zeros
-pub recovery_words : (k r e : ℕ) (old new : ℕ → ℕ) (words recovery : List ℕ) → e ≤ 16 → next_power k ≡ 2 ^ e → k ≤ next_power k → CodesLow k r (next_power k) old new
+recovery_words : (k r : ℕ) (old new : ℕ → ℕ) (words recovery : List ℕ) → CodesLow k r (next_power k) old new
     → ((j : ℕ) → j < k → slice_index words j ≡ old j) → ((i : ℕ) → i < r → slice_index recovery i ≡ new i)
     → next_power k + r ≤ 65536 → AreRecoveryWords low_rate k r words recovery
 unfolding placement low_placement is_low
-recovery_words k r e old new words recovery few power room (combination, originals, zeros, values) read_words read_recovery fits =
-    let polynomial = combination_polynomial e combination few in
-    let of_size : (x : ℕ) → value polynomial.0 x ≡ forward (next_power k) 0 combination x
-    = λ x. polynomial.3 x ∙ ap (λ m. forward m 0 combination x) (sym power) in (
+recovery_words k r old new words recovery (combination, originals, zeros, values) read_words read_recovery fits =
+    let polynomial = polynomial_of_terms (next_power k) combination (omega arith) in (
       polynomial.0,
       record {
-        degree = polynomial.1 ∙ sym power;
+        degree = polynomial.1;
         coefficients = polynomial.2;
-        originals = λ j h. ap (value polynomial.0) (zero-add j) ∙ of_size j ∙ originals j h ∙ sym (read_words j h);
-        zeros = λ x low high. of_size x ∙ zeros x low high;
+        originals = λ j h. ap (value polynomial.0) (zero-add j) ∙ polynomial.3 j ∙ originals j h ∙ sym (read_words j h);
+        zeros = λ x low high. polynomial.3 x ∙ zeros x low high;
       },
-      (λ i h. read_recovery i h ∙ values i h ∙ sym (of_size (next_power k + i))),
+      (λ i h. read_recovery i h ∙ values i h ∙ sym (polynomial.3 (next_power k + i))),
     )
 
 -- in each column they are the recovery words
 pub codes_words : (k r : ℕ) (old new : ℕ → ℕ) → supports low_rate k r ≡ true → CodesLow k r (next_power k) old new → CodesWords low_rate k r old new
 codes_words k r old new supported coded_column =
-    let known = next_power-small k (low_small k r supported) in
-    recovery_words k r known.0 old new (up_to k old) (up_to r new) known.1 known.2 known.3 coded_column
+    recovery_words k r old new (up_to k old) (up_to r new) coded_column
     (λ j h. get-up_to k old j 0 h) (λ i h. get-up_to r new i 0 h) (low_fits k r supported).2

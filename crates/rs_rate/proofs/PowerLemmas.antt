@@ -1,51 +1,14 @@
 -- Powers of two, and counts that a rate supports.
-use Rattle.std.proofs.Common.{◌≡◌, ℕ, zero, suc, ◌+◌, ◌-◌, ◌*◌, ◌/◌, ◌%◌, ◌^◌, ◌<◌, ◌≤◌, true, false, max, refl, sym, ap, ◌∙◌, subst, arith, inl, inr, pow_mono, pow-suc}
+use Rattle.std.proofs.Common.{◌≡◌, ℕ, ◌+◌, ◌-◌, ◌*◌, ◌/◌, ◌%◌, ◌^◌, ◌<◌, ◌≤◌, true, false, refl, sym, ap, ◌∙◌, arith, inl, inr}
 use Rattle.std.specs.Prelude.{nat_le, nat_lt, ◌&&◌}
 use Rattle.std.proofs.lemmas.Bool.{and_parts, cases_lt, le-leb, lt-leb, lt-ltb, leb-true, ltb-true}
 use Rattle.std.proofs.lemmas.Nat.{pow_pos, pow-add, div-add-mod'}
 use Rattle.std.proofs.Math.Nat.{div-eq_of_lt-le, mod-eq_of_lt, mul-le-mul_right}
 use Rattle.std.specs.Int.{next_multiple_of}
 use Rattle.std.proofs.Math.Bool.{and-false}
-use Rattle.rs_field.specs.Search.{first_below}
-use Rattle.rs_field.proofs.Search.{first_below-is, first_below-passes}
-use Rattle.rs_field.proofs.NextPower.{next_power-small}
+use Rattle.rs_field.proofs.NextPower.{next_power-small, next_power-large}
 use Rattle.rs_field.specs.Counts.{next_power, supports, is_low, low_rate}
 use Rattle.rs_field.specs.Placement.{rounded_up, encoder_rows}
-
--- the power of two that is not below n, of which half is below n
-pub next_power-is : (n p x : ℕ) → p ≡ 2 ^ x → x < 64 → n ≤ p → p / 2 < max 1 n → p ≡ next_power n
-unfolding next_power
-next_power-is n p x power few above half =
-    power ∙ ap (λ d. 2 ^ d) (sym (first_below-is 64 (λ d. nat_le n (2 ^ d)) x few (le-leb n (2 ^ x) (omega arith)) (λ j less. lt-leb n (2 ^ j) (below j less))))
-  where
-    halved : (j y : ℕ) → j < suc y → 2 ^ suc y / 2 < max 1 n → 2 ^ j < n
-    halved j y less h =
-        let even : 2 ^ suc y ≡ 2 ^ y * 2 = pow-suc 2 y in
-        let le : 2 ^ j ≤ 2 ^ y = pow_mono (omega arith) in
-        let positive : 0 < 2 ^ j = pow_pos j in
-        omega arith
-
-    at : (j z : ℕ) → z ≡ x → j < z → 2 ^ z / 2 < max 1 n → 2 ^ j < n
-    at j zero e less h = absurd (let no : ⊥ = omega arith in no)
-    at j (suc y) e less h = halved j y less h
-
-    below : (j : ℕ) → j < x → 2 ^ j < n
-    below j less = at j x refl less (subst (λ (q : ℕ). q / 2 < max 1 n) power half)
-
--- the power of a large number is large
-pub next_power-large : (n : ℕ) → 65536 < n → 65536 < next_power n
-unfolding next_power
-next_power-large n large =
-    elim (cases_lt 65536 (2 ^ first_below 64 (λ e. nat_le n (2 ^ e)))) [
-      | inl above ↦ above
-      | inr small ↦
-          let few : first_below 64 (λ e. nat_le n (2 ^ e)) < 17 = exponent (first_below 64 (λ e. nat_le n (2 ^ e))) small in
-          let no : n ≤ 2 ^ first_below 64 (λ e. nat_le n (2 ^ e)) = leb-true n (2 ^ first_below 64 (λ e. nat_le n (2 ^ e))) (first_below-passes 64 (λ e. nat_le n (2 ^ e)) (omega arith)) in
-          absurd (omega arith)
-    ]
-  where
-    exponent : (d : ℕ) → 2 ^ d ≤ 65536 → d < 17
-    exponent d h = elim (cases_lt d 17) [ inl few ↦ few | inr many ↦ let big : 2 ^ 17 ≤ 2 ^ d = pow_mono many in absurd (omega arith) ]
 
 low_test : (k r : ℕ) → supports low_rate k r ≡ (nat_lt 0 k && nat_lt 0 r && nat_le (next_power k + r) 65536)
 unfolding supports

@@ -1,17 +1,18 @@
-use Rattle.std.proofs.Common.{◌≡◌, Bool, true, false, inl, inr, ℕ, zero, suc, ◌+◌, ◌<◌, List, [], ◌∷◌, length, bit_xor, refl, sym, ap, ◌∙◌, subst, arith}
-use Rattle.std.specs.Prelude.{Some, is_some, IsSome}
+use Rattle.std.proofs.Common.{◌≡◌, Bool, true, cond, inl, inr, ℕ, zero, suc, ◌+◌, ◌<◌, List, [], ◌∷◌, length, bit_xor, refl, sym, ap, ◌∙◌, subst, arith}
+use Rattle.std.specs.Prelude.{Some, None, ◌&&◌}
 use Rattle.std.specs.Int.Bits.{xor_zero_r}
+use Rattle.std.proofs.lemmas.Bool.{le-ltb}
 use Rattle.std.proofs.lemmas.List.{ext_get_or}
 use Rattle.rs_field.specs.Search.{first_below}
 use Rattle.rs_field.specs.Field.{product, combine, bits, from_bits, cantor_basis, monomials, carryless, reduce}
 use Rattle.rs_field.specs.Polynomial.{value}
-use Rattle.rs_field.specs.Column.{Shard, IsShard, AreShards, shard_at, column, columns}
+use Rattle.rs_field.specs.Column.{Shard, AreShards, shard_at, column, columns}
 use Rattle.rs_field.specs.Counts.{next_power, is_low, default_rate}
 use Rattle.rs_field.specs.Placement.{placement, low_placement, high_placement}
 use Rattle.rs_field.specs.Configuration.{configuration}
 use Rattle.rs_field.specs.Code.{Codes, AreRecoveryWords, AreRecovery}
-use Rattle.rs_field.specs.Given.{Shards, nothing, entered, AreAmong}
-use Rattle.rs_field.specs.Decoder.{IsAgreeing, IsConsistent, Restored}
+use Rattle.rs_field.specs.Given.{Shards, nothing, entered}
+use Rattle.rs_field.specs.Decoder.{IsAgreeing, IsConsistent, missing_of, Restored}
 use Rattle.rs_field.specs.WorkedCode.{low_bytes, two_given, surplus_given, MixtureRow}
 use Rattle.rs_field.proofs.Linear.{passes_below}
 use Rattle.rs_field.proofs.Product.{product_zero}
@@ -113,38 +114,22 @@ only m a =
 abbrev out : Shards
 out = entered (entered nothing 0 (0 ∷ 0 ∷ [])) 1 (1 ∷ 0 ∷ [])
 
--- what is restored is the message's
-out_among : AreAmong out message
-out_among = entered_among _ 1 (1 ∷ 0 ∷ []) message (entered_among nothing 0 (0 ∷ 0 ∷ []) message (nothing_among message) refl) refl
-
--- both originals are restored
-out_some : (i : ℕ) → i < 2 → IsSome (out i)
-unfolding entered
-out_some zero h = refl
-out_some (suc zero) h = refl
-out_some (suc (suc i)) h = absurd (let no : ⊥ = omega arith in no)
-
--- nothing else is restored
-out_below : (i : ℕ) → IsSome (out i) → i < 2
-out_below i e =
-    elim (entered_cases (entered nothing 0 (0 ∷ 0 ∷ [])) 1 i (1 ∷ 0 ∷ [])) [
-      | inl one ↦ omega (arith, one.0)
-      | inr other ↦ elim (entered_cases nothing 0 i (0 ∷ 0 ∷ [])) [
-        | inl first ↦ omega (arith, first.0)
-        | inr none ↦ let no : ◌≡◌ {A = Bool} false true = sym (ap is_some (other.1 ∙ none.1)) ∙ e in cc
-      ]
+-- both originals are restored, and nothing else
+out_missing : (i : ℕ) → out i ≡ missing_of two_given message i
+unfolding entered missing_of
+out_missing zero = refl
+out_missing (suc zero) = refl
+out_missing (suc (suc i)) = none ∙ sym (ap (λ (b : Bool). cond (b && true) (Some (shard_at message (suc (suc i)))) None) (le-ltb (suc (suc i)) 2 (omega arith)))
+  where
+    none : out (suc (suc i)) ≡ None
+    none = elim (entered_cases (entered nothing 0 (0 ∷ 0 ∷ [])) 1 (suc (suc i)) (1 ∷ 0 ∷ [])) [
+      | inl one ↦ absurd (omega (arith, one.0))
+      | inr other ↦ elim (entered_cases nothing 0 (suc (suc i)) (0 ∷ 0 ∷ [])) [ inl first ↦ absurd (omega (arith, first.0)) | inr last ↦ other.1 ∙ last.1 ]
     ]
 
 -- so the message is restored
 restored : Restored two_given out
-restored = record {
-  filled = record {
-    missing = λ i. (λ h. (out_below i h, refl), λ h. out_some i h.0);
-    shards = λ i shard e. subst (IsShard 2) (out_among i shard e) (message_shards.each i [] (out_below i (ap is_some e)));
-  };
-  agreeing = λ m a i shard e. ap (λ (l : List Shard). shard_at l i) (only m a) ∙ out_among i shard e;
-  no_surplus = λ _. (message, agrees);
-}
+restored = record { message = message; agrees = agrees; only = only; missing = out_missing }
 
 -- a message of four originals
 abbrev four : List Shard

@@ -6,17 +6,19 @@ use Rattle.rs_field.specs.Polynomial.{value}
 use Rattle.rs_field.specs.Column.{column}
 use Rattle.rs_field.specs.Counts.{next_power, is_low, default_rate}
 use Rattle.rs_field.specs.Placement.{placement, low_placement, high_placement}
-use Rattle.rs_field.specs.WorkedCode.{ConstantRow, LineRow, PaddedRow, TailRow, ChunkAndTailRow, SumRow, HighLineRow, HighCubicRow, HighPaddedRow}
+use Rattle.rs_field.specs.CodeLaws.{xor_bytes, xor_shards}
+use Rattle.rs_field.specs.WorkedCode.{ConstantRow, LineRow, LinearRow, PaddedRow, TailRow, ChunkAndTailRow, SumRow, HighLineRow, HighCubicRow, HighPaddedRow}
 use Rattle.rs_field.proofs.Linear.{passes_below}
 use Rattle.rs_field.proofs.Decided.{codes_from, recovery_from, recovery_from_high}
 use Rattle.rs_field.proofs.worked.default_codes.Goals as goal
 
 -- where k's power is the smaller each polynomial passes the tests of the low rate
-low : ConstantRow default_rate × LineRow default_rate × PaddedRow default_rate × TailRow
-unfolding passes_below placement low_placement high_placement is_low next_power first_below value product combine bits from_bits cantor_basis monomials carryless reduce column
+low : ConstantRow default_rate × LineRow default_rate × LinearRow default_rate × PaddedRow default_rate × TailRow
+unfolding passes_below placement low_placement high_placement is_low next_power first_below value product combine bits from_bits cantor_basis monomials carryless reduce column xor_bytes xor_shards
 low = (
   (codes_from _ _ _ _ _ refl, recovery_from _ _ _ ((2311 ∷ []) ∷ []) refl),
   (codes_from _ _ _ _ _ refl, recovery_from _ _ _ ((0 ∷ 1 ∷ []) ∷ []) refl),
+  ((codes_from _ _ _ _ _ refl, recovery_from _ _ _ ((1 ∷ 0 ∷ []) ∷ []) refl), refl, (codes_from _ _ _ _ _ refl, recovery_from _ _ _ ((1 ∷ 1 ∷ []) ∷ []) refl), refl),
   (codes_from _ _ _ _ _ refl, recovery_from _ _ _ ((0 ∷ 3 ∷ 2 ∷ 1 ∷ []) ∷ []) refl),
   recovery_from _ _ _ ((0 ∷ 0 ∷ []) ∷ (0 ∷ 1 ∷ []) ∷ []) refl,
 )
@@ -40,8 +42,9 @@ pub returns : goal.returns
 returns c = record {
   constant = low.0;
   line = low.1;
-  padded = low.2;
-  tail = low.3;
+  linear = low.2;
+  padded = low.3;
+  tail = low.4;
   chunk_and_tail = chunk_and_tail;
   sum = high.0;
   high_line = high.1;

@@ -2,7 +2,8 @@ use Rattle.std.proofs.Common.{◌+◌, ◌<◌, sym, ap, ◌∙◌, arith, inl, 
 use Rattle.std.specs.Prelude.{nat_le}
 use Rattle.std.proofs.lemmas.Bool.{cases_lt, lt-leb, le-leb}
 use Rattle.rs_field.specs.Counts.{supports, next_power, low_rate}
-use Rattle.rs_rate.proofs.PowerLemmas.{low_no_originals, low_no_recovery, low_not_supported, low_supported, next_power-large}
+use Rattle.rs_rate.proofs.PowerLemmas.{low_no_originals, low_no_recovery, low_not_supported, low_supported}
+use Rattle.rs_field.proofs.NextPower.{next_power-large}
 use Rattle.rs_rate.proofs.rate.counts.low_supports.Goals as goal
 
 pub returns-then-original_count-eq0 : goal.returns-then-original_count-eq0
