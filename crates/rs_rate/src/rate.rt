@@ -130,6 +130,7 @@ pub trait Rate<E: Engine>: Sized {
 pub trait RateEncoder<E: Engine>: Sized {
     ghost use Rattle.std.specs.Prelude.{◌≡◌, ◌≢◌, ◌≤◌, ℕ, Err, IfOk, IfSome, OnOk, OnErr};
     ghost use Rattle.std.specs.Borrow.{sem};
+    ghost use Rattle.rs_field.specs.Bounds.{EncodeCountsAt};
     ghost use Rattle.rs_field.specs.Counts.{Rate as WhichRate, supports as supports_counts};
     ghost use Rattle.rs_field.specs.Placement.{encoder_rows};
     ghost use Rattle.rs_field.specs.Outcome.{answer_of, state_after};
@@ -218,6 +219,7 @@ pub trait RateEncoder<E: Engine>: Sized {
     /// Refused with `TooFewOriginalShards` where originals are missing; a refusal changes nothing.
     fn encode(&mut self, steps: &mut Steps) -> Result<EncoderResult<'_>, Error>
         ensures answer { EncodeAnswers (state self.old) (answered_shards result) }
+        ensures counts { let c = (state self.old).configuration in EncodeCountsAt rate c.original_count c.recovery_count steps.old steps.new }
         ensures* ends { sem 𝓛 (EndsWith Self.row self.entry (λ now. (state now ≡ after_encode (state self.old)) × (engine_of now ≡ engine_of self.old) × (room now ≡ room self.old))) };
 
     /// The engine and the rows, for another encoder: they have room for this one's configuration.
