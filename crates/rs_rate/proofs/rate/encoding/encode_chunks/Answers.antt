@@ -38,14 +38,14 @@ returns-clause-recovery g c =
     let size = c.args.shape.shard_bytes in
     let even = (valid-size (configuration_of g.C.Code.rate c.args.shape) c.requires.valid).1 in
     are_recovery (configuration_of g.C.Code.rate c.args.shape) (shard_laid_out c.args.chunks.now size) (shard_in_order c.move_tails.new.chunks size)
-    (λ i few. subst (λ s. IsShard size s) (sym (c.move_tails.ensures.moved i few)) (c.laid_out_are_bytes.ensures i few))
+    (λ i few. subst (λ s. IsShard size s) (sym (c.move_tails.ensures.moved i (omega arith))) (c.laid_out_are_bytes.ensures i few))
     (λ j inside.
     let read = λ (xs : Chunks) (i : ℕ). column-put xs size i j even inside in
     words-read g.C.Code.rate k r
     (word_in c.args.chunks.now (row_len size) (j / 32) (j % 32)) (word_in c.code_chunks.new.chunks (row_len size) (j / 32) (j % 32))
     (λ q. column j (shard_laid_out c.args.chunks.now size q)) (λ q. column j (shard_in_order c.move_tails.new.chunks size q))
     (λ i few. read c.args.chunks.now i)
-    (λ i few. ap (column j) (c.move_tails.ensures.moved i few) ∙ read c.code_chunks.new.chunks i)
+    (λ i few. ap (column j) (c.move_tails.ensures.moved i (omega arith)) ∙ read c.code_chunks.new.chunks i)
     (c.code_chunks.ensures.words (j / 32) (j % 32) (omega (arith, inside)) (omega arith)))
 
 pub returns-clause-counts : goal.returns-clause-counts

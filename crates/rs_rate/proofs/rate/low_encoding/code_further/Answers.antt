@@ -65,7 +65,7 @@ loop-start-preserved g c =
           c.min-wanted.ensures loop.first
           (λ q small. ap (λ x. symbol x s) (loop.combination q k inside small))
           (λ j from to below. loop.values k s j inside symbols from to below)
-          (λ q small. ap (λ x. symbol x s) (c.copy_rows.ensures.copied q k (omega arith) small) ∙ ap (word c.loop-start.«data» k s) (zero-add q))
+          (λ q small. ap (λ x. symbol x s) (c.copy_rows.ensures.copied q k (omega arith) (omega arith)) ∙ ap (word c.loop-start.«data» k s) (zero-add q))
           (λ j before. ap (λ x. symbol x s) (kept_before j k inside before))
           (λ j wanted. c.fft.ensures.values k s j (omega arith) symbols wanted)
           (λ j before. ap (λ x. symbol x s) (kept_after j k inside before))
