@@ -218,7 +218,8 @@ pub trait RateEncoder<E: Engine>: Sized {
 
     /// Lends the recovery shards of the given originals, and ends the round.
     ///
-    /// Refused with `TooFewOriginalShards` where originals are missing; a refusal changes nothing.
+    /// Refused with `TooFewOriginalShards` where originals are missing; a refusal changes nothing. With c blocks of m rows
+    /// at most (c + 1) * (m/2 * log2 m) + 2 * c * m row steps are counted, no pair sum and no product.
     fn encode(&mut self, steps: &mut Steps) -> Result<EncoderResult<'_>, Error>
         ensures answer { EncodeAnswers (state self.old) (answered_shards result) }
         ensures counts { let c = (state self.old).configuration in EncodeCountsAt rate c.original_count c.recovery_count steps.old steps.new }
