@@ -57,5 +57,6 @@ returns-clause-counts g c =
     let block : ℕ = c.args.block in
     let t : ℕ = transform_steps c.args.block in
     let all = high_total c.args.original_count c.args.recovery_count c.args.block c.args.«data».now.shard_count c.requires.supported c.requires.block c.requires.rows in
-    counts_both (block + t + further_blocks block c.args.«data».now.shard_count * (2 * block + t)) t (encode_steps_at high_rate c.args.original_count c.args.recovery_count - c.args.recovery_count)
+    counts_both (block + t + further_blocks block c.args.«data».now.shard_count * (2 * block + t)) t
+    (encode_steps_at high_rate c.args.original_count c.args.recovery_count - c.args.recovery_count)
     c.args.steps.now c.sum_blocks.new.steps c.fft.new.steps (omega (arith, all)) c.sum_blocks.ensures.counts c.fft.ensures.counts

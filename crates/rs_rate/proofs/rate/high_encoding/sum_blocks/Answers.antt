@@ -16,7 +16,9 @@ use Rattle.rs_rate.proofs.rate.high_encoding.sum_blocks.Goals as goal
 
 pub loop-start-init : goal.loop-start-init
 loop-start-init g c =
-    let size = c.args.block in
+    let block : ℕ = c.args.block in
+    let turn : ℕ = 2 * c.args.block + transform_steps c.args.block in
+    let first : ℕ = c.args.block + transform_steps c.args.block in
     let some : 0 < c.args.block = (let p = pow_pos c.requires.power.0 in omega (arith, c.requires.power.1)) in
     record {
       first = omega arith;
@@ -29,8 +31,7 @@ loop-start-init g c =
           sums-start c.args.block c.args.original_count (word c.args.«data».now k s) (word c.pass_block.new.«data» k s) some
           (λ i few given. c.pass_block.ensures.values k s i inside symbols few given)
           (λ i few past. c.pass_block.ensures.zeros k s i inside symbols few past);
-      counts = counts_within (c.args.block + transform_steps c.args.block) (c.args.block + transform_steps c.args.block + further_blocks c.args.block c.args.block * (2 * c.args.block + transform_steps c.args.block))
-          c.args.steps.now c.pass_block.new.steps (omega arith) c.pass_block.ensures.counts;
+      counts = counts_within first (first + further_blocks block block * turn) c.args.steps.now c.pass_block.new.steps (omega arith) c.pass_block.ensures.counts;
     }
 
 pub pass_block-requires-in-loop-start-clause-within :
@@ -77,8 +78,8 @@ loop-start-preserved g c =
           (λ q few. ap (λ x. symbol x s) (outside_cell _ _ now passed pass.shape pass.others q k (omega arith) (inl (omega arith))))
           (λ q few. c.xor_within.ensures.sums q k s few (omega arith) symbols)
           (loop.sums k s inside symbols);
-      counts = counts_both (first + further_blocks block c.loop-start.start * turn) turn (first + further_blocks block (c.loop-start.start + block) * turn) c.args.steps.now c.loop-start.steps c.xor_within.new.steps
-          (omega (arith, next)) loop.counts
+      counts = counts_both (first + further_blocks block c.loop-start.start * turn) turn (first + further_blocks block (c.loop-start.start + block) * turn)
+          c.args.steps.now c.loop-start.steps c.xor_within.new.steps (omega (arith, next)) loop.counts
           (counts_both first block turn c.loop-start.steps c.pass_block-in-loop-start.new.steps c.xor_within.new.steps (omega arith) pass.counts
           (counts_rows block c.pass_block-in-loop-start.new.steps c.xor_within.new.steps c.xor_within.ensures.counts));
     }
@@ -98,4 +99,5 @@ returns-clause-counts g c =
     let loop = c.loop-start.invariant in
     let some : 0 < c.args.block = (let p = pow_pos c.requires.power.0 in omega (arith, c.requires.power.1)) in
     let less = further-within c.loop-start.start c.args.«data».now.shard_count c.args.block (2 * c.args.block + transform_steps c.args.block) some (omega (arith, loop.within)) in
-    counts_within (first + further_blocks block c.loop-start.start * turn) (first + further_blocks block rows * turn) c.args.steps.now c.loop-start.steps (omega (arith, less)) loop.counts
+    counts_within (first + further_blocks block c.loop-start.start * turn) (first + further_blocks block rows * turn)
+    c.args.steps.now c.loop-start.steps (omega (arith, less)) loop.counts

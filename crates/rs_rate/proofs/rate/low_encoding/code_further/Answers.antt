@@ -70,8 +70,8 @@ loop-start-preserved g c =
           (λ j wanted. c.fft.ensures.values k s j (omega arith) symbols wanted)
           (λ j before. ap (λ x. symbol x s) (kept_after j k inside before))
           i low high few;
-      counts = counts_both (further_blocks block c.loop-start.start * step) step (further_blocks block (c.loop-start.start + block) * step) c.args.steps.now c.loop-start.steps c.fft.new.steps
-          (further-next c.loop-start.start block step some loop.first) loop.counts
+      counts = counts_both (further_blocks block c.loop-start.start * step) step (further_blocks block (c.loop-start.start + block) * step)
+          c.args.steps.now c.loop-start.steps c.fft.new.steps (further-next c.loop-start.start block step some loop.first) loop.counts
           (counts_then block (transform_steps block) c.loop-start.steps c.copy_rows.new.steps c.fft.new.steps
           (counts_rows block c.loop-start.steps c.copy_rows.new.steps c.copy_rows.ensures.counts) c.fft.ensures.counts);
     }

@@ -101,12 +101,11 @@ pub returns-clause-counts : goal.returns-clause-counts
 returns-clause-counts g c =
     let t : ℕ = transform_steps c.args.block in
     let cleared : ℕ = c.args.block - c.args.original_count in
-    let rows : ℕ = c.ifft.new.«data».shard_count in
     let further : ℕ = further_blocks c.args.block c.ifft.new.«data».shard_count * (c.args.block + transform_steps c.args.block) in
     let all = low_total c.args.original_count c.args.recovery_count c.args.block c.ifft.new.«data».shard_count c.requires.supported c.requires.block
     (c.ifft.ensures.shape.count ∙ c.clear_rows.ensures.shape.count ∙ c.requires.rows) in
-    counts_both (cleared + t + further) t (encode_steps_at low_rate c.args.original_count c.args.recovery_count - c.args.recovery_count) c.args.steps.now c.code_further.new.steps c.fft.new.steps
-    (omega (arith, all))
+    counts_both (cleared + t + further) t (encode_steps_at low_rate c.args.original_count c.args.recovery_count - c.args.recovery_count)
+    c.args.steps.now c.code_further.new.steps c.fft.new.steps (omega (arith, all))
     (counts_then (cleared + t) further c.args.steps.now c.ifft.new.steps c.code_further.new.steps
     (counts_then cleared t c.args.steps.now c.clear_rows.new.steps c.ifft.new.steps
     (counts_rows cleared c.args.steps.now c.clear_rows.new.steps c.clear_rows.ensures.counts) c.ifft.ensures.counts)
