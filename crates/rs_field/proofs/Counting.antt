@@ -15,6 +15,17 @@ counts_rows n a b (x, y, z) = record {
   products_most = omega arith;
 }
 
+-- what counts nothing keeps any bound
+pub counts_none : (m n q : ℕ) (a : Steps) → CountsUpTo m n q a a
+counts_none m n q a = record {
+  row_steps_rise = omega arith;
+  pair_sums_rise = omega arith;
+  products_rise = omega arith;
+  row_steps_most = omega arith;
+  pair_sums_most = omega arith;
+  products_most = omega arith;
+}
+
 -- bounds of two calls add up
 pub counts_then : (m n : ℕ) (a b c : Steps) → CountsUpTo m 0 0 a b → CountsUpTo n 0 0 b c → CountsUpTo (m + n) 0 0 a c
 counts_then m n a b c p q = record {

@@ -34,13 +34,21 @@ log2 n = first_below 64 (λ d. nat_le n (2 ^ d))
 unfoldable pub transform_steps : ℕ → ℕ
 transform_steps n = n / 2 * log2 n
 
--- the row steps of an encode with c blocks of m rows
+-- the row steps of an encode with c blocks of m rows: a transform for each block and one more, and two steps for each row
 unfoldable pub encode_steps : ℕ → ℕ → ℕ
 encode_steps c m = (c + 1) * transform_steps m + 2 * c * m
 
--- the row steps of a decode with w rows
+-- the row steps of an encode at these counts
+abbrev pub encode_steps_at : Rate → ℕ → ℕ → ℕ
+encode_steps_at rate k r = encode_steps (encoder_rows rate k r / block_rows rate k r) (block_rows rate k r)
+
+-- the row steps of a decode with w rows: three transforms, and four steps for each row, where testing a row for zero counts as one
 unfoldable pub decode_steps : ℕ → ℕ
-decode_steps w = 3 * w / 2 * log2 w + 3 * w
+decode_steps w = 3 * w / 2 * log2 w + 4 * w
+
+-- the row steps of a decode at these counts
+abbrev pub decode_steps_at : Rate → ℕ → ℕ → ℕ
+decode_steps_at rate k r = decode_steps (decoder_rows rate k r)
 
 -- what a Walsh-Hadamard transform of n entries may count: n/2 * log2 n pair sums
 abbrev pub WalshCounts : ℕ → Steps → Steps → Type 0
@@ -58,18 +66,10 @@ TransformCounts n old new = CountsUpTo (transform_steps n) 0 0 old new
 abbrev pub RowProductCounts : Steps → Steps → Type 0
 RowProductCounts old new = CountsUpTo 1 0 0 old new
 
--- what an encode with c blocks of m rows may count
-abbrev pub EncodeCounts : ℕ → ℕ → Steps → Steps → Type 0
-EncodeCounts c m old new = CountsUpTo (encode_steps c m) 0 0 old new
-
 -- what an encode at these counts may count
 abbrev pub EncodeCountsAt : Rate → ℕ → ℕ → Steps → Steps → Type 0
-EncodeCountsAt rate k r old new = EncodeCounts (encoder_rows rate k r / block_rows rate k r) (block_rows rate k r) old new
-
--- what a decode with w rows may count
-abbrev pub DecodeCounts : ℕ → Steps → Steps → Type 0
-DecodeCounts w old new = CountsUpTo (decode_steps w) 1048576 65536 old new
+EncodeCountsAt rate k r old new = CountsUpTo (encode_steps_at rate k r) 0 0 old new
 
 -- what a decode at these counts may count
 abbrev pub DecodeCountsAt : Rate → ℕ → ℕ → Steps → Steps → Type 0
-DecodeCountsAt rate k r old new = DecodeCounts (decoder_rows rate k r) old new
+DecodeCountsAt rate k r old new = CountsUpTo (decode_steps_at rate k r) 1048576 65536 old new

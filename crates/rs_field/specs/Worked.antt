@@ -7,7 +7,7 @@ use Rattle.rs_field.specs.Counts.{low_rate, high_rate, default_rate, next_power,
 use Rattle.rs_field.specs.Placement.{block_rows, encoder_rows, decoder_rows}
 use Rattle.rs_field.specs.Configuration.{configuration, validated, started}
 use Rattle.rs_field.specs.Transform.{IsForward, IsBackward}
-use Rattle.rs_field.specs.Bounds.{transform_steps, encode_steps, decode_steps}
+use Rattle.rs_field.specs.Bounds.{transform_steps, encode_steps_at, decode_steps_at}
 
 -- products of small words
 abbrev pub Products : Type 0
@@ -103,9 +103,11 @@ pair a b (suc (suc i)) = 0
 abbrev pub TransformOfTwo : Type 0
 TransformOfTwo = IsForward 2 2 4 (pair 2 4) (pair 4 0) × IsBackward 2 4 (pair 4 0) (pair 2 4)
 
--- row steps of transforms, encodes and decodes
+-- the row steps that transforms of so many rows, and encodes and decodes at these counts, may count
 abbrev pub StepBounds : Type 0
 StepBounds =
     (map transform_steps (1 ∷ 2 ∷ 8 ∷ 65536 ∷ []) ≡ 0 ∷ 1 ∷ 12 ∷ 524288 ∷ [])
-    × (encode_steps 1 1 ≡ 2) × (encode_steps 2 2 ≡ 11) × (encode_steps 1 4 ≡ 16)
-    × (map decode_steps (2 ∷ 8 ∷ 65536 ∷ []) ≡ 9 ∷ 60 ∷ 1769472 ∷ [])
+    × (encode_steps_at low_rate 1 1 ≡ 2) × (encode_steps_at low_rate 2 3 ≡ 11) × (encode_steps_at high_rate 3 2 ≡ 11)
+    × (encode_steps_at low_rate 4 4 ≡ 16) × (encode_steps_at high_rate 4 4 ≡ 16)
+    × (decode_steps_at low_rate 1 1 ≡ 11) × (decode_steps_at high_rate 1 1 ≡ 11) × (decode_steps_at low_rate 4 4 ≡ 68) × (decode_steps_at high_rate 4 4 ≡ 68)
+    × (decode_steps_at low_rate 32768 32768 ≡ 1835008) × (decode_steps_at high_rate 32768 32768 ≡ 1835008)

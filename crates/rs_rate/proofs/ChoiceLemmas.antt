@@ -16,13 +16,13 @@ default_too_many : (k r : ℕ) → 65536 < min (next_power k) (next_power r) + m
 default_too_many k r more =
     default_test k r ∙ rw (lt-leb (min (next_power k) (next_power r) + max k r) 65536 more) (and-false (nat_lt 0 k && nat_lt 0 r))
 
-pub default_not_supported : (k r : ℕ) → 65536 < max k r → supports default_rate k r ≡ false
+default_not_supported : (k r : ℕ) → 65536 < max k r → supports default_rate k r ≡ false
 default_not_supported k r more = default_too_many k r (omega arith)
 
-pub default_no_originals : (r : ℕ) → supports default_rate 0 r ≡ false
+default_no_originals : (r : ℕ) → supports default_rate 0 r ≡ false
 default_no_originals r = default_test 0 r
 
-pub default_no_recovery : (k : ℕ) → supports default_rate k 0 ≡ false
+default_no_recovery : (k : ℕ) → supports default_rate k 0 ≡ false
 default_no_recovery k = default_test k 0 ∙ ap (λ b. b && nat_le (min (next_power k) (next_power 0) + max k 0) 65536) (and-false (nat_lt 0 k))
 
 -- the default rate's choice by the two powers

@@ -10,3 +10,4 @@ pub mod RateLemmas
 pub mod HighCounts
 pub mod HighCoding
 pub mod Coded
+pub mod EncodeCounting

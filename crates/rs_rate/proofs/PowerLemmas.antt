@@ -20,12 +20,6 @@ low_supported k r some_k some_r fit = low_test k r ∙ rw (lt-ltb 0 k some_k, lt
 pub low_not_supported : (k r : ℕ) → 65536 < next_power k + r → supports low_rate k r ≡ false
 low_not_supported k r more = low_test k r ∙ rw (lt-leb (next_power k + r) 65536 more) (and-false (nat_lt 0 k && nat_lt 0 r))
 
-pub low_no_originals : (r : ℕ) → supports low_rate 0 r ≡ false
-low_no_originals r = low_test 0 r
-
-pub low_no_recovery : (k : ℕ) → supports low_rate k 0 ≡ false
-low_no_recovery k = low_test k 0 ∙ ap (λ b. b && nat_le (next_power k + 0) 65536) (and-false (nat_lt 0 k))
-
 -- what it means that the low rate supports the counts
 pub low_fits : (k r : ℕ) → supports low_rate k r ≡ true → (0 < k) × (0 < r) × (next_power k + r ≤ 65536)
 low_fits k r is =

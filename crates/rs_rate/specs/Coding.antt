@@ -1,9 +1,11 @@
--- How the words of one column become recovery words.
-use Rattle.std.specs.Prelude.{◌≡◌, ℕ, ◌+◌, ◌*◌, ◌<◌, ◌≤◌}
+-- How the words of one column become recovery words, and in how many row steps.
+use Rattle.std.specs.Prelude.{◌≡◌, ℕ, ◌+◌, ◌-◌, ◌*◌, ◌/◌, ◌<◌, ◌≤◌}
 use Rattle.rs_field.specs.Counts.{Rate}
 use Rattle.rs_field.specs.Layout.{up_to}
 use Rattle.rs_field.specs.Code.{AreRecoveryWords}
 use Rattle.rs_field.specs.Transform.{sum_below, forward}
+use Rattle.rs_field.specs.Bounds.{CountsUpTo, encode_steps_at}
+use Rattle.rs_field.specs.declared.engine.steps.Steps.{Steps}
 
 -- the k old words are the first values of a combination of m basis polynomials that is zero at the points from k to m - 1, and the r new words are its values from the point m on
 abbrev pub CodesLow : ℕ → ℕ → ℕ → (ℕ → ℕ) → (ℕ → ℕ) → Type 0
@@ -24,3 +26,11 @@ SumsBlocks m n k old sums =
 -- in one column, the r new words are the recovery words of the k old ones
 abbrev pub CodesWords : Rate → ℕ → ℕ → (ℕ → ℕ) → (ℕ → ℕ) → Type 0
 CodesWords rate k r old new = AreRecoveryWords rate k r (up_to k old) (up_to r new)
+
+-- the blocks of m rows that come after the first one
+abbrev pub further_blocks : ℕ → ℕ → ℕ
+further_blocks m rows = (rows - m) / m
+
+-- what the coding of a round may count: an encode's row steps without those of the tails, one for each recovery shard
+abbrev pub CodingCounts : Rate → ℕ → ℕ → Steps → Steps → Type 0
+CodingCounts rate k r old new = CountsUpTo (encode_steps_at rate k r - r) 0 0 old new

@@ -74,7 +74,8 @@ pub trait Rate<E: Engine>: Sized {
     ) -> Result<Self::RateEncoder, Error>
         ensures answer { let c = configuration rate original_count recovery_count shard_bytes in
             UpToMemory (started (encoder_rows rate original_count recovery_count) c) (answer_of result) }
-        ensures made { IfOk result (λ x. (Self.RateEncoder.state x ≡ fresh_encoder (configuration rate original_count recovery_count shard_bytes)) × (Self.RateEncoder.engine_of x ≡ engine)) }
+        ensures made { let c = configuration rate original_count recovery_count shard_bytes in
+            IfOk result (λ x. (Self.RateEncoder.state x ≡ fresh_encoder c) × (Self.RateEncoder.engine_of x ≡ engine)) }
         ensures grown { IfOk result (λ x. IfSome work (λ w. work_room w ≤ Self.RateEncoder.room x)) }
         ensures roomy { IfSome work (λ w. chunk_count (encoder_rows rate original_count recovery_count) shard_bytes ≤ work_room w
             → answer_of result ≡ started (encoder_rows rate original_count recovery_count) (configuration rate original_count recovery_count shard_bytes)) }
@@ -100,7 +101,8 @@ pub trait Rate<E: Engine>: Sized {
     ) -> Result<Self::RateDecoder, Error>
         ensures answer { let c = configuration rate original_count recovery_count shard_bytes in
             UpToMemory (started (decoder_rows rate original_count recovery_count) c) (answer_of result) }
-        ensures made { IfOk result (λ x. (Self.RateDecoder.state x ≡ fresh_decoder (configuration rate original_count recovery_count shard_bytes)) × (Self.RateDecoder.engine_of x ≡ engine)) }
+        ensures made { let c = configuration rate original_count recovery_count shard_bytes in
+            IfOk result (λ x. (Self.RateDecoder.state x ≡ fresh_decoder c) × (Self.RateDecoder.engine_of x ≡ engine)) }
         ensures grown { IfOk result (λ x. IfSome work (λ w. Grows (decoder_work_room w) (Self.RateDecoder.room x))) }
         ensures roomy { IfSome work (λ w. HasRoom (decoder_work_room w) (decoder_rows rate original_count recovery_count) shard_bytes
             → answer_of result ≡ started (decoder_rows rate original_count recovery_count) (configuration rate original_count recovery_count shard_bytes)) }
@@ -130,6 +132,7 @@ pub trait Rate<E: Engine>: Sized {
 pub trait RateEncoder<E: Engine>: Sized {
     ghost use Rattle.std.specs.Prelude.{◌≡◌, ◌≢◌, ◌≤◌, ℕ, Err, IfOk, IfSome, OnOk, OnErr};
     ghost use Rattle.std.specs.Borrow.{sem};
+    ghost use Rattle.rs_field.specs.Bounds.{EncodeCountsAt};
     ghost use Rattle.rs_field.specs.Counts.{Rate as WhichRate, supports as supports_counts};
     ghost use Rattle.rs_field.specs.Placement.{encoder_rows};
     ghost use Rattle.rs_field.specs.Outcome.{answer_of, state_after};
@@ -215,10 +218,13 @@ pub trait RateEncoder<E: Engine>: Sized {
 
     /// Lends the recovery shards of the given originals, and ends the round.
     ///
-    /// Refused with `TooFewOriginalShards` where originals are missing; a refusal changes nothing.
+    /// Refused with `TooFewOriginalShards` where originals are missing; a refusal changes nothing. With c blocks of m rows
+    /// at most (c + 1) * (m/2 * log2 m) + 2 * c * m row steps are counted, no pair sum and no product.
     fn encode(&mut self, steps: &mut Steps) -> Result<EncoderResult<'_>, Error>
         ensures answer { EncodeAnswers (state self.old) (answered_shards result) }
-        ensures* ends { sem 𝓛 (EndsWith Self.row self.entry (λ now. (state now ≡ after_encode (state self.old)) × (engine_of now ≡ engine_of self.old) × (room now ≡ room self.old))) };
+        ensures counts { let c = (state self.old).configuration in EncodeCountsAt rate c.original_count c.recovery_count steps.old steps.new }
+        ensures* ends { sem 𝓛 (EndsWith Self.row self.entry
+            (λ now. (state now ≡ after_encode (state self.old)) × (engine_of now ≡ engine_of self.old) × (room now ≡ room self.old))) };
 
     /// The engine and the rows, for another encoder: they have room for this one's configuration.
     fn into_parts(self) -> (E, EncoderWork)
@@ -231,7 +237,8 @@ pub trait RateEncoder<E: Engine>: Sized {
     ghost valid: { (x : Self) → IsEncoder rate (state x) };
 
     /// An encoder has room for its own rows.
-    ghost own_room: { (x : Self) → chunk_count (encoder_rows rate (state x).configuration.original_count (state x).configuration.recovery_count) (state x).configuration.shard_bytes ≤ room x };
+    ghost own_room: { (x : Self) → let c = (state x).configuration in
+        chunk_count (encoder_rows rate c.original_count c.recovery_count) c.shard_bytes ≤ room x };
 }
 
 /// The decoder of a rate, over an engine.

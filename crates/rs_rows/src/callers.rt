@@ -44,7 +44,7 @@ pub fn encode_too_early<E: Engine, X: RateEncoder<E> + Drop>(
     ensures state { X.state encoder.new ≡ X.state encoder.old }
     ensures engine { X.engine_of encoder.new ≡ X.engine_of encoder.old }
 {
-    let _ = encoder.encode(steps)?;
+    drop(encoder.encode(steps)?);
     Ok(())
 }
 

@@ -5,6 +5,8 @@ pub mod callers;
 #[cfg(test)]
 mod choice;
 #[cfg(test)]
+mod counting;
+#[cfg(test)]
 mod decoding;
 #[cfg(test)]
 mod digests;

@@ -1,7 +1,7 @@
 //! Powers of two, supported counts and numbers of rows.
-ghost use Rattle.std.specs.Prelude.{◌≡◌, ◌≢◌, ℕ, ◌+◌, ◌^◌, ◌<◌, ◌≤◌, true};
+ghost use Rattle.std.specs.Prelude.{◌≡◌, ◌≢◌, ◌↔◌, ℕ, ◌+◌, ◌^◌, ◌<◌, ◌≤◌, IsTrue, true};
 ghost use Rattle.rs_field.specs.Counts.{next_power, supports, is_low, low_rate, high_rate, default_rate};
-ghost use Rattle.rs_field.specs.Placement.{encoder_rows};
+ghost use Rattle.rs_field.specs.Placement.{rounded_up};
 ghost use Rattle.rs_rate.specs.EncoderView.{encoder_shape};
 ghost use Rattle.rs_rate.specs.DecoderView.{frame_of};
 
@@ -20,14 +20,20 @@ pub(crate) fn power_of_two(n: usize) -> usize
     n.next_power_of_two()
 }
 
+// Whether both counts are positive and no larger than the field.
+fn are_in_field(original_count: usize, recovery_count: usize) -> bool
+    ensures { IsTrue result ↔ (0 < original_count) × (original_count ≤ 65536) × (0 < recovery_count) × (recovery_count ≤ 65536) }
+{
+    let originals_fit = 0 < original_count && original_count <= GF_ORDER;
+    let recovery_fits = 0 < recovery_count && recovery_count <= GF_ORDER;
+    originals_fit && recovery_fits
+}
+
 // Whether the low rate supports the counts.
 pub(crate) fn low_supports(original_count: usize, recovery_count: usize) -> bool
     ensures { result ≡ supports low_rate original_count recovery_count }
 {
-    if original_count == 0 || recovery_count == 0 {
-        return false;
-    }
-    if original_count > GF_ORDER || recovery_count > GF_ORDER {
+    if !are_in_field(original_count, recovery_count) {
         return false;
     }
     power_of_two(original_count) + recovery_count <= GF_ORDER
@@ -44,10 +50,7 @@ pub(crate) fn high_supports(original_count: usize, recovery_count: usize) -> boo
 pub(crate) fn default_supports(original_count: usize, recovery_count: usize) -> bool
     ensures { result ≡ supports default_rate original_count recovery_count }
 {
-    if original_count == 0 || recovery_count == 0 {
-        return false;
-    }
-    if original_count > GF_ORDER || recovery_count > GF_ORDER {
+    if !are_in_field(original_count, recovery_count) {
         return false;
     }
     let smaller_power = power_of_two(original_count).min(power_of_two(recovery_count));
@@ -82,7 +85,7 @@ pub(crate) fn low_encoder_shape(
         original_count,
         recovery_count,
         shard_bytes,
-        row_count: whole_blocks(recovery_count, original_count),
+        row_count: whole_blocks(recovery_count, block_rows),
         block_rows,
     }
 }
@@ -104,19 +107,20 @@ pub(crate) fn high_encoder_shape(
         original_count,
         recovery_count,
         shard_bytes,
-        row_count: whole_blocks(original_count, recovery_count),
+        row_count: whole_blocks(original_count, block_rows),
         block_rows,
     }
 }
 
-// So many rows, rounded up to whole blocks of the power of two of `block_count`.
-fn whole_blocks(count: usize, block_count: usize) -> usize
-    requires { supports low_rate block_count count ≡ true }
-    ensures rows { result ≡ encoder_rows low_rate block_count count }
-    ensures block { block_count ≤ result }
+// So many rows, rounded up to whole blocks.
+fn whole_blocks(count: usize, block_rows: usize) -> usize
+    requires some { 0 < block_rows }
+    requires few { block_rows + count ≤ 65536 }
+    ensures rows { result ≡ rounded_up count block_rows }
     ensures all { count ≤ result }
+    ensures block { 0 < count → block_rows ≤ result }
 {
-    count.next_multiple_of(power_of_two(block_count))
+    count.next_multiple_of(block_rows)
 }
 
 // The frame of a low-rate decoder.

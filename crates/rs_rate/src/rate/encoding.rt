@@ -1,13 +1,14 @@
 //! The coding of a round: the rows over the chunks, the coding of the rate, the tails.
 ghost use Rattle.std.specs.Prelude.{◌≡◌, ℕ, ◌*◌, ◌<◌, ◌≤◌, true, Ok, length};
 ghost use Rattle.std.specs.Vec.{vec_capacity};
+ghost use Rattle.rs_field.specs.Bounds.{EncodeCountsAt};
 ghost use Rattle.rs_field.specs.Code.{AreRecovery};
 ghost use Rattle.rs_field.specs.Configuration.{validated};
 ghost use Rattle.rs_field.specs.Counts.{supports};
 ghost use Rattle.rs_field.specs.Layout.{row_len as chunks_for, up_to};
 ghost use Rattle.rs_field.specs.Placement.{encoder_rows, block_rows};
 ghost use Rattle.rs_field.specs.View.{Fits, SameShape, word};
-ghost use Rattle.rs_rate.specs.Coding.{CodesWords};
+ghost use Rattle.rs_rate.specs.Coding.{CodesWords, CodingCounts};
 ghost use Rattle.rs_rate.specs.EncoderView.{configuration_of, encoder_shape, shape_chunks, given_of, lent_of};
 ghost use Rattle.rs_rate.specs.ShardRows.{shard_laid_out, shard_in_order, word_in};
 
@@ -28,6 +29,7 @@ pub(crate) fn encode_rows<E: Engine, C: Code>(engine: &E, steps: &mut Steps, row
     ensures none { rows.new.originals_given ≡ 0 }
     ensures recovery { AreRecovery (configuration_of C.rate rows.old.shape) (given_of rows.old) (lent_of rows.new) }
     ensures room { vec_capacity rows.new.chunks ≡ vec_capacity rows.old.chunks }
+    ensures counts { EncodeCountsAt C.rate rows.old.shape.original_count rows.old.shape.recovery_count steps.old steps.new }
 {
     let shape = rows.shape;
     rows.originals_given = 0;
@@ -45,8 +47,9 @@ fn encode_chunks<E: Engine, C: Code>(
     requires shaped { shape ≡ encoder_shape C.rate shape.original_count shape.recovery_count shape.shard_bytes }
     requires recovery { shape.recovery_count ≤ shape.row_count }
     requires room { shape_chunks shape ≤ length chunks.old }
-    ensures { AreRecovery (configuration_of C.rate shape)
+    ensures recovery { AreRecovery (configuration_of C.rate shape)
         (up_to shape.original_count (shard_laid_out chunks.old shape.shard_bytes)) (up_to shape.recovery_count (shard_in_order chunks.new shape.shard_bytes)) }
+    ensures counts { EncodeCountsAt C.rate shape.original_count shape.recovery_count steps.old steps.new }
 {
     code_chunks::<E, C>(engine, steps, chunks, shape);
     laid_out_are_bytes(chunks, shape.recovery_count, shape.shard_bytes);
@@ -63,8 +66,9 @@ fn code_chunks<E: Engine, C: Code>(
     requires supported { supports C.rate shape.original_count shape.recovery_count ≡ true }
     requires shaped { shape ≡ encoder_shape C.rate shape.original_count shape.recovery_count shape.shard_bytes }
     requires room { shape.row_count * chunks_for shape.shard_bytes ≤ length chunks.old }
-    ensures { (k s : ℕ) → k < chunks_for shape.shard_bytes → s < 32
-        → CodesWords C.rate shape.original_count shape.recovery_count (word_in chunks.old (chunks_for shape.shard_bytes) k s) (word_in chunks.new (chunks_for shape.shard_bytes) k s) }
+    ensures words { let n = chunks_for shape.shard_bytes in (k s : ℕ) → k < n → s < 32
+        → CodesWords C.rate shape.original_count shape.recovery_count (word_in chunks.old n k s) (word_in chunks.new n k s) }
+    ensures counts { CodingCounts C.rate shape.original_count shape.recovery_count steps.old steps.new }
 {
     let mut data = ShardsRefMut::new(shape.row_count, row_len(shape.shard_bytes), chunks);
     code_rows::<E, C>(engine, steps, &mut data, shape);
@@ -84,6 +88,7 @@ fn code_rows<E: Engine, C: Code>(
     ensures shape { SameShape «data».old «data».new }
     ensures words { (k s : ℕ) → k < «data».old.shard_len_64 → s < 32
         → CodesWords C.rate shape.original_count shape.recovery_count (word «data».old k s) (word «data».new k s) }
+    ensures counts { CodingCounts C.rate shape.original_count shape.recovery_count steps.old steps.new }
 {
     let original_count = shape.original_count;
     let recovery_count = shape.recovery_count;

@@ -1,11 +1,12 @@
 //! The coding of the high rate: originals as values at the points from the first block's end on, recovery shards as
 //! values at the first points.
 ghost use Rattle.std.specs.Prelude.{◌≡◌, ℕ, ◌+◌, ◌*◌, ◌%◌, ◌^◌, ◌<◌, ◌≤◌, true};
+ghost use Rattle.rs_field.specs.Bounds.{CountsUpTo, transform_steps};
 ghost use Rattle.rs_field.specs.Counts.{next_power, supports, high_rate};
 ghost use Rattle.rs_field.specs.Placement.{encoder_rows};
 ghost use Rattle.rs_field.specs.Transform.{forward};
 ghost use Rattle.rs_field.specs.View.{word, Fits, SameShape, SameRowsOutside};
-ghost use Rattle.rs_rate.specs.Coding.{SumsBlocks, CodesWords};
+ghost use Rattle.rs_rate.specs.Coding.{SumsBlocks, CodesWords, CodingCounts, further_blocks};
 
 use rs_field::engine::rows::clear_rows;
 use rs_field::engine::utils::xor_within;
@@ -27,6 +28,7 @@ pub(crate) fn code_high<E: Engine>(
     requires block { block ≡ next_power recovery_count }
     ensures shape { SameShape «data».old «data».new }
     ensures words { (k s : ℕ) → k < «data».old.shard_len_64 → s < 32 → CodesWords high_rate original_count recovery_count (word «data».old k s) (word «data».new k s) }
+    ensures counts { CodingCounts high_rate original_count recovery_count steps.old steps.new }
 {
     sum_blocks(engine, steps, data, original_count, block);
     engine.fft(steps, data, 0, block, recovery_count, 0);
@@ -49,6 +51,7 @@ fn sum_blocks<E: Engine>(
     ensures shape { SameShape «data».old «data».new }
     ensures sums { (n : ℕ) × (original_count ≤ n * block) × (n * block + block ≤ 65536)
         × ((k s : ℕ) → k < «data».old.shard_len_64 → s < 32 → SumsBlocks block n original_count (word «data».old k s) (word «data».new k s)) }
+    ensures counts { CountsUpTo (block + transform_steps block + further_blocks block «data».old.shard_count * (2 * block + transform_steps block)) 0 0 steps.old steps.new }
 {
     pass_block(engine, steps, data, 0, original_count, block);
     let mut start = block;
@@ -81,6 +84,7 @@ fn pass_block<E: Engine>(
         → forward block (start + block) (λ q. word «data».new k s (start + q)) i ≡ word «data».old k s (start + i) }
     ensures zeros { (k s i : ℕ) → k < «data».old.shard_len_64 → s < 32 → i < block → original_count ≤ start + i
         → forward block (start + block) (λ q. word «data».new k s (start + q)) i ≡ 0 }
+    ensures counts { CountsUpTo (block + transform_steps block) 0 0 steps.old steps.new }
 {
     let count = block.min(original_count - start);
     clear_rows(steps, data, start + count, start + block);

@@ -1,11 +1,12 @@
 //! The coding of the low rate: originals and zeros as values at the first points, recovery shards as values at the
 //! points after them.
-ghost use Rattle.std.specs.Prelude.{◌≡◌, ℕ, ◌+◌, ◌%◌, ◌^◌, ◌<◌, ◌≤◌, true};
+ghost use Rattle.std.specs.Prelude.{◌≡◌, ℕ, ◌+◌, ◌*◌, ◌%◌, ◌^◌, ◌<◌, ◌≤◌, true};
+ghost use Rattle.rs_field.specs.Bounds.{CountsUpTo, transform_steps};
 ghost use Rattle.rs_field.specs.Counts.{low_rate, next_power, supports};
 ghost use Rattle.rs_field.specs.Placement.{encoder_rows};
 ghost use Rattle.rs_field.specs.Transform.{forward};
 ghost use Rattle.rs_field.specs.View.{cell, word, Fits, SameShape};
-ghost use Rattle.rs_rate.specs.Coding.{CodesWords};
+ghost use Rattle.rs_rate.specs.Coding.{CodesWords, CodingCounts, further_blocks};
 
 use rs_field::engine::rows::{clear_rows, copy_rows};
 use rs_field::engine::{Engine, ShardsRefMut, Steps};
@@ -26,6 +27,7 @@ pub(crate) fn code_low<E: Engine>(
     requires block { block ≡ next_power original_count }
     ensures shape { SameShape «data».old «data».new }
     ensures words { (k s : ℕ) → k < «data».old.shard_len_64 → s < 32 → CodesWords low_rate original_count recovery_count (word «data».old k s) (word «data».new k s) }
+    ensures counts { CodingCounts low_rate original_count recovery_count steps.old steps.new }
 {
     clear_rows(steps, data, original_count, block);
     engine.ifft(steps, data, 0, block, original_count, 0);
@@ -50,6 +52,7 @@ fn code_further<E: Engine>(
     ensures combination { (i k : ℕ) → k < «data».old.shard_len_64 → i < block → cell «data».new k i ≡ cell «data».old k i }
     ensures values { (k s i : ℕ) → k < «data».old.shard_len_64 → s < 32 → block ≤ i → i < recovery_count
         → word «data».new k s i ≡ forward block 0 (λ q. word «data».old k s q) (block + i) }
+    ensures counts { CountsUpTo (further_blocks block «data».old.shard_count * (block + transform_steps block)) 0 0 steps.old steps.new }
 {
     let mut start = block;
     while start < recovery_count {

@@ -1,19 +1,29 @@
-use Rattle.std.proofs.Common.{ℕ, sym, ap₂, ◌∙◌}
+use Rattle.std.proofs.Common.{ℕ, sym, ap, ap₂, ◌∙◌, arith}
+use Rattle.rs_field.specs.Placement.{rounded_up}
 use Rattle.rs_rate.specs.declared.rate.encoder_work.EncoderShape.{EncoderShape}
-use Rattle.rs_rate.proofs.HighCounts.{high_turned, high_small}
+use Rattle.rs_rate.proofs.PowerLemmas.{rounded_up-low}
+use Rattle.rs_rate.proofs.HighCounts.{high_fits, high_small}
 use Rattle.rs_rate.proofs.RateLemmas.{high_shape-is}
 use Rattle.rs_rate.proofs.rate.counts.high_encoder_shape.Goals as goal
 
 pub power_of_two-block_rows-requires : goal.power_of_two-block_rows-requires
 power_of_two-block_rows-requires c = high_small c.args.original_count c.args.recovery_count c.requires
 
-pub whole_blocks-requires : goal.whole_blocks-requires
-whole_blocks-requires c = high_turned c.args.original_count c.args.recovery_count ∙ c.requires
+pub whole_blocks-requires-clause-few : goal.whole_blocks-requires-clause-few
+whole_blocks-requires-clause-few c =
+    let fits = high_fits c.args.original_count c.args.recovery_count c.requires in
+    omega (arith, fits.2, c.power_of_two-block_rows.ensures.value)
 
 pub returns-clause-shape : goal.returns-clause-shape
 returns-clause-shape c =
     let k = c.args.original_count in
     let r = c.args.recovery_count in
+    let block = c.power_of_two-block_rows.ensures.value in
     ap₂ (λ (n m : ℕ). let shape : EncoderShape = record { original_count = k; recovery_count = r; shard_bytes = c.args.shard_bytes; row_count = n; block_rows = m } in shape)
-    c.whole_blocks.ensures.rows c.power_of_two-block_rows.ensures.value
+    (c.whole_blocks.ensures.rows ∙ ap (rounded_up k) block ∙ rounded_up-low r k) block
     ∙ sym (high_shape-is k r c.args.shard_bytes)
+
+pub returns-clause-recovery : goal.returns-clause-recovery
+returns-clause-recovery c =
+    let fits = high_fits c.args.original_count c.args.recovery_count c.requires in
+    omega (arith, c.power_of_two-block_rows.ensures.lower_bound, c.whole_blocks.ensures.block fits.1)

@@ -15,9 +15,9 @@ pub code_rows-requires-clause-block : goal.code_rows-requires-clause-block
 code_rows-requires-clause-block g c =
     ap (λ s. s.block_rows) c.requires.shaped ∙ shape-block g.C.Code.rate c.args.shape.original_count c.args.shape.recovery_count c.args.shape.shard_bytes
 
-pub returns : goal.returns
+pub returns-clause-words : goal.returns-clause-words
 unfolding cell
-returns g c = λ k s inside symbols.
+returns-clause-words g c = λ k s inside symbols.
     let n : ℕ = row_len c.args.shape.shard_bytes in
     let old : c.new-data.result.chunks.now ≡ c.args.chunks.now = c.new-data.ensures.chunks in
     let len : c.new-data.result.shard_len_64 ≡ row_len c.args.shape.shard_bytes = c.new-data.ensures.len_64 ∙ c.row_len.ensures in

@@ -3,6 +3,7 @@ use Rattle.rs_field.specs.Counts.{low_rate, high_rate}
 use Rattle.rs_field.specs.Layout.{up_to}
 use Rattle.rs_field.specs.View.{word}
 use Rattle.rs_rate.proofs.RateLemmas.{chosen_low, chosen_high, low_is, high_is, rows_alike, block_alike, low_block, high_block, recovery_alike}
+use Rattle.rs_rate.proofs.EncodeCounting.{coding_alike}
 use Rattle.rs_rate.proofs.rate.encoding.code_rows.Goals as goal
 
 pub code_low-requires-clause-supported : goal.code_low-requires-clause-supported
@@ -48,3 +49,15 @@ returns-else-is_low-clause-words g c = λ k s inside symbols.
     let r = c.args.shape.recovery_count in
     recovery_alike high_rate g.C.Code.rate o r (up_to o (word c.args.«data».now k s)) (up_to r (word c.code_high.new.«data» k s))
     (high_is o r ∙ sym c.if-is_low.false ∙ c.is_low.ensures) (c.code_high.ensures.words k s inside symbols)
+
+pub returns-then-is_low-clause-counts : goal.returns-then-is_low-clause-counts
+returns-then-is_low-clause-counts g c =
+    let k = c.args.shape.original_count in
+    let r = c.args.shape.recovery_count in
+    coding_alike low_rate g.C.Code.rate k r c.args.steps.now c.code_low.new.steps (low_is k r ∙ sym c.if-is_low.true ∙ c.is_low.ensures) c.code_low.ensures.counts
+
+pub returns-else-is_low-clause-counts : goal.returns-else-is_low-clause-counts
+returns-else-is_low-clause-counts g c =
+    let k = c.args.shape.original_count in
+    let r = c.args.shape.recovery_count in
+    coding_alike high_rate g.C.Code.rate k r c.args.steps.now c.code_high.new.steps (high_is k r ∙ sym c.if-is_low.false ∙ c.is_low.ensures) c.code_high.ensures.counts

@@ -1,12 +1,15 @@
-use Rattle.std.proofs.Common.{◌≡◌, ℕ, ◌+◌, ◌*◌, ◌≤◌, sym, ap, ◌∙◌, subst, arith, zero-add}
+use Rattle.std.proofs.Common.{◌≡◌, ℕ, ◌+◌, ◌-◌, ◌*◌, ◌≤◌, sym, ap, ◌∙◌, subst, arith, zero-add}
 use Rattle.std.proofs.Math.Nat.{zero-mod}
 use Rattle.rs_field.specs.View.{word}
 use Rattle.rs_field.specs.Transform.{forward}
+use Rattle.rs_field.specs.Bounds.{transform_steps, encode_steps_at}
+use Rattle.rs_field.specs.Counts.{high_rate}
 use Rattle.rs_field.proofs.Combination.{forward-same}
 use Rattle.rs_field.proofs.Recursion.{fits_kept}
-use Rattle.rs_rate.specs.Coding.{SumsBlocks}
+use Rattle.rs_rate.specs.Coding.{SumsBlocks, further_blocks}
 use Rattle.rs_rate.proofs.HighCounts.{high_fits, high_rows-fit}
 use Rattle.rs_rate.proofs.HighCoding.{high_coded}
+use Rattle.rs_rate.proofs.EncodeCounting.{counts_both, high_total}
 use Rattle.rs_rate.proofs.rate.high_encoding.code_high.Goals as goal
 
 pub sum_blocks-requires : goal.sum_blocks-requires
@@ -48,3 +51,12 @@ returns-clause-words g c = λ k s inside symbols.
     (λ i few.
     ap new (sym (zero-add i)) ∙ c.fft.ensures.values k s i (omega arith) symbols few
     ∙ forward-same c.args.block 0 (λ q. mid (0 + q)) mid i (λ q hq. ap mid (zero-add q)) ∙ ap (λ m. forward m 0 mid i) block)
+
+pub returns-clause-counts : goal.returns-clause-counts
+returns-clause-counts g c =
+    let block : ℕ = c.args.block in
+    let t : ℕ = transform_steps c.args.block in
+    let all = high_total c.args.original_count c.args.recovery_count c.args.block c.args.«data».now.shard_count c.requires.supported c.requires.block c.requires.rows in
+    counts_both (block + t + further_blocks block c.args.«data».now.shard_count * (2 * block + t)) t
+    (encode_steps_at high_rate c.args.original_count c.args.recovery_count - c.args.recovery_count)
+    c.args.steps.now c.sum_blocks.new.steps c.fft.new.steps (omega (arith, all)) c.sum_blocks.ensures.counts c.fft.ensures.counts

@@ -1,13 +1,17 @@
-use Rattle.std.proofs.Common.{◌≡◌, ℕ, ◌≤◌, ◌∙◌, ap, subst, arith, inl, inr}
+use Rattle.std.proofs.Common.{◌≡◌, ℕ, ◌+◌, ◌-◌, ◌*◌, ◌≤◌, ◌∙◌, ap, subst, arith, inl, inr}
 use Rattle.rs_field.specs.Rows.{symbol}
 use Rattle.rs_field.specs.Counts.{next_power}
 use Rattle.rs_field.specs.View.{word}
+use Rattle.rs_field.specs.Bounds.{transform_steps, encode_steps_at}
+use Rattle.rs_field.specs.Counts.{low_rate}
+use Rattle.rs_field.proofs.Counting.{counts_rows, counts_then}
 use Rattle.rs_field.proofs.Recursion.{fits_kept}
 use Rattle.rs_field.proofs.RowOffsets.{outside_cell}
 use Rattle.rs_field.proofs.Symbols.{symbol-zero}
-use Rattle.rs_rate.specs.Coding.{CodesLow}
+use Rattle.rs_rate.specs.Coding.{CodesLow, further_blocks}
 use Rattle.rs_rate.proofs.HighCounts.{low_rows-fit}
 use Rattle.rs_rate.proofs.LowCoding.{coded, codes_words}
+use Rattle.rs_rate.proofs.EncodeCounting.{counts_both, low_total}
 use Rattle.rs_rate.proofs.rate.low_encoding.code_low.Goals as goal
 
 pub clear_rows-requires : goal.clear_rows-requires
@@ -92,3 +96,18 @@ returns-clause-words g c = λ k s inside symbols.
     given in
     codes_words c.args.original_count c.args.recovery_count old new c.requires.supported
     (subst (λ (m : ℕ). CodesLow c.args.original_count c.args.recovery_count m old new) block column)
+
+pub returns-clause-counts : goal.returns-clause-counts
+returns-clause-counts g c =
+    let t : ℕ = transform_steps c.args.block in
+    let cleared : ℕ = c.args.block - c.args.original_count in
+    let further : ℕ = further_blocks c.args.block c.ifft.new.«data».shard_count * (c.args.block + transform_steps c.args.block) in
+    let all = low_total c.args.original_count c.args.recovery_count c.args.block c.ifft.new.«data».shard_count c.requires.supported c.requires.block
+    (c.ifft.ensures.shape.count ∙ c.clear_rows.ensures.shape.count ∙ c.requires.rows) in
+    counts_both (cleared + t + further) t (encode_steps_at low_rate c.args.original_count c.args.recovery_count - c.args.recovery_count)
+    c.args.steps.now c.code_further.new.steps c.fft.new.steps (omega (arith, all))
+    (counts_then (cleared + t) further c.args.steps.now c.ifft.new.steps c.code_further.new.steps
+    (counts_then cleared t c.args.steps.now c.clear_rows.new.steps c.ifft.new.steps
+    (counts_rows cleared c.args.steps.now c.clear_rows.new.steps c.clear_rows.ensures.counts) c.ifft.ensures.counts)
+    c.code_further.ensures.counts)
+    c.fft.ensures.counts

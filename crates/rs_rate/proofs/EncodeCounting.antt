@@ -1,0 +1,102 @@
+-- The row steps of an encode: block by block, and of the whole.
+use Rattle.std.proofs.Common.{◌≡◌, ℕ, true, false, Bool, ◌+◌, ◌-◌, ◌*◌, ◌/◌, ◌%◌, ◌<◌, ◌≤◌, refl, sym, ap, ap₂, ◌∙◌, arith}
+use Rattle.std.proofs.Math.Nat.{add-div_right, div-mul-le_self, mul-le-mul_right}
+use Rattle.std.proofs.lemmas.Nat.{pow_pos, le-div, div-add-mod'}
+use Rattle.rs_field.specs.Counts.{Rate, next_power, supports, is_low, low_rate, high_rate}
+use Rattle.rs_field.specs.Placement.{encoder_rows, block_rows}
+use Rattle.rs_field.specs.Bounds.{CountsUpTo, transform_steps, encode_steps, encode_steps_at}
+use Rattle.rs_field.specs.declared.engine.steps.Steps.{Steps}
+use Rattle.rs_field.proofs.Counting.{counts_then, counts_within}
+use Rattle.rs_rate.specs.Coding.{further_blocks, CodingCounts}
+use Rattle.rs_rate.proofs.HighCounts.{HasRows, low_rows-fit, high_rows-fit}
+use Rattle.rs_rate.proofs.RateLemmas.{low_is, high_is, low_block, high_block, rows_alike, block_alike, chosen_low, chosen_high}
+
+-- bounds of two calls that leave room within a bound for both
+pub counts_both : (m n whole : ℕ) (a b c : Steps) → m + n ≤ whole → CountsUpTo m 0 0 a b → CountsUpTo n 0 0 b c → CountsUpTo whole 0 0 a c
+counts_both m n whole a b c le p q = counts_within (m + n) whole a c le (counts_then m n a b c p q)
+
+-- so many steps for each block, and for one block more
+pub further-next : (start m step : ℕ) → 0 < m → m ≤ start → further_blocks m start * step + step ≤ further_blocks m (start + m) * step
+further-next start m step some from =
+    let moved : start + m - m ≡ start - m + m = omega arith in
+    let one : further_blocks m (start + m) ≡ further_blocks m start + 1 = ap (λ n. n / m) moved ∙ add-div_right (start - m) some in
+    let more : further_blocks m (start + m) * step ≡ (further_blocks m start + 1) * step = ap (λ n. n * step) one in
+    omega arith
+
+pub further-within : (start rows m step : ℕ) → 0 < m → start - m ≤ rows - m → further_blocks m start * step ≤ further_blocks m rows * step
+further-within start rows m step some within =
+    let below : (start - m) / m * m ≤ start - m = div-mul-le_self (start - m) m in
+    mul-le-mul_right step (le-div ((start - m) / m) (rows - m) m some (omega arith))
+
+-- the blocks of whole rows, and their number
+record Blocks (m rows : ℕ) : Type 0 where
+  count : rows / m ≡ further_blocks m rows + 1
+  whole : rows ≡ further_blocks m rows * m + m
+
+blocks : (k r m rows : ℕ) → m ≡ next_power k → HasRows k r rows → Blocks m rows
+blocks k r m rows is fit =
+    let some : 0 < m = (let p = pow_pos fit.power.0 in omega (arith, fit.power.1)) in
+    let apart : rows - m + m ≡ rows = omega (arith, fit.some) in
+    let count : rows / m ≡ (rows - m) / m + 1 = ap (λ n. n / m) (sym apart) ∙ add-div_right (rows - m) some in
+    let parts : rows / m * m + rows % m ≡ rows = div-add-mod' rows m in
+    let multiple : rows % m ≡ 0 = ap (λ n. rows % n) is ∙ fit.whole in
+    let product : rows / m * m ≡ (further_blocks m rows + 1) * m = ap (λ n. n * m) count in
+    record { count = count; whole = omega arith }
+
+-- the row steps of an encode, by the blocks after the first
+bound-is : (rate : Rate) (k r m rows : ℕ) → block_rows rate k r ≡ m → encoder_rows rate k r ≡ rows → Blocks m rows
+    → encode_steps_at rate k r ≡ (further_blocks m rows + 2) * transform_steps m + 2 * (further_blocks m rows * m + m)
+unfolding encode_steps
+bound-is rate k r m rows block all b =
+    ap₂ (λ n v. (n / v + 1) * transform_steps v + 2 * (n / v) * v) all block
+    ∙ ap (λ n. (n + 1) * transform_steps m + 2 * n * m) b.count
+    ∙ regroup (further_blocks m rows) (transform_steps m) m
+  where
+    regroup : (f t m : ℕ) → (f + 1 + 1) * t + 2 * (f + 1) * m ≡ (f + 2) * t + 2 * (f * m + m)
+    regroup f t m = omega arith
+
+-- at the low rate: rows cleared, the first block's transforms, the blocks after it, and a tail for each recovery shard
+pub low_total : (k r m rows : ℕ) → supports low_rate k r ≡ true → m ≡ next_power k → rows ≡ encoder_rows low_rate k r
+    → m - k + transform_steps m + further_blocks m rows * (m + transform_steps m) + transform_steps m + r ≤ encode_steps_at low_rate k r
+low_total k r m rows is block all =
+    let fit = low_rows-fit k r is in
+    let b = blocks k r m rows block (rw all fit) in
+    let bound = bound-is low_rate k r m rows (low_block k r ∙ sym block) (sym all) b in
+    omega (arith, bound, sum k r m (transform_steps m) (further_blocks m rows) (omega (arith, fit.enough, b.whole)))
+  where
+    sum : (k r m t f : ℕ) → r ≤ f * m + m → m - k + t + f * (m + t) + t + r ≤ (f + 2) * t + 2 * (f * m + m)
+    sum k r m t f enough = omega arith
+
+-- at the high rate: the first block, the blocks after it, the transform of their sum, and a tail for each recovery shard
+pub high_total : (k r m rows : ℕ) → supports high_rate k r ≡ true → m ≡ next_power r → rows ≡ encoder_rows high_rate k r
+    → m + transform_steps m + further_blocks m rows * (2 * m + transform_steps m) + transform_steps m + r ≤ encode_steps_at high_rate k r
+high_total k r m rows is block all =
+    let fit = high_rows-fit k r is in
+    let b = blocks r k m rows block (rw all fit) in
+    let bound = bound-is high_rate k r m rows (high_block k r ∙ sym block) (sym all) b in
+    omega (arith, bound, sum r m (transform_steps m) (further_blocks m rows) (omega (arith, fit.block, block)))
+  where
+    sum : (r m t f : ℕ) → r ≤ m → m + t + f * (2 * m + t) + t + r ≤ (f + 2) * t + 2 * (f * m + m)
+    sum r m t f few = omega arith
+
+-- rates that choose alike have the same bound
+steps_alike : (one other : Rate) (k r : ℕ) → is_low one k r ≡ is_low other k r → encode_steps_at one k r ≡ encode_steps_at other k r
+steps_alike one other k r same = ap₂ (λ n m. encode_steps (n / m) m) (rows_alike one other k r same) (block_alike one other k r same)
+
+pub coding_alike : (one other : Rate) (k r : ℕ) (a b : Steps) → is_low one k r ≡ is_low other k r → CodingCounts one k r a b → CodingCounts other k r a b
+coding_alike one other k r a b same counts =
+    let e = steps_alike one other k r same in counts_within (encode_steps_at one k r - r) (encode_steps_at other k r - r) a b (omega arith) counts
+
+-- an encode's bound has room for the tails
+pub tails_within : (rate : Rate) (k r : ℕ) → supports rate k r ≡ true → r ≤ encode_steps_at rate k r
+tails_within rate k r is = by_choice (is_low rate k r) refl
+  where
+    by_choice : (b : Bool) → is_low rate k r ≡ b → r ≤ encode_steps_at rate k r
+    by_choice true low =
+        let room = low_total k r (next_power k) (encoder_rows low_rate k r) (chosen_low rate k r is low) refl refl in
+        let same = steps_alike rate low_rate k r (low ∙ sym (low_is k r)) in
+        omega arith
+    by_choice false high =
+        let room = high_total k r (next_power r) (encoder_rows high_rate k r) (chosen_high rate k r is high) refl refl in
+        let same = steps_alike rate high_rate k r (high ∙ sym (high_is k r)) in
+        omega arith
