@@ -21,6 +21,7 @@ pub mod Runs
 pub mod RowOffsets
 pub mod Pairs
 pub mod LayoutLemmas
+pub mod ZeroColumns
 pub mod Symbols
 pub mod Combination
 pub mod Factors
