@@ -18,6 +18,7 @@ pub mod Locator
 pub mod Total
 pub mod RingSolver
 pub mod Runs
+pub mod FourRuns
 pub mod RowOffsets
 pub mod Pairs
 pub mod LayoutLemmas
