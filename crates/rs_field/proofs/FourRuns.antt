@@ -61,6 +61,16 @@ module _ (D : Type 0) (code : D → Gv) (R : RattleType) (γ γ₁ γ₂ γ₃ �
   abbrev pub after₄ : Fml
   after₄ = fall (Four R) (λ v. fwand (fsep (fsep (ends γ₁ v.0) (ends γ₂ v.1)) (fsep (ends γ₃ v.2) (ends γ₄ v.3))) (fres γ (code (F v.0 v.1 v.2 v.3))))
 
+module _ {M : Type 1} {𝓤 : Ura M} (𝓛 : Logic 𝓤) (D : Type 0) (code : D → Gv) (R : RattleType) (γ γ₁ γ₂ γ₃ γ₄ : GName) (F : List R.Denot → List R.Denot → List R.Denot → List R.Denot → D) (v : Four R) where
+  open 𝓛 use {A}
+
+  abbrev Comes : Four R → SProp 𝓤
+  Comes u = wand 𝓤 (Last 𝓛 R γ₁ γ₂ γ₃ γ₄ u) (A.res γ (code (F u.0 u.1 u.2 u.3)))
+
+  pub followed₄ : ent 𝓤 (sep 𝓤 (Last 𝓛 R γ₁ γ₂ γ₃ γ₄ v) (sem 𝓛 (after₄ D code R γ γ₁ γ₂ γ₃ γ₄ F))) (A.res γ (code (F v.0 v.1 v.2 v.3)))
+  followed₄ = qed 𝓛 (raw (Last 𝓛 R γ₁ γ₂ γ₃ γ₄ v) ∷ ‵ (after₄ D code R γ γ₁ γ₂ γ₃ γ₄ F) ∷ []) ∵ move ! (1 ∷ []) $
+      use1 𝓛 (raw (Comes v)) (all_e 𝓤 Comes v) $ move ! (1 ∷ 0 ∷ []) $ by ! (apply∗ 𝓤 (Last 𝓛 R γ₁ γ₂ γ₃ γ₄ v) (A.res γ (code (F v.0 v.1 v.2 v.3))))
+
 -- two parts of each of two parts of a part
 module _ {M : Type 1} {𝓤 : Ura M} (𝓛 : Logic 𝓤) (R : RattleType) (front g₁ g₂ g₃ back : List R.Denot) (γ δ₁ δ₂ γ₁ γ₂ γ₃ γ₄ : GName) where
   open 𝓛 use {A}
@@ -98,10 +108,8 @@ module _ {M : Type 1} {𝓤 : Ura M} (𝓛 : Logic 𝓤) (S R : RattleType) (F :
   pub four_of : ent 𝓤 (sep 𝓤 (sem 𝓛 (follows S (Array R 0) γ γ' F)) (sem 𝓛 (after₄ (List R.Denot) (code₀ R) R γ' γ₁ γ₂ γ₃ γ₄ G))) (sem 𝓛 (after₄ S.Denot S.coded.code R γ γ₁ γ₂ γ₃ γ₄ FG))
   four_of = qed 𝓛 (‵ (follows S (Array R 0) γ γ' F) ∷ ‵ (after₄ (List R.Denot) (code₀ R) R γ' γ₁ γ₂ γ₃ γ₄ G) ∷ []) ∵
       each ! (λ (v : Four R). wand 𝓤 (Last 𝓛 R γ₁ γ₂ γ₃ γ₄ v) (A.res γ (S.coded.code (FG v.0 v.1 v.2 v.3)))) (λ v.
-      assume ! (raw (Last 𝓛 R γ₁ γ₂ γ₃ γ₄ v)) $ move ! (2 ∷ 0 ∷ []) $
-      use1 𝓛 (raw (wand 𝓤 (Last 𝓛 R γ₁ γ₂ γ₃ γ₄ v) (A.res γ' (code₀ R (G v.0 v.1 v.2 v.3)))))
-      (all_e 𝓤 (λ (u : Four R). wand 𝓤 (Last 𝓛 R γ₁ γ₂ γ₃ γ₄ u) (A.res γ' (code₀ R (G u.0 u.1 u.2 u.3)))) v) $ move ! (1 ∷ 0 ∷ []) $
-      use2 𝓛 (‵ (fres γ' (code₀ R (G v.0 v.1 v.2 v.3)))) (apply∗ 𝓤 (Last 𝓛 R γ₁ γ₂ γ₃ γ₄ v) (A.res γ' (code₀ R (G v.0 v.1 v.2 v.3)))) $
+      assume ! (raw (Last 𝓛 R γ₁ γ₂ γ₃ γ₄ v)) $ move ! (0 ∷ 2 ∷ []) $
+      use2 𝓛 (‵ (fres γ' (code₀ R (G v.0 v.1 v.2 v.3)))) (followed₄ 𝓛 (List R.Denot) (code₀ R) R γ' γ₁ γ₂ γ₃ γ₄ G v) $
       move ! (1 ∷ 0 ∷ []) $ by ! (followed 𝓛 S (Array R 0) F γ γ' (G v.0 v.1 v.2 v.3)))
 
 module _ {M : Type 1} {𝓤 : Ura M} (𝓛 : Logic 𝓤) (ℓ : Lifetime) (κ : Lft) (q : Share) (b o : ℕ) (γ : GName) (R : RattleType) (xs front one g₁ two g₂ three g₃ four back : List R.Denot)

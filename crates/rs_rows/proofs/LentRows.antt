@@ -1,87 +1,91 @@
--- What stands where in a list whose parts were replaced.
-use Rattle.std.proofs.Common.{◌≡◌, ℕ, ◌+◌, ◌-◌, ◌*◌, ◌<◌, ◌≤◌, ◌⊎◌, List, [], ◌++◌, length, take, drop, sym, ap, ◌∙◌, refl, subst, arith, inl, inr, length-append}
-use Rattle.std.proofs.lemmas.List.{get_or_append_left, get_or-append_right, get_or-take, get_or-drop, length-take-le, length-drop}
+-- What stands where in a list whose rows were replaced.
+use Rattle.std.proofs.Common.{◌≡◌, ℕ, ◌+◌, ◌-◌, ◌*◌, ◌<◌, ◌≤◌, ◌⊎◌, List, [], ◌∷◌, ◌++◌, length, take, drop, sym, ap, ◌∙◌, refl, subst, arith, inl, inr, length-append}
 use Rattle.std.proofs.Math.Nat.{mul-le-mul_right}
+use Rattle.std.proofs.lemmas.List.{get_or_append_left, get_or-append_right, get_or-take, get_or-drop, length-take-le, length-drop}
 use Rattle.rs_field.specs.Rows.{Chunks, chunk}
-use Rattle.rs_field.specs.View.{SameShape, SameRowsOutsideTwo, cell}
-use Rattle.rs_field.specs.Lending.{between, with_chunks, with_two}
+use Rattle.rs_field.specs.View.{SameShape, cell}
+use Rattle.rs_field.specs.Lending.{between, with_chunks, with_two, with_four}
 use Rattle.rs_field.specs.declared.engine.shards.ShardsRefMut.{ShardsRefMut}
-
--- below its length the first of two lists, and from there on the second
-before : (xs ys : Chunks) (k : ℕ) → k < length xs → chunk (xs ++ ys) k ≡ chunk xs k
-before xs ys k h = get_or_append_left xs ys [] k h
-
-after : (xs ys : Chunks) (n k : ℕ) → length xs ≡ n → n ≤ k → chunk (xs ++ ys) k ≡ chunk ys (k - n)
-after xs ys n k long h = get_or-append_right xs ys n k [] long h
+use Rattle.rs_rows.specs.RowsBut.{IsOutside, SameRowsBut}
 
 pub part-long : (ch : Chunks) (a n : ℕ) → a + n ≤ length ch → length (take n (drop a ch)) ≡ n
 part-long ch a n within = let left = length-drop a ch in length-take-le n (drop a ch) (omega arith)
 
-part-at : (ch : Chunks) (a n k : ℕ) → k < n → chunk (take n (drop a ch)) k ≡ chunk ch (a + k)
-part-at ch a n k h = get_or-take n (drop a ch) k [] h ∙ get_or-drop a ch k []
+gap-long : (ch : Chunks) (a b : ℕ) → a ≤ b → b ≤ length ch → length (between a b ch) ≡ b - a
+gap-long ch a b ordered within = part-long ch a (b - a) (omega (arith, ordered, within))
 
-pub two-long : (ch first second : Chunks) (i j n : ℕ) → i + n ≤ j → j + n ≤ length ch → length first ≡ n → length second ≡ n
-    → length (with_two ch i n j n first second) ≡ length ch
-two-long ch first second i j n apart within l₁ l₂ =
-    let a = length-append (take i ch) (first ++ (between (i + n) j ch ++ (second ++ drop (j + n) ch))) in
-    let b = length-append first (between (i + n) j ch ++ (second ++ drop (j + n) ch)) in
-    let c = length-append (between (i + n) j ch) (second ++ drop (j + n) ch) in
-    let d = length-append second (drop (j + n) ch) in
-    let e = length-take-le i ch (omega arith) in
-    let f = part-long ch (i + n) (j - (i + n)) (omega arith) in
-    let g = length-drop (j + n) ch in
-    omega (arith, a, b, c, d, e, f, g, l₁, l₂, apart, within)
+-- of two lists, one after another from place p on, the second from place q on: place c
+here : (xs ys : Chunks) (p q c : ℕ) → length xs ≡ q - p → p ≤ c → c < q → chunk (xs ++ ys) (c - p) ≡ chunk xs (c - p)
+here xs ys p q c long from below = get_or_append_left xs ys [] (c - p) (subst (λ m. c - p < m) (sym long) (omega (arith, from, below)))
 
-module _ (ch first second : Chunks) (i j n : ℕ) (apart : i + n ≤ j) (within : j + n ≤ length ch) (l₁ : length first ≡ n) (l₂ : length second ≡ n) where
-  abbrev from_second : Chunks
-  from_second = second ++ drop (j + n) ch
+past : (xs ys : Chunks) (p q c : ℕ) → length xs ≡ q - p → p ≤ q → q ≤ c → chunk (xs ++ ys) (c - p) ≡ chunk ys (c - q)
+past xs ys p q c long ordered from =
+    let e : c - p - (q - p) ≡ c - q = omega (arith, ordered, from) in
+    get_or-append_right xs ys (q - p) (c - p) [] long (omega (arith, ordered, from)) ∙ ap (chunk ys) e
 
-  abbrev from_gap : Chunks
-  from_gap = between (i + n) j ch ++ from_second
+from-gap : (ch : Chunks) (p q c : ℕ) → p ≤ c → c < q → chunk (between p q ch) (c - p) ≡ chunk ch c
+from-gap ch p q c from below =
+    let e : p + (c - p) ≡ c = omega (arith, from) in
+    get_or-take (q - p) (drop p ch) (c - p) [] (omega (arith, from, below)) ∙ get_or-drop p ch (c - p) [] ∙ ap (chunk ch) e
 
-  abbrev filled : Chunks
-  filled = with_two ch i n j n first second
+from-back : (ch : Chunks) (p c : ℕ) → p ≤ c → chunk (drop p ch) (c - p) ≡ chunk ch c
+from-back ch p c from = let e : p + (c - p) ≡ c = omega (arith, from) in get_or-drop p ch (c - p) [] ∙ ap (chunk ch) e
 
-  front-long : length (take i ch) ≡ i
-  front-long = length-take-le i ch (omega (arith, apart, within))
+pub from-front : (ch ys : Chunks) (i c : ℕ) → i ≤ length ch → c < i → chunk (take i ch ++ ys) c ≡ chunk ch c
+from-front ch ys i c within below =
+    get_or_append_left (take i ch) ys [] c (subst (λ m. c < m) (sym (length-take-le i ch within)) below) ∙ get_or-take i ch c [] below
 
-  gap-long : length (between (i + n) j ch) ≡ j - (i + n)
-  gap-long = part-long ch (i + n) (j - (i + n)) (omega (arith, apart, within))
+pub past-front : (ch ys : Chunks) (i c : ℕ) → i ≤ length ch → i ≤ c → chunk (take i ch ++ ys) c ≡ chunk ys (c - i)
+past-front ch ys i c within from = get_or-append_right (take i ch) ys i c [] (length-take-le i ch within) from
 
-  at_first : (k : ℕ) → i ≤ k → chunk filled k ≡ chunk (first ++ from_gap) (k - i)
-  at_first k h = after (take i ch) (first ++ from_gap) i k front-long h
+-- a part from place a on, then what stands up to place b, then the rest from there on
+module _ (ch part ys : Chunks) (a n b : ℕ) (long : length part ≡ n) (apart : a + n ≤ b) (within : b ≤ length ch) where
+  long-to : length part ≡ a + n - a
+  long-to = omega (arith, long)
 
-  at_gap : (k : ℕ) → i + n ≤ k → chunk filled k ≡ chunk from_gap (k - i - n)
-  at_gap k h = at_first k (omega (arith, h)) ∙ after first from_gap n (k - i) l₁ (omega (arith, h))
+  pub in-part : (k : ℕ) → k < n → chunk (part ++ ys) (a + k - a) ≡ chunk part k
+  in-part k low =
+      let e : a + k - a ≡ k = omega arith in
+      here part ys a (a + n) (a + k) long-to (omega arith) (omega (arith, low)) ∙ ap (chunk part) e
 
-  at_second : (k : ℕ) → j ≤ k → chunk filled k ≡ chunk from_second (k - j)
-  at_second k h =
-      let e : k - i - n - (j - (i + n)) ≡ k - j = omega (arith, h, apart) in
-      at_gap k (omega (arith, h, apart)) ∙ after (between (i + n) j ch) from_second (j - (i + n)) (k - i - n) gap-long (omega (arith, h, apart)) ∙ ap (chunk from_second) e
+  pub in-gap : (c : ℕ) → a + n ≤ c → c < b → chunk (part ++ (between (a + n) b ch ++ ys)) (c - a) ≡ chunk ch c
+  in-gap c from below =
+      past part (between (a + n) b ch ++ ys) a (a + n) c long-to (omega arith) from
+      ∙ here (between (a + n) b ch) ys (a + n) b c (gap-long ch (a + n) b apart within) from below ∙ from-gap ch (a + n) b c from below
 
-  pub two-first : (k : ℕ) → k < n → chunk filled (i + k) ≡ chunk first k
-  two-first k h =
-      let e : i + k - i ≡ k = omega arith in
-      at_first (i + k) (omega arith) ∙ ap (chunk (first ++ from_gap)) e ∙ before first from_gap k (subst (λ m. k < m) (sym l₁) h)
+  pub past-gap : (c : ℕ) → b ≤ c → chunk (part ++ (between (a + n) b ch ++ ys)) (c - a) ≡ chunk ys (c - b)
+  past-gap c from =
+      past part (between (a + n) b ch ++ ys) a (a + n) c long-to (omega arith) (omega (arith, apart, from))
+      ∙ past (between (a + n) b ch) ys (a + n) b c (gap-long ch (a + n) b apart within) apart from
 
-  pub two-second : (k : ℕ) → k < n → chunk filled (j + k) ≡ chunk second k
-  two-second k h =
-      let e : j + k - j ≡ k = omega arith in
-      at_second (j + k) (omega arith) ∙ ap (chunk from_second) e ∙ before second (drop (j + n) ch) k (subst (λ m. k < m) (sym l₂) h)
+  pub length-gap : length (part ++ (between (a + n) b ch ++ ys)) ≡ b - a + length ys
+  length-gap =
+      let p = length-append part (between (a + n) b ch ++ ys) in
+      let q = length-append (between (a + n) b ch) ys in
+      let r = gap-long ch (a + n) b apart within in
+      omega (arith, p, q, r, long, apart)
 
-  pub two-others : (k : ℕ) → (k < i) ⊎ (i + n ≤ k) → (k < j) ⊎ (j + n ≤ k) → chunk filled k ≡ chunk ch k
-  two-others k (inl low) second_side = before (take i ch) (first ++ from_gap) k (subst (λ m. k < m) (sym front-long) low) ∙ get_or-take i ch k [] low
-  two-others k (inr past) (inl low) =
-      let e : i + n + (k - i - n) ≡ k = omega (arith, past) in
-      at_gap k past ∙ before (between (i + n) j ch) from_second (k - i - n) (subst (λ m. k - i - n < m) (sym gap-long) (omega (arith, past, low)))
-      ∙ part-at ch (i + n) (j - (i + n)) (k - i - n) (omega (arith, past, low)) ∙ ap (chunk ch) e
-  two-others k (inr past) (inr high) =
-      let e : j + n + (k - j - n) ≡ k = omega (arith, high) in
-      at_second k (omega (arith, high)) ∙ after second (drop (j + n) ch) n (k - j) l₂ (omega (arith, high)) ∙ get_or-drop (j + n) ch (k - j - n) [] ∙ ap (chunk ch) e
+-- the same at the end of the list
+module _ (ch part : Chunks) (a n : ℕ) (long : length part ≡ n) (within : a + n ≤ length ch) where
+  pub past-last : (c : ℕ) → a + n ≤ c → chunk (part ++ drop (a + n) ch) (c - a) ≡ chunk ch c
+  past-last c from =
+      past part (drop (a + n) ch) a (a + n) c (omega (arith, long)) (omega arith) from ∙ from-back ch (a + n) c from
 
-cell-is : (h : ShardsRefMut) (chunks : Chunks) (row k : ℕ) (c : List ℕ) → chunk chunks (row * h.shard_len_64 + k) ≡ c → cell (with_chunks h chunks) k row ≡ c
+  pub length-last : length (part ++ drop (a + n) ch) ≡ length ch - a
+  length-last =
+      let p = length-append part (drop (a + n) ch) in let q = length-drop (a + n) ch in omega (arith, p, q, long, within)
+
+pub cell-is : (h : ShardsRefMut) (chunks : Chunks) (row k : ℕ) (c : List ℕ) → chunk chunks (row * h.shard_len_64 + k) ≡ c → cell (with_chunks h chunks) k row ≡ c
 unfolding cell
 cell-is h chunks row k c e = e
+
+-- a row ends before a later one begins, and within the rows
+pub ends : (n i j : ℕ) → i < j → i * n + n ≤ j * n
+ends n i j h = let rows : (i + 1) * n ≤ j * n = mul-le-mul_right n (omega (arith, h)) in omega (arith, rows)
+
+pub side : (h : ShardsRefMut) (i c : ℕ) → IsOutside h i c → (c < i * h.shard_len_64) ⊎ (i * h.shard_len_64 + h.shard_len_64 ≤ c)
+side h i c (inl low) = inl low
+side h i c (inr high) = inr (omega (arith, high))
 
 -- two rows of a list
 module _ (h : ShardsRefMut) (pos dist : ℕ) (first second : Chunks) (fits : h.shard_count * h.shard_len_64 ≤ length h.chunks.now) (ordered : 0 < dist)
@@ -92,30 +96,60 @@ module _ (h : ShardsRefMut) (pos dist : ℕ) (first second : Chunks) (fits : h.s
   abbrev ch : Chunks
   ch = h.chunks.now
 
+  abbrev i : ℕ
+  i = pos * n
+
+  abbrev j : ℕ
+  j = (pos + dist) * n
+
+  abbrev from₂ : Chunks
+  from₂ = second ++ drop (j + n) ch
+
+  abbrev from₁ : Chunks
+  from₁ = first ++ (between (i + n) j ch ++ from₂)
+
   abbrev pub two_written : ShardsRefMut
-  two_written = with_chunks h (with_two ch (pos * n) n ((pos + dist) * n) n first second)
+  two_written = with_chunks h (with_two ch i n j n first second)
 
-  apart : pos * n + n ≤ (pos + dist) * n
-  apart = let rows : (pos + 1) * n ≤ (pos + dist) * n = mul-le-mul_right n (omega (arith, ordered)) in omega (arith, rows)
+  apart : i + n ≤ j
+  apart = ends n pos (pos + dist) (omega (arith, ordered))
 
-  last : (pos + dist) * n + n ≤ length ch
-  last = let rows : (pos + dist + 1) * n ≤ h.shard_count * n = mul-le-mul_right n (omega (arith, within)) in omega (arith, rows, fits)
+  last : j + n ≤ length ch
+  last = let rows = ends n (pos + dist) h.shard_count within in omega (arith, rows, fits)
+
+  front : i ≤ length ch
+  front = omega (arith, apart, last)
+
+  inner : j ≤ length ch
+  inner = omega (arith, last)
 
   pub two-shape : SameShape h two_written
-  two-shape = record { name = refl; count = refl; len_64 = refl; length = two-long ch first second (pos * n) ((pos + dist) * n) n apart last l₁ l₂ }
+  two-shape =
+      let a = length-append (take i ch) from₁ in
+      let b = length-take-le i ch front in
+      let c = length-gap ch first from₂ i n j l₁ apart inner in
+      let d = length-last ch second j n l₂ last in
+      record { name = refl; count = refl; len_64 = refl; length = omega (arith, a, b, c, d, apart, last) }
 
-  pub first-row : (k : ℕ) → k < n → cell two_written k pos ≡ chunk first k
-  first-row k low =
-      cell-is h _ pos k (chunk first k) (two-first ch first second (pos * n) ((pos + dist) * n) n apart last l₁ l₂ k low)
+  pub first-of-two : (k : ℕ) → k < n → cell two_written k pos ≡ chunk first k
+  first-of-two k low =
+      cell-is h _ pos k (chunk first k)
+      (past-front ch from₁ i (i + k) front (omega arith) ∙ in-part ch first (between (i + n) j ch ++ from₂) i n j l₁ apart inner k low)
 
-  pub second-row : (k : ℕ) → k < n → cell two_written k (pos + dist) ≡ chunk second k
-  second-row k low =
-      cell-is h _ (pos + dist) k (chunk second k) (two-second ch first second (pos * n) ((pos + dist) * n) n apart last l₁ l₂ k low)
+  pub second-of-two : (k : ℕ) → k < n → cell two_written k (pos + dist) ≡ chunk second k
+  second-of-two k low =
+      cell-is h _ (pos + dist) k (chunk second k)
+      (past-front ch from₁ i (j + k) front (omega (arith, apart)) ∙ past-gap ch first from₂ i n j l₁ apart inner (j + k) (omega arith)
+      ∙ in-part ch second (drop (j + n) ch) j n (j + n) l₂ (omega arith) last k low)
 
-  past : (row k : ℕ) → (k < row * n) ⊎ ((row + 1) * n ≤ k) → (k < row * n) ⊎ (row * n + n ≤ k)
-  past row k (inl low) = inl low
-  past row k (inr high) = inr (omega (arith, high))
+  others : (c : ℕ) → (c < i) ⊎ (i + n ≤ c) → (c < j) ⊎ (j + n ≤ c) → chunk two_written.chunks.now c ≡ chunk ch c
+  others c (inl low) side₂ = from-front ch from₁ i c front low
+  others c (inr high) (inl low) =
+      past-front ch from₁ i c front (omega (arith, high)) ∙ in-gap ch first from₂ i n j l₁ apart inner c high low
+  others c (inr high) (inr end) =
+      past-front ch from₁ i c front (omega (arith, high)) ∙ past-gap ch first from₂ i n j l₁ apart inner c (omega (arith, end))
+      ∙ past-last ch second j n l₂ last c end
 
-  pub other-rows : SameRowsOutsideTwo pos (pos + 1) (pos + dist) (pos + dist + 1) h two_written
-  other-rows k side₁ side₂ =
-      two-others ch first second (pos * n) ((pos + dist) * n) n apart last l₁ l₂ k (past pos k side₁) (past (pos + dist) k side₂)
+  pub other-than-two : SameRowsBut (pos ∷ (pos + dist) ∷ []) h two_written
+  other-than-two c outside =
+      others c (side h pos c (outside 0 0 (omega arith))) (side h (pos + dist) c (outside 1 0 (omega arith)))

@@ -41,9 +41,10 @@ use denote.Triple.Spec.{triple_of}
 use denote.Triple.Table.{framed}
 use denote.Triple.Walked.{Stays, stay_dropped, stay_ref, walk_of, ends_at, Goes-dropped, Goes-ref}
 use Rattle.std.proofs.Math.Nat.{mul-le-mul_right}
-use Rattle.rs_rows.proofs.LentRows.{part-long, two-shape, first-row, second-row, other-rows}
+use Rattle.rs_rows.proofs.LentRows.{part-long, two-shape, first-of-two, second-of-two, other-than-two}
 use Rattle.rs_field.specs.Rows.{Chunks, chunk}
-use Rattle.rs_field.specs.View.{SameShape, SameRowsOutsideTwo, cell, row_at}
+use Rattle.rs_field.specs.View.{SameShape, cell, row_at}
+use Rattle.rs_rows.specs.RowsBut.{SameRowsBut}
 use Rattle.rs_field.specs.Lending.{LendsTwoRows, with_chunks, with_two}
 use Rattle.rs_field.specs.declared.engine.shards.ShardsRefMut.{ShardsRefMut}
 use Rattle.rs_field.specs.contracts.engine.shards.ShardsRefMut.{the_row}
@@ -185,9 +186,9 @@ write_two_rows_spec 𝓤 𝓛 𝓜 𝓡 wired =
     let Shape : Type 0 = SameShape h end in
     let One : Type 0 = (k : ℕ) → k < n → cell end k pos ≡ chunk first.now k in
     let Two : Type 0 = (k : ℕ) → k < n → cell end k (pos + dist) ≡ chunk second.now k in
-    let Others : Type 0 = SameRowsOutsideTwo pos (pos + 1) (pos + dist) (pos + dist + 1) h end in
-    use0 𝓛 (raw (fact 𝓤 (Others))) (fact_i 𝓤 (Others) (emp 𝓤) (other-rows h pos dist first.now second.now fits apart within one_long two_long)) $
-    use0 𝓛 (raw (fact 𝓤 (Two))) (fact_i 𝓤 (Two) (emp 𝓤) (second-row h pos dist first.now second.now fits apart within one_long two_long)) $ join ! $
-    use0 𝓛 (raw (fact 𝓤 (One))) (fact_i 𝓤 (One) (emp 𝓤) (first-row h pos dist first.now second.now fits apart within one_long two_long)) $ join ! $
+    let Others : Type 0 = SameRowsBut (pos ∷ (pos + dist) ∷ []) h end in
+    use0 𝓛 (raw (fact 𝓤 (Others))) (fact_i 𝓤 (Others) (emp 𝓤) (other-than-two h pos dist first.now second.now fits apart within one_long two_long)) $
+    use0 𝓛 (raw (fact 𝓤 (Two))) (fact_i 𝓤 (Two) (emp 𝓤) (second-of-two h pos dist first.now second.now fits apart within one_long two_long)) $ join ! $
+    use0 𝓛 (raw (fact 𝓤 (One))) (fact_i 𝓤 (One) (emp 𝓤) (first-of-two h pos dist first.now second.now fits apart within one_long two_long)) $ join ! $
     use0 𝓛 (raw (fact 𝓤 (Shape))) (fact_i 𝓤 (Shape) (emp 𝓤) (two-shape h pos dist first.now second.now fits apart within one_long two_long)) $ join ! $
     move ! (1 ∷ 0 ∷ []) $ join ! $ done !)))))))))))))))))))))
