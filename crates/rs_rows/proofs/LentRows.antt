@@ -4,7 +4,7 @@ use Rattle.std.proofs.Math.Nat.{mul-le-mul_right}
 use Rattle.std.proofs.lemmas.List.{get_or_append_left, get_or-append_right, get_or-take, get_or-drop, length-take-le, length-drop}
 use Rattle.rs_field.specs.Rows.{Chunks, chunk}
 use Rattle.rs_field.specs.View.{SameShape, cell}
-use Rattle.rs_field.specs.Lending.{between, with_chunks, with_two, with_four}
+use Rattle.rs_field.specs.Lending.{between, with_chunks, with_two}
 use Rattle.rs_field.specs.declared.engine.shards.ShardsRefMut.{ShardsRefMut}
 use Rattle.rs_rows.specs.RowsBut.{IsOutside, SameRowsBut}
 
