@@ -6,6 +6,7 @@ pub use Rattle.rs_field.specs.Transform
 pub use Rattle.rs_field.specs.Tables
 pub use Rattle.rs_field.specs.Rows
 pub use Rattle.rs_field.specs.View
+pub use Rattle.rs_field.specs.Lending
 pub use Rattle.rs_field.specs.Bounds
 pub use Rattle.rs_field.specs.Counts
 pub use Rattle.rs_field.specs.Placement

@@ -18,9 +18,11 @@ pub mod Locator
 pub mod Total
 pub mod RingSolver
 pub mod Runs
+pub mod FourRuns
 pub mod RowOffsets
 pub mod Pairs
 pub mod LayoutLemmas
+pub mod ZeroColumns
 pub mod Symbols
 pub mod Combination
 pub mod Factors

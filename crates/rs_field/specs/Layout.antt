@@ -29,3 +29,7 @@ in_order size chunks = up_to size (λ b. slice_index (chunks (b / 64)) (b % 64))
 -- column j of a shard is one symbol of its row: symbol j % 32 of chunk j / 32
 abbrev pub LaysColumns : Type 0
 LaysColumns = (size j : ℕ) (chunks : ℕ → List ℕ) → size % 2 ≡ 0 → j < size / 2 → column j (laid_out size chunks) ≡ symbol (chunks (j / 32)) (j % 32)
+
+-- the row with these chunks is zero in each column that shards of this size have
+abbrev pub HasZeroColumns : ℕ → (ℕ → List ℕ) → Type 0
+HasZeroColumns size chunks = (j : ℕ) → j < size / 2 → symbol (chunks (j / 32)) (j % 32) ≡ 0

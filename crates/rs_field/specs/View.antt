@@ -1,5 +1,6 @@
 -- The rows of a `ShardsRefMut`, by row, chunk and symbol.
 use Rattle.std.specs.Prelude.{◌≡◌, ℕ, List, ◌+◌, ◌*◌, ◌≤◌, ◌<◌, length, replicate, take, drop}
+use Rattle.std.specs.Borrow.{MutBor}
 use Rattle.rs_field.specs.Rows.{Chunks, chunk, symbol, SameOutside, SameOutsideTwo}
 use Rattle.rs_field.specs.declared.engine.shards.ShardsRefMut.{ShardsRefMut}
 
@@ -18,6 +19,19 @@ cell r k i = chunk r.chunks.now (i * r.shard_len_64 + k)
 -- symbol s of chunk k of row i
 abbrev pub word : ShardsRefMut → ℕ → ℕ → ℕ → ℕ
 word r k s i = symbol (cell r k i) s
+
+-- part is a list of its own of the m rows from row i on
+pub record HasRows (r : ShardsRefMut) (i m : ℕ) (part : ShardsRefMut) : Type 0 where
+  pub count : part.shard_count ≡ m
+  pub len_64 : part.shard_len_64 ≡ r.shard_len_64
+  pub chunks : part.chunks.now ≡ take (m * r.shard_len_64) (drop (i * r.shard_len_64) r.chunks.now)
+
+-- m rows of n chunks each over these chunks
+pub record IsListOf (r : ShardsRefMut) (chunks : MutBor Chunks) (m n : ℕ) : Type 0 where
+  pub name : r.chunks.ghost_name ≡ chunks.ghost_name
+  pub now : r.chunks.now ≡ chunks.now
+  pub count : r.shard_count ≡ m
+  pub len_64 : r.shard_len_64 ≡ n
 
 -- as many rows as before, of the same length, over as many chunks of the same loan
 pub record SameShape (old new : ShardsRefMut) : Type 0 where

@@ -18,6 +18,11 @@ pub enum Error {
     DuplicateRecoveryShardIndex {
         index: usize,
     },
+    /// The shards that were given agree with no message.
+    InconsistentShards {
+        original_received_count: usize,
+        recovery_received_count: usize,
+    },
     /// An original shard's index is `original_count` or more.
     InvalidOriginalShardIndex {
         original_count: usize,
@@ -69,6 +74,13 @@ impl fmt::Display for Error {
             Error::DuplicateRecoveryShardIndex { index } => {
                 write!(f, "duplicate recovery shard index: {index}")
             }
+            Error::InconsistentShards {
+                original_received_count,
+                recovery_received_count,
+            } => write!(
+                f,
+                "inconsistent shards: {original_received_count} original + {recovery_received_count} recovery agree with no message"
+            ),
             Error::InvalidOriginalShardIndex {
                 original_count,
                 index,
@@ -164,6 +176,13 @@ mod tests {
             (
                 Error::DuplicateRecoveryShardIndex { index: 8 },
                 "duplicate recovery shard index: 8",
+            ),
+            (
+                Error::InconsistentShards {
+                    original_received_count: 3,
+                    recovery_received_count: 2,
+                },
+                "inconsistent shards: 3 original + 2 recovery agree with no message",
             ),
             (
                 Error::InvalidOriginalShardIndex {

@@ -1,1 +1,4 @@
 pub mod CallerLemmas
+pub mod LentRows
+pub mod LentFourRows
+pub mod LentHalves

@@ -14,6 +14,7 @@ mod digests;
 mod encoding;
 #[cfg(test)]
 mod help;
+pub mod lent_rows;
 #[cfg(test)]
 mod refusals;
 #[cfg(test)]

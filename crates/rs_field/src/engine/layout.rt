@@ -3,8 +3,8 @@
 //! Symbol s of a chunk has its low byte at byte s and its high byte at byte s + 32. Whole chunks of a shard lie as they
 //! are. A tail of L bytes lies in the last chunk: its first half from byte 0 on, its second half from byte 32 on. The
 //! other bytes of the last chunk are open.
-ghost use Rattle.std.specs.Prelude.{◌≡◌, ℕ, ◌+◌, ◌*◌, ◌%◌, ◌<◌, ◌≤◌, length, slice_index};
-ghost use Rattle.rs_field.specs.Layout.{row_len as chunks_for, laid_out, in_order};
+ghost use Rattle.std.specs.Prelude.{◌≡◌, ℕ, ◌+◌, ◌*◌, ◌%◌, ◌<◌, ◌≤◌, ◌↔◌, length, slice_index, IsTrue, EachIndex};
+ghost use Rattle.rs_field.specs.Layout.{row_len as chunks_for, laid_out, in_order, HasZeroColumns};
 ghost use Rattle.rs_field.specs.Rows.{chunk};
 
 /// How many chunks a row of shards of this size has.
@@ -89,6 +89,28 @@ pub fn shard_of(row: &[[u8; 64]], shard_bytes: usize) -> &[u8]
     &bytes[..shard_bytes]
 }
 
+/// Whether a row is zero in each column that shards of this size have. The open bytes of the last chunk don't count.
+pub fn is_zero_row(row: &[[u8; 64]], shard_bytes: usize) -> bool
+    requires { length row.now ≡ chunks_for shard_bytes }
+    ensures { IsTrue result ↔ HasZeroColumns shard_bytes (λ k. chunk row.now k) }
+{
+    let bytes = row.as_flattened();
+    let tail = shard_bytes / 64 * 64;
+    let half = shard_bytes % 64 / 2;
+    are_zero(&bytes[..tail + half]) && (half == 0 || are_zero(&bytes[tail + 32..tail + 32 + half]))
+}
+
+// No way out before the last byte: so many bytes are taken at a time.
+fn are_zero(bytes: &[u8]) -> bool
+    ensures { IsTrue result ↔ EachIndex bytes.now (λ b. slice_index bytes.now b ≡ 0) }
+{
+    let mut bits = 0;
+    for byte in bytes {
+        bits |= *byte;
+    }
+    bits == 0
+}
+
 #[cfg(test)]
 mod tests {
     use super::*;
@@ -136,6 +158,35 @@ mod tests {
         assert_eq!(rt; row[0], [7; 64]);
         assert_eq!(rt; row[1][0], 8);
         assert_eq!(rt; row[1][32], 9);
+    }
+
+    // A row whose two chunks are zero but for one byte.
+    fn marked(chunk: usize, byte: usize) -> [[u8; 64]; 2]
+        requires chunk { «chunk» < 2 }
+        requires byte { byte < 64 }
+    {
+        let mut row = [[0; 64]; 2];
+        row[chunk][byte] = 1;
+        row
+    }
+
+    #[test]
+    fn open_bytes_do_not_count(rt: HostRuntime) {
+        assert_eq!(rt; is_zero_row(&[[0; 64]; 2], 68), true);
+        for byte in [2, 31, 34, 63] {
+            assert_eq!(rt; is_zero_row(&marked(1, byte), 68), true, "byte {byte}");
+        }
+    }
+
+    #[test]
+    fn each_byte_of_a_shard_counts(rt: HostRuntime) {
+        for byte in [0, 1, 32, 33] {
+            assert_eq!(rt; is_zero_row(&marked(1, byte), 68), false, "byte {byte}");
+        }
+        for byte in [0, 31, 32, 63] {
+            assert_eq!(rt; is_zero_row(&marked(0, byte), 68), false, "byte {byte}");
+            assert_eq!(rt; is_zero_row(&marked(1, byte), 128), false, "byte {byte}");
+        }
     }
 
     #[test]

@@ -1,9 +1,9 @@
 //! Rows of chunks of 64 bytes, lent from one slice.
-ghost use Rattle.std.specs.Prelude.{◌≡◌, ℕ, ◌+◌, ◌*◌, ◌<◌, ◌≤◌, length, take, drop, replicate};
+ghost use Rattle.std.specs.Prelude.{◌≡◌, ℕ, ◌+◌, ◌-◌, ◌*◌, ◌<◌, ◌≤◌, ◌↔◌, length, take, drop, replicate, IsTrue};
 ghost use Rattle.std.specs.Borrow.{sem};
 ghost use Rattle.rs_field.specs.Rows.{chunk, SameOutside};
-ghost use Rattle.rs_field.specs.View.{row_at, Fits, SameShape, SameRowsOutside, AreZero};
-ghost use Rattle.rs_field.specs.Lending.{LendsAll, LendsPart, LendsRow, LendsTwoParts, LendsTwoRows, with_part};
+ghost use Rattle.rs_field.specs.View.{row_at, Fits, SameShape, SameRowsOutside, AreZero, HasRows, IsListOf};
+ghost use Rattle.rs_field.specs.Lending.{LendsAll, LendsPart, LendsRow, LendsTwoParts, LendsTwoRows, LendsFourParts, LendsFourRows, LendsHalves, with_part};
 
 use std::cell::UnsafeCell;
 use std::ops::Range;
@@ -47,6 +47,13 @@ impl<'a> ShardsRefMut<'a> {
         self.shard_count
     }
 
+    /// Whether there is no row.
+    pub fn is_empty(&self) -> bool
+        ensures { IsTrue result ↔ (self.now.shard_count ≡ 0) }
+    {
+        self.len() == 0
+    }
+
     /// Rows `pos` and `pos + dist`, to be written: what is written to each stands in the list afterwards, and every
     /// other row is unchanged.
     pub fn dist2_mut(&mut self, pos: usize, dist: usize) -> (&mut [[u8; 64]], &mut [[u8; 64]])
@@ -60,7 +67,51 @@ impl<'a> ShardsRefMut<'a> {
         let len = self.shard_len_64;
         let a = pos * len;
         let b = (pos + dist) * len;
-        self.two_parts(a, b, len)
+        self.two_parts(a, len, b, len)
+    }
+
+    /// Rows `pos`, `pos + dist`, `pos + 2 * dist` and `pos + 3 * dist`, to be written: what is written to each stands
+    /// in the list afterwards, and every other row is unchanged.
+    pub fn dist4_mut(
+        &mut self,
+        pos: usize,
+        dist: usize,
+    ) -> (
+        &mut [[u8; 64]],
+        &mut [[u8; 64]],
+        &mut [[u8; 64]],
+        &mut [[u8; 64]],
+    )
+        requires fits { Fits self.old }
+        requires apart { 0 < dist }
+        requires within { pos + 3 * dist < self.old.shard_count }
+        ensures* lends { sem 𝓛 (LendsFourRows self.entry pos (pos + dist) (pos + 2 * dist) (pos + 3 * dist) result) }
+        ensures first { result.0.now ≡ row_at self.old pos }
+        ensures second { result.1.now ≡ row_at self.old (pos + dist) }
+        ensures third { result.2.now ≡ row_at self.old (pos + 2 * dist) }
+        ensures fourth { result.3.now ≡ row_at self.old (pos + 3 * dist) }
+    {
+        let len = self.shard_len_64;
+        let first = pos * len;
+        let second = (pos + dist) * len;
+        let third = (pos + 2 * dist) * len;
+        let fourth = (pos + 3 * dist) * len;
+        self.four_parts(first, second, third, fourth, len)
+    }
+
+    /// The rows before `mid`, and those from `mid` on, as two lists: what becomes of each stands in this list
+    /// afterwards, and all that lies past the rows is unchanged.
+    pub fn split_at_mut(&mut self, mid: usize) -> (ShardsRefMut<'_>, ShardsRefMut<'_>)
+        requires fits { Fits self.old }
+        requires within { mid ≤ self.old.shard_count }
+        ensures* lends { sem 𝓛 (LendsHalves self.entry mid result) }
+        ensures first { HasRows self.old 0 mid result.0 }
+        ensures second { HasRows self.old mid (self.old.shard_count - mid) result.1 }
+    {
+        let len = self.shard_len_64;
+        let rest = self.shard_count - mid;
+        let a = mid * len;
+        two_lists(self.two_parts(0, a, a, rest * len), mid, rest, len)
     }
 
     /// The rows of the range become zero bytes.
@@ -116,12 +167,48 @@ impl<'a> ShardsRefMut<'a> {
         unsafe { std::slice::from_raw_parts_mut(p.add(a), n) }
     }
 
-    // The n chunks from a on, and those from b on.
-    fn two_parts(&mut self, a: usize, b: usize, n: usize) -> (&mut [[u8; 64]], &mut [[u8; 64]])
+    // The n chunks from a on, and the m chunks from b on.
+    fn two_parts(
+        &mut self,
+        a: usize,
+        n: usize,
+        b: usize,
+        m: usize,
+    ) -> (&mut [[u8; 64]], &mut [[u8; 64]])
         requires apart { a + n ≤ b }
-        requires within { b + n ≤ length self.old.chunks.now }
-        ensures* lends { sem 𝓛 (LendsTwoParts self.entry a b n result) }
-        ensures value { (result.0.now ≡ take n (drop a self.old.chunks.now)) × (result.1.now ≡ take n (drop b self.old.chunks.now)) }
+        requires within { b + m ≤ length self.old.chunks.now }
+        ensures* lends { sem 𝓛 (LendsTwoParts self.entry a n b m result) }
+        ensures value { (result.0.now ≡ take n (drop a self.old.chunks.now)) × (result.1.now ≡ take m (drop b self.old.chunks.now)) }
+    {
+        let all = self.all();
+        let p = all.as_mut_ptr();
+        unsafe {
+            (
+                std::slice::from_raw_parts_mut(p.add(a), n),
+                std::slice::from_raw_parts_mut(p.add(b), m),
+            )
+        }
+    }
+
+    // The n chunks from each of four places on.
+    fn four_parts(
+        &mut self,
+        a: usize,
+        b: usize,
+        c: usize,
+        d: usize,
+        n: usize,
+    ) -> (
+        &mut [[u8; 64]],
+        &mut [[u8; 64]],
+        &mut [[u8; 64]],
+        &mut [[u8; 64]],
+    )
+        requires apart { (a + n ≤ b) × (b + n ≤ c) × (c + n ≤ d) }
+        requires within { d + n ≤ length self.old.chunks.now }
+        ensures* lends { sem 𝓛 (LendsFourParts self.entry a b c d n result) }
+        ensures value { let part = λ (start : ℕ). take n (drop start self.old.chunks.now) in
+            (result.0.now ≡ part a) × (result.1.now ≡ part b) × (result.2.now ≡ part c) × (result.3.now ≡ part d) }
     {
         let all = self.all();
         let p = all.as_mut_ptr();
@@ -129,9 +216,30 @@ impl<'a> ShardsRefMut<'a> {
             (
                 std::slice::from_raw_parts_mut(p.add(a), n),
                 std::slice::from_raw_parts_mut(p.add(b), n),
+                std::slice::from_raw_parts_mut(p.add(c), n),
+                std::slice::from_raw_parts_mut(p.add(d), n),
             )
         }
     }
+}
+
+// The chunks of each part, as rows.
+fn two_lists<'a>(
+    parts: (&'a mut [[u8; 64]], &'a mut [[u8; 64]]),
+    count: usize,
+    rest: usize,
+    len: usize,
+) -> (ShardsRefMut<'a>, ShardsRefMut<'a>)
+    requires first { count * len ≤ length parts.0.now }
+    requires second { rest * len ≤ length parts.1.now }
+    ensures first { IsListOf result.0 parts.entry.0 count len }
+    ensures second { IsListOf result.1 parts.entry.1 rest len }
+{
+    let (first, second) = parts;
+    (
+        ShardsRefMut::new(count, len, first),
+        ShardsRefMut::new(rest, len, second),
+    )
 }
 
 // The chunks from start to end - 1 become zero bytes.
@@ -197,6 +305,53 @@ mod tests {
     }
 
     #[test]
+    fn a_third_of_four_rows_that_is_written_stands(rt: HostRuntime) {
+        let mut chunks = [[1; 64], [2; 64], [3; 64], [4; 64]];
+        let mut rows = ShardsRefMut::new(4, 1, &mut chunks);
+        let (_, _, third, _) = rows.dist4_mut(0, 1);
+        third.copy_from_slice(&[[9; 64]]);
+        assert_eq!(rt; chunks, [[1; 64], [2; 64], [9; 64], [4; 64]]);
+    }
+
+    #[test]
+    fn four_rows_at_a_distance_are_lent_in_order(rt: HostRuntime) {
+        let mut chunks = [[0; 64]; 9];
+        let mut rows = ShardsRefMut::new(8, 1, &mut chunks);
+        let (first, second, third, fourth) = rows.dist4_mut(1, 2);
+        first.copy_from_slice(&[[1; 64]]);
+        second.copy_from_slice(&[[2; 64]]);
+        third.copy_from_slice(&[[3; 64]]);
+        fourth.copy_from_slice(&[[4; 64]]);
+        for (i, byte) in [0, 1, 0, 2, 0, 3, 0, 4, 0].into_iter().enumerate() {
+            assert_eq!(rt; chunks[i], [byte; 64], "chunk {i}");
+        }
+    }
+
+    #[test]
+    fn a_list_is_split_between_rows(rt: HostRuntime) {
+        let mut chunks = [[1; 64], [2; 64], [3; 64], [4; 64], [5; 64]];
+        let mut rows = ShardsRefMut::new(4, 1, &mut chunks);
+        let (mut front, mut back) = rows.split_at_mut(1);
+        assert_eq!(rt; front.len(), 1);
+        assert_eq!(rt; back.len(), 3);
+        assert_eq!(rt; front.row(0)[0], [1; 64]);
+        assert_eq!(rt; back.row(2)[0], [4; 64]);
+        front.zero(0..1);
+        back.row_mut(1).copy_from_slice(&[[9; 64]]);
+        assert_eq!(rt; chunks, [[0; 64], [2; 64], [9; 64], [4; 64], [5; 64]]);
+    }
+
+    #[test]
+    fn a_list_without_rows_is_empty(rt: HostRuntime) {
+        let mut chunks = [[1; 64]];
+        let mut rows = ShardsRefMut::new(0, 1, &mut chunks);
+        assert_eq!(rt; rows.is_empty(), true);
+        let (front, back) = rows.split_at_mut(0);
+        assert_eq!(rt; front.is_empty(), true);
+        assert_eq!(rt; back.is_empty(), true);
+    }
+
+    #[test]
     fn chunks_past_the_rows_stay(rt: HostRuntime) {
         let mut chunks = [[1; 64], [2; 64], [3; 64], [4; 64], [5; 64]];
         let mut rows = ShardsRefMut::new(2, 2, &mut chunks);
@@ -209,6 +364,7 @@ mod tests {
         let mut chunks = [];
         let rows = ShardsRefMut::new(3, 0, &mut chunks);
         assert_eq!(rt; rows.len(), 3);
+        assert_eq!(rt; rows.is_empty(), false);
         assert_eq!(rt; rows.row(2).len(), 0);
     }
 

@@ -96,20 +96,21 @@ dist2_mut_spec 𝓤 𝓛 𝓜 𝓡 wired =
     sets ! (bin ! (get ! refl) (get ! refl) (record { fits = second_fits })) refl (tt, record { fits = second_fits }) $
     sets ! (addr ! (through ! refl (stop !))) refl (tt, tt) $
     -- [self; the token of the loan; the other tokens]
-    let args : Valss (usize ∷ usize ∷ usize ∷ []) = (uint_vals w64 (pos * n), (uint_vals w64 ((pos + dist) * n), (uint_vals w64 n, tt))) in
+    let args : Valss (usize ∷ usize ∷ usize ∷ usize ∷ []) = (uint_vals w64 (pos * n), (uint_vals w64 n, (uint_vals w64 ((pos + dist) * n), (uint_vals w64 n, tt)))) in
     let G = triple_of 𝓛 g.signature (g.spec 𝓛 𝓜.mem 𝓡.returns) in
-    let z : G.Ghost = ((κs, qs, bounds, (self, (pos * n, ((pos + dist) * n, (n, tt)))), (vs, args)), tt) in
+    let z : G.Ghost = ((κs, qs, bounds, (self, (pos * n, (n, ((pos + dist) * n, (n, tt))))), (vs, args)), tt) in
     nothing ! $ owned ! usize _ (uint_Makes 𝓛 w64) n _ (refl, sized) $ fjoin ! $
     owned ! usize _ (uint_Makes 𝓛 w64) ((pos + dist) * n) _ (refl, second_fits) $ fjoin ! $
+    owned ! usize _ (uint_Makes 𝓛 w64) n _ (refl, sized) $ fjoin ! $
     owned ! usize _ (uint_Makes 𝓛 w64) (pos * n) _ (refl, first_fits) $ fjoin ! $
     move ! (1 ∷ 0 ∷ []) $ join ! $ move ! (1 ∷ 2 ∷ []) $ join ! $ join ! $
     use0 𝓛 (raw (fact 𝓤 ((pos + dist) * n + n ≤ length ch))) (fact_i 𝓤 ((pos + dist) * n + n ≤ length ch) (emp 𝓤) last) $
     use0 𝓛 (raw (fact 𝓤 (pos * n + n ≤ (pos + dist) * n))) (fact_i 𝓤 (pos * n + n ≤ (pos + dist) * n) (emp 𝓤) parts) $
     join ! $ move ! (1 ∷ 0 ∷ []) $ use2 𝓛 (raw (G.pre z)) (id⊢ 𝓤 _) $
     calls_at ! (framed 𝓤 𝓛.H 𝓜 𝓣) G (met 𝓤 𝓛 𝓜 𝓡 (code.calls-rs_field::engine::shards::ShardsRefMut::two_parts 𝓡.env wired)) z
-    (and_then ! (get ! refl) (and_then ! (get ! refl) (and_then ! (get ! refl) (and_then ! (get ! refl) (no_more !))))) (λ v.
+    (and_then ! (get ! refl) (and_then ! (get ! refl) (and_then ! (get ! refl) (and_then ! (get ! refl) (and_then ! (get ! refl) (no_more !)))))) (λ v.
     use1 𝓛 (later (some (λ (x : MutBor Chunks × MutBor Chunks). ((‵ (flft κs.0 qs.0) ⊛ ‵ (flft κs.1.0 qs.1.0) ⊛ ‵ ftrue) ⊛ ‵ ((Pair κs.0).own_val x (v ∷ []))) ⊛
-    some (λ (ws : Unit {0} × (Unit {0} × (Unit {0} × (Unit {0} × Unit {0})))). ‵ (lasts g.ended κs z.0.3 ws) ⊛ ‵ (LendsTwoParts self (pos * n) ((pos + dist) * n) n x)
+    some (λ (ws : Unit {0} × (Unit {0} × (Unit {0} × (Unit {0} × (Unit {0} × Unit {0}))))). ‵ (lasts g.ended κs z.0.3 ws) ⊛ ‵ (LendsTwoParts self (pos * n) n ((pos + dist) * n) n x)
     ⊛ raw (fact 𝓤 ((x.0.now ≡ take n (drop_list (pos * n) ch)) × (x.1.now ≡ take n (drop_list ((pos + dist) * n) ch)))))))) (id⊢ 𝓤 _) $
     await ! tt $ pick ! (λ x. split ! $ split ! $ move ! (2 ∷ []) $ pick ! (λ ws. split ! $ drop ! $ split ! $ move ! (1 ∷ []) $ heard ! _ (λ value. move ! (2 ∷ []) $
     -- [the pair; what self follows; the tokens; the locals]
