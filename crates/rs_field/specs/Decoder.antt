@@ -1,8 +1,8 @@
 -- A decoder: what is given, and what its calls do.
-use Rattle.std.specs.Prelude.{◌≡◌, ℕ, ◌+◌, ◌^◌, ◌<◌, ◌==◌, ◌↔◌, not, ◌&&◌, length, nat_le, nat_lt, if◌then◌else◌, List, Some, None, is_some, IsSome, IsNone, Result, Ok, Err, is_ok, IsOkAnd, MatchResult}
+use Rattle.std.specs.Prelude.{◌≡◌, ℕ, ◌+◌, ◌^◌, ◌<◌, ◌==◌, ◌&&◌, not, length, nat_le, nat_lt, if◌then◌else◌, List, Some, None, is_some, Result, Ok, Err, is_ok, MatchResult}
 use Rattle.rs_field.specs.declared.error.Error.{Error}
-use Rattle.rs_field.specs.declared.error.Error.TheVariants.{InvalidOriginalShardIndex, InvalidRecoveryShardIndex, DuplicateOriginalShardIndex, DuplicateRecoveryShardIndex, DifferentShardSize, NotEnoughShards}
-use Rattle.rs_field.specs.Column.{Shard, IsShard, shard_at}
+use Rattle.rs_field.specs.declared.error.Error.TheVariants.{InvalidOriginalShardIndex, InvalidRecoveryShardIndex, DuplicateOriginalShardIndex, DuplicateRecoveryShardIndex, DifferentShardSize, NotEnoughShards, InconsistentShards}
+use Rattle.rs_field.specs.Column.{Shard, shard_at}
 use Rattle.rs_field.specs.Counts.{Rate}
 use Rattle.rs_field.specs.Configuration.{Configuration, validated, space}
 use Rattle.rs_field.specs.Placement.{decoder_rows}
@@ -66,11 +66,6 @@ IsAgreeing s message = Agrees s.configuration s.originals s.recovery message
 abbrev pub IsConsistent : DecoderState → Type 0
 IsConsistent s = Consistent s.configuration s.originals s.recovery
 
--- shards at exactly the missing indexes, each of the size
-pub record FillsMissing (s : DecoderState) (out : Shards) : Type 0 where
-  pub missing : (i : ℕ) → IsSome (out i) ↔ (i < s.configuration.original_count × IsNone (s.originals i))
-  pub shards : (i : ℕ) (shard : Shard) → out i ≡ Some shard → IsShard s.configuration.shard_bytes shard
-
 -- a message's shards at exactly the indexes of the originals that were not given
 unfoldable pub missing_of : DecoderState → List Shard → Shards
 missing_of s message i =
@@ -83,13 +78,15 @@ pub record Restored (s : DecoderState) (out : Shards) : Type 0 where
   pub only : (other : List Shard) → IsAgreeing s other → other ≡ message
   pub missing : (i : ℕ) → out i ≡ missing_of s message i
 
--- what `decode` answers: a refusal, or the restored originals
-abbrev pub DecodeAnswers : DecoderState → Result Shards Error → Type 0
-DecodeAnswers s result = MatchResult (enough_given s) (λ _. IsOkAnd result (Restored s)) (λ e. result ≡ Err e)
+-- the refusal where no message agrees: with k shards given, or fewer, it never comes
+pub record NoneAgrees (s : DecoderState) (e : Error) : Type 0 where
+  pub refusal : e ≡ InconsistentShards (originals_given s) (recovery_given s)
+  pub surplus : s.configuration.original_count < originals_given s + recovery_given s
+  pub none : IsConsistent s → ⊥
 
--- what `decode` answers, as far as the places and sizes of the restored shards: a refusal, or shards at exactly the missing indexes
-abbrev pub DecodeFills : DecoderState → Result Shards Error → Type 0
-DecodeFills s result = MatchResult (enough_given s) (λ _. IsOkAnd result (FillsMissing s)) (λ e. result ≡ Err e)
+-- what `decode` answers: where too few shards are given that refusal, where no message agrees with them this one, else the restored originals
+abbrev pub DecodeAnswers : DecoderState → Result Shards Error → Type 0
+DecodeAnswers s result = MatchResult (enough_given s) (λ _. MatchResult result (Restored s) (NoneAgrees s)) (λ e. result ≡ Err e)
 
 -- the state that `decode` leaves: where too few were given the same, else with nothing given
 abbrev pub after_decode : DecoderState → DecoderState

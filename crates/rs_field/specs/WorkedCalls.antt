@@ -9,7 +9,7 @@ use Rattle.rs_field.specs.Given.{Shards, nothing, entered}
 use Rattle.rs_field.specs.Encoder.{EncoderState, fresh_encoder, with_shard, message_of, after_encode}
 use Rattle.rs_field.specs.Decoder.{fresh_decoder, with_original, with_recovery, enough_given, after_decode}
 use Rattle.rs_field.specs.OneCall.{default_of, encoding, decoding, OneEncodeAnswers, OneDecodes, OneDecodeAnswers}
-use Rattle.rs_field.specs.WorkedCode.{two_given}
+use Rattle.rs_field.specs.WorkedCode.{two_given, surplus_given}
 
 -- a shard of n zero bytes
 abbrev pub zeros : ℕ → Shard
@@ -58,11 +58,12 @@ EncoderRound =
     × (after_encode (encoder_with (zeros 2 ∷ (1 ∷ 0 ∷ []) ∷ [])) ≡ fresh_encoder (default_of 2 3 2))
     × (message_of (fresh_encoder (default_of 2 3 2)) ≡ Err (TooFewOriginalShards 2 0))
 
--- two recovery shards are enough for two originals, one isn't, and `decode` leaves nothing given
+-- two recovery shards are enough for two originals, one isn't, and `decode` leaves nothing given, also where no message agrees
 abbrev pub DecoderRound : Type 0
 DecoderRound =
     (enough_given (record { configuration = default_of 2 3 2; originals = nothing; recovery = entered nothing 2 (zeros 2) }) ≡ Err (NotEnoughShards 2 0 1))
     × (enough_given two_given ≡ Ok tt) × (after_decode two_given ≡ fresh_decoder (default_of 2 3 2))
+    × (after_decode (surplus_given (7 ∷ 8 ∷ [])) ≡ fresh_decoder (default_of 1 2 2))
     × (enough_given (fresh_decoder (default_of 2 3 2)) ≡ Err (NotEnoughShards 2 0 0))
 
 -- the largest index is refused as any other

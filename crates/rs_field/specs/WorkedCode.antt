@@ -1,12 +1,13 @@
 -- Worked rows of the code: messages with their recovery shards, and given shards with the messages that agree.
-use Rattle.std.specs.Prelude.{◌≡◌, ℕ, ◌+◌, ◌*◌, ◌++◌, List, [], ◌∷◌, map, length, replicate}
+use Rattle.std.specs.Prelude.{◌≡◌, ℕ, ◌+◌, ◌*◌, ◌++◌, List, [], ◌∷◌, map, length, replicate, Ok, Err}
+use Rattle.rs_field.specs.declared.error.Error.TheVariants.{InconsistentShards}
 use Rattle.rs_field.specs.Column.{Shard, columns}
 use Rattle.rs_field.specs.Counts.{Rate, default_rate}
 use Rattle.rs_field.specs.Configuration.{configuration}
 use Rattle.rs_field.specs.Code.{Codes, AreRecovery}
 use Rattle.rs_field.specs.CodeLaws.{xor_shards}
 use Rattle.rs_field.specs.Given.{nothing, entered}
-use Rattle.rs_field.specs.Decoder.{DecoderState, IsAgreeing, IsConsistent, Restored}
+use Rattle.rs_field.specs.Decoder.{DecoderState, IsAgreeing, Restored, DecodeAnswers}
 
 -- shards of two bytes, of which the second is zero
 abbrev pub low_bytes : List ℕ → List Shard
@@ -110,6 +111,7 @@ surplus_given recovery = record {
   recovery = entered nothing 0 recovery;
 }
 
--- a copy of the original agrees with it, and another shard doesn't
+-- with a copy of the original nothing is missing, and with another shard no message agrees
 abbrev pub SurplusRow : Type 0
-SurplusRow = IsConsistent (surplus_given (7 ∷ 9 ∷ [])) × (IsConsistent (surplus_given (7 ∷ 8 ∷ [])) → ⊥)
+SurplusRow =
+    DecodeAnswers (surplus_given (7 ∷ 9 ∷ [])) (Ok nothing) × DecodeAnswers (surplus_given (7 ∷ 8 ∷ [])) (Err (InconsistentShards 1 1))

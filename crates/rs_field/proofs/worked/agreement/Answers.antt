@@ -1,8 +1,9 @@
 use Rattle.std.proofs.Common.{◌≡◌, Bool, true, cond, inl, inr, ℕ, zero, suc, ◌+◌, ◌<◌, List, [], ◌∷◌, length, bit_xor, refl, sym, ap, ◌∙◌, subst, arith}
-use Rattle.std.specs.Prelude.{Some, None, ◌&&◌}
+use Rattle.std.specs.Prelude.{Some, None, ◌&&◌, not, is_some, Ok, Err}
 use Rattle.std.specs.Int.Bits.{xor_zero_r}
 use Rattle.std.proofs.lemmas.Bool.{le-ltb}
 use Rattle.std.proofs.lemmas.List.{ext_get_or}
+use Rattle.rs_field.specs.declared.error.Error.TheVariants.{InconsistentShards}
 use Rattle.rs_field.specs.Search.{first_below}
 use Rattle.rs_field.specs.Field.{product, combine, bits, from_bits, cantor_basis, monomials, carryless, reduce}
 use Rattle.rs_field.specs.Polynomial.{value}
@@ -11,8 +12,8 @@ use Rattle.rs_field.specs.Counts.{next_power, is_low, default_rate}
 use Rattle.rs_field.specs.Placement.{placement, low_placement, high_placement}
 use Rattle.rs_field.specs.Configuration.{configuration}
 use Rattle.rs_field.specs.Code.{Codes, AreRecoveryWords, AreRecovery}
-use Rattle.rs_field.specs.Given.{Shards, nothing, entered}
-use Rattle.rs_field.specs.Decoder.{IsAgreeing, IsConsistent, missing_of, Restored}
+use Rattle.rs_field.specs.Given.{Shards, nothing, entered, count_below}
+use Rattle.rs_field.specs.Decoder.{IsAgreeing, IsConsistent, missing_of, Restored, DecodeAnswers}
 use Rattle.rs_field.specs.WorkedCode.{low_bytes, two_given, surplus_given, MixtureRow}
 use Rattle.rs_field.proofs.Linear.{passes_below}
 use Rattle.rs_field.proofs.Product.{product_zero}
@@ -160,16 +161,13 @@ original = (7 ∷ 9 ∷ []) ∷ []
 abbrev copied : List Shard
 copied = (7 ∷ 9 ∷ []) ∷ (7 ∷ 9 ∷ []) ∷ []
 
--- a copy of the original agrees
-consistent : IsConsistent (surplus_given (7 ∷ 9 ∷ []))
-consistent = (
-  original,
-  record {
-    shards = shards_from 1 2 original refl;
-    own = entered_among nothing 0 (7 ∷ 9 ∷ []) original (nothing_among original) refl;
-    coded = (copied, copies, entered_among nothing 0 (7 ∷ 9 ∷ []) copied (nothing_among copied) refl);
-  },
-)
+-- the original agrees with its copy
+original_agrees : IsAgreeing (surplus_given (7 ∷ 9 ∷ [])) original
+original_agrees = record {
+  shards = shards_from 1 2 original refl;
+  own = entered_among nothing 0 (7 ∷ 9 ∷ []) original (nothing_among original) refl;
+  coded = (copied, copies, entered_among nothing 0 (7 ∷ 9 ∷ []) copied (nothing_among copied) refl);
+}
 
 -- a polynomial of one coefficient has one value
 constant : (P : List ℕ) → length P ≡ 1 → (x y : ℕ) → value P x ≡ value P y
@@ -203,5 +201,31 @@ inconsistent (m, a) =
     let clash : ◌≡◌ {A = ℕ} 2311 2055 = sym left ∙ constant (ws.0) (c.degree ∙ one_coefficient) _ _ ∙ right in
     omega arith
 
+-- a message that agrees with the original is the original
+only_original : (m : List Shard) → IsAgreeing (surplus_given (7 ∷ 9 ∷ [])) m → m ≡ original
+unfolding entered
+only_original m a =
+    ext_get_or [] m original a.shards.length_is (λ i h.
+    let below : i < 1 = subst (λ (n : ℕ). i < n) a.shards.length_is h in
+    let first : 0 ≡ i = omega arith in
+    subst (λ (n : ℕ). shard_at m n ≡ shard_at original n) first (a.own 0 (7 ∷ 9 ∷ []) refl))
+
+-- no original is missing
+none_missing : (i : ℕ) → nothing i ≡ missing_of (surplus_given (7 ∷ 9 ∷ [])) original i
+unfolding entered missing_of
+none_missing zero = refl
+none_missing (suc i) =
+    sym (ap (λ (b : Bool). cond (b && not (is_some ((surplus_given (7 ∷ 9 ∷ [])).originals (suc i)))) (Some (shard_at original (suc i))) None) (le-ltb (suc i) 1 (omega arith)))
+
+-- so nothing is restored
+agreed : DecodeAnswers (surplus_given (7 ∷ 9 ∷ [])) (Ok nothing)
+unfolding entered count_below
+agreed = record { message = original; agrees = original_agrees; only = only_original; missing = none_missing }
+
+-- and where none agrees that is answered
+refused : DecodeAnswers (surplus_given (7 ∷ 8 ∷ [])) (Err (InconsistentShards 1 1))
+unfolding entered count_below
+refused = record { refusal = refl; surplus = omega arith; none = inconsistent }
+
 pub returns : goal.returns
-returns c = record { restored = (agrees, only, restored); mixture = mixture; surplus = (consistent, inconsistent) }
+returns c = record { restored = (agrees, only, restored); mixture = mixture; surplus = (agreed, refused) }

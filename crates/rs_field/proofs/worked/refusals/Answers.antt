@@ -24,7 +24,7 @@ encoder = (refl, refl, refl, refl, refl, refl)
 
 decoder : DecoderRound
 unfolding entered count_below
-decoder = (refl, refl, refl, refl)
+decoder = (refl, refl, refl, refl, refl)
 
 index : LargestIndex
 index = (refl, refl)
