@@ -1,5 +1,5 @@
 -- The sum of logarithms that a locator is, point by point.
-use Rattle.std.proofs.Common.{◌≡◌, ℕ, suc, ◌+◌, ◌*◌, ◌%◌, ◌<◌, ◌≢◌, Bool, cond, eqb, bit_xor, refl, sym, ap, ◌∙◌, arith, add-zero, zero-mul, one-mul, ne_eqb, eq-eqb, inl, inr}
+use Rattle.std.proofs.Common.{◌≡◌, ℕ, zero, suc, ◌+◌, ◌*◌, ◌<◌, ◌≢◌, Bool, cond, eqb, bit_xor, refl, sym, ap, ap₂, ◌∙◌, arith, add-zero, zero-mul, one-mul, ne_eqb, eq-eqb, inl, inr}
 use Rattle.std.proofs.lemmas.Bool.{cases_eq}
 use Rattle.rs_field.specs.Field.{log}
 use Rattle.rs_field.specs.Locator.{log_sum}
@@ -33,12 +33,15 @@ pub log_sum-marked : (y : ℕ) (e : ℕ → ℕ) (x : ℕ) → e y ≡ 1 → y �
 log_sum-marked y e x one differs =
     log_sum-other y e x differs ∙ ap (λ k. log_sum y e x + k) (ap (λ k. k * log (bit_xor x y)) one ∙ one-mul (log (bit_xor x y)))
 
--- one more term modulo 65535
-pub one_more_term : (sum more before after term : ℕ) → sum % 65535 ≡ before % 65535 → more % 65535 ≡ (sum + term) % 65535 → after ≡ before + term
-    → more % 65535 ≡ after % 65535
-one_more_term sum more before after term a b c = omega arith
-
 -- two points differ by a nonzero word
 pub difference_pos : (x y : ℕ) → y ≢ x → 0 < bit_xor x y
 difference_pos x y differs =
     elim (cases_eq (bit_xor x y) 0) [ inl none ↦ absurd (differs (sym (same_from_xor x y none))) | inr some ↦ omega arith ]
+
+-- the sum is that of the entries below the bound alone
+pub log_sum-same : (n : ℕ) (e f : ℕ → ℕ) (x : ℕ) → ((y : ℕ) → y < n → e y ≡ f y) → log_sum n e x ≡ log_sum n f x
+log_sum-same zero e f x same = log_sum-zero e x ∙ sym (log_sum-zero f x)
+log_sum-same (suc y) e f x same =
+    log_sum-suc y e x
+    ∙ ap₂ (λ (a b : ℕ). a + cond (eqb x y) 0 (b * log (bit_xor x y))) (log_sum-same y e f x (λ z hz. same z (omega arith))) (same y (omega arith))
+    ∙ sym (log_sum-suc y f x)

@@ -38,9 +38,9 @@ pub trait Butterfly {
             → symbol (chunk y.new k) s ≡ bit_xor (symbol (chunk y.old k) s) (symbol (chunk x.old k) s) };
 }
 
-// A symbol is a word, as its bytes are bytes. This and the two functions below do nothing when they run: they tell the
-// checker so where a transform of one row leaves that row as it is.
-fn row_symbols_are_words(rows: &ShardsRefMut<'_>)
+/// A symbol is a word, as its bytes are bytes. This and the two functions below do nothing when they run: they tell the
+/// checker so where nothing else does.
+pub fn row_symbols_are_words(rows: &ShardsRefMut<'_>)
     requires { Fits rows.now }
     ensures { (k s i : ℕ) → k < rows.now.shard_len_64 → s < 32 → i < rows.now.shard_count → word rows.now k s i < 65536 }
 {
