@@ -49,14 +49,6 @@ consistent_exactly c originals recovery e bound zeros_end t marks words located 
         → (p : List ℕ) × IsTaken c originals recovery words j p
     taken j (message, p, size, codes, takes) = (p, (message, codes, takes))
 
--- With exactly k given some message agrees.
-pub consistent_without_surplus : (c : Configuration) (originals recovery : Shards) (e bound zeros_end : ℕ) (marks : ℕ → ℕ) (words located rows : ℕ → ℕ → ℕ)
-    → AreColumns c originals recovery e bound zeros_end marks words located rows
-    → count_below c.original_count originals + count_below c.recovery_count recovery ≡ c.original_count → Consistent c originals recovery
-consistent_without_surplus c originals recovery e bound zeros_end marks words located rows h count =
-    (consistent_exactly c originals recovery e bound zeros_end 0 marks words located rows h (omega arith)).1
-    (λ j i hj past below. absurd (let no : ⊥ = omega arith in no))
-
 -- What stands at a missing original after the derivative step, by 65535 less a residue of the locator, is the message's column.
 pub restored_column : (c : Configuration) (originals recovery : Shards) (e bound zeros_end : ℕ) (marks : ℕ → ℕ) (words located rows : ℕ → ℕ → ℕ) (message : List Shard) (added : ℕ → ℕ) (i j l : ℕ)
     → AreColumns c originals recovery e bound zeros_end marks words located rows

@@ -101,7 +101,7 @@ pub shard_in : (count size : ℕ) (shards : List Shard) → AreShards count size
 shard_in count size shards h i hi = h.each i [] (subst (λ (n : ℕ). i < n) (sym h.length_is) hi)
 
 -- columns are words
-column_lt : (size : ℕ) (s : Shard) (j : ℕ) → IsShard size s → column j s < 65536
+pub column_lt : (size : ℕ) (s : Shard) (j : ℕ) → IsShard size s → column j s < 65536
 unfolding column
 column_lt size s j h =
     let low : slice_index s (j / 32 * 64 + j % 32) < 256 = byte_lt size s h (j / 32 * 64 + j % 32) in

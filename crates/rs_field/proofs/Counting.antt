@@ -1,6 +1,7 @@
 -- Counts of steps: of calls one after another, and of a block whose halves were counted.
-use Rattle.std.proofs.Common.{◌≡◌, ℕ, ◌+◌, ◌*◌, ◌/◌, ◌^◌, ◌<◌, ◌≤◌, arith}
-use Rattle.rs_field.specs.Bounds.{CountsRows, CountsUpTo, TransformCounts, transform_steps}
+use Rattle.std.proofs.Common.{◌≡◌, ℕ, ◌+◌, ◌*◌, ◌/◌, ◌^◌, ◌<◌, ◌≤◌, sym, mul_assoc, arith}
+use Rattle.std.proofs.Math.Nat.{mul-le-mul_right}
+use Rattle.rs_field.specs.Bounds.{CountsRows, CountsUpTo, LocatorCounts, TransformCounts, decode_steps, log2, transform_steps}
 use Rattle.rs_field.specs.declared.engine.steps.Steps.{Steps}
 use Rattle.rs_field.proofs.Halves.{half_power, few_halves, steps_half}
 
@@ -53,5 +54,20 @@ pub counts_of_whole : (size shift n : ℕ) (from to : Steps) → 1 < size → (d
     → n ≤ size / 2 + 2 * transform_steps (size / 2) → CountsUpTo n 0 0 from to → TransformCounts size from to
 counts_of_whole size shift n from to large power points few c =
     let p = half_power size large power in
-    let le : size / 2 + 2 * transform_steps (size / 2) ≤ transform_steps size = steps_half size p.0 (size / 2) (few_halves size p.0 shift p.1 points) p.1 p.2 in
+    let whole : size / 2 + 2 * transform_steps (size / 2) ≡ transform_steps size = steps_half size p.0 (size / 2) (few_halves size p.0 shift p.1 points) p.1 p.2 in
     counts_within n (transform_steps size) from to (omega arith) c
+
+-- a locator, and then three transforms and four steps for each row, are a decode
+pub counts_decode : (w : ℕ) (a b c : Steps) → LocatorCounts a b → CountsUpTo (3 * transform_steps w + 4 * w) 0 0 b c → CountsUpTo (decode_steps w) 1048576 65536 a c
+unfolding transform_steps decode_steps
+counts_decode w a b c p q =
+    let thirds : 3 * (w / 2) * log2 w ≤ 3 * w / 2 * log2 w = mul-le-mul_right (log2 w) (let halves : 3 * (w / 2) ≤ 3 * w / 2 = omega arith in halves) in
+    let same : 3 * (w / 2 * log2 w) ≡ 3 * (w / 2) * log2 w = sym (mul_assoc 3 (w / 2) (log2 w)) in
+    record {
+      row_steps_rise = omega (arith, p.row_steps_rise, q.row_steps_rise);
+      pair_sums_rise = omega (arith, p.pair_sums_rise, q.pair_sums_rise);
+      products_rise = omega (arith, p.products_rise, q.products_rise);
+      row_steps_most = omega (arith, thirds, same, p.row_steps_most, q.row_steps_most);
+      pair_sums_most = omega (arith, p.pair_sums_most, q.pair_sums_most);
+      products_most = omega (arith, p.products_most, q.products_most);
+    }

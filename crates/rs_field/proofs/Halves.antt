@@ -1,7 +1,7 @@
 -- How a transform goes by halves: the sizes, the factor in the table, and the row steps.
-use Rattle.std.proofs.Common.{◌≡◌, ℕ, zero, suc, ◌+◌, ◌-◌, ◌*◌, ◌/◌, ◌%◌, ◌^◌, ◌<◌, ◌≤◌, ◌≢◌, Bool, false, cond, eqb, List, get_or, bit_xor, refl, sym, ap, ap₂, ◌∙◌, inl, inr, arith, pow-suc, pow_mono, ne_eqb}
+use Rattle.std.proofs.Common.{◌≡◌, ℕ, zero, suc, ◌+◌, ◌-◌, ◌*◌, ◌/◌, ◌%◌, ◌^◌, ◌<◌, ◌≤◌, ◌≢◌, Bool, false, cond, eqb, List, get_or, bit_xor, refl, sym, ap, ap₂, ◌∙◌, inl, inr, arith, pow-suc, pow_mono, ne_eqb, zero-mul}
 use Rattle.std.specs.Prelude.{nat_le}
-use Rattle.std.proofs.Math.Nat.{mul-le-mul_right, mul-mod_left}
+use Rattle.std.proofs.Math.Nat.{mul-mod_left}
 use Rattle.std.specs.Int.Bits.{xor_assoc, xor_self, xor_zero_r}
 use Rattle.std.proofs.lemmas.Bool.{cases_eq, cases_lt}
 use Rattle.std.proofs.lemmas.Nat.{pow_pos, pow_below, div-add-mod'}
@@ -104,21 +104,28 @@ unfolding log2
 log2-power e he =
     first_below-is 64 (λ d. nat_le (2 ^ e) (2 ^ d)) e he (grind arith) (λ j h. let small : 2 ^ j < 2 ^ e = pow_below j e h in grind arith)
 
--- the butterflies between the halves and the steps of both halves are no more than those of the whole
-pub steps_half : (size e half : ℕ) → e < 16 → size ≡ 2 ^ suc e → half ≡ 2 ^ e → half + 2 * transform_steps half ≤ transform_steps size
+-- the butterflies between the halves and the steps of both halves are those of the whole
+pub steps_half : (size e half : ℕ) → e < 16 → size ≡ 2 ^ suc e → half ≡ 2 ^ e → half + 2 * transform_steps half ≡ transform_steps size
 unfolding transform_steps
 steps_half size e half he is h =
     let p : 2 ^ suc e ≡ 2 ^ e * 2 = pow-suc 2 e in
     let whole : size / 2 ≡ half = omega arith in
     let high : log2 size ≡ suc e = ap log2 is ∙ log2-power (suc e) (omega arith) in
     let low : log2 half ≡ e = ap log2 h ∙ log2-power e (omega arith) in
-    let twice : half / 2 * 2 ≤ half = omega arith in
-    let t : half / 2 * 2 * e ≤ half * e = mul-le-mul_right e twice in
-    sum half (half / 2) e (size / 2) (log2 size) (log2 half) whole high low t
+    sum half (half / 2) e (size / 2) (log2 size) (log2 half) whole high low (twice half e h)
   where
-    sum : (half quarter e n a b : ℕ) → n ≡ half → a ≡ suc e → b ≡ e → quarter * 2 * e ≤ half * e → half + 2 * (quarter * b) ≤ n * a
+    twice : (half e : ℕ) → half ≡ 2 ^ e → half / 2 * 2 * e ≡ half * e
+    twice half zero is = omega arith
+    twice half (suc e) is = let p = pow-suc 2 e in ap (λ n. n * suc e) (let even : half / 2 * 2 ≡ half = omega arith in even)
+
+    sum : (half quarter e n a b : ℕ) → n ≡ half → a ≡ suc e → b ≡ e → quarter * 2 * e ≡ half * e → half + 2 * (quarter * b) ≡ n * a
     sum half quarter e n a b i j k t =
         let l : 2 * (quarter * b) ≡ 2 * (quarter * e) = ap (λ v. 2 * (quarter * v)) k in
         let r : n * a ≡ half * suc e = ap₂ (λ v w. v * w) i j in
         let m : half * suc e ≡ half * e + half = omega arith in
         omega arith
+
+-- one row has no step
+pub no_steps : (size : ℕ) → size ≤ 1 → transform_steps size ≡ 0
+unfolding transform_steps
+no_steps size few = ap (λ n. n * log2 size) (let none : size / 2 ≡ 0 = omega arith in none) ∙ zero-mul (log2 size)

@@ -116,8 +116,8 @@ walsh-joined e n half old low high low_new high_new is h j =
 pub walsh-counts : (e n half : ℕ) (a b c d : Steps) → e < 16 → n ≡ 2 ^ suc e → half ≡ 2 ^ e
     → WalshCounts half a b → WalshCounts half b c → CountsPairs half c d → WalshCounts n a d
 walsh-counts e n half a b c d small is h p q (x, y, z) =
-    let le : half + 2 * transform_steps half ≤ transform_steps n = steps_half n e half small is h in
-    of_parts (transform_steps half) (transform_steps n) le p q x y z
+    let whole : half + 2 * transform_steps half ≡ transform_steps n = steps_half n e half small is h in
+    of_parts (transform_steps half) (transform_steps n) (omega arith) p q x y z
   where
     of_parts : (t u : ℕ) → half + 2 * t ≤ u → CountsUpTo 0 t 0 a b → CountsUpTo 0 t 0 b c
         → d.row_steps ≡ c.row_steps → d.pair_sums ≡ c.pair_sums + half → d.products ≡ c.products → CountsUpTo 0 u 0 a d

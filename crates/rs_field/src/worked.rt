@@ -2,7 +2,8 @@
 ghost use Rattle.rs_field.specs.Counts.{low_rate, high_rate, default_rate};
 ghost use Rattle.rs_field.specs.Worked.{Products, ColumnsOfShards, Powers, Supported, Unsupported, OfOneRate, Choices};
 ghost use Rattle.rs_field.specs.Worked.{Validated, Spaces, BlockRows, EncoderRows, DecoderRows, TransformOfTwo, StepBounds};
-ghost use Rattle.rs_field.specs.WorkedCode.{ConstantRow, LineRow, LinearRow, ShortLineRow, CubicRow, PaddedRow, TailRow, ChunkAndTailRow, SumRow, HighLineRow, HighCubicRow, HighPaddedRow, RestoredRow, MixtureRow, SurplusRow};
+ghost use Rattle.rs_field.specs.WorkedCode.{ConstantRow, LineRow, LinearRow, ShortLineRow, CubicRow, PaddedRow, TailRow, ChunkAndTailRow};
+ghost use Rattle.rs_field.specs.WorkedCode.{SumRow, HighLineRow, HighCubicRow, HighPaddedRow, RestoredRow, MixtureRow, SurplusRow};
 ghost use Rattle.rs_field.specs.WorkedCalls.{EncodeOrder, DecodeOrder, NoRecoveryOrder, EncoderRound, DecoderRound, LargestIndex, MemoryOrder};
 
 /// Products of words, and columns of shards with and without a tail.

@@ -2,7 +2,7 @@
 ghost use Rattle.std.specs.Prelude.{◌≡◌, ℕ, ◌+◌, ◌^◌, ◌<◌, ◌≤◌};
 ghost use Rattle.rs_field.specs.View.{word, Fits, SameShape, SameRowsOutside};
 ghost use Rattle.rs_field.specs.Derivative.{IsDerivativeAdded};
-ghost use Rattle.rs_field.specs.Bounds.{TransformCounts};
+ghost use Rattle.rs_field.specs.Bounds.{CountsRows, transform_steps};
 
 use super::utils::xor_within;
 use super::{ShardsRefMut, Steps};
@@ -10,8 +10,8 @@ use super::{ShardsRefMut, Steps};
 /// Adds to a polynomial its derivative, where the rows are its coefficients in the subspace basis.
 ///
 /// In each symbol by itself, the rows become the coefficients of polynomial plus derivative. There is a power of two of
-/// rows, at most 65536. Each subspace polynomial has derivative one, so the step is XORs of rows alone; the method is
-/// that of Lin, Chung and Han in the form of Leopard-RS.
+/// rows, at most 65536. Each subspace polynomial has derivative one, so the step is XORs of rows alone, exactly
+/// `n / 2 * log2(n)` of them over n rows; the method is that of Lin, Chung and Han in the form of Leopard-RS.
 pub fn formal_derivative(steps: &mut Steps, data: &mut ShardsRefMut<'_>)
     requires fits { Fits «data».old }
     requires power { (d : ℕ) × («data».old.shard_count ≡ 2 ^ d) }
@@ -20,7 +20,7 @@ pub fn formal_derivative(steps: &mut Steps, data: &mut ShardsRefMut<'_>)
     ensures others { SameRowsOutside 0 «data».old.shard_count «data».old «data».new }
     ensures derivative { (k s : ℕ) → k < «data».old.shard_len_64 → s < 32
         → IsDerivativeAdded «data».old.shard_count (word «data».old k s) (word «data».new k s) }
-    ensures counts { TransformCounts «data».old.shard_count steps.old steps.new }
+    ensures counts { CountsRows (transform_steps «data».old.shard_count) steps.old steps.new }
 {
     let size = data.len();
     derivative_step(steps, data, 0, size);
@@ -37,7 +37,7 @@ fn derivative_step(steps: &mut Steps, data: &mut ShardsRefMut<'_>, pos: usize, s
     ensures others { SameRowsOutside pos (pos + size) «data».old «data».new }
     ensures derivative { (k s : ℕ) → k < «data».old.shard_len_64 → s < 32
         → IsDerivativeAdded size (λ q. word «data».old k s (pos + q)) (λ q. word «data».new k s (pos + q)) }
-    ensures counts { TransformCounts size steps.old steps.new }
+    ensures counts { CountsRows (transform_steps size) steps.old steps.new }
 {
     if size > 1 {
         let half = size / 2;

@@ -90,6 +90,7 @@ pub fn shard_of(row: &[[u8; 64]], shard_bytes: usize) -> &[u8]
 }
 
 /// Whether a row is zero in each column that shards of this size have. The open bytes of the last chunk don't count.
+/// The row has as many chunks as such shards need.
 pub fn is_zero_row(row: &[[u8; 64]], shard_bytes: usize) -> bool
     requires { length row.now ≡ chunks_for shard_bytes }
     ensures { IsTrue result ↔ HasZeroColumns shard_bytes (λ k. chunk row.now k) }

@@ -55,7 +55,7 @@ impl<'a> ShardsRefMut<'a> {
     }
 
     /// Rows `pos` and `pos + dist`, to be written: what is written to each stands in the list afterwards, and every
-    /// other row is unchanged.
+    /// other row is unchanged. `dist` is not 0, and both rows are in the list.
     pub fn dist2_mut(&mut self, pos: usize, dist: usize) -> (&mut [[u8; 64]], &mut [[u8; 64]])
         requires fits { Fits self.old }
         requires apart { 0 < dist }
@@ -71,7 +71,7 @@ impl<'a> ShardsRefMut<'a> {
     }
 
     /// Rows `pos`, `pos + dist`, `pos + 2 * dist` and `pos + 3 * dist`, to be written: what is written to each stands
-    /// in the list afterwards, and every other row is unchanged.
+    /// in the list afterwards, and every other row is unchanged. `dist` is not 0, and the four rows are in the list.
     pub fn dist4_mut(
         &mut self,
         pos: usize,
@@ -100,7 +100,7 @@ impl<'a> ShardsRefMut<'a> {
     }
 
     /// The rows before `mid`, and those from `mid` on, as two lists: what becomes of each stands in this list
-    /// afterwards, and all that lies past the rows is unchanged.
+    /// afterwards, and all that lies past the rows is unchanged. `mid` is at most the number of rows.
     pub fn split_at_mut(&mut self, mid: usize) -> (ShardsRefMut<'_>, ShardsRefMut<'_>)
         requires fits { Fits self.old }
         requires within { mid ≤ self.old.shard_count }
@@ -114,7 +114,7 @@ impl<'a> ShardsRefMut<'a> {
         two_lists(self.two_parts(0, a, a, rest * len), mid, rest, len)
     }
 
-    /// The rows of the range become zero bytes.
+    /// The rows of the range become zero bytes. It ends no earlier than it starts, and at most at the number of rows.
     pub fn zero(&mut self, range: Range<usize>)
         requires fits { Fits self.old }
         requires ordered { range.start ≤ range.end }
@@ -127,7 +127,7 @@ impl<'a> ShardsRefMut<'a> {
         zero_part(self.chunks, range.start * len, range.end * len);
     }
 
-    /// Row `index`.
+    /// Row `index`, which is in the list.
     pub fn row(&self, index: usize) -> &[[u8; 64]]
         requires fits { Fits self.now }
         requires within { index < self.now.shard_count }
@@ -138,6 +138,7 @@ impl<'a> ShardsRefMut<'a> {
     }
 
     /// Row `index`, to be written: what is written stands in the list afterwards, and every other row is unchanged.
+    /// The row is in the list.
     pub fn row_mut(&mut self, index: usize) -> &mut [[u8; 64]]
         requires fits { Fits self.old }
         requires within { index < self.old.shard_count }

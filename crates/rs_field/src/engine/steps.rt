@@ -6,7 +6,7 @@ use std::marker::{Model, PhantomData};
 
 /// What was counted so far: row steps, pair sums and products, three whole numbers without an upper limit.
 ///
-/// A row step is one butterfly on two rows, or one sum, product, copy, clearing or tail move of a row.
+/// A row step is one butterfly on two rows, or one sum, product, copy, clearing, tail move or test for zero of a row.
 /// A pair sum is one sum with its difference modulo 65535, a product one product modulo 65535.
 /// A running program can't read a count, and no call of `Steps` lowers one.
 #[derive(Drop)]

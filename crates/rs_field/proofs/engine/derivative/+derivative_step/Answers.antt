@@ -1,10 +1,8 @@
 -- The step of both halves, with the sums between them, is that of the whole.
 use Rattle.std.proofs.Common.{◌+◌, ◌/◌, arith, inl, inr}
 use Rattle.rs_field.specs.View.{word}
-use Rattle.rs_field.specs.Bounds.{transform_steps}
-use Rattle.rs_field.proofs.Halves.{half_power, two_halves}
+use Rattle.rs_field.proofs.Halves.{few_halves, half_power, no_steps, steps_half, two_halves}
 use Rattle.rs_field.proofs.Recursion.{fits_kept}
-use Rattle.rs_field.proofs.Counting.{counts_rows, counts_then, counts_of_whole}
 use Rattle.rs_field.proofs.DerivativeStep.{derivative_one, derivative_rows}
 use Rattle.rs_field.proofs.RowOffsets.{outside_cell}
 use Rattle.rs_field.proofs.engine.derivative.+derivative_step.Goals as goal
@@ -44,15 +42,15 @@ returns-then-size-gt1-clause-derivative t c k s hk hs =
 
 pub returns-then-size-gt1-clause-counts : goal.returns-then-size-gt1-clause-counts
 returns-then-size-gt1-clause-counts t c =
-    let half = c.args.size / 2 in
-    let n = transform_steps half in
-    let old = c.args.steps.now in
-    let low = c.derivative_step.new.steps in
-    let sums = c.xor_within.new.steps in
-    let high = c.derivative_step-then-size-gt1.new.steps in
-    counts_of_whole c.args.size 0 (n + half + n) old high c.if-size-gt1.true c.requires.power (omega arith) (omega arith)
-    (counts_then (n + half) n old sums high (counts_then n half old low sums c.derivative_step.ensures.counts (counts_rows half low sums c.xor_within.ensures.counts))
-    c.derivative_step-then-size-gt1.ensures.counts)
+    let p = half_power c.args.size c.if-size-gt1.true c.requires.power in
+    let whole = steps_half c.args.size p.0 (c.args.size / 2) (few_halves c.args.size p.0 0 p.1 (omega arith)) p.1 p.2 in
+    let low = c.derivative_step.ensures.counts in
+    let sums = c.xor_within.ensures.counts in
+    let high = c.derivative_step-then-size-gt1.ensures.counts in
+    (omega (arith, whole, low.0, sums.0, high.0), omega (arith, low.1, sums.1, high.1), omega (arith, low.2, sums.2, high.2))
+
+pub returns-else-size-gt1-clause-counts : goal.returns-else-size-gt1-clause-counts
+returns-else-size-gt1-clause-counts t c = let none = no_steps c.args.size (omega (arith, c.if-size-gt1.false)) in (omega (arith, none), omega arith, omega arith)
 
 pub returns-else-size-gt1-clause-derivative : goal.returns-else-size-gt1-clause-derivative
 returns-else-size-gt1-clause-derivative t c k s hk hs =
