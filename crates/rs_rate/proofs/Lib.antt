@@ -2,12 +2,17 @@ pub mod PowerLemmas
 pub mod ShardRowsLemmas
 pub mod StateLemmas
 pub mod LowCoding
+pub mod RestoringRows
 pub mod DecoderLemmas
+pub mod Erased
+pub mod DecodedColumns
 pub mod DecoderSteps
 pub mod DecoderRows
 pub mod ChoiceLemmas
 pub mod RateLemmas
 pub mod HighCounts
+pub mod RestoredRows
+pub mod DecodeAnswer
 pub mod HighCoding
 pub mod Coded
 pub mod EncodeCounting

@@ -7,3 +7,4 @@ pub mod Coding
 pub mod ObjectLaws
 pub mod Marks
 pub mod DecoderView
+pub mod Decoding

@@ -1,5 +1,5 @@
 -- What each row of a decoder is marked as, and the shards that the marks tell of.
-use Rattle.std.specs.Prelude.{ℕ, zero, suc, ◌+◌, nat_lt, nat_le, ◌&&◌, ◌||◌, if◌then◌else◌, Bool, true, false, List, Some, None, slice_index_or}
+use Rattle.std.specs.Prelude.{◌≡◌, ℕ, zero, suc, ◌+◌, ◌<◌, ◌≤◌, ◌⊎◌, nat_lt, nat_le, ◌&&◌, ◌||◌, if◌then◌else◌, Bool, true, false, List, Some, None, slice_index_or}
 use Rattle.rs_field.specs.Given.{Shards}
 use Rattle.rs_field.specs.Rows.{Chunks}
 use Rattle.rs_rate.specs.declared.rate.marks.Mark.{Mark}
@@ -40,6 +40,11 @@ restored_shards marks chunks size from n i =
 -- what row p is marked as after a round, from what it was: an original that was not given is restored there
 abbrev pub mark_after : ℕ → ℕ → ℕ → Mark → Mark
 mark_after from n p mark = if nat_le from p && nat_lt p (from + n) then (if is_given mark then Empty else Restored) else Empty
+
+-- no given shard stands outside the k rows from one on and the r rows from another on
+abbrev pub ArePlaced : ℕ → ℕ → ℕ → ℕ → List Mark → Type 0
+ArePlaced originals_from k recovery_from r marks =
+    (p : ℕ) → (p < originals_from) ⊎ (originals_from + k ≤ p) → (p < recovery_from) ⊎ (recovery_from + r ≤ p) → is_given (mark_at marks p) ≡ false
 
 -- whether a point is erased: it is no known zero, and no given shard stands there
 abbrev pub erased : ℕ → ℕ → ℕ → List Mark → ℕ → ℕ

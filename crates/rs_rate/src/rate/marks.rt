@@ -4,7 +4,7 @@ ghost use Rattle.std.specs.Vec.{vec_capacity};
 ghost use Rattle.rs_rate.specs.Marks.{mark_at, is_given, is_restored, mark_after};
 
 /// What a row of a decoder is marked as: it holds no shard, one that was given, or one that was restored.
-#[derive(Clone, Copy, PartialEq)]
+#[derive(Clone, Copy)]
 pub enum Mark {
     Empty,
     Given,

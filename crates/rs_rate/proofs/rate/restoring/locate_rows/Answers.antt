@@ -1,0 +1,75 @@
+use Rattle.std.proofs.Common.{◌≡◌, ℕ, ◌+◌, ◌-◌, true, false, sym, ap, ◌∙◌, subst, arith, inl, inr, true≢false}
+use Rattle.std.proofs.lemmas.Bool.{cases_lt}
+use Rattle.rs_field.specs.Bounds.{CountsRows}
+use Rattle.rs_field.specs.Rows.{symbol}
+use Rattle.rs_field.specs.View.{cell, word}
+use Rattle.rs_field.specs.declared.engine.shards.ShardsRefMut.{ShardsRefMut}
+use Rattle.rs_field.specs.declared.engine.steps.Steps.{Steps}
+use Rattle.rs_field.proofs.Counting.{counts_rows, counts_then}
+use Rattle.rs_field.proofs.Recursion.{fits_kept}
+use Rattle.rs_field.proofs.RowOffsets.{outside_cell, shape_then}
+use Rattle.rs_field.proofs.Symbols.{symbol-zero}
+use Rattle.rs_rate.specs.Decoding.{located}
+use Rattle.rs_rate.specs.Marks.{mark_at, is_given}
+use Rattle.rs_rate.proofs.RestoringRows.{RowLocated, located-at, located-same}
+use Rattle.rs_rate.proofs.rate.restoring.locate_rows.Goals as goal
+use Rattle.rs_rate.proofs.rate.restoring.locate_rows.Goals.{then-is_given_at, else-is_given_at}
+
+pub loop-p-preserved : goal.loop-p-preserved
+loop-p-preserved g c =
+    let old = c.args.«data».now in
+    let mid = c.loop-p.«data» in
+    let new = c.if-is_given_at.«data» in
+    let marks = c.args.round.marks.now in
+    let locator = c.args.round.locator.now in
+    let p = c.loop-p.p in
+    let before = c.loop-p.invariant in
+    let count = before.shape.count in
+    let step : RowLocated c.args.round.marks.now c.args.round.locator.now c.loop-p.p c.loop-p.«data» c.if-is_given_at.«data» c.loop-p.steps c.if-is_given_at.steps =
+    elim c.if-is_given_at.branch [
+      | then-is_given_at w ↦
+          let given = sym c.is_given_at.ensures ∙ w.if-is_given_at.true in
+          subst (λ (r : ShardsRefMut). RowLocated marks locator p mid r c.loop-p.steps c.if-is_given_at.steps) (sym w.data-is)
+          (subst (λ (t : Steps). RowLocated marks locator p mid w.mul_row.new.«data» c.loop-p.steps t) (sym w.steps-is)
+          (record {
+            shape = w.mul_row.ensures.shape;
+            others = w.mul_row.ensures.others;
+            located_here = λ k s hk hs. w.mul_row.ensures.products k s hk hs ∙ sym (located-at marks locator (word mid k s) p true given);
+            cleared = λ k hk none. absurd (true≢false (sym given ∙ none));
+            counts = w.mul_row.ensures.counts;
+          }))
+      | else-is_given_at w ↦
+          let none = sym c.is_given_at.ensures ∙ w.if-is_given_at.false in
+          let cleared_len = w.clear_rows.ensures.shape.len_64 in
+          subst (λ (r : ShardsRefMut). RowLocated marks locator p mid r c.loop-p.steps c.if-is_given_at.steps) (sym w.data-is)
+          (subst (λ (t : Steps). RowLocated marks locator p mid w.clear_rows.new.«data» c.loop-p.steps t) (sym w.steps-is)
+          (record {
+            shape = w.clear_rows.ensures.shape;
+            others = w.clear_rows.ensures.others;
+            located_here = λ k s hk hs.
+                ap (λ x. symbol x s) (w.clear_rows.ensures.zeros p k (omega (arith, hk, cleared_len)) (omega arith) (omega arith)) ∙ symbol-zero s hs ∙ sym (located-at marks locator (word mid k s) p false none);
+            cleared = λ k hk _. w.clear_rows.ensures.zeros p k (omega (arith, hk, cleared_len)) (omega arith) (omega arith);
+            counts = counts_rows 1 c.loop-p.steps w.clear_rows.new.steps (subst (λ (n : ℕ). CountsRows n c.loop-p.steps w.clear_rows.new.steps) (let one : c.loop-p.p + 1 - c.loop-p.p ≡ 1 = omega arith in one) w.clear_rows.ensures.counts);
+          }))
+    ] in
+    let len : c.loop-p.«data».shard_len_64 ≡ c.args.«data».now.shard_len_64 = before.shape.len_64 in
+    let kept = outside_cell p (p + 1) mid new step.shape step.others in
+    record {
+      fits = fits_kept mid new step.shape before.fits;
+      shape = shape_then old mid new before.shape step.shape;
+      located = λ k s q hk hs hq. elim (cases_lt q p) [
+        | inl low ↦ ap (λ x. symbol x s) (kept q k (omega arith) (inl low)) ∙ before.located k s q hk hs low
+        | inr high ↦
+            let here : c.loop-p.p ≡ q = omega arith in
+            subst (λ (i : ℕ). word new k s i ≡ located marks locator (word old k s) i) here
+            (step.located_here k s (omega arith) hs ∙ located-same marks locator (word old k s) (word mid k s) p (ap (λ x. symbol x s) (before.left k p hk (omega arith))))
+      ];
+      cleared = λ k q hk hq none. elim (cases_lt q p) [
+        | inl low ↦ kept q k (omega arith) (inl low) ∙ before.cleared k q hk low none
+        | inr high ↦
+            let here : q ≡ c.loop-p.p = omega arith in
+            ap (cell new k) here ∙ step.cleared k (omega arith) (sym (ap (λ i. is_given (mark_at marks i)) here) ∙ none)
+      ];
+      left = λ k q hk hq. kept q k (omega arith) (inr hq) ∙ before.left k q hk (omega arith);
+      counts = counts_then p 1 c.args.steps.now c.loop-p.steps c.if-is_given_at.steps before.counts step.counts;
+    }
