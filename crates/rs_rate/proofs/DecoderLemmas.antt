@@ -1,14 +1,15 @@
 -- The shards that a decoder's rows stand for.
-use Rattle.std.proofs.Common.{◌≡◌, ◌≢◌, ℕ, zero, suc, ◌+◌, ◌<◌, ◌≤◌, List, length, Bool, true, false, cond, refl, sym, ap, ap₂, ◌∙◌, subst, arith, inl, inr, true≢false}
-use Rattle.std.specs.Prelude.{Option, Some, None, is_some, IsSome, IsNone, unwrap_or, not, ◌&&◌, nat_lt, nat_le, nat_eq}
-use Rattle.std.proofs.lemmas.Bool.{cases_lt, cases_eq, lt-ltb, le-leb, le-ltb, eq-eqb, ne_eqb, not-true}
+use Rattle.std.proofs.Common.{◌≡◌, ◌≢◌, ℕ, zero, suc, ◌+◌, ◌<◌, ◌≤◌, List, length, Bool, true, false, cond, refl, sym, ap, ap₂, ◌∙◌, arith, inl, inr}
+use Rattle.std.specs.Prelude.{Some, None, is_some, not, ◌&&◌, nat_lt, nat_le, nat_eq}
+use Rattle.std.proofs.lemmas.Bool.{cases_lt, cases_eq, lt-ltb, le-leb, le-ltb, eq-eqb, ne_eqb}
 use Rattle.std.proofs.lemmas.List.{get_or_past}
 use mathlib.Core.Path.{fun_ext}
-use Rattle.rs_field.specs.Column.{Shard, IsShard}
+use Rattle.rs_field.specs.Column.{Shard}
 use Rattle.rs_field.specs.Counts.{Rate}
-use Rattle.rs_field.specs.Decoder.{DecoderState, FillsMissing, fresh_decoder}
+use Rattle.rs_field.specs.Decoder.{DecoderState, fresh_decoder}
 use Rattle.rs_field.specs.Given.{Shards, nothing, entered, count_below}
 use Rattle.rs_field.specs.Rows.{Chunks}
+use Rattle.rs_field.proofs.Given.{count_below-suc, count_below-zero}
 use Rattle.rs_rate.specs.declared.rate.marks.Mark.{Mark}
 use Rattle.rs_rate.specs.declared.rate.marks.Mark.TheVariants.{Empty, Given, Restored}
 use Rattle.rs_rate.specs.declared.rate.decoder_work.DecoderShape.{DecoderShape}
@@ -17,13 +18,13 @@ use Rattle.rs_rate.specs.Marks.{mark_at, is_given, is_restored, given_row_count,
 use Rattle.rs_rate.specs.ShardRows.{shard_laid_out, shard_in_order}
 
 -- the shard of an index below the count, by its row's mark
-given_shards-in : (marks : List Mark) (chunks : Chunks) (size from n i : ℕ) → i < n
+pub given_shards-in : (marks : List Mark) (chunks : Chunks) (size from n i : ℕ) → i < n
     → given_shards marks chunks size from n i ≡ cond (is_given (mark_at marks (from + i))) (Some (shard_laid_out chunks size (from + i))) None
 unfolding given_shards
 given_shards-in marks chunks size from n i inside =
     ap (λ b. cond b (cond (is_given (mark_at marks (from + i))) (Some (shard_laid_out chunks size (from + i))) None) None) (lt-ltb i n inside)
 
-given_shards-out : (marks : List Mark) (chunks : Chunks) (size from n i : ℕ) → n ≤ i → given_shards marks chunks size from n i ≡ None
+pub given_shards-out : (marks : List Mark) (chunks : Chunks) (size from n i : ℕ) → n ≤ i → given_shards marks chunks size from n i ≡ None
 unfolding given_shards
 given_shards-out marks chunks size from n i outside =
     ap (λ b. cond b (cond (is_given (mark_at marks (from + i))) (Some (shard_laid_out chunks size (from + i))) None) None) (le-ltb i n outside)
@@ -42,7 +43,7 @@ pub given_row_count-zero : (marks : List Mark) (from : ℕ) → given_row_count 
 unfolding given_row_count
 given_row_count-zero marks from = refl
 
-given_row_count-suc : (marks : List Mark) (from n : ℕ) → given_row_count marks from (suc n) ≡ given_row_count marks from n + cond (is_given (mark_at marks (from + n))) 1 0
+pub given_row_count-suc : (marks : List Mark) (from n : ℕ) → given_row_count marks from (suc n) ≡ given_row_count marks from n + cond (is_given (mark_at marks (from + n))) 1 0
 unfolding given_row_count
 given_row_count-suc marks from n = refl
 
@@ -59,14 +60,6 @@ given_row_count-most marks from (suc n) =
     let one = one_at_most (is_given (mark_at marks (from + n))) in
     omega arith
 
-count_below-suc : (n : ℕ) (given : Shards) → count_below (suc n) given ≡ count_below n given + cond (is_some (given n)) 1 0
-unfolding count_below
-count_below-suc n given = refl
-
-count_below-zero : (given : Shards) → count_below 0 given ≡ 0
-unfolding count_below
-count_below-zero given = refl
-
 -- as many shards are given as rows are marked so
 count-below : (marks : List Mark) (chunks : Chunks) (size from m n : ℕ) → n ≤ m → count_below n (given_shards marks chunks size from m) ≡ given_row_count marks from n
 count-below marks chunks size from m zero fits = count_below-zero (given_shards marks chunks size from m) ∙ sym (given_row_count-zero marks from)
@@ -78,6 +71,34 @@ count-below marks chunks size from m (suc n) fits =
 
 pub count-given : (marks : List Mark) (chunks : Chunks) (size from n : ℕ) → count_below n (given_shards marks chunks size from n) ≡ given_row_count marks from n
 count-given marks chunks size from n = count-below marks chunks size from n n (omega arith)
+
+-- as many rows as there are, or none, are marked as given: then all are, or none is
+pub all_given : (marks : List Mark) (from n : ℕ) → given_row_count marks from n ≡ n → (i : ℕ) → i < n → is_given (mark_at marks (from + i)) ≡ true
+all_given marks from zero count i inside = absurd (let no : ⊥ = omega arith in no)
+all_given marks from (suc n) count i inside =
+    let most = given_row_count-most marks from n in
+    let more = given_row_count-suc marks from n in
+    elim (cases_lt i n) [
+      | inl low ↦ all_given marks from n (let one = one_at_most (is_given (mark_at marks (from + n))) in omega arith) i low
+      | inr last ↦ ap (λ j. is_given (mark_at marks (from + j))) (let here : i ≡ n = omega arith in here) ∙ by_mark (is_given (mark_at marks (from + n))) (omega arith)
+    ]
+  where
+    by_mark : (given : Bool) → 0 < cond given 1 0 → given ≡ true
+    by_mark true some = refl
+    by_mark false some = absurd (let no : ⊥ = omega arith in no)
+
+pub none_given : (marks : List Mark) (from n : ℕ) → given_row_count marks from n ≡ 0 → (i : ℕ) → i < n → is_given (mark_at marks (from + i)) ≡ false
+none_given marks from zero count i inside = absurd (let no : ⊥ = omega arith in no)
+none_given marks from (suc n) count i inside =
+    let more = given_row_count-suc marks from n in
+    elim (cases_lt i n) [
+      | inl low ↦ none_given marks from n (omega arith) i low
+      | inr last ↦ ap (λ j. is_given (mark_at marks (from + j))) (let here : i ≡ n = omega arith in here) ∙ by_mark (is_given (mark_at marks (from + n))) (omega arith)
+    ]
+  where
+    by_mark : (given : Bool) → ◌≡◌ {A = ℕ} (cond given 1 0) 0 → given ≡ false
+    by_mark true none = absurd (let no : ⊥ = omega arith in no)
+    by_mark false none = refl
 
 -- with no row marked, nothing is given
 pub given-nothing : (marks : List Mark) (chunks : Chunks) (size from n : ℕ) → ((i : ℕ) → i < n → is_given (mark_at marks (from + i)) ≡ false)
@@ -194,50 +215,6 @@ mark_after-restored from n i mark inside =
     by_mark Empty = refl
     by_mark Given = refl
     by_mark Restored = refl
-
--- the shards that lie restored after a round fill the missing indexes
-pub fills-missing : (s : DecoderState) (old new : List Mark) (before after : Chunks) (from : ℕ)
-    → s.originals ≡ given_shards old before s.configuration.shard_bytes from s.configuration.original_count
-    → ((i : ℕ) → i < s.configuration.original_count → is_restored (mark_at new (from + i)) ≡ not (is_given (mark_at old (from + i))))
-    → ((i : ℕ) → i < s.configuration.original_count → IsShard s.configuration.shard_bytes (shard_in_order after s.configuration.shard_bytes (from + i)))
-    → FillsMissing s (restored_shards new after s.configuration.shard_bytes from s.configuration.original_count)
-fills-missing s old new before after from given marks sized =
-    record {
-      missing = λ i. (missing_only i, restored_too i);
-      shards = λ i shard is. elim (cases_lt i k) [
-        | inl inside ↦ subst (IsShard size) (some_is (not (is_given (mark_at old (from + i)))) (shard_in_order after size (from + i)) shard (sym (here i inside) ∙ is)) (sized i inside)
-        | inr outside ↦ absurd (none_some shard (sym (restored-out new after size from k i outside) ∙ is))
-      ];
-    }
-  where
-    k : ℕ
-    k = s.configuration.original_count
-
-    size : ℕ
-    size = s.configuration.shard_bytes
-
-    here : (i : ℕ) → i < k → restored_shards new after size from k i ≡ cond (not (is_given (mark_at old (from + i)))) (Some (shard_in_order after size (from + i))) None
-    here i inside = restored-marked new after size from k i (not (is_given (mark_at old (from + i)))) inside (marks i inside)
-
-    was : (i : ℕ) → i < k → is_some (s.originals i) ≡ is_given (mark_at old (from + i))
-    was i inside = ap (λ (f : Shards). is_some (f i)) given ∙ given-marked old before size from k i inside
-
-    none_some : (shard : Shard) → ◌≡◌ {A = Option Shard} None (Some shard) → ⊥
-    none_some shard e = true≢false (sym (ap is_some e))
-
-    some_is : (b : Bool) (x y : Shard) → ◌≡◌ {A = Option Shard} (cond b (Some x) None) (Some y) → x ≡ y
-    some_is true x y e = ap (λ o. unwrap_or o x) e
-    some_is false x y e = absurd (none_some y e)
-
-    missing_only : (i : ℕ) → IsSome (restored_shards new after size from k i) → (i < k) × IsNone (s.originals i)
-    missing_only i is = elim (cases_lt i k) [
-      | inl inside ↦ (inside, was i inside ∙ not-true (is_given (mark_at old (from + i))) (sym (some_if (not (is_given (mark_at old (from + i)))) (shard_in_order after size (from + i))) ∙ sym (ap is_some (here i inside)) ∙ is))
-      | inr outside ↦ absurd (true≢false (sym is ∙ ap is_some (restored-out new after size from k i outside)))
-    ]
-
-    restored_too : (i : ℕ) → (i < k) × IsNone (s.originals i) → IsSome (restored_shards new after size from k i)
-    restored_too i (inside, none) =
-        ap is_some (here i inside) ∙ some_if (not (is_given (mark_at old (from + i)))) (shard_in_order after size (from + i)) ∙ ap not (sym (was i inside) ∙ none)
 
 -- a decoder in whose rows no shard is marked as given is a fresh one
 pub nothing-given : (rate : Rate) (s : DecoderShape) (marks : List Mark) (chunks : Chunks) → ((p : ℕ) → is_given (mark_at marks p) ≡ false)

@@ -1,15 +1,15 @@
 -- The rows of a decoder, and what `decode` answers and leaves.
 use Rattle.std.proofs.Common.{◌≡◌, ℕ, ◌+◌, ◌^◌, true, refl, sym, ap, ◌∙◌, subst}
-use Rattle.std.specs.Prelude.{Result, Ok, Err, is_ok, cond, IsOkAnd, MatchResult}
+use Rattle.std.specs.Prelude.{Result, Ok, Err, is_ok, cond, MatchResult}
 use Rattle.rs_field.specs.declared.error.Error.{Error}
 use Rattle.rs_field.specs.Given.{Shards}
-use Rattle.rs_field.specs.Decoder.{DecoderState, fresh_decoder, enough_given, FillsMissing, DecodeFills, after_decode}
+use Rattle.rs_field.specs.Decoder.{DecoderState, fresh_decoder, enough_given, Restored, NoneAgrees, DecodeAnswers, after_decode}
 use Rattle.rs_field.specs.Counts.{Rate, next_power, supports, is_low, low_rate}
 use Rattle.rs_field.specs.Placement.{placement, low_placement, decoder_rows}
+use Rattle.rs_field.proofs.SupportedCounts.{low_fits}
 use Rattle.rs_rate.specs.declared.rate.decoder_work.Frame.{Frame}
 use Rattle.rs_rate.specs.DecoderView.{frame_of}
 use Rattle.rs_field.proofs.NextPower.{next_power-small}
-use Rattle.rs_rate.proofs.PowerLemmas.{low_fits}
 
 -- the frame of a decoder of the low rate, written out
 pub low_frame-is : (k r : ℕ) → frame_of low_rate k r
@@ -34,18 +34,18 @@ abbrev LeftBy : DecoderState → Result (Unit {0}) Error → DecoderState
 LeftBy s enough = cond (is_ok enough) (fresh_decoder s.configuration) s
 
 abbrev AnswersBy : DecoderState → Result (Unit {0}) Error → Result Shards Error → Type 0
-AnswersBy s enough result = MatchResult enough (λ _. IsOkAnd result (FillsMissing s)) (λ e. result ≡ Err e)
+AnswersBy s enough result = MatchResult enough (λ _. MatchResult result (Restored s) (NoneAgrees s)) (λ e. result ≡ Err e)
 
 -- where too few are given the state stays, and the answer is the refusal
 pub after_decode-refused : (s : DecoderState) (e : Error) → Err e ≡ enough_given s → s ≡ after_decode s
 after_decode-refused s e refused = ap (LeftBy s) refused
 
-pub decode_fills-refused : (s : DecoderState) (e : Error) → Err e ≡ enough_given s → DecodeFills s (Err e)
-decode_fills-refused s e refused = subst (λ enough. AnswersBy s enough (Err e)) refused refl
+pub decode_answers-refused : (s : DecoderState) (e : Error) → Err e ≡ enough_given s → DecodeAnswers s (Err e)
+decode_answers-refused s e refused = subst (λ enough. AnswersBy s enough (Err e)) refused refl
 
--- else nothing is given any more, and the answer is shards at the missing indexes
+-- else nothing is given any more, and the answer is the restored originals or that no message agrees
 pub after_decode-made : (s : DecoderState) → Ok tt ≡ enough_given s → after_decode s ≡ fresh_decoder s.configuration
 after_decode-made s made = sym (ap (LeftBy s) made)
 
-pub decode_fills-made : (s : DecoderState) (out : Shards) → Ok tt ≡ enough_given s → FillsMissing s out → DecodeFills s (Ok out)
-decode_fills-made s out made fills = subst (λ enough. AnswersBy s enough (Ok out)) made fills
+pub decode_answers-made : (s : DecoderState) (result : Result Shards Error) → Ok tt ≡ enough_given s → MatchResult result (Restored s) (NoneAgrees s) → DecodeAnswers s result
+decode_answers-made s result made answers = subst (λ enough. AnswersBy s enough result) made answers

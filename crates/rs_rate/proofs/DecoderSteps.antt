@@ -1,7 +1,7 @@
 -- Outcomes of a decoder's steps, by their tests.
-use Rattle.std.proofs.Common.{◌≡◌, ◌≢◌, ℕ, ◌+◌, ◌<◌, ◌≤◌, true, false, cond, length, refl, ap, ap₂, ◌∙◌}
-use Rattle.std.specs.Prelude.{Result, Ok, Err, is_some, nat_lt}
-use Rattle.std.proofs.lemmas.Bool.{lt-leb, lt-ltb, le-ltb, eq-eqb, ne_eqb}
+use Rattle.std.proofs.Common.{◌≡◌, ◌≢◌, ℕ, ◌+◌, ◌<◌, ◌≤◌, true, false, cond, length, refl, ap, ap₂, ◌∙◌, inl, inr, true≢false}
+use Rattle.std.specs.Prelude.{Result, Ok, Err, is_ok, is_some, nat_lt}
+use Rattle.std.proofs.lemmas.Bool.{cases_lt, lt-leb, lt-ltb, le-ltb, eq-eqb, ne_eqb}
 use Rattle.rs_field.specs.declared.error.Error.{Error}
 use Rattle.rs_field.specs.declared.error.Error.TheVariants.{NotEnoughShards, DuplicateOriginalShardIndex, DuplicateRecoveryShardIndex, DifferentShardSize}
 use Rattle.rs_field.specs.Column.{Shard}
@@ -52,3 +52,11 @@ recovery-sized s index shard inside new other = rw (lt-leb s.configuration.recov
 pub recovery-added : (s : DecoderState) (index : ℕ) (shard : Shard) → index < s.configuration.recovery_count → is_some (s.recovery index) ≡ false
     → length shard ≡ s.configuration.shard_bytes → with_recovery s index shard ≡ Ok (record s { recovery = entered s.recovery index shard })
 recovery-added s index shard inside new same = rw (lt-leb s.configuration.recovery_count index inside, new, eq-eqb (length shard) s.configuration.shard_bytes same) refl
+
+-- a decoder that has shards enough has as many as there are originals
+pub enough-least : (s : DecoderState) → Ok tt ≡ enough_given s → s.configuration.original_count ≤ originals_given s + recovery_given s
+enough-least s made =
+    elim (cases_lt (originals_given s + recovery_given s) s.configuration.original_count) [
+      | inl few ↦ absurd (true≢false (ap is_ok (made ∙ enough-few s (originals_given s) (recovery_given s) refl refl few)))
+      | inr many ↦ many
+    ]

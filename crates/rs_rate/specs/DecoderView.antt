@@ -1,5 +1,5 @@
 -- What a decoder's rows and working space stand for.
-use Rattle.std.specs.Prelude.{◌≡◌, ◌≤◌, ℕ, Bool, true, false, Option, Some, None}
+use Rattle.std.specs.Prelude.{◌≡◌, ◌≢◌, ◌+◌, ◌%◌, ◌<◌, ◌≤◌, ℕ, Bool, true, false, Option, Some, None}
 use Rattle.std.specs.Vec.{vec_capacity}
 use Rattle.rs_field.specs.Counts.{Rate}
 use Rattle.rs_field.specs.Placement.{placement, decoder_rows}
@@ -43,17 +43,28 @@ frame_of rate k r =
 abbrev pub decoder_shape : Rate → ℕ → ℕ → ℕ → DecoderShape
 decoder_shape rate k r size = record { original_count = k; recovery_count = r; shard_bytes = size; frame = frame_of rate k r }
 
--- the room that a working space has: for chunks and for marks of rows, and whether the locator's buffer and tables are there
+-- what rows can be set up for: a positive even size, and at most 65536 rows with originals and recovery shards among them, no two in one row
+pub record CanBeLaid (shape : DecoderShape) : Type 0 where
+  pub positive : 0 < shape.shard_bytes
+  pub even : shape.shard_bytes % 2 ≡ 0
+  pub few : shape.frame.row_count ≤ 65536
+  pub original_rows : shape.frame.originals_from + shape.original_count ≤ shape.frame.row_count
+  pub recovery_rows : shape.frame.recovery_from + shape.recovery_count ≤ shape.frame.row_count
+  pub apart : (i j : ℕ) → i < shape.original_count → j < shape.recovery_count → shape.frame.originals_from + i ≢ shape.frame.recovery_from + j
+
+-- the room that a working space has: for chunks and for marks of rows, and whether the locator's buffer is there
 pub record DecoderRoom : Type 0 where
   pub chunks : ℕ
   pub rows : ℕ
-  pub is_located : Bool
+  pub has_buffer : Bool
 
+-- the room of a decoder's memory, in which the buffer is
 abbrev pub memory_room : DecoderMemory → DecoderRoom
-memory_room memory = record { chunks = vec_capacity memory.chunks; rows = vec_capacity memory.marks; is_located = true }
+memory_room memory = record { chunks = vec_capacity memory.chunks; rows = vec_capacity memory.marks; has_buffer = true }
 
+-- the room of memory that is handed on, if there is any
 abbrev pub room_if : Option DecoderMemory → DecoderRoom
-room_if None = record { chunks = 0; rows = 0; is_located = false }
+room_if None = record { chunks = 0; rows = 0; has_buffer = false }
 room_if (Some memory) = memory_room memory
 
 -- the room of what is handed from one decoder to the next
@@ -64,10 +75,10 @@ work_room work = room_if work.memory
 pub record HasRoom (room : DecoderRoom) (count size : ℕ) : Type 0 where
   pub chunks : chunk_count count size ≤ room.chunks
   pub rows : count ≤ room.rows
-  pub located : room.is_located ≡ true
+  pub buffer : room.has_buffer ≡ true
 
 -- the new room is no less than the old
 pub record Grows (old new : DecoderRoom) : Type 0 where
   pub chunks : old.chunks ≤ new.chunks
   pub rows : old.rows ≤ new.rows
-  pub located : old.is_located ≡ true → new.is_located ≡ true
+  pub buffer : old.has_buffer ≡ true → new.has_buffer ≡ true

@@ -11,6 +11,7 @@ mod high_encoding;
 mod low_encoding;
 mod marks;
 mod memory;
+mod restoring;
 mod shard_rows;
 
 use crate::decoder_result::DecoderResult;
@@ -218,8 +219,9 @@ pub trait RateEncoder<E: Engine>: Sized {
 
     /// Lends the recovery shards of the given originals, and ends the round.
     ///
-    /// Refused with `TooFewOriginalShards` where originals are missing; a refusal changes nothing. With c blocks of m rows
-    /// at most (c + 1) * (m/2 * log2 m) + 2 * c * m row steps are counted, no pair sum and no product.
+    /// Refused with `TooFewOriginalShards` where originals are missing; a refusal changes nothing. The method is that of
+    /// Lin, Chung and Han in the form of Leopard-RS. With c blocks of m rows at most
+    /// `(c + 1) * (m/2 * log2 m) + 2 * c * m` row steps are counted, no pair sum and no product.
     fn encode(&mut self, steps: &mut Steps) -> Result<EncoderResult<'_>, Error>
         ensures answer { EncodeAnswers (state self.old) (answered_shards result) }
         ensures counts { let c = (state self.old).configuration in EncodeCountsAt rate c.original_count c.recovery_count steps.old steps.new }
@@ -246,7 +248,7 @@ pub trait RateEncoder<E: Engine>: Sized {
 /// A round is: shards are given by their index, at least `original_count` of all, then `decode` lends the originals
 /// that were not given. The round ends inside `decode`: the decoder then has the same configuration with nothing given,
 /// whether the result was dropped or forgotten. A refused call leaves the configuration and the given shards as they
-/// were. Memory is taken by `new` and by `reset` alone.
+/// were, but for `InconsistentShards`, which ends the round. Memory is taken by `new` and by `reset` alone.
 pub trait RateDecoder<E: Engine>: Sized {
     ghost use Rattle.std.specs.Prelude.{◌≡◌, ◌≢◌, ◌≤◌, ℕ, Err, IfOk, IfSome, OnOk, OnErr};
     ghost use Rattle.std.specs.Borrow.{sem};
@@ -254,7 +256,8 @@ pub trait RateDecoder<E: Engine>: Sized {
     ghost use Rattle.rs_field.specs.Placement.{decoder_rows};
     ghost use Rattle.rs_field.specs.Outcome.{answer_of, state_after};
     ghost use Rattle.rs_field.specs.Configuration.{configuration, validated, started, UpToMemory, FitsWithin};
-    ghost use Rattle.rs_field.specs.Decoder.{DecoderState, IsDecoder, fresh_decoder, with_original, with_recovery, DecodeFills, after_decode};
+    ghost use Rattle.rs_field.specs.Bounds.{DecodeCountsAt};
+    ghost use Rattle.rs_field.specs.Decoder.{DecoderState, IsDecoder, fresh_decoder, with_original, with_recovery, DecodeAnswers, after_decode};
     ghost use Rattle.rs_rate.specs.DecoderView.{DecoderRoom, HasRoom, Grows, work_room};
     ghost use Rattle.rs_rate.specs.ResultView.{answered_originals};
     ghost use Rattle.rs_rate.specs.Loan.{EndsWith};
@@ -344,12 +347,18 @@ pub trait RateDecoder<E: Engine>: Sized {
 
     /// Lends the originals that were not given, and ends the round.
     ///
-    /// Refused with `NotEnoughShards` where fewer shards are given than there are originals; a refusal changes nothing.
-    /// The method is that of Lin, Chung and Han in the form of Leopard-RS. The restored shards stand at exactly the
-    /// indexes that were not given, each of the decoder's size.
+    /// Refused with `NotEnoughShards` where fewer shards are given than there are originals; that refusal changes
+    /// nothing. Refused with `InconsistentShards` where no message agrees with all that is given, which never comes with
+    /// exactly as many shards as there are originals; that refusal ends the round, so that nothing is given any more.
+    ///
+    /// Else the restored shards are, at exactly the indexes that were not given, those of the only message that agrees.
+    /// The method is that of Lin, Chung and Han in the form of Leopard-RS. Over W rows at most
+    /// `3 * W / 2 * log2(W) + 4 * W` row steps are counted, and the pair sums and products of one locator.
     fn decode(&mut self, steps: &mut Steps) -> Result<DecoderResult<'_>, Error>
-        ensures answer { DecodeFills (state self.old) (answered_originals result) }
-        ensures* ends { sem 𝓛 (EndsWith Self.row self.entry (λ now. (state now ≡ after_decode (state self.old)) × (engine_of now ≡ engine_of self.old) × (room now ≡ room self.old))) };
+        ensures answer { DecodeAnswers (state self.old) (answered_originals result) }
+        ensures counts { let c = (state self.old).configuration in DecodeCountsAt rate c.original_count c.recovery_count steps.old steps.new }
+        ensures* ends { sem 𝓛 (EndsWith Self.row self.entry
+            (λ now. (state now ≡ after_decode (state self.old)) × (engine_of now ≡ engine_of self.old) × (room now ≡ room self.old))) };
 
     /// The engine and the rows, for another decoder: they have room for this one's configuration.
     fn into_parts(self) -> (E, DecoderWork)
@@ -362,5 +371,5 @@ pub trait RateDecoder<E: Engine>: Sized {
     ghost valid: { (x : Self) → IsDecoder rate (state x) };
 
     /// A decoder has room for its own rows.
-    ghost own_room: { (x : Self) → HasRoom (room x) (decoder_rows rate (state x).configuration.original_count (state x).configuration.recovery_count) (state x).configuration.shard_bytes };
+    ghost own_room: { (x : Self) → let c = (state x).configuration in HasRoom (room x) (decoder_rows rate c.original_count c.recovery_count) c.shard_bytes };
 }

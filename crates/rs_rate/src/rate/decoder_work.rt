@@ -6,12 +6,11 @@ ghost use Rattle.rs_field.specs.Counts.{Rate};
 ghost use Rattle.rs_field.specs.Outcome.{answer_of, state_after};
 ghost use Rattle.rs_field.specs.Decoder.{fresh_decoder, with_original, with_recovery, enough_given};
 ghost use Rattle.rs_rate.specs.ShardRows.{chunk_count as chunk_count_of, shard_laid_out};
-ghost use Rattle.rs_rate.specs.Marks.{mark_at, is_given, given_row_count};
+ghost use Rattle.rs_rate.specs.Marks.{mark_at, is_given, given_row_count, ArePlaced};
 
 use crate::rate::marks::{Mark, is_given_at, is_restored_at, mark_given, set_empty};
 use crate::rate::memory::{make_room, set_chunks};
 use crate::rate::shard_rows::{chunk_count, insert_at, shard_at, shard_is_bytes};
-use rs_field::engine::tables::Tables;
 use rs_field::engine::{GF_ORDER, GfElement};
 use rs_field::error::Error;
 use std::alloc::Global;
@@ -22,13 +21,12 @@ pub struct DecoderWork {
     pub(crate) memory: Option<DecoderMemory>,
 }
 
-/// Chunks and marks of rows, and what the locator needs: a buffer of an entry for each point, and tables.
+/// Chunks and marks of rows, and the locator's buffer: an entry for each point.
 #[derive(Drop)]
 pub struct DecoderMemory {
     pub(crate) chunks: Vec<[u8; 64]>,
     pub(crate) marks: Vec<Mark>,
     pub(crate) erasures: Vec<GfElement>,
-    pub(crate) tables: Tables,
     pub ghost points: { vec_len erasures ≡ 65536 },
 }
 
@@ -71,6 +69,7 @@ pub struct DecoderRows {
     pub ghost own_marks: { shape.frame.row_count ≤ vec_capacity memory.marks },
     pub ghost originals_counted: { originals_given ≡ given_row_count memory.marks.items shape.frame.originals_from shape.original_count },
     pub ghost recovery_counted: { recovery_given ≡ given_row_count memory.marks.items shape.frame.recovery_from shape.recovery_count },
+    pub ghost placed: { ArePlaced shape.frame.originals_from shape.original_count shape.frame.recovery_from shape.recovery_count memory.marks.items },
     pub ghost shards: { (p : ℕ) → is_given (mark_at memory.marks.items p) ≡ true → IsShard shape.shard_bytes (shard_laid_out memory.chunks.items shape.shard_bytes p) },
 }
 
@@ -80,7 +79,7 @@ impl DecoderWork {
 
     /// A working space that took no memory yet.
     pub fn new() -> DecoderWork
-        ensures { work_room result ≡ record { chunks = 0; rows = 0; is_located = false } }
+        ensures { work_room result ≡ record { chunks = 0; rows = 0; has_buffer = false } }
     {
         DecoderWork { memory: None }
     }
@@ -90,7 +89,7 @@ impl Default for DecoderWork {
     ghost use Rattle.std.specs.Prelude.{false};
     ghost use Rattle.rs_rate.specs.DecoderView.{work_room};
 
-    ghost is_default = { λ work. work_room work ≡ record { chunks = 0; rows = 0; is_located = false } };
+    ghost is_default = { λ work. work_room work ≡ record { chunks = 0; rows = 0; has_buffer = false } };
 
     fn default() -> DecoderWork {
         DecoderWork::new()
@@ -104,7 +103,7 @@ impl DecoderMemory {
     fn of(alloc: Global, work: Option<DecoderWork>) -> Result<DecoderMemory, Error>
         ensures grown { IfOk result (λ m. IfSome work (λ w. Grows (work_room w) (memory_room m))) }
         ensures memory { IfErr result (λ e. e ≡ Error.OutOfMemory) }
-        ensures enough { IfSome work (λ w. (work_room w).is_located ≡ true → IsOk result) }
+        ensures enough { IfSome work (λ w. (work_room w).has_buffer ≡ true → IsOk result) }
     {
         let memory = match work {
             Some(work) => work.memory,
@@ -123,7 +122,6 @@ impl DecoderMemory {
             chunks: Vec::new(alloc),
             marks: Vec::new(alloc),
             erasures: vec![in alloc; 0; GF_ORDER]?,
-            tables: Tables::new(alloc)?,
         })
     }
 
@@ -173,7 +171,7 @@ impl DecoderMemory {
 }
 
 impl DecoderRows {
-    ghost use Rattle.rs_rate.specs.DecoderView.{HasRoom, Grows, configuration_of, decoder_state, memory_room, work_room, restored_of};
+    ghost use Rattle.rs_rate.specs.DecoderView.{CanBeLaid, HasRoom, Grows, configuration_of, decoder_state, memory_room, work_room, restored_of};
 
     // Rows with nothing given, in the memory of `work` where one is passed.
     pub(crate) fn new(
@@ -181,12 +179,7 @@ impl DecoderRows {
         shape: DecoderShape,
         work: Option<DecoderWork>,
     ) -> Result<DecoderRows, Error>
-        requires positive { 0 < shape.shard_bytes }
-        requires even { shape.shard_bytes % 2 ≡ 0 }
-        requires few { shape.frame.row_count ≤ 65536 }
-        requires original_rows { shape.frame.originals_from + shape.original_count ≤ shape.frame.row_count }
-        requires recovery_rows { shape.frame.recovery_from + shape.recovery_count ≤ shape.frame.row_count }
-        requires apart { (i j : ℕ) → i < shape.original_count → j < shape.recovery_count → shape.frame.originals_from + i ≢ shape.frame.recovery_from + j }
+        requires { CanBeLaid shape }
         ensures shape { IfOk result (λ x. x.shape ≡ shape) }
         ensures state { IfOk result (λ x. (rate : Rate) → decoder_state rate x ≡ fresh_decoder (configuration_of rate shape)) }
         ensures memory { IfErr result (λ e. e ≡ Error.OutOfMemory) }
@@ -209,12 +202,7 @@ impl DecoderRows {
 
     // The rows of another shape, with nothing given: every growth first.
     pub(crate) fn reset(&mut self, shape: DecoderShape) -> Result<(), Error>
-        requires positive { 0 < shape.shard_bytes }
-        requires even { shape.shard_bytes % 2 ≡ 0 }
-        requires few { shape.frame.row_count ≤ 65536 }
-        requires original_rows { shape.frame.originals_from + shape.original_count ≤ shape.frame.row_count }
-        requires recovery_rows { shape.frame.recovery_from + shape.recovery_count ≤ shape.frame.row_count }
-        requires apart { (i j : ℕ) → i < shape.original_count → j < shape.recovery_count → shape.frame.originals_from + i ≢ shape.frame.recovery_from + j }
+        requires { CanBeLaid shape }
         ensures ok { OnOk result ((rate : Rate) → decoder_state rate self.new ≡ fresh_decoder (configuration_of rate shape)) }
         ensures err { OnErr result ((rate : Rate) → decoder_state rate self.new ≡ decoder_state rate self.old) }
         ensures shape { OnOk result (self.new.shape ≡ shape) }
@@ -240,7 +228,8 @@ impl DecoderRows {
         original_shard: &[u8],
     ) -> Result<(), Error>
         ensures answer { (rate : Rate) → result ≡ answer_of (with_original (decoder_state rate self.old) index original_shard.now) }
-        ensures left { (rate : Rate) → decoder_state rate self.new ≡ state_after (decoder_state rate self.old) (with_original (decoder_state rate self.old) index original_shard.now) }
+        ensures left { (rate : Rate) → decoder_state rate self.new
+            ≡ state_after (decoder_state rate self.old) (with_original (decoder_state rate self.old) index original_shard.now) }
         ensures shape { self.new.shape ≡ self.old.shape }
         ensures room { memory_room self.new.memory ≡ memory_room self.old.memory }
     {
@@ -271,7 +260,8 @@ impl DecoderRows {
         recovery_shard: &[u8],
     ) -> Result<(), Error>
         ensures answer { (rate : Rate) → result ≡ answer_of (with_recovery (decoder_state rate self.old) index recovery_shard.now) }
-        ensures left { (rate : Rate) → decoder_state rate self.new ≡ state_after (decoder_state rate self.old) (with_recovery (decoder_state rate self.old) index recovery_shard.now) }
+        ensures left { (rate : Rate) → decoder_state rate self.new
+            ≡ state_after (decoder_state rate self.old) (with_recovery (decoder_state rate self.old) index recovery_shard.now) }
         ensures shape { self.new.shape ≡ self.old.shape }
         ensures room { memory_room self.new.memory ≡ memory_room self.old.memory }
     {

@@ -96,7 +96,7 @@ impl<E: Engine, C: Code> RateDecoder<E> for Decoder<E, C> {
 
     fn decode(&mut self, steps: &mut Steps) -> Result<DecoderResult<'_>, Error> {
         self.rows.check_enough_given()?;
-        decode_rows(&self.engine, steps, &mut self.rows);
+        decode_rows(&self.engine, steps, &mut self.rows)?;
         Ok(DecoderResult::new(&self.rows))
     }
 

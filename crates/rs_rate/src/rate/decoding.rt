@@ -1,49 +1,54 @@
-//! The decoding over a frame of rows, for either rate: from the given shards to the missing originals.
-//!
-//! The given rows are multiplied by the locator of the erased points and all others cleared; then the polynomial
-//! through them, plus its derivative, takes at each erased point the wanted word times the locator's derivative. The
-//! method is that of Lin, Chung and Han in the form of Leopard-RS.
-ghost use Rattle.std.specs.Prelude.{◌≡◌, ℕ, ◌+◌, ◌%◌, ◌^◌, ◌*◌, ◌<◌, ◌≤◌, length, slice_index};
+//! The decoding of a round, for every rate: the locator of the erased points, the rows over the chunks, the tails, and
+//! the round's end.
+ghost use Rattle.std.specs.Prelude.{◌≡◌, ℕ, ◌+◌, ◌-◌, ◌*◌, ◌/◌, ◌%◌, ◌^◌, ◌<◌, ◌≤◌, ◌⊎◌, true, false, Ok, List, length, slice_index, MatchResult};
+ghost use Rattle.rs_field.specs.Bounds.{CountsRows, CountsUpTo, LocatorCounts, decode_steps, transform_steps};
+ghost use Rattle.rs_field.specs.Configuration.{validated};
 ghost use Rattle.rs_field.specs.Counts.{Rate};
-ghost use Rattle.rs_field.specs.Decoder.{fresh_decoder, FillsMissing};
+ghost use Rattle.rs_field.specs.Decoder.{fresh_decoder, Restored, NoneAgrees};
 ghost use Rattle.rs_field.specs.Layout.{row_len as chunks_for};
-ghost use Rattle.rs_field.specs.Tables.{IsLog};
-ghost use Rattle.rs_field.specs.View.{Fits, SameShape};
-ghost use Rattle.rs_rate.specs.DecoderView.{configuration_of, decoder_state, memory_room, restored_of};
-ghost use Rattle.rs_rate.specs.Marks.{erased};
-ghost use Rattle.rs_rate.specs.ShardRows.{chunk_count};
+ghost use Rattle.rs_rate.specs.DecoderView.{configuration_of, decoder_shape, decoder_state, memory_room, restored_of};
+ghost use Rattle.rs_rate.specs.Decoding.{restore_steps, IsLocatorOf, RestoresWords, RestoresShards};
+ghost use Rattle.rs_rate.specs.Marks.{mark_at, is_given, erased, given_row_count, ArePlaced};
+ghost use Rattle.rs_rate.specs.ShardRows.{chunk_count, word_in, shard_laid_out, shard_in_order};
 
 use crate::rate::decoder_work::{DecoderMemory, DecoderRows, DecoderShape, Frame};
-use crate::rate::marks::{Mark, end_marks};
+use crate::rate::marks::{Mark, end_marks, is_given_at};
+use crate::rate::restoring::{Round, restore_rows};
 use crate::rate::shard_rows::{in_order_are_bytes, move_tail};
-use rs_field::engine::derivative::formal_derivative;
 use rs_field::engine::layout::row_len;
-use rs_field::engine::locator::locator_at;
-use rs_field::engine::rows::{clear_rows, mul_row};
-use rs_field::engine::tables::{Log, get_exp_log};
-use rs_field::engine::{Engine, GF_MODULUS, GF_ORDER, GfElement, ShardsRefMut, Steps};
+use rs_field::engine::{Engine, GF_ORDER, GfElement, ShardsRefMut, Steps};
+use rs_field::error::Error;
 
-// What multiplies the rows: which points are erased, which rows hold given shards, and the logarithms.
-#[derive(Clone, Copy)]
-struct Located<'a> {
-    erasures: &'a [GfElement],
-    marks: &'a [Mark],
-    log: Log<'a>,
-    ghost points: { length erasures.now ≡ 65536 },
-    ghost erased_or_not: { (y : ℕ) → y < 65536 → slice_index erasures.now y ≤ 1 },
-    ghost logarithms: { IsLog log.now },
-}
-
-// Restores the missing originals and ends the round.
-pub(crate) fn decode_rows<E: Engine>(engine: &E, steps: &mut Steps, rows: &mut DecoderRows)
+// Restores the missing originals, or refuses where no message agrees with all that is given; ends the round.
+pub(crate) fn decode_rows<E: Engine>(
+    engine: &E,
+    steps: &mut Steps,
+    rows: &mut DecoderRows,
+) -> Result<(), Error>
     requires power { (d : ℕ) × (rows.old.shape.frame.row_count ≡ 2 ^ d) }
+    requires enough { rows.old.shape.original_count ≤ rows.old.originals_given + rows.old.recovery_given }
     ensures state { (rate : Rate) → decoder_state rate rows.new ≡ fresh_decoder (configuration_of rate rows.old.shape) }
-    ensures restored { (rate : Rate) → FillsMissing (decoder_state rate rows.old) (restored_of rows.new) }
+    ensures answer { (rate : Rate) → validated (configuration_of rate rows.old.shape) ≡ Ok tt
+        → rows.old.shape ≡ decoder_shape rate rows.old.shape.original_count rows.old.shape.recovery_count rows.old.shape.shard_bytes
+        → MatchResult result (λ _. Restored (decoder_state rate rows.old) (restored_of rows.new)) (NoneAgrees (decoder_state rate rows.old)) }
     ensures shape { rows.new.shape ≡ rows.old.shape }
     ensures room { memory_room rows.new.memory ≡ memory_room rows.old.memory }
+    ensures counts { CountsUpTo (decode_steps rows.old.shape.frame.row_count) 1048576 65536 steps.old steps.new }
 {
     let shape = rows.shape;
-    restore(engine, steps, &mut rows.memory, shape, rows.originals_given);
+    let original_received_count = rows.originals_given;
+    let recovery_received_count = rows.recovery_given;
+    let missing = shape.original_count - original_received_count;
+    let surplus = original_received_count + recovery_received_count - shape.original_count;
+    let agrees = restore(engine, steps, &mut rows.memory, shape, missing, surplus);
+    let answer = if agrees {
+        Ok(())
+    } else {
+        Err(Error::InconsistentShards {
+            original_received_count,
+            recovery_received_count,
+        })
+    };
     in_order_are_bytes(
         rows.memory.chunks.as_slice(),
         shape.frame.row_count,
@@ -56,16 +61,19 @@ pub(crate) fn decode_rows<E: Engine>(engine: &E, steps: &mut Steps, rows: &mut D
     );
     rows.originals_given = 0;
     rows.recovery_given = 0;
+    answer
 }
 
-// Restores the missing originals in their rows, where an original is missing.
+// Restores the missing originals in their rows where some message agrees with all that is given, and answers whether
+// one does. With all originals and nothing else given there is nothing to do.
 fn restore<E: Engine>(
     engine: &E,
     steps: &mut Steps,
     memory: &mut DecoderMemory,
     shape: DecoderShape,
-    originals_given: usize,
-)
+    missing: usize,
+    surplus: usize,
+) -> bool
     requires power { (d : ℕ) × (shape.frame.row_count ≡ 2 ^ d) }
     requires few { shape.frame.row_count ≤ 65536 }
     requires even { shape.shard_bytes % 2 ≡ 0 }
@@ -73,174 +81,147 @@ fn restore<E: Engine>(
     requires recovery { shape.frame.recovery_from + shape.recovery_count ≤ shape.frame.row_count }
     requires whole { chunk_count shape.frame.row_count shape.shard_bytes ≤ length memory.old.chunks.items }
     requires marked { shape.frame.row_count ≤ length memory.old.marks.items }
+    requires placed { ArePlaced shape.frame.originals_from shape.original_count shape.frame.recovery_from shape.recovery_count memory.old.marks.items }
+    requires missing { given_row_count memory.old.marks.items shape.frame.originals_from shape.original_count + missing ≡ shape.original_count }
+    requires few_surplus { surplus ≤ shape.frame.row_count }
     ensures marks { memory.new.marks.items ≡ memory.old.marks.items }
     ensures length { length memory.new.chunks.items ≡ length memory.old.chunks.items }
     ensures room { memory_room memory.new ≡ memory_room memory.old }
+    ensures nothing { missing ≡ 0 → surplus ≡ 0 → result ≡ true }
+    ensures restored { 0 < missing + surplus → (locator : List ℕ) × IsLocatorOf shape.frame memory.old.marks.items locator
+        × RestoresShards shape memory.old.marks.items locator surplus memory.old.chunks.items memory.new.chunks.items result }
+    ensures counts { CountsUpTo (decode_steps shape.frame.row_count) 1048576 65536 steps.old steps.new }
 {
-    if originals_given >= shape.original_count {
-        return;
+    if missing == 0 && surplus == 0 {
+        return true;
     }
-    mark_erasures(
-        memory.erasures.as_mut_slice(),
-        memory.marks.as_slice(),
-        shape.frame,
-    );
-    restore_chunks(
+    let marks = memory.marks.as_slice();
+    make_locator(
         engine,
         steps,
-        memory.chunks.as_mut_slice(),
-        Located {
-            erasures: memory.erasures.as_slice(),
-            marks: memory.marks.as_slice(),
-            log: get_exp_log(&memory.tables).log.as_slice(),
-        },
-        shape,
+        memory.erasures.as_mut_slice(),
+        marks,
+        shape.frame,
     );
+    let round = Round {
+        shape,
+        marks,
+        locator: memory.erasures.as_slice(),
+        missing,
+        surplus,
+    };
+    restore_chunks(engine, steps, memory.chunks.as_mut_slice(), round)
 }
 
-// Marks the erased points.
-fn mark_erasures(erasures: &mut [GfElement], marks: &[Mark], frame: Frame)
-    requires points { length erasures.old ≡ 65536 }
+// The locator of the erased points, at all points.
+fn make_locator<E: Engine>(
+    engine: &E,
+    steps: &mut Steps,
+    entries: &mut [GfElement],
+    marks: &[Mark],
+    frame: Frame,
+)
+    requires points { length entries.old ≡ 65536 }
     requires marked { frame.row_count ≤ length marks.now }
-    ensures erased { (y : ℕ) → y < 65536 → slice_index erasures.new y ≡ erased frame.row_count frame.zeros_from frame.zeros_to marks.now y }
-    ensures erased_or_not { (y : ℕ) → y < 65536 → slice_index erasures.new y ≤ 1 }
+    ensures locator { IsLocatorOf frame marks.now entries.new }
+    ensures counts { LocatorCounts steps.old steps.new }
+{
+    mark_erasures(entries, marks, frame);
+    engine.eval_poly(steps, entries, erasures_end(frame));
+    entries_are_words(entries);
+}
+
+// An entry is a word. It does nothing when it runs: it tells the checker so.
+fn entries_are_words(entries: &[GfElement])
+    ensures { (x : ℕ) → slice_index entries.now x < 65536 }
+{}
+
+// Marks the erased points.
+fn mark_erasures(entries: &mut [GfElement], marks: &[Mark], frame: Frame)
+    requires points { length entries.old ≡ 65536 }
+    requires marked { frame.row_count ≤ length marks.now }
+    ensures erased { (y : ℕ) → y < 65536 → slice_index entries.new y ≡ erased frame.row_count frame.zeros_from frame.zeros_to marks.now y }
 {
     for y in 0..GF_ORDER {
-        erasures[y] = erasure(y, marks, frame);
+        entries[y] = erasure(y, marks, frame);
     }
 }
 
 // The entry of point y: 1 where it is no known zero and its shard isn't given.
 fn erasure(y: usize, marks: &[Mark], frame: Frame) -> GfElement
     requires marked { frame.row_count ≤ length marks.now }
-    ensures erased { result ≡ erased frame.row_count frame.zeros_from frame.zeros_to marks.now y }
-    ensures erased_or_not { result ≤ 1 }
+    ensures { result ≡ erased frame.row_count frame.zeros_from frame.zeros_to marks.now y }
 {
     if frame.zeros_from <= y && y < frame.zeros_to {
         return 0;
     }
-    if y < frame.row_count && marks[y] == Mark::Given {
+    if y < frame.row_count && is_given_at(marks, y) {
         return 0;
     }
     1
 }
 
-// Restores the missing originals over all chunks, and moves their tails.
+// No point from here on is erased: the known zeros reach to the last point, or all points are looked at.
+fn erasures_end(frame: Frame) -> usize
+    ensures most { result ≤ 65536 }
+    ensures none { (marks : List Mark) (y : ℕ) → result ≤ y → y < 65536 → erased frame.row_count frame.zeros_from frame.zeros_to marks y ≡ 0 }
+{
+    if frame.zeros_to < GF_ORDER {
+        return GF_ORDER;
+    }
+    GF_ORDER.min(frame.zeros_from)
+}
+
+// Restores the missing originals over all chunks where some message agrees, with their tails moved.
 fn restore_chunks<E: Engine>(
     engine: &E,
     steps: &mut Steps,
     chunks: &mut [[u8; 64]],
-    located: Located<'_>,
-    shape: DecoderShape,
-)
-    requires power { (d : ℕ) × (shape.frame.row_count ≡ 2 ^ d) }
-    requires few { shape.frame.row_count ≤ 65536 }
-    requires even { shape.shard_bytes % 2 ≡ 0 }
-    requires originals { shape.frame.originals_from + shape.original_count ≤ shape.frame.row_count }
-    requires recovery { shape.frame.recovery_from + shape.recovery_count ≤ shape.frame.row_count }
-    requires whole { chunk_count shape.frame.row_count shape.shard_bytes ≤ length chunks.old }
-    requires marked { shape.frame.row_count ≤ length located.marks.now }
+    round: Round<'_>,
+) -> bool
+    requires power { (d : ℕ) × (round.shape.frame.row_count ≡ 2 ^ d) }
+    requires whole { chunk_count round.shape.frame.row_count round.shape.shard_bytes ≤ length chunks.old }
+    ensures shards { RestoresShards round.entry.shape round.entry.marks.now round.entry.locator.now round.entry.surplus chunks.old chunks.new result }
+    ensures counts { CountsUpTo (3 * transform_steps round.entry.shape.frame.row_count + 4 * round.entry.shape.frame.row_count) 0 0 steps.old steps.new }
 {
-    restore_words(engine, steps, chunks, located, shape);
-    for i in 0..shape.original_count {
-        let row = shape.frame.originals_from + i;
-        if located.marks[row] != Mark::Given {
-            steps.row_step();
-            move_tail(chunks, row, shape.shard_bytes);
-        }
+    let agrees = restore_words(engine, steps, chunks, round);
+    if agrees {
+        move_missing_tails(steps, chunks, round);
     }
+    agrees
 }
 
-// Makes the words of the missing originals, over all chunks.
+// Restores the words of the missing originals over all chunks where some message agrees, and answers whether one does.
 fn restore_words<E: Engine>(
     engine: &E,
     steps: &mut Steps,
     chunks: &mut [[u8; 64]],
-    located: Located<'_>,
-    shape: DecoderShape,
-)
-    requires power { (d : ℕ) × (shape.frame.row_count ≡ 2 ^ d) }
-    requires few { shape.frame.row_count ≤ 65536 }
-    requires originals { shape.frame.originals_from + shape.original_count ≤ shape.frame.row_count }
-    requires recovery { shape.frame.recovery_from + shape.recovery_count ≤ shape.frame.row_count }
-    requires whole { shape.frame.row_count * chunks_for shape.shard_bytes ≤ length chunks.old }
-    requires marked { shape.frame.row_count ≤ length located.marks.now }
+    round: Round<'_>,
+) -> bool
+    requires power { (d : ℕ) × (round.shape.frame.row_count ≡ 2 ^ d) }
+    requires whole { round.shape.frame.row_count * chunks_for round.shape.shard_bytes ≤ length chunks.old }
+    ensures words { RestoresWords round.entry.shape round.entry.marks.now round.entry.locator.now round.entry.surplus
+        (word_in chunks.old (chunks_for round.entry.shape.shard_bytes)) (word_in chunks.new (chunks_for round.entry.shape.shard_bytes)) result }
+    ensures counts { CountsUpTo (restore_steps round.entry.shape round.entry.surplus) 0 0 steps.old steps.new }
 {
-    let frame = shape.frame;
-    let from = frame.originals_from;
-    let end = (from + shape.original_count).max(frame.recovery_from + shape.recovery_count);
-    let mut data = ShardsRefMut::new(frame.row_count, row_len(shape.shard_bytes), chunks);
-    locate_rows(engine, steps, &mut data, located, end);
-    pass_rows(engine, steps, &mut data, end);
-    reveal_rows(
-        engine,
-        steps,
-        &mut data,
-        located,
-        from,
-        shape.original_count,
-    );
+    let shape = round.shape;
+    let mut data = ShardsRefMut::new(shape.frame.row_count, row_len(shape.shard_bytes), chunks);
+    restore_rows(engine, steps, &mut data, round)
 }
 
-// Multiplies the given rows by their locator entry, and clears the others.
-fn locate_rows<E: Engine>(
-    engine: &E,
-    steps: &mut Steps,
-    data: &mut ShardsRefMut<'_>,
-    located: Located<'_>,
-    end: usize,
-)
-    requires fits { Fits «data».old }
-    requires few { «data».old.shard_count ≤ 65536 }
-    requires marked { «data».old.shard_count ≤ length located.marks.now }
-    requires within { end ≤ «data».old.shard_count }
-    ensures shape { SameShape «data».old «data».new }
+// Moves the tails of the missing originals; a row step each.
+fn move_missing_tails(steps: &mut Steps, chunks: &mut [[u8; 64]], round: Round<'_>)
+    requires whole { chunk_count round.shape.frame.row_count round.shape.shard_bytes ≤ length chunks.old }
+    ensures moved { (i : ℕ) → i < round.entry.shape.original_count
+        → let p = round.entry.shape.frame.originals_from + i in is_given (mark_at round.entry.marks.now p) ≡ false
+        → shard_in_order chunks.new round.entry.shape.shard_bytes p ≡ shard_laid_out chunks.old round.entry.shape.shard_bytes p }
+    ensures counts { CountsRows round.entry.missing steps.old steps.new }
 {
-    for p in 0..end {
-        if located.marks[p] == Mark::Given {
-            let log_m = locator_at(located.erasures, p, located.log);
-            mul_row(engine, steps, data, p, log_m);
-        } else {
-            clear_rows(steps, data, p, p + 1);
-        }
-    }
-}
-
-// Passes from values to coefficients, adds the derivative, and passes back to values.
-fn pass_rows<E: Engine>(engine: &E, steps: &mut Steps, data: &mut ShardsRefMut<'_>, end: usize)
-    requires fits { Fits «data».old }
-    requires power { (d : ℕ) × («data».old.shard_count ≡ 2 ^ d) }
-    requires few { «data».old.shard_count ≤ 65536 }
-    requires within { end ≤ «data».old.shard_count }
-    ensures shape { SameShape «data».old «data».new }
-{
-    let row_count = data.len();
-    clear_rows(steps, data, end, row_count);
-    engine.ifft(steps, data, 0, row_count, end, 0);
-    formal_derivative(steps, data);
-    engine.fft(steps, data, 0, row_count, end, 0);
-}
-
-// Divides the rows of the missing originals by their locator entry.
-fn reveal_rows<E: Engine>(
-    engine: &E,
-    steps: &mut Steps,
-    data: &mut ShardsRefMut<'_>,
-    located: Located<'_>,
-    from: usize,
-    original_count: usize,
-)
-    requires fits { Fits «data».old }
-    requires few { «data».old.shard_count ≤ 65536 }
-    requires marked { «data».old.shard_count ≤ length located.marks.now }
-    requires within { from + original_count ≤ «data».old.shard_count }
-    ensures shape { SameShape «data».old «data».new }
-{
-    for i in 0..original_count {
-        let p = from + i;
-        if located.marks[p] != Mark::Given {
-            let log_m = locator_at(located.erasures, p, located.log);
-            mul_row(engine, steps, data, p, GF_MODULUS - log_m);
+    for i in 0..round.shape.original_count {
+        let row = round.shape.frame.originals_from + i;
+        if !is_given_at(round.marks, row) {
+            steps.row_step();
+            move_tail(chunks, row, round.shape.shard_bytes);
         }
     }
 }

@@ -1,27 +1,58 @@
-use Rattle.std.proofs.Common.{◌≡◌, ◌+◌, ◌<◌, ℕ, List, true, false, length, refl, sym, ap, ◌∙◌, subst, arith}
+use Rattle.std.proofs.Common.{◌≡◌, ◌+◌, ◌-◌, ◌<◌, ℕ, List, true, false, length, sym, ap, ◌∙◌, subst, arith, inl, inr}
+use Rattle.std.specs.Prelude.{Ok, Err, MatchResult, ◌⊎◌}
+use Rattle.rs_field.specs.declared.error.Error.TheVariants.{InconsistentShards}
+use Rattle.std.proofs.lemmas.Bool.{cases_eq}
 use Rattle.std.proofs.lemmas.List.{with_items_is}
 use Rattle.rs_field.specs.Column.{IsShard}
-use Rattle.rs_field.specs.Decoder.{FillsMissing}
+use Rattle.rs_field.specs.Decoder.{Restored, NoneAgrees}
 use Rattle.rs_field.specs.Rows.{Chunks}
 use Rattle.rs_rate.specs.declared.rate.marks.Mark.{Mark}
-use Rattle.rs_rate.specs.Marks.{mark_at, mark_after, is_given, is_restored, restored_shards}
+use Rattle.rs_rate.specs.Marks.{mark_at, mark_after, is_given, is_restored}
 use Rattle.rs_rate.specs.ShardRows.{shard_in_order}
 use Rattle.rs_rate.specs.DecoderView.{decoder_state}
-use Rattle.rs_rate.proofs.DecoderLemmas.{given_row_count-nothing, nothing-given, none_after, mark_after-restored, fills-missing}
+use Rattle.rs_rate.proofs.DecodeAnswer.{restored_over, AnswersOver, decode_answers, complete_answers, told_answer}
+use Rattle.rs_rate.proofs.DecoderLemmas.{given_row_count-most, given_row_count-nothing, nothing-given, none_after, mark_after-restored}
 use Rattle.rs_rate.proofs.rate.decoding.decode_rows.Goals as goal
+use Rattle.rs_rate.proofs.rate.decoding.decode_rows.Goals.{then-agrees, else-agrees}
+
+pub overflow_sub-missing : goal.overflow_sub-missing
+overflow_sub-missing g c =
+    let w = c.args.rows.now in
+    let most = given_row_count-most w.memory.marks.items w.shape.frame.originals_from w.shape.original_count in
+    omega (arith, most, w.originals_counted)
+
+pub overflow_add-surplus : goal.overflow_add-surplus
+overflow_add-surplus g c =
+    let w = c.args.rows.now in
+    let most = given_row_count-most w.memory.marks.items w.shape.frame.originals_from w.shape.original_count in
+    let most_too = given_row_count-most w.memory.marks.items w.shape.frame.recovery_from w.shape.recovery_count in
+    omega (arith, most, most_too, w.originals_counted, w.recovery_counted, w.original_rows, w.recovery_rows, w.few)
+
+pub restore-agrees-requires-clause-missing : goal.restore-agrees-requires-clause-missing
+restore-agrees-requires-clause-missing g c =
+    let w = c.args.rows.now in
+    let most = given_row_count-most w.memory.marks.items w.shape.frame.originals_from w.shape.original_count in
+    omega (arith, most, w.originals_counted)
+
+pub restore-agrees-requires-clause-few_surplus : goal.restore-agrees-requires-clause-few_surplus
+restore-agrees-requires-clause-few_surplus g c =
+    let w = c.args.rows.now in
+    let most = given_row_count-most w.memory.marks.items w.shape.frame.originals_from w.shape.original_count in
+    let most_too = given_row_count-most w.memory.marks.items w.shape.frame.recovery_from w.shape.recovery_count in
+    omega (arith, most, most_too, w.originals_counted, w.recovery_counted, w.recovery_rows)
 
 pub invariant_of-rows-3 : goal.invariant_of-rows-3
 invariant_of-rows-3 g c =
     let old = c.args.rows.now in
     let s = old.shape in
     let marks = c.end_marks.new.marks in
-    let are = with_items_is c.restore.new.memory.marks marks (omega (arith, c.end_marks.auto.marks, c.as_mut_slice.ensures.len)) in
+    let are = with_items_is c.restore-agrees.new.memory.marks marks (omega (arith, c.end_marks.auto.marks, c.as_mut_slice.ensures.len)) in
     let none = none_after s.frame.originals_from s.original_count c.as_mut_slice.result.now marks c.end_marks.auto.marks c.end_marks.ensures in
     let empty = subst (λ (ms : List Mark). (p : ℕ) → is_given (mark_at ms p) ≡ false) (sym are) none in
-    let room = c.restore.ensures.room in
+    let room = c.restore-agrees.ensures.room in
     let chunk_room = ap (λ r. r.chunks) room in
     let mark_room = ap (λ r. r.rows) room in
-    let same_marks = ap length c.restore.ensures.marks in
+    let same_marks = ap length c.restore-agrees.ensures.marks in
     record {
       positive = old.positive;
       even = old.even;
@@ -29,13 +60,14 @@ invariant_of-rows-3 g c =
       original_rows = old.original_rows;
       recovery_rows = old.recovery_rows;
       apart = old.apart;
-      whole = omega (arith, old.whole, c.restore.ensures.length);
+      whole = omega (arith, old.whole, c.restore-agrees.ensures.length);
       own_chunks = omega (arith, old.own_chunks, chunk_room);
       sized = old.sized;
       marked = omega (arith, old.marked, same_marks);
       own_marks = omega (arith, old.own_marks, mark_room);
       originals_counted = sym (given_row_count-nothing _ s.frame.originals_from s.original_count (λ i inside. empty (s.frame.originals_from + i)));
       recovery_counted = sym (given_row_count-nothing _ s.frame.recovery_from s.recovery_count (λ i inside. empty (s.frame.recovery_from + i)));
+      placed = λ p _ _. empty p;
       shards = λ p given. absurd (let no : true ≡ false = sym given ∙ empty p in let never : ⊥ = cc in never);
     }
 
@@ -43,21 +75,25 @@ pub returns-clause-state : goal.returns-clause-state
 returns-clause-state g c = λ rate.
     let s = c.args.rows.now.shape in
     let marks = c.end_marks.new.marks in
-    let are = with_items_is c.restore.new.memory.marks marks (omega (arith, c.end_marks.auto.marks, c.as_mut_slice.ensures.len)) in
+    let are = with_items_is c.restore-agrees.new.memory.marks marks (omega (arith, c.end_marks.auto.marks, c.as_mut_slice.ensures.len)) in
     let none = none_after s.frame.originals_from s.original_count c.as_mut_slice.result.now marks c.end_marks.auto.marks c.end_marks.ensures in
-    nothing-given rate s _ c.restore.new.memory.chunks.items (subst (λ (ms : List Mark). (p : ℕ) → is_given (mark_at ms p) ≡ false) (sym are) none)
+    nothing-given rate s _ c.restore-agrees.new.memory.chunks.items (subst (λ (ms : List Mark). (p : ℕ) → is_given (mark_at ms p) ≡ false) (sym are) none)
 
-pub returns-clause-restored : goal.returns-clause-restored
-returns-clause-restored g c = λ rate.
+pub returns-clause-answer : goal.returns-clause-answer
+returns-clause-answer g c = λ rate valid shaped.
     let old = c.args.rows.now in
     let s = old.shape in
     let from = s.frame.originals_from in
+    let before = old.memory.chunks.items in
+    let given = old.memory.marks.items in
     let marks = c.end_marks.new.marks in
-    let chunks = c.restore.new.memory.chunks.items in
-    let are = with_items_is c.restore.new.memory.marks marks (omega (arith, c.end_marks.auto.marks, c.as_mut_slice.ensures.len)) in
-    let same = c.as_mut_slice.ensures.value ∙ c.restore.ensures.marks in
+    let chunks = c.restore-agrees.new.memory.chunks.items in
+    let are = with_items_is c.restore-agrees.new.memory.marks marks (omega (arith, c.end_marks.auto.marks, c.as_mut_slice.ensures.len)) in
+    let same = c.as_mut_slice.ensures.value ∙ c.restore-agrees.ensures.marks in
     let count = ap length same in
-    let restored = λ (i : ℕ) (inside : i < s.original_count).
+    let most = given_row_count-most given from s.original_count in
+    let most_too = given_row_count-most given s.frame.recovery_from s.recovery_count in
+    let marked = λ (i : ℕ) (inside : i < s.original_count).
     ap is_restored
     (c.end_marks.ensures (from + i) (omega (arith, count, inside, old.original_rows, old.marked))
     ∙ ap (λ (ms : List Mark). mark_after from s.original_count (from + i) (mark_at ms (from + i))) same)
@@ -65,5 +101,29 @@ returns-clause-restored g c = λ rate.
     let sized = λ (i : ℕ) (inside : i < s.original_count).
     subst (λ (xs : Chunks). IsShard s.shard_bytes (shard_in_order xs s.shard_bytes (from + i))) c.as_slice.ensures.value
     (c.in_order_are_bytes.ensures (from + i) (omega (arith, inside, old.original_rows))) in
-    subst (λ (ms : List Mark). FillsMissing (decoder_state rate old) (restored_shards ms chunks s.shard_bytes from s.original_count)) (sym are)
-    (fills-missing (decoder_state rate old) old.memory.marks.items marks old.memory.chunks.items chunks from refl restored sized)
+    let told : ((c.restore-agrees.result ≡ true) × (c.if-agrees.answer ≡ Ok tt))
+    ⊎ ((c.restore-agrees.result ≡ false) × (c.if-agrees.answer ≡ Err (InconsistentShards c.args.rows.now.originals_given c.args.rows.now.recovery_given))) =
+    elim c.if-agrees.branch [ then-agrees w ↦ inl (w.if-agrees.true, w.answer-is) | else-agrees w ↦ inr (w.if-agrees.false, w.answer-is) ] in
+    let over : AnswersOver rate c.args.rows.now.shape c.args.rows.now.memory.marks.items c.end_marks.new.marks c.args.rows.now.memory.chunks.items c.restore-agrees.new.memory.chunks.items c.restore-agrees.result =
+    elim (cases_eq (s.original_count - old.originals_given + (old.originals_given + old.recovery_given - s.original_count)) 0) [
+      | inl none ↦
+          subst (λ b. AnswersOver rate s given marks before chunks b) (sym (c.restore-agrees.ensures.nothing (omega arith) (omega arith)))
+          (complete_answers rate s given marks before chunks valid shaped old.even old.shards
+          (omega (arith, none, most, most_too, c.requires.enough, old.originals_counted, old.recovery_counted))
+          (omega (arith, none, most, most_too, c.requires.enough, old.originals_counted, old.recovery_counted)) marked)
+      | inr some ↦
+          let made = c.restore-agrees.ensures.restored (omega arith) in
+          decode_answers rate s given marks made.0 (old.originals_given + old.recovery_given - s.original_count) before chunks c.restore-agrees.result valid shaped
+          (record {
+            even = old.even;
+            placed = old.placed;
+            shards = old.shards;
+            counted = omega (arith, c.requires.enough, old.originals_counted, old.recovery_counted);
+            is_locator = made.1;
+            restores = made.2;
+            marked = marked;
+            sized = sized;
+          })
+    ] in
+    subst (λ (ms : List Mark). MatchResult c.if-agrees.answer (λ _. Restored (decoder_state rate old) (restored_over s ms chunks)) (NoneAgrees (decoder_state rate old))) (sym are)
+    (told_answer rate s given marks before chunks old.originals_given old.recovery_given c.restore-agrees.result c.if-agrees.answer told old.originals_counted old.recovery_counted over)

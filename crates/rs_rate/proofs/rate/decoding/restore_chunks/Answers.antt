@@ -1,13 +1,21 @@
-use Rattle.std.proofs.Common.{◌+◌, length, arith}
-use Rattle.rs_rate.proofs.ShardRowsLemmas.{chunk_count-is, chunk_count-within}
+use Rattle.std.proofs.Common.{◌+◌, ap, ◌∙◌, arith}
+use Rattle.rs_field.specs.Column.{column}
+use Rattle.rs_field.specs.Layout.{row_len}
+use Rattle.rs_rate.specs.ShardRows.{word_in}
+use Rattle.rs_rate.proofs.ShardRowsLemmas.{chunk_count-is, column-put}
 use Rattle.rs_rate.proofs.rate.decoding.restore_chunks.Goals as goal
 
-pub restore_words-requires-clause-whole : goal.restore_words-requires-clause-whole
-restore_words-requires-clause-whole g c =
-    let is = chunk_count-is c.args.shape.frame.row_count c.args.shape.shard_bytes in omega (arith, is, c.requires.whole)
+pub restore_words-agrees-requires-clause-whole : goal.restore_words-agrees-requires-clause-whole
+restore_words-agrees-requires-clause-whole g c =
+    let is = chunk_count-is c.args.round.shape.frame.row_count c.args.round.shape.shard_bytes in omega (arith, is, c.requires.whole)
 
-pub move_tail-requires-clause-room : goal.move_tail-requires-clause-room
-move_tail-requires-clause-room g c =
-    let row = c.args.shape.frame.originals_from + c.loop-i.i in
-    let within = chunk_count-within row c.args.shape.frame.row_count c.args.shape.shard_bytes (length c.args.chunks.now) (omega (arith, c.loop-i-test.true, c.requires.originals)) c.requires.whole in
-    omega (arith, within, c.loop-i.auto.chunks, c.restore_words.auto.chunks)
+pub returns-then-agrees-clause-shards : goal.returns-then-agrees-clause-shards
+returns-then-agrees-clause-shards g c =
+    let s = c.args.round.shape in
+    let mid = c.restore_words-agrees.new.chunks in
+    record {
+      words = word_in mid (row_len s.shard_bytes);
+      restored = c.restore_words-agrees.ensures.words;
+      shards = λ _ i j inside hj none.
+          ap (column j) (c.move_missing_tails.ensures.moved i inside none) ∙ column-put mid s.shard_bytes (s.frame.originals_from + i) j c.args.round.even hj;
+    }

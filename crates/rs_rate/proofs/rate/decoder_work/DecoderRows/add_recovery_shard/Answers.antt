@@ -1,4 +1,4 @@
-use Rattle.std.proofs.Common.{◌≡◌, ◌≢◌, ℕ, ◌+◌, List, length, sym, ap, ap₂, subst, ◌∙◌, arith}
+use Rattle.std.proofs.Common.{◌≡◌, ◌≢◌, ℕ, ◌+◌, List, length, sym, ap, ap₂, subst, ◌∙◌, arith, inl, inr}
 use Rattle.rs_field.specs.Given.{Shards}
 use Rattle.rs_field.specs.Outcome.{answer_of, state_after}
 use Rattle.rs_rate.specs.ShardRows.{chunk_count, shard_laid_out}
@@ -94,6 +94,9 @@ invariant_of-self c =
           let same = given_row_count-kept w.memory.marks.items c.enter.new.self.marks.items w.shape.frame.originals_from w.shape.original_count
           (λ i inside. c.enter.ensures.other_marks (w.shape.frame.originals_from + i) (λ same. w.apart i c.args.index inside c.if-index-self.false same)) in
           omega (arith, same, w.originals_counted);
+      placed = λ p not_own not_coded.
+          let apart : p ≢ row = (let other = not_coded in λ same. elim other [ inl before ↦ omega arith | inr past ↦ omega (arith, c.if-index-self.false) ]) in
+          ap is_given (c.enter.ensures.other_marks p apart) ∙ w.placed p not_own not_coded;
       shards = λ p given.
           shard-entered w.memory.chunks.items c.enter.new.self.chunks.items w.shape.shard_bytes row (length c.args.recovery_shard.now) p c.args.recovery_shard.now
           c.if-recovery_shard-self.false c.enter.ensures.shard c.enter.ensures.here c.enter.ensures.others

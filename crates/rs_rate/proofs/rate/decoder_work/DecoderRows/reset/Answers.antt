@@ -24,6 +24,7 @@ invariant_of-self-2 c =
       own_marks = omega (arith, room.1, grown.rows);
       originals_counted = sym (given_row_count-nothing marks s.frame.originals_from s.original_count (λ i inside. empty (s.frame.originals_from + i)));
       recovery_counted = sym (given_row_count-nothing marks s.frame.recovery_from s.recovery_count (λ i inside. empty (s.frame.recovery_from + i)));
+      placed = λ p not_own not_coded. empty p;
       shards = λ p given. absurd (let no : true ≡ false = sym given ∙ empty p in let never : ⊥ = cc in never);
     }
 
