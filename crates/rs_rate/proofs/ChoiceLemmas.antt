@@ -1,5 +1,5 @@
 -- The default rate's supported counts, and its choice.
-use Rattle.std.proofs.Common.{◌≡◌, ◌≢◌, ℕ, zero, suc, ◌+◌, ◌<◌, ◌≤◌, ◌==◌, true, false, min, max, refl, sym, ap, ◌∙◌, arith, inl, inr}
+use Rattle.std.proofs.Common.{◌≡◌, ◌≢◌, ℕ, ◌+◌, ◌<◌, ◌≤◌, ◌==◌, true, false, min, max, refl, sym, ◌∙◌, arith, inl, inr}
 use Rattle.std.specs.Prelude.{nat_le, nat_lt, ◌&&◌, ◌||◌}
 use Rattle.std.proofs.lemmas.Bool.{cases_lt, lt-leb, lt-ltb, le-ltb, eq-eqb, ne_eqb}
 use Rattle.std.proofs.Math.Bool.{and-false}
@@ -18,12 +18,6 @@ default_too_many k r more =
 
 default_not_supported : (k r : ℕ) → 65536 < max k r → supports default_rate k r ≡ false
 default_not_supported k r more = default_too_many k r (omega arith)
-
-default_no_originals : (r : ℕ) → supports default_rate 0 r ≡ false
-default_no_originals r = default_test 0 r
-
-default_no_recovery : (k : ℕ) → supports default_rate k 0 ≡ false
-default_no_recovery k = default_test k 0 ∙ ap (λ b. b && nat_le (min (next_power k) (next_power 0) + max k 0) 65536) (and-false (nat_lt 0 k))
 
 -- the default rate's choice by the two powers
 pub low_by_powers : (k r p q : ℕ) → p ≡ next_power k → q ≡ next_power r → is_low default_rate k r ≡ (nat_lt p q || (p == q && nat_lt r k))
@@ -47,42 +41,3 @@ low_where_more k r p q powers_k powers_r most other =
 pub default_small : (k r : ℕ) → supports default_rate k r ≡ true → max k r ≤ 65536
 default_small k r is =
     elim (cases_lt 65536 (max k r)) [ inl more ↦ absurd (let no = sym (default_not_supported k r more) ∙ is in let never : ⊥ = cc in never) | inr small ↦ small ]
-
--- what it means that the default rate supports the counts
-pub default_fits : (k r : ℕ) → supports default_rate k r ≡ true → (0 < k) × (0 < r) × (min (next_power k) (next_power r) + max k r ≤ 65536)
-default_fits k r is =
-    let fits : min (next_power k) (next_power r) + max k r ≤ 65536 = elim (cases_lt 65536 (min (next_power k) (next_power r) + max k r)) [
-      | inl more ↦
-          let no : false ≡ true = sym (default_too_many k r more) ∙ is in
-          absurd (let never : ⊥ = cc in never)
-      | inr fit ↦ fit
-    ] in
-    (some_originals k is, some_recovery r is, fits)
-  where
-    some_originals : (n : ℕ) → supports default_rate n r ≡ true → 0 < n
-    some_originals zero h = absurd (let no : false ≡ true = sym (default_no_originals r) ∙ h in let never : ⊥ = cc in never)
-    some_originals (suc n) h = omega arith
-
-    some_recovery : (n : ℕ) → supports default_rate k n ≡ true → 0 < n
-    some_recovery zero h = absurd (let no : false ≡ true = sym (default_no_recovery k) ∙ h in let never : ⊥ = cc in never)
-    some_recovery (suc n) h = omega arith
-
--- where the default rate is the low rate, k's power is not above r's; else r's is not above k's
-pub low_powers : (k r : ℕ) → is_low default_rate k r ≡ true → next_power k ≤ next_power r
-low_powers k r low =
-    elim (cases_lt (next_power r) (next_power k)) [
-      | inl more ↦
-          let other : next_power k ≢ next_power r = λ same. (let no : ⊥ = omega arith in no) in
-          let not_low = low_where_more k r (next_power k) (next_power r) refl refl (omega arith) other in
-          absurd (let no : false ≡ true = sym (ne_eqb (next_power k) (next_power r) other) ∙ not_low ∙ low in let never : ⊥ = cc in never)
-      | inr most ↦ most
-    ]
-
-pub high_powers : (k r : ℕ) → is_low default_rate k r ≡ false → next_power r ≤ next_power k
-high_powers k r high =
-    elim (cases_lt (next_power k) (next_power r)) [
-      | inl less ↦
-          let low = low_where_less k r (next_power k) (next_power r) refl refl less in
-          absurd (let no : true ≡ false = sym (lt-ltb (next_power k) (next_power r) less) ∙ low ∙ high in let never : ⊥ = cc in never)
-      | inr most ↦ most
-    ]

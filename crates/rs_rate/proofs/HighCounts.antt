@@ -7,7 +7,8 @@ use Rattle.std.proofs.lemmas.Nat.{pow_pos, div-add-mod'}
 use Rattle.rs_field.specs.Counts.{next_power, supports, is_low, low_rate, high_rate}
 use Rattle.rs_field.specs.Placement.{encoder_rows}
 use Rattle.rs_field.proofs.NextPower.{next_power-small}
-use Rattle.rs_rate.proofs.PowerLemmas.{low_fits, low_small, low_rows-enough, rounded_up-low, multiple_least, multiple_room}
+use Rattle.rs_field.proofs.SupportedCounts.{low_fits}
+use Rattle.rs_rate.proofs.PowerLemmas.{low_small, low_rows-enough, rounded_up-low, multiple_least, multiple_room}
 
 swapped : (a b : Bool) → (a && b) ≡ (b && a)
 swapped true true = refl
@@ -23,10 +24,6 @@ high_turned k r = ap (λ b. b && nat_le (next_power r + k) 65536) (swapped (nat_
 pub high_rows : (k r : ℕ) → encoder_rows low_rate r k ≡ encoder_rows high_rate k r
 unfolding encoder_rows is_low
 high_rows k r = refl
-
--- what it means that the high rate supports the counts
-pub high_fits : (k r : ℕ) → supports high_rate k r ≡ true → (0 < r) × (0 < k) × (next_power r + k ≤ 65536)
-high_fits k r is = low_fits r k (high_turned k r ∙ is)
 
 -- counts that the high rate supports are small
 pub high_small : (k r : ℕ) → supports high_rate k r ≡ true → r ≤ 65536

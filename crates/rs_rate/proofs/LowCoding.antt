@@ -11,8 +11,8 @@ use Rattle.rs_field.specs.Layout.{up_to}
 use Rattle.rs_field.proofs.Combination.{forward-same, forward-moved}
 use Rattle.rs_field.proofs.Coefficients.{polynomial_of_terms}
 use Rattle.rs_field.proofs.LayoutLemmas.{get-up_to}
+use Rattle.rs_field.proofs.SupportedCounts.{low_fits}
 use Rattle.rs_rate.specs.Coding.{CodesLow, CodesWords}
-use Rattle.rs_rate.proofs.PowerLemmas.{low_fits}
 
 -- a transform at a shift takes its values from there on
 from_start : (n shift : ℕ) (f : ℕ → ℕ) (i : ℕ) → forward n shift f i ≡ forward n 0 f (shift + i)

@@ -1,7 +1,7 @@
 -- Powers of two, and counts that a rate supports.
 use Rattle.std.proofs.Common.{◌≡◌, ℕ, ◌+◌, ◌-◌, ◌*◌, ◌/◌, ◌%◌, ◌^◌, ◌<◌, ◌≤◌, true, false, refl, sym, ap, ◌∙◌, arith, inl, inr}
 use Rattle.std.specs.Prelude.{nat_le, nat_lt, ◌&&◌}
-use Rattle.std.proofs.lemmas.Bool.{and_parts, cases_lt, le-leb, lt-leb, lt-ltb, leb-true, ltb-true}
+use Rattle.std.proofs.lemmas.Bool.{cases_lt, le-leb, lt-leb, lt-ltb}
 use Rattle.std.proofs.lemmas.Nat.{pow_pos, pow-add, div-add-mod'}
 use Rattle.std.proofs.Math.Nat.{div-eq_of_lt-le, mod-eq_of_lt, mul-le-mul_right}
 use Rattle.std.specs.Int.{next_multiple_of}
@@ -9,6 +9,7 @@ use Rattle.std.proofs.Math.Bool.{and-false}
 use Rattle.rs_field.proofs.NextPower.{next_power-small, next_power-large}
 use Rattle.rs_field.specs.Counts.{next_power, supports, is_low, low_rate}
 use Rattle.rs_field.specs.Placement.{rounded_up, encoder_rows}
+use Rattle.rs_field.proofs.SupportedCounts.{low_fits}
 
 low_test : (k r : ℕ) → supports low_rate k r ≡ (nat_lt 0 k && nat_lt 0 r && nat_le (next_power k + r) 65536)
 unfolding supports
@@ -19,13 +20,6 @@ low_supported k r some_k some_r fit = low_test k r ∙ rw (lt-ltb 0 k some_k, lt
 
 pub low_not_supported : (k r : ℕ) → 65536 < next_power k + r → supports low_rate k r ≡ false
 low_not_supported k r more = low_test k r ∙ rw (lt-leb (next_power k + r) 65536 more) (and-false (nat_lt 0 k && nat_lt 0 r))
-
--- what it means that the low rate supports the counts
-pub low_fits : (k r : ℕ) → supports low_rate k r ≡ true → (0 < k) × (0 < r) × (next_power k + r ≤ 65536)
-low_fits k r is =
-    let tests = and_parts (nat_lt 0 k && nat_lt 0 r) (nat_le (next_power k + r) 65536) (sym (low_test k r) ∙ is) in
-    let some = and_parts (nat_lt 0 k) (nat_lt 0 r) tests.0 in
-    (ltb-true 0 k some.0, ltb-true 0 r some.1, leb-true (next_power k + r) 65536 tests.1)
 
 -- the multiple of m that is not below n and below n + m is n rounded up
 pub rounded_up-is : (n m result : ℕ) → 0 < m → n ≤ result → result < n + m → result % m ≡ 0 → result ≡ rounded_up n m

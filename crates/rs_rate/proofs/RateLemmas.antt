@@ -5,6 +5,7 @@ use Rattle.rs_field.specs.Counts.{Rate, next_power, supports, is_low, low_rate, 
 use Rattle.rs_field.specs.Placement.{Placement, placement, low_placement, high_placement, rounded_up, encoder_rows, block_rows, decoder_rows}
 use Rattle.rs_field.specs.Polynomial.{value}
 use Rattle.rs_field.specs.Code.{Codes, AreRecoveryWords}
+use Rattle.rs_field.proofs.SupportedCounts.{default_fits, high_fits, high_powers, low_powers}
 use Rattle.rs_rate.specs.declared.rate.decoder_work.Frame.{Frame}
 use Rattle.rs_rate.specs.declared.rate.encoder_work.EncoderShape.{EncoderShape}
 use Rattle.rs_rate.specs.EncoderView.{encoder_shape, shape_chunks}
@@ -12,8 +13,7 @@ use Rattle.rs_rate.specs.ShardRows.{chunk_count}
 use Rattle.rs_rate.specs.DecoderView.{frame_of}
 use Rattle.rs_field.proofs.NextPower.{next_power-small}
 use Rattle.rs_rate.proofs.PowerLemmas.{low_supported}
-use Rattle.rs_rate.proofs.HighCounts.{high_turned, high_fits}
-use Rattle.rs_rate.proofs.ChoiceLemmas.{default_fits, low_powers, high_powers}
+use Rattle.rs_rate.proofs.HighCounts.{high_turned}
 use Rattle.rs_rate.proofs.DecoderRows.{low_frame-power}
 
 -- the frame of a decoder of the high rate, written out

@@ -1,9 +1,9 @@
 //! What a rate brings: the counts that it supports, and at which of them it is the low rate.
-ghost use Rattle.std.specs.Prelude.{◌≡◌, ◌≢◌, ℕ, ◌+◌, ◌%◌, ◌<◌, ◌≤◌, true, Ok};
+ghost use Rattle.std.specs.Prelude.{◌≡◌, ◌≢◌, ◌+◌, ◌%◌, ◌<◌, ◌≤◌, true, Ok};
 ghost use Rattle.rs_field.specs.Counts.{Rate as WhichRate, low_rate, high_rate, default_rate, supports as supports_counts, is_low as is_low_at};
 ghost use Rattle.rs_field.specs.Configuration.{configuration, validated};
-ghost use Rattle.rs_rate.specs.EncoderView.{configuration_of, encoder_shape as encoder_shape_of};
-ghost use Rattle.rs_rate.specs.DecoderView.{decoder_shape as decoder_shape_of};
+ghost use Rattle.rs_rate.specs.EncoderView.{CanBeLaid as EncoderCanBeLaid, configuration_of, encoder_shape as encoder_shape_of};
+ghost use Rattle.rs_rate.specs.DecoderView.{CanBeLaid as DecoderCanBeLaid, decoder_shape as decoder_shape_of};
 
 use crate::rate::Rate;
 use crate::rate::counts::{
@@ -141,10 +141,7 @@ pub(crate) fn encoder_shape<C: Code>(
     requires { validated (configuration C.rate original_count recovery_count shard_bytes) ≡ Ok tt }
     ensures shape { result ≡ encoder_shape_of C.rate original_count recovery_count shard_bytes }
     ensures configuration { configuration_of C.rate result ≡ configuration C.rate original_count recovery_count shard_bytes }
-    ensures positive { 0 < result.shard_bytes }
-    ensures even { result.shard_bytes % 2 ≡ 0 }
-    ensures originals { result.original_count ≤ result.row_count }
-    ensures recovery { result.recovery_count ≤ result.row_count }
+    ensures laid { EncoderCanBeLaid result }
 {
     if C::is_low(original_count, recovery_count) {
         low_encoder_shape(original_count, recovery_count, shard_bytes)
@@ -161,12 +158,7 @@ pub(crate) fn decoder_shape<C: Code>(
 ) -> DecoderShape
     requires { validated (configuration C.rate original_count recovery_count shard_bytes) ≡ Ok tt }
     ensures shape { result ≡ decoder_shape_of C.rate original_count recovery_count shard_bytes }
-    ensures positive { 0 < result.shard_bytes }
-    ensures even { result.shard_bytes % 2 ≡ 0 }
-    ensures few { result.frame.row_count ≤ 65536 }
-    ensures originals { result.frame.originals_from + result.original_count ≤ result.frame.row_count }
-    ensures recovery { result.frame.recovery_from + result.recovery_count ≤ result.frame.row_count }
-    ensures apart { (i j : ℕ) → i < result.original_count → j < result.recovery_count → result.frame.originals_from + i ≢ result.frame.recovery_from + j }
+    ensures laid { DecoderCanBeLaid result }
 {
     let frame = if C::is_low(original_count, recovery_count) {
         low_frame(original_count, recovery_count)

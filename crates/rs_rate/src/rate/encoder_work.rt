@@ -67,7 +67,7 @@ impl Default for EncoderWork {
 }
 
 impl EncoderRows {
-    ghost use Rattle.rs_rate.specs.EncoderView.{encoder_state, shape_chunks, work_room};
+    ghost use Rattle.rs_rate.specs.EncoderView.{CanBeLaid, encoder_state, shape_chunks, work_room};
 
     // Rows with nothing given, in the memory of `work` where one is passed.
     pub(crate) fn new(
@@ -75,10 +75,7 @@ impl EncoderRows {
         shape: EncoderShape,
         work: Option<EncoderWork>,
     ) -> Result<EncoderRows, Error>
-        requires positive { 0 < shape.shard_bytes }
-        requires even { shape.shard_bytes % 2 ≡ 0 }
-        requires originals { shape.original_count ≤ shape.row_count }
-        requires recovery { shape.recovery_count ≤ shape.row_count }
+        requires { CanBeLaid shape }
         ensures made { IfOk result (λ x. (x.shape ≡ shape) × (x.originals_given ≡ 0)) }
         ensures memory { IfErr result (λ e. e ≡ Error.OutOfMemory) }
         ensures fits { IfOk result (λ _. shape_chunks shape * 64 < 2 ^ 64) }
@@ -101,10 +98,7 @@ impl EncoderRows {
 
     // The rows of another shape, with nothing given: growth first.
     pub(crate) fn reset(&mut self, shape: EncoderShape) -> Result<(), Error>
-        requires positive { 0 < shape.shard_bytes }
-        requires even { shape.shard_bytes % 2 ≡ 0 }
-        requires originals { shape.original_count ≤ shape.row_count }
-        requires recovery { shape.recovery_count ≤ shape.row_count }
+        requires { CanBeLaid shape }
         ensures ok { OnOk result ((self.new.shape ≡ shape) × (self.new.originals_given ≡ 0)) }
         ensures err { OnErr result ((self.new.shape ≡ self.old.shape) × (self.new.originals_given ≡ self.old.originals_given) × (self.new.chunks.items ≡ self.old.chunks.items)) }
         ensures memory { IfErr result (λ e. e ≡ Error.OutOfMemory) }

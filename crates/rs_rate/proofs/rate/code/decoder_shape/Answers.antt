@@ -27,14 +27,14 @@ returns-else-is_low-clause-shape g c =
     ap (λ (f : Frame). let shape : DecoderShape = record { original_count = k; recovery_count = r; shard_bytes = c.args.shard_bytes; frame = f } in shape)
     (c.high_frame-frame.ensures.frame ∙ frame_alike high_rate g.C.Code.rate k r (high_is k r ∙ sym c.if-is_low.false ∙ c.is_low.ensures))
 
-pub returns-then-is_low-clause-positive : goal.returns-then-is_low-clause-positive
-returns-then-is_low-clause-positive g c = (valid-size (configuration g.C.Code.rate c.args.original_count c.args.recovery_count c.args.shard_bytes) c.requires).0
+pub returns-then-is_low-clause-laid : goal.returns-then-is_low-clause-laid
+returns-then-is_low-clause-laid g c =
+    let size = valid-size (configuration g.C.Code.rate c.args.original_count c.args.recovery_count c.args.shard_bytes) c.requires in
+    let frame = c.low_frame-frame.ensures in
+    record { positive = size.0; even = size.1; few = frame.few; original_rows = frame.originals; recovery_rows = frame.recovery; apart = frame.apart }
 
-pub returns-then-is_low-clause-even : goal.returns-then-is_low-clause-even
-returns-then-is_low-clause-even g c = (valid-size (configuration g.C.Code.rate c.args.original_count c.args.recovery_count c.args.shard_bytes) c.requires).1
-
-pub returns-else-is_low-clause-positive : goal.returns-else-is_low-clause-positive
-returns-else-is_low-clause-positive g c = (valid-size (configuration g.C.Code.rate c.args.original_count c.args.recovery_count c.args.shard_bytes) c.requires).0
-
-pub returns-else-is_low-clause-even : goal.returns-else-is_low-clause-even
-returns-else-is_low-clause-even g c = (valid-size (configuration g.C.Code.rate c.args.original_count c.args.recovery_count c.args.shard_bytes) c.requires).1
+pub returns-else-is_low-clause-laid : goal.returns-else-is_low-clause-laid
+returns-else-is_low-clause-laid g c =
+    let size = valid-size (configuration g.C.Code.rate c.args.original_count c.args.recovery_count c.args.shard_bytes) c.requires in
+    let frame = c.high_frame-frame.ensures in
+    record { positive = size.0; even = size.1; few = frame.few; original_rows = frame.originals; recovery_rows = frame.recovery; apart = frame.apart }

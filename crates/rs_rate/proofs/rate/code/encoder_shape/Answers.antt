@@ -27,18 +27,28 @@ pub returns-then-is_low-clause-configuration : goal.returns-then-is_low-clause-c
 returns-then-is_low-clause-configuration g c =
     let counts = c.low_encoder_shape.ensures.configuration in rw (counts.0, counts.1, counts.2) refl
 
-pub returns-then-is_low-clause-positive : goal.returns-then-is_low-clause-positive
-returns-then-is_low-clause-positive g c = let size = (valid-size (configuration g.C.Code.rate c.args.original_count c.args.recovery_count c.args.shard_bytes) c.requires) in omega (arith, size.0, c.low_encoder_shape.ensures.configuration.2)
-
-pub returns-then-is_low-clause-even : goal.returns-then-is_low-clause-even
-returns-then-is_low-clause-even g c = ap (λ n. n % 2) c.low_encoder_shape.ensures.configuration.2 ∙ (valid-size (configuration g.C.Code.rate c.args.original_count c.args.recovery_count c.args.shard_bytes) c.requires).1
-
 pub returns-else-is_low-clause-configuration : goal.returns-else-is_low-clause-configuration
 returns-else-is_low-clause-configuration g c =
     let counts = c.high_encoder_shape.ensures.configuration in rw (counts.0, counts.1, counts.2) refl
 
-pub returns-else-is_low-clause-positive : goal.returns-else-is_low-clause-positive
-returns-else-is_low-clause-positive g c = let size = (valid-size (configuration g.C.Code.rate c.args.original_count c.args.recovery_count c.args.shard_bytes) c.requires) in omega (arith, size.0, c.high_encoder_shape.ensures.configuration.2)
+pub returns-then-is_low-clause-laid : goal.returns-then-is_low-clause-laid
+returns-then-is_low-clause-laid g c =
+    let size = valid-size (configuration g.C.Code.rate c.args.original_count c.args.recovery_count c.args.shard_bytes) c.requires in
+    let made = c.low_encoder_shape.ensures in
+    record {
+      positive = omega (arith, size.0, made.configuration.2);
+      even = ap (λ n. n % 2) made.configuration.2 ∙ size.1;
+      originals = omega (arith, made.originals, made.configuration.0);
+      recovery = omega (arith, made.recovery, made.configuration.1);
+    }
 
-pub returns-else-is_low-clause-even : goal.returns-else-is_low-clause-even
-returns-else-is_low-clause-even g c = ap (λ n. n % 2) c.high_encoder_shape.ensures.configuration.2 ∙ (valid-size (configuration g.C.Code.rate c.args.original_count c.args.recovery_count c.args.shard_bytes) c.requires).1
+pub returns-else-is_low-clause-laid : goal.returns-else-is_low-clause-laid
+returns-else-is_low-clause-laid g c =
+    let size = valid-size (configuration g.C.Code.rate c.args.original_count c.args.recovery_count c.args.shard_bytes) c.requires in
+    let made = c.high_encoder_shape.ensures in
+    record {
+      positive = omega (arith, size.0, made.configuration.2);
+      even = ap (λ n. n % 2) made.configuration.2 ∙ size.1;
+      originals = omega (arith, made.originals, made.configuration.0);
+      recovery = omega (arith, made.recovery, made.configuration.1);
+    }

@@ -2,7 +2,8 @@ use Rattle.std.proofs.Common.{◌+◌, min, sym, ap, ap₂, ◌∙◌, true≢fa
 use Rattle.std.specs.Prelude.{nat_le}
 use Rattle.std.proofs.lemmas.Bool.{false_from_ne_true}
 use Rattle.rs_field.specs.Counts.{supports, default_rate}
-use Rattle.rs_rate.proofs.ChoiceLemmas.{default_fits, default_supported}
+use Rattle.rs_field.proofs.SupportedCounts.{default_fits}
+use Rattle.rs_rate.proofs.ChoiceLemmas.{default_supported}
 use Rattle.rs_rate.proofs.rate.counts.default_supports.Goals as goal
 
 pub returns-then-not-are_in_field : goal.returns-then-not-are_in_field

@@ -1,8 +1,9 @@
 use Rattle.std.proofs.Common.{ℕ, sym, ap, ap₂, ◌∙◌, arith}
 use Rattle.rs_field.specs.Placement.{rounded_up}
+use Rattle.rs_field.proofs.SupportedCounts.{high_fits}
 use Rattle.rs_rate.specs.declared.rate.encoder_work.EncoderShape.{EncoderShape}
 use Rattle.rs_rate.proofs.PowerLemmas.{rounded_up-low}
-use Rattle.rs_rate.proofs.HighCounts.{high_fits, high_small}
+use Rattle.rs_rate.proofs.HighCounts.{high_small}
 use Rattle.rs_rate.proofs.RateLemmas.{high_shape-is}
 use Rattle.rs_rate.proofs.rate.counts.high_encoder_shape.Goals as goal
 
@@ -26,4 +27,4 @@ returns-clause-shape c =
 pub returns-clause-recovery : goal.returns-clause-recovery
 returns-clause-recovery c =
     let fits = high_fits c.args.original_count c.args.recovery_count c.requires in
-    omega (arith, c.power_of_two-block_rows.ensures.lower_bound, c.whole_blocks.ensures.block fits.1)
+    omega (arith, c.power_of_two-block_rows.ensures.lower_bound, c.whole_blocks.ensures.block fits.0)

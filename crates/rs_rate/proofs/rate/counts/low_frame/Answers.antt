@@ -1,7 +1,8 @@
 use Rattle.std.proofs.Common.{◌+◌, sym, ap, ap₂, ◌∙◌, ℕ, arith}
 use Rattle.rs_field.specs.Counts.{next_power}
+use Rattle.rs_field.proofs.SupportedCounts.{low_fits}
 use Rattle.rs_rate.specs.declared.rate.decoder_work.Frame.{Frame}
-use Rattle.rs_rate.proofs.PowerLemmas.{low_fits, low_small}
+use Rattle.rs_rate.proofs.PowerLemmas.{low_small}
 use Rattle.rs_rate.proofs.DecoderRows.{low_frame-is}
 use Rattle.rs_rate.proofs.rate.counts.low_frame.Goals as goal
 

@@ -6,8 +6,9 @@ use Rattle.rs_field.specs.Bounds.{transform_steps, encode_steps_at}
 use Rattle.rs_field.specs.Counts.{high_rate}
 use Rattle.rs_field.proofs.Combination.{forward-same}
 use Rattle.rs_field.proofs.Recursion.{fits_kept}
+use Rattle.rs_field.proofs.SupportedCounts.{high_fits}
 use Rattle.rs_rate.specs.Coding.{SumsBlocks, further_blocks}
-use Rattle.rs_rate.proofs.HighCounts.{high_fits, high_rows-fit}
+use Rattle.rs_rate.proofs.HighCounts.{high_rows-fit}
 use Rattle.rs_rate.proofs.HighCoding.{high_coded}
 use Rattle.rs_rate.proofs.EncodeCounting.{counts_both, high_total}
 use Rattle.rs_rate.proofs.rate.high_encoding.code_high.Goals as goal
@@ -18,7 +19,7 @@ sum_blocks-requires g c =
     record {
       fits = c.requires.fits;
       power = (rows.power.0, c.requires.block ∙ rows.power.1);
-      some = (high_fits c.args.original_count c.args.recovery_count c.requires.supported).1;
+      some = (high_fits c.args.original_count c.args.recovery_count c.requires.supported).0;
       enough = omega (arith, rows.enough, c.requires.rows);
       whole = rw (c.requires.rows, c.requires.block) rows.whole;
       points = omega (arith, rows.points, c.requires.rows, c.requires.block);
