@@ -4,6 +4,8 @@ pub use Rattle.rs_field.specs.Polynomial
 pub use Rattle.rs_field.specs.Subspace
 pub use Rattle.rs_field.specs.Transform
 pub use Rattle.rs_field.specs.Tables
+pub use Rattle.rs_field.specs.Locator
+pub use Rattle.rs_field.specs.Walsh
 pub use Rattle.rs_field.specs.Rows
 pub use Rattle.rs_field.specs.View
 pub use Rattle.rs_field.specs.Lending
