@@ -1,12 +1,14 @@
 //! Restored originals of each rate over the plain engine.
 use crate::help::*;
 use crate::rows::{
-    HIGH_RECEIVED, LINE_LOST, LOW_RECEIVED, MIXTURE, OUTER_LOST, Received, SUMMAND_LOST,
+    HIGH_ALONE_RECEIVED, HIGH_RECEIVED, LINE_LOST, LOW_RECEIVED, MIXTURE, Message, OUTER_LOST,
+    Received, SUMMAND_LOST, THREE_IN_TWOS,
 };
 use reed_solomon_simd::Error;
 use reed_solomon_simd::engine::tables::Tables;
-use reed_solomon_simd::engine::{Naive, Steps};
+use reed_solomon_simd::engine::{Engine, Naive, Steps};
 use reed_solomon_simd::rate::{DefaultRate, HighRate, LowRate, Rate, RateDecoder};
+use std::alloc::{AllocError, Global};
 use std::process::Abort;
 use std::test::Fail;
 
@@ -35,7 +37,8 @@ fn low_rate_restores(rt: HostRuntime) -> Result<(), Fail> {
 #[test]
 fn high_rate_restores(rt: HostRuntime) -> Result<(), Fail> {
     let tables = tables_of(&rt);
-    restores_all::<HighRate<Naive<'_>>, _>(&rt, &tables, &HIGH_RECEIVED)
+    restores_all::<HighRate<Naive<'_>>, _>(&rt, &tables, &HIGH_RECEIVED)?;
+    restores_all::<HighRate<Naive<'_>>, _>(&rt, &tables, &HIGH_ALONE_RECEIVED)
 }
 
 #[test]
@@ -88,4 +91,81 @@ fn too_few_shards_can_be_completed(rt: HostRuntime) -> Result<(), Fail> {
     completes::<HighRate<Naive<'_>>, _>(&rt, &tables, &SUMMAND_LOST)?;
     completes::<DefaultRate<Naive<'_>>, _>(&rt, &tables, &LINE_LOST)?;
     completes::<DefaultRate<Naive<'_>>, _>(&rt, &tables, &MIXTURE)
+}
+
+// The first byte of a shard of two bytes in two places of a longer one, in the first chunk and in the tail; the shard's
+// last byte is `last`.
+fn spread(
+    alloc: Global,
+    shard_bytes: usize,
+    shard: &[u8],
+    last: u8,
+) -> Result<Vec<u8>, AllocError> {
+    let value = shard.first().copied().unwrap_or(0);
+    let mut long = Vec::new(alloc);
+    for place in 0..shard_bytes {
+        let from_end = shard_bytes - place;
+        long.push(match (place, from_end) {
+            (5, _) | (_, 2) => value,
+            (_, 1) => last,
+            _ => 0,
+        })?;
+    }
+    Ok(long)
+}
+
+// Gives all shards of the message but the first original. One recovery shard, if it is named, has the last byte turned.
+fn give_spread<E: Engine, X: RateDecoder<E>>(
+    alloc: Global,
+    decoder: &mut X,
+    message: &Message<'_>,
+    shard_bytes: usize,
+    turned: Option<usize>,
+) -> Result<(), Error> {
+    for (index, shard) in message.original.iter().enumerate().skip(1) {
+        let long = spread(alloc, shard_bytes, shard, 0)?;
+        decoder.add_original_shard(index, long.as_slice())?;
+    }
+    for (index, shard) in message.recovery.iter().enumerate() {
+        let last = if turned == Some(index) { 1 } else { 0 };
+        let long = spread(alloc, shard_bytes, shard, last)?;
+        decoder.add_recovery_shard(index, long.as_slice())?;
+    }
+    Ok(())
+}
+
+// More originals than recovery shards, a shard more than is needed, and a tail behind the chunks.
+fn checks_tails<'t, R: Rate<Naive<'t>>, A: Abort + AllocGlobal>(
+    rt: &A,
+    tables: &'t Tables,
+    shard_bytes: usize,
+) -> Result<(), Fail> {
+    let alloc = rt.alloc();
+    let message = &THREE_IN_TWOS;
+    let apart = Error::InconsistentShards {
+        original_received_count: 2,
+        recovery_received_count: 2,
+    };
+    let first = spread(alloc, shard_bytes, &[2, 0], 0)?;
+    let mut decoder = R::decoder(alloc, 3, 2, shard_bytes, Naive::new(tables), None)?;
+    for turned in 0..2 {
+        give_spread(alloc, &mut decoder, message, shard_bytes, Some(turned))?;
+        assert!(rt; refuses(&mut decoder, apart), "{shard_bytes} {turned}");
+        give_spread(alloc, &mut decoder, message, shard_bytes, None)?;
+        assert!(rt;
+            restores(&mut decoder, &[(0, first.as_slice())])?,
+            "{shard_bytes} {turned}"
+        );
+    }
+    Ok(())
+}
+
+#[test]
+fn surplus_is_checked_in_tails(rt: HostRuntime) -> Result<(), Fail> {
+    let tables = tables_of(&rt);
+    for shard_bytes in [66, 130] {
+        checks_tails::<HighRate<Naive<'_>>, _>(&rt, &tables, shard_bytes)?;
+        checks_tails::<DefaultRate<Naive<'_>>, _>(&rt, &tables, shard_bytes)?;
+    }
+    Ok(())
 }

@@ -1,5 +1,5 @@
 //! What the tests share.
-use crate::rows::{Item, Message, Received};
+use crate::rows::{Item, Message, Received, Refused};
 use reed_solomon_simd::engine::tables::Tables;
 use reed_solomon_simd::engine::{Engine, Naive, Steps};
 use reed_solomon_simd::rate::{Rate, RateDecoder, RateEncoder};
@@ -69,18 +69,52 @@ pub fn gives<E: Engine, X: RateEncoder<E>>(
     Ok(good)
 }
 
-/// Whether the decoder, given the received shards, restores just the originals that it is to.
-pub fn decodes<E: Engine, X: RateDecoder<E>>(
+/// Gives the decoder the received shards.
+pub fn give<E: Engine, X: RateDecoder<E>>(
     decoder: &mut X,
     received: &Received<'_>,
-) -> Result<bool, Error> {
+) -> Result<(), Error> {
     for (index, shard) in received.original {
         decoder.add_original_shard(*index, *shard)?;
     }
     for (index, shard) in received.recovery {
         decoder.add_recovery_shard(*index, *shard)?;
     }
+    Ok(())
+}
+
+/// Whether the decoder, given the received shards, restores just the originals that it is to.
+pub fn decodes<E: Engine, X: RateDecoder<E>>(
+    decoder: &mut X,
+    received: &Received<'_>,
+) -> Result<bool, Error> {
+    give(decoder, received)?;
     restores(decoder, received.restored)
+}
+
+/// Whether the decoder, given shards that no message agrees with, refuses them so, then has nothing given, and restores
+/// the next ones.
+pub fn refuses_then_decodes<E: Engine, X: RateDecoder<E>>(
+    decoder: &mut X,
+    refused: &Refused<'_>,
+) -> Result<bool, Error> {
+    give(decoder, &refused.received)?;
+    let apart = Error::InconsistentShards {
+        original_received_count: refused.originals_given,
+        recovery_received_count: refused.recovery_given,
+    };
+    let none = Error::NotEnoughShards {
+        original_count: refused.received.original_count,
+        original_received_count: 0,
+        recovery_received_count: 0,
+    };
+    Ok(refuses(decoder, apart) && refuses(decoder, none) && decodes(decoder, &refused.next)?)
+}
+
+/// Whether the decoder's `decode` is refused so.
+pub fn refuses<E: Engine, X: RateDecoder<E>>(decoder: &mut X, refusal: Error) -> bool {
+    let mut steps = Steps::new();
+    is_err(decoder.decode(&mut steps), refusal)
 }
 
 /// Whether the decoder's `decode` restores just these originals.

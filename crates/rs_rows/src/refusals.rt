@@ -1,6 +1,6 @@
 //! What each rate refuses, in which order, and that a refused call changes nothing.
 use crate::help::*;
-use crate::rows::TWO_AND_TWO;
+use crate::rows::{HIGH_REFUSED, LOW_REFUSED, Refused, SINGLE_TURNED, TWO_AND_TWO};
 use reed_solomon_simd::Error;
 use reed_solomon_simd::engine::Naive;
 use reed_solomon_simd::engine::tables::Tables;
@@ -92,8 +92,34 @@ fn received_shards_are_refused(rt: HostRuntime) -> Result<(), Fail> {
     received::<DefaultRate<Naive<'_>>, _>(&rt, &tables)
 }
 
+// A new decoder refuses each row, and a decoder refuses it again in a later round.
+fn inconsistent<'t, R: Rate<Naive<'t>>, A: Abort + AllocGlobal>(
+    rt: &A,
+    tables: &'t Tables,
+    rows: &[Refused<'_>],
+) -> Result<(), Fail> {
+    for refused in rows {
+        let k = refused.received.original_count;
+        let r = refused.received.recovery_count;
+        let mut decoder = decoder_for::<R>(rt.alloc(), tables, &refused.received)?;
+        assert!(rt; refuses_then_decodes(&mut decoder, refused)?, "{k} {r}");
+        assert!(rt; refuses_then_decodes(&mut decoder, refused)?, "{k} {r}");
+    }
+    Ok(())
+}
+
+#[test]
+fn inconsistent_shards_are_refused(rt: HostRuntime) -> Result<(), Fail> {
+    let tables = tables_of(&rt);
+    inconsistent::<LowRate<Naive<'_>>, _>(&rt, &tables, &LOW_REFUSED)?;
+    inconsistent::<HighRate<Naive<'_>>, _>(&rt, &tables, &HIGH_REFUSED)?;
+    inconsistent::<HighRate<Naive<'_>>, _>(&rt, &tables, &[SINGLE_TURNED])?;
+    inconsistent::<DefaultRate<Naive<'_>>, _>(&rt, &tables, &LOW_REFUSED)?;
+    inconsistent::<DefaultRate<Naive<'_>>, _>(&rt, &tables, &HIGH_REFUSED)
+}
+
 // New objects are refused so, and resets of these.
-fn refuses<'t, R: Rate<Naive<'t>>, A: Abort + AllocGlobal>(
+fn refuse_all<'t, R: Rate<Naive<'t>>, A: Abort + AllocGlobal>(
     rt: &A,
     encoder: &mut R::RateEncoder,
     decoder: &mut R::RateDecoder,
@@ -130,7 +156,7 @@ fn configurations<'t, R: Rate<Naive<'t>>, A: Abort + AllocGlobal>(
             };
             assert_eq!(rt; R::validate(k, r, size), Err(counts), "{k} {r} {size}");
             let row = (k, r, size);
-            refuses::<R, A>(rt, &mut encoder, &mut decoder, engine, row, counts);
+            refuse_all::<R, A>(rt, &mut encoder, &mut decoder, engine, row, counts);
         }
     }
     for (k, r) in [(1, 1), (2, 2), (2, 3), (3, 2)] {
@@ -138,11 +164,11 @@ fn configurations<'t, R: Rate<Naive<'t>>, A: Abort + AllocGlobal>(
             let sized = Error::InvalidShardSize { shard_bytes: size };
             assert_eq!(rt; R::validate(k, r, size), Err(sized), "{k} {r} {size}");
             let row = (k, r, size);
-            refuses::<R, A>(rt, &mut encoder, &mut decoder, engine, row, sized);
+            refuse_all::<R, A>(rt, &mut encoder, &mut decoder, engine, row, sized);
         }
         let row = (k, r, usize::MAX - 1);
         assert_eq!(rt; R::validate(k, r, usize::MAX - 1), Ok(()), "{k} {r}");
-        refuses::<R, A>(
+        refuse_all::<R, A>(
             rt,
             &mut encoder,
             &mut decoder,

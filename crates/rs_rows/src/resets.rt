@@ -2,16 +2,18 @@
 use crate::callers::{make_again, pass_to_high};
 use crate::help::*;
 use crate::rows::{
-    CONSTANT, HIGH_MESSAGES, HIGH_RECEIVED, LINE, LINE_LOST, LINE_SECOND, LOW_MESSAGES,
-    LOW_RECEIVED, MIXTURE, Message, OUTER_LOST, Received, SUM, TWO_AND_TWO,
+    CONSTANT, CONSTANT_TURNED, CONSTANT_WHOLE, HIGH_MESSAGES, HIGH_RECEIVED, LINE, LINE_LOST,
+    LINE_SECOND, LOW_MESSAGES, LOW_RECEIVED, MIXTURE, Message, OUTER_LOST, Received, SUM,
+    TWO_AND_TWO,
 };
 use reed_solomon_simd::Error;
 use reed_solomon_simd::engine::tables::Tables;
 use reed_solomon_simd::engine::{Engine, Naive, Steps};
 use reed_solomon_simd::rate::{
-    DecoderWork, DefaultRate, EncoderWork, HighRate, LowRate, Rate, RateDecoder, RateEncoder,
+    DecoderWork, DefaultRate, DefaultRateDecoder, EncoderWork, HighRate, LowRate, LowRateDecoder,
+    Rate, RateDecoder, RateEncoder,
 };
-use std::alloc::Global;
+use std::alloc::{AllocError, Global};
 use std::process::Abort;
 use std::test::Fail;
 
@@ -338,5 +340,65 @@ fn parts_make_the_same_again(rt: HostRuntime) -> Result<(), Fail> {
     assert!(rt; makes_again::<HighRate<Naive<'_>>>(alloc, &tables, &OUTER_LOST)?);
     assert!(rt; makes_again::<DefaultRate<Naive<'_>>>(alloc, &tables, &LINE_LOST)?);
     assert!(rt; makes_again::<DefaultRate<Naive<'_>>>(alloc, &tables, &OUTER_LOST)?);
+    Ok(())
+}
+
+// The sum of the shards, with a byte of it turned.
+fn turned_sum(
+    alloc: Global,
+    shards: &[Vec<u8>],
+    shard_bytes: usize,
+) -> Result<Vec<u8>, AllocError> {
+    let mut sum = Vec::new(alloc);
+    for place in 0..shard_bytes {
+        let mut byte = if place == 7 { 1 } else { 0 };
+        for shard in shards {
+            byte ^= shard.get(place).copied().unwrap_or(0);
+        }
+        sum.push(byte)?;
+    }
+    Ok(sum)
+}
+
+// The parts of a decoder of the high rate that refused its shards make one of the low rate.
+#[test]
+fn parts_are_handed_on_after_a_refusal(rt: HostRuntime) -> Result<(), Fail> {
+    let alloc = rt.alloc();
+    let tables = tables_of(&rt);
+    let engine = Naive::new(&tables);
+    let original = counted(alloc, 3, 66)?;
+    let sum = turned_sum(alloc, original.as_slice(), 66)?;
+    let mut default = DefaultRateDecoder::new(alloc, 3, 1, 66, engine, None)?;
+    for (index, shard) in original.iter().enumerate() {
+        default.add_original_shard(index, shard.as_slice())?;
+    }
+    default.add_recovery_shard(0, sum.as_slice())?;
+    let apart = Error::InconsistentShards {
+        original_received_count: 3,
+        recovery_received_count: 1,
+    };
+    assert!(rt; refuses(&mut default, apart));
+    let (engine, work) = default.into_parts();
+    let mut low = LowRateDecoder::new(alloc, 2, 3, 2, engine, Some(work))?;
+    assert!(rt; decodes(&mut low, &LINE_LOST)?);
+    Ok(())
+}
+
+// What longer rows held before isn't taken for a part of the shorter ones.
+#[test]
+fn longer_rows_are_handed_on(rt: HostRuntime) -> Result<(), Fail> {
+    let alloc = rt.alloc();
+    let tables = tables_of(&rt);
+    let engine = Naive::new(&tables);
+    let long = counted(alloc, 1, 130)?;
+    let mut low = LowRateDecoder::new(alloc, 1, 2, 130, engine, None)?;
+    for shard in &long {
+        low.add_recovery_shard(1, shard.as_slice())?;
+        assert!(rt; restores(&mut low, &[(0, shard.as_slice())])?);
+    }
+    let (engine, work) = low.into_parts();
+    let mut low = LowRateDecoder::new(alloc, 1, 2, 2, engine, Some(work))?;
+    assert!(rt; decodes(&mut low, &CONSTANT_WHOLE)?);
+    assert!(rt; refuses_then_decodes(&mut low, &CONSTANT_TURNED)?);
     Ok(())
 }

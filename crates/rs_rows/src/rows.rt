@@ -1,4 +1,5 @@
-//! Messages with their recovery shards, and received shards with the originals that they restore.
+//! Messages with their recovery shards, received shards with the originals that they restore, and received shards that no
+//! message agrees with.
 
 /// A message and its recovery shards.
 #[derive(Clone, Copy)]
@@ -33,6 +34,16 @@ pub struct Received<'a> {
     pub original: &'a [Item<'a>],
     pub recovery: &'a [Item<'a>],
     pub restored: &'a [Item<'a>],
+}
+
+/// Shards that no message agrees with, of how many originals and recovery shards the refusal speaks, and what the same
+/// decoder restores in its next round.
+#[derive(Clone, Copy)]
+pub struct Refused<'a> {
+    pub received: Received<'a>,
+    pub originals_given: usize,
+    pub recovery_given: usize,
+    pub next: Received<'a>,
 }
 
 /// One recovery shard: the sum of all originals.
@@ -183,21 +194,146 @@ pub const NONE_LOST: Received<'static> = Received {
     restored: &[],
 };
 
+/// The only original, and a recovery shard that agrees with it: nothing is missing.
+pub const CONSTANT_WHOLE: Received<'static> = Received {
+    original: &[(0, &[7, 9])],
+    recovery: &[(0, &[7, 9])],
+    restored: &[],
+    ..CONSTANT_OF_TWO
+};
+
+/// The second of two recovery shards, alone.
+pub const CONSTANT_OF_TWO: Received<'static> = Received {
+    original_count: 1,
+    recovery_count: 2,
+    shard_bytes: 2,
+    original: &[],
+    recovery: &[(1, &[5, 6])],
+    restored: &[(0, &[5, 6])],
+};
+
+/// The only original of a block of two rows of the high rate: 3 times it is the first recovery shard, and 2 times the
+/// second.
+pub const SINGLE_WHOLE: Received<'static> = Received {
+    original: &[(0, &[1, 0])],
+    recovery: &[(0, &[3, 0])],
+    ..CONSTANT_WHOLE
+};
+
+/// The first original of such a block, by its second recovery shard.
+pub const SINGLE_LOST: Received<'static> = Received {
+    original: &[],
+    recovery: &[(1, &[2, 0])],
+    restored: &[(0, &[1, 0])],
+    ..CONSTANT_WHOLE
+};
+
+/// All originals, and their sum.
+pub const SUM_WHOLE: Received<'static> = Received {
+    original: &[(0, &[1, 2]), (1, &[4, 8]), (2, &[16, 32])],
+    restored: &[],
+    ..SUMMAND_LOST
+};
+
+/// All shards of `TWO_AND_TWO`.
+pub const TWO_AND_TWO_WHOLE: Received<'static> = Received {
+    original: &[(0, &[0, 0]), (1, &[1, 0])],
+    recovery: &[(0, &[2, 0]), (1, &[3, 0])],
+    restored: &[],
+    ..BOTH_LOST
+};
+
+/// Two shards of `TWO_AND_TWO` turned to zero, so that all that are given agree with zeros.
+pub const ZERO_LOST: Received<'static> = Received {
+    original: &[(0, &[0, 0])],
+    recovery: &[(0, &[0, 0]), (1, &[0, 0])],
+    restored: &[(1, &[0, 0])],
+    ..BOTH_LOST
+};
+
 /// What the low rate restores so, and the default rate too.
-pub const LOW_RECEIVED: [Received<'static>; 6] = [
+pub const LOW_RECEIVED: [Received<'static>; 9] = [
     MIXTURE,
     LINE_LOST,
     BOTH_LOST,
     CONSTANT_LOST,
     SECOND_LOST,
     NONE_LOST,
+    CONSTANT_WHOLE,
+    TWO_AND_TWO_WHOLE,
+    ZERO_LOST,
 ];
 
 /// What the high rate restores so, and the default rate too.
-pub const HIGH_RECEIVED: [Received<'static>; 5] = [
+pub const HIGH_RECEIVED: [Received<'static>; 8] = [
     OUTER_LOST,
     FIRST_LOST,
     MIXTURE,
     BOTH_LOST,
     SUMMAND_LOST,
+    SUM_WHOLE,
+    TWO_AND_TWO_WHOLE,
+    ZERO_LOST,
 ];
+
+/// What the high rate restores so, at counts at which the default rate is the low one.
+pub const HIGH_ALONE_RECEIVED: [Received<'static>; 2] = [SINGLE_WHOLE, SINGLE_LOST];
+
+/// An original and a recovery shard that differ in a byte, where each recovery shard is the original.
+pub const CONSTANT_TURNED: Refused<'static> = Refused {
+    received: Received {
+        recovery: &[(0, &[7, 8])],
+        ..CONSTANT_WHOLE
+    },
+    originals_given: 1,
+    recovery_given: 1,
+    next: CONSTANT_OF_TWO,
+};
+
+/// All originals, with a byte of their sum turned.
+pub const SUM_TURNED: Refused<'static> = Refused {
+    received: Received {
+        recovery: &[(0, &[21, 43])],
+        ..SUM_WHOLE
+    },
+    originals_given: 3,
+    recovery_given: 1,
+    next: SUMMAND_LOST,
+};
+
+/// Originals of a constant polynomial, with recovery shards of zero: of the transformed rows the last but one alone isn't
+/// zero.
+pub const CONSTANTS_APART: Refused<'static> = Refused {
+    received: Received {
+        original: &[(0, &[1, 0]), (1, &[1, 0])],
+        recovery: &[(0, &[0, 0]), (1, &[0, 0])],
+        ..TWO_AND_TWO_WHOLE
+    },
+    originals_given: 2,
+    recovery_given: 2,
+    next: BOTH_LOST,
+};
+
+/// A shard of `TWO_AND_TWO` with a byte turned, and an original missing.
+pub const LINE_TURNED: Refused<'static> = Refused {
+    received: Received {
+        original: &[(0, &[0, 0])],
+        recovery: &[(0, &[2, 0]), (1, &[3, 1])],
+        ..TWO_AND_TWO_WHOLE
+    },
+    originals_given: 1,
+    recovery_given: 2,
+    next: ZERO_LOST,
+};
+
+/// The same message of the constant polynomial, given to the high rate: its recovery shards are other ones.
+pub const SINGLE_TURNED: Refused<'static> = Refused {
+    next: SINGLE_LOST,
+    ..CONSTANT_TURNED
+};
+
+/// What the low rate refuses so, and the default rate too.
+pub const LOW_REFUSED: [Refused<'static>; 3] = [CONSTANT_TURNED, CONSTANTS_APART, LINE_TURNED];
+
+/// What the high rate refuses so, and the default rate too.
+pub const HIGH_REFUSED: [Refused<'static>; 3] = [SUM_TURNED, CONSTANTS_APART, LINE_TURNED];
