@@ -1,11 +1,13 @@
-//! How many calls an engine gets from the encoders.
-use crate::help::tables_of;
+//! How many calls an engine gets from the encoders and the decoders.
+use crate::help::{decodes, tables_of};
+use crate::rows::{FOUR_ORIGINALS, FOUR_WHOLE, MIXTURE, Received};
 use reed_solomon_simd::Error;
 use reed_solomon_simd::engine::tables::Tables;
 use reed_solomon_simd::engine::{Engine, GfElement, Naive, ShardsRefMut, Steps};
-use reed_solomon_simd::rate::{HighRate, LowRate, Rate, RateEncoder};
+use reed_solomon_simd::rate::{HighRate, LowRate, Rate, RateDecoder, RateEncoder};
 use std::alloc::Global;
 use std::cell::Cell;
+use std::process::Abort;
 use std::test::Fail;
 
 // How often each call of an engine was made.
@@ -130,4 +132,73 @@ fn an_encode_transforms_each_block_and_once_more(rt: HostRuntime) -> Result<(), 
     };
     assert_eq!(rt; high, high_calls);
     Ok(())
+}
+
+// The calls that one round of a decoder makes, or none where it doesn't restore what it is to.
+fn calls_of_decode<'t, R: Rate<Counting<'t>>>(
+    alloc: Global,
+    tables: &'t Tables,
+    received: &Received<'_>,
+) -> Result<Option<Calls>, Error> {
+    let k = received.original_count;
+    let r = received.recovery_count;
+    let engine = Counting::new(tables);
+    let mut decoder = R::decoder(alloc, k, r, received.shard_bytes, engine, None)?;
+    let good = decodes(&mut decoder, received)?;
+    let (engine, _) = decoder.into_parts();
+    Ok(good.then_some(engine.calls.get()))
+}
+
+// Each row with its calls, of which `mul` is called at most so often: once for each given shard, and for each restored.
+const DECODE_CALLS: [(Received<'static>, Calls); 3] = [
+    (
+        MIXTURE,
+        Calls {
+            fft: 1,
+            ifft: 1,
+            mul: 6,
+            eval_poly: 1,
+        },
+    ),
+    (
+        FOUR_WHOLE,
+        Calls {
+            fft: 0,
+            ifft: 1,
+            mul: 5,
+            eval_poly: 1,
+        },
+    ),
+    (
+        FOUR_ORIGINALS,
+        Calls {
+            fft: 0,
+            ifft: 0,
+            mul: 0,
+            eval_poly: 0,
+        },
+    ),
+];
+
+fn counts_decodes<'t, R: Rate<Counting<'t>>, A: Abort + AllocGlobal>(
+    rt: &A,
+    tables: &'t Tables,
+) -> Result<(), Fail> {
+    for (received, most) in &DECODE_CALLS {
+        let Some(calls) = calls_of_decode::<R>(rt.alloc(), tables, received)? else {
+            assert!(rt; false, "restored");
+            return Ok(());
+        };
+        assert!(rt; calls.mul <= most.mul, "{}", calls.mul);
+        let mul = most.mul;
+        assert_eq!(rt; Calls { mul, ..calls }, *most);
+    }
+    Ok(())
+}
+
+#[test]
+fn a_decode_transforms_once_to_check_and_once_to_restore(rt: HostRuntime) -> Result<(), Fail> {
+    let tables = tables_of(&rt);
+    counts_decodes::<LowRate<Counting<'_>>, _>(&rt, &tables)?;
+    counts_decodes::<HighRate<Counting<'_>>, _>(&rt, &tables)
 }

@@ -134,6 +134,20 @@ pub const MIXTURE: Received<'static> = Received {
     restored: &[(0, &[0, 0]), (2, &[2, 0])],
 };
 
+/// All originals of `FOUR_AND_FOUR`, with a recovery shard.
+pub const FOUR_WHOLE: Received<'static> = Received {
+    original: &[(0, &[0, 0]), (1, &[0, 0]), (2, &[2, 0]), (3, &[3, 0])],
+    recovery: &[(0, &[11, 0])],
+    restored: &[],
+    ..MIXTURE
+};
+
+/// All originals of `FOUR_AND_FOUR` alone.
+pub const FOUR_ORIGINALS: Received<'static> = Received {
+    recovery: &[],
+    ..FOUR_WHOLE
+};
+
 /// Recovery shards of `LINE` alone.
 pub const LINE_LOST: Received<'static> = Received {
     original_count: 2,
