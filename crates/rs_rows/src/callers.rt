@@ -1,11 +1,12 @@
 //! Callers that know encoders, decoders and rates by their contracts alone.
-ghost use Rattle.std.specs.Prelude.{◌≡◌, ◌<◌, ◌⊎◌, length, Ok, IfOk, OnOk, OnErr, MatchResult, Err};
+ghost use Rattle.std.specs.Prelude.{◌≡◌, ◌<◌, ◌+◌, ◌⊎◌, List, length, None, Ok, IfOk, OnOk, OnErr, MatchResult, Err};
 ghost use Rattle.reed_solomon_simd.specs.Counts.{default_rate};
 ghost use Rattle.reed_solomon_simd.specs.Placement.{encoder_rows, decoder_rows};
 ghost use Rattle.reed_solomon_simd.specs.Configuration.{configuration, started, UpToMemory};
 ghost use Rattle.reed_solomon_simd.specs.Outcome.{answer_of};
 ghost use Rattle.reed_solomon_simd.specs.Encoder.{fresh_encoder};
-ghost use Rattle.reed_solomon_simd.specs.Decoder.{fresh_decoder};
+ghost use Rattle.reed_solomon_simd.specs.Column.{Shard, shard_at};
+ghost use Rattle.reed_solomon_simd.specs.Decoder.{fresh_decoder, originals_given, recovery_given, enough_given, after_decode, IsAgreeing, IsConsistent, NoneAgrees};
 
 use reed_solomon_simd::Error;
 use reed_solomon_simd::engine::{Engine, Steps};
@@ -112,4 +113,70 @@ pub fn reset_and_back<E: Engine, X: RateEncoder<E>>(
 {
     let _ = encoder.reset(between.0, between.1, between.2);
     encoder.reset(original_count, recovery_count, shard_bytes)
+}
+
+/// Shards enough that no message agrees with are refused, and with that the round ends: the next `decode` finds nothing
+/// given. Gives both answers.
+pub fn decode_inconsistent<E: Engine, X: RateDecoder<E> + Drop>(
+    decoder: &mut X,
+    steps: &mut Steps,
+) -> (Result<(), Error>, Result<(), Error>)
+    ensures first { enough_given (X.state decoder.old) ≡ Ok tt → (IsConsistent (X.state decoder.old) → ⊥)
+        → result.0 ≡ Err (Error.InconsistentShards (originals_given (X.state decoder.old)) (recovery_given (X.state decoder.old))) }
+    ensures next { enough_given (X.state decoder.old) ≡ Ok tt → result.1 ≡ Err (Error.NotEnoughShards (X.state decoder.old).configuration.original_count 0 0) }
+    ensures state { X.state decoder.new ≡ after_decode (X.state decoder.old) }
+    ensures engine { X.engine_of decoder.new ≡ X.engine_of decoder.old }
+{
+    let first = decode_only(decoder, steps);
+    let next = decode_only(decoder, steps);
+    (first, next)
+}
+
+// A round's answer without what it restored.
+fn decode_only<E: Engine, X: RateDecoder<E> + Drop>(
+    decoder: &mut X,
+    steps: &mut Steps,
+) -> Result<(), Error>
+    ensures answer { MatchResult (enough_given (X.state decoder.old))
+        (λ _. MatchResult result (λ _. IsConsistent (X.state decoder.old)) (NoneAgrees (X.state decoder.old))) (λ e. result ≡ Err e) }
+    ensures state { X.state decoder.new ≡ after_decode (X.state decoder.old) }
+    ensures engine { X.engine_of decoder.new ≡ X.engine_of decoder.old }
+{
+    drop(decoder.decode(steps)?);
+    Ok(())
+}
+
+/// As many shards as there are originals, whichever they are and whatever they hold, are never refused.
+pub fn decode_just_enough<E: Engine, X: RateDecoder<E> + Drop>(
+    decoder: &mut X,
+    steps: &mut Steps,
+) -> Result<(), Error>
+    ensures answer { originals_given (X.state decoder.old) + recovery_given (X.state decoder.old) ≡ (X.state decoder.old).configuration.original_count → result ≡ Ok tt }
+    ensures state { X.state decoder.new ≡ after_decode (X.state decoder.old) }
+    ensures engine { X.engine_of decoder.new ≡ X.engine_of decoder.old }
+{
+    let restored = decoder.decode(steps)?;
+    drop(restored);
+    Ok(())
+}
+
+/// Where shards enough of a message are given, a missing original of it comes back as it was.
+pub fn decode_one<E: Engine, X: RateDecoder<E> + Drop>(
+    decoder: &mut X,
+    steps: &mut Steps,
+    index: usize,
+    original: &mut [u8],
+) -> Result<(), Error>
+    requires size { length original.old ≡ (X.state decoder.old).configuration.shard_bytes }
+    ensures restored { (message : List Shard) → IsAgreeing (X.state decoder.old) message → enough_given (X.state decoder.old) ≡ Ok tt
+        → index < (X.state decoder.old).configuration.original_count → (X.state decoder.old).originals index ≡ None
+        → (result ≡ Ok tt) × (original.new ≡ shard_at message index) }
+    ensures state { X.state decoder.new ≡ after_decode (X.state decoder.old) }
+    ensures engine { X.engine_of decoder.new ≡ X.engine_of decoder.old }
+{
+    let result = decoder.decode(steps)?;
+    if let Some(shard) = result.restored_original(index) {
+        original.copy_from_slice(shard);
+    }
+    Ok(())
 }

@@ -1,8 +1,9 @@
 //! Restored originals of each rate over the plain engine.
+use crate::callers::{decode_inconsistent, decode_just_enough, decode_one};
 use crate::help::*;
 use crate::rows::{
-    HIGH_ALONE_RECEIVED, HIGH_RECEIVED, LINE_LOST, LOW_RECEIVED, MIXTURE, Message, OUTER_LOST,
-    Received, SUMMAND_LOST, THREE_IN_TWOS,
+    HIGH_ALONE_RECEIVED, HIGH_RECEIVED, LINE_LOST, LINE_TURNED, LOW_RECEIVED, MIXTURE, Message,
+    OUTER_LOST, Received, SUMMAND_LOST, THREE_IN_TWOS,
 };
 use reed_solomon_simd::Error;
 use reed_solomon_simd::engine::tables::Tables;
@@ -167,5 +168,42 @@ fn surplus_is_checked_in_tails(rt: HostRuntime) -> Result<(), Fail> {
         checks_tails::<HighRate<Naive<'_>>, _>(&rt, &tables, shard_bytes)?;
         checks_tails::<DefaultRate<Naive<'_>>, _>(&rt, &tables, shard_bytes)?;
     }
+    Ok(())
+}
+
+#[test]
+fn callers_decode(rt: HostRuntime) -> Result<(), Fail> {
+    let tables = tables_of(&rt);
+    let mut steps = Steps::new();
+    let mut decoder = DefaultRate::<Naive<'_>>::decoder(
+        rt.alloc(),
+        2,
+        2,
+        2,
+        Naive::new(&tables),
+        None,
+    )?;
+    decoder.add_original_shard(0, &[0, 0])?;
+    decoder.add_recovery_shard(1, &[3, 0])?;
+    let mut original = [9, 9];
+    decode_one(&mut decoder, &mut steps, 1, &mut original)?;
+    assert_eq!(rt; original, [1, 0]);
+    // Of two shards that no one coded.
+    decoder.add_original_shard(0, &[0, 0])?;
+    decoder.add_recovery_shard(1, &[3, 1])?;
+    assert_eq!(rt; decode_just_enough(&mut decoder, &mut steps), Ok(()));
+    give(&mut decoder, &LINE_TURNED.received)?;
+    let apart = Error::InconsistentShards {
+        original_received_count: 1,
+        recovery_received_count: 2,
+    };
+    let none = Error::NotEnoughShards {
+        original_count: 2,
+        original_received_count: 0,
+        recovery_received_count: 0,
+    };
+    let (first, next) = decode_inconsistent(&mut decoder, &mut steps);
+    assert_eq!(rt; first, Err(apart));
+    assert_eq!(rt; next, Err(none));
     Ok(())
 }
