@@ -180,28 +180,32 @@ fn codes_low<'t, R: Rate<Watching<'t>>>(
     Ok(engine.originals_from.get() == 0)
 }
 
-#[test]
-fn rates_are_chosen(rt: HostRuntime) -> Result<(), Fail> {
-    let alloc = rt.alloc();
-    let tables = tables_of(&rt);
-    for (k, r, low) in [
-        (3, 3, false),
-        (3, 4, false),
-        (5, 3, false),
-        (4, 3, true),
-        (3, 5, true),
-    ] {
-        let chosen = codes_low::<DefaultRate<Watching<'_>>>(alloc, &tables, k, r)?;
-        assert_eq!(rt; chosen, low, "{k} {r}");
-        // Both rates support the counts, and each codes in its own way.
-        assert!(rt;
-            codes_low::<LowRate<Watching<'_>>>(alloc, &tables, k, r)?,
-            "{k} {r}"
-        );
-        assert!(rt;
-            !codes_low::<HighRate<Watching<'_>>>(alloc, &tables, k, r)?,
-            "{k} {r}"
-        );
+// Counts that both rates support, and whether the default rate is the low one there.
+const CHOICES: [(usize, usize, bool); 5] = [
+    (3, 3, false),
+    (3, 4, false),
+    (5, 3, false),
+    (4, 3, true),
+    (3, 5, true),
+];
+
+// The rate codes as the low rate does, or as the high rate does, at all of these counts or where the default rate does.
+fn chooses<'t, R: Rate<Watching<'t>>, A: Abort + AllocGlobal>(
+    rt: &A,
+    tables: &'t Tables,
+    always: Option<bool>,
+) -> Result<(), Fail> {
+    for (k, r, low) in &CHOICES {
+        let chosen = codes_low::<R>(rt.alloc(), tables, *k, *r)?;
+        assert_eq!(rt; chosen, always.unwrap_or(*low), "{k} {r}");
     }
     Ok(())
+}
+
+#[test]
+fn rates_are_chosen(rt: HostRuntime) -> Result<(), Fail> {
+    let tables = tables_of(&rt);
+    chooses::<DefaultRate<Watching<'_>>, _>(&rt, &tables, None)?;
+    chooses::<LowRate<Watching<'_>>, _>(&rt, &tables, Some(true))?;
+    chooses::<HighRate<Watching<'_>>, _>(&rt, &tables, Some(false))
 }

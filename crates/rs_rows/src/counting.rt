@@ -107,31 +107,41 @@ fn calls_of_encode<'t, R: Rate<Counting<'t>>>(
     Ok(engine.calls.get())
 }
 
+fn counts_encode<'t, R: Rate<Counting<'t>>, A: Abort + AllocGlobal>(
+    rt: &A,
+    tables: &'t Tables,
+    original: &[[u8; 2]],
+    recovery_count: usize,
+    calls: Calls,
+) -> Result<(), Fail> {
+    let made = calls_of_encode::<R>(rt.alloc(), tables, original, recovery_count)?;
+    assert_eq!(rt; made, calls);
+    Ok(())
+}
+
 #[test]
 fn an_encode_transforms_each_block_and_once_more(rt: HostRuntime) -> Result<(), Fail> {
     let tables = tables_of(&rt);
-    let original = [[0, 0], [1, 0]];
-    let low = calls_of_encode::<LowRate<Counting<'_>>>(rt.alloc(), &tables, &original, 3)?;
+    let none = Calls {
+        fft: 0,
+        ifft: 0,
+        mul: 0,
+        eval_poly: 0,
+    };
     // Two blocks of two recovery shards.
-    let low_calls = Calls {
+    let low = Calls {
         fft: 2,
         ifft: 1,
-        mul: 0,
-        eval_poly: 0,
+        ..none
     };
-    assert_eq!(rt; low, low_calls);
-
-    let original = [[2, 0], [0, 0], [4, 0]];
-    let high = calls_of_encode::<HighRate<Counting<'_>>>(rt.alloc(), &tables, &original, 2)?;
+    counts_encode::<LowRate<Counting<'_>>, _>(&rt, &tables, &[[0, 0], [1, 0]], 3, low)?;
     // Two blocks of two originals.
-    let high_calls = Calls {
+    let high = Calls {
         fft: 1,
         ifft: 2,
-        mul: 0,
-        eval_poly: 0,
+        ..none
     };
-    assert_eq!(rt; high, high_calls);
-    Ok(())
+    counts_encode::<HighRate<Counting<'_>>, _>(&rt, &tables, &[[2, 0], [0, 0], [4, 0]], 2, high)
 }
 
 // The calls that one round of a decoder makes, or none where it doesn't restore what it is to.

@@ -30,21 +30,11 @@ fn restores_all<'t, R: Rate<Naive<'t>>, A: Abort + AllocGlobal>(
 }
 
 #[test]
-fn low_rate_restores(rt: HostRuntime) -> Result<(), Fail> {
+fn rates_restore(rt: HostRuntime) -> Result<(), Fail> {
     let tables = tables_of(&rt);
-    restores_all::<LowRate<Naive<'_>>, _>(&rt, &tables, &LOW_RECEIVED)
-}
-
-#[test]
-fn high_rate_restores(rt: HostRuntime) -> Result<(), Fail> {
-    let tables = tables_of(&rt);
+    restores_all::<LowRate<Naive<'_>>, _>(&rt, &tables, &LOW_RECEIVED)?;
     restores_all::<HighRate<Naive<'_>>, _>(&rt, &tables, &HIGH_RECEIVED)?;
-    restores_all::<HighRate<Naive<'_>>, _>(&rt, &tables, &HIGH_ALONE_RECEIVED)
-}
-
-#[test]
-fn default_rate_restores(rt: HostRuntime) -> Result<(), Fail> {
-    let tables = tables_of(&rt);
+    restores_all::<HighRate<Naive<'_>>, _>(&rt, &tables, &HIGH_ALONE_RECEIVED)?;
     restores_all::<DefaultRate<Naive<'_>>, _>(&rt, &tables, &LOW_RECEIVED)?;
     restores_all::<DefaultRate<Naive<'_>>, _>(&rt, &tables, &HIGH_RECEIVED)
 }
@@ -115,7 +105,8 @@ fn spread(
     Ok(long)
 }
 
-// Gives all shards of the message but the first original. One recovery shard, if it is named, has the last byte turned.
+// Gives all shards of the message but the first original. One of them, if its place among the originals and recovery
+// shards is named, has its last byte turned.
 fn give_spread<E: Engine, X: RateDecoder<E>>(
     alloc: Global,
     decoder: &mut X,
@@ -123,14 +114,16 @@ fn give_spread<E: Engine, X: RateDecoder<E>>(
     shard_bytes: usize,
     turned: Option<usize>,
 ) -> Result<(), Error> {
-    for (index, shard) in message.original.iter().enumerate().skip(1) {
-        let long = spread(alloc, shard_bytes, shard, 0)?;
-        decoder.add_original_shard(index, long.as_slice())?;
-    }
-    for (index, shard) in message.recovery.iter().enumerate() {
-        let last = if turned == Some(index) { 1 } else { 0 };
+    let k = message.original_count();
+    let shards = message.original.iter().chain(message.recovery);
+    for (place, shard) in shards.enumerate().skip(1) {
+        let last = if turned == Some(place) { 1 } else { 0 };
         let long = spread(alloc, shard_bytes, shard, last)?;
-        decoder.add_recovery_shard(index, long.as_slice())?;
+        if place < k {
+            decoder.add_original_shard(place, long.as_slice())?;
+        } else {
+            decoder.add_recovery_shard(place - k, long.as_slice())?;
+        }
     }
     Ok(())
 }
@@ -149,7 +142,7 @@ fn checks_tails<'t, R: Rate<Naive<'t>>, A: Abort + AllocGlobal>(
     };
     let first = spread(alloc, shard_bytes, &[2, 0], 0)?;
     let mut decoder = R::decoder(alloc, 3, 2, shard_bytes, Naive::new(tables), None)?;
-    for turned in 0..2 {
+    for turned in 1..5 {
         give_spread(alloc, &mut decoder, message, shard_bytes, Some(turned))?;
         assert!(rt; refuses(&mut decoder, apart), "{shard_bytes} {turned}");
         give_spread(alloc, &mut decoder, message, shard_bytes, None)?;

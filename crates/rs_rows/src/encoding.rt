@@ -26,20 +26,10 @@ fn codes<'t, R: Rate<Naive<'t>>, A: Abort + AllocGlobal>(
 }
 
 #[test]
-fn low_rate_codes(rt: HostRuntime) -> Result<(), Fail> {
+fn rates_code(rt: HostRuntime) -> Result<(), Fail> {
     let tables = tables_of(&rt);
-    codes::<LowRate<Naive<'_>>, _>(&rt, &tables, &LOW_MESSAGES)
-}
-
-#[test]
-fn high_rate_codes(rt: HostRuntime) -> Result<(), Fail> {
-    let tables = tables_of(&rt);
-    codes::<HighRate<Naive<'_>>, _>(&rt, &tables, &HIGH_MESSAGES)
-}
-
-#[test]
-fn default_rate_codes(rt: HostRuntime) -> Result<(), Fail> {
-    let tables = tables_of(&rt);
+    codes::<LowRate<Naive<'_>>, _>(&rt, &tables, &LOW_MESSAGES)?;
+    codes::<HighRate<Naive<'_>>, _>(&rt, &tables, &HIGH_MESSAGES)?;
     codes::<DefaultRate<Naive<'_>>, _>(&rt, &tables, &LOW_MESSAGES)?;
     codes::<DefaultRate<Naive<'_>>, _>(&rt, &tables, &HIGH_MESSAGES)
 }
@@ -118,20 +108,20 @@ fn rounds_end(rt: HostRuntime) -> Result<(), Fail> {
     Ok(())
 }
 
-#[test]
-fn nothing_is_not_coded(rt: HostRuntime) {
-    let alloc = rt.alloc();
-    let tables = tables_of(&rt);
-    let engine = Naive::new(&tables);
+fn codes_nothing<'t, R: Rate<Naive<'t>>, A: Abort + AllocGlobal>(rt: &A, tables: &'t Tables) {
     let mut steps = Steps::new();
     let few = Error::TooFewOriginalShards {
         original_count: 2,
         original_received_count: 0,
     };
-    let low = encode_nothing::<Naive<'_>, LowRate<Naive<'_>>>(alloc, engine, &mut steps);
-    assert_eq!(rt; low, Err(few));
-    let high = encode_nothing::<Naive<'_>, HighRate<Naive<'_>>>(alloc, engine, &mut steps);
-    assert_eq!(rt; high, Err(few));
-    let default = encode_nothing::<Naive<'_>, DefaultRate<Naive<'_>>>(alloc, engine, &mut steps);
-    assert_eq!(rt; default, Err(few));
+    let answer = encode_nothing::<Naive<'t>, R>(rt.alloc(), Naive::new(tables), &mut steps);
+    assert_eq!(rt; answer, Err(few));
+}
+
+#[test]
+fn nothing_is_not_coded(rt: HostRuntime) {
+    let tables = tables_of(&rt);
+    codes_nothing::<LowRate<Naive<'_>>, _>(&rt, &tables);
+    codes_nothing::<HighRate<Naive<'_>>, _>(&rt, &tables);
+    codes_nothing::<DefaultRate<Naive<'_>>, _>(&rt, &tables);
 }
