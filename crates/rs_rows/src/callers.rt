@@ -85,7 +85,8 @@ pub fn make_again<E: Engine, R: Rate<E>>(
 ) -> Result<R::RateDecoder, Error>
     requires { (R.RateDecoder.state decoder).configuration ≡ configuration R.rate original_count recovery_count shard_bytes }
     ensures answer { answer_of result ≡ Ok tt }
-    ensures made { IfOk result (λ x. (R.RateDecoder.state x ≡ fresh_decoder (configuration R.rate original_count recovery_count shard_bytes)) × (R.RateDecoder.engine_of x ≡ R.RateDecoder.engine_of decoder)) }
+    ensures made { IfOk result (λ x. (R.RateDecoder.state x ≡ fresh_decoder (configuration R.rate original_count recovery_count shard_bytes))
+        × (R.RateDecoder.engine_of x ≡ R.RateDecoder.engine_of decoder)) }
 {
     let (engine, work) = decoder.into_parts();
     R::decoder(
