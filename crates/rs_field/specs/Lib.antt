@@ -9,6 +9,7 @@ pub mod Column
 pub mod Counts
 pub mod Placement
 pub mod Outcome
+pub mod Texts
 pub mod Configuration
 pub mod Code
 pub mod Given

@@ -62,6 +62,11 @@ pub enum Error {
 }
 
 impl fmt::Display for Error {
+    ghost use Rattle.std.specs.Prelude.{Some};
+    ghost use Rattle.rs_field.specs.Texts.{text_of};
+
+    ghost output = { λ refusal. Some (text_of refusal) };
+
     fn fmt<W: fmt::Write>(&self, f: &mut fmt::Formatter<W>) -> fmt::Result {
         match self {
             Error::DifferentShardSize { shard_bytes, got } => write!(
