@@ -110,8 +110,8 @@ pub trait Engine: Drop {
     /// The locator of the marked points, at all points at once: entry x becomes, modulo 65535, the sum over all points y
     /// other than x of entry y times the logarithm of `x XOR y`.
     ///
-    /// There are 65536 entries, and those from `truncated_size` on, at most 65536, are 0. Of a new entry the residue alone is fixed: 0
-    /// and 65535 both stand for zero. The locator is that of Leopard-RS.
+    /// There are 65536 entries, and those from `truncated_size` on, at most 65536, are 0. Of a new entry the residue
+    /// alone is fixed: 0 and 65535 both stand for zero. The locator is that of Leopard-RS.
     fn eval_poly(&self, steps: &mut Steps, erasures: &mut [GfElement], truncated_size: usize)
         requires size { length erasures.old ≡ 65536 }
         requires truncated { truncated_size ≤ 65536 }

@@ -1,0 +1,78 @@
+//! The engine that is chosen by name as the program runs.
+use rs_field::engine::tables::Tables;
+use rs_field::engine::{Engine, GfElement, Naive, ShardsRefMut, Steps};
+
+/// The names of the engines.
+#[derive(Clone, Copy, Debug, PartialEq)]
+pub enum EngineKind {
+    /// `Naive`, the plain engine.
+    Naive,
+}
+
+/// An engine of any kind. It borrows the tables and takes no memory of its own.
+#[derive(Clone, Copy)]
+pub enum DefaultEngine<'t> {
+    /// The plain engine.
+    Naive(Naive<'t>),
+}
+
+impl<'t> DefaultEngine<'t> {
+    ghost use Rattle.std.specs.Prelude.{◌≡◌};
+    ghost use Rattle.rs_engines.specs.Kind.{kind_of, tables_of};
+
+    /// The engine of this kind over these tables.
+    pub fn new(tables: &'t Tables, kind: EngineKind) -> DefaultEngine<'t>
+        ensures kind { kind_of result ≡ kind }
+        ensures tables { tables_of result ≡ tables.now }
+    {
+        match kind {
+            EngineKind::Naive => DefaultEngine::Naive(Naive::new(tables)),
+        }
+    }
+}
+
+impl Engine for DefaultEngine<'_> {
+    fn fft(
+        &self,
+        steps: &mut Steps,
+        data: &mut ShardsRefMut<'_>,
+        pos: usize,
+        size: usize,
+        truncated_size: usize,
+        skew_delta: usize,
+    ) {
+        match self {
+            DefaultEngine::Naive(engine) => {
+                engine.fft(steps, data, pos, size, truncated_size, skew_delta);
+            }
+        }
+    }
+
+    fn ifft(
+        &self,
+        steps: &mut Steps,
+        data: &mut ShardsRefMut<'_>,
+        pos: usize,
+        size: usize,
+        truncated_size: usize,
+        skew_delta: usize,
+    ) {
+        match self {
+            DefaultEngine::Naive(engine) => {
+                engine.ifft(steps, data, pos, size, truncated_size, skew_delta);
+            }
+        }
+    }
+
+    fn mul(&self, steps: &mut Steps, x: &mut [[u8; 64]], log_m: GfElement) {
+        match self {
+            DefaultEngine::Naive(engine) => engine.mul(steps, x, log_m),
+        }
+    }
+
+    fn eval_poly(&self, steps: &mut Steps, erasures: &mut [GfElement], truncated_size: usize) {
+        match self {
+            DefaultEngine::Naive(engine) => engine.eval_poly(steps, erasures, truncated_size),
+        }
+    }
+}

@@ -1,0 +1,4 @@
+//! The engines chosen by name.
+#![tactic(auto)]
+
+pub mod engine_default;
