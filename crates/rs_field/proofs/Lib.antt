@@ -11,6 +11,7 @@ pub mod Roots
 pub mod Values
 pub mod Columns
 pub mod Given
+pub mod Listed
 pub mod Unique
 pub mod HighCodes
 pub mod Decided
