@@ -300,16 +300,16 @@ complete_answers rate s marks new before after valid shaped even shards all none
     (subst (λ (t : DecoderShape). given_row_count marks t.frame.recovery_from s.recovery_count ≡ 0) shaped none)
     (subst (λ (t : DecoderShape). (i : ℕ) → i < s.original_count → is_restored (mark_at new (t.frame.originals_from + i)) ≡ not (is_given (mark_at marks (t.frame.originals_from + i)))) shaped marked))
 
--- the answer that is told: nothing where some message agrees, else the refusal
-pub told_answer : (rate : Rate) (s : DecoderShape) (marks new : List Mark) (before after : Chunks) (o r : ℕ) (agrees : Bool) (answer : Result (Unit {0}) Error)
-    → ((agrees ≡ true) × (answer ≡ Ok tt)) ⊎ ((agrees ≡ false) × (answer ≡ Err (InconsistentShards o r)))
+-- the answer that is told: that it is done where some message agrees, else the refusal
+pub told_answer : {T : Type 0} (done : T) (rate : Rate) (s : DecoderShape) (marks new : List Mark) (before after : Chunks) (o r : ℕ) (agrees : Bool) (answer : Result T Error)
+    → ((agrees ≡ true) × (answer ≡ Ok done)) ⊎ ((agrees ≡ false) × (answer ≡ Err (InconsistentShards o r)))
     → o ≡ given_row_count marks s.frame.originals_from s.original_count → r ≡ given_row_count marks s.frame.recovery_from s.recovery_count
     → AnswersOver rate s marks new before after agrees
     → MatchResult answer (λ _. Restored (state_over rate s marks before) (restored_over s new after)) (NoneAgrees (state_over rate s marks before))
-told_answer rate s marks new before after o r agrees answer (inl told) o_is r_is answers =
-    subst (λ (a : Result (Unit {0}) Error). MatchResult a (λ _. Restored (state_over rate s marks before) (restored_over s new after)) (NoneAgrees (state_over rate s marks before))) (sym told.1)
+told_answer {T = T} done rate s marks new before after o r agrees answer (inl told) o_is r_is answers =
+    subst (λ (a : Result T Error). MatchResult a (λ _. Restored (state_over rate s marks before) (restored_over s new after)) (NoneAgrees (state_over rate s marks before))) (sym told.1)
     (subst (λ b. AnswersOver rate s marks new before after b) told.0 answers)
-told_answer rate s marks new before after o r agrees answer (inr told) o_is r_is answers =
-    subst (λ (a : Result (Unit {0}) Error). MatchResult a (λ _. Restored (state_over rate s marks before) (restored_over s new after)) (NoneAgrees (state_over rate s marks before)))
+told_answer {T = T} done rate s marks new before after o r agrees answer (inr told) o_is r_is answers =
+    subst (λ (a : Result T Error). MatchResult a (λ _. Restored (state_over rate s marks before) (restored_over s new after)) (NoneAgrees (state_over rate s marks before)))
     (sym (told.1 ∙ ap₂ (λ (a b : ℕ). Err (InconsistentShards a b)) o_is r_is))
     (subst (λ b. AnswersOver rate s marks new before after b) told.0 answers)

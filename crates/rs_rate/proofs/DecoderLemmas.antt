@@ -238,3 +238,12 @@ none_after from n old new same after p =
       | inl inside ↦ ap is_given (after p inside) ∙ mark_after-given from n p (mark_at old p)
       | inr past ↦ ap is_given (get_or_past new p Empty (omega arith))
     ]
+
+-- and the rows of the originals hold a restored shard exactly where none was given before
+pub restored_after : (from n : ℕ) (before old new : List Mark) → old ≡ before → from + n ≤ length before
+    → ((p : ℕ) → p < length old → mark_at new p ≡ mark_after from n p (mark_at old p))
+    → (i : ℕ) → i < n → is_restored (mark_at new (from + i)) ≡ not (is_given (mark_at before (from + i)))
+restored_after from n before old new same fits after i inside =
+    let count = ap length same in
+    ap is_restored (after (from + i) (omega arith)) ∙ mark_after-restored from n i (mark_at old (from + i)) inside
+    ∙ ap (λ (marks : List Mark). not (is_given (mark_at marks (from + i)))) same

@@ -1,6 +1,7 @@
 -- The rows of a decoder, and what `decode` answers and leaves.
 use Rattle.std.proofs.Common.{◌≡◌, ℕ, ◌+◌, ◌^◌, true, refl, sym, ap, ◌∙◌, subst}
 use Rattle.std.specs.Prelude.{Result, Ok, Err, is_ok, cond, MatchResult}
+use Rattle.std.specs.Result.{result_map_both}
 use Rattle.rs_field.specs.declared.error.Error.{Error}
 use Rattle.rs_field.specs.Given.{Shards}
 use Rattle.rs_field.specs.Decoder.{DecoderState, fresh_decoder, enough_given, Restored, NoneAgrees, DecodeAnswers, after_decode}
@@ -47,5 +48,7 @@ decode_answers-refused s e refused = subst (λ enough. AnswersBy s enough (Err e
 pub after_decode-made : (s : DecoderState) → Ok tt ≡ enough_given s → after_decode s ≡ fresh_decoder s.configuration
 after_decode-made s made = sym (ap (LeftBy s) made)
 
-pub decode_answers-made : (s : DecoderState) (result : Result Shards Error) → Ok tt ≡ enough_given s → MatchResult result (Restored s) (NoneAgrees s) → DecodeAnswers s result
-decode_answers-made s result made answers = subst (λ enough. AnswersBy s enough result) made answers
+pub decode_answers-made : (s : DecoderState) (out : Shards) (told : Result ℕ Error) → Ok tt ≡ enough_given s → MatchResult told (λ _. Restored s out) (NoneAgrees s)
+    → DecodeAnswers s (result_map_both (λ _. out) (λ e. e) told)
+decode_answers-made s out (Ok count) made restored = subst (λ enough. AnswersBy s enough (Ok out)) made restored
+decode_answers-made s out (Err e) made none = subst (λ enough. AnswersBy s enough (Err e)) made none

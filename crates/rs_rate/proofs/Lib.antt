@@ -4,6 +4,7 @@ pub mod StateLemmas
 pub mod LowCoding
 pub mod RestoringRows
 pub mod DecoderLemmas
+pub mod ResultLemmas
 pub mod Erased
 pub mod DecodedColumns
 pub mod DecoderSteps

@@ -1,5 +1,5 @@
 -- The chunks of rows, and the shards in them.
-use Rattle.std.proofs.Common.{◌≡◌, ◌≢◌, ℕ, ◌+◌, ◌*◌, ◌/◌, ◌%◌, ◌<◌, ◌≤◌, List, [], ◌∷◌, ◌++◌, length, take, drop, get_or, refl, sym, ap, ◌∙◌, inl, inr, subst, arith, ◌⊎◌, add-one, rules, ap₂}
+use Rattle.std.proofs.Common.{◌≡◌, ◌≢◌, ℕ, ◌+◌, ◌*◌, ◌/◌, ◌%◌, ◌^◌, ◌<◌, ◌≤◌, List, [], ◌∷◌, ◌++◌, length, take, drop, get_or, refl, sym, ap, ◌∙◌, inl, inr, subst, arith, ◌⊎◌, add-one, rules, ap₂}
 use Rattle.std.proofs.Math.Nat.{mul-le-mul_right, mul-le-mul_left}
 use Rattle.std.specs.Prelude.{slice_index, flat_map}
 use Rattle.std.proofs.lemmas.Bool.{cases_eq}
@@ -26,6 +26,14 @@ unfolding chunk_count
 chunk_count-size n a b h = let longer : row_len a ≤ row_len b = omega (arith, h) in mul-le-mul_left n longer
 
 -- the chunks up to one row's end
+-- rows whose bytes are a `usize` are as few
+pub count-few : (n size : ℕ) → 0 < size → chunk_count n size * 64 < 2 ^ 64 → n < 2 ^ 64
+unfolding chunk_count
+count-few n size some fits =
+    let longer : 1 ≤ row_len size = omega (arith, some) in
+    let more = mul-le-mul_left n longer in
+    omega (arith, more, fits)
+
 pub row_end : (i size : ℕ) → chunk_count (i + 1) size ≡ i * row_len size + row_len size
 unfolding chunk_count
 row_end i size = omega arith

@@ -1,10 +1,11 @@
 -- What a decoder's rows and working space stand for.
-use Rattle.std.specs.Prelude.{◌≡◌, ◌≢◌, ◌+◌, ◌%◌, ◌<◌, ◌≤◌, ℕ, Bool, true, false, Option, Some, None}
+use Rattle.std.specs.Prelude.{◌≡◌, ◌≢◌, ◌+◌, ◌-◌, ◌%◌, ◌<◌, ◌≤◌, ℕ, Bool, true, false, List, Option, Some, None}
 use Rattle.std.specs.Vec.{vec_capacity}
+use Rattle.rs_field.specs.Column.{Shard}
 use Rattle.rs_field.specs.Counts.{Rate}
 use Rattle.rs_field.specs.Placement.{placement, decoder_rows}
 use Rattle.rs_field.specs.Configuration.{Configuration, configuration}
-use Rattle.rs_field.specs.Given.{Shards}
+use Rattle.rs_field.specs.Given.{Shards, listed_from}
 use Rattle.rs_field.specs.Decoder.{DecoderState}
 use Rattle.rs_rate.specs.declared.rate.decoder_work.Frame.{Frame}
 use Rattle.rs_rate.specs.declared.rate.decoder_work.DecoderShape.{DecoderShape}
@@ -32,6 +33,10 @@ decoder_state rate rows =
 abbrev pub restored_of : DecoderRows → Shards
 restored_of rows =
     restored_shards rows.memory.marks.items rows.memory.chunks.items rows.shape.shard_bytes rows.shape.frame.originals_from rows.shape.original_count
+
+-- the originals that lie restored in the rows from an index on, with their indexes, in order of index
+abbrev pub restored_from : DecoderRows → ℕ → List (ℕ × Shard)
+restored_from rows index = listed_from index (rows.shape.original_count - index) (restored_of rows)
 
 -- where a decoder of this rate has its shards and zeros, and its rows
 unfoldable pub frame_of : Rate → ℕ → ℕ → Frame

@@ -1,21 +1,36 @@
 //! The restored originals of a round, lent from the decoder.
+ghost use Rattle.std.specs.Prelude.{◌≡◌, length, Some, IfSome};
+ghost use Rattle.std.specs.Iterator.{YieldsFirstBy, item_count, at_most, UpTo};
+ghost use Rattle.std.specs.Iterator.SizeHint.{IsWithinCount};
+ghost use Rattle.rs_rate.specs.DecoderView.{restored_from};
+
 use crate::rate::decoder_work::DecoderRows;
+use std::iter::FusedIterator;
+use std::marker::Model;
 
 /// The originals that `decode` restored. They are lent from the working space, without copying.
 #[derive(Drop)]
 pub struct DecoderResult<'a> {
     rows: &'a DecoderRows,
+    restored_count: usize,
+    pub ghost counted: { restored_count ≡ length (restored_from rows.now 0) },
 }
 
 impl<'a> DecoderResult<'a> {
-    ghost use Rattle.std.specs.Prelude.{◌≡◌, option_copied};
+    ghost use Rattle.std.specs.Prelude.{◌^◌, ◌<◌, option_copied};
+    ghost use Rattle.rs_field.specs.Given.{Lists};
     ghost use Rattle.rs_rate.specs.DecoderView.{restored_of};
     ghost use Rattle.rs_rate.specs.ResultView.{restored_originals};
 
-    pub(crate) fn new(rows: &'a DecoderRows) -> DecoderResult<'a>
+    // The result over the rows, in which so many originals lie restored.
+    pub(crate) fn new(rows: &'a DecoderRows, restored_count: usize) -> DecoderResult<'a>
+        requires { restored_count ≡ length (restored_from rows.now 0) }
         ensures { restored_originals result ≡ restored_of rows.now }
     {
-        DecoderResult { rows }
+        DecoderResult {
+            rows,
+            restored_count,
+        }
     }
 
     /// The restored original at `index`; None where that original was given or there is none of this index.
@@ -24,4 +39,69 @@ impl<'a> DecoderResult<'a> {
     {
         self.rows.restored_original(index)
     }
+
+    /// The restored originals with their indexes, in order of index. There are no more than a `usize` can count.
+    pub fn restored_original_iter(&self) -> RestoredOriginal<'_>
+        ensures listed { Lists (restored_originals self.now) result }
+        ensures few { length result < 2 ^ 64 }
+    {
+        RestoredOriginal {
+            rows: self.rows,
+            next_index: 0,
+            left: self.restored_count,
+        }
+    }
 }
+
+/// The restored originals of a round that are still to come, with their indexes, in order of index. They are lent from
+/// the working space.
+#[derive(Drop)]
+pub struct RestoredOriginal<'a> {
+    rows: &'a DecoderRows,
+    next_index: usize,
+    left: usize,
+}
+
+impl<'a> Model for RestoredOriginal<'a> {
+    ghost use Rattle.std.specs.Prelude.{◌≡◌, ℕ, List, length};
+    ghost use Rattle.rs_field.specs.Column.{Shard};
+    ghost use Rattle.rs_rate.specs.DecoderView.{restored_from};
+
+    ghost Value = { List (ℕ × Shard) };
+
+    ghost view = { λ x. restored_from x.rows.now x.next_index };
+
+    ghost invariant = { λ x. x.left ≡ length (restored_from x.rows.now x.next_index) };
+}
+
+impl<'a> Iterator for RestoredOriginal<'a> {
+    type Item = (usize, &'a [u8]);
+
+    ghost next_gives = { YieldsFirstBy (λ item. (item.0, item.1.now)) (λ items. items) };
+
+    ghost remaining = { item_count (λ items. items) };
+
+    fn next(&mut self) -> Option<(usize, &'a [u8])> {
+        let rows = self.rows;
+        let (index, shard) = rows.next_restored(self.next_index)?;
+        self.next_index = index + 1;
+        self.left -= 1;
+        Some((index, shard))
+    }
+
+    fn size_hint(&self) -> (usize, Option<usize>)
+        ensures lower { IsWithinCount result.0 (at_most (length self.now)) }
+        ensures upper { IfSome result.1 (UpTo (at_most (length self.now))) }
+        ensures exact { (result.0 ≡ length self.now) × (result.1 ≡ Some (length self.now)) }
+    {
+        (self.left, Some(self.left))
+    }
+}
+
+impl<'a> ExactSizeIterator for RestoredOriginal<'a> {
+    fn len(&self) -> usize {
+        self.left
+    }
+}
+
+impl<'a> FusedIterator for RestoredOriginal<'a> {}

@@ -1,5 +1,11 @@
 //! The recovery shards of a round, lent from the encoder.
+ghost use Rattle.std.specs.Prelude.{◌≡◌, length, Some, IfSome};
+ghost use Rattle.std.specs.Iterator.{YieldsFirstRef, item_count, at_most, UpTo};
+ghost use Rattle.std.specs.Iterator.SizeHint.{IsWithinCount};
+
 use crate::rate::encoder_work::EncoderRows;
+use std::iter::FusedIterator;
+use std::marker::Model;
 
 /// The recovery shards that `encode` made. They are lent from the working space, without copying.
 #[derive(Drop)]
@@ -8,7 +14,7 @@ pub struct EncoderResult<'a> {
 }
 
 impl<'a> EncoderResult<'a> {
-    ghost use Rattle.std.specs.Prelude.{◌≡◌, ◌<◌, ◌≤◌, length, MatchOption};
+    ghost use Rattle.std.specs.Prelude.{◌≡◌, ◌^◌, ◌<◌, ◌≤◌, length, MatchOption};
     ghost use Rattle.rs_field.specs.Column.{shard_at};
     ghost use Rattle.rs_rate.specs.EncoderView.{lent_of};
     ghost use Rattle.rs_rate.specs.ResultView.{recovery_shards};
@@ -26,4 +32,69 @@ impl<'a> EncoderResult<'a> {
     {
         self.rows.recovery(index)
     }
+
+    /// The recovery shards in order of index. There are no more than a `usize` can count.
+    pub fn recovery_iter(&self) -> Recovery<'_>
+        ensures shards { result ≡ recovery_shards self.now }
+        ensures few { length (recovery_shards self.now) < 2 ^ 64 }
+    {
+        Recovery {
+            rows: self.rows,
+            next_index: 0,
+        }
+    }
 }
+
+/// The recovery shards of a round that are still to come, in order of index. They are lent from the working space.
+#[derive(Drop)]
+pub struct Recovery<'a> {
+    rows: &'a EncoderRows,
+    next_index: usize,
+}
+
+impl<'a> Model for Recovery<'a> {
+    ghost use Rattle.std.specs.Prelude.{◌≤◌, List, drop};
+    ghost use Rattle.rs_field.specs.Column.{Shard};
+    ghost use Rattle.rs_rate.specs.EncoderView.{lent_of};
+
+    ghost Value = { List Shard };
+
+    ghost view = { λ x. drop x.next_index (lent_of x.rows.now) };
+
+    ghost invariant = { λ x. x.next_index ≤ x.rows.now.shape.recovery_count };
+}
+
+impl<'a> Iterator for Recovery<'a> {
+    type Item = &'a [u8];
+
+    ghost next_gives = { YieldsFirstRef (λ shards. shards) };
+
+    ghost remaining = { item_count (λ shards. shards) };
+
+    fn next(&mut self) -> Option<&'a [u8]> {
+        let rows = self.rows;
+        let index = self.next_index;
+        if index >= rows.shape.recovery_count {
+            return None;
+        }
+        self.next_index = index + 1;
+        rows.recovery(index)
+    }
+
+    fn size_hint(&self) -> (usize, Option<usize>)
+        ensures lower { IsWithinCount result.0 (at_most (length self.now)) }
+        ensures upper { IfSome result.1 (UpTo (at_most (length self.now))) }
+        ensures exact { (result.0 ≡ length self.now) × (result.1 ≡ Some (length self.now)) }
+    {
+        let left = self.len();
+        (left, Some(left))
+    }
+}
+
+impl<'a> ExactSizeIterator for Recovery<'a> {
+    fn len(&self) -> usize {
+        self.rows.shape.recovery_count - self.next_index
+    }
+}
+
+impl<'a> FusedIterator for Recovery<'a> {}

@@ -5,5 +5,5 @@ mod decoder_result;
 mod encoder_result;
 pub mod rate;
 
-pub use decoder_result::DecoderResult;
-pub use encoder_result::EncoderResult;
+pub use decoder_result::{DecoderResult, RestoredOriginal};
+pub use encoder_result::{EncoderResult, Recovery};

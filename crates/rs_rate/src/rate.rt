@@ -12,6 +12,7 @@ mod low_encoding;
 mod marks;
 mod memory;
 mod restoring;
+pub mod rounds;
 mod shard_rows;
 
 use crate::decoder_result::DecoderResult;

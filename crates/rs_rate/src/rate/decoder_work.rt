@@ -1,5 +1,5 @@
 //! The working space of a decoder: the memory that is handed on, and a decoder's rows in it.
-ghost use Rattle.std.specs.Prelude.{◌≡◌, ◌≢◌, ℕ, ◌+◌, ◌*◌, ◌%◌, ◌^◌, ◌<◌, ◌≤◌, true, length, vec_len, IfOk, IfErr, IfSome, OnOk, OnErr, IsOk, option_copied};
+ghost use Rattle.std.specs.Prelude.{◌≡◌, ◌≢◌, ℕ, ◌+◌, ◌*◌, ◌%◌, ◌^◌, ◌<◌, ◌≤◌, true, length, vec_len, IfOk, IfErr, IfSome, OnOk, OnErr, IsOk, MatchOption, [], ◌∷◌, option_copied};
 ghost use Rattle.std.specs.Vec.{vec_capacity};
 ghost use Rattle.rs_field.specs.Column.{IsShard};
 ghost use Rattle.rs_field.specs.Counts.{Rate};
@@ -171,7 +171,7 @@ impl DecoderMemory {
 }
 
 impl DecoderRows {
-    ghost use Rattle.rs_rate.specs.DecoderView.{CanBeLaid, HasRoom, Grows, configuration_of, decoder_state, memory_room, work_room, restored_of};
+    ghost use Rattle.rs_rate.specs.DecoderView.{CanBeLaid, HasRoom, Grows, configuration_of, decoder_state, memory_room, work_room, restored_of, restored_from};
 
     // Rows with nothing given, in the memory of `work` where one is passed.
     pub(crate) fn new(
@@ -311,5 +311,18 @@ impl DecoderRows {
             return None;
         }
         Some(shard_at(self.memory.chunks.as_slice(), self.shape.shard_bytes, row))
+    }
+
+    // The first restored original from an index on, with its index.
+    pub(crate) fn next_restored(&self, from: usize) -> Option<(usize, &[u8])>
+        ensures { MatchOption result (restored_from self.now from ≡ [])
+            (λ item. (item.0 < self.now.shape.original_count) × (restored_from self.now from ≡ (item.0, item.1.now) ∷ restored_from self.now (item.0 + 1))) }
+    {
+        for index in from..self.shape.original_count {
+            if let Some(shard) = self.restored_original(index) {
+                return Some((index, shard));
+            }
+        }
+        None
     }
 }

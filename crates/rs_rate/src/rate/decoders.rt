@@ -6,7 +6,7 @@ ghost use Rattle.rs_rate.specs.DecoderView.{configuration_of, decoder_shape as d
 use crate::decoder_result::DecoderResult;
 use crate::rate::code::{Code, DefaultCode, HighCode, LowCode, RateOf, decoder_shape, validate};
 use crate::rate::decoder_work::DecoderRows;
-use crate::rate::decoding::decode_rows;
+use crate::rate::rounds::{decode_round, lent_originals};
 use crate::rate::{DecoderWork, RateDecoder};
 use rs_field::engine::{Engine, Steps};
 use rs_field::error::Error;
@@ -25,8 +25,8 @@ pub type DefaultRateDecoder<E> = Decoder<E, DefaultCode>;
 /// The decoder of a rate: an engine, and rows set up for counts that the rate supports.
 #[derive(Drop)]
 pub struct Decoder<E: Engine, C: Code> {
-    engine: E,
-    rows: DecoderRows,
+    pub(crate) engine: E,
+    pub(crate) rows: DecoderRows,
     code: PhantomData<C>,
     pub ghost valid: { validated (configuration_of C.rate rows.shape) ≡ Ok tt },
     pub ghost shaped: { rows.shape ≡ decoder_shape_of C.rate rows.shape.original_count rows.shape.recovery_count rows.shape.shard_bytes },
@@ -95,9 +95,8 @@ impl<E: Engine, C: Code> RateDecoder<E> for Decoder<E, C> {
     }
 
     fn decode(&mut self, steps: &mut Steps) -> Result<DecoderResult<'_>, Error> {
-        self.rows.check_enough_given()?;
-        decode_rows(&self.engine, steps, &mut self.rows)?;
-        Ok(DecoderResult::new(&self.rows))
+        let restored_count = decode_round(self, steps)?;
+        Ok(lent_originals(self, restored_count))
     }
 
     fn into_parts(self) -> (E, DecoderWork) {

@@ -1,12 +1,12 @@
 //! The decoding of a round, for every rate: the locator of the erased points, the rows over the chunks, the tails, and
 //! the round's end.
-ghost use Rattle.std.specs.Prelude.{◌≡◌, ℕ, ◌+◌, ◌-◌, ◌*◌, ◌/◌, ◌%◌, ◌^◌, ◌<◌, ◌≤◌, ◌⊎◌, true, false, Ok, List, length, slice_index, MatchResult};
+ghost use Rattle.std.specs.Prelude.{◌≡◌, ℕ, ◌+◌, ◌-◌, ◌*◌, ◌/◌, ◌%◌, ◌^◌, ◌<◌, ◌≤◌, ◌⊎◌, true, false, Ok, List, length, slice_index, IfOk, MatchResult};
 ghost use Rattle.rs_field.specs.Bounds.{CountsRows, CountsUpTo, LocatorCounts, decode_steps, transform_steps};
 ghost use Rattle.rs_field.specs.Configuration.{validated};
 ghost use Rattle.rs_field.specs.Counts.{Rate};
 ghost use Rattle.rs_field.specs.Decoder.{fresh_decoder, Restored, NoneAgrees};
 ghost use Rattle.rs_field.specs.Layout.{row_len as chunks_for};
-ghost use Rattle.rs_rate.specs.DecoderView.{configuration_of, decoder_shape, decoder_state, memory_room, restored_of};
+ghost use Rattle.rs_rate.specs.DecoderView.{configuration_of, decoder_shape, decoder_state, memory_room, restored_of, restored_from};
 ghost use Rattle.rs_rate.specs.Decoding.{restore_steps, IsLocatorOf, RestoresWords, RestoresShards};
 ghost use Rattle.rs_rate.specs.Marks.{mark_at, is_given, erased, given_row_count, ArePlaced};
 ghost use Rattle.rs_rate.specs.ShardRows.{chunk_count, word_in, shard_laid_out, shard_in_order};
@@ -19,18 +19,20 @@ use rs_field::engine::layout::row_len;
 use rs_field::engine::{Engine, GF_ORDER, GfElement, ShardsRefMut, Steps};
 use rs_field::error::Error;
 
-// Restores the missing originals, or refuses where no message agrees with all that is given; ends the round.
+// Restores the missing originals and answers how many they are, or refuses where no message agrees with all that is
+// given; ends the round.
 pub(crate) fn decode_rows<E: Engine>(
     engine: &E,
     steps: &mut Steps,
     rows: &mut DecoderRows,
-) -> Result<(), Error>
+) -> Result<usize, Error>
     requires power { (d : ℕ) × (rows.old.shape.frame.row_count ≡ 2 ^ d) }
     requires enough { rows.old.shape.original_count ≤ rows.old.originals_given + rows.old.recovery_given }
     ensures state { (rate : Rate) → decoder_state rate rows.new ≡ fresh_decoder (configuration_of rate rows.old.shape) }
     ensures answer { (rate : Rate) → validated (configuration_of rate rows.old.shape) ≡ Ok tt
         → rows.old.shape ≡ decoder_shape rate rows.old.shape.original_count rows.old.shape.recovery_count rows.old.shape.shard_bytes
         → MatchResult result (λ _. Restored (decoder_state rate rows.old) (restored_of rows.new)) (NoneAgrees (decoder_state rate rows.old)) }
+    ensures counted { IfOk result (λ count. count ≡ length (restored_from rows.new 0)) }
     ensures shape { rows.new.shape ≡ rows.old.shape }
     ensures room { memory_room rows.new.memory ≡ memory_room rows.old.memory }
     ensures counts { CountsUpTo (decode_steps rows.old.shape.frame.row_count) 1048576 65536 steps.old steps.new }
@@ -42,7 +44,7 @@ pub(crate) fn decode_rows<E: Engine>(
     let surplus = original_received_count + recovery_received_count - shape.original_count;
     let agrees = restore(engine, steps, &mut rows.memory, shape, missing, surplus);
     let answer = if agrees {
-        Ok(())
+        Ok(missing)
     } else {
         Err(Error::InconsistentShards {
             original_received_count,

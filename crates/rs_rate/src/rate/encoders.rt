@@ -7,7 +7,7 @@ ghost use Rattle.rs_rate.specs.EncoderView.{configuration_of, encoder_shape as e
 use crate::encoder_result::EncoderResult;
 use crate::rate::code::{Code, DefaultCode, HighCode, LowCode, RateOf, encoder_shape, validate};
 use crate::rate::encoder_work::EncoderRows;
-use crate::rate::encoding::encode_rows;
+use crate::rate::rounds::{encode_round, lent_recovery};
 use crate::rate::{EncoderWork, RateEncoder};
 use rs_field::engine::{Engine, Steps};
 use rs_field::error::Error;
@@ -26,8 +26,8 @@ pub type DefaultRateEncoder<E> = Encoder<E, DefaultCode>;
 /// The encoder of a rate: an engine, and rows set up for counts that the rate supports.
 #[derive(Drop)]
 pub struct Encoder<E: Engine, C: Code> {
-    engine: E,
-    rows: EncoderRows,
+    pub(crate) engine: E,
+    pub(crate) rows: EncoderRows,
     code: PhantomData<C>,
     pub ghost valid: { validated (configuration_of C.rate rows.shape) ≡ Ok tt },
     pub ghost shaped: { rows.shape ≡ encoder_shape_of C.rate rows.shape.original_count rows.shape.recovery_count rows.shape.shard_bytes },
@@ -92,9 +92,8 @@ impl<E: Engine, C: Code> RateEncoder<E> for Encoder<E, C> {
     }
 
     fn encode(&mut self, steps: &mut Steps) -> Result<EncoderResult<'_>, Error> {
-        self.rows.check_all_given()?;
-        encode_rows::<E, C>(&self.engine, steps, &mut self.rows);
-        Ok(EncoderResult::new(&self.rows))
+        encode_round(self, steps)?;
+        Ok(lent_recovery(self))
     }
 
     fn into_parts(self) -> (E, EncoderWork) {

@@ -1,17 +1,20 @@
 use Rattle.std.proofs.Common.{◌≡◌, ◌+◌, ◌-◌, ◌<◌, ℕ, List, true, false, length, sym, ap, ◌∙◌, subst, arith, inl, inr}
-use Rattle.std.specs.Prelude.{Ok, Err, MatchResult, ◌⊎◌}
+use Rattle.std.proofs.Math.Nat.{sub-zero}
+use Rattle.std.specs.Prelude.{Ok, Err, IfOk, MatchResult, ◌⊎◌}
 use Rattle.rs_field.specs.declared.error.Error.TheVariants.{InconsistentShards}
 use Rattle.std.proofs.lemmas.Bool.{cases_eq}
 use Rattle.std.proofs.lemmas.List.{with_items_is}
 use Rattle.rs_field.specs.Column.{IsShard}
 use Rattle.rs_field.specs.Decoder.{Restored, NoneAgrees}
+use Rattle.rs_field.specs.Given.{listed_from}
 use Rattle.rs_field.specs.Rows.{Chunks}
 use Rattle.rs_rate.specs.declared.rate.marks.Mark.{Mark}
-use Rattle.rs_rate.specs.Marks.{mark_at, mark_after, is_given, is_restored}
+use Rattle.rs_rate.specs.Marks.{mark_at, is_given, restored_shards}
 use Rattle.rs_rate.specs.ShardRows.{shard_in_order}
 use Rattle.rs_rate.specs.DecoderView.{decoder_state}
 use Rattle.rs_rate.proofs.DecodeAnswer.{restored_over, AnswersOver, decode_answers, complete_answers, told_answer}
-use Rattle.rs_rate.proofs.DecoderLemmas.{given_row_count-most, given_row_count-nothing, nothing-given, none_after, mark_after-restored}
+use Rattle.rs_rate.proofs.DecoderLemmas.{given_row_count-most, given_row_count-nothing, nothing-given, none_after, restored_after}
+use Rattle.rs_rate.proofs.ResultLemmas.{length-restored}
 use Rattle.rs_rate.proofs.rate.decoding.decode_rows.Goals as goal
 use Rattle.rs_rate.proofs.rate.decoding.decode_rows.Goals.{then-agrees, else-agrees}
 
@@ -90,18 +93,13 @@ returns-clause-answer g c = λ rate valid shaped.
     let chunks = c.restore-agrees.new.memory.chunks.items in
     let are = with_items_is c.restore-agrees.new.memory.marks marks (omega (arith, c.end_marks.auto.marks, c.as_mut_slice.ensures.len)) in
     let same = c.as_mut_slice.ensures.value ∙ c.restore-agrees.ensures.marks in
-    let count = ap length same in
     let most = given_row_count-most given from s.original_count in
     let most_too = given_row_count-most given s.frame.recovery_from s.recovery_count in
-    let marked = λ (i : ℕ) (inside : i < s.original_count).
-    ap is_restored
-    (c.end_marks.ensures (from + i) (omega (arith, count, inside, old.original_rows, old.marked))
-    ∙ ap (λ (ms : List Mark). mark_after from s.original_count (from + i) (mark_at ms (from + i))) same)
-    ∙ mark_after-restored from s.original_count i (mark_at old.memory.marks.items (from + i)) inside in
+    let marked = restored_after from s.original_count given c.as_mut_slice.result.now marks same (omega (arith, old.original_rows, old.marked)) c.end_marks.ensures in
     let sized = λ (i : ℕ) (inside : i < s.original_count).
     subst (λ (xs : Chunks). IsShard s.shard_bytes (shard_in_order xs s.shard_bytes (from + i))) c.as_slice.ensures.value
     (c.in_order_are_bytes.ensures (from + i) (omega (arith, inside, old.original_rows))) in
-    let told : ((c.restore-agrees.result ≡ true) × (c.if-agrees.answer ≡ Ok tt))
+    let told : ((c.restore-agrees.result ≡ true) × (c.if-agrees.answer ≡ Ok (s.original_count - old.originals_given)))
     ⊎ ((c.restore-agrees.result ≡ false) × (c.if-agrees.answer ≡ Err (InconsistentShards c.args.rows.now.originals_given c.args.rows.now.recovery_given))) =
     elim c.if-agrees.branch [ then-agrees w ↦ inl (w.if-agrees.true, w.answer-is) | else-agrees w ↦ inr (w.if-agrees.false, w.answer-is) ] in
     let over : AnswersOver rate c.args.rows.now.shape c.args.rows.now.memory.marks.items c.end_marks.new.marks c.args.rows.now.memory.chunks.items c.restore-agrees.new.memory.chunks.items c.restore-agrees.result =
@@ -126,4 +124,22 @@ returns-clause-answer g c = λ rate valid shaped.
           })
     ] in
     subst (λ (ms : List Mark). MatchResult c.if-agrees.answer (λ _. Restored (decoder_state rate old) (restored_over s ms chunks)) (NoneAgrees (decoder_state rate old))) (sym are)
-    (told_answer rate s given marks before chunks old.originals_given old.recovery_given c.restore-agrees.result c.if-agrees.answer told old.originals_counted old.recovery_counted over)
+    (told_answer (s.original_count - old.originals_given) rate s given marks before chunks old.originals_given old.recovery_given c.restore-agrees.result c.if-agrees.answer told old.originals_counted old.recovery_counted over)
+
+pub returns-clause-counted : goal.returns-clause-counted
+returns-clause-counted g c =
+    let old = c.args.rows.now in
+    let s = old.shape in
+    let from = s.frame.originals_from in
+    let given = old.memory.marks.items in
+    let marks = c.end_marks.new.marks in
+    let chunks = c.restore-agrees.new.memory.chunks.items in
+    let are = with_items_is c.restore-agrees.new.memory.marks marks (omega (arith, c.end_marks.auto.marks, c.as_mut_slice.ensures.len)) in
+    let same = c.as_mut_slice.ensures.value ∙ c.restore-agrees.ensures.marks in
+    let marked = restored_after from s.original_count given c.as_mut_slice.result.now marks same (omega (arith, old.original_rows, old.marked)) c.end_marks.ensures in
+    let counted = length-restored given marks chunks s.shard_bytes from s.original_count marked in
+    subst (λ (ms : List Mark). IfOk c.if-agrees.answer (λ count. count ≡ length (listed_from 0 (s.original_count - 0) (restored_shards ms chunks s.shard_bytes from s.original_count)))) (sym are)
+    (elim c.if-agrees.branch [
+      | then-agrees w ↦ rw (w.answer-is, sub-zero) (omega (arith, counted, old.originals_counted))
+      | else-agrees w ↦ rw (w.answer-is) tt
+    ])

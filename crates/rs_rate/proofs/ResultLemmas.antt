@@ -1,0 +1,120 @@
+-- The shards of a result that are still to come.
+use Rattle.std.proofs.Common.{◌≡◌, ℕ, zero, suc, ◌+◌, ◌-◌, ◌^◌, ◌<◌, ◌≤◌, List, [], ◌∷◌, length, drop, Bool, true, false, cond, refl, sym, ap, ap₂, ◌∙◌, arith}
+use Rattle.std.proofs.Math.Nat.{sub-zero}
+use Rattle.std.proofs.Math.Seq.{drop-cons}
+use Rattle.std.proofs.lemmas.List.{length-drop, drop_all}
+use Rattle.std.specs.Borrow.{Bor}
+use Rattle.std.specs.Prelude.{Option, Some, None, is_some, not, option_copied, MatchOption}
+use Rattle.rs_field.specs.Column.{Shard}
+use Rattle.rs_field.specs.Given.{Shards, Lists, listed, listed_from, count_below}
+use Rattle.rs_field.specs.Rows.{Chunks}
+use Rattle.rs_field.proofs.Given.{count_below-zero, count_below-suc}
+use Rattle.rs_field.proofs.LayoutLemmas.{length-up_to, get-up_to}
+use Rattle.rs_field.proofs.Listed.{listed_from-none, listed_from-some, listed_from-past, length-listed}
+use Rattle.rs_rate.specs.declared.rate.decoder_work.DecoderRows.{DecoderRows}
+use Rattle.rs_rate.specs.declared.rate.encoder_work.EncoderRows.{EncoderRows}
+use Rattle.rs_rate.specs.declared.rate.marks.Mark.{Mark}
+use Rattle.rs_rate.specs.DecoderView.{restored_of, restored_from}
+use Rattle.rs_rate.specs.EncoderView.{lent_of}
+use Rattle.rs_rate.specs.Marks.{mark_at, is_given, is_restored, given_row_count, restored_shards}
+use Rattle.rs_rate.specs.ShardRows.{shard_in_order}
+use Rattle.rs_rate.proofs.DecoderLemmas.{given_row_count-zero, given_row_count-suc, restored-out, restored-marked}
+use Rattle.rs_rate.proofs.ShardRowsLemmas.{count-few}
+
+-- the recovery shards from an index on
+pub length-left : (rows : EncoderRows) (i : ℕ) → length (drop i (lent_of rows)) ≡ rows.shape.recovery_count - i
+length-left rows i =
+    length-drop i (lent_of rows) ∙ ap (λ n. n - i) (length-up_to rows.shape.recovery_count (shard_in_order rows.chunks.items rows.shape.shard_bytes))
+
+pub left-past : (rows : EncoderRows) (i : ℕ) → rows.shape.recovery_count ≤ i → drop i (lent_of rows) ≡ []
+left-past rows i past =
+    let count = length-up_to rows.shape.recovery_count (shard_in_order rows.chunks.items rows.shape.shard_bytes) in
+    drop_all i (lent_of rows) (omega arith)
+
+-- a look-up of the next index lends the first of them
+pub lends_next : (rows : EncoderRows) (i : ℕ) (r : Option (Bor Shard)) → i < rows.shape.recovery_count
+    → MatchOption r (rows.shape.recovery_count ≤ i)
+    (λ shard. (i < rows.shape.recovery_count) × (shard.now ≡ shard_in_order rows.chunks.items rows.shape.shard_bytes i))
+    → (shard : Bor Shard) × (r ≡ Some shard) × (drop i (lent_of rows) ≡ shard.now ∷ drop (i + 1) (lent_of rows))
+lends_next rows i None inside lends = absurd (let no : ⊥ = omega (arith, lends) in no)
+lends_next rows i (Some shard) inside lends =
+    let f = shard_in_order rows.chunks.items rows.shape.shard_bytes in
+    let count = length-up_to rows.shape.recovery_count f in (
+      shard,
+      refl,
+      drop-cons (lent_of rows) i [] (omega arith)
+          ∙ ap₂ (λ x n. x ∷ drop n (lent_of rows)) (get-up_to rows.shape.recovery_count f i [] inside ∙ sym lends.1) (let n : suc i ≡ i + 1 = omega arith in n),
+    )
+
+-- the restored originals from an index on
+pub restored_from-past : (rows : DecoderRows) (i : ℕ) → rows.shape.original_count ≤ i → restored_from rows i ≡ []
+restored_from-past rows i past = listed_from-past i rows.shape.original_count (restored_of rows) past
+
+pub restored_from-none : (rows : DecoderRows) (i : ℕ) (r : Option (Bor Shard)) → i < rows.shape.original_count → r ≡ None → option_copied r ≡ restored_of rows i
+    → restored_from rows i ≡ restored_from rows (i + 1)
+restored_from-none rows i r inside none lends =
+    listed_from-none i rows.shape.original_count (restored_of rows) inside (sym lends ∙ ap option_copied none)
+
+pub restored_from-some : (rows : DecoderRows) (i : ℕ) (r : Option (Bor Shard)) (shard : Bor Shard) → i < rows.shape.original_count → r ≡ Some shard
+    → option_copied r ≡ restored_of rows i → restored_from rows i ≡ (i, shard.now) ∷ restored_from rows (i + 1)
+restored_from-some rows i r shard inside some lends =
+    listed_from-some i rows.shape.original_count (restored_of rows) shard.now inside (sym lends ∙ ap option_copied some)
+
+-- all restored originals
+restored_from-all : (rows : DecoderRows) → restored_from rows 0 ≡ listed rows.shape.original_count (restored_of rows)
+restored_from-all rows = ap (λ n. listed_from 0 n (restored_of rows)) (sub-zero rows.shape.original_count)
+
+pub lists-restored : (rows : DecoderRows) → Lists (restored_of rows) (restored_from rows 0)
+lists-restored rows = record {
+  count = rows.shape.original_count;
+  none_past = restored-out rows.memory.marks.items rows.memory.chunks.items rows.shape.shard_bytes rows.shape.frame.originals_from rows.shape.original_count;
+  in_order = restored_from-all rows;
+}
+
+-- as many originals are restored as were not given
+count-restored : (old new : List Mark) (chunks : Chunks) (size from m n : ℕ) → n ≤ m
+    → ((i : ℕ) → i < m → is_restored (mark_at new (from + i)) ≡ not (is_given (mark_at old (from + i))))
+    → count_below n (restored_shards new chunks size from m) + given_row_count old from n ≡ n
+count-restored old new chunks size from m zero fits marked =
+    let none = count_below-zero (restored_shards new chunks size from m) in
+    let none_too = given_row_count-zero old from in
+    omega arith
+count-restored old new chunks size from m (suc n) fits marked =
+    let before = count-restored old new chunks size from m n (omega arith) marked in
+    let more = count_below-suc n (restored_shards new chunks size from m) in
+    let more_too = given_row_count-suc old from n in
+    let given = is_given (mark_at old (from + n)) in
+    let here = ap {B = ℕ} (λ o. cond (is_some o) 1 0) (restored-marked new chunks size from m n (not given) (omega arith) (marked n (omega arith))) in
+    omega (arith, by_mark given (shard_in_order chunks size (from + n)), here)
+  where
+    by_mark : (given : Bool) (shard : Shard) → cond (is_some (cond (not given) (Some shard) None)) 1 0 + cond given 1 0 ≡ 1
+    by_mark true shard = refl
+    by_mark false shard = refl
+
+pub length-restored : (old new : List Mark) (chunks : Chunks) (size from n : ℕ)
+    → ((i : ℕ) → i < n → is_restored (mark_at new (from + i)) ≡ not (is_given (mark_at old (from + i))))
+    → length (listed n (restored_shards new chunks size from n)) + given_row_count old from n ≡ n
+length-restored old new chunks size from n marked =
+    let counted = length-listed n (restored_shards new chunks size from n) in
+    omega (arith, counted, count-restored old new chunks size from n n (omega arith) marked)
+
+-- there are at most as many shards below an index
+count-most : (n : ℕ) (given : Shards) → count_below n given ≤ n
+count-most zero given = let none = count_below-zero given in omega (arith, none)
+count-most (suc n) given = let more = count_below-suc n given in omega (arith, count-most n given, at_most_one (is_some (given n)), more)
+  where
+    at_most_one : (b : Bool) → cond b 1 0 ≤ 1
+    at_most_one true = let le : 1 ≤ 1 = omega arith in le
+    at_most_one false = let le : 0 ≤ 1 = omega arith in le
+
+-- no more originals are restored than rows can be
+pub restored-few : (rows : DecoderRows) → length (restored_from rows 0) < 2 ^ 64
+restored-few rows =
+    let listed_all = ap length (restored_from-all rows) ∙ length-listed rows.shape.original_count (restored_of rows) in
+    omega (arith, listed_all, count-most rows.shape.original_count (restored_of rows), rows.few, rows.original_rows)
+
+-- nor recovery shards made
+pub recovery-few : (rows : EncoderRows) → length (lent_of rows) < 2 ^ 64
+recovery-few rows =
+    let made = length-up_to rows.shape.recovery_count (shard_in_order rows.chunks.items rows.shape.shard_bytes) in
+    omega (arith, made, rows.recovery, count-few rows.shape.row_count rows.shape.shard_bytes rows.positive rows.sized)

@@ -1,0 +1,52 @@
+use Rattle.std.proofs.Common.{ℕ, sym, ap, ◌∙◌, subst, arith}
+use Rattle.std.proofs.lemmas.Result.{err_from_is_err_and}
+use Rattle.rs_field.specs.Bounds.{CountsUpTo, decode_steps}
+use Rattle.rs_rate.specs.DecoderView.{configuration_of, decoder_state, restored_of}
+use Rattle.rs_rate.proofs.DecoderLemmas.{count-given}
+use Rattle.rs_rate.proofs.DecoderSteps.{enough-least}
+use Rattle.rs_rate.proofs.StateLemmas.{valid-supported}
+use Rattle.rs_rate.proofs.RateLemmas.{frame-power}
+use Rattle.rs_rate.proofs.DecoderRows.{after_decode-refused, after_decode-made, decode_answers-refused, decode_answers-made, frame-rows}
+use Rattle.rs_rate.proofs.rate.rounds.decode_round.Goals as goal
+
+pub returns-in_err-check_enough_given-clause-answer : goal.returns-in_err-check_enough_given-clause-answer
+returns-in_err-check_enough_given-clause-answer g c =
+    let state = decoder_state g.C.Code.rate c.args.decoder.now.rows in
+    let p = err_from_is_err_and c.from_residual.result c.from_residual.ensures.1 in
+    rw (p.1, p.2) (decode_answers-refused state _ (c.in_err-check_enough_given.ensures g.C.Code.rate))
+
+pub returns-in_err-check_enough_given-clause-state : goal.returns-in_err-check_enough_given-clause-state
+returns-in_err-check_enough_given-clause-state g c =
+    after_decode-refused (decoder_state g.C.Code.rate c.args.decoder.now.rows) _ (c.in_err-check_enough_given.ensures g.C.Code.rate)
+
+pub decode_rows-requires-clause-power : goal.decode_rows-requires-clause-power
+decode_rows-requires-clause-power g c =
+    let rows = c.args.decoder.now.rows in
+    frame-power g.C.Code.rate rows.shape.original_count rows.shape.recovery_count rows.shape.frame (ap (λ s. s.frame) c.args.decoder.now.shaped)
+    (valid-supported (configuration_of g.C.Code.rate rows.shape) c.args.decoder.now.valid)
+
+pub decode_rows-requires-clause-enough : goal.decode_rows-requires-clause-enough
+decode_rows-requires-clause-enough g c =
+    let rows = c.args.decoder.now.rows in
+    let s = rows.shape in
+    let marks = rows.memory.marks.items in
+    let chunks = rows.memory.chunks.items in
+    let least = enough-least (decoder_state g.C.Code.rate rows) (c.in_ok-check_enough_given.ensures g.C.Code.rate) in
+    let originals = count-given marks chunks s.shard_bytes s.frame.originals_from s.original_count in
+    let recovery = count-given marks chunks s.shard_bytes s.frame.recovery_from s.recovery_count in
+    omega (arith, least, originals, recovery, rows.originals_counted, rows.recovery_counted)
+
+pub returns-clause-answer : goal.returns-clause-answer
+returns-clause-answer g c =
+    decode_answers-made (decoder_state g.C.Code.rate c.args.decoder.now.rows) (restored_of c.decode_rows.new.rows) c.decode_rows.result (c.in_ok-check_enough_given.ensures g.C.Code.rate)
+    (c.decode_rows.ensures.answer g.C.Code.rate c.args.decoder.now.valid c.args.decoder.now.shaped)
+
+pub returns-clause-counts : goal.returns-clause-counts
+returns-clause-counts g c =
+    let rows = c.args.decoder.now.rows in
+    let rate_rows = ap (λ s. s.frame.row_count) c.args.decoder.now.shaped ∙ frame-rows g.C.Code.rate rows.shape.original_count rows.shape.recovery_count in
+    subst (λ (n : ℕ). CountsUpTo (decode_steps n) 1048576 65536 c.args.steps.now c.decode_rows.new.steps) rate_rows c.decode_rows.ensures.counts
+
+pub returns-clause-state : goal.returns-clause-state
+returns-clause-state g c =
+    c.decode_rows.ensures.state g.C.Code.rate ∙ sym (after_decode-made (decoder_state g.C.Code.rate c.args.decoder.now.rows) (c.in_ok-check_enough_given.ensures g.C.Code.rate))

@@ -1,0 +1,36 @@
+use Rattle.std.proofs.Common.{sym, ◌∙◌, arith}
+use Rattle.std.proofs.lemmas.Result.{err_from_is_err_and}
+use Rattle.rs_field.proofs.LayoutLemmas.{length-up_to}
+use Rattle.rs_rate.specs.EncoderView.{encoder_state, lent_of}
+use Rattle.rs_rate.specs.ShardRows.{shard_laid_out}
+use Rattle.rs_rate.proofs.StateLemmas.{after_encode-refused, encode_answers-refused, message-whole, after_encode-made, encode_answers-made, encoder_state-fresh}
+use Rattle.rs_rate.proofs.rate.rounds.encode_round.Goals as goal
+
+pub returns-in_err-check_all_given-clause-answer : goal.returns-in_err-check_all_given-clause-answer
+returns-in_err-check_all_given-clause-answer g c =
+    let state = encoder_state g.C.Code.rate c.args.encoder.now.rows in
+    let p = err_from_is_err_and c.from_residual.result c.from_residual.ensures.1 in
+    rw (p.1, p.2) (encode_answers-refused state _ (c.in_err-check_all_given.ensures g.C.Code.rate))
+
+pub returns-in_err-check_all_given-clause-state : goal.returns-in_err-check_all_given-clause-state
+returns-in_err-check_all_given-clause-state g c =
+    after_encode-refused (encoder_state g.C.Code.rate c.args.encoder.now.rows) _ (c.in_err-check_all_given.ensures g.C.Code.rate)
+
+pub encode_rows-requires-clause-full : goal.encode_rows-requires-clause-full
+encode_rows-requires-clause-full g c =
+    let rows = c.args.encoder.now.rows in
+    let whole = message-whole (encoder_state g.C.Code.rate rows) (c.in_ok-check_all_given.ensures g.C.Code.rate) in
+    let given = length-up_to rows.originals_given (shard_laid_out rows.chunks.items rows.shape.shard_bytes) in
+    omega (arith, whole.0, given, rows.no_more)
+
+pub returns-clause-answer : goal.returns-clause-answer
+returns-clause-answer g c =
+    let state = encoder_state g.C.Code.rate c.args.encoder.now.rows in
+    encode_answers-made state (lent_of c.encode_rows.new.rows) (c.in_ok-check_all_given.ensures g.C.Code.rate) c.encode_rows.ensures.recovery
+
+pub returns-clause-state : goal.returns-clause-state
+returns-clause-state g c =
+    let rows = c.args.encoder.now.rows in
+    let coded = c.encode_rows.ensures in
+    encoder_state-fresh g.C.Code.rate c.encode_rows.new.rows rows.shape coded.shape coded.none
+    ∙ sym (after_encode-made (encoder_state g.C.Code.rate rows) (c.in_ok-check_all_given.ensures g.C.Code.rate))

@@ -1,0 +1,83 @@
+//! A round in two calls: one that codes and ends the round, and one that lends what it made. So an owner of an object
+//! and of its steps can code with the one, and lend from the other.
+ghost use Rattle.std.specs.Prelude.{◌≡◌, length, IfOk};
+ghost use Rattle.std.specs.Result.{result_map_both};
+ghost use Rattle.rs_field.specs.Bounds.{EncodeCountsAt, DecodeCountsAt};
+ghost use Rattle.rs_field.specs.Decoder.{DecodeAnswers, after_decode};
+ghost use Rattle.rs_field.specs.Encoder.{EncodeAnswers, after_encode};
+ghost use Rattle.rs_rate.specs.DecoderView.{restored_of, restored_from};
+ghost use Rattle.rs_rate.specs.EncoderView.{lent_of};
+ghost use Rattle.rs_rate.specs.ResultView.{recovery_shards, restored_originals};
+
+use crate::decoder_result::DecoderResult;
+use crate::encoder_result::EncoderResult;
+use crate::rate::code::Code;
+use crate::rate::decoders::Decoder;
+use crate::rate::decoding::decode_rows;
+use crate::rate::encoders::Encoder;
+use crate::rate::encoding::encode_rows;
+use crate::rate::{RateDecoder, RateEncoder};
+use rs_field::engine::{Engine, Steps};
+use rs_field::error::Error;
+
+/// Codes the given originals and ends the round, as `RateEncoder::encode` does; the recovery shards then lie in the
+/// encoder.
+pub fn encode_round<E: Engine, C: Code>(
+    encoder: &mut Encoder<E, C>,
+    steps: &mut Steps,
+) -> Result<(), Error>
+    ensures answer { EncodeAnswers (⟦<Encoder<E, C> as RateEncoder<E>>⟧.state encoder.old)
+        (result_map_both (λ _. lent_of encoder.new.rows) (λ e. e) result) }
+    ensures counts { let c = (⟦<Encoder<E, C> as RateEncoder<E>>⟧.state encoder.old).configuration in
+        EncodeCountsAt C.rate c.original_count c.recovery_count steps.old steps.new }
+    ensures state { ⟦<Encoder<E, C> as RateEncoder<E>>⟧.state encoder.new
+        ≡ after_encode (⟦<Encoder<E, C> as RateEncoder<E>>⟧.state encoder.old) }
+    ensures engine { ⟦<Encoder<E, C> as RateEncoder<E>>⟧.engine_of encoder.new
+        ≡ ⟦<Encoder<E, C> as RateEncoder<E>>⟧.engine_of encoder.old }
+    ensures room { ⟦<Encoder<E, C> as RateEncoder<E>>⟧.room encoder.new
+        ≡ ⟦<Encoder<E, C> as RateEncoder<E>>⟧.room encoder.old }
+{
+    encoder.rows.check_all_given()?;
+    encode_rows::<E, C>(&encoder.engine, steps, &mut encoder.rows);
+    Ok(())
+}
+
+/// The recovery shards that lie in an encoder after a round.
+pub fn lent_recovery<E: Engine, C: Code>(encoder: &Encoder<E, C>) -> EncoderResult<'_>
+    ensures { recovery_shards result ≡ lent_of encoder.now.rows }
+{
+    EncoderResult::new(&encoder.rows)
+}
+
+/// Restores the originals that were not given and ends the round, as `RateDecoder::decode` does; the restored originals
+/// then lie in the decoder. Answers how many they are.
+pub fn decode_round<E: Engine, C: Code>(
+    decoder: &mut Decoder<E, C>,
+    steps: &mut Steps,
+) -> Result<usize, Error>
+    ensures answer { DecodeAnswers (⟦<Decoder<E, C> as RateDecoder<E>>⟧.state decoder.old)
+        (result_map_both (λ _. restored_of decoder.new.rows) (λ e. e) result) }
+    ensures counted { IfOk result (λ count. count ≡ length (restored_from decoder.new.rows 0)) }
+    ensures counts { let c = (⟦<Decoder<E, C> as RateDecoder<E>>⟧.state decoder.old).configuration in
+        DecodeCountsAt C.rate c.original_count c.recovery_count steps.old steps.new }
+    ensures state { ⟦<Decoder<E, C> as RateDecoder<E>>⟧.state decoder.new
+        ≡ after_decode (⟦<Decoder<E, C> as RateDecoder<E>>⟧.state decoder.old) }
+    ensures engine { ⟦<Decoder<E, C> as RateDecoder<E>>⟧.engine_of decoder.new
+        ≡ ⟦<Decoder<E, C> as RateDecoder<E>>⟧.engine_of decoder.old }
+    ensures room { ⟦<Decoder<E, C> as RateDecoder<E>>⟧.room decoder.new
+        ≡ ⟦<Decoder<E, C> as RateDecoder<E>>⟧.room decoder.old }
+{
+    decoder.rows.check_enough_given()?;
+    decode_rows(&decoder.engine, steps, &mut decoder.rows)
+}
+
+/// The originals that lie restored in a decoder after a round that restored so many.
+pub fn lent_originals<E: Engine, C: Code>(
+    decoder: &Decoder<E, C>,
+    restored_count: usize,
+) -> DecoderResult<'_>
+    requires { restored_count ≡ length (restored_from decoder.now.rows 0) }
+    ensures { restored_originals result ≡ restored_of decoder.now.rows }
+{
+    DecoderResult::new(&decoder.rows, restored_count)
+}
