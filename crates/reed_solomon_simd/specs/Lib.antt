@@ -15,13 +15,17 @@ pub use Rattle.rs_field.specs.Placement
 pub use Rattle.rs_field.specs.Column
 pub use Rattle.rs_field.specs.Layout
 pub use Rattle.rs_field.specs.Outcome
+pub use Rattle.rs_field.specs.Texts
 pub use Rattle.rs_field.specs.Configuration
 pub use Rattle.rs_field.specs.Code
 pub use Rattle.rs_field.specs.Given
 pub use Rattle.rs_field.specs.Encoder
 pub use Rattle.rs_field.specs.Decoder
+pub use Rattle.rs_engines.specs.Kind
 pub use Rattle.rs_rate.specs.ShardRows
 pub use Rattle.rs_rate.specs.EncoderView
 pub use Rattle.rs_rate.specs.DecoderView
 pub use Rattle.rs_rate.specs.ResultView
 pub use Rattle.rs_rate.specs.Loan
+pub mod EncoderObject
+pub mod DecoderObject

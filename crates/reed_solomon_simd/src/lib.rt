@@ -3,11 +3,17 @@
 //! A message of `original_count` shards of one size is coded into `recovery_count` recovery shards.
 #![tactic(auto)]
 
+mod decoder;
+mod encoder;
+
+pub use decoder::ReedSolomonDecoder;
+pub use encoder::ReedSolomonEncoder;
 pub use rs_field::error::Error;
-pub use rs_rate::{DecoderResult, EncoderResult};
+pub use rs_rate::{DecoderResult, EncoderResult, Recovery, RestoredOriginal};
 
 /// The field, its tables, and the engines that transform rows of symbols.
 pub mod engine {
+    pub use rs_engines::engine_default::{DefaultEngine, EngineKind};
     pub use rs_field::engine::{
         CANTOR_BASIS, Engine, GF_BITS, GF_MODULUS, GF_ORDER, GF_POLYNOMIAL, GfElement, Naive,
         ShardsRefMut, Steps,
