@@ -29,3 +29,5 @@ pub use Rattle.rs_rate.specs.ResultView
 pub use Rattle.rs_rate.specs.Loan
 pub mod EncoderObject
 pub mod DecoderObject
+pub use Rattle.rs_field.specs.OneCall
+pub mod Giving

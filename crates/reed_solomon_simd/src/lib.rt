@@ -5,9 +5,11 @@
 
 mod decoder;
 mod encoder;
+mod one_call;
 
 pub use decoder::ReedSolomonDecoder;
 pub use encoder::ReedSolomonEncoder;
+pub use one_call::{decode, encode};
 pub use rs_field::error::Error;
 pub use rs_rate::{DecoderResult, EncoderResult, Recovery, RestoredOriginal};
 

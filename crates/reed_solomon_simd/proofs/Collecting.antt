@@ -1,0 +1,112 @@
+-- Entering listed shards into a map, one after another.
+use Rattle.std.proofs.Common.{◌≡◌, ◌+◌, ◌<◌, ◌≤◌, ◌==◌, ℕ, zero, suc, Bool, true, false, cond, [], ◌∷◌, ◌++◌, Option, Some, None, refl, sym, ap, subst, ◌∙◌, inl, inr, arith}
+use Rattle.std.proofs.Math.Path.{fun_ext}
+use Rattle.std.proofs.lemmas.Bool.{cases_lt, cases_order, eq-eqb, ne_eqb}
+use Rattle.std.specs.BTreeMap.{BTreeMap, get, IsEmpty, Updates, is_at}
+use Rattle.std.specs.Cmp.{nat_cmp_is}
+use Rattle.std.specs.Map.{lookup}
+use Rattle.std.specs.Option.{option_map}
+use Rattle.std.specs.Ordering.{nat_cmp, is_eq}
+use Rattle.std.specs.declared.cmp.Ordering.TheVariants.{Less, Equal, Greater}
+use Rattle.std.specs.declared.vec.Vec.{Vec}
+use Rattle.rs_field.specs.Column.{Shard}
+use Rattle.rs_field.specs.Given.{Shards, nothing, entered, listed_one, listed_from, Lists}
+use Rattle.rs_field.specs.OneCall.{Items, shards_in}
+use Rattle.rs_field.proofs.Listed.{listed_from-zero, listed_from-suc}
+
+-- a map with the items entered, one after another
+abbrev pub with_entries : Shards → Items → Shards
+with_entries given [] = given
+with_entries given (item ∷ items) = with_entries (entered given item.0 item.1) items
+
+entered-at : (given : Shards) (index : ℕ) (shard : Shard) (i : ℕ) → i ≡ index → entered given index shard i ≡ Some shard
+unfolding entered
+entered-at given index shard i same = ap (λ (b : Bool). cond b (Some shard) (given i)) (eq-eqb i index same)
+
+entered-other : (given : Shards) (index : ℕ) (shard : Shard) (i : ℕ) → (i ≡ index → ⊥) → entered given index shard i ≡ given i
+unfolding entered
+entered-other given index shard i other = ap (λ (b : Bool). cond b (Some shard) (given i)) (ne_eqb i index other)
+
+-- a map has what another has below an index, and nothing from there on
+record IsBelow (from : ℕ) (given part : Shards) : Type 0 where
+  same : (i : ℕ) → i < from → part i ≡ given i
+  none : (i : ℕ) → from ≤ i → part i ≡ None
+
+-- entering the shard of the next index, if it has one
+below-next : (from : ℕ) (given part : Shards) (o : Option Shard) → given from ≡ o → IsBelow from given part → IsBelow (suc from) given (with_entries part (listed_one from o))
+below-next from given part None is below =
+    record {
+      same = λ i inside. elim (cases_lt i from) [
+        | inl under ↦ below.same i under
+        | inr over ↦ let last : i ≡ from = omega arith in below.none i over ∙ sym is ∙ ap given (sym last)
+      ];
+      none = λ i outside. below.none i (omega arith);
+    }
+below-next from given part (Some shard) is below =
+    record {
+      same = λ i inside. elim (cases_lt i from) [
+        | inl under ↦ entered-other part from shard i (λ same. let e : i ≡ from = same in omega arith) ∙ below.same i under
+        | inr over ↦ let last : i ≡ from = omega arith in entered-at part from shard i last ∙ sym is ∙ ap given (sym last)
+      ];
+      none = λ i outside. entered-other part from shard i (λ same. let e : i ≡ from = same in omega arith) ∙ below.none i (omega arith);
+    }
+
+with_entries-append : (given : Shards) (items others : Items) → with_entries given (items ++ others) ≡ with_entries (with_entries given items) others
+with_entries-append given [] others = refl
+with_entries-append given (item ∷ items) others = with_entries-append (entered given item.0 item.1) items others
+
+-- and those of all further ones
+below-listed : (n from : ℕ) (given part : Shards) → IsBelow from given part → IsBelow (from + n) given (with_entries part (listed_from from n given))
+below-listed zero from given part below =
+    subst (λ (m : ℕ). IsBelow m given (with_entries part (listed_from from 0 given))) (let m : from ≡ from + 0 = omega arith in m)
+    (subst (λ items. IsBelow from given (with_entries part items)) (sym (listed_from-zero from given)) below)
+below-listed (suc n) from given part below =
+    let next = below-listed n (suc from) given _ (below-next from given part (given from) refl below) in
+    let joined = ap (with_entries part) (listed_from-suc from n given) ∙ with_entries-append part (listed_one from (given from)) (listed_from (suc from) n given) in
+    subst (λ (m : ℕ). IsBelow m given (with_entries part (listed_from from (suc n) given))) (let m : suc from + n ≡ from + suc n = omega arith in m)
+    (subst (IsBelow (suc from + n) given) (sym joined) next)
+
+-- what a map lists, entered where nothing was, is the map
+pub with_entries-lists : (given : Shards) (items : Items) → Lists given items → with_entries nothing items ≡ given
+with_entries-lists given items lists =
+    let start : IsBelow 0 given nothing = record { same = λ i inside. absurd (omega arith); none = λ i outside. refl } in
+    let all : IsBelow lists.count given (with_entries nothing items) =
+    subst (λ xs. IsBelow lists.count given (with_entries nothing xs)) (sym lists.in_order)
+    (subst (λ (m : ℕ). IsBelow m given (with_entries nothing (listed_from 0 lists.count given))) (let m : 0 + lists.count ≡ lists.count = omega arith in m) (below-listed lists.count 0 given nothing start))
+    in
+    fun_ext (λ i. elim (cases_lt i lists.count) [ inl inside ↦ all.same i inside | inr outside ↦ all.none i outside ∙ sym (lists.none_past i outside) ])
+
+-- whether the order of numbers finds them equal
+is_eq-nat_cmp : (a b : ℕ) → is_eq (nat_cmp a b) ≡ (b == a)
+is_eq-nat_cmp a b =
+    elim (cases_order a b) [
+      | inl same ↦ ap is_eq (sym (nat_cmp_is a b Equal same)) ∙ sym (eq-eqb b a (sym same))
+      | inr (inl under) ↦ ap is_eq (sym (nat_cmp_is a b Less under)) ∙ sym (ne_eqb b a (λ same. let e : b ≡ a = same in omega arith))
+      | inr (inr over) ↦ ap is_eq (sym (nat_cmp_is a b Greater over)) ∙ sym (ne_eqb b a (λ same. let e : b ≡ a = same in omega arith))
+    ]
+
+module _ {Y : Type 0} where
+  -- an empty map of vectors has no shard
+  pub shards_in-empty : (m : BTreeMap ℕ (Vec ℕ Y)) → IsEmpty m → shards_in m ≡ nothing
+  shards_in-empty m empty = fun_ext (λ i. ap (λ es. option_map (λ v. v.items) (lookup (is_at (nat_cmp i)) es)) empty)
+
+  -- a vector that is inserted is entered
+  shards_in-inserted : (old new : BTreeMap ℕ (Vec ℕ Y)) (index : ℕ) (vector : Vec ℕ Y) (shard : Shard) → vector.items ≡ shard → Updates nat_cmp old new index (Some vector)
+      → shards_in new ≡ entered (shards_in old) index shard
+  unfolding entered
+  shards_in-inserted old new index vector shard same updates =
+      fun_ext (λ i.
+      ap (option_map (λ v. v.items)) (updates.0 i)
+      ∙ by_test (is_eq (nat_cmp index i)) (get nat_cmp old i)
+      ∙ ap (λ (b : Bool). cond b (Some shard) (shards_in old i)) (is_eq-nat_cmp index i))
+    where
+      by_test : (b : Bool) (o : Option (Vec ℕ Y)) → option_map (λ v. v.items) (cond b (Some vector) o) ≡ cond b (Some shard) (option_map (λ v. v.items) o)
+      by_test true o = ap Some same
+      by_test false o = refl
+
+  -- so the first entry of those that are left goes into the map
+  pub with_entries-inserted : (old new : BTreeMap ℕ (Vec ℕ Y)) (index : ℕ) (vector : Vec ℕ Y) (shard : Shard) (left rest : Items)
+      → left ≡ (index, shard) ∷ rest → vector.items ≡ shard → Updates nat_cmp old new index (Some vector)
+      → with_entries (shards_in new) rest ≡ with_entries (shards_in old) left
+  with_entries-inserted old new index vector shard left rest came same updates =
+      ap (λ s. with_entries s rest) (shards_in-inserted old new index vector shard same updates) ∙ ap (with_entries (shards_in old)) (sym came)

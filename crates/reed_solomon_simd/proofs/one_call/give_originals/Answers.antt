@@ -1,0 +1,20 @@
+use Rattle.std.proofs.Common.{rules, ◌≡◌, Err, refl}
+use Rattle.rs_field.specs.OneCall.{with_originals}
+use Rattle.reed_solomon_simd.proofs.Giving.{leads-taken, leads-refused, leads-ended, outcome-ok, outcome-err, reaches-ok, reaches-err}
+use Rattle.reed_solomon_simd.proofs.one_call.give_originals.Goals as goal
+
+pub loop-index-preserved : goal.loop-index-preserved
+loop-index-preserved g c =
+    leads-taken {item = (c.in-Some.index, c.in-Some.shard)} c.loop-index.invariant c.in-Some.ensures.steps (outcome-ok _ _ _ c.in_ok-add_original_shard.ensures.answer c.in_ok-add_original_shard.ensures.left)
+
+pub returns-in_err-add_original_shard : goal.returns-in_err-add_original_shard
+returns-in_err-add_original_shard g c items lends =
+    let e = c.in_err-add_original_shard.field-0.0 in
+    let refused : c.from_residual.result ≡ Err e = search rules in
+    reaches-err (with_originals (g.X.RateDecoder.state c.args.decoder.now) items) (λ s. (g.X.RateDecoder.state c.add_original_shard.new.self) ≡ s) c.from_residual.result e
+    (leads-refused {item = (c.in-Some.index, c.in-Some.shard)} c.loop-index.invariant c.in-Some.ensures.steps (outcome-err _ e c.in_err-add_original_shard.ensures.answer) items lends) refused
+
+pub returns : goal.returns
+returns g c items lends =
+    reaches-ok (with_originals (g.X.RateDecoder.state c.args.decoder.now) items) (λ s. (g.X.RateDecoder.state c.loop-index.decoder) ≡ s) (g.X.RateDecoder.state c.loop-index.decoder)
+    (leads-ended c.loop-index.invariant c.in-None.ensures.steps items lends) refl
