@@ -1,36 +1,67 @@
--- What a command line asks for, and what the program prints.
-use Rattle.std.specs.Prelude.{◌≡◌, ℕ, List, [], ◌∷◌, ◌++◌, length, map, flat_map, codes, Some}
-use Rattle.reed_solomon_simd.specs.Counts.{Rate, default_rate}
-use Rattle.reed_solomon_simd.specs.Column.{Shard, shard_at}
-use Rattle.reed_solomon_simd.specs.Configuration.{configuration}
-use Rattle.reed_solomon_simd.specs.Code.{AreRecovery}
-use Rattle.reed_solomon_simd.specs.Encoder.{EncoderState}
-use Rattle.rs.specs.Hex.{bytes_of_hex, hex_of}
-use Rattle.rs.specs.Number.{number_of}
-
--- the same encoder with these originals given after its own
-abbrev pub with_given : EncoderState → List Shard → EncoderState
-with_given s shards = record s { given = s.given ++ shards }
-
--- the words ask for r recovery shards of k originals, the message
-abbrev pub AsksFor : List (List ℕ) → ℕ → ℕ → List Shard → Type 0
-AsksFor words k r message =
-    (original recovery : List ℕ) × (texts : List (List ℕ)) × (words ≡ codes "encode" ∷ codes "naive" ∷ original ∷ recovery ∷ texts)
-    × (number_of original ≡ Some k) × (number_of recovery ≡ Some r) × (map bytes_of_hex texts ≡ map Some message)
+-- What the program prints.
+use Rattle.std.specs.Prelude.{◌≡◌, ℕ, List, [], ◌∷◌, ◌++◌, ◌⊎◌, flat_map, Some, None, Result, Ok, Err}
+use Rattle.std.specs.Fmt.{decimal}
+use Rattle.std.specs.String.{string_bytes}
+use Rattle.std.specs.declared.string.String.{String}
+use Rattle.reed_solomon_simd.specs.declared.Error.{Error}
+use Rattle.reed_solomon_simd.specs.declared.Error.TheVariants.{OutOfMemory}
+use Rattle.reed_solomon_simd.specs.Column.{Shard}
+use Rattle.reed_solomon_simd.specs.Given.{Shards, Lists}
+use Rattle.reed_solomon_simd.specs.OneCall.{Items, OneEncodeAnswers, OneDecodeAnswers}
+use Rattle.rs.specs.declared.fault.Fault.{Fault}
+use Rattle.rs.specs.declared.fault.Fault.TheVariants.{Usage, Refused}
+use Rattle.rs.specs.Hex.{hex_of}
+use Rattle.rs.specs.CommandLine.{GivenItems, Request, Coded, Restored, request_of}
 
 -- a shard's line: its HEX and a line end
 abbrev pub line_of : Shard → List ℕ
 line_of shard = hex_of shard ++ 10 ∷ []
 
 -- a line for each shard
-abbrev pub lines_with : List Shard → List ℕ
-lines_with shards = flat_map line_of shards
+abbrev pub lines_of : List Shard → List ℕ
+lines_of shards = flat_map line_of shards
 
--- a text of the lines of the recovery shards of a message of k originals, at the size of the first
-abbrev pub PrintsRecovery : Rate → ℕ → ℕ → List Shard → List ℕ → Type 0
-PrintsRecovery rate k r message text =
-    (recovery : List Shard) × (length message ≡ k) × AreRecovery (configuration rate k r (length (shard_at message 0))) message recovery × (text ≡ lines_with recovery)
+-- the line of a shard with its index: the index in decimal digits, a blank, and the shard's line
+abbrev pub indexed_line_of : ℕ × Shard → List ℕ
+indexed_line_of item = decimal item.0 ++ 32 ∷ line_of item.1
 
--- a text that answers a command line: the recovery shards that it asks for
-abbrev pub Answers : List (List ℕ) → List ℕ → Type 0
-Answers words text = (k r : ℕ) × (message : List Shard) × AsksFor words k r message × PrintsRecovery default_rate k r message text
+-- a line for each shard with its index
+abbrev pub indexed_lines_of : Items → List ℕ
+indexed_lines_of items = flat_map indexed_line_of items
+
+-- a text has a line for each shard of a map, in order of index
+abbrev pub ListsShards : Shards → List ℕ → Type 0
+ListsShards shards text = (items : Items) × Lists shards items × (text ≡ indexed_lines_of items)
+
+-- the lines of the recovery shards that one-call `encode` answers, or its refusal
+abbrev pub CodesLines : ℕ → ℕ → List Shard → Result (List ℕ) Error → Type 0
+CodesLines k r shards (Ok text) = (recovery : List Shard) × OneEncodeAnswers k r shards (Ok recovery) × (text ≡ lines_of recovery)
+CodesLines k r shards (Err e) = OneEncodeAnswers k r shards (Err e)
+
+-- the lines of the originals that one-call `decode` answers, or its refusal
+abbrev pub RestoresLines : ℕ → ℕ → GivenItems → Result (List ℕ) Error → Type 0
+RestoresLines k r given (Ok text) = (restored : Shards) × OneDecodeAnswers k r given.originals given.recovery (Ok restored) × ListsShards restored text
+RestoresLines k r given (Err e) = OneDecodeAnswers k r given.originals given.recovery (Err e)
+
+-- what is answered to a request: a text, or a refusal
+abbrev pub Answers : Request → Result (List ℕ) Error → Type 0
+Answers (Coded engine k r shards) answer = CodesLines k r shards answer
+Answers (Restored engine k r given) answer = RestoresLines k r given answer
+
+-- the lines that words ask for
+abbrev pub Prints : List (List ℕ) → List ℕ → Type 0
+Prints words text = (request : Request) × (request_of words ≡ Some request) × Answers request (Ok text)
+
+-- a refusal that words are told: that of the one-call function, or want of memory
+abbrev pub Refuses : List (List ℕ) → Error → Type 0
+Refuses words e = ((request : Request) × (request_of words ≡ Some request) × Answers request (Err e)) ⊎ (e ≡ OutOfMemory)
+
+-- an answer of which P holds, or want of memory
+abbrev pub OrLacksMemory : {Y : Type 0} → (Result (List ℕ) Error → Type 0) → Result (String Y) Error → Type 0
+OrLacksMemory P (Ok lines) = P (Ok (string_bytes lines))
+OrLacksMemory P (Err e) = P (Err e) ⊎ (e ≡ OutOfMemory)
+
+-- why there are no lines for words: they are no command line, or are refused
+abbrev pub HasFault : List (List ℕ) → Fault → Type 0
+HasFault words Usage = request_of words ≡ None
+HasFault words (Refused e) = Refuses words e

@@ -1,12 +1,18 @@
-//! `rs encode ENGINE K R HEX..` prints the recovery shards of the originals HEX.
+//! `rs encode ENGINE K R HEX..` prints the recovery shards of the originals HEX, and `rs decode ENGINE K R ITEM..` the
+//! originals that are missing among the given shards, each ITEM an original `oI=HEX` or a recovery shard `rI=HEX`.
 #![tactic(auto)]
 
+mod command;
+mod fault;
 pub mod hexadecimal;
 mod number;
 pub mod program;
+mod writing;
 
+use fault::Fault;
+use reed_solomon_simd::Error;
 use std::alloc::AllocError;
-use std::io::{ErrorKind, Write};
+use std::io::ErrorKind;
 use std::process::ExitCode;
 use std::{env, io};
 
@@ -21,17 +27,17 @@ fn words_of(rt: &HostRuntime) -> io::Result<Vec<String>> {
 fn main(rt: HostRuntime) -> ExitCode {
     let mut out = rt.stdout();
     let mut err = rt.stderr();
-    match words_of(&rt) {
-        Ok(words) => {
-            let status = program::run(rt.alloc(), words.as_slice(), &mut out, &mut err);
-            ExitCode::from(status)
-        }
+    let status = match words_of(&rt) {
+        Ok(words) => program::run(rt.alloc(), words.as_slice(), &mut out, &mut err),
         Err(e) => {
-            let _ = match e.kind() {
-                ErrorKind::OutOfMemory => err.write_all(b"out of memory\n"),
-                _ => err.write_all(b"usage\n"),
+            let fault = match e.kind() {
+                ErrorKind::OutOfMemory => Fault::Refused(Error::OutOfMemory),
+                // Some word is not UTF-8.
+                _ => Fault::Usage,
             };
-            ExitCode::from(1)
+            let _ = fault.tell(rt.alloc(), &mut err);
+            fault.status()
         }
-    }
+    };
+    ExitCode::from(status)
 }

@@ -1,0 +1,59 @@
+-- What is printed, and what is told in its place.
+use Rattle.std.proofs.Common.{◌≡◌, ℕ, Bool, cond, List, [], ◌∷◌, map, Some, Result, Ok, Err, inl, inr, refl, sym, ◌∙◌, ap, ap₂, subst, arith}
+use Rattle.std.specs.Prelude.{nat_eq, MatchResult}
+use Rattle.std.specs.BTreeMap.{BTreeMap, IsOrdered}
+use Rattle.std.specs.List.Sorted.{IsStrictlySortedBy}
+use Rattle.std.specs.Map.{lookup}
+use Rattle.std.specs.Option.{option_map}
+use Rattle.std.specs.Ordering.{nat_cmp, is_eq}
+use Rattle.std.specs.String.{string_bytes}
+use Rattle.std.specs.declared.string.String.{String}
+use Rattle.std.specs.declared.vec.Vec.{Vec}
+use Rattle.std.proofs.lemmas.Bool.Decides.{nat_tests}
+use Rattle.std.proofs.lemmas.Map.Made.{keys_of-map_values, lookup-map_values}
+use Rattle.reed_solomon_simd.specs.OneCall.{shards_in, OneEncodeAnswers, OneDecodeAnswers}
+use Rattle.reed_solomon_simd.specs.declared.Error.{Error}
+use Rattle.reed_solomon_simd.specs.declared.Error.TheVariants.{OutOfMemory}
+use Rattle.reed_solomon_simd.specs.Column.{Shard}
+use Rattle.reed_solomon_simd.specs.Given.{Shards, Lists}
+use Rattle.rs.specs.declared.fault.Fault.{Fault}
+use Rattle.rs.specs.declared.fault.Fault.TheVariants.{Usage, Refused}
+use Rattle.rs.specs.CommandLine.{GivenItems}
+use Rattle.rs.specs.Printed.{ListsShards, lines_of, CodesLines, RestoresLines, OrLacksMemory, Refuses, HasFault}
+use Rattle.rs.specs.Told.{status_of, IsToldAs}
+use Rattle.rs.proofs.ListedLemmas.{lists-sorted}
+
+compared_equal : (x y : ℕ) → is_eq (nat_cmp x y) ≡ nat_eq x y
+compared_equal x y = grind (arith, nat_tests)
+
+lookup-same : {X : Type 0} (test other : ℕ → Bool) → ((k : ℕ) → test k ≡ other k) → (entries : List (ℕ × X)) → lookup test entries ≡ lookup other entries
+lookup-same test other same [] = refl
+lookup-same test other same (entry ∷ entries) = ap₂ (λ found later. cond found (Some entry.1) later) (same entry.0) (lookup-same test other same entries)
+
+-- the entries of an ordered map list its shards
+pub entries_in_order : {Y : Type 0} (vectors : BTreeMap ℕ (Vec ℕ Y)) → IsOrdered nat_cmp vectors → Lists (shards_in vectors) (map (λ e. (e.0, e.1.items)) vectors.entries)
+entries_in_order vectors ordered =
+    lists-sorted (shards_in vectors) (map (λ e. (e.0, e.1.items)) vectors.entries)
+    (subst (IsStrictlySortedBy nat_cmp) (sym (keys_of-map_values (λ v. v.items) vectors.entries)) ordered)
+    (λ i. ap (option_map (λ v. v.items)) (lookup-same (λ k. is_eq (nat_cmp i k)) (nat_eq i) (compared_equal i) vectors.entries)
+    ∙ sym (lookup-map_values (λ v. v.items) (nat_eq i) vectors.entries))
+
+-- the lines of recovery shards, or want of memory
+pub codes-lines : {Y : Type 0} (k r : ℕ) (shards recovery : List Shard) (result : Result (String Y) Error) → OneEncodeAnswers k r shards (Ok recovery)
+    → MatchResult result (λ text. string_bytes text ≡ lines_of recovery) (λ e. e ≡ OutOfMemory) → OrLacksMemory (CodesLines k r shards) result
+codes-lines k r shards recovery (Ok text) answered lines = (recovery, answered, lines)
+codes-lines k r shards recovery (Err e) answered lacking = inr lacking
+
+-- the lines of restored originals, or want of memory
+pub restores-lines : {Y : Type 0} (k r : ℕ) (given : GivenItems) (restored : Shards) (result : Result (String Y) Error)
+    → OneDecodeAnswers k r given.originals given.recovery (Ok restored)
+    → MatchResult result (λ text. ListsShards restored (string_bytes text)) (λ e. e ≡ OutOfMemory) → OrLacksMemory (RestoresLines k r given) result
+restores-lines k r given restored (Ok text) answered lines = (restored, answered, lines)
+restores-lines k r given restored (Err e) answered lacking = inr lacking
+
+-- with status 1 what is told of an answer is a refusal of the words
+pub refusal-told : (words : List (List ℕ)) (fault told : Fault) → status_of fault ≡ 1 → HasFault words fault → IsToldAs fault told
+    → (e : Error) × Refuses words e × (told ≡ Refused e)
+refusal-told words Usage told one bad same = absurd (let two : 2 ≡ 1 = one in omega arith)
+refusal-told words (Refused e) told one refused (inl same) = (e, refused, same)
+refusal-told words (Refused e) told one refused (inr lacking) = (OutOfMemory, inr refl, lacking)

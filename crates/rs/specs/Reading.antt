@@ -1,0 +1,52 @@
+-- What the readers of words answer.
+use Rattle.std.specs.Prelude.{◌≡◌, ℕ, List, ◌++◌, map, Option, Some, None, Result, Ok, Err}
+use Rattle.std.specs.declared.vec.Vec.{Vec}
+use Rattle.reed_solomon_simd.specs.declared.Error.TheVariants.{OutOfMemory}
+use Rattle.reed_solomon_simd.specs.Column.{Shard}
+use Rattle.reed_solomon_simd.specs.OneCall.{Items}
+use Rattle.rs.specs.declared.command.Given.{Given}
+use Rattle.rs.specs.declared.command.IndexedShard.{IndexedShard}
+use Rattle.rs.specs.declared.command.Item.{Item}
+use Rattle.rs.specs.declared.command.Item.TheVariants.{Original, Recovery}
+use Rattle.rs.specs.declared.command.Command.{Command}
+use Rattle.rs.specs.declared.command.Command.TheVariants.{Encode, Decode}
+use Rattle.rs.specs.declared.fault.Fault.{Fault}
+use Rattle.rs.specs.declared.fault.Fault.TheVariants.{Usage, Refused}
+use Rattle.rs.specs.CommandLine.{Request, Coded, Restored, GivenItems}
+use Rattle.rs.specs.CommandLine as Line
+
+-- words are read as what they ask for; else they ask for nothing that can be read, or memory is lacking
+abbrev pub Reads : {T V : Type 0} → (V → T) → Option T → Result V Fault → Type 0
+Reads meaning asked (Ok value) = asked ≡ Some (meaning value)
+Reads meaning asked (Err Usage) = asked ≡ None
+Reads meaning asked (Err (Refused e)) = e ≡ OutOfMemory
+
+-- vectors as shards
+abbrev pub as_shards : {Y Z : Type 0} → Vec (Vec ℕ Y) Z → List Shard
+as_shards vectors = map (λ v. v.items) vectors.items
+
+-- an indexed shard as an index and a shard
+abbrev pub as_item : IndexedShard → ℕ × Shard
+as_item indexed = (indexed.index, indexed.shard.items)
+
+-- indexed shards as shards with their indexes
+abbrev pub as_items : {Z : Type 0} → Vec IndexedShard Z → Items
+as_items vector = map as_item vector.items
+
+-- given shards as those of a command line
+abbrev pub as_given : Given → GivenItems
+as_given given = record { originals = as_items given.original; recovery = as_items given.recovery }
+
+-- given shards with others behind them
+abbrev pub joined : GivenItems → GivenItems → GivenItems
+joined given others = record { originals = given.originals ++ others.originals; recovery = given.recovery ++ others.recovery }
+
+-- an item as that of a command line
+abbrev pub as_item_of_line : Item → Line.Item
+as_item_of_line (Original indexed) = Line.OriginalItem (as_item indexed)
+as_item_of_line (Recovery indexed) = Line.RecoveryItem (as_item indexed)
+
+-- the request that a command was read from
+abbrev pub as_request : Command → Request
+as_request (Encode engine counts original) = Coded engine counts.original counts.recovery (as_shards original)
+as_request (Decode engine counts given) = Restored engine counts.original counts.recovery (as_given given)

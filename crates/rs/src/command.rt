@@ -1,0 +1,203 @@
+//! The words of a command line read as a command.
+ghost use Rattle.std.specs.Prelude.{◌≡◌, [], None, Err, map, take, OnOk, IfErr};
+ghost use Rattle.std.specs.Option.{option_zip};
+ghost use Rattle.std.specs.String.{string_bytes};
+ghost use Rattle.rs.specs.Number.{number_of};
+ghost use Rattle.rs.specs.CommandLine.{engine_named, shards_of, indexed_shard_of, item_of, items_of, request_for, request_of};
+ghost use Rattle.rs.specs.Reading.{Reads, as_shards, as_item, as_item_of_line, as_given, as_request};
+
+use crate::fault::Fault;
+use crate::hexadecimal::word;
+use crate::number::number;
+use reed_solomon_simd::engine::EngineKind;
+use std::alloc::{AllocError, Global};
+
+/// The counts of originals and of recovery shards.
+#[derive(Clone, Copy)]
+pub struct Counts {
+    pub original: usize,
+    pub recovery: usize,
+}
+
+/// A shard with its index.
+#[derive(Drop)]
+pub struct IndexedShard {
+    pub index: usize,
+    pub shard: Vec<u8>,
+}
+
+/// The shards that a decoder is given, in order.
+#[derive(Drop)]
+pub struct Given {
+    pub original: Vec<IndexedShard>,
+    pub recovery: Vec<IndexedShard>,
+}
+
+/// What a command line asks for.
+#[derive(Drop)]
+pub enum Command {
+    /// The recovery shards of originals.
+    Encode {
+        engine: EngineKind,
+        counts: Counts,
+        original: Vec<Vec<u8>>,
+    },
+    /// The originals that are not among the given shards.
+    Decode {
+        engine: EngineKind,
+        counts: Counts,
+        given: Given,
+    },
+}
+
+// A word of a command line that asks for originals.
+#[derive(Drop)]
+enum Item {
+    Original(IndexedShard),
+    Recovery(IndexedShard),
+}
+
+impl Given {
+    ghost use Rattle.rs.specs.CommandLine.{GivenItems, with_item};
+    ghost use Rattle.rs.specs.Reading.{joined, as_given, as_item_of_line};
+
+    // Adds an item behind those of its kind.
+    fn push(&mut self, item: Item) -> Result<(), AllocError>
+        ensures { OnOk result ((left : GivenItems) → joined (as_given self.new) left ≡ joined (as_given self.old) (with_item (as_item_of_line item) left)) }
+    {
+        match item {
+            Item::Original(indexed) => self.original.push(indexed)?,
+            Item::Recovery(indexed) => self.recovery.push(indexed)?,
+        }
+        Ok(())
+    }
+}
+
+// The engine of this name: a line for each engine.
+fn engine_of(name: &str) -> Option<EngineKind>
+    ensures { result ≡ engine_named name.now }
+{
+    match name {
+        "naive" => Some(EngineKind::Naive),
+        _ => None,
+    }
+}
+
+fn read_counts(original: &str, recovery: &str) -> Result<Counts, Fault>
+    ensures read { Reads (λ counts. (counts.original, counts.recovery)) (option_zip (number_of original.now) (number_of recovery.now)) result }
+    ensures usage { IfErr result (λ fault. fault ≡ Fault.Usage) }
+{
+    let Some(original) = number(original) else {
+        return Err(Fault::Usage);
+    };
+    let Some(recovery) = number(recovery) else {
+        return Err(Fault::Usage);
+    };
+    Ok(Counts { original, recovery })
+}
+
+// The shards of words that are HEX.
+fn read_shards(alloc: Global, words: &[String]) -> Result<Vec<Vec<u8>>, Fault>
+    ensures { Reads as_shards (shards_of (map string_bytes words.now)) result }
+{
+    let mut shards = Vec::new(alloc);
+    for text in words {
+        let Some(bytes) = word(alloc, text.as_str())? else {
+            return Err(Fault::Usage);
+        };
+        shards.push(bytes)?;
+    }
+    Ok(shards)
+}
+
+// The index and the shard of I=HEX.
+fn read_indexed_shard(alloc: Global, text: &str) -> Result<IndexedShard, Fault>
+    ensures { Reads as_item (indexed_shard_of text.now) result }
+{
+    let Some((index, shard)) = text.split_once('=') else {
+        return Err(Fault::Usage);
+    };
+    let Some(index) = number(index) else {
+        return Err(Fault::Usage);
+    };
+    let Some(shard) = word(alloc, shard)? else {
+        return Err(Fault::Usage);
+    };
+    Ok(IndexedShard { index, shard })
+}
+
+// The shard of oI=HEX or rI=HEX.
+fn read_item(alloc: Global, text: &str) -> Result<Item, Fault>
+    ensures { Reads as_item_of_line (item_of text.now) result }
+{
+    if let Some(text) = text.strip_prefix('o') {
+        return Ok(Item::Original(read_indexed_shard(alloc, text)?));
+    }
+    if let Some(text) = text.strip_prefix('r') {
+        return Ok(Item::Recovery(read_indexed_shard(alloc, text)?));
+    }
+    Err(Fault::Usage)
+}
+
+// The shards of words that are ITEMs.
+fn read_items(alloc: Global, words: &[String]) -> Result<Given, Fault>
+    ensures { Reads as_given (items_of (map string_bytes words.now)) result }
+{
+    let mut given = Given {
+        original: Vec::new(alloc),
+        recovery: Vec::new(alloc),
+    };
+    for text in words {
+        let item = read_item(alloc, text.as_str())?;
+        given.push(item)?;
+    }
+    Ok(given)
+}
+
+// The command of this name with the words behind the counts.
+fn read_command_for(
+    alloc: Global,
+    name: &str,
+    engine: EngineKind,
+    counts: Counts,
+    words: &[String],
+) -> Result<Command, Fault>
+    ensures read { Reads as_request (request_for name.now engine counts.original counts.recovery (map string_bytes words.now)) result }
+    ensures begun { request_for name.now engine counts.original counts.recovery [] ≡ None → result ≡ Err Fault.Usage }
+{
+    match name {
+        "encode" => {
+            let original = read_shards(alloc, words)?;
+            Ok(Command::Encode {
+                engine,
+                counts,
+                original,
+            })
+        }
+        "decode" => {
+            let given = read_items(alloc, words)?;
+            Ok(Command::Decode {
+                engine,
+                counts,
+                given,
+            })
+        }
+        _ => Err(Fault::Usage),
+    }
+}
+
+/// The command of a command line. The words are read from left to right, and the first fault decides: `Usage` where a
+/// word is not what has to stand there, or `OutOfMemory`, which comes only behind a command, an engine and counts.
+pub fn read_command(alloc: Global, words: &[String]) -> Result<Command, Fault>
+    ensures read { Reads as_request (request_of (map string_bytes words.now)) result }
+    ensures begun { request_of (take 4 (map string_bytes words.now)) ≡ None → result ≡ Err Fault.Usage }
+{
+    let [name, engine, original, recovery, words @ ..] = words else {
+        return Err(Fault::Usage);
+    };
+    let Some(engine) = engine_of(engine.as_str()) else {
+        return Err(Fault::Usage);
+    };
+    let counts = read_counts(original.as_str(), recovery.as_str())?;
+    read_command_for(alloc, name.as_str(), engine, counts, words)
+}

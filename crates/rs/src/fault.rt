@@ -1,0 +1,78 @@
+//! Why nothing is printed, and how that is told.
+use crate::writing::write_text;
+use reed_solomon_simd::Error;
+use std::alloc::{AllocError, AllocFailed, Global};
+use std::io::Write;
+
+/// Why there are no lines for a command line.
+#[derive(Drop)]
+pub enum Fault {
+    /// The words are no command line.
+    Usage,
+    Refused(Error),
+}
+
+impl Fault {
+    ghost use Rattle.std.specs.Prelude.{◌≡◌, IsTrue};
+    ghost use Rattle.std.specs.Io.KnownBytes.{Appends};
+    ghost use Rattle.rs.specs.Told.{message_of, status_of, IsToldAs, AppendsFront};
+
+    /// The status that the program ends with.
+    pub fn status(&self) -> u8
+        ensures { result ≡ status_of self.now }
+    {
+        match self {
+            Fault::Usage => 2,
+            Fault::Refused(_) => 1,
+        }
+    }
+
+    /// Tells the fault, or that there is no memory for a refusal's text; answers whether all of it was written.
+    pub fn tell<X: Write>(&self, alloc: Global, err: &mut X) -> bool
+        ensures { (told : Fault) × IsToldAs self.now told × AppendsFront (X.contents err.old) (X.contents err.new) (message_of told)
+            × (IsTrue result → Appends (X.contents err.old) (X.contents err.new) (message_of told)) }
+    {
+        match self {
+            Fault::Usage => write_text(err, "usage\n"),
+            Fault::Refused(refusal) => match format!(in alloc; "{refusal}\n") {
+                Ok(text) => write_text(err, text.as_str()),
+                Err(_) => write_text(err, "out of memory\n"),
+            },
+        }
+    }
+}
+
+impl From<Error> for Fault {
+    ghost use Rattle.std.specs.Prelude.{◌≡◌};
+    ghost use Rattle.rs.specs.declared.fault.Fault.TheVariants.{Refused};
+
+    ghost from_gives = { λ e fault. fault ≡ Refused e };
+
+    fn from(e: Error) -> Fault {
+        Fault::Refused(e)
+    }
+}
+
+impl From<AllocError> for Fault {
+    ghost use Rattle.std.specs.Prelude.{◌≡◌};
+    ghost use Rattle.reed_solomon_simd.specs.declared.Error.TheVariants.{OutOfMemory};
+    ghost use Rattle.rs.specs.declared.fault.Fault.TheVariants.{Refused};
+
+    ghost from_gives = { λ _ fault. fault ≡ Refused OutOfMemory };
+
+    fn from(_e: AllocError) -> Fault {
+        Fault::Refused(Error::OutOfMemory)
+    }
+}
+
+impl<T: Drop> From<AllocFailed<T>> for Fault {
+    ghost use Rattle.std.specs.Prelude.{◌≡◌};
+    ghost use Rattle.reed_solomon_simd.specs.declared.Error.TheVariants.{OutOfMemory};
+    ghost use Rattle.rs.specs.declared.fault.Fault.TheVariants.{Refused};
+
+    ghost from_gives = { λ _ fault. fault ≡ Refused OutOfMemory };
+
+    fn from(_e: AllocFailed<T>) -> Fault {
+        Fault::Refused(Error::OutOfMemory)
+    }
+}

@@ -1,0 +1,29 @@
+//! Texts written to standard output and standard error.
+ghost use Rattle.std.specs.Prelude.{IsTrue};
+ghost use Rattle.std.specs.Io.KnownBytes.{Appends};
+ghost use Rattle.rs.specs.Told.{AppendsFront};
+
+use std::io::{ErrorKind, Write};
+
+/// Writes a text to its end, or until a write fails; answers whether all of it was written.
+///
+/// This is `write_all`, whose contract leaves open what was written before a failure.
+pub fn write_text<W: Write>(writer: &mut W, text: &str) -> bool
+    ensures whole { IsTrue result → Appends (W.contents writer.old) (W.contents writer.new) text.now }
+    ensures front { AppendsFront (W.contents writer.old) (W.contents writer.new) text.now }
+{
+    let bytes = text.as_bytes();
+    let mut written = 0;
+    for _ in 0..u64::MAX {
+        if written == bytes.len() {
+            return true;
+        }
+        match writer.write(&bytes[written..]) {
+            Ok(0) => return false,
+            Ok(count) => written += count,
+            Err(e) if e.kind() == ErrorKind::Interrupted => {}
+            Err(_) => return false,
+        }
+    }
+    false
+}
