@@ -34,13 +34,6 @@ fn rates_code(rt: HostRuntime) -> Result<(), Fail> {
     codes::<DefaultRate<Naive<'_>>, _>(&rt, &tables, &HIGH_MESSAGES)
 }
 
-// A shard of a chunk and a tail, zero but for the tail's first byte.
-fn ending(value: u8) -> [u8; 66] {
-    let mut shard = [0; 66];
-    shard[64] = value;
-    shard
-}
-
 // The originals end in 0 and 1, the recovery shards in these values.
 fn codes_tails<'t, R: Rate<Naive<'t>>, A: Abort + AllocGlobal>(
     rt: &A,

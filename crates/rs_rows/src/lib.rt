@@ -15,9 +15,12 @@ mod encoding;
 #[cfg(test)]
 mod help;
 pub mod lent_rows;
+pub mod one_call;
+pub mod plain_callers;
 #[cfg(test)]
 mod refusals;
 #[cfg(test)]
 mod resets;
 #[cfg(test)]
 mod rows;
+pub mod walking;

@@ -1,0 +1,60 @@
+//! Callers of the plain objects, which know them by their contracts alone.
+ghost use Rattle.std.specs.Prelude.{◌≡◌, ◌<◌, List, length, None, Ok, Err, MatchResult};
+ghost use Rattle.reed_solomon_simd.specs.Column.{Shard, shard_at};
+ghost use Rattle.reed_solomon_simd.specs.Decoder.{fresh_decoder, enough_given, after_decode, IsAgreeing, IsConsistent, NoneAgrees};
+ghost use Rattle.reed_solomon_simd.specs.DecoderObject.{state_of as decoder_state};
+ghost use Rattle.reed_solomon_simd.specs.Encoder.{fresh_encoder};
+ghost use Rattle.reed_solomon_simd.specs.EncoderObject.{state_of as encoder_state};
+
+use reed_solomon_simd::{Error, ReedSolomonDecoder, ReedSolomonEncoder};
+
+/// A round of a plain encoder whose result is forgotten is over: the next `encode` finds nothing given.
+pub fn forget_a_round(encoder: &mut ReedSolomonEncoder<'_>) -> Result<(), Error>
+    requires { length (encoder_state encoder.old).given ≡ (encoder_state encoder.old).configuration.original_count }
+    ensures answer { result ≡ Err (Error.TooFewOriginalShards (encoder_state encoder.old).configuration.original_count 0) }
+    ensures state { encoder_state encoder.new ≡ fresh_encoder (encoder_state encoder.old).configuration }
+{
+    std::mem::forget(encoder.encode()?);
+    let _ = encoder.encode()?;
+    Ok(())
+}
+
+/// A round of a plain decoder that was given shards enough is over, whatever it answered and whatever became of the
+/// result: the next `decode` finds nothing given.
+pub fn end_a_round(decoder: &mut ReedSolomonDecoder<'_>) -> Result<(), Error>
+    requires { enough_given (decoder_state decoder.old) ≡ Ok tt }
+    ensures answer { result ≡ Err (Error.NotEnoughShards (decoder_state decoder.old).configuration.original_count 0 0) }
+    ensures state { decoder_state decoder.new ≡ fresh_decoder (decoder_state decoder.old).configuration }
+{
+    let _ = decode_only(decoder);
+    decode_only(decoder)
+}
+
+// A round's answer, its result forgotten.
+fn decode_only(decoder: &mut ReedSolomonDecoder<'_>) -> Result<(), Error>
+    ensures answer { MatchResult (enough_given (decoder_state decoder.old))
+        (λ _. MatchResult result (λ _. IsConsistent (decoder_state decoder.old)) (NoneAgrees (decoder_state decoder.old))) (λ e. result ≡ Err e) }
+    ensures state { decoder_state decoder.new ≡ after_decode (decoder_state decoder.old) }
+{
+    std::mem::forget(decoder.decode()?);
+    Ok(())
+}
+
+/// Where shards enough of a message are given, a missing original of it comes back as it was.
+pub fn restore_one(
+    decoder: &mut ReedSolomonDecoder<'_>,
+    index: usize,
+    original: &mut [u8],
+) -> Result<(), Error>
+    requires size { length original.old ≡ (decoder_state decoder.old).configuration.shard_bytes }
+    ensures restored { (message : List Shard) → IsAgreeing (decoder_state decoder.old) message → enough_given (decoder_state decoder.old) ≡ Ok tt
+        → index < (decoder_state decoder.old).configuration.original_count → (decoder_state decoder.old).originals index ≡ None
+        → (result ≡ Ok tt) × (original.new ≡ shard_at message index) }
+    ensures state { decoder_state decoder.new ≡ after_decode (decoder_state decoder.old) }
+{
+    let result = decoder.decode()?;
+    if let Some(shard) = result.restored_original(index) {
+        original.copy_from_slice(shard);
+    }
+    Ok(())
+}
