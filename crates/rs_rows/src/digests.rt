@@ -1,13 +1,11 @@
 //! SHA-256 digests of recovery shards, one after another.
 use crate::help::*;
-use rand_chacha::ChaCha8Rng;
-use rand_core::{Rng, SeedableRng};
 use reed_solomon_simd::Error;
 use reed_solomon_simd::engine::tables::Tables;
 use reed_solomon_simd::engine::{Engine, Naive, Steps};
 use reed_solomon_simd::rate::{DefaultRate, HighRate, LowRate, Rate, RateEncoder};
 use sha2::{Digest, Sha256};
-use std::alloc::{AllocError, Global};
+use std::alloc::Global;
 use std::process::Abort;
 use std::test::Fail;
 
@@ -98,17 +96,6 @@ const BOTH_DRAWN: [Drawn<'static>; 2] = [
     ),
 ];
 
-fn drawn(alloc: Global, original_count: usize, seed: u8) -> Result<Vec<Vec<u8>>, AllocError> {
-    let mut rng = ChaCha8Rng::from_seed([seed; 32]);
-    let mut shards = Vec::new(alloc);
-    for _ in 0..original_count {
-        let mut shard: Vec<u8> = Vec::from_elem(alloc, 0, 1024)?;
-        rng.fill_bytes(shard.as_mut_slice());
-        shards.push(shard)?;
-    }
-    Ok(shards)
-}
-
 fn codes_drawn<'t, R: Rate<Naive<'t>>, A: Abort + AllocGlobal>(
     rt: &A,
     tables: &'t Tables,
@@ -116,7 +103,7 @@ fn codes_drawn<'t, R: Rate<Naive<'t>>, A: Abort + AllocGlobal>(
 ) -> Result<(), Fail> {
     let alloc = rt.alloc();
     for (k, r, seed, digest) in digests {
-        let original = drawn(alloc, *k, *seed)?;
+        let original = drawn(alloc, *k, 1024, *seed)?;
         let mut encoder = R::encoder(alloc, *k, *r, 1024, Naive::new(tables), None)?;
         let got = digest_of(alloc, &mut encoder, original.as_slice(), *r)?;
         assert_eq!(rt; got.as_str(), *digest, "{k} {r}");

@@ -1,9 +1,11 @@
 //! What the tests share.
 use crate::rows::{Item, Message, Received, Refused};
+use rand_chacha::ChaCha8Rng;
+use rand_core::{Rng, SeedableRng};
 use reed_solomon_simd::engine::tables::Tables;
 use reed_solomon_simd::engine::{Engine, Naive, Steps};
 use reed_solomon_simd::rate::{Rate, RateDecoder, RateEncoder};
-use reed_solomon_simd::{DecoderResult, Error};
+use reed_solomon_simd::{DecoderResult, Error, Recovery, RestoredOriginal};
 use std::alloc::{AllocError, Global};
 use std::process::Abort;
 
@@ -141,12 +143,44 @@ pub fn has_just(lent: &DecoderResult<'_>, restored: &[Item<'_>]) -> bool {
     lent.restored_original(usize::MAX).is_none()
 }
 
+// Whether so many shards are left, by both counts.
+fn has_left<I: ExactSizeIterator>(walk: &I, left: usize) -> bool {
+    walk.len() == left && walk.size_hint() == (left, Some(left))
+}
+
+/// Whether just these recovery shards come in order, and then none for good.
+pub fn walks_recovery(mut walk: Recovery<'_>, shards: &[&[u8]]) -> bool {
+    for (index, shard) in shards.iter().enumerate() {
+        if !has_left(&walk, shards.len() - index) || walk.next() != Some(*shard) {
+            return false;
+        }
+    }
+    has_left(&walk, 0) && walk.next().is_none() && walk.next().is_none() && has_left(&walk, 0)
+}
+
+/// Whether just these restored originals come in order, and then none for good.
+pub fn walks_restored(mut walk: RestoredOriginal<'_>, items: &[Item<'_>]) -> bool {
+    for (index, item) in items.iter().enumerate() {
+        if !has_left(&walk, items.len() - index) || walk.next() != Some(*item) {
+            return false;
+        }
+    }
+    has_left(&walk, 0) && walk.next().is_none() && walk.next().is_none() && has_left(&walk, 0)
+}
+
 /// Whether the answer is this refusal.
 pub fn is_err<T: Drop>(answer: Result<T, Error>, refusal: Error) -> bool {
     match answer {
         Ok(_) => false,
         Err(e) => e == refusal,
     }
+}
+
+/// A shard of a chunk and a tail, zero but for the tail's first byte.
+pub fn ending(value: u8) -> [u8; 66] {
+    let mut shard = [0; 66];
+    shard[64] = value;
+    shard
 }
 
 /// So many originals, of which byte i of number j is (7 i + 13 j + 5) mod 251.
@@ -174,4 +208,21 @@ pub fn counted(
 // The sum modulo 251.
 fn advanced(byte: u8, by: u8) -> u8 {
     ((u16::from(byte) + u16::from(by)) % 251) as u8
+}
+
+/// So many originals of this size, drawn one after another from ChaCha8, whose 32 seed bytes are all `seed`.
+pub fn drawn(
+    alloc: Global,
+    original_count: usize,
+    shard_bytes: usize,
+    seed: u8,
+) -> Result<Vec<Vec<u8>>, AllocError> {
+    let mut rng = ChaCha8Rng::from_seed([seed; 32]);
+    let mut shards = Vec::new(alloc);
+    for _ in 0..original_count {
+        let mut shard: Vec<u8> = Vec::from_elem(alloc, 0, shard_bytes)?;
+        rng.fill_bytes(shard.as_mut_slice());
+        shards.push(shard)?;
+    }
+    Ok(shards)
 }

@@ -15,7 +15,13 @@ mod encoding;
 #[cfg(test)]
 mod help;
 pub mod lent_rows;
+#[cfg(test)]
+mod levels;
+#[cfg(test)]
+mod objects;
 pub mod one_call;
+#[cfg(test)]
+mod one_call_rows;
 pub mod plain_callers;
 #[cfg(test)]
 mod refusals;
