@@ -6,6 +6,8 @@ pub mod Inverse
 pub mod Onto
 pub mod Power
 pub mod Tables
+pub mod Packed
+pub mod Sums
 pub mod Subspace
 pub mod Roots
 pub mod Values
@@ -22,6 +24,7 @@ pub mod Runs
 pub mod FourRuns
 pub mod RowOffsets
 pub mod Pairs
+pub mod Fours
 pub mod LayoutLemmas
 pub mod ZeroColumns
 pub mod Symbols
@@ -32,7 +35,10 @@ pub mod Padding
 pub mod Coefficients
 pub mod TopBlock
 pub mod Counting
+pub mod Layers
+pub mod Parts
 pub mod Recursion
+pub mod PartLoops
 pub mod Injective
 pub mod Derivative
 pub mod DerivativeStep

@@ -18,11 +18,14 @@ pub mod Decoder
 pub mod OneCall
 pub mod Bounds
 pub mod Tables
+pub mod Products
 pub mod Laws
 pub mod CodeLaws
 pub mod Rows
 pub mod View
 pub mod Pairs
+pub mod TwoLayers
+pub mod Layers
 pub mod Lending
 pub mod Layout
 pub mod Worked

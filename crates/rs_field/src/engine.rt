@@ -9,15 +9,23 @@ ghost use Rattle.rs_field.specs.Bounds.{LocatorCounts, TransformCounts, RowProdu
 
 pub mod derivative;
 pub mod engine_naive;
+mod fours;
 mod fwht;
+pub mod kernel;
+mod layers;
 pub mod layout;
+mod mul128;
+mod mul16;
 mod pairs;
+mod powers;
 pub mod rows;
 pub mod shards;
 mod steps;
+pub mod symbols;
 pub mod tables;
 pub mod transform;
 pub mod utils;
+pub mod vectors;
 
 pub use engine_naive::Naive;
 pub use shards::ShardsRefMut;

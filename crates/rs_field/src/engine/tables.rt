@@ -1,10 +1,11 @@
 //! The tables of the field, made at run time and lent.
-ghost use Rattle.std.specs.Prelude.{◌≡◌, ◌+◌, ◌*◌, ◌%◌, ◌^◌, ◌<◌, IfOk, IfErr, length, slice_index, ℕ};
-ghost use Rattle.rs_field.specs.Field.{product, power, generator};
+ghost use Rattle.std.specs.Prelude.{◌≡◌, ◌+◌, ◌*◌, ◌%◌, ◌^◌, ◌<◌, IfOk, IfErr, ℕ};
+ghost use Rattle.rs_field.specs.Field.{product, power};
 ghost use Rattle.rs_field.specs.Tables.{IsExpLog, IsLog, IsLogWalsh, IsSkew};
+ghost use Rattle.rs_field.specs.Products.{byte_at, IsMul16, IsMul128};
 
 use super::fwht::fwht;
-use super::{GF_BITS, GF_MODULUS, GF_ORDER, GfElement, Steps};
+use super::{GF_MODULUS, GF_ORDER, GfElement, Steps, mul16, mul128, powers};
 use crate::error::Error;
 use std::alloc::{AllocError, Global};
 
@@ -22,6 +23,22 @@ pub type Skew<'a> = &'a [GfElement];
 /// Its entries are residues modulo 65535: 0 and 65535 both stand for zero.
 pub type LogWalsh<'a> = &'a [GfElement];
 
+/// A lent table of 65536 entries. Entry m has the products of the generator to the power m: word i of row n is that of
+/// the word `i << 4n`.
+pub type Mul16<'a> = &'a [[[GfElement; 16]; 4]];
+
+/// A lent table of 65536 entries. Entry m has the products of the generator to the power m, by bytes.
+pub type Mul128<'a> = &'a [Multiply128lutT];
+
+/// The products of the words 0 to 15, shifted by no, one, two and three nibbles, with one factor.
+#[derive(Clone, Debug, Drop)]
+pub struct Multiply128lutT {
+    /// Byte i of number n, the lowest first, is the low byte of the product of `i << 4n`.
+    pub lo: [u128; 4],
+    /// Byte i of number n, the lowest first, is the high byte of the product of `i << 4n`.
+    pub hi: [u128; 4],
+}
+
 /// The tables of powers and logarithms.
 #[derive(Drop)]
 pub struct ExpLog {
@@ -37,9 +54,13 @@ pub struct Tables {
     exp_log: ExpLog,
     skew: Vec<GfElement>,
     log_walsh: Vec<GfElement>,
+    mul16: Vec<[[GfElement; 16]; 4]>,
+    mul128: Vec<Multiply128lutT>,
     pub ghost exp_log_entries: { IsExpLog exp_log.exp.items exp_log.log.items },
     pub ghost skew_entries: { IsSkew skew.items },
     pub ghost log_walsh_entries: { IsLogWalsh log_walsh.items },
+    pub ghost mul16_entries: { IsMul16 mul16.items },
+    pub ghost mul128_entries: { IsMul128 mul128.items },
 }
 
 impl Tables {
@@ -47,13 +68,17 @@ impl Tables {
     pub fn new(alloc: Global) -> Result<Tables, Error>
         ensures { IfErr result (λ e. e ≡ Error.OutOfMemory) }
     {
-        let exp_log = ExpLog::new(alloc)?;
+        let exp_log = powers::exp_log_table(alloc)?;
         let skew = skew_table(alloc, &exp_log)?;
         let log_walsh = log_walsh_table(alloc, &exp_log.log)?;
+        let mul16 = mul16::mul16_table(alloc, &exp_log)?;
+        let mul128 = mul128::mul128_table(alloc, &mul16)?;
         Ok(Tables {
             exp_log,
             skew,
             log_walsh,
+            mul16,
+            mul128,
         })
     }
 }
@@ -79,6 +104,29 @@ pub fn get_log_walsh(tables: &Tables) -> LogWalsh<'_>
     tables.log_walsh.as_slice()
 }
 
+/// The products with each power of the generator, as words.
+pub fn get_mul16(tables: &Tables) -> Mul16<'_>
+    ensures { IsMul16 result.now }
+{
+    tables.mul16.as_slice()
+}
+
+/// The products with each power of the generator, by bytes.
+pub fn get_mul128(tables: &Tables) -> Mul128<'_>
+    ensures { IsMul128 result.now }
+{
+    tables.mul128.as_slice()
+}
+
+/// Byte `at`, from 0 to 15, of a number of `Multiply128lutT`, the lowest first.
+#[inline(always)]
+pub fn byte(t: u128, at: u32) -> u8
+    requires { at < 16 }
+    ensures { result ≡ byte_at t at }
+{
+    ((t >> (8 * at)) & 255) as u8
+}
+
 /// `x` times the generator to the power `log_m`; 65535 is the factor one. The tables are those of an `ExpLog`.
 pub fn mul(x: GfElement, log_m: GfElement, exp: Exp<'_>, log: Log<'_>) -> GfElement
     requires { IsExpLog exp.now log.now }
@@ -98,53 +146,6 @@ pub fn add_mod(x: GfElement, y: GfElement) -> GfElement
 {
     let sum = x.wrapping_add(y);
     if sum < x { sum + 1 } else { sum }
-}
-
-// The products of the generator with the words 1, 2, 4, .., 0x8000.
-const GENERATOR_PRODUCTS: [GfElement; GF_BITS] = [
-    0x4690, 0xBB9F, 0x678C, 0x7D8C, 0x85D1, 0xF463, 0xB9B1, 0x7212, 0x954C, 0xEEFE, 0x33DA, 0xF92D,
-    0x5499, 0xB887, 0x4F3F, 0xFDC5,
-];
-
-// The product of a word and the generator.
-fn times_generator(z: GfElement) -> GfElement
-    ensures { result ≡ product z generator }
-{
-    let mut out = 0;
-    let mut rest = z;
-    for entry in &GENERATOR_PRODUCTS {
-        if rest % 2 == 1 {
-            out ^= *entry;
-        }
-        rest /= 2;
-    }
-    out
-}
-
-// A table of n entries of one value.
-fn filled(alloc: Global, value: GfElement, n: usize) -> Result<Vec<GfElement>, AllocError>
-    ensures size { IfOk result (λ v. length v.items ≡ n) }
-    ensures entries { IfOk result (λ v. (k : ℕ) → k < n → slice_index v.items k ≡ value) }
-{
-    Ok(vec![in alloc; value; n]?)
-}
-
-impl ExpLog {
-    // One walk over the powers of the generator fills both tables.
-    fn new(alloc: Global) -> Result<ExpLog, AllocError>
-        ensures { IfOk result (λ t. IsExpLog t.exp.items t.log.items) }
-    {
-        let mut exp = filled(alloc, 0, GF_ORDER)?;
-        let mut log = filled(alloc, GF_MODULUS, GF_ORDER)?;
-        let mut z = 1;
-        for n in 0..GF_MODULUS {
-            exp[n as usize] = z;
-            log[z as usize] = n;
-            z = times_generator(z);
-        }
-        exp[GF_MODULUS as usize] = 1;
-        Ok(ExpLog { exp, log })
-    }
 }
 
 // The even number 2u, for j an odd number 2u + 1 times a power of two.

@@ -1,8 +1,8 @@
 use Rattle.std.proofs.Common.{◌≡◌, ◌+◌, ◌%◌, bit_xor, ℕ, ◌/◌, drop, ap, ◌∙◌, arith}
 use Rattle.rs_field.specs.Field.{combine}
 use Rattle.rs_field.proofs.Tables.{take_entry, leave_entry, all_entries, generator_products, generator_columns}
-use Rattle.rs_field.proofs.engine.tables.times_generator.Goals as goal
-use Rattle.rs_field.proofs.engine.tables.times_generator.Goals.{then-rest-eq1, else-rest-eq1}
+use Rattle.rs_field.proofs.engine.powers.times_generator.Goals as goal
+use Rattle.rs_field.proofs.engine.powers.times_generator.Goals.{then-rest-eq1, else-rest-eq1}
 
 pub loop-entry-preserved : goal.loop-entry-preserved
 unfolding generator_products

@@ -2,7 +2,7 @@ use Rattle.std.proofs.Common.{sym, ◌∙◌, arith}
 use Rattle.std.proofs.lemmas.List.{length-set}
 use Rattle.rs_field.proofs.Power.{power_zero}
 use Rattle.rs_field.proofs.Tables.{exp_more, log_more, log_zero_more, power_next, filled_tables}
-use Rattle.rs_field.proofs.engine.tables.ExpLog.new.Goals as goal
+use Rattle.rs_field.proofs.engine.powers.exp_log_table.Goals as goal
 
 pub loop-n-init : goal.loop-n-init
 loop-n-init c = record {
@@ -20,7 +20,7 @@ loop-n-preserved c =
     record {
       exp_length = length-set c.loop-n.exp.items c.loop-n.n c.loop-n.z ∙ i.exp_length;
       log_length = length-set c.loop-n.log.items c.loop-n.z c.loop-n.n ∙ i.log_length;
-      at = power_next c.loop-n.n c.loop-n.z c.times_generator-z.result i.at c.times_generator-z.ensures;
+      at = power_next c.loop-n.n c.loop-n.z c.step-z.result i.at c.step-z.ensures;
       exp_so_far = exp_more c.loop-n.exp.items c.loop-n.n c.loop-n.z i.exp_length c.loop-n-test.true i.at i.exp_so_far;
       log_so_far = log_more c.loop-n.log.items c.loop-n.n c.loop-n.z i.log_length c.loop-n-test.true i.at (omega arith) i.log_so_far;
       log_zero = log_zero_more c.loop-n.log.items c.loop-n.n c.loop-n.z i.at i.log_zero;
