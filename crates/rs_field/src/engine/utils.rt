@@ -10,15 +10,16 @@ ghost use Rattle.rs_field.specs.Tables.{IsLogWalsh};
 use super::fwht::fwht;
 use super::pairs::{PairStep, step_pairs};
 use super::tables::{LogWalsh, add_mod};
+use super::vectors::sum;
 use super::{GF_ORDER, GfElement, ShardsRefMut, Steps};
+use std::simd::prelude::*;
 
+#[inline(always)]
 fn xor_chunk(x: &mut [u8; 64], y: &[u8; 64])
     ensures bytes { (i : ℕ) → i < 64 → slice_index x.new i ≡ bit_xor (slice_index x.old i) (slice_index y.now i) }
     ensures symbols { (s : ℕ) → s < 32 → symbol x.new s ≡ bit_xor (symbol x.old s) (symbol y.now s) }
 {
-    for i in 0..64 {
-        x[i] ^= y[i];
-    }
+    *x = sum(u8x64::from_array(*x), u8x64::from_array(*y)).to_array();
 }
 
 /// Adds `ys` to `xs`, chunk by chunk: each byte becomes its XOR with the byte at the same place, and so each symbol
