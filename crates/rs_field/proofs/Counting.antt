@@ -1,9 +1,8 @@
--- Counts of steps: of calls one after another, and of a block whose halves were counted.
-use Rattle.std.proofs.Common.{◌≡◌, ℕ, ◌+◌, ◌*◌, ◌/◌, ◌^◌, ◌<◌, ◌≤◌, sym, mul_assoc, arith}
+-- Counts of steps, of calls one after another.
+use Rattle.std.proofs.Common.{◌≡◌, ℕ, ◌+◌, ◌*◌, ◌/◌, ◌≤◌, sym, mul_assoc, arith}
 use Rattle.std.proofs.Math.Nat.{mul-le-mul_right}
-use Rattle.rs_field.specs.Bounds.{CountsRows, CountsUpTo, LocatorCounts, TransformCounts, decode_steps, log2, transform_steps}
+use Rattle.rs_field.specs.Bounds.{CountsRows, CountsUpTo, LocatorCounts, decode_steps, log2, transform_steps}
 use Rattle.rs_field.specs.declared.engine.steps.Steps.{Steps}
-use Rattle.rs_field.proofs.Halves.{half_power, few_halves, steps_half}
 
 -- exactly n row steps are no more than n
 pub counts_rows : (n : ℕ) (a b : Steps) → CountsRows n a b → CountsUpTo n 0 0 a b
@@ -48,14 +47,6 @@ counts_within m n a b le p = record {
   pair_sums_most = p.pair_sums_most;
   products_most = p.products_most;
 }
-
--- half a block of row steps and the transforms of both halves are no more than the whole's transform
-pub counts_of_whole : (size shift n : ℕ) (from to : Steps) → 1 < size → (d : ℕ) × (size ≡ 2 ^ d) → shift + size ≤ 65536
-    → n ≤ size / 2 + 2 * transform_steps (size / 2) → CountsUpTo n 0 0 from to → TransformCounts size from to
-counts_of_whole size shift n from to large power points few c =
-    let p = half_power size large power in
-    let whole : size / 2 + 2 * transform_steps (size / 2) ≡ transform_steps size = steps_half size p.0 (size / 2) (few_halves size p.0 shift p.1 points) p.1 p.2 in
-    counts_within n (transform_steps size) from to (omega arith) c
 
 -- a locator, and then three transforms and four steps for each row, are a decode
 pub counts_decode : (w : ℕ) (a b c : Steps) → LocatorCounts a b → CountsUpTo (3 * transform_steps w + 4 * w) 0 0 b c → CountsUpTo (decode_steps w) 1048576 65536 a c

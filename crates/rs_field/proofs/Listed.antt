@@ -1,5 +1,5 @@
 -- The shards of a map, listed with their indexes.
-use Rattle.std.proofs.Common.{◌≡◌, ℕ, zero, suc, ◌+◌, ◌-◌, ◌<◌, ◌≤◌, List, [], ◌∷◌, ◌++◌, length, cond, refl, sym, ap, ap₂, ◌∙◌, arith, length-append, append_assoc, append-nil, add-zero}
+use Rattle.std.proofs.Common.{◌≡◌, ℕ, zero, suc, ◌+◌, ◌-◌, ◌<◌, ◌≤◌, [], ◌∷◌, ◌++◌, length, cond, refl, sym, ap, ap₂, ◌∙◌, arith, length-append, append_assoc, append-nil, add-zero}
 use Rattle.std.proofs.Math.Nat.{add-suc, suc-add}
 use Rattle.std.specs.Prelude.{Option, Some, None, is_some}
 use Rattle.rs_field.specs.Column.{Shard}

@@ -27,14 +27,6 @@ outside_cell a b old new shape others i k hk h =
     ap (λ n. chunk new.chunks.now (i * n + k)) shape.len_64
     ∙ others (i * old.shard_len_64 + k) (offset_outside a b i k old.shard_len_64 hk h)
 
--- a change within fewer rows
-pub outside_more : (a b e f : ℕ) (old new : ShardsRefMut) → SameRowsOutside a b old new → e ≤ a → b ≤ f → SameRowsOutside e f old new
-outside_more a b e f old new others ea bf k h =
-    let n : ℕ = old.shard_len_64 in
-    let ea_n : e * n ≤ a * n = mul-le-mul_right n ea in
-    let bf_n : b * n ≤ f * n = mul-le-mul_right n bf in
-    others k (elim h [ inl before ↦ inl (omega arith) | inr after ↦ inr (omega arith) ])
-
 -- two changes one after another, each within rows e to f - 1
 pub outside_both : (a b c d e f : ℕ) (old mid new : ShardsRefMut) → SameShape old mid → SameRowsOutside a b old mid → SameRowsOutside c d mid new
     → e ≤ a → b ≤ f → e ≤ c → d ≤ f → SameRowsOutside e f old new
@@ -66,12 +58,6 @@ outside_two_next a b i old mid new shape first second k h h' =
     subst (λ (m : ℕ). SameOutsideTwo ((a + i) * m) ((a + i + 1) * m) ((b + i) * m) ((b + i + 1) * m) mid.chunks.now new.chunks.now) shape.len_64 second in
     then k (elim h [ inl before ↦ inl (omega arith) | inr after ↦ inr (omega arith) ]) (elim h' [ inl before ↦ inl (omega arith) | inr after ↦ inr (omega arith) ])
     ∙ first k (elim h [ inl before ↦ inl before | inr after ↦ inr (omega arith) ]) (elim h' [ inl before ↦ inl before | inr after ↦ inr (omega arith) ])
-
--- two ranges of count rows, one after the other
-pub outside_halves : (a count : ℕ) (old new : ShardsRefMut) → SameRowsOutsideTwo a (a + count) (a + count) (a + count + count) old new
-    → SameRowsOutside a (a + count + count) old new
-outside_halves a count old new others k h =
-    others k (elim h [ inl before ↦ inl before | inr after ↦ inr (omega arith) ]) (elim h [ inl before ↦ inl (omega arith) | inr after ↦ inr after ])
 
 -- where the rows of the second range hold the same chunks as before, the first range alone was changed
 pub outside_first : (a b count : ℕ) (old new : ShardsRefMut) → SameShape old new → SameRowsOutsideTwo a (a + count) b (b + count) old new

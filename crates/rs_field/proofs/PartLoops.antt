@@ -1,0 +1,190 @@
+-- Loops over the parts of a block, each of which transforms one part, for the rows and for the counts.
+use Rattle.std.proofs.Common.{◌≡◌, ℕ, ◌+◌, ◌-◌, ◌*◌, ◌/◌, ◌%◌, ◌<◌, ◌≤◌, ◌⊎◌, refl, sym, ap, ◌∙◌, inl, inr, arith, subst, mod-lt}
+use Rattle.std.specs.Prelude.{min}
+use Rattle.std.proofs.Math.Nat.{mul-le-mul_right}
+use Rattle.std.proofs.lemmas.Bool.{cases_lt}
+use Rattle.std.proofs.lemmas.Nat.{div-add-mod'}
+use Rattle.rs_field.specs.Transform.{forward}
+use Rattle.rs_field.specs.Layers.{ArePartsOf, layer_steps}
+use Rattle.rs_field.specs.View.{cell, word, SameShape, SameRowsOutside, AreZero}
+use Rattle.rs_field.specs.Bounds.{CountsUpTo, TransformCounts, transform_steps}
+use Rattle.rs_field.specs.declared.engine.shards.ShardsRefMut.{ShardsRefMut}
+use Rattle.rs_field.specs.declared.engine.steps.Steps.{Steps}
+use Rattle.rs_field.proofs.Combination.{forward-same}
+use Rattle.rs_field.proofs.Counting.{counts_then, counts_within}
+use Rattle.rs_field.proofs.Parts.{IsPart, part_within}
+use Rattle.rs_field.proofs.Recursion.{word_same, zero_rows}
+use Rattle.rs_field.proofs.RowOffsets.{outside_both, outside_cell, shape_then}
+
+-- a part of rows by the place of its first row
+placed : (rows : ShardsRefMut) (k s n shift pos start i : ℕ)
+    → forward n shift (λ q. word rows k s (pos + start + q)) i ≡ forward n shift (λ q. word rows k s (pos + (start + q))) i
+placed rows k s n shift pos start i =
+    forward-same n shift (λ q. word rows k s (pos + start + q)) (λ q. word rows k s (pos + (start + q))) i
+    (λ q hq. ap (word rows k s) (let r : pos + start + q ≡ pos + (start + q) = omega arith in r))
+
+-- rows that are unchanged have the same transform
+kept : (old new : ShardsRefMut) (k s n shift pos start i : ℕ) → ((q : ℕ) → q < n → cell new k (pos + (start + q)) ≡ cell old k (pos + (start + q)))
+    → forward n shift (λ q. word new k s (pos + (start + q))) i ≡ forward n shift (λ q. word old k s (pos + (start + q))) i
+kept old new k s n shift pos start i same =
+    forward-same n shift (λ q. word new k s (pos + (start + q))) (λ q. word old k s (pos + (start + q))) i
+    (λ q hq. word_same new old k s (pos + (start + q)) (pos + (start + q)) (same q hq))
+
+-- ---- forward
+
+-- the parts before the j-th are transformed, and the others are still as the layers left them
+pub record ForwardDone (size n shift pos wanted j : ℕ) (old new : ShardsRefMut) : Type 0 where
+  pub shape : SameShape old new
+  pub others : SameRowsOutside pos (pos + size) old new
+  pub values : (k s i : ℕ) → k < old.shard_len_64 → s < 32 → i < j * n → i < wanted
+      → word new k s (pos + i) ≡ forward size shift (λ q. word old k s (pos + q)) i
+  pub rest : (k s m i : ℕ) → k < old.shard_len_64 → s < 32 → j ≤ m → m * n < size → i < n
+      → forward n (shift + m * n) (λ q. word new k s (pos + (m * n + q))) i ≡ forward size shift (λ q. word old k s (pos + q)) (m * n + i)
+
+pub forward_begun : (size n shift pos wanted : ℕ) (old new : ShardsRefMut) → SameShape old new → SameRowsOutside pos (pos + size) old new
+    → ((k s : ℕ) → k < old.shard_len_64 → s < 32 → ArePartsOf size n shift (λ q. word old k s (pos + q)) (λ q. word new k s (pos + q)))
+    → ForwardDone size n shift pos wanted 0 old new
+forward_begun size n shift pos wanted old new shape others parts = record {
+  shape = shape;
+  others = others;
+  values = λ k s i hk hs hi hw. absurd (let no : ⊥ = omega arith in no);
+  rest = λ k s m i hk hs hm within hi. parts k s hk hs m i within hi;
+}
+
+pub forward_next : (size n shift pos wanted j : ℕ) (old mid new : ShardsRefMut) → IsPart size n → wanted ≤ size → j * n < wanted
+    → ForwardDone size n shift pos wanted j old mid → SameShape mid new → SameRowsOutside (pos + j * n) (pos + j * n + n) mid new
+    → ((k s i : ℕ) → k < mid.shard_len_64 → s < 32 → i < min n (wanted - j * n)
+    → word new k s (pos + j * n + i) ≡ forward n (shift + j * n) (λ q. word mid k s (pos + j * n + q)) i)
+    → ForwardDone size n shift pos wanted (j + 1) old new
+forward_next size n shift pos wanted j old mid new p most begins done shape others step = record {
+  shape = shape_then old mid new done.shape shape;
+  others =
+      let inside = part_within size n j p (omega arith) in
+      outside_both pos (pos + size) (pos + j * n) (pos + j * n + n) pos (pos + size) old mid new done.shape done.others others
+      (omega arith) (omega arith) (omega arith) (omega arith);
+  values = λ k s i hk hs hi hw. elim (cases_lt i (j * n)) [
+    | inl before ↦
+        word_same new mid k s (pos + i) (pos + i) (unchanged (pos + i) k hk (inl (omega arith))) ∙ done.values k s i hk hs before hw
+    | inr from ↦
+        let r : ℕ = i - j * n in
+        let back : j * n + r ≡ i = omega arith in
+        let there : pos + i ≡ pos + j * n + r = omega arith in
+        let low : r < n = omega arith in
+        let small : r < min n (wanted - j * n) = let w : r < wanted - j * n = omega arith in omega (arith, low, w) in
+        ap (word new k s) there ∙ step k s r (omega (arith, len)) hs small ∙ placed mid k s n (shift + j * n) pos (j * n) r
+        ∙ done.rest k s j r hk hs (omega arith) (omega arith) low ∙ ap (forward size shift (λ q. word old k s (pos + q))) back
+  ];
+  rest = λ k s m i hk hs hm within hi.
+      let le : (j + 1) * n ≤ m * n = mul-le-mul_right n hm in
+      kept mid new k s n (shift + m * n) pos (m * n) i (λ q hq. unchanged (pos + (m * n + q)) k hk (inr (omega arith)))
+      ∙ done.rest k s m i hk hs (omega arith) within hi;
+}
+  where
+    len : mid.shard_len_64 ≡ old.shard_len_64
+    len = done.shape.len_64
+
+    unchanged : (r k : ℕ) → k < old.shard_len_64 → (r < pos + j * n) ⊎ (pos + j * n + n ≤ r) → cell new k r ≡ cell mid k r
+    unchanged r k hk h = outside_cell (pos + j * n) (pos + j * n + n) mid new shape others r k (omega (arith, len)) h
+
+-- ---- backward
+
+-- the parts before the j-th are transformed, and the rows from there on are unchanged
+pub record BackwardDone (size n shift pos j : ℕ) (old new : ShardsRefMut) : Type 0 where
+  pub shape : SameShape old new
+  pub others : SameRowsOutside pos (pos + size) old new
+  pub values : (k s m i : ℕ) → k < old.shard_len_64 → s < 32 → m < j → i < n
+      → word old k s (pos + (m * n + i)) ≡ forward n (shift + m * n) (λ q. word new k s (pos + (m * n + q))) i
+  pub rest : (k i : ℕ) → k < old.shard_len_64 → j * n ≤ i → i < size → cell new k (pos + i) ≡ cell old k (pos + i)
+
+pub backward_begun : (size n shift pos : ℕ) (rows : ShardsRefMut) → BackwardDone size n shift pos 0 rows rows
+backward_begun size n shift pos rows = record {
+  shape = record { name = refl; count = refl; len_64 = refl; length = refl };
+  others = λ k h. refl;
+  values = λ k s m i hk hs hm hi. absurd (let no : ⊥ = omega arith in no);
+  rest = λ k i hk from to. refl;
+}
+
+pub backward_next : (size n shift pos j : ℕ) (old mid new : ShardsRefMut) → IsPart size n → j * n < size
+    → BackwardDone size n shift pos j old mid → SameShape mid new → SameRowsOutside (pos + j * n) (pos + j * n + n) mid new
+    → ((k s i : ℕ) → k < mid.shard_len_64 → s < 32 → i < n
+    → word mid k s (pos + j * n + i) ≡ forward n (shift + j * n) (λ q. word new k s (pos + j * n + q)) i)
+    → BackwardDone size n shift pos (j + 1) old new
+backward_next size n shift pos j old mid new p begins done shape others step = record {
+  shape = shape_then old mid new done.shape shape;
+  others =
+      outside_both pos (pos + size) (pos + j * n) (pos + j * n + n) pos (pos + size) old mid new done.shape done.others others
+      (omega arith) (omega arith) (omega arith) (omega (arith, inside));
+  values = λ k s m i hk hs hm hi. elim (cases_lt m j) [
+    | inl before ↦
+        let next : m + 1 ≤ j = omega arith in
+        let le : (m + 1) * n ≤ j * n = mul-le-mul_right n next in
+        done.values k s m i hk hs before hi
+        ∙ sym (kept mid new k s n (shift + m * n) pos (m * n) i (λ q hq. unchanged (pos + (m * n + q)) k hk (inl (omega arith))))
+    | inr after ↦
+        let last : m ≡ j = omega arith in
+        subst (λ (v : ℕ). word old k s (pos + (v * n + i)) ≡ forward n (shift + v * n) (λ q. word new k s (pos + (v * n + q))) i) (sym last) (latest k s i hk hs hi)
+  ];
+  rest = λ k i hk from to. unchanged (pos + i) k hk (inr (omega arith)) ∙ done.rest k i hk (omega arith) to;
+}
+  where
+    inside : j * n + n ≤ size
+    inside = part_within size n j p begins
+
+    len : mid.shard_len_64 ≡ old.shard_len_64
+    len = done.shape.len_64
+
+    unchanged : (r k : ℕ) → k < old.shard_len_64 → (r < pos + j * n) ⊎ (pos + j * n + n ≤ r) → cell new k r ≡ cell mid k r
+    unchanged r k hk h = outside_cell (pos + j * n) (pos + j * n + n) mid new shape others r k (omega (arith, len)) h
+
+    latest : (k s i : ℕ) → k < old.shard_len_64 → s < 32 → i < n
+        → word old k s (pos + (j * n + i)) ≡ forward n (shift + j * n) (λ q. word new k s (pos + (j * n + q))) i
+    latest k s i hk hs hi =
+        let there : pos + (j * n + i) ≡ pos + j * n + i = omega arith in
+        sym (word_same mid old k s (pos + (j * n + i)) (pos + (j * n + i)) (done.rest k (j * n + i) hk (omega arith) (omega (arith, inside))))
+        ∙ ap (word mid k s) there ∙ step k s i (omega (arith, len)) hs hi ∙ placed new k s n (shift + j * n) pos (j * n) i
+
+-- all parts: those that are left hold zeros
+pub backward_all : (size n shift pos filled j k s m i : ℕ) (old new : ShardsRefMut) → IsPart size n → filled ≤ j * n → AreZero (pos + filled) (pos + size) old
+    → BackwardDone size n shift pos j old new → k < old.shard_len_64 → s < 32 → m * n < size → i < n
+    → word old k s (pos + (m * n + i)) ≡ forward n (shift + m * n) (λ q. word new k s (pos + (m * n + q))) i
+backward_all size n shift pos filled j k s m i old new p all tail done hk hs within hi =
+    elim (cases_lt m j) [
+      | inl before ↦ done.values k s m i hk hs before hi
+      | inr after ↦
+          let le : j * n ≤ m * n = mul-le-mul_right n after in
+          let inside = part_within size n m p within in
+          let there : pos + (m * n + i) ≡ pos + m * n + i = omega arith in
+          ap (word old k s) there
+          ∙ zero_rows old k s (pos + m * n) n (shift + m * n) i hs hi (λ q hq. tail (pos + m * n + q) k hk (omega arith) (omega arith))
+          ∙ placed old k s n (shift + m * n) pos (m * n) i
+          ∙ sym (kept old new k s n (shift + m * n) pos (m * n) i (λ q hq. done.rest k (m * n + q) hk (omega arith) (omega arith)))
+    ]
+
+-- and then the layers
+pub backward_whole : (size n shift pos filled j k s i : ℕ) (old mid new : ShardsRefMut) → IsPart size n → filled ≤ j * n → AreZero (pos + filled) (pos + size) old
+    → BackwardDone size n shift pos j old mid
+    → ArePartsOf size n shift (λ q. word new k s (pos + q)) (λ q. word mid k s (pos + q)) → k < old.shard_len_64 → s < 32 → i < size
+    → word old k s (pos + i) ≡ forward size shift (λ q. word new k s (pos + q)) i
+backward_whole size n shift pos filled j k s i old mid new p all tail done parts hk hs hi =
+    let m : ℕ = i / n in
+    let r : ℕ = i % n in
+    let low : r < n = mod-lt i p.positive in
+    let back : m * n + r ≡ i = div-add-mod' i n in
+    let within : m * n < size = omega arith in
+    ap (λ v. word old k s (pos + v)) (sym back)
+    ∙ backward_all size n shift pos filled j k s m r old mid p all tail done hk hs within low
+    ∙ parts m r within low
+    ∙ ap (forward size shift (λ q. word new k s (pos + q))) back
+
+-- ---- counts
+
+-- one more part
+pub counts_next : (a t j : ℕ) (from mid to : Steps) → CountsUpTo (a + j * t) 0 0 from mid → CountsUpTo t 0 0 mid to → CountsUpTo (a + (j + 1) * t) 0 0 from to
+counts_next a t j from mid to p q = counts_within (a + j * t + t) (a + (j + 1) * t) from to (omega arith) (counts_then (a + j * t) t from mid to p q)
+
+-- the layers and some parts are no more than the whole
+pub counts_of_parts : (size n j : ℕ) (from to : Steps) (p : IsPart size n) → j ≤ p.count → CountsUpTo (layer_steps size + j * transform_steps n) 0 0 from to
+    → TransformCounts size from to
+counts_of_parts size n j from to p few c =
+    let le : j * transform_steps n ≤ p.count * transform_steps n = mul-le-mul_right (transform_steps n) few in
+    counts_within (layer_steps size + j * transform_steps n) (transform_steps size) from to (let whole = p.steps in omega arith) c

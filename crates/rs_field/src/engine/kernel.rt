@@ -1,0 +1,149 @@
+//! What an engine brings of its own, and the engine made of it.
+ghost use Rattle.std.specs.Prelude.{◌≡◌, ℕ, ◌<◌, length, bit_xor};
+ghost use Rattle.rs_field.specs.Field.{product, power};
+ghost use Rattle.rs_field.specs.Tables.{scaled};
+ghost use Rattle.rs_field.specs.Rows.{chunk, symbol};
+ghost use Rattle.rs_field.specs.TwoLayers.{IsForwardTwoLayers, IsBackwardTwoLayers};
+
+use super::tables::{Tables, get_log_walsh, get_skew};
+use super::transform::{fft, ifft};
+use super::{Engine, GfElement, ShardsRefMut, Steps, utils};
+
+/// What tells engines apart: the tables that they read, the butterflies of two rows and the product of a row.
+///
+/// Each type with these is an engine: its transforms, which take care of blocks, cosets and truncation, its products and
+/// its locator are those of `impl Engine` below. The factor of a butterfly is given by its logarithm `log_m`; 65535 marks
+/// the factor zero.
+pub trait Kernel: Drop {
+    /// The tables.
+    fn tables(&self) -> &Tables;
+
+    /// Adds `y` times the factor to `x`, and then the new `x` to `y`. Both rows have the same number of chunks.
+    fn fft_butterfly(&self, x: &mut [[u8; 64]], y: &mut [[u8; 64]], log_m: GfElement)
+        requires { length x.old ≡ length y.old }
+        ensures first { (k s : ℕ) → k < length x.old → s < 32
+            → symbol (chunk x.new k) s ≡ bit_xor (symbol (chunk x.old k) s) (scaled log_m (symbol (chunk y.old k) s)) }
+        ensures second { (k s : ℕ) → k < length x.old → s < 32
+            → symbol (chunk y.new k) s ≡ bit_xor (symbol (chunk y.old k) s) (symbol (chunk x.new k) s) };
+
+    /// Adds `x` to `y`, and then the new `y` times the factor to `x`. Both rows have the same number of chunks.
+    fn ifft_butterfly(&self, x: &mut [[u8; 64]], y: &mut [[u8; 64]], log_m: GfElement)
+        requires { length x.old ≡ length y.old }
+        ensures first { (k s : ℕ) → k < length x.old → s < 32
+            → symbol (chunk x.new k) s ≡ bit_xor (symbol (chunk x.old k) s) (scaled log_m (symbol (chunk y.new k) s)) }
+        ensures second { (k s : ℕ) → k < length x.old → s < 32
+            → symbol (chunk y.new k) s ≡ bit_xor (symbol (chunk y.old k) s) (symbol (chunk x.old k) s) };
+
+    /// Two layers of `fft_butterfly` on four rows: rows 0 and 2 and rows 1 and 3 by the factor of `log_m02`, then rows 0
+    /// and 1 by that of `log_m01`, and rows 2 and 3 by that of `log_m23`. All four have the same number of chunks.
+    ///
+    /// An engine that keeps a chunk of each row in registers writes its own.
+    fn fft_two_layers(
+        &self,
+        x0: &mut [[u8; 64]],
+        x1: &mut [[u8; 64]],
+        x2: &mut [[u8; 64]],
+        x3: &mut [[u8; 64]],
+        log_m02: GfElement,
+        log_m01: GfElement,
+        log_m23: GfElement,
+    )
+        requires one { length x0.old ≡ length x1.old }
+        requires two { length x0.old ≡ length x2.old }
+        requires three { length x0.old ≡ length x3.old }
+        ensures { (k : ℕ) → k < length x0.old
+            → IsForwardTwoLayers log_m02 log_m01 log_m23 (chunk x0.old k) (chunk x1.old k) (chunk x2.old k) (chunk x3.old k)
+            (chunk x0.new k) (chunk x1.new k) (chunk x2.new k) (chunk x3.new k) }
+    {
+        self.fft_butterfly(x0, x2, log_m02);
+        self.fft_butterfly(x1, x3, log_m02);
+        self.fft_butterfly(x0, x1, log_m01);
+        self.fft_butterfly(x2, x3, log_m23);
+    }
+
+    /// Two layers of `ifft_butterfly` on four rows: rows 0 and 1 by the factor of `log_m01` and rows 2 and 3 by that of
+    /// `log_m23`, then rows 0 and 2 and rows 1 and 3 by that of `log_m02`. All four have the same number of chunks.
+    fn ifft_two_layers(
+        &self,
+        x0: &mut [[u8; 64]],
+        x1: &mut [[u8; 64]],
+        x2: &mut [[u8; 64]],
+        x3: &mut [[u8; 64]],
+        log_m02: GfElement,
+        log_m01: GfElement,
+        log_m23: GfElement,
+    )
+        requires one { length x0.old ≡ length x1.old }
+        requires two { length x0.old ≡ length x2.old }
+        requires three { length x0.old ≡ length x3.old }
+        ensures { (k : ℕ) → k < length x0.old
+            → IsBackwardTwoLayers log_m02 log_m01 log_m23 (chunk x0.old k) (chunk x1.old k) (chunk x2.old k) (chunk x3.old k)
+            (chunk x0.new k) (chunk x1.new k) (chunk x2.new k) (chunk x3.new k) }
+    {
+        self.ifft_butterfly(x0, x1, log_m01);
+        self.ifft_butterfly(x2, x3, log_m23);
+        self.ifft_butterfly(x0, x2, log_m02);
+        self.ifft_butterfly(x1, x3, log_m02);
+    }
+
+    /// Multiplies every symbol of every chunk of a row by the generator to the power `log_m`; 65535 is the factor one.
+    fn mul_row(&self, x: &mut [[u8; 64]], log_m: GfElement)
+        ensures { (k s : ℕ) → k < length x.old → s < 32
+            → symbol (chunk x.new k) s ≡ product (symbol (chunk x.old k) s) (power log_m) };
+}
+
+impl<K: Kernel> Engine for K {
+    fn fft(
+        &self,
+        steps: &mut Steps,
+        data: &mut ShardsRefMut<'_>,
+        pos: usize,
+        size: usize,
+        truncated_size: usize,
+        skew_delta: usize,
+    ) {
+        let skew = get_skew(self.tables());
+        fft(
+            self,
+            skew,
+            steps,
+            data,
+            pos,
+            size,
+            truncated_size,
+            skew_delta,
+        );
+    }
+
+    fn ifft(
+        &self,
+        steps: &mut Steps,
+        data: &mut ShardsRefMut<'_>,
+        pos: usize,
+        size: usize,
+        truncated_size: usize,
+        skew_delta: usize,
+    ) {
+        let skew = get_skew(self.tables());
+        ifft(
+            self,
+            skew,
+            steps,
+            data,
+            pos,
+            size,
+            truncated_size,
+            skew_delta,
+        );
+    }
+
+    fn mul(&self, steps: &mut Steps, x: &mut [[u8; 64]], log_m: GfElement) {
+        steps.row_step();
+        self.mul_row(x, log_m);
+    }
+
+    fn eval_poly(&self, steps: &mut Steps, erasures: &mut [GfElement], truncated_size: usize) {
+        let log_walsh = get_log_walsh(self.tables());
+        utils::eval_poly(steps, erasures, truncated_size, log_walsh);
+    }
+}
