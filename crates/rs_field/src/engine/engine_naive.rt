@@ -1,12 +1,13 @@
 //! The plain engine: each product by the tables of powers and logarithms, symbol by symbol.
-ghost use Rattle.std.specs.Prelude.{◌≡◌, ℕ, ◌<◌, ◌≤◌, ◌≢◌, ◌⊎◌, length, bit_xor};
+ghost use Rattle.std.specs.Prelude.{◌≡◌, ℕ, ◌<◌, ◌≤◌, ◌⊎◌, length, bit_xor};
 ghost use Rattle.rs_field.specs.Field.{product, power};
 ghost use Rattle.rs_field.specs.Tables.{IsExpLog, scaled};
 ghost use Rattle.rs_field.specs.Rows.{chunk, symbol};
 
-use super::tables::{self, ExpLog, Tables, get_exp_log, get_log_walsh, get_skew};
-use super::transform::{self, Butterfly};
-use super::{Engine, GF_MODULUS, GfElement, ShardsRefMut, Steps, utils};
+use super::kernel::Kernel;
+use super::symbols::{add_symbol, set_symbol, symbol_at};
+use super::tables::{self, Exp, Log, Tables, get_exp_log};
+use super::{GF_MODULUS, GfElement, utils};
 
 /// The plain engine. It borrows the tables and takes no memory of its own.
 #[derive(Clone, Copy)]
@@ -23,63 +24,37 @@ impl<'t> Naive<'t> {
     }
 }
 
-fn symbol_at(c: &[u8; 64], s: usize) -> GfElement
-    requires { s < 32 }
-    ensures { result ≡ symbol c.now s }
-{
-    u16::from(c[s]) | (u16::from(c[s + 32]) << 8)
-}
-
-fn set_symbol(c: &mut [u8; 64], s: usize, word: GfElement)
-    requires { s < 32 }
-    ensures value { symbol c.new s ≡ word }
-    ensures others { (k : ℕ) → k < 32 → k ≢ s → symbol c.new k ≡ symbol c.old k }
-{
-    c[s] = (word & 0xff) as u8;
-    c[s + 32] = (word >> 8) as u8;
-}
-
-// Symbol s becomes its sum with a word.
-fn add_symbol(c: &mut [u8; 64], s: usize, word: GfElement)
-    requires { s < 32 }
-    ensures sum { symbol c.new s ≡ bit_xor (symbol c.old s) word }
-    ensures others { (k : ℕ) → k < 32 → k ≢ s → symbol c.new k ≡ symbol c.old k }
-{
-    let sum = symbol_at(c, s) ^ word;
-    set_symbol(c, s, sum);
-}
-
 // Each symbol of x becomes its sum with the product of y's.
-fn mul_add_chunk(x: &mut [u8; 64], y: &[u8; 64], log_m: GfElement, t: &ExpLog)
-    requires { IsExpLog t.now.exp.items t.now.log.items }
+fn mul_add_chunk(x: &mut [u8; 64], y: &[u8; 64], log_m: GfElement, exp: Exp<'_>, log: Log<'_>)
+    requires { IsExpLog exp.now log.now }
     ensures { (s : ℕ) → s < 32 → symbol x.new s ≡ bit_xor (symbol x.old s) (product (symbol y.now s) (power log_m)) }
 {
     for s in 0..32 {
-        let product = tables::mul(symbol_at(y, s), log_m, &t.exp, &t.log);
+        let product = tables::mul(symbol_at(y, s), log_m, exp, log);
         add_symbol(x, s, product);
     }
 }
 
 // Each symbol of x becomes its product.
-fn mul_chunk(x: &mut [u8; 64], log_m: GfElement, t: &ExpLog)
-    requires { IsExpLog t.now.exp.items t.now.log.items }
+fn mul_chunk(x: &mut [u8; 64], log_m: GfElement, exp: Exp<'_>, log: Log<'_>)
+    requires { IsExpLog exp.now log.now }
     ensures { (s : ℕ) → s < 32 → symbol x.new s ≡ product (symbol x.old s) (power log_m) }
 {
     for s in 0..32 {
-        let product = tables::mul(symbol_at(x, s), log_m, &t.exp, &t.log);
+        let product = tables::mul(symbol_at(x, s), log_m, exp, log);
         set_symbol(x, s, product);
     }
 }
 
 // Adds the product of each symbol of ys to that of xs.
-fn mul_add(xs: &mut [[u8; 64]], ys: &[[u8; 64]], log_m: GfElement, t: &ExpLog)
-    requires tables { IsExpLog t.now.exp.items t.now.log.items }
+fn mul_add(xs: &mut [[u8; 64]], ys: &[[u8; 64]], log_m: GfElement, exp: Exp<'_>, log: Log<'_>)
+    requires tables { IsExpLog exp.now log.now }
     requires sizes { length xs.old ≡ length ys.now }
     ensures { (k s : ℕ) → k < length xs.old → s < 32
         → symbol (chunk xs.new k) s ≡ bit_xor (symbol (chunk xs.old k) s) (product (symbol (chunk ys.now k) s) (power log_m)) }
 {
     for k in 0..xs.len() {
-        mul_add_chunk(&mut xs[k], &ys[k], log_m, t);
+        mul_add_chunk(&mut xs[k], &ys[k], log_m, exp, log);
     }
 }
 
@@ -91,12 +66,17 @@ impl Naive<'_> {
             → symbol (chunk xs.new k) s ≡ bit_xor (symbol (chunk xs.old k) s) (scaled log_m (symbol (chunk ys.now k) s)) }
     {
         if log_m != GF_MODULUS {
-            mul_add(xs, ys, log_m, get_exp_log(self.tables));
+            let t = get_exp_log(self.tables);
+            mul_add(xs, ys, log_m, &t.exp, &t.log);
         }
     }
 }
 
-impl Butterfly for Naive<'_> {
+impl Kernel for Naive<'_> {
+    fn tables(&self) -> &Tables {
+        self.tables
+    }
+
     fn fft_butterfly(&self, x: &mut [[u8; 64]], y: &mut [[u8; 64]], log_m: GfElement) {
         self.mul_add_row(x, y, log_m);
         utils::xor(y, x);
@@ -106,71 +86,20 @@ impl Butterfly for Naive<'_> {
         utils::xor(y, x);
         self.mul_add_row(x, y, log_m);
     }
-}
 
-impl Engine for Naive<'_> {
-    fn fft(
-        &self,
-        steps: &mut Steps,
-        data: &mut ShardsRefMut<'_>,
-        pos: usize,
-        size: usize,
-        truncated_size: usize,
-        skew_delta: usize,
-    ) {
-        let skew = get_skew(self.tables);
-        transform::fft(
-            self,
-            skew,
-            steps,
-            data,
-            pos,
-            size,
-            truncated_size,
-            skew_delta,
-        );
-    }
-
-    fn ifft(
-        &self,
-        steps: &mut Steps,
-        data: &mut ShardsRefMut<'_>,
-        pos: usize,
-        size: usize,
-        truncated_size: usize,
-        skew_delta: usize,
-    ) {
-        let skew = get_skew(self.tables);
-        transform::ifft(
-            self,
-            skew,
-            steps,
-            data,
-            pos,
-            size,
-            truncated_size,
-            skew_delta,
-        );
-    }
-
-    fn mul(&self, steps: &mut Steps, x: &mut [[u8; 64]], log_m: GfElement) {
-        steps.row_step();
+    fn mul_row(&self, x: &mut [[u8; 64]], log_m: GfElement) {
         let t = get_exp_log(self.tables);
         for k in 0..x.len() {
-            mul_chunk(&mut x[k], log_m, t);
+            mul_chunk(&mut x[k], log_m, &t.exp, &t.log);
         }
-    }
-
-    fn eval_poly(&self, steps: &mut Steps, erasures: &mut [GfElement], truncated_size: usize) {
-        let log_walsh = get_log_walsh(self.tables);
-        utils::eval_poly(steps, erasures, truncated_size, log_walsh);
     }
 }
 
 #[cfg(test)]
 mod tests {
     use super::*;
-    use crate::engine::GF_ORDER;
+    use crate::engine::tables::{byte, get_mul16, get_mul128, get_skew};
+    use crate::engine::{Engine, GF_ORDER, ShardsRefMut, Steps};
     use std::process::Abort;
     use std::test::Fail;
 
@@ -248,6 +177,21 @@ mod tests {
         }
     }
 
+    // The products of 0 to 7 with 2 are 0, 2, 3, 1, 11, 9, 8 and 10.
+    fn check_products(rt: &impl Abort, tables: &Tables) {
+        let log_2 = get_exp_log(tables).log[2] as usize;
+        let mul16 = get_mul16(tables);
+        assert_eq!(rt; mul16[log_2][0][3], 1);
+        assert_eq!(rt; mul16[log_2][0][4], 11);
+        assert_eq!(rt; mul16[65535][1][5], 80);
+        let entry = &get_mul128(tables)[log_2];
+        let low = [0, 2, 3, 1, 11, 9, 8, 10];
+        for at in 0..8 {
+            assert_eq!(rt; byte(entry.lo[0], at), low[at as usize], "low byte {at}");
+            assert_eq!(rt; byte(entry.hi[0], at), 0, "high byte {at}");
+        }
+    }
+
     fn check_transforms(rt: &impl Abort, naive: &Naive<'_>) {
         let mut chunks = rows_of([0x1234, 0, 0, 0]);
         forward(naive, &mut chunks, 4, 1, 0);
@@ -313,6 +257,7 @@ mod tests {
     fn worked_examples(rt: HostRuntime) -> Result<(), Fail> {
         let tables = Tables::new(rt.alloc())?;
         check_tables(&rt, &tables);
+        check_products(&rt, &tables);
         let naive = Naive::new(&tables);
         check_transforms(&rt, &naive);
         check_mul(&rt, &naive, get_exp_log(&tables).log[4]);

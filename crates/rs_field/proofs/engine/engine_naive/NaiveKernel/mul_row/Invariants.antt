@@ -1,7 +1,7 @@
 use Rattle.std.proofs.Common.{◌≡◌, ℕ, ◌<◌, ◌≤◌}
 use Rattle.rs_field.specs.Rows.{symbol, chunk}
 use Rattle.rs_field.specs.Field.{product, power}
-use Rattle.rs_field.proofs.engine.engine_naive.NaiveEngine.mul.Given as goal
+use Rattle.rs_field.proofs.engine.engine_naive.NaiveKernel.mul_row.Given as goal
 
 abbrev pub invariant-loop-k : goal.invariant-loop-k
 invariant-loop-k l = record {
