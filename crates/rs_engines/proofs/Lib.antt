@@ -1,0 +1,5 @@
+pub mod FourNibbles
+pub mod Bits
+pub mod Chosen
+pub mod Stored
+pub mod Words

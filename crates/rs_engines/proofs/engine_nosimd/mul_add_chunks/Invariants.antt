@@ -1,0 +1,12 @@
+use Rattle.std.proofs.Common.{◌≡◌, ℕ, ◌<◌, ◌≤◌, bit_xor}
+use Rattle.rs_field.specs.Rows.{symbol, chunk}
+use Rattle.rs_field.specs.Field.{product}
+use Rattle.rs_field.specs.Products.{IsNibbles}
+use Rattle.rs_engines.proofs.engine_nosimd.mul_add_chunks.Given as goal
+
+abbrev pub invariant-loop-k : goal.invariant-loop-k
+invariant-loop-k l = record {
+  done : (f j s : ℕ) → IsNibbles f l.rows → j < l.k → s < 32
+      → symbol (chunk l.x j) s ≡ bit_xor (symbol (chunk l.initial.x j) s) (product (symbol (chunk l.y j) s) f);
+  rest : (j : ℕ) → l.k ≤ j → chunk l.x j ≡ chunk l.initial.x j;
+}

@@ -1,0 +1,11 @@
+use Rattle.std.proofs.Common.{◌≡◌, ℕ, ◌<◌, ◌≤◌}
+use Rattle.rs_field.specs.Rows.{symbol, chunk}
+use Rattle.rs_engines.specs.Lanes.{AreLowVectors, AreHighVectors}
+use Rattle.rs_field.specs.Field.{product}
+use Rattle.rs_engines.proofs.lane_rows.mul_row.Given as goal
+
+abbrev pub invariant-loop-k : goal.invariant-loop-k
+invariant-loop-k g l = record {
+  done : (f j s : ℕ) → AreLowVectors g.row.N f l.lo → AreHighVectors g.row.N f l.hi → j < l.k → s < 32 → symbol (chunk l.x j) s ≡ product (symbol (chunk l.initial.x j) s) f;
+  rest : (j : ℕ) → l.k ≤ j → chunk l.x j ≡ chunk l.initial.x j;
+}

@@ -1,0 +1,123 @@
+//! The engine by products of nibbles: each product by four look-ups, symbol by symbol.
+//!
+//! The products of the sixteen values of each nibble with a factor are 4-bit tables, as Leopard-RS has them; the product
+//! of a word is the sum of its nibbles'.
+ghost use Rattle.std.specs.Prelude.{◌≡◌, ℕ, ◌+◌, ◌*◌, ◌<◌, length, bit_xor};
+ghost use Rattle.rs_field.specs.Field.{product};
+ghost use Rattle.rs_field.specs.Tables.{scaled};
+ghost use Rattle.rs_field.specs.Rows.{chunk, symbol};
+ghost use Rattle.rs_field.specs.Products.{IsNibbles};
+
+use rs_field::engine::kernel::Kernel;
+use rs_field::engine::symbols::{add_symbol, set_symbol};
+use rs_field::engine::tables::{Tables, get_mul16};
+use rs_field::engine::{GF_MODULUS, GfElement, utils};
+
+/// The engine by products of nibbles. It borrows the tables and takes no memory of its own.
+#[derive(Clone, Copy)]
+pub struct NoSimd<'t> {
+    tables: &'t Tables,
+}
+
+impl<'t> NoSimd<'t> {
+    /// The engine over these tables.
+    pub fn new(tables: &'t Tables) -> NoSimd<'t>
+        ensures { result.tables.now ≡ tables.now }
+    {
+        NoSimd { tables }
+    }
+}
+
+// The product of the word of two bytes.
+#[inline(always)]
+fn nibble_product(rows: &[[GfElement; 16]; 4], low: u8, high: u8) -> GfElement
+    ensures { (f : ℕ) → IsNibbles f rows.now → result ≡ product (low + 256 * high) f }
+{
+    rows[0][(low & 15) as usize]
+        ^ rows[1][(low >> 4) as usize]
+        ^ rows[2][(high & 15) as usize]
+        ^ rows[3][(high >> 4) as usize]
+}
+
+// Each symbol becomes its product, two at a time.
+#[inline(always)]
+fn mul_chunk(c: &mut [u8; 64], rows: &[[GfElement; 16]; 4])
+    ensures { (f s : ℕ) → IsNibbles f rows.now → s < 32 → symbol c.new s ≡ product (symbol c.old s) f }
+{
+    for i in 0..16 {
+        let s = 2 * i;
+        let even = nibble_product(rows, c[s], c[s + 32]);
+        let odd = nibble_product(rows, c[s + 1], c[s + 33]);
+        set_symbol(c, s, even);
+        set_symbol(c, s + 1, odd);
+    }
+}
+
+// Each symbol of x becomes its sum with the product of y's, two at a time.
+#[inline(always)]
+fn mul_add_chunk(x: &mut [u8; 64], y: &[u8; 64], rows: &[[GfElement; 16]; 4])
+    ensures { (f s : ℕ) → IsNibbles f rows.now → s < 32
+        → symbol x.new s ≡ bit_xor (symbol x.old s) (product (symbol y.now s) f) }
+{
+    for i in 0..16 {
+        let s = 2 * i;
+        let even = nibble_product(rows, y[s], y[s + 32]);
+        let odd = nibble_product(rows, y[s + 1], y[s + 33]);
+        add_symbol(x, s, even);
+        add_symbol(x, s + 1, odd);
+    }
+}
+
+// Each symbol of each chunk becomes its product.
+fn mul_chunks(x: &mut [[u8; 64]], rows: &[[GfElement; 16]; 4])
+    ensures { (f k s : ℕ) → IsNibbles f rows.now → k < length x.old → s < 32
+        → symbol (chunk x.new k) s ≡ product (symbol (chunk x.old k) s) f }
+{
+    for k in 0..x.len() {
+        mul_chunk(&mut x[k], rows);
+    }
+}
+
+// Adds the product of each symbol of y to that of x.
+fn mul_add_chunks(x: &mut [[u8; 64]], y: &[[u8; 64]], rows: &[[GfElement; 16]; 4])
+    requires { length x.old ≡ length y.now }
+    ensures { (f k s : ℕ) → IsNibbles f rows.now → k < length x.old → s < 32
+        → symbol (chunk x.new k) s ≡ bit_xor (symbol (chunk x.old k) s) (product (symbol (chunk y.now k) s) f) }
+{
+    for k in 0..x.len() {
+        mul_add_chunk(&mut x[k], &y[k], rows);
+    }
+}
+
+impl NoSimd<'_> {
+    // The same by the factor of a butterfly, where 65535 marks the factor zero, whose product is left out.
+    fn mul_add(&self, x: &mut [[u8; 64]], y: &[[u8; 64]], log_m: GfElement)
+        requires { length x.old ≡ length y.now }
+        ensures { (k s : ℕ) → k < length x.old → s < 32
+            → symbol (chunk x.new k) s ≡ bit_xor (symbol (chunk x.old k) s) (scaled log_m (symbol (chunk y.now k) s)) }
+    {
+        if log_m != GF_MODULUS {
+            mul_add_chunks(x, y, &get_mul16(self.tables)[log_m as usize]);
+        }
+    }
+}
+
+impl Kernel for NoSimd<'_> {
+    fn tables(&self) -> &Tables {
+        self.tables
+    }
+
+    fn fft_butterfly(&self, x: &mut [[u8; 64]], y: &mut [[u8; 64]], log_m: GfElement) {
+        self.mul_add(x, y, log_m);
+        utils::xor(y, x);
+    }
+
+    fn ifft_butterfly(&self, x: &mut [[u8; 64]], y: &mut [[u8; 64]], log_m: GfElement) {
+        utils::xor(y, x);
+        self.mul_add(x, y, log_m);
+    }
+
+    fn mul_row(&self, x: &mut [[u8; 64]], log_m: GfElement) {
+        mul_chunks(x, &get_mul16(self.tables)[log_m as usize]);
+    }
+}
