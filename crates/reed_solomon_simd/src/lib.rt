@@ -15,16 +15,20 @@ pub use rs_rate::{DecoderResult, EncoderResult, Recovery, RestoredOriginal};
 
 /// The field, its tables, and the engines that transform rows of symbols.
 pub mod engine {
+    pub use rs_engines::engine_avx2::Avx2;
     pub use rs_engines::engine_default::{DefaultEngine, EngineKind};
+    pub use rs_engines::engine_nosimd::NoSimd;
+    pub use rs_engines::engine_ssse3::Ssse3;
     pub use rs_field::engine::{
         CANTOR_BASIS, Engine, GF_BITS, GF_MODULUS, GF_ORDER, GF_POLYNOMIAL, GfElement, Naive,
         ShardsRefMut, Steps,
     };
 
-    /// The powers of the generator, the logarithms, their transform and the factors of butterflies.
+    /// The powers of the generator, the logarithms, their transform, the factors of butterflies and the products by nibbles.
     pub mod tables {
         pub use rs_field::engine::tables::{
-            Exp, ExpLog, Log, LogWalsh, Skew, Tables, get_exp_log, get_log_walsh, get_skew, mul,
+            Exp, ExpLog, Log, LogWalsh, Mul16, Mul128, Multiply128lutT, Skew, Tables, get_exp_log,
+            get_log_walsh, get_mul16, get_mul128, get_skew, mul,
         };
     }
 

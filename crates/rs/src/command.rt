@@ -79,6 +79,9 @@ fn engine_of(name: &str) -> Option<EngineKind>
 {
     match name {
         "naive" => Some(EngineKind::Naive),
+        "nosimd" => Some(EngineKind::NoSimd),
+        "avx2" => Some(EngineKind::Avx2),
+        "ssse3" => Some(EngineKind::Ssse3),
         _ => None,
     }
 }

@@ -160,13 +160,15 @@ const NOT_RESTORED: [(&str, &str); 15] = [
     ),
 ];
 
-const BAD: [&str; 16] = [
+const BAD: [&str; 18] = [
     "",
     "encode",
     "encode naive 2",
     "code naive 2 3 0000 0100",
     "Encode naive 2 3 0000 0100",
     "encode plain 2 3 0000 0100",
+    "encode Naive 2 3 0000 0100",
+    "encode ssse 2 3 0000 0100",
     "encode  2 3 0000 0100",
     "encode naive 1 1 0",
     "encode naive 1 2 0000 000",
@@ -197,14 +199,20 @@ const BAD_ITEMS: [&str; 15] = [
     "decode naive 2 3 r0=0200 ",
 ];
 
-fn words_of(alloc: Global, line: &str) -> Result<Vec<String>, AllocError> {
+// The words of ENGINE.
+const ENGINES: [&str; 4] = ["naive", "nosimd", "avx2", "ssse3"];
+
+// The words of a line, with this engine in the place of `naive`.
+fn words_of(alloc: Global, line: &str, engine: &str) -> Result<Vec<String>, AllocError> {
     let mut words = Vec::new(alloc);
     for word in line.split(' ') {
+        let word = if word == "naive" { engine } else { word };
         words.push(String::from_str(alloc, word)?)?;
     }
     Ok(words)
 }
 
+// Each engine answers the line so.
 fn answers(
     rt: &(impl Abort + AllocGlobal),
     line: &str,
@@ -213,13 +221,15 @@ fn answers(
     status: u8,
 ) -> Result<(), Fail> {
     let alloc = rt.alloc();
-    let words = words_of(alloc, line)?;
-    let mut written: Vec<u8> = Vec::new(alloc);
-    let mut told: Vec<u8> = Vec::new(alloc);
-    let answer = run(alloc, words.as_slice(), &mut written, &mut told);
-    assert_eq!(rt; written.as_slice(), out.as_bytes(), "{line:?}");
-    assert_eq!(rt; told.as_slice(), err.as_bytes(), "{line:?}");
-    assert_eq!(rt; answer, status, "{line:?}");
+    for engine in ENGINES {
+        let words = words_of(alloc, line, engine)?;
+        let mut written: Vec<u8> = Vec::new(alloc);
+        let mut told: Vec<u8> = Vec::new(alloc);
+        let answer = run(alloc, words.as_slice(), &mut written, &mut told);
+        assert_eq!(rt; written.as_slice(), out.as_bytes(), "{line:?} {engine}");
+        assert_eq!(rt; told.as_slice(), err.as_bytes(), "{line:?} {engine}");
+        assert_eq!(rt; answer, status, "{line:?} {engine}");
+    }
     Ok(())
 }
 
@@ -306,7 +316,7 @@ impl Write for Filling {
 // Ten bytes of lines, and nothing to tell.
 #[test]
 fn failed_writes_are_told(rt: HostRuntime) -> Result<(), Fail> {
-    let words = words_of(rt.alloc(), "encode naive 1 2 0709")?;
+    let words = words_of(rt.alloc(), "encode naive 1 2 0709", "naive")?;
     let mut told: Vec<u8> = Vec::new(rt.alloc());
     for (room, status) in [(0, 1), (7, 1), (9, 1), (10, 0)] {
         let mut out = Filling::new(room);
@@ -325,7 +335,7 @@ fn untold_faults_change_no_status(rt: HostRuntime) -> Result<(), Fail> {
         ("decode naive 1 1", 1),
         ("encode", 2),
     ] {
-        let words = words_of(rt.alloc(), line)?;
+        let words = words_of(rt.alloc(), line, "naive")?;
         let mut err = Filling::new(3);
         let answer = run(rt.alloc(), words.as_slice(), &mut out, &mut err);
         assert_eq!(rt; answer, status, "{line}");
