@@ -10,7 +10,7 @@ use std::process::Abort;
 use std::test::Fail;
 
 // The rate, its encoder and its decoder take all of these counts, or none of them.
-fn takes<'t, R: Rate<Naive<'t>>, A: Abort>(rt: &A, supported: bool, counts: &[(usize, usize)]) {
+fn takes<E: Engine, R: Rate<E>, A: Abort>(rt: &A, supported: bool, counts: &[(usize, usize)]) {
     for (k, r) in counts {
         let valid = match supported {
             true => Ok(()),
@@ -42,8 +42,8 @@ const NEVER: [(usize, usize); 8] = [
 
 #[test]
 fn low_rate_supports(rt: HostRuntime) {
-    takes::<LowRate<Naive<'_>>, _>(&rt, false, &NEVER);
-    takes::<LowRate<Naive<'_>>, _>(
+    takes::<Naive<'_>, LowRate<Naive<'_>>, _>(&rt, false, &NEVER);
+    takes::<Naive<'_>, LowRate<Naive<'_>>, _>(
         &rt,
         true,
         &[
@@ -56,7 +56,7 @@ fn low_rate_supports(rt: HostRuntime) {
             (32768, 32768),
         ],
     );
-    takes::<LowRate<Naive<'_>>, _>(
+    takes::<Naive<'_>, LowRate<Naive<'_>>, _>(
         &rt,
         false,
         &[(4096, 61441), (4097, 61440), (61440, 4096), (32769, 1)],
@@ -65,8 +65,8 @@ fn low_rate_supports(rt: HostRuntime) {
 
 #[test]
 fn high_rate_supports(rt: HostRuntime) {
-    takes::<HighRate<Naive<'_>>, _>(&rt, false, &NEVER);
-    takes::<HighRate<Naive<'_>>, _>(
+    takes::<Naive<'_>, HighRate<Naive<'_>>, _>(&rt, false, &NEVER);
+    takes::<Naive<'_>, HighRate<Naive<'_>>, _>(
         &rt,
         true,
         &[
@@ -79,7 +79,7 @@ fn high_rate_supports(rt: HostRuntime) {
             (32768, 32768),
         ],
     );
-    takes::<HighRate<Naive<'_>>, _>(
+    takes::<Naive<'_>, HighRate<Naive<'_>>, _>(
         &rt,
         false,
         &[(61440, 4097), (61441, 4096), (4096, 61440), (1, 32769)],
@@ -88,8 +88,8 @@ fn high_rate_supports(rt: HostRuntime) {
 
 #[test]
 fn default_rate_supports(rt: HostRuntime) {
-    takes::<DefaultRate<Naive<'_>>, _>(&rt, false, &NEVER);
-    takes::<DefaultRate<Naive<'_>>, _>(
+    takes::<Naive<'_>, DefaultRate<Naive<'_>>, _>(&rt, false, &NEVER);
+    takes::<Naive<'_>, DefaultRate<Naive<'_>>, _>(
         &rt,
         true,
         &[
@@ -105,7 +105,7 @@ fn default_rate_supports(rt: HostRuntime) {
             (32768, 32768),
         ],
     );
-    takes::<DefaultRate<Naive<'_>>, _>(
+    takes::<Naive<'_>, DefaultRate<Naive<'_>>, _>(
         &rt,
         false,
         &[(60000, 5000), (4096, 61441), (4097, 61440), (61440, 4097)],

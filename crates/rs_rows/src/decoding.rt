@@ -1,4 +1,4 @@
-//! Restored originals of each rate over the plain engine.
+//! Restored originals of each rate over each engine.
 use crate::callers::{decode_inconsistent, decode_just_enough, decode_one};
 use crate::help::*;
 use crate::rows::{
@@ -7,81 +7,70 @@ use crate::rows::{
 };
 use reed_solomon_simd::Error;
 use reed_solomon_simd::engine::tables::Tables;
-use reed_solomon_simd::engine::{Engine, Naive, Steps};
+use reed_solomon_simd::engine::{DefaultEngine, Engine, EngineKind, Steps};
 use reed_solomon_simd::rate::{DefaultRate, HighRate, LowRate, Rate, RateDecoder};
 use std::alloc::{AllocError, Global};
 use std::process::Abort;
 use std::test::Fail;
 
-fn restores_all<'t, R: Rate<Naive<'t>>, A: Abort + AllocGlobal>(
+fn restores_all<'t, R: Rate<DefaultEngine<'t>>, A: Abort + AllocGlobal>(
     rt: &A,
     tables: &'t Tables,
+    kind: EngineKind,
     rows: &[Received<'_>],
 ) -> Result<(), Fail> {
+    let engine = DefaultEngine::new(tables, kind);
     for received in rows {
         let k = received.original_count;
         let r = received.recovery_count;
-        let mut decoder = decoder_for::<R>(rt.alloc(), tables, received)?;
-        assert!(rt; decodes(&mut decoder, received)?, "{k} {r}");
+        let mut decoder = decoder_for::<R>(rt.alloc(), engine, received)?;
+        let first = decodes(&mut decoder, received)?;
         // A second round of the same decoder, over rows that hold the first.
-        assert!(rt; decodes(&mut decoder, received)?, "{k} {r}");
+        let good = first && decodes(&mut decoder, received)?;
+        assert!(rt; good, "{kind:?} {k} {r}");
     }
     Ok(())
 }
 
-#[test]
-fn rates_restore(rt: HostRuntime) -> Result<(), Fail> {
-    let tables = tables_of(&rt);
-    restores_all::<LowRate<Naive<'_>>, _>(&rt, &tables, &LOW_RECEIVED)?;
-    restores_all::<HighRate<Naive<'_>>, _>(&rt, &tables, &HIGH_RECEIVED)?;
-    restores_all::<HighRate<Naive<'_>>, _>(&rt, &tables, &HIGH_ALONE_RECEIVED)?;
-    restores_all::<DefaultRate<Naive<'_>>, _>(&rt, &tables, &LOW_RECEIVED)?;
-    restores_all::<DefaultRate<Naive<'_>>, _>(&rt, &tables, &HIGH_RECEIVED)
-}
-
-// A decoder that was given too few shards takes the ones that it lacks, and a round ends though its result is
-// forgotten.
-fn completes<'t, R: Rate<Naive<'t>>, A: Abort + AllocGlobal>(
-    rt: &A,
-    tables: &'t Tables,
+// Whether a decoder that was given too few shards refuses so, takes the ones that it lacks, and restores.
+fn completes<E: Engine, X: RateDecoder<E>>(
+    decoder: &mut X,
     received: &Received<'_>,
-) -> Result<(), Fail> {
-    let mut steps = Steps::new();
-    let original_count = received.original_count;
-    let mut decoder = decoder_for::<R>(rt.alloc(), tables, received)?;
+) -> Result<bool, Error> {
+    let mut good = true;
     for (index, shard) in received.original {
         decoder.add_original_shard(*index, *shard)?;
     }
     for (given, (index, shard)) in received.recovery.iter().enumerate() {
         let few = Error::NotEnoughShards {
-            original_count,
+            original_count: received.original_count,
             original_received_count: received.original.len(),
             recovery_received_count: given,
         };
-        assert!(rt; is_err(decoder.decode(&mut steps), few), "{given}");
+        good = good && refuses(decoder, few);
         decoder.add_recovery_shard(*index, *shard)?;
     }
+    let mut steps = Steps::new();
     let result = decoder.decode(&mut steps)?;
-    assert!(rt; has_just(&result, received.restored));
+    good = good && has_just(&result, received.restored);
     std::mem::forget(result);
+    Ok(good)
+}
+
+// Whether a round that was completed ends though its result is forgotten, and the next one restores.
+fn goes_on<'t, R: Rate<DefaultEngine<'t>>>(
+    alloc: Global,
+    engine: DefaultEngine<'t>,
+    received: &Received<'_>,
+) -> Result<bool, Error> {
     let none = Error::NotEnoughShards {
-        original_count,
+        original_count: received.original_count,
         original_received_count: 0,
         recovery_received_count: 0,
     };
-    assert!(rt; is_err(decoder.decode(&mut steps), none));
-    assert!(rt; decodes(&mut decoder, received)?);
-    Ok(())
-}
-
-#[test]
-fn too_few_shards_can_be_completed(rt: HostRuntime) -> Result<(), Fail> {
-    let tables = tables_of(&rt);
-    completes::<LowRate<Naive<'_>>, _>(&rt, &tables, &LINE_LOST)?;
-    completes::<HighRate<Naive<'_>>, _>(&rt, &tables, &OUTER_LOST)?;
-    completes::<HighRate<Naive<'_>>, _>(&rt, &tables, &SUMMAND_LOST)?;
-    completes::<DefaultRate<Naive<'_>>, _>(&rt, &tables, &LINE_LOST)?;
-    completes::<DefaultRate<Naive<'_>>, _>(&rt, &tables, &MIXTURE)
+    let mut decoder = decoder_for::<R>(alloc, engine, received)?;
+    let completed = completes(&mut decoder, received)?;
+    Ok(completed && refuses(&mut decoder, none) && decodes(&mut decoder, received)?)
 }
 
 // The first byte of a shard of two bytes in two places of a longer one, in the first chunk and in the tail; the shard's
@@ -128,64 +117,88 @@ fn give_spread<E: Engine, X: RateDecoder<E>>(
     Ok(())
 }
 
-// More originals than recovery shards, a shard more than is needed, and a tail behind the chunks.
-fn checks_tails<'t, R: Rate<Naive<'t>>, A: Abort + AllocGlobal>(
-    rt: &A,
-    tables: &'t Tables,
+// More originals than recovery shards, a shard more than is needed, and a tail behind the chunks: whether each turned
+// shard is refused, and the next round restores.
+fn checks_tails<'t, R: Rate<DefaultEngine<'t>>>(
+    alloc: Global,
+    engine: DefaultEngine<'t>,
     shard_bytes: usize,
-) -> Result<(), Fail> {
-    let alloc = rt.alloc();
+) -> Result<bool, Error> {
     let message = &THREE_IN_TWOS;
     let apart = Error::InconsistentShards {
         original_received_count: 2,
         recovery_received_count: 2,
     };
     let first = spread(alloc, shard_bytes, &[2, 0], 0)?;
-    let mut decoder = R::decoder(alloc, 3, 2, shard_bytes, Naive::new(tables), None)?;
+    let mut decoder = R::decoder(alloc, 3, 2, shard_bytes, engine, None)?;
+    let mut good = true;
     for turned in 1..5 {
         give_spread(alloc, &mut decoder, message, shard_bytes, Some(turned))?;
-        assert!(rt; refuses(&mut decoder, apart), "{shard_bytes} {turned}");
+        good = good && refuses(&mut decoder, apart);
         give_spread(alloc, &mut decoder, message, shard_bytes, None)?;
-        assert!(rt;
-            restores(&mut decoder, &[(0, first.as_slice())])?,
-            "{shard_bytes} {turned}"
-        );
+        good = good && restores(&mut decoder, &[(0, first.as_slice())])?;
     }
-    Ok(())
+    Ok(good)
 }
 
-#[test]
-fn surplus_is_checked_in_tails(rt: HostRuntime) -> Result<(), Fail> {
-    let tables = tables_of(&rt);
+fn tails_are_checked<'t, R: Rate<DefaultEngine<'t>>, A: Abort + AllocGlobal>(
+    rt: &A,
+    tables: &'t Tables,
+    kind: EngineKind,
+) -> Result<(), Fail> {
+    let engine = DefaultEngine::new(tables, kind);
     for shard_bytes in [66, 130] {
-        checks_tails::<HighRate<Naive<'_>>, _>(&rt, &tables, shard_bytes)?;
-        checks_tails::<DefaultRate<Naive<'_>>, _>(&rt, &tables, shard_bytes)?;
+        let good = checks_tails::<R>(rt.alloc(), engine, shard_bytes)?;
+        assert!(rt; good, "{kind:?} {shard_bytes}");
     }
     Ok(())
 }
 
 #[test]
-fn callers_decode(rt: HostRuntime) -> Result<(), Fail> {
+fn high_rate_checks_surplus_in_tails(rt: HostRuntime) -> Result<(), Fail> {
     let tables = tables_of(&rt);
+    for kind in ENGINES {
+        tails_are_checked::<HighRate<DefaultEngine<'_>>, _>(&rt, &tables, kind)?;
+    }
+    Ok(())
+}
+
+#[test]
+fn default_rate_checks_surplus_in_tails(rt: HostRuntime) -> Result<(), Fail> {
+    let tables = tables_of(&rt);
+    for kind in ENGINES {
+        tails_are_checked::<DefaultRate<DefaultEngine<'_>>, _>(&rt, &tables, kind)?;
+    }
+    Ok(())
+}
+
+// Whether a caller that knows the decoder by its contracts alone gets a missing original.
+fn callers_restore<'t, R: Rate<DefaultEngine<'t>>>(
+    alloc: Global,
+    engine: DefaultEngine<'t>,
+) -> Result<bool, Error> {
     let mut steps = Steps::new();
-    let mut decoder = DefaultRate::<Naive<'_>>::decoder(
-        rt.alloc(),
-        2,
-        2,
-        2,
-        Naive::new(&tables),
-        None,
-    )?;
+    let mut original = [9, 9];
+    let mut decoder = R::decoder(alloc, 2, 2, 2, engine, None)?;
     decoder.add_original_shard(0, &[0, 0])?;
     decoder.add_recovery_shard(1, &[3, 0])?;
-    let mut original = [9, 9];
     decode_one(&mut decoder, &mut steps, 1, &mut original)?;
-    assert_eq!(rt; original, [1, 0]);
-    // Of two shards that no one coded.
+    Ok(original == [1, 0] && callers_go_on(&mut decoder)?)
+}
+
+// Whether of two shards that no one coded none is refused, and three that no message agrees with are.
+fn callers_go_on<E: Engine, X: RateDecoder<E> + Drop>(decoder: &mut X) -> Result<bool, Error> {
+    let mut steps = Steps::new();
     decoder.add_original_shard(0, &[0, 0])?;
     decoder.add_recovery_shard(1, &[3, 1])?;
-    assert_eq!(rt; decode_just_enough(&mut decoder, &mut steps), Ok(()));
-    give(&mut decoder, &LINE_TURNED.received)?;
+    decode_just_enough(decoder, &mut steps)?;
+    give(decoder, &LINE_TURNED.received)?;
+    Ok(callers_are_refused(decoder))
+}
+
+// Whether `LINE_TURNED`'s shards are refused, and then nothing is given.
+fn callers_are_refused<E: Engine, X: RateDecoder<E> + Drop>(decoder: &mut X) -> bool {
+    let mut steps = Steps::new();
     let apart = Error::InconsistentShards {
         original_received_count: 1,
         recovery_received_count: 2,
@@ -195,8 +208,93 @@ fn callers_decode(rt: HostRuntime) -> Result<(), Fail> {
         original_received_count: 0,
         recovery_received_count: 0,
     };
-    let (first, next) = decode_inconsistent(&mut decoder, &mut steps);
-    assert_eq!(rt; first, Err(apart));
-    assert_eq!(rt; next, Err(none));
+    let (first, next) = decode_inconsistent(decoder, &mut steps);
+    is_err(first, apart) && is_err(next, none)
+}
+
+// A rate's received shards, and some of them that are completed.
+fn rate_restores<'t, R: Rate<DefaultEngine<'t>>, A: Abort + AllocGlobal>(
+    rt: &A,
+    tables: &'t Tables,
+    kind: EngineKind,
+    rows: &[Received<'_>],
+    completed: &[Received<'_>],
+) -> Result<(), Fail> {
+    let alloc = rt.alloc();
+    let engine = DefaultEngine::new(tables, kind);
+    restores_all::<R, A>(rt, tables, kind, rows)?;
+    for received in completed {
+        let k = received.original_count;
+        let r = received.recovery_count;
+        assert!(rt; goes_on::<R>(alloc, engine, received)?, "{kind:?} {k} {r}");
+    }
+    assert!(rt; callers_restore::<R>(alloc, engine)?, "{kind:?}");
+    Ok(())
+}
+
+#[test]
+fn low_rate_restores(rt: HostRuntime) -> Result<(), Fail> {
+    let tables = tables_of(&rt);
+    for kind in ENGINES {
+        rate_restores::<LowRate<DefaultEngine<'_>>, _>(
+            &rt,
+            &tables,
+            kind,
+            &LOW_RECEIVED,
+            &[LINE_LOST],
+        )?;
+    }
+    Ok(())
+}
+
+#[test]
+fn high_rate_restores(rt: HostRuntime) -> Result<(), Fail> {
+    let tables = tables_of(&rt);
+    for kind in ENGINES {
+        rate_restores::<HighRate<DefaultEngine<'_>>, _>(
+            &rt,
+            &tables,
+            kind,
+            &HIGH_RECEIVED,
+            &[OUTER_LOST, SUMMAND_LOST],
+        )?;
+        rate_restores::<HighRate<DefaultEngine<'_>>, _>(
+            &rt,
+            &tables,
+            kind,
+            &HIGH_ALONE_RECEIVED,
+            &[],
+        )?;
+    }
+    Ok(())
+}
+
+#[test]
+fn default_rate_restores_as_the_low_rate(rt: HostRuntime) -> Result<(), Fail> {
+    let tables = tables_of(&rt);
+    for kind in ENGINES {
+        rate_restores::<DefaultRate<DefaultEngine<'_>>, _>(
+            &rt,
+            &tables,
+            kind,
+            &LOW_RECEIVED,
+            &[LINE_LOST],
+        )?;
+    }
+    Ok(())
+}
+
+#[test]
+fn default_rate_restores_as_the_high_rate(rt: HostRuntime) -> Result<(), Fail> {
+    let tables = tables_of(&rt);
+    for kind in ENGINES {
+        rate_restores::<DefaultRate<DefaultEngine<'_>>, _>(
+            &rt,
+            &tables,
+            kind,
+            &HIGH_RECEIVED,
+            &[MIXTURE],
+        )?;
+    }
     Ok(())
 }

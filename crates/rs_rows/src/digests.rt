@@ -2,7 +2,7 @@
 use crate::help::*;
 use reed_solomon_simd::Error;
 use reed_solomon_simd::engine::tables::Tables;
-use reed_solomon_simd::engine::{Engine, Naive, Steps};
+use reed_solomon_simd::engine::{DefaultEngine, Engine, EngineKind, Steps};
 use reed_solomon_simd::rate::{DefaultRate, HighRate, LowRate, Rate, RateEncoder};
 use sha2::{Digest, Sha256};
 use std::alloc::Global;
@@ -96,31 +96,44 @@ const BOTH_DRAWN: [Drawn<'static>; 2] = [
     ),
 ];
 
-fn codes_drawn<'t, R: Rate<Naive<'t>>, A: Abort + AllocGlobal>(
+fn codes_drawn<'t, R: Rate<DefaultEngine<'t>>, A: Abort + AllocGlobal>(
     rt: &A,
     tables: &'t Tables,
+    kind: EngineKind,
     digests: &[Drawn<'_>],
 ) -> Result<(), Fail> {
     let alloc = rt.alloc();
+    let engine = DefaultEngine::new(tables, kind);
     for (k, r, seed, digest) in digests {
         let original = drawn(alloc, *k, 1024, *seed)?;
-        let mut encoder = R::encoder(alloc, *k, *r, 1024, Naive::new(tables), None)?;
+        let mut encoder = R::encoder(alloc, *k, *r, 1024, engine, None)?;
         let got = digest_of(alloc, &mut encoder, original.as_slice(), *r)?;
-        assert_eq!(rt; got.as_str(), *digest, "{k} {r}");
+        assert_eq!(rt; got.as_str(), *digest, "{kind:?} {k} {r}");
     }
     Ok(())
+}
+
+// A rate's own digests, and those of both rates.
+fn rate_codes<'t, R: Rate<DefaultEngine<'t>>, A: Abort + AllocGlobal>(
+    rt: &A,
+    tables: &'t Tables,
+    kind: EngineKind,
+    own: &[Drawn<'_>],
+) -> Result<(), Fail> {
+    codes_drawn::<R, A>(rt, tables, kind, own)?;
+    codes_drawn::<R, A>(rt, tables, kind, &BOTH_DRAWN)
 }
 
 #[test]
 fn drawn_shards_have_their_digests(rt: HostRuntime) -> Result<(), Fail> {
     let tables = tables_of(&rt);
-    codes_drawn::<DefaultRate<Naive<'_>>, _>(&rt, &tables, &LOW_DRAWN)?;
-    codes_drawn::<DefaultRate<Naive<'_>>, _>(&rt, &tables, &HIGH_DRAWN)?;
-    codes_drawn::<DefaultRate<Naive<'_>>, _>(&rt, &tables, &BOTH_DRAWN)?;
-    codes_drawn::<LowRate<Naive<'_>>, _>(&rt, &tables, &LOW_DRAWN)?;
-    codes_drawn::<LowRate<Naive<'_>>, _>(&rt, &tables, &BOTH_DRAWN)?;
-    codes_drawn::<HighRate<Naive<'_>>, _>(&rt, &tables, &HIGH_DRAWN)?;
-    codes_drawn::<HighRate<Naive<'_>>, _>(&rt, &tables, &BOTH_DRAWN)
+    for kind in ENGINES {
+        rate_codes::<LowRate<DefaultEngine<'_>>, _>(&rt, &tables, kind, &LOW_DRAWN)?;
+        rate_codes::<HighRate<DefaultEngine<'_>>, _>(&rt, &tables, kind, &HIGH_DRAWN)?;
+        rate_codes::<DefaultRate<DefaultEngine<'_>>, _>(&rt, &tables, kind, &LOW_DRAWN)?;
+        rate_codes::<DefaultRate<DefaultEngine<'_>>, _>(&rt, &tables, kind, &HIGH_DRAWN)?;
+    }
+    Ok(())
 }
 
 // Digests of the shards that the crate's plain engine gives at the default rate, which is the low rate at these counts,
@@ -249,17 +262,19 @@ const COUNTED: [(usize, usize, usize, &str); 20] = [
 ];
 
 // One encoder, reset from row to row.
-fn codes_counted<'t, R: Rate<Naive<'t>>, A: Abort + AllocGlobal>(
+fn codes_counted<'t, R: Rate<DefaultEngine<'t>>, A: Abort + AllocGlobal>(
     rt: &A,
     tables: &'t Tables,
+    kind: EngineKind,
 ) -> Result<(), Fail> {
     let alloc = rt.alloc();
-    let mut encoder = R::encoder(alloc, 1, 1, 2, Naive::new(tables), None)?;
+    let engine = DefaultEngine::new(tables, kind);
+    let mut encoder = R::encoder(alloc, 1, 1, 2, engine, None)?;
     for (k, r, size, digest) in COUNTED {
         let original = counted(alloc, k, size)?;
         encoder.reset(k, r, size)?;
         let got = digest_of(alloc, &mut encoder, original.as_slice(), r)?;
-        assert_eq!(rt; got.as_str(), digest, "{k} {r} {size}");
+        assert_eq!(rt; got.as_str(), digest, "{kind:?} {k} {r} {size}");
     }
     Ok(())
 }
@@ -267,6 +282,9 @@ fn codes_counted<'t, R: Rate<Naive<'t>>, A: Abort + AllocGlobal>(
 #[test]
 fn counted_shards_have_their_digests(rt: HostRuntime) -> Result<(), Fail> {
     let tables = tables_of(&rt);
-    codes_counted::<LowRate<Naive<'_>>, _>(&rt, &tables)?;
-    codes_counted::<DefaultRate<Naive<'_>>, _>(&rt, &tables)
+    for kind in ENGINES {
+        codes_counted::<LowRate<DefaultEngine<'_>>, _>(&rt, &tables, kind)?;
+        codes_counted::<DefaultRate<DefaultEngine<'_>>, _>(&rt, &tables, kind)?;
+    }
+    Ok(())
 }

@@ -3,20 +3,28 @@ use crate::rows::{Item, Message, Received, Refused};
 use rand_chacha::ChaCha8Rng;
 use rand_core::{Rng, SeedableRng};
 use reed_solomon_simd::engine::tables::Tables;
-use reed_solomon_simd::engine::{Engine, Naive, Steps};
+use reed_solomon_simd::engine::{DefaultEngine, Engine, EngineKind, Steps};
 use reed_solomon_simd::rate::{Rate, RateDecoder, RateEncoder};
 use reed_solomon_simd::{DecoderResult, Error, Recovery, RestoredOriginal};
 use std::alloc::{AllocError, Global};
 use std::process::Abort;
+
+/// The kinds of engines. Rows are run with each of them.
+pub const ENGINES: [EngineKind; 4] = [
+    EngineKind::Naive,
+    EngineKind::NoSimd,
+    EngineKind::Avx2,
+    EngineKind::Ssse3,
+];
 
 pub fn tables_of(rt: &(impl Abort + AllocGlobal)) -> Tables {
     Tables::new(rt.alloc()).expect(rt, "memory for the tables")
 }
 
 /// An encoder of the rate for the message.
-pub fn encoder_for<'t, R: Rate<Naive<'t>>>(
+pub fn encoder_for<'t, R: Rate<DefaultEngine<'t>>>(
     alloc: Global,
-    tables: &'t Tables,
+    engine: DefaultEngine<'t>,
     message: &Message<'_>,
 ) -> Result<R::RateEncoder, Error> {
     R::encoder(
@@ -24,15 +32,15 @@ pub fn encoder_for<'t, R: Rate<Naive<'t>>>(
         message.original_count(),
         message.recovery_count(),
         message.shard_bytes(),
-        Naive::new(tables),
+        engine,
         None,
     )
 }
 
 /// A decoder of the rate for the received shards.
-pub fn decoder_for<'t, R: Rate<Naive<'t>>>(
+pub fn decoder_for<'t, R: Rate<DefaultEngine<'t>>>(
     alloc: Global,
-    tables: &'t Tables,
+    engine: DefaultEngine<'t>,
     received: &Received<'_>,
 ) -> Result<R::RateDecoder, Error> {
     R::decoder(
@@ -40,7 +48,7 @@ pub fn decoder_for<'t, R: Rate<Naive<'t>>>(
         received.original_count,
         received.recovery_count,
         received.shard_bytes,
-        Naive::new(tables),
+        engine,
         None,
     )
 }
@@ -132,15 +140,21 @@ pub fn restores<E: Engine, X: RateDecoder<E>>(
 /// Whether a result has just these restored originals.
 pub fn has_just(lent: &DecoderResult<'_>, restored: &[Item<'_>]) -> bool {
     for index in 0..9 {
-        let good = match restored.iter().find(|item| item.0 == index) {
-            Some(item) => lent.restored_original(index) == Some(item.1),
-            None => lent.restored_original(index).is_none(),
-        };
-        if !good {
+        if lent.restored_original(index) != shard_of(restored, index) {
             return false;
         }
     }
     lent.restored_original(usize::MAX).is_none()
+}
+
+// The first of the shards that has this index.
+fn shard_of<'a>(items: &[Item<'a>], index: usize) -> Option<&'a [u8]> {
+    for item in items {
+        if item.0 == index {
+            return Some(item.1);
+        }
+    }
+    None
 }
 
 // Whether so many shards are left, by both counts.

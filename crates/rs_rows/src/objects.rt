@@ -1,19 +1,20 @@
 //! Rounds of the plain objects, and walks over their results.
-use crate::help::{drawn, has_just, is_err, tables_of, walks_recovery, walks_restored};
+use crate::help::{ENGINES, drawn, has_just, is_err, tables_of, walks_recovery, walks_restored};
 use crate::rows::{
-    CONSTANT, CONSTANT_OF_TWO, LINE, LINE_LOST, Message, NONE_LOST, OUTER_LOST, Received,
+    CONSTANT, CONSTANT_TURNED, LINE, LINE_LOST, Message, NONE_LOST, OUTER_LOST, Received, Refused,
 };
 use crate::walking::{recovery_copies, restored_copies};
 use reed_solomon_simd::engine::tables::Tables;
 use reed_solomon_simd::engine::{DefaultEngine, EngineKind};
-use reed_solomon_simd::{Error, ReedSolomonDecoder, ReedSolomonEncoder};
+use reed_solomon_simd::{EncoderResult, Error, ReedSolomonDecoder, ReedSolomonEncoder};
 use std::alloc::Global;
+use std::process::Abort;
 use std::test::Fail;
 
 // An encoder for the message.
 fn encoder_for<'t>(
     alloc: Global,
-    tables: &'t Tables,
+    engine: DefaultEngine<'t>,
     message: &Message<'_>,
 ) -> Result<ReedSolomonEncoder<'t>, Error> {
     ReedSolomonEncoder::new(
@@ -21,14 +22,14 @@ fn encoder_for<'t>(
         message.original_count(),
         message.recovery_count(),
         message.shard_bytes(),
-        DefaultEngine::new(tables, EngineKind::Naive),
+        engine,
     )
 }
 
 // A decoder for the received shards.
 fn decoder_for<'t>(
     alloc: Global,
-    tables: &'t Tables,
+    engine: DefaultEngine<'t>,
     received: &Received<'_>,
 ) -> Result<ReedSolomonDecoder<'t>, Error> {
     ReedSolomonDecoder::new(
@@ -36,7 +37,7 @@ fn decoder_for<'t>(
         received.original_count,
         received.recovery_count,
         received.shard_bytes,
-        DefaultEngine::new(tables, EngineKind::Naive),
+        engine,
     )
 }
 
@@ -90,37 +91,56 @@ fn decodes(
 #[test]
 fn an_encoder_goes_on_with_other_counts(rt: HostRuntime) -> Result<(), Fail> {
     let tables = tables_of(&rt);
-    let mut encoder = encoder_for(rt.alloc(), &tables, &LINE)?;
-    assert!(rt; encodes(rt.alloc(), &mut encoder, &LINE)?);
-    encoder.reset(1, 3, 2)?;
-    assert!(rt; encodes(rt.alloc(), &mut encoder, &CONSTANT)?);
+    for kind in ENGINES {
+        let engine = DefaultEngine::new(&tables, kind);
+        let mut encoder = encoder_for(rt.alloc(), engine, &LINE)?;
+        let line = encodes(rt.alloc(), &mut encoder, &LINE)?;
+        encoder.reset(1, 3, 2)?;
+        let constant = encodes(rt.alloc(), &mut encoder, &CONSTANT)?;
+        assert!(rt; line && constant, "{kind:?}: {line} {constant}");
+    }
     Ok(())
 }
 
 #[test]
 fn a_decoder_goes_on_with_other_counts(rt: HostRuntime) -> Result<(), Fail> {
     let tables = tables_of(&rt);
-    let mut decoder = decoder_for(rt.alloc(), &tables, &OUTER_LOST)?;
-    assert!(rt; decodes(rt.alloc(), &mut decoder, &OUTER_LOST)?);
-    decoder.reset(2, 3, 2)?;
-    assert!(rt; decodes(rt.alloc(), &mut decoder, &LINE_LOST)?);
-    assert!(rt; decodes(rt.alloc(), &mut decoder, &NONE_LOST)?);
+    for kind in ENGINES {
+        let engine = DefaultEngine::new(&tables, kind);
+        let mut decoder = decoder_for(rt.alloc(), engine, &OUTER_LOST)?;
+        let outer = decodes(rt.alloc(), &mut decoder, &OUTER_LOST)?;
+        decoder.reset(2, 3, 2)?;
+        let line = decodes(rt.alloc(), &mut decoder, &LINE_LOST)?;
+        let none = decodes(rt.alloc(), &mut decoder, &NONE_LOST)?;
+        assert!(rt; outer && line && none, "{kind:?}: {outer} {line} {none}");
+    }
     Ok(())
 }
 
-// Two shards of which no message has both: the round ends, and the next one restores.
+// Whether shards that no message agrees with are refused, and the next ones restore.
+fn refuses_then_decodes(
+    alloc: Global,
+    decoder: &mut ReedSolomonDecoder<'_>,
+    refused: &Refused<'_>,
+) -> Result<bool, Error> {
+    give(decoder, &refused.received)?;
+    let apart = Error::InconsistentShards {
+        original_received_count: refused.originals_given,
+        recovery_received_count: refused.recovery_given,
+    };
+    let answered = is_err(decoder.decode(), apart);
+    Ok(answered && decodes(alloc, decoder, &refused.next)?)
+}
+
 #[test]
 fn a_decoder_refuses_inconsistent_shards(rt: HostRuntime) -> Result<(), Fail> {
     let tables = tables_of(&rt);
-    let mut decoder = decoder_for(rt.alloc(), &tables, &CONSTANT_OF_TWO)?;
-    decoder.add_original_shard(0, &[7, 9])?;
-    decoder.add_recovery_shard(0, &[7, 8])?;
-    let apart = Error::InconsistentShards {
-        original_received_count: 1,
-        recovery_received_count: 1,
-    };
-    assert!(rt; is_err(decoder.decode(), apart));
-    assert!(rt; decodes(rt.alloc(), &mut decoder, &CONSTANT_OF_TWO)?);
+    for kind in ENGINES {
+        let engine = DefaultEngine::new(&tables, kind);
+        let mut decoder = decoder_for(rt.alloc(), engine, &CONSTANT_TURNED.received)?;
+        let good = refuses_then_decodes(rt.alloc(), &mut decoder, &CONSTANT_TURNED)?;
+        assert!(rt; good, "{kind:?}");
+    }
     Ok(())
 }
 
@@ -133,16 +153,12 @@ fn counts_are_supported_or_not(rt: HostRuntime) -> Result<(), Fail> {
     Ok(())
 }
 
-// Whether originals 0 and 2 of three drawn ones come back from original 1 and both recovery shards.
-fn comes_back(alloc: Global, tables: &Tables, shard_bytes: usize, seed: u8) -> Result<bool, Error> {
-    let original = drawn(alloc, 3, shard_bytes, seed)?;
-    let engine = DefaultEngine::new(tables, EngineKind::Naive);
-    let mut encoder = ReedSolomonEncoder::new(alloc, 3, 2, shard_bytes, engine)?;
-    for shard in &original {
-        encoder.add_original_shard(shard.as_slice())?;
-    }
-    let recovery = encoder.encode()?;
-    let mut decoder = ReedSolomonDecoder::new(alloc, 3, 2, shard_bytes, engine)?;
+// Whether just originals 0 and 2 of three come back from original 1 and both recovery shards.
+fn gives_back(
+    decoder: &mut ReedSolomonDecoder<'_>,
+    original: &[Vec<u8>],
+    recovery: &EncoderResult<'_>,
+) -> Result<bool, Error> {
     if let Some(shard) = original.get(1) {
         decoder.add_original_shard(1, shard.as_slice())?;
     }
@@ -150,36 +166,72 @@ fn comes_back(alloc: Global, tables: &Tables, shard_bytes: usize, seed: u8) -> R
         decoder.add_recovery_shard(index, shard)?;
     }
     let restored = decoder.decode()?;
-    let mut back = restored.restored_original_iter();
-    Ok(
-        back.len() == 2
-            && back.all(|(index, shard)| original
-                .get(index)
-                .is_some_and(|own| own.as_slice() == shard)),
-    )
+    let mut good = restored.restored_original_iter().len() == 2;
+    for (index, shard) in restored.restored_original_iter() {
+        good = good && index != 1 && is_shard(original, index, shard);
+    }
+    Ok(good)
+}
+
+// Whether the shard of this index is this one.
+fn is_shard(shards: &[Vec<u8>], index: usize, shard: &[u8]) -> bool {
+    match shards.get(index) {
+        Some(own) => own.as_slice() == shard,
+        None => false,
+    }
+}
+
+// Whether originals 0 and 2 of three drawn ones come back.
+fn comes_back(
+    alloc: Global,
+    engine: DefaultEngine<'_>,
+    shard_bytes: usize,
+    seed: u8,
+) -> Result<bool, Error> {
+    let original = drawn(alloc, 3, shard_bytes, seed)?;
+    let mut encoder = ReedSolomonEncoder::new(alloc, 3, 2, shard_bytes, engine)?;
+    for shard in &original {
+        encoder.add_original_shard(shard.as_slice())?;
+    }
+    let recovery = encoder.encode()?;
+    let mut decoder = ReedSolomonDecoder::new(alloc, 3, 2, shard_bytes, engine)?;
+    gives_back(&mut decoder, original.as_slice(), &recovery)
+}
+
+// Shard sizes with seeds to draw from.
+const SIZES: [(usize, u8); 12] = [
+    (2, 1),
+    (4, 2),
+    (6, 3),
+    (30, 4),
+    (32, 5),
+    (34, 6),
+    (62, 7),
+    (64, 8),
+    (66, 9),
+    (126, 10),
+    (128, 11),
+    (130, 12),
+];
+
+fn all_come_back<A: Abort + AllocGlobal>(
+    rt: &A,
+    tables: &Tables,
+    kind: EngineKind,
+) -> Result<(), Fail> {
+    let engine = DefaultEngine::new(tables, kind);
+    for (shard_bytes, seed) in SIZES {
+        let good = comes_back(rt.alloc(), engine, shard_bytes, seed)?;
+        assert!(rt; good, "{kind:?} {shard_bytes}");
+    }
+    Ok(())
 }
 
 #[test]
 fn all_kinds_of_sizes_come_back(rt: HostRuntime) -> Result<(), Fail> {
     let tables = tables_of(&rt);
-    for (shard_bytes, seed) in [
-        (2, 1),
-        (4, 2),
-        (6, 3),
-        (30, 4),
-        (32, 5),
-        (34, 6),
-        (62, 7),
-        (64, 8),
-        (66, 9),
-        (126, 10),
-        (128, 11),
-        (130, 12),
-    ] {
-        assert!(rt;
-            comes_back(rt.alloc(), &tables, shard_bytes, seed)?,
-            "{shard_bytes}"
-        );
+    for kind in ENGINES {
+        all_come_back(&rt, &tables, kind)?;
     }
     Ok(())
 }

@@ -1,5 +1,5 @@
 //! What the one-call functions answer, row by row.
-use crate::help::{ending, is_err, tables_of};
+use crate::help::{ENGINES, ending, is_err, tables_of};
 use crate::one_call::decode_vectors;
 use crate::rows::{
     FOUR_ORIGINALS, HIGH_MESSAGES, HIGH_RECEIVED, HIGH_REFUSED, Item, LOW_MESSAGES, LOW_RECEIVED,
@@ -36,15 +36,14 @@ fn encodes(alloc: Global, engine: DefaultEngine<'_>, message: &Message<'_>) -> R
 fn are_coded<A: Abort + AllocGlobal>(
     rt: &A,
     tables: &Tables,
+    kind: EngineKind,
     messages: &[Message<'_>],
 ) -> Result<(), Fail> {
     for message in messages {
         let k = message.original_count();
         let r = message.recovery_count();
-        assert!(rt;
-            encodes(rt.alloc(), engine_over(tables), message)?,
-            "{k} {r}"
-        );
+        let engine = DefaultEngine::new(tables, kind);
+        assert!(rt; encodes(rt.alloc(), engine, message)?, "{kind:?} {k} {r}");
     }
     Ok(())
 }
@@ -52,8 +51,11 @@ fn are_coded<A: Abort + AllocGlobal>(
 #[test]
 fn messages_are_coded(rt: HostRuntime) -> Result<(), Fail> {
     let tables = tables_of(&rt);
-    are_coded(&rt, &tables, &LOW_MESSAGES)?;
-    are_coded(&rt, &tables, &HIGH_MESSAGES)
+    for kind in ENGINES {
+        are_coded(&rt, &tables, kind, &LOW_MESSAGES)?;
+        are_coded(&rt, &tables, kind, &HIGH_MESSAGES)?;
+    }
+    Ok(())
 }
 
 // Whether originals that end in 0 and 1, each of a chunk and a tail, have recovery shards that end in 2, 3 and 4.
@@ -76,7 +78,10 @@ fn encodes_tails(alloc: Global, engine: DefaultEngine<'_>) -> Result<bool, Error
 #[test]
 fn tails_are_coded(rt: HostRuntime) -> Result<(), Fail> {
     let tables = tables_of(&rt);
-    assert!(rt; encodes_tails(rt.alloc(), engine_over(&tables))?);
+    for kind in ENGINES {
+        let engine = DefaultEngine::new(&tables, kind);
+        assert!(rt; encodes_tails(rt.alloc(), engine)?, "{kind:?}");
+    }
     Ok(())
 }
 
@@ -98,6 +103,14 @@ fn answer(
     )
 }
 
+// Whether the map has this shard at this index.
+fn has(restored: &BTreeMap<usize, Vec<u8>>, index: usize, shard: &[u8]) -> bool {
+    match restored.get(&index) {
+        Some(own) => own.as_slice() == shard,
+        None => false,
+    }
+}
+
 // Whether one call restores just the originals that it is to.
 fn restores(
     alloc: Global,
@@ -107,10 +120,7 @@ fn restores(
     let restored = answer(alloc, engine, received)?;
     let mut good = restored.len() == received.restored.len();
     for (index, shard) in received.restored {
-        good = good
-            && restored
-                .get(index)
-                .is_some_and(|own| own.as_slice() == *shard);
+        good = good && has(&restored, *index, shard);
     }
     Ok(good)
 }
@@ -118,15 +128,14 @@ fn restores(
 fn are_restored<A: Abort + AllocGlobal>(
     rt: &A,
     tables: &Tables,
+    kind: EngineKind,
     rows: &[Received<'_>],
 ) -> Result<(), Fail> {
     for received in rows {
         let k = received.original_count;
         let r = received.recovery_count;
-        assert!(rt;
-            restores(rt.alloc(), engine_over(tables), received)?,
-            "{k} {r}"
-        );
+        let engine = DefaultEngine::new(tables, kind);
+        assert!(rt; restores(rt.alloc(), engine, received)?, "{kind:?} {k} {r}");
     }
     Ok(())
 }
@@ -151,10 +160,7 @@ fn restores_text(alloc: Global, engine: DefaultEngine<'_>) -> Result<bool, Error
     let restored = decode_vectors(alloc, 3, 5, &original, &recovery, engine)?;
     let mut good = restored.len() == 2;
     for index in [0, 2] {
-        good = good
-            && restored
-                .get(&index)
-                .is_some_and(|own| own.as_slice() == TEXT[index]);
+        good = good && has(&restored, index, TEXT[index]);
     }
     Ok(good)
 }
@@ -162,34 +168,48 @@ fn restores_text(alloc: Global, engine: DefaultEngine<'_>) -> Result<bool, Error
 #[test]
 fn received_shards_are_restored(rt: HostRuntime) -> Result<(), Fail> {
     let tables = tables_of(&rt);
-    are_restored(&rt, &tables, &LOW_RECEIVED)?;
-    are_restored(&rt, &tables, &HIGH_RECEIVED)?;
-    are_restored(&rt, &tables, &[FOUR_ORIGINALS])
+    for kind in ENGINES {
+        are_restored(&rt, &tables, kind, &LOW_RECEIVED)?;
+        are_restored(&rt, &tables, kind, &HIGH_RECEIVED)?;
+        are_restored(&rt, &tables, kind, &[FOUR_ORIGINALS])?;
+    }
+    Ok(())
 }
 
 #[test]
 fn text_is_restored(rt: HostRuntime) -> Result<(), Fail> {
     let tables = tables_of(&rt);
-    assert!(rt; restores_text(rt.alloc(), engine_over(&tables))?);
+    for kind in ENGINES {
+        let engine = DefaultEngine::new(&tables, kind);
+        assert!(rt; restores_text(rt.alloc(), engine)?, "{kind:?}");
+    }
     Ok(())
 }
 
-fn are_inconsistent<A: Abort + AllocGlobal>(rt: &A, tables: &Tables, rows: &[Refused<'_>]) {
+fn are_inconsistent<A: Abort + AllocGlobal>(
+    rt: &A,
+    tables: &Tables,
+    kind: EngineKind,
+    rows: &[Refused<'_>],
+) {
+    let engine = DefaultEngine::new(tables, kind);
     for refused in rows {
         let apart = Error::InconsistentShards {
             original_received_count: refused.originals_given,
             recovery_received_count: refused.recovery_given,
         };
-        let answer = answer(rt.alloc(), engine_over(tables), &refused.received);
-        assert!(rt; is_err(answer, apart));
+        let answer = answer(rt.alloc(), engine, &refused.received);
+        assert!(rt; is_err(answer, apart), "{kind:?}");
     }
 }
 
 #[test]
 fn inconsistent_shards_are_refused(rt: HostRuntime) {
     let tables = tables_of(&rt);
-    are_inconsistent(&rt, &tables, &LOW_REFUSED);
-    are_inconsistent(&rt, &tables, &HIGH_REFUSED);
+    for kind in ENGINES {
+        are_inconsistent(&rt, &tables, kind, &LOW_REFUSED);
+        are_inconsistent(&rt, &tables, kind, &HIGH_REFUSED);
+    }
 }
 
 // Counts and shards that `encode` refuses.
@@ -348,7 +368,7 @@ fn nothing_is_missing(rt: HostRuntime) -> Result<(), Fail> {
         recovery: &[],
         restored: &[],
     };
-    are_restored(&rt, &tables, &[whole])
+    are_restored(&rt, &tables, EngineKind::Naive, &[whole])
 }
 
 #[test]

@@ -2,20 +2,30 @@
 use crate::help::*;
 use crate::rows::{HIGH_REFUSED, LOW_REFUSED, Refused, SINGLE_TURNED, TWO_AND_TWO};
 use reed_solomon_simd::Error;
-use reed_solomon_simd::engine::Naive;
 use reed_solomon_simd::engine::tables::Tables;
+use reed_solomon_simd::engine::{DefaultEngine, Engine, EngineKind, Naive};
 use reed_solomon_simd::rate::{
     DefaultRate, HighRate, HighRateDecoder, HighRateEncoder, LowRate, Rate, RateDecoder,
     RateEncoder,
 };
+use std::alloc::Global;
 use std::process::Abort;
 use std::test::Fail;
 
-fn originals<'t, R: Rate<Naive<'t>>, A: Abort + AllocGlobal>(
-    rt: &A,
-    tables: &'t Tables,
-) -> Result<(), Fail> {
-    let mut encoder = encoder_for::<R>(rt.alloc(), tables, &TWO_AND_TWO)?;
+// Whether the encoder refuses the original so.
+fn refuses_original<E: Engine, X: RateEncoder<E>>(
+    encoder: &mut X,
+    shard: &[u8],
+    refusal: Error,
+) -> bool {
+    is_err(encoder.add_original_shard(shard), refusal)
+}
+
+fn refuses_originals<'t, R: Rate<DefaultEngine<'t>>>(
+    alloc: Global,
+    engine: DefaultEngine<'t>,
+) -> Result<bool, Error> {
+    let mut encoder = encoder_for::<R>(alloc, engine, &TWO_AND_TWO)?;
     let small = Error::DifferentShardSize {
         shard_bytes: 2,
         got: 0,
@@ -25,171 +35,224 @@ fn originals<'t, R: Rate<Naive<'t>>, A: Abort + AllocGlobal>(
         got: 4,
     };
     let many = Error::TooManyOriginalShards { original_count: 2 };
-    assert_eq!(rt; encoder.add_original_shard(&[]), Err(small));
+    let mut good = refuses_original(&mut encoder, &[], small);
     encoder.add_original_shard(&[0, 0])?;
-    assert_eq!(rt; encoder.add_original_shard(&[0, 0, 0, 0]), Err(large));
+    good = good && refuses_original(&mut encoder, &[0, 0, 0, 0], large);
     encoder.add_original_shard(&[1, 0])?;
-    assert_eq!(rt; encoder.add_original_shard(&[0, 0]), Err(many));
-    assert_eq!(rt; encoder.add_original_shard(&[0, 0, 0, 0]), Err(many));
-    assert!(rt; gives(&mut encoder, TWO_AND_TWO.recovery)?);
-    Ok(())
+    good = good && refuses_original(&mut encoder, &[0, 0], many);
+    good = good && refuses_original(&mut encoder, &[0, 0, 0, 0], many);
+    Ok(good && gives(&mut encoder, TWO_AND_TWO.recovery)?)
 }
 
-#[test]
-fn originals_are_refused(rt: HostRuntime) -> Result<(), Fail> {
-    let tables = tables_of(&rt);
-    originals::<LowRate<Naive<'_>>, _>(&rt, &tables)?;
-    originals::<HighRate<Naive<'_>>, _>(&rt, &tables)?;
-    originals::<DefaultRate<Naive<'_>>, _>(&rt, &tables)
+// Whether the decoder refuses an original and a recovery shard of this index and of one byte so.
+fn refuses_shards<E: Engine, X: RateDecoder<E>>(
+    decoder: &mut X,
+    index: usize,
+    original: Error,
+    recovery: Error,
+) -> bool {
+    is_err(decoder.add_original_shard(index, &[1]), original)
+        && is_err(decoder.add_recovery_shard(index, &[1]), recovery)
 }
 
-fn received<'t, R: Rate<Naive<'t>>, A: Abort + AllocGlobal>(
-    rt: &A,
-    tables: &'t Tables,
-) -> Result<(), Fail> {
-    let mut decoder = R::decoder(rt.alloc(), 2, 2, 2, Naive::new(tables), None)?;
+// Whether a decoder of two originals and two recovery shards refuses indexes past them.
+fn refuses_indexes<E: Engine, X: RateDecoder<E>>(decoder: &mut X) -> bool {
+    let mut good = true;
+    for index in [2, 65536, usize::MAX - 1, usize::MAX] {
+        let original = Error::InvalidOriginalShardIndex {
+            original_count: 2,
+            index,
+        };
+        let recovery = Error::InvalidRecoveryShardIndex {
+            recovery_count: 2,
+            index,
+        };
+        good = good && refuses_shards(decoder, index, original, recovery);
+    }
+    good
+}
+
+fn refuses_received<'t, R: Rate<DefaultEngine<'t>>>(
+    alloc: Global,
+    engine: DefaultEngine<'t>,
+) -> Result<bool, Error> {
+    let mut decoder = R::decoder(alloc, 2, 2, 2, engine, None)?;
     decoder.add_original_shard(1, &[1, 0])?;
     decoder.add_recovery_shard(1, &[3, 0])?;
-    for index in [2, 65536, usize::MAX - 1, usize::MAX] {
-        assert_eq!(rt;
-            decoder.add_original_shard(index, &[1]),
-            Err(Error::InvalidOriginalShardIndex {
-                original_count: 2,
-                index
-            })
-        );
-        assert_eq!(rt;
-            decoder.add_recovery_shard(index, &[1]),
-            Err(Error::InvalidRecoveryShardIndex {
-                recovery_count: 2,
-                index
-            })
-        );
-    }
-    assert_eq!(rt;
-        decoder.add_original_shard(1, &[1]),
-        Err(Error::DuplicateOriginalShardIndex { index: 1 })
-    );
-    assert_eq!(rt;
-        decoder.add_recovery_shard(1, &[1]),
-        Err(Error::DuplicateRecoveryShardIndex { index: 1 })
-    );
+    let mut good = refuses_indexes(&mut decoder);
+    let original = Error::DuplicateOriginalShardIndex { index: 1 };
+    let recovery = Error::DuplicateRecoveryShardIndex { index: 1 };
+    good = good && refuses_shards(&mut decoder, 1, original, recovery);
     let sized = Error::DifferentShardSize {
         shard_bytes: 2,
         got: 1,
     };
-    assert_eq!(rt; decoder.add_original_shard(0, &[1]), Err(sized));
-    assert_eq!(rt; decoder.add_recovery_shard(0, &[1]), Err(sized));
-    assert!(rt; restores(&mut decoder, &[(0, &[0, 0])])?);
-    Ok(())
-}
-
-#[test]
-fn received_shards_are_refused(rt: HostRuntime) -> Result<(), Fail> {
-    let tables = tables_of(&rt);
-    received::<LowRate<Naive<'_>>, _>(&rt, &tables)?;
-    received::<HighRate<Naive<'_>>, _>(&rt, &tables)?;
-    received::<DefaultRate<Naive<'_>>, _>(&rt, &tables)
+    good = good && refuses_shards(&mut decoder, 0, sized, sized);
+    Ok(good && restores(&mut decoder, &[(0, &[0, 0])])?)
 }
 
 // A new decoder refuses each row, and a decoder refuses it again in a later round.
-fn inconsistent<'t, R: Rate<Naive<'t>>, A: Abort + AllocGlobal>(
+fn inconsistent<'t, R: Rate<DefaultEngine<'t>>, A: Abort + AllocGlobal>(
     rt: &A,
     tables: &'t Tables,
+    kind: EngineKind,
     rows: &[Refused<'_>],
 ) -> Result<(), Fail> {
+    let engine = DefaultEngine::new(tables, kind);
     for refused in rows {
         let k = refused.received.original_count;
         let r = refused.received.recovery_count;
-        let mut decoder = decoder_for::<R>(rt.alloc(), tables, &refused.received)?;
-        assert!(rt; refuses_then_decodes(&mut decoder, refused)?, "{k} {r}");
-        assert!(rt; refuses_then_decodes(&mut decoder, refused)?, "{k} {r}");
+        let mut decoder = decoder_for::<R>(rt.alloc(), engine, &refused.received)?;
+        let first = refuses_then_decodes(&mut decoder, refused)?;
+        let good = first && refuses_then_decodes(&mut decoder, refused)?;
+        assert!(rt; good, "{kind:?} {k} {r}");
     }
     Ok(())
 }
 
 #[test]
-fn inconsistent_shards_are_refused(rt: HostRuntime) -> Result<(), Fail> {
+fn low_rate_refuses_inconsistent_shards(rt: HostRuntime) -> Result<(), Fail> {
     let tables = tables_of(&rt);
-    inconsistent::<LowRate<Naive<'_>>, _>(&rt, &tables, &LOW_REFUSED)?;
-    inconsistent::<HighRate<Naive<'_>>, _>(&rt, &tables, &HIGH_REFUSED)?;
-    inconsistent::<HighRate<Naive<'_>>, _>(&rt, &tables, &[SINGLE_TURNED])?;
-    inconsistent::<DefaultRate<Naive<'_>>, _>(&rt, &tables, &LOW_REFUSED)?;
-    inconsistent::<DefaultRate<Naive<'_>>, _>(&rt, &tables, &HIGH_REFUSED)
+    for kind in ENGINES {
+        inconsistent::<LowRate<DefaultEngine<'_>>, _>(&rt, &tables, kind, &LOW_REFUSED)?;
+    }
+    Ok(())
 }
 
-// New objects are refused so, and resets of these.
-fn refuse_all<'t, R: Rate<Naive<'t>>, A: Abort + AllocGlobal>(
-    rt: &A,
+#[test]
+fn high_rate_refuses_inconsistent_shards(rt: HostRuntime) -> Result<(), Fail> {
+    let tables = tables_of(&rt);
+    for kind in ENGINES {
+        inconsistent::<HighRate<DefaultEngine<'_>>, _>(&rt, &tables, kind, &HIGH_REFUSED)?;
+        inconsistent::<HighRate<DefaultEngine<'_>>, _>(&rt, &tables, kind, &[SINGLE_TURNED])?;
+    }
+    Ok(())
+}
+
+#[test]
+fn default_rate_refuses_inconsistent_shards(rt: HostRuntime) -> Result<(), Fail> {
+    let tables = tables_of(&rt);
+    for kind in ENGINES {
+        inconsistent::<DefaultRate<DefaultEngine<'_>>, _>(&rt, &tables, kind, &LOW_REFUSED)?;
+        inconsistent::<DefaultRate<DefaultEngine<'_>>, _>(&rt, &tables, kind, &HIGH_REFUSED)?;
+    }
+    Ok(())
+}
+
+// Original count, recovery count and shard size.
+type Counts = (usize, usize, usize);
+
+// Whether new objects are refused so.
+fn refuses_new<'t, R: Rate<DefaultEngine<'t>>>(
+    alloc: Global,
+    engine: DefaultEngine<'t>,
+    (k, r, size): Counts,
+    refusal: Error,
+) -> bool {
+    is_err(R::encoder(alloc, k, r, size, engine, None), refusal)
+        && is_err(R::decoder(alloc, k, r, size, engine, None), refusal)
+}
+
+// Whether resets are refused so.
+fn refuses_resets<E: Engine, X: RateEncoder<E>, Y: RateDecoder<E>>(
+    encoder: &mut X,
+    decoder: &mut Y,
+    (k, r, size): Counts,
+    refusal: Error,
+) -> bool {
+    is_err(encoder.reset(k, r, size), refusal) && is_err(decoder.reset(k, r, size), refusal)
+}
+
+// Configurations of these counts that the rate doesn't support.
+fn refuses_counts<'t, R: Rate<DefaultEngine<'t>>>(
+    alloc: Global,
+    engine: DefaultEngine<'t>,
     encoder: &mut R::RateEncoder,
     decoder: &mut R::RateDecoder,
-    engine: Naive<'t>,
-    (k, r, size): (usize, usize, usize),
-    refusal: Error,
-) {
-    let alloc = rt.alloc();
-    let made = R::encoder(alloc, k, r, size, engine, None);
-    assert!(rt; is_err(made, refusal), "{k} {r} {size}");
-    let made = R::decoder(alloc, k, r, size, engine, None);
-    assert!(rt; is_err(made, refusal), "{k} {r} {size}");
-    assert_eq!(rt; encoder.reset(k, r, size), Err(refusal), "{k} {r} {size}");
-    assert_eq!(rt; decoder.reset(k, r, size), Err(refusal), "{k} {r} {size}");
+    (k, r): (usize, usize),
+) -> bool {
+    let mut good = true;
+    let counts = Error::UnsupportedShardCount {
+        original_count: k,
+        recovery_count: r,
+    };
+    for size in [0, 64, 123] {
+        let row = (k, r, size);
+        good = good
+            && is_err(R::validate(k, r, size), counts)
+            && refuses_new::<R>(alloc, engine, row, counts)
+            && refuses_resets(encoder, decoder, row, counts);
+    }
+    good
 }
 
-// Configurations with counts, these among them, that the rate doesn't support, with odd sizes, and with one that no
-// memory has room for. The objects were given a shard, and keep it.
-fn configurations<'t, R: Rate<Naive<'t>>, A: Abort + AllocGlobal>(
+// Configurations of these counts with odd sizes, and with one that no memory has room for.
+fn refuses_sizes<'t, R: Rate<DefaultEngine<'t>>>(
+    alloc: Global,
+    engine: DefaultEngine<'t>,
+    encoder: &mut R::RateEncoder,
+    decoder: &mut R::RateDecoder,
+    (k, r): (usize, usize),
+) -> bool {
+    let mut good = R::validate(k, r, usize::MAX - 1).is_ok();
+    for size in [0, 1, 3, 123, usize::MAX] {
+        let row = (k, r, size);
+        let sized = Error::InvalidShardSize { shard_bytes: size };
+        good = good
+            && is_err(R::validate(k, r, size), sized)
+            && refuses_new::<R>(alloc, engine, row, sized)
+            && refuses_resets(encoder, decoder, row, sized);
+    }
+    let row = (k, r, usize::MAX - 1);
+    good && refuses_new::<R>(alloc, engine, row, Error::OutOfMemory)
+        && refuses_resets(encoder, decoder, row, Error::OutOfMemory)
+}
+
+// Configurations that are refused, these counts among them. The objects were given a shard, and keep it.
+fn refuses_configurations<'t, R: Rate<DefaultEngine<'t>>>(
+    alloc: Global,
+    engine: DefaultEngine<'t>,
+    unsupported: (usize, usize),
+) -> Result<bool, Error> {
+    let mut encoder = R::encoder(alloc, 2, 2, 2, engine, None)?;
+    let mut decoder = R::decoder(alloc, 2, 2, 2, engine, None)?;
+    encoder.add_original_shard(&[0, 0])?;
+    decoder.add_original_shard(0, &[0, 0])?;
+    let mut good = true;
+    for counts in [unsupported, (0, 1), (1, 0), (usize::MAX, usize::MAX)] {
+        good = good && refuses_counts::<R>(alloc, engine, &mut encoder, &mut decoder, counts);
+    }
+    for counts in [(1, 1), (2, 2), (2, 3), (3, 2)] {
+        good = good && refuses_sizes::<R>(alloc, engine, &mut encoder, &mut decoder, counts);
+    }
+    encoder.add_original_shard(&[1, 0])?;
+    decoder.add_recovery_shard(1, &[3, 0])?;
+    Ok(
+        good && gives(&mut encoder, TWO_AND_TWO.recovery)?
+            && restores(&mut decoder, &[(1, &[1, 0])])?,
+    )
+}
+
+// What comes before any row: one engine is enough.
+fn rate_refuses<'t, R: Rate<DefaultEngine<'t>>, A: Abort + AllocGlobal>(
     rt: &A,
     tables: &'t Tables,
     unsupported: (usize, usize),
 ) -> Result<(), Fail> {
-    let engine = Naive::new(tables);
-    let mut encoder = R::encoder(rt.alloc(), 2, 2, 2, engine, None)?;
-    let mut decoder = R::decoder(rt.alloc(), 2, 2, 2, engine, None)?;
-    encoder.add_original_shard(&[0, 0])?;
-    decoder.add_original_shard(0, &[0, 0])?;
-    for (k, r) in [unsupported, (0, 1), (1, 0), (usize::MAX, usize::MAX)] {
-        for size in [0, 64, 123] {
-            let counts = Error::UnsupportedShardCount {
-                original_count: k,
-                recovery_count: r,
-            };
-            assert_eq!(rt; R::validate(k, r, size), Err(counts), "{k} {r} {size}");
-            let row = (k, r, size);
-            refuse_all::<R, A>(rt, &mut encoder, &mut decoder, engine, row, counts);
-        }
-    }
-    for (k, r) in [(1, 1), (2, 2), (2, 3), (3, 2)] {
-        for size in [0, 1, 3, 123, usize::MAX] {
-            let sized = Error::InvalidShardSize { shard_bytes: size };
-            assert_eq!(rt; R::validate(k, r, size), Err(sized), "{k} {r} {size}");
-            let row = (k, r, size);
-            refuse_all::<R, A>(rt, &mut encoder, &mut decoder, engine, row, sized);
-        }
-        let row = (k, r, usize::MAX - 1);
-        assert_eq!(rt; R::validate(k, r, usize::MAX - 1), Ok(()), "{k} {r}");
-        refuse_all::<R, A>(
-            rt,
-            &mut encoder,
-            &mut decoder,
-            engine,
-            row,
-            Error::OutOfMemory,
-        );
-    }
-    encoder.add_original_shard(&[1, 0])?;
-    assert!(rt; gives(&mut encoder, TWO_AND_TWO.recovery)?);
-    decoder.add_recovery_shard(1, &[3, 0])?;
-    assert!(rt; restores(&mut decoder, &[(1, &[1, 0])])?);
+    let alloc = rt.alloc();
+    let engine = DefaultEngine::new(tables, EngineKind::Naive);
+    assert!(rt; refuses_originals::<R>(alloc, engine)?);
+    assert!(rt; refuses_received::<R>(alloc, engine)?);
+    assert!(rt; refuses_configurations::<R>(alloc, engine, unsupported)?);
     Ok(())
 }
 
 #[test]
-fn configurations_are_refused(rt: HostRuntime) -> Result<(), Fail> {
+fn rates_refuse(rt: HostRuntime) -> Result<(), Fail> {
     let tables = tables_of(&rt);
-    configurations::<LowRate<Naive<'_>>, _>(&rt, &tables, (61440, 4096))?;
-    configurations::<HighRate<Naive<'_>>, _>(&rt, &tables, (4096, 61440))?;
-    configurations::<DefaultRate<Naive<'_>>, _>(&rt, &tables, (60000, 5000))
+    rate_refuses::<LowRate<DefaultEngine<'_>>, _>(&rt, &tables, (61440, 4096))?;
+    rate_refuses::<HighRate<DefaultEngine<'_>>, _>(&rt, &tables, (4096, 61440))?;
+    rate_refuses::<DefaultRate<DefaultEngine<'_>>, _>(&rt, &tables, (60000, 5000))
 }
 
 // An object's own `new` and `validate` refuse as its rate's calls do.

@@ -8,7 +8,7 @@ use crate::rows::{
 };
 use reed_solomon_simd::Error;
 use reed_solomon_simd::engine::tables::Tables;
-use reed_solomon_simd::engine::{Engine, Naive, Steps};
+use reed_solomon_simd::engine::{DefaultEngine, Engine, EngineKind, Steps};
 use reed_solomon_simd::rate::{
     DecoderWork, DefaultRate, DefaultRateDecoder, EncoderWork, HighRate, LowRate, LowRateDecoder,
     Rate, RateDecoder, RateEncoder,
@@ -44,119 +44,167 @@ fn decodes_reset<E: Engine, X: RateDecoder<E>>(
 }
 
 // One object goes through all rows by resets. Each reset but the first finds a shard given.
-fn resets_through<'t, R: Rate<Naive<'t>>, A: Abort + AllocGlobal>(
-    rt: &A,
-    tables: &'t Tables,
+fn resets_encoder<'t, R: Rate<DefaultEngine<'t>>>(
+    alloc: Global,
+    engine: DefaultEngine<'t>,
     messages: &[Message<'_>],
-    rows: &[Received<'_>],
-) -> Result<(), Fail> {
-    let alloc = rt.alloc();
-    let engine = Naive::new(tables);
+) -> Result<bool, Error> {
     let mut encoder = R::encoder(alloc, 1, 1, 2, engine, None)?;
+    let mut good = true;
     for message in messages {
-        let k = message.original_count();
-        let r = message.recovery_count();
-        assert!(rt; encodes_reset(&mut encoder, message)?, "{k} {r}");
-        for shard in message.original.iter().take(1) {
+        good = good && encodes_reset(&mut encoder, message)?;
+        if let Some(shard) = message.original.first() {
             encoder.add_original_shard(shard)?;
         }
     }
+    Ok(good)
+}
+
+fn resets_decoder<'t, R: Rate<DefaultEngine<'t>>>(
+    alloc: Global,
+    engine: DefaultEngine<'t>,
+    rows: &[Received<'_>],
+) -> Result<bool, Error> {
     let mut decoder = R::decoder(alloc, 1, 1, 2, engine, None)?;
+    let mut good = true;
     for received in rows {
-        let k = received.original_count;
-        let r = received.recovery_count;
-        assert!(rt; decodes_reset(&mut decoder, received)?, "{k} {r}");
-        for (index, shard) in received.recovery.iter().take(1) {
+        good = good && decodes_reset(&mut decoder, received)?;
+        if let Some((index, shard)) = received.recovery.first() {
             decoder.add_recovery_shard(*index, *shard)?;
         }
     }
-    Ok(())
+    Ok(good)
 }
 
 // The parts of the object of each row make that of the next.
-fn hands_on<'t, R: Rate<Naive<'t>>, A: Abort + AllocGlobal>(
-    rt: &A,
-    tables: &'t Tables,
+fn hands_on_encoder<'t, R: Rate<DefaultEngine<'t>>>(
+    alloc: Global,
+    engine: DefaultEngine<'t>,
     messages: &[Message<'_>],
-    rows: &[Received<'_>],
-) -> Result<(), Fail> {
-    let alloc = rt.alloc();
-    let engine = Naive::new(tables);
-    let mut parts = R::encoder(alloc, 1, 1, 2, engine, None)?.into_parts();
+) -> Result<bool, Error> {
+    let mut parts = (engine, EncoderWork::default());
+    let mut good = true;
     for message in messages {
         let k = message.original_count();
         let r = message.recovery_count();
         let size = message.shard_bytes();
         let mut encoder = R::encoder(alloc, k, r, size, parts.0, Some(parts.1))?;
-        assert!(rt; encodes(&mut encoder, message)?, "{k} {r}");
+        good = good && encodes(&mut encoder, message)?;
         parts = encoder.into_parts();
     }
-    let mut parts = R::decoder(alloc, 1, 1, 2, engine, None)?.into_parts();
+    Ok(good)
+}
+
+fn hands_on_decoder<'t, R: Rate<DefaultEngine<'t>>>(
+    alloc: Global,
+    engine: DefaultEngine<'t>,
+    rows: &[Received<'_>],
+) -> Result<bool, Error> {
+    let mut parts = (engine, DecoderWork::default());
+    let mut good = true;
     for received in rows {
         let k = received.original_count;
         let r = received.recovery_count;
         let size = received.shard_bytes;
         let mut decoder = R::decoder(alloc, k, r, size, parts.0, Some(parts.1))?;
-        assert!(rt; decodes(&mut decoder, received)?, "{k} {r}");
+        good = good && decodes(&mut decoder, received)?;
         parts = decoder.into_parts();
     }
-    Ok(())
+    Ok(good)
 }
-
-#[test]
-fn objects_are_reset(rt: HostRuntime) -> Result<(), Fail> {
-    let tables = tables_of(&rt);
-    resets_through::<LowRate<Naive<'_>>, _>(&rt, &tables, &LOW_MESSAGES, &LOW_RECEIVED)?;
-    resets_through::<HighRate<Naive<'_>>, _>(&rt, &tables, &HIGH_MESSAGES, &HIGH_RECEIVED)?;
-    resets_through::<DefaultRate<Naive<'_>>, _>(&rt, &tables, &LOW_MESSAGES, &HIGH_RECEIVED)?;
-    resets_through::<DefaultRate<Naive<'_>>, _>(&rt, &tables, &HIGH_MESSAGES, &LOW_RECEIVED)
-}
-
-#[test]
-fn parts_are_handed_on(rt: HostRuntime) -> Result<(), Fail> {
-    let tables = tables_of(&rt);
-    hands_on::<LowRate<Naive<'_>>, _>(&rt, &tables, &LOW_MESSAGES, &LOW_RECEIVED)?;
-    hands_on::<HighRate<Naive<'_>>, _>(&rt, &tables, &HIGH_MESSAGES, &HIGH_RECEIVED)?;
-    hands_on::<DefaultRate<Naive<'_>>, _>(&rt, &tables, &LOW_MESSAGES, &HIGH_RECEIVED)?;
-    hands_on::<DefaultRate<Naive<'_>>, _>(&rt, &tables, &HIGH_MESSAGES, &LOW_RECEIVED)
+// An encoder of one rate codes two messages, and one of another rate, made of its parts, codes two more.
+fn encoders_pass<'t, R: Rate<DefaultEngine<'t>>, S: Rate<DefaultEngine<'t>>>(
+    alloc: Global,
+    engine: DefaultEngine<'t>,
+    before: (&Message<'_>, &Message<'_>),
+    after: (&Message<'_>, &Message<'_>),
+) -> Result<bool, Error> {
+    let mut one = encoder_for::<R>(alloc, engine, before.0)?;
+    let coded = encodes(&mut one, before.0)? && encodes_reset(&mut one, before.1)?;
+    let (engine, work) = one.into_parts();
+    let k = after.0.original_count();
+    let r = after.0.recovery_count();
+    let size = after.0.shard_bytes();
+    let mut other = S::encoder(alloc, k, r, size, engine, Some(work))?;
+    Ok(coded && encodes(&mut other, after.0)? && encodes_reset(&mut other, after.1)?)
 }
 
 #[test]
 fn encoders_pass_between_rates(rt: HostRuntime) -> Result<(), Fail> {
     let alloc = rt.alloc();
     let tables = tables_of(&rt);
-    let engine = Naive::new(&tables);
-    let mut default = DefaultRate::<Naive<'_>>::encoder(alloc, 3, 1, 2, engine, None)?;
-    assert!(rt; encodes(&mut default, &SUM)?);
-    default.reset(2, 3, 4)?;
-    assert!(rt; encodes(&mut default, &LINE_SECOND)?);
-    let (engine, work) = default.into_parts();
-    let mut high = HighRate::<Naive<'_>>::encoder(alloc, 2, 2, 2, engine, Some(work))?;
-    assert!(rt; encodes(&mut high, &TWO_AND_TWO)?);
-    assert!(rt; encodes_reset(&mut high, &SUM)?);
-    let mut low = LowRate::<Naive<'_>>::encoder(alloc, 2, 3, 2, engine, None)?;
-    assert!(rt; encodes(&mut low, &LINE)?);
-    assert!(rt; encodes_reset(&mut low, &CONSTANT)?);
+    for kind in ENGINES {
+        let engine = DefaultEngine::new(&tables, kind);
+        let before = (&SUM, &LINE_SECOND);
+        let after = (&TWO_AND_TWO, &SUM);
+        let chosen = encoders_pass::<DefaultRate<DefaultEngine<'_>>, HighRate<DefaultEngine<'_>>>(
+            alloc, engine, before, after,
+        )?;
+        let before = (&LINE, &CONSTANT);
+        let low = encoders_pass::<LowRate<DefaultEngine<'_>>, HighRate<DefaultEngine<'_>>>(
+            alloc, engine, before, after,
+        )?;
+        assert!(rt; chosen && low, "{kind:?}: {chosen} {low}");
+    }
     Ok(())
+}
+
+// A decoder of one rate restores twice, and one of another rate, made of its parts, twice more.
+fn decoders_pass<'t, R: Rate<DefaultEngine<'t>>, S: Rate<DefaultEngine<'t>>>(
+    alloc: Global,
+    engine: DefaultEngine<'t>,
+    before: (&Received<'_>, &Received<'_>),
+    after: (&Received<'_>, &Received<'_>),
+) -> Result<bool, Error> {
+    let mut one = decoder_for::<R>(alloc, engine, before.0)?;
+    let restored = decodes(&mut one, before.0)? && decodes_reset(&mut one, before.1)?;
+    let (engine, work) = one.into_parts();
+    let k = after.0.original_count;
+    let r = after.0.recovery_count;
+    let size = after.0.shard_bytes;
+    let mut other = S::decoder(alloc, k, r, size, engine, Some(work))?;
+    Ok(restored && decodes(&mut other, after.0)? && decodes_reset(&mut other, after.1)?)
 }
 
 #[test]
 fn decoders_pass_between_rates(rt: HostRuntime) -> Result<(), Fail> {
     let alloc = rt.alloc();
     let tables = tables_of(&rt);
-    let engine = Naive::new(&tables);
-    let mut default = DefaultRate::<Naive<'_>>::decoder(alloc, 3, 2, 2, engine, None)?;
-    assert!(rt; decodes(&mut default, &OUTER_LOST)?);
-    default.reset(2, 3, 2)?;
-    assert!(rt; decodes(&mut default, &LINE_LOST)?);
-    let (engine, work) = default.into_parts();
-    let mut low = LowRate::<Naive<'_>>::decoder(alloc, 4, 4, 2, engine, Some(work))?;
-    assert!(rt; decodes(&mut low, &MIXTURE)?);
-    assert!(rt; decodes_reset(&mut low, &LINE_LOST)?);
-    let mut high = HighRate::<Naive<'_>>::decoder(alloc, 3, 2, 2, engine, None)?;
-    assert!(rt; decodes(&mut high, &OUTER_LOST)?);
-    assert!(rt; decodes_reset(&mut high, &MIXTURE)?);
+    for kind in ENGINES {
+        let engine = DefaultEngine::new(&tables, kind);
+        let before = (&OUTER_LOST, &LINE_LOST);
+        let after = (&MIXTURE, &LINE_LOST);
+        let chosen = decoders_pass::<DefaultRate<DefaultEngine<'_>>, LowRate<DefaultEngine<'_>>>(
+            alloc, engine, before, after,
+        )?;
+        let before = (&OUTER_LOST, &MIXTURE);
+        let high = decoders_pass::<HighRate<DefaultEngine<'_>>, LowRate<DefaultEngine<'_>>>(
+            alloc, engine, before, after,
+        )?;
+        assert!(rt; chosen && high, "{kind:?}: {chosen} {high}");
+    }
     Ok(())
+}
+
+// Whether a reset that is refused for its size, and one that no memory has room for, keep what the decoder was given:
+// `LINE_LOST` without one of its recovery shards.
+fn keeps_rate<'t>(
+    decoder: &mut DefaultRateDecoder<DefaultEngine<'t>>,
+    shard_bytes: usize,
+    refusal: Error,
+) -> Result<bool, Error> {
+    decoder.add_recovery_shard(0, &[2, 0])?;
+    let refused = is_err(decoder.reset(3, 2, shard_bytes), refusal);
+    decoder.add_recovery_shard(1, &[3, 0])?;
+    Ok(refused && restores(decoder, LINE_LOST.restored)?)
+}
+
+// Whether such a decoder then passes from the low rate to the high one and back.
+fn passes_to_high_and_back<'t>(
+    decoder: &mut DefaultRateDecoder<DefaultEngine<'t>>,
+) -> Result<bool, Error> {
+    pass_to_high(decoder)?;
+    Ok(decodes(decoder, &OUTER_LOST)? && decodes_reset(decoder, &LINE_LOST)?)
 }
 
 // A refused reset, also to counts at which the default rate is the other rate, leaves what was given.
@@ -164,70 +212,72 @@ fn decoders_pass_between_rates(rt: HostRuntime) -> Result<(), Fail> {
 fn refused_resets_keep_the_rate(rt: HostRuntime) -> Result<(), Fail> {
     let alloc = rt.alloc();
     let tables = tables_of(&rt);
-    let engine = Naive::new(&tables);
     let odd = Error::InvalidShardSize { shard_bytes: 3 };
-    let mut decoder = DefaultRate::<Naive<'_>>::decoder(alloc, 2, 3, 2, engine, None)?;
-    decoder.add_recovery_shard(0, &[2, 0])?;
-    assert_eq!(rt; decoder.reset(3, 2, 3), Err(odd));
-    decoder.add_recovery_shard(1, &[3, 0])?;
-    assert!(rt; restores(&mut decoder, LINE_LOST.restored)?);
-    decoder.add_recovery_shard(2, &[4, 0])?;
-    assert_eq!(rt;
-        decoder.reset(3, 2, usize::MAX - 1),
-        Err(Error::OutOfMemory)
-    );
-    decoder.add_recovery_shard(0, &[2, 0])?;
-    assert!(rt; restores(&mut decoder, LINE_LOST.restored)?);
-    // From the low rate to the high one and back.
-    pass_to_high(&mut decoder)?;
-    assert!(rt; decodes(&mut decoder, &OUTER_LOST)?);
-    assert!(rt; decodes_reset(&mut decoder, &LINE_LOST)?);
+    for kind in ENGINES {
+        let engine = DefaultEngine::new(&tables, kind);
+        let mut decoder = DefaultRateDecoder::new(alloc, 2, 3, 2, engine, None)?;
+        let sized = keeps_rate(&mut decoder, 3, odd)?;
+        let roomy = keeps_rate(&mut decoder, usize::MAX - 1, Error::OutOfMemory)?;
+        let back = passes_to_high_and_back(&mut decoder)?;
+        assert!(rt; sized && roomy && back, "{kind:?}: {sized} {roomy} {back}");
+    }
     Ok(())
 }
 
-// A refused reset amid a round; then the round ends, though its result is forgotten.
-fn keeps_given<'t, R: Rate<Naive<'t>>, A: Abort + AllocGlobal>(
-    rt: &A,
-    tables: &'t Tables,
+// Whether resets to these counts are refused for their size, and for memory.
+fn refuses_resets<E: Engine, X: RateEncoder<E>>(
+    encoder: &mut X,
+    original_count: usize,
+    recovery_count: usize,
+) -> bool {
+    let odd = Error::InvalidShardSize { shard_bytes: 3 };
+    let sized = encoder.reset(original_count, recovery_count, 3);
+    let roomy = encoder.reset(original_count, recovery_count, usize::MAX - 1);
+    is_err(sized, odd) && is_err(roomy, Error::OutOfMemory)
+}
+
+// Gives the encoder the originals. Whether it refuses resets in between, to its own counts and to the turned ones.
+fn gives_amid_resets<E: Engine, X: RateEncoder<E>>(
+    encoder: &mut X,
     message: &Message<'_>,
-) -> Result<(), Fail> {
+) -> Result<bool, Error> {
     let k = message.original_count();
     let r = message.recovery_count();
-    let mut encoder = encoder_for::<R>(rt.alloc(), tables, message)?;
+    let mut good = true;
     for shard in message.original {
         encoder.add_original_shard(shard)?;
-        for (originals, recovery) in [(k, r), (r, k)] {
-            assert_eq!(rt;
-                encoder.reset(originals, recovery, 3),
-                Err(Error::InvalidShardSize { shard_bytes: 3 })
-            );
-            assert_eq!(rt;
-                encoder.reset(originals, recovery, usize::MAX - 1),
-                Err(Error::OutOfMemory)
-            );
-        }
+        good = good && refuses_resets(encoder, k, r) && refuses_resets(encoder, r, k);
     }
+    Ok(good)
+}
+
+// Whether `encode` gives the recovery shards, and the round ends though its result is forgotten.
+fn forgets<E: Engine, X: RateEncoder<E>>(
+    encoder: &mut X,
+    message: &Message<'_>,
+) -> Result<bool, Error> {
     let mut steps = Steps::new();
+    let mut good = true;
     let result = encoder.encode(&mut steps)?;
     for (index, shard) in message.recovery.iter().enumerate() {
-        assert!(rt; result.recovery(index) == Some(*shard), "{index}");
+        good = good && result.recovery(index) == Some(*shard);
     }
     std::mem::forget(result);
     let none = Error::TooFewOriginalShards {
-        original_count: k,
+        original_count: message.original_count(),
         original_received_count: 0,
     };
-    assert!(rt; is_err(encoder.encode(&mut steps), none));
-    Ok(())
+    Ok(good && is_err(encoder.encode(&mut steps), none))
 }
 
-#[test]
-fn refused_resets_keep_given_shards(rt: HostRuntime) -> Result<(), Fail> {
-    let tables = tables_of(&rt);
-    keeps_given::<LowRate<Naive<'_>>, _>(&rt, &tables, &LINE)?;
-    keeps_given::<HighRate<Naive<'_>>, _>(&rt, &tables, &TWO_AND_TWO)?;
-    keeps_given::<DefaultRate<Naive<'_>>, _>(&rt, &tables, &LINE)?;
-    keeps_given::<DefaultRate<Naive<'_>>, _>(&rt, &tables, &TWO_AND_TWO)
+// A refused reset amid a round; then the round ends.
+fn keeps_given<'t, R: Rate<DefaultEngine<'t>>>(
+    alloc: Global,
+    engine: DefaultEngine<'t>,
+    message: &Message<'_>,
+) -> Result<bool, Error> {
+    let mut encoder = encoder_for::<R>(alloc, engine, message)?;
+    Ok(gives_amid_resets(&mut encoder, message)? && forgets(&mut encoder, message)?)
 }
 
 // Codes the originals, loses as many of the first as there are recovery shards for, and tells whether just these come
@@ -268,14 +318,13 @@ fn round_trips<E: Engine, X: RateEncoder<E>, Y: RateDecoder<E>>(
 }
 
 // Resets to more rows, to longer ones, and to both; then back to the first.
-fn grows<'t, R: Rate<Naive<'t>>, A: Abort + AllocGlobal>(
-    rt: &A,
-    tables: &'t Tables,
-) -> Result<(), Fail> {
-    let alloc = rt.alloc();
-    let engine = Naive::new(tables);
+fn grows<'t, R: Rate<DefaultEngine<'t>>>(
+    alloc: Global,
+    engine: DefaultEngine<'t>,
+) -> Result<bool, Error> {
     let mut encoder = R::encoder(alloc, 1, 1, 2, engine, None)?;
     let mut decoder = R::decoder(alloc, 1, 1, 2, engine, None)?;
+    let mut good = true;
     for (k, r, size) in [
         (3, 2, 2),
         (3, 2, 66),
@@ -289,57 +338,102 @@ fn grows<'t, R: Rate<Naive<'t>>, A: Abort + AllocGlobal>(
         encoder.reset(k, r, size)?;
         decoder.reset(k, r, size)?;
         let original = counted(alloc, k, size)?;
-        let good = round_trips(&mut encoder, &mut decoder, original.as_slice(), r)?;
-        assert!(rt; good, "{k} {r} {size}");
+        good = good && round_trips(&mut encoder, &mut decoder, original.as_slice(), r)?;
     }
-    Ok(())
-}
-
-#[test]
-fn resets_grow(rt: HostRuntime) -> Result<(), Fail> {
-    let tables = tables_of(&rt);
-    grows::<LowRate<Naive<'_>>, _>(&rt, &tables)?;
-    grows::<HighRate<Naive<'_>>, _>(&rt, &tables)?;
-    grows::<DefaultRate<Naive<'_>>, _>(&rt, &tables)
-}
-
-// Working spaces that took no memory yet grow as none at all do.
-#[test]
-fn default_working_spaces_grow(rt: HostRuntime) -> Result<(), Fail> {
-    let alloc = rt.alloc();
-    let tables = tables_of(&rt);
-    let engine = Naive::new(&tables);
-    let work = Some(EncoderWork::default());
-    let mut encoder = DefaultRate::<Naive<'_>>::encoder(alloc, 2, 3, 2, engine, work)?;
-    assert!(rt; encodes(&mut encoder, &LINE)?);
-    let work = Some(DecoderWork::default());
-    let mut decoder = DefaultRate::<Naive<'_>>::decoder(alloc, 3, 2, 2, engine, work)?;
-    assert!(rt; decodes(&mut decoder, &OUTER_LOST)?);
-    Ok(())
+    Ok(good)
 }
 
 // A decoder's parts make one like it.
-fn makes_again<'t, R: Rate<Naive<'t>>>(
+fn makes_again<'t, R: Rate<DefaultEngine<'t>>>(
     alloc: Global,
-    tables: &'t Tables,
+    engine: DefaultEngine<'t>,
     received: &Received<'_>,
 ) -> Result<bool, Error> {
     let k = received.original_count;
     let r = received.recovery_count;
     let size = received.shard_bytes;
-    let decoder = R::decoder(alloc, k, r, size, Naive::new(tables), None)?;
-    let mut again = make_again::<Naive<'t>, R>(alloc, decoder, k, r, size)?;
+    let decoder = R::decoder(alloc, k, r, size, engine, None)?;
+    let mut again = make_again::<DefaultEngine<'t>, R>(alloc, decoder, k, r, size)?;
     decodes(&mut again, received)
 }
 
-#[test]
-fn parts_make_the_same_again(rt: HostRuntime) -> Result<(), Fail> {
+// A rate's messages and received shards. The first of each stand alone.
+fn rate_resets<'t, R: Rate<DefaultEngine<'t>>, A: Abort + AllocGlobal>(
+    rt: &A,
+    tables: &'t Tables,
+    kind: EngineKind,
+    (message, messages): (&Message<'_>, &[Message<'_>]),
+    (received, rows): (&Received<'_>, &[Received<'_>]),
+) -> Result<(), Fail> {
     let alloc = rt.alloc();
+    let engine = DefaultEngine::new(tables, kind);
+    assert!(rt; resets_encoder::<R>(alloc, engine, messages)?, "{kind:?}");
+    assert!(rt; resets_decoder::<R>(alloc, engine, rows)?, "{kind:?}");
+    assert!(rt; hands_on_encoder::<R>(alloc, engine, messages)?, "{kind:?}");
+    assert!(rt; hands_on_decoder::<R>(alloc, engine, rows)?, "{kind:?}");
+    assert!(rt; keeps_given::<R>(alloc, engine, message)?, "{kind:?}");
+    assert!(rt; makes_again::<R>(alloc, engine, received)?, "{kind:?}");
+    assert!(rt; grows::<R>(alloc, engine)?, "{kind:?}");
+    Ok(())
+}
+
+#[test]
+fn low_rate_resets(rt: HostRuntime) -> Result<(), Fail> {
     let tables = tables_of(&rt);
-    assert!(rt; makes_again::<LowRate<Naive<'_>>>(alloc, &tables, &LINE_LOST)?);
-    assert!(rt; makes_again::<HighRate<Naive<'_>>>(alloc, &tables, &OUTER_LOST)?);
-    assert!(rt; makes_again::<DefaultRate<Naive<'_>>>(alloc, &tables, &LINE_LOST)?);
-    assert!(rt; makes_again::<DefaultRate<Naive<'_>>>(alloc, &tables, &OUTER_LOST)?);
+    for kind in ENGINES {
+        rate_resets::<LowRate<DefaultEngine<'_>>, _>(
+            &rt,
+            &tables,
+            kind,
+            (&LINE, &LOW_MESSAGES),
+            (&LINE_LOST, &LOW_RECEIVED),
+        )?;
+    }
+    Ok(())
+}
+
+#[test]
+fn high_rate_resets(rt: HostRuntime) -> Result<(), Fail> {
+    let tables = tables_of(&rt);
+    for kind in ENGINES {
+        rate_resets::<HighRate<DefaultEngine<'_>>, _>(
+            &rt,
+            &tables,
+            kind,
+            (&TWO_AND_TWO, &HIGH_MESSAGES),
+            (&OUTER_LOST, &HIGH_RECEIVED),
+        )?;
+    }
+    Ok(())
+}
+
+#[test]
+fn default_rate_resets_to_low_messages(rt: HostRuntime) -> Result<(), Fail> {
+    let tables = tables_of(&rt);
+    for kind in ENGINES {
+        rate_resets::<DefaultRate<DefaultEngine<'_>>, _>(
+            &rt,
+            &tables,
+            kind,
+            (&LINE, &LOW_MESSAGES),
+            (&OUTER_LOST, &HIGH_RECEIVED),
+        )?;
+    }
+    Ok(())
+}
+
+#[test]
+fn default_rate_resets_to_high_messages(rt: HostRuntime) -> Result<(), Fail> {
+    let tables = tables_of(&rt);
+    for kind in ENGINES {
+        rate_resets::<DefaultRate<DefaultEngine<'_>>, _>(
+            &rt,
+            &tables,
+            kind,
+            (&TWO_AND_TWO, &HIGH_MESSAGES),
+            (&LINE_LOST, &LOW_RECEIVED),
+        )?;
+    }
     Ok(())
 }
 
@@ -361,44 +455,49 @@ fn turned_sum(
 }
 
 // The parts of a decoder of the high rate that refused its shards make one of the low rate.
-#[test]
-fn parts_are_handed_on_after_a_refusal(rt: HostRuntime) -> Result<(), Fail> {
-    let alloc = rt.alloc();
-    let tables = tables_of(&rt);
-    let engine = Naive::new(&tables);
+fn hands_on_after_a_refusal(alloc: Global, engine: DefaultEngine<'_>) -> Result<bool, Error> {
     let original = counted(alloc, 3, 66)?;
     let sum = turned_sum(alloc, original.as_slice(), 66)?;
-    let mut default = DefaultRateDecoder::new(alloc, 3, 1, 66, engine, None)?;
+    let mut high = DefaultRateDecoder::new(alloc, 3, 1, 66, engine, None)?;
     for (index, shard) in original.iter().enumerate() {
-        default.add_original_shard(index, shard.as_slice())?;
+        high.add_original_shard(index, shard.as_slice())?;
     }
-    default.add_recovery_shard(0, sum.as_slice())?;
+    high.add_recovery_shard(0, sum.as_slice())?;
     let apart = Error::InconsistentShards {
         original_received_count: 3,
         recovery_received_count: 1,
     };
-    assert!(rt; refuses(&mut default, apart));
-    let (engine, work) = default.into_parts();
+    let refused = refuses(&mut high, apart);
+    let (engine, work) = high.into_parts();
     let mut low = LowRateDecoder::new(alloc, 2, 3, 2, engine, Some(work))?;
-    assert!(rt; decodes(&mut low, &LINE_LOST)?);
-    Ok(())
+    Ok(refused && decodes(&mut low, &LINE_LOST)?)
 }
 
 // What longer rows held before isn't taken for a part of the shorter ones.
-#[test]
-fn longer_rows_are_handed_on(rt: HostRuntime) -> Result<(), Fail> {
-    let alloc = rt.alloc();
-    let tables = tables_of(&rt);
-    let engine = Naive::new(&tables);
+fn longer_rows_are_handed_on(alloc: Global, engine: DefaultEngine<'_>) -> Result<bool, Error> {
+    let mut good = true;
     let long = counted(alloc, 1, 130)?;
     let mut low = LowRateDecoder::new(alloc, 1, 2, 130, engine, None)?;
     for shard in &long {
         low.add_recovery_shard(1, shard.as_slice())?;
-        assert!(rt; restores(&mut low, &[(0, shard.as_slice())])?);
+        good = good && restores(&mut low, &[(0, shard.as_slice())])?;
     }
     let (engine, work) = low.into_parts();
     let mut low = LowRateDecoder::new(alloc, 1, 2, 2, engine, Some(work))?;
-    assert!(rt; decodes(&mut low, &CONSTANT_WHOLE)?);
-    assert!(rt; refuses_then_decodes(&mut low, &CONSTANT_TURNED)?);
+    Ok(
+        good && decodes(&mut low, &CONSTANT_WHOLE)?
+            && refuses_then_decodes(&mut low, &CONSTANT_TURNED)?,
+    )
+}
+
+#[test]
+fn parts_are_handed_on(rt: HostRuntime) -> Result<(), Fail> {
+    let alloc = rt.alloc();
+    let tables = tables_of(&rt);
+    for kind in ENGINES {
+        let engine = DefaultEngine::new(&tables, kind);
+        assert!(rt; hands_on_after_a_refusal(alloc, engine)?, "{kind:?}");
+        assert!(rt; longer_rows_are_handed_on(alloc, engine)?, "{kind:?}");
+    }
     Ok(())
 }
