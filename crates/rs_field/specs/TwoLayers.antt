@@ -3,24 +3,27 @@ use Rattle.std.specs.Prelude.{◌≡◌, ℕ, List, ◌<◌, bit_xor}
 use Rattle.rs_field.specs.Rows.{symbol}
 use Rattle.rs_field.specs.Tables.{scaled}
 
--- the two words after a forward butterfly
+-- the first word after a forward butterfly
 abbrev pub forward_first : ℕ → ℕ → ℕ → ℕ
 forward_first log_m x y = bit_xor x (scaled log_m y)
 
+-- the second word after it
 abbrev pub forward_second : ℕ → ℕ → ℕ → ℕ
 forward_second log_m x y = bit_xor y (forward_first log_m x y)
 
--- the two words after a backward butterfly
+-- the second word after a backward butterfly
 abbrev pub backward_second : ℕ → ℕ → ℕ
 backward_second x y = bit_xor y x
 
+-- the first word after it
 abbrev pub backward_first : ℕ → ℕ → ℕ → ℕ
 backward_first log_m x y = bit_xor x (scaled log_m (backward_second x y))
 
--- a relation of four old words and the four new ones, and one of chunks
+-- a relation of four old words and the four new ones
 abbrev pub OnFourWords : Type 1
 OnFourWords = ℕ → ℕ → ℕ → ℕ → ℕ → ℕ → ℕ → ℕ → Type 0
 
+-- a relation of four old chunks and the four new ones
 abbrev pub OnFourChunks : Type 1
 OnFourChunks = List ℕ → List ℕ → List ℕ → List ℕ → List ℕ → List ℕ → List ℕ → List ℕ → Type 0
 
@@ -42,12 +45,13 @@ IsBackwardFour log_m02 log_m01 log_m23 x0 x1 x2 x3 y0 y1 y2 y3 =
     let z3 = backward_second x2 x3 in
     (y0 ≡ backward_first log_m02 z0 z2) × (y1 ≡ backward_first log_m02 z1 z3) × (y2 ≡ backward_second z0 z2) × (y3 ≡ backward_second z1 z3)
 
--- the same of each symbol of four chunks
+-- two layers of forward butterflies on each symbol of four chunks
 abbrev pub IsForwardTwoLayers : ℕ → ℕ → ℕ → OnFourChunks
 IsForwardTwoLayers log_m02 log_m01 log_m23 x0 x1 x2 x3 y0 y1 y2 y3 =
     (s : ℕ) → s < 32 → IsForwardFour log_m02 log_m01 log_m23 (symbol x0 s) (symbol x1 s) (symbol x2 s) (symbol x3 s)
     (symbol y0 s) (symbol y1 s) (symbol y2 s) (symbol y3 s)
 
+-- two layers of backward butterflies on each symbol of four chunks
 abbrev pub IsBackwardTwoLayers : ℕ → ℕ → ℕ → OnFourChunks
 IsBackwardTwoLayers log_m02 log_m01 log_m23 x0 x1 x2 x3 y0 y1 y2 y3 =
     (s : ℕ) → s < 32 → IsBackwardFour log_m02 log_m01 log_m23 (symbol x0 s) (symbol x1 s) (symbol x2 s) (symbol x3 s)
