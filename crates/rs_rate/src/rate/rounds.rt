@@ -42,7 +42,8 @@ pub fn encode_round<E: Engine, C: Code>(
     Ok(())
 }
 
-/// The recovery shards that lie in an encoder after a round.
+/// The recovery shards that lie in an encoder after a round. Before the first round of an encoder they are no recovery
+/// shards, but the bytes that stood in its work.
 pub fn lent_recovery<E: Engine, C: Code>(encoder: &Encoder<E, C>) -> EncoderResult<'_>
     ensures { recovery_shards result ≡ lent_of encoder.now.rows }
 {
@@ -71,7 +72,8 @@ pub fn decode_round<E: Engine, C: Code>(
     decode_rows(&decoder.engine, steps, &mut decoder.rows)
 }
 
-/// The originals that lie restored in a decoder after a round that restored so many.
+/// The originals that lie restored in a decoder after a round that restored so many. Before the first round of a decoder
+/// there are none.
 pub fn lent_originals<E: Engine, C: Code>(
     decoder: &Decoder<E, C>,
     restored_count: usize,
