@@ -1,9 +1,10 @@
 -- Following an iterator whose items are taken one after another.
-use Rattle.std.proofs.Common.{◌≡◌, List, [], ◌∷◌, Option, Some, None, Result, Ok, Err, refl, sym, ap, subst, ◌∙◌}
-use Rattle.std.specs.Iterator.{AlwaysYields}
+use Rattle.std.proofs.Common.{◌≡◌, true, false, List, [], ◌∷◌, ◌++◌, map, Option, Some, None, Result, Ok, Err, refl, sym, ap, subst, ◌∙◌, true≢false}
+use Rattle.std.specs.Iterator.{AlwaysYields, Yields}
 use Rattle.rs_field.specs.declared.error.Error.{Error}
 use Rattle.rs_field.specs.Outcome.{result_and_then, answer_of, state_after}
 use Rattle.rs_field.specs.OneCall.{one_by_one}
+use Rattle.reed_solomon_simd.specs.Calls.{Calls, Begins}
 use Rattle.reed_solomon_simd.specs.Giving.{Reaches}
 
 module _ {I A T : Type 0} (steps : I → Option A → I → Type 0) (view : A → T) where
@@ -18,10 +19,61 @@ module _ {I A T : Type 0} (steps : I → Option A → I → Type 0) (view : A �
   no-item iterator after [] gives yields = refl
   no-item iterator after (x ∷ others) gives yields = absurd (yields.0 after gives)
 
+-- the lists that each run of an iterator gives begin with what calls on it gave
+always-begins : {I A T : Type 0} (steps : I → Option A → I → Type 0) (view : A → T) (items : List A) (iterator left : I) → Yields steps iterator items left
+    → (list : List T) → AlwaysYields steps view iterator list → (more : List T) × (list ≡ map view items ++ more) × AlwaysYields steps view left more
+always-begins steps view [] iterator left gave list yields = (list, refl, subst (λ s. AlwaysYields steps view s list) gave yields)
+always-begins steps view (item ∷ items) iterator left gave list yields =
+    let here = next-item steps view iterator gave.0 item list gave.1 yields in
+    let there = always-begins steps view items gave.0 left gave.2 here.0 here.2 in
+    (there.0, here.1 ∙ ap (λ others. view item ∷ others) there.1, there.2)
+
+module _ {I A T : Type 0} (steps : I → Option A → I → Type 0) (view : A → T) where
+  pub begins-always : (iterator : I) (calls : Calls steps iterator) (list : List T) → AlwaysYields steps view iterator list → Begins view calls list
+  begins-always iterator calls list yields =
+      let parts = always-begins steps view calls.items iterator calls.gave.0 calls.gave.1 list yields in
+      (parts.0, parts.1, λ ended. let last = calls.gave.2 ended in no-item steps view calls.gave.0 last.0 parts.0 last.1 parts.2)
+
+-- no call was made
+abbrev pub no-calls : {I A : Type 0} {steps : I → Option A → I → Type 0} (iterator : I) → Calls steps iterator
+no-calls iterator = record { items = []; ended = false; gave = (iterator, refl, λ ended. absurd (true≢false (sym ended))) }
+
+-- one call was made, and the end came
+abbrev pub ended-calls : {I A : Type 0} {steps : I → Option A → I → Type 0} (iterator after : I) → steps iterator None after → Calls steps iterator
+ended-calls iterator after gives = record { items = []; ended = true; gave = (iterator, refl, λ _. (after, gives)) }
+
+-- a call gave an item, and then others were made
+abbrev pub more-calls : {I A : Type 0} {steps : I → Option A → I → Type 0} (iterator after : I) (item : A) → steps iterator (Some item) after → Calls steps after → Calls steps iterator
+more-calls iterator after item gives calls =
+    record { items = item ∷ calls.items; ended = calls.ended; gave = (calls.gave.0, (after, gives, calls.gave.1), calls.gave.2) }
+
+-- what holds of all lists that begin with what calls gave
+module _ {I A T : Type 0} (steps : I → Option A → I → Type 0) (view : A → T) (P : List T → Type 0) where
+  -- where the end came at once, there is the empty list alone
+  pub ended-run : (iterator after : I) (gives : steps iterator None after) → P [] → (list : List T) → Begins view (ended-calls {steps = steps} iterator after gives) list → P list
+  ended-run iterator after gives holds list begins = subst P (sym (begins.1 ∙ begins.2 refl)) holds
+
+  -- where an item came, it stands before the lists that begin with the others
+  pub more-run : (iterator after : I) (item : A) (gives : steps iterator (Some item) after) (calls : Calls steps after)
+      → ((others : List T) → Begins view calls others → P (view item ∷ others)) → (list : List T) → Begins view (more-calls iterator after item gives calls) list → P list
+  more-run iterator after item gives calls holds list begins = subst P (sym begins.1) (holds (map view calls.items ++ begins.0) (begins.0, refl, begins.2))
+
 module _ {I A S T : Type 0} (steps : I → Option A → I → Type 0) (view : A → T) (step : S → T → Result S Error) where
-  -- the items that are left lead on from here as all of them do from the start
+  -- calls gave items, and all lists that begin with them lead on from here by what comes after
   pub record LeadsOn (begin : I) (first : S) (iterator : I) (now : S) : Type 0 where
-    pub rest : (items : List T) → AlwaysYields steps view begin items → (left : List T) × AlwaysYields steps view iterator left × (one_by_one step first items ≡ one_by_one step now left)
+    pub taken : List A
+    pub gave : Yields steps begin taken iterator
+    pub led : (more : List T) → one_by_one step first (map view taken ++ more) ≡ one_by_one step now more
+
+-- one more item, and what comes after it
+map-further : {A T : Type 0} (view : A → T) (items : List A) (item : A) (more : List T) → map view (items ++ item ∷ []) ++ more ≡ map view items ++ view item ∷ more
+map-further view [] item more = refl
+map-further view (x ∷ items) item more = ap (λ others. view x ∷ others) (map-further view items item more)
+
+Yields-further : {I A : Type 0} (steps : I → Option A → I → Type 0) (items : List A) (item : A) (begin iterator after : I) → Yields steps begin items iterator
+    → steps iterator (Some item) after → Yields steps begin (items ++ item ∷ []) after
+Yields-further steps [] item begin iterator after gave gives = (after, subst (λ s. steps s (Some item) after) (sym gave) gives, refl)
+Yields-further steps (x ∷ items) item begin iterator after gave gives = (gave.0, gave.1, Yields-further steps items item gave.0 iterator after gave.2 gives)
 
 module _ {I A S T : Type 0} {steps : I → Option A → I → Type 0} {view : A → T} {step : S → T → Result S Error} where
   -- an item that is taken leads on
@@ -29,25 +81,33 @@ module _ {I A S T : Type 0} {steps : I → Option A → I → Type 0} {view : A 
       → step now (view item) ≡ Ok next → LeadsOn steps view step begin first after next
   leads-taken {begin} {iterator} {after} {first} {now} {next} {item} leads gives taken =
       record {
-        rest = λ items yields.
-            let here = leads.rest items yields in
-            let there = next-item steps view iterator after item here.0 gives here.1 in
-            (there.0, there.2, here.2 ∙ ap (one_by_one step now) there.1 ∙ ap (result_and_then (λ s. one_by_one step s there.0)) taken);
+        taken = leads.taken ++ item ∷ [];
+        gave = Yields-further steps leads.taken item begin iterator after leads.gave gives;
+        led = λ more.
+            ap (one_by_one step first) (map-further view leads.taken item more) ∙ leads.led (view item ∷ more) ∙ ap (result_and_then (λ s. one_by_one step s more)) taken;
       }
 
-  -- an item that is refused decides
+  -- an item that is refused decides, whatever would come after it
   pub leads-refused : {begin iterator after : I} {first now : S} {item : A} {e : Error} → LeadsOn steps view step begin first iterator now → steps iterator (Some item) after
-      → step now (view item) ≡ Err e → (items : List T) → AlwaysYields steps view begin items → one_by_one step first items ≡ Err e
-  leads-refused {begin} {iterator} {after} {first} {now} {item} {e} leads gives refused items yields =
-      let here = leads.rest items yields in
-      let there = next-item steps view iterator after item here.0 gives here.1 in
-      here.2 ∙ ap (one_by_one step now) there.1 ∙ ap (result_and_then (λ s. one_by_one step s there.0)) refused
+      → step now (view item) ≡ Err e → (calls : Calls steps begin) × ((items : List T) → Begins view calls items → one_by_one step first items ≡ Err e)
+  leads-refused {begin} {iterator} {after} {first} {now} {item} {e} leads gives refused = (
+    record {
+      items = leads.taken ++ item ∷ [];
+      ended = false;
+      gave = (after, Yields-further steps leads.taken item begin iterator after leads.gave gives, λ ended. absurd (true≢false (sym ended)));
+    },
+    λ items begins.
+        ap (one_by_one step first) (begins.1 ∙ map-further view leads.taken item begins.0) ∙ leads.led (view item ∷ begins.0)
+        ∙ ap (result_and_then (λ s. one_by_one step s begins.0)) refused,
+  )
 
   -- where the items end, all were taken
   pub leads-ended : {begin iterator after : I} {first now : S} → LeadsOn steps view step begin first iterator now → steps iterator None after
-      → (items : List T) → AlwaysYields steps view begin items → one_by_one step first items ≡ Ok now
-  leads-ended {begin} {iterator} {after} {first} {now} leads gives items yields =
-      let here = leads.rest items yields in here.2 ∙ ap (one_by_one step now) (no-item steps view iterator after here.0 gives here.1)
+      → (calls : Calls steps begin) × ((items : List T) → Begins view calls items → one_by_one step first items ≡ Ok now)
+  leads-ended {begin} {iterator} {after} {first} {now} leads gives = (
+    record { items = leads.taken; ended = true; gave = (iterator, leads.gave, λ _. (after, gives)) },
+    λ items begins. ap (one_by_one step first) (begins.1 ∙ ap (λ more. map view leads.taken ++ more) (begins.2 refl)) ∙ leads.led [],
+  )
 
 -- an outcome of which the caller is told a success is the state that it left
 pub outcome-ok : {S : Type 0} (old new : S) (outcome : Result S Error) → Ok tt ≡ answer_of outcome → new ≡ state_after old outcome → outcome ≡ Ok new

@@ -1,4 +1,5 @@
 pub use Rattle.rs_rate.proofs.PowerLemmas
+pub use Rattle.rs_rate.proofs.ShardRowsLemmas
 pub use Rattle.rs_rate.proofs.StateLemmas
 pub mod ObjectLaws
 pub mod Giving

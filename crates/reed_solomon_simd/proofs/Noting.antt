@@ -98,7 +98,7 @@ enough k outcome = result_and_then (λ all. if nat_lt (length all) k then Err (N
 
 -- where the indexes were noted in k places of which none was true, and that was answered so, the answer of all that came
 module _ (k : ℕ) (items : Items) (places came : List Bool) (result : Result (Unit {0}) Error) (filled : places ≡ replicate k false)
-    (leads : (indexes : List ℕ) → AreNoted indexes places → Reaches (one_by_one (λ so_far item. noted (length places) so_far item.0) indexes items) result (λ all. AreNoted all came)) where
+    (leads : Reaches (one_by_one (λ so_far item. noted (length places) so_far item.0) [] items) result (λ all. AreNoted all came)) where
   outcome : Result (List ℕ) Error
   outcome = one_by_one (λ so_far item. noted k so_far item.0) [] items
 
@@ -106,7 +106,7 @@ module _ (k : ℕ) (items : Items) (places came : List Bool) (result : Result (U
   unfolding outcome
   led =
       subst (λ (n : ℕ). Reaches (one_by_one (λ so_far item. noted n so_far item.0) [] items) result (λ all. AreNoted all came)) (ap length filled ∙ length-replicate k false)
-      (leads [] (subst (AreNoted []) (sym filled) (noted-none k)))
+      leads
 
   -- is the same refusal
   pub all_came-refused : (e : Error) → result ≡ Err e → result ≡ all_came k items

@@ -1,15 +1,27 @@
--- What every plain object keeps: a valid configuration of the default rate, and no more given than that takes.
+-- What every plain object keeps: a valid configuration of the default rate, no more given than that takes, and room for its own rows.
+use Rattle.std.proofs.Common.{◌≤◌}
 use Rattle.rs_field.specs.Counts.{default_rate}
 use Rattle.rs_field.specs.Encoder.{IsEncoder}
 use Rattle.rs_field.specs.Decoder.{IsDecoder}
-use Rattle.rs_rate.specs.ObjectLaws.{is_encoder, is_decoder}
+use Rattle.rs_field.specs.Placement.{encoder_rows, decoder_rows}
+use Rattle.rs_rate.specs.DecoderView.{HasRoom}
+use Rattle.rs_rate.specs.ObjectLaws.{is_encoder, is_decoder, has_own_room, has_own_decoder_room}
+use Rattle.rs_rate.specs.ShardRows.{chunk_count}
 use Rattle.reed_solomon_simd.specs.declared.encoder.ReedSolomonEncoder.{ReedSolomonEncoder}
 use Rattle.reed_solomon_simd.specs.declared.decoder.ReedSolomonDecoder.{ReedSolomonDecoder}
-use Rattle.reed_solomon_simd.specs.EncoderObject.{state_of as encoder_state}
-use Rattle.reed_solomon_simd.specs.DecoderObject.{state_of as decoder_state}
+use Rattle.reed_solomon_simd.specs.EncoderObject.{state_of as encoder_state, room_of as encoder_room}
+use Rattle.reed_solomon_simd.specs.DecoderObject.{state_of as decoder_state, room_of as decoder_room}
 
 pub valid-encoder : (object : ReedSolomonEncoder) → IsEncoder default_rate (encoder_state object)
 valid-encoder object = is_encoder default_rate object.encoder.rows object.encoder.valid object.encoder.shaped
 
+pub own_room-encoder : (object : ReedSolomonEncoder) → let c = (encoder_state object).configuration in
+    chunk_count (encoder_rows default_rate c.original_count c.recovery_count) c.shard_bytes ≤ encoder_room object
+own_room-encoder object = has_own_room default_rate object.encoder.rows object.encoder.shaped
+
 pub valid-decoder : (object : ReedSolomonDecoder) → IsDecoder default_rate (decoder_state object)
 valid-decoder object = is_decoder default_rate object.decoder.rows object.decoder.valid object.decoder.shaped
+
+pub own_room-decoder : (object : ReedSolomonDecoder) → let c = (decoder_state object).configuration in
+    HasRoom (decoder_room object) (decoder_rows default_rate c.original_count c.recovery_count) c.shard_bytes
+own_room-decoder object = has_own_decoder_room default_rate object.decoder.rows object.decoder.shaped

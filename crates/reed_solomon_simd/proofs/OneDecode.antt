@@ -14,11 +14,10 @@ use Rattle.rs_field.specs.OneCall.{Items, default_of, counted, all_came, with_bo
 use Rattle.reed_solomon_simd.specs.Giving.{Reaches}
 
 -- no recovery shard came, and all originals did
-pub answers-none : (k r : ℕ) (originals recoveries : Items) (result : Result Shards Error) → recoveries ≡ [] → Ok tt ≡ counted k r → Ok tt ≡ all_came k originals
-    → result ≡ Ok nothing → OneDecodeAnswers k r originals recoveries result
-answers-none k r originals recoveries result none supported came empty =
-    subst (λ (items : Items). OneDecodeAnswers k r originals items result) (sym none)
-    (inl (subst (λ (o : Result (Unit {0}) Error). MatchResult o (λ _. result ≡ Ok nothing) (λ e. result ≡ Err e)) (came ∙ ap (result_and_then (λ _. all_came k originals)) supported) empty))
+pub answers-none : (k r : ℕ) (originals : Items) (result : Result Shards Error) → Ok tt ≡ counted k r → Ok tt ≡ all_came k originals
+    → result ≡ Ok nothing → OneDecodeAnswers k r originals [] result
+answers-none k r originals result supported came empty =
+    inl (subst (λ (o : Result (Unit {0}) Error). MatchResult o (λ _. result ≡ Ok nothing) (λ e. result ≡ Err e)) (came ∙ ap (result_and_then (λ _. all_came k originals)) supported) empty)
 
 -- what set up a decoder was a success
 started-made : (o : Result (Unit {0}) Error) → UpToMemory o (Ok tt) → o ≡ Ok tt
@@ -34,22 +33,21 @@ started-valid rows c made = by_outcome (validated c) _ made
     by_outcome (Err e) f is = absurd cc
 
 -- where a first recovery shard came and others after it, and a decoder was set up for its size
-module _ (k r : ℕ) (originals recoveries : Items) (first : ℕ × Shard) (rest : Items) (came : recoveries ≡ first ∷ rest) (now : DecoderState)
+module _ (k r : ℕ) (originals : Items) (first : ℕ × Shard) (rest : Items) (now : DecoderState)
     (made : UpToMemory (started (decoder_rows default_rate k r) (default_of k r (length first.1))) (Ok tt)) (fresh : now ≡ fresh_decoder (default_of k r (length first.1))) where
   -- what was answered so is the answer
-  answers-given : (result : Result Shards Error) → MatchResult (with_both now originals (first ∷ rest)) (λ s. DecodeAnswers s result) (λ e. result ≡ Err e) → OneDecodeAnswers k r originals recoveries result
+  answers-given : (result : Result Shards Error) → MatchResult (with_both now originals (first ∷ rest)) (λ s. DecodeAnswers s result) (λ e. result ≡ Err e) → OneDecodeAnswers k r originals (first ∷ rest) result
   answers-given result answered =
       let c = default_of k r (length first.1) in
       let led : with_both now originals (first ∷ rest) ≡ decoding k r originals first rest =
       ap (λ (s : DecoderState). with_both s originals (first ∷ rest)) fresh
       ∙ ap (result_and_then (λ _. with_both (fresh_decoder c) originals (first ∷ rest))) (sym (started-made _ made))
       in
-      subst (λ (items : Items). OneDecodeAnswers k r originals items result) (sym came)
-      (inl (subst (λ (o : Result DecoderState Error). MatchResult o (λ s. DecodeAnswers s result) (λ e. result ≡ Err e)) led answered))
+      inl (subst (λ (o : Result DecoderState Error). MatchResult o (λ s. DecodeAnswers s result) (λ e. result ≡ Err e)) led answered)
 
   -- a shard that was refused decides
   pub answers-refused : (e : Error) (P : DecoderState → Type 0) (result : Result Shards Error) → result ≡ Err e
-      → Reaches (with_both now originals (first ∷ rest)) (Err e) P → OneDecodeAnswers k r originals recoveries result
+      → Reaches (with_both now originals (first ∷ rest)) (Err e) P → OneDecodeAnswers k r originals (first ∷ rest) result
   answers-refused e P result refused reaches = answers-given result (by_outcome (with_both now originals (first ∷ rest)) reaches)
     where
       by_outcome : (o : Result DecoderState Error) → Reaches o (Err e) P → MatchResult o (λ s. DecodeAnswers s result) (λ f. result ≡ Err f)
@@ -59,7 +57,7 @@ module _ (k r : ℕ) (originals recoveries : Items) (first : ℕ × Shard) (rest
   -- where all were taken, the decoder's answer is the answer
   pub answers-decoded : (given : DecoderState) (result : Result Shards Error)
       → Reaches (with_both now originals (first ∷ rest)) (Ok tt) (λ s. given ≡ s)
-      → DecodeAnswers given result → OneDecodeAnswers k r originals recoveries result
+      → DecodeAnswers given result → OneDecodeAnswers k r originals (first ∷ rest) result
   answers-decoded given result reaches answered = answers-given result (by_outcome (with_both now originals (first ∷ rest)) reaches)
     where
       by_outcome : (o : Result DecoderState Error) → Reaches o (Ok tt) (λ s. given ≡ s) → MatchResult o (λ s. DecodeAnswers s result) (λ e. result ≡ Err e)
@@ -69,9 +67,8 @@ module _ (k r : ℕ) (originals recoveries : Items) (first : ℕ × Shard) (rest
   -- and where its result can't be collected, memory lacks
   pub answers-collected : (given : DecoderState) (lent : Shards) (result : Result Shards Error)
       → Reaches (with_both now originals (first ∷ rest)) (Ok tt) (λ s. given ≡ s)
-      → DecodeAnswers given (Ok lent) → MatchResult result (λ shards. shards ≡ lent) (λ e. e ≡ OutOfMemory) → OneDecodeAnswers k r originals recoveries result
+      → DecodeAnswers given (Ok lent) → MatchResult result (λ shards. shards ≡ lent) (λ e. e ≡ OutOfMemory) → OneDecodeAnswers k r originals (first ∷ rest) result
   answers-collected given lent (Ok shards) reaches answered same =
       answers-decoded given (Ok shards) reaches (subst (λ (out : Shards). DecodeAnswers given (Ok out)) (sym same) answered)
   answers-collected given lent (Err e) reaches answered short =
-      subst (λ (items : Items). OneDecodeAnswers k r originals items (Err e)) (sym came)
-      (inr (started-valid (decoder_rows default_rate k r) (default_of k r (length first.1)) (started-made _ made), ap Err short))
+      inr (started-valid (decoder_rows default_rate k r) (default_of k r (length first.1)) (started-made _ made), ap Err short)

@@ -30,4 +30,5 @@ pub use Rattle.rs_rate.specs.Loan
 pub mod EncoderObject
 pub mod DecoderObject
 pub use Rattle.rs_field.specs.OneCall
+pub mod Calls
 pub mod Giving

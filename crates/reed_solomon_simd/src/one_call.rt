@@ -1,11 +1,12 @@
 //! Encoding and decoding in one call, over iterators of shards.
 ghost use Rattle.std.specs.Prelude.{◌≡◌, ◌∷◌, ◌⊎◌, if◌then◌else◌, ℕ, nat_le, true, false, List, length, count_by};
-ghost use Rattle.std.specs.Prelude.{slice_index_or, slice_set, Ok, Err, OnOk, MatchResult};
+ghost use Rattle.std.specs.Prelude.{slice_index_or, slice_set, Ok, Err, IfErr, OnOk, MatchResult};
 ghost use Rattle.std.specs.Iterator.{IsFinite};
 ghost use Rattle.rs_field.specs.Column.{Shard};
 ghost use Rattle.rs_field.specs.OneCall.{Items, Lends, LendsItems, collected, collected_map, OneEncodeAnswers, OneDecodeAnswers};
 ghost use Rattle.rs_field.specs.OneCall.{counted, one_by_one, noted, all_came, with_shards, with_originals, with_recoveries, with_both};
 ghost use Rattle.rs_rate.specs.ResultView.{recovery_shards, restored_originals};
+ghost use Rattle.reed_solomon_simd.specs.Calls.{Calls, BeginsWith, BeginsWithItems};
 ghost use Rattle.reed_solomon_simd.specs.Giving.{Reaches, AreNoted};
 
 use rs_engines::engine_default::DefaultEngine;
@@ -32,7 +33,10 @@ pub fn encode<'a, I: Iterator<Item = &'a [u8]> + Drop>(
 ) -> Result<Vec<Vec<u8>>, Error>
     requires can { I.can_next original }
     requires ends { IsFinite (I.remaining original) }
-    ensures { (items : List Shard) → Lends I.next_gives original items
+    ensures counts { IfErr (counted original_count recovery_count) (λ e. result ≡ Err e) }
+    ensures run { (calls : Calls I.next_gives original) × ((items : List Shard) → BeginsWith items calls
+        → OneEncodeAnswers original_count recovery_count items (collected result)) }
+    ensures answer { (items : List Shard) → Lends I.next_gives original items
         → OneEncodeAnswers original_count recovery_count items (collected result) }
 {
     check_counts(original_count, recovery_count)?;
@@ -82,9 +86,11 @@ where
     requires ends { IsFinite (O.remaining original) }
     requires can_recovery { R.can_next recovery }
     requires recovery_ends { IsFinite (R.remaining recovery) }
-    ensures { (originals recoveries : Items)
-        → LendsItems O.next_gives original originals → LendsItems R.next_gives recovery recoveries
-        → OneDecodeAnswers original_count recovery_count originals recoveries (collected_map result) }
+    ensures counts { IfErr (counted original_count recovery_count) (λ e. result ≡ Err e) }
+    ensures run { (calls : Calls O.next_gives original) × (further : Calls R.next_gives recovery) × ((originals recoveries : Items)
+        → BeginsWithItems originals calls → BeginsWithItems recoveries further → OneDecodeAnswers original_count recovery_count originals recoveries (collected_map result)) }
+    ensures answer { (originals recoveries : Items) → LendsItems O.next_gives original originals
+        → LendsItems R.next_gives recovery recoveries → OneDecodeAnswers original_count recovery_count originals recoveries (collected_map result) }
 {
     check_counts(original_count, recovery_count)?;
     let Some((first_index, first_shard)) = recovery.next() else {
@@ -126,8 +132,8 @@ fn give_shards<'a, E: Engine, X: RateEncoder<E>, I: Iterator<Item = &'a [u8]> + 
 ) -> Result<(), Error>
     requires can { I.can_next shards }
     requires ends { IsFinite (I.remaining shards) }
-    ensures { (items : List Shard) → Lends I.next_gives shards items
-        → Reaches (with_shards (X.state encoder.old) items) result (λ s. X.state encoder.new ≡ s) }
+    ensures { (calls : Calls I.next_gives shards) × ((items : List Shard) → BeginsWith items calls
+        → Reaches (with_shards (X.state encoder.old) items) result (λ s. X.state encoder.new ≡ s)) }
 {
     for shard in shards {
         encoder.add_original_shard(shard)?;
@@ -150,9 +156,9 @@ where
     requires ends { IsFinite (O.remaining originals) }
     requires can_recovery { R.can_next recovery }
     requires recovery_ends { IsFinite (R.remaining recovery) }
-    ensures { (before after : Items)
-        → LendsItems O.next_gives originals before → LendsItems R.next_gives recovery after
-        → Reaches (with_both (X.state decoder.old) before ((first_index, first_shard.now) ∷ after)) result (λ s. X.state decoder.new ≡ s) }
+    ensures { (calls : Calls O.next_gives originals) × (further : Calls R.next_gives recovery)
+        × ((before after : Items) → BeginsWithItems before calls → BeginsWithItems after further
+        → Reaches (with_both (X.state decoder.old) before ((first_index, first_shard.now) ∷ after)) result (λ s. X.state decoder.new ≡ s)) }
 {
     give_originals(decoder, originals)?;
     decoder.add_recovery_shard(first_index, first_shard)?;
@@ -166,8 +172,8 @@ fn give_originals<'a, E: Engine, X: RateDecoder<E>, I: Iterator<Item = (usize, &
 ) -> Result<(), Error>
     requires can { I.can_next originals }
     requires ends { IsFinite (I.remaining originals) }
-    ensures { (items : Items) → LendsItems I.next_gives originals items
-        → Reaches (with_originals (X.state decoder.old) items) result (λ s. X.state decoder.new ≡ s) }
+    ensures { (calls : Calls I.next_gives originals) × ((items : Items) → BeginsWithItems items calls
+        → Reaches (with_originals (X.state decoder.old) items) result (λ s. X.state decoder.new ≡ s)) }
 {
     for (index, shard) in originals {
         decoder.add_original_shard(index, shard)?;
@@ -182,8 +188,8 @@ fn give_recovery<'a, E: Engine, X: RateDecoder<E>, I: Iterator<Item = (usize, &'
 ) -> Result<(), Error>
     requires can { I.can_next recovery }
     requires ends { IsFinite (I.remaining recovery) }
-    ensures { (items : Items) → LendsItems I.next_gives recovery items
-        → Reaches (with_recoveries (X.state decoder.old) items) result (λ s. X.state decoder.new ≡ s) }
+    ensures { (calls : Calls I.next_gives recovery) × ((items : Items) → BeginsWithItems items calls
+        → Reaches (with_recoveries (X.state decoder.old) items) result (λ s. X.state decoder.new ≡ s)) }
 {
     for (index, shard) in recovery {
         decoder.add_recovery_shard(index, shard)?;
@@ -199,8 +205,8 @@ fn check_all_came<'a, I: Iterator<Item = (usize, &'a [u8])> + Drop>(
 ) -> Result<(), Error>
     requires can { I.can_next originals }
     requires ends { IsFinite (I.remaining originals) }
-    ensures { (items : Items) → LendsItems I.next_gives originals items
-        → (result ≡ all_came original_count items) ⊎ (result ≡ Err Error.OutOfMemory) }
+    ensures { (calls : Calls I.next_gives originals) × ((items : Items) → BeginsWithItems items calls
+        → (result ≡ all_came original_count items) ⊎ (result ≡ Err Error.OutOfMemory)) }
 {
     let mut came = vec![in alloc; false; original_count]?;
     note_all(&mut came, originals)?;
@@ -222,9 +228,9 @@ fn note_all<'a, I: Iterator<Item = (usize, &'a [u8])> + Drop>(
 ) -> Result<(), Error>
     requires can { I.can_next originals }
     requires ends { IsFinite (I.remaining originals) }
-    ensures { (items : Items) → LendsItems I.next_gives originals items → (indexes : List ℕ) → AreNoted indexes came.old
+    ensures { (indexes : List ℕ) → AreNoted indexes came.old → (calls : Calls I.next_gives originals) × ((items : Items) → BeginsWithItems items calls
         → Reaches (one_by_one (λ so_far item. noted (length came.old) so_far item.0) indexes items)
-        result (λ all. AreNoted all came.new) }
+        result (λ all. AreNoted all came.new)) }
 {
     for (index, _) in originals {
         note(came, index)?;

@@ -8,13 +8,19 @@ loop-index-preserved g c =
     leads-taken {item = (c.in-Some.index, c.in-Some.shard)} c.loop-index.invariant c.in-Some.ensures.steps (outcome-ok _ _ _ c.in_ok-add_original_shard.ensures.answer c.in_ok-add_original_shard.ensures.left)
 
 pub returns-in_err-add_original_shard : goal.returns-in_err-add_original_shard
-returns-in_err-add_original_shard g c items lends =
+returns-in_err-add_original_shard g c =
     let e = c.in_err-add_original_shard.field-0.0 in
     let refused : c.from_residual.result ≡ Err e = search rules in
-    reaches-err (with_originals (g.X.RateDecoder.state c.args.decoder.now) items) (λ s. (g.X.RateDecoder.state c.add_original_shard.new.self) ≡ s) c.from_residual.result e
-    (leads-refused {item = (c.in-Some.index, c.in-Some.shard)} c.loop-index.invariant c.in-Some.ensures.steps (outcome-err _ e c.in_err-add_original_shard.ensures.answer) items lends) refused
+    let run = leads-refused {item = (c.in-Some.index, c.in-Some.shard)} c.loop-index.invariant c.in-Some.ensures.steps (outcome-err _ e c.in_err-add_original_shard.ensures.answer) in (
+      run.0,
+      λ items begins.
+          reaches-err (with_originals (g.X.RateDecoder.state c.args.decoder.now) items) (λ s. (g.X.RateDecoder.state c.add_original_shard.new.self) ≡ s) c.from_residual.result e (run.1 items begins) refused,
+    )
 
 pub returns : goal.returns
-returns g c items lends =
-    reaches-ok (with_originals (g.X.RateDecoder.state c.args.decoder.now) items) (λ s. (g.X.RateDecoder.state c.loop-index.decoder) ≡ s) (g.X.RateDecoder.state c.loop-index.decoder)
-    (leads-ended c.loop-index.invariant c.in-None.ensures.steps items lends) refl
+returns g c =
+    let run = leads-ended c.loop-index.invariant c.in-None.ensures.steps in (
+      run.0,
+      λ items begins.
+          reaches-ok (with_originals (g.X.RateDecoder.state c.args.decoder.now) items) (λ s. (g.X.RateDecoder.state c.loop-index.decoder) ≡ s) (g.X.RateDecoder.state c.loop-index.decoder) (run.1 items begins) refl,
+    )

@@ -18,15 +18,23 @@ loop-index-preserved g c = (
 )
 
 pub returns-in_err-note : goal.returns-in_err-note
-returns-in_err-note g c items lends indexes are =
+returns-in_err-note g c indexes are =
     let e = c.in_err-note.field-0.0 in
     let so_far = c.loop-index.invariant.1 indexes are in
     let refused : c.from_residual.result ≡ Err e = search rules in
-    reaches-err (one_by_one (λ so_far item. noted (length c.args.came.now) so_far item.0) indexes items) (λ all. AreNoted all c.note.new.came) c.from_residual.result e
-    (leads-refused {item = (c.in-Some.index, c.in-Some.field-0-1)} so_far.2 c.in-Some.ensures.steps (noted-refused c.in-Some.index c.loop-index.invariant.0 so_far.1 c.in_err-note.ensures.answer) items lends) refused
+    let run = leads-refused {item = (c.in-Some.index, c.in-Some.field-0-1)} so_far.2 c.in-Some.ensures.steps (noted-refused c.in-Some.index c.loop-index.invariant.0 so_far.1 c.in_err-note.ensures.answer) in (
+      run.0,
+      λ items begins.
+          reaches-err (one_by_one (λ so_far item. noted (length c.args.came.now) so_far item.0) indexes items) (λ all. AreNoted all c.note.new.came) c.from_residual.result e
+          (run.1 items begins) refused,
+    )
 
 pub returns : goal.returns
-returns g c items lends indexes are =
+returns g c indexes are =
     let so_far = c.loop-index.invariant.1 indexes are in
-    reaches-ok (one_by_one (λ so_far item. noted (length c.args.came.now) so_far item.0) indexes items) (λ all. AreNoted all c.loop-index.came) so_far.0
-    (leads-ended so_far.2 c.in-None.ensures.steps items lends) so_far.1
+    let run = leads-ended so_far.2 c.in-None.ensures.steps in (
+      run.0,
+      λ items begins.
+          reaches-ok (one_by_one (λ so_far item. noted (length c.args.came.now) so_far item.0) indexes items) (λ all. AreNoted all c.loop-index.came) so_far.0
+          (run.1 items begins) so_far.1,
+    )

@@ -10,4 +10,4 @@ returns c =
     let recoveries =
     YieldsList-from_map_by _ (λ item. (item.0, item.1.now)) (λ item. (item.0, item.1.items)) (YieldsList-from_slice c.args.recovery.now cc) c.map-2.ensures.closure (λ x r q k. search rules)
     in
-    c.decode.ensures _ _ originals.runs recoveries.runs
+    c.decode.ensures.answer _ _ originals.runs recoveries.runs
