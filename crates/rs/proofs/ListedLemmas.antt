@@ -1,13 +1,13 @@
 -- Entries by ascending index are the list of the map that they make.
 use Rattle.std.proofs.Common.{◌≡◌, ℕ, zero, suc, ◌+◌, ◌<◌, ◌≤◌, Bool, true, false, cond, List, [], ◌∷◌, ◌++◌, max, Less, refl, sym, ap, ap₂, ◌∙◌, arith}
-use Rattle.std.specs.Prelude.{Option, Some, None, ⊤, nat_eq}
+use Rattle.std.specs.Prelude.{Some, None, ⊤, nat_eq}
 use Rattle.std.specs.List.Sorted.{IsStrictlySortedBy}
 use Rattle.std.specs.List.{AllByRecursion}
 use Rattle.std.specs.Map.{keys_of, lookup}
 use Rattle.std.specs.Ordering.{nat_cmp}
 use Rattle.std.proofs.lemmas.Bool.Decides.{nat_tests}
 use Rattle.reed_solomon_simd.specs.Column.{Shard}
-use Rattle.reed_solomon_simd.specs.Given.{Shards, listed_one, listed_from, listed, Lists}
+use Rattle.reed_solomon_simd.specs.Given.{Shards, listed_one, listed_from, Lists}
 use Rattle.reed_solomon_simd.specs.OneCall.{Items}
 use Rattle.reed_solomon_simd.proofs.Listed.{listed_from-zero, listed_from-suc}
 

@@ -1,5 +1,5 @@
 -- What is told in place of lines.
-use Rattle.std.specs.Prelude.{◌≡◌, ℕ, List, [], ◌∷◌, ◌++◌, ◌⊎◌, take, codes, Option}
+use Rattle.std.specs.Prelude.{◌≡◌, ◌<◌, ℕ, List, [], ◌∷◌, ◌++◌, ◌⊎◌, length, take, codes, Option}
 use Rattle.std.specs.Io.KnownBytes.{Appends}
 use Rattle.reed_solomon_simd.specs.declared.Error.TheVariants.{OutOfMemory}
 use Rattle.reed_solomon_simd.specs.Texts.{text_of}
@@ -24,3 +24,7 @@ IsToldAs (Refused e) told = (told ≡ Refused e) ⊎ (told ≡ Refused OutOfMemo
 -- known bytes grow by a text, or by the front of it that was written before a write failed
 abbrev pub AppendsFront : Option (List ℕ) → Option (List ℕ) → List ℕ → Type 0
 AppendsFront old new text = (n : ℕ) × Appends old new (take n text)
+
+-- known bytes grow by the front of a text, and its end is missing: a write failed
+abbrev pub CutShort : Option (List ℕ) → Option (List ℕ) → List ℕ → Type 0
+CutShort old new text = (n : ℕ) × (n < length text) × Appends old new (take n text)

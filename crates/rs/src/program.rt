@@ -6,7 +6,7 @@ ghost use Rattle.reed_solomon_simd.specs.OneCall.{shards_in};
 ghost use Rattle.rs.specs.CommandLine.{request_of};
 ghost use Rattle.rs.specs.Reading.{as_given};
 ghost use Rattle.rs.specs.Printed.{lines_of, ListsShards, CodesLines, RestoresLines, OrLacksMemory, Prints, Refuses, HasFault};
-ghost use Rattle.rs.specs.Told.{message_of, AppendsFront};
+ghost use Rattle.rs.specs.Told.{message_of, AppendsFront, CutShort};
 ghost use Rattle.rs.specs.declared.fault.Fault.TheVariants.{Usage, Refused};
 
 use crate::command::{Command, Counts, Given, read_command};
@@ -128,7 +128,7 @@ pub fn run<O: Write, X: Write>(alloc: Global, words: &[String], out: &mut O, err
         → ((e : Error) × Refuses (map string_bytes words.now) e × (out.new ≡ out.old)
         × AppendsFront (X.contents err.old) (X.contents err.new) (message_of (Refused e)))
         ⊎ ((text : List ℕ) × Prints (map string_bytes words.now) text × (err.new ≡ err.old)
-        × AppendsFront (O.contents out.old) (O.contents out.new) text) }
+        × CutShort (O.contents out.old) (O.contents out.new) text) }
     ensures begun { request_of (take 4 (map string_bytes words.now)) ≡ None → result ≡ 2 }
     ensures usage { result ≡ 2
         → (request_of (map string_bytes words.now) ≡ None) × (out.new ≡ out.old)

@@ -1,7 +1,7 @@
 //! Texts written to standard output and standard error.
-ghost use Rattle.std.specs.Prelude.{IsTrue};
+ghost use Rattle.std.specs.Prelude.{◌≡◌, false, IsTrue};
 ghost use Rattle.std.specs.Io.KnownBytes.{Appends};
-ghost use Rattle.rs.specs.Told.{AppendsFront};
+ghost use Rattle.rs.specs.Told.{AppendsFront, CutShort};
 
 use std::io::{ErrorKind, Write};
 
@@ -10,6 +10,7 @@ use std::io::{ErrorKind, Write};
 /// This is `write_all`, whose contract leaves open what was written before a failure.
 pub fn write_text<W: Write>(writer: &mut W, text: &str) -> bool
     ensures whole { IsTrue result → Appends (W.contents writer.old) (W.contents writer.new) text.now }
+    ensures cut { result ≡ false → CutShort (W.contents writer.old) (W.contents writer.new) text.now }
     ensures front { AppendsFront (W.contents writer.old) (W.contents writer.new) text.now }
 {
     let bytes = text.as_bytes();
@@ -25,5 +26,5 @@ pub fn write_text<W: Write>(writer: &mut W, text: &str) -> bool
             Err(_) => return false,
         }
     }
-    false
+    written == bytes.len()
 }
