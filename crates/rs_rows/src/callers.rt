@@ -152,7 +152,9 @@ pub fn decode_just_enough<E: Engine, X: RateDecoder<E> + Drop>(
     decoder: &mut X,
     steps: &mut Steps,
 ) -> Result<(), Error>
-    ensures answer { originals_given (X.state decoder.old) + recovery_given (X.state decoder.old) ≡ (X.state decoder.old).configuration.original_count → result ≡ Ok tt }
+    ensures enough { originals_given (X.state decoder.old) + recovery_given (X.state decoder.old) ≡ (X.state decoder.old).configuration.original_count → result ≡ Ok tt }
+    ensures answer { MatchResult (enough_given (X.state decoder.old))
+        (λ _. MatchResult result (λ _. IsConsistent (X.state decoder.old)) (NoneAgrees (X.state decoder.old))) (λ e. result ≡ Err e) }
     ensures state { X.state decoder.new ≡ after_decode (X.state decoder.old) }
     ensures engine { X.engine_of decoder.new ≡ X.engine_of decoder.old }
 {
@@ -172,6 +174,8 @@ pub fn decode_one<E: Engine, X: RateDecoder<E> + Drop>(
     ensures restored { (message : List Shard) → IsAgreeing (X.state decoder.old) message → enough_given (X.state decoder.old) ≡ Ok tt
         → index < (X.state decoder.old).configuration.original_count → (X.state decoder.old).originals index ≡ None
         → (result ≡ Ok tt) × (original.new ≡ shard_at message index) }
+    ensures answer { MatchResult (enough_given (X.state decoder.old))
+        (λ _. MatchResult result (λ _. IsConsistent (X.state decoder.old)) (NoneAgrees (X.state decoder.old))) (λ e. result ≡ Err e) }
     ensures state { X.state decoder.new ≡ after_decode (X.state decoder.old) }
     ensures engine { X.engine_of decoder.new ≡ X.engine_of decoder.old }
 {

@@ -1,10 +1,12 @@
 //! Callers of the plain objects, which know them by their contracts alone.
 ghost use Rattle.std.specs.Prelude.{◌≡◌, ◌<◌, List, length, None, Ok, Err, MatchResult};
 ghost use Rattle.reed_solomon_simd.specs.Column.{Shard, shard_at};
+ghost use Rattle.reed_solomon_simd.specs.Configuration.{validated, FitsWithin};
 ghost use Rattle.reed_solomon_simd.specs.Decoder.{fresh_decoder, enough_given, after_decode, IsAgreeing, IsConsistent, NoneAgrees};
 ghost use Rattle.reed_solomon_simd.specs.DecoderObject.{state_of as decoder_state};
 ghost use Rattle.reed_solomon_simd.specs.Encoder.{fresh_encoder};
 ghost use Rattle.reed_solomon_simd.specs.EncoderObject.{state_of as encoder_state};
+ghost use Rattle.reed_solomon_simd.specs.OneCall.{default_of};
 
 use reed_solomon_simd::{Error, ReedSolomonDecoder, ReedSolomonEncoder};
 
@@ -17,6 +19,41 @@ pub fn forget_a_round(encoder: &mut ReedSolomonEncoder<'_>) -> Result<(), Error>
     std::mem::forget(encoder.encode()?);
     let _ = encoder.encode()?;
     Ok(())
+}
+
+/// A plain encoder comes back to its own counts at a size that isn't larger than its own, whatever it was reset to in between:
+/// memory is never lacking.
+pub fn encoder_reset_and_back(
+    encoder: &mut ReedSolomonEncoder<'_>,
+    original_count: usize,
+    recovery_count: usize,
+    shard_bytes: usize,
+    between: (usize, usize, usize),
+) -> Result<(), Error>
+    requires valid { validated (default_of original_count recovery_count shard_bytes) ≡ Ok tt }
+    requires within { FitsWithin (encoder_state encoder.old).configuration (default_of original_count recovery_count shard_bytes) }
+    ensures answer { result ≡ Ok tt }
+    ensures state { encoder_state encoder.new ≡ fresh_encoder (default_of original_count recovery_count shard_bytes) }
+{
+    let _ = encoder.reset(between.0, between.1, between.2);
+    encoder.reset(original_count, recovery_count, shard_bytes)
+}
+
+/// A plain decoder comes back so too.
+pub fn decoder_reset_and_back(
+    decoder: &mut ReedSolomonDecoder<'_>,
+    original_count: usize,
+    recovery_count: usize,
+    shard_bytes: usize,
+    between: (usize, usize, usize),
+) -> Result<(), Error>
+    requires valid { validated (default_of original_count recovery_count shard_bytes) ≡ Ok tt }
+    requires within { FitsWithin (decoder_state decoder.old).configuration (default_of original_count recovery_count shard_bytes) }
+    ensures answer { result ≡ Ok tt }
+    ensures state { decoder_state decoder.new ≡ fresh_decoder (default_of original_count recovery_count shard_bytes) }
+{
+    let _ = decoder.reset(between.0, between.1, between.2);
+    decoder.reset(original_count, recovery_count, shard_bytes)
 }
 
 /// A round of a plain decoder that was given shards enough is over, whatever it answered and whatever became of the
@@ -50,6 +87,8 @@ pub fn restore_one(
     ensures restored { (message : List Shard) → IsAgreeing (decoder_state decoder.old) message → enough_given (decoder_state decoder.old) ≡ Ok tt
         → index < (decoder_state decoder.old).configuration.original_count → (decoder_state decoder.old).originals index ≡ None
         → (result ≡ Ok tt) × (original.new ≡ shard_at message index) }
+    ensures answer { MatchResult (enough_given (decoder_state decoder.old))
+        (λ _. MatchResult result (λ _. IsConsistent (decoder_state decoder.old)) (NoneAgrees (decoder_state decoder.old))) (λ e. result ≡ Err e) }
     ensures state { decoder_state decoder.new ≡ after_decode (decoder_state decoder.old) }
 {
     let result = decoder.decode()?;
