@@ -190,13 +190,6 @@ pub fn is_err<T: Drop>(answer: Result<T, Error>, refusal: Error) -> bool {
     }
 }
 
-/// A shard of a chunk and a tail, zero but for the tail's first byte.
-pub fn ending(value: u8) -> [u8; 66] {
-    let mut shard = [0; 66];
-    shard[64] = value;
-    shard
-}
-
 /// So many originals, of which byte i of number j is (7 i + 13 j + 5) mod 251.
 pub fn counted(
     alloc: Global,

@@ -14,9 +14,13 @@ mod digests;
 mod encoding;
 #[cfg(test)]
 mod help;
+#[cfg(test)]
+mod largest;
 pub mod lent_rows;
 #[cfg(test)]
 mod levels;
+#[cfg(test)]
+mod marks;
 #[cfg(test)]
 mod objects;
 pub mod one_call;
@@ -26,7 +30,11 @@ pub mod plain_callers;
 #[cfg(test)]
 mod refusals;
 #[cfg(test)]
+mod refused_memory;
+#[cfg(test)]
 mod resets;
 #[cfg(test)]
 mod rows;
 pub mod walking;
+#[cfg(test)]
+mod without_memory;

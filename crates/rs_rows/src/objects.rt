@@ -2,6 +2,7 @@
 use crate::help::{ENGINES, drawn, has_just, is_err, tables_of, walks_recovery, walks_restored};
 use crate::rows::{
     CONSTANT, CONSTANT_TURNED, LINE, LINE_LOST, Message, NONE_LOST, OUTER_LOST, Received, Refused,
+    SINGLE_OF_EACH_LOST,
 };
 use crate::walking::{recovery_copies, restored_copies};
 use reed_solomon_simd::engine::tables::Tables;
@@ -11,8 +12,8 @@ use std::alloc::Global;
 use std::process::Abort;
 use std::test::Fail;
 
-// An encoder for the message.
-fn encoder_for<'t>(
+/// An encoder for the message.
+pub fn encoder_for<'t>(
     alloc: Global,
     engine: DefaultEngine<'t>,
     message: &Message<'_>,
@@ -26,8 +27,8 @@ fn encoder_for<'t>(
     )
 }
 
-// A decoder for the received shards.
-fn decoder_for<'t>(
+/// A decoder for the received shards.
+pub fn decoder_for<'t>(
     alloc: Global,
     engine: DefaultEngine<'t>,
     received: &Received<'_>,
@@ -41,8 +42,8 @@ fn decoder_for<'t>(
     )
 }
 
-// Whether a round lends just the message's recovery shards: by index, in order, and in copies.
-fn encodes(
+/// Whether a round lends just the message's recovery shards: by index, in order, and in copies.
+pub fn encodes(
     alloc: Global,
     encoder: &mut ReedSolomonEncoder<'_>,
     message: &Message<'_>,
@@ -60,8 +61,8 @@ fn encodes(
     Ok(good && walks_recovery(lent.recovery_iter(), message.recovery))
 }
 
-// Gives the decoder the received shards.
-fn give(decoder: &mut ReedSolomonDecoder<'_>, received: &Received<'_>) -> Result<(), Error> {
+/// Gives the decoder the received shards.
+pub fn give(decoder: &mut ReedSolomonDecoder<'_>, received: &Received<'_>) -> Result<(), Error> {
     for (index, shard) in received.original {
         decoder.add_original_shard(*index, *shard)?;
     }
@@ -71,8 +72,8 @@ fn give(decoder: &mut ReedSolomonDecoder<'_>, received: &Received<'_>) -> Result
     Ok(())
 }
 
-// Whether a round lends just the originals that it is to restore: by index, in order, and in copies.
-fn decodes(
+/// Whether a round lends just the originals that it is to restore: by index, in order, and in copies.
+pub fn decodes(
     alloc: Global,
     decoder: &mut ReedSolomonDecoder<'_>,
     received: &Received<'_>,
@@ -142,6 +143,52 @@ fn a_decoder_refuses_inconsistent_shards(rt: HostRuntime) -> Result<(), Fail> {
         assert!(rt; good, "{kind:?}");
     }
     Ok(())
+}
+
+// Whether this index past the only original and the only recovery shard is refused.
+fn refuses_index(decoder: &mut ReedSolomonDecoder<'_>, index: usize) -> bool {
+    let original = Error::InvalidOriginalShardIndex {
+        original_count: 1,
+        index,
+    };
+    let recovery = Error::InvalidRecoveryShardIndex {
+        recovery_count: 1,
+        index,
+    };
+    is_err(decoder.add_original_shard(index, &[0, 0]), original)
+        && is_err(decoder.add_recovery_shard(index, &[0, 0]), recovery)
+}
+
+#[test]
+fn a_decoder_refuses_indexes_past_its_counts(rt: HostRuntime) -> Result<(), Fail> {
+    let tables = tables_of(&rt);
+    for kind in ENGINES {
+        let engine = DefaultEngine::new(&tables, kind);
+        let mut decoder = decoder_for(rt.alloc(), engine, &SINGLE_OF_EACH_LOST)?;
+        let refused = refuses_index(&mut decoder, 1) && refuses_index(&mut decoder, usize::MAX);
+        let good = refused && decodes(rt.alloc(), &mut decoder, &SINGLE_OF_EACH_LOST)?;
+        assert!(rt; good, "{kind:?}");
+    }
+    Ok(())
+}
+
+// Whether objects of this size are refused, since no memory has room for it.
+fn refuses_for_memory(alloc: Global, engine: DefaultEngine<'_>, shard_bytes: usize) -> bool {
+    let encoder = ReedSolomonEncoder::new(alloc, 1, 1, shard_bytes, engine);
+    let decoder = ReedSolomonDecoder::new(alloc, 1, 1, shard_bytes, engine);
+    is_err(encoder, Error::OutOfMemory) && is_err(decoder, Error::OutOfMemory)
+}
+
+#[test]
+fn sizes_past_all_memory_are_refused(rt: HostRuntime) {
+    let alloc = rt.alloc();
+    let tables = tables_of(&rt);
+    for kind in ENGINES {
+        let engine = DefaultEngine::new(&tables, kind);
+        let chunks = refuses_for_memory(alloc, engine, usize::MAX - 63);
+        let tail = refuses_for_memory(alloc, engine, usize::MAX - 1);
+        assert!(rt; chunks && tail, "{kind:?}");
+    }
 }
 
 #[test]

@@ -1,5 +1,5 @@
 //! What the one-call functions answer, row by row.
-use crate::help::{ENGINES, ending, is_err, tables_of};
+use crate::help::{ENGINES, is_err, tables_of};
 use crate::one_call::decode_vectors;
 use crate::rows::{
     FOUR_ORIGINALS, HIGH_MESSAGES, HIGH_RECEIVED, HIGH_REFUSED, Item, LOW_MESSAGES, LOW_RECEIVED,
@@ -17,12 +17,19 @@ const ZEROS: [u8; 64] = [0; 64];
 
 const MORE_ZEROS: [u8; 128] = [0; 128];
 
-fn engine_over(tables: &Tables) -> DefaultEngine<'_> {
-    DefaultEngine::new(tables, EngineKind::Naive)
-}
+const ODD_ZEROS: [u8; 3] = [0; 3];
 
-// Whether one call gives just the message's recovery shards.
-fn encodes(alloc: Global, engine: DefaultEngine<'_>, message: &Message<'_>) -> Result<bool, Error> {
+const NO_ORIGINALS: Error = Error::UnsupportedShardCount {
+    original_count: 0,
+    recovery_count: 1,
+};
+
+/// Whether one call gives just the message's recovery shards.
+pub fn encodes(
+    alloc: Global,
+    engine: DefaultEngine<'_>,
+    message: &Message<'_>,
+) -> Result<bool, Error> {
     let k = message.original_count();
     let r = message.recovery_count();
     let shards = encode(alloc, k, r, message.original.iter().copied(), engine)?;
@@ -58,33 +65,6 @@ fn messages_are_coded(rt: HostRuntime) -> Result<(), Fail> {
     Ok(())
 }
 
-// Whether originals that end in 0 and 1, each of a chunk and a tail, have recovery shards that end in 2, 3 and 4.
-fn encodes_tails(alloc: Global, engine: DefaultEngine<'_>) -> Result<bool, Error> {
-    let original = [ending(0), ending(1)];
-    let shards = encode(
-        alloc,
-        2,
-        3,
-        original.iter().map(|shard| shard.as_slice()),
-        engine,
-    )?;
-    let mut good = shards.len() == 3;
-    for (shard, value) in shards.iter().zip([2, 3, 4]) {
-        good = good && shard.as_slice() == ending(value).as_slice();
-    }
-    Ok(good)
-}
-
-#[test]
-fn tails_are_coded(rt: HostRuntime) -> Result<(), Fail> {
-    let tables = tables_of(&rt);
-    for kind in ENGINES {
-        let engine = DefaultEngine::new(&tables, kind);
-        assert!(rt; encodes_tails(rt.alloc(), engine)?, "{kind:?}");
-    }
-    Ok(())
-}
-
 // What one call answers for received shards.
 fn answer(
     alloc: Global,
@@ -111,18 +91,23 @@ fn has(restored: &BTreeMap<usize, Vec<u8>>, index: usize, shard: &[u8]) -> bool 
     }
 }
 
-// Whether one call restores just the originals that it is to.
-fn restores(
+// Whether the map has just these shards.
+fn has_just(restored: &BTreeMap<usize, Vec<u8>>, items: &[Item<'_>]) -> bool {
+    let mut good = restored.len() == items.len();
+    for (index, shard) in items {
+        good = good && has(restored, *index, shard);
+    }
+    good
+}
+
+/// Whether one call restores just the originals that it is to.
+pub fn restores(
     alloc: Global,
     engine: DefaultEngine<'_>,
     received: &Received<'_>,
 ) -> Result<bool, Error> {
     let restored = answer(alloc, engine, received)?;
-    let mut good = restored.len() == received.restored.len();
-    for (index, shard) in received.restored {
-        good = good && has(&restored, *index, shard);
-    }
-    Ok(good)
+    Ok(has_just(&restored, received.restored))
 }
 
 fn are_restored<A: Abort + AllocGlobal>(
@@ -212,81 +197,116 @@ fn inconsistent_shards_are_refused(rt: HostRuntime) {
     }
 }
 
-// Counts and shards that `encode` refuses.
+// Counts and shards that `encode` refuses, and how many of the shards are then left to be taken.
 struct Uncoded<'a> {
     original_count: usize,
-    recovery_count: usize,
     original: &'a [&'a [u8]],
     refusal: Error,
+    left: usize,
 }
 
-const UNCODED: [Uncoded<'static>; 4] = [
+const UNCODED: [Uncoded<'static>; 9] = [
     Uncoded {
         original_count: 0,
-        recovery_count: 1,
         original: &[],
-        refusal: Error::UnsupportedShardCount {
-            original_count: 0,
-            recovery_count: 1,
-        },
+        refusal: NO_ORIGINALS,
+        left: 0,
+    },
+    Uncoded {
+        original_count: 0,
+        original: &[&ZEROS],
+        refusal: NO_ORIGINALS,
+        left: 1,
     },
     Uncoded {
         original_count: 1,
-        recovery_count: 1,
         original: &[],
         refusal: Error::TooFewOriginalShards {
             original_count: 1,
             original_received_count: 0,
         },
-    },
-    Uncoded {
-        original_count: 1,
-        recovery_count: 1,
-        original: &[&ZEROS, &MORE_ZEROS],
-        refusal: Error::TooManyOriginalShards { original_count: 1 },
+        left: 0,
     },
     Uncoded {
         original_count: 2,
-        recovery_count: 1,
+        original: &[&ODD_ZEROS, &ZEROS],
+        refusal: Error::InvalidShardSize { shard_bytes: 3 },
+        left: 1,
+    },
+    Uncoded {
+        original_count: 2,
+        original: &[&ZEROS],
+        refusal: Error::TooFewOriginalShards {
+            original_count: 2,
+            original_received_count: 1,
+        },
+        left: 0,
+    },
+    Uncoded {
+        original_count: 1,
+        original: &[&ZEROS, &MORE_ZEROS],
+        refusal: Error::TooManyOriginalShards { original_count: 1 },
+        left: 0,
+    },
+    Uncoded {
+        original_count: 2,
         original: &[&ZEROS, &MORE_ZEROS],
         refusal: Error::DifferentShardSize {
             shard_bytes: 64,
             got: 128,
         },
+        left: 0,
+    },
+    Uncoded {
+        original_count: 1,
+        original: &[&ZEROS, &MORE_ZEROS, &ZEROS],
+        refusal: Error::TooManyOriginalShards { original_count: 1 },
+        left: 1,
+    },
+    Uncoded {
+        original_count: 3,
+        original: &[&ZEROS, &MORE_ZEROS, &ZEROS],
+        refusal: Error::DifferentShardSize {
+            shard_bytes: 64,
+            got: 128,
+        },
+        left: 1,
     },
 ];
+
+fn are_uncoded<A: Abort + AllocGlobal>(rt: &A, engine: DefaultEngine<'_>) {
+    for row in &UNCODED {
+        let mut original = row.original.iter().copied();
+        let answer = encode(rt.alloc(), row.original_count, 1, &mut original, engine);
+        let refused = is_err(answer, row.refusal);
+        assert!(rt; refused && original.len() == row.left);
+    }
+}
 
 #[test]
 fn originals_are_refused(rt: HostRuntime) {
     let tables = tables_of(&rt);
-    for row in &UNCODED {
-        let original = row.original.iter().copied();
-        let engine = engine_over(&tables);
-        let answer = encode(
-            rt.alloc(),
-            row.original_count,
-            row.recovery_count,
-            original,
-            engine,
-        );
-        assert!(rt; is_err(answer, row.refusal));
+    for kind in ENGINES {
+        are_uncoded(&rt, DefaultEngine::new(&tables, kind));
     }
 }
 
-// Counts and shards that `decode` refuses.
+// Counts and shards that `decode` refuses, and how many originals and recovery shards are then left to be taken.
 struct Lost<'a> {
     original_count: usize,
     original: &'a [Item<'a>],
     recovery: &'a [Item<'a>],
     refusal: Error,
+    left: (usize, usize),
 }
 
-const WITHOUT_RECOVERY: [Lost<'static>; 3] = [
+const WITHOUT_RECOVERY: [Lost<'static>; 5] = [
     Lost {
         original_count: 2,
         original: &[(0, &ZEROS), (0, &ZEROS)],
         recovery: &[],
         refusal: Error::DuplicateOriginalShardIndex { index: 0 },
+        left: (0, 0),
     },
     Lost {
         original_count: 1,
@@ -296,6 +316,24 @@ const WITHOUT_RECOVERY: [Lost<'static>; 3] = [
             original_count: 1,
             index: 5,
         },
+        left: (0, 0),
+    },
+    Lost {
+        original_count: 2,
+        original: &[(0, &ZEROS), (0, &ZEROS), (1, &ZEROS)],
+        recovery: &[],
+        refusal: Error::DuplicateOriginalShardIndex { index: 0 },
+        left: (1, 0),
+    },
+    Lost {
+        original_count: 1,
+        original: &[(5, &ZEROS), (0, &ZEROS)],
+        recovery: &[],
+        refusal: Error::InvalidOriginalShardIndex {
+            original_count: 1,
+            index: 5,
+        },
+        left: (1, 0),
     },
     Lost {
         original_count: 1,
@@ -306,15 +344,17 @@ const WITHOUT_RECOVERY: [Lost<'static>; 3] = [
             original_received_count: 0,
             recovery_received_count: 0,
         },
+        left: (0, 0),
     },
 ];
 
-const WITH_RECOVERY: [Lost<'static>; 3] = [
+const WITH_RECOVERY: [Lost<'static>; 9] = [
     Lost {
         original_count: 1,
         original: &[(0, &ZEROS)],
         recovery: &[(0, &[])],
         refusal: Error::InvalidShardSize { shard_bytes: 0 },
+        left: (1, 0),
     },
     Lost {
         original_count: 1,
@@ -324,37 +364,84 @@ const WITH_RECOVERY: [Lost<'static>; 3] = [
             recovery_count: 1,
             index: 1,
         },
+        left: (0, 0),
     },
     Lost {
         original_count: 2,
         original: &[(0, &ZEROS), (0, &MORE_ZEROS)],
         recovery: &[(0, &ZEROS)],
         refusal: Error::DuplicateOriginalShardIndex { index: 0 },
+        left: (0, 0),
+    },
+    Lost {
+        original_count: 0,
+        original: &[(0, &ZEROS)],
+        recovery: &[(0, &ZEROS)],
+        refusal: NO_ORIGINALS,
+        left: (1, 1),
+    },
+    Lost {
+        original_count: 1,
+        original: &[(0, &ZEROS)],
+        recovery: &[(0, &[]), (1, &ZEROS)],
+        refusal: Error::InvalidShardSize { shard_bytes: 0 },
+        left: (1, 1),
+    },
+    Lost {
+        original_count: 1,
+        original: &[(0, &ZEROS)],
+        recovery: &[(1, &ZEROS), (0, &ZEROS)],
+        refusal: Error::InvalidRecoveryShardIndex {
+            recovery_count: 1,
+            index: 1,
+        },
+        left: (0, 1),
+    },
+    Lost {
+        original_count: 2,
+        original: &[(0, &ZEROS), (0, &MORE_ZEROS), (1, &ZEROS)],
+        recovery: &[(0, &ZEROS), (0, &ZEROS)],
+        refusal: Error::DuplicateOriginalShardIndex { index: 0 },
+        left: (1, 1),
+    },
+    Lost {
+        original_count: 2,
+        original: &[(0, &ZEROS), (2, &ZEROS), (1, &ZEROS)],
+        recovery: &[(0, &ZEROS)],
+        refusal: Error::InvalidOriginalShardIndex {
+            original_count: 2,
+            index: 2,
+        },
+        left: (1, 0),
+    },
+    Lost {
+        original_count: 2,
+        original: &[(1, &ZEROS)],
+        recovery: &[(0, &ZEROS), (0, &MORE_ZEROS), (0, &ZEROS)],
+        refusal: Error::DuplicateRecoveryShardIndex { index: 0 },
+        left: (0, 1),
     },
 ];
 
-fn are_refused<A: Abort + AllocGlobal>(rt: &A, tables: &Tables, rows: &[Lost<'_>]) {
+fn are_refused<A: Abort + AllocGlobal>(rt: &A, engine: DefaultEngine<'_>, rows: &[Lost<'_>]) {
     for row in rows {
-        let original = row.original.iter().copied();
-        let recovery = row.recovery.iter().copied();
-        let engine = engine_over(tables);
-        let answer = decode(
-            rt.alloc(),
-            row.original_count,
-            1,
-            original,
-            recovery,
-            engine,
-        );
-        assert!(rt; is_err(answer, row.refusal));
+        let mut original = row.original.iter().copied();
+        let mut recovery = row.recovery.iter().copied();
+        let k = row.original_count;
+        let answer = decode(rt.alloc(), k, 1, &mut original, &mut recovery, engine);
+        let refused = is_err(answer, row.refusal);
+        assert!(rt; refused && (original.len(), recovery.len()) == row.left);
     }
 }
 
 #[test]
 fn received_shards_are_refused(rt: HostRuntime) {
     let tables = tables_of(&rt);
-    are_refused(&rt, &tables, &WITHOUT_RECOVERY);
-    are_refused(&rt, &tables, &WITH_RECOVERY);
+    for kind in ENGINES {
+        let engine = DefaultEngine::new(&tables, kind);
+        are_refused(&rt, engine, &WITHOUT_RECOVERY);
+        are_refused(&rt, engine, &WITH_RECOVERY);
+    }
 }
 
 #[test]
@@ -368,84 +455,130 @@ fn nothing_is_missing(rt: HostRuntime) -> Result<(), Fail> {
         recovery: &[],
         restored: &[],
     };
-    are_restored(&rt, &tables, EngineKind::Naive, &[whole])
+    for kind in ENGINES {
+        are_restored(&rt, &tables, kind, &[whole])?;
+    }
+    Ok(())
 }
 
-#[test]
-fn no_original_is_taken_after_a_refusal(rt: HostRuntime) {
-    let tables = tables_of(&rt);
-    let shards: [&[u8]; 3] = [&ZEROS, &MORE_ZEROS, &ZEROS];
-    let mut original = shards.iter().copied();
-    let answer = encode(rt.alloc(), 3, 1, &mut original, engine_over(&tables));
-    let other = Error::DifferentShardSize {
-        shard_bytes: 64,
-        got: 128,
-    };
-    assert!(rt; is_err(answer, other));
-    assert!(rt; original.next().is_some());
-    assert!(rt; original.next().is_none());
+// Whether `encode` takes one of two originals, between which the iterator ends once: what it answers, and whether the
+// other one is still to come.
+fn encode_to_the_end(
+    alloc: Global,
+    engine: DefaultEngine<'_>,
+    original_count: usize,
+) -> (Result<Vec<Vec<u8>>, Error>, bool) {
+    let places: [Option<&[u8]>; 3] = [Some(&[7, 9]), None, Some(&[4, 8])];
+    let mut original = places.iter().map_while(|place| *place);
+    let answer = encode(alloc, original_count, 1, &mut original, engine);
+    (answer, original.next() == Some(&[4, 8]))
 }
 
-#[test]
-fn no_received_shard_is_taken_after_a_refusal(rt: HostRuntime) {
-    let tables = tables_of(&rt);
-    let items: [Item<'_>; 3] = [(0, &ZEROS), (2, &ZEROS), (1, &ZEROS)];
-    let mut original = items.iter().copied();
-    let mut recovery = items.iter().copied().take(2);
-    let answer = decode(
-        rt.alloc(),
-        2,
-        2,
-        &mut original,
-        &mut recovery,
-        engine_over(&tables),
-    );
-    let outside = Error::InvalidOriginalShardIndex {
+// Whether one original is enough where one is asked for, and too few where two are.
+fn encodes_to_the_end(alloc: Global, engine: DefaultEngine<'_>) -> Result<bool, Error> {
+    let few = Error::TooFewOriginalShards {
         original_count: 2,
-        index: 2,
+        original_received_count: 1,
     };
-    assert!(rt; is_err(answer, outside));
-    assert!(rt; original.next().is_some());
-    assert!(rt; original.next().is_none());
-    assert!(rt; recovery.next().is_some());
-    assert!(rt; recovery.next().is_none());
+    let (refused, left) = encode_to_the_end(alloc, engine, 2);
+    let (coded, left_again) = encode_to_the_end(alloc, engine, 1);
+    let coded = coded?;
+    let mut good = left && left_again && is_err(refused, few) && coded.len() == 1;
+    for shard in &coded {
+        good = good && shard.as_slice() == [7, 9].as_slice();
+    }
+    Ok(good)
 }
 
-// Counts are refused before any shard is taken.
 #[test]
-fn no_shard_is_taken_at_unsupported_counts(rt: HostRuntime) {
+fn no_original_is_taken_after_the_end(rt: HostRuntime) -> Result<(), Fail> {
     let tables = tables_of(&rt);
-    let shards: [&[u8]; 1] = [&ZEROS];
-    let items: [Item<'_>; 1] = [(0, &ZEROS)];
-    let unsupported = Error::UnsupportedShardCount {
-        original_count: 0,
-        recovery_count: 1,
-    };
-    let mut original = shards.iter().copied();
-    let coded = encode(rt.alloc(), 0, 1, &mut original, engine_over(&tables));
-    assert!(rt; is_err(coded, unsupported));
-    assert!(rt; original.next().is_some());
-    let mut given = items.iter().copied();
-    let mut recovery = items.iter().copied();
-    let engine = engine_over(&tables);
-    let restored = decode(rt.alloc(), 0, 1, &mut given, &mut recovery, engine);
-    assert!(rt; is_err(restored, unsupported));
-    assert!(rt; given.next().is_some());
-    assert!(rt; recovery.next().is_some());
+    for kind in ENGINES {
+        let engine = DefaultEngine::new(&tables, kind);
+        assert!(rt; encodes_to_the_end(rt.alloc(), engine)?, "{kind:?}");
+    }
+    Ok(())
 }
 
-// The size of the first recovery shard is refused before any original is taken.
+// Shards of `TWO_AND_TWO` for iterators that end once at an empty place, before the last shard, and what `decode` answers
+// by the shards before it.
+struct Ended<'a> {
+    original: &'a [Option<Item<'a>>],
+    recovery: &'a [Option<Item<'a>>],
+    restored: Result<&'a [Item<'a>], Error>,
+}
+
+const LAST_ORIGINAL: Item<'static> = (1, &[1, 0]);
+
+const LAST_RECOVERY: Item<'static> = (1, &[3, 0]);
+
+const ENDED: [Ended<'static>; 4] = [
+    Ended {
+        original: &[Some((0, &[0, 0])), None, Some(LAST_ORIGINAL)],
+        recovery: &[Some((0, &[2, 0])), None, Some(LAST_RECOVERY)],
+        restored: Ok(&[LAST_ORIGINAL]),
+    },
+    Ended {
+        original: &[None, Some(LAST_ORIGINAL)],
+        recovery: &[Some((0, &[2, 0])), None, Some(LAST_RECOVERY)],
+        restored: Err(Error::NotEnoughShards {
+            original_count: 2,
+            original_received_count: 0,
+            recovery_received_count: 1,
+        }),
+    },
+    Ended {
+        original: &[Some((0, &[0, 0])), None, Some(LAST_ORIGINAL)],
+        recovery: &[None, Some(LAST_RECOVERY)],
+        restored: Err(Error::NotEnoughShards {
+            original_count: 2,
+            original_received_count: 1,
+            recovery_received_count: 0,
+        }),
+    },
+    Ended {
+        original: &[
+            Some(LAST_ORIGINAL),
+            Some((0, &[0, 0])),
+            None,
+            Some(LAST_ORIGINAL),
+        ],
+        recovery: &[None, Some(LAST_RECOVERY)],
+        restored: Ok(&[]),
+    },
+];
+
+// Whether the answer is just these shards, or this refusal.
+fn is_answer(
+    answer: Result<BTreeMap<usize, Vec<u8>>, Error>,
+    expected: Result<&[Item<'_>], Error>,
+) -> bool {
+    match (answer, expected) {
+        (Ok(restored), Ok(items)) => has_just(&restored, items),
+        (Err(refusal), Err(expected)) => refusal == expected,
+        _ => false,
+    }
+}
+
+// Whether `decode` answers so, and takes none of the last shards.
+fn decodes_to_the_end(alloc: Global, engine: DefaultEngine<'_>, ended: &Ended<'_>) -> bool {
+    let mut original = ended.original.iter().map_while(|place| *place);
+    let mut recovery = ended.recovery.iter().map_while(|place| *place);
+    let answer = decode(alloc, 2, 2, &mut original, &mut recovery, engine);
+    let good = is_answer(answer, ended.restored);
+    good && original.next() == Some(LAST_ORIGINAL) && recovery.next() == Some(LAST_RECOVERY)
+}
+
+fn are_decoded_to_the_end<A: Abort + AllocGlobal>(rt: &A, engine: DefaultEngine<'_>) {
+    for ended in &ENDED {
+        assert!(rt; decodes_to_the_end(rt.alloc(), engine, ended));
+    }
+}
+
 #[test]
-fn no_original_is_taken_at_a_wrong_size(rt: HostRuntime) {
+fn no_received_shard_is_taken_after_the_end(rt: HostRuntime) {
     let tables = tables_of(&rt);
-    let items: [Item<'_>; 1] = [(0, &ZEROS)];
-    let odd: [Item<'_>; 2] = [(0, &[0; 3]), (1, &[0; 3])];
-    let mut original = items.iter().copied();
-    let mut recovery = odd.iter().copied();
-    let engine = engine_over(&tables);
-    let restored = decode(rt.alloc(), 2, 2, &mut original, &mut recovery, engine);
-    let size = Error::InvalidShardSize { shard_bytes: 3 };
-    assert!(rt; is_err(restored, size));
-    assert!(rt; original.next().is_some());
-    assert!(rt; recovery.next().is_some());
+    for kind in ENGINES {
+        are_decoded_to_the_end(&rt, DefaultEngine::new(&tables, kind));
+    }
 }

@@ -1,6 +1,8 @@
 //! What each rate refuses, in which order, and that a refused call changes nothing.
 use crate::help::*;
-use crate::rows::{HIGH_REFUSED, LOW_REFUSED, Refused, SINGLE_TURNED, TWO_AND_TWO};
+use crate::rows::{
+    HIGH_REFUSED, LOW_REFUSED, Refused, SINGLE_OF_EACH_LOST, SINGLE_TURNED, TWO_AND_TWO,
+};
 use reed_solomon_simd::Error;
 use reed_solomon_simd::engine::tables::Tables;
 use reed_solomon_simd::engine::{DefaultEngine, Engine, EngineKind, Naive};
@@ -44,32 +46,46 @@ fn refuses_originals<'t, R: Rate<DefaultEngine<'t>>>(
     Ok(good && gives(&mut encoder, TWO_AND_TWO.recovery)?)
 }
 
-// Whether the decoder refuses an original and a recovery shard of this index and of one byte so.
+// Whether the decoder refuses this shard as an original and as a recovery shard of this index so.
 fn refuses_shards<E: Engine, X: RateDecoder<E>>(
     decoder: &mut X,
     index: usize,
+    shard: &[u8],
     original: Error,
     recovery: Error,
 ) -> bool {
-    is_err(decoder.add_original_shard(index, &[1]), original)
-        && is_err(decoder.add_recovery_shard(index, &[1]), recovery)
+    is_err(decoder.add_original_shard(index, shard), original)
+        && is_err(decoder.add_recovery_shard(index, shard), recovery)
 }
 
-// Whether a decoder of two originals and two recovery shards refuses indexes past them.
-fn refuses_indexes<E: Engine, X: RateDecoder<E>>(decoder: &mut X) -> bool {
+// Whether a decoder of so many originals and as many recovery shards, of two bytes, refuses indexes past them, whatever
+// the size.
+fn refuses_indexes<E: Engine, X: RateDecoder<E>>(decoder: &mut X, count: usize) -> bool {
     let mut good = true;
-    for index in [2, 65536, usize::MAX - 1, usize::MAX] {
+    for index in [count, 65536, usize::MAX - 1, usize::MAX] {
         let original = Error::InvalidOriginalShardIndex {
-            original_count: 2,
+            original_count: count,
             index,
         };
         let recovery = Error::InvalidRecoveryShardIndex {
-            recovery_count: 2,
+            recovery_count: count,
             index,
         };
-        good = good && refuses_shards(decoder, index, original, recovery);
+        good = good
+            && refuses_shards(decoder, index, &[1], original, recovery)
+            && refuses_shards(decoder, index, &[0, 0], original, recovery);
     }
     good
+}
+
+// The same of a decoder of one of each, which restores afterwards.
+fn refuses_others_than_the_first<'t, R: Rate<DefaultEngine<'t>>>(
+    alloc: Global,
+    engine: DefaultEngine<'t>,
+) -> Result<bool, Error> {
+    let mut decoder = decoder_for::<R>(alloc, engine, &SINGLE_OF_EACH_LOST)?;
+    let good = refuses_indexes(&mut decoder, 1);
+    Ok(good && decodes(&mut decoder, &SINGLE_OF_EACH_LOST)?)
 }
 
 fn refuses_received<'t, R: Rate<DefaultEngine<'t>>>(
@@ -79,15 +95,15 @@ fn refuses_received<'t, R: Rate<DefaultEngine<'t>>>(
     let mut decoder = R::decoder(alloc, 2, 2, 2, engine, None)?;
     decoder.add_original_shard(1, &[1, 0])?;
     decoder.add_recovery_shard(1, &[3, 0])?;
-    let mut good = refuses_indexes(&mut decoder);
+    let mut good = refuses_indexes(&mut decoder, 2);
     let original = Error::DuplicateOriginalShardIndex { index: 1 };
     let recovery = Error::DuplicateRecoveryShardIndex { index: 1 };
-    good = good && refuses_shards(&mut decoder, 1, original, recovery);
+    good = good && refuses_shards(&mut decoder, 1, &[1], original, recovery);
     let sized = Error::DifferentShardSize {
         shard_bytes: 2,
         got: 1,
     };
-    good = good && refuses_shards(&mut decoder, 0, sized, sized);
+    good = good && refuses_shards(&mut decoder, 0, &[1], sized, sized);
     Ok(good && restores(&mut decoder, &[(0, &[0, 0])])?)
 }
 
@@ -186,7 +202,7 @@ fn refuses_counts<'t, R: Rate<DefaultEngine<'t>>>(
     good
 }
 
-// Configurations of these counts with odd sizes, and with one that no memory has room for.
+// Configurations of these counts with odd sizes.
 fn refuses_sizes<'t, R: Rate<DefaultEngine<'t>>>(
     alloc: Global,
     engine: DefaultEngine<'t>,
@@ -194,7 +210,7 @@ fn refuses_sizes<'t, R: Rate<DefaultEngine<'t>>>(
     decoder: &mut R::RateDecoder,
     (k, r): (usize, usize),
 ) -> bool {
-    let mut good = R::validate(k, r, usize::MAX - 1).is_ok();
+    let mut good = true;
     for size in [0, 1, 3, 123, usize::MAX] {
         let row = (k, r, size);
         let sized = Error::InvalidShardSize { shard_bytes: size };
@@ -203,9 +219,26 @@ fn refuses_sizes<'t, R: Rate<DefaultEngine<'t>>>(
             && refuses_new::<R>(alloc, engine, row, sized)
             && refuses_resets(encoder, decoder, row, sized);
     }
-    let row = (k, r, usize::MAX - 1);
-    good && refuses_new::<R>(alloc, engine, row, Error::OutOfMemory)
-        && refuses_resets(encoder, decoder, row, Error::OutOfMemory)
+    good
+}
+
+// Configurations of these counts with sizes that no memory has room for: whole chunks, and a tail.
+fn refuses_for_memory<'t, R: Rate<DefaultEngine<'t>>>(
+    alloc: Global,
+    engine: DefaultEngine<'t>,
+    encoder: &mut R::RateEncoder,
+    decoder: &mut R::RateDecoder,
+    (k, r): (usize, usize),
+) -> bool {
+    let mut good = true;
+    for size in [usize::MAX - 63, usize::MAX - 1] {
+        let row = (k, r, size);
+        good = good
+            && R::validate(k, r, size).is_ok()
+            && refuses_new::<R>(alloc, engine, row, Error::OutOfMemory)
+            && refuses_resets(encoder, decoder, row, Error::OutOfMemory);
+    }
+    good
 }
 
 // Configurations that are refused, these counts among them. The objects were given a shard, and keep it.
@@ -223,7 +256,9 @@ fn refuses_configurations<'t, R: Rate<DefaultEngine<'t>>>(
         good = good && refuses_counts::<R>(alloc, engine, &mut encoder, &mut decoder, counts);
     }
     for counts in [(1, 1), (2, 2), (2, 3), (3, 2)] {
-        good = good && refuses_sizes::<R>(alloc, engine, &mut encoder, &mut decoder, counts);
+        good = good
+            && refuses_sizes::<R>(alloc, engine, &mut encoder, &mut decoder, counts)
+            && refuses_for_memory::<R>(alloc, engine, &mut encoder, &mut decoder, counts);
     }
     encoder.add_original_shard(&[1, 0])?;
     decoder.add_recovery_shard(1, &[3, 0])?;
@@ -233,16 +268,18 @@ fn refuses_configurations<'t, R: Rate<DefaultEngine<'t>>>(
     )
 }
 
-// What comes before any row: one engine is enough.
+// What comes before any row.
 fn rate_refuses<'t, R: Rate<DefaultEngine<'t>>, A: Abort + AllocGlobal>(
     rt: &A,
     tables: &'t Tables,
+    kind: EngineKind,
     unsupported: (usize, usize),
 ) -> Result<(), Fail> {
     let alloc = rt.alloc();
-    let engine = DefaultEngine::new(tables, EngineKind::Naive);
+    let engine = DefaultEngine::new(tables, kind);
     assert!(rt; refuses_originals::<R>(alloc, engine)?);
     assert!(rt; refuses_received::<R>(alloc, engine)?);
+    assert!(rt; refuses_others_than_the_first::<R>(alloc, engine)?);
     assert!(rt; refuses_configurations::<R>(alloc, engine, unsupported)?);
     Ok(())
 }
@@ -250,9 +287,12 @@ fn rate_refuses<'t, R: Rate<DefaultEngine<'t>>, A: Abort + AllocGlobal>(
 #[test]
 fn rates_refuse(rt: HostRuntime) -> Result<(), Fail> {
     let tables = tables_of(&rt);
-    rate_refuses::<LowRate<DefaultEngine<'_>>, _>(&rt, &tables, (61440, 4096))?;
-    rate_refuses::<HighRate<DefaultEngine<'_>>, _>(&rt, &tables, (4096, 61440))?;
-    rate_refuses::<DefaultRate<DefaultEngine<'_>>, _>(&rt, &tables, (60000, 5000))
+    for kind in ENGINES {
+        rate_refuses::<LowRate<DefaultEngine<'_>>, _>(&rt, &tables, kind, (61440, 4096))?;
+        rate_refuses::<HighRate<DefaultEngine<'_>>, _>(&rt, &tables, kind, (4096, 61440))?;
+        rate_refuses::<DefaultRate<DefaultEngine<'_>>, _>(&rt, &tables, kind, (60000, 5000))?;
+    }
+    Ok(())
 }
 
 // An object's own `new` and `validate` refuse as its rate's calls do.

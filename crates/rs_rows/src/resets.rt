@@ -2,9 +2,9 @@
 use crate::callers::{make_again, pass_to_high};
 use crate::help::*;
 use crate::rows::{
-    CONSTANT, CONSTANT_TURNED, CONSTANT_WHOLE, HIGH_MESSAGES, HIGH_RECEIVED, LINE, LINE_LOST,
-    LINE_SECOND, LOW_MESSAGES, LOW_RECEIVED, MIXTURE, Message, OUTER_LOST, Received, SUM,
-    TWO_AND_TWO,
+    CONSTANT, HIGH_MESSAGES, HIGH_RECEIVED, HIGH_REFUSED, LINE, LINE_LOST, LINE_SECOND,
+    LOW_MESSAGES, LOW_RECEIVED, LOW_REFUSED, MIXTURE, Message, ONES, ONES_LOST, OUTER_LOST,
+    Received, Refused, SUM, TWO_AND_TWO,
 };
 use reed_solomon_simd::Error;
 use reed_solomon_simd::engine::tables::Tables;
@@ -76,7 +76,41 @@ fn resets_decoder<'t, R: Rate<DefaultEngine<'t>>>(
     Ok(good)
 }
 
-// The parts of the object of each row make that of the next.
+// An encoder's engine and memory, and those of a decoder.
+type EncoderParts<'t> = (DefaultEngine<'t>, EncoderWork);
+
+type DecoderParts<'t> = (DefaultEngine<'t>, DecoderWork);
+
+// Whether an encoder made of the parts codes the message, and what it leaves.
+fn codes_from_parts<'t, R: Rate<DefaultEngine<'t>>>(
+    alloc: Global,
+    (engine, work): EncoderParts<'t>,
+    message: &Message<'_>,
+) -> Result<(bool, EncoderParts<'t>), Error> {
+    let k = message.original_count();
+    let r = message.recovery_count();
+    let size = message.shard_bytes();
+    let mut encoder = R::encoder(alloc, k, r, size, engine, Some(work))?;
+    let good = encodes(&mut encoder, message)?;
+    Ok((good, encoder.into_parts()))
+}
+
+// Whether a decoder made of the parts restores what it is to, and what it leaves.
+fn restores_from_parts<'t, R: Rate<DefaultEngine<'t>>>(
+    alloc: Global,
+    (engine, work): DecoderParts<'t>,
+    received: &Received<'_>,
+) -> Result<(bool, DecoderParts<'t>), Error> {
+    let k = received.original_count;
+    let r = received.recovery_count;
+    let size = received.shard_bytes;
+    let mut decoder = R::decoder(alloc, k, r, size, engine, Some(work))?;
+    let good = decodes(&mut decoder, received)?;
+    Ok((good, decoder.into_parts()))
+}
+
+// The parts of each object make the next one: that of a row, one whose rows are more and longer and hold ones, and that
+// of the row again.
 fn hands_on_encoder<'t, R: Rate<DefaultEngine<'t>>>(
     alloc: Global,
     engine: DefaultEngine<'t>,
@@ -85,12 +119,11 @@ fn hands_on_encoder<'t, R: Rate<DefaultEngine<'t>>>(
     let mut parts = (engine, EncoderWork::default());
     let mut good = true;
     for message in messages {
-        let k = message.original_count();
-        let r = message.recovery_count();
-        let size = message.shard_bytes();
-        let mut encoder = R::encoder(alloc, k, r, size, parts.0, Some(parts.1))?;
-        good = good && encodes(&mut encoder, message)?;
-        parts = encoder.into_parts();
+        let (first, after) = codes_from_parts::<R>(alloc, parts, message)?;
+        let (ones, stale) = codes_from_parts::<R>(alloc, after, &ONES)?;
+        let (again, after) = codes_from_parts::<R>(alloc, stale, message)?;
+        good = good && first && ones && again;
+        parts = after;
     }
     Ok(good)
 }
@@ -103,15 +136,49 @@ fn hands_on_decoder<'t, R: Rate<DefaultEngine<'t>>>(
     let mut parts = (engine, DecoderWork::default());
     let mut good = true;
     for received in rows {
-        let k = received.original_count;
-        let r = received.recovery_count;
-        let size = received.shard_bytes;
-        let mut decoder = R::decoder(alloc, k, r, size, parts.0, Some(parts.1))?;
-        good = good && decodes(&mut decoder, received)?;
+        let (first, after) = restores_from_parts::<R>(alloc, parts, received)?;
+        let (ones, stale) = restores_from_parts::<R>(alloc, after, &ONES_LOST)?;
+        let (again, after) = restores_from_parts::<R>(alloc, stale, received)?;
+        good = good && first && ones && again;
+        parts = after;
+    }
+    Ok(good)
+}
+
+// Surplus shards are checked without what longer rows held before.
+fn refuses_from_parts<'t, R: Rate<DefaultEngine<'t>>>(
+    alloc: Global,
+    engine: DefaultEngine<'t>,
+    rows: &[Refused<'_>],
+) -> Result<bool, Error> {
+    let mut parts = (engine, DecoderWork::default());
+    let mut good = true;
+    for refused in rows {
+        let (ones, (engine, work)) = restores_from_parts::<R>(alloc, parts, &ONES_LOST)?;
+        let k = refused.received.original_count;
+        let r = refused.received.recovery_count;
+        let size = refused.received.shard_bytes;
+        let mut decoder = R::decoder(alloc, k, r, size, engine, Some(work))?;
+        good = good && ones && refuses_then_decodes(&mut decoder, refused)?;
         parts = decoder.into_parts();
     }
     Ok(good)
 }
+
+// Whether an encoder made of the parts codes two messages, with a reset between them, and what it leaves.
+fn codes_two<'t, R: Rate<DefaultEngine<'t>>>(
+    alloc: Global,
+    (engine, work): EncoderParts<'t>,
+    messages: (&Message<'_>, &Message<'_>),
+) -> Result<(bool, EncoderParts<'t>), Error> {
+    let k = messages.0.original_count();
+    let r = messages.0.recovery_count();
+    let size = messages.0.shard_bytes();
+    let mut encoder = R::encoder(alloc, k, r, size, engine, Some(work))?;
+    let good = encodes(&mut encoder, messages.0)? && encodes_reset(&mut encoder, messages.1)?;
+    Ok((good, encoder.into_parts()))
+}
+
 // An encoder of one rate codes two messages, and one of another rate, made of its parts, codes two more.
 fn encoders_pass<'t, R: Rate<DefaultEngine<'t>>, S: Rate<DefaultEngine<'t>>>(
     alloc: Global,
@@ -119,14 +186,8 @@ fn encoders_pass<'t, R: Rate<DefaultEngine<'t>>, S: Rate<DefaultEngine<'t>>>(
     before: (&Message<'_>, &Message<'_>),
     after: (&Message<'_>, &Message<'_>),
 ) -> Result<bool, Error> {
-    let mut one = encoder_for::<R>(alloc, engine, before.0)?;
-    let coded = encodes(&mut one, before.0)? && encodes_reset(&mut one, before.1)?;
-    let (engine, work) = one.into_parts();
-    let k = after.0.original_count();
-    let r = after.0.recovery_count();
-    let size = after.0.shard_bytes();
-    let mut other = S::encoder(alloc, k, r, size, engine, Some(work))?;
-    Ok(coded && encodes(&mut other, after.0)? && encodes_reset(&mut other, after.1)?)
+    let (good, parts) = codes_two::<R>(alloc, (engine, EncoderWork::default()), before)?;
+    Ok(good && codes_two::<S>(alloc, parts, after)?.0)
 }
 
 #[test]
@@ -149,6 +210,20 @@ fn encoders_pass_between_rates(rt: HostRuntime) -> Result<(), Fail> {
     Ok(())
 }
 
+// Whether a decoder made of the parts restores twice, with a reset between, and what it leaves.
+fn restores_two<'t, R: Rate<DefaultEngine<'t>>>(
+    alloc: Global,
+    (engine, work): DecoderParts<'t>,
+    received: (&Received<'_>, &Received<'_>),
+) -> Result<(bool, DecoderParts<'t>), Error> {
+    let k = received.0.original_count;
+    let r = received.0.recovery_count;
+    let size = received.0.shard_bytes;
+    let mut decoder = R::decoder(alloc, k, r, size, engine, Some(work))?;
+    let good = decodes(&mut decoder, received.0)? && decodes_reset(&mut decoder, received.1)?;
+    Ok((good, decoder.into_parts()))
+}
+
 // A decoder of one rate restores twice, and one of another rate, made of its parts, twice more.
 fn decoders_pass<'t, R: Rate<DefaultEngine<'t>>, S: Rate<DefaultEngine<'t>>>(
     alloc: Global,
@@ -156,14 +231,8 @@ fn decoders_pass<'t, R: Rate<DefaultEngine<'t>>, S: Rate<DefaultEngine<'t>>>(
     before: (&Received<'_>, &Received<'_>),
     after: (&Received<'_>, &Received<'_>),
 ) -> Result<bool, Error> {
-    let mut one = decoder_for::<R>(alloc, engine, before.0)?;
-    let restored = decodes(&mut one, before.0)? && decodes_reset(&mut one, before.1)?;
-    let (engine, work) = one.into_parts();
-    let k = after.0.original_count;
-    let r = after.0.recovery_count;
-    let size = after.0.shard_bytes;
-    let mut other = S::decoder(alloc, k, r, size, engine, Some(work))?;
-    Ok(restored && decodes(&mut other, after.0)? && decodes_reset(&mut other, after.1)?)
+    let (good, parts) = restores_two::<R>(alloc, (engine, DecoderWork::default()), before)?;
+    Ok(good && restores_two::<S>(alloc, parts, after)?.0)
 }
 
 #[test]
@@ -280,6 +349,61 @@ fn keeps_given<'t, R: Rate<DefaultEngine<'t>>>(
     Ok(gives_amid_resets(&mut encoder, message)? && forgets(&mut encoder, message)?)
 }
 
+fn add_all<E: Engine, X: RateEncoder<E>>(
+    encoder: &mut X,
+    original: &[Vec<u8>],
+) -> Result<(), Error> {
+    for shard in original {
+        encoder.add_original_shard(shard.as_slice())?;
+    }
+    Ok(())
+}
+
+// Codes what the encoder was given, and gives the decoder the last recovery shards, as many as are lost.
+fn codes_and_gives<E: Engine, X: RateEncoder<E>, Y: RateDecoder<E>>(
+    encoder: &mut X,
+    decoder: &mut Y,
+    recovery_count: usize,
+    lost: usize,
+) -> Result<(), Error> {
+    let mut steps = Steps::new();
+    let coded = encoder.encode(&mut steps)?;
+    for index in (0..recovery_count).rev().take(lost) {
+        if let Some(shard) = coded.recovery(index) {
+            decoder.add_recovery_shard(index, shard)?;
+        }
+    }
+    Ok(())
+}
+
+// Gives the decoder all originals but the first ones, which are lost.
+fn give_others<E: Engine, X: RateDecoder<E>>(
+    decoder: &mut X,
+    original: &[Vec<u8>],
+    lost: usize,
+) -> Result<(), Error> {
+    for (index, shard) in original.iter().enumerate().skip(lost) {
+        decoder.add_original_shard(index, shard.as_slice())?;
+    }
+    Ok(())
+}
+
+// Whether just the first originals come back, which are lost.
+fn restores_first<E: Engine, X: RateDecoder<E>>(
+    decoder: &mut X,
+    original: &[Vec<u8>],
+    lost: usize,
+) -> Result<bool, Error> {
+    let mut steps = Steps::new();
+    let result = decoder.decode(&mut steps)?;
+    let mut good = true;
+    for (index, shard) in original.iter().enumerate() {
+        let wanted = (index < lost).then_some(shard.as_slice());
+        good = good && result.restored_original(index) == wanted;
+    }
+    Ok(good)
+}
+
 // Codes the originals, loses as many of the first as there are recovery shards for, and tells whether just these come
 // back.
 fn round_trips<E: Engine, X: RateEncoder<E>, Y: RateDecoder<E>>(
@@ -289,32 +413,10 @@ fn round_trips<E: Engine, X: RateEncoder<E>, Y: RateDecoder<E>>(
     recovery_count: usize,
 ) -> Result<bool, Error> {
     let lost = original.len().min(recovery_count);
-    let mut steps = Steps::new();
-    for shard in original {
-        encoder.add_original_shard(shard.as_slice())?;
-    }
-    let coded = encoder.encode(&mut steps)?;
-    for index in 0..lost {
-        // The last recovery shards.
-        let index = recovery_count - 1 - index;
-        if let Some(shard) = coded.recovery(index) {
-            decoder.add_recovery_shard(index, shard)?;
-        }
-    }
-    for (index, shard) in original.iter().enumerate().skip(lost) {
-        decoder.add_original_shard(index, shard.as_slice())?;
-    }
-    let result = decoder.decode(&mut steps)?;
-    let mut good = true;
-    for (index, shard) in original.iter().enumerate() {
-        let wanted = if index < lost {
-            Some(shard.as_slice())
-        } else {
-            None
-        };
-        good = good && result.restored_original(index) == wanted;
-    }
-    Ok(good)
+    add_all(encoder, original)?;
+    codes_and_gives(encoder, decoder, recovery_count, lost)?;
+    give_others(decoder, original, lost)?;
+    restores_first(decoder, original, lost)
 }
 
 // Resets to more rows, to longer ones, and to both; then back to the first.
@@ -357,13 +459,14 @@ fn makes_again<'t, R: Rate<DefaultEngine<'t>>>(
     decodes(&mut again, received)
 }
 
-// A rate's messages and received shards. The first of each stand alone.
+// A rate's messages, received shards and refused ones. The first message and the first received shards stand alone.
 fn rate_resets<'t, R: Rate<DefaultEngine<'t>>, A: Abort + AllocGlobal>(
     rt: &A,
     tables: &'t Tables,
     kind: EngineKind,
     (message, messages): (&Message<'_>, &[Message<'_>]),
     (received, rows): (&Received<'_>, &[Received<'_>]),
+    refused: &[Refused<'_>],
 ) -> Result<(), Fail> {
     let alloc = rt.alloc();
     let engine = DefaultEngine::new(tables, kind);
@@ -371,6 +474,10 @@ fn rate_resets<'t, R: Rate<DefaultEngine<'t>>, A: Abort + AllocGlobal>(
     assert!(rt; resets_decoder::<R>(alloc, engine, rows)?, "{kind:?}");
     assert!(rt; hands_on_encoder::<R>(alloc, engine, messages)?, "{kind:?}");
     assert!(rt; hands_on_decoder::<R>(alloc, engine, rows)?, "{kind:?}");
+    assert!(rt;
+        refuses_from_parts::<R>(alloc, engine, refused)?,
+        "{kind:?}"
+    );
     assert!(rt; keeps_given::<R>(alloc, engine, message)?, "{kind:?}");
     assert!(rt; makes_again::<R>(alloc, engine, received)?, "{kind:?}");
     assert!(rt; grows::<R>(alloc, engine)?, "{kind:?}");
@@ -387,6 +494,7 @@ fn low_rate_resets(rt: HostRuntime) -> Result<(), Fail> {
             kind,
             (&LINE, &LOW_MESSAGES),
             (&LINE_LOST, &LOW_RECEIVED),
+            &LOW_REFUSED,
         )?;
     }
     Ok(())
@@ -402,6 +510,7 @@ fn high_rate_resets(rt: HostRuntime) -> Result<(), Fail> {
             kind,
             (&TWO_AND_TWO, &HIGH_MESSAGES),
             (&OUTER_LOST, &HIGH_RECEIVED),
+            &HIGH_REFUSED,
         )?;
     }
     Ok(())
@@ -417,6 +526,7 @@ fn default_rate_resets_to_low_messages(rt: HostRuntime) -> Result<(), Fail> {
             kind,
             (&LINE, &LOW_MESSAGES),
             (&OUTER_LOST, &HIGH_RECEIVED),
+            &HIGH_REFUSED,
         )?;
     }
     Ok(())
@@ -432,6 +542,7 @@ fn default_rate_resets_to_high_messages(rt: HostRuntime) -> Result<(), Fail> {
             kind,
             (&TWO_AND_TWO, &HIGH_MESSAGES),
             (&LINE_LOST, &LOW_RECEIVED),
+            &LOW_REFUSED,
         )?;
     }
     Ok(())
@@ -473,23 +584,6 @@ fn hands_on_after_a_refusal(alloc: Global, engine: DefaultEngine<'_>) -> Result<
     Ok(refused && decodes(&mut low, &LINE_LOST)?)
 }
 
-// What longer rows held before isn't taken for a part of the shorter ones.
-fn longer_rows_are_handed_on(alloc: Global, engine: DefaultEngine<'_>) -> Result<bool, Error> {
-    let mut good = true;
-    let long = counted(alloc, 1, 130)?;
-    let mut low = LowRateDecoder::new(alloc, 1, 2, 130, engine, None)?;
-    for shard in &long {
-        low.add_recovery_shard(1, shard.as_slice())?;
-        good = good && restores(&mut low, &[(0, shard.as_slice())])?;
-    }
-    let (engine, work) = low.into_parts();
-    let mut low = LowRateDecoder::new(alloc, 1, 2, 2, engine, Some(work))?;
-    Ok(
-        good && decodes(&mut low, &CONSTANT_WHOLE)?
-            && refuses_then_decodes(&mut low, &CONSTANT_TURNED)?,
-    )
-}
-
 #[test]
 fn parts_are_handed_on(rt: HostRuntime) -> Result<(), Fail> {
     let alloc = rt.alloc();
@@ -497,7 +591,6 @@ fn parts_are_handed_on(rt: HostRuntime) -> Result<(), Fail> {
     for kind in ENGINES {
         let engine = DefaultEngine::new(&tables, kind);
         assert!(rt; hands_on_after_a_refusal(alloc, engine)?, "{kind:?}");
-        assert!(rt; longer_rows_are_handed_on(alloc, engine)?, "{kind:?}");
     }
     Ok(())
 }

@@ -46,6 +46,17 @@ pub struct Refused<'a> {
     pub next: Received<'a>,
 }
 
+// A shard of a chunk and a tail, zero but for the tail's first byte.
+macro_rules! ending {
+    ($value:literal) => {
+        &[
+            0, 0, 0, 0, 0, 0, 0, 0, 0, 0, 0, 0, 0, 0, 0, 0, 0, 0, 0, 0, 0, 0, 0, 0, 0, 0, 0, 0, 0, 0, 0, 0,
+            0, 0, 0, 0, 0, 0, 0, 0, 0, 0, 0, 0, 0, 0, 0, 0, 0, 0, 0, 0, 0, 0, 0, 0, 0, 0, 0, 0, 0, 0, 0, 0,
+            $value, 0,
+        ]
+    };
+}
+
 /// One recovery shard: the sum of all originals.
 pub const SUM: Message<'static> = Message {
     original: &[&[1, 2], &[4, 8], &[16, 32]],
@@ -70,6 +81,12 @@ pub const LINE_SECOND: Message<'static> = Message {
     recovery: &[&[0, 2, 0, 0], &[0, 3, 0, 0], &[0, 4, 0, 0]],
 };
 
+/// The same in a tail behind a chunk of zeros.
+pub const LINE_IN_TAIL: Message<'static> = Message {
+    original: &[ending!(0), ending!(1)],
+    recovery: &[ending!(2), ending!(3), ending!(4)],
+};
+
 /// The low rate's block of four rows, of which the originals fill three.
 pub const THREE_OF_FOUR: Message<'static> = Message {
     original: &[&[0, 0], &[0, 0], &[1, 0]],
@@ -80,6 +97,12 @@ pub const THREE_OF_FOUR: Message<'static> = Message {
 pub const TWO_AND_TWO: Message<'static> = Message {
     original: &[&[0, 0], &[1, 0]],
     recovery: &[&[2, 0], &[3, 0]],
+};
+
+/// The same in a tail behind a chunk of zeros.
+pub const TWO_IN_TAIL: Message<'static> = Message {
+    original: &[ending!(0), ending!(1)],
+    recovery: &[ending!(2), ending!(3)],
 };
 
 /// Four of each, with products in two layers: x (x x + x) in the low rate.
@@ -95,17 +118,33 @@ pub const THREE_IN_TWOS: Message<'static> = Message {
 };
 
 /// The messages of which the low rate gives these recovery shards, and the default rate too.
-pub const LOW_MESSAGES: [Message<'static>; 6] = [
+pub const LOW_MESSAGES: [Message<'static>; 7] = [
     CONSTANT,
     LINE,
     LINE_SECOND,
+    LINE_IN_TAIL,
     THREE_OF_FOUR,
     TWO_AND_TWO,
     FOUR_AND_FOUR,
 ];
 
 /// The messages of which the high rate gives these recovery shards, and the default rate too.
-pub const HIGH_MESSAGES: [Message<'static>; 4] = [SUM, TWO_AND_TWO, FOUR_AND_FOUR, THREE_IN_TWOS];
+pub const HIGH_MESSAGES: [Message<'static>; 5] = [
+    SUM,
+    TWO_AND_TWO,
+    TWO_IN_TAIL,
+    FOUR_AND_FOUR,
+    THREE_IN_TWOS,
+];
+
+const ALL_ONES: &[u8] = &[255; 130];
+
+/// The constant polynomial in two chunks and a tail, with eight shards of each: more rows than those of any other message
+/// here, and longer ones.
+pub const ONES: Message<'static> = Message {
+    original: &[ALL_ONES; 8],
+    recovery: &[ALL_ONES; 8],
+};
 
 /// Both recovery shards of `THREE_IN_TWOS`, and the original between those that are missing.
 pub const OUTER_LOST: Received<'static> = Received {
@@ -158,6 +197,22 @@ pub const LINE_LOST: Received<'static> = Received {
     restored: &[(0, &[0, 0]), (1, &[1, 0])],
 };
 
+/// Recovery shards of `LINE_SECOND` alone.
+pub const SECOND_ALL_LOST: Received<'static> = Received {
+    shard_bytes: 4,
+    recovery: &[(0, &[0, 2, 0, 0]), (1, &[0, 3, 0, 0])],
+    restored: &[(0, &[0, 0, 0, 0]), (1, &[0, 1, 0, 0])],
+    ..LINE_LOST
+};
+
+/// Recovery shards of `LINE_IN_TAIL` alone.
+pub const IN_TAIL_LOST: Received<'static> = Received {
+    shard_bytes: 66,
+    recovery: &[(2, ending!(4)), (0, ending!(2))],
+    restored: &[(0, ending!(0)), (1, ending!(1))],
+    ..LINE_LOST
+};
+
 /// Recovery shards that no one coded: the constant polynomial.
 pub const BOTH_LOST: Received<'static> = Received {
     original_count: 2,
@@ -186,6 +241,16 @@ pub const SECOND_LOST: Received<'static> = Received {
     original: &[(0, &[0, 0, 0, 0])],
     recovery: &[(2, &[0, 4, 0, 0])],
     restored: &[(1, &[0, 1, 0, 0])],
+};
+
+/// The only recovery shard of one original.
+pub const SINGLE_OF_EACH_LOST: Received<'static> = Received {
+    original_count: 1,
+    recovery_count: 1,
+    shard_bytes: 2,
+    original: &[],
+    recovery: &[(0, &[5, 6])],
+    restored: &[(0, &[5, 6])],
 };
 
 /// The sum of all originals, and all but one of them.
@@ -266,9 +331,12 @@ pub const ZERO_LOST: Received<'static> = Received {
 };
 
 /// What the low rate restores so, and the default rate too.
-pub const LOW_RECEIVED: [Received<'static>; 9] = [
+pub const LOW_RECEIVED: [Received<'static>; 12] = [
     MIXTURE,
     LINE_LOST,
+    SECOND_ALL_LOST,
+    IN_TAIL_LOST,
+    SINGLE_OF_EACH_LOST,
     BOTH_LOST,
     CONSTANT_LOST,
     SECOND_LOST,
@@ -279,15 +347,37 @@ pub const LOW_RECEIVED: [Received<'static>; 9] = [
 ];
 
 /// What the high rate restores so, and the default rate too.
-pub const HIGH_RECEIVED: [Received<'static>; 8] = [
+pub const HIGH_RECEIVED: [Received<'static>; 9] = [
     OUTER_LOST,
     FIRST_LOST,
     MIXTURE,
     BOTH_LOST,
+    SINGLE_OF_EACH_LOST,
     SUMMAND_LOST,
     SUM_WHOLE,
     TWO_AND_TWO_WHOLE,
     ZERO_LOST,
+];
+
+/// Recovery shards of `ONES` alone.
+pub const ONES_LOST: Received<'static> = Received {
+    original_count: 8,
+    recovery_count: 8,
+    shard_bytes: 130,
+    original: &[],
+    recovery: &EIGHT_ONES,
+    restored: &EIGHT_ONES,
+};
+
+const EIGHT_ONES: [Item<'static>; 8] = [
+    (0, ALL_ONES),
+    (1, ALL_ONES),
+    (2, ALL_ONES),
+    (3, ALL_ONES),
+    (4, ALL_ONES),
+    (5, ALL_ONES),
+    (6, ALL_ONES),
+    (7, ALL_ONES),
 ];
 
 /// What the high rate restores so, at counts at which the default rate is the low one.
