@@ -1,18 +1,18 @@
 -- Loops over the parts of a block, each of which transforms one part, for the rows and for the counts.
-use Rattle.std.proofs.Common.{◌≡◌, ℕ, ◌+◌, ◌-◌, ◌*◌, ◌/◌, ◌%◌, ◌<◌, ◌≤◌, ◌⊎◌, refl, sym, ap, ◌∙◌, inl, inr, arith, subst, mod-lt}
+use Rattle.std.proofs.Common.{◌≡◌, ℕ, ◌+◌, ◌-◌, ◌*◌, ◌/◌, ◌%◌, ◌^◌, ◌<◌, ◌≤◌, ◌≢◌, ◌⊎◌, refl, sym, ap, ◌∙◌, inl, inr, arith, subst, mod-lt}
 use Rattle.std.specs.Prelude.{min}
 use Rattle.std.proofs.Math.Nat.{mul-le-mul_right}
-use Rattle.std.proofs.lemmas.Bool.{cases_lt}
+use Rattle.std.proofs.lemmas.Bool.{cases_eq, cases_lt}
 use Rattle.std.proofs.lemmas.Nat.{div-add-mod'}
 use Rattle.rs_field.specs.Transform.{forward}
-use Rattle.rs_field.specs.Layers.{ArePartsOf, layer_steps}
+use Rattle.rs_field.specs.Layers.{ArePartsOf, rows_of_part, layer_steps}
 use Rattle.rs_field.specs.View.{cell, word, SameShape, SameRowsOutside, AreZero}
-use Rattle.rs_field.specs.Bounds.{CountsUpTo, TransformCounts, transform_steps}
+use Rattle.rs_field.specs.Bounds.{CountsRows, CountsUpTo, TransformCounts, transform_steps}
 use Rattle.rs_field.specs.declared.engine.shards.ShardsRefMut.{ShardsRefMut}
 use Rattle.rs_field.specs.declared.engine.steps.Steps.{Steps}
-use Rattle.rs_field.proofs.Combination.{forward-same}
-use Rattle.rs_field.proofs.Counting.{counts_then, counts_within}
-use Rattle.rs_field.proofs.Parts.{IsPart, part_within}
+use Rattle.rs_field.proofs.Combination.{forward-one, forward-same}
+use Rattle.rs_field.proofs.Counting.{counts_rows, counts_then, counts_within}
+use Rattle.rs_field.proofs.Parts.{IsPart, four_quarters, part_found, part_of_more, part_of_two, part_within}
 use Rattle.rs_field.proofs.Recursion.{word_same, zero_rows}
 use Rattle.rs_field.proofs.RowOffsets.{outside_both, outside_cell, shape_then}
 
@@ -176,7 +176,33 @@ backward_whole size n shift pos filled j k s i old mid new p all tail done parts
     ∙ parts m r within low
     ∙ ap (forward size shift (λ q. word new k s (pos + q))) back
 
+-- ---- blocks whose parts are single rows
+
+one_row_of_part : (size : ℕ) → 1 < size → size ≤ 4 → (d : ℕ) × (size ≡ 2 ^ d) → rows_of_part size ≡ 1
+one_row_of_part size large few power =
+    elim (cases_eq size 2) [
+      | inl two ↦ part_of_two size two
+      | inr more ↦ let q = four_quarters size large more power in let whole = q.2 in part_of_more size more ∙ (let r : size / 4 ≡ 1 = omega (arith, whole) in r)
+    ]
+
+-- the layers then make the whole transform
+pub single_rows : (size shift i : ℕ) (f g : ℕ → ℕ) → 1 < size → size ≤ 4 → (d : ℕ) × (size ≡ 2 ^ d) → ArePartsOf size (rows_of_part size) shift f g
+    → i < size → g i < 65536 → g i ≡ forward size shift f i
+single_rows size shift i f g large few power parts hi word =
+    let here : i * 1 + 0 ≡ i = omega arith in
+    let ones = subst (λ (n : ℕ). ArePartsOf size n shift f g) (one_row_of_part size large few power) parts in
+    let part = ones i 0 (omega arith) (omega arith) in
+    let small : g (i * 1 + 0) < 65536 = subst (λ (n : ℕ). g n < 65536) (sym here) word in
+    ap g (sym here) ∙ sym (forward-one (shift + i * 1) (λ q. g (i * 1 + q)) 0 small) ∙ part ∙ ap (forward size shift f) here
+
 -- ---- counts
+
+-- the layers are no more than the whole
+pub counts_of_layers : (size shift : ℕ) (from to : Steps) → 1 < size → (d : ℕ) × (size ≡ 2 ^ d) → shift + size ≤ 65536 → CountsRows (layer_steps size) from to
+    → TransformCounts size from to
+counts_of_layers size shift from to large power points c =
+    let p = part_found size (rows_of_part size) shift refl (let no : size ≢ 1 = λ e. (let absurdly : ⊥ = omega (arith, e, large) in absurdly) in no) power points in
+    counts_within (layer_steps size) (transform_steps size) from to (let whole = p.steps in omega arith) (counts_rows (layer_steps size) from to c)
 
 -- one more part
 pub counts_next : (a t j : ℕ) (from mid to : Steps) → CountsUpTo (a + j * t) 0 0 from mid → CountsUpTo t 0 0 mid to → CountsUpTo (a + (j + 1) * t) 0 0 from to

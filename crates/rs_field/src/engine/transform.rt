@@ -35,6 +35,34 @@ fn bytes_are_small(bytes: &[u8])
     ensures { (j : ℕ) → slice_index bytes.now j < 256 }
 {}
 
+// The forward transform of two or four rows: the layers leave parts of one row, and there is no more to do.
+fn forward_few<K: Kernel>(
+    kernel: &K,
+    skew: Skew<'_>,
+    steps: &mut Steps,
+    rows: &mut ShardsRefMut<'_>,
+    pos: usize,
+    size: usize,
+    skew_delta: usize,
+)
+    requires skew { IsSkew skew.now }
+    requires fits { Fits rows.old }
+    requires power { (d : ℕ) × (size ≡ 2 ^ d) }
+    requires large { 1 < size }
+    requires few { size ≤ 4 }
+    requires within { pos + size ≤ rows.old.shard_count }
+    requires shift { skew_delta % size ≡ 0 }
+    requires points { skew_delta + size ≤ 65536 }
+    ensures shape { SameShape rows.old rows.new }
+    ensures others { SameRowsOutside pos (pos + size) rows.old rows.new }
+    ensures values { (k s i : ℕ) → k < rows.old.shard_len_64 → s < 32 → i < size
+        → word rows.new k s (pos + i) ≡ forward size skew_delta (λ q. word rows.old k s (pos + q)) i }
+    ensures counts { TransformCounts size steps.old steps.new }
+{
+    forward_layers(kernel, skew, steps, rows, pos, size, skew_delta);
+    row_symbols_are_words(rows);
+}
+
 /// The forward transform of the `size` rows from `pos` on, at `skew_delta`, by an engine's butterflies.
 ///
 /// Row i of them, for i below `truncated_size`, becomes the sum over q of the old row q times the basis polynomial q
@@ -67,6 +95,8 @@ pub fn fft<K: Kernel>(
 {
     if size == 1 {
         row_symbols_are_words(rows);
+    } else if size <= 4 {
+        forward_few(kernel, skew, steps, rows, pos, size, skew_delta);
     } else if truncated_size > 0 {
         let part = part_rows(size);
         forward_layers(kernel, skew, steps, rows, pos, size, skew_delta);
@@ -85,6 +115,34 @@ pub fn fft<K: Kernel>(
             );
         }
     }
+}
+
+// The backward transform of two or four rows.
+fn backward_few<K: Kernel>(
+    kernel: &K,
+    skew: Skew<'_>,
+    steps: &mut Steps,
+    rows: &mut ShardsRefMut<'_>,
+    pos: usize,
+    size: usize,
+    skew_delta: usize,
+)
+    requires skew { IsSkew skew.now }
+    requires fits { Fits rows.old }
+    requires power { (d : ℕ) × (size ≡ 2 ^ d) }
+    requires large { 1 < size }
+    requires few { size ≤ 4 }
+    requires within { pos + size ≤ rows.old.shard_count }
+    requires shift { skew_delta % size ≡ 0 }
+    requires points { skew_delta + size ≤ 65536 }
+    ensures shape { SameShape rows.old rows.new }
+    ensures others { SameRowsOutside pos (pos + size) rows.old rows.new }
+    ensures values { (k s i : ℕ) → k < rows.old.shard_len_64 → s < 32 → i < size
+        → word rows.old k s (pos + i) ≡ forward size skew_delta (λ q. word rows.new k s (pos + q)) i }
+    ensures counts { TransformCounts size steps.old steps.new }
+{
+    row_symbols_are_words(rows);
+    backward_layers(kernel, skew, steps, rows, pos, size, skew_delta);
 }
 
 /// The backward transform of the `size` rows from `pos` on, at `skew_delta`, by an engine's butterflies.
@@ -120,6 +178,8 @@ pub fn ifft<K: Kernel>(
 {
     if size == 1 {
         row_symbols_are_words(rows);
+    } else if size <= 4 {
+        backward_few(kernel, skew, steps, rows, pos, size, skew_delta);
     } else if truncated_size > 0 {
         let part = part_rows(size);
         for j in 0..truncated_size.div_ceil(part) {

@@ -1,0 +1,20 @@
+-- The layers leave single rows, so they are the whole transform.
+use Rattle.std.proofs.Common.{◌+◌, arith}
+use Rattle.rs_field.specs.View.{word}
+use Rattle.rs_field.proofs.PartLoops.{counts_of_layers, single_rows}
+use Rattle.rs_field.proofs.engine.transform.forward_few.Goals as goal
+
+pub returns-clause-values : goal.returns-clause-values
+returns-clause-values g c k s i hk hs hi =
+    let shape = c.forward_layers.ensures.shape in
+    let len = shape.len_64 in
+    let count = shape.count in
+    let within = c.requires.within in
+    single_rows c.args.size c.args.skew_delta i (λ q. word c.args.rows.now k s (c.args.pos + q)) (λ q. word c.forward_layers.new.rows k s (c.args.pos + q))
+    c.requires.large c.requires.few c.requires.power (c.forward_layers.ensures.parts k s hk hs) hi
+    (c.row_symbols_are_words.ensures k s (c.args.pos + i) (omega (arith, len)) hs (omega (arith, count, within)))
+
+pub returns-clause-counts : goal.returns-clause-counts
+returns-clause-counts g c =
+    counts_of_layers c.args.size c.args.skew_delta c.args.steps.now c.forward_layers.new.steps c.requires.large c.requires.power c.requires.points
+    c.forward_layers.ensures.counts
