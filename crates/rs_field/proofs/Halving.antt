@@ -130,6 +130,19 @@ walsh-counts e n half a b c d small is h p q (x, y, z) =
       products_most = omega arith;
     }
 
+-- one half alone counts no more than the whole
+pub walsh-half-counts : (e n half : ℕ) (a b : Steps) → e < 16 → n ≡ 2 ^ suc e → half ≡ 2 ^ e → WalshCounts half a b → WalshCounts n a b
+walsh-half-counts e n half a b small is h p =
+    let whole : half + 2 * transform_steps half ≡ transform_steps n = steps_half n e half small is h in
+    record {
+      row_steps_rise = p.row_steps_rise;
+      pair_sums_rise = p.pair_sums_rise;
+      products_rise = p.products_rise;
+      row_steps_most = p.row_steps_most;
+      pair_sums_most = omega (arith, p.pair_sums_most);
+      products_most = p.products_most;
+    }
+
 steps_of_16 : transform_steps 16 ≡ 32
 unfolding transform_steps log2 first_below
 steps_of_16 = refl

@@ -66,3 +66,4 @@ pub mod EqualPowers
 pub mod AgreeingMessages
 pub mod Agreement
 pub mod Changes
+pub mod WalshLanes

@@ -1,5 +1,5 @@
 -- The Walsh-Hadamard transform modulo 65535, where 65534 is minus one.
-use Rattle.std.specs.Prelude.{◌≡◌, ℕ, zero, suc, ◌+◌, ◌*◌, ◌%◌, ◌<◌, ◌==◌, if◌then◌else◌, bit_and, count_ones}
+use Rattle.std.specs.Prelude.{◌≡◌, ℕ, zero, suc, ◌+◌, ◌-◌, ◌*◌, ◌/◌, ◌%◌, ◌<◌, ◌==◌, if◌then◌else◌, List, slice_index, bit_and, count_ones}
 use Rattle.rs_field.specs.Field.{log}
 
 -- the sum of g y over the numbers y below n
@@ -18,6 +18,12 @@ signed_sum n f w = total n (λ y. sign w y * f y)
 -- each of n values became, modulo 65535, the signed sum of all n old ones
 abbrev pub IsWalsh : ℕ → (ℕ → ℕ) → (ℕ → ℕ) → Type 0
 IsWalsh n old new = (w : ℕ) → w < n → new w % 65535 ≡ signed_sum n old w % 65535
+
+-- the entries at a distance, of 16, became their sums and differences modulo 65535
+abbrev pub IsLayer : ℕ → List ℕ → List ℕ → Type 0
+IsLayer distance old new =
+    (k : ℕ) → k < 16 → slice_index new k % 65535
+    ≡ (if k / distance % 2 == 0 then slice_index old (k + distance) + slice_index old k else slice_index old (k - distance) + 65534 * slice_index old k) % 65535
 
 -- the logarithm of a word, and 0 at the word 0
 unfoldable pub log_or_zero : ℕ → ℕ

@@ -26,6 +26,7 @@ pub mod tables;
 pub mod transform;
 pub mod utils;
 pub mod vectors;
+mod walsh_lanes;
 
 pub use engine_naive::Naive;
 pub use shards::ShardsRefMut;

@@ -3,16 +3,24 @@ ghost use Rattle.std.specs.Prelude.{◌≡◌, ℕ, ◌+◌, ◌*◌, ◌%◌, �
 ghost use Rattle.rs_field.specs.Walsh.{IsWalsh};
 ghost use Rattle.rs_field.specs.Bounds.{CountsPairs, WalshCounts};
 
-use super::tables::add_mod;
+use super::walsh_lanes::walsh_16;
 use super::{GfElement, Steps};
+
+// The sum modulo 65535, as `add_mod`: up to 65535 it is the larger one of two numbers, and above it the other one, which
+// is one more. So a loop over entries becomes vector code without a choice.
+#[inline(always)]
+pub(crate) fn lane_sum(x: GfElement, y: GfElement) -> GfElement
+    ensures { result % 65535 ≡ (x + y) % 65535 }
+{
+    x.wrapping_add(y).max(x.saturating_sub(!y))
+}
 
 // The difference modulo 65535, where 0 and 65535 both stand for zero; 65534 is minus one.
 #[inline(always)]
 fn sub_mod(x: GfElement, y: GfElement) -> GfElement
     ensures { result % 65535 ≡ (x + 65534 * y) % 65535 }
 {
-    let difference = x.wrapping_sub(y);
-    if x < y { difference - 1 } else { difference }
+    lane_sum(x, !y)
 }
 
 // The sum and the difference modulo 65535.
@@ -23,7 +31,7 @@ fn pair_sum(steps: &mut Steps, x: GfElement, y: GfElement) -> (GfElement, GfElem
     ensures counts { CountsPairs 1 steps.old steps.new }
 {
     steps.pair_sum();
-    (add_mod(x, y), sub_mod(x, y))
+    (lane_sum(x, y), sub_mod(x, y))
 }
 
 // The sums and differences of two halves, entry by entry.
@@ -39,56 +47,6 @@ fn pair_sums(steps: &mut Steps, low: &mut [GfElement], high: &mut [GfElement])
         low[i] = sum;
         high[i] = difference;
     }
-}
-
-// The transform of 2 entries.
-#[inline(always)]
-fn walsh_2(steps: &mut Steps, data: &mut [GfElement])
-    requires { length «data».old ≡ 2 }
-    ensures values { IsWalsh 2 (λ y. slice_index «data».old y) (λ w. slice_index «data».new w) }
-    ensures counts { CountsPairs 1 steps.old steps.new }
-{
-    let (low, high) = data.split_at_mut(1);
-    pair_sums(steps, low, high);
-}
-
-// The transform of 4 entries.
-#[inline(always)]
-fn walsh_4(steps: &mut Steps, data: &mut [GfElement])
-    requires { length «data».old ≡ 4 }
-    ensures values { IsWalsh 4 (λ y. slice_index «data».old y) (λ w. slice_index «data».new w) }
-    ensures counts { CountsPairs 4 steps.old steps.new }
-{
-    let (low, high) = data.split_at_mut(2);
-    walsh_2(steps, low);
-    walsh_2(steps, high);
-    pair_sums(steps, low, high);
-}
-
-// The transform of 8 entries.
-#[inline(always)]
-fn walsh_8(steps: &mut Steps, data: &mut [GfElement])
-    requires { length «data».old ≡ 8 }
-    ensures values { IsWalsh 8 (λ y. slice_index «data».old y) (λ w. slice_index «data».new w) }
-    ensures counts { CountsPairs 12 steps.old steps.new }
-{
-    let (low, high) = data.split_at_mut(4);
-    walsh_4(steps, low);
-    walsh_4(steps, high);
-    pair_sums(steps, low, high);
-}
-
-// The transform of 16 entries.
-#[inline(always)]
-fn walsh_16(steps: &mut Steps, data: &mut [GfElement])
-    requires { length «data».old ≡ 16 }
-    ensures values { IsWalsh 16 (λ y. slice_index «data».old y) (λ w. slice_index «data».new w) }
-    ensures counts { CountsPairs 32 steps.old steps.new }
-{
-    let (low, high) = data.split_at_mut(8);
-    walsh_8(steps, low);
-    walsh_8(steps, high);
-    pair_sums(steps, low, high);
 }
 
 /// The Walsh-Hadamard transform modulo 65535: entry w becomes the sum of all entries y, with a minus sign where w and
@@ -111,7 +69,11 @@ pub fn fwht(steps: &mut Steps, data: &mut [GfElement], truncated: usize)
         let half = n / 2;
         let (low, high) = data.split_at_mut(half);
         fwht(steps, low, truncated);
-        fwht(steps, high, truncated.saturating_sub(half));
-        pair_sums(steps, low, high);
+        if truncated <= half {
+            high.copy_from_slice(low);
+        } else {
+            fwht(steps, high, truncated - half);
+            pair_sums(steps, low, high);
+        }
     }
 }

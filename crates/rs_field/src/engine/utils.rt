@@ -7,9 +7,9 @@ ghost use Rattle.rs_field.specs.Bounds.{CountsProducts, CountsRows, LocatorCount
 ghost use Rattle.rs_field.specs.Locator.{IsLocator};
 ghost use Rattle.rs_field.specs.Tables.{IsLogWalsh};
 
-use super::fwht::fwht;
+use super::fwht::{fwht, lane_sum};
 use super::pairs::{PairStep, step_pairs};
-use super::tables::{LogWalsh, add_mod};
+use super::tables::LogWalsh;
 use super::vectors::sum;
 use super::{GF_ORDER, GfElement, ShardsRefMut, Steps};
 use std::simd::prelude::*;
@@ -71,7 +71,7 @@ fn product_step(steps: &mut Steps, x: GfElement, y: GfElement) -> GfElement
 {
     steps.product();
     let product = u32::from(x) * u32::from(y);
-    add_mod((product & 0xFFFF) as u16, (product >> 16) as u16)
+    lane_sum((product & 0xFFFF) as u16, (product >> 16) as u16)
 }
 
 // Each entry becomes its product with the factor at the same place.

@@ -1,0 +1,135 @@
+-- Larger lanes of two vectors, and layers of sums and differences in 16 lanes.
+use Rattle.std.proofs.Common.{◌≡◌, ℕ, zero, suc, ◌+◌, ◌-◌, ◌*◌, ◌/◌, ◌%◌, ◌<◌, ◌≤◌, ◌^◌, false, cond, List, [], ◌∷◌, ◌++◌, map, length, get_or, max, inl, inr, refl, ap, ap₂, sym, ◌∙◌, arith, w16, Fits}
+use Rattle.std.specs.Prelude.{◌==◌, if◌then◌else◌}
+use Rattle.std.specs.Simd.Lanes.{Each1}
+use Rattle.std.proofs.Math.Dec.{ltb}
+use Rattle.std.proofs.lemmas.Simd.{tops_compared, get_or-sel_l, length-sel_l, get_or-zip2, length-zip2}
+use Rattle.std.proofs.lemmas.List.{get_or-map, get_or_append_left, get_or-append-add}
+use Rattle.std.proofs.lemmas.Bool.{cases_lt, lt-ltb, le-ltb}
+use Rattle.rs_field.specs.Walsh.{IsWalsh, IsLayer}
+use Rattle.rs_field.proofs.Halving.{walsh-halves, walsh-same, walsh-one}
+use lib.Lanes.{zip2, sel_l, top}
+
+-- ---- the larger one of two lanes
+
+chosen : (a b : ℕ) → cond (ltb a b) b a ≡ max a b
+chosen a b = elim (cases_lt a b) [
+  | inl less ↦ ap (λ t. cond t b a) (lt-ltb a b less) ∙ omega arith
+  | inr least ↦ ap (λ t. cond t b a) (le-ltb a b least) ∙ omega arith
+]
+
+compared : (xs ys : List ℕ) → sel_l (map (top 15) (zip2 (λ a b. cond (ltb a b) 65535 0) xs ys)) ys xs ≡ sel_l (zip2 ltb xs ys) ys xs
+compared xs ys = ap (λ ms. sel_l ms ys xs) (tops_compared w16 ltb xs ys)
+
+-- what `simd_max` leaves
+pub larger_lane : (xs ys : List ℕ) (i : ℕ) → length xs ≡ 16 → length ys ≡ 16 → i < 16
+    → get_or (sel_l (map (top 15) (zip2 (λ a b. cond (ltb a b) 65535 0) xs ys)) ys xs) i 0 ≡ max (get_or xs i 0) (get_or ys i 0)
+larger_lane xs ys i hx hy h =
+    let long = length-zip2 ltb xs ys (omega arith) in
+    ap (λ l. get_or l i 0) (compared xs ys)
+    ∙ get_or-sel_l (zip2 ltb xs ys) ys xs i 0 (omega arith) (omega arith) (omega arith)
+    ∙ ap (λ m. cond m (get_or ys i 0) (get_or xs i 0)) (get_or-zip2 ltb xs ys i 0 0 false (omega arith) (omega arith))
+    ∙ chosen (get_or xs i 0) (get_or ys i 0)
+
+pub length-larger : (xs ys : List ℕ) → length xs ≡ 16 → length ys ≡ 16
+    → length (sel_l (map (top 15) (zip2 (λ a b. cond (ltb a b) 65535 0) xs ys)) ys xs) ≡ 16
+length-larger xs ys hx hy =
+    let long = length-zip2 ltb xs ys (omega arith) in
+    ap length (compared xs ys) ∙ length-sel_l (zip2 ltb xs ys) ys xs (omega arith) (omega arith) ∙ omega arith
+
+-- ---- lanes that are words
+
+pub lane_below : (v : List ℕ) (i : ℕ) → Each1 (Fits w16) v → get_or v i 0 < 65536
+lane_below [] i h = omega arith
+lane_below (x ∷ v) zero h = h.0.fits
+lane_below (x ∷ v) (suc i) h = lane_below v i h.1
+
+-- the sums of lanes m and k, which a swizzle and a shuffle brought together
+pub summed : (v w : List ℕ) (r m k : ℕ) → length v ≡ 16 → m < 16 → k < 16
+    → r % 65535 ≡ (get_or (v ++ v) m 0 + get_or (v ++ w) k 0) % 65535 → r % 65535 ≡ (get_or v m 0 + get_or v k 0) % 65535
+summed v w r m k size hm hk e =
+    e ∙ ap₂ (λ a b. (a + b) % 65535) (get_or_append_left v v 0 m (omega arith)) (get_or_append_left v w 0 k (omega arith))
+
+-- a complement is the negative
+complement : (v : List ℕ) (k a : ℕ) → length v ≡ 16 → Each1 (Fits w16) v → k < 16
+    → (a + get_or (map (λ n. 65535 - n) v) k 0) % 65535 ≡ (a + 65534 * get_or v k 0) % 65535
+complement v k a size fits h =
+    let small = lane_below v k fits in
+    ap (λ n. (a + n) % 65535) (get_or-map (λ n. 65535 - n) v k 0 0 (omega arith)) ∙ omega arith
+
+pub below_16 : (P : ℕ → Type 0) → P 0 → P 1 → P 2 → P 3 → P 4 → P 5 → P 6 → P 7 → P 8 → P 9 → P 10 → P 11 → P 12 → P 13 → P 14 → P 15 → (i : ℕ) → i < 16 → P i
+below_16 P p0 p1 p2 p3 p4 p5 p6 p7 p8 p9 p10 p11 p12 p13 p14 p15 zero h = p0
+below_16 P p0 p1 p2 p3 p4 p5 p6 p7 p8 p9 p10 p11 p12 p13 p14 p15 (suc zero) h = p1
+below_16 P p0 p1 p2 p3 p4 p5 p6 p7 p8 p9 p10 p11 p12 p13 p14 p15 (suc (suc zero)) h = p2
+below_16 P p0 p1 p2 p3 p4 p5 p6 p7 p8 p9 p10 p11 p12 p13 p14 p15 (suc (suc (suc zero))) h = p3
+below_16 P p0 p1 p2 p3 p4 p5 p6 p7 p8 p9 p10 p11 p12 p13 p14 p15 (suc (suc (suc (suc zero)))) h = p4
+below_16 P p0 p1 p2 p3 p4 p5 p6 p7 p8 p9 p10 p11 p12 p13 p14 p15 (suc (suc (suc (suc (suc zero))))) h = p5
+below_16 P p0 p1 p2 p3 p4 p5 p6 p7 p8 p9 p10 p11 p12 p13 p14 p15 (suc (suc (suc (suc (suc (suc zero)))))) h = p6
+below_16 P p0 p1 p2 p3 p4 p5 p6 p7 p8 p9 p10 p11 p12 p13 p14 p15 (suc (suc (suc (suc (suc (suc (suc zero))))))) h = p7
+below_16 P p0 p1 p2 p3 p4 p5 p6 p7 p8 p9 p10 p11 p12 p13 p14 p15 (suc (suc (suc (suc (suc (suc (suc (suc zero)))))))) h = p8
+below_16 P p0 p1 p2 p3 p4 p5 p6 p7 p8 p9 p10 p11 p12 p13 p14 p15 (suc (suc (suc (suc (suc (suc (suc (suc (suc zero))))))))) h = p9
+below_16 P p0 p1 p2 p3 p4 p5 p6 p7 p8 p9 p10 p11 p12 p13 p14 p15 (suc (suc (suc (suc (suc (suc (suc (suc (suc (suc zero)))))))))) h = p10
+below_16 P p0 p1 p2 p3 p4 p5 p6 p7 p8 p9 p10 p11 p12 p13 p14 p15 (suc (suc (suc (suc (suc (suc (suc (suc (suc (suc (suc zero))))))))))) h = p11
+below_16 P p0 p1 p2 p3 p4 p5 p6 p7 p8 p9 p10 p11 p12 p13 p14 p15 (suc (suc (suc (suc (suc (suc (suc (suc (suc (suc (suc (suc zero)))))))))))) h = p12
+below_16 P p0 p1 p2 p3 p4 p5 p6 p7 p8 p9 p10 p11 p12 p13 p14 p15 (suc (suc (suc (suc (suc (suc (suc (suc (suc (suc (suc (suc (suc zero))))))))))))) h = p13
+below_16 P p0 p1 p2 p3 p4 p5 p6 p7 p8 p9 p10 p11 p12 p13 p14 p15 (suc (suc (suc (suc (suc (suc (suc (suc (suc (suc (suc (suc (suc (suc zero)))))))))))))) h = p14
+below_16 P p0 p1 p2 p3 p4 p5 p6 p7 p8 p9 p10 p11 p12 p13 p14 p15 (suc (suc (suc (suc (suc (suc (suc (suc (suc (suc (suc (suc (suc (suc (suc zero))))))))))))))) h = p15
+below_16 P p0 p1 p2 p3 p4 p5 p6 p7 p8 p9 p10 p11 p12 p13 p14 p15 (suc (suc (suc (suc (suc (suc (suc (suc (suc (suc (suc (suc (suc (suc (suc (suc n)))))))))))))))) h = absurd (omega arith)
+
+-- the same where lane k is complemented
+pub subtracted : (v : List ℕ) (r m k : ℕ) → length v ≡ 16 → Each1 (Fits w16) v → m < 16 → k < 16
+    → r % 65535 ≡ (get_or (v ++ v) m 0 + get_or (v ++ map (λ n. 65535 - n) v) (16 + k) 0) % 65535 → r % 65535 ≡ (get_or v m 0 + 65534 * get_or v k 0) % 65535
+subtracted v r m k size fits hm hk e =
+    e
+    ∙ ap₂ (λ a b. (a + b) % 65535) (get_or_append_left v v 0 m (omega arith))
+    (ap (λ n. get_or (v ++ map (λ n. 65535 - n) v) (n + k) 0) (sym size) ∙ get_or-append-add v (map (λ n. 65535 - n) v) k 0)
+    ∙ complement v k (get_or v m 0) size fits hk
+
+-- ---- four layers
+
+abbrev chosen_of : ℕ → ℕ → ℕ → ℕ
+chosen_of b even odd = (if b == 0 then even else odd) % 65535
+
+-- a layer joins the transforms of two halves of n lanes
+stage : (e n half a : ℕ) (f g new : List ℕ) → n ≡ 2 ^ suc e → half ≡ 2 ^ e → a + (half + half) ≤ 16
+    → ((i : ℕ) → i < half → (a + i) / half % 2 ≡ 0) → ((i : ℕ) → i < half → (a + (half + i)) / half % 2 ≡ 1) → IsLayer half g new
+    → IsWalsh half (λ y. get_or f (a + y) 0) (λ w. get_or g (a + w) 0)
+    → IsWalsh half (λ y. get_or f (a + half + y) 0) (λ w. get_or g (a + half + w) 0)
+    → IsWalsh n (λ y. get_or f (a + y) 0) (λ w. get_or new (a + w) 0)
+stage e n half a f g new is h room first second layer low high =
+    walsh-halves e n half (λ y. get_or f (a + y) 0) (λ w. get_or g (a + w) 0) (λ w. get_or g (a + half + w) 0) (λ w. get_or new (a + w) 0) is h low
+    (walsh-same half (λ y. get_or f (a + half + y) 0) (λ y. get_or f (a + (half + y)) 0) (λ w. get_or g (a + half + w) 0) (λ y hy. ap (λ k. get_or f k 0) (omega arith)) high)
+    (record {
+      sums = λ i hi.
+          let there : a + i + half ≡ a + half + i = omega arith in
+          let turned : get_or g (a + half + i) 0 + get_or g (a + i) 0 ≡ get_or g (a + i) 0 + get_or g (a + half + i) 0 = omega arith in
+          layer (a + i) (omega arith)
+          ∙ ap (λ b. chosen_of b (get_or g (a + i + half) 0 + get_or g (a + i) 0) (get_or g (a + i - half) 0 + 65534 * get_or g (a + i) 0)) (first i hi)
+          ∙ ap (λ k. (get_or g k 0 + get_or g (a + i) 0) % 65535) there ∙ ap (λ v. v % 65535) turned;
+      differences = λ i hi.
+          let back : a + (half + i) - half ≡ a + i = omega arith in
+          let there : a + (half + i) ≡ a + half + i = omega arith in
+          layer (a + (half + i)) (omega arith)
+          ∙ ap (λ b. chosen_of b (get_or g (a + (half + i) + half) 0 + get_or g (a + (half + i)) 0) (get_or g (a + (half + i) - half) 0 + 65534 * get_or g (a + (half + i)) 0)) (second i hi)
+          ∙ ap₂ (λ k m. (get_or g k 0 + 65534 * get_or g m 0) % 65535) back there;
+    })
+
+-- four layers make the transform
+pub four_layers : (old f g1 g2 g3 g4 new : List ℕ) → ((i : ℕ) → i < 16 → get_or f i 0 ≡ get_or old i 0) → IsLayer 1 f g1 → IsLayer 2 g1 g2 → IsLayer 4 g2 g3
+    → IsLayer 8 g3 g4 → ((i : ℕ) → i < 16 → get_or new i 0 ≡ get_or g4 i 0) → IsWalsh 16 (λ y. get_or old y 0) (λ w. get_or new w 0)
+four_layers old f g1 g2 g3 g4 new loaded l1 l2 l4 l8 stored =
+    walsh-same 16 (λ y. get_or f (0 + y) 0) (λ y. get_or old y 0) (λ w. get_or new w 0)
+    (λ y hy. let z : 0 + y ≡ y = omega arith in ap (λ k. get_or f k 0) z ∙ loaded y hy)
+    (λ w hw. let z : w ≡ 0 + w = omega arith in ap (λ v. v % 65535) (stored w hw) ∙ ap (λ k. get_or g4 k 0 % 65535) z ∙ whole w hw)
+  where
+    two : (a : ℕ) → a + 2 ≤ 16 → a % 2 ≡ 0 → IsWalsh 2 (λ y. get_or f (a + y) 0) (λ w. get_or g1 (a + w) 0)
+    two a le even = stage 0 2 1 a f f g1 refl refl le (λ i h. omega arith) (λ i h. omega arith) l1 (walsh-one 1 (λ y. get_or f (a + y) 0) refl) (walsh-one 1 (λ y. get_or f (a + 1 + y) 0) refl)
+
+    four : (a : ℕ) → a + 4 ≤ 16 → a % 4 ≡ 0 → IsWalsh 4 (λ y. get_or f (a + y) 0) (λ w. get_or g2 (a + w) 0)
+    four a le even = stage 1 4 2 a f g1 g2 refl refl le (λ i h. omega arith) (λ i h. omega arith) l2 (two a (omega arith) (omega arith)) (two (a + 2) (omega arith) (omega arith))
+
+    eight : (a : ℕ) → a + 8 ≤ 16 → a % 8 ≡ 0 → IsWalsh 8 (λ y. get_or f (a + y) 0) (λ w. get_or g3 (a + w) 0)
+    eight a le even = stage 2 8 4 a f g2 g3 refl refl le (λ i h. omega arith) (λ i h. omega arith) l4 (four a (omega arith) (omega arith)) (four (a + 4) (omega arith) (omega arith))
+
+    whole : IsWalsh 16 (λ y. get_or f (0 + y) 0) (λ w. get_or g4 (0 + w) 0)
+    whole = stage 3 16 8 0 f g3 g4 refl refl (omega arith) (λ i h. omega arith) (λ i h. omega arith) l8 (eight 0 (omega arith) (omega arith)) (eight (0 + 8) (omega arith) (omega arith))
