@@ -1,2 +1,3 @@
 pub mod Kind
 pub mod Lanes
+pub mod Words

@@ -10,9 +10,9 @@ ghost use Rattle.rs_engines.specs.Lanes.{lane, bit_sum, AreLowVectors, AreHighVe
 use rs_field::engine::vectors::sum;
 use std::simd::prelude::*;
 
-// The N bytes of a chunk from `at` on.
+/// The N bytes of a chunk from `at` on.
 #[inline(always)]
-fn load<const N: usize>(c: &[u8; 64], at: usize) -> Simd<u8, N>
+pub fn load<const N: usize>(c: &[u8; 64], at: usize) -> Simd<u8, N>
     requires { at + N ≤ 64 }
     ensures { (i s : ℕ) → i < N → s ≡ at + i → slice_index result i ≡ slice_index c.now s }
 {
@@ -29,9 +29,9 @@ fn store<const N: usize>(v: Simd<u8, N>, c: &mut [u8; 64], at: usize)
     v.copy_to_slice(&mut c[at..at + N]);
 }
 
-// Puts words into the N symbols of a chunk from `at` on.
+/// Puts words into the N symbols of a chunk from `at` on.
 #[inline(always)]
-fn store_words<const N: usize>(low: Simd<u8, N>, high: Simd<u8, N>, c: &mut [u8; 64], at: usize)
+pub fn store_words<const N: usize>(low: Simd<u8, N>, high: Simd<u8, N>, c: &mut [u8; 64], at: usize)
     requires { at + N ≤ 32 }
     ensures stored { (i s : ℕ) → i < N → s ≡ at + i → symbol c.new s ≡ lane low.entry high.entry i }
     ensures kept { (s : ℕ) → s < 32 → (s < at) ⊎ (at + N ≤ s) → symbol c.new s ≡ symbol c.old s }

@@ -1,9 +1,12 @@
 //! The engines by look-ups of nibbles and by lanes, and the engine chosen by name.
 #![tactic(auto)]
 
+mod chunk_lanes;
 pub mod engine_avx2;
 pub mod engine_default;
 pub mod engine_nosimd;
+pub mod engine_shuffle;
 pub mod engine_ssse3;
 mod lane_rows;
 mod lanes;
+mod shuffle_rows;
