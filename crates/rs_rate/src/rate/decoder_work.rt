@@ -21,13 +21,13 @@ pub struct DecoderWork {
     pub(crate) memory: Option<DecoderMemory>,
 }
 
-/// Chunks and marks of rows, and the locator's buffer: an entry for each point.
+/// Chunks and marks of rows, and the locator's buffer: room for an entry for each point.
 #[derive(Drop)]
 pub struct DecoderMemory {
     pub(crate) chunks: Vec<[u8; 64]>,
     pub(crate) marks: Vec<Mark>,
     pub(crate) erasures: Vec<GfElement>,
-    pub ghost points: { vec_len erasures ≡ 65536 },
+    pub ghost own_entries: { 65536 ≤ vec_capacity erasures },
 }
 
 /// Where a decoder's shards stand among the points, which points are known zeros, and how many rows it works on.
@@ -115,13 +115,16 @@ impl DecoderMemory {
         }
     }
 
+    // Takes the buffer's room and clears nothing: each decode writes every entry.
     fn new(alloc: Global) -> Result<DecoderMemory, Error>
         ensures { IfErr result (λ e. e ≡ Error.OutOfMemory) }
     {
+        let mut erasures = Vec::new(alloc);
+        make_room(&mut erasures, GF_ORDER)?;
         Ok(DecoderMemory {
             chunks: Vec::new(alloc),
             marks: Vec::new(alloc),
-            erasures: vec![in alloc; 0; GF_ORDER]?,
+            erasures,
         })
     }
 

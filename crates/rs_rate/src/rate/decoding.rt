@@ -1,6 +1,6 @@
 //! The decoding of a round, for every rate: the locator of the erased points, the rows over the chunks, the tails, and
 //! the round's end.
-ghost use Rattle.std.specs.Prelude.{◌≡◌, ℕ, ◌+◌, ◌-◌, ◌*◌, ◌/◌, ◌%◌, ◌^◌, ◌<◌, ◌≤◌, ◌⊎◌, true, false, Ok, List, length, slice_index, IfOk, MatchResult};
+ghost use Rattle.std.specs.Prelude.{◌≡◌, ℕ, ◌+◌, ◌-◌, ◌*◌, ◌/◌, ◌%◌, ◌^◌, ◌<◌, ◌≤◌, ◌⊎◌, true, false, Ok, List, length, slice_index, IfOk, MatchResult, nat_lt, nat_le, ◌&&◌, if◌then◌else◌};
 ghost use Rattle.rs_field.specs.Bounds.{CountsRows, CountsUpTo, LocatorCounts, decode_steps, transform_steps};
 ghost use Rattle.rs_field.specs.Configuration.{validated};
 ghost use Rattle.rs_field.specs.Counts.{Rate};
@@ -13,6 +13,7 @@ ghost use Rattle.rs_rate.specs.ShardRows.{chunk_count, word_in, shard_laid_out, 
 
 use crate::rate::decoder_work::{DecoderMemory, DecoderRows, DecoderShape, Frame};
 use crate::rate::marks::{Mark, end_marks, is_given_at};
+use crate::rate::memory::set_length;
 use crate::rate::restoring::{Round, restore_rows};
 use crate::rate::shard_rows::{in_order_are_bytes, move_tail};
 use rs_field::engine::layout::row_len;
@@ -98,6 +99,7 @@ fn restore<E: Engine>(
         return true;
     }
     let marks = memory.marks.as_slice();
+    set_length(&mut memory.erasures, GF_ORDER, 0);
     make_locator(
         engine,
         steps,
@@ -138,29 +140,50 @@ fn entries_are_words(entries: &[GfElement])
     ensures { (x : ℕ) → slice_index entries.now x < 65536 }
 {}
 
-// Marks the erased points.
+// Marks the erased points: all but the known zeros and the rows whose shard is given.
 fn mark_erasures(entries: &mut [GfElement], marks: &[Mark], frame: Frame)
     requires points { length entries.old ≡ 65536 }
     requires marked { frame.row_count ≤ length marks.now }
     ensures erased { (y : ℕ) → y < 65536 → slice_index entries.new y ≡ erased frame.row_count frame.zeros_from frame.zeros_to marks.now y }
 {
-    for y in 0..GF_ORDER {
-        entries[y] = erasure(y, marks, frame);
+    mark_unknown(entries, frame.zeros_from, frame.zeros_to);
+    for row in 0..GF_ORDER.min(frame.row_count) {
+        entries[row] = unless_given(marks, row, entries[row]);
     }
 }
 
-// The entry of point y: 1 where it is no known zero and its shard isn't given.
-fn erasure(y: usize, marks: &[Mark], frame: Frame) -> GfElement
-    requires marked { frame.row_count ≤ length marks.now }
-    ensures { result ≡ erased frame.row_count frame.zeros_from frame.zeros_to marks.now y }
+// Marks all points but the known zeros. By runs of points: a test at each one would take a quarter of a small decode.
+fn mark_unknown(entries: &mut [GfElement], zeros_from: usize, zeros_to: usize)
+    requires points { length entries.old ≡ 65536 }
+    ensures length { length entries.new ≡ 65536 }
+    ensures unknown { (y : ℕ) → y < 65536 → slice_index entries.new y ≡ (if nat_le zeros_from y && nat_lt y zeros_to then 0 else 1) }
 {
-    if frame.zeros_from <= y && y < frame.zeros_to {
-        return 0;
+    let to = GF_ORDER.min(zeros_to);
+    let from = to.min(zeros_from);
+    fill_points(entries, 0, from, 1);
+    fill_points(entries, from, to, 0);
+    fill_points(entries, to, GF_ORDER, 1);
+}
+
+// Writes the same entry at each point from one on, up to another.
+fn fill_points(entries: &mut [GfElement], from: usize, to: usize, entry: GfElement)
+    requires order { from ≤ to }
+    requires inside { to ≤ length entries.old }
+    ensures length { length entries.new ≡ length entries.old }
+    ensures here { (y : ℕ) → from ≤ y → y < to → slice_index entries.new y ≡ entry }
+    ensures others { (y : ℕ) → (y < from) ⊎ (to ≤ y) → slice_index entries.new y ≡ slice_index entries.old y }
+{
+    for y in from..to {
+        entries[y] = entry;
     }
-    if y < frame.row_count && is_given_at(marks, y) {
-        return 0;
-    }
-    1
+}
+
+// A row's entry: 0 where its shard is given, else what it was. Always written, so that the build needs no branch.
+fn unless_given(marks: &[Mark], row: usize, entry: GfElement) -> GfElement
+    requires marked { row < length marks.now }
+    ensures { result ≡ (if is_given (mark_at marks.now row) then 0 else entry) }
+{
+    if is_given_at(marks, row) { 0 } else { entry }
 }
 
 // No point from here on is erased: the known zeros reach to the last point, or all points are looked at.

@@ -3,6 +3,8 @@ ghost use Rattle.std.specs.Prelude.{◌≡◌, ◌≢◌, ℕ, ◌+◌, ◌^◌,
 ghost use Rattle.std.specs.Vec.{vec_capacity};
 ghost use Rattle.rs_rate.specs.Marks.{mark_at, is_given, is_restored, mark_after};
 
+use crate::rate::memory::set_length;
+
 /// What a row of a decoder is marked as: it holds no shard, one that was given, or one that was restored.
 #[derive(Clone, Copy)]
 pub enum Mark {
@@ -50,7 +52,7 @@ pub(crate) fn set_empty(marks: &mut Vec<Mark>, count: usize)
     ensures room { vec_capacity marks.old ≤ vec_capacity marks.new }
 {
     marks.clear();
-    let _ = marks.resize(count, Mark::Empty);
+    set_length(marks, count, Mark::Empty);
 }
 
 // Ends a round: the rows of originals that weren't given hold restored shards, all others hold none.
