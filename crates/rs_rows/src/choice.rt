@@ -1,30 +1,46 @@
 //! The counts that each rate supports, and which of the two rates the default rate is.
-use crate::help::tables_of;
+use crate::counting::{Counting, after_encode};
+use crate::help::{is_err, tables_of};
 use reed_solomon_simd::Error;
 use reed_solomon_simd::engine::tables::Tables;
-use reed_solomon_simd::engine::{Engine, GfElement, Naive, ShardsRefMut, Steps};
+use reed_solomon_simd::engine::{Engine, Naive};
 use reed_solomon_simd::rate::{DefaultRate, HighRate, LowRate, Rate, RateDecoder, RateEncoder};
 use std::alloc::Global;
-use std::cell::Cell;
 use std::process::Abort;
 use std::test::Fail;
 
+// Whether the rate, its encoder and its decoder take these counts.
+fn are_taken<E: Engine, R: Rate<E>>((k, r): (usize, usize)) -> bool {
+    let supported = R::supports(k, r);
+    let supported = supported && R::RateEncoder::supports(k, r);
+    let supported = supported && R::RateDecoder::supports(k, r);
+    let valid = supported && R::validate(k, r, 64).is_ok();
+    let valid = valid && R::RateEncoder::validate(k, r, 64).is_ok();
+    valid && R::RateDecoder::validate(k, r, 64).is_ok()
+}
+
+// Whether they refuse them.
+fn are_refused<E: Engine, R: Rate<E>>((k, r): (usize, usize)) -> bool {
+    let counts = Error::UnsupportedShardCount {
+        original_count: k,
+        recovery_count: r,
+    };
+    let supported = R::supports(k, r);
+    let supported = supported || R::RateEncoder::supports(k, r);
+    let supported = supported || R::RateDecoder::supports(k, r);
+    let refused = !supported && is_err(R::validate(k, r, 64), counts);
+    let refused = refused && is_err(R::RateEncoder::validate(k, r, 64), counts);
+    refused && is_err(R::RateDecoder::validate(k, r, 64), counts)
+}
+
 // The rate, its encoder and its decoder take all of these counts, or none of them.
 fn takes<E: Engine, R: Rate<E>, A: Abort>(rt: &A, supported: bool, counts: &[(usize, usize)]) {
-    for (k, r) in counts {
-        let valid = match supported {
-            true => Ok(()),
-            false => Err(Error::UnsupportedShardCount {
-                original_count: *k,
-                recovery_count: *r,
-            }),
+    for pair in counts {
+        let answered = match supported {
+            true => are_taken::<E, R>(*pair),
+            false => are_refused::<E, R>(*pair),
         };
-        assert_eq!(rt; R::supports(*k, *r), supported, "{k} {r}");
-        assert_eq!(rt; R::RateEncoder::supports(*k, *r), supported, "{k} {r}");
-        assert_eq!(rt; R::RateDecoder::supports(*k, *r), supported, "{k} {r}");
-        assert_eq!(rt; R::validate(*k, *r, 64), valid, "{k} {r}");
-        assert_eq!(rt; R::RateEncoder::validate(*k, *r, 64), valid, "{k} {r}");
-        assert_eq!(rt; R::RateDecoder::validate(*k, *r, 64), valid, "{k} {r}");
+        assert!(rt; answered, "{pair:?}");
     }
 }
 
@@ -112,72 +128,17 @@ fn default_rate_supports(rt: HostRuntime) {
     );
 }
 
-// The plain engine, which notes the point at which the last backward transform began.
-//
-// An encoder transforms its originals backward: in the low rate they lie from the point 0 on, in the high rate behind
-// the recovery shards. Where the counts have the same next power of two, the shards alone don't tell the rates apart.
-#[derive(Drop)]
-struct Watching<'t> {
-    naive: Naive<'t>,
-    originals_from: Cell<usize>,
-}
-
-impl Engine for Watching<'_> {
-    fn fft(
-        &self,
-        steps: &mut Steps,
-        data: &mut ShardsRefMut<'_>,
-        pos: usize,
-        size: usize,
-        truncated_size: usize,
-        skew_delta: usize,
-    ) {
-        self.naive
-            .fft(steps, data, pos, size, truncated_size, skew_delta);
-    }
-
-    fn ifft(
-        &self,
-        steps: &mut Steps,
-        data: &mut ShardsRefMut<'_>,
-        pos: usize,
-        size: usize,
-        truncated_size: usize,
-        skew_delta: usize,
-    ) {
-        self.originals_from.set(skew_delta);
-        self.naive
-            .ifft(steps, data, pos, size, truncated_size, skew_delta);
-    }
-
-    fn mul(&self, steps: &mut Steps, x: &mut [[u8; 64]], log_m: GfElement) {
-        self.naive.mul(steps, x, log_m);
-    }
-
-    fn eval_poly(&self, steps: &mut Steps, erasures: &mut [GfElement], truncated_size: usize) {
-        self.naive.eval_poly(steps, erasures, truncated_size);
-    }
-}
-
-// Whether an encoder of the rate codes as the low rate does.
-fn codes_low<'t, R: Rate<Watching<'t>>>(
+// Whether an encoder of the rate codes as the low rate does. Where the counts have the same next power of two, the shards
+// alone don't tell the rates apart.
+fn codes_low<'t, R: Rate<Counting<'t>>>(
     alloc: Global,
     tables: &'t Tables,
     original_count: usize,
     recovery_count: usize,
 ) -> Result<bool, Error> {
-    let engine = Watching {
-        naive: Naive::new(tables),
-        originals_from: Cell::new(usize::MAX),
-    };
-    let mut encoder = R::encoder(alloc, original_count, recovery_count, 2, engine, None)?;
-    for _ in 0..original_count {
-        encoder.add_original_shard(&[1, 0])?;
-    }
-    let mut steps = Steps::new();
-    drop(encoder.encode(&mut steps)?);
-    let (engine, _) = encoder.into_parts();
-    Ok(engine.originals_from.get() == 0)
+    let original = Vec::from_elem(alloc, [1, 0], original_count)?;
+    let engine = after_encode::<R>(alloc, tables, original.as_slice(), recovery_count)?;
+    Ok(engine.originals_from() == 0)
 }
 
 // Counts that both rates support, and whether the default rate is the low one there.
@@ -190,7 +151,7 @@ const CHOICES: [(usize, usize, bool); 5] = [
 ];
 
 // The rate codes as the low rate does, or as the high rate does, at all of these counts or where the default rate does.
-fn chooses<'t, R: Rate<Watching<'t>>, A: Abort + AllocGlobal>(
+fn chooses<'t, R: Rate<Counting<'t>>, A: Abort + AllocGlobal>(
     rt: &A,
     tables: &'t Tables,
     always: Option<bool>,
@@ -202,10 +163,14 @@ fn chooses<'t, R: Rate<Watching<'t>>, A: Abort + AllocGlobal>(
     Ok(())
 }
 
+fn all_choose<A: Abort + AllocGlobal>(rt: &A, tables: &Tables) -> Result<(), Fail> {
+    chooses::<DefaultRate<Counting<'_>>, A>(rt, tables, None)?;
+    chooses::<LowRate<Counting<'_>>, A>(rt, tables, Some(true))?;
+    chooses::<HighRate<Counting<'_>>, A>(rt, tables, Some(false))
+}
+
 #[test]
 fn rates_are_chosen(rt: HostRuntime) -> Result<(), Fail> {
     let tables = tables_of(&rt);
-    chooses::<DefaultRate<Watching<'_>>, _>(&rt, &tables, None)?;
-    chooses::<LowRate<Watching<'_>>, _>(&rt, &tables, Some(true))?;
-    chooses::<HighRate<Watching<'_>>, _>(&rt, &tables, Some(false))
+    all_choose(&rt, &tables)
 }

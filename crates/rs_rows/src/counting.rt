@@ -1,4 +1,4 @@
-//! How many calls an engine gets from the encoders and the decoders.
+//! How many calls an engine gets from the encoders and the decoders, and where an encoder's originals lie.
 use crate::help::{decodes, tables_of};
 use crate::rows::{FOUR_ORIGINALS, FOUR_WHOLE, MIXTURE, Received};
 use reed_solomon_simd::Error;
@@ -19,11 +19,12 @@ struct Calls {
     eval_poly: u32,
 }
 
-// The plain engine, which counts its calls.
+/// The plain engine, which counts its calls and notes the point at which the last backward transform began.
 #[derive(Drop)]
-struct Counting<'t> {
+pub struct Counting<'t> {
     naive: Naive<'t>,
     calls: Cell<Calls>,
+    originals_from: Cell<usize>,
 }
 
 impl<'t> Counting<'t> {
@@ -36,7 +37,14 @@ impl<'t> Counting<'t> {
                 mul: 0,
                 eval_poly: 0,
             }),
+            originals_from: Cell::new(usize::MAX),
         }
+    }
+
+    /// The point at which the last backward transform began. That is where an encoder's originals lie: in the low rate from the
+    /// point 0 on, in the high rate behind the recovery shards.
+    pub fn originals_from(&self) -> usize {
+        self.originals_from.get()
     }
 }
 
@@ -69,6 +77,7 @@ impl Engine for Counting<'_> {
         let calls = self.calls.get();
         let ifft = calls.ifft.saturating_add(1);
         self.calls.set(Calls { ifft, ..calls });
+        self.originals_from.set(skew_delta);
         self.naive
             .ifft(steps, data, pos, size, truncated_size, skew_delta);
     }
@@ -88,23 +97,30 @@ impl Engine for Counting<'_> {
     }
 }
 
-// The calls that one round of an encoder makes.
-fn calls_of_encode<'t, R: Rate<Counting<'t>>>(
-    alloc: Global,
-    tables: &'t Tables,
+// One round of an encoder.
+fn codes_once<E: Engine, X: RateEncoder<E>>(
+    encoder: &mut X,
     original: &[[u8; 2]],
-    recovery_count: usize,
-) -> Result<Calls, Error> {
-    let engine = Counting::new(tables);
-    let mut encoder = R::encoder(alloc, original.len(), recovery_count, 2, engine, None)?;
+) -> Result<(), Error> {
     for shard in original {
         encoder.add_original_shard(shard)?;
     }
     let mut steps = Steps::new();
-    let result = encoder.encode(&mut steps)?;
-    drop(result);
-    let (engine, _) = encoder.into_parts();
-    Ok(engine.calls.get())
+    drop(encoder.encode(&mut steps)?);
+    Ok(())
+}
+
+/// The engine of an encoder of the rate, after one round of it.
+pub fn after_encode<'t, R: Rate<Counting<'t>>>(
+    alloc: Global,
+    tables: &'t Tables,
+    original: &[[u8; 2]],
+    recovery_count: usize,
+) -> Result<Counting<'t>, Error> {
+    let engine = Counting::new(tables);
+    let mut encoder = R::encoder(alloc, original.len(), recovery_count, 2, engine, None)?;
+    codes_once(&mut encoder, original)?;
+    Ok(encoder.into_parts().0)
 }
 
 fn counts_encode<'t, R: Rate<Counting<'t>>, A: Abort + AllocGlobal>(
@@ -114,8 +130,8 @@ fn counts_encode<'t, R: Rate<Counting<'t>>, A: Abort + AllocGlobal>(
     recovery_count: usize,
     calls: Calls,
 ) -> Result<(), Fail> {
-    let made = calls_of_encode::<R>(rt.alloc(), tables, original, recovery_count)?;
-    assert_eq!(rt; made, calls);
+    let engine = after_encode::<R>(rt.alloc(), tables, original, recovery_count)?;
+    assert_eq!(rt; engine.calls.get(), calls);
     Ok(())
 }
 
@@ -160,7 +176,7 @@ fn calls_of_decode<'t, R: Rate<Counting<'t>>>(
 }
 
 // Each row with its calls, of which `mul` is called at most so often: once for each given shard, and for each restored.
-const DECODE_CALLS: [(Received<'static>, Calls); 3] = [
+static DECODE_CALLS: [(Received<'static>, Calls); 3] = [
     (
         MIXTURE,
         Calls {
@@ -190,11 +206,15 @@ const DECODE_CALLS: [(Received<'static>, Calls); 3] = [
     ),
 ];
 
+fn decode_calls() -> &'static [(Received<'static>, Calls)] {
+    &DECODE_CALLS
+}
+
 fn counts_decodes<'t, R: Rate<Counting<'t>>, A: Abort + AllocGlobal>(
     rt: &A,
     tables: &'t Tables,
 ) -> Result<(), Fail> {
-    for (received, most) in &DECODE_CALLS {
+    for (received, most) in decode_calls() {
         let Some(calls) = calls_of_decode::<R>(rt.alloc(), tables, received)? else {
             assert!(rt; false, "restored");
             return Ok(());

@@ -1,32 +1,39 @@
 //! Restored originals of each rate over each engine.
 use crate::callers::{decode_inconsistent, decode_just_enough, decode_one};
 use crate::help::*;
+use crate::row_engine::{ROW_ENGINES, RowEngine, RowKind};
 use crate::rows::{
-    HIGH_ALONE_RECEIVED, HIGH_RECEIVED, LINE_LOST, LINE_TURNED, LOW_RECEIVED, MIXTURE, Message,
-    OUTER_LOST, Received, SUMMAND_LOST, THREE_IN_TWOS,
+    LINE_LOST, LINE_TURNED, MIXTURE, Message, OUTER_LOST, Received, Refused, SUMMAND_LOST,
+    THREE_IN_TWOS, high_alone_received, high_received, low_received,
 };
 use reed_solomon_simd::Error;
 use reed_solomon_simd::engine::tables::Tables;
-use reed_solomon_simd::engine::{DefaultEngine, Engine, EngineKind, Steps};
+use reed_solomon_simd::engine::{Engine, Steps};
 use reed_solomon_simd::rate::{DefaultRate, HighRate, LowRate, Rate, RateDecoder};
 use std::alloc::{AllocError, Global};
 use std::process::Abort;
 use std::test::Fail;
 
-fn restores_all<'t, R: Rate<DefaultEngine<'t>>, A: Abort + AllocGlobal>(
+// Whether the decoder restores, and again in a second round, over rows that hold the first.
+fn restores_twice<E: Engine, X: RateDecoder<E>>(
+    decoder: &mut X,
+    received: &Received<'_>,
+) -> Result<bool, Error> {
+    Ok(decodes(decoder, received)? && decodes(decoder, received)?)
+}
+
+fn restores_all<'t, R: Rate<RowEngine<'t>>, A: Abort + AllocGlobal>(
     rt: &A,
     tables: &'t Tables,
-    kind: EngineKind,
+    kind: RowKind,
     rows: &[Received<'_>],
 ) -> Result<(), Fail> {
-    let engine = DefaultEngine::new(tables, kind);
+    let engine = RowEngine::new(tables, kind);
     for received in rows {
         let k = received.original_count;
         let r = received.recovery_count;
         let mut decoder = decoder_for::<R>(rt.alloc(), engine, received)?;
-        let first = decodes(&mut decoder, received)?;
-        // A second round of the same decoder, over rows that hold the first.
-        let good = first && decodes(&mut decoder, received)?;
+        let good = restores_twice(&mut decoder, received)?;
         assert!(rt; good, "{kind:?} {k} {r}");
     }
     Ok(())
@@ -58,9 +65,9 @@ fn completes<E: Engine, X: RateDecoder<E>>(
 }
 
 // Whether a round that was completed ends though its result is forgotten, and the next one restores.
-fn goes_on<'t, R: Rate<DefaultEngine<'t>>>(
+fn goes_on<'t, R: Rate<RowEngine<'t>>>(
     alloc: Global,
-    engine: DefaultEngine<'t>,
+    engine: RowEngine<'t>,
     received: &Received<'_>,
 ) -> Result<bool, Error> {
     let none = Error::NotEnoughShards {
@@ -117,12 +124,12 @@ fn give_spread<E: Engine, X: RateDecoder<E>>(
     Ok(())
 }
 
-// More originals than recovery shards, a shard more than is needed, and a tail behind the chunks: whether each turned
-// shard is refused, and the next round restores.
-fn checks_tails<'t, R: Rate<DefaultEngine<'t>>>(
+// Whether the turned shard is refused, and the next round restores.
+fn checks_tail<E: Engine, X: RateDecoder<E>>(
     alloc: Global,
-    engine: DefaultEngine<'t>,
+    decoder: &mut X,
     shard_bytes: usize,
+    turned: usize,
 ) -> Result<bool, Error> {
     let message = &THREE_IN_TWOS;
     let apart = Error::InconsistentShards {
@@ -130,23 +137,33 @@ fn checks_tails<'t, R: Rate<DefaultEngine<'t>>>(
         recovery_received_count: 2,
     };
     let first = spread(alloc, shard_bytes, &[2, 0], 0)?;
+    give_spread(alloc, decoder, message, shard_bytes, Some(turned))?;
+    let refused = refuses(decoder, apart);
+    give_spread(alloc, decoder, message, shard_bytes, None)?;
+    Ok(refused && restores(decoder, &[(0, first.as_slice())])?)
+}
+
+// More originals than recovery shards, a shard more than is needed, and a tail behind the chunks: whether each turned
+// shard is refused, and the next round restores.
+fn checks_tails<'t, R: Rate<RowEngine<'t>>>(
+    alloc: Global,
+    engine: RowEngine<'t>,
+    shard_bytes: usize,
+) -> Result<bool, Error> {
     let mut decoder = R::decoder(alloc, 3, 2, shard_bytes, engine, None)?;
     let mut good = true;
     for turned in 1..5 {
-        give_spread(alloc, &mut decoder, message, shard_bytes, Some(turned))?;
-        good = good && refuses(&mut decoder, apart);
-        give_spread(alloc, &mut decoder, message, shard_bytes, None)?;
-        good = good && restores(&mut decoder, &[(0, first.as_slice())])?;
+        good = good && checks_tail(alloc, &mut decoder, shard_bytes, turned)?;
     }
     Ok(good)
 }
 
-fn tails_are_checked<'t, R: Rate<DefaultEngine<'t>>, A: Abort + AllocGlobal>(
+fn tails_are_checked<'t, R: Rate<RowEngine<'t>>, A: Abort + AllocGlobal>(
     rt: &A,
     tables: &'t Tables,
-    kind: EngineKind,
+    kind: RowKind,
 ) -> Result<(), Fail> {
-    let engine = DefaultEngine::new(tables, kind);
+    let engine = RowEngine::new(tables, kind);
     for shard_bytes in [66, 130] {
         let good = checks_tails::<R>(rt.alloc(), engine, shard_bytes)?;
         assert!(rt; good, "{kind:?} {shard_bytes}");
@@ -157,8 +174,8 @@ fn tails_are_checked<'t, R: Rate<DefaultEngine<'t>>, A: Abort + AllocGlobal>(
 #[test]
 fn high_rate_checks_surplus_in_tails(rt: HostRuntime) -> Result<(), Fail> {
     let tables = tables_of(&rt);
-    for kind in ENGINES {
-        tails_are_checked::<HighRate<DefaultEngine<'_>>, _>(&rt, &tables, kind)?;
+    for kind in ROW_ENGINES {
+        tails_are_checked::<HighRate<RowEngine<'_>>, _>(&rt, &tables, kind)?;
     }
     Ok(())
 }
@@ -166,38 +183,36 @@ fn high_rate_checks_surplus_in_tails(rt: HostRuntime) -> Result<(), Fail> {
 #[test]
 fn default_rate_checks_surplus_in_tails(rt: HostRuntime) -> Result<(), Fail> {
     let tables = tables_of(&rt);
-    for kind in ENGINES {
-        tails_are_checked::<DefaultRate<DefaultEngine<'_>>, _>(&rt, &tables, kind)?;
+    for kind in ROW_ENGINES {
+        tails_are_checked::<DefaultRate<RowEngine<'_>>, _>(&rt, &tables, kind)?;
     }
     Ok(())
 }
 
 // Whether a caller that knows the decoder by its contracts alone gets a missing original.
-fn callers_restore<'t, R: Rate<DefaultEngine<'t>>>(
-    alloc: Global,
-    engine: DefaultEngine<'t>,
-) -> Result<bool, Error> {
+fn callers_get_one<E: Engine, X: RateDecoder<E> + Drop>(decoder: &mut X) -> Result<bool, Error> {
     let mut steps = Steps::new();
     let mut original = [9, 9];
-    let mut decoder = R::decoder(alloc, 2, 2, 2, engine, None)?;
     decoder.add_original_shard(0, &[0, 0])?;
     decoder.add_recovery_shard(1, &[3, 0])?;
-    decode_one(&mut decoder, &mut steps, 1, &mut original)?;
-    Ok(original == [1, 0] && callers_go_on(&mut decoder)?)
+    decode_one(decoder, &mut steps, 1, &mut original)?;
+    Ok(original == [1, 0])
 }
 
-// Whether of two shards that no one coded none is refused, and three that no message agrees with are.
-fn callers_go_on<E: Engine, X: RateDecoder<E> + Drop>(decoder: &mut X) -> Result<bool, Error> {
+// Two shards that no one coded: none of them is refused.
+fn callers_give_just_enough<E: Engine, X: RateDecoder<E> + Drop>(
+    decoder: &mut X,
+) -> Result<(), Error> {
     let mut steps = Steps::new();
     decoder.add_original_shard(0, &[0, 0])?;
     decoder.add_recovery_shard(1, &[3, 1])?;
-    decode_just_enough(decoder, &mut steps)?;
-    give(decoder, &LINE_TURNED.received)?;
-    Ok(callers_are_refused(decoder))
+    decode_just_enough(decoder, &mut steps)
 }
 
 // Whether `LINE_TURNED`'s shards are refused, and then nothing is given.
-fn callers_are_refused<E: Engine, X: RateDecoder<E> + Drop>(decoder: &mut X) -> bool {
+fn callers_are_refused<E: Engine, X: RateDecoder<E> + Drop>(
+    decoder: &mut X,
+) -> Result<bool, Error> {
     let mut steps = Steps::new();
     let apart = Error::InconsistentShards {
         original_received_count: 1,
@@ -208,20 +223,35 @@ fn callers_are_refused<E: Engine, X: RateDecoder<E> + Drop>(decoder: &mut X) -> 
         original_received_count: 0,
         recovery_received_count: 0,
     };
+    give(decoder, &TURNED.received)?;
     let (first, next) = decode_inconsistent(decoder, &mut steps);
-    is_err(first, apart) && is_err(next, none)
+    Ok(is_err(first, apart) && is_err(next, none))
+}
+
+static TURNED: Refused<'static> = LINE_TURNED;
+
+// Whether callers get the missing original, of two shards that no one coded none is refused, and three that no message
+// agrees with are.
+fn callers_restore<'t, R: Rate<RowEngine<'t>>>(
+    alloc: Global,
+    engine: RowEngine<'t>,
+) -> Result<bool, Error> {
+    let mut decoder = R::decoder(alloc, 2, 2, 2, engine, None)?;
+    let restored = callers_get_one(&mut decoder)?;
+    callers_give_just_enough(&mut decoder)?;
+    Ok(restored && callers_are_refused(&mut decoder)?)
 }
 
 // A rate's received shards, and some of them that are completed.
-fn rate_restores<'t, R: Rate<DefaultEngine<'t>>, A: Abort + AllocGlobal>(
+fn rate_restores<'t, R: Rate<RowEngine<'t>>, A: Abort + AllocGlobal>(
     rt: &A,
     tables: &'t Tables,
-    kind: EngineKind,
+    kind: RowKind,
     rows: &[Received<'_>],
     completed: &[Received<'_>],
 ) -> Result<(), Fail> {
     let alloc = rt.alloc();
-    let engine = DefaultEngine::new(tables, kind);
+    let engine = RowEngine::new(tables, kind);
     restores_all::<R, A>(rt, tables, kind, rows)?;
     for received in completed {
         let k = received.original_count;
@@ -232,16 +262,34 @@ fn rate_restores<'t, R: Rate<DefaultEngine<'t>>, A: Abort + AllocGlobal>(
     Ok(())
 }
 
+fn low_completed() -> &'static [Received<'static>] {
+    &LOW_COMPLETED
+}
+
+static LOW_COMPLETED: [Received<'static>; 1] = [LINE_LOST];
+
+fn high_completed() -> &'static [Received<'static>] {
+    &HIGH_COMPLETED
+}
+
+static HIGH_COMPLETED: [Received<'static>; 2] = [OUTER_LOST, SUMMAND_LOST];
+
+fn mixture() -> &'static [Received<'static>] {
+    &MIXTURE_ALONE
+}
+
+static MIXTURE_ALONE: [Received<'static>; 1] = [MIXTURE];
+
 #[test]
 fn low_rate_restores(rt: HostRuntime) -> Result<(), Fail> {
     let tables = tables_of(&rt);
-    for kind in ENGINES {
-        rate_restores::<LowRate<DefaultEngine<'_>>, _>(
+    for kind in ROW_ENGINES {
+        rate_restores::<LowRate<RowEngine<'_>>, _>(
             &rt,
             &tables,
             kind,
-            &LOW_RECEIVED,
-            &[LINE_LOST],
+            low_received(),
+            low_completed(),
         )?;
     }
     Ok(())
@@ -250,19 +298,19 @@ fn low_rate_restores(rt: HostRuntime) -> Result<(), Fail> {
 #[test]
 fn high_rate_restores(rt: HostRuntime) -> Result<(), Fail> {
     let tables = tables_of(&rt);
-    for kind in ENGINES {
-        rate_restores::<HighRate<DefaultEngine<'_>>, _>(
+    for kind in ROW_ENGINES {
+        rate_restores::<HighRate<RowEngine<'_>>, _>(
             &rt,
             &tables,
             kind,
-            &HIGH_RECEIVED,
-            &[OUTER_LOST, SUMMAND_LOST],
+            high_received(),
+            high_completed(),
         )?;
-        rate_restores::<HighRate<DefaultEngine<'_>>, _>(
+        rate_restores::<HighRate<RowEngine<'_>>, _>(
             &rt,
             &tables,
             kind,
-            &HIGH_ALONE_RECEIVED,
+            high_alone_received(),
             &[],
         )?;
     }
@@ -272,13 +320,13 @@ fn high_rate_restores(rt: HostRuntime) -> Result<(), Fail> {
 #[test]
 fn default_rate_restores_as_the_low_rate(rt: HostRuntime) -> Result<(), Fail> {
     let tables = tables_of(&rt);
-    for kind in ENGINES {
-        rate_restores::<DefaultRate<DefaultEngine<'_>>, _>(
+    for kind in ROW_ENGINES {
+        rate_restores::<DefaultRate<RowEngine<'_>>, _>(
             &rt,
             &tables,
             kind,
-            &LOW_RECEIVED,
-            &[LINE_LOST],
+            low_received(),
+            low_completed(),
         )?;
     }
     Ok(())
@@ -287,13 +335,13 @@ fn default_rate_restores_as_the_low_rate(rt: HostRuntime) -> Result<(), Fail> {
 #[test]
 fn default_rate_restores_as_the_high_rate(rt: HostRuntime) -> Result<(), Fail> {
     let tables = tables_of(&rt);
-    for kind in ENGINES {
-        rate_restores::<DefaultRate<DefaultEngine<'_>>, _>(
+    for kind in ROW_ENGINES {
+        rate_restores::<DefaultRate<RowEngine<'_>>, _>(
             &rt,
             &tables,
             kind,
-            &HIGH_RECEIVED,
-            &[MIXTURE],
+            high_received(),
+            mixture(),
         )?;
     }
     Ok(())

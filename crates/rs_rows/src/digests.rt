@@ -1,8 +1,9 @@
 //! SHA-256 digests of recovery shards, one after another.
 use crate::help::*;
+use crate::row_engine::{ROW_ENGINES, RowEngine, RowKind};
 use reed_solomon_simd::Error;
 use reed_solomon_simd::engine::tables::Tables;
-use reed_solomon_simd::engine::{DefaultEngine, Engine, EngineKind, Steps};
+use reed_solomon_simd::engine::{Engine, Steps};
 use reed_solomon_simd::rate::{DefaultRate, HighRate, LowRate, Rate, RateEncoder};
 use sha2::{Digest, Sha256};
 use std::alloc::Global;
@@ -58,6 +59,10 @@ const LOW_DRAWN: [Drawn<'static>; 3] = [
     ),
 ];
 
+fn low_drawn() -> &'static [Drawn<'static>] {
+    &LOW_DRAWN
+}
+
 // The same at counts at which the default rate is the high rate.
 const HIGH_DRAWN: [Drawn<'static>; 3] = [
     (
@@ -80,6 +85,10 @@ const HIGH_DRAWN: [Drawn<'static>; 3] = [
     ),
 ];
 
+fn high_drawn() -> &'static [Drawn<'static>] {
+    &HIGH_DRAWN
+}
+
 // The same at counts at which both rates give these shards.
 const BOTH_DRAWN: [Drawn<'static>; 2] = [
     (
@@ -96,49 +105,68 @@ const BOTH_DRAWN: [Drawn<'static>; 2] = [
     ),
 ];
 
-fn codes_drawn<'t, R: Rate<DefaultEngine<'t>>, A: Abort + AllocGlobal>(
+fn both_drawn() -> &'static [Drawn<'static>] {
+    &BOTH_DRAWN
+}
+
+// The digest of what a new encoder of the rate gives for drawn originals.
+fn drawn_digest<'t, R: Rate<RowEngine<'t>>>(
+    alloc: Global,
+    engine: RowEngine<'t>,
+    (k, r, seed): (usize, usize, u8),
+) -> Result<String, Error> {
+    let original = drawn(alloc, k, 1024, seed)?;
+    let mut encoder = R::encoder(alloc, k, r, 1024, engine, None)?;
+    digest_of(alloc, &mut encoder, original.as_slice(), r)
+}
+
+fn codes_drawn<'t, R: Rate<RowEngine<'t>>, A: Abort + AllocGlobal>(
     rt: &A,
     tables: &'t Tables,
-    kind: EngineKind,
+    kind: RowKind,
     digests: &[Drawn<'_>],
 ) -> Result<(), Fail> {
-    let alloc = rt.alloc();
-    let engine = DefaultEngine::new(tables, kind);
+    let engine = RowEngine::new(tables, kind);
     for (k, r, seed, digest) in digests {
-        let original = drawn(alloc, *k, 1024, *seed)?;
-        let mut encoder = R::encoder(alloc, *k, *r, 1024, engine, None)?;
-        let got = digest_of(alloc, &mut encoder, original.as_slice(), *r)?;
+        let got = drawn_digest::<R>(rt.alloc(), engine, (*k, *r, *seed))?;
         assert_eq!(rt; got.as_str(), *digest, "{kind:?} {k} {r}");
     }
     Ok(())
 }
 
 // A rate's own digests, and those of both rates.
-fn rate_codes<'t, R: Rate<DefaultEngine<'t>>, A: Abort + AllocGlobal>(
+fn rate_codes<'t, R: Rate<RowEngine<'t>>, A: Abort + AllocGlobal>(
     rt: &A,
     tables: &'t Tables,
-    kind: EngineKind,
+    kind: RowKind,
     own: &[Drawn<'_>],
 ) -> Result<(), Fail> {
     codes_drawn::<R, A>(rt, tables, kind, own)?;
-    codes_drawn::<R, A>(rt, tables, kind, &BOTH_DRAWN)
+    codes_drawn::<R, A>(rt, tables, kind, both_drawn())
+}
+
+fn rates_code<A: Abort + AllocGlobal>(rt: &A, tables: &Tables, kind: RowKind) -> Result<(), Fail> {
+    rate_codes::<LowRate<RowEngine<'_>>, A>(rt, tables, kind, low_drawn())?;
+    rate_codes::<HighRate<RowEngine<'_>>, A>(rt, tables, kind, high_drawn())?;
+    rate_codes::<DefaultRate<RowEngine<'_>>, A>(rt, tables, kind, low_drawn())?;
+    rate_codes::<DefaultRate<RowEngine<'_>>, A>(rt, tables, kind, high_drawn())
 }
 
 #[test]
 fn drawn_shards_have_their_digests(rt: HostRuntime) -> Result<(), Fail> {
     let tables = tables_of(&rt);
-    for kind in ENGINES {
-        rate_codes::<LowRate<DefaultEngine<'_>>, _>(&rt, &tables, kind, &LOW_DRAWN)?;
-        rate_codes::<HighRate<DefaultEngine<'_>>, _>(&rt, &tables, kind, &HIGH_DRAWN)?;
-        rate_codes::<DefaultRate<DefaultEngine<'_>>, _>(&rt, &tables, kind, &LOW_DRAWN)?;
-        rate_codes::<DefaultRate<DefaultEngine<'_>>, _>(&rt, &tables, kind, &HIGH_DRAWN)?;
+    for kind in ROW_ENGINES {
+        rates_code(&rt, &tables, kind)?;
     }
     Ok(())
 }
 
+// Counts, the shard size, and the digest.
+type Counted<'a> = (usize, usize, usize, &'a str);
+
 // Digests of the shards that the crate's plain engine gives at the default rate, which is the low rate at these counts,
 // of counted originals: the counts, the size and the digest.
-const COUNTED: [(usize, usize, usize, &str); 20] = [
+const COUNTED: [Counted<'static>; 20] = [
     (
         4,
         5,
@@ -261,30 +289,58 @@ const COUNTED: [(usize, usize, usize, &str); 20] = [
     ),
 ];
 
-// One encoder, reset from row to row.
-fn codes_counted<'t, R: Rate<DefaultEngine<'t>>, A: Abort + AllocGlobal>(
+fn counted_rows() -> &'static [Counted<'static>] {
+    &COUNTED
+}
+
+// The digest of what the encoder, once reset, gives for counted originals.
+fn counted_digest<E: Engine, X: RateEncoder<E>>(
+    alloc: Global,
+    encoder: &mut X,
+    (k, r, size): (usize, usize, usize),
+) -> Result<String, Error> {
+    let original = counted(alloc, k, size)?;
+    encoder.reset(k, r, size)?;
+    digest_of(alloc, encoder, original.as_slice(), r)
+}
+
+fn codes_rows<E: Engine, X: RateEncoder<E>, A: Abort + AllocGlobal>(
     rt: &A,
-    tables: &'t Tables,
-    kind: EngineKind,
+    encoder: &mut X,
+    kind: RowKind,
 ) -> Result<(), Fail> {
-    let alloc = rt.alloc();
-    let engine = DefaultEngine::new(tables, kind);
-    let mut encoder = R::encoder(alloc, 1, 1, 2, engine, None)?;
-    for (k, r, size, digest) in COUNTED {
-        let original = counted(alloc, k, size)?;
-        encoder.reset(k, r, size)?;
-        let got = digest_of(alloc, &mut encoder, original.as_slice(), r)?;
-        assert_eq!(rt; got.as_str(), digest, "{kind:?} {k} {r} {size}");
+    for (k, r, size, digest) in counted_rows() {
+        let got = counted_digest(rt.alloc(), encoder, (*k, *r, *size))?;
+        assert_eq!(rt; got.as_str(), *digest, "{kind:?} {k} {r} {size}");
     }
     Ok(())
+}
+
+// One encoder, reset from row to row.
+fn codes_counted<'t, R: Rate<RowEngine<'t>>, A: Abort + AllocGlobal>(
+    rt: &A,
+    tables: &'t Tables,
+    kind: RowKind,
+) -> Result<(), Fail> {
+    let engine = RowEngine::new(tables, kind);
+    let mut encoder = R::encoder(rt.alloc(), 1, 1, 2, engine, None)?;
+    codes_rows(rt, &mut encoder, kind)
+}
+
+fn rates_code_counted<A: Abort + AllocGlobal>(
+    rt: &A,
+    tables: &Tables,
+    kind: RowKind,
+) -> Result<(), Fail> {
+    codes_counted::<LowRate<RowEngine<'_>>, A>(rt, tables, kind)?;
+    codes_counted::<DefaultRate<RowEngine<'_>>, A>(rt, tables, kind)
 }
 
 #[test]
 fn counted_shards_have_their_digests(rt: HostRuntime) -> Result<(), Fail> {
     let tables = tables_of(&rt);
-    for kind in ENGINES {
-        codes_counted::<LowRate<DefaultEngine<'_>>, _>(&rt, &tables, kind)?;
-        codes_counted::<DefaultRate<DefaultEngine<'_>>, _>(&rt, &tables, kind)?;
+    for kind in ROW_ENGINES {
+        rates_code_counted(&rt, &tables, kind)?;
     }
     Ok(())
 }

@@ -1,15 +1,16 @@
 //! What the tests share.
+use crate::row_engine::RowEngine;
 use crate::rows::{Item, Message, Received, Refused};
 use rand_chacha::ChaCha8Rng;
 use rand_core::{Rng, SeedableRng};
 use reed_solomon_simd::engine::tables::Tables;
-use reed_solomon_simd::engine::{DefaultEngine, Engine, EngineKind, Steps};
+use reed_solomon_simd::engine::{Engine, EngineKind, Steps};
 use reed_solomon_simd::rate::{Rate, RateDecoder, RateEncoder};
 use reed_solomon_simd::{DecoderResult, Error, Recovery, RestoredOriginal};
 use std::alloc::{AllocError, Global};
 use std::process::Abort;
 
-/// The kinds of engines. Rows are run with each of them.
+/// The kinds of engines. Rows of the plain objects and of the one-call functions are run with each of them.
 pub const ENGINES: [EngineKind; 4] = [
     EngineKind::Naive,
     EngineKind::NoSimd,
@@ -22,9 +23,9 @@ pub fn tables_of(rt: &(impl Abort + AllocGlobal)) -> Tables {
 }
 
 /// An encoder of the rate for the message.
-pub fn encoder_for<'t, R: Rate<DefaultEngine<'t>>>(
+pub fn encoder_for<'t, R: Rate<RowEngine<'t>>>(
     alloc: Global,
-    engine: DefaultEngine<'t>,
+    engine: RowEngine<'t>,
     message: &Message<'_>,
 ) -> Result<R::RateEncoder, Error> {
     R::encoder(
@@ -38,9 +39,9 @@ pub fn encoder_for<'t, R: Rate<DefaultEngine<'t>>>(
 }
 
 /// A decoder of the rate for the received shards.
-pub fn decoder_for<'t, R: Rate<DefaultEngine<'t>>>(
+pub fn decoder_for<'t, R: Rate<RowEngine<'t>>>(
     alloc: Global,
-    engine: DefaultEngine<'t>,
+    engine: RowEngine<'t>,
     received: &Received<'_>,
 ) -> Result<R::RateDecoder, Error> {
     R::decoder(

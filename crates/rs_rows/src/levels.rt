@@ -1,9 +1,10 @@
 //! The three levels of use, each losing two shards of one message and restoring them: a call, objects, and objects of a
 //! rate and an engine of the caller's choice. The documents quote them.
 use reed_solomon_simd::engine::tables::Tables;
-use reed_solomon_simd::engine::{DefaultEngine, EngineKind, Naive, Steps};
+use reed_solomon_simd::engine::{DefaultEngine, EngineKind, Shuffle, Steps};
 use reed_solomon_simd::rate::{HighRateDecoder, HighRateEncoder, RateDecoder, RateEncoder};
-use reed_solomon_simd::{ReedSolomonDecoder, ReedSolomonEncoder};
+use reed_solomon_simd::{DecoderResult, Error, ReedSolomonDecoder, ReedSolomonEncoder};
+use std::alloc::Global;
 use std::test::Fail;
 
 const ORIGINAL: [&[u8]; 3] = [b"Three shards", b" of one size", b" are coded. "];
@@ -33,11 +34,8 @@ fn in_one_call(rt: HostRuntime) -> Result<(), Fail> {
     Ok(())
 }
 
-#[test]
-fn with_objects(rt: HostRuntime) -> Result<(), Fail> {
-    let alloc = rt.alloc();
-    let tables = Tables::new(alloc)?;
-    let engine = DefaultEngine::new(&tables, EngineKind::Naive);
+// Whether objects restore what is lost.
+fn objects_restore(alloc: Global, engine: DefaultEngine<'_>) -> Result<bool, Error> {
     let mut encoder = ReedSolomonEncoder::new(alloc, 3, 2, 12, engine)?;
     for shard in ORIGINAL {
         encoder.add_original_shard(shard)?;
@@ -51,16 +49,27 @@ fn with_objects(rt: HostRuntime) -> Result<(), Fail> {
     }
     let restored = decoder.decode()?;
 
-    assert!(rt; restored.restored_original(0) == Some(ORIGINAL[0]));
-    assert!(rt; restored.restored_original(2) == Some(ORIGINAL[2]));
-    Ok(())
+    Ok(are_restored(&restored))
+}
+
+// Whether originals 0 and 2 are restored.
+fn are_restored(restored: &DecoderResult<'_>) -> bool {
+    let first = restored.restored_original(0) == Some(ORIGINAL[0]);
+    first && restored.restored_original(2) == Some(ORIGINAL[2])
 }
 
 #[test]
-fn with_a_rate_and_an_engine(rt: HostRuntime) -> Result<(), Fail> {
-    let alloc = rt.alloc();
+fn with_objects(rt: HostRuntime) -> Result<(), Fail> {
+    let tables = Tables::new(rt.alloc())?;
+    let engine = DefaultEngine::new(&tables, EngineKind::Naive);
+    assert!(rt; objects_restore(rt.alloc(), engine)?);
+    Ok(())
+}
+
+// Whether objects of a rate and an engine restore it.
+fn objects_of_a_rate_restore(alloc: Global) -> Result<bool, Error> {
     let tables = Tables::new(alloc)?;
-    let engine = Naive::new(&tables);
+    let engine = Shuffle::new(&tables);
     let mut steps = Steps::new();
     let mut encoder = HighRateEncoder::new(alloc, 3, 2, 12, engine, None)?;
     for shard in ORIGINAL {
@@ -75,7 +84,11 @@ fn with_a_rate_and_an_engine(rt: HostRuntime) -> Result<(), Fail> {
     }
     let restored = decoder.decode(&mut steps)?;
 
-    assert!(rt; restored.restored_original(0) == Some(ORIGINAL[0]));
-    assert!(rt; restored.restored_original(2) == Some(ORIGINAL[2]));
+    Ok(are_restored(&restored))
+}
+
+#[test]
+fn with_a_rate_and_an_engine(rt: HostRuntime) -> Result<(), Fail> {
+    assert!(rt; objects_of_a_rate_restore(rt.alloc())?);
     Ok(())
 }

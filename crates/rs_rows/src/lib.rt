@@ -34,6 +34,8 @@ mod refused_memory;
 #[cfg(test)]
 mod resets;
 #[cfg(test)]
+mod row_engine;
+#[cfg(test)]
 mod rows;
 pub mod walking;
 #[cfg(test)]

@@ -89,18 +89,41 @@ pub fn decodes(
     Ok(good && walks_restored(lent.restored_original_iter(), received.restored))
 }
 
+// Whether the encoder codes `LINE`, and `CONSTANT` once it is reset.
+fn encodes_on(alloc: Global, encoder: &mut ReedSolomonEncoder<'_>) -> Result<(bool, bool), Error> {
+    let line = encodes(alloc, encoder, &LINE)?;
+    encoder.reset(1, 3, 2)?;
+    Ok((line, encodes(alloc, encoder, &CONSTANT)?))
+}
+
 #[test]
 fn an_encoder_goes_on_with_other_counts(rt: HostRuntime) -> Result<(), Fail> {
     let tables = tables_of(&rt);
     for kind in ENGINES {
         let engine = DefaultEngine::new(&tables, kind);
         let mut encoder = encoder_for(rt.alloc(), engine, &LINE)?;
-        let line = encodes(rt.alloc(), &mut encoder, &LINE)?;
-        encoder.reset(1, 3, 2)?;
-        let constant = encodes(rt.alloc(), &mut encoder, &CONSTANT)?;
+        let (line, constant) = encodes_on(rt.alloc(), &mut encoder)?;
         assert!(rt; line && constant, "{kind:?}: {line} {constant}");
     }
     Ok(())
+}
+
+// Whether a decoder restores, and once it is reset to the counts of `LINE` twice more.
+fn decodes_on(
+    alloc: Global,
+    engine: DefaultEngine<'_>,
+    outer: &Received<'_>,
+    next: (&Received<'_>, &Received<'_>),
+) -> Result<bool, Error> {
+    let mut decoder = decoder_for(alloc, engine, outer)?;
+    let first = decodes(alloc, &mut decoder, outer)?;
+    decoder.reset(2, 3, 2)?;
+    let line = decodes(alloc, &mut decoder, next.0)?;
+    Ok(first && line && decodes(alloc, &mut decoder, next.1)?)
+}
+
+fn decodes_lost(alloc: Global, engine: DefaultEngine<'_>) -> Result<bool, Error> {
+    decodes_on(alloc, engine, &OUTER_LOST, (&LINE_LOST, &NONE_LOST))
 }
 
 #[test]
@@ -108,38 +131,39 @@ fn a_decoder_goes_on_with_other_counts(rt: HostRuntime) -> Result<(), Fail> {
     let tables = tables_of(&rt);
     for kind in ENGINES {
         let engine = DefaultEngine::new(&tables, kind);
-        let mut decoder = decoder_for(rt.alloc(), engine, &OUTER_LOST)?;
-        let outer = decodes(rt.alloc(), &mut decoder, &OUTER_LOST)?;
-        decoder.reset(2, 3, 2)?;
-        let line = decodes(rt.alloc(), &mut decoder, &LINE_LOST)?;
-        let none = decodes(rt.alloc(), &mut decoder, &NONE_LOST)?;
-        assert!(rt; outer && line && none, "{kind:?}: {outer} {line} {none}");
+        assert!(rt; decodes_lost(rt.alloc(), engine)?, "{kind:?}");
     }
     Ok(())
 }
 
-// Whether shards that no message agrees with are refused, and the next ones restore.
+// Whether a decoder refuses shards that no message agrees with, and restores the next ones.
 fn refuses_then_decodes(
     alloc: Global,
-    decoder: &mut ReedSolomonDecoder<'_>,
+    engine: DefaultEngine<'_>,
     refused: &Refused<'_>,
 ) -> Result<bool, Error> {
-    give(decoder, &refused.received)?;
+    let mut decoder = decoder_for(alloc, engine, &refused.received)?;
+    give(&mut decoder, &refused.received)?;
     let apart = Error::InconsistentShards {
         original_received_count: refused.originals_given,
         recovery_received_count: refused.recovery_given,
     };
     let answered = is_err(decoder.decode(), apart);
-    Ok(answered && decodes(alloc, decoder, &refused.next)?)
+    Ok(answered && decodes(alloc, &mut decoder, &refused.next)?)
 }
+
+fn constant_turned() -> &'static Refused<'static> {
+    &TURNED
+}
+
+static TURNED: Refused<'static> = CONSTANT_TURNED;
 
 #[test]
 fn a_decoder_refuses_inconsistent_shards(rt: HostRuntime) -> Result<(), Fail> {
     let tables = tables_of(&rt);
     for kind in ENGINES {
         let engine = DefaultEngine::new(&tables, kind);
-        let mut decoder = decoder_for(rt.alloc(), engine, &CONSTANT_TURNED.received)?;
-        let good = refuses_then_decodes(rt.alloc(), &mut decoder, &CONSTANT_TURNED)?;
+        let good = refuses_then_decodes(rt.alloc(), engine, constant_turned())?;
         assert!(rt; good, "{kind:?}");
     }
     Ok(())
@@ -159,15 +183,20 @@ fn refuses_index(decoder: &mut ReedSolomonDecoder<'_>, index: usize) -> bool {
         && is_err(decoder.add_recovery_shard(index, &[0, 0]), recovery)
 }
 
+// Whether a decoder of one of each refuses them, and then restores.
+fn refuses_indexes(alloc: Global, engine: DefaultEngine<'_>) -> Result<bool, Error> {
+    let received = &SINGLE_OF_EACH_LOST;
+    let mut decoder = decoder_for(alloc, engine, received)?;
+    let refused = refuses_index(&mut decoder, 1) && refuses_index(&mut decoder, usize::MAX);
+    Ok(refused && decodes(alloc, &mut decoder, received)?)
+}
+
 #[test]
 fn a_decoder_refuses_indexes_past_its_counts(rt: HostRuntime) -> Result<(), Fail> {
     let tables = tables_of(&rt);
     for kind in ENGINES {
         let engine = DefaultEngine::new(&tables, kind);
-        let mut decoder = decoder_for(rt.alloc(), engine, &SINGLE_OF_EACH_LOST)?;
-        let refused = refuses_index(&mut decoder, 1) && refuses_index(&mut decoder, usize::MAX);
-        let good = refused && decodes(rt.alloc(), &mut decoder, &SINGLE_OF_EACH_LOST)?;
-        assert!(rt; good, "{kind:?}");
+        assert!(rt; refuses_indexes(rt.alloc(), engine)?, "{kind:?}");
     }
     Ok(())
 }
@@ -228,6 +257,25 @@ fn is_shard(shards: &[Vec<u8>], index: usize, shard: &[u8]) -> bool {
     }
 }
 
+fn add_all(encoder: &mut ReedSolomonEncoder<'_>, original: &[Vec<u8>]) -> Result<(), Error> {
+    for shard in original {
+        encoder.add_original_shard(shard.as_slice())?;
+    }
+    Ok(())
+}
+
+// Whether a new decoder gives back originals 0 and 2 of three.
+fn are_given_back(
+    alloc: Global,
+    engine: DefaultEngine<'_>,
+    shard_bytes: usize,
+    original: &[Vec<u8>],
+    recovery: &EncoderResult<'_>,
+) -> Result<bool, Error> {
+    let mut decoder = ReedSolomonDecoder::new(alloc, 3, 2, shard_bytes, engine)?;
+    gives_back(&mut decoder, original, recovery)
+}
+
 // Whether originals 0 and 2 of three drawn ones come back.
 fn comes_back(
     alloc: Global,
@@ -236,13 +284,11 @@ fn comes_back(
     seed: u8,
 ) -> Result<bool, Error> {
     let original = drawn(alloc, 3, shard_bytes, seed)?;
+    let original = original.as_slice();
     let mut encoder = ReedSolomonEncoder::new(alloc, 3, 2, shard_bytes, engine)?;
-    for shard in &original {
-        encoder.add_original_shard(shard.as_slice())?;
-    }
+    add_all(&mut encoder, original)?;
     let recovery = encoder.encode()?;
-    let mut decoder = ReedSolomonDecoder::new(alloc, 3, 2, shard_bytes, engine)?;
-    gives_back(&mut decoder, original.as_slice(), &recovery)
+    are_given_back(alloc, engine, shard_bytes, original, &recovery)
 }
 
 // Shard sizes with seeds to draw from.

@@ -2,8 +2,8 @@
 use crate::help::{ENGINES, is_err, tables_of};
 use crate::one_call::decode_vectors;
 use crate::rows::{
-    FOUR_ORIGINALS, HIGH_MESSAGES, HIGH_RECEIVED, HIGH_REFUSED, Item, LOW_MESSAGES, LOW_RECEIVED,
-    LOW_REFUSED, Message, Received, Refused,
+    FOUR_ORIGINALS, Item, Message, Received, Refused, high_messages, high_received, high_refused,
+    low_messages, low_received, low_refused,
 };
 use reed_solomon_simd::engine::tables::Tables;
 use reed_solomon_simd::engine::{DefaultEngine, EngineKind};
@@ -59,8 +59,8 @@ fn are_coded<A: Abort + AllocGlobal>(
 fn messages_are_coded(rt: HostRuntime) -> Result<(), Fail> {
     let tables = tables_of(&rt);
     for kind in ENGINES {
-        are_coded(&rt, &tables, kind, &LOW_MESSAGES)?;
-        are_coded(&rt, &tables, kind, &HIGH_MESSAGES)?;
+        are_coded(&rt, &tables, kind, low_messages())?;
+        are_coded(&rt, &tables, kind, high_messages())?;
     }
     Ok(())
 }
@@ -154,8 +154,8 @@ fn restores_text(alloc: Global, engine: DefaultEngine<'_>) -> Result<bool, Error
 fn received_shards_are_restored(rt: HostRuntime) -> Result<(), Fail> {
     let tables = tables_of(&rt);
     for kind in ENGINES {
-        are_restored(&rt, &tables, kind, &LOW_RECEIVED)?;
-        are_restored(&rt, &tables, kind, &HIGH_RECEIVED)?;
+        are_restored(&rt, &tables, kind, low_received())?;
+        are_restored(&rt, &tables, kind, high_received())?;
         are_restored(&rt, &tables, kind, &[FOUR_ORIGINALS])?;
     }
     Ok(())
@@ -192,8 +192,8 @@ fn are_inconsistent<A: Abort + AllocGlobal>(
 fn inconsistent_shards_are_refused(rt: HostRuntime) {
     let tables = tables_of(&rt);
     for kind in ENGINES {
-        are_inconsistent(&rt, &tables, kind, &LOW_REFUSED);
-        are_inconsistent(&rt, &tables, kind, &HIGH_REFUSED);
+        are_inconsistent(&rt, &tables, kind, low_refused());
+        are_inconsistent(&rt, &tables, kind, high_refused());
     }
 }
 
@@ -205,7 +205,7 @@ struct Uncoded<'a> {
     left: usize,
 }
 
-const UNCODED: [Uncoded<'static>; 9] = [
+static UNCODED: [Uncoded<'static>; 9] = [
     Uncoded {
         original_count: 0,
         original: &[],
@@ -274,8 +274,12 @@ const UNCODED: [Uncoded<'static>; 9] = [
     },
 ];
 
+fn uncoded_rows() -> &'static [Uncoded<'static>] {
+    &UNCODED
+}
+
 fn are_uncoded<A: Abort + AllocGlobal>(rt: &A, engine: DefaultEngine<'_>) {
-    for row in &UNCODED {
+    for row in uncoded_rows() {
         let mut original = row.original.iter().copied();
         let answer = encode(rt.alloc(), row.original_count, 1, &mut original, engine);
         let refused = is_err(answer, row.refusal);
@@ -300,7 +304,7 @@ struct Lost<'a> {
     left: (usize, usize),
 }
 
-const WITHOUT_RECOVERY: [Lost<'static>; 5] = [
+static WITHOUT_RECOVERY: [Lost<'static>; 5] = [
     Lost {
         original_count: 2,
         original: &[(0, &ZEROS), (0, &ZEROS)],
@@ -348,7 +352,11 @@ const WITHOUT_RECOVERY: [Lost<'static>; 5] = [
     },
 ];
 
-const WITH_RECOVERY: [Lost<'static>; 9] = [
+fn without_recovery() -> &'static [Lost<'static>] {
+    &WITHOUT_RECOVERY
+}
+
+static WITH_RECOVERY: [Lost<'static>; 9] = [
     Lost {
         original_count: 1,
         original: &[(0, &ZEROS)],
@@ -423,6 +431,10 @@ const WITH_RECOVERY: [Lost<'static>; 9] = [
     },
 ];
 
+fn with_recovery() -> &'static [Lost<'static>] {
+    &WITH_RECOVERY
+}
+
 fn are_refused<A: Abort + AllocGlobal>(rt: &A, engine: DefaultEngine<'_>, rows: &[Lost<'_>]) {
     for row in rows {
         let mut original = row.original.iter().copied();
@@ -439,8 +451,8 @@ fn received_shards_are_refused(rt: HostRuntime) {
     let tables = tables_of(&rt);
     for kind in ENGINES {
         let engine = DefaultEngine::new(&tables, kind);
-        are_refused(&rt, engine, &WITHOUT_RECOVERY);
-        are_refused(&rt, engine, &WITH_RECOVERY);
+        are_refused(&rt, engine, without_recovery());
+        are_refused(&rt, engine, with_recovery());
     }
 }
 
@@ -512,7 +524,7 @@ const LAST_ORIGINAL: Item<'static> = (1, &[1, 0]);
 
 const LAST_RECOVERY: Item<'static> = (1, &[3, 0]);
 
-const ENDED: [Ended<'static>; 4] = [
+static ENDED: [Ended<'static>; 4] = [
     Ended {
         original: &[Some((0, &[0, 0])), None, Some(LAST_ORIGINAL)],
         recovery: &[Some((0, &[2, 0])), None, Some(LAST_RECOVERY)],
@@ -548,6 +560,10 @@ const ENDED: [Ended<'static>; 4] = [
     },
 ];
 
+fn ended_rows() -> &'static [Ended<'static>] {
+    &ENDED
+}
+
 // Whether the answer is just these shards, or this refusal.
 fn is_answer(
     answer: Result<BTreeMap<usize, Vec<u8>>, Error>,
@@ -570,7 +586,7 @@ fn decodes_to_the_end(alloc: Global, engine: DefaultEngine<'_>, ended: &Ended<'_
 }
 
 fn are_decoded_to_the_end<A: Abort + AllocGlobal>(rt: &A, engine: DefaultEngine<'_>) {
-    for ended in &ENDED {
+    for ended in ended_rows() {
         assert!(rt; decodes_to_the_end(rt.alloc(), engine, ended));
     }
 }

@@ -7,6 +7,7 @@ use crate::help::{
     restores, tables_of, walks_recovery,
 };
 use crate::marks::{are_refused, refuse_from_here, refuse_until_here};
+use crate::row_engine::{ROW_ENGINES, RowEngine};
 use crate::rows::{
     FOUR_AND_FOUR, FOUR_ORIGINALS, LINE, LINE_LOST, MIXTURE, Message, OUTER_LOST, Received,
     TWO_AND_TWO,
@@ -77,9 +78,9 @@ fn decodes_new<E: Engine, X: RateDecoder<E> + Drop>(made: Result<X, Error>) -> R
 }
 
 // New encoders and decoders of a rate, by the rate's calls and by their own.
-fn rate_makes<'t, R: Rate<DefaultEngine<'t>>>(
+fn rate_makes<'t, R: Rate<RowEngine<'t>>>(
     alloc: Global,
-    engine: DefaultEngine<'t>,
+    engine: RowEngine<'t>,
     answers: &mut Answers,
 ) {
     refuse_from_here(alloc);
@@ -94,10 +95,10 @@ fn rate_makes<'t, R: Rate<DefaultEngine<'t>>>(
     answers.take(decodes_new(decoder_by_itself));
 }
 
-fn rates_make(alloc: Global, engine: DefaultEngine<'_>, answers: &mut Answers) {
-    rate_makes::<LowRate<DefaultEngine<'_>>>(alloc, engine, answers);
-    rate_makes::<HighRate<DefaultEngine<'_>>>(alloc, engine, answers);
-    rate_makes::<DefaultRate<DefaultEngine<'_>>>(alloc, engine, answers);
+fn rates_make(alloc: Global, engine: RowEngine<'_>, answers: &mut Answers) {
+    rate_makes::<LowRate<RowEngine<'_>>>(alloc, engine, answers);
+    rate_makes::<HighRate<RowEngine<'_>>>(alloc, engine, answers);
+    rate_makes::<DefaultRate<RowEngine<'_>>>(alloc, engine, answers);
 }
 
 #[test]
@@ -105,8 +106,8 @@ fn objects_are_made(rt: HostRuntime) {
     let alloc = rt.alloc();
     let tables = tables_of(&rt);
     let mut answers = Answers::new();
-    for kind in ENGINES {
-        rates_make(alloc, DefaultEngine::new(&tables, kind), &mut answers);
+    for kind in ROW_ENGINES {
+        rates_make(alloc, RowEngine::new(&tables, kind), &mut answers);
     }
     assert!(rt; answers.hold(alloc));
 }
@@ -163,9 +164,9 @@ fn resets_encoder<E: Engine, X: RateEncoder<E>>(
     Ok(is_err(encoder.encode(&mut steps), none))
 }
 
-fn rate_resets_encoders<'t, R: Rate<DefaultEngine<'t>>>(
+fn rate_resets_encoders<'t, R: Rate<RowEngine<'t>>>(
     alloc: Global,
-    engine: DefaultEngine<'t>,
+    engine: RowEngine<'t>,
     held: &Message<'_>,
     configurations: &[Counts],
     answers: &mut Answers,
@@ -179,31 +180,18 @@ fn rate_resets_encoders<'t, R: Rate<DefaultEngine<'t>>>(
 
 fn rates_reset_encoders(
     alloc: Global,
-    engine: DefaultEngine<'_>,
+    engine: RowEngine<'_>,
     answers: &mut Answers,
 ) -> Result<(), Error> {
+    let (line, two) = (&LINE, &TWO_AND_TWO);
     let low = [(2, 3, 4096), (4, 9, 2)];
     let high = [(2, 2, 4096), (61440, 4096, 64)];
     let to_high = [(2, 3, 4096), (61440, 4096, 64)];
     let to_low = [(2, 3, 4096)];
-    rate_resets_encoders::<LowRate<DefaultEngine<'_>>>(alloc, engine, &LINE, &low, answers)?;
-    rate_resets_encoders::<HighRate<DefaultEngine<'_>>>(
-        alloc,
-        engine,
-        &TWO_AND_TWO,
-        &high,
-        answers,
-    )?;
-    rate_resets_encoders::<DefaultRate<DefaultEngine<'_>>>(
-        alloc, engine, &LINE, &to_high, answers,
-    )?;
-    rate_resets_encoders::<DefaultRate<DefaultEngine<'_>>>(
-        alloc,
-        engine,
-        &TWO_AND_TWO,
-        &to_low,
-        answers,
-    )
+    rate_resets_encoders::<LowRate<RowEngine<'_>>>(alloc, engine, line, &low, answers)?;
+    rate_resets_encoders::<HighRate<RowEngine<'_>>>(alloc, engine, two, &high, answers)?;
+    rate_resets_encoders::<DefaultRate<RowEngine<'_>>>(alloc, engine, line, &to_high, answers)?;
+    rate_resets_encoders::<DefaultRate<RowEngine<'_>>>(alloc, engine, two, &to_low, answers)
 }
 
 #[test]
@@ -211,8 +199,8 @@ fn encoders_are_reset(rt: HostRuntime) -> Result<(), Fail> {
     let alloc = rt.alloc();
     let tables = tables_of(&rt);
     let mut answers = Answers::new();
-    for kind in ENGINES {
-        rates_reset_encoders(alloc, DefaultEngine::new(&tables, kind), &mut answers)?;
+    for kind in ROW_ENGINES {
+        rates_reset_encoders(alloc, RowEngine::new(&tables, kind), &mut answers)?;
     }
     assert!(rt; answers.hold(alloc));
     Ok(())
@@ -241,9 +229,9 @@ fn resets_decoder<E: Engine, X: RateDecoder<E>>(
     Ok(refuses(decoder, none))
 }
 
-fn rate_resets_decoders<'t, R: Rate<DefaultEngine<'t>>>(
+fn rate_resets_decoders<'t, R: Rate<RowEngine<'t>>>(
     alloc: Global,
-    engine: DefaultEngine<'t>,
+    engine: RowEngine<'t>,
     held: &Received<'_>,
     configurations: &[Counts],
     answers: &mut Answers,
@@ -257,30 +245,17 @@ fn rate_resets_decoders<'t, R: Rate<DefaultEngine<'t>>>(
 
 fn rates_reset_decoders(
     alloc: Global,
-    engine: DefaultEngine<'_>,
+    engine: RowEngine<'_>,
     answers: &mut Answers,
 ) -> Result<(), Error> {
+    let (line, outer) = (&LINE_LOST, &OUTER_LOST);
     let low = [(2, 3, 4096), (4096, 61440, 2)];
     let high = [(2, 3, 4096), (61440, 4096, 64)];
     let to_low = [(4096, 61440, 2)];
-    rate_resets_decoders::<LowRate<DefaultEngine<'_>>>(alloc, engine, &LINE_LOST, &low, answers)?;
-    rate_resets_decoders::<HighRate<DefaultEngine<'_>>>(
-        alloc,
-        engine,
-        &OUTER_LOST,
-        &high,
-        answers,
-    )?;
-    rate_resets_decoders::<DefaultRate<DefaultEngine<'_>>>(
-        alloc, engine, &LINE_LOST, &high, answers,
-    )?;
-    rate_resets_decoders::<DefaultRate<DefaultEngine<'_>>>(
-        alloc,
-        engine,
-        &OUTER_LOST,
-        &to_low,
-        answers,
-    )
+    rate_resets_decoders::<LowRate<RowEngine<'_>>>(alloc, engine, line, &low, answers)?;
+    rate_resets_decoders::<HighRate<RowEngine<'_>>>(alloc, engine, outer, &high, answers)?;
+    rate_resets_decoders::<DefaultRate<RowEngine<'_>>>(alloc, engine, line, &high, answers)?;
+    rate_resets_decoders::<DefaultRate<RowEngine<'_>>>(alloc, engine, outer, &to_low, answers)
 }
 
 #[test]
@@ -288,8 +263,8 @@ fn decoders_are_reset(rt: HostRuntime) -> Result<(), Fail> {
     let alloc = rt.alloc();
     let tables = tables_of(&rt);
     let mut answers = Answers::new();
-    for kind in ENGINES {
-        rates_reset_decoders(alloc, DefaultEngine::new(&tables, kind), &mut answers)?;
+    for kind in ROW_ENGINES {
+        rates_reset_decoders(alloc, RowEngine::new(&tables, kind), &mut answers)?;
     }
     assert!(rt; answers.hold(alloc));
     Ok(())

@@ -1,14 +1,15 @@
 //! Resets, and parts handed from one object to the next.
 use crate::callers::{make_again, pass_to_high};
 use crate::help::*;
+use crate::row_engine::{ROW_ENGINES, RowEngine, RowKind};
 use crate::rows::{
-    CONSTANT, HIGH_MESSAGES, HIGH_RECEIVED, HIGH_REFUSED, LINE, LINE_LOST, LINE_SECOND,
-    LOW_MESSAGES, LOW_RECEIVED, LOW_REFUSED, MIXTURE, Message, ONES, ONES_LOST, OUTER_LOST,
-    Received, Refused, SUM, TWO_AND_TWO,
+    CONSTANT, LINE, LINE_LOST, LINE_SECOND, MIXTURE, Message, ONES, ONES_LOST, OUTER_LOST,
+    Received, Refused, SUM, TWO_AND_TWO, high_messages, high_received, high_refused, low_messages,
+    low_received, low_refused,
 };
 use reed_solomon_simd::Error;
 use reed_solomon_simd::engine::tables::Tables;
-use reed_solomon_simd::engine::{DefaultEngine, Engine, EngineKind, Steps};
+use reed_solomon_simd::engine::{Engine, Steps};
 use reed_solomon_simd::rate::{
     DecoderWork, DefaultRate, DefaultRateDecoder, EncoderWork, HighRate, LowRate, LowRateDecoder,
     Rate, RateDecoder, RateEncoder,
@@ -44,9 +45,9 @@ fn decodes_reset<E: Engine, X: RateDecoder<E>>(
 }
 
 // One object goes through all rows by resets. Each reset but the first finds a shard given.
-fn resets_encoder<'t, R: Rate<DefaultEngine<'t>>>(
+fn resets_encoder<'t, R: Rate<RowEngine<'t>>>(
     alloc: Global,
-    engine: DefaultEngine<'t>,
+    engine: RowEngine<'t>,
     messages: &[Message<'_>],
 ) -> Result<bool, Error> {
     let mut encoder = R::encoder(alloc, 1, 1, 2, engine, None)?;
@@ -60,9 +61,9 @@ fn resets_encoder<'t, R: Rate<DefaultEngine<'t>>>(
     Ok(good)
 }
 
-fn resets_decoder<'t, R: Rate<DefaultEngine<'t>>>(
+fn resets_decoder<'t, R: Rate<RowEngine<'t>>>(
     alloc: Global,
-    engine: DefaultEngine<'t>,
+    engine: RowEngine<'t>,
     rows: &[Received<'_>],
 ) -> Result<bool, Error> {
     let mut decoder = R::decoder(alloc, 1, 1, 2, engine, None)?;
@@ -77,12 +78,12 @@ fn resets_decoder<'t, R: Rate<DefaultEngine<'t>>>(
 }
 
 // An encoder's engine and memory, and those of a decoder.
-type EncoderParts<'t> = (DefaultEngine<'t>, EncoderWork);
+type EncoderParts<'t> = (RowEngine<'t>, EncoderWork);
 
-type DecoderParts<'t> = (DefaultEngine<'t>, DecoderWork);
+type DecoderParts<'t> = (RowEngine<'t>, DecoderWork);
 
 // Whether an encoder made of the parts codes the message, and what it leaves.
-fn codes_from_parts<'t, R: Rate<DefaultEngine<'t>>>(
+fn codes_from_parts<'t, R: Rate<RowEngine<'t>>>(
     alloc: Global,
     (engine, work): EncoderParts<'t>,
     message: &Message<'_>,
@@ -96,7 +97,7 @@ fn codes_from_parts<'t, R: Rate<DefaultEngine<'t>>>(
 }
 
 // Whether a decoder made of the parts restores what it is to, and what it leaves.
-fn restores_from_parts<'t, R: Rate<DefaultEngine<'t>>>(
+fn restores_from_parts<'t, R: Rate<RowEngine<'t>>>(
     alloc: Global,
     (engine, work): DecoderParts<'t>,
     received: &Received<'_>,
@@ -111,9 +112,9 @@ fn restores_from_parts<'t, R: Rate<DefaultEngine<'t>>>(
 
 // The parts of each object make the next one: that of a row, one whose rows are more and longer and hold ones, and that
 // of the row again.
-fn hands_on_encoder<'t, R: Rate<DefaultEngine<'t>>>(
+fn hands_on_encoder<'t, R: Rate<RowEngine<'t>>>(
     alloc: Global,
-    engine: DefaultEngine<'t>,
+    engine: RowEngine<'t>,
     messages: &[Message<'_>],
 ) -> Result<bool, Error> {
     let mut parts = (engine, EncoderWork::default());
@@ -128,9 +129,9 @@ fn hands_on_encoder<'t, R: Rate<DefaultEngine<'t>>>(
     Ok(good)
 }
 
-fn hands_on_decoder<'t, R: Rate<DefaultEngine<'t>>>(
+fn hands_on_decoder<'t, R: Rate<RowEngine<'t>>>(
     alloc: Global,
-    engine: DefaultEngine<'t>,
+    engine: RowEngine<'t>,
     rows: &[Received<'_>],
 ) -> Result<bool, Error> {
     let mut parts = (engine, DecoderWork::default());
@@ -146,9 +147,9 @@ fn hands_on_decoder<'t, R: Rate<DefaultEngine<'t>>>(
 }
 
 // Surplus shards are checked without what longer rows held before.
-fn refuses_from_parts<'t, R: Rate<DefaultEngine<'t>>>(
+fn refuses_from_parts<'t, R: Rate<RowEngine<'t>>>(
     alloc: Global,
-    engine: DefaultEngine<'t>,
+    engine: RowEngine<'t>,
     rows: &[Refused<'_>],
 ) -> Result<bool, Error> {
     let mut parts = (engine, DecoderWork::default());
@@ -166,7 +167,7 @@ fn refuses_from_parts<'t, R: Rate<DefaultEngine<'t>>>(
 }
 
 // Whether an encoder made of the parts codes two messages, with a reset between them, and what it leaves.
-fn codes_two<'t, R: Rate<DefaultEngine<'t>>>(
+fn codes_two<'t, R: Rate<RowEngine<'t>>>(
     alloc: Global,
     (engine, work): EncoderParts<'t>,
     messages: (&Message<'_>, &Message<'_>),
@@ -180,9 +181,9 @@ fn codes_two<'t, R: Rate<DefaultEngine<'t>>>(
 }
 
 // An encoder of one rate codes two messages, and one of another rate, made of its parts, codes two more.
-fn encoders_pass<'t, R: Rate<DefaultEngine<'t>>, S: Rate<DefaultEngine<'t>>>(
+fn encoders_pass<'t, R: Rate<RowEngine<'t>>, S: Rate<RowEngine<'t>>>(
     alloc: Global,
-    engine: DefaultEngine<'t>,
+    engine: RowEngine<'t>,
     before: (&Message<'_>, &Message<'_>),
     after: (&Message<'_>, &Message<'_>),
 ) -> Result<bool, Error> {
@@ -190,28 +191,36 @@ fn encoders_pass<'t, R: Rate<DefaultEngine<'t>>, S: Rate<DefaultEngine<'t>>>(
     Ok(good && codes_two::<S>(alloc, parts, after)?.0)
 }
 
+fn encoders_pass_to_high(alloc: Global, engine: RowEngine<'_>) -> Result<(bool, bool), Error> {
+    let after = (&TWO_AND_TWO, &SUM);
+    let chosen = encoders_pass::<DefaultRate<RowEngine<'_>>, HighRate<RowEngine<'_>>>(
+        alloc,
+        engine,
+        (&SUM, &LINE_SECOND),
+        after,
+    )?;
+    let low = encoders_pass::<LowRate<RowEngine<'_>>, HighRate<RowEngine<'_>>>(
+        alloc,
+        engine,
+        (&LINE, &CONSTANT),
+        after,
+    )?;
+    Ok((chosen, low))
+}
+
 #[test]
 fn encoders_pass_between_rates(rt: HostRuntime) -> Result<(), Fail> {
-    let alloc = rt.alloc();
     let tables = tables_of(&rt);
-    for kind in ENGINES {
-        let engine = DefaultEngine::new(&tables, kind);
-        let before = (&SUM, &LINE_SECOND);
-        let after = (&TWO_AND_TWO, &SUM);
-        let chosen = encoders_pass::<DefaultRate<DefaultEngine<'_>>, HighRate<DefaultEngine<'_>>>(
-            alloc, engine, before, after,
-        )?;
-        let before = (&LINE, &CONSTANT);
-        let low = encoders_pass::<LowRate<DefaultEngine<'_>>, HighRate<DefaultEngine<'_>>>(
-            alloc, engine, before, after,
-        )?;
+    for kind in ROW_ENGINES {
+        let engine = RowEngine::new(&tables, kind);
+        let (chosen, low) = encoders_pass_to_high(rt.alloc(), engine)?;
         assert!(rt; chosen && low, "{kind:?}: {chosen} {low}");
     }
     Ok(())
 }
 
 // Whether a decoder made of the parts restores twice, with a reset between, and what it leaves.
-fn restores_two<'t, R: Rate<DefaultEngine<'t>>>(
+fn restores_two<'t, R: Rate<RowEngine<'t>>>(
     alloc: Global,
     (engine, work): DecoderParts<'t>,
     received: (&Received<'_>, &Received<'_>),
@@ -225,9 +234,9 @@ fn restores_two<'t, R: Rate<DefaultEngine<'t>>>(
 }
 
 // A decoder of one rate restores twice, and one of another rate, made of its parts, twice more.
-fn decoders_pass<'t, R: Rate<DefaultEngine<'t>>, S: Rate<DefaultEngine<'t>>>(
+fn decoders_pass<'t, R: Rate<RowEngine<'t>>, S: Rate<RowEngine<'t>>>(
     alloc: Global,
-    engine: DefaultEngine<'t>,
+    engine: RowEngine<'t>,
     before: (&Received<'_>, &Received<'_>),
     after: (&Received<'_>, &Received<'_>),
 ) -> Result<bool, Error> {
@@ -235,21 +244,30 @@ fn decoders_pass<'t, R: Rate<DefaultEngine<'t>>, S: Rate<DefaultEngine<'t>>>(
     Ok(good && restores_two::<S>(alloc, parts, after)?.0)
 }
 
+fn decoders_pass_to_low(alloc: Global, engine: RowEngine<'_>) -> Result<(bool, bool), Error> {
+    let (outer, line, mixture) = (&OUTER_LOST, &LINE_LOST, &MIXTURE);
+    let after = (mixture, line);
+    let chosen = decoders_pass::<DefaultRate<RowEngine<'_>>, LowRate<RowEngine<'_>>>(
+        alloc,
+        engine,
+        (outer, line),
+        after,
+    )?;
+    let high = decoders_pass::<HighRate<RowEngine<'_>>, LowRate<RowEngine<'_>>>(
+        alloc,
+        engine,
+        (outer, mixture),
+        after,
+    )?;
+    Ok((chosen, high))
+}
+
 #[test]
 fn decoders_pass_between_rates(rt: HostRuntime) -> Result<(), Fail> {
-    let alloc = rt.alloc();
     let tables = tables_of(&rt);
-    for kind in ENGINES {
-        let engine = DefaultEngine::new(&tables, kind);
-        let before = (&OUTER_LOST, &LINE_LOST);
-        let after = (&MIXTURE, &LINE_LOST);
-        let chosen = decoders_pass::<DefaultRate<DefaultEngine<'_>>, LowRate<DefaultEngine<'_>>>(
-            alloc, engine, before, after,
-        )?;
-        let before = (&OUTER_LOST, &MIXTURE);
-        let high = decoders_pass::<HighRate<DefaultEngine<'_>>, LowRate<DefaultEngine<'_>>>(
-            alloc, engine, before, after,
-        )?;
+    for kind in ROW_ENGINES {
+        let engine = RowEngine::new(&tables, kind);
+        let (chosen, high) = decoders_pass_to_low(rt.alloc(), engine)?;
         assert!(rt; chosen && high, "{kind:?}: {chosen} {high}");
     }
     Ok(())
@@ -258,7 +276,7 @@ fn decoders_pass_between_rates(rt: HostRuntime) -> Result<(), Fail> {
 // Whether a reset that is refused for its size, and one that no memory has room for, keep what the decoder was given:
 // `LINE_LOST` without one of its recovery shards.
 fn keeps_rate<'t>(
-    decoder: &mut DefaultRateDecoder<DefaultEngine<'t>>,
+    decoder: &mut DefaultRateDecoder<RowEngine<'t>>,
     shard_bytes: usize,
     refusal: Error,
 ) -> Result<bool, Error> {
@@ -270,24 +288,29 @@ fn keeps_rate<'t>(
 
 // Whether such a decoder then passes from the low rate to the high one and back.
 fn passes_to_high_and_back<'t>(
-    decoder: &mut DefaultRateDecoder<DefaultEngine<'t>>,
+    decoder: &mut DefaultRateDecoder<RowEngine<'t>>,
 ) -> Result<bool, Error> {
     pass_to_high(decoder)?;
     Ok(decodes(decoder, &OUTER_LOST)? && decodes_reset(decoder, &LINE_LOST)?)
 }
 
 // A refused reset, also to counts at which the default rate is the other rate, leaves what was given.
+fn keeps_rate_and_passes(
+    decoder: &mut DefaultRateDecoder<RowEngine<'_>>,
+) -> Result<(bool, bool, bool), Error> {
+    let odd = Error::InvalidShardSize { shard_bytes: 3 };
+    let sized = keeps_rate(decoder, 3, odd)?;
+    let roomy = keeps_rate(decoder, usize::MAX - 1, Error::OutOfMemory)?;
+    Ok((sized, roomy, passes_to_high_and_back(decoder)?))
+}
+
 #[test]
 fn refused_resets_keep_the_rate(rt: HostRuntime) -> Result<(), Fail> {
-    let alloc = rt.alloc();
     let tables = tables_of(&rt);
-    let odd = Error::InvalidShardSize { shard_bytes: 3 };
-    for kind in ENGINES {
-        let engine = DefaultEngine::new(&tables, kind);
-        let mut decoder = DefaultRateDecoder::new(alloc, 2, 3, 2, engine, None)?;
-        let sized = keeps_rate(&mut decoder, 3, odd)?;
-        let roomy = keeps_rate(&mut decoder, usize::MAX - 1, Error::OutOfMemory)?;
-        let back = passes_to_high_and_back(&mut decoder)?;
+    for kind in ROW_ENGINES {
+        let engine = RowEngine::new(&tables, kind);
+        let mut decoder = DefaultRateDecoder::new(rt.alloc(), 2, 3, 2, engine, None)?;
+        let (sized, roomy, back) = keeps_rate_and_passes(&mut decoder)?;
         assert!(rt; sized && roomy && back, "{kind:?}: {sized} {roomy} {back}");
     }
     Ok(())
@@ -340,9 +363,9 @@ fn forgets<E: Engine, X: RateEncoder<E>>(
 }
 
 // A refused reset amid a round; then the round ends.
-fn keeps_given<'t, R: Rate<DefaultEngine<'t>>>(
+fn keeps_given<'t, R: Rate<RowEngine<'t>>>(
     alloc: Global,
-    engine: DefaultEngine<'t>,
+    engine: RowEngine<'t>,
     message: &Message<'_>,
 ) -> Result<bool, Error> {
     let mut encoder = encoder_for::<R>(alloc, engine, message)?;
@@ -419,15 +442,26 @@ fn round_trips<E: Engine, X: RateEncoder<E>, Y: RateDecoder<E>>(
     restores_first(decoder, original, lost)
 }
 
-// Resets to more rows, to longer ones, and to both; then back to the first.
-fn grows<'t, R: Rate<DefaultEngine<'t>>>(
+// Whether both objects, once reset, code and restore.
+fn grow_to<E: Engine, X: RateEncoder<E>, Y: RateDecoder<E>>(
     alloc: Global,
-    engine: DefaultEngine<'t>,
+    encoder: &mut X,
+    decoder: &mut Y,
+    (k, r, size): (usize, usize, usize),
 ) -> Result<bool, Error> {
-    let mut encoder = R::encoder(alloc, 1, 1, 2, engine, None)?;
-    let mut decoder = R::decoder(alloc, 1, 1, 2, engine, None)?;
+    encoder.reset(k, r, size)?;
+    decoder.reset(k, r, size)?;
+    let original = counted(alloc, k, size)?;
+    round_trips(encoder, decoder, original.as_slice(), r)
+}
+
+fn grow_to_all<E: Engine, X: RateEncoder<E>, Y: RateDecoder<E>>(
+    alloc: Global,
+    encoder: &mut X,
+    decoder: &mut Y,
+) -> Result<bool, Error> {
     let mut good = true;
-    for (k, r, size) in [
+    for configuration in [
         (3, 2, 2),
         (3, 2, 66),
         (2, 5, 66),
@@ -437,64 +471,87 @@ fn grows<'t, R: Rate<DefaultEngine<'t>>>(
         (16, 40, 194),
         (1, 1, 2),
     ] {
-        encoder.reset(k, r, size)?;
-        decoder.reset(k, r, size)?;
-        let original = counted(alloc, k, size)?;
-        good = good && round_trips(&mut encoder, &mut decoder, original.as_slice(), r)?;
+        good = good && grow_to(alloc, encoder, decoder, configuration)?;
     }
     Ok(good)
 }
 
+// Resets to more rows, to longer ones, and to both; then back to the first.
+fn grows<'t, R: Rate<RowEngine<'t>>>(alloc: Global, engine: RowEngine<'t>) -> Result<bool, Error> {
+    let mut encoder = R::encoder(alloc, 1, 1, 2, engine, None)?;
+    let mut decoder = R::decoder(alloc, 1, 1, 2, engine, None)?;
+    grow_to_all(alloc, &mut encoder, &mut decoder)
+}
+
 // A decoder's parts make one like it.
-fn makes_again<'t, R: Rate<DefaultEngine<'t>>>(
+fn makes_again<'t, R: Rate<RowEngine<'t>>>(
     alloc: Global,
-    engine: DefaultEngine<'t>,
+    engine: RowEngine<'t>,
     received: &Received<'_>,
 ) -> Result<bool, Error> {
     let k = received.original_count;
     let r = received.recovery_count;
     let size = received.shard_bytes;
     let decoder = R::decoder(alloc, k, r, size, engine, None)?;
-    let mut again = make_again::<DefaultEngine<'t>, R>(alloc, decoder, k, r, size)?;
+    let mut again = make_again::<RowEngine<'t>, R>(alloc, decoder, k, r, size)?;
     decodes(&mut again, received)
 }
 
-// A rate's messages, received shards and refused ones. The first message and the first received shards stand alone.
-fn rate_resets<'t, R: Rate<DefaultEngine<'t>>, A: Abort + AllocGlobal>(
+// A rate's encoders: a message that stands alone, and messages.
+fn encoders_reset<'t, R: Rate<RowEngine<'t>>>(
+    alloc: Global,
+    engine: RowEngine<'t>,
+    (message, messages): (&Message<'_>, &[Message<'_>]),
+) -> Result<bool, Error> {
+    let reset = resets_encoder::<R>(alloc, engine, messages)?;
+    let handed_on = reset && hands_on_encoder::<R>(alloc, engine, messages)?;
+    Ok(handed_on && keeps_given::<R>(alloc, engine, message)?)
+}
+
+// A rate's decoders: received shards that stand alone, received ones and refused ones.
+fn decoders_reset<'t, R: Rate<RowEngine<'t>>>(
+    alloc: Global,
+    engine: RowEngine<'t>,
+    (received, rows): (&Received<'_>, &[Received<'_>]),
+    refused: &[Refused<'_>],
+) -> Result<bool, Error> {
+    let reset = resets_decoder::<R>(alloc, engine, rows)?;
+    let handed_on = reset && hands_on_decoder::<R>(alloc, engine, rows)?;
+    let checked = handed_on && refuses_from_parts::<R>(alloc, engine, refused)?;
+    Ok(checked && makes_again::<R>(alloc, engine, received)?)
+}
+
+fn rate_resets<'t, R: Rate<RowEngine<'t>>, A: Abort + AllocGlobal>(
     rt: &A,
     tables: &'t Tables,
-    kind: EngineKind,
-    (message, messages): (&Message<'_>, &[Message<'_>]),
-    (received, rows): (&Received<'_>, &[Received<'_>]),
+    kind: RowKind,
+    messages: (&Message<'_>, &[Message<'_>]),
+    rows: (&Received<'_>, &[Received<'_>]),
     refused: &[Refused<'_>],
 ) -> Result<(), Fail> {
     let alloc = rt.alloc();
-    let engine = DefaultEngine::new(tables, kind);
-    assert!(rt; resets_encoder::<R>(alloc, engine, messages)?, "{kind:?}");
-    assert!(rt; resets_decoder::<R>(alloc, engine, rows)?, "{kind:?}");
-    assert!(rt; hands_on_encoder::<R>(alloc, engine, messages)?, "{kind:?}");
-    assert!(rt; hands_on_decoder::<R>(alloc, engine, rows)?, "{kind:?}");
+    let engine = RowEngine::new(tables, kind);
+    let encoded = encoders_reset::<R>(alloc, engine, messages)?;
+    let decoded = decoders_reset::<R>(alloc, engine, rows, refused)?;
+    let grown = grows::<R>(alloc, engine)?;
     assert!(rt;
-        refuses_from_parts::<R>(alloc, engine, refused)?,
-        "{kind:?}"
+        encoded && decoded && grown,
+        "{kind:?}: {encoded} {decoded} {grown}"
     );
-    assert!(rt; keeps_given::<R>(alloc, engine, message)?, "{kind:?}");
-    assert!(rt; makes_again::<R>(alloc, engine, received)?, "{kind:?}");
-    assert!(rt; grows::<R>(alloc, engine)?, "{kind:?}");
     Ok(())
 }
 
 #[test]
 fn low_rate_resets(rt: HostRuntime) -> Result<(), Fail> {
     let tables = tables_of(&rt);
-    for kind in ENGINES {
-        rate_resets::<LowRate<DefaultEngine<'_>>, _>(
+    for kind in ROW_ENGINES {
+        rate_resets::<LowRate<RowEngine<'_>>, _>(
             &rt,
             &tables,
             kind,
-            (&LINE, &LOW_MESSAGES),
-            (&LINE_LOST, &LOW_RECEIVED),
-            &LOW_REFUSED,
+            (&LINE, low_messages()),
+            (&LINE_LOST, low_received()),
+            low_refused(),
         )?;
     }
     Ok(())
@@ -503,14 +560,14 @@ fn low_rate_resets(rt: HostRuntime) -> Result<(), Fail> {
 #[test]
 fn high_rate_resets(rt: HostRuntime) -> Result<(), Fail> {
     let tables = tables_of(&rt);
-    for kind in ENGINES {
-        rate_resets::<HighRate<DefaultEngine<'_>>, _>(
+    for kind in ROW_ENGINES {
+        rate_resets::<HighRate<RowEngine<'_>>, _>(
             &rt,
             &tables,
             kind,
-            (&TWO_AND_TWO, &HIGH_MESSAGES),
-            (&OUTER_LOST, &HIGH_RECEIVED),
-            &HIGH_REFUSED,
+            (&TWO_AND_TWO, high_messages()),
+            (&OUTER_LOST, high_received()),
+            high_refused(),
         )?;
     }
     Ok(())
@@ -519,14 +576,14 @@ fn high_rate_resets(rt: HostRuntime) -> Result<(), Fail> {
 #[test]
 fn default_rate_resets_to_low_messages(rt: HostRuntime) -> Result<(), Fail> {
     let tables = tables_of(&rt);
-    for kind in ENGINES {
-        rate_resets::<DefaultRate<DefaultEngine<'_>>, _>(
+    for kind in ROW_ENGINES {
+        rate_resets::<DefaultRate<RowEngine<'_>>, _>(
             &rt,
             &tables,
             kind,
-            (&LINE, &LOW_MESSAGES),
-            (&OUTER_LOST, &HIGH_RECEIVED),
-            &HIGH_REFUSED,
+            (&LINE, low_messages()),
+            (&OUTER_LOST, high_received()),
+            high_refused(),
         )?;
     }
     Ok(())
@@ -535,14 +592,14 @@ fn default_rate_resets_to_low_messages(rt: HostRuntime) -> Result<(), Fail> {
 #[test]
 fn default_rate_resets_to_high_messages(rt: HostRuntime) -> Result<(), Fail> {
     let tables = tables_of(&rt);
-    for kind in ENGINES {
-        rate_resets::<DefaultRate<DefaultEngine<'_>>, _>(
+    for kind in ROW_ENGINES {
+        rate_resets::<DefaultRate<RowEngine<'_>>, _>(
             &rt,
             &tables,
             kind,
-            (&TWO_AND_TWO, &HIGH_MESSAGES),
-            (&LINE_LOST, &LOW_RECEIVED),
-            &LOW_REFUSED,
+            (&TWO_AND_TWO, high_messages()),
+            (&LINE_LOST, low_received()),
+            low_refused(),
         )?;
     }
     Ok(())
@@ -565,20 +622,26 @@ fn turned_sum(
     Ok(sum)
 }
 
-// The parts of a decoder of the high rate that refused its shards make one of the low rate.
-fn hands_on_after_a_refusal(alloc: Global, engine: DefaultEngine<'_>) -> Result<bool, Error> {
+// Whether three originals with a byte of their sum turned are refused.
+fn refuses_turned_sum<E: Engine, X: RateDecoder<E>>(
+    alloc: Global,
+    decoder: &mut X,
+) -> Result<bool, Error> {
     let original = counted(alloc, 3, 66)?;
     let sum = turned_sum(alloc, original.as_slice(), 66)?;
-    let mut high = DefaultRateDecoder::new(alloc, 3, 1, 66, engine, None)?;
-    for (index, shard) in original.iter().enumerate() {
-        high.add_original_shard(index, shard.as_slice())?;
-    }
-    high.add_recovery_shard(0, sum.as_slice())?;
+    give_others(decoder, original.as_slice(), 0)?;
+    decoder.add_recovery_shard(0, sum.as_slice())?;
     let apart = Error::InconsistentShards {
         original_received_count: 3,
         recovery_received_count: 1,
     };
-    let refused = refuses(&mut high, apart);
+    Ok(refuses(decoder, apart))
+}
+
+// The parts of a decoder of the high rate that refused its shards make one of the low rate.
+fn hands_on_after_a_refusal(alloc: Global, engine: RowEngine<'_>) -> Result<bool, Error> {
+    let mut high = DefaultRateDecoder::new(alloc, 3, 1, 66, engine, None)?;
+    let refused = refuses_turned_sum(alloc, &mut high)?;
     let (engine, work) = high.into_parts();
     let mut low = LowRateDecoder::new(alloc, 2, 3, 2, engine, Some(work))?;
     Ok(refused && decodes(&mut low, &LINE_LOST)?)
@@ -588,8 +651,8 @@ fn hands_on_after_a_refusal(alloc: Global, engine: DefaultEngine<'_>) -> Result<
 fn parts_are_handed_on(rt: HostRuntime) -> Result<(), Fail> {
     let alloc = rt.alloc();
     let tables = tables_of(&rt);
-    for kind in ENGINES {
-        let engine = DefaultEngine::new(&tables, kind);
+    for kind in ROW_ENGINES {
+        let engine = RowEngine::new(&tables, kind);
         assert!(rt; hands_on_after_a_refusal(alloc, engine)?, "{kind:?}");
     }
     Ok(())

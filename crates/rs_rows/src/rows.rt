@@ -1,5 +1,7 @@
 //! Messages with their recovery shards, received shards with the originals that they restore, and received shards that no
 //! message agrees with.
+//!
+//! Lists of them are given by functions, so that the check of a test sees a slice and not all its bytes.
 
 /// A message and its recovery shards.
 #[derive(Clone, Copy)]
@@ -118,7 +120,11 @@ pub const THREE_IN_TWOS: Message<'static> = Message {
 };
 
 /// The messages of which the low rate gives these recovery shards, and the default rate too.
-pub const LOW_MESSAGES: [Message<'static>; 7] = [
+pub fn low_messages() -> &'static [Message<'static>] {
+    &LOW_MESSAGES
+}
+
+static LOW_MESSAGES: [Message<'static>; 7] = [
     CONSTANT,
     LINE,
     LINE_SECOND,
@@ -129,7 +135,11 @@ pub const LOW_MESSAGES: [Message<'static>; 7] = [
 ];
 
 /// The messages of which the high rate gives these recovery shards, and the default rate too.
-pub const HIGH_MESSAGES: [Message<'static>; 5] = [
+pub fn high_messages() -> &'static [Message<'static>] {
+    &HIGH_MESSAGES
+}
+
+static HIGH_MESSAGES: [Message<'static>; 5] = [
     SUM,
     TWO_AND_TWO,
     TWO_IN_TAIL,
@@ -331,7 +341,11 @@ pub const ZERO_LOST: Received<'static> = Received {
 };
 
 /// What the low rate restores so, and the default rate too.
-pub const LOW_RECEIVED: [Received<'static>; 12] = [
+pub fn low_received() -> &'static [Received<'static>] {
+    &LOW_RECEIVED
+}
+
+static LOW_RECEIVED: [Received<'static>; 12] = [
     MIXTURE,
     LINE_LOST,
     SECOND_ALL_LOST,
@@ -347,7 +361,11 @@ pub const LOW_RECEIVED: [Received<'static>; 12] = [
 ];
 
 /// What the high rate restores so, and the default rate too.
-pub const HIGH_RECEIVED: [Received<'static>; 9] = [
+pub fn high_received() -> &'static [Received<'static>] {
+    &HIGH_RECEIVED
+}
+
+static HIGH_RECEIVED: [Received<'static>; 9] = [
     OUTER_LOST,
     FIRST_LOST,
     MIXTURE,
@@ -381,7 +399,11 @@ const EIGHT_ONES: [Item<'static>; 8] = [
 ];
 
 /// What the high rate restores so, at counts at which the default rate is the low one.
-pub const HIGH_ALONE_RECEIVED: [Received<'static>; 2] = [SINGLE_WHOLE, SINGLE_LOST];
+pub fn high_alone_received() -> &'static [Received<'static>] {
+    &HIGH_ALONE_RECEIVED
+}
+
+static HIGH_ALONE_RECEIVED: [Received<'static>; 2] = [SINGLE_WHOLE, SINGLE_LOST];
 
 /// An original and a recovery shard that differ in a byte, where each recovery shard is the original.
 pub const CONSTANT_TURNED: Refused<'static> = Refused {
@@ -437,7 +459,15 @@ pub const SINGLE_TURNED: Refused<'static> = Refused {
 };
 
 /// What the low rate refuses so, and the default rate too.
-pub const LOW_REFUSED: [Refused<'static>; 3] = [CONSTANT_TURNED, CONSTANTS_APART, LINE_TURNED];
+pub fn low_refused() -> &'static [Refused<'static>] {
+    &LOW_REFUSED
+}
+
+static LOW_REFUSED: [Refused<'static>; 3] = [CONSTANT_TURNED, CONSTANTS_APART, LINE_TURNED];
 
 /// What the high rate refuses so, and the default rate too.
-pub const HIGH_REFUSED: [Refused<'static>; 3] = [SUM_TURNED, CONSTANTS_APART, LINE_TURNED];
+pub fn high_refused() -> &'static [Refused<'static>] {
+    &HIGH_REFUSED
+}
+
+static HIGH_REFUSED: [Refused<'static>; 3] = [SUM_TURNED, CONSTANTS_APART, LINE_TURNED];

@@ -8,6 +8,7 @@ use crate::help::{
 };
 use crate::marks::{refuse_from_here, refuse_until_here};
 use crate::objects;
+use crate::row_engine::{ROW_ENGINES, RowEngine};
 use crate::rows::{
     LINE, LINE_LOST, LINE_SECOND, Message, OUTER_LOST, Received, SECOND_LOST, THREE_IN_TWOS,
 };
@@ -93,9 +94,9 @@ fn decodes_on<E: Engine, X: RateDecoder<E> + Drop>(
 }
 
 // Whether the rate's objects go on so, with no memory to be had once they are made.
-fn rate_goes_on<'t, R: Rate<DefaultEngine<'t>>>(
+fn rate_goes_on<'t, R: Rate<RowEngine<'t>>>(
     alloc: Global,
-    engine: DefaultEngine<'t>,
+    engine: RowEngine<'t>,
     messages: (&Message<'_>, &Message<'_>),
     received: (&Received<'_>, &Received<'_>),
 ) -> Result<bool, Error> {
@@ -108,22 +109,24 @@ fn rate_goes_on<'t, R: Rate<DefaultEngine<'t>>>(
     Ok(encoded? && decoded?)
 }
 
-#[test]
-fn rounds_and_smaller_resets(rt: HostRuntime) -> Result<(), Fail> {
-    let alloc = rt.alloc();
-    let tables = tables_of(&rt);
+fn rates_go_on(alloc: Global, engine: RowEngine<'_>) -> Result<bool, Error> {
     let low = (&LINE_SECOND, &LINE);
     let low_lost = (&SECOND_LOST, &LINE_LOST);
-    let high = (&THREE_IN_TWOS, &THREE_IN_TWOS);
-    let high_lost = (&OUTER_LOST, &OUTER_LOST);
-    for kind in ENGINES {
-        let engine = DefaultEngine::new(&tables, kind);
-        let good = rate_goes_on::<LowRate<DefaultEngine<'_>>>(alloc, engine, low, low_lost)?;
-        assert!(rt; good);
-        let good = rate_goes_on::<HighRate<DefaultEngine<'_>>>(alloc, engine, high, high_lost)?;
-        assert!(rt; good);
-        let good = rate_goes_on::<DefaultRate<DefaultEngine<'_>>>(alloc, engine, low, low_lost)?;
-        assert!(rt; good);
+    let (three, outer) = (&THREE_IN_TWOS, &OUTER_LOST);
+    let high = (three, three);
+    let high_lost = (outer, outer);
+    let by_low = rate_goes_on::<LowRate<RowEngine<'_>>>(alloc, engine, low, low_lost)?;
+    let by_high = rate_goes_on::<HighRate<RowEngine<'_>>>(alloc, engine, high, high_lost)?;
+    let chosen = rate_goes_on::<DefaultRate<RowEngine<'_>>>(alloc, engine, low, low_lost)?;
+    Ok(by_low && by_high && chosen)
+}
+
+#[test]
+fn rounds_and_smaller_resets(rt: HostRuntime) -> Result<(), Fail> {
+    let tables = tables_of(&rt);
+    for kind in ROW_ENGINES {
+        let engine = RowEngine::new(&tables, kind);
+        assert!(rt; rates_go_on(rt.alloc(), engine)?, "{kind:?}");
     }
     Ok(())
 }
@@ -157,18 +160,21 @@ fn plain_objects_go_on(
     Ok(first && plain_encodes(encoder, &LINE)? && plain_decodes(decoder, &LINE_LOST)?)
 }
 
+fn new_plain_objects_go_on(alloc: Global, engine: DefaultEngine<'_>) -> Result<bool, Error> {
+    let mut encoder = objects::encoder_for(alloc, engine, &LINE_SECOND)?;
+    let mut decoder = objects::decoder_for(alloc, engine, &SECOND_LOST)?;
+    refuse_from_here(alloc);
+    let good = plain_objects_go_on(&mut encoder, &mut decoder);
+    refuse_until_here(alloc);
+    good
+}
+
 #[test]
 fn plain_rounds_and_smaller_resets(rt: HostRuntime) -> Result<(), Fail> {
-    let alloc = rt.alloc();
     let tables = tables_of(&rt);
     for kind in ENGINES {
         let engine = DefaultEngine::new(&tables, kind);
-        let mut encoder = objects::encoder_for(alloc, engine, &LINE_SECOND)?;
-        let mut decoder = objects::decoder_for(alloc, engine, &SECOND_LOST)?;
-        refuse_from_here(alloc);
-        let good = plain_objects_go_on(&mut encoder, &mut decoder);
-        refuse_until_here(alloc);
-        assert!(rt; good?);
+        assert!(rt; new_plain_objects_go_on(rt.alloc(), engine)?, "{kind:?}");
     }
     Ok(())
 }
