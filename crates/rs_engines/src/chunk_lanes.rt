@@ -2,13 +2,13 @@
 //!
 //! A product is the sum of the products of the word's four nibbles. Each byte of these is one of the 16 bytes of a
 //! number, so a shuffle looks up 32 of them at once.
-ghost use Rattle.std.specs.Prelude.{◌≡◌, ℕ, ◌+◌, ◌*◌, ◌/◌, ◌%◌, ◌<◌, slice_index, bit_xor, option_copied};
+ghost use Rattle.std.specs.Prelude.{◌≡◌, ℕ, ◌/◌, ◌%◌, ◌<◌, slice_index, bit_xor, option_copied};
 ghost use Rattle.rs_field.specs.Field.{product};
 ghost use Rattle.rs_field.specs.Tables.{scaled};
 ghost use Rattle.rs_field.specs.Rows.{symbol};
 ghost use Rattle.rs_field.specs.Products.{byte_at, AreLowNibbles, AreHighNibbles, IsNibbleBytes};
 ghost use Rattle.rs_engines.specs.Lanes.{lane};
-ghost use Rattle.rs_engines.specs.Words.{word, AreLowTables, AreHighTables, HasProducts, IsFactor};
+ghost use Rattle.rs_engines.specs.Words.{word, IsFactor};
 
 use crate::lanes::{self, store_words};
 use rs_field::engine::tables::Multiply128lutT;
@@ -20,22 +20,6 @@ use std::simd::prelude::*;
 pub struct Words {
     low: u8x32,
     high: u8x32,
-}
-
-// For each of a word's four nibbles one byte of its 16 products, twice.
-#[derive(Clone, Copy)]
-struct NibbleTables {
-    first: u8x32,
-    second: u8x32,
-    third: u8x32,
-    fourth: u8x32,
-}
-
-/// The products of nibbles with a factor as shuffles look them up: their low bytes and their high bytes.
-#[derive(Clone, Copy)]
-pub struct Lookups {
-    low: NibbleTables,
-    high: NibbleTables,
 }
 
 /// The products of nibbles with a factor; None stands for the factor zero.
@@ -51,74 +35,36 @@ fn table(t: u128) -> u8x32
     u64x4::from_array([first, last, first, last]).to_le_bytes()
 }
 
-// The same of four numbers.
+// The bytes at the low nibbles.
 #[inline(always)]
-fn tables(numbers: &[u128; 4]) -> NibbleTables
-    ensures low { (f : ℕ) → AreLowNibbles f numbers.now → AreLowTables f result }
-    ensures high { (f : ℕ) → AreHighNibbles f numbers.now → AreHighTables f result }
+fn at_low_nibbles(t: u128, v: u8x32) -> u8x32
+    ensures { (i : ℕ) → i < 32 → slice_index result i ≡ byte_at t (slice_index v i % 16) }
 {
-    NibbleTables {
-        first: table(numbers[0]),
-        second: table(numbers[1]),
-        third: table(numbers[2]),
-        fourth: table(numbers[3]),
-    }
+    table(t).swizzle_dyn_within::<16>(v & u8x32::splat(15))
 }
 
-/// The lookups of the products with a factor. Made before a loop, they stay in registers where there are enough.
+// The bytes at the high nibbles.
 #[inline(always)]
-pub fn lookups_of(factor: &Multiply128lutT) -> Lookups
-    ensures { (f : ℕ) → IsNibbleBytes f factor.now → HasProducts f result }
+fn at_high_nibbles(t: u128, v: u8x32) -> u8x32
+    ensures { (i : ℕ) → i < 32 → slice_index result i ≡ byte_at t (slice_index v i / 16) }
 {
-    Lookups {
-        low: tables(&factor.lo),
-        high: tables(&factor.hi),
-    }
-}
-
-// The bytes of a table at the low nibbles.
-#[inline(always)]
-fn at_low_nibbles(table: u8x32, v: u8x32) -> u8x32
-    ensures { (p : ℕ → ℕ) (i : ℕ) → ((j : ℕ) → j < 32 → slice_index table j ≡ p (j % 16)) → i < 32 → slice_index result i ≡ p (slice_index v i % 16) }
-{
-    table.swizzle_dyn_within::<16>(v & u8x32::splat(15))
-}
-
-// The bytes of a table at the high nibbles.
-#[inline(always)]
-fn at_high_nibbles(table: u8x32, v: u8x32) -> u8x32
-    ensures { (p : ℕ → ℕ) (i : ℕ) → ((j : ℕ) → j < 32 → slice_index table j ≡ p (j % 16)) → i < 32 → slice_index result i ≡ p (slice_index v i / 16) }
-{
-    table.swizzle_dyn_within::<16>(v >> u8x32::splat(4))
+    table(t).swizzle_dyn_within::<16>(v >> u8x32::splat(4))
 }
 
 // One byte of the product of each word, from that byte of the products of its four nibbles.
-#[inline(always)]
-fn looked_up_bytes(low: u8x32, high: u8x32, tables: &NibbleTables) -> u8x32
-    ensures low { (f i : ℕ) → AreLowTables f tables.now → i < 32 → slice_index result i ≡ product (lane low high i) f % 256 }
-    ensures high { (f i : ℕ) → AreHighTables f tables.now → i < 32 → slice_index result i ≡ product (lane low high i) f / 256 }
-{
-    let first = sum(
-        at_low_nibbles(tables.first, low),
-        at_high_nibbles(tables.second, low),
-    );
-    let second = sum(
-        at_low_nibbles(tables.third, high),
-        at_high_nibbles(tables.fourth, high),
-    );
-    sum(first, second)
-}
-
-// The same where each table is made just before its use, so that it needs no register for longer.
 #[inline(always)]
 fn product_bytes(low: u8x32, high: u8x32, numbers: &[u128; 4]) -> u8x32
     ensures low { (f i : ℕ) → AreLowNibbles f numbers.now → i < 32 → slice_index result i ≡ product (lane low high i) f % 256 }
     ensures high { (f i : ℕ) → AreHighNibbles f numbers.now → i < 32 → slice_index result i ≡ product (lane low high i) f / 256 }
 {
-    let low_one = at_low_nibbles(table(numbers[0]), low);
-    let first = sum(low_one, at_high_nibbles(table(numbers[1]), low));
-    let low_three = at_low_nibbles(table(numbers[2]), high);
-    let second = sum(low_three, at_high_nibbles(table(numbers[3]), high));
+    let first = sum(
+        at_low_nibbles(numbers[0], low),
+        at_high_nibbles(numbers[1], low),
+    );
+    let second = sum(
+        at_low_nibbles(numbers[2], high),
+        at_high_nibbles(numbers[3], high),
+    );
     sum(first, second)
 }
 
@@ -139,17 +85,6 @@ pub fn store(words: Words, c: &mut [u8; 64])
     ensures { (s : ℕ) → s < 32 → symbol c.new s ≡ word words s }
 {
     store_words(words.low, words.high, c, 0);
-}
-
-/// The products of words, by lookups that were made before.
-#[inline(always)]
-pub fn looked_up(words: Words, lookups: &Lookups) -> Words
-    ensures { (f s : ℕ) → HasProducts f lookups.now → s < 32 → word result s ≡ product (word words s) f }
-{
-    Words {
-        low: looked_up_bytes(words.low, words.high, &lookups.low),
-        high: looked_up_bytes(words.low, words.high, &lookups.high),
-    }
 }
 
 /// The products of words.

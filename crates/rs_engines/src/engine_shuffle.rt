@@ -8,8 +8,8 @@ use rs_field::engine::{GF_MODULUS, GfElement, utils};
 
 /// The engine by shuffles, the fastest one. It borrows the tables and takes no memory of its own.
 ///
-/// It is beside those of `EngineKind`: the crate reed-solomon-simd makes its products so in its engines `Ssse3` and
-/// `Avx2`. It runs on any machine, and is fast where a shuffle of bytes is one instruction.
+/// It is none of `EngineKind`, whose names are those of the crate reed-solomon-simd, which makes its products so in
+/// `Ssse3` and `Avx2`. It runs on any machine, and is fast where a shuffle of bytes is one instruction.
 #[derive(Clone, Copy)]
 pub struct Shuffle<'t> {
     tables: &'t Tables,

@@ -1,4 +1,4 @@
-//! The engines by look-ups of nibbles and by lanes, and the engine chosen by name.
+//! The engines by look-ups of nibbles, by lanes and by shuffles, and the engine chosen by name.
 #![tactic(auto)]
 
 mod chunk_lanes;

@@ -3,9 +3,9 @@ ghost use Rattle.std.specs.Prelude.{◌≡◌, ℕ, ◌<◌, length, bit_xor, op
 ghost use Rattle.rs_field.specs.Field.{product};
 ghost use Rattle.rs_field.specs.Rows.{chunk, symbol};
 ghost use Rattle.rs_field.specs.Products.{IsNibbleBytes, IsMul128};
-ghost use Rattle.rs_engines.specs.Words.{HasProducts, IsFactor, IsForwardByFactors, IsBackwardByFactors};
+ghost use Rattle.rs_engines.specs.Words.{IsFactor, IsForwardByFactors, IsBackwardByFactors};
 
-use crate::chunk_lanes::{Factor, Lookups, add, add_scaled, load, looked_up, lookups_of, store};
+use crate::chunk_lanes::{Factor, add, add_scaled, load, store, times};
 use rs_field::engine::tables::{Mul128, Multiply128lutT};
 use rs_field::engine::{GF_MODULUS, GfElement};
 
@@ -28,37 +28,36 @@ pub fn mul_row(x: &mut [[u8; 64]], factor: &Multiply128lutT)
     ensures { (f k s : ℕ) → IsNibbleBytes f factor.now → k < length x.old → s < 32
         → symbol (chunk x.new k) s ≡ product (symbol (chunk x.old k) s) f }
 {
-    let lookups = lookups_of(factor);
     for k in 0..x.len() {
         let words = load(&x[k]);
-        store(looked_up(words, &lookups), &mut x[k]);
+        store(times(words, factor), &mut x[k]);
     }
 }
 
 // The forward butterfly of two chunks.
 #[inline(always)]
-fn fft_chunk(x: &mut [u8; 64], y: &mut [u8; 64], lookups: &Lookups)
-    ensures first { (f s : ℕ) → HasProducts f lookups.now → s < 32
+fn fft_chunk(x: &mut [u8; 64], y: &mut [u8; 64], factor: &Multiply128lutT)
+    ensures first { (f s : ℕ) → IsNibbleBytes f factor.now → s < 32
         → symbol x.new s ≡ bit_xor (symbol x.old s) (product (symbol y.old s) f) }
     ensures second { (s : ℕ) → s < 32 → symbol y.new s ≡ bit_xor (symbol y.old s) (symbol x.new s) }
 {
     let y_old = load(y);
-    let x_new = add(load(x), looked_up(y_old, lookups));
+    let x_new = add(load(x), times(y_old, factor));
     store(x_new, x);
     store(add(y_old, x_new), y);
 }
 
 // The backward butterfly of two chunks.
 #[inline(always)]
-fn ifft_chunk(x: &mut [u8; 64], y: &mut [u8; 64], lookups: &Lookups)
-    ensures first { (f s : ℕ) → HasProducts f lookups.now → s < 32
+fn ifft_chunk(x: &mut [u8; 64], y: &mut [u8; 64], factor: &Multiply128lutT)
+    ensures first { (f s : ℕ) → IsNibbleBytes f factor.now → s < 32
         → symbol x.new s ≡ bit_xor (symbol x.old s) (product (symbol y.new s) f) }
     ensures second { (s : ℕ) → s < 32 → symbol y.new s ≡ bit_xor (symbol y.old s) (symbol x.old s) }
 {
     let x_old = load(x);
     let y_new = add(load(y), x_old);
     store(y_new, y);
-    store(add(x_old, looked_up(y_new, lookups)), x);
+    store(add(x_old, times(y_new, factor)), x);
 }
 
 /// The forward butterfly of two rows: adds `y` times the factor to `x`, and then the new `x` to `y`.
@@ -69,9 +68,8 @@ pub fn fft_butterfly(x: &mut [[u8; 64]], y: &mut [[u8; 64]], factor: &Multiply12
     ensures second { (k s : ℕ) → k < length x.old → s < 32
         → symbol (chunk y.new k) s ≡ bit_xor (symbol (chunk y.old k) s) (symbol (chunk x.new k) s) }
 {
-    let lookups = lookups_of(factor);
     for k in 0..x.len() {
-        fft_chunk(&mut x[k], &mut y[k], &lookups);
+        fft_chunk(&mut x[k], &mut y[k], factor);
     }
 }
 
@@ -83,9 +81,8 @@ pub fn ifft_butterfly(x: &mut [[u8; 64]], y: &mut [[u8; 64]], factor: &Multiply1
     ensures second { (k s : ℕ) → k < length x.old → s < 32
         → symbol (chunk y.new k) s ≡ bit_xor (symbol (chunk y.old k) s) (symbol (chunk x.old k) s) }
 {
-    let lookups = lookups_of(factor);
     for k in 0..x.len() {
-        ifft_chunk(&mut x[k], &mut y[k], &lookups);
+        ifft_chunk(&mut x[k], &mut y[k], factor);
     }
 }
 

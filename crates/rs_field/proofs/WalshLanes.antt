@@ -12,8 +12,8 @@ use lib.Lanes.{zip2, sel_l, top}
 
 -- ---- the larger one of two lanes
 
-chosen : (a b : ℕ) → cond (ltb a b) b a ≡ max a b
-chosen a b = elim (cases_lt a b) [
+larger_chosen : (a b : ℕ) → cond (ltb a b) b a ≡ max a b
+larger_chosen a b = elim (cases_lt a b) [
   | inl less ↦ ap (λ t. cond t b a) (lt-ltb a b less) ∙ omega arith
   | inr least ↦ ap (λ t. cond t b a) (le-ltb a b least) ∙ omega arith
 ]
@@ -29,7 +29,7 @@ larger_lane xs ys i hx hy h =
     ap (λ l. get_or l i 0) (compared xs ys)
     ∙ get_or-sel_l (zip2 ltb xs ys) ys xs i 0 (omega arith) (omega arith) (omega arith)
     ∙ ap (λ m. cond m (get_or ys i 0) (get_or xs i 0)) (get_or-zip2 ltb xs ys i 0 0 false (omega arith) (omega arith))
-    ∙ chosen (get_or xs i 0) (get_or ys i 0)
+    ∙ larger_chosen (get_or xs i 0) (get_or ys i 0)
 
 pub length-larger : (xs ys : List ℕ) → length xs ≡ 16 → length ys ≡ 16
     → length (sel_l (map (top 15) (zip2 (λ a b. cond (ltb a b) 65535 0) xs ys)) ys xs) ≡ 16
@@ -87,8 +87,8 @@ subtracted v r m k size fits hm hk e =
 
 -- ---- four layers
 
-abbrev chosen_of : ℕ → ℕ → ℕ → ℕ
-chosen_of b even odd = (if b == 0 then even else odd) % 65535
+abbrev by_parity : ℕ → ℕ → ℕ → ℕ
+by_parity b even odd = (if b == 0 then even else odd) % 65535
 
 -- a layer joins the transforms of two halves of n lanes
 stage : (e n half a : ℕ) (f g new : List ℕ) → n ≡ 2 ^ suc e → half ≡ 2 ^ e → a + (half + half) ≤ 16
@@ -104,13 +104,13 @@ stage e n half a f g new is h room first second layer low high =
           let there : a + i + half ≡ a + half + i = omega arith in
           let turned : get_or g (a + half + i) 0 + get_or g (a + i) 0 ≡ get_or g (a + i) 0 + get_or g (a + half + i) 0 = omega arith in
           layer (a + i) (omega arith)
-          ∙ ap (λ b. chosen_of b (get_or g (a + i + half) 0 + get_or g (a + i) 0) (get_or g (a + i - half) 0 + 65534 * get_or g (a + i) 0)) (first i hi)
+          ∙ ap (λ b. by_parity b (get_or g (a + i + half) 0 + get_or g (a + i) 0) (get_or g (a + i - half) 0 + 65534 * get_or g (a + i) 0)) (first i hi)
           ∙ ap (λ k. (get_or g k 0 + get_or g (a + i) 0) % 65535) there ∙ ap (λ v. v % 65535) turned;
       differences = λ i hi.
           let back : a + (half + i) - half ≡ a + i = omega arith in
           let there : a + (half + i) ≡ a + half + i = omega arith in
           layer (a + (half + i)) (omega arith)
-          ∙ ap (λ b. chosen_of b (get_or g (a + (half + i) + half) 0 + get_or g (a + (half + i)) 0) (get_or g (a + (half + i) - half) 0 + 65534 * get_or g (a + (half + i)) 0)) (second i hi)
+          ∙ ap (λ b. by_parity b (get_or g (a + (half + i) + half) 0 + get_or g (a + (half + i)) 0) (get_or g (a + (half + i) - half) 0 + 65534 * get_or g (a + (half + i)) 0)) (second i hi)
           ∙ ap₂ (λ k m. (get_or g k 0 + 65534 * get_or g m 0) % 65535) back there;
     })
 

@@ -19,7 +19,7 @@ signed_sum n f w = total n (λ y. sign w y * f y)
 abbrev pub IsWalsh : ℕ → (ℕ → ℕ) → (ℕ → ℕ) → Type 0
 IsWalsh n old new = (w : ℕ) → w < n → new w % 65535 ≡ signed_sum n old w % 65535
 
--- the entries at a distance, of 16, became their sums and differences modulo 65535
+-- of 16 entries the two of each pair at this distance became their sum and their difference, modulo 65535
 abbrev pub IsLayer : ℕ → List ℕ → List ℕ → Type 0
 IsLayer distance old new =
     (k : ℕ) → k < 16 → slice_index new k % 65535

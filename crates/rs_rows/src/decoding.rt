@@ -223,12 +223,12 @@ fn callers_are_refused<E: Engine, X: RateDecoder<E> + Drop>(
         original_received_count: 0,
         recovery_received_count: 0,
     };
-    give(decoder, &TURNED.received)?;
+    give(decoder, &TURNED_LINE.received)?;
     let (first, next) = decode_inconsistent(decoder, &mut steps);
     Ok(is_err(first, apart) && is_err(next, none))
 }
 
-static TURNED: Refused<'static> = LINE_TURNED;
+static TURNED_LINE: Refused<'static> = LINE_TURNED;
 
 // Whether callers get the missing original, of two shards that no one coded none is refused, and three that no message
 // agrees with are.

@@ -153,10 +153,10 @@ fn refuses_then_decodes(
 }
 
 fn constant_turned() -> &'static Refused<'static> {
-    &TURNED
+    &TURNED_CONSTANT
 }
 
-static TURNED: Refused<'static> = CONSTANT_TURNED;
+static TURNED_CONSTANT: Refused<'static> = CONSTANT_TURNED;
 
 #[test]
 fn a_decoder_refuses_inconsistent_shards(rt: HostRuntime) -> Result<(), Fail> {

@@ -294,7 +294,7 @@ fn passes_to_high_and_back<'t>(
     Ok(decodes(decoder, &OUTER_LOST)? && decodes_reset(decoder, &LINE_LOST)?)
 }
 
-// A refused reset, also to counts at which the default rate is the other rate, leaves what was given.
+// Whether a refused reset, also to counts at which the default rate is the other rate, leaves what was given.
 fn keeps_rate_and_passes(
     decoder: &mut DefaultRateDecoder<RowEngine<'_>>,
 ) -> Result<(bool, bool, bool), Error> {

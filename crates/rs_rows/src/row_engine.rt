@@ -28,6 +28,7 @@ pub enum RowEngine<'t> {
 }
 
 impl<'t> RowEngine<'t> {
+    /// The engine of this name over these tables.
     pub fn new(tables: &'t Tables, kind: RowKind) -> RowEngine<'t> {
         match kind {
             RowKind::Named(named) => RowEngine::Named(DefaultEngine::new(tables, named)),

@@ -6,8 +6,8 @@ ghost use Rattle.rs_field.specs.Bounds.{CountsPairs, WalshCounts};
 use super::walsh_lanes::walsh_16;
 use super::{GfElement, Steps};
 
-// The sum modulo 65535, as `add_mod`: up to 65535 it is the larger one of two numbers, and above it the other one, which
-// is one more. So a loop over entries becomes vector code without a choice.
+// The sum modulo 65535, as `add_mod`: the larger of the sum without its carry, which is right up to 65535, and of the
+// sum less 65535, which is 0 up to there and right above. So a loop over entries becomes vector code without a choice.
 #[inline(always)]
 pub(crate) fn lane_sum(x: GfElement, y: GfElement) -> GfElement
     ensures { result % 65535 ≡ (x + y) % 65535 }
@@ -70,6 +70,7 @@ pub fn fwht(steps: &mut Steps, data: &mut [GfElement], truncated: usize)
         let (low, high) = data.split_at_mut(half);
         fwht(steps, low, truncated);
         if truncated <= half {
+            // The other half is all zero: its sums and differences are the first half's entries.
             high.copy_from_slice(low);
         } else {
             fwht(steps, high, truncated - half);

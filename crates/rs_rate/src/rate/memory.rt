@@ -28,7 +28,7 @@ pub(crate) fn make_room<T>(items: &mut Vec<T>, count: usize) -> Result<(), Error
     Ok(())
 }
 
-// Holds so many items, for which there is room: the first ones stay, and those that are added are copies of `item`.
+// Holds so many items, for which there is room; those that are added are copies of `item`.
 pub(crate) fn set_length<T: Copy>(items: &mut Vec<T>, count: usize, item: T)
     requires { count ≤ vec_capacity items.old }
     ensures length { vec_len items.new ≡ count }
@@ -38,19 +38,13 @@ pub(crate) fn set_length<T: Copy>(items: &mut Vec<T>, count: usize, item: T)
     let _ = items.resize(count, item);
 }
 
-// 16384 bytes, from which on a copy is as fast as clearing.
-const ZEROS: [[u8; 64]; 256] = [[0; 64]; 256];
-
-// Holds so many chunks, for which there is room. Those that are added are zeros, copied a block at a time: that is
-// faster than one after another.
+// Holds so many chunks, for which there is room; those that are added are zeros. Inlined where the vector is a local
+// one, this becomes a `memset`.
+#[inline(always)]
 pub(crate) fn set_chunks(chunks: &mut Vec<[u8; 64]>, count: usize)
     requires { count ≤ vec_capacity chunks.old }
     ensures length { vec_len chunks.new ≡ count }
     ensures room { vec_capacity chunks.old ≤ vec_capacity chunks.new }
 {
-    chunks.truncate(count);
-    while chunks.len() < count {
-        let more = ZEROS.len().min(count - chunks.len());
-        let _ = chunks.extend_from_slice(&ZEROS[..more]);
-    }
+    let _ = chunks.resize_with(count, || [0; 64]);
 }
