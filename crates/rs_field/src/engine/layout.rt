@@ -34,9 +34,7 @@ fn put_whole(row: &mut [[u8; 64]], shard: &[u8], whole: usize)
     requires within { whole * 64 ≤ length shard.now }
     ensures { (k b : ℕ) → k < whole → b < 64 → slice_index (chunk row.new k) b ≡ slice_index shard.now (k * 64 + b) }
 {
-    for k in 0..whole {
-        row[k].copy_from_slice(&shard[k * 64..k * 64 + 64]);
-    }
+    row[..whole].copy_from_slice(shard[..whole * 64].as_chunks().0);
 }
 
 // The halves of a tail lie from byte 0 and from byte 32 on.
