@@ -2,4 +2,6 @@ pub mod FourNibbles
 pub mod Bits
 pub mod Chosen
 pub mod Stored
-pub mod Words
+pub mod WordBytes
+pub mod LookUp
+pub mod FourWords

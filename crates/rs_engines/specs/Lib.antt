@@ -1,3 +1,3 @@
 pub mod Kind
 pub mod Lanes
-pub mod Words
+pub mod Factors

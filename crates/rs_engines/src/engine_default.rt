@@ -106,7 +106,7 @@ impl Engine for DefaultEngine<'_> {
 #[cfg(test)]
 mod tests {
     use super::*;
-    use crate::engine_shuffle::Shuffle;
+    use crate::engine_shuffle::{Shuffle, WideShuffle};
     use rs_field::engine::symbols::set_symbol;
     use rs_field::engine::tables::get_exp_log;
     use std::process::Abort;
@@ -180,6 +180,7 @@ mod tests {
         check_engine(&rt, &Avx2::new(&tables), &tables);
         check_engine(&rt, &Ssse3::new(&tables), &tables);
         check_engine(&rt, &Shuffle::new(&tables), &tables);
+        check_engine(&rt, &WideShuffle::new(&tables), &tables);
         for named in [
             EngineKind::Naive,
             EngineKind::NoSimd,

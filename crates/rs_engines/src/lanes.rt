@@ -19,9 +19,9 @@ pub fn load<const N: usize>(c: &[u8; 64], at: usize) -> Simd<u8, N>
     Simd::from_slice(&c[at..at + N])
 }
 
-// Puts bytes into the N places of a chunk from `at` on.
+/// Puts bytes into the N places of a chunk from `at` on.
 #[inline(always)]
-fn store<const N: usize>(v: Simd<u8, N>, c: &mut [u8; 64], at: usize)
+pub fn store<const N: usize>(v: Simd<u8, N>, c: &mut [u8; 64], at: usize)
     requires { at + N ≤ 64 }
     ensures stored { (i s : ℕ) → i < N → s ≡ at + i → slice_index c.new s ≡ slice_index v.entry i }
     ensures kept { (i : ℕ) → (i < at) ⊎ (at + N ≤ i) → slice_index c.new i ≡ slice_index c.old i }

@@ -37,7 +37,7 @@ pub trait Kernel: Drop {
     /// Two layers of `fft_butterfly` on four rows: rows 0 and 2 and rows 1 and 3 by the factor of `log_m02`, then rows 0
     /// and 1 by that of `log_m01`, and rows 2 and 3 by that of `log_m23`. All four have the same number of chunks.
     ///
-    /// An engine that keeps a chunk of each row in registers writes its own.
+    /// An engine that keeps words of each row in registers writes its own.
     fn fft_two_layers(
         &self,
         x0: &mut [[u8; 64]],

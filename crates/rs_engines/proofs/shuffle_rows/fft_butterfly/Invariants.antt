@@ -5,7 +5,7 @@ use Rattle.rs_field.specs.Products.{IsNibbleBytes}
 use Rattle.rs_engines.proofs.shuffle_rows.fft_butterfly.Given as goal
 
 abbrev pub invariant-loop-k : goal.invariant-loop-k
-invariant-loop-k l = record {
+invariant-loop-k g l = record {
   first : (f j s : ℕ) → IsNibbleBytes f l.factor → j < l.k → s < 32
       → symbol (chunk l.x j) s ≡ bit_xor (symbol (chunk l.initial.x j) s) (product (symbol (chunk l.initial.y j) s) f);
   second : (j s : ℕ) → j < l.k → s < 32 → symbol (chunk l.y j) s ≡ bit_xor (symbol (chunk l.initial.y j) s) (symbol (chunk l.x j) s);

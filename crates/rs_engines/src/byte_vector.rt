@@ -1,0 +1,136 @@
+//! Vectors of 16 or of 32 bytes, whose lanes are looked up in a table of 16 bytes all at once.
+ghost use Rattle.std.specs.Prelude.{◌≡◌, ℕ, ◌+◌, ◌/◌, ◌%◌, ◌<◌, ◌≤◌, ◌⊎◌, List, slice_index, bit_xor, refl};
+ghost use Rattle.std.proofs.Common.{inl, inr};
+ghost use Rattle.rs_field.specs.Products.{byte_at};
+
+use crate::lanes;
+use rs_field::engine::vectors;
+use std::simd::prelude::*;
+
+/// A vector of bytes. Look-ups are its methods, since the checker takes a shuffle at a width that is written out alone.
+pub trait ByteVector: Copy + Drop {
+    /// The number of its bytes.
+    const LANES: usize;
+
+    ghost LANES: { ℕ };
+
+    // Its bytes, lane by lane.
+    ghost bytes: { Self → List ℕ };
+
+    /// The bytes of a chunk from `at` on.
+    fn load(c: &[u8; 64], at: usize) -> Self
+        requires { at + LANES ≤ 64 }
+        ensures { (i s : ℕ) → i < LANES → s ≡ at + i → slice_index (bytes result) i ≡ slice_index c.now s };
+
+    /// Puts the bytes into the places of a chunk from `at` on.
+    fn store(self, c: &mut [u8; 64], at: usize)
+        requires { at + LANES ≤ 64 }
+        ensures stored { (i s : ℕ) → i < LANES → s ≡ at + i → slice_index c.new s ≡ slice_index (bytes self) i }
+        ensures kept { (i : ℕ) → (i < at) ⊎ (at + LANES ≤ i) → slice_index c.new i ≡ slice_index c.old i };
+
+    /// The XOR, lane by lane. The first clause tells the checker that lanes are bytes.
+    fn sum(self, other: Self) -> Self
+        ensures small { (i : ℕ) → i < LANES → (slice_index (bytes self) i < 256) × (slice_index (bytes other) i < 256) }
+        ensures lanes { (i : ℕ) → i < LANES → slice_index (bytes result) i ≡ bit_xor (slice_index (bytes self) i) (slice_index (bytes other) i) };
+
+    /// The bytes of `t` at the low nibbles.
+    fn at_low_nibbles(self, t: u128) -> Self
+        ensures { (i : ℕ) → i < LANES → slice_index (bytes result) i ≡ byte_at t (slice_index (bytes self) i % 16) };
+
+    /// The bytes of `t` at the high nibbles.
+    fn at_high_nibbles(self, t: u128) -> Self
+        ensures small { (i : ℕ) → i < LANES → slice_index (bytes self) i < 256 }
+        ensures lanes { (i : ℕ) → i < LANES → slice_index (bytes result) i ≡ byte_at t (slice_index (bytes self) i / 16) };
+
+    // A block of words is half a chunk or a whole one.
+    ghost width: { (LANES ≡ 16) ⊎ (LANES ≡ 32) };
+}
+
+// The 16 bytes of a number, the lowest first.
+#[inline(always)]
+fn table(t: u128) -> u8x16
+    ensures { (i : ℕ) → i < 16 → slice_index result i ≡ byte_at t i }
+{
+    u64x2::from_array([(t & 0xFFFF_FFFF_FFFF_FFFF) as u64, (t >> 64) as u64]).to_le_bytes()
+}
+
+// The same twice.
+#[inline(always)]
+fn table_twice(t: u128) -> u8x32
+    ensures { (i : ℕ) → i < 32 → slice_index result i ≡ byte_at t (i % 16) }
+{
+    table(t).swizzle([
+        0, 1, 2, 3, 4, 5, 6, 7, 8, 9, 10, 11, 12, 13, 14, 15, 0, 1, 2, 3, 4, 5, 6, 7, 8, 9, 10, 11,
+        12, 13, 14, 15,
+    ])
+}
+
+impl ByteVector for u8x16 {
+    const LANES: usize = 16;
+
+    ghost LANES = { 16 };
+
+    ghost bytes = { λ v. v };
+
+    ghost width = { inl refl };
+
+    #[inline(always)]
+    fn load(c: &[u8; 64], at: usize) -> u8x16 {
+        lanes::load(c, at)
+    }
+
+    #[inline(always)]
+    fn store(self, c: &mut [u8; 64], at: usize) {
+        lanes::store(self, c, at);
+    }
+
+    #[inline(always)]
+    fn sum(self, other: u8x16) -> u8x16 {
+        vectors::sum(self, other)
+    }
+
+    #[inline(always)]
+    fn at_low_nibbles(self, t: u128) -> u8x16 {
+        table(t).swizzle_dyn(self & u8x16::splat(15))
+    }
+
+    #[inline(always)]
+    fn at_high_nibbles(self, t: u128) -> u8x16 {
+        table(t).swizzle_dyn(self >> u8x16::splat(4))
+    }
+}
+
+impl ByteVector for u8x32 {
+    const LANES: usize = 32;
+
+    ghost LANES = { 32 };
+
+    ghost bytes = { λ v. v };
+
+    ghost width = { inr refl };
+
+    #[inline(always)]
+    fn load(c: &[u8; 64], at: usize) -> u8x32 {
+        lanes::load(c, at)
+    }
+
+    #[inline(always)]
+    fn store(self, c: &mut [u8; 64], at: usize) {
+        lanes::store(self, c, at);
+    }
+
+    #[inline(always)]
+    fn sum(self, other: u8x32) -> u8x32 {
+        vectors::sum(self, other)
+    }
+
+    #[inline(always)]
+    fn at_low_nibbles(self, t: u128) -> u8x32 {
+        table_twice(t).swizzle_dyn_within::<16>(self & u8x32::splat(15))
+    }
+
+    #[inline(always)]
+    fn at_high_nibbles(self, t: u128) -> u8x32 {
+        table_twice(t).swizzle_dyn_within::<16>(self >> u8x32::splat(4))
+    }
+}

@@ -1,0 +1,101 @@
+//! Words in the lanes of two vectors of bytes, and their products by look-ups of nibbles.
+//!
+//! A product is the sum of the products of the word's four nibbles. Each byte of these is one of the 16 bytes of a
+//! number, so a shuffle looks up those of all lanes at once.
+ghost use Rattle.std.specs.Prelude.{◌≡◌, ℕ, ◌+◌, ◌/◌, ◌%◌, ◌<◌, ◌≤◌, ◌⊎◌, slice_index, bit_xor};
+ghost use Rattle.rs_field.specs.Field.{product};
+ghost use Rattle.rs_field.specs.Tables.{scaled};
+ghost use Rattle.rs_field.specs.Rows.{symbol};
+ghost use Rattle.rs_field.specs.Products.{AreLowNibbles, AreHighNibbles, IsNibbleBytes};
+ghost use Rattle.rs_engines.specs.Lanes.{lane};
+ghost use Rattle.rs_engines.specs.Factors.{IsFactor};
+
+use crate::byte_vector::ByteVector;
+use rs_field::engine::tables::Multiply128lutT;
+
+/// A word a lane: the low byte of each, and the high byte of each.
+#[derive(Clone, Copy)]
+pub struct Words<V: ByteVector> {
+    low: V,
+    high: V,
+}
+
+// One byte of the product of each word, from that byte of the products of its four nibbles.
+#[inline(always)]
+fn product_bytes<V: ByteVector>(low: V, high: V, numbers: &[u128; 4]) -> V
+    ensures low { (f i : ℕ) → AreLowNibbles f numbers.now → i < V.LANES
+        → slice_index (V.bytes result) i ≡ product (lane (V.bytes low) (V.bytes high) i) f % 256 }
+    ensures high { (f i : ℕ) → AreHighNibbles f numbers.now → i < V.LANES
+        → slice_index (V.bytes result) i ≡ product (lane (V.bytes low) (V.bytes high) i) f / 256 }
+{
+    let first = low
+        .at_low_nibbles(numbers[0])
+        .sum(low.at_high_nibbles(numbers[1]));
+    let second = high
+        .at_low_nibbles(numbers[2])
+        .sum(high.at_high_nibbles(numbers[3]));
+    first.sum(second)
+}
+
+/// The words of a chunk from `at` on.
+#[inline(always)]
+pub fn load<V: ByteVector>(c: &[u8; 64], at: usize) -> Words<V>
+    requires { at + V.LANES ≤ 32 }
+    ensures { (i s : ℕ) → i < V.LANES → s ≡ at + i → lane (V.bytes result.low) (V.bytes result.high) i ≡ symbol c.now s }
+{
+    Words {
+        low: V::load(c, at),
+        high: V::load(c, at + 32),
+    }
+}
+
+/// Makes them the words of a chunk from `at` on.
+#[inline(always)]
+pub fn store<V: ByteVector>(words: Words<V>, c: &mut [u8; 64], at: usize)
+    requires { at + V.LANES ≤ 32 }
+    ensures stored { (i s : ℕ) → i < V.LANES → s ≡ at + i → symbol c.new s ≡ lane (V.bytes words.low) (V.bytes words.high) i }
+    ensures kept { (s : ℕ) → s < 32 → (s < at) ⊎ (at + V.LANES ≤ s) → symbol c.new s ≡ symbol c.old s }
+{
+    words.low.store(c, at);
+    words.high.store(c, at + 32);
+}
+
+/// The products of words.
+#[inline(always)]
+pub fn times<V: ByteVector>(words: Words<V>, factor: &Multiply128lutT) -> Words<V>
+    ensures { (f i : ℕ) → IsNibbleBytes f factor.now → i < V.LANES
+        → lane (V.bytes result.low) (V.bytes result.high) i ≡ product (lane (V.bytes words.low) (V.bytes words.high) i) f }
+{
+    Words {
+        low: product_bytes(words.low, words.high, &factor.lo),
+        high: product_bytes(words.low, words.high, &factor.hi),
+    }
+}
+
+/// The sums of words.
+#[inline(always)]
+pub fn add<V: ByteVector>(x: Words<V>, y: Words<V>) -> Words<V>
+    ensures { (i : ℕ) → i < V.LANES
+        → lane (V.bytes result.low) (V.bytes result.high) i
+        ≡ bit_xor (lane (V.bytes x.low) (V.bytes x.high) i) (lane (V.bytes y.low) (V.bytes y.high) i) }
+{
+    Words {
+        low: x.low.sum(y.low),
+        high: x.high.sum(y.high),
+    }
+}
+
+/// The sums of the words x and the products of the words y. `ZERO` says that the factor is zero; otherwise it isn't.
+#[inline(always)]
+#[tactic(auto, unfolding(crate::specs::Factors::IsFactor))]
+pub fn add_scaled<V: ByteVector, const ZERO: bool>(
+    x: Words<V>,
+    y: Words<V>,
+    factor: &Multiply128lutT,
+) -> Words<V>
+    ensures { (log_m i : ℕ) → IsFactor ZERO log_m factor.now → i < V.LANES
+        → lane (V.bytes result.low) (V.bytes result.high) i
+        ≡ bit_xor (lane (V.bytes x.low) (V.bytes x.high) i) (scaled log_m (lane (V.bytes y.low) (V.bytes y.high) i)) }
+{
+    if ZERO { x } else { add(x, times(y, factor)) }
+}
