@@ -1,7 +1,7 @@
-//! The engines that rows of the rates' objects are run with: each kind of the crate's, and the one by shuffles.
+//! The engines that rows of the rates' objects are run with: each kind of the crate's, and those by shuffles.
 use reed_solomon_simd::engine::tables::Tables;
 use reed_solomon_simd::engine::{
-    DefaultEngine, Engine, EngineKind, GfElement, ShardsRefMut, Shuffle, Steps,
+    DefaultEngine, Engine, EngineKind, GfElement, ShardsRefMut, Shuffle, Steps, WideShuffle,
 };
 
 /// The names of these engines.
@@ -9,15 +9,17 @@ use reed_solomon_simd::engine::{
 pub enum RowKind {
     Named(EngineKind),
     Shuffle,
+    WideShuffle,
 }
 
 /// Rows of the rates' objects are run with each of them.
-pub const ROW_ENGINES: [RowKind; 5] = [
+pub const ROW_ENGINES: [RowKind; 6] = [
     RowKind::Named(EngineKind::Naive),
     RowKind::Named(EngineKind::NoSimd),
     RowKind::Named(EngineKind::Avx2),
     RowKind::Named(EngineKind::Ssse3),
     RowKind::Shuffle,
+    RowKind::WideShuffle,
 ];
 
 /// An engine of any of these names.
@@ -25,6 +27,7 @@ pub const ROW_ENGINES: [RowKind; 5] = [
 pub enum RowEngine<'t> {
     Named(DefaultEngine<'t>),
     Shuffle(Shuffle<'t>),
+    WideShuffle(WideShuffle<'t>),
 }
 
 impl<'t> RowEngine<'t> {
@@ -33,6 +36,7 @@ impl<'t> RowEngine<'t> {
         match kind {
             RowKind::Named(named) => RowEngine::Named(DefaultEngine::new(tables, named)),
             RowKind::Shuffle => RowEngine::Shuffle(Shuffle::new(tables)),
+            RowKind::WideShuffle => RowEngine::WideShuffle(WideShuffle::new(tables)),
         }
     }
 }
@@ -50,6 +54,9 @@ impl Engine for RowEngine<'_> {
         match self {
             Self::Named(engine) => engine.fft(steps, data, pos, size, truncated_size, skew_delta),
             Self::Shuffle(engine) => engine.fft(steps, data, pos, size, truncated_size, skew_delta),
+            Self::WideShuffle(engine) => {
+                engine.fft(steps, data, pos, size, truncated_size, skew_delta)
+            }
         }
     }
 
@@ -67,6 +74,9 @@ impl Engine for RowEngine<'_> {
             Self::Shuffle(engine) => {
                 engine.ifft(steps, data, pos, size, truncated_size, skew_delta)
             }
+            Self::WideShuffle(engine) => {
+                engine.ifft(steps, data, pos, size, truncated_size, skew_delta)
+            }
         }
     }
 
@@ -74,6 +84,7 @@ impl Engine for RowEngine<'_> {
         match self {
             Self::Named(engine) => engine.mul(steps, x, log_m),
             Self::Shuffle(engine) => engine.mul(steps, x, log_m),
+            Self::WideShuffle(engine) => engine.mul(steps, x, log_m),
         }
     }
 
@@ -81,6 +92,7 @@ impl Engine for RowEngine<'_> {
         match self {
             Self::Named(engine) => engine.eval_poly(steps, erasures, truncated_size),
             Self::Shuffle(engine) => engine.eval_poly(steps, erasures, truncated_size),
+            Self::WideShuffle(engine) => engine.eval_poly(steps, erasures, truncated_size),
         }
     }
 }
