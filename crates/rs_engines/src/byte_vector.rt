@@ -7,7 +7,7 @@ use crate::lanes;
 use rs_field::engine::vectors;
 use std::simd::prelude::*;
 
-/// A vector of bytes. Look-ups are its methods, since the checker takes a shuffle at a width that is written out alone.
+/// A vector of bytes. Look-ups are its methods, since the checker takes a shuffle only at a width written as a number.
 pub trait ByteVector: Copy + Drop {
     /// The number of its bytes.
     const LANES: usize;
