@@ -1,12 +1,13 @@
--- A Walsh-Hadamard transform from those of its halves.
-use Rattle.std.proofs.Common.{◌≡◌, ℕ, suc, ◌+◌, ◌-◌, ◌*◌, ◌%◌, ◌^◌, ◌<◌, ◌≤◌, List, ◌++◌, length, take, drop, get_or, refl, sym, ap, ap₂, ◌∙◌, subst, arith, inl, inr, pow-suc}
-use Rattle.std.proofs.lemmas.Bool.{cases_lt}
-use Rattle.std.proofs.lemmas.List.{get_or-take, get_or-drop, get_or_append_left, get_or-append-add}
+-- A Walsh-Hadamard transform from those of its halves, and from those of its quarters.
+use Rattle.std.proofs.Common.{◌≡◌, ℕ, zero, suc, cond, ◌+◌, ◌-◌, ◌*◌, ◌/◌, ◌%◌, ◌^◌, ◌<◌, ◌≤◌, List, ◌++◌, length, take, drop, get_or, set, get_or-set_same, get_or-set_other, refl, sym, ap, ap₂, ◌∙◌, subst, arith, inl, inr, pow-suc}
+use Rattle.std.proofs.lemmas.Bool.{cases_lt, lt-ltb, le-ltb}
+use Rattle.std.proofs.Math.Dec.{ltb}
+use Rattle.std.proofs.lemmas.List.{get_or-take, get_or-drop, get_or_append_left, get_or-append-add, length-take, length-drop, length-append, length-set}
 use Rattle.rs_field.specs.Search.{first_below}
 use Rattle.rs_field.specs.Bounds.{CountsUpTo, CountsPairs, WalshCounts, log2, transform_steps}
 use Rattle.rs_field.specs.declared.engine.steps.Steps.{Steps}
-use Rattle.rs_field.proofs.Halves.{steps_half}
-use Rattle.rs_field.specs.Walsh.{total, sign, signed_sum, IsWalsh}
+use Rattle.rs_field.proofs.Halves.{steps_half, few_halves}
+use Rattle.rs_field.specs.Walsh.{total, sign, signed_sum, IsWalsh, IsFourSums}
 use Rattle.rs_field.proofs.Totals.{total-zero, total-suc, total-same, total-near, total-none, total-split, total-scale, add_near, mul_near}
 use Rattle.rs_field.proofs.Signs.{sign-left, sign-right, sign-both, sign-zero}
 
@@ -84,44 +85,184 @@ walsh-same n f g h same is w hw =
 pub walsh-at : (n m : ℕ) (f g : ℕ → ℕ) → n ≡ m → IsWalsh n f g → IsWalsh m f g
 walsh-at n m f g same is = subst (λ (k : ℕ). IsWalsh k f g) same is
 
-pub front_entry : (half : ℕ) (old front : List ℕ) → front ≡ take half old → (y : ℕ) → y < half → get_or front y 0 ≡ get_or old y 0
-front_entry half old front is y hy = ap (λ (l : List ℕ). get_or l y 0) is ∙ get_or-take half old y 0 hy
+-- ---- quarters
 
-pub back_entry : (half : ℕ) (old back : List ℕ) → back ≡ drop half old → (y : ℕ) → get_or back y 0 ≡ get_or old (half + y) 0
-back_entry half old back is y = ap (λ (l : List ℕ). get_or l y 0) is ∙ get_or-drop half old y 0
+-- a power of two above 2 has quarters
+pub quarter_power : (n : ℕ) → 2 < n → (d : ℕ) × (n ≡ 2 ^ d) → (e : ℕ) × (n ≡ 2 ^ suc (suc e)) × (n / 4 ≡ 2 ^ e) × (n ≡ 4 * (n / 4))
+quarter_power n h (zero, is) = absurd (let no : ⊥ = omega arith in no)
+quarter_power n h (suc zero, is) = absurd (let no : ⊥ = omega arith in no)
+quarter_power n h (suc (suc e), is) =
+    let p = pow-suc 2 e in
+    let q = pow-suc 2 (suc e) in
+    (e, is, omega arith, omega arith)
 
--- a list that was cut into halves, each transformed, and a step made on both
-pub record IsJoined (half : ℕ) (old low high low_new high_new : List ℕ) : Type 0 where
-  pub size : length low_new ≡ half
-  pub low_done : IsWalsh half (λ y. get_or (take half old) y 0) (λ w. get_or low w 0)
-  pub high_done : IsWalsh half (λ y. get_or (drop half old) y 0) (λ w. get_or high w 0)
-  pub sums : (i : ℕ) → i < half → get_or low_new i 0 % 65535 ≡ (get_or low i 0 + get_or high i 0) % 65535
-  pub differences : (i : ℕ) → i < half → get_or high_new i 0 % 65535 ≡ (get_or low i 0 + 65534 * get_or high i 0) % 65535
+-- two layers make the transform of those of the quarters
+pub walsh-quarters : (e n q : ℕ) (old t0 t1 t2 t3 new : ℕ → ℕ) → n ≡ 2 ^ suc (suc e) → q ≡ 2 ^ e
+    → IsWalsh q old t0 → IsWalsh q (λ y. old (q + y)) t1 → IsWalsh q (λ y. old (q + q + y)) t2 → IsWalsh q (λ y. old (q + q + (q + y))) t3
+    → ((i : ℕ) → i < q → IsFourSums (t0 i) (t1 i) (t2 i) (t3 i) (new i) (new (q + i)) (new (q + q + i)) (new (q + q + (q + i))))
+    → IsWalsh n old new
+walsh-quarters e n q old t0 t1 t2 t3 new is h done0 done1 done2 done3 sums =
+    walsh-halves (suc e) n (q + q) old (joined t0 t1) (joined t2 t3) new is two (of_half old t0 t1 done0 done1) (of_half (λ y. old (q + q + y)) t2 t3 done2 done3)
+    (record { sums = sums_of_halves; differences = differences_of_halves })
+  where
+    two : q + q ≡ 2 ^ suc e
+    two = let p = pow-suc 2 e in omega arith
 
-pub walsh-joined : (e n half : ℕ) (old low high low_new high_new : List ℕ) → n ≡ 2 ^ suc e → half ≡ 2 ^ e
-    → IsJoined half old low high low_new high_new → IsWalsh n (λ y. get_or old y 0) (λ w. get_or (low_new ++ high_new) w 0)
-walsh-joined e n half old low high low_new high_new is h j =
-    walsh-halves e n half (λ y. get_or old y 0) (λ w. get_or low w 0) (λ w. get_or high w 0) (λ w. get_or (low_new ++ high_new) w 0) is h
-    (walsh-same half (λ y. get_or (take half old) y 0) (λ y. get_or old y 0) (λ w. get_or low w 0) (λ y hy. get_or-take half old y 0 hy) j.low_done)
-    (walsh-same half (λ y. get_or (drop half old) y 0) (λ y. get_or old (half + y) 0) (λ w. get_or high w 0) (λ y hy. get_or-drop half old y 0) j.high_done)
-    (record {
-      sums = λ i hi. ap (λ v. v % 65535) (get_or_append_left low_new high_new 0 i (let s = j.size in omega arith)) ∙ j.sums i hi;
-      differences = λ i hi.
-          ap (λ v. v % 65535) (ap (λ v. get_or (low_new ++ high_new) (v + i) 0) (sym j.size) ∙ get_or-append-add low_new high_new i 0)
-          ∙ j.differences i hi;
+    joined : (ℕ → ℕ) → (ℕ → ℕ) → ℕ → ℕ
+    joined a b i = cond (ltb i q) (a i + b i) (a (i - q) + 65534 * b (i - q))
+
+    joined_first : (a b : ℕ → ℕ) (i : ℕ) → i < q → joined a b i ≡ a i + b i
+    joined_first a b i hi = ap (λ t. cond t (a i + b i) (a (i - q) + 65534 * b (i - q))) (lt-ltb i q hi)
+
+    joined_second : (a b : ℕ → ℕ) (i : ℕ) → joined a b (q + i) ≡ a i + 65534 * b i
+    joined_second a b i =
+        let back : q + i - q ≡ i = omega arith in
+        ap (λ t. cond t (a (q + i) + b (q + i)) (a (q + i - q) + 65534 * b (q + i - q))) (le-ltb (q + i) q (omega arith))
+        ∙ ap (λ k. a k + 65534 * b k) back
+
+    of_half : (f a b : ℕ → ℕ) → IsWalsh q f a → IsWalsh q (λ y. f (q + y)) b → IsWalsh (q + q) f (joined a b)
+    of_half f a b low high = walsh-halves e (q + q) q f a b (joined a b) two h low high (record {
+      sums = λ i hi. ap (λ v. v % 65535) (joined_first a b i hi);
+      differences = λ i hi. ap (λ v. v % 65535) (joined_second a b i);
     })
+
+    sums_of_halves : (i : ℕ) → i < q + q → new i % 65535 ≡ (joined t0 t1 i + joined t2 t3 i) % 65535
+    sums_of_halves i hi = elim (cases_lt i q) [
+      | inl first ↦ (sums i first).0 ∙ sym (ap₂ (λ a b. (a + b) % 65535) (joined_first t0 t1 i first) (joined_first t2 t3 i first))
+      | inr second ↦
+          let j : ℕ = i - q in
+          let back : q + j ≡ i = omega arith in
+          ap (λ k. new k % 65535) (sym back) ∙ (sums j (omega arith)).1
+          ∙ sym (ap₂ (λ a b. (a + b) % 65535) (joined_second t0 t1 j) (joined_second t2 t3 j))
+          ∙ ap (λ k. (joined t0 t1 k + joined t2 t3 k) % 65535) back
+    ]
+
+    differences_of_halves : (i : ℕ) → i < q + q → new (q + q + i) % 65535 ≡ (joined t0 t1 i + 65534 * joined t2 t3 i) % 65535
+    differences_of_halves i hi = elim (cases_lt i q) [
+      | inl first ↦ (sums i first).2 ∙ sym (ap₂ (λ a b. (a + 65534 * b) % 65535) (joined_first t0 t1 i first) (joined_first t2 t3 i first))
+      | inr second ↦
+          let j : ℕ = i - q in
+          let back : q + j ≡ i = omega arith in
+          ap (λ k. new (q + q + k) % 65535) (sym back) ∙ (sums j (omega arith)).3
+          ∙ sym (ap₂ (λ a b. (a + 65534 * b) % 65535) (joined_second t0 t1 j) (joined_second t2 t3 j))
+          ∙ ap (λ k. (joined t0 t1 k + 65534 * joined t2 t3 k) % 65535) back
+    ]
+
+-- the four quarters of a list
+pub record AreQuarters (q : ℕ) (old x0 x1 x2 x3 : List ℕ) : Type 0 where
+  pub size0 : length x0 ≡ q
+  pub size1 : length x1 ≡ q
+  pub size2 : length x2 ≡ q
+  pub size3 : length x3 ≡ q
+  pub entry0 : (y : ℕ) → y < q → get_or x0 y 0 ≡ get_or old y 0
+  pub entry1 : (y : ℕ) → y < q → get_or x1 y 0 ≡ get_or old (q + y) 0
+  pub entry2 : (y : ℕ) → y < q → get_or x2 y 0 ≡ get_or old (q + q + y) 0
+  pub entry3 : (y : ℕ) → y < q → get_or x3 y 0 ≡ get_or old (q + q + (q + y)) 0
+
+-- halves of halves are quarters
+pub cut_in_quarters : (h q : ℕ) (old low high x0 x1 x2 x3 : List ℕ) → h ≡ q + q → length old ≡ h + h
+    → low ≡ take h old → high ≡ drop h old → x0 ≡ take q low → x1 ≡ drop q low → x2 ≡ take q high → x3 ≡ drop q high
+    → AreQuarters q old x0 x1 x2 x3
+cut_in_quarters h q old low high x0 x1 x2 x3 two size is_low is_high is0 is1 is2 is3 =
+    let low_size : length low ≡ h = ap length is_low ∙ length-take h old ∙ omega arith in
+    let high_size : length high ≡ h = ap length is_high ∙ length-drop h old ∙ omega arith in record {
+      size0 = ap length is0 ∙ length-take q low ∙ omega arith;
+      size1 = ap length is1 ∙ length-drop q low ∙ omega arith;
+      size2 = ap length is2 ∙ length-take q high ∙ omega arith;
+      size3 = ap length is3 ∙ length-drop q high ∙ omega arith;
+      entry0 = λ y hy. ap (λ (l : List ℕ). get_or l y 0) is0 ∙ get_or-take q low y 0 hy ∙ in_low y (omega arith);
+      entry1 = λ y hy. ap (λ (l : List ℕ). get_or l y 0) is1 ∙ get_or-drop q low y 0 ∙ in_low (q + y) (omega arith);
+      entry2 = λ y hy. ap (λ (l : List ℕ). get_or l y 0) is2 ∙ get_or-take q high y 0 hy ∙ in_high y;
+      entry3 = λ y hy. ap (λ (l : List ℕ). get_or l y 0) is3 ∙ get_or-drop q high y 0 ∙ in_high (q + y);
+    }
+  where
+    in_low : (y : ℕ) → y < h → get_or low y 0 ≡ get_or old y 0
+    in_low y hy = ap (λ (l : List ℕ). get_or l y 0) is_low ∙ get_or-take h old y 0 hy
+
+    in_high : (y : ℕ) → get_or high y 0 ≡ get_or old (q + q + y) 0
+    in_high y = ap (λ (l : List ℕ). get_or l y 0) is_high ∙ get_or-drop h old y 0 ∙ ap (λ k. get_or old (k + y) 0) two
+
+-- quarters that were transformed, and two layers of them
+pub record AreJoined (q : ℕ) (x0 x1 x2 x3 t0 t1 t2 t3 u0 u1 u2 u3 : List ℕ) : Type 0 where
+  pub size0 : length u0 ≡ q
+  pub size1 : length u1 ≡ q
+  pub size2 : length u2 ≡ q
+  pub done0 : IsWalsh q (λ y. get_or x0 y 0) (λ w. get_or t0 w 0)
+  pub done1 : IsWalsh q (λ y. get_or x1 y 0) (λ w. get_or t1 w 0)
+  pub done2 : IsWalsh q (λ y. get_or x2 y 0) (λ w. get_or t2 w 0)
+  pub done3 : IsWalsh q (λ y. get_or x3 y 0) (λ w. get_or t3 w 0)
+  pub sums : (i : ℕ) → i < q
+      → IsFourSums (get_or t0 i 0) (get_or t1 i 0) (get_or t2 i 0) (get_or t3 i 0) (get_or u0 i 0) (get_or u1 i 0) (get_or u2 i 0) (get_or u3 i 0)
+
+pub walsh-joined : (e n q : ℕ) (old x0 x1 x2 x3 t0 t1 t2 t3 u0 u1 u2 u3 : List ℕ) → n ≡ 2 ^ suc (suc e) → q ≡ 2 ^ e
+    → AreQuarters q old x0 x1 x2 x3 → AreJoined q x0 x1 x2 x3 t0 t1 t2 t3 u0 u1 u2 u3
+    → IsWalsh n (λ y. get_or old y 0) (λ w. get_or ((u0 ++ u1) ++ (u2 ++ u3)) w 0)
+walsh-joined e n q old x0 x1 x2 x3 t0 t1 t2 t3 u0 u1 u2 u3 is h cut j =
+    walsh-quarters e n q (λ y. get_or old y 0) (λ w. get_or t0 w 0) (λ w. get_or t1 w 0) (λ w. get_or t2 w 0) (λ w. get_or t3 w 0)
+    (λ w. get_or ((u0 ++ u1) ++ (u2 ++ u3)) w 0) is h
+    (walsh-same q (λ y. get_or x0 y 0) (λ y. get_or old y 0) (λ w. get_or t0 w 0) cut.entry0 j.done0)
+    (walsh-same q (λ y. get_or x1 y 0) (λ y. get_or old (q + y) 0) (λ w. get_or t1 w 0) cut.entry1 j.done1)
+    (walsh-same q (λ y. get_or x2 y 0) (λ y. get_or old (q + q + y) 0) (λ w. get_or t2 w 0) cut.entry2 j.done2)
+    (walsh-same q (λ y. get_or x3 y 0) (λ y. get_or old (q + q + (q + y)) 0) (λ w. get_or t3 w 0) cut.entry3 j.done3)
+    (λ i hi. let (a, b, c, d) = j.sums i hi in (
+      ap (λ v. v % 65535) (first i (omega arith) ∙ get_or_append_left u0 u1 0 i (omega (arith, j.size0))) ∙ a,
+      ap (λ v. v % 65535) (first (q + i) (omega arith) ∙ ap (λ k. get_or (u0 ++ u1) (k + i) 0) (sym j.size0) ∙ get_or-append-add u0 u1 i 0) ∙ b,
+      ap (λ v. v % 65535) (second i ∙ get_or_append_left u2 u3 0 i (omega (arith, j.size2))) ∙ c,
+      ap (λ v. v % 65535) (second (q + i) ∙ ap (λ k. get_or (u2 ++ u3) (k + i) 0) (sym j.size2) ∙ get_or-append-add u2 u3 i 0) ∙ d,
+    ))
+  where
+    front_size : length (u0 ++ u1) ≡ q + q
+    front_size = length-append u0 u1 ∙ ap₂ (λ a b. a + b) j.size0 j.size1
+
+    first : (k : ℕ) → k < q + q → get_or ((u0 ++ u1) ++ (u2 ++ u3)) k 0 ≡ get_or (u0 ++ u1) k 0
+    first k hk = get_or_append_left (u0 ++ u1) (u2 ++ u3) 0 k (omega (arith, front_size))
+
+    second : (k : ℕ) → get_or ((u0 ++ u1) ++ (u2 ++ u3)) (q + q + k) 0 ≡ get_or (u2 ++ u3) k 0
+    second k = ap (λ m. get_or ((u0 ++ u1) ++ (u2 ++ u3)) (m + k) 0) (sym front_size) ∙ get_or-append-add (u0 ++ u1) (u2 ++ u3) k 0
+
+-- one pair
+pub walsh-pair : (old : List ℕ) (sum difference : ℕ) → length old ≡ 2
+    → sum % 65535 ≡ (get_or old 0 0 + get_or old 1 0) % 65535 → difference % 65535 ≡ (get_or old 0 0 + 65534 * get_or old 1 0) % 65535
+    → IsWalsh (length old) (λ y. get_or old y 0) (λ w. get_or (set (set old 0 sum) 1 difference) w 0)
+walsh-pair old sum difference two is_sum is_difference =
+    walsh-halves 0 (length old) 1 entry entry (λ y. entry (1 + y)) new two refl (walsh-one 1 entry refl) (walsh-one 1 (λ y. entry (1 + y)) refl) (record {
+      sums = λ i hi. let z : i ≡ 0 = omega arith in ap (λ k. new k % 65535) z ∙ ap (λ v. v % 65535) first ∙ is_sum ∙ ap (λ k. (entry k + entry (1 + k)) % 65535) (sym z);
+      differences = λ i hi.
+          let z : i ≡ 0 = omega arith in
+          ap (λ k. new (1 + k) % 65535) z ∙ ap (λ v. v % 65535) second ∙ is_difference ∙ ap (λ k. (entry k + 65534 * entry (1 + k)) % 65535) (sym z);
+    })
+  where
+    entry : ℕ → ℕ
+    entry y = get_or old y 0
+
+    new : ℕ → ℕ
+    new w = get_or (set (set old 0 sum) 1 difference) w 0
+
+    first : new 0 ≡ sum
+    first = get_or-set_other (set old 0 sum) 1 0 difference 0 (λ (no : 0 ≡ 1). omega arith) ∙ get_or-set_same old 0 sum 0 (omega arith)
+
+    second : new 1 ≡ difference
+    second = get_or-set_same (set old 0 sum) 1 difference 0 (let s = length-set old 0 sum in omega arith)
 
 -- ---- counts
 
-pub walsh-counts : (e n half : ℕ) (a b c d : Steps) → e < 16 → n ≡ 2 ^ suc e → half ≡ 2 ^ e
-    → WalshCounts half a b → WalshCounts half b c → CountsPairs half c d → WalshCounts n a d
-walsh-counts e n half a b c d small is h p q (x, y, z) =
-    let whole : half + 2 * transform_steps half ≡ transform_steps n = steps_half n e half small is h in
-    of_parts (transform_steps half) (transform_steps n) (omega arith) p q x y z
+-- the pair sums of four quarters and of two layers are those of the whole
+pub steps_of_quarters : (e n q : ℕ) → n ≤ 65536 → n ≡ 2 ^ suc (suc e) → q ≡ 2 ^ e → 4 * q + 4 * transform_steps q ≡ transform_steps n
+steps_of_quarters e n q small is h =
+    let p = pow-suc 2 e in
+    let few = few_halves n (suc e) 0 is (omega arith) in
+    let outer = steps_half n (suc e) (q + q) few is (omega arith) in
+    let inner = steps_half (q + q) e q (omega arith) (omega arith) h in
+    omega arith
+
+pub walsh-counts : (e n q : ℕ) (a b c d f g : Steps) → n ≤ 65536 → n ≡ 2 ^ suc (suc e) → q ≡ 2 ^ e
+    → WalshCounts q a b → WalshCounts q b c → WalshCounts q c d → WalshCounts q d f → CountsPairs (4 * q) f g → WalshCounts n a g
+walsh-counts e n q a b c d f g small is h first second third fourth (x, y, z) =
+    of_parts (transform_steps q) (transform_steps n) (omega (arith, steps_of_quarters e n q small is h)) first second third fourth x y z
   where
-    of_parts : (t u : ℕ) → half + 2 * t ≤ u → CountsUpTo 0 t 0 a b → CountsUpTo 0 t 0 b c
-        → d.row_steps ≡ c.row_steps → d.pair_sums ≡ c.pair_sums + half → d.products ≡ c.products → CountsUpTo 0 u 0 a d
-    of_parts t u le p q x y z = record {
+    of_parts : (t u : ℕ) → 4 * q + 4 * t ≤ u → CountsUpTo 0 t 0 a b → CountsUpTo 0 t 0 b c → CountsUpTo 0 t 0 c d → CountsUpTo 0 t 0 d f
+        → g.row_steps ≡ f.row_steps → g.pair_sums ≡ f.pair_sums + 4 * q → g.products ≡ f.products → CountsUpTo 0 u 0 a g
+    of_parts t u le first second third fourth x y z = record {
       row_steps_rise = omega arith;
       pair_sums_rise = omega arith;
       products_rise = omega arith;
@@ -130,10 +271,10 @@ walsh-counts e n half a b c d small is h p q (x, y, z) =
       products_most = omega arith;
     }
 
--- one half alone counts no more than the whole
-pub walsh-half-counts : (e n half : ℕ) (a b : Steps) → e < 16 → n ≡ 2 ^ suc e → half ≡ 2 ^ e → WalshCounts half a b → WalshCounts n a b
-walsh-half-counts e n half a b small is h p =
-    let whole : half + 2 * transform_steps half ≡ transform_steps n = steps_half n e half small is h in
+-- one quarter alone counts no more than the whole
+pub walsh-quarter-counts : (e n q : ℕ) (a b : Steps) → n ≤ 65536 → n ≡ 2 ^ suc (suc e) → q ≡ 2 ^ e → WalshCounts q a b → WalshCounts n a b
+walsh-quarter-counts e n q a b small is h p =
+    let whole : 4 * q + 4 * transform_steps q ≡ transform_steps n = steps_of_quarters e n q small is h in
     record {
       row_steps_rise = p.row_steps_rise;
       pair_sums_rise = p.pair_sums_rise;
@@ -143,17 +284,27 @@ walsh-half-counts e n half a b small is h p =
       products_most = p.products_most;
     }
 
+-- a transform that counts all pair sums of its layers
+exact-counts : (n m : ℕ) (a b : Steps) → transform_steps n ≡ m → CountsPairs m a b → WalshCounts n a b
+exact-counts n m a b s (x, y, z) = record {
+  row_steps_rise = omega arith;
+  pair_sums_rise = omega arith;
+  products_rise = omega arith;
+  row_steps_most = omega arith;
+  pair_sums_most = omega arith;
+  products_most = omega arith;
+}
+
+steps_of_2 : transform_steps 2 ≡ 1
+unfolding transform_steps log2 first_below
+steps_of_2 = refl
+
 steps_of_16 : transform_steps 16 ≡ 32
 unfolding transform_steps log2 first_below
 steps_of_16 = refl
 
+pub pair-counts : (n : ℕ) (a b : Steps) → n ≡ 2 → CountsPairs 1 a b → WalshCounts n a b
+pair-counts n a b is counts = exact-counts n 1 a b (ap transform_steps is ∙ steps_of_2) counts
+
 pub block-counts : (n : ℕ) (a b : Steps) → n ≡ 16 → CountsPairs 32 a b → WalshCounts n a b
-block-counts n a b is (x, y, z) =
-    let s : transform_steps n ≡ 32 = ap transform_steps is ∙ steps_of_16 in record {
-      row_steps_rise = omega arith;
-      pair_sums_rise = omega arith;
-      products_rise = omega arith;
-      row_steps_most = omega arith;
-      pair_sums_most = omega arith;
-      products_most = omega arith;
-    }
+block-counts n a b is counts = exact-counts n 32 a b (ap transform_steps is ∙ steps_of_16) counts

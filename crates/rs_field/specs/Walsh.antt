@@ -19,6 +19,12 @@ signed_sum n f w = total n (λ y. sign w y * f y)
 abbrev pub IsWalsh : ℕ → (ℕ → ℕ) → (ℕ → ℕ) → Type 0
 IsWalsh n old new = (w : ℕ) → w < n → new w % 65535 ≡ signed_sum n old w % 65535
 
+-- of four values, two layers of sums and differences were made, modulo 65535: of the first two and of the last two, and of what came of them
+abbrev pub IsFourSums : ℕ → ℕ → ℕ → ℕ → ℕ → ℕ → ℕ → ℕ → Type 0
+IsFourSums a b c d w x y z =
+    (w % 65535 ≡ (a + b + (c + d)) % 65535) × (x % 65535 ≡ (a + 65534 * b + (c + 65534 * d)) % 65535)
+    × (y % 65535 ≡ (a + b + 65534 * (c + d)) % 65535) × (z % 65535 ≡ (a + 65534 * b + 65534 * (c + 65534 * d)) % 65535)
+
 -- of 16 entries the two of each pair at this distance became their sum and their difference, modulo 65535
 abbrev pub IsLayer : ℕ → List ℕ → List ℕ → Type 0
 IsLayer distance old new =

@@ -1,6 +1,6 @@
 //! The Walsh-Hadamard transform modulo 65535.
 ghost use Rattle.std.specs.Prelude.{◌≡◌, ℕ, ◌+◌, ◌*◌, ◌%◌, ◌^◌, ◌<◌, ◌≤◌, length, slice_index};
-ghost use Rattle.rs_field.specs.Walsh.{IsWalsh};
+ghost use Rattle.rs_field.specs.Walsh.{IsWalsh, IsFourSums};
 ghost use Rattle.rs_field.specs.Bounds.{CountsPairs, WalshCounts};
 
 use super::walsh_lanes::walsh_16;
@@ -34,18 +34,40 @@ fn pair_sum(steps: &mut Steps, x: GfElement, y: GfElement) -> (GfElement, GfElem
     (lane_sum(x, y), sub_mod(x, y))
 }
 
-// The sums and differences of two halves, entry by entry.
+// Two layers: the sums and differences of entries 0 and 1 and of entries 2 and 3, and of what came of 0 and 2 and of 1 and 3.
 #[inline(always)]
-fn pair_sums(steps: &mut Steps, low: &mut [GfElement], high: &mut [GfElement])
-    requires { length low.old ≡ length high.old }
-    ensures sums { (i : ℕ) → i < length low.old → slice_index low.new i % 65535 ≡ (slice_index low.old i + slice_index high.old i) % 65535 }
-    ensures differences { (i : ℕ) → i < length low.old → slice_index high.new i % 65535 ≡ (slice_index low.old i + 65534 * slice_index high.old i) % 65535 }
-    ensures counts { CountsPairs (length low.old) steps.old steps.new }
+fn four_sums(steps: &mut Steps, entries: [GfElement; 4]) -> [GfElement; 4]
+    ensures values { IsFourSums (slice_index entries 0) (slice_index entries 1) (slice_index entries 2) (slice_index entries 3)
+        (slice_index result 0) (slice_index result 1) (slice_index result 2) (slice_index result 3) }
+    ensures counts { CountsPairs 4 steps.old steps.new }
 {
-    for i in 0..low.len() {
-        let (sum, difference) = pair_sum(steps, low[i], high[i]);
-        low[i] = sum;
-        high[i] = difference;
+    let [a, b, c, d] = entries;
+    let (ab, ab_difference) = pair_sum(steps, a, b);
+    let (cd, cd_difference) = pair_sum(steps, c, d);
+    let (first, third) = pair_sum(steps, ab, cd);
+    let (second, fourth) = pair_sum(steps, ab_difference, cd_difference);
+    [first, second, third, fourth]
+}
+
+// The same of four quarters, entry by entry.
+#[inline(always)]
+fn quarter_sums(
+    steps: &mut Steps,
+    x0: &mut [GfElement],
+    x1: &mut [GfElement],
+    x2: &mut [GfElement],
+    x3: &mut [GfElement],
+)
+    requires one { length x0.old ≡ length x1.old }
+    requires two { length x0.old ≡ length x2.old }
+    requires three { length x0.old ≡ length x3.old }
+    ensures sums { (i : ℕ) → i < length x0.old
+        → IsFourSums (slice_index x0.old i) (slice_index x1.old i) (slice_index x2.old i) (slice_index x3.old i)
+        (slice_index x0.new i) (slice_index x1.new i) (slice_index x2.new i) (slice_index x3.new i) }
+    ensures counts { CountsPairs (4 * length x0.old) steps.old steps.new }
+{
+    for i in 0..x0.len() {
+        [x0[i], x1[i], x2[i], x3[i]] = four_sums(steps, [x0[i], x1[i], x2[i], x3[i]]);
     }
 }
 
@@ -65,16 +87,26 @@ pub fn fwht(steps: &mut Steps, data: &mut [GfElement], truncated: usize)
     let n = data.len();
     if n == 16 {
         walsh_16(steps, data);
-    } else if n > 1 && truncated > 0 {
-        let half = n / 2;
-        let (low, high) = data.split_at_mut(half);
-        fwht(steps, low, truncated);
-        if truncated <= half {
-            // The other half is all zero: its sums and differences are the first half's entries.
-            high.copy_from_slice(low);
+    } else if n == 2 {
+        let (sum, difference) = pair_sum(steps, data[0], data[1]);
+        data[0] = sum;
+        data[1] = difference;
+    } else if n > 2 && truncated > 0 {
+        let quarter = n / 4;
+        let (low, high) = data.split_at_mut(n / 2);
+        let (x0, x1) = low.split_at_mut(quarter);
+        let (x2, x3) = high.split_at_mut(quarter);
+        fwht(steps, x0, truncated);
+        if truncated <= quarter {
+            // The other quarters are all zero: each of their sums is an entry of the first one.
+            x1.copy_from_slice(x0);
+            x2.copy_from_slice(x0);
+            x3.copy_from_slice(x0);
         } else {
-            fwht(steps, high, truncated - half);
-            pair_sums(steps, low, high);
+            fwht(steps, x1, truncated - quarter);
+            fwht(steps, x2, truncated.saturating_sub(2 * quarter));
+            fwht(steps, x3, truncated.saturating_sub(3 * quarter));
+            quarter_sums(steps, x0, x1, x2, x3);
         }
     }
 }
