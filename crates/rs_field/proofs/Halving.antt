@@ -299,12 +299,12 @@ steps_of_2 : transform_steps 2 ≡ 1
 unfolding transform_steps log2 first_below
 steps_of_2 = refl
 
-steps_of_16 : transform_steps 16 ≡ 32
+steps_of_64 : transform_steps 64 ≡ 192
 unfolding transform_steps log2 first_below
-steps_of_16 = refl
+steps_of_64 = refl
 
 pub pair-counts : (n : ℕ) (a b : Steps) → n ≡ 2 → CountsPairs 1 a b → WalshCounts n a b
 pair-counts n a b is counts = exact-counts n 1 a b (ap transform_steps is ∙ steps_of_2) counts
 
-pub block-counts : (n : ℕ) (a b : Steps) → n ≡ 16 → CountsPairs 32 a b → WalshCounts n a b
-block-counts n a b is counts = exact-counts n 32 a b (ap transform_steps is ∙ steps_of_16) counts
+pub block-counts : (n : ℕ) (a b : Steps) → n ≡ 64 → CountsPairs 192 a b → WalshCounts n a b
+block-counts n a b is counts = exact-counts n 192 a b (ap transform_steps is ∙ steps_of_64) counts

@@ -51,7 +51,7 @@ summed v w r m k size hm hk e =
     e ∙ ap₂ (λ a b. (a + b) % 65535) (get_or_append_left v v 0 m (omega arith)) (get_or_append_left v w 0 k (omega arith))
 
 -- a complement is the negative
-complement : (v : List ℕ) (k a : ℕ) → length v ≡ 16 → Each1 (Fits w16) v → k < 16
+pub complement : (v : List ℕ) (k a : ℕ) → length v ≡ 16 → Each1 (Fits w16) v → k < 16
     → (a + get_or (map (λ n. 65535 - n) v) k 0) % 65535 ≡ (a + 65534 * get_or v k 0) % 65535
 complement v k a size fits h =
     let small = lane_below v k fits in
@@ -115,12 +115,12 @@ stage e n half a f g new is h room first second layer low high =
     })
 
 -- four layers make the transform
-pub four_layers : (old f g1 g2 g3 g4 new : List ℕ) → ((i : ℕ) → i < 16 → get_or f i 0 ≡ get_or old i 0) → IsLayer 1 f g1 → IsLayer 2 g1 g2 → IsLayer 4 g2 g3
-    → IsLayer 8 g3 g4 → ((i : ℕ) → i < 16 → get_or new i 0 ≡ get_or g4 i 0) → IsWalsh 16 (λ y. get_or old y 0) (λ w. get_or new w 0)
-four_layers old f g1 g2 g3 g4 new loaded l1 l2 l4 l8 stored =
-    walsh-same 16 (λ y. get_or f (0 + y) 0) (λ y. get_or old y 0) (λ w. get_or new w 0)
-    (λ y hy. let z : 0 + y ≡ y = omega arith in ap (λ k. get_or f k 0) z ∙ loaded y hy)
-    (λ w hw. let z : w ≡ 0 + w = omega arith in ap (λ v. v % 65535) (stored w hw) ∙ ap (λ k. get_or g4 k 0 % 65535) z ∙ whole w hw)
+pub four_layers : (f g1 g2 g3 g4 : List ℕ) → IsLayer 1 f g1 → IsLayer 2 g1 g2 → IsLayer 4 g2 g3 → IsLayer 8 g3 g4
+    → IsWalsh 16 (λ y. get_or f y 0) (λ w. get_or g4 w 0)
+four_layers f g1 g2 g3 g4 l1 l2 l4 l8 =
+    walsh-same 16 (λ y. get_or f (0 + y) 0) (λ y. get_or f y 0) (λ w. get_or g4 w 0)
+    (λ y hy. let z : 0 + y ≡ y = omega arith in ap (λ k. get_or f k 0) z)
+    (λ w hw. let z : w ≡ 0 + w = omega arith in ap (λ k. get_or g4 k 0 % 65535) z ∙ whole w hw)
   where
     two : (a : ℕ) → a + 2 ≤ 16 → a % 2 ≡ 0 → IsWalsh 2 (λ y. get_or f (a + y) 0) (λ w. get_or g1 (a + w) 0)
     two a le even = stage 0 2 1 a f f g1 refl refl le (λ i h. omega arith) (λ i h. omega arith) l1 (walsh-one 1 (λ y. get_or f (a + y) 0) refl) (walsh-one 1 (λ y. get_or f (a + 1 + y) 0) refl)

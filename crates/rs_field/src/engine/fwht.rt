@@ -3,7 +3,7 @@ ghost use Rattle.std.specs.Prelude.{◌≡◌, ℕ, ◌+◌, ◌*◌, ◌%◌, �
 ghost use Rattle.rs_field.specs.Walsh.{IsWalsh, IsFourSums};
 ghost use Rattle.rs_field.specs.Bounds.{CountsPairs, WalshCounts};
 
-use super::walsh_lanes::walsh_16;
+use super::walsh_lanes::walsh_64;
 use super::{GfElement, Steps};
 
 // The sum modulo 65535, as `add_mod`: the larger of the sum without its carry, which is right up to 65535, and of the
@@ -34,7 +34,8 @@ fn pair_sum(steps: &mut Steps, x: GfElement, y: GfElement) -> (GfElement, GfElem
     (lane_sum(x, y), sub_mod(x, y))
 }
 
-// Two layers: the sums and differences of entries 0 and 1 and of entries 2 and 3, and of what came of 0 and 2 and of 1 and 3.
+// Two layers: sums and differences of entries 0 and 1 and of entries 2 and 3, and then of what became of 0 and 2 and of
+// 1 and 3.
 #[inline(always)]
 fn four_sums(steps: &mut Steps, entries: [GfElement; 4]) -> [GfElement; 4]
     ensures values { IsFourSums (slice_index entries 0) (slice_index entries 1) (slice_index entries 2) (slice_index entries 3)
@@ -49,7 +50,7 @@ fn four_sums(steps: &mut Steps, entries: [GfElement; 4]) -> [GfElement; 4]
     [first, second, third, fourth]
 }
 
-// The same of four quarters, entry by entry.
+// The same for four quarters, entry by entry: one load and one store of each where a layer alone takes two.
 #[inline(always)]
 fn quarter_sums(
     steps: &mut Steps,
@@ -76,7 +77,7 @@ fn quarter_sums(
 ///
 /// There are a power of two of entries, at most 65536, and those from `truncated` on are 0. Of a new entry the residue
 /// alone is fixed: 0 and 65535 both stand for zero. At most half the number of entries times its logarithm pair sums
-/// are counted. The transform is that of Leopard-RS, by halves.
+/// are counted. The transform is that of Leopard-RS, two layers at a time, quarter by quarter.
 pub fn fwht(steps: &mut Steps, data: &mut [GfElement], truncated: usize)
     requires power { (d : ℕ) × (length «data».old ≡ 2 ^ d) }
     requires size { length «data».old ≤ 65536 }
@@ -85,8 +86,8 @@ pub fn fwht(steps: &mut Steps, data: &mut [GfElement], truncated: usize)
     ensures counts { WalshCounts (length «data».old) steps.old steps.new }
 {
     let n = data.len();
-    if n == 16 {
-        walsh_16(steps, data);
+    if n == 64 {
+        walsh_64(steps, data);
     } else if n == 2 {
         let (sum, difference) = pair_sum(steps, data[0], data[1]);
         data[0] = sum;

@@ -1,6 +1,6 @@
-//! The Walsh-Hadamard transform of 16 entries modulo 65535, in the lanes of one vector.
-ghost use Rattle.std.specs.Prelude.{◌≡◌, ℕ, ◌+◌, ◌-◌, ◌%◌, ◌<◌, max, length, slice_index};
-ghost use Rattle.rs_field.specs.Walsh.{IsWalsh, IsLayer};
+//! The Walsh-Hadamard transform of 64 entries modulo 65535, in the lanes of four vectors.
+ghost use Rattle.std.specs.Prelude.{◌≡◌, ℕ, ◌+◌, ◌-◌, ◌*◌, ◌%◌, ◌<◌, max, length, slice_index};
+ghost use Rattle.rs_field.specs.Walsh.{IsWalsh, IsLayer, IsFourSums};
 ghost use Rattle.rs_field.specs.Bounds.{CountsPairs};
 
 use super::{GfElement, Steps};
@@ -28,6 +28,14 @@ fn sums(x: u16x16, y: u16x16) -> u16x16
     ensures { (i : ℕ) → i < 16 → slice_index result i % 65535 ≡ (slice_index x i + slice_index y i) % 65535 }
 {
     larger(x + y, excess(x, !y))
+}
+
+// The differences modulo 65535: a complement is the negative.
+#[inline(always)]
+fn differences(x: u16x16, y: u16x16) -> u16x16
+    ensures { (i : ℕ) → i < 16 → slice_index result i % 65535 ≡ (slice_index x i + 65534 * slice_index y i) % 65535 }
+{
+    sums(x, !y)
 }
 
 // Sums and differences of lanes at distance 1. In lanes 1, 3, .. the complement makes the difference.
@@ -83,12 +91,39 @@ fn layer_8(v: u16x16) -> u16x16
     )
 }
 
-// Counts the sums and differences of four layers.
+// The transform of the lanes.
+#[inline(always)]
+fn walsh_16(v: u16x16) -> u16x16
+    ensures { IsWalsh 16 (λ y. slice_index v y) (λ w. slice_index result w) }
+{
+    layer_8(layer_4(layer_2(layer_1(v))))
+}
+
+// Two layers of four vectors: sums and differences of 0 and 1 and of 2 and 3, and then of what became of 0 and 2 and of
+// 1 and 3.
+#[inline(always)]
+fn vector_sums(x0: u16x16, x1: u16x16, x2: u16x16, x3: u16x16) -> (u16x16, u16x16, u16x16, u16x16)
+    ensures { (i : ℕ) → i < 16 → IsFourSums (slice_index x0 i) (slice_index x1 i) (slice_index x2 i) (slice_index x3 i)
+        (slice_index result.0 i) (slice_index result.1 i) (slice_index result.2 i) (slice_index result.3 i) }
+{
+    let low = sums(x0, x1);
+    let low_difference = differences(x0, x1);
+    let high = sums(x2, x3);
+    let high_difference = differences(x2, x3);
+    (
+        sums(low, high),
+        sums(low_difference, high_difference),
+        differences(low, high),
+        differences(low_difference, high_difference),
+    )
+}
+
+// Counts the sums and differences of six layers.
 #[inline(always)]
 fn count_layers(steps: &mut Steps)
-    ensures { CountsPairs 32 steps.old steps.new }
+    ensures { CountsPairs 192 steps.old steps.new }
 {
-    for _pair in 0..32usize {
+    for _pair in 0..192usize {
         steps.pair_sum();
     }
 }
@@ -111,15 +146,24 @@ fn store(v: u16x16, data: &mut [GfElement])
     v.copy_to_slice(data);
 }
 
-/// The transform of 16 entries.
+/// The transform of 64 entries.
 #[inline(always)]
-pub(crate) fn walsh_16(steps: &mut Steps, data: &mut [GfElement])
-    requires { length «data».old ≡ 16 }
-    ensures values { IsWalsh 16 (λ y. slice_index «data».old y) (λ w. slice_index «data».new w) }
-    ensures counts { CountsPairs 32 steps.old steps.new }
+pub(crate) fn walsh_64(steps: &mut Steps, data: &mut [GfElement])
+    requires { length «data».old ≡ 64 }
+    ensures values { IsWalsh 64 (λ y. slice_index «data».old y) (λ w. slice_index «data».new w) }
+    ensures counts { CountsPairs 192 steps.old steps.new }
 {
     count_layers(steps);
-    let entries = load(data);
-    let new = layer_8(layer_4(layer_2(layer_1(entries))));
-    store(new, data);
+    let (low, high) = data.split_at_mut(32);
+    let (x0, x1) = low.split_at_mut(16);
+    let (x2, x3) = high.split_at_mut(16);
+    let v0 = walsh_16(load(x0));
+    let v1 = walsh_16(load(x1));
+    let v2 = walsh_16(load(x2));
+    let v3 = walsh_16(load(x3));
+    let (y0, y1, y2, y3) = vector_sums(v0, v1, v2, v3);
+    store(y0, x0);
+    store(y1, x1);
+    store(y2, x2);
+    store(y3, x3);
 }

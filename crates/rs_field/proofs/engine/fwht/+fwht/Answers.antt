@@ -144,9 +144,9 @@ quarter_sums-requires-clause-three t c =
     let new3 = c.fwht-else-truncated-quarter-3.auto.data in
     omega arith
 
-pub returns-then-n-eq16-clause-counts : goal.returns-then-n-eq16-clause-counts
-returns-then-n-eq16-clause-counts t c =
-    block-counts (length c.args.data.now) c.args.steps.now c.walsh_16.new.steps c.if-n-eq16.true c.walsh_16.ensures.counts
+pub returns-then-n-eq64-clause-counts : goal.returns-then-n-eq64-clause-counts
+returns-then-n-eq64-clause-counts t c =
+    block-counts (length c.args.data.now) c.args.steps.now c.walsh_64.new.steps c.if-n-eq64.true c.walsh_64.ensures.counts
 
 pub returns-then-n-eq2-clause-values : goal.returns-then-n-eq2-clause-values
 returns-then-n-eq2-clause-values t c =

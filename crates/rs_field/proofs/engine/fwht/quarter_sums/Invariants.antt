@@ -1,4 +1,4 @@
-use Rattle.std.proofs.Common.{◌≡◌, ℕ, ◌+◌, ◌*◌, ◌%◌, ◌<◌, ◌≤◌, get_or}
+use Rattle.std.proofs.Common.{◌≡◌, ℕ, ◌*◌, ◌<◌, ◌≤◌, get_or}
 use Rattle.rs_field.specs.Bounds.{CountsPairs}
 use Rattle.rs_field.specs.Walsh.{IsFourSums}
 use Rattle.rs_field.proofs.engine.fwht.quarter_sums.Given as goal
