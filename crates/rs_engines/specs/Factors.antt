@@ -11,12 +11,14 @@ unfoldable pub IsFactor : Bool → ℕ → Multiply128lutT → Type 0
 IsFactor true log_m entry = log_m ≡ 65535
 IsFactor false log_m entry = (log_m ≢ 65535) × IsNibbleBytes (power log_m) entry
 
--- two layers of forward butterflies by these factors: the first two are zero where the flag is true, and not where it is false; the third never is
+-- two layers of forward butterflies by these factors: the first two are zero or neither is, as the flag says; the third
+-- is not
 unfoldable pub IsForwardByFactors : Bool → Multiply128lutT → Multiply128lutT → Multiply128lutT → OnFourWords
 IsForwardByFactors zero factor02 factor01 factor23 x0 x1 x2 x3 y0 y1 y2 y3 =
     (l m n : ℕ) → IsFactor zero l factor02 → IsFactor zero m factor01 → IsFactor false n factor23 → IsForwardFour l m n x0 x1 x2 x3 y0 y1 y2 y3
 
--- two layers of backward butterflies by these factors: the first two are zero where the flag is true, and not where it is false; the third never is
+-- two layers of backward butterflies by these factors: the first two are zero or neither is, as the flag says; the
+-- third is not
 unfoldable pub IsBackwardByFactors : Bool → Multiply128lutT → Multiply128lutT → Multiply128lutT → OnFourWords
 IsBackwardByFactors zero factor02 factor01 factor23 x0 x1 x2 x3 y0 y1 y2 y3 =
     (l m n : ℕ) → IsFactor zero l factor02 → IsFactor zero m factor01 → IsFactor false n factor23 → IsBackwardFour l m n x0 x1 x2 x3 y0 y1 y2 y3

@@ -132,7 +132,7 @@ fn fft_four_blocks<V: ByteVector, const ZERO: bool>(
 }
 
 /// Two forward layers on four chunks: chunks 0 and 2 and chunks 1 and 3, and then chunks 0 and 1 and chunks 2 and 3.
-/// Factor 23 is not zero; the factors 02 and 01 are where `ZERO` is true, and are not where it is false.
+/// Factor 23 is not zero. With `ZERO` both other factors are zero, without it neither is.
 #[inline(always)]
 pub fn fft_four_chunks<V: ByteVector, const ZERO: bool>(
     c0: &mut [u8; 64],
@@ -190,7 +190,7 @@ fn ifft_four_blocks<V: ByteVector, const ZERO: bool>(
 }
 
 /// Two backward layers on four chunks: chunks 0 and 1 and chunks 2 and 3, and then chunks 0 and 2 and chunks 1 and 3.
-/// Factor 23 is not zero; the factors 02 and 01 are where `ZERO` is true, and are not where it is false.
+/// Factor 23 is not zero. With `ZERO` both other factors are zero, without it neither is.
 #[inline(always)]
 pub fn ifft_four_chunks<V: ByteVector, const ZERO: bool>(
     c0: &mut [u8; 64],

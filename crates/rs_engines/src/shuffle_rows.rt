@@ -54,7 +54,7 @@ pub fn ifft_butterfly<V: ByteVector>(
 }
 
 /// Two forward layers on four rows: rows 0 and 2 and rows 1 and 3, and then rows 0 and 1 and rows 2 and 3. Factor 23 is
-/// not zero; the factors 02 and 01 are where `ZERO` is true, and are not where it is false.
+/// not zero. With `ZERO` both other factors are zero, without it neither is.
 pub fn fft_two_layers<V: ByteVector, const ZERO: bool>(
     x0: &mut [[u8; 64]],
     x1: &mut [[u8; 64]],
@@ -80,7 +80,7 @@ pub fn fft_two_layers<V: ByteVector, const ZERO: bool>(
 }
 
 /// Two backward layers on four rows: rows 0 and 1 and rows 2 and 3, and then rows 0 and 2 and rows 1 and 3. Factor 23 is
-/// not zero; the factors 02 and 01 are where `ZERO` is true, and are not where it is false.
+/// not zero. With `ZERO` both other factors are zero, without it neither is.
 pub fn ifft_two_layers<V: ByteVector, const ZERO: bool>(
     x0: &mut [[u8; 64]],
     x1: &mut [[u8; 64]],

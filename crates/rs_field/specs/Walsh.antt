@@ -19,7 +19,8 @@ signed_sum n f w = total n (λ y. sign w y * f y)
 abbrev pub IsWalsh : ℕ → (ℕ → ℕ) → (ℕ → ℕ) → Type 0
 IsWalsh n old new = (w : ℕ) → w < n → new w % 65535 ≡ signed_sum n old w % 65535
 
--- of four values, two layers of sums and differences were made, modulo 65535: of the first two and of the last two, and of what came of them
+-- two layers of sums and differences, modulo 65535: w and y are the sum and the difference of a + b and c + d, x and z
+-- those of a - b and c - d
 abbrev pub IsFourSums : ℕ → ℕ → ℕ → ℕ → ℕ → ℕ → ℕ → ℕ → Type 0
 IsFourSums a b c d w x y z =
     (w % 65535 ≡ (a + b + (c + d)) % 65535) × (x % 65535 ≡ (a + 65534 * b + (c + 65534 * d)) % 65535)

@@ -43,14 +43,14 @@ fn four_sums(steps: &mut Steps, entries: [GfElement; 4]) -> [GfElement; 4]
     ensures counts { CountsPairs 4 steps.old steps.new }
 {
     let [a, b, c, d] = entries;
-    let (ab, ab_difference) = pair_sum(steps, a, b);
-    let (cd, cd_difference) = pair_sum(steps, c, d);
-    let (first, third) = pair_sum(steps, ab, cd);
-    let (second, fourth) = pair_sum(steps, ab_difference, cd_difference);
+    let (low_sum, low_difference) = pair_sum(steps, a, b);
+    let (high_sum, high_difference) = pair_sum(steps, c, d);
+    let (first, third) = pair_sum(steps, low_sum, high_sum);
+    let (second, fourth) = pair_sum(steps, low_difference, high_difference);
     [first, second, third, fourth]
 }
 
-// The same for four quarters, entry by entry: one load and one store of each where a layer alone takes two.
+// The same for four quarters, entry by entry: one load and one store of each, where layer by layer there are two.
 #[inline(always)]
 fn quarter_sums(
     steps: &mut Steps,
@@ -99,7 +99,8 @@ pub fn fwht(steps: &mut Steps, data: &mut [GfElement], truncated: usize)
         let (x2, x3) = high.split_at_mut(quarter);
         fwht(steps, x0, truncated);
         if truncated <= quarter {
-            // The other quarters are all zero: each of their sums is an entry of the first one.
+            // Quarters that are zero but for the first are not transformed: all sums and differences are the first
+            // one's entries.
             x1.copy_from_slice(x0);
             x2.copy_from_slice(x0);
             x3.copy_from_slice(x0);
