@@ -19,6 +19,15 @@ pub half_power : (size : ℕ) → 1 < size → (d : ℕ) × (size ≡ 2 ^ d) →
 half_power size h (zero, is) = absurd (let no : ⊥ = omega arith in no)
 half_power size h (suc e, is) = (e, is, let p = pow-suc 2 e in omega arith)
 
+-- a quarter of one that is above two
+pub quarter_power : (size : ℕ) → 2 < size → (d : ℕ) × (size ≡ 2 ^ d) → (e : ℕ) × (size ≡ 2 ^ suc (suc e)) × (size / 4 ≡ 2 ^ e) × (size ≡ 4 * (size / 4))
+quarter_power size h (zero, is) = absurd (let no : ⊥ = omega arith in no)
+quarter_power size h (suc zero, is) = absurd (let no : ⊥ = omega arith in no)
+quarter_power size h (suc (suc e), is) =
+    let p = pow-suc 2 e in
+    let q = pow-suc 2 (suc e) in
+    (e, is, omega arith, omega arith)
+
 pub two_halves : (size : ℕ) → 1 < size → (d : ℕ) × (size ≡ 2 ^ d) → size ≡ size / 2 + size / 2
 two_halves size h power =
     let p = half_power size h power in
@@ -124,6 +133,15 @@ steps_half size e half he is h =
         let r : n * a ≡ half * suc e = ap₂ (λ v w. v * w) i j in
         let m : half * suc e ≡ half * e + half = omega arith in
         omega arith
+
+-- and two layers between the quarters and the steps of all four
+pub steps_quarters : (size e quarter : ℕ) → size ≤ 65536 → size ≡ 2 ^ suc (suc e) → quarter ≡ 2 ^ e → 4 * quarter + 4 * transform_steps quarter ≡ transform_steps size
+steps_quarters size e quarter small is q =
+    let p = pow-suc 2 e in
+    let few = few_halves size (suc e) 0 is (omega arith) in
+    let outer = steps_half size (suc e) (quarter + quarter) few is (omega arith) in
+    let inner = steps_half (quarter + quarter) e quarter (omega arith) (omega arith) q in
+    omega arith
 
 -- one row has no step
 pub no_steps : (size : ℕ) → size ≤ 1 → transform_steps size ≡ 0

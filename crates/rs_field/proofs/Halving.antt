@@ -1,12 +1,12 @@
 -- A Walsh-Hadamard transform from those of its halves, and from those of its quarters.
-use Rattle.std.proofs.Common.{◌≡◌, ℕ, zero, suc, cond, ◌+◌, ◌-◌, ◌*◌, ◌/◌, ◌%◌, ◌^◌, ◌<◌, ◌≤◌, List, ◌++◌, length, take, drop, get_or, set, get_or-set_same, get_or-set_other, refl, sym, ap, ap₂, ◌∙◌, subst, arith, inl, inr, pow-suc}
+use Rattle.std.proofs.Common.{◌≡◌, ℕ, suc, cond, ◌+◌, ◌-◌, ◌*◌, ◌%◌, ◌^◌, ◌<◌, ◌≤◌, List, ◌++◌, length, take, drop, get_or, set, get_or-set_same, get_or-set_other, refl, sym, ap, ap₂, ◌∙◌, subst, arith, inl, inr, pow-suc}
 use Rattle.std.proofs.lemmas.Bool.{cases_lt, lt-ltb, le-ltb}
 use Rattle.std.proofs.Math.Dec.{ltb}
 use Rattle.std.proofs.lemmas.List.{get_or-take, get_or-drop, get_or_append_left, get_or-append-add, length-take, length-drop, length-append, length-set}
 use Rattle.rs_field.specs.Search.{first_below}
 use Rattle.rs_field.specs.Bounds.{CountsUpTo, CountsPairs, WalshCounts, log2, transform_steps}
 use Rattle.rs_field.specs.declared.engine.steps.Steps.{Steps}
-use Rattle.rs_field.proofs.Halves.{steps_half, few_halves}
+use Rattle.rs_field.proofs.Halves.{steps_quarters}
 use Rattle.rs_field.specs.Walsh.{total, sign, signed_sum, IsWalsh, IsFourSums}
 use Rattle.rs_field.proofs.Totals.{total-zero, total-suc, total-same, total-near, total-none, total-split, total-scale, add_near, mul_near}
 use Rattle.rs_field.proofs.Signs.{sign-left, sign-right, sign-both, sign-zero}
@@ -76,7 +76,7 @@ walsh-halves e n half old low high new is h a b s w hw =
           ∙ ap₂ (λ m v. signed_sum m old v % 65535) (sym two) there
     ]
 
--- ---- of lists
+-- ---- equal values, equal sizes
 
 pub walsh-same : (n : ℕ) (f g h : ℕ → ℕ) → ((y : ℕ) → y < n → f y ≡ g y) → IsWalsh n f h → IsWalsh n g h
 walsh-same n f g h same is w hw =
@@ -87,17 +87,8 @@ walsh-at n m f g same is = subst (λ (k : ℕ). IsWalsh k f g) same is
 
 -- ---- quarters
 
--- a power of two above 2 has quarters
-pub quarter_power : (n : ℕ) → 2 < n → (d : ℕ) × (n ≡ 2 ^ d) → (e : ℕ) × (n ≡ 2 ^ suc (suc e)) × (n / 4 ≡ 2 ^ e) × (n ≡ 4 * (n / 4))
-quarter_power n h (zero, is) = absurd (let no : ⊥ = omega arith in no)
-quarter_power n h (suc zero, is) = absurd (let no : ⊥ = omega arith in no)
-quarter_power n h (suc (suc e), is) =
-    let p = pow-suc 2 e in
-    let q = pow-suc 2 (suc e) in
-    (e, is, omega arith, omega arith)
-
 -- two layers make the transform of those of the quarters
-pub walsh-quarters : (e n q : ℕ) (old t0 t1 t2 t3 new : ℕ → ℕ) → n ≡ 2 ^ suc (suc e) → q ≡ 2 ^ e
+walsh-quarters : (e n q : ℕ) (old t0 t1 t2 t3 new : ℕ → ℕ) → n ≡ 2 ^ suc (suc e) → q ≡ 2 ^ e
     → IsWalsh q old t0 → IsWalsh q (λ y. old (q + y)) t1 → IsWalsh q (λ y. old (q + q + y)) t2 → IsWalsh q (λ y. old (q + q + (q + y))) t3
     → ((i : ℕ) → i < q → IsFourSums (t0 i) (t1 i) (t2 i) (t3 i) (new i) (new (q + i)) (new (q + q + i)) (new (q + q + (q + i))))
     → IsWalsh n old new
@@ -148,6 +139,8 @@ walsh-quarters e n q old t0 t1 t2 t3 new is h done0 done1 done2 done3 sums =
           ∙ ap (λ k. (joined t0 t1 k + 65534 * joined t2 t3 k) % 65535) back
     ]
 
+-- ---- quarters of lists
+
 -- the four quarters of a list
 pub record AreQuarters (q : ℕ) (old x0 x1 x2 x3 : List ℕ) : Type 0 where
   pub size0 : length x0 ≡ q
@@ -160,12 +153,12 @@ pub record AreQuarters (q : ℕ) (old x0 x1 x2 x3 : List ℕ) : Type 0 where
   pub entry3 : (y : ℕ) → y < q → get_or x3 y 0 ≡ get_or old (q + q + (q + y)) 0
 
 -- halves of halves are quarters
-pub cut_in_quarters : (h q : ℕ) (old low high x0 x1 x2 x3 : List ℕ) → h ≡ q + q → length old ≡ h + h
-    → low ≡ take h old → high ≡ drop h old → x0 ≡ take q low → x1 ≡ drop q low → x2 ≡ take q high → x3 ≡ drop q high
+pub cut_in_quarters : (half q : ℕ) (old low high x0 x1 x2 x3 : List ℕ) → half ≡ q + q → length old ≡ half + half
+    → low ≡ take half old → high ≡ drop half old → x0 ≡ take q low → x1 ≡ drop q low → x2 ≡ take q high → x3 ≡ drop q high
     → AreQuarters q old x0 x1 x2 x3
-cut_in_quarters h q old low high x0 x1 x2 x3 two size is_low is_high is0 is1 is2 is3 =
-    let low_size : length low ≡ h = ap length is_low ∙ length-take h old ∙ omega arith in
-    let high_size : length high ≡ h = ap length is_high ∙ length-drop h old ∙ omega arith in record {
+cut_in_quarters half q old low high x0 x1 x2 x3 two size is_low is_high is0 is1 is2 is3 =
+    let low_size : length low ≡ half = ap length is_low ∙ length-take half old ∙ omega arith in
+    let high_size : length high ≡ half = ap length is_high ∙ length-drop half old ∙ omega arith in record {
       size0 = ap length is0 ∙ length-take q low ∙ omega arith;
       size1 = ap length is1 ∙ length-drop q low ∙ omega arith;
       size2 = ap length is2 ∙ length-take q high ∙ omega arith;
@@ -176,11 +169,11 @@ cut_in_quarters h q old low high x0 x1 x2 x3 two size is_low is_high is0 is1 is2
       entry3 = λ y hy. ap (λ (l : List ℕ). get_or l y 0) is3 ∙ get_or-drop q high y 0 ∙ in_high (q + y);
     }
   where
-    in_low : (y : ℕ) → y < h → get_or low y 0 ≡ get_or old y 0
-    in_low y hy = ap (λ (l : List ℕ). get_or l y 0) is_low ∙ get_or-take h old y 0 hy
+    in_low : (y : ℕ) → y < half → get_or low y 0 ≡ get_or old y 0
+    in_low y hy = ap (λ (l : List ℕ). get_or l y 0) is_low ∙ get_or-take half old y 0 hy
 
     in_high : (y : ℕ) → get_or high y 0 ≡ get_or old (q + q + y) 0
-    in_high y = ap (λ (l : List ℕ). get_or l y 0) is_high ∙ get_or-drop h old y 0 ∙ ap (λ k. get_or old (k + y) 0) two
+    in_high y = ap (λ (l : List ℕ). get_or l y 0) is_high ∙ get_or-drop half old y 0 ∙ ap (λ k. get_or old (k + y) 0) two
 
 -- quarters that were transformed, and two layers of them
 pub record AreJoined (q : ℕ) (x0 x1 x2 x3 t0 t1 t2 t3 u0 u1 u2 u3 : List ℕ) : Type 0 where
@@ -246,19 +239,10 @@ walsh-pair old sum difference two is_sum is_difference =
 
 -- ---- counts
 
--- the pair sums of four quarters and of two layers are those of the whole
-pub steps_of_quarters : (e n q : ℕ) → n ≤ 65536 → n ≡ 2 ^ suc (suc e) → q ≡ 2 ^ e → 4 * q + 4 * transform_steps q ≡ transform_steps n
-steps_of_quarters e n q small is h =
-    let p = pow-suc 2 e in
-    let few = few_halves n (suc e) 0 is (omega arith) in
-    let outer = steps_half n (suc e) (q + q) few is (omega arith) in
-    let inner = steps_half (q + q) e q (omega arith) (omega arith) h in
-    omega arith
-
 pub walsh-counts : (e n q : ℕ) (a b c d f g : Steps) → n ≤ 65536 → n ≡ 2 ^ suc (suc e) → q ≡ 2 ^ e
     → WalshCounts q a b → WalshCounts q b c → WalshCounts q c d → WalshCounts q d f → CountsPairs (4 * q) f g → WalshCounts n a g
 walsh-counts e n q a b c d f g small is h first second third fourth (x, y, z) =
-    of_parts (transform_steps q) (transform_steps n) (omega (arith, steps_of_quarters e n q small is h)) first second third fourth x y z
+    of_parts (transform_steps q) (transform_steps n) (omega (arith, steps_quarters n e q small is h)) first second third fourth x y z
   where
     of_parts : (t u : ℕ) → 4 * q + 4 * t ≤ u → CountsUpTo 0 t 0 a b → CountsUpTo 0 t 0 b c → CountsUpTo 0 t 0 c d → CountsUpTo 0 t 0 d f
         → g.row_steps ≡ f.row_steps → g.pair_sums ≡ f.pair_sums + 4 * q → g.products ≡ f.products → CountsUpTo 0 u 0 a g
@@ -274,7 +258,7 @@ walsh-counts e n q a b c d f g small is h first second third fourth (x, y, z) =
 -- one quarter alone counts no more than the whole
 pub walsh-quarter-counts : (e n q : ℕ) (a b : Steps) → n ≤ 65536 → n ≡ 2 ^ suc (suc e) → q ≡ 2 ^ e → WalshCounts q a b → WalshCounts n a b
 walsh-quarter-counts e n q a b small is h p =
-    let whole : 4 * q + 4 * transform_steps q ≡ transform_steps n = steps_of_quarters e n q small is h in
+    let whole : 4 * q + 4 * transform_steps q ≡ transform_steps n = steps_quarters n e q small is h in
     record {
       row_steps_rise = p.row_steps_rise;
       pair_sums_rise = p.pair_sums_rise;

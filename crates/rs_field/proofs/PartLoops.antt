@@ -12,7 +12,8 @@ use Rattle.rs_field.specs.declared.engine.shards.ShardsRefMut.{ShardsRefMut}
 use Rattle.rs_field.specs.declared.engine.steps.Steps.{Steps}
 use Rattle.rs_field.proofs.Combination.{forward-one, forward-same}
 use Rattle.rs_field.proofs.Counting.{counts_rows, counts_then, counts_within}
-use Rattle.rs_field.proofs.Parts.{IsPart, four_quarters, part_found, part_of_more, part_of_two, part_within}
+use Rattle.rs_field.proofs.Halves.{quarter_power}
+use Rattle.rs_field.proofs.Parts.{IsPart, part_found, part_of_more, part_of_two, part_within}
 use Rattle.rs_field.proofs.Recursion.{word_same, zero_rows}
 use Rattle.rs_field.proofs.RowOffsets.{outside_both, outside_cell, shape_then}
 
@@ -182,7 +183,7 @@ one_row_of_part : (size : ℕ) → 1 < size → size ≤ 4 → (d : ℕ) × (siz
 one_row_of_part size large few power =
     elim (cases_eq size 2) [
       | inl two ↦ part_of_two size two
-      | inr more ↦ let q = four_quarters size large more power in let whole = q.2 in part_of_more size more ∙ (let r : size / 4 ≡ 1 = omega (arith, whole) in r)
+      | inr more ↦ let q = quarter_power size (omega arith) power in let whole = q.3 in part_of_more size more ∙ (let r : size / 4 ≡ 1 = omega (arith, whole) in r)
     ]
 
 -- the layers then make the whole transform

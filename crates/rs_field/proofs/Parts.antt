@@ -1,5 +1,5 @@
 -- The parts of a block that its first layers leave: their rows, their place among the points, and the row steps.
-use Rattle.std.proofs.Common.{◌≡◌, ℕ, suc, ◌+◌, ◌*◌, ◌/◌, ◌%◌, ◌^◌, ◌<◌, ◌≤◌, ◌≢◌, Bool, cond, eqb, refl, sym, ap, ◌∙◌, subst, inl, inr, arith, ne_eqb, pow-suc}
+use Rattle.std.proofs.Common.{◌≡◌, ℕ, ◌+◌, ◌*◌, ◌/◌, ◌%◌, ◌^◌, ◌<◌, ◌≤◌, ◌≢◌, Bool, cond, eqb, refl, sym, ap, ◌∙◌, subst, inl, inr, arith, ne_eqb}
 use Rattle.std.proofs.Math.Nat.{mul-le-mul_right, add-mul-mod_self_right, mul-mod_left}
 use Rattle.std.proofs.lemmas.Bool.{cases_eq, cases_lt}
 use Rattle.std.proofs.lemmas.Nat.{pow_pos, div-add-mod'}
@@ -8,7 +8,7 @@ use Rattle.std.specs.Int.{div_ceil}
 use Rattle.std.specs.Prelude.{min}
 use Rattle.rs_field.specs.Layers.{rows_of_part, layer_steps}
 use Rattle.rs_field.specs.Bounds.{transform_steps}
-use Rattle.rs_field.proofs.Halves.{half_power, few_halves, no_steps, steps_half}
+use Rattle.rs_field.proofs.Halves.{quarter_power, no_steps, steps_half, steps_quarters}
 use Rattle.rs_field.proofs.Recursion.{above_one}
 
 pub part_of_two : (size : ℕ) → size ≡ 2 → rows_of_part size ≡ 1
@@ -26,23 +26,6 @@ steps_of_two size e = ap (λ n. cond (eqb n 2) 1 n) e
 pub steps_of_more : (size : ℕ) → size ≢ 2 → layer_steps size ≡ size
 unfolding layer_steps
 steps_of_more size ne = ap (λ (b : Bool). cond b 1 size) (ne_eqb size 2 ne)
-
--- four quarters of a power of two above two
-pub four_quarters : (size : ℕ) → 1 < size → size ≢ 2 → (d : ℕ) × (size ≡ 2 ^ d) → (e : ℕ) × (size / 4 ≡ 2 ^ e) × (size ≡ 4 * (size / 4)) × (size ≡ 2 ^ suc (suc e))
-four_quarters size large ne power =
-    let p = half_power size large power in
-    let r = half_power (size / 2) (above p.0 p.2) (p.0, p.2) in
-    let even : size ≡ 2 * (size / 2) = let s = pow-suc 2 p.0 in omega (arith, s, p.1, p.2) in
-    let even' : size / 2 ≡ 2 * (size / 2 / 2) = let s = pow-suc 2 r.0 in omega (arith, s, r.1, r.2) in
-    let same : size / 4 ≡ size / 2 / 2 = omega arith in
-    let s = pow-suc 2 (suc r.0) in
-    (r.0, same ∙ r.2, omega (arith, even, even', same), omega (arith, even, r.1, s))
-  where
-    above : (e : ℕ) → size / 2 ≡ 2 ^ e → 1 < size / 2
-    above e is = let pos = pow_pos e in elim (cases_lt 1 (size / 2)) [
-      | inl more ↦ more
-      | inr few ↦ absurd (ne (let p = half_power size large power in let s = pow-suc 2 p.0 in omega (arith, s, p.1, p.2, few, pos, is)))
-    ]
 
 -- the part n of a block of size rows
 pub record IsPart (size n : ℕ) : Type 0 where
@@ -69,21 +52,15 @@ part_is size shift large power points =
             omega (arith, steps_of_two size e, none, one, same);
       })
       | inr ne ↦
-          let q = four_quarters size large ne power in
+          let q = quarter_power size (omega arith) power in
           let pos = pow_pos q.0 in
-          let few : suc q.0 < 16 = few_halves size (suc q.0) shift q.3 points in
-          let s = pow-suc 2 q.0 in
-          let half : 2 * (size / 4) ≡ 2 ^ suc q.0 = omega (arith, s, q.1) in
           subst (IsPart size) (sym (part_of_more size ne)) (record {
-            power = (q.0, q.1);
-            positive = omega (arith, q.1, pos);
-            smaller = omega (arith, q.1, pos, q.2);
+            power = (q.0, q.2);
+            positive = omega (arith, q.2, pos);
+            smaller = omega (arith, q.2, pos, q.3);
             count = 4;
-            whole = q.2;
-            steps =
-                let first = steps_half size (suc q.0) (2 * (size / 4)) few q.3 half in
-                let second = steps_half (2 * (size / 4)) q.0 (size / 4) (omega arith) half q.1 in
-                omega (arith, steps_of_more size ne, first, second, q.2);
+            whole = q.3;
+            steps = omega (arith, steps_of_more size ne, steps_quarters size q.0 (size / 4) (omega arith) q.1 q.2, q.3);
           })
     ]
 

@@ -2,7 +2,8 @@
 use Rattle.std.proofs.Common.{◌≡◌, ℕ, ◌+◌, ◌*◌, ◌/◌, ◌%◌, ◌<◌, List, length, get_or, subst, ap, ◌∙◌, arith}
 use Rattle.std.proofs.lemmas.Nat.{pow_pos}
 use Rattle.rs_field.specs.Bounds.{CountsPairs, WalshCounts}
-use Rattle.rs_field.proofs.Halving.{quarter_power, cut_in_quarters, walsh-joined, walsh-at, walsh-one, walsh-none, walsh-pair, walsh-counts, walsh-quarter-counts, pair-counts, block-counts}
+use Rattle.rs_field.proofs.Halves.{quarter_power}
+use Rattle.rs_field.proofs.Halving.{cut_in_quarters, walsh-joined, walsh-at, walsh-one, walsh-none, walsh-pair, walsh-counts, walsh-quarter-counts, pair-counts, block-counts}
 use Rattle.rs_field.proofs.engine.fwht.+fwht.Goals as goal
 use Rattle.rs_field.proofs.engine.fwht.+fwht.Goals.{else-n-gt2-via-then-n-gt2+else-truncated-gt0, else-n-gt2-via-else-n-gt2}
 

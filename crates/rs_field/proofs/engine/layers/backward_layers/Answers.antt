@@ -1,18 +1,19 @@
 use Rattle.std.proofs.Common.{◌≡◌, ℕ, ◌+◌, ◌/◌, ◌%◌, subst, sym, arith}
 use Rattle.rs_field.specs.Layers.{ArePartsOf}
 use Rattle.rs_field.specs.View.{word}
-use Rattle.rs_field.proofs.Parts.{four_quarters, part_of_two, part_of_more, steps_of_two, steps_of_more}
+use Rattle.rs_field.proofs.Halves.{quarter_power}
+use Rattle.rs_field.proofs.Parts.{part_of_two, part_of_more, steps_of_two, steps_of_more}
 use Rattle.rs_field.proofs.engine.layers.backward_layers.Goals as goal
 
 pub backward_two-requires-clause-power : goal.backward_two-requires-clause-power
 backward_two-requires-clause-power g c =
-    let q = four_quarters c.args.size c.requires.large c.if-size-eq2.false c.requires.power in
-    (q.0, q.1)
+    let q = quarter_power c.args.size (omega (arith, c.requires.large, c.if-size-eq2.false)) c.requires.power in
+    (q.0, q.2)
 
 pub backward_two-requires-clause-shift : goal.backward_two-requires-clause-shift
 backward_two-requires-clause-shift g c =
-    let q = four_quarters c.args.size c.requires.large c.if-size-eq2.false c.requires.power in
-    subst (λ (n : ℕ). c.args.skew_delta % n ≡ 0) q.2 c.requires.shift
+    let q = quarter_power c.args.size (omega (arith, c.requires.large, c.if-size-eq2.false)) c.requires.power in
+    subst (λ (n : ℕ). c.args.skew_delta % n ≡ 0) q.3 c.requires.shift
 
 pub returns-then-size-eq2-clause-parts : goal.returns-then-size-eq2-clause-parts
 returns-then-size-eq2-clause-parts g c k s hk hs =
@@ -30,15 +31,15 @@ returns-then-size-eq2-clause-counts g c =
 
 pub returns-else-size-eq2-clause-parts : goal.returns-else-size-eq2-clause-parts
 returns-else-size-eq2-clause-parts g c k s hk hs =
-    let q = four_quarters c.args.size c.requires.large c.if-size-eq2.false c.requires.power in
+    let q = quarter_power c.args.size (omega (arith, c.requires.large, c.if-size-eq2.false)) c.requires.power in
     let old = λ (q : ℕ). word c.backward_two.new.rows k s (c.args.pos + q) in
     let new = λ (q : ℕ). word c.args.rows.now k s (c.args.pos + q) in
     subst (λ (n : ℕ). ArePartsOf c.args.size n c.args.skew_delta old new) (sym (part_of_more c.args.size c.if-size-eq2.false))
-    (subst (λ (m : ℕ). ArePartsOf m (c.args.size / 4) c.args.skew_delta old new) (sym q.2) (c.backward_two.ensures.parts k s hk hs))
+    (subst (λ (m : ℕ). ArePartsOf m (c.args.size / 4) c.args.skew_delta old new) (sym q.3) (c.backward_two.ensures.parts k s hk hs))
 
 pub returns-else-size-eq2-clause-counts : goal.returns-else-size-eq2-clause-counts
 returns-else-size-eq2-clause-counts g c =
-    let q = four_quarters c.args.size c.requires.large c.if-size-eq2.false c.requires.power in
+    let q = quarter_power c.args.size (omega (arith, c.requires.large, c.if-size-eq2.false)) c.requires.power in
     let steps = steps_of_more c.args.size c.if-size-eq2.false in
     let counts = c.backward_two.ensures.counts in
-    (omega (arith, steps, counts.0, q.2), counts.1, counts.2)
+    (omega (arith, steps, counts.0, q.3), counts.1, counts.2)
