@@ -1,12 +1,12 @@
 -- A Walsh-Hadamard transform from those of its halves, and from those of its quarters.
-use Rattle.std.proofs.Common.{◌≡◌, ℕ, suc, cond, ◌+◌, ◌-◌, ◌*◌, ◌%◌, ◌^◌, ◌<◌, ◌≤◌, List, ◌++◌, length, take, drop, get_or, set, get_or-set_same, get_or-set_other, refl, sym, ap, ap₂, ◌∙◌, subst, arith, inl, inr, pow-suc}
+use Rattle.std.proofs.Common.{◌≡◌, ℕ, suc, cond, ◌+◌, ◌-◌, ◌*◌, ◌/◌, ◌%◌, ◌^◌, ◌<◌, ◌≤◌, List, ◌++◌, length, take, drop, get_or, set, get_or-set_same, get_or-set_other, refl, sym, ap, ap₂, ◌∙◌, subst, arith, inl, inr, pow-suc}
 use Rattle.std.proofs.lemmas.Bool.{cases_lt, lt-ltb, le-ltb}
 use Rattle.std.proofs.Math.Dec.{ltb}
 use Rattle.std.proofs.lemmas.List.{get_or-take, get_or-drop, get_or_append_left, get_or-append-add, length-take, length-drop, length-append, length-set}
 use Rattle.rs_field.specs.Search.{first_below}
 use Rattle.rs_field.specs.Bounds.{CountsUpTo, CountsPairs, WalshCounts, log2, transform_steps}
 use Rattle.rs_field.specs.declared.engine.steps.Steps.{Steps}
-use Rattle.rs_field.proofs.Halves.{steps_quarters}
+use Rattle.rs_field.proofs.Halves.{quarter_power, steps_quarters}
 use Rattle.rs_field.specs.Walsh.{total, sign, signed_sum, IsWalsh, IsFourSums}
 use Rattle.rs_field.proofs.Totals.{total-zero, total-suc, total-same, total-near, total-none, total-split, total-scale, add_near, mul_near}
 use Rattle.rs_field.proofs.Signs.{sign-left, sign-right, sign-both, sign-zero}
@@ -174,6 +174,15 @@ cut_in_quarters half q old low high x0 x1 x2 x3 two size is_low is_high is0 is1 
 
     in_high : (y : ℕ) → get_or high y 0 ≡ get_or old (q + q + y) 0
     in_high y = ap (λ (l : List ℕ). get_or l y 0) is_high ∙ get_or-drop half old y 0 ∙ ap (λ k. get_or old (k + y) 0) two
+
+-- the quarters of a list whose length is a power of two, above two
+pub in_quarters : {low high x0 x1 x2 x3 : List ℕ} (old : List ℕ) → 2 < length old → (d : ℕ) × (length old ≡ 2 ^ d)
+    → low ≡ take (length old / 2) old → high ≡ drop (length old / 2) old → x0 ≡ take (length old / 4) low → x1 ≡ drop (length old / 4) low
+    → x2 ≡ take (length old / 4) high → x3 ≡ drop (length old / 4) high
+    → (e : ℕ) × (length old ≡ 2 ^ suc (suc e)) × (length old / 4 ≡ 2 ^ e) × AreQuarters (length old / 4) old x0 x1 x2 x3
+in_quarters {low} {high} {x0} {x1} {x2} {x3} old large power is_low is_high is0 is1 is2 is3 =
+    let (e, is, part, whole) = quarter_power (length old) large power in
+    (e, is, part, cut_in_quarters (length old / 2) (length old / 4) old low high x0 x1 x2 x3 (omega arith) (omega arith) is_low is_high is0 is1 is2 is3)
 
 -- quarters that were transformed, and two layers of them
 pub record AreJoined (q : ℕ) (x0 x1 x2 x3 t0 t1 t2 t3 u0 u1 u2 u3 : List ℕ) : Type 0 where
