@@ -99,8 +99,8 @@ pub fn fwht(steps: &mut Steps, data: &mut [GfElement], truncated: usize)
         let (x2, x3) = high.split_at_mut(quarter);
         fwht(steps, x0, truncated);
         if truncated <= quarter {
-            // Quarters that are zero but for the first are not transformed: all sums and differences are the first
-            // one's entries.
+            // The other quarters are all zero and need no transform: all sums and all differences are the first one's
+            // entries.
             x1.copy_from_slice(x0);
             x2.copy_from_slice(x0);
             x3.copy_from_slice(x0);

@@ -106,14 +106,14 @@ fn vector_sums(x0: u16x16, x1: u16x16, x2: u16x16, x3: u16x16) -> (u16x16, u16x1
     ensures { (i : ℕ) → i < 16 → IsFourSums (slice_index x0 i) (slice_index x1 i) (slice_index x2 i) (slice_index x3 i)
         (slice_index result.0 i) (slice_index result.1 i) (slice_index result.2 i) (slice_index result.3 i) }
 {
-    let low = sums(x0, x1);
+    let low_sum = sums(x0, x1);
     let low_difference = differences(x0, x1);
-    let high = sums(x2, x3);
+    let high_sum = sums(x2, x3);
     let high_difference = differences(x2, x3);
     (
-        sums(low, high),
+        sums(low_sum, high_sum),
         sums(low_difference, high_difference),
-        differences(low, high),
+        differences(low_sum, high_sum),
         differences(low_difference, high_difference),
     )
 }
