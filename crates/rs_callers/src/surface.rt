@@ -4,7 +4,7 @@ ghost use Rattle.std.specs.Prelude.{◌≡◌, ◌<◌, ◌≤◌, ◌⊎◌, �
 ghost use Rattle.reed_solomon_simd.specs.Counts.{low_rate, high_rate, default_rate};
 ghost use Rattle.reed_solomon_simd.specs.Field.{product, power};
 ghost use Rattle.reed_solomon_simd.specs.Kind.{kind_of};
-ghost use Rattle.reed_solomon_simd.specs.Products.{IsMul16, IsMul128};
+ghost use Rattle.rs_field.specs.Products.{IsMul16, IsMul128};
 ghost use Rattle.reed_solomon_simd.specs.Tables.{IsExpLog, IsLogWalsh, IsSkew};
 ghost use Rattle.reed_solomon_simd.specs.View.{Fits};
 
@@ -23,7 +23,7 @@ use reed_solomon_simd::rate::{
     RateEncoder,
 };
 use reed_solomon_simd::{
-    DecoderResult, EncoderResult, Error, ReedSolomonDecoder, ReedSolomonEncoder, Recovery,
+    DecoderResult, EncoderResult, Error, Recovery, ReedSolomonDecoder, ReedSolomonEncoder,
     RestoredOriginal, decode, encode,
 };
 use std::alloc::Global;
@@ -90,10 +90,15 @@ pub fn times(x: GfElement, log_m: GfElement, exp: Exp<'_>, log: Log<'_>) -> GfEl
     mul(x, log_m, exp, log)
 }
 
-/// Makes the first row the sum of both, twice: once as lists of chunks, once as rows of one list.
-pub fn add_rows(steps: &mut Steps, chunks: &mut [[u8; 64]; 4]) {
-    let [a, b, ..] = chunks;
-    xor(std::slice::from_mut(a), std::slice::from_mut(b));
+/// Adds the chunks of a second list to those of a first.
+pub fn add_chunks(first: &mut [[u8; 64]], second: &[[u8; 64]])
+    requires { length first.old ≡ length second.now }
+{
+    xor(first, second);
+}
+
+/// The first of two rows becomes the sum of both.
+pub fn add_rows(steps: &mut Steps, chunks: &mut [[u8; 64]; 2]) {
     let mut rows = ShardsRefMut::new(2, 1, chunks);
     xor_within(steps, &mut rows, 0, 1, 1);
 }
@@ -154,24 +159,21 @@ pub fn low_names<E: Engine>()
     ensures rate { ⟦<LowRate<E> as Rate<E>>⟧.rate ≡ low_rate }
     ensures encoder { ⟦<LowRateEncoder<E> as RateEncoder<E>>⟧.rate ≡ low_rate }
     ensures decoder { ⟦<LowRateDecoder<E> as RateDecoder<E>>⟧.rate ≡ low_rate }
-{
-}
+{}
 
 /// What is named high is of the high rate.
 pub fn high_names<E: Engine>()
     ensures rate { ⟦<HighRate<E> as Rate<E>>⟧.rate ≡ high_rate }
     ensures encoder { ⟦<HighRateEncoder<E> as RateEncoder<E>>⟧.rate ≡ high_rate }
     ensures decoder { ⟦<HighRateDecoder<E> as RateDecoder<E>>⟧.rate ≡ high_rate }
-{
-}
+{}
 
 /// What is named default is of the default rate.
 pub fn default_names<E: Engine>()
     ensures rate { ⟦<DefaultRate<E> as Rate<E>>⟧.rate ≡ default_rate }
     ensures encoder { ⟦<DefaultRateEncoder<E> as RateEncoder<E>>⟧.rate ≡ default_rate }
     ensures decoder { ⟦<DefaultRateDecoder<E> as RateDecoder<E>>⟧.rate ≡ default_rate }
-{
-}
+{}
 
 /// The first shards of the results of plain objects.
 pub fn first_shards<'a>(
