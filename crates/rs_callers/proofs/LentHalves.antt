@@ -7,7 +7,7 @@ use Rattle.rs_field.specs.View.{Fits, HasRows}
 use Rattle.rs_field.specs.Lending.{between, with_two}
 use Rattle.rs_field.specs.declared.engine.shards.ShardsRefMut.{ShardsRefMut}
 use Rattle.rs_callers.specs.RowsBut.{HasFirstRow}
-use Rattle.rs_callers.proofs.LentRows.{part-long, ends}
+use Rattle.rs_field.proofs.LentRows.{part-long, ends}
 
 -- the rows of a part fit its chunks
 pub fits-part : (h : ShardsRefMut) (i m : ℕ) (r : ShardsRefMut) → i * h.shard_len_64 + m * h.shard_len_64 ≤ length h.chunks.now → HasRows h i m r → Fits r

@@ -41,7 +41,8 @@ use denote.Triple.Spec.{triple_of}
 use denote.Triple.Table.{framed}
 use denote.Triple.Walked.{Stays, stay_dropped, stay_ref, walk_of, ends_at, Goes-dropped, Goes-ref}
 use Rattle.rs_callers.proofs.LentHalves.{fits-part, parted, split-written}
-use Rattle.rs_callers.proofs.LentRows.{two_written, two-shape, first-of-two, second-of-two, other-than-two}
+use Rattle.rs_field.proofs.LentRows.{two_written, two-shape, first-of-two, second-of-two}
+use Rattle.rs_callers.proofs.LentTwoRows.{other-than-two}
 use Rattle.rs_field.specs.Rows.{Chunks, chunk}
 use Rattle.rs_field.specs.View.{SameShape, Fits, HasRows, cell}
 use Rattle.rs_callers.specs.RowsBut.{SameRowsBut, HasFirstRow}

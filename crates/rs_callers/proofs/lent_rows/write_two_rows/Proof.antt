@@ -41,7 +41,8 @@ use denote.Triple.Spec.{triple_of}
 use denote.Triple.Table.{framed}
 use denote.Triple.Walked.{Stays, stay_dropped, stay_ref, walk_of, ends_at, Goes-dropped, Goes-ref}
 use Rattle.std.proofs.Math.Nat.{mul-le-mul_right}
-use Rattle.rs_callers.proofs.LentRows.{part-long, two-shape, first-of-two, second-of-two, other-than-two}
+use Rattle.rs_field.proofs.LentRows.{part-long, two-shape, first-of-two, second-of-two}
+use Rattle.rs_callers.proofs.LentTwoRows.{other-than-two}
 use Rattle.rs_field.specs.Rows.{Chunks, chunk}
 use Rattle.rs_field.specs.View.{SameShape, cell, row_at}
 use Rattle.rs_callers.specs.RowsBut.{SameRowsBut}

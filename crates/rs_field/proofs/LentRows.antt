@@ -1,12 +1,11 @@
 -- What stands where in a list whose rows were replaced.
-use Rattle.std.proofs.Common.{◌≡◌, ℕ, ◌+◌, ◌-◌, ◌*◌, ◌<◌, ◌≤◌, ◌⊎◌, List, [], ◌∷◌, ◌++◌, length, take, drop, sym, ap, ◌∙◌, refl, subst, arith, inl, inr, length-append}
+use Rattle.std.proofs.Common.{◌≡◌, ℕ, ◌+◌, ◌-◌, ◌*◌, ◌<◌, ◌≤◌, ◌⊎◌, List, [], ◌++◌, length, take, drop, sym, ap, ◌∙◌, refl, subst, arith, inl, inr, length-append}
 use Rattle.std.proofs.Math.Nat.{mul-le-mul_right}
 use Rattle.std.proofs.lemmas.List.{get_or_append_left, get_or-append_right, get_or-take, get_or-drop, length-take-le, length-drop}
 use Rattle.rs_field.specs.Rows.{Chunks, chunk}
 use Rattle.rs_field.specs.View.{SameShape, cell}
 use Rattle.rs_field.specs.Lending.{between, with_chunks, with_two}
 use Rattle.rs_field.specs.declared.engine.shards.ShardsRefMut.{ShardsRefMut}
-use Rattle.rs_callers.specs.RowsBut.{IsOutside, SameRowsBut}
 
 pub part-long : (ch : Chunks) (a n : ℕ) → a + n ≤ length ch → length (take n (drop a ch)) ≡ n
 part-long ch a n within = let left = length-drop a ch in length-take-le n (drop a ch) (omega arith)
@@ -83,10 +82,6 @@ cell-is h chunks row k c e = e
 pub ends : (n i j : ℕ) → i < j → i * n + n ≤ j * n
 ends n i j h = let rows : (i + 1) * n ≤ j * n = mul-le-mul_right n (omega (arith, h)) in omega (arith, rows)
 
-pub side : (h : ShardsRefMut) (i c : ℕ) → IsOutside h i c → (c < i * h.shard_len_64) ⊎ (i * h.shard_len_64 + h.shard_len_64 ≤ c)
-side h i c (inl low) = inl low
-side h i c (inr high) = inr (omega (arith, high))
-
 -- two rows of a list
 module _ (h : ShardsRefMut) (pos dist : ℕ) (first second : Chunks) (fits : h.shard_count * h.shard_len_64 ≤ length h.chunks.now) (ordered : 0 < dist)
     (within : pos + dist < h.shard_count) (l₁ : length first ≡ h.shard_len_64) (l₂ : length second ≡ h.shard_len_64) where
@@ -142,14 +137,10 @@ module _ (h : ShardsRefMut) (pos dist : ℕ) (first second : Chunks) (fits : h.s
       (past-front ch from₁ i (j + k) front (omega (arith, apart)) ∙ past-gap ch first from₂ i n j l₁ apart inner (j + k) (omega arith)
       ∙ in-part ch second (drop (j + n) ch) j n (j + n) l₂ (omega arith) last k low)
 
-  others : (c : ℕ) → (c < i) ⊎ (i + n ≤ c) → (c < j) ⊎ (j + n ≤ c) → chunk two_written.chunks.now c ≡ chunk ch c
-  others c (inl low) side₂ = from-front ch from₁ i c front low
-  others c (inr high) (inl low) =
+  pub others-of-two : (c : ℕ) → (c < i) ⊎ (i + n ≤ c) → (c < j) ⊎ (j + n ≤ c) → chunk two_written.chunks.now c ≡ chunk ch c
+  others-of-two c (inl low) side₂ = from-front ch from₁ i c front low
+  others-of-two c (inr high) (inl low) =
       past-front ch from₁ i c front (omega (arith, high)) ∙ in-gap ch first from₂ i n j l₁ apart inner c high low
-  others c (inr high) (inr end) =
+  others-of-two c (inr high) (inr end) =
       past-front ch from₁ i c front (omega (arith, high)) ∙ past-gap ch first from₂ i n j l₁ apart inner c (omega (arith, end))
       ∙ past-last ch second j n l₂ last c end
-
-  pub other-than-two : SameRowsBut (pos ∷ (pos + dist) ∷ []) h two_written
-  other-than-two c outside =
-      others c (side h pos c (outside 0 0 (omega arith))) (side h (pos + dist) c (outside 1 0 (omega arith)))
