@@ -11,6 +11,31 @@ use std::mem;
 // Shards with their indexes for an iterator, which ends once at each None.
 type Feed = Vec<Option<Item>>;
 
+// The same, lent.
+type Lent<'a> = Vec<Option<(usize, &'a [u8])>>;
+
+// The originals and the recovery shards for `decode`.
+#[derive(Drop)]
+struct Received {
+    original: Feed,
+    recovery: Feed,
+}
+
+impl Received {
+    fn none(alloc: Global) -> Received {
+        Received {
+            original: Vec::new(alloc),
+            recovery: Vec::new(alloc),
+        }
+    }
+
+    fn lend(&self, alloc: Global) -> Result<(Lent<'_>, Lent<'_>), AllocError> {
+        let original = lent_items(alloc, self.original.as_slice())?;
+        let recovery = lent_items(alloc, self.recovery.as_slice())?;
+        Ok((original, recovery))
+    }
+}
+
 /// The one-call functions, with the counts and the shards for the next call.
 #[derive(Drop)]
 pub struct OneCall<'t> {
@@ -18,8 +43,7 @@ pub struct OneCall<'t> {
     engine: DefaultEngine<'t>,
     configuration: Configuration,
     next: Feed,
-    original: Feed,
-    recovery: Feed,
+    received: Received,
 }
 
 impl<'t> OneCall<'t> {
@@ -34,8 +58,7 @@ impl<'t> OneCall<'t> {
                 shard_bytes: 2,
             },
             next: Vec::new(alloc),
-            original: Vec::new(alloc),
-            recovery: Vec::new(alloc),
+            received: Received::none(alloc),
         }
     }
 
@@ -43,8 +66,8 @@ impl<'t> OneCall<'t> {
     fn feed(&mut self, place: Place) -> &mut Feed {
         match place {
             Place::Next => &mut self.next,
-            Place::Original(_) => &mut self.original,
-            Place::Recovery(_) => &mut self.recovery,
+            Place::Original(_) => &mut self.received.original,
+            Place::Recovery(_) => &mut self.received.recovery,
         }
     }
 }
@@ -62,8 +85,7 @@ impl Coder for OneCall<'_> {
     fn reset(&mut self, _kind: Kind, configuration: Configuration) -> Result<(), Error> {
         self.configuration = configuration;
         self.next.clear();
-        self.original.clear();
-        self.recovery.clear();
+        self.received = Received::none(self.alloc);
         Ok(())
     }
 
@@ -106,10 +128,8 @@ impl Coder for OneCall<'_> {
 
     fn decode(&mut self, kept: &mut Kept, _forget: bool) -> Result<(), Error> {
         let c = self.configuration;
-        let original = mem::replace(&mut self.original, Vec::new(self.alloc));
-        let recovery = mem::replace(&mut self.recovery, Vec::new(self.alloc));
-        let original = lent_items(self.alloc, original.as_slice())?;
-        let recovery = lent_items(self.alloc, recovery.as_slice())?;
+        let received = mem::replace(&mut self.received, Received::none(self.alloc));
+        let (original, recovery) = received.lend(self.alloc)?;
         let mut originals = original.iter();
         let mut recoveries = recovery.iter();
         let answer = decode(
@@ -135,10 +155,7 @@ impl Coder for OneCall<'_> {
 }
 
 // The shards as an iterator lends them.
-fn lent_items(
-    alloc: Global,
-    feed: &[Option<Item>],
-) -> Result<Vec<Option<(usize, &[u8])>>, AllocError> {
+fn lent_items(alloc: Global, feed: &[Option<Item>]) -> Result<Lent<'_>, AllocError> {
     let mut places = Vec::new(alloc);
     for place in feed {
         places.push(match place {

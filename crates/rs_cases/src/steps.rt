@@ -26,6 +26,7 @@ pub fn do_step<C: Coder>(coder: &mut C, kept: &mut Kept, step: &str) -> Result<S
         "digests" => return digest_row(coder, kept, step),
         "supports" => check_counts(coder, step, true)?,
         "excludes" => check_counts(coder, step, false)?,
+        "validate" => validate(coder, configuration_of(step)?)?,
         "configure" => configure(coder, configuration_of(step)?)?,
         _ => bail!("no such step"),
     }
@@ -227,6 +228,12 @@ fn check_counts<C: Coder>(coder: &C, step: &str, supported: bool) -> Result<()> 
         ensure!(answer == Some(supported), "{pair}: {answer:?}");
     }
     Ok(())
+}
+
+// What is told of a configuration without an object.
+fn validate<C: Coder>(coder: &C, configuration: Configuration) -> Result<()> {
+    let answer = coder.validate(configuration);
+    Ok(answer.context("the calls differ")??)
 }
 
 // Every call that takes a configuration answers alike; a refused one leaves the objects.
