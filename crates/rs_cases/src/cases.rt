@@ -49,45 +49,26 @@ impl<'a> CaseFile<'a> {
 
     // A line is empty, a comment, a setting of the file, a case's first step behind its levels, or a further step.
     fn read_line(&mut self, alloc: Global, index: usize, line: &'a str) -> Result<()> {
-        if line.is_empty() || line.starts_with('#') {
-            return Ok(());
-        }
-        if let Some(ways) = line.strip_prefix("ways ") {
+        if line.is_empty() || line.starts_with('#') {} else if let Some(ways) = line.strip_prefix(
+            "ways ",
+        ) {
             self.ways = ways;
-            return Ok(());
-        }
-        if line == "every engine" {
+        } else if line == "every engine" {
             self.every_engine = true;
-            return Ok(());
-        }
-        let Some((levels, step)) = line.split_once(" | ") else {
+        } else if let Some((levels, step)) = line.split_once(" | ") {
+            self.cases.push(Case {
+                line: index.saturating_add(1),
+                levels,
+                steps: vec![in alloc; step]?,
+            })?;
+        } else {
             let case = self.cases.last_mut().context("a step before any case")?;
             case.steps.push(line)?;
-            return Ok(());
-        };
-        let mut steps = Vec::new(alloc);
-        steps.push(step)?;
-        self.cases.push(Case {
-            line: index.saturating_add(1),
-            levels,
-            steps,
-        })?;
+        }
         Ok(())
     }
 
-    // How many cases there are at each level.
-    fn counts(&self, alloc: Global) -> Result<String, AllocError> {
-        let mut text = String::new(alloc);
-        for level in LEVELS {
-            let count = self.cases.iter().filter(|case| case.is_at(level)).count();
-            if count > 0 {
-                write!(text, ", {count} {level}")?;
-            }
-        }
-        Ok(text)
-    }
-
-    /// Runs the cases with an engine, in each of the file's ways.
+    /// Runs the cases with an engine, in each of the file's ways, and tells how many there are at each level.
     pub fn run<E: Engine + Copy>(
         &self,
         alloc: Global,
@@ -99,17 +80,16 @@ impl<'a> CaseFile<'a> {
             let way = way_of(name)?;
             self.run_in(alloc, levels, way, report)?;
         }
-        let counts = self.counts(alloc)?;
-        let cases = self.cases.len();
-        writeln!(
-            report.text,
-            "{} with {engine}: {cases} cases{counts}; {}",
-            self.name, self.ways
-        )?;
+        write!(report.text, "{} with {engine}:", self.name)?;
+        for level in LEVELS {
+            let count = self.cases.iter().filter(|case| case.is_at(level)).count();
+            write!(report.text, " {count} {level},")?;
+        }
+        writeln!(report.text, " of {} cases; {}", self.cases.len(), self.ways)?;
         Ok(())
     }
 
-    // Runs the cases in one way.
+    // Runs the cases in one way, at each of their levels.
     fn run_in<E: Engine + Copy>(
         &self,
         alloc: Global,
@@ -119,8 +99,7 @@ impl<'a> CaseFile<'a> {
     ) -> Result<()> {
         for case in &self.cases {
             for level in case.levels.split_whitespace() {
-                let mut kept = Kept::new(alloc, way);
-                case.run_at(levels, level, &mut kept, report)?;
+                case.run_at(levels, level, &mut Kept::new(alloc, way), report)?;
             }
         }
         Ok(())
@@ -140,7 +119,7 @@ impl Case<'_> {
         level: &str,
         kept: &mut Kept,
         report: &mut Report,
-    ) -> Result<()> {
+    ) -> Result<(), AllocError> {
         let mut level = level;
         for step in &self.steps {
             if let Some(next) = step.strip_prefix("at ") {
@@ -150,28 +129,12 @@ impl Case<'_> {
             let (step, expected) = step.split_once("->").unwrap_or((*step, ""));
             let answer = levels.answer_at(level, kept, step)?;
             if !is_expected(kept, answer.as_str(), expected.trim()) {
-                self.report(report, level, kept, step, answer.as_str())?;
+                let (line, way) = (self.line, kept.way);
+                writeln!(report.text, "{line}, {level}, {way:?}: {step}->{answer}")?;
+                report.differing = report.differing.saturating_add(1);
             }
         }
         Ok(())
-    }
-
-    // Tells that a step answers something else.
-    fn report(
-        &self,
-        report: &mut Report,
-        level: &str,
-        kept: &Kept,
-        step: &str,
-        answer: &str,
-    ) -> Result<(), AllocError> {
-        let line = self.line;
-        let way = kept.way;
-        report.differing = report.differing.saturating_add(1);
-        writeln!(
-            report.text,
-            "case of line {line}, {level}, {way:?}: {step}-> {answer}"
-        )
     }
 }
 
@@ -187,11 +150,8 @@ fn way_of(name: &str) -> Result<Way> {
 
 // Whether the answer is this text, or that of these shards.
 fn is_expected(kept: &Kept, answer: &str, expected: &str) -> bool {
-    if answer.trim() == expected {
-        return true;
-    }
     match text_of_expected(kept, expected) {
         Ok(text) => text.as_str() == answer,
-        Err(_) => false,
+        Err(_) => answer.trim() == expected,
     }
 }

@@ -3,13 +3,8 @@ use crate::kept::Kept;
 use reed_solomon_simd::Error;
 use reed_solomon_simd::rate::{DecoderWork, EncoderWork};
 
-/// The counts and the size in bytes that an object is made for.
-#[derive(Clone, Copy)]
-pub struct Configuration {
-    pub original_count: usize,
-    pub recovery_count: usize,
-    pub shard_bytes: usize,
-}
+/// The counts of originals and of recovery shards, and the size in bytes, that an object is made for.
+pub type Configuration = (usize, usize, usize);
 
 /// Which of a coder's two objects.
 #[derive(Clone, Copy)]
@@ -18,43 +13,22 @@ pub enum Kind {
     Decoder,
 }
 
-/// Where a shard is given.
-#[derive(Clone, Copy)]
-pub enum Place {
-    /// To the encoder, as the next original.
+/// As what a shard is given.
+#[derive(Clone, Copy, PartialEq)]
+pub enum Role {
+    /// The encoder's next original.
     Next,
-    /// To the decoder, as the original of this index.
-    Original(usize),
-    /// To the decoder, as the recovery shard of this index.
-    Recovery(usize),
-}
-
-impl Place {
-    /// The same for another index.
-    pub fn at(self, index: usize) -> Place {
-        match self {
-            Place::Next => Place::Next,
-            Place::Original(_) => Place::Original(index),
-            Place::Recovery(_) => Place::Recovery(index),
-        }
-    }
+    /// An original for the decoder.
+    Original,
+    /// A recovery shard for the decoder.
+    Recovery,
 }
 
 /// The memory of objects that were taken apart.
-#[derive(Drop)]
+#[derive(Default, Drop)]
 pub struct Parts {
     pub encoder: Option<EncoderWork>,
     pub decoder: Option<DecoderWork>,
-}
-
-impl Parts {
-    /// No memory.
-    pub fn none() -> Parts {
-        Parts {
-            encoder: None,
-            decoder: None,
-        }
-    }
 }
 
 /// An encoder and a decoder of one level of use.
@@ -70,14 +44,8 @@ pub trait Coder {
     /// Resets the object.
     fn reset(&mut self, kind: Kind, configuration: Configuration) -> Result<(), Error>;
 
-    /// Takes both objects apart and makes new ones, of one original and one recovery shard.
-    fn take_parts(&mut self, parts: &mut Parts) -> Result<(), Error>;
-
-    /// Gives a shard.
-    fn give(&mut self, place: Place, shard: &[u8]) -> Result<(), Error>;
-
-    /// The iterator of the shards for this place ends here once, and goes on if it is asked again.
-    fn end_once(&mut self, place: Place) -> Result<(), Error>;
+    /// Gives a shard; the index tells nothing where it is the encoder's next.
+    fn give(&mut self, role: Role, index: usize, shard: &[u8]) -> Result<(), Error>;
 
     /// Codes what was given; what comes is kept. The result is dropped, or forgotten.
     fn encode(&mut self, kept: &mut Kept, forget: bool) -> Result<(), Error>;
@@ -85,9 +53,23 @@ pub trait Coder {
     /// Restores what is missing; what comes is kept. The result is dropped, or forgotten.
     fn decode(&mut self, kept: &mut Kept, forget: bool) -> Result<(), Error>;
 
-    /// Whether the counts are supported; None where the calls that tell it differ.
-    fn supports(&self, original_count: usize, recovery_count: usize) -> Option<bool>;
+    /// Takes both objects apart, where the level can, and makes new ones of one original and one recovery shard.
+    fn take_parts(&mut self, _parts: &mut Parts) -> Result<(), Error> {
+        Ok(())
+    }
 
-    /// What is told of a configuration without an object; None where the calls that tell it differ.
-    fn validate(&self, configuration: Configuration) -> Option<Result<(), Error>>;
+    /// An iterator that the level hands over ends here once, and goes on if it is asked again.
+    fn end_once(&mut self, _role: Role) -> Result<(), Error> {
+        Ok(())
+    }
+
+    /// Whether all calls that tell whether the counts are supported answer so; not where there are none.
+    fn supports(&self, _k: usize, _r: usize, _supported: bool) -> bool {
+        false
+    }
+
+    /// Whether all calls that look at a configuration without an object answer so, if there are any.
+    fn validates(&self, _configuration: Configuration, _answer: Result<(), Error>) -> bool {
+        true
+    }
 }

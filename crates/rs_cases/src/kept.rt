@@ -1,7 +1,6 @@
 //! What a case keeps from step to step.
 use crate::coder::Parts;
-use crate::shards::Item;
-use reed_solomon_simd::{DecoderResult, EncoderResult, Error};
+use reed_solomon_simd::{DecoderResult, EncoderResult};
 use std::alloc::{AllocError, Global};
 
 /// From where a table's row gets its object.
@@ -15,14 +14,17 @@ pub enum Way {
     HandedOn,
 }
 
+/// A shard with its index.
+pub type Item = (usize, Vec<u8>);
+
 /// The message and the last answers.
 #[derive(Drop)]
 pub struct Kept {
     pub alloc: Global,
     pub way: Way,
     pub parts: Parts,
-    pub message: Vec<Vec<u8>>,
-    pub recovery: Vec<Vec<u8>>,
+    pub message: Vec<Item>,
+    pub recovery: Vec<Item>,
     pub restored: Vec<Item>,
     /// Whether the last result told the same by index, by its walk and by its counts.
     pub agrees: bool,
@@ -36,7 +38,7 @@ impl Kept {
         Kept {
             alloc,
             way,
-            parts: Parts::none(),
+            parts: Parts::default(),
             message: Vec::new(alloc),
             recovery: Vec::new(alloc),
             restored: Vec::new(alloc),
@@ -49,18 +51,17 @@ impl Kept {
     pub fn keep_recovery(&mut self, lent: &EncoderResult<'_>) -> Result<(), AllocError> {
         let mut walk = lent.recovery_iter();
         let all = walk.len();
-        let mut shards = Vec::new(self.alloc);
         let mut agrees = true;
+        self.recovery.clear();
         for index in 0..all {
             agrees = agrees && has_left(&walk, all - index);
             let shard = walk.next().unwrap_or(&[]);
             agrees = agrees && lent.recovery(index) == Some(shard);
-            shards.push(shard.to_vec(self.alloc)?)?;
+            self.recovery.push((index, shard.to_vec(self.alloc)?))?;
         }
         agrees = agrees && has_left(&walk, 0) && walk.next().is_none() && walk.next().is_none();
         agrees = agrees && has_left(&walk, 0) && lent.recovery(all).is_none();
         self.agrees = agrees && lent.recovery(usize::MAX).is_none();
-        self.recovery = shards;
         Ok(())
     }
 
@@ -68,26 +69,21 @@ impl Kept {
     pub fn keep_restored(&mut self, lent: &DecoderResult<'_>) -> Result<(), AllocError> {
         let mut walk = lent.restored_original_iter();
         let all = walk.len();
-        let mut items = Vec::new(self.alloc);
         let mut agrees = true;
+        self.restored.clear();
         for came in 0..all {
             agrees = agrees && has_left(&walk, all - came);
             let (index, shard) = walk.next().unwrap_or((0, &[]));
             agrees = agrees && lent.restored_original(index) == Some(shard);
-            items.push((index, shard.to_vec(self.alloc)?))?;
+            self.restored.push((index, shard.to_vec(self.alloc)?))?;
         }
         agrees = agrees && has_left(&walk, 0) && walk.next().is_none() && walk.next().is_none();
-        self.agrees = agrees && has_left(&walk, 0) && count_by_index(lent) == all;
-        self.restored = items;
+        // Of more indexes than any case has originals, and of the last, just as many have one.
+        let by_index = (0..100).filter(|index| lent.restored_original(*index).is_some());
+        agrees = agrees && has_left(&walk, 0) && by_index.count() == all;
+        self.agrees = agrees && lent.restored_original(usize::MAX).is_none();
         Ok(())
     }
-}
-
-// How many shards are restored by their index, among more indexes than any case has originals, and the last.
-fn count_by_index(lent: &DecoderResult<'_>) -> usize {
-    let low = (0..100).filter(|index| lent.restored_original(*index).is_some());
-    let last = lent.restored_original(usize::MAX).iter().count();
-    low.count().saturating_add(last)
 }
 
 // Whether so many items are left, by both counts.

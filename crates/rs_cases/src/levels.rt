@@ -8,7 +8,7 @@ use anyhow::{Result, bail};
 use reed_solomon_simd::Error;
 use reed_solomon_simd::engine::{DefaultEngine, Engine};
 use reed_solomon_simd::rate::{DefaultRate, HighRate, LowRate};
-use std::alloc::Global;
+use std::alloc::{AllocError, Global};
 
 /// The words that name the levels: the one-call functions, the plain objects, and the objects of each rate.
 pub const LEVELS: [&str; 5] = ["call", "plain", "low", "high", "default"];
@@ -48,7 +48,12 @@ impl<'t, E: Engine + Copy> Levels<'t, E> {
     }
 
     /// What a step answers at a level: the text of what comes or of the refusal, and how many shards are left untaken.
-    pub fn answer_at(&mut self, level: &str, kept: &mut Kept, step: &str) -> Result<String> {
+    pub fn answer_at(
+        &mut self,
+        level: &str,
+        kept: &mut Kept,
+        step: &str,
+    ) -> Result<String, AllocError> {
         kept.agrees = true;
         kept.left = (0, 0);
         let mut answer = match self.do_at(level, kept, step) {

@@ -1,5 +1,5 @@
 //! The plain objects.
-use crate::coder::{Coder, Configuration, Kind, Parts, Place};
+use crate::coder::{Coder, Configuration, Kind, Parts, Role};
 use crate::kept::Kept;
 use reed_solomon_simd::engine::DefaultEngine;
 use reed_solomon_simd::{Error, ReedSolomonDecoder, ReedSolomonEncoder};
@@ -28,51 +28,33 @@ impl<'t> Plain<'t> {
 }
 
 impl Coder for Plain<'_> {
-    // Plain objects are made over no memory of others.
     fn start(
         &mut self,
         kind: Kind,
-        configuration: Configuration,
+        (k, r, size): Configuration,
         _parts: &mut Parts,
     ) -> Result<(), Error> {
-        let k = configuration.original_count;
-        let r = configuration.recovery_count;
-        let size = configuration.shard_bytes;
+        let (alloc, engine) = (self.alloc, self.engine);
         match kind {
-            Kind::Encoder => {
-                self.encoder = ReedSolomonEncoder::new(self.alloc, k, r, size, self.engine)?;
-            }
-            Kind::Decoder => {
-                self.decoder = ReedSolomonDecoder::new(self.alloc, k, r, size, self.engine)?;
-            }
+            Kind::Encoder => self.encoder = ReedSolomonEncoder::new(alloc, k, r, size, engine)?,
+            Kind::Decoder => self.decoder = ReedSolomonDecoder::new(alloc, k, r, size, engine)?,
         }
         Ok(())
     }
 
-    fn reset(&mut self, kind: Kind, configuration: Configuration) -> Result<(), Error> {
-        let k = configuration.original_count;
-        let r = configuration.recovery_count;
-        let size = configuration.shard_bytes;
+    fn reset(&mut self, kind: Kind, (k, r, size): Configuration) -> Result<(), Error> {
         match kind {
             Kind::Encoder => self.encoder.reset(k, r, size),
             Kind::Decoder => self.decoder.reset(k, r, size),
         }
     }
 
-    fn take_parts(&mut self, _parts: &mut Parts) -> Result<(), Error> {
-        Ok(())
-    }
-
-    fn give(&mut self, place: Place, shard: &[u8]) -> Result<(), Error> {
-        match place {
-            Place::Next => self.encoder.add_original_shard(shard),
-            Place::Original(index) => self.decoder.add_original_shard(index, shard),
-            Place::Recovery(index) => self.decoder.add_recovery_shard(index, shard),
+    fn give(&mut self, role: Role, index: usize, shard: &[u8]) -> Result<(), Error> {
+        match role {
+            Role::Next => self.encoder.add_original_shard(shard),
+            Role::Original => self.decoder.add_original_shard(index, shard),
+            Role::Recovery => self.decoder.add_recovery_shard(index, shard),
         }
-    }
-
-    fn end_once(&mut self, _place: Place) -> Result<(), Error> {
-        Ok(())
     }
 
     fn encode(&mut self, kept: &mut Kept, forget: bool) -> Result<(), Error> {
@@ -93,14 +75,8 @@ impl Coder for Plain<'_> {
         Ok(())
     }
 
-    fn supports(&self, original_count: usize, recovery_count: usize) -> Option<bool> {
-        let supported = ReedSolomonEncoder::supports(original_count, recovery_count);
-        let alike = ReedSolomonDecoder::supports(original_count, recovery_count) == supported;
-        alike.then_some(supported)
-    }
-
-    // Plain objects tell it by `new` and `reset` alone.
-    fn validate(&self, _configuration: Configuration) -> Option<Result<(), Error>> {
-        None
+    fn supports(&self, k: usize, r: usize, supported: bool) -> bool {
+        ReedSolomonEncoder::supports(k, r) == supported
+            && ReedSolomonDecoder::supports(k, r) == supported
     }
 }

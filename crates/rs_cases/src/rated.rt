@@ -1,5 +1,5 @@
 //! The objects of a rate over an engine.
-use crate::coder::{Coder, Configuration, Kind, Parts, Place};
+use crate::coder::{Coder, Configuration, Kind, Parts, Role};
 use crate::kept::Kept;
 use reed_solomon_simd::Error;
 use reed_solomon_simd::engine::{Engine, Steps};
@@ -19,11 +19,13 @@ pub struct Rated<E: Engine, R: Rate<E>> {
 impl<E: Engine + Copy, R: Rate<E>> Rated<E, R> {
     /// Objects of one original and one recovery shard of two bytes.
     pub fn new(alloc: Global, engine: E) -> Result<Rated<E, R>, Error> {
+        let encoder = R::RateEncoder::new(alloc, 1, 1, 2, engine, None)?;
+        let decoder = R::RateDecoder::new(alloc, 1, 1, 2, engine, None)?;
         Ok(Rated {
             alloc,
             engine,
-            encoder: R::encoder(alloc, 1, 1, 2, engine, None)?,
-            decoder: R::decoder(alloc, 1, 1, 2, engine, None)?,
+            encoder,
+            decoder,
         })
     }
 }
@@ -32,12 +34,9 @@ impl<E: Engine + Copy, R: Rate<E>> Coder for Rated<E, R> {
     fn start(
         &mut self,
         kind: Kind,
-        configuration: Configuration,
+        (k, r, size): Configuration,
         parts: &mut Parts,
     ) -> Result<(), Error> {
-        let k = configuration.original_count;
-        let r = configuration.recovery_count;
-        let size = configuration.shard_bytes;
         match kind {
             Kind::Encoder => {
                 let work = parts.encoder.take();
@@ -51,37 +50,19 @@ impl<E: Engine + Copy, R: Rate<E>> Coder for Rated<E, R> {
         Ok(())
     }
 
-    fn reset(&mut self, kind: Kind, configuration: Configuration) -> Result<(), Error> {
-        let k = configuration.original_count;
-        let r = configuration.recovery_count;
-        let size = configuration.shard_bytes;
+    fn reset(&mut self, kind: Kind, (k, r, size): Configuration) -> Result<(), Error> {
         match kind {
             Kind::Encoder => self.encoder.reset(k, r, size),
             Kind::Decoder => self.decoder.reset(k, r, size),
         }
     }
 
-    fn take_parts(&mut self, parts: &mut Parts) -> Result<(), Error> {
-        let encoder = R::encoder(self.alloc, 1, 1, 2, self.engine, None)?;
-        let decoder = R::decoder(self.alloc, 1, 1, 2, self.engine, None)?;
-        let (_, encoder_work) = mem::replace(&mut self.encoder, encoder).into_parts();
-        let (engine, decoder_work) = mem::replace(&mut self.decoder, decoder).into_parts();
-        self.engine = engine;
-        parts.encoder = Some(encoder_work);
-        parts.decoder = Some(decoder_work);
-        Ok(())
-    }
-
-    fn give(&mut self, place: Place, shard: &[u8]) -> Result<(), Error> {
-        match place {
-            Place::Next => self.encoder.add_original_shard(shard),
-            Place::Original(index) => self.decoder.add_original_shard(index, shard),
-            Place::Recovery(index) => self.decoder.add_recovery_shard(index, shard),
+    fn give(&mut self, role: Role, index: usize, shard: &[u8]) -> Result<(), Error> {
+        match role {
+            Role::Next => self.encoder.add_original_shard(shard),
+            Role::Original => self.decoder.add_original_shard(index, shard),
+            Role::Recovery => self.decoder.add_recovery_shard(index, shard),
         }
-    }
-
-    fn end_once(&mut self, _place: Place) -> Result<(), Error> {
-        Ok(())
     }
 
     fn encode(&mut self, kept: &mut Kept, forget: bool) -> Result<(), Error> {
@@ -104,21 +85,26 @@ impl<E: Engine + Copy, R: Rate<E>> Coder for Rated<E, R> {
         Ok(())
     }
 
-    fn supports(&self, original_count: usize, recovery_count: usize) -> Option<bool> {
-        let (k, r) = (original_count, recovery_count);
-        let supported = R::supports(k, r);
-        let alike = R::RateEncoder::supports(k, r) == supported
-            && R::RateDecoder::supports(k, r) == supported;
-        alike.then_some(supported)
+    fn take_parts(&mut self, parts: &mut Parts) -> Result<(), Error> {
+        let Rated {
+            encoder,
+            decoder,
+            ..
+        } = mem::replace(self, Rated::new(self.alloc, self.engine)?);
+        parts.encoder = Some(encoder.into_parts().1);
+        parts.decoder = Some(decoder.into_parts().1);
+        Ok(())
     }
 
-    fn validate(&self, configuration: Configuration) -> Option<Result<(), Error>> {
-        let k = configuration.original_count;
-        let r = configuration.recovery_count;
-        let size = configuration.shard_bytes;
-        let answer = R::validate(k, r, size);
-        let alike = R::RateEncoder::validate(k, r, size) == answer
-            && R::RateDecoder::validate(k, r, size) == answer;
-        alike.then_some(answer)
+    fn supports(&self, k: usize, r: usize, supported: bool) -> bool {
+        R::supports(k, r) == supported
+            && R::RateEncoder::supports(k, r) == supported
+            && R::RateDecoder::supports(k, r) == supported
+    }
+
+    fn validates(&self, (k, r, size): Configuration, answer: Result<(), Error>) -> bool {
+        R::validate(k, r, size) == answer
+            && R::RateEncoder::validate(k, r, size) == answer
+            && R::RateDecoder::validate(k, r, size) == answer
     }
 }

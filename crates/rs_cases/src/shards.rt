@@ -1,12 +1,10 @@
-//! Shards as the data files write them, shards that are made by a rule, and the text of both.
+//! Shards as the data files write them, and shards that are made by a rule.
+use crate::kept::Item;
 use anyhow::Result;
 use rand_chacha::ChaCha8Rng;
 use rand_core::{Rng, SeedableRng};
 use sha2::{Digest, Sha256};
 use std::alloc::{AllocError, Global};
-
-/// A shard with its index.
-pub type Item = (usize, Vec<u8>);
 
 /// The bytes of a text of parts with `+` between them, each of them HEX, or HEX*N for the bytes of HEX N times over.
 pub fn shard_of(alloc: Global, text: &str) -> Result<Vec<u8>> {
@@ -25,15 +23,11 @@ pub fn shard_of(alloc: Global, text: &str) -> Result<Vec<u8>> {
 }
 
 /// So many originals, of which byte i of number j is (7 i + 13 j + 5) mod 251.
-pub fn counted(
-    alloc: Global,
-    original_count: usize,
-    shard_bytes: usize,
-) -> Result<Vec<Vec<u8>>, AllocError> {
+pub fn counted(alloc: Global, count: usize, shard_bytes: usize) -> Result<Vec<Item>, AllocError> {
     let mut shards = Vec::new(alloc);
     let mut head: u8 = 5;
-    for _ in 0..original_count {
-        shards.push(counted_shard(alloc, head, shard_bytes)?)?;
+    for index in 0..count {
+        shards.push((index, counted_shard(alloc, head, shard_bytes)?))?;
         head = advanced(head, 13);
     }
     Ok(shards)
@@ -58,45 +52,34 @@ fn advanced(byte: u8, by: u8) -> u8 {
 /// So many originals of this size, drawn one after another from ChaCha8, whose 32 seed bytes are all `seed`.
 pub fn drawn(
     alloc: Global,
-    original_count: usize,
+    count: usize,
     shard_bytes: usize,
     seed: u8,
-) -> Result<Vec<Vec<u8>>, AllocError> {
+) -> Result<Vec<Item>, AllocError> {
     let mut rng = ChaCha8Rng::from_seed([seed; 32]);
     let mut shards = Vec::new(alloc);
-    for _ in 0..original_count {
+    for index in 0..count {
         let mut shard: Vec<u8> = Vec::from_elem(alloc, 0, shard_bytes)?;
         rng.fill_bytes(shard.as_mut_slice());
-        shards.push(shard)?;
+        shards.push((index, shard))?;
     }
     Ok(shards)
 }
 
 /// The SHA-256 digest of all shards, one after another.
-pub fn digest_of(alloc: Global, shards: &[Vec<u8>]) -> Result<String> {
+pub fn digest_of(alloc: Global, shards: &[Item]) -> Result<String> {
     let mut hasher = Sha256::new();
-    for shard in shards {
+    for (_, shard) in shards {
         hasher.update(shard.as_slice());
     }
     Ok(hex::encode(alloc, hasher.finalize().as_slice())?)
 }
 
-/// The shards in hexadecimal digits, each behind a space.
-pub fn text_of_shards(alloc: Global, shards: &[Vec<u8>]) -> Result<String> {
-    let mut text = String::new(alloc);
-    for shard in shards {
-        let digits = hex::encode(alloc, shard.as_slice())?;
-        write!(text, " {digits}")?;
-    }
-    Ok(text)
-}
-
-/// The shards in hexadecimal digits, each behind its index and an equals sign.
-pub fn text_of_items(alloc: Global, items: &[Item]) -> Result<String> {
-    let mut text = String::new(alloc);
+/// Writes each shard as I=HEX behind a space.
+pub fn write_items(alloc: Global, text: &mut String, items: &[Item]) -> Result<()> {
     for (index, shard) in items {
         let digits = hex::encode(alloc, shard.as_slice())?;
         write!(text, " {index}={digits}")?;
     }
-    Ok(text)
+    Ok(())
 }
