@@ -72,4 +72,9 @@ pub trait Coder {
     fn validates(&self, _configuration: Configuration, _answer: Result<(), Error>) -> bool {
         true
     }
+
+    /// Whether the objects' own calls that make one refuse so, where `start` makes them by other calls.
+    fn refuses_new(&self, _configuration: Configuration, _refusal: Error) -> bool {
+        true
+    }
 }

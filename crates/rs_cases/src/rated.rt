@@ -107,4 +107,10 @@ impl<E: Engine + Copy, R: Rate<E>> Coder for Rated<E, R> {
             && R::RateEncoder::validate(k, r, size) == answer
             && R::RateDecoder::validate(k, r, size) == answer
     }
+
+    fn refuses_new(&self, (k, r, size): Configuration, refusal: Error) -> bool {
+        let encoder = R::RateEncoder::new(self.alloc, k, r, size, self.engine, None);
+        let decoder = R::RateDecoder::new(self.alloc, k, r, size, self.engine, None);
+        encoder.err() == Some(refusal) && decoder.err() == Some(refusal)
+    }
 }

@@ -4,6 +4,7 @@ use crate::kept::{Item, Kept, Way};
 use crate::shards::{counted, digest_of, drawn, shard_of, write_items};
 use anyhow::{Context, Result, bail, ensure};
 use reed_solomon_simd::Error;
+use reed_solomon_simd::rate::{DecoderWork, EncoderWork};
 
 /// Does a step of a coder. Answers the text of what comes, empty where nothing does; a refusal is the error.
 pub fn do_step<C: Coder>(coder: &mut C, kept: &mut Kept, step: &str) -> Result<String> {
@@ -13,6 +14,7 @@ pub fn do_step<C: Coder>(coder: &mut C, kept: &mut Kept, step: &str) -> Result<S
         "encoder" | "decoder" => coder.start(kind, configuration_of(step)?, &mut kept.parts)?,
         "reset-encoder" | "reset-decoder" => coder.reset(kind, configuration_of(step)?)?,
         "parts" => coder.take_parts(&mut kept.parts)?,
+        "empty-parts" => kept.parts = empty_parts(),
         "give" => give_from(coder, kept, step, 1)?,
         "code" | "restore" => return round(coder, kept, step, 1, kind),
         "encode" | "decode" => return run(coder, kept, kind, step.contains("forgotten")),
@@ -32,6 +34,14 @@ fn kind_of(name: &str) -> Kind {
     match name {
         "decoder" | "reset-decoder" | "restore" | "decode" | "decodes" => Kind::Decoder,
         _ => Kind::Encoder,
+    }
+}
+
+// Memory that holds nothing.
+fn empty_parts() -> Parts {
+    Parts {
+        encoder: Some(EncoderWork::default()),
+        decoder: Some(DecoderWork::default()),
     }
 }
 
@@ -199,7 +209,7 @@ fn check_counts<C: Coder>(coder: &C, step: &str, supported: bool) -> Result<()> 
     Ok(())
 }
 
-// Every call that takes a configuration answers alike; a refused one leaves the objects.
+// Every call that takes a configuration refuses it alike, which leaves the objects.
 fn configure<C: Coder>(coder: &mut C, configuration: Configuration) -> Result<()> {
     let mut parts = Parts::default();
     let answer = coder.start(Kind::Encoder, configuration, &mut parts);
@@ -210,14 +220,15 @@ fn configure<C: Coder>(coder: &mut C, configuration: Configuration) -> Result<()
     ] {
         ensure!(other == answer, "{other:?} and {answer:?}");
     }
-    let without_memory = match answer {
-        Err(Error::OutOfMemory) => Ok(()),
+    let Err(refusal) = answer else {
+        bail!("not refused");
+    };
+    let valid = match refusal {
+        Error::OutOfMemory => Ok(()),
         _ => answer,
     };
-    ensure!(
-        coder.validates(configuration, without_memory),
-        "not so by `validate`"
-    );
+    let told = coder.refuses_new(configuration, refusal) && coder.validates(configuration, valid);
+    ensure!(told, "not so by `new` and `validate`");
     Ok(answer?)
 }
 
