@@ -1,0 +1,80 @@
+//! What the levels of use have in common, so that a step of a case stands once.
+use crate::kept::Kept;
+use reed_solomon_simd::Error;
+use reed_solomon_simd::rate::{DecoderWork, EncoderWork};
+
+/// The counts of originals and of recovery shards, and the size in bytes, that an object is made for.
+pub type Configuration = (usize, usize, usize);
+
+/// Which of a coder's two objects.
+#[derive(Clone, Copy)]
+pub enum Kind {
+    Encoder,
+    Decoder,
+}
+
+/// As what a shard is given.
+#[derive(Clone, Copy, PartialEq)]
+pub enum Role {
+    /// The encoder's next original.
+    Next,
+    /// An original for the decoder.
+    Original,
+    /// A recovery shard for the decoder.
+    Recovery,
+}
+
+/// The memory of objects that were taken apart.
+#[derive(Default, Drop)]
+pub struct Parts {
+    pub encoder: Option<EncoderWork>,
+    pub decoder: Option<DecoderWork>,
+}
+
+/// An encoder and a decoder of one level of use.
+pub trait Coder {
+    /// Makes the object anew: over the memory of an earlier one where that was taken, else over none.
+    fn start(
+        &mut self,
+        kind: Kind,
+        configuration: Configuration,
+        parts: &mut Parts,
+    ) -> Result<(), Error>;
+
+    /// Resets the object.
+    fn reset(&mut self, kind: Kind, configuration: Configuration) -> Result<(), Error>;
+
+    /// Gives a shard; the index tells nothing where it is the encoder's next.
+    fn give(&mut self, role: Role, index: usize, shard: &[u8]) -> Result<(), Error>;
+
+    /// Codes what was given; what comes is kept. The result is dropped, or forgotten.
+    fn encode(&mut self, kept: &mut Kept, forget: bool) -> Result<(), Error>;
+
+    /// Restores what is missing; what comes is kept. The result is dropped, or forgotten.
+    fn decode(&mut self, kept: &mut Kept, forget: bool) -> Result<(), Error>;
+
+    /// Takes both objects apart, where the level can, and makes new ones of one original and one recovery shard.
+    fn take_parts(&mut self, _parts: &mut Parts) -> Result<(), Error> {
+        Ok(())
+    }
+
+    /// An iterator that the level hands over ends here once, and goes on if it is asked again.
+    fn end_once(&mut self, _role: Role) -> Result<(), Error> {
+        Ok(())
+    }
+
+    /// Whether all calls that tell whether the counts are supported answer so; not where there are none.
+    fn supports(&self, _k: usize, _r: usize, _supported: bool) -> bool {
+        false
+    }
+
+    /// Whether all calls that look at a configuration without an object answer so, if there are any.
+    fn validates(&self, _configuration: Configuration, _answer: Result<(), Error>) -> bool {
+        true
+    }
+
+    /// Whether the objects' own calls that make one refuse so, where `start` makes them by other calls.
+    fn refuses_new(&self, _configuration: Configuration, _refusal: Error) -> bool {
+        true
+    }
+}

@@ -1,0 +1,82 @@
+//! The plain objects.
+use crate::coder::{Coder, Configuration, Kind, Parts, Role};
+use crate::kept::Kept;
+use reed_solomon_simd::engine::DefaultEngine;
+use reed_solomon_simd::{Error, ReedSolomonDecoder, ReedSolomonEncoder};
+use std::alloc::Global;
+use std::mem;
+
+/// A plain encoder and a plain decoder.
+#[derive(Drop)]
+pub struct Plain<'t> {
+    alloc: Global,
+    engine: DefaultEngine<'t>,
+    encoder: ReedSolomonEncoder<'t>,
+    decoder: ReedSolomonDecoder<'t>,
+}
+
+impl<'t> Plain<'t> {
+    /// Objects of one original and one recovery shard of two bytes.
+    pub fn new(alloc: Global, engine: DefaultEngine<'t>) -> Result<Plain<'t>, Error> {
+        Ok(Plain {
+            alloc,
+            engine,
+            encoder: ReedSolomonEncoder::new(alloc, 1, 1, 2, engine)?,
+            decoder: ReedSolomonDecoder::new(alloc, 1, 1, 2, engine)?,
+        })
+    }
+}
+
+impl Coder for Plain<'_> {
+    fn start(
+        &mut self,
+        kind: Kind,
+        (k, r, size): Configuration,
+        _parts: &mut Parts,
+    ) -> Result<(), Error> {
+        let (alloc, engine) = (self.alloc, self.engine);
+        match kind {
+            Kind::Encoder => self.encoder = ReedSolomonEncoder::new(alloc, k, r, size, engine)?,
+            Kind::Decoder => self.decoder = ReedSolomonDecoder::new(alloc, k, r, size, engine)?,
+        }
+        Ok(())
+    }
+
+    fn reset(&mut self, kind: Kind, (k, r, size): Configuration) -> Result<(), Error> {
+        match kind {
+            Kind::Encoder => self.encoder.reset(k, r, size),
+            Kind::Decoder => self.decoder.reset(k, r, size),
+        }
+    }
+
+    fn give(&mut self, role: Role, index: usize, shard: &[u8]) -> Result<(), Error> {
+        match role {
+            Role::Next => self.encoder.add_original_shard(shard),
+            Role::Original => self.decoder.add_original_shard(index, shard),
+            Role::Recovery => self.decoder.add_recovery_shard(index, shard),
+        }
+    }
+
+    fn encode(&mut self, kept: &mut Kept, forget: bool) -> Result<(), Error> {
+        let lent = self.encoder.encode()?;
+        kept.keep_recovery(&lent)?;
+        if forget {
+            mem::forget(lent);
+        }
+        Ok(())
+    }
+
+    fn decode(&mut self, kept: &mut Kept, forget: bool) -> Result<(), Error> {
+        let lent = self.decoder.decode()?;
+        kept.keep_restored(&lent)?;
+        if forget {
+            mem::forget(lent);
+        }
+        Ok(())
+    }
+
+    fn supports(&self, k: usize, r: usize, supported: bool) -> bool {
+        ReedSolomonEncoder::supports(k, r) == supported
+            && ReedSolomonDecoder::supports(k, r) == supported
+    }
+}

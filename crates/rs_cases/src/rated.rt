@@ -1,0 +1,116 @@
+//! The objects of a rate over an engine.
+use crate::coder::{Coder, Configuration, Kind, Parts, Role};
+use crate::kept::Kept;
+use reed_solomon_simd::Error;
+use reed_solomon_simd::engine::{Engine, Steps};
+use reed_solomon_simd::rate::{Rate, RateDecoder, RateEncoder};
+use std::alloc::Global;
+use std::mem;
+
+/// An encoder and a decoder of the rate.
+#[derive(Drop)]
+pub struct Rated<E: Engine, R: Rate<E>> {
+    alloc: Global,
+    engine: E,
+    encoder: R::RateEncoder,
+    decoder: R::RateDecoder,
+}
+
+impl<E: Engine + Copy, R: Rate<E>> Rated<E, R> {
+    /// Objects of one original and one recovery shard of two bytes.
+    pub fn new(alloc: Global, engine: E) -> Result<Rated<E, R>, Error> {
+        let encoder = R::RateEncoder::new(alloc, 1, 1, 2, engine, None)?;
+        let decoder = R::RateDecoder::new(alloc, 1, 1, 2, engine, None)?;
+        Ok(Rated {
+            alloc,
+            engine,
+            encoder,
+            decoder,
+        })
+    }
+}
+
+impl<E: Engine + Copy, R: Rate<E>> Coder for Rated<E, R> {
+    fn start(
+        &mut self,
+        kind: Kind,
+        (k, r, size): Configuration,
+        parts: &mut Parts,
+    ) -> Result<(), Error> {
+        match kind {
+            Kind::Encoder => {
+                let work = parts.encoder.take();
+                self.encoder = R::encoder(self.alloc, k, r, size, self.engine, work)?;
+            }
+            Kind::Decoder => {
+                let work = parts.decoder.take();
+                self.decoder = R::decoder(self.alloc, k, r, size, self.engine, work)?;
+            }
+        }
+        Ok(())
+    }
+
+    fn reset(&mut self, kind: Kind, (k, r, size): Configuration) -> Result<(), Error> {
+        match kind {
+            Kind::Encoder => self.encoder.reset(k, r, size),
+            Kind::Decoder => self.decoder.reset(k, r, size),
+        }
+    }
+
+    fn give(&mut self, role: Role, index: usize, shard: &[u8]) -> Result<(), Error> {
+        match role {
+            Role::Next => self.encoder.add_original_shard(shard),
+            Role::Original => self.decoder.add_original_shard(index, shard),
+            Role::Recovery => self.decoder.add_recovery_shard(index, shard),
+        }
+    }
+
+    fn encode(&mut self, kept: &mut Kept, forget: bool) -> Result<(), Error> {
+        let mut steps = Steps::new();
+        let lent = self.encoder.encode(&mut steps)?;
+        kept.keep_recovery(&lent)?;
+        if forget {
+            mem::forget(lent);
+        }
+        Ok(())
+    }
+
+    fn decode(&mut self, kept: &mut Kept, forget: bool) -> Result<(), Error> {
+        let mut steps = Steps::new();
+        let lent = self.decoder.decode(&mut steps)?;
+        kept.keep_restored(&lent)?;
+        if forget {
+            mem::forget(lent);
+        }
+        Ok(())
+    }
+
+    fn take_parts(&mut self, parts: &mut Parts) -> Result<(), Error> {
+        let Rated {
+            encoder,
+            decoder,
+            ..
+        } = mem::replace(self, Rated::new(self.alloc, self.engine)?);
+        parts.encoder = Some(encoder.into_parts().1);
+        parts.decoder = Some(decoder.into_parts().1);
+        Ok(())
+    }
+
+    fn supports(&self, k: usize, r: usize, supported: bool) -> bool {
+        R::supports(k, r) == supported
+            && R::RateEncoder::supports(k, r) == supported
+            && R::RateDecoder::supports(k, r) == supported
+    }
+
+    fn validates(&self, (k, r, size): Configuration, answer: Result<(), Error>) -> bool {
+        R::validate(k, r, size) == answer
+            && R::RateEncoder::validate(k, r, size) == answer
+            && R::RateDecoder::validate(k, r, size) == answer
+    }
+
+    fn refuses_new(&self, (k, r, size): Configuration, refusal: Error) -> bool {
+        let encoder = R::RateEncoder::new(self.alloc, k, r, size, self.engine, None);
+        let decoder = R::RateDecoder::new(self.alloc, k, r, size, self.engine, None);
+        encoder.err() == Some(refusal) && decoder.err() == Some(refusal)
+    }
+}

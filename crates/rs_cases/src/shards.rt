@@ -1,0 +1,85 @@
+//! Shards as the data files write them, and shards that are made by a rule.
+use crate::kept::Item;
+use anyhow::Result;
+use rand_chacha::ChaCha8Rng;
+use rand_core::{Rng, SeedableRng};
+use sha2::{Digest, Sha256};
+use std::alloc::{AllocError, Global};
+
+/// The bytes of a text of parts with `+` between them, each of them HEX, or HEX*N for the bytes of HEX N times over.
+pub fn shard_of(alloc: Global, text: &str) -> Result<Vec<u8>> {
+    let mut shard = Vec::new(alloc);
+    for part in text.split('+') {
+        let (digits, times) = match part.split_once('*') {
+            Some((digits, times)) => (digits, times.parse::<usize>()?),
+            None => (part, 1),
+        };
+        let bytes = hex::decode(alloc, digits)?;
+        for _ in 0..times {
+            shard.extend_from_slice(bytes.as_slice())?;
+        }
+    }
+    Ok(shard)
+}
+
+/// So many originals, of which byte i of number j is (7 i + 13 j + 5) mod 251.
+pub fn counted(alloc: Global, count: usize, shard_bytes: usize) -> Result<Vec<Item>, AllocError> {
+    let mut shards = Vec::new(alloc);
+    let mut head: u8 = 5;
+    for index in 0..count {
+        shards.push((index, counted_shard(alloc, head, shard_bytes)?))?;
+        head = advanced(head, 13);
+    }
+    Ok(shards)
+}
+
+// The shard that has this byte at its head, and then at each place 7 more modulo 251.
+fn counted_shard(alloc: Global, head: u8, shard_bytes: usize) -> Result<Vec<u8>, AllocError> {
+    let mut shard = Vec::new(alloc);
+    let mut byte = head;
+    for _ in 0..shard_bytes {
+        shard.push(byte)?;
+        byte = advanced(byte, 7);
+    }
+    Ok(shard)
+}
+
+// The sum modulo 251.
+fn advanced(byte: u8, by: u8) -> u8 {
+    ((u16::from(byte) + u16::from(by)) % 251) as u8
+}
+
+/// So many originals of this size, drawn one after another from ChaCha8, whose 32 seed bytes are all `seed`.
+pub fn drawn(
+    alloc: Global,
+    count: usize,
+    shard_bytes: usize,
+    seed: u8,
+) -> Result<Vec<Item>, AllocError> {
+    let mut rng = ChaCha8Rng::from_seed([seed; 32]);
+    let mut shards = Vec::new(alloc);
+    for index in 0..count {
+        let mut shard: Vec<u8> = Vec::from_elem(alloc, 0, shard_bytes)?;
+        rng.fill_bytes(shard.as_mut_slice());
+        shards.push((index, shard))?;
+    }
+    Ok(shards)
+}
+
+/// The SHA-256 digest of all shards, one after another.
+pub fn digest_of(alloc: Global, shards: &[Item]) -> Result<String> {
+    let mut hasher = Sha256::new();
+    for (_, shard) in shards {
+        hasher.update(shard.as_slice());
+    }
+    Ok(hex::encode(alloc, hasher.finalize().as_slice())?)
+}
+
+/// Writes each shard as I=HEX behind a space.
+pub fn write_items(alloc: Global, text: &mut String, items: &[Item]) -> Result<()> {
+    for (index, shard) in items {
+        let digits = hex::encode(alloc, shard.as_slice())?;
+        write!(text, " {index}={digits}")?;
+    }
+    Ok(())
+}

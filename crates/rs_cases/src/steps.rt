@@ -1,0 +1,252 @@
+//! What the steps of a case do.
+use crate::coder::{Coder, Configuration, Kind, Parts, Role};
+use crate::kept::{Item, Kept, Way};
+use crate::shards::{counted, digest_of, drawn, shard_of, write_items};
+use anyhow::{Context, Result, bail, ensure};
+use reed_solomon_simd::Error;
+use reed_solomon_simd::rate::{DecoderWork, EncoderWork};
+
+/// Does a step of a coder. Answers the text of what comes, empty where nothing does; a refusal is the error.
+pub fn do_step<C: Coder>(coder: &mut C, kept: &mut Kept, step: &str) -> Result<String> {
+    let word = step.split_whitespace().next().unwrap_or("");
+    let kind = kind_of(word);
+    match word {
+        "encoder" | "decoder" => coder.start(kind, configuration_of(step)?, &mut kept.parts)?,
+        "reset-encoder" | "reset-decoder" => coder.reset(kind, configuration_of(step)?)?,
+        "parts" => coder.take_parts(&mut kept.parts)?,
+        "empty-parts" => kept.parts = empty_parts(),
+        "give" => give_from(coder, kept, step, 1)?,
+        "code" | "restore" => return round(coder, kept, step, 1, kind),
+        "encode" | "decode" => return run(coder, kept, kind, step.contains("forgotten")),
+        "encodes" | "decodes" => return row(coder, kept, step, kind),
+        "makes" => make(coder, kept, step)?,
+        "digest" => return digest_of(kept.alloc, kept.recovery.as_slice()),
+        "supports" => check_counts(coder, step, true)?,
+        "excludes" => check_counts(coder, step, false)?,
+        "configure" => configure(coder, configuration_of(step)?)?,
+        _ => bail!("no such step"),
+    }
+    Ok(String::new(kept.alloc))
+}
+
+// The object that a step of this name is about.
+fn kind_of(name: &str) -> Kind {
+    match name {
+        "decoder" | "reset-decoder" | "restore" | "decode" | "decodes" => Kind::Decoder,
+        _ => Kind::Encoder,
+    }
+}
+
+// Memory that holds nothing.
+fn empty_parts() -> Parts {
+    Parts {
+        encoder: Some(EncoderWork::default()),
+        decoder: Some(DecoderWork::default()),
+    }
+}
+
+// The number that the word is.
+fn number(word: Option<&str>) -> Result<usize> {
+    Ok(word.context("a number is missing")?.parse::<usize>()?)
+}
+
+// The counts and the size behind the step's first word.
+fn configuration_of(step: &str) -> Result<Configuration> {
+    let mut words = step.split_whitespace().skip(1);
+    Ok((
+        number(words.next())?,
+        number(words.next())?,
+        number(words.next())?,
+    ))
+}
+
+// Those of the shards that have the indexes A to B-1, for a range A..B.
+fn slice_of<'a>(items: &'a [Item], range: &str) -> Result<&'a [Item]> {
+    let (start, end) = range.split_once("..").context("a range is A..B")?;
+    let range = start.parse::<usize>()?..end.parse::<usize>()?;
+    items.get(range).context("no such shards are kept")
+}
+
+// Gives the shards of the step's words from so many on.
+fn give_from<C: Coder>(coder: &mut C, kept: &Kept, step: &str, from: usize) -> Result<()> {
+    for word in step.split_whitespace().skip(from) {
+        give_word(coder, kept, word)?;
+    }
+    Ok(())
+}
+
+// Gives the shards of a word: those of the encoder, or those of the decoder behind `o` or `r`.
+fn give_word<C: Coder>(coder: &mut C, kept: &Kept, word: &str) -> Result<()> {
+    if let Some(rest) = word.strip_prefix('o') {
+        give_rest(coder, kept, Role::Original, rest)
+    } else if let Some(rest) = word.strip_prefix('r') {
+        give_rest(coder, kept, Role::Recovery, rest)
+    } else {
+        give_rest(coder, kept, Role::Next, word)
+    }
+}
+
+// The rest of a word tells the shard: I=SHARD, or SHARD alone; @A..B, shards of the message or of those that came last;
+// or `end`.
+fn give_rest<C: Coder>(coder: &mut C, kept: &Kept, role: Role, rest: &str) -> Result<()> {
+    if rest == "end" {
+        return Ok(coder.end_once(role)?);
+    }
+    if let Some(range) = rest.strip_prefix('@') {
+        let shards = match role {
+            Role::Recovery => kept.recovery.as_slice(),
+            Role::Next | Role::Original => kept.message.as_slice(),
+        };
+        return give_items(coder, role, slice_of(shards, range)?);
+    }
+    let (index, text) = match rest.split_once('=') {
+        Some((index, text)) => (index.parse::<usize>()?, text),
+        None => (0, rest),
+    };
+    let shard = shard_of(kept.alloc, text)?;
+    Ok(coder.give(role, index, shard.as_slice())?)
+}
+
+fn give_items<C: Coder>(coder: &mut C, role: Role, items: &[Item]) -> Result<()> {
+    for (index, shard) in items {
+        coder.give(role, *index, shard.as_slice())?;
+    }
+    Ok(())
+}
+
+// Encodes or decodes what was given.
+fn run<C: Coder>(coder: &mut C, kept: &mut Kept, kind: Kind, forget: bool) -> Result<String> {
+    let mut text = String::new(kept.alloc);
+    match kind {
+        Kind::Encoder => {
+            coder.encode(kept, forget)?;
+            write_items(kept.alloc, &mut text, kept.recovery.as_slice())?;
+        }
+        Kind::Decoder => {
+            coder.decode(kept, forget)?;
+            write_items(kept.alloc, &mut text, kept.restored.as_slice())?;
+        }
+    }
+    ensure!(kept.agrees, "the result differs by index, walk and counts");
+    Ok(text)
+}
+
+// Gives the shards of the step's words from so many on, and encodes or decodes.
+fn round<C: Coder>(
+    coder: &mut C,
+    kept: &mut Kept,
+    step: &str,
+    from: usize,
+    kind: Kind,
+) -> Result<String> {
+    give_from(coder, kept, step, from)?;
+    run(coder, kept, kind, false)
+}
+
+// Gets the object for a table's row in the way that the rows are run in.
+fn obtain<C: Coder>(
+    coder: &mut C,
+    kept: &mut Kept,
+    kind: Kind,
+    configuration: Configuration,
+) -> Result<(), Error> {
+    match kept.way {
+        Way::New => coder.start(kind, configuration, &mut Parts::default()),
+        Way::Reset => coder.reset(kind, configuration),
+        Way::HandedOn => {
+            coder.take_parts(&mut kept.parts)?;
+            coder.start(kind, configuration, &mut kept.parts)
+        }
+    }
+}
+
+// A table's row: the object does the round twice, and is left with the first shard given.
+fn row<C: Coder>(coder: &mut C, kept: &mut Kept, step: &str, kind: Kind) -> Result<String> {
+    obtain(coder, kept, kind, configuration_of(step)?)?;
+    let first = round(coder, kept, step, 4, kind)?;
+    let second = round(coder, kept, step, 4, kind)?;
+    ensure!(first.as_str() == second.as_str(), "then {second}");
+    if let Some(word) = step.split_whitespace().nth(4) {
+        give_word(coder, kept, word)?;
+    }
+    Ok(first)
+}
+
+// Encodes a message that a rule makes; both are kept.
+fn make<C: Coder>(coder: &mut C, kept: &mut Kept, step: &str) -> Result<()> {
+    let (k, r, size) = configuration_of(step)?;
+    let mut words = step.split_whitespace().skip(4);
+    kept.message = match words.next().unwrap_or("") {
+        "counted" => counted(kept.alloc, k, size)?,
+        "drawn" => {
+            let seed = words.next().context("the seed is missing")?.parse::<u8>()?;
+            drawn(kept.alloc, k, size, seed)?
+        }
+        _ => bail!("no such rule"),
+    };
+    obtain(coder, kept, Kind::Encoder, (k, r, size))?;
+    give_items(coder, Role::Next, kept.message.as_slice())?;
+    coder.encode(kept, false)?;
+    ensure!(kept.agrees, "the result differs by index, walk and counts");
+    Ok(())
+}
+
+// All pairs K+R of the step are supported, or none is.
+fn check_counts<C: Coder>(coder: &C, step: &str, supported: bool) -> Result<()> {
+    for pair in step.split_whitespace().skip(1) {
+        let (k, r) = pair.split_once('+').context("a pair is K+R")?;
+        let original_count = k.parse::<usize>()?;
+        let recovery_count = r.parse::<usize>()?;
+        let unsupported = Error::UnsupportedShardCount {
+            original_count,
+            recovery_count,
+        };
+        let answer = if supported { Ok(()) } else { Err(unsupported) };
+        let told = coder.supports(original_count, recovery_count, supported)
+            && coder.validates((original_count, recovery_count, 64), answer);
+        ensure!(told, "not {pair}");
+    }
+    Ok(())
+}
+
+// Every call that takes a configuration refuses it alike, which leaves the objects.
+fn configure<C: Coder>(coder: &mut C, configuration: Configuration) -> Result<()> {
+    let mut parts = Parts::default();
+    let answer = coder.start(Kind::Encoder, configuration, &mut parts);
+    for other in [
+        coder.start(Kind::Decoder, configuration, &mut parts),
+        coder.reset(Kind::Encoder, configuration),
+        coder.reset(Kind::Decoder, configuration),
+    ] {
+        ensure!(other == answer, "{other:?} and {answer:?}");
+    }
+    let Err(refusal) = answer else {
+        bail!("not refused");
+    };
+    let valid = match refusal {
+        Error::OutOfMemory => Ok(()),
+        _ => answer,
+    };
+    let told = coder.refuses_new(configuration, refusal) && coder.validates(configuration, valid);
+    ensure!(told, "not so by `new` and `validate`");
+    Ok(answer?)
+}
+
+/// The text of the shards that are expected: SHARD in order of index, I=SHARD, and @A..B for originals of the message.
+pub fn text_of_expected(kept: &Kept, expected: &str) -> Result<String> {
+    let mut text = String::new(kept.alloc);
+    for (place, word) in expected.split_whitespace().enumerate() {
+        if let Some(range) = word.strip_prefix('@') {
+            let originals = slice_of(kept.message.as_slice(), range)?;
+            write_items(kept.alloc, &mut text, originals)?;
+            continue;
+        }
+        let (index, shard) = match word.split_once('=') {
+            Some((index, shard)) => (index.parse::<usize>()?, shard),
+            None => (place, word),
+        };
+        let item = (index, shard_of(kept.alloc, shard)?);
+        write_items(kept.alloc, &mut text, &[item])?;
+    }
+    Ok(text)
+}
