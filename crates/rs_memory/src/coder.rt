@@ -80,7 +80,8 @@ impl<E: Engine, R: Rate<E>> Coder<E> for Encoding<E, R> {
 
     fn codes(&mut self, recovery_count: usize) -> Result<bool, Error> {
         let mut steps = Steps::new();
-        Ok(has_recovery(&self.0.encode(&mut steps)?, recovery_count))
+        let lent = self.0.encode(&mut steps)?;
+        Ok(has_recovery(&lent, recovery_count))
     }
 }
 
@@ -111,7 +112,8 @@ impl<E: Engine, R: Rate<E>> Coder<E> for Decoding<E, R> {
 
     fn codes(&mut self, _recovery_count: usize) -> Result<bool, Error> {
         let mut steps = Steps::new();
-        Ok(has_originals(&self.0.decode(&mut steps)?))
+        let lent = self.0.decode(&mut steps)?;
+        Ok(has_originals(&lent))
     }
 }
 
@@ -137,7 +139,8 @@ impl<'t> Coder<DefaultEngine<'t>> for ReedSolomonEncoder<'t> {
     }
 
     fn codes(&mut self, recovery_count: usize) -> Result<bool, Error> {
-        Ok(has_recovery(&self.encode()?, recovery_count))
+        let lent = self.encode()?;
+        Ok(has_recovery(&lent, recovery_count))
     }
 }
 
@@ -161,6 +164,7 @@ impl<'t> Coder<DefaultEngine<'t>> for ReedSolomonDecoder<'t> {
     }
 
     fn codes(&mut self, _recovery_count: usize) -> Result<bool, Error> {
-        Ok(has_originals(&self.decode()?))
+        let lent = self.decode()?;
+        Ok(has_originals(&lent))
     }
 }

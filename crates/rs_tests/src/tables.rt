@@ -1,0 +1,70 @@
+//! Entries of the tables that are known by hand. Contracts say them of definitions that are as long as the code; and that
+//! memory suffices, nothing says.
+use reed_solomon_simd::engine::tables::{
+    ExpLog, Mul16, Mul128, Skew, Tables, get_exp_log, get_mul16, get_mul128, get_skew, mul,
+};
+use std::process::Abort;
+use std::test::Fail;
+
+fn check_powers(rt: &impl Abort, t: &ExpLog) {
+    assert_eq!(rt; [t.exp[0], t.exp[65535]], [1, 1]);
+    assert_eq!(rt; [t.log[0], t.log[1]], [65535, 0]);
+    assert_eq!(rt; u32::from(t.log[2]) + u32::from(t.log[3]), 65535);
+    for (x, y, product) in [
+        (2, 2, 3),
+        (2, 3, 1),
+        (3, 3, 2),
+        (2, 4, 11),
+        (4, 4, 6),
+        (2, 6, 8),
+        (3, 6, 14),
+        (5, 4, 2),
+    ] {
+        let log_y = t.log[y];
+        assert_eq!(rt; mul(x, log_y, &t.exp, &t.log), product, "{x} times {y}");
+        assert_eq!(rt; mul(x, 65535, &t.exp, &t.log), x, "{x} times one");
+    }
+}
+
+fn check_factors(rt: &impl Abort, skew: Skew<'_>, t: &ExpLog) {
+    assert_eq!(rt; [skew[0], skew[1], skew[3]], [65535, 65535, 65535]);
+    assert_eq!(rt; [skew[2], skew[5]], [t.log[2], t.log[2]]);
+    assert_eq!(rt; skew[4], t.log[4]);
+}
+
+// The products of 0 to 7 with 2 are 0, 2, 3, 1, 11, 9, 8 and 10.
+fn check_products(rt: &impl Abort, mul16: Mul16<'_>, mul128: Mul128<'_>, log_2: usize) {
+    for (i, product) in [0, 2, 3, 1, 11, 9, 8, 10].into_iter().enumerate() {
+        assert_eq!(rt; mul16[log_2][0][i], product);
+    }
+    assert_eq!(rt; mul128[log_2].lo[0] % (1 << 64), 0x0A08_090B_0103_0200);
+    assert_eq!(rt; mul128[log_2].hi[0] % (1 << 64), 0);
+    for i in 0..16 {
+        let word = i as u16;
+        let shifted = [word, word << 4, word << 8, word << 12];
+        for n in 0..4 {
+            assert_eq!(rt; mul16[65535][n][i], shifted[n]);
+        }
+    }
+}
+
+#[test]
+fn entries_by_hand(rt: HostRuntime) -> Result<(), Fail> {
+    let tables = Tables::new(rt.alloc())?;
+    let t = get_exp_log(&tables);
+    check_powers(&rt, t);
+    check_factors(&rt, get_skew(&tables), t);
+    let (mul16, mul128) = (get_mul16(&tables), get_mul128(&tables));
+    check_products(&rt, mul16, mul128, usize::from(t.log[2]));
+    Ok(())
+}
+
+#[test]
+fn products_are_copied(rt: HostRuntime) -> Result<(), Fail> {
+    let tables = Tables::new(rt.alloc())?;
+    let own = &get_mul128(&tables)[2];
+    let copy = own.clone()?;
+    assert_eq!(rt; copy.lo, own.lo);
+    assert_eq!(rt; copy.hi, own.hi);
+    Ok(())
+}
