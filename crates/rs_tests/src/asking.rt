@@ -3,7 +3,6 @@
 use reed_solomon_simd::engine::tables::Tables;
 use reed_solomon_simd::engine::{DefaultEngine, EngineKind};
 use reed_solomon_simd::{decode, encode};
-use std::alloc::Global;
 use std::process::Abort;
 use std::test::Fail;
 
@@ -39,7 +38,11 @@ fn encode_asks_for_all_but_the_last<A: Abort + AllocGlobal>(
 ) {
     let mut original = places.iter().map_while(|place| *place);
     let _ = encode(rt.alloc(), original_count, 1, &mut original, engine);
-    assert!(rt; original.next() == Some(LATE), "{original_count} {}", places.len());
+    assert!(rt;
+        original.next() == Some(LATE),
+        "{original_count} {}",
+        places.len()
+    );
 }
 
 #[test]
@@ -56,9 +59,100 @@ type Item<'a> = (usize, &'a [u8]);
 
 const LATE_ITEM: Item<'static> = (1, LATE);
 
-// The same with two recovery shards: the places of the originals, and those of the recovery shards.
-struct Decoded {
+const EMPTY: &[u8] = &[];
+
+// The same of both iterators: the places of originals, and of recovery shards.
+static DECODES: [(usize, &[Option<Item<'static>>], &[Option<Item<'static>>]); 11] = [
+    // Counts that aren't supported, and a wrong size.
+    (0, &[Some(LATE_ITEM)], &[Some(LATE_ITEM)]),
+    (1, &[Some(LATE_ITEM)], &[Some((0, EMPTY)), Some(LATE_ITEM)]),
+    // An original twice, and one past the counts; without recovery shards, too.
+    (
+        2,
+        &[Some((0, EARLY)), Some((0, EARLY)), Some(LATE_ITEM)],
+        &[Some((0, EARLY)), Some(LATE_ITEM)],
+    ),
+    (
+        2,
+        &[Some((2, EARLY)), Some(LATE_ITEM)],
+        &[Some((0, EARLY)), Some(LATE_ITEM)],
+    ),
+    (
+        2,
+        &[Some((0, EARLY)), Some((0, EARLY)), Some(LATE_ITEM)],
+        &[None, Some(LATE_ITEM)],
+    ),
+    (
+        2,
+        &[Some((2, EARLY)), Some(LATE_ITEM)],
+        &[None, Some(LATE_ITEM)],
+    ),
+    // A recovery shard twice.
+    (
+        2,
+        &[Some((0, EARLY)), None, Some(LATE_ITEM)],
+        &[Some((0, EARLY)), Some((0, EARLY)), Some(LATE_ITEM)],
+    ),
+    // Too few.
+    (
+        2,
+        &[None, Some(LATE_ITEM)],
+        &[Some((0, EARLY)), None, Some(LATE_ITEM)],
+    ),
+    (
+        2,
+        &[Some((0, EARLY)), None, Some(LATE_ITEM)],
+        &[None, Some(LATE_ITEM)],
+    ),
+    // What is decoded, and what needn't be.
+    (
+        2,
+        &[Some((0, EARLY)), None, Some(LATE_ITEM)],
+        &[Some((0, EARLY)), None, Some(LATE_ITEM)],
+    ),
+    (
+        2,
+        &[Some((0, EARLY)), Some((1, EARLY)), None, Some(LATE_ITEM)],
+        &[None, Some(LATE_ITEM)],
+    ),
+];
+
+fn decode_asks_for_all_but_the_last<A: Abort + AllocGlobal>(
+    rt: &A,
+    engine: DefaultEngine<'_>,
     original_count: usize,
-    original: &'static [Option<Item<'static>>],
-    recovery: &'static [Option<Item<'static>>],
+    originals: &[Option<Item<'_>>],
+    recoveries: &[Option<Item<'_>>],
+) {
+    let mut original = originals.iter().map_while(|place| *place);
+    let mut recovery = recoveries.iter().map_while(|place| *place);
+    let alloc = rt.alloc();
+    let _ = decode(
+        alloc,
+        original_count,
+        2,
+        &mut original,
+        &mut recovery,
+        engine,
+    );
+    assert!(rt;
+        original.next() == Some(LATE_ITEM),
+        "{original_count} {}",
+        originals.len()
+    );
+    assert!(rt;
+        recovery.next() == Some(LATE_ITEM),
+        "{original_count} {}",
+        recoveries.len()
+    );
+}
+
+#[test]
+fn decode_asks_for_no_more(rt: HostRuntime) -> Result<(), Fail> {
+    let tables = Tables::new(rt.alloc())?;
+    let engine = DefaultEngine::new(&tables, EngineKind::Naive);
+    for (original_count, originals, recoveries) in DECODES {
+        decode_asks_for_all_but_the_last(&rt, engine, original_count, originals, recoveries);
+    }
+    Ok(())
 }
