@@ -15,6 +15,7 @@ const KINDS: [EngineKind; 4] = [
 ];
 
 // Counts, the points at which originals and recovery shards begin, and how many of the originals, the first ones, are lost.
+#[derive(Clone, Copy)]
 struct Row {
     original_count: usize,
     recovery_count: usize,
