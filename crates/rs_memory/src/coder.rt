@@ -16,11 +16,13 @@ pub const RECOVERY: [&[u8]; 3] = [&[2, 0], &[3, 0], &[4, 0]];
 pub type Counts = (usize, usize, usize);
 
 /// An object that codes the message. An encoder is given its originals, a decoder its first two recovery shards.
-pub trait Coder<E: Engine>: Drop {
+pub trait Coder<E: Engine>: Drop + Sized {
     fn new(alloc: Global, engine: E, counts: Counts) -> Result<Self, Error>;
 
     /// An object over the parts of this one, where it can be taken apart.
-    fn again(self, alloc: Global, counts: Counts) -> Result<Self, Error>;
+    fn again(self, _alloc: Global, _counts: Counts) -> Result<Self, Error> {
+        Ok(self)
+    }
 
     fn reset(&mut self, counts: Counts) -> Result<(), Error>;
 
@@ -123,10 +125,6 @@ impl<'t> Coder<DefaultEngine<'t>> for ReedSolomonEncoder<'t> {
         ReedSolomonEncoder::new(alloc, k, r, size, engine)
     }
 
-    fn again(self, _alloc: Global, _counts: Counts) -> Result<Self, Error> {
-        Ok(self)
-    }
-
     fn reset(&mut self, (k, r, size): Counts) -> Result<(), Error> {
         self.reset(k, r, size)
     }
@@ -148,10 +146,6 @@ impl<'t> Coder<DefaultEngine<'t>> for ReedSolomonDecoder<'t> {
     fn new(alloc: Global, engine: DefaultEngine<'t>, counts: Counts) -> Result<Self, Error> {
         let (k, r, size) = counts;
         ReedSolomonDecoder::new(alloc, k, r, size, engine)
-    }
-
-    fn again(self, _alloc: Global, _counts: Counts) -> Result<Self, Error> {
-        Ok(self)
     }
 
     fn reset(&mut self, (k, r, size): Counts) -> Result<(), Error> {

@@ -20,38 +20,30 @@ use reed_solomon_simd::{Error, ReedSolomonDecoder, ReedSolomonEncoder};
 use std::alloc::{AllocError, Global};
 use std::{env, io};
 
-static NAMES: [&str; 31] = [
-    "takes/tables",
-    "takes/low-encoder",
-    "takes/low-decoder",
-    "takes/high-encoder",
-    "takes/high-decoder",
-    "takes/default-encoder",
-    "takes/default-decoder",
-    "takes/default-encoder-to-low",
-    "takes/default-decoder-to-low",
-    "takes/plain-encoder",
-    "takes/plain-decoder",
-    "takes/one-call-encode",
-    "takes/one-call-decode",
-    "takes/one-call-without-recovery",
-    "without/low-encoder",
-    "without/low-decoder",
-    "without/high-encoder",
-    "without/high-decoder",
-    "without/default-encoder",
-    "without/default-decoder",
-    "without/plain-encoder",
-    "without/plain-decoder",
-    "without/nosimd",
-    "without/avx2",
-    "without/ssse3",
-    "without/shuffle",
-    "without/wide-shuffle",
-    "without/refusals",
-    "enough/long-shard",
-    "enough/many-originals",
-    "enough/large-objects",
+// What is run of each kind of encoder and decoder: its life, which takes memory, and its rounds, which are without.
+static OBJECTS: [&str; 10] = [
+    "low-encoder",
+    "low-decoder",
+    "high-encoder",
+    "high-decoder",
+    "default-encoder",
+    "default-decoder",
+    "default-encoder-to-low",
+    "default-decoder-to-low",
+    "plain-encoder",
+    "plain-decoder",
+];
+
+static OTHERS: [(&str, &str); 9] = [
+    ("takes", "tables"),
+    ("takes", "one-call-encode"),
+    ("takes", "one-call-decode"),
+    ("takes", "one-call-without-recovery"),
+    ("without", "engines"),
+    ("without", "refusals"),
+    ("enough", "long-shard"),
+    ("enough", "many-originals"),
+    ("enough", "large-objects"),
 ];
 
 // The counts of the message at the low rate and at the high one, with the size of its shards.
@@ -111,7 +103,18 @@ fn takes(alloc: Global, engine: DefaultEngine<'_>, name: &str) -> Result<bool, E
 fn rounds<E: Engine + Copy>(alloc: Global, engine: E) -> Result<bool, Error> {
     let encoded = of_rate(alloc, engine, "low-encoder", false)?;
     mark_until_here(alloc);
-    Ok(encoded && of_rate(alloc, engine, "low-decoder", false)?)
+    let decoded = of_rate(alloc, engine, "low-decoder", false)?;
+    mark_until_here(alloc);
+    Ok(encoded && decoded)
+}
+
+fn rounds_of_each_engine(alloc: Global, tables: &Tables) -> Result<bool, Error> {
+    let mut good = rounds(alloc, Shuffle::new(tables))?;
+    good = good && rounds(alloc, WideShuffle::new(tables))?;
+    for kind in [EngineKind::NoSimd, EngineKind::Avx2, EngineKind::Ssse3] {
+        good = good && rounds(alloc, DefaultEngine::new(tables, kind))?;
+    }
+    Ok(good)
 }
 
 // What takes no memory between the marks.
@@ -124,11 +127,7 @@ fn without(alloc: Global, tables: &Tables, name: &str) -> Result<bool, Error> {
         "plain-decoder" => {
             passes::<_, ReedSolomonDecoder<'_>>(alloc, naive, LOW, Scenario::Rounds)
         }
-        "nosimd" => rounds(alloc, DefaultEngine::new(tables, EngineKind::NoSimd)),
-        "avx2" => rounds(alloc, DefaultEngine::new(tables, EngineKind::Avx2)),
-        "ssse3" => rounds(alloc, DefaultEngine::new(tables, EngineKind::Ssse3)),
-        "shuffle" => rounds(alloc, Shuffle::new(tables)),
-        "wide-shuffle" => rounds(alloc, WideShuffle::new(tables)),
+        "engines" => rounds_of_each_engine(alloc, tables),
         "refusals" => {
             mark_from_here(alloc);
             one_call::refuses(alloc, naive)
@@ -140,20 +139,20 @@ fn without(alloc: Global, tables: &Tables, name: &str) -> Result<bool, Error> {
 // What there is enough memory for.
 fn enough(alloc: Global, engine: DefaultEngine<'_>, name: &str) -> Result<bool, Error> {
     match name {
-        "long-shard" => one_call::encodes_long_shard(alloc, engine),
+        "long-shard" => one_call::codes_long_shard(alloc, engine),
         "many-originals" => one_call::misses_none_of_many(alloc, engine),
         "large-objects" => one_call::makes_large_objects(alloc, engine),
         _ => Ok(false),
     }
 }
 
-// How the scenario of this name ends.
-fn ending(alloc: Global, tables: &Tables, name: &str) -> &'static str {
+// How the scenario ends.
+fn ending(alloc: Global, tables: &Tables, kind: &str, name: &str) -> &'static str {
     let engine = DefaultEngine::new(tables, EngineKind::Naive);
-    let answer = match name.split_once('/') {
-        Some(("takes", subject)) => takes(alloc, engine, subject),
-        Some(("without", subject)) => without(alloc, tables, subject),
-        Some(("enough", subject)) => enough(alloc, engine, subject),
+    let answer = match kind {
+        "takes" => takes(alloc, engine, name),
+        "without" => without(alloc, tables, name),
+        "enough" => enough(alloc, engine, name),
         _ => Ok(false),
     };
     mark_until_here(alloc);
@@ -164,15 +163,26 @@ fn ending(alloc: Global, tables: &Tables, name: &str) -> &'static str {
     }
 }
 
-fn main(rt: HostRuntime) -> io::Result<()> {
-    let alloc = rt.alloc();
-    let tables = Tables::new(alloc).map_err(|_| AllocError)?;
-    if let Some(name) = env::args(&rt)?.nth(1) {
-        println!(rt; "{}", ending(alloc, &tables, name.as_str()))?;
-        return Ok(());
+fn run(rt: &HostRuntime, tables: &Tables, kind: &str, name: &str) -> io::Result<()> {
+    println!(rt; "{kind}/{name}: {}", ending(rt.alloc(), tables, kind, name))
+}
+
+fn run_all(rt: &HostRuntime, tables: &Tables) -> io::Result<()> {
+    for object in OBJECTS {
+        run(rt, tables, "takes", object)?;
+        run(rt, tables, "without", object)?;
     }
-    for name in NAMES {
-        println!(rt; "{name}: {}", ending(alloc, &tables, name))?;
+    for (kind, name) in OTHERS {
+        run(rt, tables, kind, name)?;
     }
     Ok(())
+}
+
+fn main(rt: HostRuntime) -> io::Result<()> {
+    let tables = Tables::new(rt.alloc()).map_err(|_| AllocError)?;
+    let Some(scenario) = env::args(&rt)?.nth(1) else {
+        return run_all(&rt, &tables);
+    };
+    let (kind, name) = scenario.split_once('/').unwrap_or(("", ""));
+    run(&rt, &tables, kind, name)
 }

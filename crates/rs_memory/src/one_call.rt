@@ -5,6 +5,9 @@ use reed_solomon_simd::engine::tables::Tables;
 use reed_solomon_simd::{Error, ReedSolomonDecoder, ReedSolomonEncoder, decode, encode};
 use std::alloc::Global;
 
+// More than 64 MiB.
+const LARGE: usize = (64 << 20) + 128;
+
 /// Makes tables and lets them go.
 pub fn makes_tables(alloc: Global) -> Result<bool, Error> {
     drop(Tables::new(alloc)?);
@@ -61,22 +64,28 @@ pub fn refuses(alloc: Global, engine: DefaultEngine<'_>) -> Result<bool, Error> 
     Ok(of_counts && restored.is_err_and(|refusal| refusal == size))
 }
 
-/// Whether one call codes a shard of 2 MiB.
-pub fn encodes_long_shard(alloc: Global, engine: DefaultEngine<'_>) -> Result<bool, Error> {
+/// Whether one call codes a shard of 2 MiB, and one restores it.
+pub fn codes_long_shard(alloc: Global, engine: DefaultEngine<'_>) -> Result<bool, Error> {
     let shard: Vec<u8> = Vec::from_elem(alloc, 7, 2 << 20)?;
     let original = [shard.as_slice()];
     let recovery = encode(alloc, 1, 1, original.iter().copied(), engine)?;
-    Ok(
-        recovery
-            .iter()
-            .all(|own| own.as_slice() == shard.as_slice()),
-    )
+    let nothing = original.iter().copied().enumerate().take(0);
+    let received = original.iter().copied().enumerate();
+    let restored = decode(alloc, 1, 1, nothing, received, engine)?;
+    let coded = recovery.iter().all(|own| own.as_slice() == shard.as_slice());
+    let first = restored.get(&0);
+    Ok(coded && first.is_some_and(|own| own.as_slice() == shard.as_slice()))
 }
 
-/// Makes an encoder and a decoder whose rows take more than 64 MiB: one row of the encoder, two of the decoder.
+/// Makes objects whose rows take more than 64 MiB, one row of an encoder or two of a decoder, and resets others to as many.
 pub fn makes_large_objects(alloc: Global, engine: DefaultEngine<'_>) -> Result<bool, Error> {
-    drop(ReedSolomonEncoder::new(alloc, 1, 1, (64 << 20) + 2, engine)?);
-    drop(ReedSolomonDecoder::new(alloc, 1, 1, (32 << 20) + 2, engine)?);
+    drop(ReedSolomonEncoder::new(alloc, 1, 1, LARGE, engine)?);
+    drop(ReedSolomonDecoder::new(alloc, 1, 1, LARGE / 2, engine)?);
+    let mut encoder = ReedSolomonEncoder::new(alloc, 1, 1, 2, engine)?;
+    encoder.reset(1, 1, LARGE)?;
+    drop(encoder);
+    let mut decoder = ReedSolomonDecoder::new(alloc, 1, 1, 2, engine)?;
+    decoder.reset(1, 1, LARGE / 2)?;
     Ok(true)
 }
 

@@ -121,8 +121,8 @@ fn decode_asks_for_all_but_the_last<A: Abort + AllocGlobal>(
     rt: &A,
     engine: DefaultEngine<'_>,
     original_count: usize,
-    originals: &[Option<Item<'_>>],
-    recoveries: &[Option<Item<'_>>],
+    originals: &'static [Option<Item<'static>>],
+    recoveries: &'static [Option<Item<'static>>],
 ) {
     let mut original = originals.iter().map_while(|place| *place);
     let mut recovery = recoveries.iter().map_while(|place| *place);

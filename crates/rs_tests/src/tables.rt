@@ -1,12 +1,13 @@
-//! Entries of the tables that are known by hand. Contracts say them of definitions that are as long as the code; and that
-//! memory suffices, nothing says.
+//! Entries of the tables that are known by hand: what the definitions of the contracts should come to. And that a copy of an
+//! entry finds memory, no contract says.
 use reed_solomon_simd::engine::tables::{
-    ExpLog, Mul16, Mul128, Skew, Tables, get_exp_log, get_mul16, get_mul128, get_skew, mul,
+    Tables, get_exp_log, get_mul16, get_mul128, get_skew, mul,
 };
 use std::process::Abort;
 use std::test::Fail;
 
-fn check_powers(rt: &impl Abort, t: &ExpLog) {
+fn check_powers(rt: &impl Abort, tables: &Tables) {
+    let t = get_exp_log(tables);
     assert_eq!(rt; [t.exp[0], t.exp[65535]], [1, 1]);
     assert_eq!(rt; [t.log[0], t.log[1]], [65535, 0]);
     assert_eq!(rt; u32::from(t.log[2]) + u32::from(t.log[3]), 65535);
@@ -26,24 +27,29 @@ fn check_powers(rt: &impl Abort, t: &ExpLog) {
     }
 }
 
-fn check_factors(rt: &impl Abort, skew: Skew<'_>, t: &ExpLog) {
+fn check_factors(rt: &impl Abort, tables: &Tables) {
+    let skew = get_skew(tables);
+    let t = get_exp_log(tables);
     assert_eq!(rt; [skew[0], skew[1], skew[3]], [65535, 65535, 65535]);
     assert_eq!(rt; [skew[2], skew[5]], [t.log[2], t.log[2]]);
     assert_eq!(rt; skew[4], t.log[4]);
 }
 
 // The products of 0 to 7 with 2 are 0, 2, 3, 1, 11, 9, 8 and 10.
-fn check_products(rt: &impl Abort, mul16: Mul16<'_>, mul128: Mul128<'_>, log_2: usize) {
+fn check_products(rt: &impl Abort, tables: &Tables) {
+    let log_2 = get_exp_log(tables).log[2] as usize;
+    let mul16 = get_mul16(tables);
     for (i, product) in [0, 2, 3, 1, 11, 9, 8, 10].into_iter().enumerate() {
         assert_eq!(rt; mul16[log_2][0][i], product);
     }
-    assert_eq!(rt; mul128[log_2].lo[0] % (1 << 64), 0x0A08_090B_0103_0200);
-    assert_eq!(rt; mul128[log_2].hi[0] % (1 << 64), 0);
+    let entry = &get_mul128(tables)[log_2];
+    assert_eq!(rt; entry.lo[0] % (1 << 64), 0x0A08_090B_0103_0200);
+    assert_eq!(rt; entry.hi[0] % (1 << 64), 0);
     for i in 0..16 {
         let word = i as u16;
-        let shifted = [word, word << 4, word << 8, word << 12];
+        let rows = [word, word << 4, word << 8, word << 12];
         for n in 0..4 {
-            assert_eq!(rt; mul16[65535][n][i], shifted[n]);
+            assert_eq!(rt; mul16[65535][n][i], rows[n], "{i} at {n}");
         }
     }
 }
@@ -51,17 +57,9 @@ fn check_products(rt: &impl Abort, mul16: Mul16<'_>, mul128: Mul128<'_>, log_2: 
 #[test]
 fn entries_by_hand(rt: HostRuntime) -> Result<(), Fail> {
     let tables = Tables::new(rt.alloc())?;
-    let t = get_exp_log(&tables);
-    check_powers(&rt, t);
-    check_factors(&rt, get_skew(&tables), t);
-    let (mul16, mul128) = (get_mul16(&tables), get_mul128(&tables));
-    check_products(&rt, mul16, mul128, usize::from(t.log[2]));
-    Ok(())
-}
-
-#[test]
-fn products_are_copied(rt: HostRuntime) -> Result<(), Fail> {
-    let tables = Tables::new(rt.alloc())?;
+    check_powers(&rt, &tables);
+    check_factors(&rt, &tables);
+    check_products(&rt, &tables);
     let own = &get_mul128(&tables)[2];
     let copy = own.clone()?;
     assert_eq!(rt; copy.lo, own.lo);
