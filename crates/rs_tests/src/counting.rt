@@ -18,12 +18,14 @@ struct Calls {
     eval_poly: u32,
 }
 
-const NONE: Calls = Calls {
-    fft: 0,
-    ifft: 0,
-    mul: 0,
-    eval_poly: 0,
-};
+fn made(fft: u32, ifft: u32, mul: u32, eval_poly: u32) -> Calls {
+    Calls {
+        fft,
+        ifft,
+        mul,
+        eval_poly,
+    }
+}
 
 /// The plain engine, which counts its calls.
 #[derive(Drop)]
@@ -36,7 +38,7 @@ impl<'t> Counting<'t> {
     fn new(tables: &'t Tables) -> Counting<'t> {
         Counting {
             naive: Naive::new(tables),
-            calls: Cell::new(NONE),
+            calls: Cell::new(made(0, 0, 0, 0)),
         }
     }
 }
@@ -115,59 +117,14 @@ fn an_encode_transforms_each_block_and_once_more(rt: HostRuntime) -> Result<(), 
     let low = calls_of_encode::<LowRate<Counting<'_>>>(alloc, &tables, &[[0, 0], [1, 0]], 3)?;
     let three = [[2, 0], [0, 0], [4, 0]];
     let high = calls_of_encode::<HighRate<Counting<'_>>>(alloc, &tables, &three, 2)?;
-    let (two, one) = (2, 1);
-    assert_eq!(rt;
-        low,
-        Calls {
-            fft: two,
-            ifft: one,
-            ..NONE
-        }
-    );
-    assert_eq!(rt;
-        high,
-        Calls {
-            fft: one,
-            ifft: two,
-            ..NONE
-        }
-    );
+    assert_eq!(rt; low, made(2, 1, 0, 0));
+    assert_eq!(rt; high, made(1, 2, 0, 0));
     Ok(())
 }
 
 type Item = (usize, [u8; 2]);
 
-// Shards that one message of four originals agrees with, and the calls of a decode of them, of which `mul` is called at most so
-// often: once for each given shard, and for each restored.
-static DECODES: [(&[Item], &[Item], Calls); 3] = [
-    (
-        &[(3, [3, 0]), (1, [0, 0])],
-        &[(2, [14, 0]), (0, [11, 0])],
-        Calls {
-            fft: 1,
-            ifft: 1,
-            mul: 6,
-            eval_poly: 1,
-        },
-    ),
-    (
-        &[(0, [0, 0]), (1, [0, 0]), (2, [2, 0]), (3, [3, 0])],
-        &[(0, [11, 0])],
-        Calls {
-            fft: 0,
-            ifft: 1,
-            mul: 5,
-            eval_poly: 1,
-        },
-    ),
-    (
-        &[(0, [0, 0]), (1, [0, 0]), (2, [2, 0]), (3, [3, 0])],
-        &[],
-        NONE,
-    ),
-];
-
-// The calls of a decode of these shards.
+// The calls of a decode of these shards, at four of each.
 fn calls_of_decode<'t, R: Rate<Counting<'t>>>(
     alloc: Global,
     tables: &'t Tables,
@@ -187,15 +144,23 @@ fn calls_of_decode<'t, R: Rate<Counting<'t>>>(
     Ok(engine.calls.get())
 }
 
+// The shards agree with one message of four originals. A decode calls `mul` at most once for each given shard, and for each that
+// is restored.
 fn counts_decodes<'t, R: Rate<Counting<'t>>, A: Abort + AllocGlobal>(
     rt: &A,
     tables: &'t Tables,
 ) -> Result<(), Fail> {
-    for (original, recovery, most) in DECODES {
-        let calls = calls_of_decode::<R>(rt.alloc(), tables, original, recovery)?;
-        assert!(rt; calls.mul <= most.mul, "{}", calls.mul);
+    let all = [(0, [0, 0]), (1, [0, 0]), (2, [2, 0]), (3, [3, 0])];
+    let recovery = [(2, [14, 0]), (0, [11, 0])];
+    for (original, recovery, most) in [
+        (&all[2..], &recovery[..], made(1, 1, 6, 1)),
+        (&all[..], &recovery[1..], made(0, 1, 5, 1)),
+        (&all[..], &recovery[2..], made(0, 0, 0, 0)),
+    ] {
+        let own = calls_of_decode::<R>(rt.alloc(), tables, original, recovery)?;
+        assert!(rt; own.mul <= most.mul, "{}", own.mul);
         let mul = most.mul;
-        assert_eq!(rt; Calls { mul, ..calls }, most);
+        assert_eq!(rt; Calls { mul, ..own }, most);
     }
     Ok(())
 }
