@@ -10,9 +10,9 @@ mod marks;
 mod objects;
 mod one_call;
 
-use coder::{Counts, Decoding, Encoding, ORIGINAL};
+use coder::{Decoding, Encoding, ORIGINAL};
 use marks::{mark_from_here, mark_until_here};
-use objects::{Scenario, passes};
+use objects::{Scenario, Stations, passes};
 use reed_solomon_simd::engine::tables::Tables;
 use reed_solomon_simd::engine::{DefaultEngine, Engine, EngineKind, Shuffle, WideShuffle};
 use reed_solomon_simd::rate::{DefaultRate, HighRate, LowRate};
@@ -46,42 +46,70 @@ static OTHERS: [(&str, &str); 9] = [
     ("enough", "large-objects"),
 ];
 
-// The counts of the message at the low rate and at the high one, with the size of its shards.
-const LOW: Counts = (2, 3, 2);
-
-const HIGH: Counts = (2, 2, 2);
-
-// Lives that stay at their rate, or pass to it.
-const TO_LOW: Scenario = Scenario::Life {
+// At the low rate, at the high rate, and at the default rate from the one to the other.
+const LOW: Stations = Stations {
+    own: (2, 3, 2),
     long: (2, 3, 4096),
     many: (4096, 61440, 2),
-    again: (4096, 61440, 66),
+    longest: (4096, 61440, 66),
 };
 
-const TO_HIGH: Scenario = Scenario::Life {
+const HIGH: Stations = Stations {
+    own: (2, 2, 2),
     long: (2, 2, 4096),
     many: (61440, 4096, 64),
-    again: (61440, 4096, 66),
+    longest: (61440, 4096, 66),
+};
+
+const TO_LOW: Stations = Stations {
+    own: (2, 2, 2),
+    ..LOW
+};
+
+const TO_HIGH: Stations = Stations {
+    own: (2, 3, 2),
+    ..HIGH
 };
 
 // Of an encoder or a decoder of a rate.
-fn of_rate<E: Engine>(alloc: Global, engine: E, name: &str, takes: bool) -> Result<bool, Error> {
-    let low = if takes { TO_LOW } else { Scenario::Rounds };
-    let high = if takes { TO_HIGH } else { Scenario::Rounds };
+fn of_rate<E: Engine>(
+    alloc: Global,
+    engine: E,
+    scenario: Scenario,
+    name: &str,
+) -> Result<bool, Error> {
     match name {
-        "low-encoder" => passes::<E, Encoding<E, LowRate<E>>>(alloc, engine, LOW, low),
-        "low-decoder" => passes::<E, Decoding<E, LowRate<E>>>(alloc, engine, LOW, low),
-        "high-encoder" => passes::<E, Encoding<E, HighRate<E>>>(alloc, engine, HIGH, high),
-        "high-decoder" => passes::<E, Decoding<E, HighRate<E>>>(alloc, engine, HIGH, high),
-        "default-encoder" => passes::<E, Encoding<E, DefaultRate<E>>>(alloc, engine, LOW, high),
-        "default-decoder" => passes::<E, Decoding<E, DefaultRate<E>>>(alloc, engine, LOW, high),
+        "low-encoder" => passes::<E, Encoding<E, LowRate<E>>>(alloc, engine, scenario, LOW),
+        "low-decoder" => passes::<E, Decoding<E, LowRate<E>>>(alloc, engine, scenario, LOW),
+        "high-encoder" => passes::<E, Encoding<E, HighRate<E>>>(alloc, engine, scenario, HIGH),
+        "high-decoder" => passes::<E, Decoding<E, HighRate<E>>>(alloc, engine, scenario, HIGH),
+        "default-encoder" => {
+            passes::<E, Encoding<E, DefaultRate<E>>>(alloc, engine, scenario, TO_HIGH)
+        }
+        "default-decoder" => {
+            passes::<E, Decoding<E, DefaultRate<E>>>(alloc, engine, scenario, TO_HIGH)
+        }
         "default-encoder-to-low" => {
-            passes::<E, Encoding<E, DefaultRate<E>>>(alloc, engine, HIGH, low)
+            passes::<E, Encoding<E, DefaultRate<E>>>(alloc, engine, scenario, TO_LOW)
         }
         "default-decoder-to-low" => {
-            passes::<E, Decoding<E, DefaultRate<E>>>(alloc, engine, HIGH, low)
+            passes::<E, Decoding<E, DefaultRate<E>>>(alloc, engine, scenario, TO_LOW)
         }
         _ => Ok(false),
+    }
+}
+
+// Of a plain object, or of one of a rate.
+fn of_object(
+    alloc: Global,
+    engine: DefaultEngine<'_>,
+    scenario: Scenario,
+    name: &str,
+) -> Result<bool, Error> {
+    match name {
+        "plain-encoder" => passes::<_, ReedSolomonEncoder<'_>>(alloc, engine, scenario, TO_HIGH),
+        "plain-decoder" => passes::<_, ReedSolomonDecoder<'_>>(alloc, engine, scenario, TO_HIGH),
+        _ => of_rate(alloc, engine, scenario, name),
     }
 }
 
@@ -90,20 +118,18 @@ fn takes(alloc: Global, engine: DefaultEngine<'_>, name: &str) -> Result<bool, E
     mark_from_here(alloc);
     match name {
         "tables" => one_call::makes_tables(alloc),
-        "plain-encoder" => passes::<_, ReedSolomonEncoder<'_>>(alloc, engine, LOW, TO_HIGH),
-        "plain-decoder" => passes::<_, ReedSolomonDecoder<'_>>(alloc, engine, LOW, TO_HIGH),
         "one-call-encode" => one_call::encodes(alloc, engine),
         "one-call-decode" => one_call::decodes(alloc, engine),
         "one-call-without-recovery" => one_call::misses_nothing(alloc, &ORIGINAL, engine),
-        _ => of_rate(alloc, engine, name, true),
+        _ => of_object(alloc, engine, Scenario::Life, name),
     }
 }
 
 // Rounds of an encoder and of a decoder over this engine.
 fn rounds<E: Engine + Copy>(alloc: Global, engine: E) -> Result<bool, Error> {
-    let encoded = of_rate(alloc, engine, "low-encoder", false)?;
+    let encoded = of_rate(alloc, engine, Scenario::Rounds, "low-encoder")?;
     mark_until_here(alloc);
-    let decoded = of_rate(alloc, engine, "low-decoder", false)?;
+    let decoded = of_rate(alloc, engine, Scenario::Rounds, "low-decoder")?;
     mark_until_here(alloc);
     Ok(encoded && decoded)
 }
@@ -119,20 +145,14 @@ fn rounds_of_each_engine(alloc: Global, tables: &Tables) -> Result<bool, Error> 
 
 // What takes no memory between the marks.
 fn without(alloc: Global, tables: &Tables, name: &str) -> Result<bool, Error> {
-    let naive = DefaultEngine::new(tables, EngineKind::Naive);
+    let engine = DefaultEngine::new(tables, EngineKind::Naive);
     match name {
-        "plain-encoder" => {
-            passes::<_, ReedSolomonEncoder<'_>>(alloc, naive, LOW, Scenario::Rounds)
-        }
-        "plain-decoder" => {
-            passes::<_, ReedSolomonDecoder<'_>>(alloc, naive, LOW, Scenario::Rounds)
-        }
         "engines" => rounds_of_each_engine(alloc, tables),
         "refusals" => {
             mark_from_here(alloc);
-            one_call::refuses(alloc, naive)
+            one_call::refuses(alloc, engine)
         }
-        _ => of_rate(alloc, naive, name, false),
+        _ => of_object(alloc, engine, Scenario::Rounds, name),
     }
 }
 

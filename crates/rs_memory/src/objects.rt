@@ -8,42 +8,57 @@ use std::alloc::Global;
 /// What is done until the second mark.
 #[derive(Clone, Copy)]
 pub enum Scenario {
-    /// The whole life of an object: it is made, reset to longer shards and to more of them, made again of its parts, and
-    /// let go. The first mark was set before.
-    Life {
-        long: Counts,
-        many: Counts,
-        again: Counts,
-    },
+    /// The whole life of an object. The first mark was set before.
+    Life,
     /// What takes no memory, behind the first mark: rounds, and resets and an object of the parts for which there is room.
     Rounds,
 }
 
-/// Whether an object of these counts goes through the scenario.
+/// The counts of an object's life: its own, those of two resets, and those of an object of its parts. Each takes more memory.
+#[derive(Clone, Copy)]
+pub struct Stations {
+    pub own: Counts,
+    pub long: Counts,
+    pub many: Counts,
+    pub longest: Counts,
+}
+
+/// Whether an object goes through the scenario.
 pub fn passes<E: Engine, C: Coder<E>>(
     alloc: Global,
     engine: E,
-    own: Counts,
     scenario: Scenario,
+    stations: Stations,
 ) -> Result<bool, Error> {
     match scenario {
-        Scenario::Life { long, many, again } => {
-            let mut coder = C::new(alloc, engine, own)?;
-            let reset = resets(&mut coder, own, long)? && resets(&mut coder, own, many)?;
-            let mut other = coder.again(alloc, again)?;
-            other.reset(own)?;
-            other.give()?;
-            Ok(reset && other.codes(own.1)?)
-        }
+        Scenario::Life => lives::<E, C>(alloc, engine, stations),
         Scenario::Rounds => {
-            let roomy = (own.0, own.1, 4096);
-            let mut coder = C::new(alloc, engine, roomy)?;
+            let (k, r, _) = stations.own;
+            let mut coder = C::new(alloc, engine, (k, r, ROOMY))?;
             mark_from_here(alloc);
-            let first = goes_on(&mut coder, own, roomy)?;
-            let mut other = coder.again(alloc, roomy)?;
-            Ok(first && goes_on(&mut other, own, roomy)?)
+            let first = goes_on(&mut coder, stations.own)?;
+            let mut other = coder.again(alloc, (k, r, ROOMY))?;
+            Ok(first && goes_on(&mut other, stations.own)?)
         }
     }
+}
+
+// The size that there is room for in `Rounds`.
+const ROOMY: usize = 4096;
+
+// The object is made, reset, made again of its parts, and let go.
+fn lives<E: Engine, C: Coder<E>>(
+    alloc: Global,
+    engine: E,
+    stations: Stations,
+) -> Result<bool, Error> {
+    let own = stations.own;
+    let mut coder = C::new(alloc, engine, own)?;
+    let reset = resets(&mut coder, own, stations.long)? && resets(&mut coder, own, stations.many)?;
+    let mut other = coder.again(alloc, stations.longest)?;
+    other.reset(own)?;
+    other.give()?;
+    Ok(reset && other.codes(own.1)?)
 }
 
 // A reset to other counts, and one back. Where the first is refused, whether the round that was begun goes on.
@@ -62,17 +77,13 @@ fn resets<E: Engine, C: Coder<E>>(
 }
 
 // A reset to a smaller size, two rounds, a reset to fewer shards, and one back to all the room.
-fn goes_on<E: Engine, C: Coder<E>>(
-    coder: &mut C,
-    own: Counts,
-    roomy: Counts,
-) -> Result<bool, Error> {
+fn goes_on<E: Engine, C: Coder<E>>(coder: &mut C, own: Counts) -> Result<bool, Error> {
     coder.reset(own)?;
     coder.give()?;
     let first = coder.codes(own.1)?;
     coder.give()?;
     let second = coder.codes(own.1)?;
-    coder.reset((1, 1, roomy.2))?;
-    coder.reset(roomy)?;
+    coder.reset((1, 1, ROOMY))?;
+    coder.reset((own.0, own.1, ROOMY))?;
     Ok(first && second)
 }
