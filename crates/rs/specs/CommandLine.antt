@@ -68,6 +68,11 @@ pub data Request : Type 0 where
   Coded : EngineKind → ℕ → ℕ → List Shard → Request
   Restored : EngineKind → ℕ → ℕ → GivenItems → Request
 
+-- the engine that a request asks for
+abbrev pub engine_asked : Request → EngineKind
+engine_asked (Coded engine k r shards) = engine
+engine_asked (Restored engine k r given) = engine
+
 -- the request of a command for this engine and these counts, with the words behind them
 abbrev pub request_for : List ℕ → EngineKind → ℕ → ℕ → List (List ℕ) → Option Request
 request_for command engine k r words =

@@ -50,6 +50,21 @@ pub enum Command {
     },
 }
 
+impl Command {
+    ghost use Rattle.std.specs.Prelude.{◌≡◌};
+    ghost use Rattle.rs.specs.CommandLine.{engine_asked};
+    ghost use Rattle.rs.specs.Reading.{as_request};
+
+    /// The engine that it asks for.
+    pub fn engine(&self) -> EngineKind
+        ensures { result ≡ engine_asked (as_request self.now) }
+    {
+        match self {
+            Command::Encode { engine, .. } | Command::Decode { engine, .. } => *engine,
+        }
+    }
+}
+
 // A word of a command line that asks for originals.
 #[derive(Drop)]
 enum Item {

@@ -30,33 +30,3 @@ pub fn line(alloc: Global, bytes: &[u8]) -> Result<String, Error>
     text.push_str("\n")?;
     Ok(text)
 }
-
-#[cfg(test)]
-mod tests {
-    use super::*;
-    use std::test::Fail;
-
-    #[test]
-    fn words_are_read(rt: HostRuntime) -> Result<(), Fail> {
-        let alloc = rt.alloc();
-        let bytes: [u8; 3] = [0x0a, 0xff, 0x90];
-        let read = word(alloc, "0aFf90")?;
-        assert!(rt; read.is_some_and(|b| b.as_slice() == bytes.as_slice()));
-        let none = word(alloc, "")?;
-        assert!(rt; none.is_some_and(|b| b.is_empty()));
-        for text in [
-            "0", "0aF", "0g", "g0", "/0", "0:", "@0", "0G", "`0", "+1", " 1", "0x", "\u{e9}",
-        ] {
-            assert!(rt; word(alloc, text)?.is_none(), "{text:?}");
-        }
-        Ok(())
-    }
-
-    #[test]
-    fn lines_are_written(rt: HostRuntime) -> Result<(), Fail> {
-        let alloc = rt.alloc();
-        assert_eq!(rt; line(alloc, &[0x0a, 0xff, 0x90])?.as_str(), "0aff90\n");
-        assert_eq!(rt; line(alloc, &[])?.as_str(), "\n");
-        Ok(())
-    }
-}

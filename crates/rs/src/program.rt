@@ -3,9 +3,10 @@ ghost use Rattle.std.specs.Prelude.{◌≡◌, ◌≤◌, ℕ, List, ◌⊎◌, 
 ghost use Rattle.std.specs.Io.KnownBytes.{Appends};
 ghost use Rattle.std.specs.String.{string_bytes};
 ghost use Rattle.reed_solomon_simd.specs.OneCall.{shards_in};
-ghost use Rattle.rs.specs.CommandLine.{request_of};
-ghost use Rattle.rs.specs.Reading.{as_given};
-ghost use Rattle.rs.specs.Printed.{lines_of, ListsShards, CodesLines, RestoresLines, OrLacksMemory, Prints, Refuses, HasFault};
+ghost use Rattle.reed_solomon_simd.specs.Kind.{kind_of};
+ghost use Rattle.rs.specs.CommandLine.{engine_asked, request_of};
+ghost use Rattle.rs.specs.Reading.{as_given, as_request};
+ghost use Rattle.rs.specs.Printed.{lines_of, ListsShards, CodesLines, RestoresLines, Answers, OrLacksMemory, Prints, Refuses, HasFault};
 ghost use Rattle.rs.specs.Told.{message_of, AppendsFront, CutShort};
 ghost use Rattle.rs.specs.declared.fault.Fault.TheVariants.{Usage, Refused};
 
@@ -85,6 +86,21 @@ fn restored_lines(
     indexed_lines(alloc, &restored)
 }
 
+// The lines that answer a command, made by the engine that it asks for.
+fn lines_for(alloc: Global, command: &Command, engine: DefaultEngine<'_>) -> Result<String, Error>
+    requires engine { kind_of engine ≡ engine_asked (as_request command.now) }
+    ensures { OrLacksMemory (Answers (as_request command.now)) result }
+{
+    match command {
+        Command::Encode {
+            counts,
+            original,
+            ..
+        } => coded_lines(alloc, *counts, original, engine),
+        Command::Decode { counts, given, .. } => restored_lines(alloc, *counts, given, engine),
+    }
+}
+
 // The lines that the words ask for.
 fn answer(alloc: Global, words: &[String]) -> Result<String, Fault>
     ensures begun { request_of (take 4 (map string_bytes words.now)) ≡ None → result ≡ Err Usage }
@@ -93,24 +109,8 @@ fn answer(alloc: Global, words: &[String]) -> Result<String, Fault>
 {
     let command = read_command(alloc, words)?;
     let tables = Tables::new(alloc)?;
-    match command {
-        Command::Encode {
-            engine,
-            counts,
-            original,
-        } => {
-            let engine = DefaultEngine::new(&tables, engine);
-            Ok(coded_lines(alloc, counts, &original, engine)?)
-        }
-        Command::Decode {
-            engine,
-            counts,
-            given,
-        } => {
-            let engine = DefaultEngine::new(&tables, engine);
-            Ok(restored_lines(alloc, counts, &given, engine)?)
-        }
-    }
+    let engine = DefaultEngine::new(&tables, command.engine());
+    Ok(lines_for(alloc, &command, engine)?)
 }
 
 /// Does what the words ask, and answers the status.
@@ -143,6 +143,3 @@ pub fn run<O: Write, X: Write>(alloc: Global, words: &[String], out: &mut O, err
         }
     }
 }
-
-#[cfg(test)]
-mod tests;

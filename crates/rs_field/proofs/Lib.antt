@@ -24,6 +24,8 @@ pub mod Runs
 pub mod FourRuns
 pub mod RowOffsets
 pub mod Pairs
+pub mod LentRows
+pub mod LentFourRows
 pub mod Fours
 pub mod LayoutLemmas
 pub mod ZeroColumns

@@ -11,6 +11,7 @@ mod high_encoding;
 mod low_encoding;
 mod marks;
 mod memory;
+pub mod names;
 mod restoring;
 pub mod rounds;
 mod shard_rows;

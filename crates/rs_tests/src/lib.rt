@@ -8,6 +8,8 @@ mod counting;
 #[cfg(test)]
 mod largest;
 #[cfg(test)]
+mod levels;
+#[cfg(test)]
 mod locators;
 #[cfg(test)]
 mod tables;

@@ -1,11 +1,16 @@
-use Rattle.std.proofs.Common.{arith}
+use Rattle.std.proofs.Common.{◌≡◌, ◌+◌, ◌*◌, arith}
 use Rattle.rs_field.proofs.Fours.{fours_next}
 use Rattle.rs_field.proofs.engine.fours.step_fours.Goals as goal
 
 pub loop-i-preserved : goal.loop-i-preserved
-loop-i-preserved g c = record {
-  done =
-      fours_next (g.F.FourStep.related c.args.step.now) c.args.pos c.args.quarter c.loop-i.i c.args.rows.now c.loop-i.rows c.step_rows.new.rows
-      c.loop-i-test.true c.loop-i.invariant.done c.step_rows.ensures.shape c.step_rows.ensures.fours c.step_rows.ensures.others;
-  counts = (omega arith, omega arith, omega arith);
-}
+loop-i-preserved g c =
+    let pos = c.args.pos in let quarter = c.args.quarter in let i = c.loop-i.i in
+    let second : pos + i + quarter ≡ pos + quarter + i = omega arith in
+    let third : pos + i + 2 * quarter ≡ pos + 2 * quarter + i = omega arith in
+    let fourth : pos + i + 3 * quarter ≡ pos + 3 * quarter + i = omega arith in
+    record {
+      done =
+          fours_next (g.F.FourStep.related c.args.step.now) pos quarter i c.args.rows.now c.loop-i.rows c.step_rows.new.rows
+          c.loop-i-test.true c.loop-i.invariant.done c.step_rows.ensures.shape (rw (second, third, fourth) at c.step_rows.ensures.fours) (rw (second, third, fourth) at c.step_rows.ensures.others);
+      counts = (omega arith, omega arith, omega arith);
+    }

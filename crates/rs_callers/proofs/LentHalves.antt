@@ -1,0 +1,79 @@
+-- What stands where in a list of which each part after a split was written to.
+use Rattle.std.proofs.Common.{◌≡◌, ℕ, ◌+◌, ◌-◌, ◌*◌, ◌<◌, ◌≤◌, [], ◌++◌, length, take, drop, sym, ap, ap₂, ◌∙◌, refl, arith}
+use Rattle.std.proofs.lemmas.List.{append_assoc, take-append-drop, drop-take, drop-append-le, length-take-le, length-drop}
+use lib.Seq.{drop-drop}
+use Rattle.rs_field.specs.Rows.{Chunks}
+use Rattle.rs_field.specs.View.{Fits, HasRows}
+use Rattle.rs_field.specs.Lending.{between, with_two}
+use Rattle.rs_field.specs.declared.engine.shards.ShardsRefMut.{ShardsRefMut}
+use Rattle.rs_callers.specs.RowsBut.{HasFirstRow}
+use Rattle.rs_field.proofs.LentRows.{part-long, ends}
+
+-- the rows of a part fit its chunks
+pub fits-part : (h : ShardsRefMut) (i m : ℕ) (r : ShardsRefMut) → i * h.shard_len_64 + m * h.shard_len_64 ≤ length h.chunks.now → HasRows h i m r → Fits r
+fits-part h i m r within is =
+    let size = ap₂ (λ u v. u * v) is.count is.len_64 in
+    let long = ap length is.chunks ∙ part-long h.chunks.now (i * h.shard_len_64) (m * h.shard_len_64) within in
+    omega (arith, size, long)
+
+-- what is left of a list after n elements, up to m and from there on
+left-over : (xs : Chunks) (n m : ℕ) → n ≤ m → m ≤ length xs → drop n (take m xs) ++ drop m xs ≡ drop n xs
+left-over xs n m short within =
+    let long = length-take-le m xs within in
+    sym (drop-append-le n (take m xs) (drop m xs) (omega (arith, short, long))) ∙ ap (drop n) (take-append-drop m xs)
+
+joined-parts : (ch first second : Chunks) (a n m : ℕ) → n ≤ a → n ≤ m → a + m ≤ length ch
+    → with_two ch 0 a a m (first ++ drop n (take a ch)) (second ++ drop n (take m (drop a ch))) ≡ with_two ch 0 n a n first second
+joined-parts ch first second a n m short₁ short₂ within =
+    ap₂ (λ u v. u ++ v) {x = take 0 ch} refl
+    (append_assoc first (drop n (take a ch)) (between (0 + a) a ch ++ _) ∙ ap (λ l. first ++ l) (ap₂ (λ u v. u ++ v) gap (ap₂ (λ u v. u ++ v) none last)))
+  where
+    none : between (0 + a) a ch ≡ []
+    none = let e : a - (0 + a) ≡ 0 = omega arith in ap (λ k. take k (drop (0 + a) ch)) e
+
+    gap : drop n (take a ch) ≡ between (0 + n) a ch
+    gap =
+        let e : a ≡ n + (a - n) = omega (arith, short₁) in
+        let f : n ≡ 0 + n = omega arith in
+        ap (λ k. drop n (take k ch)) e ∙ drop-take n (a - n) ch ∙ ap (λ k. take (a - k) (drop k ch)) f
+
+    last : (second ++ drop n (take m (drop a ch))) ++ drop (a + m) ch ≡ second ++ drop (a + n) ch
+    last =
+        let inner : m ≤ length (drop a ch) = let long = length-drop a ch in omega (arith, long, within) in
+        append_assoc second (drop n (take m (drop a ch))) (drop (a + m) ch)
+        ∙ ap (λ l. second ++ l) (ap (λ l. drop n (take m (drop a ch)) ++ l) (sym (drop-drop m a ch)) ∙ left-over (drop a ch) n m short₂ inner ∙ drop-drop n a ch)
+
+pub parted : (m r c n : ℕ) → m + r ≡ c → m * n + r * n ≡ c * n
+parted m r c n e = let products : (m + r) * n ≡ c * n = ap (λ k. k * n) e in omega (arith, products)
+
+-- what becomes of the list, if the first row of each of the two parts after a split became another
+module _ (h : ShardsRefMut) (mid : ℕ) (first second : Chunks) (x y x' y' : ShardsRefMut) (fits : h.shard_count * h.shard_len_64 ≤ length h.chunks.now) (some : 0 < mid)
+    (within : mid < h.shard_count) (front : HasRows h 0 mid x) (back : HasRows h mid (h.shard_count - mid) y) (is₁ : HasFirstRow x first x') (is₂ : HasFirstRow y second y') where
+  abbrev n : ℕ
+  n = h.shard_len_64
+
+  abbrev rest : ℕ
+  rest = h.shard_count - mid
+
+  abbrev ch : Chunks
+  ch = h.chunks.now
+
+  zero-rows : 0 * n ≡ 0
+  zero-rows = omega arith
+
+  first-part : x'.chunks.now ≡ first ++ drop n (take (mid * n) ch)
+  first-part = is₁.chunks ∙ ap₂ (λ k l. first ++ drop k l) front.len_64 (front.chunks ∙ ap (λ k. take (mid * n) (drop k ch)) zero-rows)
+
+  second-part : y'.chunks.now ≡ second ++ drop n (take (rest * n) (drop (mid * n) ch))
+  second-part = is₂.chunks ∙ ap₂ (λ k l. second ++ drop k l) back.len_64 back.chunks
+
+  pub split-written : with_two ch 0 (mid * n) (mid * n) (rest * n) x'.chunks.now y'.chunks.now ≡ with_two ch (0 * n) n ((0 + mid) * n) n first second
+  split-written =
+      let whole : mid + rest ≡ h.shard_count = omega (arith, within) in
+      let parts = parted mid rest h.shard_count n whole in
+      let short₁ = ends n 0 mid some in
+      let short₂ = ends n 0 rest (omega (arith, within)) in
+      let e : mid ≡ 0 + mid = omega arith in
+      ap₂ (λ u v. with_two ch 0 (mid * n) (mid * n) (rest * n) u v) first-part second-part
+      ∙ joined-parts ch first second (mid * n) n (rest * n) (omega (arith, short₁)) (omega (arith, short₂)) (omega (arith, parts, fits))
+      ∙ ap₂ (λ i j. with_two ch i n j n first second) (sym zero-rows) (ap (λ k. k * n) e)

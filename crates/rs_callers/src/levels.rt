@@ -1,0 +1,78 @@
+//! The three levels of use, each losing two shards of one message and restoring them: a call, objects, and objects of a
+//! rate and an engine of the caller's choice. The documents quote them, and tests run them: each answers whether just
+//! what was lost came back.
+use reed_solomon_simd::engine::tables::Tables;
+use reed_solomon_simd::engine::{DefaultEngine, EngineKind, Shuffle, Steps};
+use reed_solomon_simd::rate::{HighRateDecoder, HighRateEncoder, RateDecoder, RateEncoder};
+use reed_solomon_simd::{DecoderResult, Error, ReedSolomonDecoder, ReedSolomonEncoder};
+use std::alloc::Global;
+
+const ORIGINAL: [&[u8]; 3] = [b"Three shards", b" of one size", b" are coded. "];
+
+/// By the one-call functions. `OutOfMemory` where no memory is found.
+pub fn in_one_call(alloc: Global) -> Result<bool, Error> {
+    let tables = Tables::new(alloc)?;
+    let engine = DefaultEngine::new(&tables, EngineKind::Naive);
+    let recovery = reed_solomon_simd::encode(alloc, 3, 2, ORIGINAL.into_iter(), engine)?;
+
+    // Originals 0 and 2 are lost. Any three shards are enough.
+    let received = recovery.iter().map(|shard| shard.as_slice()).enumerate();
+    let original = [(1, ORIGINAL[1])].into_iter();
+    let restored = reed_solomon_simd::decode(alloc, 3, 2, original, received, engine)?;
+
+    let first = restored
+        .get(&0)
+        .is_some_and(|shard| shard.as_slice() == ORIGINAL[0]);
+    let last = restored
+        .get(&2)
+        .is_some_and(|shard| shard.as_slice() == ORIGINAL[2]);
+    Ok(restored.len() == 2 && first && last)
+}
+
+/// By objects. `OutOfMemory` where no memory is found.
+pub fn with_objects(alloc: Global) -> Result<bool, Error> {
+    let tables = Tables::new(alloc)?;
+    let engine = DefaultEngine::new(&tables, EngineKind::Naive);
+    let mut encoder = ReedSolomonEncoder::new(alloc, 3, 2, 12, engine)?;
+    for shard in ORIGINAL {
+        encoder.add_original_shard(shard)?;
+    }
+    let recovery = encoder.encode()?;
+
+    let mut decoder = ReedSolomonDecoder::new(alloc, 3, 2, 12, engine)?;
+    decoder.add_original_shard(1, ORIGINAL[1])?;
+    for (index, shard) in recovery.recovery_iter().enumerate() {
+        decoder.add_recovery_shard(index, shard)?;
+    }
+    let restored = decoder.decode()?;
+
+    Ok(are_restored(&restored))
+}
+
+/// By objects of a rate and an engine. `OutOfMemory` where no memory is found.
+pub fn with_a_rate_and_an_engine(alloc: Global) -> Result<bool, Error> {
+    let tables = Tables::new(alloc)?;
+    let engine = Shuffle::new(&tables);
+    let mut steps = Steps::new();
+    let mut encoder = HighRateEncoder::new(alloc, 3, 2, 12, engine, None)?;
+    for shard in ORIGINAL {
+        encoder.add_original_shard(shard)?;
+    }
+    let recovery = encoder.encode(&mut steps)?;
+
+    let mut decoder = HighRateDecoder::new(alloc, 3, 2, 12, engine, None)?;
+    decoder.add_original_shard(1, ORIGINAL[1])?;
+    for (index, shard) in recovery.recovery_iter().enumerate() {
+        decoder.add_recovery_shard(index, shard)?;
+    }
+    let restored = decoder.decode(&mut steps)?;
+
+    Ok(are_restored(&restored))
+}
+
+// Whether originals 0 and 2, and no others, are restored.
+fn are_restored(restored: &DecoderResult<'_>) -> bool {
+    let first = restored.restored_original(0) == Some(ORIGINAL[0]);
+    let last = restored.restored_original(2) == Some(ORIGINAL[2]);
+    restored.restored_original_iter().len() == 2 && first && last
+}

@@ -1,0 +1,204 @@
+//! Every public path of the library, each used at its type: where a name stood for another item, this file would not
+//! compile or not be proved.
+ghost use Rattle.std.specs.Prelude.{◌≡◌, ◌<◌, ◌≤◌, ◌⊎◌, ◌+◌, length};
+ghost use Rattle.reed_solomon_simd.specs.Counts.{low_rate, high_rate, default_rate};
+ghost use Rattle.reed_solomon_simd.specs.Field.{product, power};
+ghost use Rattle.reed_solomon_simd.specs.Kind.{kind_of};
+ghost use Rattle.rs_field.specs.Products.{IsMul16, IsMul128};
+ghost use Rattle.reed_solomon_simd.specs.Tables.{IsExpLog, IsLogWalsh, IsSkew};
+ghost use Rattle.reed_solomon_simd.specs.View.{Fits};
+
+use reed_solomon_simd::engine::tables::{
+    Exp, ExpLog, Log, LogWalsh, Mul16, Mul128, Multiply128lutT, Skew, Tables, get_exp_log,
+    get_log_walsh, get_mul16, get_mul128, get_skew, mul,
+};
+use reed_solomon_simd::engine::utils::{eval_poly, xor, xor_within};
+use reed_solomon_simd::engine::{
+    Avx2, CANTOR_BASIS, DefaultEngine, Engine, EngineKind, GF_BITS, GF_MODULUS, GF_ORDER,
+    GF_POLYNOMIAL, GfElement, Naive, NoSimd, ShardsRefMut, Shuffle, Ssse3, Steps, WideShuffle,
+};
+use reed_solomon_simd::rate::{
+    DecoderWork, DefaultRate, DefaultRateDecoder, DefaultRateEncoder, EncoderWork, HighRate,
+    HighRateDecoder, HighRateEncoder, LowRate, LowRateDecoder, LowRateEncoder, Rate, RateDecoder,
+    RateEncoder,
+};
+use reed_solomon_simd::{
+    DecoderResult, EncoderResult, Error, Recovery, ReedSolomonDecoder, ReedSolomonEncoder,
+    RestoredOriginal, decode, encode,
+};
+use std::alloc::Global;
+use std::collections::BTreeMap;
+
+/// The constants of the field: bits, elements, modulus, polynomial, and the first of the basis.
+pub fn constants() -> (usize, usize, GfElement, usize, GfElement)
+    ensures { result ≡ (16, 65536, 65535, 0x1002D, 1) }
+{
+    (
+        GF_BITS,
+        GF_ORDER,
+        GF_MODULUS,
+        GF_POLYNOMIAL,
+        CANTOR_BASIS[0],
+    )
+}
+
+/// The powers of the generator and the logarithms.
+pub fn exp_log(tables: &Tables) -> &ExpLog
+    ensures { IsExpLog result.now.exp.items result.now.log.items }
+{
+    get_exp_log(tables)
+}
+
+/// The factors of butterflies.
+pub fn skew(tables: &Tables) -> Skew<'_>
+    ensures { IsSkew result.now }
+{
+    get_skew(tables)
+}
+
+/// The transform of the logarithms.
+pub fn log_walsh(tables: &Tables) -> LogWalsh<'_>
+    ensures { IsLogWalsh result.now }
+{
+    get_log_walsh(tables)
+}
+
+/// The products by nibbles, as words.
+pub fn mul16(tables: &Tables) -> Mul16<'_>
+    ensures { IsMul16 result.now }
+{
+    get_mul16(tables)
+}
+
+/// The products by nibbles, as bytes.
+pub fn mul128(tables: &Tables) -> Mul128<'_>
+    ensures { IsMul128 result.now }
+{
+    get_mul128(tables)
+}
+
+/// The numbers of an entry of the products, as bytes.
+pub fn numbers(entry: &Multiply128lutT) -> ([u128; 4], [u128; 4]) {
+    (entry.lo, entry.hi)
+}
+
+/// The product with a power of the generator.
+pub fn times(x: GfElement, log_m: GfElement, exp: Exp<'_>, log: Log<'_>) -> GfElement
+    requires { IsExpLog exp.now log.now }
+    ensures { result ≡ product x (power log_m) }
+{
+    mul(x, log_m, exp, log)
+}
+
+/// Adds the chunks of a second list to those of a first.
+pub fn add_chunks(first: &mut [[u8; 64]], second: &[[u8; 64]])
+    requires { length first.old ≡ length second.now }
+{
+    xor(first, second);
+}
+
+/// The first of two rows becomes the sum of both.
+pub fn add_rows(steps: &mut Steps, chunks: &mut [[u8; 64]; 2]) {
+    let mut rows = ShardsRefMut::new(2, 1, chunks);
+    xor_within(steps, &mut rows, 0, 1, 1);
+}
+
+/// The locator of no point.
+pub fn locator_of_nothing(steps: &mut Steps, entries: &mut [GfElement; GF_ORDER], tables: &Tables) {
+    entries.fill(0);
+    eval_poly(steps, entries, 0, get_log_walsh(tables));
+}
+
+/// The plain engine as one that is chosen by name.
+pub fn naive(engine: Naive<'_>) -> DefaultEngine<'_>
+    ensures { kind_of result ≡ EngineKind.Naive }
+{
+    DefaultEngine::Naive(engine)
+}
+
+/// The engine by products of nibbles as one that is chosen by name.
+pub fn no_simd(engine: NoSimd<'_>) -> DefaultEngine<'_>
+    ensures { kind_of result ≡ EngineKind.NoSimd }
+{
+    DefaultEngine::NoSimd(engine)
+}
+
+/// The engine of 32 byte lanes as one that is chosen by name.
+pub fn avx2(engine: Avx2<'_>) -> DefaultEngine<'_>
+    ensures { kind_of result ≡ EngineKind.Avx2 }
+{
+    DefaultEngine::Avx2(engine)
+}
+
+/// The engine of 16 byte lanes as one that is chosen by name.
+pub fn ssse3(engine: Ssse3<'_>) -> DefaultEngine<'_>
+    ensures { kind_of result ≡ EngineKind.Ssse3 }
+{
+    DefaultEngine::Ssse3(engine)
+}
+
+/// The engines by shuffles.
+pub fn by_shuffles(tables: &Tables) -> (Shuffle<'_>, WideShuffle<'_>) {
+    (Shuffle::new(tables), WideShuffle::new(tables))
+}
+
+/// The engine of a kind.
+pub fn engine_of_kind(tables: &Tables, kind: EngineKind) -> DefaultEngine<'_>
+    ensures { kind_of result ≡ kind }
+{
+    DefaultEngine::new(tables, kind)
+}
+
+/// Working spaces that hold nothing yet.
+pub fn works() -> (EncoderWork, DecoderWork) {
+    (EncoderWork::new(), DecoderWork::new())
+}
+
+/// What is named low is of the low rate.
+pub fn low_names<E: Engine>()
+    ensures rate { ⟦<LowRate<E> as Rate<E>>⟧.rate ≡ low_rate }
+    ensures encoder { ⟦<LowRateEncoder<E> as RateEncoder<E>>⟧.rate ≡ low_rate }
+    ensures decoder { ⟦<LowRateDecoder<E> as RateDecoder<E>>⟧.rate ≡ low_rate }
+{}
+
+/// What is named high is of the high rate.
+pub fn high_names<E: Engine>()
+    ensures rate { ⟦<HighRate<E> as Rate<E>>⟧.rate ≡ high_rate }
+    ensures encoder { ⟦<HighRateEncoder<E> as RateEncoder<E>>⟧.rate ≡ high_rate }
+    ensures decoder { ⟦<HighRateDecoder<E> as RateDecoder<E>>⟧.rate ≡ high_rate }
+{}
+
+/// What is named default is of the default rate.
+pub fn default_names<E: Engine>()
+    ensures rate { ⟦<DefaultRate<E> as Rate<E>>⟧.rate ≡ default_rate }
+    ensures encoder { ⟦<DefaultRateEncoder<E> as RateEncoder<E>>⟧.rate ≡ default_rate }
+    ensures decoder { ⟦<DefaultRateDecoder<E> as RateDecoder<E>>⟧.rate ≡ default_rate }
+{}
+
+/// The first shards of the results of plain objects.
+pub fn first_shards<'a>(
+    encoded: &'a EncoderResult<'_>,
+    decoded: &'a DecoderResult<'_>,
+) -> (Option<&'a [u8]>, Option<(usize, &'a [u8])>) {
+    let mut recovery: Recovery<'a> = encoded.recovery_iter();
+    let mut restored: RestoredOriginal<'a> = decoded.restored_original_iter();
+    (recovery.next(), restored.next())
+}
+
+/// The supported counts of the plain objects.
+pub fn both_support(original_count: usize, recovery_count: usize) -> bool {
+    ReedSolomonEncoder::supports(original_count, recovery_count)
+        && ReedSolomonDecoder::supports(original_count, recovery_count)
+}
+
+/// A shard beside its copy in recovery: coded and decoded in one call each.
+pub fn one_shard(
+    alloc: Global,
+    shard: &[u8],
+    engine: DefaultEngine<'_>,
+) -> Result<(Vec<Vec<u8>>, BTreeMap<usize, Vec<u8>>), Error> {
+    let recovery = encode(alloc, 1, 1, [shard].into_iter(), engine)?;
+    let given = [(0, shard)];
+    let restored = decode(alloc, 1, 1, given.into_iter(), [].into_iter(), engine)?;
+    Ok((recovery, restored))
+}

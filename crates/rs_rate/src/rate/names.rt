@@ -1,0 +1,33 @@
+//! What the names of the rates and of their objects stand for: laws, carried by functions that do nothing.
+ghost use Rattle.std.specs.Prelude.{◌≡◌};
+ghost use Rattle.rs_field.specs.Counts.{low_rate, high_rate, default_rate};
+
+use crate::rate::{
+    DefaultRate, DefaultRateDecoder, DefaultRateEncoder, HighRate, HighRateDecoder,
+    HighRateEncoder, LowRate, LowRateDecoder, LowRateEncoder, Rate, RateDecoder, RateEncoder,
+};
+use rs_field::engine::Engine;
+
+/// What is named low is of the low rate.
+pub fn low_names<E: Engine>()
+    ensures rate { ⟦<LowRate<E> as Rate<E>>⟧.rate ≡ low_rate }
+    ensures encoder { ⟦<LowRateEncoder<E> as RateEncoder<E>>⟧.rate ≡ low_rate }
+    ensures decoder { ⟦<LowRateDecoder<E> as RateDecoder<E>>⟧.rate ≡ low_rate }
+{
+}
+
+/// What is named high is of the high rate.
+pub fn high_names<E: Engine>()
+    ensures rate { ⟦<HighRate<E> as Rate<E>>⟧.rate ≡ high_rate }
+    ensures encoder { ⟦<HighRateEncoder<E> as RateEncoder<E>>⟧.rate ≡ high_rate }
+    ensures decoder { ⟦<HighRateDecoder<E> as RateDecoder<E>>⟧.rate ≡ high_rate }
+{
+}
+
+/// What is named default is of the default rate.
+pub fn default_names<E: Engine>()
+    ensures rate { ⟦<DefaultRate<E> as Rate<E>>⟧.rate ≡ default_rate }
+    ensures encoder { ⟦<DefaultRateEncoder<E> as RateEncoder<E>>⟧.rate ≡ default_rate }
+    ensures decoder { ⟦<DefaultRateDecoder<E> as RateDecoder<E>>⟧.rate ≡ default_rate }
+{
+}
