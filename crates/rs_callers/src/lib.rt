@@ -2,41 +2,9 @@
 #![tactic(auto)]
 
 pub mod callers;
-#[cfg(test)]
-mod choice;
-#[cfg(test)]
-mod counting;
-#[cfg(test)]
-mod decoding;
-#[cfg(test)]
-mod digests;
-#[cfg(test)]
-mod encoding;
-#[cfg(test)]
-mod help;
-#[cfg(test)]
-mod largest;
 pub mod lent_rows;
 pub mod levels;
-#[cfg(test)]
-mod marks;
-#[cfg(test)]
-mod objects;
 pub mod one_call;
-#[cfg(test)]
-mod one_call_rows;
 pub mod plain_callers;
-#[cfg(test)]
-mod refusals;
-#[cfg(test)]
-mod refused_memory;
-#[cfg(test)]
-mod resets;
-#[cfg(test)]
-mod row_engine;
-#[cfg(test)]
-mod rows;
 pub mod surface;
 pub mod walking;
-#[cfg(test)]
-mod without_memory;

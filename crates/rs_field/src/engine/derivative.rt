@@ -46,35 +46,3 @@ fn derivative_step(steps: &mut Steps, data: &mut ShardsRefMut<'_>, pos: usize, s
         derivative_step(steps, data, pos + half, half);
     }
 }
-
-#[cfg(test)]
-mod tests {
-    use super::*;
-
-    // What the rows are by Leopard-RS's loop: for i = 1, 2, .. and w the lowest set bit of i, rows i to i + w - 1 are
-    // XORed into rows i - w to i - 1.
-    #[test]
-    fn the_derivative_adds_rows(rt: HostRuntime) {
-        let mut steps = Steps::new();
-        let mut four = [[0x01; 64], [0x02; 64], [0x04; 64], [0x08; 64]];
-        let mut rows = ShardsRefMut::new(4, 1, &mut four);
-        formal_derivative(&mut steps, &mut rows);
-        // 0 ^= 1; 0 ^= 2, 1 ^= 3; 2 ^= 3
-        assert_eq!(rt; four, [[0x07; 64], [0x0A; 64], [0x0C; 64], [0x08; 64]]);
-
-        let mut eight = [
-            [0x01; 64], [0x02; 64], [0x04; 64], [0x08; 64], [0x10; 64], [0x20; 64], [0x40; 64],
-            [0x80; 64],
-        ];
-        let mut rows = ShardsRefMut::new(8, 1, &mut eight);
-        formal_derivative(&mut steps, &mut rows);
-        // 0 ^= 1; 0 ^= 2, 1 ^= 3; 2 ^= 3; 0 ^= 4, 1 ^= 5, 2 ^= 6, 3 ^= 7; 4 ^= 5; 4 ^= 6, 5 ^= 7; 6 ^= 7
-        assert_eq!(rt;
-            eight,
-            [
-                [0x17; 64], [0x2A; 64], [0x4C; 64], [0x88; 64], [0x70; 64], [0xA0; 64], [0xC0; 64],
-                [0x80; 64],
-            ]
-        );
-    }
-}

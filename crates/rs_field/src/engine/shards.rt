@@ -3,7 +3,7 @@ ghost use Rattle.std.specs.Prelude.{◌≡◌, ℕ, ◌+◌, ◌-◌, ◌*◌, �
 ghost use Rattle.std.specs.Borrow.{sem};
 ghost use Rattle.rs_field.specs.Rows.{chunk, SameOutside};
 ghost use Rattle.rs_field.specs.View.{row_at, Fits, SameShape, SameRowsOutside, AreZero, HasRows, IsListOf};
-ghost use Rattle.rs_field.specs.Lending.{LendsAll, LendsPart, LendsRow, LendsTwoParts, LendsTwoRows, LendsFourParts, LendsFourRows, LendsHalves, with_part};
+ghost use Rattle.rs_field.specs.Lending.{LendsAll, LendsPart, LendsRow, LendsTwoParts, LendsTwoRows, LendsFourParts, LendsFourRows, LendsHalves};
 
 use std::cell::UnsafeCell;
 use std::ops::Range;
@@ -252,128 +252,5 @@ fn zero_part(chunks: &mut [[u8; 64]], start: usize, end: usize)
 {
     for i in start..end {
         chunks[i] = [0; 64];
-    }
-}
-
-#[cfg(test)]
-mod tests {
-    use super::*;
-
-    // The whole list is known after a row was written.
-    fn fill_row(rows: &mut ShardsRefMut<'_>, index: usize, row: &[[u8; 64]])
-        requires fits { Fits rows.old }
-        requires within { index < rows.old.shard_count }
-        requires same { length row.now ≡ rows.old.shard_len_64 }
-        ensures name { rows.new.chunks.ghost_name ≡ rows.old.chunks.ghost_name }
-        ensures written { rows.new.chunks.now ≡ with_part rows.old.chunks.now (index * rows.old.shard_len_64) rows.old.shard_len_64 row.now }
-    {
-        let lent = rows.row_mut(index);
-        lent.copy_from_slice(row);
-    }
-
-    // So is the slice behind the list, once the list is gone.
-    fn fill_row_over(
-        chunks: &mut [[u8; 64]],
-        count: usize,
-        len: usize,
-        index: usize,
-        row: &[[u8; 64]],
-    )
-        requires fits { count * len ≤ length chunks.old }
-        requires within { index < count }
-        requires same { length row.now ≡ len }
-        ensures { chunks.new ≡ with_part chunks.old (index * len) len row.now }
-    {
-        let mut rows = ShardsRefMut::new(count, len, chunks);
-        fill_row(&mut rows, index, row);
-    }
-
-    #[test]
-    fn a_row_that_is_written_stands(rt: HostRuntime) {
-        let mut chunks = [[1; 64], [2; 64], [3; 64], [4; 64], [5; 64]];
-        fill_row_over(&mut chunks, 2, 2, 1, &[[8; 64], [9; 64]]);
-        assert_eq!(rt; chunks, [[1; 64], [2; 64], [8; 64], [9; 64], [5; 64]]);
-    }
-
-    #[test]
-    fn two_rows_that_are_written_stand(rt: HostRuntime) {
-        let mut chunks = [[1; 64], [2; 64], [3; 64], [4; 64], [5; 64]];
-        let mut rows = ShardsRefMut::new(4, 1, &mut chunks);
-        let (first, second) = rows.dist2_mut(1, 2);
-        first.copy_from_slice(&[[8; 64]]);
-        second.copy_from_slice(&[[9; 64]]);
-        assert_eq!(rt; chunks, [[1; 64], [8; 64], [3; 64], [9; 64], [5; 64]]);
-    }
-
-    #[test]
-    fn a_third_of_four_rows_that_is_written_stands(rt: HostRuntime) {
-        let mut chunks = [[1; 64], [2; 64], [3; 64], [4; 64]];
-        let mut rows = ShardsRefMut::new(4, 1, &mut chunks);
-        let (_, _, third, _) = rows.dist4_mut(0, 1);
-        third.copy_from_slice(&[[9; 64]]);
-        assert_eq!(rt; chunks, [[1; 64], [2; 64], [9; 64], [4; 64]]);
-    }
-
-    #[test]
-    fn four_rows_at_a_distance_are_lent_in_order(rt: HostRuntime) {
-        let mut chunks = [[0; 64]; 9];
-        let mut rows = ShardsRefMut::new(8, 1, &mut chunks);
-        let (first, second, third, fourth) = rows.dist4_mut(1, 2);
-        first.copy_from_slice(&[[1; 64]]);
-        second.copy_from_slice(&[[2; 64]]);
-        third.copy_from_slice(&[[3; 64]]);
-        fourth.copy_from_slice(&[[4; 64]]);
-        for (i, byte) in [0, 1, 0, 2, 0, 3, 0, 4, 0].into_iter().enumerate() {
-            assert_eq!(rt; chunks[i], [byte; 64], "chunk {i}");
-        }
-    }
-
-    #[test]
-    fn a_list_is_split_between_rows(rt: HostRuntime) {
-        let mut chunks = [[1; 64], [2; 64], [3; 64], [4; 64], [5; 64]];
-        let mut rows = ShardsRefMut::new(4, 1, &mut chunks);
-        let (mut front, mut back) = rows.split_at_mut(1);
-        assert_eq!(rt; front.len(), 1);
-        assert_eq!(rt; back.len(), 3);
-        assert_eq!(rt; front.row(0)[0], [1; 64]);
-        assert_eq!(rt; back.row(2)[0], [4; 64]);
-        front.zero(0..1);
-        back.row_mut(1).copy_from_slice(&[[9; 64]]);
-        assert_eq!(rt; chunks, [[0; 64], [2; 64], [9; 64], [4; 64], [5; 64]]);
-    }
-
-    #[test]
-    fn a_list_without_rows_is_empty(rt: HostRuntime) {
-        let mut chunks = [[1; 64]];
-        let mut rows = ShardsRefMut::new(0, 1, &mut chunks);
-        assert_eq!(rt; rows.is_empty(), true);
-        let (front, back) = rows.split_at_mut(0);
-        assert_eq!(rt; front.is_empty(), true);
-        assert_eq!(rt; back.is_empty(), true);
-    }
-
-    #[test]
-    fn chunks_past_the_rows_stay(rt: HostRuntime) {
-        let mut chunks = [[1; 64], [2; 64], [3; 64], [4; 64], [5; 64]];
-        let mut rows = ShardsRefMut::new(2, 2, &mut chunks);
-        rows.zero(0..2);
-        assert_eq!(rt; chunks, [[0; 64], [0; 64], [0; 64], [0; 64], [5; 64]]);
-    }
-
-    #[test]
-    fn rows_without_chunks_are_empty(rt: HostRuntime) {
-        let mut chunks = [];
-        let rows = ShardsRefMut::new(3, 0, &mut chunks);
-        assert_eq!(rt; rows.len(), 3);
-        assert_eq!(rt; rows.is_empty(), false);
-        assert_eq!(rt; rows.row(2).len(), 0);
-    }
-
-    #[test]
-    fn a_range_of_rows_becomes_zero(rt: HostRuntime) {
-        let mut chunks = [[1; 64], [2; 64], [3; 64], [4; 64]];
-        let mut rows = ShardsRefMut::new(4, 1, &mut chunks);
-        rows.zero(1..3);
-        assert_eq!(rt; chunks, [[1; 64], [0; 64], [0; 64], [4; 64]]);
     }
 }

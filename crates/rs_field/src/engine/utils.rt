@@ -109,16 +109,3 @@ pub fn eval_poly(
     products(steps, erasures, log_walsh);
     fwht(steps, erasures, GF_ORDER);
 }
-
-#[cfg(test)]
-mod tests {
-    use super::*;
-
-    #[test]
-    fn rows_become_sums_of_rows(rt: HostRuntime) {
-        let mut chunks = [[1; 64], [2; 64], [3; 64], [4; 64]];
-        let mut rows = ShardsRefMut::new(4, 1, &mut chunks);
-        xor_within(&mut Steps::new(), &mut rows, 0, 2, 2);
-        assert_eq!(rt; chunks, [[2; 64], [6; 64], [3; 64], [4; 64]]);
-    }
-}

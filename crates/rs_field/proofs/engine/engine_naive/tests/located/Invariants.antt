@@ -1,6 +1,0 @@
-use Rattle.std.proofs.Common.{◌≡◌, ℕ, ◌<◌, ◌≤◌, get_or}
-use Rattle.rs_field.proofs.engine.engine_naive.tests.located.Given as goal
-
--- what lies past the marked points is 0
-abbrev pub invariant-loop-y : goal.invariant-loop-y
-invariant-loop-y l = (k : ℕ) → l.fn.end ≤ k → k < 65536 → get_or l.erasures k 0 ≡ 0

@@ -1,0 +1,12 @@
+//! The three levels of use, as the documents quote them: that they find memory, and so come to an end, no contract says.
+use rs_callers::levels;
+use std::test::Fail;
+
+#[test]
+fn what_was_lost_comes_back(rt: HostRuntime) -> Result<(), Fail> {
+    let alloc = rt.alloc();
+    assert!(rt; levels::in_one_call(alloc)?);
+    assert!(rt; levels::with_objects(alloc)?);
+    assert!(rt; levels::with_a_rate_and_an_engine(alloc)?);
+    Ok(())
+}

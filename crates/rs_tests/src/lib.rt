@@ -1,0 +1,17 @@
+//! Tests of what no contract says, a file for each matter.
+#![tactic(auto)]
+
+#[cfg(test)]
+mod asking;
+#[cfg(test)]
+mod counting;
+#[cfg(test)]
+mod largest;
+#[cfg(test)]
+mod levels;
+#[cfg(test)]
+mod locators;
+#[cfg(test)]
+mod tables;
+#[cfg(test)]
+mod texts;

@@ -1,0 +1,60 @@
+//! Locators that are known by hand, of every engine: of the residue that the contract fixes nothing is said at numbers.
+ghost use Rattle.std.specs.Prelude.{◌≡◌, ◌≤◌, length};
+
+use reed_solomon_simd::engine::tables::{Tables, get_exp_log};
+use reed_solomon_simd::engine::{
+    Avx2, DefaultEngine, Engine, EngineKind, GF_ORDER, GfElement, Naive, NoSimd, Shuffle, Ssse3,
+    Steps, WideShuffle,
+};
+use std::process::Abort;
+use std::test::Fail;
+
+// The locator of the points from `first` up to `end`.
+fn located<E: Engine>(engine: &E, first: usize, end: usize) -> [GfElement; 65536]
+    requires { end ≤ 65536 }
+{
+    let mut erasures = [0; 65536];
+    for y in first..end {
+        erasures[y] = 1;
+    }
+    let mut steps = Steps::new();
+    engine.eval_poly(&mut steps, &mut erasures, end);
+    erasures
+}
+
+// Each product of differences is named by its logarithm; that of one is 0 or 65535.
+fn check_locators<E: Engine>(rt: &impl Abort, engine: &E, log: &[GfElement])
+    requires { length log.now ≡ 65536 }
+{
+    let erasures = located(engine, 0, 0);
+    for x in 0..GF_ORDER {
+        assert_eq!(rt; erasures[x] % 65535, 0, "at {x}, none marked");
+    }
+    let erasures = located(engine, 0, 1);
+    assert_eq!(rt; [erasures[0] % 65535, erasures[1] % 65535], [0, 0]);
+    assert_eq!(rt; [erasures[2], erasures[3]], [log[2], log[3]]);
+    // The differences are 2 and 3 at 0 and 1, whose product is 1, and 1 at 2 and 3.
+    let erasures = located(engine, 2, 4);
+    for x in 0..4 {
+        assert_eq!(rt; erasures[x] % 65535, 0, "at {x}");
+    }
+    // The differences are all nonzero elements, whose product is 1.
+    let erasures = located(engine, 0, GF_ORDER);
+    for x in 0..GF_ORDER {
+        assert_eq!(rt; erasures[x] % 65535, 0, "at {x}, all marked");
+    }
+}
+
+#[test]
+fn locators_of_each_engine(rt: HostRuntime) -> Result<(), Fail> {
+    let tables = Tables::new(rt.alloc())?;
+    let log = get_exp_log(&tables).log.as_slice();
+    check_locators(&rt, &Naive::new(&tables), log);
+    check_locators(&rt, &NoSimd::new(&tables), log);
+    check_locators(&rt, &Ssse3::new(&tables), log);
+    check_locators(&rt, &Avx2::new(&tables), log);
+    check_locators(&rt, &Shuffle::new(&tables), log);
+    check_locators(&rt, &WideShuffle::new(&tables), log);
+    check_locators(&rt, &DefaultEngine::new(&tables, EngineKind::Naive), log);
+    Ok(())
+}

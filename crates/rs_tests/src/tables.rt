@@ -1,0 +1,68 @@
+//! Entries of the tables that are known by hand: what the definitions of the contracts should come to. And that a copy of an
+//! entry finds memory, no contract says.
+use reed_solomon_simd::engine::tables::{
+    Tables, get_exp_log, get_mul16, get_mul128, get_skew, mul,
+};
+use std::process::Abort;
+use std::test::Fail;
+
+fn check_powers(rt: &impl Abort, tables: &Tables) {
+    let t = get_exp_log(tables);
+    assert_eq!(rt; [t.exp[0], t.exp[65535]], [1, 1]);
+    assert_eq!(rt; [t.log[0], t.log[1]], [65535, 0]);
+    assert_eq!(rt; u32::from(t.log[2]) + u32::from(t.log[3]), 65535);
+    for (x, y, product) in [
+        (2, 2, 3),
+        (2, 3, 1),
+        (3, 3, 2),
+        (2, 4, 11),
+        (4, 4, 6),
+        (2, 6, 8),
+        (3, 6, 14),
+        (5, 4, 2),
+    ] {
+        let log_y = t.log[y];
+        assert_eq!(rt; mul(x, log_y, &t.exp, &t.log), product, "{x} times {y}");
+        assert_eq!(rt; mul(x, 65535, &t.exp, &t.log), x, "{x} times one");
+    }
+}
+
+fn check_factors(rt: &impl Abort, tables: &Tables) {
+    let skew = get_skew(tables);
+    let t = get_exp_log(tables);
+    assert_eq!(rt; [skew[0], skew[1], skew[3]], [65535, 65535, 65535]);
+    assert_eq!(rt; [skew[2], skew[5]], [t.log[2], t.log[2]]);
+    assert_eq!(rt; skew[4], t.log[4]);
+}
+
+// The products of 0 to 7 with 2 are 0, 2, 3, 1, 11, 9, 8 and 10.
+fn check_products(rt: &impl Abort, tables: &Tables) {
+    let log_2 = get_exp_log(tables).log[2] as usize;
+    let mul16 = get_mul16(tables);
+    for (i, product) in [0, 2, 3, 1, 11, 9, 8, 10].into_iter().enumerate() {
+        assert_eq!(rt; mul16[log_2][0][i], product);
+    }
+    let entry = &get_mul128(tables)[log_2];
+    assert_eq!(rt; entry.lo[0] % (1 << 64), 0x0A08_090B_0103_0200);
+    assert_eq!(rt; entry.hi[0] % (1 << 64), 0);
+    for i in 0..16 {
+        let word = i as u16;
+        let rows = [word, word << 4, word << 8, word << 12];
+        for n in 0..4 {
+            assert_eq!(rt; mul16[65535][n][i], rows[n], "{i} at {n}");
+        }
+    }
+}
+
+#[test]
+fn entries_by_hand(rt: HostRuntime) -> Result<(), Fail> {
+    let tables = Tables::new(rt.alloc())?;
+    check_powers(&rt, &tables);
+    check_factors(&rt, &tables);
+    check_products(&rt, &tables);
+    let own = &get_mul128(&tables)[2];
+    let copy = own.clone()?;
+    assert_eq!(rt; copy.lo, own.lo);
+    assert_eq!(rt; copy.hi, own.hi);
+    Ok(())
+}
