@@ -53,6 +53,7 @@ pub mod Division
 pub mod ZerosPast
 pub mod Frame
 pub mod SupportedCounts
+pub mod SupportedRanges
 pub mod RateFrames
 pub mod ErasedCount
 pub mod ExactCheck
@@ -66,4 +67,6 @@ pub mod EqualPowers
 pub mod AgreeingMessages
 pub mod Agreement
 pub mod Changes
+pub mod Entries
+pub mod RoundTrip
 pub mod WalshLanes
