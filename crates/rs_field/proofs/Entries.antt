@@ -6,7 +6,7 @@ use Rattle.std.proofs.Math.Bool.{or_assoc}
 use Rattle.std.proofs.lemmas.Bool.{cases_eq, eqb-false, eqb-true}
 use Rattle.std.proofs.lemmas.Map.Keys.{IsDistinct-head, IsDistinct-tail}
 use Rattle.rs_field.specs.Column.{Shard, shard_at}
-use Rattle.rs_field.specs.Given.{Shards, entered, count_below, AreAmong}
+use Rattle.rs_field.specs.Given.{Shards, nothing, entered, count_below, AreAmong}
 use Rattle.rs_field.specs.OneCall.{Items}
 use Rattle.rs_field.proofs.Given.{entered_cases, entered_among, count_below-zero, count_below-suc, count_below-same}
 
@@ -22,6 +22,12 @@ AreFree given items = AllByRecursion (λ item. given item.0 ≡ None) items
 -- the items' indexes, none of which is to come twice
 abbrev pub indexes : Items → List ℕ
 indexes items = map (λ item. item.0) items
+
+-- the empty map has no shard
+pub count-nothing : (n : ℕ) → count_below n nothing ≡ 0
+unfolding count_below
+count-nothing zero = refl
+count-nothing (suc n) = ap (λ (m : ℕ). m + 0) (count-nothing n)
 
 -- an entry elsewhere leaves an index free
 entered_free : (given : Shards) (k i : ℕ) (x : Shard) → nat_eq k i ≡ false → given i ≡ None → entered given k x i ≡ None
@@ -61,7 +67,7 @@ count-entered (suc n) given k x inside free =
             count-entered n given k x (omega arith) free,
             count_below-suc n (entered given k x),
             count_below-suc n given,
-            ap (λ o. cond (is_some o) 1 0) same,
+            ap {B = ℕ} (λ o. cond (is_some o) 1 0) same,
           )
     ]
 
@@ -114,16 +120,16 @@ count_most (suc n) given = omega (arith, count_most n given, count_below-suc n g
 -- where there are n shards below n, each index below n has one
 pub all_some : (n : ℕ) (given : Shards) → n ≤ count_below n given → (i : ℕ) → i < n → is_some (given i) ≡ true
 all_some zero given full i inside = absurd (let no : ⊥ = omega arith in no)
-all_some (suc n) given full i inside = by_last (is_some (given n)) refl
+all_some (suc n) given full i inside = by_last (λ h j. all_some n given h j) (is_some (given n)) refl
   where
-    by_last : (b : Bool) → is_some (given n) ≡ b → is_some (given i) ≡ true
-    by_last false e =
+    by_last : (n ≤ count_below n given → (j : ℕ) → j < n → is_some (given j) ≡ true) → (b : Bool) → is_some (given n) ≡ b → is_some (given i) ≡ true
+    by_last before false e =
         let most = count_most n given in
         let count = count_below-suc n given ∙ ap (λ b. count_below n given + cond b 1 0) e in
         absurd (let no : ⊥ = omega arith in no)
-    by_last true e =
+    by_last before true e =
         let count = count_below-suc n given ∙ ap (λ b. count_below n given + cond b 1 0) e in
         elim (cases_eq i n) [
           | inl last ↦ ap (λ j. is_some (given j)) last ∙ e
-          | inr less ↦ all_some n given (omega arith) i (omega arith)
+          | inr less ↦ before (omega arith) i (omega arith)
         ]

@@ -69,4 +69,5 @@ pub mod Agreement
 pub mod Changes
 pub mod Entries
 pub mod RoundTrip
+pub mod OneRoundTrip
 pub mod WalshLanes

@@ -10,7 +10,7 @@ use Rattle.rs_field.proofs.SupportedCounts.{default_fits}
 -- a power of two below the field's order is at most half of it
 half_most : (n : ℕ) → 2 ^ n < 65536 → (n < 64) × (2 ^ n ≤ 32768)
 half_most n h = elim (cases_lt n 16) [
-  | inl few ↦ let most : 2 ^ n ≤ 2 ^ 15 = pow_mono (omega arith) in (omega arith, most)
+  | inl few ↦ let most : 2 ^ n ≤ 2 ^ 15 = pow_mono {j = 15} (omega arith) in (omega arith, omega arith)
   | inr many ↦ let least : 2 ^ 16 ≤ 2 ^ n = pow_mono many in absurd (omega arith)
 ]
 
