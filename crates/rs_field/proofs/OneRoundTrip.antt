@@ -1,13 +1,13 @@
 -- What one-call `encode` coded, and what one-call `decode` brings back of it.
-use Rattle.std.proofs.Common.{◌≡◌, ℕ, ◌+◌, ◌<◌, ◌≤◌, ◌⊎◌, ◌++◌, ◌∷◌, ◌^◌, [], Bool, true, false, cond, not, ◌&&◌, ◌||◌, ◌%◌, List, length, map, refl, sym, ap, ap₂, subst, ◌∙◌, inl, inr, arith, append_assoc, append-nil, length-append, All, nat_eq, add-zero, zero-add}
-use Rattle.std.specs.Prelude.{Result, Ok, Err, Option, Some, None, is_some, IsOk, IfOk, MatchResult, nat_le, nat_lt, ◌==◌}
+use Rattle.std.proofs.Common.{◌≡◌, ℕ, ◌+◌, ◌<◌, ◌≤◌, ◌++◌, ◌∷◌, ◌^◌, [], Bool, true, false, cond, not, ◌&&◌, ◌||◌, ◌%◌, List, length, refl, sym, ap, ap₂, subst, ◌∙◌, inl, inr, arith, append_assoc, append-nil, length-append, All, nat_eq, add-zero, zero-add}
+use Rattle.std.specs.Prelude.{Result, Ok, Err, Some, None, is_some, IfOk, MatchResult, nat_le, nat_lt, ◌==◌}
 use Rattle.std.specs.List.{AllByRecursion, IsDistinct, list_any}
-use Rattle.std.proofs.lemmas.Bool.{ltb-false, leb-false, lt-leb, eqb-true, eqb-false, eq-eqb, ne_eqb, lt-ltb, ltb-true, or_from, cases_lt}
+use Rattle.std.proofs.lemmas.Bool.{ltb-false, leb-false, lt-leb, eqb-true, eqb-false, eq-eqb, ne_eqb, ltb-true, or_from}
 use Rattle.std.proofs.lemmas.List.Elements.{All-nil, All-cons, recursion_from_All}
 use Rattle.std.proofs.lemmas.Map.Keys.{IsDistinct-head, IsDistinct-tail}
 use Rattle.rs_field.specs.declared.error.Error.{Error}
-use Rattle.rs_field.specs.declared.error.Error.TheVariants.{UnsupportedShardCount, InvalidShardSize, TooFewOriginalShards, TooManyOriginalShards, DifferentShardSize, NotEnoughShards, InvalidOriginalShardIndex, DuplicateOriginalShardIndex, InvalidRecoveryShardIndex, DuplicateRecoveryShardIndex, OutOfMemory}
-use Rattle.rs_field.specs.Column.{Shard, IsShard, AreShards, shard_at}
+use Rattle.rs_field.specs.declared.error.Error.TheVariants.{UnsupportedShardCount, InvalidShardSize, TooFewOriginalShards, TooManyOriginalShards, DifferentShardSize, NotEnoughShards, OutOfMemory}
+use Rattle.rs_field.specs.Column.{Shard, AreShards, shard_at}
 use Rattle.rs_field.specs.Counts.{default_rate, supports}
 use Rattle.rs_field.specs.Placement.{encoder_rows, decoder_rows}
 use Rattle.rs_field.specs.Outcome.{answer_of, result_and_then}
@@ -15,9 +15,9 @@ use Rattle.rs_field.specs.Configuration.{Configuration, validated, space, starte
 use Rattle.rs_field.specs.Code.{AreRecovery}
 use Rattle.rs_field.specs.Given.{Shards, nothing, entered, count_below, AreAmong}
 use Rattle.rs_field.specs.Encoder.{EncoderState, fresh_encoder, with_shard, EncodeAnswers}
-use Rattle.rs_field.specs.Decoder.{DecoderState, fresh_decoder, with_original, with_recovery, enough_given, missing_of, DecodeAnswers}
-use Rattle.rs_field.specs.OneCall.{Items, default_of, counted, one_by_one, with_shards, with_originals, with_recoveries, with_both, encoding, noted, all_came, decoding, OneEncodeAnswers, OneDecodes, OneDecodeAnswers}
-use Rattle.rs_field.specs.RoundTrip.{BringsBack, AreCoded, AreLeft, enough_left, lost_of, OneBringsBack}
+use Rattle.rs_field.specs.Decoder.{DecoderState, fresh_decoder, with_original, with_recovery, missing_of, DecodeAnswers}
+use Rattle.rs_field.specs.OneCall.{Items, default_of, counted, one_by_one, with_shards, with_originals, with_recoveries, with_both, encoding, noted, all_came, OneEncodeAnswers, OneDecodes, OneDecodeAnswers}
+use Rattle.rs_field.specs.RoundTrip.{AreCoded, AreLeft, enough_left, lost_of, OneBringsBack}
 use Rattle.rs_field.proofs.Given.{nothing_among}
 use Rattle.rs_field.proofs.Entries.{entered_all, count-nothing, AreFree, indexes, free-next, count-entered_all, among-entered_all, some-entered_all, all_some}
 use Rattle.rs_field.proofs.RoundTrip.{answered, restores_lost}
@@ -257,10 +257,10 @@ module _ (k r : ℕ) (originals recovery : List Shard) (kept : Items) (bytes : A
       let back = restores_lost s originals recovery result are was.are (left_among originals kept left) (left_among recovery received got) answers in
       record {
         answer = inl (
-          back.answer
-          ∙ ap₂ (by_numbers k) (left_count k originals kept was.count left) (left_count r recovery received was.are.shards.length_is got)
-          ∙ ap (λ n. by_numbers n (length kept) (length received)) (sym was.count)
-        );
+            back.answer
+            ∙ ap₂ (by_numbers k) (left_count k originals kept was.count left) (left_count r recovery received was.are.shards.length_is got)
+            ∙ ap (λ n. by_numbers n (length kept) (length received)) (sym was.count)
+            );
         restored = if_ok-map result _ _ (λ out h i. h i ∙ lost_same s originals kept i was.count refl) back.restored;
       }
 

@@ -1,10 +1,10 @@
 -- The ranges of counts that the default rate supports.
-use Rattle.std.proofs.Common.{◌≡◌, ℕ, ◌+◌, ◌^◌, ◌<◌, ◌≤◌, ◌⊎◌, true, min, max, refl, inl, inr, arith, pow_mono}
+use Rattle.std.proofs.Common.{◌≡◌, ℕ, ◌+◌, ◌^◌, ◌<◌, ◌≤◌, ◌⊎◌, true, min, max, inl, inr, arith, pow_mono}
 use Rattle.std.specs.Prelude.{nat_le, nat_lt, ◌&&◌}
 use Rattle.std.proofs.lemmas.Bool.{cases_lt, lt-ltb, le-leb, and_from}
 use Rattle.rs_field.specs.Counts.{default_rate, next_power, supports}
 use Rattle.rs_field.specs.CountLaws.{AreBeside}
-use Rattle.rs_field.proofs.NextPower.{next_power-small, next_power-least, next_power-above}
+use Rattle.rs_field.proofs.NextPower.{next_power-small, next_power-least}
 use Rattle.rs_field.proofs.SupportedCounts.{default_fits}
 
 -- a power of two below the field's order is at most half of it

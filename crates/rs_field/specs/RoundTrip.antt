@@ -6,7 +6,7 @@ use Rattle.rs_field.specs.declared.error.Error.TheVariants.{NotEnoughShards, Out
 use Rattle.rs_field.specs.Column.{Shard, AreShards, shard_at}
 use Rattle.rs_field.specs.Counts.{Rate}
 use Rattle.rs_field.specs.Outcome.{answer_of}
-use Rattle.rs_field.specs.Configuration.{Configuration, validated}
+use Rattle.rs_field.specs.Configuration.{validated}
 use Rattle.rs_field.specs.Code.{AreRecovery}
 use Rattle.rs_field.specs.Given.{Shards, AreAmong}
 use Rattle.rs_field.specs.Encoder.{EncoderState, IsEncoder, EncodeAnswers}
