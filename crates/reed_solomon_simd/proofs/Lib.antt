@@ -6,4 +6,5 @@ pub mod Giving
 pub mod Noting
 pub mod Collecting
 pub mod OneDecode
+pub mod OneEncode
 pub use Rattle.rs_field.proofs.Listed

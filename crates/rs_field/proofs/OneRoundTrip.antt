@@ -7,14 +7,14 @@ use Rattle.std.proofs.lemmas.List.Elements.{All-nil, All-cons, recursion_from_Al
 use Rattle.std.proofs.lemmas.Map.Keys.{IsDistinct-head, IsDistinct-tail}
 use Rattle.rs_field.specs.declared.error.Error.{Error}
 use Rattle.rs_field.specs.declared.error.Error.TheVariants.{UnsupportedShardCount, InvalidShardSize, TooFewOriginalShards, TooManyOriginalShards, DifferentShardSize, NotEnoughShards, OutOfMemory}
-use Rattle.rs_field.specs.Column.{Shard, AreShards, shard_at}
+use Rattle.rs_field.specs.Column.{Shard, IsShard, AreShards, shard_at}
 use Rattle.rs_field.specs.Counts.{default_rate, supports}
 use Rattle.rs_field.specs.Placement.{encoder_rows, decoder_rows}
 use Rattle.rs_field.specs.Outcome.{answer_of, result_and_then}
 use Rattle.rs_field.specs.Configuration.{Configuration, validated, space, started}
 use Rattle.rs_field.specs.Code.{AreRecovery}
 use Rattle.rs_field.specs.Given.{Shards, nothing, entered, count_below, AreAmong}
-use Rattle.rs_field.specs.Encoder.{EncoderState, fresh_encoder, with_shard, EncodeAnswers}
+use Rattle.rs_field.specs.Encoder.{EncoderState, IsEncoder, fresh_encoder, with_shard, EncodeAnswers}
 use Rattle.rs_field.specs.Decoder.{DecoderState, fresh_decoder, with_original, with_recovery, missing_of, DecodeAnswers}
 use Rattle.rs_field.specs.OneCall.{Items, default_of, counted, one_by_one, with_shards, with_originals, with_recoveries, with_both, encoding, noted, all_came, OneEncodeAnswers, OneDecodes, OneDecodeAnswers}
 use Rattle.rs_field.specs.RoundTrip.{AreCoded, AreLeft, enough_left, lost_of, OneBringsBack}
@@ -74,15 +74,15 @@ taken (x ∷ xs) s t is =
           omega arith;
     }
 
-pub codes_in_one_call : (k r : ℕ) (originals recovery : List Shard) → OneEncodeAnswers k r originals (Ok recovery) → AreCoded k r originals recovery
-codes_in_one_call k r originals recovery (inr lacks) = absurd (let e = lacks.1 in let no : ⊥ = cc in no)
-codes_in_one_call k r originals recovery (inl answers) = by_outcome originals (encoding k r originals) refl answers
+pub codes_in_one_call : (k r : ℕ) (originals recovery : List Shard) → All (All (λ b. b < 256)) originals → OneEncodeAnswers k r originals (Ok recovery) → AreCoded k r originals recovery
+codes_in_one_call k r originals recovery bytes (inr lacks) = absurd (let e = lacks.1 in let no : ⊥ = cc in no)
+codes_in_one_call k r originals recovery bytes (inl answers) = by_outcome originals bytes (encoding k r originals) refl answers
   where
-    by_shards : (shards : List Shard) (s : EncoderState) → encoding k r shards ≡ Ok s → EncodeAnswers s (Ok recovery) → AreCoded k r shards recovery
-    by_shards [] s same h =
+    by_shards : (shards : List Shard) → All (All (λ b. b < 256)) shards → (s : EncoderState) → encoding k r shards ≡ Ok s → EncodeAnswers s (Ok recovery) → AreCoded k r shards recovery
+    by_shards [] small s same h =
         let none = then_ok (λ _. Err (TooFewOriginalShards k 0)) (counted k r) s same in
         let e = none.2 in absurd (let no : ⊥ = cc in no)
-    by_shards (x ∷ xs) s same h =
+    by_shards (x ∷ xs) small s same h =
         let c = default_of k r (length x) in
         let begun = then_ok (λ _. with_shards (fresh_encoder c) (x ∷ xs)) (started (encoder_rows default_rate k r) c) s same in
         let valid = then_ok _ (validated c) begun.0 begun.1 in
@@ -95,14 +95,34 @@ codes_in_one_call k r originals recovery (inl answers) = by_outcome originals (e
         record {
           size = length x;
           valid = valid.1;
-          count = omega arith;
-          sized = all.sized;
-          are = subst (λ (d : Configuration). AreRecovery d (x ∷ xs) recovery) all.of (subst (λ (m : List Shard). AreRecovery s.configuration m recovery) given out.1);
+          shards = record { length_is = omega arith; each = λ i d inside. record { length_is = all.sized i d inside; bytes = small i d inside } };
+          coded = subst (λ (d : Configuration). AreRecovery d (x ∷ xs) recovery) all.of (subst (λ (m : List Shard). AreRecovery s.configuration m recovery) given out.1);
         }
 
-    by_outcome : (shards : List Shard) (o : Result EncoderState Error) → encoding k r shards ≡ o → MatchResult o (λ s. EncodeAnswers s (Ok recovery)) (λ e. Ok recovery ≡ Err e) → AreCoded k r shards recovery
-    by_outcome shards (Err e) same h = absurd (let no : ⊥ = cc in no)
-    by_outcome shards (Ok s) same h = by_shards shards s same h
+    by_outcome : (shards : List Shard) → All (All (λ b. b < 256)) shards → (o : Result EncoderState Error) → encoding k r shards ≡ o → MatchResult o (λ s. EncodeAnswers s (Ok recovery)) (λ e. Ok recovery ≡ Err e) → AreCoded k r shards recovery
+    by_outcome shards small (Err e) same h = absurd (let no : ⊥ = cc in no)
+    by_outcome shards small (Ok s) same h = by_shards shards small s same h
+
+-- shards that an encoder took one after another, and their recovery shards
+pub coded_by : (k r : ℕ) (x : Shard) (xs recovery : List Shard) (s : EncoderState) → IsEncoder default_rate s → with_shards (fresh_encoder (default_of k r (length x))) (x ∷ xs) ≡ Ok s
+    → EncodeAnswers s (Ok recovery) → AreCoded k r (x ∷ xs) recovery
+coded_by k r x xs recovery s is made h =
+    let c = default_of k r (length x) in
+    let all = taken (x ∷ xs) (fresh_encoder c) s made in
+    let out = answered s recovery h in
+    let given : s.given ≡ x ∷ xs = all.given in
+    let least : k ≤ length s.given = subst (λ (d : Configuration). d.original_count ≤ length s.given) all.of out.0 in
+    let most : length s.given ≤ k = subst (λ (d : Configuration). length s.given ≤ d.original_count) all.of is.no_more in
+    let long : length s.given ≡ length (x ∷ xs) = ap length given in
+    record {
+      size = length x;
+      valid = subst (λ (d : Configuration). validated d ≡ Ok tt) all.of is.valid;
+      shards = record {
+        length_is = omega arith;
+        each = subst (λ (m : List Shard). All (IsShard (length x)) m) given (subst (λ (d : Configuration). All (IsShard d.shard_bytes) s.given) all.of is.sized);
+      };
+      coded = subst (λ (d : Configuration). AreRecovery d (x ∷ xs) recovery) all.of (subst (λ (m : List Shard). AreRecovery s.configuration m recovery) given out.1);
+    }
 
 -- ---- what a decoder takes
 
@@ -246,22 +266,20 @@ if_ok-map (Err e) P Q follows h = tt
 if_ok-refused : (result : Result Shards Error) (e : Error) (P : Shards → Type 0) → result ≡ Err e → IfOk result P
 if_ok-refused result e P is = subst (λ (r : Result Shards Error). IfOk r P) (sym is) tt
 
-module _ (k r : ℕ) (originals recovery : List Shard) (kept : Items) (bytes : All (All (λ b. b < 256)) originals) (was : AreCoded k r originals recovery) (left : AreLeft originals kept) where
+module _ (k r : ℕ) (originals recovery : List Shard) (kept : Items) (was : AreCoded k r originals recovery) (left : AreLeft originals kept) where
   -- what a decoder answers that was given what is left
   by_decoder : (received : Items) (result : Result Shards Error) → AreLeft recovery received → DecodeAnswers (left_with (default_of k r was.size) kept received) result
       → OneBringsBack originals kept received result
   by_decoder received result got answers =
       let s : DecoderState = left_with (default_of k r was.size) kept received in
-      let are : AreShards k was.size originals =
-      record { length_is = was.count; each = λ i d inside. record { length_is = was.sized i d inside; bytes = bytes i d inside } } in
-      let back = restores_lost s originals recovery result are was.are (left_among originals kept left) (left_among recovery received got) answers in
+      let back = restores_lost s originals recovery result was.shards was.coded (left_among originals kept left) (left_among recovery received got) answers in
       record {
         answer = inl (
             back.answer
-            ∙ ap₂ (by_numbers k) (left_count k originals kept was.count left) (left_count r recovery received was.are.shards.length_is got)
-            ∙ ap (λ n. by_numbers n (length kept) (length received)) (sym was.count)
+            ∙ ap₂ (by_numbers k) (left_count k originals kept was.shards.length_is left) (left_count r recovery received was.coded.shards.length_is got)
+            ∙ ap (λ n. by_numbers n (length kept) (length received)) (sym was.shards.length_is)
             );
-        restored = if_ok-map result _ _ (λ out h i. h i ∙ lost_same s originals kept i was.count refl) back.restored;
+        restored = if_ok-map result _ _ (λ out h i. h i ∙ lost_same s originals kept i was.shards.length_is refl) back.restored;
       }
 
   -- a decoder takes all that is left
@@ -269,9 +287,9 @@ module _ (k r : ℕ) (originals recovery : List Shard) (kept : Items) (bytes : A
       → with_both (fresh_decoder (default_of k r was.size)) kept received ≡ Ok (left_with (default_of k r was.size) kept received)
   all_taken received got =
       ap (result_and_then (λ now. with_recoveries now received))
-      (originals_taken kept (fresh_decoder (default_of k r was.size)) (fitting k was.size originals kept was.count was.sized left) (all_free kept) left.once)
+      (originals_taken kept (fresh_decoder (default_of k r was.size)) (fitting k was.size originals kept was.shards.length_is (λ i d inside. (was.shards.each i d inside).length_is) left) (all_free kept) left.once)
       ∙ recoveries_taken received (record (fresh_decoder (default_of k r was.size)) { originals = entered_all nothing kept })
-      (fitting r was.size recovery received was.are.shards.length_is (λ i d inside. (was.are.shards.each i d inside).length_is) got) (all_free received) got.once
+      (fitting r was.size recovery received was.coded.shards.length_is (λ i d inside. (was.coded.shards.each i d inside).length_is) got) (all_free received) got.once
 
   -- what is answered by what setting up a decoder answered
   abbrev Begun : Items → Result Shards Error → Result (Unit {0}) Error → Type 0
@@ -296,17 +314,17 @@ module _ (k r : ℕ) (originals recovery : List Shard) (kept : Items) (bytes : A
   by_indexes result answers =
       by_outcome (enough_left k kept []) refl
       (subst (λ (o : Result (Unit {0}) Error). MatchResult o (λ _. result ≡ Ok nothing) (λ e. result ≡ Err e))
-      (ap (result_and_then (λ _. all_came k kept)) (counted_valid k r was.size was.valid) ∙ came_left k kept (within k originals kept was.count left) left.once) answers)
+      (ap (result_and_then (λ _. all_came k kept)) (counted_valid k r was.size was.valid) ∙ came_left k kept (within k originals kept was.shards.length_is left) left.once) answers)
     where
       by_outcome : (m : Result (Unit {0}) Error) → enough_left k kept [] ≡ m → MatchResult m (λ _. result ≡ Ok nothing) (λ e. result ≡ Err e) → OneBringsBack originals kept [] result
       by_outcome (Ok tt) enough h = record {
-        answer = inl (ap answer_of h ∙ sym enough ∙ ap (λ n. enough_left n kept []) (sym was.count));
+        answer = inl (ap answer_of h ∙ sym enough ∙ ap (λ n. enough_left n kept []) (sym was.shards.length_is));
         restored =
             subst (λ (o : Result Shards Error). IfOk o (λ out. (i : ℕ) → out i ≡ lost_of originals kept i)) (sym h)
-            (λ i. sym (none_lost originals kept left (all_left k (length originals) kept enough was.count) i));
+            (λ i. sym (none_lost originals kept left (all_left k (length originals) kept enough was.shards.length_is) i));
       }
       by_outcome (Err e) few h = record {
-        answer = inl (ap answer_of h ∙ sym few ∙ ap (λ n. enough_left n kept []) (sym was.count));
+        answer = inl (ap answer_of h ∙ sym few ∙ ap (λ n. enough_left n kept []) (sym was.shards.length_is));
         restored = if_ok-refused result e _ h;
       }
 
@@ -315,13 +333,11 @@ module _ (k r : ℕ) (originals recovery : List Shard) (kept : Items) (bytes : A
   by_answer [] result got (inl answers) = by_indexes result answers
   by_answer (first ∷ rest) result got (inl answers) =
       let own = got.own 0 first (omega arith) in
-      let size : length first.1 ≡ was.size = sym (ap length own.1) ∙ (was.are.shards.each first.0 [] own.0).length_is in
+      let size : length first.1 ≡ was.size = sym (ap length own.1) ∙ (was.coded.shards.each first.0 [] own.0).length_is in
       by_start (first ∷ rest) result got
       (subst (λ (n : ℕ). MatchResult (result_and_then (λ _. with_both (fresh_decoder (default_of k r n)) kept (first ∷ rest)) (started (decoder_rows default_rate k r) (default_of k r n)))
       (λ s. DecodeAnswers s result) (λ e. result ≡ Err e)) size answers)
 
 pub restores_in_one_call : (k r : ℕ) (originals recovery : List Shard) (kept received : Items) (result : Result Shards Error)
-    → All (All (λ b. b < 256)) originals → OneEncodeAnswers k r originals (Ok recovery)
-    → AreLeft originals kept → AreLeft recovery received → OneDecodeAnswers k r kept received result → OneBringsBack originals kept received result
-restores_in_one_call k r originals recovery kept received result bytes encoded left got answers =
-    by_answer k r originals recovery kept bytes (codes_in_one_call k r originals recovery encoded) left received result got answers
+    → AreCoded k r originals recovery → AreLeft originals kept → AreLeft recovery received → OneDecodeAnswers k r kept received result → OneBringsBack originals kept received result
+restores_in_one_call k r originals recovery kept received result was left got answers = by_answer k r originals recovery kept was left received result got answers

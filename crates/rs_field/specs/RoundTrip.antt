@@ -40,13 +40,13 @@ RestoresEncoded =
 pub record AreCoded (k r : ℕ) (originals recovery : List Shard) : Type 0 where
   pub size : ℕ
   pub valid : validated (default_of k r size) ≡ Ok tt
-  pub count : length originals ≡ k
-  pub sized : All (λ shard. length shard ≡ size) originals
-  pub are : AreRecovery (default_of k r size) originals recovery
+  pub shards : AreShards k size originals
+  pub coded : AreRecovery (default_of k r size) originals recovery
 
 -- a success of one-call `encode` has the recovery shards of all that it was handed
 abbrev pub CodesInOneCall : Type 0
-CodesInOneCall = (k r : ℕ) (originals recovery : List Shard) → OneEncodeAnswers k r originals (Ok recovery) → AreCoded k r originals recovery
+CodesInOneCall =
+    (k r : ℕ) (originals recovery : List Shard) → All (All (λ b. b < 256)) originals → OneEncodeAnswers k r originals (Ok recovery) → AreCoded k r originals recovery
 
 -- shards that are left of a list, with their indexes: each is the list's own, and none comes twice
 pub record AreLeft (shards : List Shard) (items : Items) : Type 0 where
@@ -71,5 +71,4 @@ pub record OneBringsBack (originals : List Shard) (kept received : Items) (resul
 abbrev pub RestoresInOneCall : Type 0
 RestoresInOneCall =
     (k r : ℕ) (originals recovery : List Shard) (kept received : Items) (result : Result Shards Error)
-    → All (All (λ b. b < 256)) originals → OneEncodeAnswers k r originals (Ok recovery)
-    → AreLeft originals kept → AreLeft recovery received → OneDecodeAnswers k r kept received result → OneBringsBack originals kept received result
+    → AreCoded k r originals recovery → AreLeft originals kept → AreLeft recovery received → OneDecodeAnswers k r kept received result → OneBringsBack originals kept received result
