@@ -70,4 +70,5 @@ pub mod Changes
 pub mod Entries
 pub mod RoundTrip
 pub mod OneRoundTrip
+pub mod Left
 pub mod WalshLanes

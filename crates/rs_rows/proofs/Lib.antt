@@ -1,4 +1,3 @@
-pub mod CallerLemmas
 pub mod LentRows
 pub mod LentFourRows
 pub mod LentHalves

@@ -33,6 +33,7 @@ mod refusals;
 mod refused_memory;
 #[cfg(test)]
 mod resets;
+pub mod round_trip;
 #[cfg(test)]
 mod row_engine;
 #[cfg(test)]
