@@ -1,5 +1,5 @@
 -- What is left of a list of shards, each with its index, where a test tells which are lost.
-use Rattle.std.proofs.Common.{◌≡◌, ℕ, ◌+◌, ◌<◌, ◌&&◌, Bool, true, false, cond, not, List, [], ◌∷◌, length, refl, sym, ap, subst, ◌∙◌, arith, nat_eq, nat_lt, Some, None}
+use Rattle.std.proofs.Common.{◌≡◌, ℕ, ◌+◌, ◌<◌, ◌&&◌, Bool, true, false, cond, not, List, [], ◌∷◌, length, refl, sym, ap, subst, ◌∙◌, arith, nat_eq, nat_lt, Some, None, Result, Ok, Err, IfOk}
 use Rattle.std.specs.List.{AllByRecursion, IsDistinct, enumerate_from, filter, list_any}
 use Rattle.std.proofs.lemmas.Bool.{eqb-true, ne_eqb, eq-eqb, ltb-true}
 use Rattle.std.proofs.lemmas.List.{get_or_default}
@@ -10,8 +10,10 @@ use Rattle.std.proofs.lemmas.Map.Keys.{IsDistinct-cons}
 use Rattle.std.proofs.lemmas.Map.Made.{IsDistinct-keys_filter}
 use Rattle.std.proofs.lemmas.Map.Views.{any-filter_same}
 use Rattle.rs_field.specs.Column.{Shard, shard_at}
+use Rattle.rs_field.specs.Given.{Shards}
 use Rattle.rs_field.specs.OneCall.{Items}
 use Rattle.rs_field.specs.RoundTrip.{AreLeft, lost_of}
+use Rattle.rs_field.specs.declared.error.Error.{Error}
 use Rattle.rs_field.proofs.Entries.{indexes}
 
 -- the shards that aren't lost, with their indexes
@@ -62,3 +64,9 @@ lost-kept shards lost i = by_test (nat_lt i (length shards)) refl
         let any = any-filter_same (λ item. nat_eq i item.0) (λ item. not (lost item.0)) (not (lost i)) (λ item same. ap (λ j. not (lost j)) (sym (eqb-true i item.0 same))) (enumerate_from 0 shards) in
         ap (λ b. cond (not b) (Some (shard_at shards i)) None) (any ∙ ap (λ b. not (lost i) && b) (numbered_any shards i (ltb-true i (length shards) e)))
         ∙ ap (λ b. cond b (Some (shard_at shards i)) None) (twice (lost i))
+
+-- so what is lost of shards that are left but for these is just these
+pub just-lost : (shards : List Shard) (lost : ℕ → Bool) (result : Result Shards Error) → IfOk result (λ out. (i : ℕ) → out i ≡ lost_of shards (kept_of shards lost) i)
+    → IfOk result (λ out. (i : ℕ) → out i ≡ cond (nat_lt i (length shards) && lost i) (Some (shard_at shards i)) None)
+just-lost shards lost (Ok out) same = λ i. same i ∙ lost-kept shards lost i
+just-lost shards lost (Err e) same = tt

@@ -1,6 +1,6 @@
 -- What one-call `encode` coded, and what one-call `decode` brings back of it.
 use Rattle.std.proofs.Common.{◌≡◌, ℕ, ◌+◌, ◌<◌, ◌≤◌, ◌++◌, ◌∷◌, ◌^◌, [], Bool, true, false, cond, not, ◌&&◌, ◌||◌, ◌%◌, List, length, refl, sym, ap, ap₂, subst, ◌∙◌, inl, inr, arith, append_assoc, append-nil, length-append, All, nat_eq, add-zero, zero-add}
-use Rattle.std.specs.Prelude.{Result, Ok, Err, Some, None, is_some, IfOk, MatchResult, nat_le, nat_lt, ◌==◌}
+use Rattle.std.specs.Prelude.{Result, Ok, Err, Some, None, is_some, IfOk, IsOkAnd, MatchResult, nat_le, nat_lt, ◌==◌}
 use Rattle.std.specs.List.{AllByRecursion, IsDistinct, list_any}
 use Rattle.std.proofs.lemmas.Bool.{ltb-false, leb-false, lt-leb, eqb-true, eqb-false, eq-eqb, ne_eqb, ltb-true, or_from}
 use Rattle.std.proofs.lemmas.List.Elements.{All-nil, All-cons, recursion_from_All}
@@ -8,7 +8,7 @@ use Rattle.std.proofs.lemmas.Map.Keys.{IsDistinct-head, IsDistinct-tail}
 use Rattle.rs_field.specs.declared.error.Error.{Error}
 use Rattle.rs_field.specs.declared.error.Error.TheVariants.{UnsupportedShardCount, InvalidShardSize, TooFewOriginalShards, TooManyOriginalShards, DifferentShardSize, NotEnoughShards, OutOfMemory}
 use Rattle.rs_field.specs.Column.{Shard, IsShard, AreShards, shard_at}
-use Rattle.rs_field.specs.Counts.{default_rate, supports}
+use Rattle.rs_field.specs.Counts.{Rate, default_rate, supports}
 use Rattle.rs_field.specs.Placement.{encoder_rows, decoder_rows}
 use Rattle.rs_field.specs.Outcome.{answer_of, result_and_then}
 use Rattle.rs_field.specs.Configuration.{Configuration, validated, space, started}
@@ -17,7 +17,7 @@ use Rattle.rs_field.specs.Given.{Shards, nothing, entered, count_below, AreAmong
 use Rattle.rs_field.specs.Encoder.{EncoderState, IsEncoder, fresh_encoder, with_shard, EncodeAnswers}
 use Rattle.rs_field.specs.Decoder.{DecoderState, fresh_decoder, with_original, with_recovery, missing_of, DecodeAnswers}
 use Rattle.rs_field.specs.OneCall.{Items, default_of, counted, one_by_one, with_shards, with_originals, with_recoveries, with_both, encoding, noted, all_came, OneEncodeAnswers, OneDecodes, OneDecodeAnswers}
-use Rattle.rs_field.specs.RoundTrip.{AreCoded, AreLeft, enough_left, lost_of, OneBringsBack}
+use Rattle.rs_field.specs.RoundTrip.{AreCoded, AreLeft, enough_left, lost_of, GivesBack, OneBringsBack}
 use Rattle.rs_field.proofs.Given.{nothing_among}
 use Rattle.rs_field.proofs.Entries.{entered_all, count-nothing, AreFree, indexes, free-next, count-entered_all, among-entered_all, some-entered_all, all_some}
 use Rattle.rs_field.proofs.RoundTrip.{answered, restores_lost}
@@ -103,25 +103,34 @@ codes_in_one_call k r originals recovery bytes (inl answers) = by_outcome origin
     by_outcome shards small (Err e) same h = absurd (let no : ⊥ = cc in no)
     by_outcome shards small (Ok s) same h = by_shards shards small s same h
 
--- shards that an encoder took one after another, and their recovery shards
+-- shards that an encoder took one after another are a message, and what it answered are their recovery shards
+pub encoded_all : (rate : Rate) (c : Configuration) (shards recovery : List Shard) (s : EncoderState) → IsEncoder rate s → with_shards (fresh_encoder c) shards ≡ Ok s
+    → EncodeAnswers s (Ok recovery) → AreShards c.original_count c.shard_bytes shards × AreRecovery c shards recovery
+encoded_all rate c shards recovery s is made h =
+    let all = taken shards (fresh_encoder c) s made in
+    let out = answered s recovery h in
+    let given : s.given ≡ shards = all.given in
+    let least : c.original_count ≤ length s.given = subst (λ (d : Configuration). d.original_count ≤ length s.given) all.of out.0 in
+    let most : length s.given ≤ c.original_count = subst (λ (d : Configuration). length s.given ≤ d.original_count) all.of is.no_more in
+    let long : length s.given ≡ length shards = ap length given in
+    (
+      record {
+        length_is = omega arith;
+        each = subst (λ (m : List Shard). All (IsShard c.shard_bytes) m) given (subst (λ (d : Configuration). All (IsShard d.shard_bytes) s.given) all.of is.sized);
+      },
+      subst (λ (d : Configuration). AreRecovery d shards recovery) all.of (subst (λ (m : List Shard). AreRecovery s.configuration m recovery) given out.1),
+    )
+
+-- the same in one call, by the size of the first
 pub coded_by : (k r : ℕ) (x : Shard) (xs recovery : List Shard) (s : EncoderState) → IsEncoder default_rate s → with_shards (fresh_encoder (default_of k r (length x))) (x ∷ xs) ≡ Ok s
     → EncodeAnswers s (Ok recovery) → AreCoded k r (x ∷ xs) recovery
 coded_by k r x xs recovery s is made h =
-    let c = default_of k r (length x) in
-    let all = taken (x ∷ xs) (fresh_encoder c) s made in
-    let out = answered s recovery h in
-    let given : s.given ≡ x ∷ xs = all.given in
-    let least : k ≤ length s.given = subst (λ (d : Configuration). d.original_count ≤ length s.given) all.of out.0 in
-    let most : length s.given ≤ k = subst (λ (d : Configuration). length s.given ≤ d.original_count) all.of is.no_more in
-    let long : length s.given ≡ length (x ∷ xs) = ap length given in
+    let all = encoded_all default_rate (default_of k r (length x)) (x ∷ xs) recovery s is made h in
     record {
       size = length x;
-      valid = subst (λ (d : Configuration). validated d ≡ Ok tt) all.of is.valid;
-      shards = record {
-        length_is = omega arith;
-        each = subst (λ (m : List Shard). All (IsShard (length x)) m) given (subst (λ (d : Configuration). All (IsShard d.shard_bytes) s.given) all.of is.sized);
-      };
-      coded = subst (λ (d : Configuration). AreRecovery d (x ∷ xs) recovery) all.of (subst (λ (m : List Shard). AreRecovery s.configuration m recovery) given out.1);
+      valid = subst (λ (d : Configuration). validated d ≡ Ok tt) (taken (x ∷ xs) (fresh_encoder (default_of k r (length x))) s made).of is.valid;
+      shards = all.0;
+      coded = all.1;
     }
 
 -- ---- what a decoder takes
@@ -252,7 +261,7 @@ none_lost originals kept left many i = by_test (nat_lt i (length originals)) ref
         ap (λ b. cond (not b) (Some (shard_at originals i)) None) came
 
 -- a decoder that was given just what is left
-abbrev left_with : Configuration → Items → Items → DecoderState
+abbrev pub left_with : Configuration → Items → Items → DecoderState
 left_with c kept received = record { configuration = c; originals = entered_all nothing kept; recovery = entered_all nothing received }
 
 -- whether k shards are there, by the numbers of originals and of recovery shards
@@ -266,31 +275,41 @@ if_ok-map (Err e) P Q follows h = tt
 if_ok-refused : (result : Result Shards Error) (e : Error) (P : Shards → Type 0) → result ≡ Err e → IfOk result P
 if_ok-refused result e P is = subst (λ (r : Result Shards Error). IfOk r P) (sym is) tt
 
-module _ (k r : ℕ) (originals recovery : List Shard) (kept : Items) (was : AreCoded k r originals recovery) (left : AreLeft originals kept) where
-  -- what a decoder answers that was given what is left
-  by_decoder : (received : Items) (result : Result Shards Error) → AreLeft recovery received → DecodeAnswers (left_with (default_of k r was.size) kept received) result
-      → OneBringsBack originals kept received result
-  by_decoder received result got answers =
-      let s : DecoderState = left_with (default_of k r was.size) kept received in
-      let back = restores_lost s originals recovery result was.shards was.coded (left_among originals kept left) (left_among recovery received got) answers in
+module _ (c : Configuration) (message recovery : List Shard) (kept received : Items) (are : AreShards c.original_count c.shard_bytes message) (coded : AreRecovery c message recovery)
+    (left : AreLeft message kept) (got : AreLeft recovery received) where
+  -- a decoder takes all that is left
+  pub all_taken : with_both (fresh_decoder c) kept received ≡ Ok (left_with c kept received)
+  all_taken =
+      ap (result_and_then (λ now. with_recoveries now received))
+      (originals_taken kept (fresh_decoder c) (fitting c.original_count c.shard_bytes message kept are.length_is (λ i d inside. (are.each i d inside).length_is) left) (all_free kept) left.once)
+      ∙ recoveries_taken received (record (fresh_decoder c) { originals = entered_all nothing kept })
+      (fitting c.recovery_count c.shard_bytes recovery received coded.shards.length_is (λ i d inside. (coded.shards.each i d inside).length_is) got) (all_free received) got.once
+
+  -- and gives back what is lost
+  pub gives_back : (result : Result Shards Error) → DecodeAnswers (left_with c kept received) result → GivesBack message kept received result
+  gives_back result answers =
+      let back = restores_lost (left_with c kept received) message recovery result are coded (left_among message kept left) (left_among recovery received got) answers in
       record {
-        answer = inl (
+        answer =
             back.answer
-            ∙ ap₂ (by_numbers k) (left_count k originals kept was.shards.length_is left) (left_count r recovery received was.coded.shards.length_is got)
-            ∙ ap (λ n. by_numbers n (length kept) (length received)) (sym was.shards.length_is)
-            );
-        restored = if_ok-map result _ _ (λ out h i. h i ∙ lost_same s originals kept i was.shards.length_is refl) back.restored;
+            ∙ ap₂ (by_numbers c.original_count) (left_count c.original_count message kept are.length_is left) (left_count c.recovery_count recovery received coded.shards.length_is got)
+            ∙ ap (λ n. by_numbers n (length kept) (length received)) (sym are.length_is);
+        restored = if_ok-map result _ _ (λ out h i. h i ∙ lost_same (left_with c kept received) message kept i are.length_is refl) back.restored;
       }
 
-  -- a decoder takes all that is left
-  all_taken : (received : Items) → AreLeft recovery received
-      → with_both (fresh_decoder (default_of k r was.size)) kept received ≡ Ok (left_with (default_of k r was.size) kept received)
-  all_taken received got =
-      ap (result_and_then (λ now. with_recoveries now received))
-      (originals_taken kept (fresh_decoder (default_of k r was.size)) (fitting k was.size originals kept was.shards.length_is (λ i d inside. (was.shards.each i d inside).length_is) left) (all_free kept) left.once)
-      ∙ recoveries_taken received (record (fresh_decoder (default_of k r was.size)) { originals = entered_all nothing kept })
-      (fitting r was.size recovery received was.coded.shards.length_is (λ i d inside. (was.coded.shards.each i d inside).length_is) got) (all_free received) got.once
+  pub restores_left : IsOkAnd (with_both (fresh_decoder c) kept received) (λ s. (result : Result Shards Error) → DecodeAnswers s result → GivesBack message kept received result)
+  restores_left =
+      subst (λ (o : Result DecoderState Error). IsOkAnd o (λ s. (result : Result Shards Error) → DecodeAnswers s result → GivesBack message kept received result)) (sym all_taken) gives_back
 
+-- so does one that took all this
+pub taken_gives_back : (c : Configuration) (message recovery : List Shard) (kept received : Items) (s : DecoderState) (result : Result Shards Error)
+    → AreShards c.original_count c.shard_bytes message → AreRecovery c message recovery → AreLeft message kept → AreLeft recovery received
+    → with_both (fresh_decoder c) kept received ≡ Ok s → DecodeAnswers s result → GivesBack message kept received result
+taken_gives_back c message recovery kept received s result are coded left got is answers =
+    subst (λ (o : Result DecoderState Error). IsOkAnd o (λ s. (result : Result Shards Error) → DecodeAnswers s result → GivesBack message kept received result)) is
+    (restores_left c message recovery kept received are coded left got) result answers
+
+module _ (k r : ℕ) (originals recovery : List Shard) (kept : Items) (was : AreCoded k r originals recovery) (left : AreLeft originals kept) where
   -- what is answered by what setting up a decoder answered
   abbrev Begun : Items → Result Shards Error → Result (Unit {0}) Error → Type 0
   Begun received result begun =
@@ -306,8 +325,10 @@ module _ (k r : ℕ) (originals recovery : List Shard) (kept : Items) (was : Are
       by_space : (full : Bool) → Begun received result (cond full (Err OutOfMemory) (Ok tt)) → OneBringsBack originals kept received result
       by_space true h = record { answer = inr h; restored = if_ok-refused result OutOfMemory _ h }
       by_space false h =
-          by_decoder received result got
-          (subst (λ (o : Result DecoderState Error). MatchResult o (λ s. DecodeAnswers s result) (λ e. result ≡ Err e)) (all_taken received got) h)
+          let all = all_taken (default_of k r was.size) originals recovery kept received was.shards was.coded left got in
+          let back = gives_back (default_of k r was.size) originals recovery kept received was.shards was.coded left got result
+          (subst (λ (o : Result DecoderState Error). MatchResult o (λ s. DecodeAnswers s result) (λ e. result ≡ Err e)) all h) in
+          record { answer = inl back.answer; restored = back.restored }
 
   -- where no recovery shard is left
   by_indexes : (result : Result Shards Error) → OneDecodes k r kept [] result → OneBringsBack originals kept [] result

@@ -1,3 +1,4 @@
+pub mod Chains
 pub mod LentRows
 pub mod LentFourRows
 pub mod LentHalves
