@@ -1,13 +1,16 @@
 -- What a configuration is known to be, and what a decoder answers by how many shards it has.
 use Rattle.std.proofs.Common.{◌≡◌, ℕ, zero, suc, ◌+◌, ◌<◌, List, [], length, Bool, true, false, cond, refl, sym, ap, ap₂, ◌∙◌, subst, min, max, Ok}
-use Rattle.std.specs.Prelude.{nat_le, nat_lt, ◌&&◌, not, Some, None, is_some, Result, Err, is_ok, MatchResult}
+use Rattle.std.specs.Prelude.{nat_le, nat_lt, ◌&&◌, not, Some, None, is_some, Result, Err, is_ok, IfOk, MatchResult}
 use Rattle.std.proofs.lemmas.Bool.{and_parts, ltb-true, lt-ltb}
 use Rattle.std.proofs.lemmas.Option.{none-some}
+use Rattle.std.specs.BTreeMap.{BTreeMap}
+use Rattle.std.specs.declared.vec.Vec.{Vec}
 use Rattle.rs_field.specs.declared.error.Error.{Error}
 use Rattle.rs_field.specs.declared.error.Error.TheVariants.{NotEnoughShards}
 use Rattle.rs_field.specs.Column.{Shard, shard_at}
 use Rattle.rs_field.specs.Given.{Shards, nothing, count_below}
 use Rattle.rs_field.specs.Decoder.{DecoderState, fresh_decoder, enough_given, IsAgreeing, missing_of, Restored, DecodeAnswers, after_decode}
+use Rattle.rs_field.specs.OneCall.{collected_map, shards_in}
 use Rattle.rs_field.specs.Counts.{Rate, low_rate, high_rate, default_rate, next_power, supports}
 use Rattle.rs_field.specs.Configuration.{Configuration, validated}
 use Rattle.rs_field.proofs.Entries.{count-nothing}
@@ -80,3 +83,8 @@ restored-missing s out i answers inside missing none =
 -- after a round nothing is given
 pub ended : (s : DecoderState) → enough_given s ≡ Ok tt → after_decode s ≡ fresh_decoder s.configuration
 ended s enough = ap (λ (m : Result (Unit {0}) Error). cond (is_ok m) (fresh_decoder s.configuration) s) enough
+
+-- what holds of the shards that one-call `decode` collected holds of its map
+pub collected-holds : {Y : Type 0} (result : Result (BTreeMap ℕ (Vec ℕ Y)) Error) (P : Shards → Type 0) → IfOk (collected_map result) P → IfOk result (λ m. P (shards_in m))
+collected-holds (Ok m) P h = h
+collected-holds (Err e) P h = tt

@@ -1,8 +1,9 @@
-use Rattle.std.proofs.Common.{rules, ◌≡◌, ◌∙◌, ℕ, Bool, map, not, nat_eq}
+use Rattle.std.proofs.Common.{rules, ℕ, Bool, map, not, nat_eq}
 use Rattle.std.specs.List.{list_any}
 use Rattle.std.proofs.lemmas.Iterator.{YieldsList-from_slice, YieldsList-from_map_by}
 use Rattle.reed_solomon_simd.specs.OneCall.{collected_map}
-use Rattle.reed_solomon_simd.proofs.Left.{kept-left, just-lost}
+use Rattle.reed_solomon_simd.proofs.CallerLemmas.{collected-holds}
+use Rattle.reed_solomon_simd.proofs.Left.{kept_of, kept-left, just-lost}
 use Rattle.reed_solomon_simd.proofs.OneRoundTrip.{restores_in_one_call}
 use Rattle.rs_rows.proofs.Chains.{numbered, filtered}
 use Rattle.rs_rows.proofs.round_trip.round_trip_in_one_call.Goals as goal
@@ -13,13 +14,18 @@ returns c =
     let recovery = map (λ vector. vector.items) c.in_ok-recovery.recovery.items in
     let lost : ℕ → Bool = λ i. list_any (λ index. nat_eq index i) c.args.lost.now in
     let recovery_lost : ℕ → Bool = λ i. list_any (λ index. nat_eq index i) c.args.recovery_lost.now in
-    let coded = YieldsList-from_map_by _ (λ shard. shard.now) (λ vector. vector.items) (YieldsList-from_slice c.args.originals.now cc) c.map-shards.ensures.closure (λ x r q k. search rules) in
-    let shards = YieldsList-from_map_by _ (λ shard. shard.now) (λ vector. vector.items) (YieldsList-from_slice c.args.originals.now cc) c.map.ensures.closure (λ x r q k. search rules) in
-    let made = YieldsList-from_map_by _ (λ shard. shard.now) (λ vector. vector.items) (YieldsList-from_slice c.in_ok-recovery.recovery.items cc) c.map-2.ensures.closure (λ x r q k. search rules) in
-    let kept = filtered c.filter-kept.result _ (λ item. not (lost item.0)) _ (numbered c.enumerate.result shards c.enumerate.ensures.source c.enumerate.ensures.count)
-    c.filter-kept.ensures.source c.filter-kept.ensures.closure (λ x b q k. search rules) in
-    let received = filtered c.filter-received.result _ (λ item. not (recovery_lost item.0)) _ (numbered c.enumerate-2.result made c.enumerate-2.ensures.source c.enumerate-2.ensures.count)
-    c.filter-received.ensures.source c.filter-received.ensures.closure (λ x b q k. search rules) in
-    let back = restores_in_one_call _ _ originals recovery _ _ (collected_map c.decode.result) (c.in_ok-recovery.ensures.coded originals coded.runs)
-    (kept-left originals lost) (kept-left recovery recovery_lost) (c.decode.ensures.answer _ _ kept.runs received.runs) in
-    just-lost originals lost (collected_map c.decode.result) back.restored
+    let was = c.in_ok-recovery.ensures.coded originals
+    (YieldsList-from_map_by _ (λ shard. shard.now) (λ vector. vector.items) (YieldsList-from_slice c.args.originals.now cc) c.map-shards.ensures.closure (λ x r q k. search rules)).runs in
+    let answer = c.decode.ensures.answer (kept_of originals lost) (kept_of recovery recovery_lost)
+    (filtered c.filter-kept.result _ (λ item. not (lost item.0)) _
+    (numbered c.enumerate.result
+    (YieldsList-from_map_by _ (λ shard. shard.now) (λ vector. vector.items) (YieldsList-from_slice c.args.originals.now cc) c.map.ensures.closure (λ x r q k. search rules))
+    c.enumerate.ensures.source c.enumerate.ensures.count)
+    c.filter-kept.ensures.source c.filter-kept.ensures.closure (λ x b q k. search rules)).runs
+    (filtered c.filter-received.result _ (λ item. not (recovery_lost item.0)) _
+    (numbered c.enumerate-2.result
+    (YieldsList-from_map_by _ (λ shard. shard.now) (λ vector. vector.items) (YieldsList-from_slice c.in_ok-recovery.recovery.items cc) c.map-2.ensures.closure (λ x r q k. search rules))
+    c.enumerate-2.ensures.source c.enumerate-2.ensures.count)
+    c.filter-received.ensures.source c.filter-received.ensures.closure (λ x b q k. search rules)).runs in
+    let back = restores_in_one_call _ _ originals recovery _ _ (collected_map c.decode.result) was (kept-left originals lost) (kept-left recovery recovery_lost) answer in
+    collected-holds c.decode.result _ (just-lost originals lost (collected_map c.decode.result) back.restored)
