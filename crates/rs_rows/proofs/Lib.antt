@@ -1,3 +1,4 @@
+pub mod Stepping
 pub mod Chains
 pub mod LentRows
 pub mod LentFourRows

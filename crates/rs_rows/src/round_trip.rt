@@ -108,9 +108,10 @@ fn give_kept(
     ensures { OnOk result (with_originals (decoder_state decoder.old) (left_of (map (λ shard. shard.items) originals.now) lost.now) ≡ Ok (decoder_state decoder.new)) }
 {
     for (index, original) in originals.iter().enumerate() {
-        if !lost.contains(&index) {
-            decoder.add_original_shard(index, original)?;
+        if lost.contains(&index) {
+            continue;
         }
+        decoder.add_original_shard(index, original)?;
     }
     Ok(())
 }
@@ -124,9 +125,10 @@ fn give_received(
     ensures { OnOk result (with_recoveries (decoder_state decoder.old) (left_of (recovery_shards recovery.now) lost.now) ≡ Ok (decoder_state decoder.new)) }
 {
     for (index, shard) in recovery.recovery_iter().enumerate() {
-        if !lost.contains(&index) {
-            decoder.add_recovery_shard(index, shard)?;
+        if lost.contains(&index) {
+            continue;
         }
+        decoder.add_recovery_shard(index, shard)?;
     }
     Ok(())
 }
