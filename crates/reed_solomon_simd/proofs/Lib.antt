@@ -8,6 +8,7 @@ pub mod Collecting
 pub mod OneDecode
 pub mod OneEncode
 pub mod CallerLemmas
+pub mod ObjectRoundTrip
 pub use Rattle.rs_field.proofs.Given
 pub use Rattle.rs_field.proofs.Listed
 pub use Rattle.rs_field.proofs.Entries
