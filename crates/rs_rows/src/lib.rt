@@ -27,6 +27,7 @@ pub mod one_call;
 #[cfg(test)]
 mod one_call_rows;
 pub mod plain_callers;
+pub mod rate_round_trip;
 #[cfg(test)]
 mod refusals;
 #[cfg(test)]
