@@ -1,8 +1,8 @@
 -- What one-call `encode` coded, and what one-call `decode` brings back of it.
 use Rattle.std.proofs.Common.{◌≡◌, ℕ, ◌+◌, ◌<◌, ◌≤◌, ◌++◌, ◌∷◌, ◌^◌, [], Bool, true, false, cond, not, ◌&&◌, ◌||◌, ◌%◌, List, length, refl, sym, ap, ap₂, subst, ◌∙◌, inl, inr, arith, append_assoc, append-nil, length-append, All, nat_eq, add-zero, zero-add}
-use Rattle.std.specs.Prelude.{Result, Ok, Err, Some, None, is_some, IfOk, IsOkAnd, MatchResult, nat_le, nat_lt, ◌==◌}
+use Rattle.std.specs.Prelude.{Result, Ok, Err, Some, None, is_some, IfOk, IfErr, IsOkAnd, MatchResult, nat_le, nat_lt, ◌==◌}
 use Rattle.std.specs.List.{AllByRecursion, IsDistinct, list_any}
-use Rattle.std.proofs.lemmas.Bool.{ltb-false, leb-false, lt-leb, eqb-true, eqb-false, eq-eqb, ne_eqb, ltb-true, or_from}
+use Rattle.std.proofs.lemmas.Bool.{ltb-false, leb-false, lt-leb, eqb-true, eqb-false, eq-eqb, ne_eqb, le-ltb, ltb-true, or_from}
 use Rattle.std.proofs.lemmas.List.Elements.{All-nil, All-cons, recursion_from_All}
 use Rattle.std.proofs.lemmas.Map.Keys.{IsDistinct-head, IsDistinct-tail}
 use Rattle.rs_field.specs.declared.error.Error.{Error}
@@ -21,6 +21,7 @@ use Rattle.rs_field.specs.RoundTrip.{AreCoded, AreLeft, enough_left, lost_of, Gi
 use Rattle.rs_field.proofs.Given.{nothing_among}
 use Rattle.rs_field.proofs.Entries.{entered_all, count-nothing, AreFree, indexes, free-next, count-entered_all, among-entered_all, some-entered_all, all_some}
 use Rattle.rs_field.proofs.RoundTrip.{answered, restores_lost}
+use Rattle.rs_field.proofs.SupportedCounts.{default_fits}
 
 -- a step after a success was reached by that success
 then_ok : {S T : Type 0} (f : S → Result T Error) (o : Result S Error) (t : T) → result_and_then f o ≡ Ok t → (s : S) × (o ≡ Ok s) × (f s ≡ Ok t)
@@ -102,6 +103,73 @@ codes_in_one_call k r originals recovery bytes (inl answers) = by_outcome origin
     by_outcome : (shards : List Shard) → All (All (λ b. b < 256)) shards → (o : Result EncoderState Error) → encoding k r shards ≡ o → MatchResult o (λ s. EncodeAnswers s (Ok recovery)) (λ e. Ok recovery ≡ Err e) → AreCoded k r shards recovery
     by_outcome shards small (Err e) same h = absurd (let no : ⊥ = cc in no)
     by_outcome shards small (Ok s) same h = by_shards shards small s same h
+
+-- a success without a value
+abbrev made : Result (Unit {0}) Error
+made = Ok tt
+
+-- counts of a valid configuration are supported
+supported_valid : (k r size : ℕ) → validated (default_of k r size) ≡ Ok tt → supports default_rate k r ≡ true
+supported_valid k r size valid = by_support (supports default_rate k r) valid
+  where
+    by_support : (b : Bool) → cond (not b) (Err (UnsupportedShardCount k r)) (cond (size == 0 || size % 2 == 1) (Err (InvalidShardSize size)) made) ≡ made → b ≡ true
+    by_support true h = refl
+    by_support false h = absurd (let no : ⊥ = cc in no)
+
+counted_valid : (k r size : ℕ) → validated (default_of k r size) ≡ Ok tt → counted k r ≡ Ok tt
+counted_valid k r size valid = ap (λ (b : Bool). cond b made (Err (UnsupportedShardCount k r))) (supported_valid k r size valid)
+
+-- an encoder takes shards of its size, as many as there is room for
+all_given : (shards : List Shard) (s : EncoderState) → length s.given + length shards ≤ s.configuration.original_count → AllByRecursion (λ x. length x ≡ s.configuration.shard_bytes) shards
+    → with_shards s shards ≡ Ok (record s { given = s.given ++ shards })
+all_given [] s room sized = ap (λ given. Ok (record s { given = given })) (sym (append-nil s.given))
+all_given (x ∷ xs) s room sized =
+    let first : with_shard s x ≡ Ok (record s { given = s.given ++ x ∷ [] }) =
+    rw (lt-leb s.configuration.original_count (length s.given) (omega arith), eq-eqb (length x) s.configuration.shard_bytes sized.0) refl in
+    let long : length (s.given ++ x ∷ []) ≡ length s.given + 1 = length-append s.given (x ∷ []) in
+    ap (result_and_then (λ next. with_shards next xs)) first
+    ∙ all_given xs (record s { given = s.given ++ x ∷ [] }) (omega arith) sized.1
+    ∙ ap (λ given. Ok (record s { given = given })) (append_assoc s.given (x ∷ []) xs)
+
+-- an encoder that has all its originals is not refused
+encoded_whole : (s : EncoderState) (result : Result (List Shard) Error) → s.configuration.original_count ≤ length s.given → EncodeAnswers s result → IfErr result (λ e. e ≡ OutOfMemory)
+encoded_whole s result many answers = by_test result (nat_lt (length s.given) s.configuration.original_count) (le-ltb (length s.given) s.configuration.original_count many) answers
+  where
+    by_test : (r : Result (List Shard) Error) (few : Bool) → few ≡ false → MatchResult (cond few (Err (TooFewOriginalShards s.configuration.original_count (length s.given))) (Ok s.given))
+        (λ message. IsOkAnd r (AreRecovery s.configuration message)) (λ f. r ≡ Err f) → IfErr r (λ e. e ≡ OutOfMemory)
+    by_test (Ok recovery) few is h = tt
+    by_test (Err e) true is h = absurd (let no : ⊥ = cc in no)
+    by_test (Err e) false is h = absurd h
+
+module _ (k r size : ℕ) (shards : List Shard) (result : Result (List Shard) Error) (valid : validated (default_of k r size) ≡ Ok tt) (are : AreShards k size shards) where
+  -- what is answered by what setting up an encoder answered
+  abbrev Set : Result (Unit {0}) Error → Type 0
+  Set set = MatchResult (result_and_then (λ _. with_shards (fresh_encoder (default_of k r size)) shards) set) (λ s. EncodeAnswers s result) (λ e. result ≡ Err e)
+
+  whole_by_start : Set (started (encoder_rows default_rate k r) (default_of k r size)) → IfErr result (λ e. e ≡ OutOfMemory)
+  whole_by_start answers =
+      by_space (nat_le (2 ^ 64) (space (encoder_rows default_rate k r) size))
+      (subst Set (ap (result_and_then (λ _. cond (nat_le (2 ^ 64) (space (encoder_rows default_rate k r) size)) (Err OutOfMemory) (Ok tt))) valid) answers)
+    where
+      by_space : (full : Bool) → Set (cond full (Err OutOfMemory) (Ok tt)) → IfErr result (λ e. e ≡ OutOfMemory)
+      by_space true h = subst (λ (o : Result (List Shard) Error). IfErr o (λ e. e ≡ OutOfMemory)) (sym h) refl
+      by_space false h =
+          let all = all_given shards (fresh_encoder (default_of k r size)) (omega (arith, are.length_is)) (recursion_from_All (λ x. length x ≡ size) shards (λ i d inside. (are.each i d inside).length_is)) in
+          encoded_whole (record { configuration = default_of k r size; given = shards }) result (omega (arith, are.length_is))
+          (subst (λ (o : Result EncoderState Error). MatchResult o (λ s. EncodeAnswers s result) (λ e. result ≡ Err e)) all h)
+
+pub encodes_in_one_call : (k r size : ℕ) (originals : List Shard) (result : Result (List Shard) Error) → validated (default_of k r size) ≡ Ok tt → AreShards k size originals
+    → OneEncodeAnswers k r originals result → IfErr result (λ e. e ≡ OutOfMemory)
+encodes_in_one_call k r size originals result valid are (inr lacks) = subst (λ (o : Result (List Shard) Error). IfErr o (λ e. e ≡ OutOfMemory)) (sym lacks.1) refl
+encodes_in_one_call k r size [] result valid are (inl answers) =
+    let some = default_fits k r (supported_valid k r size valid) in
+    let none : 0 ≡ k = are.length_is in
+    absurd (let no : ⊥ = omega (arith, some.0) in no)
+encodes_in_one_call k r size (x ∷ xs) result valid are (inl answers) =
+    let first : length x ≡ size = (are.each 0 x (omega arith)).length_is in
+    whole_by_start k r size (x ∷ xs) result valid are
+    (subst (λ (n : ℕ). MatchResult (result_and_then (λ _. with_shards (fresh_encoder (default_of k r n)) (x ∷ xs)) (started (encoder_rows default_rate k r) (default_of k r n)))
+    (λ s. EncodeAnswers s result) (λ e. result ≡ Err e)) first answers)
 
 -- shards that an encoder took one after another are a message, and what it answered are their recovery shards
 pub encoded_all : (rate : Rate) (c : Configuration) (shards recovery : List Shard) (s : EncoderState) → IsEncoder rate s → with_shards (fresh_encoder c) shards ≡ Ok s
@@ -195,19 +263,6 @@ unfolding missing_of lost_of
 lost_same s originals kept i long is =
     ap₂ (λ (n : ℕ) (b : Bool). cond (nat_lt i n && not b) (Some (shard_at originals i)) None) (sym long)
     (ap (λ (g : Shards). is_some (g i)) is ∙ some-entered_all kept nothing i)
-
--- a success without a value
-abbrev made : Result (Unit {0}) Error
-made = Ok tt
-
--- counts of a valid configuration are supported
-counted_valid : (k r size : ℕ) → validated (default_of k r size) ≡ Ok tt → counted k r ≡ Ok tt
-counted_valid k r size valid = by_support (supports default_rate k r) valid
-  where
-    by_support : (b : Bool) → cond (not b) (Err (UnsupportedShardCount k r)) (cond (size == 0 || size % 2 == 1) (Err (InvalidShardSize size)) made) ≡ made
-        → cond b made (Err (UnsupportedShardCount k r)) ≡ made
-    by_support true h = refl
-    by_support false h = absurd (let no : ⊥ = cc in no)
 
 -- an index that was noted is not one of the others
 absent_next : (k : ℕ) (came : List ℕ) (items : Items) → AllByRecursion (λ i. nat_eq k i ≡ false) (indexes items) → AllByRecursion (λ item. list_any (nat_eq item.0) came ≡ false) items

@@ -1,5 +1,5 @@
 -- The round trip: from shards of a message that are left, the originals that are lost come back as they were.
-use Rattle.std.specs.Prelude.{◌≡◌, ℕ, ◌+◌, ◌<◌, ◌⊎◌, ◌&&◌, not, nat_lt, nat_eq, if◌then◌else◌, List, length, map, All, Some, None, Result, Ok, Err, IfOk, IsOkAnd}
+use Rattle.std.specs.Prelude.{◌≡◌, ℕ, ◌+◌, ◌<◌, ◌⊎◌, ◌&&◌, not, nat_lt, nat_eq, if◌then◌else◌, List, length, map, All, Some, None, Result, Ok, Err, IfOk, IfErr, IsOkAnd}
 use Rattle.std.specs.List.{IsDistinct, list_any}
 use Rattle.rs_field.specs.declared.error.Error.{Error}
 use Rattle.rs_field.specs.declared.error.Error.TheVariants.{NotEnoughShards, OutOfMemory}
@@ -75,6 +75,12 @@ pub record AreCoded (k r : ℕ) (originals recovery : List Shard) : Type 0 where
 abbrev pub CodesInOneCall : Type 0
 CodesInOneCall =
     (k r : ℕ) (originals recovery : List Shard) → All (All (λ b. b < 256)) originals → OneEncodeAnswers k r originals (Ok recovery) → AreCoded k r originals recovery
+
+-- one-call `encode` of k shards of a valid size is never refused, but for want of memory
+abbrev pub EncodesInOneCall : Type 0
+EncodesInOneCall =
+    (k r size : ℕ) (originals : List Shard) (result : Result (List Shard) Error) → validated (default_of k r size) ≡ Ok tt → AreShards k size originals
+    → OneEncodeAnswers k r originals result → IfErr result (λ e. e ≡ OutOfMemory)
 
 -- what one-call `decode` answers where the originals are known: a success where shards enough are left, with exactly the lost originals, else that refusal; or out of memory
 pub record OneBringsBack (originals : List Shard) (kept received : Items) (result : Result Shards Error) : Type 0 where

@@ -8,7 +8,7 @@ ghost use Rattle.rs_field.specs.Field.{cantor_basis, polynomial};
 ghost use Rattle.rs_field.specs.Layout.{LaysColumns};
 ghost use Rattle.rs_field.specs.Laws.{IsField, IsGenerated, IsProductOfBits};
 ghost use Rattle.rs_field.specs.Locator.{LocatesByProduct};
-ghost use Rattle.rs_field.specs.RoundTrip.{RestoresLost, RestoresEncoded, RestoresLeft, CodesInOneCall, RestoresInOneCall};
+ghost use Rattle.rs_field.specs.RoundTrip.{RestoresLost, RestoresEncoded, RestoresLeft, CodesInOneCall, EncodesInOneCall, RestoresInOneCall};
 ghost use Rattle.rs_field.specs.Subspace.{SubspaceIsShift};
 
 use crate::engine::{CANTOR_BASIS, GF_BITS, GF_MODULUS, GF_ORDER, GF_POLYNOMIAL};
@@ -70,6 +70,7 @@ pub fn round_trip_laws()
     ensures encoded { RestoresEncoded }
     ensures left { RestoresLeft }
     ensures one_encode { CodesInOneCall }
+    ensures one_encode_whole { EncodesInOneCall }
     ensures one_call { RestoresInOneCall }
 {}
 
