@@ -1,6 +1,6 @@
 -- What a configuration is known to be, and what a decoder answers by how many shards it has.
 use Rattle.std.proofs.Common.{◌≡◌, ℕ, zero, suc, ◌+◌, ◌<◌, List, [], length, Bool, true, false, cond, refl, sym, ap, ap₂, ◌∙◌, subst, min, max, Ok}
-use Rattle.std.specs.Prelude.{nat_le, nat_lt, ◌&&◌, not, Some, None, is_some, Result, Err, is_ok, IfOk, MatchResult}
+use Rattle.std.specs.Prelude.{nat_le, nat_lt, ◌&&◌, not, Some, None, is_some, Result, Err, is_ok, IfOk, IfErr, MatchResult}
 use Rattle.std.proofs.lemmas.Bool.{and_parts, ltb-true, lt-ltb}
 use Rattle.std.proofs.lemmas.Option.{none-some}
 use Rattle.std.specs.BTreeMap.{BTreeMap}
@@ -88,3 +88,8 @@ ended s enough = ap (λ (m : Result (Unit {0}) Error). cond (is_ok m) (fresh_dec
 pub collected-holds : {Y : Type 0} (result : Result (BTreeMap ℕ (Vec ℕ Y)) Error) (P : Shards → Type 0) → IfOk (collected_map result) P → IfOk result (λ m. P (shards_in m))
 collected-holds (Ok m) P h = h
 collected-holds (Err e) P h = tt
+
+-- and what holds of its refusal
+pub collected-refused : {Y : Type 0} (result : Result (BTreeMap ℕ (Vec ℕ Y)) Error) (P : Error → Type 0) → IfErr (collected_map result) P → IfErr result P
+collected-refused (Ok m) P h = tt
+collected-refused (Err e) P h = h

@@ -1,7 +1,7 @@
 -- What is left of a list of shards, each with its index, where a test tells which are lost.
-use Rattle.std.proofs.Common.{◌≡◌, ℕ, ◌+◌, ◌<◌, ◌&&◌, Bool, true, false, cond, not, List, [], ◌∷◌, length, refl, sym, ap, subst, ◌∙◌, arith, nat_eq, nat_lt, Some, None, Result, Ok, Err, IfOk}
+use Rattle.std.proofs.Common.{◌≡◌, ℕ, ◌+◌, ◌<◌, ◌&&◌, Bool, true, false, cond, not, List, [], ◌∷◌, length, refl, sym, ap, subst, ◌∙◌, arith, nat_eq, nat_lt, Some, None, Result, Ok, Err, IfOk, IfErr, inl, inr, ◌≤◌}
 use Rattle.std.specs.List.{AllByRecursion, IsDistinct, enumerate_from, filter, list_any}
-use Rattle.std.proofs.lemmas.Bool.{eqb-true, ne_eqb, eq-eqb, ltb-true}
+use Rattle.std.proofs.lemmas.Bool.{eqb-true, ne_eqb, eq-eqb, le-ltb, ltb-true}
 use Rattle.std.proofs.lemmas.List.{get_or_default}
 use Rattle.std.proofs.lemmas.List.Elements.{All-filter}
 use Rattle.std.proofs.lemmas.List.Folds.{list_any_at}
@@ -12,8 +12,9 @@ use Rattle.std.proofs.lemmas.Map.Views.{any-filter_same}
 use Rattle.rs_field.specs.Column.{Shard, shard_at}
 use Rattle.rs_field.specs.Given.{Shards}
 use Rattle.rs_field.specs.OneCall.{Items}
-use Rattle.rs_field.specs.RoundTrip.{AreLeft, lost_of}
+use Rattle.rs_field.specs.RoundTrip.{AreLeft, lost_of, OneBringsBack}
 use Rattle.rs_field.specs.declared.error.Error.{Error}
+use Rattle.rs_field.specs.declared.error.Error.TheVariants.{NotEnoughShards, OutOfMemory}
 use Rattle.rs_field.proofs.Entries.{indexes}
 
 -- the shards that aren't lost, with their indexes
@@ -70,3 +71,16 @@ pub just-lost : (shards : List Shard) (lost : ℕ → Bool) (result : Result Sha
     → IfOk result (λ out. (i : ℕ) → out i ≡ cond (nat_lt i (length shards) && lost i) (Some (shard_at shards i)) None)
 just-lost shards lost (Ok out) same = λ i. same i ∙ lost-kept shards lost i
 just-lost shards lost (Err e) same = tt
+
+-- where as many are left as there are originals, one-call `decode` is never refused but for want of memory
+pub enough-left : (originals : List Shard) (kept received : Items) (result : Result Shards Error) → OneBringsBack originals kept received result
+    → length originals ≤ length kept + length received → IfErr result (λ e. e ≡ OutOfMemory)
+enough-left originals kept received (Ok out) back many = tt
+enough-left originals kept received (Err e) back many = elim back.answer [
+  | inl same ↦ by_test (nat_lt (length kept + length received) (length originals)) (le-ltb (length kept + length received) (length originals) many) same
+  | inr short ↦ cc
+]
+  where
+    by_test : (few : Bool) → few ≡ false → ◌≡◌ {A = Result (Unit {0}) Error} (Err e) (cond few (Err (NotEnoughShards (length originals) (length kept) (length received))) (Ok tt)) → e ≡ OutOfMemory
+    by_test true is h = absurd (let no : ⊥ = cc in no)
+    by_test false is h = absurd (let no : ⊥ = cc in no)

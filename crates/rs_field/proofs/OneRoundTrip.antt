@@ -141,7 +141,8 @@ encoded_whole s result many answers = by_test result (nat_lt (length s.given) s.
     by_test (Err e) true is h = absurd (let no : ⊥ = cc in no)
     by_test (Err e) false is h = absurd h
 
-module _ (k r size : ℕ) (shards : List Shard) (result : Result (List Shard) Error) (valid : validated (default_of k r size) ≡ Ok tt) (are : AreShards k size shards) where
+module _ (k r size : ℕ) (shards : List Shard) (result : Result (List Shard) Error) (valid : validated (default_of k r size) ≡ Ok tt) (count : length shards ≡ k)
+    (sized : All (λ shard. length shard ≡ size) shards) where
   -- what is answered by what setting up an encoder answered
   abbrev Set : Result (Unit {0}) Error → Type 0
   Set set = MatchResult (result_and_then (λ _. with_shards (fresh_encoder (default_of k r size)) shards) set) (λ s. EncodeAnswers s result) (λ e. result ≡ Err e)
@@ -154,20 +155,20 @@ module _ (k r size : ℕ) (shards : List Shard) (result : Result (List Shard) Er
       by_space : (full : Bool) → Set (cond full (Err OutOfMemory) (Ok tt)) → IfErr result (λ e. e ≡ OutOfMemory)
       by_space true h = subst (λ (o : Result (List Shard) Error). IfErr o (λ e. e ≡ OutOfMemory)) (sym h) refl
       by_space false h =
-          let all = all_given shards (fresh_encoder (default_of k r size)) (omega (arith, are.length_is)) (recursion_from_All (λ x. length x ≡ size) shards (λ i d inside. (are.each i d inside).length_is)) in
-          encoded_whole (record { configuration = default_of k r size; given = shards }) result (omega (arith, are.length_is))
+          let all = all_given shards (fresh_encoder (default_of k r size)) (omega (arith, count)) (recursion_from_All (λ x. length x ≡ size) shards sized) in
+          encoded_whole (record { configuration = default_of k r size; given = shards }) result (omega (arith, count))
           (subst (λ (o : Result EncoderState Error). MatchResult o (λ s. EncodeAnswers s result) (λ e. result ≡ Err e)) all h)
 
-pub encodes_in_one_call : (k r size : ℕ) (originals : List Shard) (result : Result (List Shard) Error) → validated (default_of k r size) ≡ Ok tt → AreShards k size originals
-    → OneEncodeAnswers k r originals result → IfErr result (λ e. e ≡ OutOfMemory)
-encodes_in_one_call k r size originals result valid are (inr lacks) = subst (λ (o : Result (List Shard) Error). IfErr o (λ e. e ≡ OutOfMemory)) (sym lacks.1) refl
-encodes_in_one_call k r size [] result valid are (inl answers) =
+pub encodes_in_one_call : (k r size : ℕ) (originals : List Shard) (result : Result (List Shard) Error) → validated (default_of k r size) ≡ Ok tt
+    → length originals ≡ k → All (λ shard. length shard ≡ size) originals → OneEncodeAnswers k r originals result → IfErr result (λ e. e ≡ OutOfMemory)
+encodes_in_one_call k r size originals result valid count sized (inr lacks) = subst (λ (o : Result (List Shard) Error). IfErr o (λ e. e ≡ OutOfMemory)) (sym lacks.1) refl
+encodes_in_one_call k r size [] result valid count sized (inl answers) =
     let some = default_fits k r (supported_valid k r size valid) in
-    let none : 0 ≡ k = are.length_is in
+    let none : 0 ≡ k = count in
     absurd (let no : ⊥ = omega (arith, some.0) in no)
-encodes_in_one_call k r size (x ∷ xs) result valid are (inl answers) =
-    let first : length x ≡ size = (are.each 0 x (omega arith)).length_is in
-    whole_by_start k r size (x ∷ xs) result valid are
+encodes_in_one_call k r size (x ∷ xs) result valid count sized (inl answers) =
+    let first : length x ≡ size = sized 0 x (omega arith) in
+    whole_by_start k r size (x ∷ xs) result valid count sized
     (subst (λ (n : ℕ). MatchResult (result_and_then (λ _. with_shards (fresh_encoder (default_of k r n)) (x ∷ xs)) (started (encoder_rows default_rate k r) (default_of k r n)))
     (λ s. EncodeAnswers s result) (λ e. result ≡ Err e)) first answers)
 

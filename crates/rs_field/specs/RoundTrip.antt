@@ -79,8 +79,8 @@ CodesInOneCall =
 -- one-call `encode` of k shards of a valid size is never refused, but for want of memory
 abbrev pub EncodesInOneCall : Type 0
 EncodesInOneCall =
-    (k r size : ℕ) (originals : List Shard) (result : Result (List Shard) Error) → validated (default_of k r size) ≡ Ok tt → AreShards k size originals
-    → OneEncodeAnswers k r originals result → IfErr result (λ e. e ≡ OutOfMemory)
+    (k r size : ℕ) (originals : List Shard) (result : Result (List Shard) Error) → validated (default_of k r size) ≡ Ok tt
+    → length originals ≡ k → All (λ shard. length shard ≡ size) originals → OneEncodeAnswers k r originals result → IfErr result (λ e. e ≡ OutOfMemory)
 
 -- what one-call `decode` answers where the originals are known: a success where shards enough are left, with exactly the lost originals, else that refusal; or out of memory
 pub record OneBringsBack (originals : List Shard) (kept received : Items) (result : Result Shards Error) : Type 0 where

@@ -1,3 +1,4 @@
+pub mod LeftCount
 pub mod Stepping
 pub mod Chains
 pub mod LentRows

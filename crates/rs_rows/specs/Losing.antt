@@ -1,5 +1,5 @@
 -- Shards that are lost.
-use Rattle.std.specs.Prelude.{ℕ, Bool, ◌&&◌, not, List, length, nat_lt, nat_eq, Some, None, if◌then◌else◌}
+use Rattle.std.specs.Prelude.{ℕ, zero, suc, ◌+◌, Bool, ◌&&◌, not, List, length, nat_lt, nat_eq, Some, None, if◌then◌else◌}
 use Rattle.std.specs.List.{list_any, filter, enumerate_from}
 use Rattle.reed_solomon_simd.specs.Column.{Shard, shard_at}
 use Rattle.reed_solomon_simd.specs.Given.{Shards}
@@ -16,3 +16,12 @@ is_left lost item = not (list_any (λ index. nat_eq index item.0) lost)
 -- the shards that aren't lost, with their indexes, in order
 abbrev pub left_of : List Shard → List ℕ → Items
 left_of shards lost = filter (is_left lost) (enumerate_from 0 shards)
+
+-- how many of the n indexes from one on aren't lost
+abbrev pub left_from : ℕ → ℕ → List ℕ → ℕ
+left_from from zero lost = 0
+left_from from (suc n) lost = (if list_any (λ index. nat_eq index from) lost then 0 else 1) + left_from (from + 1) n lost
+
+-- how many of the indexes below n aren't lost
+abbrev pub left_below : ℕ → List ℕ → ℕ
+left_below n lost = left_from 0 n lost

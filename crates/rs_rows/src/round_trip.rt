@@ -1,11 +1,12 @@
 //! Round trips: shards are coded, some are lost, and just the lost originals come back, each as it was.
-ghost use Rattle.std.specs.Prelude.{◌≡◌, ℕ, map, Ok, IfOk, OnOk};
+ghost use Rattle.std.specs.Prelude.{◌≡◌, ◌+◌, ◌≤◌, ℕ, length, map, All, Ok, IfOk, IfErr, OnOk};
+ghost use Rattle.reed_solomon_simd.specs.Configuration.{validated};
 ghost use Rattle.reed_solomon_simd.specs.DecoderObject.{state_of as decoder_state};
 ghost use Rattle.reed_solomon_simd.specs.EncoderObject.{state_of as encoder_state};
 ghost use Rattle.reed_solomon_simd.specs.Given.{Lists};
-ghost use Rattle.reed_solomon_simd.specs.OneCall.{shards_in, with_shards, with_originals, with_recoveries};
+ghost use Rattle.reed_solomon_simd.specs.OneCall.{default_of, shards_in, with_shards, with_originals, with_recoveries};
 ghost use Rattle.reed_solomon_simd.specs.ResultView.{recovery_shards};
-ghost use Rattle.rs_rows.specs.Losing.{lost_at, left_of};
+ghost use Rattle.rs_rows.specs.Losing.{lost_at, left_of, left_below};
 
 use crate::walking::restored_copies;
 use reed_solomon_simd::engine::DefaultEngine;
@@ -16,7 +17,8 @@ use std::alloc::Global;
 use std::collections::BTreeMap;
 
 /// Codes the originals in one call, loses the originals and the recovery shards of these indexes, and restores what is
-/// lost in another call: just the lost originals come back, each as it was.
+/// lost in another call: just the lost originals come back, each as it was. Where the counts and the size are valid, and as
+/// many shards are left as there are originals, it is never refused but for want of memory.
 pub fn round_trip_in_one_call(
     alloc: Global,
     originals: &[Vec<u8>],
@@ -25,7 +27,10 @@ pub fn round_trip_in_one_call(
     recovery_lost: &[usize],
     engine: DefaultEngine<'_>,
 ) -> Result<BTreeMap<usize, Vec<u8>>, Error>
-    ensures { IfOk result (λ restored. (i : ℕ) → shards_in restored i ≡ lost_at (map (λ shard. shard.items) originals.now) lost.now i) }
+    ensures restored { IfOk result (λ restored. (i : ℕ) → shards_in restored i ≡ lost_at (map (λ shard. shard.items) originals.now) lost.now i) }
+    ensures enough { (size : ℕ) → validated (default_of (length originals.now) recovery_count size) ≡ Ok tt → All (λ shard. length shard.items ≡ size) originals.now
+        → length originals.now ≤ left_below (length originals.now) lost.now + left_below recovery_count recovery_lost.now
+        → IfErr result (λ e. e ≡ Error.OutOfMemory) }
 {
     let original_count = originals.len();
     let shards = originals.iter().map(|shard| shard.as_slice());

@@ -1,12 +1,17 @@
-use Rattle.std.proofs.Common.{rules, ℕ, Bool, map, not, nat_eq}
+use Rattle.std.proofs.Common.{rules, ◌≡◌, ◌+◌, ◌≤◌, ℕ, Bool, map, not, nat_eq, length, arith}
 use Rattle.std.specs.List.{list_any}
 use Rattle.std.proofs.lemmas.Iterator.{YieldsList-from_slice, YieldsList-from_map_by}
 use Rattle.reed_solomon_simd.specs.OneCall.{collected_map}
-use Rattle.reed_solomon_simd.proofs.CallerLemmas.{collected-holds}
-use Rattle.reed_solomon_simd.proofs.Left.{kept_of, kept-left, just-lost}
+use Rattle.reed_solomon_simd.proofs.CallerLemmas.{collected-holds, collected-refused}
+use Rattle.reed_solomon_simd.proofs.Left.{kept_of, kept-left, just-lost, enough-left}
 use Rattle.reed_solomon_simd.proofs.OneRoundTrip.{restores_in_one_call}
+use Rattle.rs_rows.specs.Losing.{left_of, left_below}
 use Rattle.rs_rows.proofs.Chains.{numbered, filtered}
+use Rattle.rs_rows.proofs.LeftCount.{left-count}
 use Rattle.rs_rows.proofs.round_trip.round_trip_in_one_call.Goals as goal
+
+pub returns-in_err-recovery-clause-enough : goal.returns-in_err-recovery-clause-enough
+returns-in_err-recovery-clause-enough c size valid sized many = ?
 
 pub returns : goal.returns
 returns c =
@@ -28,4 +33,10 @@ returns c =
     c.enumerate-2.ensures.source c.enumerate-2.ensures.count)
     c.filter-received.ensures.source c.filter-received.ensures.closure (λ x b q k. search rules)).runs in
     let back = restores_in_one_call _ _ originals recovery _ _ (collected_map c.decode.result) was (kept-left originals lost) (kept-left recovery recovery_lost) answer in
-    collected-holds c.decode.result _ (just-lost originals lost (collected_map c.decode.result) back.restored)
+    record {
+      restored = collected-holds c.decode.result _ (just-lost originals lost (collected_map c.decode.result) back.restored);
+      enough = λ size valid sized many.
+          let own = left-count 0 c.args.lost.now originals in
+          let coded = left-count 0 c.args.recovery_lost.now recovery in
+          ?;
+    }
