@@ -23,9 +23,9 @@ module _ (rate : Rate) (c : Configuration) (shards recovery : List Shard) (lost 
       let all = encoded_all rate c shards recovery encoder is (ap (λ s. with_shards s shards) (sym fresh) ∙ given) encoded in
       taken_gives_back c shards recovery (kept_of shards lost) (kept_of recovery recovery_lost) decoder result all.0 all.1 (kept-left shards lost) (kept-left recovery recovery_lost)
       (
-        ap (λ s. result_and_then (λ now. with_recoveries now (kept_of recovery recovery_lost)) (with_originals s (kept_of shards lost))) (sym started)
-        ∙ ap (result_and_then (λ now. with_recoveries now (kept_of recovery recovery_lost))) own
-        ∙ coded
+      ap (λ s. result_and_then (λ now. with_recoveries now (kept_of recovery recovery_lost)) (with_originals s (kept_of shards lost))) (sym started)
+      ∙ ap (result_and_then (λ now. with_recoveries now (kept_of recovery recovery_lost))) own
+      ∙ coded
       )
       answers
 

@@ -181,8 +181,7 @@ encoded_all rate c shards recovery s is made h =
     let given : s.given ≡ shards = all.given in
     let least : c.original_count ≤ length s.given = subst (λ (d : Configuration). d.original_count ≤ length s.given) all.of out.0 in
     let most : length s.given ≤ c.original_count = subst (λ (d : Configuration). length s.given ≤ d.original_count) all.of is.no_more in
-    let long : length s.given ≡ length shards = ap length given in
-    (
+    let long : length s.given ≡ length shards = ap length given in (
       record {
         length_is = omega arith;
         each = subst (λ (m : List Shard). All (IsShard c.shard_bytes) m) given (subst (λ (d : Configuration). All (IsShard d.shard_bytes) s.given) all.of is.sized);
