@@ -6,4 +6,12 @@ pub mod Giving
 pub mod Noting
 pub mod Collecting
 pub mod OneDecode
+pub mod OneEncode
+pub mod CallerLemmas
+pub mod ObjectRoundTrip
+pub use Rattle.rs_field.proofs.Given
 pub use Rattle.rs_field.proofs.Listed
+pub use Rattle.rs_field.proofs.Entries
+pub use Rattle.rs_field.proofs.RoundTrip
+pub use Rattle.rs_field.proofs.OneRoundTrip
+pub use Rattle.rs_field.proofs.Left

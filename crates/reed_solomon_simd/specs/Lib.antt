@@ -30,5 +30,9 @@ pub use Rattle.rs_rate.specs.Loan
 pub mod EncoderObject
 pub mod DecoderObject
 pub use Rattle.rs_field.specs.OneCall
+pub use Rattle.rs_field.specs.RoundTrip
+pub use Rattle.rs_field.specs.Laws
+pub use Rattle.rs_field.specs.CodeLaws
+pub use Rattle.rs_field.specs.CountLaws
 pub mod Calls
 pub mod Giving

@@ -1,9 +1,10 @@
 //! Encoding and decoding in one call, over iterators of shards.
 ghost use Rattle.std.specs.Prelude.{◌≡◌, ◌∷◌, ◌⊎◌, if◌then◌else◌, ℕ, nat_le, true, false, List, length, count_by};
-ghost use Rattle.std.specs.Prelude.{slice_index_or, slice_set, Ok, Err, IfErr, OnOk, MatchResult};
+ghost use Rattle.std.specs.Prelude.{slice_index_or, slice_set, Ok, Err, IfOk, IfErr, OnOk, MatchResult};
 ghost use Rattle.std.specs.Iterator.{IsFinite};
 ghost use Rattle.rs_field.specs.Column.{Shard};
 ghost use Rattle.rs_field.specs.OneCall.{Items, Lends, LendsItems, collected, collected_map, OneEncodeAnswers, OneDecodeAnswers};
+ghost use Rattle.rs_field.specs.RoundTrip.{AreCoded};
 ghost use Rattle.rs_field.specs.OneCall.{counted, one_by_one, noted, all_came, with_shards, with_originals, with_recoveries, with_both};
 ghost use Rattle.rs_rate.specs.ResultView.{recovery_shards, restored_originals};
 ghost use Rattle.reed_solomon_simd.specs.Calls.{Calls, BeginsWith, BeginsWithItems};
@@ -38,6 +39,8 @@ pub fn encode<'a, I: Iterator<Item = &'a [u8]> + Drop>(
         → OneEncodeAnswers original_count recovery_count items (collected result)) }
     ensures answer { (items : List Shard) → Lends I.next_gives original items
         → OneEncodeAnswers original_count recovery_count items (collected result) }
+    ensures coded { (items : List Shard) → Lends I.next_gives original items
+        → IfOk (collected result) (AreCoded original_count recovery_count items) }
 {
     check_counts(original_count, recovery_count)?;
     let Some(first) = original.next() else {

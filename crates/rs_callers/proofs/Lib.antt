@@ -1,3 +1,5 @@
-pub mod CallerLemmas
 pub mod LentTwoRows
 pub mod LentHalves
+pub mod Chains
+pub mod Stepping
+pub mod LeftCount

@@ -6,5 +6,7 @@ pub mod lent_rows;
 pub mod levels;
 pub mod one_call;
 pub mod plain_callers;
+pub mod rate_round_trip;
+pub mod round_trip;
 pub mod surface;
 pub mod walking;

@@ -55,6 +55,7 @@ pub mod Division
 pub mod ZerosPast
 pub mod Frame
 pub mod SupportedCounts
+pub mod SupportedRanges
 pub mod RateFrames
 pub mod ErasedCount
 pub mod ExactCheck
@@ -68,4 +69,8 @@ pub mod EqualPowers
 pub mod AgreeingMessages
 pub mod Agreement
 pub mod Changes
+pub mod Entries
+pub mod RoundTrip
+pub mod OneRoundTrip
+pub mod Left
 pub mod WalshLanes

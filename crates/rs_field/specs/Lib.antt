@@ -21,6 +21,8 @@ pub mod Tables
 pub mod Products
 pub mod Laws
 pub mod CodeLaws
+pub mod CountLaws
+pub mod RoundTrip
 pub mod Rows
 pub mod View
 pub mod Pairs

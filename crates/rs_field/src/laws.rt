@@ -3,10 +3,12 @@ ghost use Rattle.std.specs.Prelude.{◌≡◌, ◌+◌, ◌^◌, length};
 ghost use Rattle.rs_field.specs.Code.{HasOnePolynomial, HasOneRecovery};
 ghost use Rattle.rs_field.specs.CodeLaws.{HasRecovery, IsLinear, IsColumnwise, HasOneCodeAtOnePower, IsFixedByPlaces, HasOneRestoration, NoticesChanges};
 ghost use Rattle.rs_field.specs.Column.{ColumnsTellShard, IsColumn};
+ghost use Rattle.rs_field.specs.CountLaws.{SupportsRanges};
 ghost use Rattle.rs_field.specs.Field.{cantor_basis, polynomial};
 ghost use Rattle.rs_field.specs.Layout.{LaysColumns};
 ghost use Rattle.rs_field.specs.Laws.{IsField, IsGenerated, IsProductOfBits};
 ghost use Rattle.rs_field.specs.Locator.{LocatesByProduct};
+ghost use Rattle.rs_field.specs.RoundTrip.{RestoresLost, RestoresEncoded, RestoresLeft, CodesInOneCall, EncodesInOneCall, RestoresInOneCall};
 ghost use Rattle.rs_field.specs.Subspace.{SubspaceIsShift};
 
 use crate::engine::{CANTOR_BASIS, GF_BITS, GF_MODULUS, GF_ORDER, GF_POLYNOMIAL};
@@ -22,11 +24,17 @@ pub fn field_constants()
 {}
 
 /// The words are a field: sums and products obey its laws, the product is the reduced carry-less product of the
-/// words' bits, and the nonzero words are the 65535 powers of the generator.
+/// words' bits, and the nonzero words are the 65535 powers of the generator, the last of which is 1.
 pub fn field_laws()
     ensures field { IsField }
     ensures product { IsProductOfBits }
     ensures generated { IsGenerated }
+{}
+
+/// The default rate supports all counts from 1 to 32768 in any combination, one up to 2^n with the other up to
+/// 65536 - 2^n, and no others.
+pub fn count_laws()
+    ensures { SupportsRanges }
 {}
 
 /// The columns of a shard are its words chunk by chunk and fix it, one polynomial at most codes given words, and a
@@ -53,6 +61,17 @@ pub fn codeword_laws()
     ensures places { IsFixedByPlaces }
     ensures restored { HasOneRestoration }
     ensures changes { NoticesChanges }
+{}
+
+/// From any k of a message's shards and recovery shards a decoder of whichever rate gives exactly the lost originals, as
+/// they were, and never a refusal; so do encoder and decoder one after the other, and the functions of one call.
+pub fn round_trip_laws()
+    ensures lost { RestoresLost }
+    ensures encoded { RestoresEncoded }
+    ensures left { RestoresLeft }
+    ensures one_encode { CodesInOneCall }
+    ensures one_encode_whole { EncodesInOneCall }
+    ensures one_call { RestoresInOneCall }
 {}
 
 /// A shard that lies in a row has its columns as the row's symbols.

@@ -1,6 +1,11 @@
-use Rattle.std.proofs.Common.{rules, Err}
+use Rattle.std.proofs.Common.{rules, Err, IfOk}
 use Rattle.rs_field.specs.declared.error.Error.TheVariants.{TooFewOriginalShards}
+use Rattle.rs_field.specs.Counts.{default_rate}
 use Rattle.rs_field.specs.OneCall.{OneEncodeAnswers, collected}
+use Rattle.rs_field.specs.RoundTrip.{AreCoded}
+use Rattle.rs_rate.specs.ObjectLaws.{is_encoder}
+use Rattle.rs_rate.specs.ResultView.{recovery_shards}
+use Rattle.reed_solomon_simd.proofs.OneEncode.{encode-coded}
 use Rattle.reed_solomon_simd.proofs.Giving.{no-calls, ended-calls, more-calls, ended-run, more-run, begins-always}
 use Rattle.reed_solomon_simd.proofs.one_call.encode.Goals as goal
 
@@ -60,3 +65,17 @@ returns-clause-run g c = (
 pub returns-clause-answer : goal.returns-clause-answer
 returns-clause-answer g c items lends =
     let run = returns-clause-run g c in run.1 items (begins-always g.I.Iterator.next_gives (λ shard. shard.now) c.args.original run.0 items lends)
+
+pub returns-clause-coded : goal.returns-clause-coded
+returns-clause-coded g c items lends =
+    let begun = c.in_ok-give_shards.ensures.0 in
+    let object = c.give_shards.new.encoder in
+    let first = c.in-Some.first in
+    more-run g.I.Iterator.next_gives (λ shard. shard.now) (λ list. IfOk (collected c.collect_recovery.result) (AreCoded c.args.original_count c.args.recovery_count list))
+    c.args.original c.next.new.self first c.in-Some.ensures.steps begun
+    (λ others begins.
+    encode-coded c.args.original_count c.args.recovery_count first.now others (recovery_shards c.in_ok-result.result) _ _ _ (collected c.collect_recovery.result)
+    c.in_ok-encoder.ensures.made.0 c.in_ok-add_original_shard.ensures.answer c.in_ok-add_original_shard.ensures.left (c.in_ok-give_shards.ensures.1 others begins)
+    (is_encoder default_rate object.rows object.valid object.shaped) c.in_ok-result.ensures.answer c.collect_recovery.ensures)
+    items
+    (begins-always g.I.Iterator.next_gives (λ shard. shard.now) c.args.original (more-calls c.args.original c.next.new.self first c.in-Some.ensures.steps begun) items lends)

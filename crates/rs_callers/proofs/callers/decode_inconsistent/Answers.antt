@@ -1,6 +1,6 @@
 use Rattle.std.proofs.Common.{rules, ap, ◌∙◌}
 use Rattle.reed_solomon_simd.specs.Decoder.{enough_given}
-use Rattle.rs_callers.proofs.CallerLemmas.{ended, fresh-too_few}
+use Rattle.reed_solomon_simd.proofs.CallerLemmas.{ended, fresh-too_few}
 use Rattle.rs_callers.proofs.callers.decode_inconsistent.Goals as goal
 
 pub returns-clause-next : goal.returns-clause-next

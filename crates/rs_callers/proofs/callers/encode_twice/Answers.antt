@@ -1,6 +1,6 @@
 use Rattle.std.proofs.Common.{◌<◌, arith}
 use Rattle.std.proofs.lemmas.Grind.{common_steps}
-use Rattle.rs_callers.proofs.CallerLemmas.{valid-some}
+use Rattle.reed_solomon_simd.proofs.CallerLemmas.{valid-some}
 use Rattle.rs_callers.proofs.callers.encode_twice.Goals as goal
 
 pub returns-clause-answer : goal.returns-clause-answer

@@ -2,7 +2,7 @@ use Rattle.std.proofs.Common.{rules, ap, ◌∙◌}
 use Rattle.reed_solomon_simd.specs.Decoder.{enough_given}
 use Rattle.reed_solomon_simd.specs.DecoderObject.{state_of}
 use Rattle.reed_solomon_simd.proofs.ObjectLaws.{valid-decoder}
-use Rattle.rs_callers.proofs.CallerLemmas.{ended, fresh-too_few}
+use Rattle.reed_solomon_simd.proofs.CallerLemmas.{ended, fresh-too_few}
 use Rattle.rs_callers.proofs.plain_callers.end_a_round.Goals as goal
 
 pub returns-clause-answer : goal.returns-clause-answer

@@ -2,7 +2,7 @@ use Rattle.std.proofs.Common.{◌<◌, arith}
 use Rattle.std.proofs.lemmas.Grind.{common_steps}
 use Rattle.reed_solomon_simd.specs.EncoderObject.{state_of}
 use Rattle.reed_solomon_simd.proofs.ObjectLaws.{valid-encoder}
-use Rattle.rs_callers.proofs.CallerLemmas.{valid-some}
+use Rattle.reed_solomon_simd.proofs.CallerLemmas.{valid-some}
 use Rattle.rs_callers.proofs.plain_callers.forget_a_round.Goals as goal
 
 pub returns-clause-answer : goal.returns-clause-answer

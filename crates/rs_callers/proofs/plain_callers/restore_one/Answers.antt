@@ -1,7 +1,7 @@
 use Rattle.std.proofs.Common.{refl, sym, ◌∙◌}
 use Rattle.reed_solomon_simd.specs.DecoderObject.{state_of}
 use Rattle.reed_solomon_simd.specs.ResultView.{restored_originals}
-use Rattle.rs_callers.proofs.CallerLemmas.{restored-sized, restored-own, restored-missing}
+use Rattle.reed_solomon_simd.proofs.CallerLemmas.{restored-sized, restored-own, restored-missing}
 use Rattle.rs_callers.proofs.plain_callers.restore_one.Goals as goal
 
 pub copy_from_slice-requires : goal.copy_from_slice-requires

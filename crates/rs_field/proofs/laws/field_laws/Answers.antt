@@ -3,7 +3,7 @@ use Rattle.std.specs.Int.Bits.{xor_comm, xor_assoc, xor_self, xor_zero_r, xor_lt
 use Rattle.rs_field.specs.Field.{bits, combine, cantor_basis, generator}
 use Rattle.rs_field.proofs.Product.{product_lt, product_comm as turned, product_assoc as grouped, product_one as by_one, product_xor_right, bits-product, bits_injective}
 use Rattle.rs_field.proofs.Inverse.{inverse as inverse_of, inverse_lt, product_inverse}
-use Rattle.rs_field.proofs.Power.{log_lt, power-log, power_injective, power_pos, power_lt}
+use Rattle.rs_field.proofs.Power.{log_lt, power-log, power_injective, power_pos, power_lt, power_turn}
 use Rattle.rs_field.proofs.laws.field_laws.Goals as goal
 
 generator-bits : bits generator ≡ 2
@@ -34,5 +34,6 @@ returns c = record {
     each = λ z pos hz. (log_lt z pos hz, power-log z pos hz);
     once = power_injective;
     nonzero = λ n. (power_pos n, power_lt n);
+    turn = power_turn;
   };
 }

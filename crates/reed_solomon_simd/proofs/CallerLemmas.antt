@@ -1,16 +1,20 @@
 -- What a configuration is known to be, and what a decoder answers by how many shards it has.
 use Rattle.std.proofs.Common.{◌≡◌, ℕ, zero, suc, ◌+◌, ◌<◌, List, [], length, Bool, true, false, cond, refl, sym, ap, ap₂, ◌∙◌, subst, min, max, Ok}
-use Rattle.std.specs.Prelude.{nat_le, nat_lt, ◌&&◌, not, Some, None, is_some, Result, Err, is_ok, MatchResult}
+use Rattle.std.specs.Prelude.{nat_le, nat_lt, ◌&&◌, not, Some, None, is_some, Result, Err, is_ok, IfOk, IfErr, MatchResult}
 use Rattle.std.proofs.lemmas.Bool.{and_parts, ltb-true, lt-ltb}
 use Rattle.std.proofs.lemmas.Option.{none-some}
-use Rattle.reed_solomon_simd.specs.declared.Error.{Error}
-use Rattle.reed_solomon_simd.specs.declared.Error.TheVariants.{NotEnoughShards}
-use Rattle.reed_solomon_simd.specs.Column.{Shard, shard_at}
-use Rattle.reed_solomon_simd.specs.Given.{Shards, nothing, count_below}
-use Rattle.reed_solomon_simd.specs.Decoder.{DecoderState, fresh_decoder, enough_given, IsAgreeing, missing_of, Restored, DecodeAnswers, after_decode}
-use Rattle.reed_solomon_simd.specs.Counts.{Rate, low_rate, high_rate, default_rate, next_power, supports}
-use Rattle.reed_solomon_simd.specs.Configuration.{Configuration, validated}
-use Rattle.reed_solomon_simd.proofs.StateLemmas.{valid-supported}
+use Rattle.std.specs.BTreeMap.{BTreeMap}
+use Rattle.std.specs.declared.vec.Vec.{Vec}
+use Rattle.rs_field.specs.declared.error.Error.{Error}
+use Rattle.rs_field.specs.declared.error.Error.TheVariants.{NotEnoughShards}
+use Rattle.rs_field.specs.Column.{Shard, shard_at}
+use Rattle.rs_field.specs.Given.{Shards, nothing, count_below}
+use Rattle.rs_field.specs.Decoder.{DecoderState, fresh_decoder, enough_given, IsAgreeing, missing_of, Restored, DecodeAnswers, after_decode}
+use Rattle.rs_field.specs.OneCall.{collected_map, shards_in}
+use Rattle.rs_field.specs.Counts.{Rate, low_rate, high_rate, default_rate, next_power, supports}
+use Rattle.rs_field.specs.Configuration.{Configuration, validated}
+use Rattle.rs_field.proofs.Entries.{count-nothing}
+use Rattle.rs_rate.proofs.StateLemmas.{valid-supported}
 
 some_originals : (rate : Rate) (k r : ℕ) → supports rate k r ≡ true → 0 < k
 unfolding supports
@@ -23,12 +27,6 @@ pub valid-some : (c : Configuration) → validated c ≡ Ok tt → 0 < c.origina
 valid-some c valid =
     some_originals c.rate c.original_count c.recovery_count (valid-supported c valid)
 
--- the empty map has no shard
-none_given : (n : ℕ) → count_below n nothing ≡ 0
-unfolding count_below
-none_given zero = refl
-none_given (suc n) = ap (λ (m : ℕ). m + 0) (none_given n)
-
 -- what a decoder answers by the numbers of shards given
 abbrev by_counts : ℕ → ℕ → ℕ → Result (Unit {0}) Error
 by_counts k originals recovery = cond (nat_lt (originals + recovery) k) (Err (NotEnoughShards k originals recovery)) (Ok tt)
@@ -36,7 +34,7 @@ by_counts k originals recovery = cond (nat_lt (originals + recovery) k) (Err (No
 -- a decoder with nothing given has too few shards
 pub fresh-too_few : (c : Configuration) → validated c ≡ Ok tt → enough_given (fresh_decoder c) ≡ Err (NotEnoughShards c.original_count 0 0)
 fresh-too_few c valid =
-    ap₂ (λ (o r : ℕ). by_counts c.original_count o r) (none_given c.original_count) (none_given c.recovery_count)
+    ap₂ (λ (o r : ℕ). by_counts c.original_count o r) (count-nothing c.original_count) (count-nothing c.recovery_count)
     ∙ ap (λ (b : Bool). cond b (Err (NotEnoughShards c.original_count 0 0)) (Ok tt)) (lt-ltb 0 c.original_count (valid-some c valid))
 
 -- a decode that isn't refused restores
@@ -85,3 +83,13 @@ restored-missing s out i answers inside missing none =
 -- after a round nothing is given
 pub ended : (s : DecoderState) → enough_given s ≡ Ok tt → after_decode s ≡ fresh_decoder s.configuration
 ended s enough = ap (λ (m : Result (Unit {0}) Error). cond (is_ok m) (fresh_decoder s.configuration) s) enough
+
+-- what holds of the shards that one-call `decode` collected holds of its map
+pub collected-holds : {Y : Type 0} (result : Result (BTreeMap ℕ (Vec ℕ Y)) Error) (P : Shards → Type 0) → IfOk (collected_map result) P → IfOk result (λ m. P (shards_in m))
+collected-holds (Ok m) P h = h
+collected-holds (Err e) P h = tt
+
+-- and what holds of its refusal
+pub collected-refused : {Y : Type 0} (result : Result (BTreeMap ℕ (Vec ℕ Y)) Error) (P : Error → Type 0) → IfErr (collected_map result) P → IfErr result P
+collected-refused (Ok m) P h = tt
+collected-refused (Err e) P h = h

@@ -1,0 +1,14 @@
+use Rattle.std.proofs.Common.{◌≡◌}
+use Rattle.std.specs.List.{enumerate_from, filter}
+use Rattle.std.specs.Iterator.Adapters.{enumerate_source, enumerate_count}
+use Rattle.reed_solomon_simd.specs.OneCall.{with_recoveries}
+use Rattle.reed_solomon_simd.specs.ResultView.{recovery_shards}
+use Rattle.rs_callers.specs.Losing.{is_left, left_of}
+use Rattle.rs_callers.proofs.rate_round_trip.give_received.Given as goal
+
+-- all that are left lead to where those still to come lead from here
+abbrev pub invariant-loop-index : goal.invariant-loop-index
+invariant-loop-index g l =
+    with_recoveries (g.X.RateDecoder.state l.initial.decoder) (left_of (recovery_shards l.recovery) l.lost)
+    ≡ with_recoveries (g.X.RateDecoder.state l.decoder)
+    (filter (is_left l.lost) (enumerate_from (enumerate_count l.index-iterator) (enumerate_source l.index-iterator)))

@@ -1,0 +1,29 @@
+use Rattle.std.proofs.Common.{◌∙◌, sym, ap, not}
+use Rattle.std.specs.Iterator.Adapters.{enumerate_source, enumerate_count}
+use Rattle.reed_solomon_simd.specs.Decoder.{with_recovery}
+use Rattle.reed_solomon_simd.specs.DecoderObject.{state_of}
+use Rattle.reed_solomon_simd.proofs.Giving.{outcome-ok}
+use Rattle.rs_callers.specs.Losing.{is_left}
+use Rattle.rs_callers.proofs.Stepping.{kept-next, lost-next}
+use Rattle.rs_callers.proofs.round_trip.give_received.Goals as goal
+
+pub loop-index-preserved-then-contains : goal.loop-index-preserved-then-contains
+loop-index-preserved-then-contains c =
+    let now = c.loop-index.index-iterator in
+    let after = c.next.new.self in
+    let came = c.in-Some.ensures.steps in
+    c.loop-index.invariant
+    ∙ lost-next (λ s one. with_recovery s one.0 one.1) (is_left c.args.lost.now) (state_of c.loop-index.decoder) (enumerate_count now) (enumerate_count after) c.in-Some.index c.in-Some.shard.now
+    (enumerate_source now) (enumerate_source after) came.0 came.1 came.2 (ap not (sym c.contains.ensures.value ∙ c.if-contains.true))
+
+pub loop-index-preserved : goal.loop-index-preserved
+loop-index-preserved c =
+    let s = state_of c.loop-index.decoder in
+    let next = state_of c.add_recovery_shard.new.self in
+    let now = c.loop-index.index-iterator in
+    let after = c.next.new.self in
+    let came = c.in-Some.ensures.steps in
+    let taken = outcome-ok s next (with_recovery s c.in-Some.index c.in-Some.shard.now) c.in_ok-add_recovery_shard.ensures.answer c.add_recovery_shard.ensures.left in
+    c.loop-index.invariant
+    ∙ kept-next (λ t one. with_recovery t one.0 one.1) (is_left c.args.lost.now) s next (enumerate_count now) (enumerate_count after) c.in-Some.index c.in-Some.shard.now
+    (enumerate_source now) (enumerate_source after) came.0 came.1 came.2 (ap not (sym c.contains.ensures.value ∙ c.if-contains.false)) taken

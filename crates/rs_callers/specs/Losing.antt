@@ -1,0 +1,27 @@
+-- Shards that are lost.
+use Rattle.std.specs.Prelude.{ℕ, zero, suc, ◌+◌, Bool, ◌&&◌, not, List, length, nat_lt, nat_eq, Some, None, if◌then◌else◌}
+use Rattle.std.specs.List.{list_any, filter, enumerate_from}
+use Rattle.reed_solomon_simd.specs.Column.{Shard, shard_at}
+use Rattle.reed_solomon_simd.specs.Given.{Shards}
+use Rattle.reed_solomon_simd.specs.OneCall.{Items}
+
+-- a list's shards at exactly the indexes that are among those lost
+abbrev pub lost_at : List Shard → List ℕ → Shards
+lost_at shards lost i = if nat_lt i (length shards) && list_any (λ index. nat_eq index i) lost then Some (shard_at shards i) else None
+
+-- a shard with its index isn't lost
+abbrev pub is_left : List ℕ → ℕ × Shard → Bool
+is_left lost item = not (list_any (λ index. nat_eq index item.0) lost)
+
+-- the shards that aren't lost, with their indexes, in order
+abbrev pub left_of : List Shard → List ℕ → Items
+left_of shards lost = filter (is_left lost) (enumerate_from 0 shards)
+
+-- how many of the n indexes from one on aren't lost
+abbrev pub left_from : ℕ → ℕ → List ℕ → ℕ
+left_from from zero lost = 0
+left_from from (suc n) lost = (if list_any (λ index. nat_eq index from) lost then 0 else 1) + left_from (from + 1) n lost
+
+-- how many of the indexes below n aren't lost
+abbrev pub left_below : ℕ → List ℕ → ℕ
+left_below n lost = left_from 0 n lost

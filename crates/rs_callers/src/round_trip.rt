@@ -1,0 +1,139 @@
+//! Round trips: shards are coded, some are lost, and just the lost originals come back, each as it was.
+ghost use Rattle.std.specs.Prelude.{◌≡◌, ◌+◌, ◌≤◌, ℕ, length, map, All, Ok, IfOk, IfErr, OnOk};
+ghost use Rattle.reed_solomon_simd.specs.Configuration.{validated};
+ghost use Rattle.reed_solomon_simd.specs.DecoderObject.{state_of as decoder_state};
+ghost use Rattle.reed_solomon_simd.specs.EncoderObject.{state_of as encoder_state};
+ghost use Rattle.reed_solomon_simd.specs.Given.{Lists};
+ghost use Rattle.reed_solomon_simd.specs.OneCall.{default_of, shards_in, with_shards, with_originals, with_recoveries};
+ghost use Rattle.reed_solomon_simd.specs.ResultView.{recovery_shards};
+ghost use Rattle.rs_callers.specs.Losing.{lost_at, left_of, left_below};
+
+use crate::walking::restored_copies;
+use reed_solomon_simd::engine::DefaultEngine;
+use reed_solomon_simd::{
+    EncoderResult, Error, ReedSolomonDecoder, ReedSolomonEncoder, decode, encode,
+};
+use std::alloc::Global;
+use std::collections::BTreeMap;
+
+/// Codes the originals in one call, loses the originals and the recovery shards of these indexes, and restores what is
+/// lost in another call: just the lost originals come back, each as it was. Where the counts and the size are valid, and as
+/// many shards are left as there are originals, it is never refused but for want of memory.
+pub fn round_trip_in_one_call(
+    alloc: Global,
+    originals: &[Vec<u8>],
+    recovery_count: usize,
+    lost: &[usize],
+    recovery_lost: &[usize],
+    engine: DefaultEngine<'_>,
+) -> Result<BTreeMap<usize, Vec<u8>>, Error>
+    ensures restored { IfOk result (λ restored. (i : ℕ) → shards_in restored i ≡ lost_at (map (λ shard. shard.items) originals.now) lost.now i) }
+    ensures enough { (size : ℕ) → validated (default_of (length originals.now) recovery_count size) ≡ Ok tt → All (λ shard. length shard.items ≡ size) originals.now
+        → length originals.now ≤ left_below (length originals.now) lost.now + left_below recovery_count recovery_lost.now
+        → IfErr result (λ e. e ≡ Error.OutOfMemory) }
+{
+    let original_count = originals.len();
+    let shards = originals.iter().map(|shard| shard.as_slice());
+    let recovery = encode(alloc, original_count, recovery_count, shards, engine)?;
+
+    let kept = originals
+        .iter()
+        .map(|shard| shard.as_slice())
+        .enumerate()
+        .filter(|item| !lost.contains(&item.0));
+    let received = recovery
+        .iter()
+        .map(|shard| shard.as_slice())
+        .enumerate()
+        .filter(|item| !recovery_lost.contains(&item.0));
+    decode(
+        alloc,
+        original_count,
+        recovery_count,
+        kept,
+        received,
+        engine,
+    )
+}
+
+/// Codes the originals by a plain encoder, loses the originals and the recovery shards of these indexes, and restores
+/// what is lost by a plain decoder: just the lost originals come back, each as it was, in order of index.
+pub fn round_trip_by_plain_objects(
+    alloc: Global,
+    originals: &[Vec<u8>],
+    recovery_count: usize,
+    shard_bytes: usize,
+    lost: &[usize],
+    recovery_lost: &[usize],
+    engine: DefaultEngine<'_>,
+) -> Result<Vec<(usize, Vec<u8>)>, Error>
+    ensures { IfOk result (λ restored. Lists (lost_at (map (λ shard. shard.items) originals.now) lost.now)
+        (map (λ item. (item.0, item.1.items)) restored.items)) }
+{
+    let original_count = originals.len();
+    let mut encoder = ReedSolomonEncoder::new(
+        alloc,
+        original_count,
+        recovery_count,
+        shard_bytes,
+        engine,
+    )?;
+    give_all(&mut encoder, originals)?;
+    let recovery = encoder.encode()?;
+
+    let mut decoder = ReedSolomonDecoder::new(
+        alloc,
+        original_count,
+        recovery_count,
+        shard_bytes,
+        engine,
+    )?;
+    give_kept(&mut decoder, originals, lost)?;
+    give_received(&mut decoder, &recovery, recovery_lost)?;
+    let restored = decoder.decode()?;
+    restored_copies(alloc, &restored)
+}
+
+// Gives a plain encoder all originals, in order.
+fn give_all(encoder: &mut ReedSolomonEncoder<'_>, originals: &[Vec<u8>]) -> Result<(), Error>
+    ensures { OnOk result (with_shards (encoder_state encoder.old) (map (λ shard. shard.items) originals.now) ≡ Ok (encoder_state encoder.new)) }
+{
+    for original in originals {
+        encoder.add_original_shard(original)?;
+    }
+    Ok(())
+}
+
+// Gives a plain decoder the originals that aren't lost.
+fn give_kept(
+    decoder: &mut ReedSolomonDecoder<'_>,
+    originals: &[Vec<u8>],
+    lost: &[usize],
+) -> Result<(), Error>
+    ensures { OnOk result (with_originals (decoder_state decoder.old) (left_of (map (λ shard. shard.items) originals.now) lost.now) ≡ Ok (decoder_state decoder.new)) }
+{
+    for (index, original) in originals.iter().enumerate() {
+        if lost.contains(&index) {
+            continue;
+        }
+        decoder.add_original_shard(index, original)?;
+    }
+    Ok(())
+}
+
+// Gives a plain decoder the recovery shards that aren't lost.
+fn give_received(
+    decoder: &mut ReedSolomonDecoder<'_>,
+    recovery: &EncoderResult<'_>,
+    lost: &[usize],
+) -> Result<(), Error>
+    ensures { OnOk result (with_recoveries (decoder_state decoder.old) (left_of (recovery_shards recovery.now) lost.now) ≡ Ok (decoder_state decoder.new)) }
+{
+    for (index, shard) in recovery.recovery_iter().enumerate() {
+        if lost.contains(&index) {
+            continue;
+        }
+        decoder.add_recovery_shard(index, shard)?;
+    }
+    Ok(())
+}
