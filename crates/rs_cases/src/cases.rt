@@ -49,9 +49,10 @@ impl<'a> CaseFile<'a> {
 
     // A line is empty, a comment, a setting of the file, a case's first step behind its levels, or a further step.
     fn read_line(&mut self, alloc: Global, index: usize, line: &'a str) -> Result<()> {
-        if line.is_empty() || line.starts_with('#') {} else if let Some(ways) = line.strip_prefix(
-            "ways ",
-        ) {
+        if line.is_empty() || line.starts_with('#') {
+            return Ok(());
+        }
+        if let Some(ways) = line.strip_prefix("ways ") {
             self.ways = ways;
         } else if line == "every engine" {
             self.every_engine = true;

@@ -47,11 +47,11 @@ pub trait Coder {
     /// Gives a shard; the index tells nothing where it is the encoder's next.
     fn give(&mut self, role: Role, index: usize, shard: &[u8]) -> Result<(), Error>;
 
-    /// Codes what was given; what comes is kept. The result is dropped, or forgotten.
-    fn encode(&mut self, kept: &mut Kept, forget: bool) -> Result<(), Error>;
+    /// Codes what was given; what comes is kept.
+    fn encode(&mut self, kept: &mut Kept) -> Result<(), Error>;
 
-    /// Restores what is missing; what comes is kept. The result is dropped, or forgotten.
-    fn decode(&mut self, kept: &mut Kept, forget: bool) -> Result<(), Error>;
+    /// Restores what is missing; what comes is kept.
+    fn decode(&mut self, kept: &mut Kept) -> Result<(), Error>;
 
     /// Takes both objects apart, where the level can, and makes new ones of one original and one recovery shard.
     fn take_parts(&mut self, _parts: &mut Parts) -> Result<(), Error> {
@@ -68,8 +68,9 @@ pub trait Coder {
         false
     }
 
-    /// Whether all calls that look at a configuration without an object answer so, if there are any.
-    fn validates(&self, _configuration: Configuration, _answer: Result<(), Error>) -> bool {
+    /// Whether all calls that look at a configuration without an object agree with what an object answers, if there are
+    /// any.
+    fn tells(&self, _configuration: Configuration, _answer: Result<(), Error>) -> bool {
         true
     }
 

@@ -2,6 +2,7 @@
 use crate::coder::Parts;
 use reed_solomon_simd::{DecoderResult, EncoderResult};
 use std::alloc::{AllocError, Global};
+use std::mem;
 
 /// From where a table's row gets its object.
 #[derive(Clone, Copy, Debug)]
@@ -28,6 +29,8 @@ pub struct Kept {
     pub restored: Vec<Item>,
     /// Whether the last result told the same by index, by its walk and by its counts.
     pub agrees: bool,
+    /// Whether results are forgotten, and not dropped.
+    pub forgets: bool,
     /// How many originals and recovery shards the last call has left untaken.
     pub left: (usize, usize),
 }
@@ -43,12 +46,13 @@ impl Kept {
             recovery: Vec::new(alloc),
             restored: Vec::new(alloc),
             agrees: true,
+            forgets: false,
             left: (0, 0),
         }
     }
 
     /// Keeps the recovery shards of a result.
-    pub fn keep_recovery(&mut self, lent: &EncoderResult<'_>) -> Result<(), AllocError> {
+    pub fn keep_recovery(&mut self, lent: EncoderResult<'_>) -> Result<(), AllocError> {
         let mut walk = lent.recovery_iter();
         let all = walk.len();
         let mut agrees = true;
@@ -62,11 +66,14 @@ impl Kept {
         agrees = agrees && has_left(&walk, 0) && walk.next().is_none() && walk.next().is_none();
         agrees = agrees && has_left(&walk, 0) && lent.recovery(all).is_none();
         self.agrees = agrees && lent.recovery(usize::MAX).is_none();
+        if self.forgets {
+            mem::forget(lent);
+        }
         Ok(())
     }
 
     /// Keeps the restored originals of a result.
-    pub fn keep_restored(&mut self, lent: &DecoderResult<'_>) -> Result<(), AllocError> {
+    pub fn keep_restored(&mut self, lent: DecoderResult<'_>) -> Result<(), AllocError> {
         let mut walk = lent.restored_original_iter();
         let all = walk.len();
         let mut agrees = true;
@@ -82,6 +89,9 @@ impl Kept {
         let by_index = (0..100).filter(|index| lent.restored_original(*index).is_some());
         agrees = agrees && has_left(&walk, 0) && by_index.count() == all;
         self.agrees = agrees && lent.restored_original(usize::MAX).is_none();
+        if self.forgets {
+            mem::forget(lent);
+        }
         Ok(())
     }
 }

@@ -69,7 +69,7 @@ impl Coder for OneCall<'_> {
         Ok(())
     }
 
-    fn encode(&mut self, kept: &mut Kept, _forget: bool) -> Result<(), Error> {
+    fn encode(&mut self, kept: &mut Kept) -> Result<(), Error> {
         let (k, r, _) = self.configuration;
         let given = mem::replace(&mut self.given, Vec::new(self.alloc));
         let original = lent(self.alloc, given.as_slice(), Role::Next)?;
@@ -84,7 +84,7 @@ impl Coder for OneCall<'_> {
         Ok(())
     }
 
-    fn decode(&mut self, kept: &mut Kept, _forget: bool) -> Result<(), Error> {
+    fn decode(&mut self, kept: &mut Kept) -> Result<(), Error> {
         let (k, r, _) = self.configuration;
         let given = mem::replace(&mut self.given, Vec::new(self.alloc));
         let (original, recovery) = lent_both(self.alloc, given.as_slice())?;

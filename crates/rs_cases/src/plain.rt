@@ -4,7 +4,6 @@ use crate::kept::Kept;
 use reed_solomon_simd::engine::DefaultEngine;
 use reed_solomon_simd::{Error, ReedSolomonDecoder, ReedSolomonEncoder};
 use std::alloc::Global;
-use std::mem;
 
 /// A plain encoder and a plain decoder.
 #[derive(Drop)]
@@ -57,21 +56,13 @@ impl Coder for Plain<'_> {
         }
     }
 
-    fn encode(&mut self, kept: &mut Kept, forget: bool) -> Result<(), Error> {
-        let lent = self.encoder.encode()?;
-        kept.keep_recovery(&lent)?;
-        if forget {
-            mem::forget(lent);
-        }
+    fn encode(&mut self, kept: &mut Kept) -> Result<(), Error> {
+        kept.keep_recovery(self.encoder.encode()?)?;
         Ok(())
     }
 
-    fn decode(&mut self, kept: &mut Kept, forget: bool) -> Result<(), Error> {
-        let lent = self.decoder.decode()?;
-        kept.keep_restored(&lent)?;
-        if forget {
-            mem::forget(lent);
-        }
+    fn decode(&mut self, kept: &mut Kept) -> Result<(), Error> {
+        kept.keep_restored(self.decoder.decode()?)?;
         Ok(())
     }
 

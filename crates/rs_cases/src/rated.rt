@@ -65,23 +65,15 @@ impl<E: Engine + Copy, R: Rate<E>> Coder for Rated<E, R> {
         }
     }
 
-    fn encode(&mut self, kept: &mut Kept, forget: bool) -> Result<(), Error> {
+    fn encode(&mut self, kept: &mut Kept) -> Result<(), Error> {
         let mut steps = Steps::new();
-        let lent = self.encoder.encode(&mut steps)?;
-        kept.keep_recovery(&lent)?;
-        if forget {
-            mem::forget(lent);
-        }
+        kept.keep_recovery(self.encoder.encode(&mut steps)?)?;
         Ok(())
     }
 
-    fn decode(&mut self, kept: &mut Kept, forget: bool) -> Result<(), Error> {
+    fn decode(&mut self, kept: &mut Kept) -> Result<(), Error> {
         let mut steps = Steps::new();
-        let lent = self.decoder.decode(&mut steps)?;
-        kept.keep_restored(&lent)?;
-        if forget {
-            mem::forget(lent);
-        }
+        kept.keep_restored(self.decoder.decode(&mut steps)?)?;
         Ok(())
     }
 
@@ -102,10 +94,14 @@ impl<E: Engine + Copy, R: Rate<E>> Coder for Rated<E, R> {
             && R::RateDecoder::supports(k, r) == supported
     }
 
-    fn validates(&self, (k, r, size): Configuration, answer: Result<(), Error>) -> bool {
-        R::validate(k, r, size) == answer
-            && R::RateEncoder::validate(k, r, size) == answer
-            && R::RateDecoder::validate(k, r, size) == answer
+    fn tells(&self, (k, r, size): Configuration, answer: Result<(), Error>) -> bool {
+        let valid = match answer {
+            Err(Error::OutOfMemory) => Ok(()),
+            _ => answer,
+        };
+        R::validate(k, r, size) == valid
+            && R::RateEncoder::validate(k, r, size) == valid
+            && R::RateDecoder::validate(k, r, size) == valid
     }
 
     fn refuses_new(&self, (k, r, size): Configuration, refusal: Error) -> bool {

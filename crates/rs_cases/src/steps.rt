@@ -17,7 +17,8 @@ pub fn do_step<C: Coder>(coder: &mut C, kept: &mut Kept, step: &str) -> Result<S
         "empty-parts" => kept.parts = empty_parts(),
         "give" => give_from(coder, kept, step, 1)?,
         "code" | "restore" => return round(coder, kept, step, 1, kind),
-        "encode" | "decode" => return run(coder, kept, kind, step.contains("forgotten")),
+        "encode" | "decode" => return run(coder, kept, kind),
+        "forget" => kept.forgets = true,
         "encodes" | "decodes" => return row(coder, kept, step, kind),
         "makes" => make(coder, kept, step)?,
         "digest" => return digest_of(kept.alloc, kept.recovery.as_slice()),
@@ -115,15 +116,15 @@ fn give_items<C: Coder>(coder: &mut C, role: Role, items: &[Item]) -> Result<()>
 }
 
 // Encodes or decodes what was given.
-fn run<C: Coder>(coder: &mut C, kept: &mut Kept, kind: Kind, forget: bool) -> Result<String> {
+fn run<C: Coder>(coder: &mut C, kept: &mut Kept, kind: Kind) -> Result<String> {
     let mut text = String::new(kept.alloc);
     match kind {
         Kind::Encoder => {
-            coder.encode(kept, forget)?;
+            coder.encode(kept)?;
             write_items(kept.alloc, &mut text, kept.recovery.as_slice())?;
         }
         Kind::Decoder => {
-            coder.decode(kept, forget)?;
+            coder.decode(kept)?;
             write_items(kept.alloc, &mut text, kept.restored.as_slice())?;
         }
     }
@@ -140,7 +141,7 @@ fn round<C: Coder>(
     kind: Kind,
 ) -> Result<String> {
     give_from(coder, kept, step, from)?;
-    run(coder, kept, kind, false)
+    run(coder, kept, kind)
 }
 
 // Gets the object for a table's row in the way that the rows are run in.
@@ -186,7 +187,7 @@ fn make<C: Coder>(coder: &mut C, kept: &mut Kept, step: &str) -> Result<()> {
     };
     obtain(coder, kept, Kind::Encoder, (k, r, size))?;
     give_items(coder, Role::Next, kept.message.as_slice())?;
-    coder.encode(kept, false)?;
+    coder.encode(kept)?;
     ensure!(kept.agrees, "the result differs by index, walk and counts");
     Ok(())
 }
@@ -203,7 +204,7 @@ fn check_counts<C: Coder>(coder: &C, step: &str, supported: bool) -> Result<()> 
         };
         let answer = if supported { Ok(()) } else { Err(unsupported) };
         let told = coder.supports(original_count, recovery_count, supported)
-            && coder.validates((original_count, recovery_count, 64), answer);
+            && coder.tells((original_count, recovery_count, 64), answer);
         ensure!(told, "not {pair}");
     }
     Ok(())
@@ -223,11 +224,7 @@ fn configure<C: Coder>(coder: &mut C, configuration: Configuration) -> Result<()
     let Err(refusal) = answer else {
         bail!("not refused");
     };
-    let valid = match refusal {
-        Error::OutOfMemory => Ok(()),
-        _ => answer,
-    };
-    let told = coder.refuses_new(configuration, refusal) && coder.validates(configuration, valid);
+    let told = coder.refuses_new(configuration, refusal) && coder.tells(configuration, answer);
     ensure!(told, "not so by `new` and `validate`");
     Ok(answer?)
 }
