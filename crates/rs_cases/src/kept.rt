@@ -85,8 +85,8 @@ impl Kept {
             self.restored.push((index, shard.to_vec(self.alloc)?))?;
         }
         agrees = agrees && has_left(&walk, 0) && walk.next().is_none() && walk.next().is_none();
-        // Of more indexes than any case has originals, and of the last, just as many have one.
-        let by_index = (0..100).filter(|index| lent.restored_original(*index).is_some());
+        // Of all indexes that any counts allow, and of the last, just as many have one.
+        let by_index = (0..65536).filter(|index| lent.restored_original(*index).is_some());
         agrees = agrees && has_left(&walk, 0) && by_index.count() == all;
         self.agrees = agrees && lent.restored_original(usize::MAX).is_none();
         if self.forgets {

@@ -66,6 +66,17 @@ pub fn drawn(
     Ok(shards)
 }
 
+/// So many originals of two bytes: the words from this one on, each with its low byte first.
+pub fn points(alloc: Global, count: usize, from: usize) -> Result<Vec<Item>, AllocError> {
+    let mut shards = Vec::new(alloc);
+    for index in 0..count {
+        let point = from.wrapping_add(index);
+        let word = [(point % 256) as u8, (point / 256 % 256) as u8];
+        shards.push((index, word.to_vec(alloc)?))?;
+    }
+    Ok(shards)
+}
+
 /// The SHA-256 digest of all shards, one after another.
 pub fn digest_of(alloc: Global, shards: &[Item]) -> Result<String> {
     let mut hasher = Sha256::new();

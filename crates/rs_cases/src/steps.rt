@@ -1,7 +1,7 @@
 //! What the steps of a case do.
 use crate::coder::{Coder, Configuration, Kind, Parts, Role};
 use crate::kept::{Item, Kept, Way};
-use crate::shards::{counted, digest_of, drawn, shard_of, write_items};
+use crate::shards::{counted, digest_of, drawn, points, shard_of, write_items};
 use anyhow::{Context, Result, bail, ensure};
 use reed_solomon_simd::Error;
 use reed_solomon_simd::rate::{DecoderWork, EncoderWork};
@@ -183,6 +183,7 @@ fn make<C: Coder>(coder: &mut C, kept: &mut Kept, step: &str) -> Result<()> {
             let seed = words.next().context("the seed is missing")?.parse::<u8>()?;
             drawn(kept.alloc, k, size, seed)?
         }
+        "points" => points(kept.alloc, k, number(words.next())?)?,
         _ => bail!("no such rule"),
     };
     obtain(coder, kept, Kind::Encoder, (k, r, size))?;

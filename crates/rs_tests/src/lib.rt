@@ -2,16 +2,10 @@
 #![tactic(auto)]
 
 #[cfg(test)]
-mod asking;
-#[cfg(test)]
 mod counting;
-#[cfg(test)]
-mod largest;
 #[cfg(test)]
 mod levels;
 #[cfg(test)]
 mod locators;
 #[cfg(test)]
 mod tables;
-#[cfg(test)]
-mod texts;
