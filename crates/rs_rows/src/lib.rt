@@ -36,6 +36,8 @@ mod refused_memory;
 mod resets;
 pub mod round_trip;
 #[cfg(test)]
+mod round_trips;
+#[cfg(test)]
 mod row_engine;
 #[cfg(test)]
 mod rows;
