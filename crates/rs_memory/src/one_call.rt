@@ -72,7 +72,9 @@ pub fn codes_long_shard(alloc: Global, engine: DefaultEngine<'_>) -> Result<bool
     let nothing = original.iter().copied().enumerate().take(0);
     let received = original.iter().copied().enumerate();
     let restored = decode(alloc, 1, 1, nothing, received, engine)?;
-    let coded = recovery.iter().all(|own| own.as_slice() == shard.as_slice());
+    let coded = recovery
+        .iter()
+        .all(|own| own.as_slice() == shard.as_slice());
     let first = restored.get(&0);
     Ok(coded && first.is_some_and(|own| own.as_slice() == shard.as_slice()))
 }
