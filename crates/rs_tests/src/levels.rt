@@ -30,8 +30,15 @@ fn round_trips_end(rt: HostRuntime) -> Result<(), Fail> {
 
     let restored = round_trip_in_one_call(alloc, &originals, 3, lost, recovery_lost, engine)?;
     assert_eq!(rt; restored.len(), 2);
-    let restored =
-        round_trip_by_plain_objects(alloc, &originals, 3, 10, lost, recovery_lost, engine)?;
+    let restored = round_trip_by_plain_objects(
+        alloc,
+        &originals,
+        3,
+        10,
+        lost,
+        recovery_lost,
+        engine,
+    )?;
     assert_eq!(rt; restored.len(), 2);
     let mut steps = Steps::new();
     let restored = round_trip_at_a_rate::<Shuffle<'_>, LowRate<Shuffle<'_>>>(

@@ -13,21 +13,18 @@ pub fn low_names<E: Engine>()
     ensures rate { ⟦<LowRate<E> as Rate<E>>⟧.rate ≡ low_rate }
     ensures encoder { ⟦<LowRateEncoder<E> as RateEncoder<E>>⟧.rate ≡ low_rate }
     ensures decoder { ⟦<LowRateDecoder<E> as RateDecoder<E>>⟧.rate ≡ low_rate }
-{
-}
+{}
 
 /// What is named high is of the high rate.
 pub fn high_names<E: Engine>()
     ensures rate { ⟦<HighRate<E> as Rate<E>>⟧.rate ≡ high_rate }
     ensures encoder { ⟦<HighRateEncoder<E> as RateEncoder<E>>⟧.rate ≡ high_rate }
     ensures decoder { ⟦<HighRateDecoder<E> as RateDecoder<E>>⟧.rate ≡ high_rate }
-{
-}
+{}
 
 /// What is named default is of the default rate.
 pub fn default_names<E: Engine>()
     ensures rate { ⟦<DefaultRate<E> as Rate<E>>⟧.rate ≡ default_rate }
     ensures encoder { ⟦<DefaultRateEncoder<E> as RateEncoder<E>>⟧.rate ≡ default_rate }
     ensures decoder { ⟦<DefaultRateDecoder<E> as RateDecoder<E>>⟧.rate ≡ default_rate }
-{
-}
+{}
