@@ -1,5 +1,5 @@
 -- What a configuration is known to be, and what a decoder answers by how many shards it has.
-use Rattle.std.proofs.Common.{◌≡◌, ℕ, zero, suc, ◌+◌, ◌<◌, List, [], length, Bool, true, false, cond, refl, sym, ap, ap₂, ◌∙◌, subst, min, max, Ok}
+use Rattle.std.proofs.Common.{◌≡◌, ℕ, ◌+◌, ◌<◌, List, [], length, Bool, true, false, cond, refl, sym, ap, ap₂, ◌∙◌, subst, min, max, Ok}
 use Rattle.std.specs.Prelude.{nat_le, nat_lt, ◌&&◌, not, Some, None, is_some, Result, Err, is_ok, IfOk, IfErr, MatchResult}
 use Rattle.std.proofs.lemmas.Bool.{and_parts, ltb-true, lt-ltb}
 use Rattle.std.proofs.lemmas.Option.{none-some}
@@ -8,7 +8,7 @@ use Rattle.std.specs.declared.vec.Vec.{Vec}
 use Rattle.rs_field.specs.declared.error.Error.{Error}
 use Rattle.rs_field.specs.declared.error.Error.TheVariants.{NotEnoughShards}
 use Rattle.rs_field.specs.Column.{Shard, shard_at}
-use Rattle.rs_field.specs.Given.{Shards, nothing, count_below}
+use Rattle.rs_field.specs.Given.{Shards}
 use Rattle.rs_field.specs.Decoder.{DecoderState, fresh_decoder, enough_given, IsAgreeing, missing_of, Restored, DecodeAnswers, after_decode}
 use Rattle.rs_field.specs.OneCall.{collected_map, shards_in}
 use Rattle.rs_field.specs.Counts.{Rate, low_rate, high_rate, default_rate, next_power, supports}

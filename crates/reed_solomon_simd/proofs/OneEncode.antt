@@ -1,5 +1,5 @@
 -- From the steps of one-call `encode` to what it coded.
-use Rattle.std.proofs.Common.{◌≡◌, ℕ, ◌∷◌, List, length, Result, Ok, Err, IfOk, MatchResult, refl, sym, ap, subst, ◌∙◌}
+use Rattle.std.proofs.Common.{◌≡◌, ℕ, ◌∷◌, List, length, Result, Ok, Err, IfOk, MatchResult, sym, ap, subst, ◌∙◌}
 use Rattle.rs_field.specs.declared.error.Error.{Error}
 use Rattle.rs_field.specs.declared.error.Error.TheVariants.{OutOfMemory}
 use Rattle.rs_field.specs.Column.{Shard}

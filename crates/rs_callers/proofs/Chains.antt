@@ -1,5 +1,5 @@
 -- What chains of iterators lend.
-use Rattle.std.proofs.Common.{◌≡◌, ℕ, Bool, List, Option, sym, subst, Bor}
+use Rattle.std.proofs.Common.{◌≡◌, Bool, List, Option, sym, subst, Bor}
 use Rattle.std.specs.List.{enumerate_from, filter}
 use Rattle.std.specs.Fn.{Mut, CalledAt}
 use Rattle.std.specs.declared.iter.Enumerate.{Enumerate}

@@ -3,7 +3,6 @@ use Rattle.std.specs.List.{list_any}
 use Rattle.reed_solomon_simd.specs.Counts.{default_rate}
 use Rattle.reed_solomon_simd.specs.DecoderObject.{state_of as decoder_state}
 use Rattle.reed_solomon_simd.specs.EncoderObject.{state_of as encoder_state}
-use Rattle.reed_solomon_simd.specs.OneCall.{default_of}
 use Rattle.reed_solomon_simd.specs.ResultView.{recovery_shards, restored_originals}
 use Rattle.reed_solomon_simd.proofs.Left.{kept_of}
 use Rattle.reed_solomon_simd.proofs.ObjectLaws.{valid-encoder}
