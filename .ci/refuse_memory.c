@@ -1,75 +1,79 @@
-/* Loaded before a program (LD_PRELOAD). Requests for memory are counted: all of them, or with MARKED set those between two
-   marks, which are requests of FROM and of UNTIL bytes, and are refused themselves. REFUSED is the number of the request that is
-   refused, or "all". At the end two lines go to file descriptor 3: the number of requests, that of marks, and the bytes that were
-   taken less those that were given back; and the sizes of the requests, as many as there is room for. */
+/* Loaded before a program (LD_PRELOAD). Requests for memory are counted: all of them, or with WATCHED set those between two
+   signals, which are requests of BEGIN and of END bytes, and are refused themselves. REFUSED is the number of the request that is
+   refused. At the end two lines go to file descriptor 3: the number of requests, that of signals, and how many bytes of what was
+   taken weren't given back; and the sizes of the requests, as many as there is room for. */
 #define _GNU_SOURCE
 #include <dlfcn.h>
-#include <malloc.h>
 #include <stdio.h>
 #include <stdlib.h>
-#include <string.h>
 
-enum { FROM = 10007, UNTIL = 10009, NOTED = 64 };
+enum { BEGIN = 10007, END = 10009, NOTED = 1024 };
 
-static unsigned long requests, marks;
-static long left;
+static unsigned long requests, signals;
 static size_t sizes[NOTED];
-static int between;
+static void *blocks[NOTED];
+static int watched;
 
-static int is_counted(void) {
-    return between || !getenv("MARKED");
-}
-
-static int is_refused(size_t size) {
+/* The number of the request if it is counted and granted, 0 if it isn't counted, -1 if it is refused. */
+static long number_of(size_t size) {
     const char *refused = getenv("REFUSED");
-    if (getenv("MARKED") && (size == FROM || size == UNTIL)) {
-        marks++;
-        between = size == FROM;
-        return 1;
+    if (getenv("WATCHED") && (size == BEGIN || size == END)) {
+        signals++;
+        watched = size == BEGIN;
+        return -1;
     }
-    if (!is_counted()) return 0;
+    if (!watched && getenv("WATCHED")) return 0;
     if (requests < NOTED) sizes[requests] = size;
     requests++;
-    return refused && (!strcmp(refused, "all") || strtoul(refused, NULL, 10) == requests);
+    return refused && strtoul(refused, NULL, 10) == requests ? -1 : (long)requests;
 }
 
-/* A block counts with the bytes that can be used of it, which are the same when it is given back. */
-static void *taken(void *block) {
-    if (is_counted()) left += malloc_usable_size(block);
+static void *taken(long number, void *block) {
+    if (number > 0 && number <= NOTED) blocks[number - 1] = block;
     return block;
 }
 
-static void *given_back(void *block) {
-    if (is_counted()) left -= malloc_usable_size(block);
-    return block;
+/* What is given back may be so at any time, watched or not. */
+static void given_back(void *block) {
+    for (unsigned long i = 0; block && i < requests && i < NOTED; i++)
+        if (blocks[i] == block) blocks[i] = NULL;
 }
 
 void *malloc(size_t size) {
     static void *(*next)(size_t);
     if (!next) next = dlsym(RTLD_NEXT, "malloc");
-    return is_refused(size) ? NULL : taken(next(size));
+    long number = number_of(size);
+    return number < 0 ? NULL : taken(number, next(size));
 }
 
 void *calloc(size_t count, size_t size) {
     static void *(*next)(size_t, size_t);
     if (!next) next = dlsym(RTLD_NEXT, "calloc");
-    return is_refused(count * size) ? NULL : taken(next(count, size));
+    long number = number_of(count * size);
+    return number < 0 ? NULL : taken(number, next(count, size));
 }
 
 void *realloc(void *old, size_t size) {
     static void *(*next)(void *, size_t);
     if (!next) next = dlsym(RTLD_NEXT, "realloc");
-    return is_refused(size) ? NULL : taken(next(given_back(old), size));
+    long number = number_of(size);
+    if (number < 0) return NULL;
+    given_back(old);
+    return taken(number, next(old, size));
 }
 
 void free(void *block) {
     static void (*next)(void *);
     if (!next) next = dlsym(RTLD_NEXT, "free");
-    next(given_back(block));
+    given_back(block);
+    next(block);
 }
 
 __attribute__((destructor)) static void tell(void) {
-    dprintf(3, "%lu %lu %ld\n", requests, marks, left);
+    unsigned long left = 0;
+    for (unsigned long i = 0; i < requests && i < NOTED; i++)
+        if (blocks[i]) left += sizes[i];
+    dprintf(3, "%lu %lu %lu\n", requests, signals, left);
     for (unsigned long i = 0; i < requests && i < NOTED; i++) dprintf(3, "%zu ", sizes[i]);
     dprintf(3, "\n");
 }

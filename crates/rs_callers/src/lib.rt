@@ -1,4 +1,4 @@
-//! Callers that know objects and rates by their contracts alone, and rows that cross the crates.
+//! Callers that know the library by its contracts alone: round trips, objects, results, lent rows, and every public path.
 #![tactic(auto)]
 
 pub mod callers;

@@ -1,24 +1,24 @@
 //! Files of cases, and how they are run.
+use crate::actions::text_of_expected;
+use crate::coders::Coders;
 use crate::kept::{Kept, Way};
-use crate::levels::{LEVELS, Levels};
-use crate::steps::text_of_expected;
 use anyhow::{Context, Result, bail};
 use reed_solomon_simd::engine::Engine;
 use std::alloc::{AllocError, Global};
 
-/// Steps that follow one another, and the levels that they are run at.
+/// Steps that follow one another, and the coders that they are run at.
 #[derive(Drop)]
 struct Case<'a> {
     line: usize,
-    levels: &'a str,
-    steps: Vec<&'a str>,
+    coders: &'a str,
+    actions: Vec<&'a str>,
 }
 
 /// The cases of a file.
 #[derive(Drop)]
 pub struct CaseFile<'a> {
     name: &'a str,
-    /// The ways that rows get their objects in; the cases are run once in each.
+    /// The ways that cases get their objects in; all are run once in each.
     ways: &'a str,
     /// Whether the cases are run with every engine.
     pub every_engine: bool,
@@ -47,7 +47,7 @@ impl<'a> CaseFile<'a> {
         Ok(file)
     }
 
-    // A line is empty, a comment, a setting of the file, a case's first step behind its levels, or a further step.
+    // A line is empty, a comment, a setting of the file, a case's first action behind its coders, or a further action.
     fn read_line(&mut self, alloc: Global, index: usize, line: &'a str) -> Result<()> {
         if line.is_empty() || line.starts_with('#') {
             return Ok(());
@@ -56,82 +56,109 @@ impl<'a> CaseFile<'a> {
             self.ways = ways;
         } else if line == "every engine" {
             self.every_engine = true;
-        } else if let Some((levels, step)) = line.split_once(" | ") {
+        } else if let Some((coders, action)) = line.split_once(" | ") {
             self.cases.push(Case {
                 line: index.saturating_add(1),
-                levels,
-                steps: vec![in alloc; step]?,
+                coders,
+                actions: vec![in alloc; action]?,
             })?;
         } else {
-            let case = self.cases.last_mut().context("a step before any case")?;
-            case.steps.push(line)?;
+            let case = self.cases.last_mut().context("an action before any case")?;
+            case.actions.push(line)?;
         }
         Ok(())
     }
 
-    /// Runs the cases with an engine, in each of the file's ways, and tells how many there are at each level.
+    /// Runs the cases with an engine, in each of the file's ways, and tells how many of them each coder runs.
     pub fn run<E: Engine + Copy>(
         &self,
         alloc: Global,
-        levels: &mut Levels<'_, E>,
+        coders: &mut Coders<'_, E>,
         engine: &str,
         report: &mut Report,
     ) -> Result<()> {
         for name in self.ways.split_whitespace() {
-            let way = way_of(name)?;
-            self.run_in(alloc, levels, way, report)?;
+            self.run_in(alloc, coders, way_of(name)?, report)?;
         }
         write!(report.text, "{} with {engine}:", self.name)?;
-        for level in LEVELS {
-            let count = self.cases.iter().filter(|case| case.is_at(level)).count();
-            write!(report.text, " {count} {level},")?;
-        }
+        self.write_counts(coders.names, report)?;
         writeln!(report.text, " of {} cases; {}", self.cases.len(), self.ways)?;
         Ok(())
     }
 
-    // Runs the cases in one way, at each of their levels.
+    // Runs the cases in one way.
     fn run_in<E: Engine + Copy>(
         &self,
         alloc: Global,
-        levels: &mut Levels<'_, E>,
+        coders: &mut Coders<'_, E>,
         way: Way,
         report: &mut Report,
     ) -> Result<()> {
         for case in &self.cases {
-            for level in case.levels.split_whitespace() {
-                case.run_at(levels, level, &mut Kept::new(alloc, way), report)?;
-            }
+            case.run(alloc, coders, way, report)?;
+        }
+        Ok(())
+    }
+
+    // Writes how many cases each coder of these names runs.
+    fn write_counts(&self, names: &[&str], report: &mut Report) -> Result<()> {
+        for name in names {
+            let count = self.cases.iter().filter(|case| case.is_by(name)).count();
+            write!(report.text, " {count} {name},")?;
         }
         Ok(())
     }
 }
 
 impl Case<'_> {
-    // Whether the case is run at the level.
-    fn is_at(&self, level: &str) -> bool {
-        self.levels.split_whitespace().any(|own| own == level)
+    // Whether the case is run by the coder of this name.
+    fn is_by(&self, name: &str) -> bool {
+        self.coders.split_whitespace().any(|own| own == name)
     }
 
-    // Runs the steps at a level; a step `at LEVEL` has the next ones run at another.
-    fn run_at<E: Engine + Copy>(
+    // Runs the case by each of its coders that is among these.
+    fn run<E: Engine + Copy>(
         &self,
-        levels: &mut Levels<'_, E>,
-        level: &str,
+        alloc: Global,
+        coders: &mut Coders<'_, E>,
+        way: Way,
+        report: &mut Report,
+    ) -> Result<()> {
+        for name in coders.names {
+            if self.is_by(name) {
+                self.run_by(coders, name, &mut Kept::new(alloc, way), report)?;
+            }
+        }
+        Ok(())
+    }
+
+    // Runs the actions by a coder; an action `by CODER` has the next ones run by another. Where one is refused for want of
+    // memory, the case ends with the actions `else` behind it, which are left out otherwise.
+    fn run_by<E: Engine + Copy>(
+        &self,
+        coders: &mut Coders<'_, E>,
+        coder: &str,
         kept: &mut Kept,
         report: &mut Report,
     ) -> Result<(), AllocError> {
-        let mut level = level;
-        for step in &self.steps {
-            if let Some(next) = step.strip_prefix("at ") {
-                level = next;
+        let mut coder = coder;
+        let mut lacking = false;
+        for action in &self.actions {
+            if let Some(next) = action.strip_prefix("by ") {
+                coder = next;
                 continue;
             }
-            let (step, expected) = step.split_once("->").unwrap_or((*step, ""));
-            let answer = levels.answer_at(level, kept, step)?;
+            let action = match (lacking, action.strip_prefix("else ")) {
+                (true, None) => break,
+                (false, Some(_)) => continue,
+                (_, other) => other.unwrap_or(*action),
+            };
+            let (action, expected) = action.split_once("->").unwrap_or((action, ""));
+            let answer = coders.answer_by(coder, kept, action)?;
             if !is_expected(kept, answer.as_str(), expected.trim()) {
+                lacking = lacking || answer.as_str() == "out of memory";
                 let (line, way) = (self.line, kept.way);
-                writeln!(report.text, "{line}, {level}, {way:?}: {step}->{answer}")?;
+                writeln!(report.text, "{line}, {coder}, {way:?}: {action}->{answer}")?;
                 report.differing = report.differing.saturating_add(1);
             }
         }

@@ -1,4 +1,4 @@
-//! What the levels of use have in common, so that a step of a case stands once.
+//! Whby the coders of use have in common, so that an action of a case stands once.
 use crate::kept::Kept;
 use reed_solomon_simd::Error;
 use reed_solomon_simd::rate::{DecoderWork, EncoderWork};
@@ -8,7 +8,7 @@ pub type Configuration = (usize, usize, usize);
 
 /// Which of a coder's two objects.
 #[derive(Clone, Copy)]
-pub enum Kind {
+pub enum Side {
     Encoder,
     Decoder,
 }
@@ -31,18 +31,18 @@ pub struct Parts {
     pub decoder: Option<DecoderWork>,
 }
 
-/// An encoder and a decoder of one level of use.
+/// An encoder and a decoder of one coder of use.
 pub trait Coder {
     /// Makes the object anew: over the memory of an earlier one where that was taken, else over none.
     fn start(
         &mut self,
-        kind: Kind,
+        side: Side,
         configuration: Configuration,
         parts: &mut Parts,
     ) -> Result<(), Error>;
 
     /// Resets the object.
-    fn reset(&mut self, kind: Kind, configuration: Configuration) -> Result<(), Error>;
+    fn reset(&mut self, side: Side, configuration: Configuration) -> Result<(), Error>;
 
     /// Gives a shard; the index tells nothing where it is the encoder's next.
     fn give(&mut self, role: Role, index: usize, shard: &[u8]) -> Result<(), Error>;
@@ -53,12 +53,12 @@ pub trait Coder {
     /// Restores what is missing; what comes is kept.
     fn decode(&mut self, kept: &mut Kept) -> Result<(), Error>;
 
-    /// Takes both objects apart, where the level can, and makes new ones of one original and one recovery shard.
+    /// Takes both objects apart, where the coder can, and makes new ones of one original and one recovery shard.
     fn take_parts(&mut self, _parts: &mut Parts) -> Result<(), Error> {
         Ok(())
     }
 
-    /// An iterator that the level hands over ends here once, and goes on if it is asked again.
+    /// An iterator thby the coder hands over ends here once, and goes on if it is asked again.
     fn end_once(&mut self, _role: Role) -> Result<(), Error> {
         Ok(())
     }

@@ -1,17 +1,18 @@
-//! What a case keeps from step to step.
+//! What a case keeps from action to action.
 use crate::coder::Parts;
-use reed_solomon_simd::{DecoderResult, EncoderResult};
-use std::alloc::{AllocError, Global};
+use crate::watch::Watch;
+use reed_solomon_simd::{DecoderResult, EncoderResult, Error};
+use std::alloc::Global;
 use std::mem;
 
-/// From where a table's row gets its object.
+/// From where a case gets its object.
 #[derive(Clone, Copy, Debug)]
 pub enum Way {
     /// It is made, over no memory.
     New,
-    /// That of the row before is reset.
+    /// That of the case before is reset.
     Reset,
-    /// That of the row before is taken apart, and it is made over its memory.
+    /// That of the case before is taken apart, and it is made over its memory.
     HandedOn,
 }
 
@@ -51,49 +52,64 @@ impl Kept {
         }
     }
 
-    /// Keeps the recovery shards of a result.
-    pub fn keep_recovery(&mut self, lent: EncoderResult<'_>) -> Result<(), AllocError> {
-        let mut walk = lent.recovery_iter();
-        let all = walk.len();
-        let mut agrees = true;
+    /// Keeps the recovery shards of a result: it is read under the watch, and copied after it.
+    pub fn keep_recovery(&mut self, lent: EncoderResult<'_>, watch: Watch) -> Result<(), Error> {
+        self.agrees = recovery_agrees(&lent);
+        drop(watch);
         self.recovery.clear();
-        for index in 0..all {
-            agrees = agrees && has_left(&walk, all - index);
-            let shard = walk.next().unwrap_or(&[]);
-            agrees = agrees && lent.recovery(index) == Some(shard);
+        for (index, shard) in lent.recovery_iter().enumerate() {
             self.recovery.push((index, shard.to_vec(self.alloc)?))?;
         }
-        agrees = agrees && has_left(&walk, 0) && walk.next().is_none() && walk.next().is_none();
-        agrees = agrees && has_left(&walk, 0) && lent.recovery(all).is_none();
-        self.agrees = agrees && lent.recovery(usize::MAX).is_none();
         if self.forgets {
             mem::forget(lent);
         }
         Ok(())
     }
 
-    /// Keeps the restored originals of a result.
-    pub fn keep_restored(&mut self, lent: DecoderResult<'_>) -> Result<(), AllocError> {
-        let mut walk = lent.restored_original_iter();
-        let all = walk.len();
-        let mut agrees = true;
+    /// Keeps the restored originals of a result, in the same way.
+    pub fn keep_restored(&mut self, lent: DecoderResult<'_>, watch: Watch) -> Result<(), Error> {
+        self.agrees = restored_agrees(&lent);
+        drop(watch);
         self.restored.clear();
-        for came in 0..all {
-            agrees = agrees && has_left(&walk, all - came);
-            let (index, shard) = walk.next().unwrap_or((0, &[]));
-            agrees = agrees && lent.restored_original(index) == Some(shard);
+        for (index, shard) in lent.restored_original_iter() {
             self.restored.push((index, shard.to_vec(self.alloc)?))?;
         }
-        agrees = agrees && has_left(&walk, 0) && walk.next().is_none() && walk.next().is_none();
-        // Of all indexes that any counts allow, and of the last, just as many have one.
-        let by_index = (0..65536).filter(|index| lent.restored_original(*index).is_some());
-        agrees = agrees && has_left(&walk, 0) && by_index.count() == all;
-        self.agrees = agrees && lent.restored_original(usize::MAX).is_none();
         if self.forgets {
             mem::forget(lent);
         }
         Ok(())
     }
+}
+
+// Whether a result tells the same by index, by its walk and by its counts.
+fn recovery_agrees(lent: &EncoderResult<'_>) -> bool {
+    let mut walk = lent.recovery_iter();
+    let all = walk.len();
+    let mut agrees = true;
+    for index in 0..all {
+        agrees = agrees && has_left(&walk, all - index);
+        let shard = walk.next();
+        agrees = agrees && shard.is_some() && lent.recovery(index) == shard;
+    }
+    agrees = agrees && has_left(&walk, 0) && walk.next().is_none() && walk.next().is_none();
+    agrees = agrees && has_left(&walk, 0) && lent.recovery(all).is_none();
+    agrees && lent.recovery(usize::MAX).is_none()
+}
+
+// The same of a decoder's: of all indexes that any counts allow, and of the last, just as many have a shard.
+fn restored_agrees(lent: &DecoderResult<'_>) -> bool {
+    let mut walk = lent.restored_original_iter();
+    let all = walk.len();
+    let mut agrees = true;
+    for came in 0..all {
+        agrees = agrees && has_left(&walk, all - came);
+        let (index, shard) = walk.next().unwrap_or((usize::MAX, &[]));
+        agrees = agrees && lent.restored_original(index) == Some(shard);
+    }
+    agrees = agrees && has_left(&walk, 0) && walk.next().is_none() && walk.next().is_none();
+    let by_index = (0..65536).filter(|index| lent.restored_original(*index).is_some());
+    agrees = agrees && has_left(&walk, 0) && by_index.count() == all;
+    agrees && lent.restored_original(usize::MAX).is_none()
 }
 
 // Whether so many items are left, by both counts.

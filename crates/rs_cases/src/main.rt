@@ -1,42 +1,31 @@
-//! Runs cases of coding, which files of data hold, through each level of use. The words are the names of the files; their
+//! Runs cases of coding, which files of data hold, through each coder of use. The words are the names of the files; their
 //! format stands at the head of each.
 //!
-//! Prints a line for each file and engine, and one, with the line of its case, for each step whose answer isn't the one
+//! Prints a line for each file and engine, and one, with the line of its case, for each action whose answer isn't the one
 //! that is expected. Where there is any, the status is 1.
 #![tactic(auto)]
 
+mod actions;
 mod cases;
 mod coder;
+mod coders;
 mod kept;
-mod levels;
+mod notation;
 mod one_call;
 mod plain;
 mod rated;
-mod shards;
-mod steps;
+mod watch;
 
 use anyhow::{Result, ensure};
 use cases::{CaseFile, Report};
-use levels::Levels;
+use coders::{CODERS, Coders, RATES};
 use reed_solomon_simd::engine::tables::Tables;
 use reed_solomon_simd::engine::{
     Avx2, DefaultEngine, Engine, EngineKind, Naive, NoSimd, Shuffle, Ssse3, WideShuffle,
 };
 use std::alloc::Global;
 use std::{env, fs};
-
-// Runs a file's cases over an engine at the rates, and over a named one at the other levels.
-fn run_over<E: Engine + Copy>(
-    alloc: Global,
-    file: &CaseFile<'_>,
-    engine: E,
-    named: DefaultEngine<'_>,
-    name: &str,
-    report: &mut Report,
-) -> Result<()> {
-    let mut levels = Levels::new(alloc, engine, named)?;
-    file.run(alloc, &mut levels, name, report)
-}
+use watch::Watch;
 
 // Runs a file's cases over each kind of the engine that is chosen by name, or over the first alone.
 fn run_over_kinds(
@@ -52,7 +41,8 @@ fn run_over_kinds(
         (EngineKind::Ssse3, "ssse3"),
     ] {
         let engine = DefaultEngine::new(tables, kind);
-        run_over(alloc, file, engine, engine, name, report)?;
+        let mut coders = Coders::new(alloc, engine, engine, CODERS)?;
+        file.run(alloc, &mut coders, name, report)?;
         if !file.every_engine {
             break;
         }
@@ -60,26 +50,40 @@ fn run_over_kinds(
     Ok(())
 }
 
+// Runs a file's cases by the objects of the rates over an engine.
+fn run_over<E: Engine + Copy>(
+    alloc: Global,
+    file: &CaseFile<'_>,
+    engine: E,
+    name: &str,
+    tables: &Tables,
+    report: &mut Report,
+) -> Result<()> {
+    let idle = DefaultEngine::new(tables, EngineKind::Naive);
+    let mut coders = Coders::new(alloc, engine, idle, RATES)?;
+    file.run(alloc, &mut coders, name, report)
+}
+
 // Runs a file's cases over each engine's own type.
 fn run_over_types(
     alloc: Global,
     file: &CaseFile<'_>,
-    tables: &Tables,
+    t: &Tables,
     report: &mut Report,
 ) -> Result<()> {
-    let named = DefaultEngine::new(tables, EngineKind::Naive);
-    run_over(alloc, file, Naive::new(tables), named, "Naive", report)?;
-    run_over(alloc, file, NoSimd::new(tables), named, "NoSimd", report)?;
-    run_over(alloc, file, Avx2::new(tables), named, "Avx2", report)?;
-    run_over(alloc, file, Ssse3::new(tables), named, "Ssse3", report)?;
-    run_over(alloc, file, Shuffle::new(tables), named, "Shuffle", report)?;
-    let wide = WideShuffle::new(tables);
-    run_over(alloc, file, wide, named, "WideShuffle", report)
+    run_over(alloc, file, Naive::new(t), "Naive", t, report)?;
+    run_over(alloc, file, NoSimd::new(t), "NoSimd", t, report)?;
+    run_over(alloc, file, Avx2::new(t), "Avx2", t, report)?;
+    run_over(alloc, file, Ssse3::new(t), "Ssse3", t, report)?;
+    run_over(alloc, file, Shuffle::new(t), "Shuffle", t, report)?;
+    run_over(alloc, file, WideShuffle::new(t), "WideShuffle", t, report)
 }
 
 fn main(rt: HostRuntime) -> Result<()> {
     let alloc = rt.alloc();
+    let watch = Watch::new(alloc);
     let tables = Tables::new(alloc)?;
+    drop(watch);
     let mut report = Report {
         text: String::new(alloc),
         differing: 0,
@@ -93,6 +97,6 @@ fn main(rt: HostRuntime) -> Result<()> {
         }
     }
     rt.print(report.text.as_str())?;
-    ensure!(report.differing == 0, "{} steps differ", report.differing);
+    ensure!(report.differing == 0, "{} actions differ", report.differing);
     Ok(())
 }

@@ -1,6 +1,7 @@
 //! The one-call functions: what was given is handed over when the call is made.
-use crate::coder::{Coder, Configuration, Kind, Parts, Role};
+use crate::coder::{Coder, Configuration, Parts, Role, Side};
 use crate::kept::Kept;
+use crate::watch::Watch;
 use reed_solomon_simd::engine::DefaultEngine;
 use reed_solomon_simd::{Error, decode, encode};
 use std::alloc::{AllocError, Global};
@@ -41,14 +42,14 @@ impl<'t> OneCall<'t> {
 impl Coder for OneCall<'_> {
     fn start(
         &mut self,
-        kind: Kind,
+        side: Side,
         configuration: Configuration,
         _parts: &mut Parts,
     ) -> Result<(), Error> {
-        self.reset(kind, configuration)
+        self.reset(side, configuration)
     }
 
-    fn reset(&mut self, _kind: Kind, configuration: Configuration) -> Result<(), Error> {
+    fn reset(&mut self, _kind: Side, configuration: Configuration) -> Result<(), Error> {
         self.configuration = configuration;
         self.given.clear();
         Ok(())
@@ -75,7 +76,9 @@ impl Coder for OneCall<'_> {
         let original = lent(self.alloc, given.as_slice(), Role::Next)?;
         let mut places = original.iter();
         let shards = places.by_ref().map_while(|place| *place).map(|item| item.1);
+        let watch = Watch::new(self.alloc);
         let answer = encode(self.alloc, k, r, shards, self.engine);
+        drop(watch);
         kept.left = (places.len(), 0);
         kept.recovery.clear();
         for item in answer?.into_iter().enumerate() {
@@ -92,7 +95,9 @@ impl Coder for OneCall<'_> {
         let mut recoveries = recovery.iter();
         let by_index = originals.by_ref().map_while(|place| *place);
         let further = recoveries.by_ref().map_while(|place| *place);
+        let watch = Watch::new(self.alloc);
         let answer = decode(self.alloc, k, r, by_index, further, self.engine);
+        drop(watch);
         kept.left = (originals.len(), recoveries.len());
         kept.restored.clear();
         for item in answer? {

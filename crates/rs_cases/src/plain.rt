@@ -1,6 +1,7 @@
 //! The plain objects.
-use crate::coder::{Coder, Configuration, Kind, Parts, Role};
+use crate::coder::{Coder, Configuration, Parts, Role, Side};
 use crate::kept::Kept;
+use crate::watch::Watch;
 use reed_solomon_simd::engine::DefaultEngine;
 use reed_solomon_simd::{Error, ReedSolomonDecoder, ReedSolomonEncoder};
 use std::alloc::Global;
@@ -29,26 +30,29 @@ impl<'t> Plain<'t> {
 impl Coder for Plain<'_> {
     fn start(
         &mut self,
-        kind: Kind,
+        side: Side,
         (k, r, size): Configuration,
         _parts: &mut Parts,
     ) -> Result<(), Error> {
         let (alloc, engine) = (self.alloc, self.engine);
-        match kind {
-            Kind::Encoder => self.encoder = ReedSolomonEncoder::new(alloc, k, r, size, engine)?,
-            Kind::Decoder => self.decoder = ReedSolomonDecoder::new(alloc, k, r, size, engine)?,
+        let _watch = Watch::new(alloc);
+        match side {
+            Side::Encoder => self.encoder = ReedSolomonEncoder::new(alloc, k, r, size, engine)?,
+            Side::Decoder => self.decoder = ReedSolomonDecoder::new(alloc, k, r, size, engine)?,
         }
         Ok(())
     }
 
-    fn reset(&mut self, kind: Kind, (k, r, size): Configuration) -> Result<(), Error> {
-        match kind {
-            Kind::Encoder => self.encoder.reset(k, r, size),
-            Kind::Decoder => self.decoder.reset(k, r, size),
+    fn reset(&mut self, side: Side, (k, r, size): Configuration) -> Result<(), Error> {
+        let _watch = Watch::new(self.alloc);
+        match side {
+            Side::Encoder => self.encoder.reset(k, r, size),
+            Side::Decoder => self.decoder.reset(k, r, size),
         }
     }
 
     fn give(&mut self, role: Role, index: usize, shard: &[u8]) -> Result<(), Error> {
+        let _watch = Watch::new(self.alloc);
         match role {
             Role::Next => self.encoder.add_original_shard(shard),
             Role::Original => self.decoder.add_original_shard(index, shard),
@@ -57,13 +61,15 @@ impl Coder for Plain<'_> {
     }
 
     fn encode(&mut self, kept: &mut Kept) -> Result<(), Error> {
-        kept.keep_recovery(self.encoder.encode()?)?;
-        Ok(())
+        let watch = Watch::new(self.alloc);
+        let lent = self.encoder.encode()?;
+        kept.keep_recovery(lent, watch)
     }
 
     fn decode(&mut self, kept: &mut Kept) -> Result<(), Error> {
-        kept.keep_restored(self.decoder.decode()?)?;
-        Ok(())
+        let watch = Watch::new(self.alloc);
+        let lent = self.decoder.decode()?;
+        kept.keep_restored(lent, watch)
     }
 
     fn supports(&self, k: usize, r: usize, supported: bool) -> bool {

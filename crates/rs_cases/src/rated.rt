@@ -1,6 +1,7 @@
 //! The objects of a rate over an engine.
-use crate::coder::{Coder, Configuration, Kind, Parts, Role};
+use crate::coder::{Coder, Configuration, Parts, Role, Side};
 use crate::kept::Kept;
+use crate::watch::Watch;
 use reed_solomon_simd::Error;
 use reed_solomon_simd::engine::{Engine, Steps};
 use reed_solomon_simd::rate::{Rate, RateDecoder, RateEncoder};
@@ -33,16 +34,17 @@ impl<E: Engine + Copy, R: Rate<E>> Rated<E, R> {
 impl<E: Engine + Copy, R: Rate<E>> Coder for Rated<E, R> {
     fn start(
         &mut self,
-        kind: Kind,
+        side: Side,
         (k, r, size): Configuration,
         parts: &mut Parts,
     ) -> Result<(), Error> {
-        match kind {
-            Kind::Encoder => {
+        let _watch = Watch::new(self.alloc);
+        match side {
+            Side::Encoder => {
                 let work = parts.encoder.take();
                 self.encoder = R::encoder(self.alloc, k, r, size, self.engine, work)?;
             }
-            Kind::Decoder => {
+            Side::Decoder => {
                 let work = parts.decoder.take();
                 self.decoder = R::decoder(self.alloc, k, r, size, self.engine, work)?;
             }
@@ -50,14 +52,16 @@ impl<E: Engine + Copy, R: Rate<E>> Coder for Rated<E, R> {
         Ok(())
     }
 
-    fn reset(&mut self, kind: Kind, (k, r, size): Configuration) -> Result<(), Error> {
-        match kind {
-            Kind::Encoder => self.encoder.reset(k, r, size),
-            Kind::Decoder => self.decoder.reset(k, r, size),
+    fn reset(&mut self, side: Side, (k, r, size): Configuration) -> Result<(), Error> {
+        let _watch = Watch::new(self.alloc);
+        match side {
+            Side::Encoder => self.encoder.reset(k, r, size),
+            Side::Decoder => self.decoder.reset(k, r, size),
         }
     }
 
     fn give(&mut self, role: Role, index: usize, shard: &[u8]) -> Result<(), Error> {
+        let _watch = Watch::new(self.alloc);
         match role {
             Role::Next => self.encoder.add_original_shard(shard),
             Role::Original => self.decoder.add_original_shard(index, shard),
@@ -67,14 +71,16 @@ impl<E: Engine + Copy, R: Rate<E>> Coder for Rated<E, R> {
 
     fn encode(&mut self, kept: &mut Kept) -> Result<(), Error> {
         let mut steps = Steps::new();
-        kept.keep_recovery(self.encoder.encode(&mut steps)?)?;
-        Ok(())
+        let watch = Watch::new(self.alloc);
+        let lent = self.encoder.encode(&mut steps)?;
+        kept.keep_recovery(lent, watch)
     }
 
     fn decode(&mut self, kept: &mut Kept) -> Result<(), Error> {
         let mut steps = Steps::new();
-        kept.keep_restored(self.decoder.decode(&mut steps)?)?;
-        Ok(())
+        let watch = Watch::new(self.alloc);
+        let lent = self.decoder.decode(&mut steps)?;
+        kept.keep_restored(lent, watch)
     }
 
     fn take_parts(&mut self, parts: &mut Parts) -> Result<(), Error> {

@@ -1,4 +1,4 @@
--- Worked rows: what the definitions say of small numbers and short lists.
+-- Worked examples: what the definitions say of small numbers and short lists.
 use Rattle.std.specs.Prelude.{◌≡◌, ℕ, zero, suc, ◌+◌, ◌*◌, List, [], ◌∷◌, map, true, false, Ok, Err}
 use Rattle.rs_field.specs.declared.error.Error.TheVariants.{UnsupportedShardCount, InvalidShardSize, OutOfMemory}
 use Rattle.rs_field.specs.Field.{product}

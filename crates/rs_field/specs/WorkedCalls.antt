@@ -1,4 +1,4 @@
--- Worked rows of the calls: which refusal comes first, and what a call leaves.
+-- Worked examples of the calls: which refusal comes first, and what a call leaves.
 use Rattle.std.specs.Prelude.{◌≡◌, ℕ, List, [], ◌∷◌, replicate, Result, Ok, Err}
 use Rattle.rs_field.specs.declared.error.Error.{Error}
 use Rattle.rs_field.specs.declared.error.Error.TheVariants.{DifferentShardSize, DuplicateOriginalShardIndex, DuplicateRecoveryShardIndex, InvalidOriginalShardIndex, InvalidRecoveryShardIndex, InvalidShardSize, NotEnoughShards, OutOfMemory, TooFewOriginalShards, TooManyOriginalShards, UnsupportedShardCount}

@@ -1,4 +1,4 @@
--- Worked rows of the code: messages with their recovery shards, and given shards with the messages that agree.
+-- Worked examples of the code: messages with their recovery shards, and given shards with the messages that agree.
 use Rattle.std.specs.Prelude.{◌≡◌, ℕ, ◌+◌, ◌*◌, ◌++◌, List, [], ◌∷◌, map, length, replicate, Ok, Err}
 use Rattle.rs_field.specs.declared.error.Error.TheVariants.{InconsistentShards}
 use Rattle.rs_field.specs.Column.{Shard, columns}

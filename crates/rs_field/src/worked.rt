@@ -1,4 +1,4 @@
-//! Worked rows: what the definitions say at small numbers, as contracts of functions that do nothing.
+//! Worked examples: what the definitions say at small numbers, as contracts of functions that do nothing.
 ghost use Rattle.rs_field.specs.Counts.{low_rate, high_rate, default_rate};
 ghost use Rattle.rs_field.specs.Worked.{Products, ColumnsOfShards, Powers, Supported, Unsupported, OfOneRate, Choices};
 ghost use Rattle.rs_field.specs.Worked.{Validated, Spaces, BlockRows, EncoderRows, DecoderRows, TransformOfTwo, StepBounds};

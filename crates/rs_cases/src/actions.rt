@@ -1,40 +1,40 @@
-//! What the steps of a case do.
-use crate::coder::{Coder, Configuration, Kind, Parts, Role};
+//! What the actions of a case do.
+use crate::coder::{Coder, Configuration, Parts, Role, Side};
 use crate::kept::{Item, Kept, Way};
-use crate::shards::{counted, digest_of, drawn, points, shard_of, write_items};
+use crate::notation::{counted, digest_of, drawn, points, shard_of, write_items};
 use anyhow::{Context, Result, bail, ensure};
 use reed_solomon_simd::Error;
 use reed_solomon_simd::rate::{DecoderWork, EncoderWork};
 
-/// Does a step of a coder. Answers the text of what comes, empty where nothing does; a refusal is the error.
-pub fn do_step<C: Coder>(coder: &mut C, kept: &mut Kept, step: &str) -> Result<String> {
-    let word = step.split_whitespace().next().unwrap_or("");
-    let kind = kind_of(word);
+/// Does an action of a coder. Answers the text of what comes, empty where nothing does; a refusal is the error.
+pub fn do_action<C: Coder>(coder: &mut C, kept: &mut Kept, action: &str) -> Result<String> {
+    let word = action.split_whitespace().next().unwrap_or("");
+    let side = side_of(word);
     match word {
-        "encoder" | "decoder" => coder.start(kind, configuration_of(step)?, &mut kept.parts)?,
-        "reset-encoder" | "reset-decoder" => coder.reset(kind, configuration_of(step)?)?,
+        "encoder" | "decoder" => coder.start(side, configuration_of(action)?, &mut kept.parts)?,
+        "reset-encoder" | "reset-decoder" => coder.reset(side, configuration_of(action)?)?,
         "parts" => coder.take_parts(&mut kept.parts)?,
         "empty-parts" => kept.parts = empty_parts(),
-        "give" => give_from(coder, kept, step, 1)?,
-        "code" | "restore" => return round(coder, kept, step, 1, kind),
-        "encode" | "decode" => return run(coder, kept, kind),
+        "give" => give_from(coder, kept, action, 1)?,
+        "code" | "restore" => return round(coder, kept, action, 1, side),
+        "encode" | "decode" => return run(coder, kept, side),
         "forget" => kept.forgets = true,
-        "encodes" | "decodes" => return row(coder, kept, step, kind),
-        "makes" => make(coder, kept, step)?,
+        "encodes" | "decodes" => return repeat_round(coder, kept, action, side),
+        "makes" => make(coder, kept, action)?,
         "digest" => return digest_of(kept.alloc, kept.recovery.as_slice()),
-        "supports" => check_counts(coder, step, true)?,
-        "excludes" => check_counts(coder, step, false)?,
-        "configure" => configure(coder, configuration_of(step)?)?,
-        _ => bail!("no such step"),
+        "supports" => check_counts(coder, action, true)?,
+        "excludes" => check_counts(coder, action, false)?,
+        "configure" => configure(coder, configuration_of(action)?)?,
+        _ => bail!("no such action"),
     }
     Ok(String::new(kept.alloc))
 }
 
-// The object that a step of this name is about.
-fn kind_of(name: &str) -> Kind {
+// The object that an action of this name is about.
+fn side_of(name: &str) -> Side {
     match name {
-        "decoder" | "reset-decoder" | "restore" | "decode" | "decodes" => Kind::Decoder,
-        _ => Kind::Encoder,
+        "decoder" | "reset-decoder" | "restore" | "decode" | "decodes" => Side::Decoder,
+        _ => Side::Encoder,
     }
 }
 
@@ -51,9 +51,9 @@ fn number(word: Option<&str>) -> Result<usize> {
     Ok(word.context("a number is missing")?.parse::<usize>()?)
 }
 
-// The counts and the size behind the step's first word.
-fn configuration_of(step: &str) -> Result<Configuration> {
-    let mut words = step.split_whitespace().skip(1);
+// The counts and the size behind the action's first word.
+fn configuration_of(action: &str) -> Result<Configuration> {
+    let mut words = action.split_whitespace().skip(1);
     Ok((
         number(words.next())?,
         number(words.next())?,
@@ -68,9 +68,9 @@ fn slice_of<'a>(items: &'a [Item], range: &str) -> Result<&'a [Item]> {
     items.get(range).context("no such shards are kept")
 }
 
-// Gives the shards of the step's words from so many on.
-fn give_from<C: Coder>(coder: &mut C, kept: &Kept, step: &str, from: usize) -> Result<()> {
-    for word in step.split_whitespace().skip(from) {
+// Gives the shards of the action's words from so many on.
+fn give_from<C: Coder>(coder: &mut C, kept: &Kept, action: &str, from: usize) -> Result<()> {
+    for word in action.split_whitespace().skip(from) {
         give_word(coder, kept, word)?;
     }
     Ok(())
@@ -116,14 +116,14 @@ fn give_items<C: Coder>(coder: &mut C, role: Role, items: &[Item]) -> Result<()>
 }
 
 // Encodes or decodes what was given.
-fn run<C: Coder>(coder: &mut C, kept: &mut Kept, kind: Kind) -> Result<String> {
+fn run<C: Coder>(coder: &mut C, kept: &mut Kept, side: Side) -> Result<String> {
     let mut text = String::new(kept.alloc);
-    match kind {
-        Kind::Encoder => {
+    match side {
+        Side::Encoder => {
             coder.encode(kept)?;
             write_items(kept.alloc, &mut text, kept.recovery.as_slice())?;
         }
-        Kind::Decoder => {
+        Side::Decoder => {
             coder.decode(kept)?;
             write_items(kept.alloc, &mut text, kept.restored.as_slice())?;
         }
@@ -132,51 +132,56 @@ fn run<C: Coder>(coder: &mut C, kept: &mut Kept, kind: Kind) -> Result<String> {
     Ok(text)
 }
 
-// Gives the shards of the step's words from so many on, and encodes or decodes.
+// Gives the shards of the action's words from so many on, and encodes or decodes.
 fn round<C: Coder>(
     coder: &mut C,
     kept: &mut Kept,
-    step: &str,
+    action: &str,
     from: usize,
-    kind: Kind,
+    side: Side,
 ) -> Result<String> {
-    give_from(coder, kept, step, from)?;
-    run(coder, kept, kind)
+    give_from(coder, kept, action, from)?;
+    run(coder, kept, side)
 }
 
-// Gets the object for a table's row in the way that the rows are run in.
+// Gets the object for a case in the way that the cases are run in.
 fn obtain<C: Coder>(
     coder: &mut C,
     kept: &mut Kept,
-    kind: Kind,
+    side: Side,
     configuration: Configuration,
 ) -> Result<(), Error> {
     match kept.way {
-        Way::New => coder.start(kind, configuration, &mut Parts::default()),
-        Way::Reset => coder.reset(kind, configuration),
+        Way::New => coder.start(side, configuration, &mut Parts::default()),
+        Way::Reset => coder.reset(side, configuration),
         Way::HandedOn => {
             coder.take_parts(&mut kept.parts)?;
-            coder.start(kind, configuration, &mut kept.parts)
+            coder.start(side, configuration, &mut kept.parts)
         }
     }
 }
 
-// A table's row: the object does the round twice, and is left with the first shard given.
-fn row<C: Coder>(coder: &mut C, kept: &mut Kept, step: &str, kind: Kind) -> Result<String> {
-    obtain(coder, kept, kind, configuration_of(step)?)?;
-    let first = round(coder, kept, step, 4, kind)?;
-    let second = round(coder, kept, step, 4, kind)?;
+// The object does the round twice, and is left with the first shard given.
+fn repeat_round<C: Coder>(
+    coder: &mut C,
+    kept: &mut Kept,
+    action: &str,
+    side: Side,
+) -> Result<String> {
+    obtain(coder, kept, side, configuration_of(action)?)?;
+    let first = round(coder, kept, action, 4, side)?;
+    let second = round(coder, kept, action, 4, side)?;
     ensure!(first.as_str() == second.as_str(), "then {second}");
-    if let Some(word) = step.split_whitespace().nth(4) {
+    if let Some(word) = action.split_whitespace().nth(4) {
         give_word(coder, kept, word)?;
     }
     Ok(first)
 }
 
 // Encodes a message that a rule makes; both are kept.
-fn make<C: Coder>(coder: &mut C, kept: &mut Kept, step: &str) -> Result<()> {
-    let (k, r, size) = configuration_of(step)?;
-    let mut words = step.split_whitespace().skip(4);
+fn make<C: Coder>(coder: &mut C, kept: &mut Kept, action: &str) -> Result<()> {
+    let (k, r, size) = configuration_of(action)?;
+    let mut words = action.split_whitespace().skip(4);
     kept.message = match words.next().unwrap_or("") {
         "counted" => counted(kept.alloc, k, size)?,
         "drawn" => {
@@ -186,16 +191,16 @@ fn make<C: Coder>(coder: &mut C, kept: &mut Kept, step: &str) -> Result<()> {
         "points" => points(kept.alloc, k, number(words.next())?)?,
         _ => bail!("no such rule"),
     };
-    obtain(coder, kept, Kind::Encoder, (k, r, size))?;
+    obtain(coder, kept, Side::Encoder, (k, r, size))?;
     give_items(coder, Role::Next, kept.message.as_slice())?;
     coder.encode(kept)?;
     ensure!(kept.agrees, "the result differs by index, walk and counts");
     Ok(())
 }
 
-// All pairs K+R of the step are supported, or none is.
-fn check_counts<C: Coder>(coder: &C, step: &str, supported: bool) -> Result<()> {
-    for pair in step.split_whitespace().skip(1) {
+// All pairs K+R of the action are supported, or none is.
+fn check_counts<C: Coder>(coder: &C, action: &str, supported: bool) -> Result<()> {
+    for pair in action.split_whitespace().skip(1) {
         let (k, r) = pair.split_once('+').context("a pair is K+R")?;
         let original_count = k.parse::<usize>()?;
         let recovery_count = r.parse::<usize>()?;
@@ -214,11 +219,11 @@ fn check_counts<C: Coder>(coder: &C, step: &str, supported: bool) -> Result<()> 
 // Every call that takes a configuration refuses it alike, which leaves the objects.
 fn configure<C: Coder>(coder: &mut C, configuration: Configuration) -> Result<()> {
     let mut parts = Parts::default();
-    let answer = coder.start(Kind::Encoder, configuration, &mut parts);
+    let answer = coder.start(Side::Encoder, configuration, &mut parts);
     for other in [
-        coder.start(Kind::Decoder, configuration, &mut parts),
-        coder.reset(Kind::Encoder, configuration),
-        coder.reset(Kind::Decoder, configuration),
+        coder.start(Side::Decoder, configuration, &mut parts),
+        coder.reset(Side::Encoder, configuration),
+        coder.reset(Side::Decoder, configuration),
     ] {
         ensure!(other == answer, "{other:?} and {answer:?}");
     }

@@ -15,11 +15,16 @@ pub fn shard_of(alloc: Global, text: &str) -> Result<Vec<u8>> {
             None => (part, 1),
         };
         let bytes = hex::decode(alloc, digits)?;
-        for _ in 0..times {
-            shard.extend_from_slice(bytes.as_slice())?;
-        }
+        append(&mut shard, bytes.as_slice(), times)?;
     }
     Ok(shard)
+}
+
+fn append(shard: &mut Vec<u8>, bytes: &[u8], times: usize) -> Result<(), AllocError> {
+    for _ in 0..times {
+        shard.extend_from_slice(bytes)?;
+    }
+    Ok(())
 }
 
 /// So many originals, of which byte i of number j is (7 i + 13 j + 5) mod 251.

@@ -1,0 +1,80 @@
+//! The coders of all levels of use, side by side over one engine.
+use crate::actions::do_action;
+use crate::kept::Kept;
+use crate::one_call::OneCall;
+use crate::plain::Plain;
+use crate::rated::Rated;
+use anyhow::{Result, bail};
+use reed_solomon_simd::Error;
+use reed_solomon_simd::engine::{DefaultEngine, Engine};
+use reed_solomon_simd::rate::{DefaultRate, HighRate, LowRate};
+use std::alloc::{AllocError, Global};
+
+/// The words that name the coders: the one-call functions, the plain objects, and the objects of each rate.
+pub const CODERS: &[&str] = &["call", "plain", "low", "high", "default"];
+
+/// Those of the objects of the rates, which are over any engine.
+pub const RATES: &[&str] = &["low", "high", "default"];
+
+/// Those of the rates are over the engine, the others over the one that is chosen by name.
+#[derive(Drop)]
+pub struct Coders<'t, E: Engine> {
+    /// The names of those that are run.
+    pub names: &'static [&'static str],
+    call: OneCall<'t>,
+    plain: Plain<'t>,
+    low: Rated<E, LowRate<E>>,
+    high: Rated<E, HighRate<E>>,
+    default: Rated<E, DefaultRate<E>>,
+}
+
+impl<'t, E: Engine + Copy> Coders<'t, E> {
+    /// New coders, of which those of these names are run.
+    pub fn new(
+        alloc: Global,
+        engine: E,
+        chosen: DefaultEngine<'t>,
+        names: &'static [&'static str],
+    ) -> Result<Coders<'t, E>, Error> {
+        Ok(Coders {
+            names,
+            call: OneCall::new(alloc, chosen),
+            plain: Plain::new(alloc, chosen)?,
+            low: Rated::new(alloc, engine)?,
+            high: Rated::new(alloc, engine)?,
+            default: Rated::new(alloc, engine)?,
+        })
+    }
+
+    // Does an action by a coder.
+    fn do_by(&mut self, coder: &str, kept: &mut Kept, action: &str) -> Result<String> {
+        match coder {
+            "call" => do_action(&mut self.call, kept, action),
+            "plain" => do_action(&mut self.plain, kept, action),
+            "low" => do_action(&mut self.low, kept, action),
+            "high" => do_action(&mut self.high, kept, action),
+            "default" => do_action(&mut self.default, kept, action),
+            _ => bail!("no such coder"),
+        }
+    }
+
+    /// What an action answers by a coder: the text of what comes or of the refusal, and how many shards are left untaken.
+    pub fn answer_by(
+        &mut self,
+        coder: &str,
+        kept: &mut Kept,
+        action: &str,
+    ) -> Result<String, AllocError> {
+        kept.agrees = true;
+        kept.left = (0, 0);
+        let mut answer = match self.do_by(coder, kept, action) {
+            Ok(text) => text,
+            Err(refusal) => format!(in kept.alloc; "{refusal}")?,
+        };
+        let (originals, recoveries) = kept.left;
+        if originals > 0 || recoveries > 0 {
+            write!(answer, ", {originals} and {recoveries} left")?;
+        }
+        Ok(answer)
+    }
+}
