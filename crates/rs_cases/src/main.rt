@@ -19,9 +19,7 @@ use anyhow::{Result, ensure};
 use cases::{CaseFile, Report};
 use levels::Levels;
 use reed_solomon_simd::engine::tables::Tables;
-use reed_solomon_simd::engine::{
-    Avx2, DefaultEngine, Engine, EngineKind, Naive, NoSimd, Shuffle, Ssse3, WideShuffle,
-};
+use reed_solomon_simd::engine::{Avx2, DefaultEngine, Engine, EngineKind, Naive, NoSimd, Ssse3};
 use std::alloc::Global;
 use std::{env, fs};
 
@@ -71,10 +69,7 @@ fn run_over_types(
     run_over(alloc, file, Naive::new(tables), named, "Naive", report)?;
     run_over(alloc, file, NoSimd::new(tables), named, "NoSimd", report)?;
     run_over(alloc, file, Avx2::new(tables), named, "Avx2", report)?;
-    run_over(alloc, file, Ssse3::new(tables), named, "Ssse3", report)?;
-    run_over(alloc, file, Shuffle::new(tables), named, "Shuffle", report)?;
-    let wide = WideShuffle::new(tables);
-    run_over(alloc, file, wide, named, "WideShuffle", report)
+    run_over(alloc, file, Ssse3::new(tables), named, "Ssse3", report)
 }
 
 fn main(rt: HostRuntime) -> Result<()> {

@@ -14,7 +14,7 @@ use coder::{Decoding, Encoding, ORIGINAL};
 use marks::{mark_from_here, mark_until_here};
 use objects::{Scenario, Stations, passes};
 use reed_solomon_simd::engine::tables::Tables;
-use reed_solomon_simd::engine::{DefaultEngine, Engine, EngineKind, Shuffle, WideShuffle};
+use reed_solomon_simd::engine::{DefaultEngine, Engine, EngineKind};
 use reed_solomon_simd::rate::{DefaultRate, HighRate, LowRate};
 use reed_solomon_simd::{Error, ReedSolomonDecoder, ReedSolomonEncoder};
 use std::alloc::{AllocError, Global};
@@ -135,8 +135,7 @@ fn rounds<E: Engine + Copy>(alloc: Global, engine: E) -> Result<bool, Error> {
 }
 
 fn rounds_of_each_engine(alloc: Global, tables: &Tables) -> Result<bool, Error> {
-    let mut good = rounds(alloc, Shuffle::new(tables))?;
-    good = good && rounds(alloc, WideShuffle::new(tables))?;
+    let mut good = true;
     for kind in [EngineKind::NoSimd, EngineKind::Avx2, EngineKind::Ssse3] {
         good = good && rounds(alloc, DefaultEngine::new(tables, kind))?;
     }
