@@ -15,11 +15,9 @@ pub use rs_rate::{DecoderResult, EncoderResult, Recovery, RestoredOriginal};
 
 /// The field, its tables, and the engines that transform rows of symbols.
 pub mod engine {
-    pub use rs_engines::engine_avx2::Avx2;
     pub use rs_engines::engine_default::{DefaultEngine, EngineKind};
     pub use rs_engines::engine_nosimd::NoSimd;
-    pub use rs_engines::engine_shuffle::{Shuffle, WideShuffle};
-    pub use rs_engines::engine_ssse3::Ssse3;
+    pub use rs_engines::engine_shuffle::{Avx2, Ssse3};
     pub use rs_field::engine::{
         CANTOR_BASIS, Engine, GF_BITS, GF_MODULUS, GF_ORDER, GF_POLYNOMIAL, GfElement, Naive,
         ShardsRefMut, Steps,

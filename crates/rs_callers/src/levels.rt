@@ -2,7 +2,7 @@
 //! rate and an engine of the caller's choice. The documents quote them, and tests run them: each answers whether just
 //! what was lost came back.
 use reed_solomon_simd::engine::tables::Tables;
-use reed_solomon_simd::engine::{DefaultEngine, EngineKind, Shuffle, Steps};
+use reed_solomon_simd::engine::{DefaultEngine, EngineKind, Ssse3, Steps};
 use reed_solomon_simd::rate::{HighRateDecoder, HighRateEncoder, RateDecoder, RateEncoder};
 use reed_solomon_simd::{DecoderResult, Error, ReedSolomonDecoder, ReedSolomonEncoder};
 use std::alloc::Global;
@@ -12,7 +12,7 @@ const ORIGINAL: [&[u8]; 3] = [b"Three shards", b" of one size", b" are coded. "]
 /// By the one-call functions. `OutOfMemory` where no memory is found.
 pub fn in_one_call(alloc: Global) -> Result<bool, Error> {
     let tables = Tables::new(alloc)?;
-    let engine = DefaultEngine::new(&tables, EngineKind::Naive);
+    let engine = DefaultEngine::new(&tables, EngineKind::Ssse3);
     let recovery = reed_solomon_simd::encode(alloc, 3, 2, ORIGINAL.into_iter(), engine)?;
 
     // Originals 0 and 2 are lost. Any three shards are enough.
@@ -32,7 +32,7 @@ pub fn in_one_call(alloc: Global) -> Result<bool, Error> {
 /// By objects. `OutOfMemory` where no memory is found.
 pub fn with_objects(alloc: Global) -> Result<bool, Error> {
     let tables = Tables::new(alloc)?;
-    let engine = DefaultEngine::new(&tables, EngineKind::Naive);
+    let engine = DefaultEngine::new(&tables, EngineKind::Ssse3);
     let mut encoder = ReedSolomonEncoder::new(alloc, 3, 2, 12, engine)?;
     for shard in ORIGINAL {
         encoder.add_original_shard(shard)?;
@@ -52,7 +52,7 @@ pub fn with_objects(alloc: Global) -> Result<bool, Error> {
 /// By objects of a rate and an engine. `OutOfMemory` where no memory is found.
 pub fn with_a_rate_and_an_engine(alloc: Global) -> Result<bool, Error> {
     let tables = Tables::new(alloc)?;
-    let engine = Shuffle::new(&tables);
+    let engine = Ssse3::new(&tables);
     let mut steps = Steps::new();
     let mut encoder = HighRateEncoder::new(alloc, 3, 2, 12, engine, None)?;
     for shard in ORIGINAL {

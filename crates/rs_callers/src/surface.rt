@@ -14,7 +14,7 @@ use reed_solomon_simd::engine::tables::{
 use reed_solomon_simd::engine::utils::{eval_poly, xor, xor_within};
 use reed_solomon_simd::engine::{
     Avx2, CANTOR_BASIS, DefaultEngine, Engine, EngineKind, GF_BITS, GF_MODULUS, GF_ORDER,
-    GF_POLYNOMIAL, GfElement, Naive, NoSimd, ShardsRefMut, Shuffle, Ssse3, Steps, WideShuffle,
+    GF_POLYNOMIAL, GfElement, Naive, NoSimd, ShardsRefMut, Ssse3, Steps,
 };
 use reed_solomon_simd::rate::{
     DecoderWork, DefaultRate, DefaultRateDecoder, DefaultRateEncoder, EncoderWork, HighRate,
@@ -122,23 +122,18 @@ pub fn no_simd(engine: NoSimd<'_>) -> DefaultEngine<'_>
     DefaultEngine::NoSimd(engine)
 }
 
-/// The engine of 32 byte lanes as one that is chosen by name.
+/// The engine by shuffles of 32 byte lanes as one that is chosen by name.
 pub fn avx2(engine: Avx2<'_>) -> DefaultEngine<'_>
     ensures { kind_of result ≡ EngineKind.Avx2 }
 {
     DefaultEngine::Avx2(engine)
 }
 
-/// The engine of 16 byte lanes as one that is chosen by name.
+/// The engine by shuffles of 16 byte lanes as one that is chosen by name.
 pub fn ssse3(engine: Ssse3<'_>) -> DefaultEngine<'_>
     ensures { kind_of result ≡ EngineKind.Ssse3 }
 {
     DefaultEngine::Ssse3(engine)
-}
-
-/// The engines by shuffles.
-pub fn by_shuffles(tables: &Tables) -> (Shuffle<'_>, WideShuffle<'_>) {
-    (Shuffle::new(tables), WideShuffle::new(tables))
 }
 
 /// The engine of a kind.

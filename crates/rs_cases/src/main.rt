@@ -20,9 +20,7 @@ use anyhow::{Result, ensure};
 use cases::{CaseFile, Report};
 use coders::{CODERS, Coders, RATES};
 use reed_solomon_simd::engine::tables::Tables;
-use reed_solomon_simd::engine::{
-    Avx2, DefaultEngine, Engine, EngineKind, Naive, NoSimd, Shuffle, Ssse3, WideShuffle,
-};
+use reed_solomon_simd::engine::{Avx2, DefaultEngine, Engine, EngineKind, Naive, NoSimd, Ssse3};
 use std::alloc::Global;
 use std::{env, fs};
 use watch::Watch;
@@ -74,9 +72,7 @@ fn run_over_types(
     run_over(alloc, file, Naive::new(t), "Naive", t, report)?;
     run_over(alloc, file, NoSimd::new(t), "NoSimd", t, report)?;
     run_over(alloc, file, Avx2::new(t), "Avx2", t, report)?;
-    run_over(alloc, file, Ssse3::new(t), "Ssse3", t, report)?;
-    run_over(alloc, file, Shuffle::new(t), "Shuffle", t, report)?;
-    run_over(alloc, file, WideShuffle::new(t), "WideShuffle", t, report)
+    run_over(alloc, file, Ssse3::new(t), "Ssse3", t, report)
 }
 
 fn main(rt: HostRuntime) -> Result<()> {

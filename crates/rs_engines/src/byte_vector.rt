@@ -3,7 +3,6 @@ ghost use Rattle.std.specs.Prelude.{◌≡◌, ℕ, ◌+◌, ◌/◌, ◌%◌, �
 ghost use Rattle.std.proofs.Common.{inl, inr};
 ghost use Rattle.rs_field.specs.Products.{byte_at};
 
-use crate::lanes;
 use rs_field::engine::vectors;
 use std::simd::prelude::*;
 
@@ -46,6 +45,25 @@ pub trait ByteVector: Copy + Drop {
     ghost width: { (LANES ≡ 16) ⊎ (LANES ≡ 32) };
 }
 
+// The N bytes of a chunk from `at` on.
+#[inline(always)]
+fn load<const N: usize>(c: &[u8; 64], at: usize) -> Simd<u8, N>
+    requires { at + N ≤ 64 }
+    ensures { (i s : ℕ) → i < N → s ≡ at + i → slice_index result i ≡ slice_index c.now s }
+{
+    Simd::from_slice(&c[at..at + N])
+}
+
+// Puts bytes into the N places of a chunk from `at` on.
+#[inline(always)]
+fn store<const N: usize>(v: Simd<u8, N>, c: &mut [u8; 64], at: usize)
+    requires { at + N ≤ 64 }
+    ensures stored { (i s : ℕ) → i < N → s ≡ at + i → slice_index c.new s ≡ slice_index v.entry i }
+    ensures kept { (i : ℕ) → (i < at) ⊎ (at + N ≤ i) → slice_index c.new i ≡ slice_index c.old i }
+{
+    v.copy_to_slice(&mut c[at..at + N]);
+}
+
 // The 16 bytes of a number, the lowest first.
 #[inline(always)]
 fn table(t: u128) -> u8x16
@@ -76,12 +94,12 @@ impl ByteVector for u8x16 {
 
     #[inline(always)]
     fn load(c: &[u8; 64], at: usize) -> u8x16 {
-        lanes::load(c, at)
+        load(c, at)
     }
 
     #[inline(always)]
     fn store(self, c: &mut [u8; 64], at: usize) {
-        lanes::store(self, c, at);
+        store(self, c, at);
     }
 
     #[inline(always)]
@@ -111,12 +129,12 @@ impl ByteVector for u8x32 {
 
     #[inline(always)]
     fn load(c: &[u8; 64], at: usize) -> u8x32 {
-        lanes::load(c, at)
+        load(c, at)
     }
 
     #[inline(always)]
     fn store(self, c: &mut [u8; 64], at: usize) {
-        lanes::store(self, c, at);
+        store(self, c, at);
     }
 
     #[inline(always)]

@@ -1,7 +1,6 @@
 //! The engine that is chosen by name as the program runs.
-use crate::engine_avx2::Avx2;
 use crate::engine_nosimd::NoSimd;
-use crate::engine_ssse3::Ssse3;
+use crate::engine_shuffle::{Avx2, Ssse3};
 use rs_field::engine::tables::Tables;
 use rs_field::engine::{Engine, GfElement, Naive, ShardsRefMut, Steps};
 
@@ -12,9 +11,9 @@ pub enum EngineKind {
     Naive,
     /// `NoSimd`, the engine by products of nibbles.
     NoSimd,
-    /// `Avx2`, the engine of 32 byte lanes.
+    /// `Avx2`, the engine by shuffles of 32 byte lanes.
     Avx2,
-    /// `Ssse3`, the engine of 16 byte lanes.
+    /// `Ssse3`, the engine by shuffles of 16 byte lanes.
     Ssse3,
 }
 
@@ -25,9 +24,9 @@ pub enum DefaultEngine<'t> {
     Naive(Naive<'t>),
     /// The engine by products of nibbles.
     NoSimd(NoSimd<'t>),
-    /// The engine of 32 byte lanes.
+    /// The engine by shuffles of 32 byte lanes.
     Avx2(Avx2<'t>),
-    /// The engine of 16 byte lanes.
+    /// The engine by shuffles of 16 byte lanes.
     Ssse3(Ssse3<'t>),
 }
 

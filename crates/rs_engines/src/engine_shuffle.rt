@@ -14,19 +14,19 @@ use std::simd::prelude::*;
 
 /// An engine by shuffles of vectors V. It borrows the tables and takes no memory of its own.
 ///
-/// It is none of `EngineKind`, whose names are those of the crate reed-solomon-simd, which makes its products so in
-/// `Ssse3` and `Avx2`. It runs on any machine, and is fast where a shuffle of bytes is one instruction.
+/// It runs on any machine, and is fast where a shuffle of bytes is one instruction.
 #[derive(Clone, Copy)]
 pub struct ByShuffles<'t, V: ByteVector> {
     tables: &'t Tables,
     vectors: PhantomData<V>,
 }
 
-/// The engine by shuffles of 16 bytes, the fastest one in a build for x86-64-v2.
-pub type Shuffle<'t> = ByShuffles<'t, u8x16>;
+/// The engine by shuffles of 16 byte lanes, the width of SSSE3's vectors: the fastest one in a build for x86-64-v2.
+pub type Ssse3<'t> = ByShuffles<'t, u8x16>;
 
-/// The engine by shuffles of 32 bytes, the fastest one in a build with AVX2, as for x86-64-v3.
-pub type WideShuffle<'t> = ByShuffles<'t, u8x32>;
+/// The engine by shuffles of 32 byte lanes, the width of AVX2's vectors: the fastest one in a build with AVX2, as for
+/// x86-64-v3.
+pub type Avx2<'t> = ByShuffles<'t, u8x32>;
 
 impl<'t, V: ByteVector> ByShuffles<'t, V> {
     /// The engine over these tables.

@@ -1,7 +1,7 @@
 //! The three levels of use, as the documents quote them, and the round trips of each: that they find memory, and so come to
 //! an end, no contract says.
 use reed_solomon_simd::engine::tables::Tables;
-use reed_solomon_simd::engine::{DefaultEngine, EngineKind, Shuffle, Steps};
+use reed_solomon_simd::engine::{DefaultEngine, EngineKind, Ssse3, Steps};
 use reed_solomon_simd::rate::LowRate;
 use rs_callers::levels;
 use rs_callers::rate_round_trip::round_trip_at_a_rate;
@@ -41,14 +41,14 @@ fn round_trips_end(rt: HostRuntime) -> Result<(), Fail> {
     )?;
     assert_eq!(rt; restored.len(), 2);
     let mut steps = Steps::new();
-    let restored = round_trip_at_a_rate::<Shuffle<'_>, LowRate<Shuffle<'_>>>(
+    let restored = round_trip_at_a_rate::<Ssse3<'_>, LowRate<Ssse3<'_>>>(
         alloc,
         &originals,
         3,
         10,
         lost,
         recovery_lost,
-        Shuffle::new(&tables),
+        Ssse3::new(&tables),
         &mut steps,
     )?;
     assert_eq!(rt; restored.len(), 2);

@@ -3,8 +3,7 @@ ghost use Rattle.std.specs.Prelude.{◌≡◌, ◌≤◌, length};
 
 use reed_solomon_simd::engine::tables::{Tables, get_exp_log};
 use reed_solomon_simd::engine::{
-    Avx2, DefaultEngine, Engine, EngineKind, GF_ORDER, GfElement, Naive, NoSimd, Shuffle, Ssse3,
-    Steps, WideShuffle,
+    Avx2, DefaultEngine, Engine, EngineKind, GF_ORDER, GfElement, Naive, NoSimd, Ssse3, Steps,
 };
 use std::process::Abort;
 use std::test::Fail;
@@ -53,8 +52,6 @@ fn locators_of_each_engine(rt: HostRuntime) -> Result<(), Fail> {
     check_locators(&rt, &NoSimd::new(&tables), log);
     check_locators(&rt, &Ssse3::new(&tables), log);
     check_locators(&rt, &Avx2::new(&tables), log);
-    check_locators(&rt, &Shuffle::new(&tables), log);
-    check_locators(&rt, &WideShuffle::new(&tables), log);
     check_locators(&rt, &DefaultEngine::new(&tables, EngineKind::Naive), log);
     Ok(())
 }

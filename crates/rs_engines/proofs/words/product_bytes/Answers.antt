@@ -1,7 +1,6 @@
 use Rattle.std.proofs.Common.{◌/◌, ◌%◌, get_or, ◌∙◌, arith}
 use Rattle.rs_field.specs.Field.{product}
-use Rattle.rs_engines.proofs.Bits.{low_additive, high_additive}
-use Rattle.rs_engines.proofs.FourNibbles.{sum_of_nibbles}
+use Rattle.rs_engines.proofs.FourNibbles.{sum_of_nibbles, low_additive, high_additive}
 use Rattle.rs_engines.proofs.words.product_bytes.Goals as goal
 
 pub returns-clause-low : goal.returns-clause-low
