@@ -128,23 +128,9 @@ pub fn decode_inconsistent<E: Engine, X: RateDecoder<E> + Drop>(
     ensures state { X.state decoder.new ≡ after_decode (X.state decoder.old) }
     ensures engine { X.engine_of decoder.new ≡ X.engine_of decoder.old }
 {
-    let first = decode_only(decoder, steps);
-    let next = decode_only(decoder, steps);
+    let first = decode_just_enough(decoder, steps);
+    let next = decode_just_enough(decoder, steps);
     (first, next)
-}
-
-// A round's answer without what it restored.
-fn decode_only<E: Engine, X: RateDecoder<E> + Drop>(
-    decoder: &mut X,
-    steps: &mut Steps,
-) -> Result<(), Error>
-    ensures answer { MatchResult (enough_given (X.state decoder.old))
-        (λ _. MatchResult result (λ _. IsConsistent (X.state decoder.old)) (NoneAgrees (X.state decoder.old))) (λ e. result ≡ Err e) }
-    ensures state { X.state decoder.new ≡ after_decode (X.state decoder.old) }
-    ensures engine { X.engine_of decoder.new ≡ X.engine_of decoder.old }
-{
-    drop(decoder.decode(steps)?);
-    Ok(())
 }
 
 /// As many shards as there are originals, whichever they are and whatever they hold, are never refused.
@@ -158,8 +144,7 @@ pub fn decode_just_enough<E: Engine, X: RateDecoder<E> + Drop>(
     ensures state { X.state decoder.new ≡ after_decode (X.state decoder.old) }
     ensures engine { X.engine_of decoder.new ≡ X.engine_of decoder.old }
 {
-    let restored = decoder.decode(steps)?;
-    drop(restored);
+    drop(decoder.decode(steps)?);
     Ok(())
 }
 
