@@ -1,15 +1,13 @@
 -- What a configuration is known to be, and what a decoder answers by how many shards it has.
-use Rattle.std.proofs.Common.{◌≡◌, ℕ, ◌+◌, ◌<◌, List, [], length, Bool, true, false, cond, refl, sym, ap, ap₂, ◌∙◌, subst, min, max, Ok}
-use Rattle.std.specs.Prelude.{nat_le, nat_lt, ◌&&◌, not, Some, None, is_some, Result, Err, is_ok, IfOk, IfErr, MatchResult}
+use Rattle.std.proofs.Common.{◌≡◌, ℕ, ◌+◌, ◌<◌, Bool, true, cond, ap, ap₂, ◌∙◌, min, max, Ok}
+use Rattle.std.specs.Prelude.{nat_le, nat_lt, ◌&&◌, Result, Err, is_ok, IfOk, IfErr}
 use Rattle.std.proofs.lemmas.Bool.{and_parts, ltb-true, lt-ltb}
-use Rattle.std.proofs.lemmas.Option.{none-some}
 use Rattle.std.specs.BTreeMap.{BTreeMap}
 use Rattle.std.specs.declared.vec.Vec.{Vec}
 use Rattle.rs_field.specs.declared.error.Error.{Error}
 use Rattle.rs_field.specs.declared.error.Error.TheVariants.{NotEnoughShards}
-use Rattle.rs_field.specs.Column.{Shard, shard_at}
 use Rattle.rs_field.specs.Given.{Shards}
-use Rattle.rs_field.specs.Decoder.{DecoderState, fresh_decoder, enough_given, IsAgreeing, missing_of, Restored, DecodeAnswers, after_decode}
+use Rattle.rs_field.specs.Decoder.{DecoderState, fresh_decoder, enough_given, after_decode}
 use Rattle.rs_field.specs.OneCall.{collected_map, shards_in}
 use Rattle.rs_field.specs.Counts.{Rate, low_rate, high_rate, default_rate, next_power, supports}
 use Rattle.rs_field.specs.Configuration.{Configuration, validated}
@@ -36,49 +34,6 @@ pub fresh-too_few : (c : Configuration) → validated c ≡ Ok tt → enough_giv
 fresh-too_few c valid =
     ap₂ (λ (o r : ℕ). by_counts c.original_count o r) (count-nothing c.original_count) (count-nothing c.recovery_count)
     ∙ ap (λ (b : Bool). cond b (Err (NotEnoughShards c.original_count 0 0)) (Ok tt)) (lt-ltb 0 c.original_count (valid-some c valid))
-
--- a decode that isn't refused restores
-restored-by : (s : DecoderState) (out : Shards) → DecodeAnswers s (Ok out) → Restored s out
-restored-by s out answers = by_given (enough_given s) answers
-  where
-    by_given : (m : Result (Unit {0}) Error) → MatchResult m (λ _. Restored s out) (λ e. Ok out ≡ Err e) → Restored s out
-    by_given (Ok x) h = h
-    by_given (Err e) h = absurd (let no : ⊥ = cc in no)
-
--- a shard at a missing index is the message's
-missing-own : (s : DecoderState) (message : List Shard) (i : ℕ) (shard : Shard) → missing_of s message i ≡ Some shard → (i < s.configuration.original_count) × (shard ≡ shard_at message i)
-unfolding missing_of
-missing-own s message i shard some = by_tests (nat_lt i s.configuration.original_count) (is_some (s.originals i)) refl some
-  where
-    by_tests : (below given : Bool) → nat_lt i s.configuration.original_count ≡ below → cond (below && not given) (Some (shard_at message i)) None ≡ Some shard
-        → (i < s.configuration.original_count) × (shard ≡ shard_at message i)
-    by_tests false given e h = absurd (let no : ⊥ = cc in no)
-    by_tests true true e h = absurd (let no : ⊥ = cc in no)
-    by_tests true false e h = (ltb-true i s.configuration.original_count e, cc)
-
--- a restored shard has the size
-pub restored-sized : (s : DecoderState) (out : Shards) (i : ℕ) (shard : Shard) → DecodeAnswers s (Ok out) → Some shard ≡ out i → length shard ≡ s.configuration.shard_bytes
-restored-sized s out i shard answers some =
-    let restored = restored-by s out answers in
-    let shards = restored.agrees.shards in
-    let own = missing-own s restored.message i shard (sym (some ∙ restored.missing i)) in
-    ap length own.1 ∙ (shards.each i [] (subst (λ (n : ℕ). i < n) (sym shards.length_is) own.0)).length_is
-
--- and is that of each message that agrees
-pub restored-own : (s : DecoderState) (out : Shards) (i : ℕ) (shard : Shard) (message : List Shard) → DecodeAnswers s (Ok out) → IsAgreeing s message → Some shard ≡ out i
-    → shard ≡ shard_at message i
-restored-own s out i shard message answers agrees some =
-    let restored = restored-by s out answers in
-    (missing-own s restored.message i shard (sym (some ∙ restored.missing i))).1 ∙ ap (λ (m : List Shard). shard_at m i) (sym (restored.only message agrees))
-
--- a missing original is restored
-pub restored-missing : (s : DecoderState) (out : Shards) (i : ℕ) → DecodeAnswers s (Ok out) → i < s.configuration.original_count → s.originals i ≡ None → None ≡ out i → ⊥
-unfolding missing_of
-restored-missing s out i answers inside missing none =
-    let restored = restored-by s out answers in
-    let here : missing_of s restored.message i ≡ Some (shard_at restored.message i) =
-    ap₂ (λ (a b : Bool). cond (a && not b) (Some (shard_at restored.message i)) None) (lt-ltb i s.configuration.original_count inside) (ap is_some missing) in
-    none-some (shard_at restored.message i) (none ∙ restored.missing i ∙ here)
 
 -- after a round nothing is given
 pub ended : (s : DecoderState) → enough_given s ≡ Ok tt → after_decode s ≡ fresh_decoder s.configuration

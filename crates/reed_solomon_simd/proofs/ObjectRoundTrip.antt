@@ -1,33 +1,43 @@
 -- The round trip by an encoder and a decoder: shards are given one after another, some are lost, and just the lost originals come back.
-use Rattle.std.proofs.Common.{◌≡◌, ℕ, ◌&&◌, Bool, cond, List, length, sym, ap, subst, ◌∙◌, nat_lt, Some, None, Result, Ok, IfOk}
+use Rattle.std.proofs.Common.{◌≡◌, ℕ, ◌+◌, ◌≤◌, ◌&&◌, ◌++◌, ◌∷◌, [], Bool, true, false, cond, List, All, length, refl, sym, ap, subst, ◌∙◌, nat_lt, Some, None, Result, Ok, Err, IfOk, inl, arith, append_assoc, append-nil, length-append}
+use Rattle.std.specs.List.{AllByRecursion}
+use Rattle.std.specs.Prelude.{MatchResult, IsOkAnd}
+use Rattle.std.proofs.lemmas.Bool.{lt-leb, eq-eqb, le-ltb}
+use Rattle.std.proofs.lemmas.List.Elements.{recursion_from_All}
 use Rattle.std.proofs.Math.Path.{fun_ext}
 use Rattle.rs_field.specs.declared.error.Error.{Error}
-use Rattle.rs_field.specs.Column.{Shard, shard_at}
+use Rattle.rs_field.specs.declared.error.Error.TheVariants.{TooFewOriginalShards, OutOfMemory}
+use Rattle.rs_field.specs.Code.{AreRecovery}
+use Rattle.rs_field.specs.Column.{Shard, AreShards, shard_at}
 use Rattle.rs_field.specs.Counts.{Rate}
-use Rattle.rs_field.specs.Configuration.{Configuration}
+use Rattle.rs_field.specs.Configuration.{Configuration, started}
 use Rattle.rs_field.specs.Decoder.{DecoderState, fresh_decoder, DecodeAnswers}
-use Rattle.rs_field.specs.Encoder.{EncoderState, IsEncoder, fresh_encoder, EncodeAnswers}
+use Rattle.rs_field.specs.Encoder.{EncoderState, IsEncoder, fresh_encoder, with_shard, EncodeAnswers}
 use Rattle.rs_field.specs.Given.{Shards, Lists}
 use Rattle.rs_field.specs.OneCall.{Items, with_shards, with_originals, with_recoveries}
 use Rattle.rs_field.specs.Outcome.{result_and_then}
 use Rattle.rs_field.specs.RoundTrip.{GivesBack}
-use Rattle.rs_field.proofs.Left.{kept_of, kept-left, just-lost}
-use Rattle.rs_field.proofs.OneRoundTrip.{encoded_all, taken_gives_back}
+use Rattle.reed_solomon_simd.specs.Giving.{Reaches}
+use Rattle.rs_field.proofs.Left.{kept_of, kept-left, just-lost, enough-left}
+use Rattle.rs_field.proofs.OneRoundTrip.{encoded_all, all_taken, taken_gives_back}
 
-module _ (rate : Rate) (c : Configuration) (shards recovery : List Shard) (lost recovery_lost : ℕ → Bool) (new_encoder encoder : EncoderState) (new_decoder half decoder : DecoderState) where
-  -- what a new encoder was given, all of it, and answered; what a new decoder was given of it but for what is lost; and what that answered
-  pub objects-give_back : (result : Result Shards Error) → new_encoder ≡ fresh_encoder c → with_shards new_encoder shards ≡ Ok encoder → IsEncoder rate encoder → EncodeAnswers encoder (Ok recovery)
-      → new_decoder ≡ fresh_decoder c → with_originals new_decoder (kept_of shards lost) ≡ Ok half → with_recoveries half (kept_of recovery recovery_lost) ≡ Ok decoder
-      → DecodeAnswers decoder result → GivesBack shards (kept_of shards lost) (kept_of recovery recovery_lost) result
-  objects-give_back result fresh given is encoded started own coded answers =
-      let all = encoded_all rate c shards recovery encoder is (ap (λ s. with_shards s shards) (sym fresh) ∙ given) encoded in
-      taken_gives_back c shards recovery (kept_of shards lost) (kept_of recovery recovery_lost) decoder result all.0 all.1 (kept-left shards lost) (kept-left recovery recovery_lost)
-      (
-      ap (λ s. result_and_then (λ now. with_recoveries now (kept_of recovery recovery_lost)) (with_originals s (kept_of shards lost))) (sym started)
-      ∙ ap (result_and_then (λ now. with_recoveries now (kept_of recovery recovery_lost))) own
-      ∙ coded
-      )
-      answers
+-- what a new encoder was given, all of it, is a message, and what it answered are its recovery shards
+pub codes-given : (rate : Rate) (c : Configuration) (shards recovery : List Shard) (new_encoder encoder : EncoderState) → new_encoder ≡ fresh_encoder c → with_shards new_encoder shards ≡ Ok encoder
+    → IsEncoder rate encoder → EncodeAnswers encoder (Ok recovery) → AreShards c.original_count c.shard_bytes shards × AreRecovery c shards recovery
+codes-given rate c shards recovery new_encoder encoder fresh given is encoded = encoded_all rate c shards recovery encoder is (ap (λ s. with_shards s shards) (sym fresh) ∙ given) encoded
+
+-- what a new decoder was given of them, but for what is lost, and what it answered
+pub gives-back : (c : Configuration) (shards recovery : List Shard) (lost recovery_lost : ℕ → Bool) (new_decoder half decoder : DecoderState) (result : Result Shards Error)
+    → AreShards c.original_count c.shard_bytes shards × AreRecovery c shards recovery → new_decoder ≡ fresh_decoder c → with_originals new_decoder (kept_of shards lost) ≡ Ok half
+    → with_recoveries half (kept_of recovery recovery_lost) ≡ Ok decoder → DecodeAnswers decoder result → GivesBack shards (kept_of shards lost) (kept_of recovery recovery_lost) result
+gives-back c shards recovery lost recovery_lost new_decoder half decoder result all started own coded answers =
+    taken_gives_back c shards recovery (kept_of shards lost) (kept_of recovery recovery_lost) decoder result all.0 all.1 (kept-left shards lost) (kept-left recovery recovery_lost)
+    (
+    ap (λ s. result_and_then (λ now. with_recoveries now (kept_of recovery recovery_lost)) (with_originals s (kept_of shards lost))) (sym started)
+    ∙ ap (result_and_then (λ now. with_recoveries now (kept_of recovery recovery_lost))) own
+    ∙ coded
+    )
+    answers
 
 -- copies of what came back are copies of what is lost
 pub copies-lost : {V : Type 0} (shards : List Shard) (lost : ℕ → Bool) (received : Items) (out : Shards) (result : Result V Error) (items : V → List (ℕ × Shard))
@@ -35,3 +45,75 @@ pub copies-lost : {V : Type 0} (shards : List Shard) (lost : ℕ → Bool) (rece
     → IfOk result (λ v. Lists (λ i. cond (nat_lt i (length shards) && lost i) (Some (shard_at shards i)) None) (items v))
 copies-lost shards lost received out result items back copies =
     subst (λ (given : Shards). IfOk result (λ v. Lists given (items v))) (fun_ext (just-lost shards lost (Ok out) back.restored)) copies
+
+-- ---- what isn't refused
+
+-- a call that answered a success led to its state
+pub reached-ok : {S : Type 0} (outcome : Result S Error) (now : S) → Reaches outcome (Ok tt) (λ s. now ≡ s) → outcome ≡ Ok now
+reached-ok (Ok s) now reached = ap Ok (sym reached.1)
+reached-ok (Err e) now reached = absurd (let no : ⊥ = cc in no)
+
+-- and one that answered a refusal was refused so
+pub reached-err : {S : Type 0} (outcome : Result S Error) (P : S → Type 0) (e : Error) → Reaches outcome (Err e) P → outcome ≡ Err e
+reached-err (Ok s) P e reached = absurd (let h = reached.0 in let no : ⊥ = cc in no)
+reached-err (Err f) P e reached = let same : f ≡ e = cc in ap Err same
+
+-- an encoder takes shards of its size, as many as there is room for
+takes-all : (shards : List Shard) (s : EncoderState) → length s.given + length shards ≤ s.configuration.original_count → AllByRecursion (λ x. length x ≡ s.configuration.shard_bytes) shards
+    → with_shards s shards ≡ Ok (record s { given = s.given ++ shards })
+takes-all [] s room sized = ap (λ given. Ok (record s { given = given })) (sym (append-nil s.given))
+takes-all (x ∷ xs) s room sized =
+    let first : with_shard s x ≡ Ok (record s { given = s.given ++ x ∷ [] }) =
+    rw (lt-leb s.configuration.original_count (length s.given) (omega arith), eq-eqb (length x) s.configuration.shard_bytes sized.0) refl in
+    let long : length (s.given ++ x ∷ []) ≡ length s.given + 1 = length-append s.given (x ∷ []) in
+    ap (result_and_then (λ next. with_shards next xs)) first
+    ∙ takes-all xs (record s { given = s.given ++ x ∷ [] }) (omega (arith, long)) sized.1
+    ∙ ap (λ given. Ok (record s { given = given })) (append_assoc s.given (x ∷ []) xs)
+
+module _ (c : Configuration) (shards : List Shard) (new_encoder : EncoderState) (fresh : new_encoder ≡ fresh_encoder c) (count : length shards ≡ c.original_count)
+    (sized : All (λ shard. length shard ≡ c.shard_bytes) shards) where
+  -- a new encoder takes a message
+  takes-message : with_shards new_encoder shards ≡ Ok (record { configuration = c; given = shards })
+  takes-message =
+      ap (λ s. with_shards s shards) fresh ∙ takes-all shards (fresh_encoder c) (omega (arith, count)) (recursion_from_All (λ x. length x ≡ c.shard_bytes) shards sized)
+
+  -- so it refuses none of it
+  pub gives-all : (P : EncoderState → Type 0) (e : Error) → Reaches (with_shards new_encoder shards) (Err e) P → ⊥
+  gives-all P e reached = let taken = takes-message in let refused = reached-err (with_shards new_encoder shards) P e reached in cc
+
+  -- nor to code it
+  pub encodes : (encoder : EncoderState) (e : Error) → with_shards new_encoder shards ≡ Ok encoder → EncodeAnswers encoder (Err e) → ⊥
+  encodes encoder e given answers =
+      let taken = takes-message in
+      let is : encoder ≡ record { configuration = c; given = shards } = cc in
+      by_test (nat_lt (length shards) c.original_count) (le-ltb (length shards) c.original_count (omega (arith, count))) (subst (λ (s : EncoderState). EncodeAnswers s (Err e)) is answers)
+    where
+      by_test : (few : Bool) → few ≡ false → MatchResult (cond few (Err (TooFewOriginalShards c.original_count (length shards))) (Ok shards))
+          (λ message. IsOkAnd {T = List Shard} {E = Error} (Err e) (AreRecovery c message)) (λ f. ◌≡◌ {A = Result (List Shard) Error} (Err e) (Err f)) → ⊥
+      by_test true whole h = absurd (let no : ⊥ = cc in no)
+      by_test false whole h = h
+
+module _ (c : Configuration) (shards recovery : List Shard) (lost recovery_lost : ℕ → Bool) (new_decoder : DecoderState) (fresh : new_decoder ≡ fresh_decoder c)
+    (all : AreShards c.original_count c.shard_bytes shards × AreRecovery c shards recovery) where
+  -- a new decoder refuses no original that is left
+  pub gives-kept : (P : DecoderState → Type 0) (e : Error) → Reaches (with_originals new_decoder (kept_of shards lost)) (Err e) P → ⊥
+  gives-kept P e reached =
+      let refused = reached-err (with_originals new_decoder (kept_of shards lost)) P e reached in
+      let both = ap (λ s. with_originals s (kept_of shards lost)) (sym fresh) ∙ refused in
+      let taken = sym (ap (result_and_then (λ now. with_recoveries now (kept_of recovery recovery_lost))) both)
+      ∙ all_taken c shards recovery (kept_of shards lost) (kept_of recovery recovery_lost) all.0 all.1 (kept-left shards lost) (kept-left recovery recovery_lost) in
+      cc
+
+  -- nor a recovery shard that is left
+  pub gives-received : (half : DecoderState) (P : DecoderState → Type 0) (e : Error) → with_originals new_decoder (kept_of shards lost) ≡ Ok half
+      → Reaches (with_recoveries half (kept_of recovery recovery_lost)) (Err e) P → ⊥
+  gives-received half P e given reached =
+      let refused = reached-err (with_recoveries half (kept_of recovery recovery_lost)) P e reached in
+      let both = ap (λ s. with_originals s (kept_of shards lost)) (sym fresh) ∙ given in
+      let taken = sym (ap (result_and_then (λ now. with_recoveries now (kept_of recovery recovery_lost))) both ∙ refused)
+      ∙ all_taken c shards recovery (kept_of shards lost) (kept_of recovery recovery_lost) all.0 all.1 (kept-left shards lost) (kept-left recovery recovery_lost) in
+      cc
+
+-- nor to restore what is lost, where as many are left as there are originals
+pub restores : (shards : List Shard) (kept received : Items) (e : Error) → GivesBack shards kept received (Err e) → length shards ≤ length kept + length received → e ≡ OutOfMemory
+restores shards kept received e back many = enough-left shards kept received (Err e) (record { answer = inl back.answer; restored = tt }) many

@@ -1,5 +1,5 @@
 -- One step of giving listed shards one after another.
-use Rattle.std.proofs.Common.{◌≡◌, ℕ, ◌+◌, ◌<◌, Bool, true, false, cond, List, ◌∷◌, length, map, drop, get_or, Result, Ok, sym, ap, ap₂, ◌∙◌, arith, Vec, drop-cons, add-one}
+use Rattle.std.proofs.Common.{◌≡◌, ℕ, ◌+◌, ◌<◌, Bool, true, false, cond, List, ◌∷◌, length, map, drop, get_or, Result, Ok, Err, sym, ap, ap₂, ◌∙◌, arith, Vec, drop-cons, add-one}
 use Rattle.std.specs.List.{enumerate_from, filter}
 use Rattle.reed_solomon_simd.specs.declared.Error.{Error}
 use Rattle.reed_solomon_simd.specs.Column.{Shard}
@@ -31,6 +31,14 @@ module _ {S : Type 0} (step : S → ℕ × Shard → Result S Error) (kept : ℕ
       ∙ ap (λ b. one_by_one step s (cond b ((index, shard) ∷ filter kept (enumerate_from (index + 1) rest)) (filter kept (enumerate_from (index + 1) rest)))) keeps
       ∙ taken-next step s next (index, shard) (filter kept (enumerate_from (index + 1) rest)) taken
       ∙ ap (λ k. led_by next k rest) (omega arith)
+
+  -- a shard that is kept, and refused
+  pub kept-refused : (s : S) (n index : ℕ) (shard : Shard) (shards rest : List Shard) (e : Error) → shards ≡ shard ∷ rest → index ≡ n → kept (index, shard) ≡ true
+      → step s (index, shard) ≡ Err e → led_by s n shards ≡ Err e
+  kept-refused s n index shard shards rest e is first keeps refused =
+      ap₂ (led_by s) (sym first) is
+      ∙ ap (λ b. one_by_one step s (cond b ((index, shard) ∷ filter kept (enumerate_from (index + 1) rest)) (filter kept (enumerate_from (index + 1) rest)))) keeps
+      ∙ ap (result_and_then (λ t. one_by_one step t (filter kept (enumerate_from (index + 1) rest)))) refused
 
   -- a shard that is passed over
   pub lost-next : (s : S) (n m index : ℕ) (shard : Shard) (shards rest : List Shard) → shards ≡ shard ∷ rest → index ≡ n → m ≡ n + 1 → kept (index, shard) ≡ false

@@ -1,12 +1,11 @@
 //! Callers that know encoders, decoders and rates by their contracts alone.
-ghost use Rattle.std.specs.Prelude.{◌≡◌, ◌<◌, ◌+◌, ◌⊎◌, List, length, None, Ok, IfOk, OnOk, OnErr, MatchResult, Err};
+ghost use Rattle.std.specs.Prelude.{◌≡◌, ◌<◌, ◌+◌, ◌⊎◌, length, Ok, IfOk, OnOk, OnErr, MatchResult, Err};
 ghost use Rattle.reed_solomon_simd.specs.Counts.{default_rate};
 ghost use Rattle.reed_solomon_simd.specs.Placement.{encoder_rows, decoder_rows};
 ghost use Rattle.reed_solomon_simd.specs.Configuration.{configuration, started, UpToMemory};
 ghost use Rattle.reed_solomon_simd.specs.Outcome.{answer_of};
 ghost use Rattle.reed_solomon_simd.specs.Encoder.{fresh_encoder};
-ghost use Rattle.reed_solomon_simd.specs.Column.{Shard, shard_at};
-ghost use Rattle.reed_solomon_simd.specs.Decoder.{fresh_decoder, originals_given, recovery_given, enough_given, after_decode, IsAgreeing, IsConsistent, NoneAgrees};
+ghost use Rattle.reed_solomon_simd.specs.Decoder.{fresh_decoder, originals_given, recovery_given, enough_given, after_decode, IsConsistent, NoneAgrees};
 
 use reed_solomon_simd::Error;
 use reed_solomon_simd::engine::{Engine, Steps};
@@ -145,28 +144,5 @@ pub fn decode_just_enough<E: Engine, X: RateDecoder<E> + Drop>(
     ensures engine { X.engine_of decoder.new ≡ X.engine_of decoder.old }
 {
     drop(decoder.decode(steps)?);
-    Ok(())
-}
-
-/// Where shards enough of a message are given, a missing original of it comes back as it was.
-pub fn decode_one<E: Engine, X: RateDecoder<E> + Drop>(
-    decoder: &mut X,
-    steps: &mut Steps,
-    index: usize,
-    original: &mut [u8],
-) -> Result<(), Error>
-    requires size { length original.old ≡ (X.state decoder.old).configuration.shard_bytes }
-    ensures restored { (message : List Shard) → IsAgreeing (X.state decoder.old) message → enough_given (X.state decoder.old) ≡ Ok tt
-        → index < (X.state decoder.old).configuration.original_count → (X.state decoder.old).originals index ≡ None
-        → (result ≡ Ok tt) × (original.new ≡ shard_at message index) }
-    ensures answer { MatchResult (enough_given (X.state decoder.old))
-        (λ _. MatchResult result (λ _. IsConsistent (X.state decoder.old)) (NoneAgrees (X.state decoder.old))) (λ e. result ≡ Err e) }
-    ensures state { X.state decoder.new ≡ after_decode (X.state decoder.old) }
-    ensures engine { X.engine_of decoder.new ≡ X.engine_of decoder.old }
-{
-    let result = decoder.decode(steps)?;
-    if let Some(shard) = result.restored_original(index) {
-        original.copy_from_slice(shard);
-    }
     Ok(())
 }

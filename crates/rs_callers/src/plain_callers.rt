@@ -1,8 +1,7 @@
 //! Callers of the plain objects, which know them by their contracts alone.
-ghost use Rattle.std.specs.Prelude.{◌≡◌, ◌<◌, List, length, None, Ok, Err, MatchResult};
-ghost use Rattle.reed_solomon_simd.specs.Column.{Shard, shard_at};
+ghost use Rattle.std.specs.Prelude.{◌≡◌, length, Ok, Err, MatchResult};
 ghost use Rattle.reed_solomon_simd.specs.Configuration.{validated, FitsWithin};
-ghost use Rattle.reed_solomon_simd.specs.Decoder.{fresh_decoder, enough_given, after_decode, IsAgreeing, IsConsistent, NoneAgrees};
+ghost use Rattle.reed_solomon_simd.specs.Decoder.{fresh_decoder, enough_given, after_decode, IsConsistent, NoneAgrees};
 ghost use Rattle.reed_solomon_simd.specs.DecoderObject.{state_of as decoder_state};
 ghost use Rattle.reed_solomon_simd.specs.Encoder.{fresh_encoder};
 ghost use Rattle.reed_solomon_simd.specs.EncoderObject.{state_of as encoder_state};
@@ -74,26 +73,5 @@ fn decode_only(decoder: &mut ReedSolomonDecoder<'_>) -> Result<(), Error>
     ensures state { decoder_state decoder.new ≡ after_decode (decoder_state decoder.old) }
 {
     std::mem::forget(decoder.decode()?);
-    Ok(())
-}
-
-/// Where shards enough of a message are given, a missing original of it comes back as it was.
-pub fn restore_one(
-    decoder: &mut ReedSolomonDecoder<'_>,
-    index: usize,
-    original: &mut [u8],
-) -> Result<(), Error>
-    requires size { length original.old ≡ (decoder_state decoder.old).configuration.shard_bytes }
-    ensures restored { (message : List Shard) → IsAgreeing (decoder_state decoder.old) message → enough_given (decoder_state decoder.old) ≡ Ok tt
-        → index < (decoder_state decoder.old).configuration.original_count → (decoder_state decoder.old).originals index ≡ None
-        → (result ≡ Ok tt) × (original.new ≡ shard_at message index) }
-    ensures answer { MatchResult (enough_given (decoder_state decoder.old))
-        (λ _. MatchResult result (λ _. IsConsistent (decoder_state decoder.old)) (NoneAgrees (decoder_state decoder.old))) (λ e. result ≡ Err e) }
-    ensures state { decoder_state decoder.new ≡ after_decode (decoder_state decoder.old) }
-{
-    let result = decoder.decode()?;
-    if let Some(shard) = result.restored_original(index) {
-        original.copy_from_slice(shard);
-    }
     Ok(())
 }

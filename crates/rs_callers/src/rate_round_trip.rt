@@ -1,9 +1,11 @@
 //! A round trip at any rate, over any lawful engine: just the lost originals come back, each as it was.
-ghost use Rattle.std.specs.Prelude.{◌≡◌, map, Ok, IfOk, OnOk};
+ghost use Rattle.std.specs.Prelude.{◌≡◌, ◌+◌, ◌≤◌, length, map, All, Ok, IfOk, IfErr};
+ghost use Rattle.reed_solomon_simd.specs.Configuration.{configuration, validated};
 ghost use Rattle.reed_solomon_simd.specs.Given.{Lists};
+ghost use Rattle.reed_solomon_simd.specs.Giving.{Reaches};
 ghost use Rattle.reed_solomon_simd.specs.OneCall.{with_shards, with_originals, with_recoveries};
 ghost use Rattle.reed_solomon_simd.specs.ResultView.{recovery_shards};
-ghost use Rattle.rs_callers.specs.Losing.{lost_at, left_of};
+ghost use Rattle.rs_callers.specs.Losing.{lost_at, left_of, left_below};
 
 use crate::walking::restored_copies;
 use reed_solomon_simd::engine::{Engine, Steps};
@@ -12,7 +14,9 @@ use reed_solomon_simd::{EncoderResult, Error};
 use std::alloc::Global;
 
 /// Codes the originals by an encoder of a rate, loses the originals and the recovery shards of these indexes, and restores
-/// what is lost by a decoder of the rate: just the lost originals come back, each as it was, in order of index.
+/// what is lost by a decoder of the rate: just the lost originals come back, each as it was, in order of index. Where the
+/// counts and the size are valid, and as many shards are left as there are originals, it is never refused but for want of
+/// memory.
 pub fn round_trip_at_a_rate<E: Engine + Copy, R: Rate<E>>(
     alloc: Global,
     originals: &[Vec<u8>],
@@ -23,8 +27,11 @@ pub fn round_trip_at_a_rate<E: Engine + Copy, R: Rate<E>>(
     engine: E,
     steps: &mut Steps,
 ) -> Result<Vec<(usize, Vec<u8>)>, Error>
-    ensures { IfOk result (λ restored. Lists (lost_at (map (λ shard. shard.items) originals.now) lost.now)
+    ensures restored { IfOk result (λ restored. Lists (lost_at (map (λ shard. shard.items) originals.now) lost.now)
         (map (λ item. (item.0, item.1.items)) restored.items)) }
+    ensures enough { validated (configuration R.rate (length originals.now) recovery_count shard_bytes) ≡ Ok tt → All (λ shard. length shard.items ≡ shard_bytes) originals.now
+        → length originals.now ≤ left_below (length originals.now) lost.now + left_below recovery_count recovery_lost.now
+        → IfErr result (λ e. e ≡ Error.OutOfMemory) }
 {
     let original_count = originals.len();
     let mut encoder = R::encoder(
@@ -57,7 +64,7 @@ fn give_all<E: Engine, X: RateEncoder<E>>(
     encoder: &mut X,
     originals: &[Vec<u8>],
 ) -> Result<(), Error>
-    ensures { OnOk result (with_shards (X.state encoder.old) (map (λ shard. shard.items) originals.now) ≡ Ok (X.state encoder.new)) }
+    ensures { Reaches (with_shards (X.state encoder.old) (map (λ shard. shard.items) originals.now)) result (λ s. X.state encoder.new ≡ s) }
 {
     for original in originals {
         encoder.add_original_shard(original)?;
@@ -71,7 +78,7 @@ fn give_kept<E: Engine, X: RateDecoder<E>>(
     originals: &[Vec<u8>],
     lost: &[usize],
 ) -> Result<(), Error>
-    ensures { OnOk result (with_originals (X.state decoder.old) (left_of (map (λ shard. shard.items) originals.now) lost.now) ≡ Ok (X.state decoder.new)) }
+    ensures { Reaches (with_originals (X.state decoder.old) (left_of (map (λ shard. shard.items) originals.now) lost.now)) result (λ s. X.state decoder.new ≡ s) }
 {
     for (index, original) in originals.iter().enumerate() {
         if lost.contains(&index) {
@@ -88,7 +95,7 @@ fn give_received<E: Engine, X: RateDecoder<E>>(
     recovery: &EncoderResult<'_>,
     lost: &[usize],
 ) -> Result<(), Error>
-    ensures { OnOk result (with_recoveries (X.state decoder.old) (left_of (recovery_shards recovery.now) lost.now) ≡ Ok (X.state decoder.new)) }
+    ensures { Reaches (with_recoveries (X.state decoder.old) (left_of (recovery_shards recovery.now) lost.now)) result (λ s. X.state decoder.new ≡ s) }
 {
     for (index, shard) in recovery.recovery_iter().enumerate() {
         if lost.contains(&index) {

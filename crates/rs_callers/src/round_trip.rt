@@ -1,9 +1,10 @@
 //! Round trips: shards are coded, some are lost, and just the lost originals come back, each as it was.
-ghost use Rattle.std.specs.Prelude.{◌≡◌, ◌+◌, ◌≤◌, ℕ, length, map, All, Ok, IfOk, IfErr, OnOk};
+ghost use Rattle.std.specs.Prelude.{◌≡◌, ◌+◌, ◌≤◌, ℕ, length, map, All, Ok, IfOk, IfErr};
 ghost use Rattle.reed_solomon_simd.specs.Configuration.{validated};
 ghost use Rattle.reed_solomon_simd.specs.DecoderObject.{state_of as decoder_state};
 ghost use Rattle.reed_solomon_simd.specs.EncoderObject.{state_of as encoder_state};
 ghost use Rattle.reed_solomon_simd.specs.Given.{Lists};
+ghost use Rattle.reed_solomon_simd.specs.Giving.{Reaches};
 ghost use Rattle.reed_solomon_simd.specs.OneCall.{default_of, shards_in, with_shards, with_originals, with_recoveries};
 ghost use Rattle.reed_solomon_simd.specs.ResultView.{recovery_shards};
 ghost use Rattle.rs_callers.specs.Losing.{lost_at, left_of, left_below};
@@ -57,7 +58,8 @@ pub fn round_trip_in_one_call(
 }
 
 /// Codes the originals by a plain encoder, loses the originals and the recovery shards of these indexes, and restores
-/// what is lost by a plain decoder: just the lost originals come back, each as it was, in order of index.
+/// what is lost by a plain decoder: just the lost originals come back, each as it was, in order of index. It is never
+/// refused where one call isn't.
 pub fn round_trip_by_plain_objects(
     alloc: Global,
     originals: &[Vec<u8>],
@@ -67,8 +69,11 @@ pub fn round_trip_by_plain_objects(
     recovery_lost: &[usize],
     engine: DefaultEngine<'_>,
 ) -> Result<Vec<(usize, Vec<u8>)>, Error>
-    ensures { IfOk result (λ restored. Lists (lost_at (map (λ shard. shard.items) originals.now) lost.now)
+    ensures restored { IfOk result (λ restored. Lists (lost_at (map (λ shard. shard.items) originals.now) lost.now)
         (map (λ item. (item.0, item.1.items)) restored.items)) }
+    ensures enough { validated (default_of (length originals.now) recovery_count shard_bytes) ≡ Ok tt → All (λ shard. length shard.items ≡ shard_bytes) originals.now
+        → length originals.now ≤ left_below (length originals.now) lost.now + left_below recovery_count recovery_lost.now
+        → IfErr result (λ e. e ≡ Error.OutOfMemory) }
 {
     let original_count = originals.len();
     let mut encoder = ReedSolomonEncoder::new(
@@ -96,7 +101,7 @@ pub fn round_trip_by_plain_objects(
 
 // Gives a plain encoder all originals, in order.
 fn give_all(encoder: &mut ReedSolomonEncoder<'_>, originals: &[Vec<u8>]) -> Result<(), Error>
-    ensures { OnOk result (with_shards (encoder_state encoder.old) (map (λ shard. shard.items) originals.now) ≡ Ok (encoder_state encoder.new)) }
+    ensures { Reaches (with_shards (encoder_state encoder.old) (map (λ shard. shard.items) originals.now)) result (λ s. encoder_state encoder.new ≡ s) }
 {
     for original in originals {
         encoder.add_original_shard(original)?;
@@ -110,7 +115,7 @@ fn give_kept(
     originals: &[Vec<u8>],
     lost: &[usize],
 ) -> Result<(), Error>
-    ensures { OnOk result (with_originals (decoder_state decoder.old) (left_of (map (λ shard. shard.items) originals.now) lost.now) ≡ Ok (decoder_state decoder.new)) }
+    ensures { Reaches (with_originals (decoder_state decoder.old) (left_of (map (λ shard. shard.items) originals.now) lost.now)) result (λ s. decoder_state decoder.new ≡ s) }
 {
     for (index, original) in originals.iter().enumerate() {
         if lost.contains(&index) {
@@ -127,7 +132,7 @@ fn give_received(
     recovery: &EncoderResult<'_>,
     lost: &[usize],
 ) -> Result<(), Error>
-    ensures { OnOk result (with_recoveries (decoder_state decoder.old) (left_of (recovery_shards recovery.now) lost.now) ≡ Ok (decoder_state decoder.new)) }
+    ensures { Reaches (with_recoveries (decoder_state decoder.old) (left_of (recovery_shards recovery.now) lost.now)) result (λ s. decoder_state decoder.new ≡ s) }
 {
     for (index, shard) in recovery.recovery_iter().enumerate() {
         if lost.contains(&index) {

@@ -1,10 +1,10 @@
-use Rattle.std.proofs.Common.{◌∙◌, sym, ap, not}
+use Rattle.std.proofs.Common.{rules, ◌≡◌, ◌∙◌, sym, ap, not, Err}
 use Rattle.std.specs.Iterator.Adapters.{enumerate_source, enumerate_count}
 use Rattle.reed_solomon_simd.specs.Decoder.{with_recovery}
 use Rattle.reed_solomon_simd.specs.DecoderObject.{state_of}
-use Rattle.reed_solomon_simd.proofs.Giving.{outcome-ok}
+use Rattle.reed_solomon_simd.proofs.Giving.{outcome-ok, outcome-err, reaches-err}
 use Rattle.rs_callers.specs.Losing.{is_left}
-use Rattle.rs_callers.proofs.Stepping.{kept-next, lost-next}
+use Rattle.rs_callers.proofs.Stepping.{kept-next, kept-refused, lost-next}
 use Rattle.rs_callers.proofs.round_trip.give_received.Goals as goal
 
 pub loop-index-preserved-then-contains : goal.loop-index-preserved-then-contains
@@ -27,3 +27,19 @@ loop-index-preserved c =
     c.loop-index.invariant
     ∙ kept-next (λ t one. with_recovery t one.0 one.1) (is_left c.args.lost.now) s next (enumerate_count now) (enumerate_count after) c.in-Some.index c.in-Some.shard.now
     (enumerate_source now) (enumerate_source after) came.0 came.1 came.2 (ap not (sym c.contains.ensures.value ∙ c.if-contains.false)) taken
+
+pub returns-in_err-add_recovery_shard : goal.returns-in_err-add_recovery_shard
+returns-in_err-add_recovery_shard c =
+    let s = state_of c.loop-index.decoder in
+    let now = c.loop-index.index-iterator in
+    let came = c.in-Some.ensures.steps in
+    let e = c.in_err-add_recovery_shard.field-0.0 in
+    let told : c.from_residual.result ≡ Err e = search rules in
+    let refused = outcome-err (with_recovery s c.in-Some.index c.in-Some.shard.now) e c.in_err-add_recovery_shard.ensures.answer in
+    reaches-err _ (λ t. (state_of c.add_recovery_shard.new.self) ≡ t) c.from_residual.result e
+    (
+    c.loop-index.invariant
+    ∙ kept-refused (λ t one. with_recovery t one.0 one.1) (is_left c.args.lost.now) s (enumerate_count now) c.in-Some.index c.in-Some.shard.now (enumerate_source now) (enumerate_source c.next.new.self)
+    e came.0 came.1 (ap not (sym c.contains.ensures.value ∙ c.if-contains.false)) refused
+    )
+    told
