@@ -1,9 +1,13 @@
 //! Every public path of the library, each used at its type: where a name stood for another item, this file would not
 //! compile or not be proved.
-ghost use Rattle.std.specs.Prelude.{◌≡◌, length};
+ghost use Rattle.std.specs.Prelude.{◌≡◌, ℕ, ◌<◌, ◌≤◌, length, bit_xor, false};
 ghost use Rattle.reed_solomon_simd.specs.Counts.{low_rate, high_rate, default_rate};
 ghost use Rattle.reed_solomon_simd.specs.Field.{product, power};
 ghost use Rattle.reed_solomon_simd.specs.Kind.{kind_of};
+ghost use Rattle.reed_solomon_simd.specs.Rows.{chunk, symbol};
+ghost use Rattle.reed_solomon_simd.specs.View.{word, Fits};
+ghost use Rattle.reed_solomon_simd.specs.EncoderView.{work_room as encoder_room};
+ghost use Rattle.reed_solomon_simd.specs.DecoderView.{work_room as decoder_room};
 ghost use Rattle.rs_field.specs.Products.{IsMul16, IsMul128};
 ghost use Rattle.reed_solomon_simd.specs.Tables.{IsExpLog, IsLogWalsh, IsSkew};
 
@@ -92,14 +96,18 @@ pub fn times(x: GfElement, log_m: GfElement, exp: Exp<'_>, log: Log<'_>) -> GfEl
 /// Adds the chunks of a second list to those of a first.
 pub fn add_chunks(first: &mut [[u8; 64]], second: &[[u8; 64]])
     requires { length first.old ≡ length second.now }
+    ensures { (k s : ℕ) → k < length first.old → s < 32 → symbol (chunk first.new k) s ≡ bit_xor (symbol (chunk first.old k) s) (symbol (chunk second.now k) s) }
 {
     xor(first, second);
 }
 
 /// The first of two rows becomes the sum of both.
-pub fn add_rows(steps: &mut Steps, chunks: &mut [[u8; 64]; 2]) {
-    let mut rows = ShardsRefMut::new(2, 1, chunks);
-    xor_within(steps, &mut rows, 0, 1, 1);
+pub fn add_rows(steps: &mut Steps, rows: &mut ShardsRefMut<'_>)
+    requires fits { Fits rows.old }
+    requires two { 2 ≤ rows.old.shard_count }
+    ensures { (k s : ℕ) → k < rows.old.shard_len_64 → s < 32 → word rows.new k s 0 ≡ bit_xor (word rows.old k s 0) (word rows.old k s 1) }
+{
+    xor_within(steps, rows, 0, 1, 1);
 }
 
 /// The locator of no point.
@@ -144,7 +152,10 @@ pub fn engine_of_kind(tables: &Tables, kind: EngineKind) -> DefaultEngine<'_>
 }
 
 /// Working spaces that hold nothing yet.
-pub fn works() -> (EncoderWork, DecoderWork) {
+pub fn works() -> (EncoderWork, DecoderWork)
+    ensures encoder { encoder_room result.0 ≡ 0 }
+    ensures decoder { decoder_room result.1 ≡ record { chunks = 0; rows = 0; has_buffer = false } }
+{
     (EncoderWork::new(), DecoderWork::new())
 }
 
@@ -177,6 +188,17 @@ pub fn first_shards<'a>(
     let mut recovery: Recovery<'a> = encoded.recovery_iter();
     let mut restored: RestoredOriginal<'a> = decoded.restored_original_iter();
     (recovery.next(), restored.next())
+}
+
+/// Gives a plain decoder the first recovery shard of a plain encoder.
+pub fn give_first(
+    encoder: &mut ReedSolomonEncoder<'_>,
+    decoder: &mut ReedSolomonDecoder<'_>,
+) -> Result<(), Error> {
+    match encoder.encode()?.recovery(0) {
+        Some(shard) => decoder.add_recovery_shard(0, shard),
+        None => Ok(()),
+    }
 }
 
 /// The supported counts of the plain objects.

@@ -150,7 +150,7 @@ fn counts_decodes<'t, R: Rate<Counting<'t>>, A: Abort + AllocGlobal>(
     rt: &A,
     tables: &'t Tables,
 ) -> Result<(), Fail> {
-    let all = [(0, [0, 0]), (1, [0, 0]), (2, [2, 0]), (3, [3, 0])];
+    let all = [(0, [0, 0]), (2, [2, 0]), (3, [3, 0]), (1, [0, 0])];
     let recovery = [(2, [14, 0]), (0, [11, 0])];
     for (original, recovery, most) in [
         (&all[2..], &recovery[..], made(1, 1, 6, 1)),

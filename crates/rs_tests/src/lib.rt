@@ -8,4 +8,6 @@ mod levels;
 #[cfg(test)]
 mod locators;
 #[cfg(test)]
+mod rows;
+#[cfg(test)]
 mod tables;
