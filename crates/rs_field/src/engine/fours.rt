@@ -1,5 +1,5 @@
 //! One passage over four ranges of rows, around a step on four rows: two layers of the transforms at once.
-ghost use Rattle.std.specs.Prelude.{◌≡◌, ℕ, ◌+◌, ◌*◌, ◌<◌, ◌≤◌, ◌⊎◌, length};
+ghost use Rattle.std.specs.Prelude.{◌≡◌, ℕ, ◌+◌, ◌*◌, ◌<◌, ◌≤◌, length};
 ghost use Rattle.rs_field.specs.Rows.{chunk};
 ghost use Rattle.rs_field.specs.View.{cell, Fits, SameShape, SameRowsOutside, SameRowsOutsideFour};
 ghost use Rattle.rs_field.specs.TwoLayers.{OnFourChunks};

@@ -1,5 +1,5 @@
 //! What a rate brings: the counts that it supports, and at which of them it is the low rate.
-ghost use Rattle.std.specs.Prelude.{◌≡◌, ◌≢◌, ◌+◌, ◌%◌, ◌<◌, ◌≤◌, true, Ok};
+ghost use Rattle.std.specs.Prelude.{◌≡◌, ◌+◌, ◌%◌, ◌<◌, true, Ok};
 ghost use Rattle.rs_field.specs.Counts.{Rate as WhichRate, low_rate, high_rate, default_rate, supports as supports_counts, is_low as is_low_at};
 ghost use Rattle.rs_field.specs.Configuration.{configuration, validated};
 ghost use Rattle.rs_rate.specs.EncoderView.{CanBeLaid as EncoderCanBeLaid, configuration_of, encoder_shape as encoder_shape_of};

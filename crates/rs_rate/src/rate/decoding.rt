@@ -1,6 +1,7 @@
 //! The decoding of a round, for every rate: the locator of the erased points, the rows over the chunks, the tails, and
 //! the round's end.
-ghost use Rattle.std.specs.Prelude.{◌≡◌, ℕ, ◌+◌, ◌-◌, ◌*◌, ◌/◌, ◌%◌, ◌^◌, ◌<◌, ◌≤◌, ◌⊎◌, true, false, Ok, List, length, slice_index, IfOk, MatchResult, nat_lt, nat_le, ◌&&◌, if◌then◌else◌};
+ghost use Rattle.std.specs.Prelude.{◌≡◌, ℕ, ◌+◌, ◌-◌, ◌*◌, ◌/◌, ◌%◌, ◌^◌, ◌<◌, ◌≤◌, ◌⊎◌, ◌&&◌, nat_lt, nat_le, if◌then◌else◌};
+ghost use Rattle.std.specs.Prelude.{true, false, Ok, List, length, slice_index, IfOk, MatchResult};
 ghost use Rattle.rs_field.specs.Bounds.{CountsRows, CountsUpTo, LocatorCounts, decode_steps, transform_steps};
 ghost use Rattle.rs_field.specs.Configuration.{validated};
 ghost use Rattle.rs_field.specs.Counts.{Rate};

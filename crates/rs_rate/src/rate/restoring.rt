@@ -5,7 +5,7 @@
 //! them has as many zero coefficients at its end as shards are given beyond the originals exactly where some message
 //! agrees with all that is given. The polynomial plus its derivative takes at each erased point the wanted word times
 //! the locator's derivative. The method is that of Lin, Chung and Han in the form of Leopard-RS; the check is added.
-ghost use Rattle.std.specs.Prelude.{◌≡◌, ℕ, ◌+◌, ◌*◌, ◌-◌, ◌/◌, ◌%◌, ◌^◌, ◌<◌, ◌≤◌, ◌↔◌, true, false, length, max, replicate, slice_index};
+ghost use Rattle.std.specs.Prelude.{◌≡◌, ℕ, ◌+◌, ◌-◌, ◌/◌, ◌%◌, ◌^◌, ◌<◌, ◌≤◌, ◌↔◌, true, false, length, max, replicate, slice_index};
 ghost use Rattle.rs_field.specs.Bounds.{CountsRows, CountsUpTo};
 ghost use Rattle.rs_field.specs.Field.{product, power};
 ghost use Rattle.rs_field.specs.Layout.{row_len as chunks_for};
