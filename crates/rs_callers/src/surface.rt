@@ -118,30 +118,34 @@ pub fn locator_of_nothing(steps: &mut Steps, entries: &mut [GfElement; GF_ORDER]
 
 /// The plain engine as one that is chosen by name.
 pub fn naive(engine: Naive<'_>) -> DefaultEngine<'_>
-    ensures { kind_of result ≡ EngineKind.Naive }
+    ensures kind { kind_of result ≡ EngineKind.Naive }
+    ensures engine { result ≡ DefaultEngine.Naive engine.entry }
 {
-    DefaultEngine::Naive(engine)
+    DefaultEngine::from(engine)
 }
 
 /// The engine by products of nibbles as one that is chosen by name.
 pub fn no_simd(engine: NoSimd<'_>) -> DefaultEngine<'_>
-    ensures { kind_of result ≡ EngineKind.NoSimd }
+    ensures kind { kind_of result ≡ EngineKind.NoSimd }
+    ensures engine { result ≡ DefaultEngine.NoSimd engine.entry }
 {
-    DefaultEngine::NoSimd(engine)
+    DefaultEngine::from(engine)
 }
 
 /// The engine by shuffles of 32 byte lanes as one that is chosen by name.
 pub fn avx2(engine: Avx2<'_>) -> DefaultEngine<'_>
-    ensures { kind_of result ≡ EngineKind.Avx2 }
+    ensures kind { kind_of result ≡ EngineKind.Avx2 }
+    ensures engine { result ≡ DefaultEngine.Avx2 engine.entry }
 {
-    DefaultEngine::Avx2(engine)
+    DefaultEngine::from(engine)
 }
 
 /// The engine by shuffles of 16 byte lanes as one that is chosen by name.
 pub fn ssse3(engine: Ssse3<'_>) -> DefaultEngine<'_>
-    ensures { kind_of result ≡ EngineKind.Ssse3 }
+    ensures kind { kind_of result ≡ EngineKind.Ssse3 }
+    ensures engine { result ≡ DefaultEngine.Ssse3 engine.entry }
 {
-    DefaultEngine::Ssse3(engine)
+    DefaultEngine::from(engine)
 }
 
 /// The engine of a kind.

@@ -2,4 +2,4 @@ pub mod FourNibbles
 pub mod Stored
 pub mod WordBytes
 pub mod LookUp
-pub mod FourWords
+pub mod Kept

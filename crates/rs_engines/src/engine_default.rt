@@ -48,6 +48,54 @@ impl<'t> DefaultEngine<'t> {
     }
 }
 
+/// The plain engine as one of any kind.
+impl<'t> From<Naive<'t>> for DefaultEngine<'t> {
+    ghost use Rattle.std.specs.Prelude.{◌≡◌};
+    ghost use Rattle.rs_engines.specs.declared.engine_default.DefaultEngine.TheVariants.{Naive as held};
+
+    ghost from_gives = { λ engine result. result ≡ held engine };
+
+    fn from(engine: Naive<'t>) -> DefaultEngine<'t> {
+        DefaultEngine::Naive(engine)
+    }
+}
+
+/// The engine by products of nibbles as one of any kind.
+impl<'t> From<NoSimd<'t>> for DefaultEngine<'t> {
+    ghost use Rattle.std.specs.Prelude.{◌≡◌};
+    ghost use Rattle.rs_engines.specs.declared.engine_default.DefaultEngine.TheVariants.{NoSimd as held};
+
+    ghost from_gives = { λ engine result. result ≡ held engine };
+
+    fn from(engine: NoSimd<'t>) -> DefaultEngine<'t> {
+        DefaultEngine::NoSimd(engine)
+    }
+}
+
+/// The engine by shuffles of 32 byte lanes as one of any kind.
+impl<'t> From<Avx2<'t>> for DefaultEngine<'t> {
+    ghost use Rattle.std.specs.Prelude.{◌≡◌};
+    ghost use Rattle.rs_engines.specs.declared.engine_default.DefaultEngine.TheVariants.{Avx2 as held};
+
+    ghost from_gives = { λ engine result. result ≡ held engine };
+
+    fn from(engine: Avx2<'t>) -> DefaultEngine<'t> {
+        DefaultEngine::Avx2(engine)
+    }
+}
+
+/// The engine by shuffles of 16 byte lanes as one of any kind.
+impl<'t> From<Ssse3<'t>> for DefaultEngine<'t> {
+    ghost use Rattle.std.specs.Prelude.{◌≡◌};
+    ghost use Rattle.rs_engines.specs.declared.engine_default.DefaultEngine.TheVariants.{Ssse3 as held};
+
+    ghost from_gives = { λ engine result. result ≡ held engine };
+
+    fn from(engine: Ssse3<'t>) -> DefaultEngine<'t> {
+        DefaultEngine::Ssse3(engine)
+    }
+}
+
 impl Engine for DefaultEngine<'_> {
     fn fft(
         &self,

@@ -1,14 +1,15 @@
-//! The engines by shuffles: words in lanes, and their products by eight look-ups of nibbles.
-ghost use Rattle.std.specs.Prelude.{◌≡◌, slice_index_or};
-ghost use Rattle.rs_field.specs.Products.{IsMul128};
-ghost use Rattle.rs_field.specs.declared.engine.tables.Multiply128lutT.{Multiply128lutT};
-ghost use Rattle.rs_engines.specs.Factors.{IsFactor};
+//! The engines by shuffles: words in lanes, and their products by eight look-ups of nibbles, or by six.
+ghost use Rattle.std.specs.Prelude.{◌≡◌};
+ghost use Rattle.rs_engines.specs.Factors.{log_of};
 
+use crate::any_factor::{AnyFactor, factor_of};
 use crate::byte_vector::ByteVector;
-use crate::shuffle_rows;
+use crate::directions::{Backward, Forward};
+use crate::factors::ThreeFactors;
+use crate::shuffle_rows::{mul_row, one_layer, two_layers};
+use rs_field::engine::GfElement;
 use rs_field::engine::kernel::Kernel;
-use rs_field::engine::tables::{Mul128, Tables, get_mul128};
-use rs_field::engine::{GF_MODULUS, GfElement, utils};
+use rs_field::engine::tables::{Tables, get_mul128};
 use std::marker::PhantomData;
 use std::simd::prelude::*;
 
@@ -38,16 +39,33 @@ impl<'t, V: ByteVector> ByShuffles<'t, V> {
             vectors: PhantomData,
         }
     }
-}
 
-// Whether this logarithm marks the factor zero; otherwise its entry has the products with its factor.
-#[inline(always)]
-#[tactic(auto, unfolding(crate::specs::Factors::IsFactor))]
-fn is_zero(mul128: Mul128<'_>, log_m: GfElement) -> bool
-    requires { IsMul128 mul128.now }
-    ensures { (d : Multiply128lutT) → IsFactor result log_m (slice_index_or mul128.now log_m d) }
-{
-    log_m == GF_MODULUS
+    // The factor of a butterfly that this logarithm names.
+    #[inline(always)]
+    fn factor(&self, log_m: GfElement) -> AnyFactor<'_>
+        ensures { log_of result ≡ log_m }
+    {
+        factor_of(get_mul128(self.tables), log_m)
+    }
+
+    // Three of them.
+    #[inline(always)]
+    fn factors(
+        &self,
+        log_m02: GfElement,
+        log_m01: GfElement,
+        log_m23: GfElement,
+    ) -> ThreeFactors<AnyFactor<'_>, AnyFactor<'_>, AnyFactor<'_>>
+        ensures f02 { log_of result.f02 ≡ log_m02 }
+        ensures f01 { log_of result.f01 ≡ log_m01 }
+        ensures f23 { log_of result.f23 ≡ log_m23 }
+    {
+        ThreeFactors {
+            f02: self.factor(log_m02),
+            f01: self.factor(log_m01),
+            f23: self.factor(log_m23),
+        }
+    }
 }
 
 impl<V: ByteVector> Kernel for ByShuffles<'_, V> {
@@ -56,19 +74,11 @@ impl<V: ByteVector> Kernel for ByShuffles<'_, V> {
     }
 
     fn fft_butterfly(&self, x: &mut [[u8; 64]], y: &mut [[u8; 64]], log_m: GfElement) {
-        if log_m == GF_MODULUS {
-            utils::xor(y, x);
-        } else {
-            shuffle_rows::fft_butterfly::<V>(x, y, &get_mul128(self.tables)[log_m as usize]);
-        }
+        one_layer::<V, Forward>(x, y, self.factor(log_m));
     }
 
     fn ifft_butterfly(&self, x: &mut [[u8; 64]], y: &mut [[u8; 64]], log_m: GfElement) {
-        if log_m == GF_MODULUS {
-            utils::xor(y, x);
-        } else {
-            shuffle_rows::ifft_butterfly::<V>(x, y, &get_mul128(self.tables)[log_m as usize]);
-        }
+        one_layer::<V, Backward>(x, y, self.factor(log_m));
     }
 
     fn fft_two_layers(
@@ -81,29 +91,8 @@ impl<V: ByteVector> Kernel for ByShuffles<'_, V> {
         log_m01: GfElement,
         log_m23: GfElement,
     ) {
-        // The zero factors are told apart here: a branch in the loop over chunks costs up to an eighth of the time.
-        let mul128 = get_mul128(self.tables);
-        let f02 = &mul128[log_m02 as usize];
-        let f01 = &mul128[log_m01 as usize];
-        let f23 = &mul128[log_m23 as usize];
-        match (
-            is_zero(mul128, log_m02),
-            is_zero(mul128, log_m01),
-            is_zero(mul128, log_m23),
-        ) {
-            (false, false, false) => {
-                shuffle_rows::fft_two_layers::<V, false>(x0, x1, x2, x3, f02, f01, f23)
-            }
-            (true, true, false) => {
-                shuffle_rows::fft_two_layers::<V, true>(x0, x1, x2, x3, f02, f01, f23)
-            }
-            _ => {
-                self.fft_butterfly(x0, x2, log_m02);
-                self.fft_butterfly(x1, x3, log_m02);
-                self.fft_butterfly(x0, x1, log_m01);
-                self.fft_butterfly(x2, x3, log_m23);
-            }
-        }
+        let factors = self.factors(log_m02, log_m01, log_m23);
+        two_layers::<V, Forward>(x0, x1, x2, x3, factors);
     }
 
     fn ifft_two_layers(
@@ -116,31 +105,11 @@ impl<V: ByteVector> Kernel for ByShuffles<'_, V> {
         log_m01: GfElement,
         log_m23: GfElement,
     ) {
-        let mul128 = get_mul128(self.tables);
-        let f02 = &mul128[log_m02 as usize];
-        let f01 = &mul128[log_m01 as usize];
-        let f23 = &mul128[log_m23 as usize];
-        match (
-            is_zero(mul128, log_m02),
-            is_zero(mul128, log_m01),
-            is_zero(mul128, log_m23),
-        ) {
-            (false, false, false) => {
-                shuffle_rows::ifft_two_layers::<V, false>(x0, x1, x2, x3, f02, f01, f23)
-            }
-            (true, true, false) => {
-                shuffle_rows::ifft_two_layers::<V, true>(x0, x1, x2, x3, f02, f01, f23)
-            }
-            _ => {
-                self.ifft_butterfly(x0, x1, log_m01);
-                self.ifft_butterfly(x2, x3, log_m23);
-                self.ifft_butterfly(x0, x2, log_m02);
-                self.ifft_butterfly(x1, x3, log_m02);
-            }
-        }
+        let factors = self.factors(log_m02, log_m01, log_m23);
+        two_layers::<V, Backward>(x0, x1, x2, x3, factors);
     }
 
     fn mul_row(&self, x: &mut [[u8; 64]], log_m: GfElement) {
-        shuffle_rows::mul_row::<V>(x, &get_mul128(self.tables)[log_m as usize]);
+        mul_row::<V>(x, &get_mul128(self.tables)[log_m as usize]);
     }
 }

@@ -1,10 +1,13 @@
 //! The engines by look-ups of nibbles, one at a time and by shuffles, and the engine chosen by name.
 #![tactic(auto)]
 
+mod any_factor;
 mod byte_vector;
+mod directions;
 pub mod engine_default;
 pub mod engine_nosimd;
 pub mod engine_shuffle;
+mod factors;
 mod shuffle_chunks;
 mod shuffle_rows;
 mod words;

@@ -1,12 +1,16 @@
 //! Products, butterflies and two layers of butterflies of rows by shuffles, chunk by chunk.
-ghost use Rattle.std.specs.Prelude.{◌≡◌, ℕ, ◌<◌, length, bit_xor};
+ghost use Rattle.std.specs.Prelude.{◌≡◌, ℕ, ◌<◌, length};
 ghost use Rattle.rs_field.specs.Field.{product};
 ghost use Rattle.rs_field.specs.Rows.{chunk, symbol};
 ghost use Rattle.rs_field.specs.Products.{IsNibbleBytes};
-ghost use Rattle.rs_engines.specs.Factors.{IsForwardByFactors, IsBackwardByFactors, at_symbol};
+ghost use Rattle.rs_engines.specs.Factors.{log_of};
+ghost use Rattle.rs_engines.specs.Butterflies.{at_two_symbols, at_four_symbols};
 
+use crate::any_factor::AnyFactor;
 use crate::byte_vector::ByteVector;
-use crate::shuffle_chunks::{fft_chunk, fft_four_chunks, ifft_chunk, ifft_four_chunks, mul_chunk};
+use crate::directions::Direction;
+use crate::factors::{Factor, ThreeFactors};
+use crate::shuffle_chunks::{four_chunks, mul_chunk, two_chunks};
 use rs_field::engine::tables::Multiply128lutT;
 
 /// Multiplies each symbol of a row.
@@ -19,88 +23,95 @@ pub fn mul_row<V: ByteVector>(x: &mut [[u8; 64]], factor: &Multiply128lutT)
     }
 }
 
-/// The forward butterfly of two rows: adds `y` times the factor to `x`, and then the new `x` to `y`.
-pub fn fft_butterfly<V: ByteVector>(
-    x: &mut [[u8; 64]],
-    y: &mut [[u8; 64]],
-    factor: &Multiply128lutT,
+// The butterfly of two rows by a factor of this class.
+fn two_rows<V: ByteVector, D: Direction, F: Factor>(
+    x0: &mut [[u8; 64]],
+    x1: &mut [[u8; 64]],
+    factor: F,
 )
-    requires { length x.old ≡ length y.old }
-    ensures first { (f k s : ℕ) → IsNibbleBytes f factor.now → k < length x.old → s < 32
-        → symbol (chunk x.new k) s ≡ bit_xor (symbol (chunk x.old k) s) (product (symbol (chunk y.old k) s) f) }
-    ensures second { (k s : ℕ) → k < length x.old → s < 32
-        → symbol (chunk y.new k) s ≡ bit_xor (symbol (chunk y.old k) s) (symbol (chunk x.new k) s) }
+    requires { length x0.old ≡ length x1.old }
+    ensures { (k s : ℕ) → k < length x0.old → s < 32
+        → at_two_symbols s (D.two (F.log factor)) (chunk x0.old k) (chunk x1.old k) (chunk x0.new k) (chunk x1.new k) }
 {
-    for k in 0..x.len() {
-        fft_chunk::<V>(&mut x[k], &mut y[k], factor);
+    for k in 0..x0.len() {
+        two_chunks::<V, D, F>(&mut x0[k], &mut x1[k], factor);
     }
 }
 
-/// The backward butterfly of two rows: adds `x` to `y`, and then the new `y` times the factor to `x`.
-pub fn ifft_butterfly<V: ByteVector>(
-    x: &mut [[u8; 64]],
-    y: &mut [[u8; 64]],
-    factor: &Multiply128lutT,
-)
-    requires { length x.old ≡ length y.old }
-    ensures first { (f k s : ℕ) → IsNibbleBytes f factor.now → k < length x.old → s < 32
-        → symbol (chunk x.new k) s ≡ bit_xor (symbol (chunk x.old k) s) (product (symbol (chunk y.new k) s) f) }
-    ensures second { (k s : ℕ) → k < length x.old → s < 32
-        → symbol (chunk y.new k) s ≡ bit_xor (symbol (chunk y.old k) s) (symbol (chunk x.old k) s) }
-{
-    for k in 0..x.len() {
-        ifft_chunk::<V>(&mut x[k], &mut y[k], factor);
-    }
-}
-
-/// Two forward layers on four rows: rows 0 and 2 and rows 1 and 3, and then rows 0 and 1 and rows 2 and 3. Factor 23 is
-/// not zero. With `ZERO` both other factors are zero, without it neither is.
-pub fn fft_two_layers<V: ByteVector, const ZERO: bool>(
+// Two layers on four rows by factors of these classes.
+fn four_rows<V: ByteVector, D: Direction, F02: Factor, F01: Factor, F23: Factor>(
     x0: &mut [[u8; 64]],
     x1: &mut [[u8; 64]],
     x2: &mut [[u8; 64]],
     x3: &mut [[u8; 64]],
-    factor02: &Multiply128lutT,
-    factor01: &Multiply128lutT,
-    factor23: &Multiply128lutT,
+    factors: ThreeFactors<F02, F01, F23>,
 )
     requires one { length x0.old ≡ length x1.old }
     requires two { length x0.old ≡ length x2.old }
     requires three { length x0.old ≡ length x3.old }
     ensures { (k s : ℕ) → k < length x0.old → s < 32
-        → at_symbol s (IsForwardByFactors ZERO factor02.now factor01.now factor23.now)
+        → at_four_symbols s (D.four (F02.log factors.f02) (F01.log factors.f01) (F23.log factors.f23))
         (chunk x0.old k) (chunk x1.old k) (chunk x2.old k) (chunk x3.old k)
         (chunk x0.new k) (chunk x1.new k) (chunk x2.new k) (chunk x3.new k) }
 {
     for k in 0..x0.len() {
-        fft_four_chunks::<V, ZERO>(
-            &mut x0[k], &mut x1[k], &mut x2[k], &mut x3[k], factor02, factor01, factor23,
-        );
+        four_chunks::<V, D, F02, F01, F23>(&mut x0[k], &mut x1[k], &mut x2[k], &mut x3[k], factors);
     }
 }
 
-/// Two backward layers on four rows: rows 0 and 1 and rows 2 and 3, and then rows 0 and 2 and rows 1 and 3. Factor 23 is
-/// not zero. With `ZERO` both other factors are zero, without it neither is.
-pub fn ifft_two_layers<V: ByteVector, const ZERO: bool>(
+/// The butterfly of two rows.
+#[inline(always)]
+pub fn one_layer<V: ByteVector, D: Direction>(
+    x0: &mut [[u8; 64]],
+    x1: &mut [[u8; 64]],
+    factor: AnyFactor<'_>,
+)
+    requires { length x0.old ≡ length x1.old }
+    ensures { (k s : ℕ) → k < length x0.old → s < 32
+        → at_two_symbols s (D.two (log_of factor.entry)) (chunk x0.old k) (chunk x1.old k) (chunk x0.new k) (chunk x1.new k) }
+{
+    match factor {
+        AnyFactor::Zero(factor) => two_rows::<V, D, _>(x0, x1, factor),
+        AnyFactor::Small(factor) => two_rows::<V, D, _>(x0, x1, factor),
+        AnyFactor::General(factor) => two_rows::<V, D, _>(x0, x1, factor),
+    }
+}
+
+/// Two layers on four rows. The classes of the factors are told apart before the loop over chunks, where they are such as
+/// transforms ask for; with others it goes by the classes at each product.
+#[inline(always)]
+pub fn two_layers<V: ByteVector, D: Direction>(
     x0: &mut [[u8; 64]],
     x1: &mut [[u8; 64]],
     x2: &mut [[u8; 64]],
     x3: &mut [[u8; 64]],
-    factor02: &Multiply128lutT,
-    factor01: &Multiply128lutT,
-    factor23: &Multiply128lutT,
+    factors: ThreeFactors<AnyFactor<'_>, AnyFactor<'_>, AnyFactor<'_>>,
 )
     requires one { length x0.old ≡ length x1.old }
     requires two { length x0.old ≡ length x2.old }
     requires three { length x0.old ≡ length x3.old }
     ensures { (k s : ℕ) → k < length x0.old → s < 32
-        → at_symbol s (IsBackwardByFactors ZERO factor02.now factor01.now factor23.now)
+        → at_four_symbols s (D.four (log_of factors.entry.f02) (log_of factors.entry.f01) (log_of factors.entry.f23))
         (chunk x0.old k) (chunk x1.old k) (chunk x2.old k) (chunk x3.old k)
         (chunk x0.new k) (chunk x1.new k) (chunk x2.new k) (chunk x3.new k) }
 {
-    for k in 0..x0.len() {
-        ifft_four_chunks::<V, ZERO>(
-            &mut x0[k], &mut x1[k], &mut x2[k], &mut x3[k], factor02, factor01, factor23,
-        );
+    match (factors.f02, factors.f01, factors.f23) {
+        (AnyFactor::Zero(f02), AnyFactor::Zero(f01), AnyFactor::Small(f23)) => {
+            let factors = ThreeFactors { f02, f01, f23 };
+            four_rows::<V, D, _, _, _>(x0, x1, x2, x3, factors)
+        }
+        (AnyFactor::Small(f02), AnyFactor::Small(f01), AnyFactor::Small(f23)) => {
+            let factors = ThreeFactors { f02, f01, f23 };
+            four_rows::<V, D, _, _, _>(x0, x1, x2, x3, factors)
+        }
+        (AnyFactor::Small(f02), AnyFactor::General(f01), AnyFactor::General(f23)) => {
+            let factors = ThreeFactors { f02, f01, f23 };
+            four_rows::<V, D, _, _, _>(x0, x1, x2, x3, factors)
+        }
+        (AnyFactor::General(f02), AnyFactor::General(f01), AnyFactor::General(f23)) => {
+            let factors = ThreeFactors { f02, f01, f23 };
+            four_rows::<V, D, _, _, _>(x0, x1, x2, x3, factors)
+        }
+        _ => four_rows::<V, D, _, _, _>(x0, x1, x2, x3, factors),
     }
 }

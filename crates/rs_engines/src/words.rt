@@ -4,11 +4,9 @@
 //! number, so a shuffle looks up those of all lanes at once.
 ghost use Rattle.std.specs.Prelude.{◌≡◌, ℕ, ◌+◌, ◌/◌, ◌%◌, ◌<◌, ◌≤◌, ◌⊎◌, slice_index, bit_xor};
 ghost use Rattle.rs_field.specs.Field.{product};
-ghost use Rattle.rs_field.specs.Tables.{scaled};
 ghost use Rattle.rs_field.specs.Rows.{symbol};
 ghost use Rattle.rs_field.specs.Products.{AreLowNibbles, AreHighNibbles, IsNibbleBytes};
 ghost use Rattle.rs_engines.specs.Lanes.{lane};
-ghost use Rattle.rs_engines.specs.Factors.{IsFactor};
 
 use crate::byte_vector::ByteVector;
 use rs_field::engine::tables::Multiply128lutT;
@@ -16,13 +14,14 @@ use rs_field::engine::tables::Multiply128lutT;
 /// A word a lane: the low byte of each, and the high byte of each.
 #[derive(Clone, Copy)]
 pub struct Words<V: ByteVector> {
-    low: V,
-    high: V,
+    pub low: V,
+    pub high: V,
 }
 
 // One byte of the product of each word, from that byte of the products of its four nibbles.
 #[inline(always)]
 fn product_bytes<V: ByteVector>(low: V, high: V, numbers: &[u128; 4]) -> V
+    ensures small { (i : ℕ) → i < V.LANES → slice_index (V.bytes low) i < 256 }
     ensures low { (f i : ℕ) → AreLowNibbles f numbers.now → i < V.LANES
         → slice_index (V.bytes result) i ≡ product (lane (V.bytes low) (V.bytes high) i) f % 256 }
     ensures high { (f i : ℕ) → AreHighNibbles f numbers.now → i < V.LANES
@@ -72,6 +71,23 @@ pub fn times<V: ByteVector>(words: Words<V>, factor: &Multiply128lutT) -> Words<
     }
 }
 
+/// The same where the products of low bytes have no high byte: six look-ups in the place of eight.
+#[inline(always)]
+pub fn times_small<V: ByteVector>(words: Words<V>, factor: &Multiply128lutT) -> Words<V>
+    requires first { slice_index factor.now.hi 0 ≡ 0 }
+    requires second { slice_index factor.now.hi 1 ≡ 0 }
+    ensures { (f i : ℕ) → IsNibbleBytes f factor.now → i < V.LANES
+        → lane (V.bytes result.low) (V.bytes result.high) i ≡ product (lane (V.bytes words.low) (V.bytes words.high) i) f }
+{
+    Words {
+        low: product_bytes(words.low, words.high, &factor.lo),
+        high: words
+            .high
+            .at_low_nibbles(factor.hi[2])
+            .sum(words.high.at_high_nibbles(factor.hi[3])),
+    }
+}
+
 /// The sums of words.
 #[inline(always)]
 pub fn add<V: ByteVector>(x: Words<V>, y: Words<V>) -> Words<V>
@@ -83,19 +99,4 @@ pub fn add<V: ByteVector>(x: Words<V>, y: Words<V>) -> Words<V>
         low: x.low.sum(y.low),
         high: x.high.sum(y.high),
     }
-}
-
-/// The sums of the words x and the products of the words y. `ZERO` says that the factor is zero; otherwise it isn't.
-#[inline(always)]
-#[tactic(auto, unfolding(crate::specs::Factors::IsFactor))]
-pub fn add_scaled<V: ByteVector, const ZERO: bool>(
-    x: Words<V>,
-    y: Words<V>,
-    factor: &Multiply128lutT,
-) -> Words<V>
-    ensures { (log_m i : ℕ) → IsFactor ZERO log_m factor.now → i < V.LANES
-        → lane (V.bytes result.low) (V.bytes result.high) i
-        ≡ bit_xor (lane (V.bytes x.low) (V.bytes x.high) i) (scaled log_m (lane (V.bytes y.low) (V.bytes y.high) i)) }
-{
-    if ZERO { x } else { add(x, times(y, factor)) }
 }

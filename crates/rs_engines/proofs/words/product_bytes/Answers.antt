@@ -24,3 +24,6 @@ returns-clause-high g c f i are h =
     (c.sum.ensures.lanes i h) (c.sum-first.ensures.lanes i h) (c.sum-second.ensures.lanes i h)
     (c.at_low_nibbles.ensures i h ∙ are.high 0 (l % 16) (omega arith) (omega arith)) (c.at_high_nibbles.ensures.lanes i h ∙ are.high 1 (l / 16) (omega arith) (omega arith))
     (c.at_low_nibbles-2.ensures i h ∙ are.high 2 (u % 16) (omega arith) (omega arith)) (c.at_high_nibbles-2.ensures.lanes i h ∙ are.high 3 (u / 16) (omega arith) (omega arith))
+
+pub returns-clause-small : goal.returns-clause-small
+returns-clause-small g c i h = c.at_high_nibbles.ensures.small i h

@@ -1,12 +1,12 @@
-use Rattle.std.proofs.Common.{◌≡◌, ℕ, ◌<◌, ◌≤◌, not, nat_eq}
+use Rattle.std.proofs.Common.{◌≡◌, ℕ, ◌<◌, ◌≤◌}
 use Rattle.rs_field.specs.Rows.{chunk}
-use Rattle.rs_engines.specs.Factors.{IsBackwardByFactors, at_symbol}
-use Rattle.rs_engines.proofs.shuffle_rows.ifft_two_layers.Given as goal
+use Rattle.rs_engines.specs.Butterflies.{at_four_symbols}
+use Rattle.rs_engines.proofs.shuffle_rows.four_rows.Given as goal
 
 abbrev pub invariant-loop-k : goal.invariant-loop-k
 invariant-loop-k g l = record {
   done : (j s : ℕ) → j < l.k → s < 32
-      → at_symbol s (IsBackwardByFactors (not (nat_eq g.row.ZERO 0)) l.factor02 l.factor01 l.factor23)
+      → at_four_symbols s (g.D.Direction.four (g.F02.Factor.log l.factors.f02) (g.F01.Factor.log l.factors.f01) (g.F23.Factor.log l.factors.f23))
       (chunk l.initial.x0 j) (chunk l.initial.x1 j) (chunk l.initial.x2 j) (chunk l.initial.x3 j)
       (chunk l.x0 j) (chunk l.x1 j) (chunk l.x2 j) (chunk l.x3 j);
   rest_0 : (j : ℕ) → l.k ≤ j → chunk l.x0 j ≡ chunk l.initial.x0 j;

@@ -1,0 +1,21 @@
+use Rattle.std.proofs.Common.{◌-◌, inl, inr, arith}
+use Rattle.std.proofs.lemmas.Bool.{cases_lt}
+use Rattle.rs_engines.proofs.Kept.{two_kept_before, two_kept_after}
+use Rattle.rs_engines.proofs.shuffle_chunks.two_chunks.Goals as goal
+
+pub returns-then-LANES-lt32 : goal.returns-then-LANES-lt32
+returns-then-LANES-lt32 g c s h =
+    let width = g.met.V.ByteVector.width in
+    let butterfly = g.D.Direction.two (g.F.Factor.log c.args.factor) in
+    elim (cases_lt s 16) [
+      | inl low ↦
+          let next = c.two_blocks-then-LANES-lt32.ensures in
+          two_kept_after butterfly _ _ _ _ _ _ (next.kept_0 s h (inl low)) (next.kept_1 s h (inl low)) (c.two_blocks.ensures.butterfly s s (omega arith) (omega arith))
+      | inr high ↦
+          let past = c.two_blocks.ensures in
+          two_kept_before butterfly _ _ _ _ _ _ (past.kept_0 s h (inr (omega arith))) (past.kept_1 s h (inr (omega arith)))
+          (c.two_blocks-then-LANES-lt32.ensures.butterfly (s - 16) s (omega arith) (omega arith))
+    ]
+
+pub returns-else-LANES-lt32 : goal.returns-else-LANES-lt32
+returns-else-LANES-lt32 g c s h = let width = g.met.V.ByteVector.width in c.two_blocks.ensures.butterfly s s (omega arith) (omega arith)

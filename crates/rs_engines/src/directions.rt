@@ -1,0 +1,120 @@
+//! Butterflies of words in lanes, forward and backward: one layer on two blocks, two layers on four.
+ghost use Rattle.std.specs.Prelude.{◌≡◌, ℕ, ◌<◌};
+ghost use Rattle.rs_field.specs.TwoLayers.{OnFourWords, IsForwardFour, IsBackwardFour};
+ghost use Rattle.rs_engines.specs.Lanes.{lane};
+ghost use Rattle.rs_engines.specs.Butterflies.{OnTwoWords, IsForwardTwo, IsBackwardTwo};
+
+use crate::byte_vector::ByteVector;
+use crate::factors::{Factor, ThreeFactors};
+use crate::words::{Words, add};
+
+/// Which way a transform goes, and so the order of a butterfly's two sums and of two layers.
+pub trait Direction {
+    // What a butterfly makes of two words, by the factor of a logarithm.
+    ghost two: { ℕ → OnTwoWords };
+
+    // What two layers make of four words, by the factors of rows 0 and 2, of rows 0 and 1 and of rows 2 and 3.
+    ghost four: { ℕ → ℕ → ℕ → OnFourWords };
+
+    /// The butterfly of the words of two blocks.
+    fn of_two<V: ByteVector, F: Factor>(
+        x0: Words<V>,
+        x1: Words<V>,
+        factor: F,
+    ) -> (Words<V>, Words<V>)
+        ensures { (i : ℕ) → i < V.LANES
+            → two (F.log factor)
+            (lane (V.bytes x0.low) (V.bytes x0.high) i) (lane (V.bytes x1.low) (V.bytes x1.high) i)
+            (lane (V.bytes result.0.low) (V.bytes result.0.high) i) (lane (V.bytes result.1.low) (V.bytes result.1.high) i) };
+
+    /// Two layers of butterflies of the words of four blocks.
+    fn of_four<V: ByteVector, F02: Factor, F01: Factor, F23: Factor>(
+        x0: Words<V>,
+        x1: Words<V>,
+        x2: Words<V>,
+        x3: Words<V>,
+        factors: ThreeFactors<F02, F01, F23>,
+    ) -> (Words<V>, Words<V>, Words<V>, Words<V>)
+        ensures { (i : ℕ) → i < V.LANES
+            → four (F02.log factors.f02) (F01.log factors.f01) (F23.log factors.f23)
+            (lane (V.bytes x0.low) (V.bytes x0.high) i) (lane (V.bytes x1.low) (V.bytes x1.high) i)
+            (lane (V.bytes x2.low) (V.bytes x2.high) i) (lane (V.bytes x3.low) (V.bytes x3.high) i)
+            (lane (V.bytes result.0.low) (V.bytes result.0.high) i) (lane (V.bytes result.1.low) (V.bytes result.1.high) i)
+            (lane (V.bytes result.2.low) (V.bytes result.2.high) i) (lane (V.bytes result.3.low) (V.bytes result.3.high) i) };
+}
+
+/// The second word, times the factor, is added to the first, and then the new first to the second. Of two layers that
+/// of rows 0 and 2 and of rows 1 and 3 comes first.
+pub struct Forward;
+
+impl Direction for Forward {
+    ghost two = { IsForwardTwo };
+
+    ghost four = { IsForwardFour };
+
+    #[inline(always)]
+    fn of_two<V: ByteVector, F: Factor>(
+        x0: Words<V>,
+        x1: Words<V>,
+        factor: F,
+    ) -> (Words<V>, Words<V>) {
+        let y0 = factor.add_product(x0, x1);
+        (y0, add(x1, y0))
+    }
+
+    #[inline(always)]
+    fn of_four<V: ByteVector, F02: Factor, F01: Factor, F23: Factor>(
+        x0: Words<V>,
+        x1: Words<V>,
+        x2: Words<V>,
+        x3: Words<V>,
+        factors: ThreeFactors<F02, F01, F23>,
+    ) -> (Words<V>, Words<V>, Words<V>, Words<V>) {
+        let z0 = factors.f02.add_product(x0, x2);
+        let z1 = factors.f02.add_product(x1, x3);
+        let z2 = add(x2, z0);
+        let z3 = add(x3, z1);
+        let y0 = factors.f01.add_product(z0, z1);
+        let y2 = factors.f23.add_product(z2, z3);
+        (y0, add(z1, y0), y2, add(z3, y2))
+    }
+}
+
+/// The first word is added to the second, and then the new second, times the factor, to the first. Of two layers that of
+/// rows 0 and 1 and of rows 2 and 3 comes first.
+pub struct Backward;
+
+impl Direction for Backward {
+    ghost two = { IsBackwardTwo };
+
+    ghost four = { IsBackwardFour };
+
+    #[inline(always)]
+    fn of_two<V: ByteVector, F: Factor>(
+        x0: Words<V>,
+        x1: Words<V>,
+        factor: F,
+    ) -> (Words<V>, Words<V>) {
+        let y1 = add(x1, x0);
+        (factor.add_product(x0, y1), y1)
+    }
+
+    #[inline(always)]
+    fn of_four<V: ByteVector, F02: Factor, F01: Factor, F23: Factor>(
+        x0: Words<V>,
+        x1: Words<V>,
+        x2: Words<V>,
+        x3: Words<V>,
+        factors: ThreeFactors<F02, F01, F23>,
+    ) -> (Words<V>, Words<V>, Words<V>, Words<V>) {
+        let z1 = add(x1, x0);
+        let z3 = add(x3, x2);
+        let z0 = factors.f01.add_product(x0, z1);
+        let z2 = factors.f23.add_product(x2, z3);
+        let y2 = add(z2, z0);
+        let y3 = add(z3, z1);
+        let y0 = factors.f02.add_product(z0, y2);
+        let y1 = factors.f02.add_product(z1, y3);
+        (y0, y1, y2, y3)
+    }
+}
