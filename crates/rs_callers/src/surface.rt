@@ -45,39 +45,21 @@ pub fn constants() -> (usize, usize, GfElement, usize, GfElement)
     )
 }
 
-/// The powers of the generator and the logarithms.
-pub fn exp_log(tables: &Tables) -> &ExpLog
-    ensures { IsExpLog result.now.exp.items result.now.log.items }
+/// The tables that transforms and locators read.
+pub fn tables_of_points(tables: &Tables) -> (&ExpLog, Skew<'_>, LogWalsh<'_>)
+    ensures exp_log { IsExpLog result.0.now.exp.items result.0.now.log.items }
+    ensures skew { IsSkew result.1.now }
+    ensures log_walsh { IsLogWalsh result.2.now }
 {
-    get_exp_log(tables)
+    (get_exp_log(tables), get_skew(tables), get_log_walsh(tables))
 }
 
-/// The factors of butterflies.
-pub fn skew(tables: &Tables) -> Skew<'_>
-    ensures { IsSkew result.now }
+/// The products by nibbles, as words and as bytes.
+pub fn products(tables: &Tables) -> (Mul16<'_>, Mul128<'_>)
+    ensures words { IsMul16 result.0.now }
+    ensures bytes { IsMul128 result.1.now }
 {
-    get_skew(tables)
-}
-
-/// The transform of the logarithms.
-pub fn log_walsh(tables: &Tables) -> LogWalsh<'_>
-    ensures { IsLogWalsh result.now }
-{
-    get_log_walsh(tables)
-}
-
-/// The products by nibbles, as words.
-pub fn mul16(tables: &Tables) -> Mul16<'_>
-    ensures { IsMul16 result.now }
-{
-    get_mul16(tables)
-}
-
-/// The products by nibbles, as bytes.
-pub fn mul128(tables: &Tables) -> Mul128<'_>
-    ensures { IsMul128 result.now }
-{
-    get_mul128(tables)
+    (get_mul16(tables), get_mul128(tables))
 }
 
 /// The numbers of an entry of the products, as bytes.
@@ -116,36 +98,24 @@ pub fn locator_of_nothing(steps: &mut Steps, entries: &mut [GfElement; GF_ORDER]
     eval_poly(steps, entries, 0, get_log_walsh(tables));
 }
 
-/// The plain engine as one that is chosen by name.
-pub fn naive(engine: Naive<'_>) -> DefaultEngine<'_>
-    ensures kind { kind_of result ≡ EngineKind.Naive }
-    ensures engine { result ≡ DefaultEngine.Naive engine.entry }
+/// Engines that a caller has, as ones that are chosen by name.
+pub fn chosen<'t>(
+    naive: Naive<'t>,
+    no_simd: NoSimd<'t>,
+    avx2: Avx2<'t>,
+    ssse3: Ssse3<'t>,
+) -> (
+    DefaultEngine<'t>,
+    DefaultEngine<'t>,
+    DefaultEngine<'t>,
+    DefaultEngine<'t>,
+)
+    ensures naive { result.0 ≡ DefaultEngine.Naive naive.entry }
+    ensures no_simd { result.1 ≡ DefaultEngine.NoSimd no_simd.entry }
+    ensures avx2 { result.2 ≡ DefaultEngine.Avx2 avx2.entry }
+    ensures ssse3 { result.3 ≡ DefaultEngine.Ssse3 ssse3.entry }
 {
-    DefaultEngine::from(engine)
-}
-
-/// The engine by products of nibbles as one that is chosen by name.
-pub fn no_simd(engine: NoSimd<'_>) -> DefaultEngine<'_>
-    ensures kind { kind_of result ≡ EngineKind.NoSimd }
-    ensures engine { result ≡ DefaultEngine.NoSimd engine.entry }
-{
-    DefaultEngine::from(engine)
-}
-
-/// The engine by shuffles of 32 byte lanes as one that is chosen by name.
-pub fn avx2(engine: Avx2<'_>) -> DefaultEngine<'_>
-    ensures kind { kind_of result ≡ EngineKind.Avx2 }
-    ensures engine { result ≡ DefaultEngine.Avx2 engine.entry }
-{
-    DefaultEngine::from(engine)
-}
-
-/// The engine by shuffles of 16 byte lanes as one that is chosen by name.
-pub fn ssse3(engine: Ssse3<'_>) -> DefaultEngine<'_>
-    ensures kind { kind_of result ≡ EngineKind.Ssse3 }
-    ensures engine { result ≡ DefaultEngine.Ssse3 engine.entry }
-{
-    DefaultEngine::from(engine)
+    (naive.into(), no_simd.into(), avx2.into(), ssse3.into())
 }
 
 /// The engine of a kind.
@@ -163,25 +133,17 @@ pub fn works() -> (EncoderWork, DecoderWork)
     (EncoderWork::new(), DecoderWork::new())
 }
 
-/// What is named low is of the low rate.
-pub fn low_names<E: Engine>()
-    ensures rate { ⟦<LowRate<E> as Rate<E>>⟧.rate ≡ low_rate }
-    ensures encoder { ⟦<LowRateEncoder<E> as RateEncoder<E>>⟧.rate ≡ low_rate }
-    ensures decoder { ⟦<LowRateDecoder<E> as RateDecoder<E>>⟧.rate ≡ low_rate }
-{}
-
-/// What is named high is of the high rate.
-pub fn high_names<E: Engine>()
-    ensures rate { ⟦<HighRate<E> as Rate<E>>⟧.rate ≡ high_rate }
-    ensures encoder { ⟦<HighRateEncoder<E> as RateEncoder<E>>⟧.rate ≡ high_rate }
-    ensures decoder { ⟦<HighRateDecoder<E> as RateDecoder<E>>⟧.rate ≡ high_rate }
-{}
-
-/// What is named default is of the default rate.
-pub fn default_names<E: Engine>()
-    ensures rate { ⟦<DefaultRate<E> as Rate<E>>⟧.rate ≡ default_rate }
-    ensures encoder { ⟦<DefaultRateEncoder<E> as RateEncoder<E>>⟧.rate ≡ default_rate }
-    ensures decoder { ⟦<DefaultRateDecoder<E> as RateDecoder<E>>⟧.rate ≡ default_rate }
+/// What is named low is of the low rate, and so on.
+pub fn names<E: Engine>()
+    ensures low { ⟦<LowRate<E> as Rate<E>>⟧.rate ≡ low_rate }
+    ensures low_encoder { ⟦<LowRateEncoder<E> as RateEncoder<E>>⟧.rate ≡ low_rate }
+    ensures low_decoder { ⟦<LowRateDecoder<E> as RateDecoder<E>>⟧.rate ≡ low_rate }
+    ensures high { ⟦<HighRate<E> as Rate<E>>⟧.rate ≡ high_rate }
+    ensures high_encoder { ⟦<HighRateEncoder<E> as RateEncoder<E>>⟧.rate ≡ high_rate }
+    ensures high_decoder { ⟦<HighRateDecoder<E> as RateDecoder<E>>⟧.rate ≡ high_rate }
+    ensures default { ⟦<DefaultRate<E> as Rate<E>>⟧.rate ≡ default_rate }
+    ensures default_encoder { ⟦<DefaultRateEncoder<E> as RateEncoder<E>>⟧.rate ≡ default_rate }
+    ensures default_decoder { ⟦<DefaultRateDecoder<E> as RateDecoder<E>>⟧.rate ≡ default_rate }
 {}
 
 /// The first shards of the results of plain objects.
