@@ -6,7 +6,7 @@ use anyhow::{Context, Result, bail};
 use reed_solomon_simd::engine::Engine;
 use std::alloc::{AllocError, Global};
 
-/// Steps that follow one another, and the coders that they are run at.
+/// Actions that follow one another, and the coders that they are run by.
 #[derive(Drop)]
 struct Case<'a> {
     line: usize,

@@ -1,4 +1,4 @@
-//! Whby the coders of use have in common, so that an action of a case stands once.
+//! What the levels of use have in common, so that an action of a case stands once.
 use crate::kept::Kept;
 use reed_solomon_simd::Error;
 use reed_solomon_simd::rate::{DecoderWork, EncoderWork};
@@ -31,7 +31,7 @@ pub struct Parts {
     pub decoder: Option<DecoderWork>,
 }
 
-/// An encoder and a decoder of one coder of use.
+/// An encoder and a decoder of one level of use.
 pub trait Coder {
     /// Makes the object anew: over the memory of an earlier one where that was taken, else over none.
     fn start(
@@ -58,7 +58,7 @@ pub trait Coder {
         Ok(())
     }
 
-    /// An iterator thby the coder hands over ends here once, and goes on if it is asked again.
+    /// An iterator that the coder hands over ends here once, and goes on if it is asked again.
     fn end_once(&mut self, _role: Role) -> Result<(), Error> {
         Ok(())
     }

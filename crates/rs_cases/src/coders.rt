@@ -16,7 +16,7 @@ pub const CODERS: &[&str] = &["call", "plain", "low", "high", "default"];
 /// Those of the objects of the rates, which are over any engine.
 pub const RATES: &[&str] = &["low", "high", "default"];
 
-/// Those of the rates are over the engine, the others over the one that is chosen by name.
+/// The coders: those of the rates over any engine, the others over one that is chosen by name.
 #[derive(Drop)]
 pub struct Coders<'t, E: Engine> {
     /// The names of those that are run.

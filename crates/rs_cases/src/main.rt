@@ -1,4 +1,4 @@
-//! Runs cases of coding, which files of data hold, through each coder of use. The words are the names of the files; their
+//! Runs cases of coding, which files of data hold, through each level of use. The words are the names of the files; their
 //! format stands at the head of each.
 //!
 //! Prints a line for each file and engine, and one, with the line of its case, for each action whose answer isn't the one

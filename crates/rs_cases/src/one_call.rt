@@ -49,7 +49,7 @@ impl Coder for OneCall<'_> {
         self.reset(side, configuration)
     }
 
-    fn reset(&mut self, _kind: Side, configuration: Configuration) -> Result<(), Error> {
+    fn reset(&mut self, _side: Side, configuration: Configuration) -> Result<(), Error> {
         self.configuration = configuration;
         self.given.clear();
         Ok(())

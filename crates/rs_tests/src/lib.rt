@@ -1,4 +1,4 @@
-//! Tests of what no contract says, a file for each matter.
+//! Tests of what no contract says, and of what contracts come to at numbers, a file for each matter.
 #![tactic(auto)]
 
 #[cfg(test)]
