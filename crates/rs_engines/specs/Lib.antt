@@ -1,4 +1,3 @@
 pub mod Kind
 pub mod Lanes
-pub mod Butterflies
 pub mod Factors

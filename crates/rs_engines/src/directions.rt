@@ -1,8 +1,8 @@
 //! Butterflies of words in lanes, forward and backward: one layer on two blocks, two layers on four.
 ghost use Rattle.std.specs.Prelude.{◌≡◌, ℕ, ◌<◌};
+ghost use Rattle.rs_field.specs.Pairs.{OnTwoWords, IsForwardTwo, IsBackwardTwo};
 ghost use Rattle.rs_field.specs.TwoLayers.{OnFourWords, IsForwardFour, IsBackwardFour};
 ghost use Rattle.rs_engines.specs.Lanes.{lane};
-ghost use Rattle.rs_engines.specs.Butterflies.{OnTwoWords, IsForwardTwo, IsBackwardTwo};
 
 use crate::byte_vector::ByteVector;
 use crate::factors::{Factor, ThreeFactors};

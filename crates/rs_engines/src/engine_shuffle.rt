@@ -8,7 +8,7 @@ use crate::directions::{Backward, Forward};
 use crate::factors::ThreeFactors;
 use crate::shuffle_rows::{mul_row, one_layer, two_layers};
 use rs_field::engine::GfElement;
-use rs_field::engine::kernel::Kernel;
+use rs_field::engine::kernel::{Kernel, ThreeLogarithms};
 use rs_field::engine::tables::{Tables, get_mul128};
 use std::marker::PhantomData;
 use std::simd::prelude::*;
@@ -52,18 +52,16 @@ impl<'t, V: ByteVector> ByShuffles<'t, V> {
     #[inline(always)]
     fn factors(
         &self,
-        log_m02: GfElement,
-        log_m01: GfElement,
-        log_m23: GfElement,
+        logs: ThreeLogarithms,
     ) -> ThreeFactors<AnyFactor<'_>, AnyFactor<'_>, AnyFactor<'_>>
-        ensures f02 { log_of result.f02 ≡ log_m02 }
-        ensures f01 { log_of result.f01 ≡ log_m01 }
-        ensures f23 { log_of result.f23 ≡ log_m23 }
+        ensures f02 { log_of result.f02 ≡ logs.log_m02 }
+        ensures f01 { log_of result.f01 ≡ logs.log_m01 }
+        ensures f23 { log_of result.f23 ≡ logs.log_m23 }
     {
         ThreeFactors {
-            f02: self.factor(log_m02),
-            f01: self.factor(log_m01),
-            f23: self.factor(log_m23),
+            f02: self.factor(logs.log_m02),
+            f01: self.factor(logs.log_m01),
+            f23: self.factor(logs.log_m23),
         }
     }
 }
@@ -87,12 +85,9 @@ impl<V: ByteVector> Kernel for ByShuffles<'_, V> {
         x1: &mut [[u8; 64]],
         x2: &mut [[u8; 64]],
         x3: &mut [[u8; 64]],
-        log_m02: GfElement,
-        log_m01: GfElement,
-        log_m23: GfElement,
+        logs: ThreeLogarithms,
     ) {
-        let factors = self.factors(log_m02, log_m01, log_m23);
-        two_layers::<V, Forward>(x0, x1, x2, x3, factors);
+        two_layers::<V, Forward>(x0, x1, x2, x3, self.factors(logs));
     }
 
     fn ifft_two_layers(
@@ -101,12 +96,9 @@ impl<V: ByteVector> Kernel for ByShuffles<'_, V> {
         x1: &mut [[u8; 64]],
         x2: &mut [[u8; 64]],
         x3: &mut [[u8; 64]],
-        log_m02: GfElement,
-        log_m01: GfElement,
-        log_m23: GfElement,
+        logs: ThreeLogarithms,
     ) {
-        let factors = self.factors(log_m02, log_m01, log_m23);
-        two_layers::<V, Backward>(x0, x1, x2, x3, factors);
+        two_layers::<V, Backward>(x0, x1, x2, x3, self.factors(logs));
     }
 
     fn mul_row(&self, x: &mut [[u8; 64]], log_m: GfElement) {

@@ -3,7 +3,8 @@ ghost use Rattle.std.specs.Prelude.{◌≡◌, ℕ, ◌+◌, ◌<◌, ◌≤◌,
 ghost use Rattle.rs_field.specs.Field.{product};
 ghost use Rattle.rs_field.specs.Rows.{symbol};
 ghost use Rattle.rs_field.specs.Products.{IsNibbleBytes};
-ghost use Rattle.rs_engines.specs.Butterflies.{at_two_symbols, at_four_symbols};
+ghost use Rattle.rs_field.specs.Pairs.{at_two_symbols};
+ghost use Rattle.rs_field.specs.TwoLayers.{at_four_symbols};
 
 use crate::byte_vector::ByteVector;
 use crate::directions::Direction;

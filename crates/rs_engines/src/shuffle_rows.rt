@@ -3,8 +3,9 @@ ghost use Rattle.std.specs.Prelude.{◌≡◌, ℕ, ◌<◌, length};
 ghost use Rattle.rs_field.specs.Field.{product};
 ghost use Rattle.rs_field.specs.Rows.{chunk, symbol};
 ghost use Rattle.rs_field.specs.Products.{IsNibbleBytes};
+ghost use Rattle.rs_field.specs.Pairs.{at_two_symbols};
+ghost use Rattle.rs_field.specs.TwoLayers.{at_four_symbols};
 ghost use Rattle.rs_engines.specs.Factors.{log_of};
-ghost use Rattle.rs_engines.specs.Butterflies.{at_two_symbols, at_four_symbols};
 
 use crate::any_factor::AnyFactor;
 use crate::byte_vector::ByteVector;

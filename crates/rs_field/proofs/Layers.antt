@@ -7,6 +7,7 @@ use Rattle.rs_field.specs.Field.{product}
 use Rattle.rs_field.specs.Subspace.{subspace}
 use Rattle.rs_field.specs.Transform.{forward}
 use Rattle.rs_field.specs.Tables.{IsSkew, scaled}
+use Rattle.rs_field.specs.Pairs.{IsForwardTwo, IsBackwardTwo}
 use Rattle.rs_field.specs.TwoLayers.{forward_first, forward_second, backward_first, backward_second, IsForwardFour, IsBackwardFour}
 use Rattle.rs_field.specs.Layers.{ArePartsOf}
 use Rattle.rs_field.proofs.Combination.{forward-same, lower_half, upper_half}
@@ -249,17 +250,14 @@ backward_undone m02 m01 m23 x0 x1 x2 x3 y0 y1 y2 y3 (e0, e1, e2, e3) =
 
 -- ---- rows
 
--- a step on two words
-abbrev pub IsForwardPair : ℕ → ℕ → ℕ → ℕ → ℕ → Type 0
-IsForwardPair log_m x y x' y' = (x' ≡ bit_xor x (scaled log_m y)) × (y' ≡ bit_xor y x')
-
-pub pair_undone : (log_m x y x' y' : ℕ) → (x' ≡ bit_xor x (scaled log_m y')) × (y' ≡ bit_xor y x) → IsForwardPair log_m x' y' x y
+-- a forward butterfly undoes a backward one
+pub pair_undone : (log_m x y x' y' : ℕ) → IsBackwardTwo log_m x y x' y' → IsForwardTwo log_m x' y' x y
 pair_undone log_m x y x' y' (first, second) =
     (sym (ap (λ v. bit_xor v (scaled log_m y')) first ∙ xor_undo x (scaled log_m y')), sym (ap (λ v. bit_xor v x) second ∙ xor_undo y x))
 
 -- the one layer of two rows
 pub two_rows : (skew : List ℕ) (shift pos : ℕ) (f g : ℕ → ℕ) → IsSkew skew → shift % 2 ≡ 0 → shift + 2 ≤ 65536
-    → IsForwardPair (get_or skew shift 0) (f (pos + 0)) (f (pos + 1 + 0)) (g (pos + 0)) (g (pos + 1 + 0))
+    → IsForwardTwo (get_or skew shift 0) (f (pos + 0)) (f (pos + 1 + 0)) (g (pos + 0)) (g (pos + 1 + 0))
     → ArePartsOf 2 1 shift (λ q. f (pos + q)) (λ q. g (pos + q))
 two_rows skew shift pos f g table aligned points (first, second) =
     one_layer skew 1 shift (λ q. f (pos + q)) (λ q. g (pos + q))

@@ -41,6 +41,7 @@ pub mod Layers
 pub mod Parts
 pub mod Recursion
 pub mod PartLoops
+pub mod Directions
 pub mod Injective
 pub mod Derivative
 pub mod DerivativeStep

@@ -28,6 +28,7 @@ pub mod View
 pub mod Pairs
 pub mod TwoLayers
 pub mod Layers
+pub mod Directions
 pub mod Lending
 pub mod Layout
 pub mod Worked

@@ -45,14 +45,16 @@ IsBackwardFour log_m02 log_m01 log_m23 x0 x1 x2 x3 y0 y1 y2 y3 =
     let z3 = backward_second x2 x3 in
     (y0 ≡ backward_first log_m02 z0 z2) × (y1 ≡ backward_first log_m02 z1 z3) × (y2 ≡ backward_second z0 z2) × (y3 ≡ backward_second z1 z3)
 
+-- a relation of symbol s of four old chunks and of the four new ones
+abbrev pub at_four_symbols : ℕ → OnFourWords → OnFourChunks
+at_four_symbols s R x0 x1 x2 x3 y0 y1 y2 y3 = R (symbol x0 s) (symbol x1 s) (symbol x2 s) (symbol x3 s) (symbol y0 s) (symbol y1 s) (symbol y2 s) (symbol y3 s)
+
 -- two layers of forward butterflies on each symbol of four chunks
 abbrev pub IsForwardTwoLayers : ℕ → ℕ → ℕ → OnFourChunks
 IsForwardTwoLayers log_m02 log_m01 log_m23 x0 x1 x2 x3 y0 y1 y2 y3 =
-    (s : ℕ) → s < 32 → IsForwardFour log_m02 log_m01 log_m23 (symbol x0 s) (symbol x1 s) (symbol x2 s) (symbol x3 s)
-    (symbol y0 s) (symbol y1 s) (symbol y2 s) (symbol y3 s)
+    (s : ℕ) → s < 32 → at_four_symbols s (IsForwardFour log_m02 log_m01 log_m23) x0 x1 x2 x3 y0 y1 y2 y3
 
 -- two layers of backward butterflies on each symbol of four chunks
 abbrev pub IsBackwardTwoLayers : ℕ → ℕ → ℕ → OnFourChunks
 IsBackwardTwoLayers log_m02 log_m01 log_m23 x0 x1 x2 x3 y0 y1 y2 y3 =
-    (s : ℕ) → s < 32 → IsBackwardFour log_m02 log_m01 log_m23 (symbol x0 s) (symbol x1 s) (symbol x2 s) (symbol x3 s)
-    (symbol y0 s) (symbol y1 s) (symbol y2 s) (symbol y3 s)
+    (s : ℕ) → s < 32 → at_four_symbols s (IsBackwardFour log_m02 log_m01 log_m23) x0 x1 x2 x3 y0 y1 y2 y3

@@ -9,6 +9,15 @@ use super::tables::{Tables, get_log_walsh, get_skew};
 use super::transform::{fft, ifft};
 use super::{Engine, GfElement, ShardsRefMut, Steps, utils};
 
+/// The logarithms of the factors of two layers on four rows: of rows 0 and 2 and of rows 1 and 3, of rows 0 and 1, and of
+/// rows 2 and 3.
+#[derive(Clone, Copy)]
+pub struct ThreeLogarithms {
+    pub log_m02: GfElement,
+    pub log_m01: GfElement,
+    pub log_m23: GfElement,
+}
+
 /// What tells engines apart: the tables that they read, the butterflies of two rows and the product of a row.
 ///
 /// Each type with these is an engine: its transforms, which take care of blocks, cosets and truncation, its products and
@@ -44,21 +53,19 @@ pub trait Kernel: Drop {
         x1: &mut [[u8; 64]],
         x2: &mut [[u8; 64]],
         x3: &mut [[u8; 64]],
-        log_m02: GfElement,
-        log_m01: GfElement,
-        log_m23: GfElement,
+        logs: ThreeLogarithms,
     )
         requires one { length x0.old ≡ length x1.old }
         requires two { length x0.old ≡ length x2.old }
         requires three { length x0.old ≡ length x3.old }
         ensures { (k : ℕ) → k < length x0.old
-            → IsForwardTwoLayers log_m02 log_m01 log_m23 (chunk x0.old k) (chunk x1.old k) (chunk x2.old k) (chunk x3.old k)
+            → IsForwardTwoLayers logs.log_m02 logs.log_m01 logs.log_m23 (chunk x0.old k) (chunk x1.old k) (chunk x2.old k) (chunk x3.old k)
             (chunk x0.new k) (chunk x1.new k) (chunk x2.new k) (chunk x3.new k) }
     {
-        self.fft_butterfly(x0, x2, log_m02);
-        self.fft_butterfly(x1, x3, log_m02);
-        self.fft_butterfly(x0, x1, log_m01);
-        self.fft_butterfly(x2, x3, log_m23);
+        self.fft_butterfly(x0, x2, logs.log_m02);
+        self.fft_butterfly(x1, x3, logs.log_m02);
+        self.fft_butterfly(x0, x1, logs.log_m01);
+        self.fft_butterfly(x2, x3, logs.log_m23);
     }
 
     /// Two layers of `ifft_butterfly` on four rows: rows 0 and 1 by the factor of `log_m01` and rows 2 and 3 by that of
@@ -69,21 +76,19 @@ pub trait Kernel: Drop {
         x1: &mut [[u8; 64]],
         x2: &mut [[u8; 64]],
         x3: &mut [[u8; 64]],
-        log_m02: GfElement,
-        log_m01: GfElement,
-        log_m23: GfElement,
+        logs: ThreeLogarithms,
     )
         requires one { length x0.old ≡ length x1.old }
         requires two { length x0.old ≡ length x2.old }
         requires three { length x0.old ≡ length x3.old }
         ensures { (k : ℕ) → k < length x0.old
-            → IsBackwardTwoLayers log_m02 log_m01 log_m23 (chunk x0.old k) (chunk x1.old k) (chunk x2.old k) (chunk x3.old k)
+            → IsBackwardTwoLayers logs.log_m02 logs.log_m01 logs.log_m23 (chunk x0.old k) (chunk x1.old k) (chunk x2.old k) (chunk x3.old k)
             (chunk x0.new k) (chunk x1.new k) (chunk x2.new k) (chunk x3.new k) }
     {
-        self.ifft_butterfly(x0, x1, log_m01);
-        self.ifft_butterfly(x2, x3, log_m23);
-        self.ifft_butterfly(x0, x2, log_m02);
-        self.ifft_butterfly(x1, x3, log_m02);
+        self.ifft_butterfly(x0, x1, logs.log_m01);
+        self.ifft_butterfly(x2, x3, logs.log_m23);
+        self.ifft_butterfly(x0, x2, logs.log_m02);
+        self.ifft_butterfly(x1, x3, logs.log_m02);
     }
 
     /// Multiplies every symbol of every chunk of a row by the generator to the power `log_m`; 65535 is the factor one.

@@ -2,7 +2,7 @@
 ghost use Rattle.std.specs.Prelude.{◌≡◌, ◌+◌, ◌*◌, ◌%◌, ◌^◌, ◌<◌, IfOk, IfErr, ℕ};
 ghost use Rattle.rs_field.specs.Field.{product, power};
 ghost use Rattle.rs_field.specs.Tables.{IsExpLog, IsLog, IsLogWalsh, IsSkew};
-ghost use Rattle.rs_field.specs.Products.{byte_at, IsMul16, IsMul128};
+ghost use Rattle.rs_field.specs.Products.{IsMul16, IsMul128};
 
 use super::fwht::fwht;
 use super::{GF_MODULUS, GF_ORDER, GfElement, Steps, mul16, mul128, powers};
@@ -116,15 +116,6 @@ pub fn get_mul128(tables: &Tables) -> Mul128<'_>
     ensures { IsMul128 result.now }
 {
     tables.mul128.as_slice()
-}
-
-/// Byte `at`, from 0 to 15, of a number of `Multiply128lutT`, the lowest first.
-#[inline(always)]
-pub fn byte(t: u128, at: u32) -> u8
-    requires { at < 16 }
-    ensures { result ≡ byte_at t at }
-{
-    ((t >> (8 * at)) & 255) as u8
 }
 
 /// `x` times the generator to the power `log_m`; 65535 is the factor one. The tables are those of an `ExpLog`.

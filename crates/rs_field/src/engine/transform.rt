@@ -6,13 +6,14 @@
 ghost use Rattle.std.specs.Prelude.{◌≡◌, ℕ, ◌+◌, ◌%◌, ◌^◌, ◌<◌, ◌≤◌, length, slice_index};
 ghost use Rattle.rs_field.specs.Transform.{forward};
 ghost use Rattle.rs_field.specs.Tables.{IsSkew};
+ghost use Rattle.rs_field.specs.Directions.{IsTransform};
 ghost use Rattle.rs_field.specs.Rows.{chunk, symbol};
 ghost use Rattle.rs_field.specs.View.{word, Fits, SameShape, SameRowsOutside, AreZero};
 ghost use Rattle.rs_field.specs.Bounds.{TransformCounts};
 ghost use Rattle.rs_field.specs.Inverse.{TransformsAreInverse};
 
 use super::kernel::Kernel;
-use super::layers::{backward_layers, forward_layers, part_rows};
+use super::layers::{Direction, layers, part_rows};
 use super::tables::Skew;
 use super::{ShardsRefMut, Steps};
 
@@ -35,8 +36,9 @@ fn bytes_are_small(bytes: &[u8])
     ensures { (j : ℕ) → slice_index bytes.now j < 256 }
 {}
 
-// The forward transform of two or four rows: the layers leave parts of one row, and there is no more to do.
-fn forward_few<K: Kernel>(
+// The transform of two or four rows: the layers leave parts of one row, and there is no more to do.
+fn transform_few<K: Kernel>(
+    direction: Direction,
     kernel: &K,
     skew: Skew<'_>,
     steps: &mut Steps,
@@ -55,11 +57,12 @@ fn forward_few<K: Kernel>(
     requires points { skew_delta + size ≤ 65536 }
     ensures shape { SameShape rows.old rows.new }
     ensures others { SameRowsOutside pos (pos + size) rows.old rows.new }
-    ensures values { (k s i : ℕ) → k < rows.old.shard_len_64 → s < 32 → i < size
-        → word rows.new k s (pos + i) ≡ forward size skew_delta (λ q. word rows.old k s (pos + q)) i }
+    ensures values { (k s : ℕ) → k < rows.old.shard_len_64 → s < 32
+        → IsTransform direction size skew_delta (λ q. word rows.old k s (pos + q)) (λ q. word rows.new k s (pos + q)) }
     ensures counts { TransformCounts size steps.old steps.new }
 {
-    forward_layers(kernel, skew, steps, rows, pos, size, skew_delta);
+    row_symbols_are_words(rows);
+    layers(direction, kernel, skew, steps, rows, pos, size, skew_delta);
     row_symbols_are_words(rows);
 }
 
@@ -96,10 +99,28 @@ pub fn fft<K: Kernel>(
     if size == 1 {
         row_symbols_are_words(rows);
     } else if size <= 4 {
-        forward_few(kernel, skew, steps, rows, pos, size, skew_delta);
+        transform_few(
+            Direction::Forward,
+            kernel,
+            skew,
+            steps,
+            rows,
+            pos,
+            size,
+            skew_delta,
+        );
     } else if truncated_size > 0 {
         let part = part_rows(size);
-        forward_layers(kernel, skew, steps, rows, pos, size, skew_delta);
+        layers(
+            Direction::Forward,
+            kernel,
+            skew,
+            steps,
+            rows,
+            pos,
+            size,
+            skew_delta,
+        );
         for j in 0..truncated_size.div_ceil(part) {
             let start = j * part;
             let wanted = part.min(truncated_size - start);
@@ -115,34 +136,6 @@ pub fn fft<K: Kernel>(
             );
         }
     }
-}
-
-// The backward transform of two or four rows.
-fn backward_few<K: Kernel>(
-    kernel: &K,
-    skew: Skew<'_>,
-    steps: &mut Steps,
-    rows: &mut ShardsRefMut<'_>,
-    pos: usize,
-    size: usize,
-    skew_delta: usize,
-)
-    requires skew { IsSkew skew.now }
-    requires fits { Fits rows.old }
-    requires power { (d : ℕ) × (size ≡ 2 ^ d) }
-    requires large { 1 < size }
-    requires few { size ≤ 4 }
-    requires within { pos + size ≤ rows.old.shard_count }
-    requires shift { skew_delta % size ≡ 0 }
-    requires points { skew_delta + size ≤ 65536 }
-    ensures shape { SameShape rows.old rows.new }
-    ensures others { SameRowsOutside pos (pos + size) rows.old rows.new }
-    ensures values { (k s i : ℕ) → k < rows.old.shard_len_64 → s < 32 → i < size
-        → word rows.old k s (pos + i) ≡ forward size skew_delta (λ q. word rows.new k s (pos + q)) i }
-    ensures counts { TransformCounts size steps.old steps.new }
-{
-    row_symbols_are_words(rows);
-    backward_layers(kernel, skew, steps, rows, pos, size, skew_delta);
 }
 
 /// The backward transform of the `size` rows from `pos` on, at `skew_delta`, by an engine's butterflies.
@@ -179,7 +172,16 @@ pub fn ifft<K: Kernel>(
     if size == 1 {
         row_symbols_are_words(rows);
     } else if size <= 4 {
-        backward_few(kernel, skew, steps, rows, pos, size, skew_delta);
+        transform_few(
+            Direction::Backward,
+            kernel,
+            skew,
+            steps,
+            rows,
+            pos,
+            size,
+            skew_delta,
+        );
     } else if truncated_size > 0 {
         let part = part_rows(size);
         for j in 0..truncated_size.div_ceil(part) {
@@ -196,7 +198,16 @@ pub fn ifft<K: Kernel>(
                 skew_delta + start,
             );
         }
-        backward_layers(kernel, skew, steps, rows, pos, size, skew_delta);
+        layers(
+            Direction::Backward,
+            kernel,
+            skew,
+            steps,
+            rows,
+            pos,
+            size,
+            skew_delta,
+        );
     }
 }
 

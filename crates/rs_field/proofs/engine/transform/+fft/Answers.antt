@@ -18,15 +18,15 @@ pub loop-j-init : goal.loop-j-init
 loop-j-init g t c =
     let size = c.args.size in
     let n = c.part_rows-part.result in
-    let layers = c.forward_layers.ensures in
+    let layers = c.layers.ensures in
     record {
       done =
-          forward_begun size n c.args.skew_delta c.args.pos c.args.truncated_size c.args.rows.now c.forward_layers.new.rows layers.shape layers.others
-          (λ k s hk hs. subst (λ (m : ℕ). ArePartsOf size m c.args.skew_delta (λ q. word c.args.rows.now k s (c.args.pos + q)) (λ q. word c.forward_layers.new.rows k s (c.args.pos + q)))
+          forward_begun size n c.args.skew_delta c.args.pos c.args.truncated_size c.args.rows.now c.layers.new.rows layers.shape layers.others
+          (λ k s hk hs. subst (λ (m : ℕ). ArePartsOf size m c.args.skew_delta (λ q. word c.args.rows.now k s (c.args.pos + q)) (λ q. word c.layers.new.rows k s (c.args.pos + q)))
           (sym c.part_rows-part.ensures) (layers.parts k s hk hs));
       counts =
-          counts_within (layer_steps size) (layer_steps size + 0 * transform_steps n) c.args.steps.now c.forward_layers.new.steps (omega arith)
-          (counts_rows (layer_steps size) c.args.steps.now c.forward_layers.new.steps layers.counts);
+          counts_within (layer_steps size) (layer_steps size + 0 * transform_steps n) c.args.steps.now c.layers.new.steps (omega arith)
+          (counts_rows (layer_steps size) c.args.steps.now c.layers.new.steps layers.counts);
     }
 
 pub fft-requires : goal.fft-requires

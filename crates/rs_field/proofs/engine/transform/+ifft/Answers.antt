@@ -82,11 +82,11 @@ loop-j-preserved g t c =
       counts = counts_next 0 (transform_steps n) j c.args.steps.now c.loop-j.steps c.ifft.new.steps c.loop-j.invariant.counts c.ifft.ensures.counts;
     }
 
-pub backward_layers-requires-clause-fits : goal.backward_layers-requires-clause-fits
-backward_layers-requires-clause-fits g t c = fits_kept c.args.rows.now c.loop-j.rows c.loop-j.invariant.done.shape c.requires.fits
+pub layers-requires-clause-fits : goal.layers-requires-clause-fits
+layers-requires-clause-fits g t c = fits_kept c.args.rows.now c.loop-j.rows c.loop-j.invariant.done.shape c.requires.fits
 
-pub backward_layers-requires-clause-within : goal.backward_layers-requires-clause-within
-backward_layers-requires-clause-within g t c = let shape = c.loop-j.invariant.done.shape in let count = shape.count in omega arith
+pub layers-requires-clause-within : goal.layers-requires-clause-within
+layers-requires-clause-within g t c = let shape = c.loop-j.invariant.done.shape in let count = shape.count in omega arith
 
 pub returns-then-size-eq1-clause-values : goal.returns-then-size-eq1-clause-values
 returns-then-size-eq1-clause-values g t c k s i hk hs hi =
@@ -95,14 +95,14 @@ returns-then-size-eq1-clause-values g t c k s i hk hs hi =
 
 pub returns-after-loop-j-clause-shape : goal.returns-after-loop-j-clause-shape
 returns-after-loop-j-clause-shape g t c =
-    shape_then c.args.rows.now c.loop-j.rows c.backward_layers.new.rows c.loop-j.invariant.done.shape c.backward_layers.ensures.shape
+    shape_then c.args.rows.now c.loop-j.rows c.layers.new.rows c.loop-j.invariant.done.shape c.layers.ensures.shape
 
 pub returns-after-loop-j-clause-others : goal.returns-after-loop-j-clause-others
 returns-after-loop-j-clause-others g t c =
     let pos = c.args.pos in
     let size = c.args.size in
-    outside_both pos (pos + size) pos (pos + size) pos (pos + size) c.args.rows.now c.loop-j.rows c.backward_layers.new.rows
-    c.loop-j.invariant.done.shape c.loop-j.invariant.done.others c.backward_layers.ensures.others (omega arith) (omega arith) (omega arith) (omega arith)
+    outside_both pos (pos + size) pos (pos + size) pos (pos + size) c.args.rows.now c.loop-j.rows c.layers.new.rows
+    c.loop-j.invariant.done.shape c.loop-j.invariant.done.others c.layers.ensures.others (omega arith) (omega arith) (omega arith) (omega arith)
 
 pub returns-after-loop-j-clause-values : goal.returns-after-loop-j-clause-values
 returns-after-loop-j-clause-values g t c k s i hk hs hi =
@@ -115,10 +115,10 @@ returns-after-loop-j-clause-values g t c k s i hk hs hi =
     let past = c.loop-j-test.false in
     let last : c.loop-j.j ≡ c.div_ceil-j-end.result = omega arith in
     let len = c.loop-j.invariant.done.shape.len_64 in
-    backward_whole size n c.args.skew_delta pos c.args.truncated_size c.loop-j.j k s i c.args.rows.now c.loop-j.rows c.backward_layers.new.rows part
+    backward_whole size n c.args.skew_delta pos c.args.truncated_size c.loop-j.j k s i c.args.rows.now c.loop-j.rows c.layers.new.rows part
     (subst (λ (m : ℕ). c.args.truncated_size ≤ m * n) (sym last) all) c.requires.tail c.loop-j.invariant.done
-    (subst (λ (m : ℕ). ArePartsOf size m c.args.skew_delta (λ q. word c.backward_layers.new.rows k s (pos + q)) (λ q. word c.loop-j.rows k s (pos + q)))
-    (sym c.part_rows-part.ensures) (c.backward_layers.ensures.parts k s (omega (arith, len, hk)) hs)) hk hs hi
+    (subst (λ (m : ℕ). ArePartsOf size m c.args.skew_delta (λ q. word c.layers.new.rows k s (pos + q)) (λ q. word c.loop-j.rows k s (pos + q)))
+    (sym c.part_rows-part.ensures) (c.layers.ensures.parts k s (omega (arith, len, hk)) hs)) hk hs hi
 
 pub returns-after-loop-j-clause-counts : goal.returns-after-loop-j-clause-counts
 returns-after-loop-j-clause-counts g t c =
@@ -126,13 +126,13 @@ returns-after-loop-j-clause-counts g t c =
     let n = c.part_rows-part.result in
     let old = c.args.steps.now in
     let mid = c.loop-j.steps in
-    let new = c.backward_layers.new.steps in
+    let new = c.layers.new.steps in
     let part = part_found size n c.args.skew_delta c.part_rows-part.ensures c.if-size-eq1.false c.requires.power c.requires.points in
     let few = parts_most size n c.args.truncated_size c.div_ceil-j-end.result part c.requires.truncated c.div_ceil-j-end.ensures in
     let parts = 0 + c.loop-j.j * transform_steps n in
     counts_of_parts size n c.loop-j.j old new part (let end = c.loop-j.auto.j-end in omega (arith, few, end))
     (counts_within (parts + layer_steps size) (layer_steps size + c.loop-j.j * transform_steps n) old new (omega arith)
-    (counts_then parts (layer_steps size) old mid new c.loop-j.invariant.counts (counts_rows (layer_steps size) mid new c.backward_layers.ensures.counts)))
+    (counts_then parts (layer_steps size) old mid new c.loop-j.invariant.counts (counts_rows (layer_steps size) mid new c.layers.ensures.counts)))
 
 pub returns-else-truncated_size-gt0-clause-values : goal.returns-else-truncated_size-gt0-clause-values
 returns-else-truncated_size-gt0-clause-values g t c k s i hk hs hi =

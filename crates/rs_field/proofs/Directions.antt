@@ -1,0 +1,39 @@
+-- The layers of a transform and the transform of few rows, in both directions.
+use Rattle.std.proofs.Common.{◌≡◌, ℕ, ◌+◌, ◌-◌, ◌*◌, ◌%◌, ◌^◌, ◌<◌, ◌≤◌, List, get_or}
+use Rattle.rs_field.specs.declared.engine.layers.Direction.{Direction}
+use Rattle.rs_field.specs.declared.engine.shards.ShardsRefMut.{ShardsRefMut}
+use Rattle.rs_field.specs.Tables.{IsSkew}
+use Rattle.rs_field.specs.Layers.{rows_of_part}
+use Rattle.rs_field.specs.Directions.{IsButterfly, AreTwoLayers, AreLayers, IsTransform}
+use Rattle.rs_field.specs.View.{cell, word}
+use Rattle.rs_field.proofs.Layers.{IsBlock, backward_undone, four_rows, pair_undone, two_rows}
+use Rattle.rs_field.proofs.PartLoops.{single_rows}
+
+-- the one layer of two rows
+pub layer_of_two : (direction : Direction) (skew : List ℕ) (shift pos k s : ℕ) (old new : ShardsRefMut) → IsSkew skew → shift % 2 ≡ 0 → shift + 2 ≤ 65536 → s < 32
+    → IsButterfly direction (get_or skew shift 0) (cell old k (pos + 0)) (cell old k (pos + 1 + 0)) (cell new k (pos + 0)) (cell new k (pos + 1 + 0))
+    → AreLayers direction 2 1 shift (λ q. word old k s (pos + q)) (λ q. word new k s (pos + q))
+layer_of_two Direction.Forward skew shift pos k s old new table aligned points hs pair =
+    two_rows skew shift pos (word old k s) (word new k s) table aligned points (pair s hs)
+layer_of_two Direction.Backward skew shift pos k s old new table aligned points hs pair =
+    two_rows skew shift pos (word new k s) (word old k s) table aligned points (pair_undone _ _ _ _ _ (pair s hs))
+
+-- two layers of more rows
+pub layers_of_four : (direction : Direction) (skew : List ℕ) (n shift pos k s : ℕ) (old new : ShardsRefMut) → IsBlock skew (4 * n) shift → s < 32
+    → ((q : ℕ) → q < n → AreTwoLayers direction (get_or skew (shift + 2 * n - 1) 0) (get_or skew (shift + n - 1) 0) (get_or skew (shift + 2 * n + n - 1) 0)
+    (cell old k (pos + q)) (cell old k (pos + n + q)) (cell old k (pos + 2 * n + q)) (cell old k (pos + 3 * n + q))
+    (cell new k (pos + q)) (cell new k (pos + n + q)) (cell new k (pos + 2 * n + q)) (cell new k (pos + 3 * n + q)))
+    → AreLayers direction (4 * n) n shift (λ q. word old k s (pos + q)) (λ q. word new k s (pos + q))
+layers_of_four Direction.Forward skew n shift pos k s old new block hs fours =
+    four_rows skew n shift pos (word old k s) (word new k s) block (λ q hq. fours q hq s hs)
+layers_of_four Direction.Backward skew n shift pos k s old new block hs fours =
+    four_rows skew n shift pos (word new k s) (word old k s) block (λ q hq. backward_undone _ _ _ _ _ _ _ _ _ _ _ (fours q hq s hs))
+
+-- the layers leave single rows, so they are the whole transform
+pub layers_of_few : (direction : Direction) (size shift : ℕ) (old new : ℕ → ℕ) → 1 < size → size ≤ 4 → (d : ℕ) × (size ≡ 2 ^ d)
+    → ((i : ℕ) → i < size → old i < 65536) → ((i : ℕ) → i < size → new i < 65536)
+    → AreLayers direction size (rows_of_part size) shift old new → IsTransform direction size shift old new
+layers_of_few Direction.Forward size shift old new large few power old_words new_words parts = λ i hi.
+    single_rows size shift i old new large few power parts hi (new_words i hi)
+layers_of_few Direction.Backward size shift old new large few power old_words new_words parts = λ i hi.
+    single_rows size shift i new old large few power parts hi (old_words i hi)
