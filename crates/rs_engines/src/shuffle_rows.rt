@@ -10,7 +10,7 @@ ghost use Rattle.rs_engines.specs.Factors.{log_of};
 use crate::any_factor::AnyFactor;
 use crate::byte_vector::ByteVector;
 use crate::directions::Direction;
-use crate::factors::{Factor, ThreeFactors};
+use crate::factors::{Factor, General, Small, ThreeFactors};
 use crate::shuffle_chunks::{four_chunks, mul_chunk, two_chunks};
 use rs_field::engine::tables::Multiply128lutT;
 
@@ -25,6 +25,7 @@ pub fn mul_row<V: ByteVector>(x: &mut [[u8; 64]], factor: &Multiply128lutT)
 }
 
 // The butterfly of two rows by a factor of this class.
+#[inline(always)]
 fn two_rows<V: ByteVector, D: Direction, F: Factor>(
     x0: &mut [[u8; 64]],
     x1: &mut [[u8; 64]],
@@ -60,6 +61,17 @@ fn four_rows<V: ByteVector, D: Direction, F02: Factor, F01: Factor, F23: Factor>
     }
 }
 
+// A copy of the products of a factor. No chunk shares memory with it, so a loop over chunks loads its vectors once.
+#[inline(always)]
+fn copied(products: &Multiply128lutT) -> Multiply128lutT
+    ensures { result ≡ products.now }
+{
+    Multiply128lutT {
+        lo: products.lo,
+        hi: products.hi,
+    }
+}
+
 /// The butterfly of two rows.
 #[inline(always)]
 pub fn one_layer<V: ByteVector, D: Direction>(
@@ -73,8 +85,14 @@ pub fn one_layer<V: ByteVector, D: Direction>(
 {
     match factor {
         AnyFactor::Zero(factor) => two_rows::<V, D, _>(x0, x1, factor),
-        AnyFactor::Small(factor) => two_rows::<V, D, _>(x0, x1, factor),
-        AnyFactor::General(factor) => two_rows::<V, D, _>(x0, x1, factor),
+        AnyFactor::Small(Small { log_m, products }) => {
+            let products = &copied(products);
+            two_rows::<V, D, _>(x0, x1, Small { log_m, products })
+        }
+        AnyFactor::General(General { log_m, products }) => {
+            let products = &copied(products);
+            two_rows::<V, D, _>(x0, x1, General { log_m, products })
+        }
     }
 }
 
