@@ -61,8 +61,8 @@ pub trait Coder {
         Ok(())
     }
 
-    /// Whether all calls that look at counts or at a configuration without an object, and those that make one and that
-    /// `start` doesn't make, agree with what an object answers; not where there are none.
+    /// Whether all further calls that take counts or a configuration, as `supports`, `validate` and the objects' own `new`,
+    /// agree with what `start` answers; not where there are none.
     fn tells(&self, _configuration: Configuration, _answer: Answer) -> bool {
         false
     }

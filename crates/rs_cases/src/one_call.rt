@@ -13,6 +13,7 @@ pub struct OneCall<'t> {
     engine: DefaultEngine<'t>,
     configuration: Configuration,
     // What the iterators give; they end once where there is no shard.
+    next: Vec<Option<Item>>,
     original: Vec<Option<Item>>,
     recovery: Vec<Option<Item>>,
 }
@@ -24,15 +25,17 @@ impl<'t> OneCall<'t> {
             alloc,
             engine,
             configuration: (1, 1, 2),
+            next: Vec::new(alloc),
             original: Vec::new(alloc),
             recovery: Vec::new(alloc),
         }
     }
 
-    // What is given as this.
+    // What is given in this role.
     fn given(&mut self, role: Role) -> &mut Vec<Option<Item>> {
         match role {
-            Role::Next | Role::Original => &mut self.original,
+            Role::Next => &mut self.next,
+            Role::Original => &mut self.original,
             Role::Recovery => &mut self.recovery,
         }
     }
@@ -45,6 +48,7 @@ impl Coder for OneCall<'_> {
 
     fn reset(&mut self, _side: Side, configuration: Configuration) -> Answer {
         self.configuration = configuration;
+        self.next.clear();
         self.original.clear();
         self.recovery.clear();
         Ok(())
@@ -63,13 +67,13 @@ impl Coder for OneCall<'_> {
 
     fn encode(&mut self, kept: &mut Kept) -> Answer {
         let (k, r, _) = self.configuration;
-        let mut places = self.original.iter();
+        let mut places = self.next.iter();
         let shards = places.by_ref().map_while(lent).map(|item| item.1);
         let watch = Watch::new(self.alloc);
         let answer = encode(self.alloc, k, r, shards, self.engine);
         drop(watch);
         kept.left = (places.len(), 0);
-        self.original.clear();
+        self.next.clear();
         kept.recovery.clear();
         for item in answer?.into_iter().enumerate() {
             kept.recovery.push(item)?;

@@ -20,13 +20,11 @@ pub struct Rated<E: Engine, R: Rate<E>> {
 impl<E: Engine + Copy, R: Rate<E>> Rated<E, R> {
     /// Objects of one original and one recovery shard of two bytes.
     pub fn new(alloc: Global, engine: E) -> Result<Rated<E, R>, Error> {
-        let encoder = R::RateEncoder::new(alloc, 1, 1, 2, engine, None)?;
-        let decoder = R::RateDecoder::new(alloc, 1, 1, 2, engine, None)?;
         Ok(Rated {
             alloc,
             engine,
-            encoder,
-            decoder,
+            encoder: R::RateEncoder::new(alloc, 1, 1, 2, engine, None)?,
+            decoder: R::RateDecoder::new(alloc, 1, 1, 2, engine, None)?,
         })
     }
 }
@@ -79,13 +77,9 @@ impl<E: Engine + Copy, R: Rate<E>> Coder for Rated<E, R> {
     }
 
     fn take_parts(&mut self, parts: &mut Parts) -> Answer {
-        let Rated {
-            encoder,
-            decoder,
-            ..
-        } = mem::replace(self, Rated::new(self.alloc, self.engine)?);
-        parts.encoder = Some(encoder.into_parts().1);
-        parts.decoder = Some(decoder.into_parts().1);
+        let taken = mem::replace(self, Rated::new(self.alloc, self.engine)?);
+        parts.encoder = Some(taken.encoder.into_parts().1);
+        parts.decoder = Some(taken.decoder.into_parts().1);
         Ok(())
     }
 
