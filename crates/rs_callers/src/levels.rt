@@ -20,13 +20,9 @@ pub fn in_one_call(alloc: Global) -> Result<bool, Error> {
     let original = [(1, ORIGINAL[1])].into_iter();
     let restored = reed_solomon_simd::decode(alloc, 3, 2, original, received, engine)?;
 
-    let first = restored
-        .get(&0)
-        .is_some_and(|shard| shard.as_slice() == ORIGINAL[0]);
-    let last = restored
-        .get(&2)
-        .is_some_and(|shard| shard.as_slice() == ORIGINAL[2]);
-    Ok(restored.len() == 2 && first && last)
+    let first = restored.get(&0).map(|shard| shard.as_slice());
+    let last = restored.get(&2).map(|shard| shard.as_slice());
+    Ok(restored.len() == 2 && first == Some(ORIGINAL[0]) && last == Some(ORIGINAL[2]))
 }
 
 /// By objects. `OutOfMemory` where no memory is found.

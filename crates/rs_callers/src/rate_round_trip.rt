@@ -33,26 +33,12 @@ pub fn round_trip_at_a_rate<E: Engine + Copy, R: Rate<E>>(
         → length originals.now ≤ left_below (length originals.now) lost.now + left_below recovery_count recovery_lost.now
         → IfErr result (λ e. e ≡ Error.OutOfMemory) }
 {
-    let original_count = originals.len();
-    let mut encoder = R::encoder(
-        alloc,
-        original_count,
-        recovery_count,
-        shard_bytes,
-        engine,
-        None,
-    )?;
+    let (k, r) = (originals.len(), recovery_count);
+    let mut encoder = R::encoder(alloc, k, r, shard_bytes, engine, None)?;
     give_all(&mut encoder, originals)?;
     let recovery = encoder.encode(steps)?;
 
-    let mut decoder = R::decoder(
-        alloc,
-        original_count,
-        recovery_count,
-        shard_bytes,
-        engine,
-        None,
-    )?;
+    let mut decoder = R::decoder(alloc, k, r, shard_bytes, engine, None)?;
     give_kept(&mut decoder, originals, lost)?;
     give_received(&mut decoder, &recovery, recovery_lost)?;
     let restored = decoder.decode(steps)?;

@@ -33,9 +33,9 @@ pub fn round_trip_in_one_call(
         → length originals.now ≤ left_below (length originals.now) lost.now + left_below recovery_count recovery_lost.now
         → IfErr result (λ e. e ≡ Error.OutOfMemory) }
 {
-    let original_count = originals.len();
+    let (k, r) = (originals.len(), recovery_count);
     let shards = originals.iter().map(|shard| shard.as_slice());
-    let recovery = encode(alloc, original_count, recovery_count, shards, engine)?;
+    let recovery = encode(alloc, k, r, shards, engine)?;
 
     let kept = originals
         .iter()
@@ -47,14 +47,7 @@ pub fn round_trip_in_one_call(
         .map(|shard| shard.as_slice())
         .enumerate()
         .filter(|item| !recovery_lost.contains(&item.0));
-    decode(
-        alloc,
-        original_count,
-        recovery_count,
-        kept,
-        received,
-        engine,
-    )
+    decode(alloc, k, r, kept, received, engine)
 }
 
 /// Codes the originals by a plain encoder, loses the originals and the recovery shards of these indexes, and restores
@@ -75,24 +68,12 @@ pub fn round_trip_by_plain_objects(
         → length originals.now ≤ left_below (length originals.now) lost.now + left_below recovery_count recovery_lost.now
         → IfErr result (λ e. e ≡ Error.OutOfMemory) }
 {
-    let original_count = originals.len();
-    let mut encoder = ReedSolomonEncoder::new(
-        alloc,
-        original_count,
-        recovery_count,
-        shard_bytes,
-        engine,
-    )?;
+    let (k, r) = (originals.len(), recovery_count);
+    let mut encoder = ReedSolomonEncoder::new(alloc, k, r, shard_bytes, engine)?;
     give_all(&mut encoder, originals)?;
     let recovery = encoder.encode()?;
 
-    let mut decoder = ReedSolomonDecoder::new(
-        alloc,
-        original_count,
-        recovery_count,
-        shard_bytes,
-        engine,
-    )?;
+    let mut decoder = ReedSolomonDecoder::new(alloc, k, r, shard_bytes, engine)?;
     give_kept(&mut decoder, originals, lost)?;
     give_received(&mut decoder, &recovery, recovery_lost)?;
     let restored = decoder.decode()?;

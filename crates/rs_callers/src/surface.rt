@@ -1,6 +1,6 @@
 //! Every public path of the library, each used at its type: where a name stood for another item, this file would not
 //! compile or not be proved.
-ghost use Rattle.std.specs.Prelude.{◌≡◌, ℕ, ◌<◌, ◌≤◌, length, bit_xor, false};
+ghost use Rattle.std.specs.Prelude.{◌≡◌, ℕ, ◌<◌, ◌≤◌, [], ◌∷◌, length, bit_xor, false};
 ghost use Rattle.reed_solomon_simd.specs.Counts.{low_rate, high_rate, default_rate};
 ghost use Rattle.reed_solomon_simd.specs.Field.{product, power};
 ghost use Rattle.reed_solomon_simd.specs.Kind.{kind_of};
@@ -36,13 +36,8 @@ use std::collections::BTreeMap;
 pub fn constants() -> (usize, usize, GfElement, usize, GfElement)
     ensures { result ≡ (16, 65536, 65535, 0x1002D, 1) }
 {
-    (
-        GF_BITS,
-        GF_ORDER,
-        GF_MODULUS,
-        GF_POLYNOMIAL,
-        CANTOR_BASIS[0],
-    )
+    let first = CANTOR_BASIS[0];
+    (GF_BITS, GF_ORDER, GF_MODULUS, GF_POLYNOMIAL, first)
 }
 
 /// The tables that transforms and locators read.
@@ -104,18 +99,11 @@ pub fn chosen<'t>(
     no_simd: NoSimd<'t>,
     avx2: Avx2<'t>,
     ssse3: Ssse3<'t>,
-) -> (
-    DefaultEngine<'t>,
-    DefaultEngine<'t>,
-    DefaultEngine<'t>,
-    DefaultEngine<'t>,
-)
-    ensures naive { result.0 ≡ DefaultEngine.Naive naive.entry }
-    ensures no_simd { result.1 ≡ DefaultEngine.NoSimd no_simd.entry }
-    ensures avx2 { result.2 ≡ DefaultEngine.Avx2 avx2.entry }
-    ensures ssse3 { result.3 ≡ DefaultEngine.Ssse3 ssse3.entry }
+) -> [DefaultEngine<'t>; 4]
+    ensures { result ≡ DefaultEngine.Naive naive.entry ∷ DefaultEngine.NoSimd no_simd.entry
+        ∷ DefaultEngine.Avx2 avx2.entry ∷ DefaultEngine.Ssse3 ssse3.entry ∷ [] }
 {
-    (naive.into(), no_simd.into(), avx2.into(), ssse3.into())
+    [naive.into(), no_simd.into(), avx2.into(), ssse3.into()]
 }
 
 /// The engine of a kind.

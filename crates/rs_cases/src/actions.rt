@@ -8,18 +8,20 @@ use reed_solomon_simd::rate::{DecoderWork, EncoderWork};
 
 /// Does an action of a coder. Answers the text of what comes, empty where nothing does; a refusal is the error.
 pub fn do_action<C: Coder>(coder: &mut C, kept: &mut Kept, action: &str) -> Result<String> {
-    let word = action.split_whitespace().next().unwrap_or("");
-    let side = side_of(word);
-    match word {
+    let side = side_of(action);
+    match name_of(action) {
         "encoder" | "decoder" => coder.start(side, configuration_of(action)?, &mut kept.parts)?,
         "reset-encoder" | "reset-decoder" => coder.reset(side, configuration_of(action)?)?,
         "parts" => coder.take_parts(&mut kept.parts)?,
-        "empty-parts" => kept.parts = empty_parts(),
+        "empty-parts" => {
+            kept.parts.encoder = Some(EncoderWork::default());
+            kept.parts.decoder = Some(DecoderWork::default());
+        }
         "give" => give_from(coder, kept, action, 1)?,
-        "code" | "restore" => return round(coder, kept, action, 1, side),
+        "code" | "restore" => return round(coder, kept, action, 1),
         "encode" | "decode" => return run(coder, kept, side),
         "forget" => kept.forgets = true,
-        "encodes" | "decodes" => return repeat_round(coder, kept, action, side),
+        "encodes" | "decodes" => return repeat_round(coder, kept, action),
         "makes" => make(coder, kept, action)?,
         "digest" => return digest_of(kept.alloc, kept.recovery.as_slice()),
         "supports" => check_counts(coder, action, true)?,
@@ -30,19 +32,16 @@ pub fn do_action<C: Coder>(coder: &mut C, kept: &mut Kept, action: &str) -> Resu
     Ok(String::new(kept.alloc))
 }
 
-// The object that an action of this name is about.
-fn side_of(name: &str) -> Side {
-    match name {
-        "decoder" | "reset-decoder" | "restore" | "decode" | "decodes" => Side::Decoder,
-        _ => Side::Encoder,
-    }
+// The action's first word.
+fn name_of(action: &str) -> &str {
+    action.split_whitespace().next().unwrap_or("")
 }
 
-// Memory that holds nothing.
-fn empty_parts() -> Parts {
-    Parts {
-        encoder: Some(EncoderWork::default()),
-        decoder: Some(DecoderWork::default()),
+// The object that the action is about.
+fn side_of(action: &str) -> Side {
+    match name_of(action) {
+        "decoder" | "reset-decoder" | "restore" | "decode" | "decodes" => Side::Decoder,
+        _ => Side::Encoder,
     }
 }
 
@@ -54,11 +53,8 @@ fn number(word: Option<&str>) -> Result<usize> {
 // The counts and the size behind the action's first word.
 fn configuration_of(action: &str) -> Result<Configuration> {
     let mut words = action.split_whitespace().skip(1);
-    Ok((
-        number(words.next())?,
-        number(words.next())?,
-        number(words.next())?,
-    ))
+    let (k, r) = (number(words.next())?, number(words.next())?);
+    Ok((k, r, number(words.next())?))
 }
 
 // Those of the shards that have the indexes A to B-1, for a range A..B.
@@ -76,20 +72,14 @@ fn give_from<C: Coder>(coder: &mut C, kept: &Kept, action: &str, from: usize) ->
     Ok(())
 }
 
-// Gives the shards of a word: those of the encoder, or those of the decoder behind `o` or `r`.
+// Gives the shards of a word: those of the encoder, or those of the decoder behind `o` or `r`. The rest tells them:
+// I=SHARD, or SHARD alone; @A..B, shards of the message or of those that came last; or `end`.
 fn give_word<C: Coder>(coder: &mut C, kept: &Kept, word: &str) -> Result<()> {
-    if let Some(rest) = word.strip_prefix('o') {
-        give_rest(coder, kept, Role::Original, rest)
-    } else if let Some(rest) = word.strip_prefix('r') {
-        give_rest(coder, kept, Role::Recovery, rest)
-    } else {
-        give_rest(coder, kept, Role::Next, word)
-    }
-}
-
-// The rest of a word tells the shard: I=SHARD, or SHARD alone; @A..B, shards of the message or of those that came last;
-// or `end`.
-fn give_rest<C: Coder>(coder: &mut C, kept: &Kept, role: Role, rest: &str) -> Result<()> {
+    let (role, rest) = match (word.strip_prefix('o'), word.strip_prefix('r')) {
+        (Some(rest), _) => (Role::Original, rest),
+        (_, Some(rest)) => (Role::Recovery, rest),
+        _ => (Role::Next, word),
+    };
     if rest == "end" {
         return Ok(coder.end_once(role)?);
     }
@@ -100,12 +90,16 @@ fn give_rest<C: Coder>(coder: &mut C, kept: &Kept, role: Role, rest: &str) -> Re
         };
         return give_items(coder, role, slice_of(shards, range)?);
     }
-    let (index, text) = match rest.split_once('=') {
-        Some((index, text)) => (index.parse::<usize>()?, text),
-        None => (0, rest),
-    };
-    let shard = shard_of(kept.alloc, text)?;
+    let (index, shard) = item_of(kept, rest, 0)?;
     Ok(coder.give(role, index, shard.as_slice())?)
+}
+
+// The shard of a word I=SHARD; of SHARD alone it has this index.
+fn item_of(kept: &Kept, word: &str, index: usize) -> Result<Item> {
+    Ok(match word.split_once('=') {
+        Some((own, shard)) => (own.parse::<usize>()?, shard_of(kept.alloc, shard)?),
+        None => (index, shard_of(kept.alloc, word)?),
+    })
 }
 
 fn give_items<C: Coder>(coder: &mut C, role: Role, items: &[Item]) -> Result<()> {
@@ -133,44 +127,30 @@ fn run<C: Coder>(coder: &mut C, kept: &mut Kept, side: Side) -> Result<String> {
 }
 
 // Gives the shards of the action's words from so many on, and encodes or decodes.
-fn round<C: Coder>(
-    coder: &mut C,
-    kept: &mut Kept,
-    action: &str,
-    from: usize,
-    side: Side,
-) -> Result<String> {
+fn round<C: Coder>(coder: &mut C, kept: &mut Kept, action: &str, from: usize) -> Result<String> {
     give_from(coder, kept, action, from)?;
-    run(coder, kept, side)
+    run(coder, kept, side_of(action))
 }
 
-// Gets the object for a case in the way that the cases are run in.
-fn obtain<C: Coder>(
-    coder: &mut C,
-    kept: &mut Kept,
-    side: Side,
-    configuration: Configuration,
-) -> Result<(), Error> {
+// Gets the object that the action is about in the way that the cases are run in.
+fn obtain<C: Coder>(coder: &mut C, kept: &mut Kept, action: &str) -> Result<()> {
+    let (side, configuration) = (side_of(action), configuration_of(action)?);
     match kept.way {
-        Way::New => coder.start(side, configuration, &mut Parts::default()),
-        Way::Reset => coder.reset(side, configuration),
+        Way::New => coder.start(side, configuration, &mut Parts::default())?,
+        Way::Reset => coder.reset(side, configuration)?,
         Way::HandedOn => {
             coder.take_parts(&mut kept.parts)?;
-            coder.start(side, configuration, &mut kept.parts)
+            coder.start(side, configuration, &mut kept.parts)?;
         }
     }
+    Ok(())
 }
 
 // The object does the round twice, and is left with the first shard given.
-fn repeat_round<C: Coder>(
-    coder: &mut C,
-    kept: &mut Kept,
-    action: &str,
-    side: Side,
-) -> Result<String> {
-    obtain(coder, kept, side, configuration_of(action)?)?;
-    let first = round(coder, kept, action, 4, side)?;
-    let second = round(coder, kept, action, 4, side)?;
+fn repeat_round<C: Coder>(coder: &mut C, kept: &mut Kept, action: &str) -> Result<String> {
+    obtain(coder, kept, action)?;
+    let first = round(coder, kept, action, 4)?;
+    let second = round(coder, kept, action, 4)?;
     ensure!(first.as_str() == second.as_str(), "then {second}");
     if let Some(word) = action.split_whitespace().nth(4) {
         give_word(coder, kept, word)?;
@@ -180,7 +160,7 @@ fn repeat_round<C: Coder>(
 
 // Encodes a message that a rule makes; both are kept.
 fn make<C: Coder>(coder: &mut C, kept: &mut Kept, action: &str) -> Result<()> {
-    let (k, r, size) = configuration_of(action)?;
+    let (k, _, size) = configuration_of(action)?;
     let mut words = action.split_whitespace().skip(4);
     kept.message = match words.next().unwrap_or("") {
         "counted" => counted(kept.alloc, k, size)?,
@@ -191,7 +171,7 @@ fn make<C: Coder>(coder: &mut C, kept: &mut Kept, action: &str) -> Result<()> {
         "points" => points(kept.alloc, k, number(words.next())?)?,
         _ => bail!("no such rule"),
     };
-    obtain(coder, kept, Side::Encoder, (k, r, size))?;
+    obtain(coder, kept, action)?;
     give_items(coder, Role::Next, kept.message.as_slice())?;
     coder.encode(kept)?;
     ensure!(kept.agrees, "the result differs by index, walk and counts");
@@ -202,15 +182,13 @@ fn make<C: Coder>(coder: &mut C, kept: &mut Kept, action: &str) -> Result<()> {
 fn check_counts<C: Coder>(coder: &C, action: &str, supported: bool) -> Result<()> {
     for pair in action.split_whitespace().skip(1) {
         let (k, r) = pair.split_once('+').context("a pair is K+R")?;
-        let original_count = k.parse::<usize>()?;
-        let recovery_count = r.parse::<usize>()?;
+        let (original_count, recovery_count) = (k.parse::<usize>()?, r.parse::<usize>()?);
         let unsupported = Error::UnsupportedShardCount {
             original_count,
             recovery_count,
         };
         let answer = if supported { Ok(()) } else { Err(unsupported) };
-        let told = coder.supports(original_count, recovery_count, supported)
-            && coder.tells((original_count, recovery_count, 64), answer);
+        let told = coder.tells((original_count, recovery_count, 64), answer);
         ensure!(told, "not {pair}");
     }
     Ok(())
@@ -227,11 +205,8 @@ fn configure<C: Coder>(coder: &mut C, configuration: Configuration) -> Result<()
     ] {
         ensure!(other == answer, "{other:?} and {answer:?}");
     }
-    let Err(refusal) = answer else {
-        bail!("not refused");
-    };
-    let told = coder.refuses_new(configuration, refusal) && coder.tells(configuration, answer);
-    ensure!(told, "not so by `new` and `validate`");
+    ensure!(answer.is_err(), "not refused");
+    ensure!(coder.tells(configuration, answer), "not so by other calls");
     Ok(answer?)
 }
 
@@ -242,14 +217,9 @@ pub fn text_of_expected(kept: &Kept, expected: &str) -> Result<String> {
         if let Some(range) = word.strip_prefix('@') {
             let originals = slice_of(kept.message.as_slice(), range)?;
             write_items(kept.alloc, &mut text, originals)?;
-            continue;
+        } else {
+            write_items(kept.alloc, &mut text, &[item_of(kept, word, place)?])?;
         }
-        let (index, shard) = match word.split_once('=') {
-            Some((index, shard)) => (index.parse::<usize>()?, shard),
-            None => (place, word),
-        };
-        let item = (index, shard_of(kept.alloc, shard)?);
-        write_items(kept.alloc, &mut text, &[item])?;
     }
     Ok(text)
 }

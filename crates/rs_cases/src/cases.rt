@@ -4,7 +4,7 @@ use crate::coders::Coders;
 use crate::kept::{Kept, Way};
 use anyhow::{Context, Result, bail};
 use reed_solomon_simd::engine::Engine;
-use std::alloc::{AllocError, Global};
+use std::alloc::Global;
 
 /// Actions that follow one another, and the coders that they are run by.
 #[derive(Drop)]
@@ -69,37 +69,6 @@ impl<'a> CaseFile<'a> {
         Ok(())
     }
 
-    /// Runs the cases with an engine, in each of the file's ways, and tells how many of them each coder runs.
-    pub fn run<E: Engine + Copy>(
-        &self,
-        alloc: Global,
-        coders: &mut Coders<'_, E>,
-        engine: &str,
-        report: &mut Report,
-    ) -> Result<()> {
-        for name in self.ways.split_whitespace() {
-            self.run_in(alloc, coders, way_of(name)?, report)?;
-        }
-        write!(report.text, "{} with {engine}:", self.name)?;
-        self.write_counts(coders.names, report)?;
-        writeln!(report.text, " of {} cases; {}", self.cases.len(), self.ways)?;
-        Ok(())
-    }
-
-    // Runs the cases in one way.
-    fn run_in<E: Engine + Copy>(
-        &self,
-        alloc: Global,
-        coders: &mut Coders<'_, E>,
-        way: Way,
-        report: &mut Report,
-    ) -> Result<()> {
-        for case in &self.cases {
-            case.run(alloc, coders, way, report)?;
-        }
-        Ok(())
-    }
-
     // Writes how many cases each coder of these names runs.
     fn write_counts(&self, names: &[&str], report: &mut Report) -> Result<()> {
         for name in names {
@@ -115,18 +84,33 @@ impl Case<'_> {
     fn is_by(&self, name: &str) -> bool {
         self.coders.split_whitespace().any(|own| own == name)
     }
+}
+
+impl<E: Engine + Copy> Coders<'_, E> {
+    /// Runs the cases of a file, in each of its ways, and tells how many of them each coder runs.
+    pub fn run(&mut self, file: &CaseFile<'_>, engine: &str, report: &mut Report) -> Result<()> {
+        for name in file.ways.split_whitespace() {
+            self.run_in(way_of(name)?, file, report)?;
+        }
+        write!(report.text, "{} with {engine}:", file.name)?;
+        file.write_counts(self.names, report)?;
+        writeln!(report.text, " of {} cases; {}", file.cases.len(), file.ways)?;
+        Ok(())
+    }
+
+    // Runs the cases in one way.
+    fn run_in(&mut self, way: Way, file: &CaseFile<'_>, report: &mut Report) -> Result<()> {
+        for case in &file.cases {
+            self.run_case(way, case, report)?;
+        }
+        Ok(())
+    }
 
     // Runs the case by each of its coders that is among these.
-    fn run<E: Engine + Copy>(
-        &self,
-        alloc: Global,
-        coders: &mut Coders<'_, E>,
-        way: Way,
-        report: &mut Report,
-    ) -> Result<()> {
-        for name in coders.names {
-            if self.is_by(name) {
-                self.run_by(coders, name, &mut Kept::new(alloc, way), report)?;
+    fn run_case(&mut self, way: Way, case: &Case<'_>, report: &mut Report) -> Result<()> {
+        for name in self.names {
+            if case.is_by(name) {
+                self.run_by(name, way, case, report)?;
             }
         }
         Ok(())
@@ -134,16 +118,11 @@ impl Case<'_> {
 
     // Runs the actions by a coder; an action `by CODER` has the next ones run by another. Where one is refused for want of
     // memory, the case ends with the actions `else` behind it, which are left out otherwise.
-    fn run_by<E: Engine + Copy>(
-        &self,
-        coders: &mut Coders<'_, E>,
-        coder: &str,
-        kept: &mut Kept,
-        report: &mut Report,
-    ) -> Result<(), AllocError> {
-        let mut coder = coder;
+    fn run_by(&mut self, name: &str, way: Way, case: &Case<'_>, report: &mut Report) -> Result<()> {
+        let mut kept = Kept::new(self.alloc, way);
+        let mut coder = name;
         let mut lacking = false;
-        for action in &self.actions {
+        for action in &case.actions {
             if let Some(next) = action.strip_prefix("by ") {
                 coder = next;
                 continue;
@@ -154,10 +133,10 @@ impl Case<'_> {
                 (_, other) => other.unwrap_or(*action),
             };
             let (action, expected) = action.split_once("->").unwrap_or((action, ""));
-            let answer = coders.answer_by(coder, kept, action)?;
-            if !is_expected(kept, answer.as_str(), expected.trim()) {
+            let answer = self.answer_by(coder, &mut kept, action)?;
+            if !is_expected(&kept, answer.as_str(), expected.trim()) {
                 lacking = lacking || answer.as_str() == "out of memory";
-                let (line, way) = (self.line, kept.way);
+                let line = case.line;
                 writeln!(report.text, "{line}, {coder}, {way:?}: {action}->{answer}")?;
                 report.differing = report.differing.saturating_add(1);
             }
@@ -178,11 +157,6 @@ fn way_of(name: &str) -> Result<Way> {
 
 // Whether the answer is this text, or that of these shards.
 fn is_expected(kept: &Kept, answer: &str, expected: &str) -> bool {
-    if answer.trim() == expected {
-        return true;
-    }
-    match text_of_expected(kept, expected) {
-        Ok(text) => text.as_str() == answer,
-        Err(_) => false,
-    }
+    answer.trim() == expected
+        || text_of_expected(kept, expected).is_ok_and(|text| text.as_str() == answer)
 }

@@ -6,6 +6,9 @@ use reed_solomon_simd::rate::{DecoderWork, EncoderWork};
 /// The counts of originals and of recovery shards, and the size in bytes, that an object is made for.
 pub type Configuration = (usize, usize, usize);
 
+/// That a call is done, or why the library refuses it.
+pub type Answer = Result<(), Error>;
+
 /// Which of a coder's two objects.
 #[derive(Clone, Copy)]
 pub enum Side {
@@ -34,48 +37,33 @@ pub struct Parts {
 /// An encoder and a decoder of one level of use.
 pub trait Coder {
     /// Makes the object anew: over the memory of an earlier one where that was taken, else over none.
-    fn start(
-        &mut self,
-        side: Side,
-        configuration: Configuration,
-        parts: &mut Parts,
-    ) -> Result<(), Error>;
+    fn start(&mut self, side: Side, configuration: Configuration, parts: &mut Parts) -> Answer;
 
     /// Resets the object.
-    fn reset(&mut self, side: Side, configuration: Configuration) -> Result<(), Error>;
+    fn reset(&mut self, side: Side, configuration: Configuration) -> Answer;
 
     /// Gives a shard; the index tells nothing where it is the encoder's next.
-    fn give(&mut self, role: Role, index: usize, shard: &[u8]) -> Result<(), Error>;
+    fn give(&mut self, role: Role, index: usize, shard: &[u8]) -> Answer;
 
     /// Codes what was given; what comes is kept.
-    fn encode(&mut self, kept: &mut Kept) -> Result<(), Error>;
+    fn encode(&mut self, kept: &mut Kept) -> Answer;
 
     /// Restores what is missing; what comes is kept.
-    fn decode(&mut self, kept: &mut Kept) -> Result<(), Error>;
+    fn decode(&mut self, kept: &mut Kept) -> Answer;
 
     /// Takes both objects apart, where the coder can, and makes new ones of one original and one recovery shard.
-    fn take_parts(&mut self, _parts: &mut Parts) -> Result<(), Error> {
+    fn take_parts(&mut self, _parts: &mut Parts) -> Answer {
         Ok(())
     }
 
     /// An iterator that the coder hands over ends here once, and goes on if it is asked again.
-    fn end_once(&mut self, _role: Role) -> Result<(), Error> {
+    fn end_once(&mut self, _role: Role) -> Answer {
         Ok(())
     }
 
-    /// Whether all calls that tell whether the counts are supported answer so; not where there are none.
-    fn supports(&self, _k: usize, _r: usize, _supported: bool) -> bool {
+    /// Whether all further calls that take counts or a configuration, as `supports`, `validate` and the objects' own `new`,
+    /// agree with what `start` answers; not where there are none.
+    fn tells(&self, _configuration: Configuration, _answer: Answer) -> bool {
         false
-    }
-
-    /// Whether all calls that look at a configuration without an object agree with what an object answers, if there are
-    /// any.
-    fn tells(&self, _configuration: Configuration, _answer: Result<(), Error>) -> bool {
-        true
-    }
-
-    /// Whether the objects' own calls that make one refuse so, where `start` makes them by other calls.
-    fn refuses_new(&self, _configuration: Configuration, _refusal: Error) -> bool {
-        true
     }
 }

@@ -21,6 +21,7 @@ pub const RATES: &[&str] = &["low", "high", "default"];
 pub struct Coders<'t, E: Engine> {
     /// The names of those that are run.
     pub names: &'static [&'static str],
+    pub alloc: Global,
     call: OneCall<'t>,
     plain: Plain<'t>,
     low: Rated<E, LowRate<E>>,
@@ -38,6 +39,7 @@ impl<'t, E: Engine + Copy> Coders<'t, E> {
     ) -> Result<Coders<'t, E>, Error> {
         Ok(Coders {
             names,
+            alloc,
             call: OneCall::new(alloc, chosen),
             plain: Plain::new(alloc, chosen)?,
             low: Rated::new(alloc, engine)?,

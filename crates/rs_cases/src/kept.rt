@@ -1,7 +1,7 @@
 //! What a case keeps from action to action.
-use crate::coder::Parts;
+use crate::coder::{Answer, Parts};
 use crate::watch::Watch;
-use reed_solomon_simd::{DecoderResult, EncoderResult, Error};
+use reed_solomon_simd::{DecoderResult, EncoderResult};
 use std::alloc::Global;
 use std::mem;
 
@@ -53,7 +53,7 @@ impl Kept {
     }
 
     /// Keeps the recovery shards of a result: it is read under the watch, and copied after it.
-    pub fn keep_recovery(&mut self, lent: EncoderResult<'_>, watch: Watch) -> Result<(), Error> {
+    pub fn keep_recovery(&mut self, lent: EncoderResult<'_>, watch: Watch) -> Answer {
         self.agrees = recovery_agrees(&lent);
         drop(watch);
         self.recovery.clear();
@@ -67,7 +67,7 @@ impl Kept {
     }
 
     /// Keeps the restored originals of a result, in the same way.
-    pub fn keep_restored(&mut self, lent: DecoderResult<'_>, watch: Watch) -> Result<(), Error> {
+    pub fn keep_restored(&mut self, lent: DecoderResult<'_>, watch: Watch) -> Answer {
         self.agrees = restored_agrees(&lent);
         drop(watch);
         self.restored.clear();

@@ -39,8 +39,7 @@ fn run_over_kinds(
         (EngineKind::Ssse3, "ssse3"),
     ] {
         let engine = DefaultEngine::new(tables, kind);
-        let mut coders = Coders::new(alloc, engine, engine, CODERS)?;
-        file.run(alloc, &mut coders, name, report)?;
+        Coders::new(alloc, engine, engine, CODERS)?.run(file, name, report)?;
         if !file.every_engine {
             break;
         }
@@ -58,8 +57,7 @@ fn run_over<E: Engine + Copy>(
     report: &mut Report,
 ) -> Result<()> {
     let idle = DefaultEngine::new(tables, EngineKind::Naive);
-    let mut coders = Coders::new(alloc, engine, idle, RATES)?;
-    file.run(alloc, &mut coders, name, report)
+    Coders::new(alloc, engine, idle, RATES)?.run(file, name, report)
 }
 
 // Runs a file's cases over each engine's own type.

@@ -14,44 +14,21 @@ pub fn shard_of(alloc: Global, text: &str) -> Result<Vec<u8>> {
             Some((digits, times)) => (digits, times.parse::<usize>()?),
             None => (part, 1),
         };
-        let bytes = hex::decode(alloc, digits)?;
-        append(&mut shard, bytes.as_slice(), times)?;
+        let bytes = hex::decode(alloc, digits)?.repeat(alloc, times)?;
+        shard.extend_from_slice(bytes.as_slice())?;
     }
     Ok(shard)
-}
-
-fn append(shard: &mut Vec<u8>, bytes: &[u8], times: usize) -> Result<(), AllocError> {
-    for _ in 0..times {
-        shard.extend_from_slice(bytes)?;
-    }
-    Ok(())
 }
 
 /// So many originals, of which byte i of number j is (7 i + 13 j + 5) mod 251.
 pub fn counted(alloc: Global, count: usize, shard_bytes: usize) -> Result<Vec<Item>, AllocError> {
     let mut shards = Vec::new(alloc);
-    let mut head: u8 = 5;
     for index in 0..count {
-        shards.push((index, counted_shard(alloc, head, shard_bytes)?))?;
-        head = advanced(head, 13);
+        let head = index.wrapping_mul(13).wrapping_add(5);
+        let bytes = (0..shard_bytes).map(|i| (i.wrapping_mul(7).wrapping_add(head) % 251) as u8);
+        shards.push((index, bytes.collect(alloc)?))?;
     }
     Ok(shards)
-}
-
-// The shard that has this byte at its head, and then at each place 7 more modulo 251.
-fn counted_shard(alloc: Global, head: u8, shard_bytes: usize) -> Result<Vec<u8>, AllocError> {
-    let mut shard = Vec::new(alloc);
-    let mut byte = head;
-    for _ in 0..shard_bytes {
-        shard.push(byte)?;
-        byte = advanced(byte, 7);
-    }
-    Ok(shard)
-}
-
-// The sum modulo 251.
-fn advanced(byte: u8, by: u8) -> u8 {
-    ((u16::from(byte) + u16::from(by)) % 251) as u8
 }
 
 /// So many originals of this size, drawn one after another from ChaCha8, whose 32 seed bytes are all `seed`.

@@ -1,5 +1,5 @@
 //! The plain objects.
-use crate::coder::{Coder, Configuration, Parts, Role, Side};
+use crate::coder::{Answer, Coder, Configuration, Parts, Role, Side};
 use crate::kept::Kept;
 use crate::watch::Watch;
 use reed_solomon_simd::engine::DefaultEngine;
@@ -28,12 +28,7 @@ impl<'t> Plain<'t> {
 }
 
 impl Coder for Plain<'_> {
-    fn start(
-        &mut self,
-        side: Side,
-        (k, r, size): Configuration,
-        _parts: &mut Parts,
-    ) -> Result<(), Error> {
+    fn start(&mut self, side: Side, (k, r, size): Configuration, _parts: &mut Parts) -> Answer {
         let (alloc, engine) = (self.alloc, self.engine);
         let _watch = Watch::new(alloc);
         match side {
@@ -43,7 +38,7 @@ impl Coder for Plain<'_> {
         Ok(())
     }
 
-    fn reset(&mut self, side: Side, (k, r, size): Configuration) -> Result<(), Error> {
+    fn reset(&mut self, side: Side, (k, r, size): Configuration) -> Answer {
         let _watch = Watch::new(self.alloc);
         match side {
             Side::Encoder => self.encoder.reset(k, r, size),
@@ -51,7 +46,7 @@ impl Coder for Plain<'_> {
         }
     }
 
-    fn give(&mut self, role: Role, index: usize, shard: &[u8]) -> Result<(), Error> {
+    fn give(&mut self, role: Role, index: usize, shard: &[u8]) -> Answer {
         let _watch = Watch::new(self.alloc);
         match role {
             Role::Next => self.encoder.add_original_shard(shard),
@@ -60,19 +55,20 @@ impl Coder for Plain<'_> {
         }
     }
 
-    fn encode(&mut self, kept: &mut Kept) -> Result<(), Error> {
+    fn encode(&mut self, kept: &mut Kept) -> Answer {
         let watch = Watch::new(self.alloc);
         let lent = self.encoder.encode()?;
         kept.keep_recovery(lent, watch)
     }
 
-    fn decode(&mut self, kept: &mut Kept) -> Result<(), Error> {
+    fn decode(&mut self, kept: &mut Kept) -> Answer {
         let watch = Watch::new(self.alloc);
         let lent = self.decoder.decode()?;
         kept.keep_restored(lent, watch)
     }
 
-    fn supports(&self, k: usize, r: usize, supported: bool) -> bool {
+    fn tells(&self, (k, r, _): Configuration, answer: Answer) -> bool {
+        let supported = !matches!(answer, Err(Error::UnsupportedShardCount { .. }));
         ReedSolomonEncoder::supports(k, r) == supported
             && ReedSolomonDecoder::supports(k, r) == supported
     }

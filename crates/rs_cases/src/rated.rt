@@ -1,5 +1,5 @@
 //! The objects of a rate over an engine.
-use crate::coder::{Coder, Configuration, Parts, Role, Side};
+use crate::coder::{Answer, Coder, Configuration, Parts, Role, Side};
 use crate::kept::Kept;
 use crate::watch::Watch;
 use reed_solomon_simd::Error;
@@ -20,24 +20,17 @@ pub struct Rated<E: Engine, R: Rate<E>> {
 impl<E: Engine + Copy, R: Rate<E>> Rated<E, R> {
     /// Objects of one original and one recovery shard of two bytes.
     pub fn new(alloc: Global, engine: E) -> Result<Rated<E, R>, Error> {
-        let encoder = R::RateEncoder::new(alloc, 1, 1, 2, engine, None)?;
-        let decoder = R::RateDecoder::new(alloc, 1, 1, 2, engine, None)?;
         Ok(Rated {
             alloc,
             engine,
-            encoder,
-            decoder,
+            encoder: R::RateEncoder::new(alloc, 1, 1, 2, engine, None)?,
+            decoder: R::RateDecoder::new(alloc, 1, 1, 2, engine, None)?,
         })
     }
 }
 
 impl<E: Engine + Copy, R: Rate<E>> Coder for Rated<E, R> {
-    fn start(
-        &mut self,
-        side: Side,
-        (k, r, size): Configuration,
-        parts: &mut Parts,
-    ) -> Result<(), Error> {
+    fn start(&mut self, side: Side, (k, r, size): Configuration, parts: &mut Parts) -> Answer {
         let _watch = Watch::new(self.alloc);
         match side {
             Side::Encoder => {
@@ -52,7 +45,7 @@ impl<E: Engine + Copy, R: Rate<E>> Coder for Rated<E, R> {
         Ok(())
     }
 
-    fn reset(&mut self, side: Side, (k, r, size): Configuration) -> Result<(), Error> {
+    fn reset(&mut self, side: Side, (k, r, size): Configuration) -> Answer {
         let _watch = Watch::new(self.alloc);
         match side {
             Side::Encoder => self.encoder.reset(k, r, size),
@@ -60,7 +53,7 @@ impl<E: Engine + Copy, R: Rate<E>> Coder for Rated<E, R> {
         }
     }
 
-    fn give(&mut self, role: Role, index: usize, shard: &[u8]) -> Result<(), Error> {
+    fn give(&mut self, role: Role, index: usize, shard: &[u8]) -> Answer {
         let _watch = Watch::new(self.alloc);
         match role {
             Role::Next => self.encoder.add_original_shard(shard),
@@ -69,50 +62,42 @@ impl<E: Engine + Copy, R: Rate<E>> Coder for Rated<E, R> {
         }
     }
 
-    fn encode(&mut self, kept: &mut Kept) -> Result<(), Error> {
+    fn encode(&mut self, kept: &mut Kept) -> Answer {
         let mut steps = Steps::new();
         let watch = Watch::new(self.alloc);
         let lent = self.encoder.encode(&mut steps)?;
         kept.keep_recovery(lent, watch)
     }
 
-    fn decode(&mut self, kept: &mut Kept) -> Result<(), Error> {
+    fn decode(&mut self, kept: &mut Kept) -> Answer {
         let mut steps = Steps::new();
         let watch = Watch::new(self.alloc);
         let lent = self.decoder.decode(&mut steps)?;
         kept.keep_restored(lent, watch)
     }
 
-    fn take_parts(&mut self, parts: &mut Parts) -> Result<(), Error> {
-        let Rated {
-            encoder,
-            decoder,
-            ..
-        } = mem::replace(self, Rated::new(self.alloc, self.engine)?);
-        parts.encoder = Some(encoder.into_parts().1);
-        parts.decoder = Some(decoder.into_parts().1);
+    fn take_parts(&mut self, parts: &mut Parts) -> Answer {
+        let taken = mem::replace(self, Rated::new(self.alloc, self.engine)?);
+        parts.encoder = Some(taken.encoder.into_parts().1);
+        parts.decoder = Some(taken.decoder.into_parts().1);
         Ok(())
     }
 
-    fn supports(&self, k: usize, r: usize, supported: bool) -> bool {
-        R::supports(k, r) == supported
-            && R::RateEncoder::supports(k, r) == supported
-            && R::RateDecoder::supports(k, r) == supported
-    }
-
-    fn tells(&self, (k, r, size): Configuration, answer: Result<(), Error>) -> bool {
+    fn tells(&self, (k, r, size): Configuration, answer: Answer) -> bool {
+        let supported = !matches!(answer, Err(Error::UnsupportedShardCount { .. }));
         let valid = match answer {
             Err(Error::OutOfMemory) => Ok(()),
             _ => answer,
         };
-        R::validate(k, r, size) == valid
-            && R::RateEncoder::validate(k, r, size) == valid
-            && R::RateDecoder::validate(k, r, size) == valid
-    }
-
-    fn refuses_new(&self, (k, r, size): Configuration, refusal: Error) -> bool {
         let encoder = R::RateEncoder::new(self.alloc, k, r, size, self.engine, None);
         let decoder = R::RateDecoder::new(self.alloc, k, r, size, self.engine, None);
-        encoder.err() == Some(refusal) && decoder.err() == Some(refusal)
+        R::supports(k, r) == supported
+            && R::RateEncoder::supports(k, r) == supported
+            && R::RateDecoder::supports(k, r) == supported
+            && R::validate(k, r, size) == valid
+            && R::RateEncoder::validate(k, r, size) == valid
+            && R::RateDecoder::validate(k, r, size) == valid
+            && encoder.err() == answer.err()
+            && decoder.err() == answer.err()
     }
 }

@@ -1,5 +1,7 @@
 //! How often encoders and decoders call their engine. Contracts bound the row steps that are counted on `Steps`, but a body
 //! could count on others, or go round its engine.
+ghost use Rattle.std.specs.Prelude.{◌<◌};
+
 use reed_solomon_simd::Error;
 use reed_solomon_simd::engine::tables::Tables;
 use reed_solomon_simd::engine::{Engine, GfElement, Naive, ShardsRefMut, Steps};
@@ -9,23 +11,8 @@ use std::cell::Cell;
 use std::process::Abort;
 use std::test::Fail;
 
-// How often each call of an engine was made.
-#[derive(Clone, Copy, Debug, PartialEq)]
-struct Calls {
-    fft: u32,
-    ifft: u32,
-    mul: u32,
-    eval_poly: u32,
-}
-
-fn made(fft: u32, ifft: u32, mul: u32, eval_poly: u32) -> Calls {
-    Calls {
-        fft,
-        ifft,
-        mul,
-        eval_poly,
-    }
-}
+// How often `fft`, `ifft`, `mul` and `eval_poly` of an engine were called.
+type Calls = [u32; 4];
 
 /// The plain engine, which counts its calls.
 #[derive(Drop)]
@@ -38,8 +25,17 @@ impl<'t> Counting<'t> {
     fn new(tables: &'t Tables) -> Counting<'t> {
         Counting {
             naive: Naive::new(tables),
-            calls: Cell::new(made(0, 0, 0, 0)),
+            calls: Cell::new([0; 4]),
         }
+    }
+
+    // Counts a call of the engine's method of this number.
+    fn count(&self, method: usize)
+        requires { method < 4 }
+    {
+        let mut calls = self.calls.get();
+        calls[method] = calls[method].saturating_add(1);
+        self.calls.set(calls);
     }
 }
 
@@ -53,9 +49,7 @@ impl Engine for Counting<'_> {
         truncated_size: usize,
         skew_delta: usize,
     ) {
-        let calls = self.calls.get();
-        let fft = calls.fft.saturating_add(1);
-        self.calls.set(Calls { fft, ..calls });
+        self.count(0);
         self.naive
             .fft(steps, data, pos, size, truncated_size, skew_delta);
     }
@@ -69,24 +63,18 @@ impl Engine for Counting<'_> {
         truncated_size: usize,
         skew_delta: usize,
     ) {
-        let calls = self.calls.get();
-        let ifft = calls.ifft.saturating_add(1);
-        self.calls.set(Calls { ifft, ..calls });
+        self.count(1);
         self.naive
             .ifft(steps, data, pos, size, truncated_size, skew_delta);
     }
 
     fn mul(&self, steps: &mut Steps, x: &mut [[u8; 64]], log_m: GfElement) {
-        let calls = self.calls.get();
-        let mul = calls.mul.saturating_add(1);
-        self.calls.set(Calls { mul, ..calls });
+        self.count(2);
         self.naive.mul(steps, x, log_m);
     }
 
     fn eval_poly(&self, steps: &mut Steps, erasures: &mut [GfElement], truncated_size: usize) {
-        let calls = self.calls.get();
-        let eval_poly = calls.eval_poly.saturating_add(1);
-        self.calls.set(Calls { eval_poly, ..calls });
+        self.count(3);
         self.naive.eval_poly(steps, erasures, truncated_size);
     }
 }
@@ -103,10 +91,8 @@ fn calls_of_encode<'t, R: Rate<Counting<'t>>>(
     for shard in original {
         encoder.add_original_shard(shard)?;
     }
-    let mut steps = Steps::new();
-    drop(encoder.encode(&mut steps)?);
-    let (engine, _) = encoder.into_parts();
-    Ok(engine.calls.get())
+    drop(encoder.encode(&mut Steps::new())?);
+    Ok(encoder.into_parts().0.calls.get())
 }
 
 #[test]
@@ -117,8 +103,8 @@ fn an_encode_transforms_each_block_and_once_more(rt: HostRuntime) -> Result<(), 
     let low = calls_of_encode::<LowRate<Counting<'_>>>(alloc, &tables, &[[0, 0], [1, 0]], 3)?;
     let three = [[2, 0], [0, 0], [4, 0]];
     let high = calls_of_encode::<HighRate<Counting<'_>>>(alloc, &tables, &three, 2)?;
-    assert_eq!(rt; low, made(2, 1, 0, 0));
-    assert_eq!(rt; high, made(1, 2, 0, 0));
+    assert_eq!(rt; low, [2, 1, 0, 0]);
+    assert_eq!(rt; high, [1, 2, 0, 0]);
     Ok(())
 }
 
@@ -138,10 +124,8 @@ fn calls_of_decode<'t, R: Rate<Counting<'t>>>(
     for (index, shard) in recovery {
         decoder.add_recovery_shard(*index, shard)?;
     }
-    let mut steps = Steps::new();
-    drop(decoder.decode(&mut steps)?);
-    let (engine, _) = decoder.into_parts();
-    Ok(engine.calls.get())
+    drop(decoder.decode(&mut Steps::new())?);
+    Ok(decoder.into_parts().0.calls.get())
 }
 
 // The shards agree with one message of four originals. A decode calls `mul` at most once for each given shard, and for each that
@@ -152,15 +136,15 @@ fn counts_decodes<'t, R: Rate<Counting<'t>>, A: Abort + AllocGlobal>(
 ) -> Result<(), Fail> {
     let all = [(0, [0, 0]), (2, [2, 0]), (3, [3, 0]), (1, [0, 0])];
     let recovery = [(2, [14, 0]), (0, [11, 0])];
-    for (original, recovery, most) in [
-        (&all[2..], &recovery[..], made(1, 1, 6, 1)),
-        (&all[..], &recovery[1..], made(0, 1, 5, 1)),
-        (&all[..], &recovery[2..], made(0, 0, 0, 0)),
+    for (original, recovery, others, most) in [
+        (&all[2..], &recovery[..], [1, 1, 1], 6),
+        (&all[..], &recovery[1..], [0, 1, 1], 5),
+        (&all[..], &recovery[2..], [0, 0, 0], 0),
     ] {
-        let own = calls_of_decode::<R>(rt.alloc(), tables, original, recovery)?;
-        assert!(rt; own.mul <= most.mul, "{}", own.mul);
-        let mul = most.mul;
-        assert_eq!(rt; Calls { mul, ..own }, most);
+        let calls = calls_of_decode::<R>(rt.alloc(), tables, original, recovery)?;
+        let [fft, ifft, mul, eval_poly] = calls;
+        assert_eq!(rt; [fft, ifft, eval_poly], others);
+        assert!(rt; mul <= most, "{mul}");
     }
     Ok(())
 }

@@ -69,28 +69,19 @@ fn transforms_and_products_of_each_engine(rt: HostRuntime) -> Result<(), Fail> {
     Ok(())
 }
 
-const FOUR: [[u8; 64]; 4] = [[1; 64], [2; 64], [3; 64], [4; 64]];
+const CHUNKS: [[u8; 64]; 5] = [[1; 64], [2; 64], [3; 64], [4; 64], [5; 64]];
 
 #[test]
-fn rows_are_summed_and_cleared(rt: HostRuntime) {
-    let mut steps = Steps::new();
-    let mut chunks = FOUR;
+fn rows_are_summed_lent_and_split(rt: HostRuntime) {
+    let mut chunks = CHUNKS;
     let mut rows = ShardsRefMut::new(4, 1, &mut chunks);
-    xor_within(&mut steps, &mut rows, 0, 2, 2);
-    assert_eq!(rt; chunks, [[2; 64], [6; 64], [3; 64], [4; 64]]);
+    xor_within(&mut Steps::new(), &mut rows, 0, 2, 2);
+    assert_eq!(rt; chunks, [[2; 64], [6; 64], [3; 64], [4; 64], [5; 64]]);
 
-    let mut chunks = FOUR;
-    ShardsRefMut::new(4, 1, &mut chunks).zero(1..3);
-    assert_eq!(rt; chunks, [[1; 64], [0; 64], [0; 64], [4; 64]]);
-}
-
-#[test]
-fn rows_are_lent_and_split(rt: HostRuntime) {
-    let mut chunks = FOUR;
     let mut rows = ShardsRefMut::new(4, 1, &mut chunks);
     let (_, _, third, _) = rows.dist4_mut(0, 1);
     third.copy_from_slice(&[[9; 64]]);
-    assert_eq!(rt; chunks, [[1; 64], [2; 64], [9; 64], [4; 64]]);
+    assert_eq!(rt; chunks, [[2; 64], [6; 64], [9; 64], [4; 64], [5; 64]]);
 
     let mut rows = ShardsRefMut::new(4, 1, &mut chunks);
     let (front, back) = rows.split_at_mut(1);
@@ -98,8 +89,12 @@ fn rows_are_lent_and_split(rt: HostRuntime) {
 }
 
 #[test]
-fn chunks_past_the_rows_stay(rt: HostRuntime) {
-    let mut chunks = [[1; 64], [2; 64], [3; 64], [4; 64], [5; 64]];
+fn rows_are_cleared_and_chunks_past_them_stay(rt: HostRuntime) {
+    let mut chunks = CHUNKS;
+    ShardsRefMut::new(4, 1, &mut chunks).zero(1..3);
+    assert_eq!(rt; chunks, [[1; 64], [0; 64], [0; 64], [4; 64], [5; 64]]);
+
+    let mut chunks = CHUNKS;
     ShardsRefMut::new(2, 2, &mut chunks).zero(0..2);
     assert_eq!(rt; chunks, [[0; 64], [0; 64], [0; 64], [0; 64], [5; 64]]);
 }
