@@ -1,24 +1,22 @@
 -- The locator by two Walsh-Hadamard transforms, of any power of two of entries.
-use Rattle.std.proofs.Common.{◌≡◌, ℕ, zero, suc, ◌+◌, ◌-◌, ◌*◌, ◌/◌, ◌%◌, ◌^◌, ◌<◌, ◌≤◌, ◌≢◌, List, ◌++◌, length, take, get_or, set, get_or-set_same, get_or-set_other, Bool, true, leb-true, cond, eqb, bit_xor, refl, sym, ap, ap₂, ◌∙◌, subst, arith, inl, inr, pow-suc, pow_mono, ne_eqb, eq-eqb}
+use Rattle.std.proofs.Common.{◌≡◌, ℕ, zero, suc, ◌+◌, ◌-◌, ◌*◌, ◌/◌, ◌%◌, ◌^◌, ◌<◌, ◌≤◌, ◌≢◌, Bool, true, leb-true, cond, eqb, bit_xor, refl, sym, ap, ap₂, ◌∙◌, subst, arith, inl, inr, pow-suc, pow_mono, ne_eqb, eq-eqb}
 use Rattle.std.specs.Prelude.{nat_le}
 use Rattle.std.specs.Int.Bits.{xor_self, xor_lt}
 use Rattle.std.proofs.Math.Nat.{mul-le-mul_right}
 use Rattle.std.proofs.lemmas.Nat.{pow-add, shl-shr}
 use Rattle.std.proofs.lemmas.Bool.{cases_eq, cases_lt}
-use Rattle.std.proofs.lemmas.List.{length-set, take_at}
 use Rattle.rs_field.specs.declared.engine.steps.Steps.{Steps}
 use Rattle.rs_field.specs.Search.{first_below}
 use Rattle.rs_field.specs.Bounds.{CountsUpTo, CountsProducts, LocatorCounts, LocatorCountsBelow, WalshCounts, log2, transform_steps}
 use Rattle.rs_field.specs.Field.{log}
 use Rattle.rs_field.specs.Locator.{log_sum, IsLocatorBelow}
-use Rattle.rs_field.specs.Tables.{IsLog, IsLogWalsh}
 use Rattle.rs_field.specs.Walsh.{total, sign, signed_sum, IsWalsh, log_or_zero}
 use Rattle.rs_field.proofs.Linear.{passes_below, from_passes_below}
 use Rattle.rs_field.proofs.Roots.{same_from_xor}
 use Rattle.rs_field.proofs.LocatorLemmas.{log_sum-zero, log_sum-suc}
 use Rattle.rs_field.proofs.Totals.{total-zero, total-suc, total-same, total-near, total-scale, total-swap, total-one, mul_near}
 use Rattle.rs_field.proofs.Signs.{sign-comm, sign-zero, sign-xor}
-use Rattle.rs_field.proofs.Halving.{sum_lower, sum_upper, walsh-same, walsh-at}
+use Rattle.rs_field.proofs.Halving.{sum_lower, sum_upper}
 
 -- ---- a sum of signs
 
@@ -229,28 +227,3 @@ counts-below d n a b is few p =
       pair_sums_most = omega arith;
       products_most = omega arith;
     }
-
--- ---- the table of logarithms, transformed
-
--- the logarithms with 0 in the place of the mark
-zero_marked : (logs : List ℕ) → IsLog logs → (z : ℕ) → z < 65536 → get_or (set logs 0 0) z 0 ≡ log_or_zero z
-zero_marked logs h z hz =
-    elim (cases_eq z 0) [
-      | inl none ↦
-          let some : 0 < length logs = let l = h.log_length in omega arith in
-          ap (λ v. get_or (set logs 0 0) v 0) none ∙ get_or-set_same logs 0 0 0 some
-          ∙ sym (log_or_zero-is z ∙ ap (λ (b : Bool). cond b 0 (log z)) (eq-eqb z 0 none))
-      | inr other ↦
-          get_or-set_other logs 0 z 0 0 other ∙ h.log_entry z (omega arith) hz
-          ∙ sym (log_or_zero-is z ∙ ap (λ (b : Bool). cond b 0 (log z)) (ne_eqb z 0 other))
-    ]
-
-pub table-made : (logs old new rest : List ℕ) (n : ℕ) → IsLog logs → old ≡ set logs 0 0 → length new ≡ length old → n ≡ 65536
-    → IsWalsh (length old) (λ y. get_or old y 0) (λ w. get_or new w 0) → IsLogWalsh (take n (new ++ rest))
-table-made logs old new rest n h is len whole made =
-    let size : length old ≡ 65536 = ap (λ (l : List ℕ). length l) is ∙ length-set logs 0 0 ∙ h.log_length in
-    let new_size : length new ≡ 65536 = len ∙ size in
-    let done : IsWalsh 65536 log_or_zero (λ w. get_or new w 0) =
-    walsh-same 65536 (λ y. get_or old y 0) log_or_zero (λ w. get_or new w 0) (λ y hy. ap (λ (l : List ℕ). get_or l y 0) is ∙ zero_marked logs h y hy)
-    (walsh-at (length old) 65536 (λ y. get_or old y 0) (λ w. get_or new w 0) size made) in
-    subst (λ (l : List ℕ). IsLogWalsh l) (sym (take_at new rest n (new_size ∙ sym whole))) (record { walsh_length = new_size; walsh_entry = done })
