@@ -23,7 +23,7 @@ pub mod engine {
         ShardsRefMut, Steps,
     };
 
-    /// The powers of the generator, the logarithms, their transform, the factors of butterflies and the products by nibbles.
+    /// The powers of the generator, the logarithms, their transforms, the factors of butterflies and the products by nibbles.
     pub mod tables {
         pub use rs_field::engine::tables::{
             Exp, ExpLog, Log, LogWalsh, Mul16, Mul128, Multiply128lutT, Skew, Tables, get_exp_log,

@@ -1,6 +1,6 @@
 //! Every public path of the library, each used at its type: where a name stood for another item, this file would not
 //! compile or not be proved.
-ghost use Rattle.std.specs.Prelude.{◌≡◌, ℕ, ◌<◌, ◌≤◌, length, slice_index, bit_xor, false};
+ghost use Rattle.std.specs.Prelude.{◌≡◌, ℕ, ◌<◌, ◌≤◌, length, slice_index, bit_xor};
 ghost use Rattle.reed_solomon_simd.specs.Counts.{low_rate, high_rate, default_rate};
 ghost use Rattle.reed_solomon_simd.specs.Field.{product, power};
 ghost use Rattle.reed_solomon_simd.specs.Kind.{kind_of};
@@ -136,7 +136,7 @@ pub fn engine_of_kind(tables: &Tables, kind: EngineKind) -> DefaultEngine<'_>
 /// Working spaces that hold nothing yet.
 pub fn works() -> (EncoderWork, DecoderWork)
     ensures encoder { encoder_room result.0 ≡ 0 }
-    ensures decoder { decoder_room result.1 ≡ record { chunks = 0; rows = 0; has_buffer = false } }
+    ensures decoder { decoder_room result.1 ≡ record { chunks = 0; rows = 0; entries = 0 } }
 {
     (EncoderWork::new(), DecoderWork::new())
 }
