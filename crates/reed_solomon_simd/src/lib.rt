@@ -23,17 +23,17 @@ pub mod engine {
         ShardsRefMut, Steps,
     };
 
-    /// The powers of the generator, the logarithms, their transform, the factors of butterflies and the products by nibbles.
+    /// The powers of the generator, the logarithms, their transforms, the factors of butterflies and the products by nibbles.
     pub mod tables {
         pub use rs_field::engine::tables::{
             Exp, ExpLog, Log, LogWalsh, Mul16, Mul128, Multiply128lutT, Skew, Tables, get_exp_log,
-            get_log_walsh, get_mul16, get_mul128, get_skew, mul,
+            get_log_walsh, get_log_walsh_below, get_mul16, get_mul128, get_skew, mul,
         };
     }
 
     /// Row functions and the locator, which engines share.
     pub mod utils {
-        pub use rs_field::engine::utils::{eval_poly, xor, xor_within};
+        pub use rs_field::engine::utils::{eval_poly, locate, xor, xor_within};
     }
 }
 

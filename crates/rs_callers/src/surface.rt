@@ -1,9 +1,10 @@
 //! Every public path of the library, each used at its type: where a name stood for another item, this file would not
 //! compile or not be proved.
-ghost use Rattle.std.specs.Prelude.{◌≡◌, ℕ, ◌<◌, ◌≤◌, [], ◌∷◌, length, bit_xor, false};
+ghost use Rattle.std.specs.Prelude.{◌≡◌, ℕ, ◌<◌, ◌≤◌, [], ◌∷◌, length, slice_index, bit_xor};
 ghost use Rattle.reed_solomon_simd.specs.Counts.{low_rate, high_rate, default_rate};
 ghost use Rattle.reed_solomon_simd.specs.Field.{product, power};
 ghost use Rattle.reed_solomon_simd.specs.Kind.{kind_of};
+ghost use Rattle.reed_solomon_simd.specs.Locator.{IsLocatorBelow};
 ghost use Rattle.reed_solomon_simd.specs.Rows.{chunk, symbol};
 ghost use Rattle.reed_solomon_simd.specs.View.{word, Fits};
 ghost use Rattle.reed_solomon_simd.specs.EncoderView.{work_room as encoder_room};
@@ -13,9 +14,9 @@ ghost use Rattle.reed_solomon_simd.specs.Tables.{IsExpLog, IsLogWalsh, IsSkew};
 
 use reed_solomon_simd::engine::tables::{
     Exp, ExpLog, Log, LogWalsh, Mul16, Mul128, Multiply128lutT, Skew, Tables, get_exp_log,
-    get_log_walsh, get_mul16, get_mul128, get_skew, mul,
+    get_log_walsh, get_log_walsh_below, get_mul16, get_mul128, get_skew, mul,
 };
-use reed_solomon_simd::engine::utils::{eval_poly, xor, xor_within};
+use reed_solomon_simd::engine::utils::{eval_poly, locate, xor, xor_within};
 use reed_solomon_simd::engine::{
     Avx2, CANTOR_BASIS, DefaultEngine, Engine, EngineKind, GF_BITS, GF_MODULUS, GF_ORDER,
     GF_POLYNOMIAL, GfElement, Naive, NoSimd, ShardsRefMut, Ssse3, Steps,
@@ -93,6 +94,13 @@ pub fn locator_of_nothing(steps: &mut Steps, entries: &mut [GfElement; GF_ORDER]
     eval_poly(steps, entries, 0, get_log_walsh(tables));
 }
 
+/// The locator of points below 64, at these points.
+pub fn locator_below(steps: &mut Steps, entries: &mut [GfElement; 64], tables: &Tables)
+    ensures { IsLocatorBelow 64 (λ y. slice_index entries.old y) (λ x. slice_index entries.new x) }
+{
+    locate(steps, entries, get_log_walsh_below(tables, 64));
+}
+
 /// Engines that a caller has, as ones that are chosen by name.
 pub fn chosen<'t>(
     naive: Naive<'t>,
@@ -116,7 +124,7 @@ pub fn engine_of_kind(tables: &Tables, kind: EngineKind) -> DefaultEngine<'_>
 /// Working spaces that hold nothing yet.
 pub fn works() -> (EncoderWork, DecoderWork)
     ensures encoder { encoder_room result.0 ≡ 0 }
-    ensures decoder { decoder_room result.1 ≡ record { chunks = 0; rows = 0; has_buffer = false } }
+    ensures decoder { decoder_room result.1 ≡ record { chunks = 0; rows = 0; entries = 0 } }
 {
     (EncoderWork::new(), DecoderWork::new())
 }

@@ -148,4 +148,13 @@ impl Engine for DefaultEngine<'_> {
             Self::Ssse3(engine) => engine.eval_poly(steps, erasures, truncated_size),
         }
     }
+
+    fn locate(&self, steps: &mut Steps, entries: &mut [GfElement]) {
+        match self {
+            Self::Naive(engine) => engine.locate(steps, entries),
+            Self::NoSimd(engine) => engine.locate(steps, entries),
+            Self::Avx2(engine) => engine.locate(steps, entries),
+            Self::Ssse3(engine) => engine.locate(steps, entries),
+        }
+    }
 }

@@ -1,5 +1,5 @@
 -- One column of a decode at either rate: whether words given at some places of a code are those of a polynomial that codes.
-use Rattle.std.proofs.Common.{◌≡◌, ℕ, ◌+◌, ◌-◌, ◌%◌, ◌^◌, ◌<◌, ◌≤◌, ◌⊎◌, Bool, true, false, cond, List, length, refl, sym, ap, ◌∙◌, arith, inl, inr, pow_mono}
+use Rattle.std.proofs.Common.{◌≡◌, ℕ, ◌+◌, ◌-◌, ◌^◌, ◌<◌, ◌≤◌, ◌⊎◌, Bool, true, false, cond, List, length, refl, sym, ap, ◌∙◌, arith, inl, inr, pow_mono}
 use Rattle.std.specs.Prelude.{slice_index, is_some}
 use Rattle.std.proofs.lemmas.Bool.{cases_lt}
 use Rattle.rs_field.specs.Polynomial.{value}
@@ -12,7 +12,7 @@ use Rattle.rs_field.specs.Placement.{Placement, placement}
 use Rattle.rs_field.specs.Given.{Shards, count_below}
 use Rattle.rs_field.specs.Code.{Codes}
 use Rattle.rs_field.proofs.Roots.{value_lt, words_from}
-use Rattle.rs_field.proofs.LocatorProduct.{marked, all_marked_past, none_marked_past, same_residue, residue_undone}
+use Rattle.rs_field.proofs.LocatorProduct.{marked, residue_undone}
 use Rattle.rs_field.proofs.Total.{product-comm}
 use Rattle.rs_field.proofs.Restored.{restored}
 use Rattle.rs_field.proofs.ExactCheck.{located_values, AreLocated, Takes, zero_rows, taken_from_zero_rows}
@@ -143,13 +143,6 @@ restored_word rate k r e bound zeros_end originals recovery marks words located 
     (restored_product rate k r e bound zeros_end originals recovery marks words located rows added message p c enough codes takes step x hx one
     ∙ product-comm (power (log_sum (2 ^ e) marks x)) (value p x) ∙ ap (product (value p x)) (sym same))
     ∙ residue_undone l (value p x) hl (value_lt p x (words_from p codes.coefficients))
-
--- At either rate the locator over all points is that over the rows: past them all points are marked, or none is.
-pub locator_of_rows : (e x l : ℕ) (marks : ℕ → ℕ) → e ≤ 16 → x < 2 ^ e
-    → ((y : ℕ) → 2 ^ e ≤ y → y < 65536 → marks y ≡ 1) ⊎ ((y : ℕ) → 2 ^ e ≤ y → y < 65536 → marks y ≡ 0)
-    → l % 65535 ≡ log_sum 65536 marks x % 65535 → power l ≡ power (log_sum (2 ^ e) marks x)
-locator_of_rows e x l marks he hx (inl all) same = same_residue l (log_sum 65536 marks x) same ∙ all_marked_past e marks x he hx all
-locator_of_rows e x l marks he hx (inr none) same = same_residue l (log_sum 65536 marks x) same ∙ ap power (none_marked_past e marks x he none)
 
 -- the values at the originals' points of a polynomial
 message_of : (p : Placement) (k : ℕ) (q : List ℕ) → List ℕ

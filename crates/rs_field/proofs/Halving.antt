@@ -76,11 +76,14 @@ walsh-halves e n half old low high new is h a b s w hw =
           ∙ ap₂ (λ m v. signed_sum m old v % 65535) (sym two) there
     ]
 
--- ---- equal values, equal sizes
+-- ---- equal residues, values, sizes
+
+pub walsh-near : (n : ℕ) (f g h : ℕ → ℕ) → ((y : ℕ) → y < n → f y % 65535 ≡ g y % 65535) → IsWalsh n f h → IsWalsh n g h
+walsh-near n f g h near is w hw =
+    is w hw ∙ total-near n (λ y. sign w y * f y) (λ y. sign w y * g y) (λ y hy. mul_near (sign w y) (f y) (sign w y) (g y) refl (near y hy))
 
 pub walsh-same : (n : ℕ) (f g h : ℕ → ℕ) → ((y : ℕ) → y < n → f y ≡ g y) → IsWalsh n f h → IsWalsh n g h
-walsh-same n f g h same is w hw =
-    is w hw ∙ ap (λ v. v % 65535) (total-same n (λ y. sign w y * f y) (λ y. sign w y * g y) (λ y hy. ap (λ v. sign w y * v) (same y hy)))
+walsh-same n f g h same is = walsh-near n f g h (λ y hy. ap (λ v. v % 65535) (same y hy)) is
 
 pub walsh-at : (n m : ℕ) (f g : ℕ → ℕ) → n ≡ m → IsWalsh n f g → IsWalsh m f g
 walsh-at n m f g same is = subst (λ (k : ℕ). IsWalsh k f g) same is

@@ -51,6 +51,7 @@ pub mod Totals
 pub mod Signs
 pub mod Halving
 pub mod Convolution
+pub mod LogWalsh
 pub mod Restored
 pub mod Division
 pub mod ZerosPast

@@ -4,13 +4,11 @@ use Rattle.std.specs.Int.Bits.{xor_self, xor_zero_l, xor_zero_r, xor_lt}
 use Rattle.std.proofs.lemmas.Bool.{cases_eq}
 use Rattle.rs_field.specs.Field.{product, power, log}
 use Rattle.rs_field.specs.Polynomial.{value, derivative_value}
-use Rattle.rs_field.specs.Subspace.{product_below}
 use Rattle.rs_field.specs.Locator.{log_sum}
 use Rattle.rs_field.proofs.Product.{product_zero, zero_product, product_one, one_product}
 use Rattle.rs_field.proofs.Total.{product-comm, product-assoc}
-use Rattle.rs_field.proofs.Power.{power_lt, power-add, power-mod, power_zero, power-log, power_turn}
+use Rattle.rs_field.proofs.Power.{power-add, power-mod, power_zero, power-log, power_turn}
 use Rattle.rs_field.proofs.Roots.{WordsOneByOne, value_lt}
-use Rattle.rs_field.proofs.Subspace.{product_below-suc, product_below-zero, outside}
 use Rattle.rs_field.proofs.Factors.{times, value_with_root, length-with_root}
 use Rattle.rs_field.proofs.Derivative.{derivative_with_root}
 use Rattle.rs_field.proofs.LocatorLemmas.{log_sum-zero, log_sum-itself, log_sum-marked, log_sum-unmarked, difference_pos}
@@ -138,31 +136,7 @@ unmarked_past m (suc n) e x none =
     ap (λ k. log_sum k e x) (add-suc m n) ∙ kept (m + n) e x (none (m + n) (omega arith) (omega arith))
     ∙ unmarked_past m n e x (λ y a b. none y a (omega arith))
 
--- marked ones multiply by the differences from them
-marked_past : (m n : ℕ) (e : ℕ → ℕ) (x : ℕ) → x < m → m + n ≤ 2 ^ 16 → ((y : ℕ) → m ≤ y → y < m + n → e y ≡ 1)
-    → power (log_sum (m + n) e x) ≡ product (power (log_sum m e x)) (product_below n (λ i. bit_xor x (m + i)))
-marked_past m zero e x hx hn all =
-    ap (λ k. power (log_sum k e x)) (add-zero m)
-    ∙ sym (ap (product (power (log_sum m e x))) (product_below-zero (λ i. bit_xor x (m + i))) ∙ product_one (power (log_sum m e x)) (power_lt (log_sum m e x)))
-marked_past m (suc n) e x hx hn all =
-    ap (λ k. power (log_sum k e x)) (add-suc m n)
-    ∙ grown (m + n) e x (omega arith) (omega arith) (all (m + n) (omega arith) (omega arith)) (λ (at : m + n ≡ x). let no : ⊥ = omega arith in no)
-    ∙ ap (λ k. product k (bit_xor x (m + n))) (marked_past m n e x hx (omega arith) (λ y a b. all y a (omega arith)))
-    ∙ product-assoc (power (log_sum m e x)) (product_below n (λ i. bit_xor x (m + i))) (bit_xor x (m + n))
-    ∙ ap (product (power (log_sum m e x))) (sym (product_below-suc n (λ i. bit_xor x (m + i))))
-
--- where all points from 2 ^ d on are marked they count nothing together, at a point below 2 ^ d
-pub all_marked_past : (d : ℕ) (e : ℕ → ℕ) (x : ℕ) → d ≤ 16 → x < 2 ^ d → ((y : ℕ) → 2 ^ d ≤ y → y < 65536 → e y ≡ 1)
-    → power (log_sum 65536 e x) ≡ power (log_sum (2 ^ d) e x)
-all_marked_past d e x hd hx all =
-    let room : 2 ^ d ≤ 2 ^ 16 = pow_mono hd in
-    let whole : 2 ^ d + (65536 - 2 ^ d) ≡ 65536 = omega arith in
-    ap (λ k. power (log_sum k e x)) (sym whole)
-    ∙ marked_past (2 ^ d) (65536 - 2 ^ d) e x hx (omega arith) (λ y a b. all y a (omega arith))
-    ∙ ap (product (power (log_sum (2 ^ d) e x))) (outside d x hd hx)
-    ∙ product_one (power (log_sum (2 ^ d) e x)) (power_lt (log_sum (2 ^ d) e x))
-
--- and where none of them is
+-- and so to the sum over all points
 pub none_marked_past : (d : ℕ) (e : ℕ → ℕ) (x : ℕ) → d ≤ 16 → ((y : ℕ) → 2 ^ d ≤ y → y < 65536 → e y ≡ 0)
     → log_sum 65536 e x ≡ log_sum (2 ^ d) e x
 none_marked_past d e x hd none =

@@ -54,7 +54,11 @@ decode_steps_at rate k r = decode_steps (decoder_rows rate k r)
 abbrev pub WalshCounts : ℕ → Steps → Steps → Type 0
 WalshCounts n old new = CountsUpTo 0 (transform_steps n) 0 old new
 
--- what a locator may count: no row step
+-- what a locator of n points may count: n * log2 n pair sums and n products, and no row step
+abbrev pub LocatorCountsBelow : ℕ → Steps → Steps → Type 0
+LocatorCountsBelow n old new = CountsUpTo 0 (n * log2 n) n old new
+
+-- what a locator of any number of points may count, up to all 65536
 abbrev pub LocatorCounts : Steps → Steps → Type 0
 LocatorCounts old new = CountsUpTo 0 1048576 65536 old new
 

@@ -1,5 +1,5 @@
 -- What the tables hold.
-use Rattle.std.specs.Prelude.{ℕ, ◌≡◌, ◌+◌, ◌-◌, ◌*◌, ◌^◌, ◌<◌, ◌==◌, if◌then◌else◌, List, length, slice_index}
+use Rattle.std.specs.Prelude.{ℕ, ◌≡◌, ◌+◌, ◌-◌, ◌*◌, ◌/◌, ◌^◌, ◌<◌, ◌≤◌, ◌==◌, if◌then◌else◌, List, length, slice_index}
 use Rattle.rs_field.specs.Field.{product, power, log}
 use Rattle.rs_field.specs.Subspace.{subspace}
 use Rattle.rs_field.specs.Walsh.{IsWalsh, log_or_zero}
@@ -34,3 +34,13 @@ scaled log_m w = if log_m == 65535 then 0 else product w (power log_m)
 pub record IsLogWalsh (log_walsh : List ℕ) : Type 0 where
   pub walsh_length : length log_walsh ≡ 65536
   pub walsh_entry : IsWalsh 65536 log_or_zero (λ w. slice_index log_walsh w)
+
+-- for n entries, a power of two: the transform of the logarithms below n, each times 65536 / n
+pub record IsLogWalshBelow (n : ℕ) (log_walsh : List ℕ) : Type 0 where
+  pub below_length : length log_walsh ≡ n
+  pub below_entry : IsWalsh n (λ z. 65536 / n * log_or_zero z) (λ w. slice_index log_walsh w)
+
+-- those for all powers of two up to 65536, one behind the other: that for n entries from entry n - 1 on
+pub record AreLogWalshes (all : List ℕ) : Type 0 where
+  pub all_length : length all ≡ 131071
+  pub all_entry : (d : ℕ) → d ≤ 16 → IsWalsh (2 ^ d) (λ z. 65536 / 2 ^ d * log_or_zero z) (λ w. slice_index all (2 ^ d - 1 + w))

@@ -4,7 +4,7 @@ ghost use Rattle.rs_field.specs.Field.{product, power};
 ghost use Rattle.rs_field.specs.Transform.{forward};
 ghost use Rattle.rs_field.specs.Rows.{chunk, symbol};
 ghost use Rattle.rs_field.specs.View.{word, Fits, SameShape, SameRowsOutside, AreZero};
-ghost use Rattle.rs_field.specs.Locator.{IsLocator};
+ghost use Rattle.rs_field.specs.Locator.{IsLocator, IsLocatorBelow};
 ghost use Rattle.rs_field.specs.Bounds.{LocatorCounts, TransformCounts, RowProductCounts};
 
 pub mod derivative;
@@ -127,4 +127,22 @@ pub trait Engine: Drop {
         requires tail { (y : ℕ) → truncated_size ≤ y → y < 65536 → slice_index erasures.old y ≡ 0 }
         ensures values { IsLocator (λ y. slice_index erasures.old y) (λ x. slice_index erasures.new x) }
         ensures counts { LocatorCounts steps.old steps.new };
+
+    /// The locator of the marked points among the first ones, as many as there are entries, at these points: entry x
+    /// becomes, modulo 65535, the sum over these points y other than x of entry y times the logarithm of `x XOR y`.
+    ///
+    /// There are a power of two of entries, at most 65536. Since no point past them is marked, an engine that brings no
+    /// such call has it by one `eval_poly`, over 65536 entries on the stack.
+    fn locate(&self, steps: &mut Steps, entries: &mut [GfElement])
+        requires power { (d : ℕ) × (length entries.old ≡ 2 ^ d) }
+        requires few { length entries.old ≤ 65536 }
+        ensures values { IsLocatorBelow (length entries.old) (λ y. slice_index entries.old y) (λ x. slice_index entries.new x) }
+        ensures counts { LocatorCounts steps.old steps.new }
+    {
+        let count = entries.len();
+        let mut erasures = [0; GF_ORDER];
+        erasures[..count].copy_from_slice(entries);
+        self.eval_poly(steps, &mut erasures, count);
+        entries.copy_from_slice(&erasures[..count]);
+    }
 }

@@ -1,5 +1,5 @@
 -- What a decode answers: by what it made of the rows, the missing originals of the only message that agrees, or that none agrees.
-use Rattle.std.proofs.Common.{◌≡◌, ℕ, ◌+◌, ◌-◌, ◌/◌, ◌%◌, ◌^◌, ◌<◌, ◌≤◌, ◌⊎◌, List, Bool, true, false, cond, refl, sym, ap, ap₂, ◌∙◌, arith, inl, inr, subst, true≢false, pow_mono}
+use Rattle.std.proofs.Common.{◌≡◌, ℕ, ◌+◌, ◌-◌, ◌/◌, ◌%◌, ◌^◌, ◌<◌, ◌≤◌, ◌⊎◌, List, Bool, true, false, cond, refl, sym, ap, ap₂, ◌∙◌, arith, inl, inr, subst, true≢false}
 use Rattle.std.specs.Prelude.{slice_index, Option, Some, None, is_some, not, ◌&&◌, ◌↔◌, [], Result, Ok, Err, MatchResult}
 use Rattle.std.proofs.lemmas.Bool.{cases_lt, cases_eq, lt-ltb, le-ltb}
 use Rattle.rs_field.specs.declared.error.Error.{Error}
@@ -11,7 +11,7 @@ use Rattle.rs_field.specs.Configuration.{configuration, validated}
 use Rattle.rs_field.specs.Decoder.{DecoderState, originals_given, recovery_given, IsConsistent, missing_of, Restored, NoneAgrees}
 use Rattle.rs_field.specs.Given.{Shards, count_below, Agrees, Consistent}
 use Rattle.rs_field.specs.Layout.{row_len, up_to}
-use Rattle.rs_field.specs.Locator.{IsLocator, log_sum}
+use Rattle.rs_field.specs.Locator.{IsLocatorBelow, log_sum}
 use Rattle.rs_field.specs.Rows.{Chunks}
 use Rattle.rs_field.specs.Field.{product, power}
 use Rattle.rs_field.specs.Derivative.{IsDerivativeAdded}
@@ -21,7 +21,7 @@ use Rattle.rs_field.proofs.LayoutLemmas.{length-up_to, get-up_to}
 use Rattle.rs_field.proofs.MadeShards.{has_recovery}
 use Rattle.rs_field.proofs.RateFrames.{HasFrame, has_frame}
 use Rattle.rs_field.proofs.Agreement.{AreColumns, consistent_exactly, restored_column, one_message}
-use Rattle.rs_field.proofs.DecodedColumn.{locator_of_rows}
+use Rattle.rs_field.proofs.LocatorProduct.{same_residue}
 use Rattle.rs_rate.specs.declared.rate.marks.Mark.{Mark}
 use Rattle.rs_rate.specs.declared.rate.decoder_work.DecoderShape.{DecoderShape}
 use Rattle.rs_rate.specs.DecoderView.{configuration_of, decoder_shape, frame_of}
@@ -32,7 +32,7 @@ use Rattle.rs_rate.specs.ShardRows.{word_in, shard_laid_out, shard_in_order}
 use Rattle.rs_rate.proofs.DecoderLemmas.{all_given, none_given, count-given, given-marked, restored-out, restored-marked}
 use Rattle.rs_rate.proofs.DecodedColumns.{words_given, given_some, are_columns}
 use Rattle.rs_rate.proofs.StateLemmas.{valid-supported}
-use Rattle.rs_rate.proofs.Erased.{erased-row, all_or_none}
+use Rattle.rs_rate.proofs.Erased.{erased-row}
 
 -- the state that marked rows of a shape stand for
 abbrev pub state_over : Rate → DecoderShape → List Mark → Chunks → DecoderState
@@ -101,33 +101,31 @@ given_count rate s marks chunks n counted =
 columns_of : (rate : Rate) (k r size surplus : ℕ) (marks new : List Mark) (locator : List ℕ) (before after : Chunks) (agrees : Bool) (f : HasFrame rate k r)
     → (d : IsDecoded (decoder_shape rate k r size) marks new locator surplus before after agrees)
     → AreColumns (configuration rate k r size) (given_shards marks before size (placement rate k r).originals_from k) (given_shards marks before size (placement rate k r).recovery_from r)
-    f.exponent f.bound f.zeros_end (erased (2 ^ f.exponent) (placement rate k r).zeros_from (placement rate k r).zeros_to marks) (words_given marks before size)
+    f.exponent f.bound f.zeros_end (erased (placement rate k r).zeros_from (placement rate k r).zeros_to marks) (words_given marks before size)
     (λ j. located marks locator (word_in before (row_len size) (j / 32) (j % 32))) (λ j. d.restores.restored.coefficients (j / 32) (j % 32))
 unfolding frame_of
 columns_of rate k r size surplus marks new locator before after agrees f d =
     let words = d.restores.restored in
     are_columns rate k r size f.exponent f.bound f.zeros_end marks before locator words.coefficients d.even f.frame d.placed d.shards
-    (subst (λ (n : ℕ). IsLocator (erased n (placement rate k r).zeros_from (placement rate k r).zeros_to marks) (λ x. slice_index locator x)) f.rows d.is_locator.values)
+    (subst (λ (n : ℕ). IsLocatorBelow n (erased (placement rate k r).zeros_from (placement rate k r).zeros_to marks) (λ x. slice_index locator x)) f.rows d.is_locator.values)
     (λ j s i hj hs hi. words.are_words j s i hj hs (omega (arith, f.rows, hi)))
     (λ j s hj hs. subst (λ (n : ℕ). IsBackward n 0 (located marks locator (word_in before (row_len size) j s)) (words.coefficients j s)) f.rows (words.are_coefficients j s hj hs))
 
 -- a marked entry at a missing original
 entry_of : (rate : Rate) (k r i : ℕ) (marks : List Mark) (f : HasFrame rate k r) → i < k → is_given (mark_at marks ((placement rate k r).originals_from + i)) ≡ false
-    → erased (2 ^ f.exponent) (placement rate k r).zeros_from (placement rate k r).zeros_to marks ((placement rate k r).originals_from + i) ≡ 1
+    → erased (placement rate k r).zeros_from (placement rate k r).zeros_to marks ((placement rate k r).originals_from + i) ≡ 1
 entry_of rate k r i marks f inside none =
     let follow : (placement rate k r).zeros_from ≡ (placement rate k r).originals_from + k = f.frame.follow in
     let below : (placement rate k r).originals_from + k ≤ 2 ^ f.exponent = f.frame.originals in
-    erased-row (2 ^ f.exponent) (placement rate k r).zeros_from (placement rate k r).zeros_to ((placement rate k r).originals_from + i) marks false (inl (omega arith)) (omega arith) none
+    erased-row (placement rate k r).zeros_from (placement rate k r).zeros_to ((placement rate k r).originals_from + i) marks false (inl (omega arith)) none
 
--- the entries of a locator over all points are those over the rows
+-- the powers of a locator's entries are those of its sums
 located_at : (rate : Rate) (k r x : ℕ) (marks : List Mark) (locator : List ℕ) (f : HasFrame rate k r) → IsLocatorOf (frame_of rate k r) marks locator → x < 2 ^ f.exponent
-    → power (slice_index locator x) ≡ power (log_sum (2 ^ f.exponent) (erased (2 ^ f.exponent) (placement rate k r).zeros_from (placement rate k r).zeros_to marks) x)
+    → power (slice_index locator x) ≡ power (log_sum (2 ^ f.exponent) (erased (placement rate k r).zeros_from (placement rate k r).zeros_to marks) x)
 unfolding frame_of
 located_at rate k r x marks locator f l hx =
-    let few : 2 ^ f.exponent ≤ 2 ^ 16 = pow_mono f.frame.few in
-    locator_of_rows f.exponent x (slice_index locator x) (erased (2 ^ f.exponent) (placement rate k r).zeros_from (placement rate k r).zeros_to marks) f.frame.few hx
-    (all_or_none (placement rate k r) k r f.exponent f.bound f.zeros_end marks f.frame)
-    (subst (λ (n : ℕ). IsLocator (erased n (placement rate k r).zeros_from (placement rate k r).zeros_to marks) (λ y. slice_index locator y)) f.rows l.values x (omega arith))
+    same_residue (slice_index locator x) (log_sum (2 ^ f.exponent) (erased (placement rate k r).zeros_from (placement rate k r).zeros_to marks) x)
+    (subst (λ (n : ℕ). IsLocatorBelow n (erased (placement rate k r).zeros_from (placement rate k r).zeros_to marks) (λ y. slice_index locator y)) f.rows l.values x hx)
 
 -- whether the last rows were zero tells whether some message agrees
 told : (rate : Rate) (k r size surplus : ℕ) (marks new : List Mark) (locator : List ℕ) (before after : Chunks) (agrees : Bool) → supports rate k r ≡ true
@@ -137,7 +135,7 @@ unfolding frame_of
 told rate k r size surplus marks new locator before after agrees supported d =
     let f = has_frame rate k r supported in
     let exact = consistent_exactly (configuration rate k r size) (given_shards marks before size (placement rate k r).originals_from k) (given_shards marks before size (placement rate k r).recovery_from r)
-    f.exponent f.bound f.zeros_end surplus (erased (2 ^ f.exponent) (placement rate k r).zeros_from (placement rate k r).zeros_to marks) (words_given marks before size)
+    f.exponent f.bound f.zeros_end surplus (erased (placement rate k r).zeros_from (placement rate k r).zeros_to marks) (words_given marks before size)
     (λ j. located marks locator (word_in before (row_len size) (j / 32) (j % 32))) (λ j. d.restores.restored.coefficients (j / 32) (j % 32))
     (columns_of rate k r size surplus marks new locator before after agrees f d) (given_count rate (decoder_shape rate k r size) marks before (k + surplus) d.counted) in (
       λ some. d.restores.restored.checked.0 (λ i j past below inside. exact.0 some j i inside (omega (arith, f.rows, past)) (omega (arith, f.rows, below))),
@@ -174,7 +172,7 @@ restored_shard rate k r size surplus i marks new locator before after message su
         is
         ∙ ap (λ n. product (forward n 0 added ((placement rate k r).originals_from + i)) (power (65535 - slice_index locator ((placement rate k r).originals_from + i)))) f.rows
         ∙ restored_column (configuration rate k r size) (given_shards marks before size (placement rate k r).originals_from k) (given_shards marks before size (placement rate k r).recovery_from r)
-        f.exponent f.bound f.zeros_end (erased (2 ^ f.exponent) (placement rate k r).zeros_from (placement rate k r).zeros_to marks) (words_given marks before size)
+        f.exponent f.bound f.zeros_end (erased (placement rate k r).zeros_from (placement rate k r).zeros_to marks) (words_given marks before size)
         (λ c. located marks locator (word_in before (row_len size) (c / 32) (c % 32))) (λ c. d.restores.restored.coefficients (c / 32) (c % 32))
         message added i j (slice_index locator ((placement rate k r).originals_from + i))
         (columns_of rate k r size surplus marks new locator before after true f d) enough a inside hj

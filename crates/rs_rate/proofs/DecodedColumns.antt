@@ -4,7 +4,7 @@ use Rattle.std.specs.Prelude.{slice_index, Option, Some, None, is_some, unwrap_o
 use Rattle.std.proofs.lemmas.Bool.{cases_lt}
 use Rattle.rs_field.specs.Field.{product, power}
 use Rattle.rs_field.specs.Transform.{IsBackward}
-use Rattle.rs_field.specs.Locator.{IsLocator, log_sum}
+use Rattle.rs_field.specs.Locator.{IsLocatorBelow, log_sum}
 use Rattle.rs_field.specs.Column.{Shard, IsShard, column}
 use Rattle.rs_field.specs.Counts.{Rate}
 use Rattle.rs_field.specs.Placement.{Placement, placement}
@@ -14,7 +14,7 @@ use Rattle.rs_field.specs.Rows.{Chunks}
 use Rattle.rs_field.proofs.Columns.{column_lt}
 use Rattle.rs_field.proofs.Frame.{IsFrame}
 use Rattle.rs_field.proofs.ExactCheck.{AreLocated, are_located}
-use Rattle.rs_field.proofs.DecodedColumn.{locator_of_rows}
+use Rattle.rs_field.proofs.LocatorProduct.{same_residue}
 use Rattle.rs_field.proofs.AgreeingMessages.{AreSized, HasWords}
 use Rattle.rs_field.proofs.Agreement.{AreColumns}
 use Rattle.rs_rate.specs.declared.rate.marks.Mark.{Mark}
@@ -24,7 +24,7 @@ use Rattle.rs_rate.specs.Decoding.{located}
 use Rattle.rs_rate.proofs.ShardRowsLemmas.{column-put}
 use Rattle.rs_rate.proofs.DecoderLemmas.{given_shards-in, given_shards-out, given-marked}
 use Rattle.rs_rate.proofs.RestoringRows.{located-at}
-use Rattle.rs_rate.proofs.Erased.{erased-given, are_erased, all_or_none}
+use Rattle.rs_rate.proofs.Erased.{erased-given, are_erased}
 
 -- column j at point x: that of the shard that is given there, else zero
 unfoldable pub words_given : List Mark → Chunks → ℕ → ℕ → ℕ → ℕ
@@ -108,11 +108,11 @@ given_lt marks chunks size j x shards = by_mark (is_given (mark_at marks x)) ref
 pub are_columns : (rate : Rate) (k r size e bound zeros_end : ℕ) (marks : List Mark) (chunks : Chunks) (locator : List ℕ) (coefficients : ℕ → ℕ → ℕ → ℕ) → size % 2 ≡ 0
     → IsFrame (placement rate k r) k r e bound zeros_end → ArePlaced (placement rate k r).originals_from k (placement rate k r).recovery_from r marks
     → ((p : ℕ) → is_given (mark_at marks p) ≡ true → IsShard size (shard_laid_out chunks size p))
-    → IsLocator (erased (2 ^ e) (placement rate k r).zeros_from (placement rate k r).zeros_to marks) (λ x. slice_index locator x)
+    → IsLocatorBelow (2 ^ e) (erased (placement rate k r).zeros_from (placement rate k r).zeros_to marks) (λ x. slice_index locator x)
     → ((j s i : ℕ) → j < row_len size → s < 32 → i < 2 ^ e → coefficients j s i < 65536)
     → ((j s : ℕ) → j < row_len size → s < 32 → IsBackward (2 ^ e) 0 (located marks locator (word_in chunks (row_len size) j s)) (coefficients j s))
     → AreColumns (configuration rate k r size) (given_shards marks chunks size (placement rate k r).originals_from k) (given_shards marks chunks size (placement rate k r).recovery_from r)
-    e bound zeros_end (erased (2 ^ e) (placement rate k r).zeros_from (placement rate k r).zeros_to marks) (words_given marks chunks size)
+    e bound zeros_end (erased (placement rate k r).zeros_from (placement rate k r).zeros_to marks) (words_given marks chunks size)
     (λ j. located marks locator (word_in chunks (row_len size) (j / 32) (j % 32))) (λ j. coefficients (j / 32) (j % 32))
 are_columns rate k r size e bound zeros_end marks chunks locator coefficients even frame placed shards is_locator words back =
     let few : 2 ^ e ≤ 2 ^ 16 = pow_mono frame.few in
@@ -129,10 +129,9 @@ are_columns rate k r size e bound zeros_end marks chunks locator coefficients ev
                 (λ i hi. given-marked marks chunks size (placement rate k r).originals_from k i hi) (λ i hi. given-marked marks chunks size (placement rate k r).recovery_from r i hi);
             are_words = λ x hx. given_lt marks chunks size j x shards;
             known = λ x above below. words_given-at marks chunks size j x false (zero_row x above below);
-            are_located = located_words (2 ^ e) j size marks chunks locator (erased (2 ^ e) (placement rate k r).zeros_from (placement rate k r).zeros_to marks) even inside
-                (λ x hx is. erased-given (2 ^ e) (placement rate k r).zeros_from (placement rate k r).zeros_to x marks hx is)
-                (λ x hx. locator_of_rows e x (slice_index locator x) (erased (2 ^ e) (placement rate k r).zeros_from (placement rate k r).zeros_to marks) frame.few hx
-                (all_or_none (placement rate k r) k r e bound zeros_end marks frame) (is_locator x (omega arith)));
+            are_located = located_words (2 ^ e) j size marks chunks locator (erased (placement rate k r).zeros_from (placement rate k r).zeros_to marks) even inside
+                (λ x hx is. erased-given (placement rate k r).zeros_from (placement rate k r).zeros_to x marks is)
+                (λ x hx. same_residue (slice_index locator x) (log_sum (2 ^ e) (erased (placement rate k r).zeros_from (placement rate k r).zeros_to marks) x) (is_locator x hx));
             row_words = λ x hx. words (j / 32) (j % 32) x (omega (arith, inside)) (omega arith) hx;
             back = λ x hx. sym (back (j / 32) (j % 32) (omega (arith, inside)) (omega arith) x hx);
           };

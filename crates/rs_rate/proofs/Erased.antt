@@ -1,4 +1,4 @@
--- The erased points that a decoder's marks tell are those of the frame.
+-- The erased rows that a decoder's marks tell are those of the frame.
 use Rattle.std.proofs.Common.{◌≡◌, ℕ, ◌+◌, ◌^◌, ◌<◌, ◌≤◌, ◌⊎◌, List, Bool, true, false, cond, refl, sym, ap, ap₂, ◌∙◌, arith, inl, inr, pow_mono}
 use Rattle.std.specs.Prelude.{is_some, nat_le, nat_lt, ◌&&◌, ◌||◌}
 use Rattle.std.proofs.Math.Bool.{and-false}
@@ -20,38 +20,30 @@ by_tests-least true given = omega arith
 by_tests-least false true = omega arith
 by_tests-least false false = omega arith
 
-pub erased-most : (rows zeros_from zeros_to y : ℕ) (marks : List Mark) → erased rows zeros_from zeros_to marks y ≤ 1
+pub erased-most : (zeros_from zeros_to y : ℕ) (marks : List Mark) → erased zeros_from zeros_to marks y ≤ 1
 unfolding by_tests
-erased-most rows zeros_from zeros_to y marks = by_tests-least (nat_le zeros_from y && nat_lt y zeros_to) (nat_lt y rows && is_given (mark_at marks y))
+erased-most zeros_from zeros_to y marks = by_tests-least (nat_le zeros_from y && nat_lt y zeros_to) (is_given (mark_at marks y))
 
 -- a known zero is not erased
-pub erased-known : (rows zeros_from zeros_to y : ℕ) (marks : List Mark) → zeros_from ≤ y → y < zeros_to → erased rows zeros_from zeros_to marks y ≡ 0
+pub erased-known : (zeros_from zeros_to y : ℕ) (marks : List Mark) → zeros_from ≤ y → y < zeros_to → erased zeros_from zeros_to marks y ≡ 0
 unfolding by_tests
-erased-known rows zeros_from zeros_to y marks above below =
-    ap₂ (λ a b. by_tests (a && b) (nat_lt y rows && is_given (mark_at marks y))) (le-leb zeros_from y above) (lt-ltb y zeros_to below)
+erased-known zeros_from zeros_to y marks above below =
+    ap₂ (λ a b. by_tests (a && b) (is_given (mark_at marks y))) (le-leb zeros_from y above) (lt-ltb y zeros_to below)
 
 not_known : (zeros_from zeros_to y : ℕ) → (y < zeros_from) ⊎ (zeros_to ≤ y) → (nat_le zeros_from y && nat_lt y zeros_to) ≡ false
 not_known zeros_from zeros_to y (inl below) = ap (λ c. c && nat_lt y zeros_to) (lt-leb zeros_from y below)
 not_known zeros_from zeros_to y (inr past) = ap (λ c. nat_le zeros_from y && c) (le-ltb y zeros_to past) ∙ and-false (nat_le zeros_from y)
 
 -- another row is erased where it holds no given shard
-pub erased-row : (rows zeros_from zeros_to y : ℕ) (marks : List Mark) (given : Bool) → (y < zeros_from) ⊎ (zeros_to ≤ y) → y < rows → is_given (mark_at marks y) ≡ given
-    → erased rows zeros_from zeros_to marks y ≡ cond given 0 1
+pub erased-row : (zeros_from zeros_to y : ℕ) (marks : List Mark) (given : Bool) → (y < zeros_from) ⊎ (zeros_to ≤ y) → is_given (mark_at marks y) ≡ given
+    → erased zeros_from zeros_to marks y ≡ cond given 0 1
 unfolding by_tests
-erased-row rows zeros_from zeros_to y marks given outside below is =
-    ap₂ by_tests (not_known zeros_from zeros_to y outside) (ap₂ (λ a b. a && b) (lt-ltb y rows below) is)
-
--- and so is another point past the rows
-pub erased-past : (rows zeros_from zeros_to y : ℕ) (marks : List Mark) → (y < zeros_from) ⊎ (zeros_to ≤ y) → rows ≤ y → erased rows zeros_from zeros_to marks y ≡ 1
-unfolding by_tests
-erased-past rows zeros_from zeros_to y marks outside past =
-    ap₂ (λ a b. by_tests a (b && is_given (mark_at marks y))) (not_known zeros_from zeros_to y outside) (le-ltb y rows past)
+erased-row zeros_from zeros_to y marks given outside is = ap₂ by_tests (not_known zeros_from zeros_to y outside) is
 
 -- where a given shard stands is not erased
-pub erased-given : (rows zeros_from zeros_to y : ℕ) (marks : List Mark) → y < rows → is_given (mark_at marks y) ≡ true → erased rows zeros_from zeros_to marks y ≡ 0
+pub erased-given : (zeros_from zeros_to y : ℕ) (marks : List Mark) → is_given (mark_at marks y) ≡ true → erased zeros_from zeros_to marks y ≡ 0
 unfolding by_tests
-erased-given rows zeros_from zeros_to y marks below is =
-    ap₂ (λ a b. by_tests (nat_le zeros_from y && nat_lt y zeros_to) (a && b)) (lt-ltb y rows below) is ∙ either (nat_le zeros_from y && nat_lt y zeros_to)
+erased-given zeros_from zeros_to y marks is = ap (by_tests (nat_le zeros_from y && nat_lt y zeros_to)) is ∙ either (nat_le zeros_from y && nat_lt y zeros_to)
   where
     either : (known : Bool) → by_tests known true ≡ 0
     either true = refl
@@ -70,12 +62,12 @@ zeros_reach p k r e bound zeros_end f =
     let few : 2 ^ e ≤ 2 ^ 16 = pow_mono f.few in
     elim f.whole [ inl same ↦ omega (arith, same.1) | inr wide ↦ omega (arith, wide.1, wide.2) ]
 
--- in a frame the marks tell which points are erased
+-- in a frame the marks tell which rows are erased
 pub are_erased : (p : Placement) (k r e bound zeros_end : ℕ) (marks : List Mark) (originals recovery : Shards) → IsFrame p k r e bound zeros_end
     → ArePlaced p.originals_from k p.recovery_from r marks
     → ((i : ℕ) → i < k → is_some (originals i) ≡ is_given (mark_at marks (p.originals_from + i)))
     → ((i : ℕ) → i < r → is_some (recovery i) ≡ is_given (mark_at marks (p.recovery_from + i)))
-    → AreErasures p k r (2 ^ e) zeros_end originals recovery (erased (2 ^ e) p.zeros_from p.zeros_to marks)
+    → AreErasures p k r (2 ^ e) zeros_end originals recovery (erased p.zeros_from p.zeros_to marks)
 are_erased p k r e bound zeros_end marks originals recovery f placed own coded =
     let most_own : p.originals_from + k ≤ 2 ^ e = f.originals in
     let most_coded : p.recovery_from + r ≤ 2 ^ e = f.recovery in
@@ -83,27 +75,16 @@ are_erased p k r e bound zeros_end marks originals recovery f placed own coded =
     let follow : p.zeros_from ≡ p.originals_from + k = f.follow in
     let reach : zeros_end ≤ p.zeros_to = zeros_reach p k r e bound zeros_end f in
     record {
-      are_marks = record { mark = λ y hy. erased-most (2 ^ e) p.zeros_from p.zeros_to y marks };
+      are_marks = record { mark = λ y hy. erased-most p.zeros_from p.zeros_to y marks };
       own = λ i hi.
-          erased-row (2 ^ e) p.zeros_from p.zeros_to (p.originals_from + i) marks (is_some (originals i)) (inl (omega arith)) (omega arith) (sym (own i hi));
+          erased-row p.zeros_from p.zeros_to (p.originals_from + i) marks (is_some (originals i)) (inl (omega arith)) (sym (own i hi));
       coded = λ i hi.
-          erased-row (2 ^ e) p.zeros_from p.zeros_to (p.recovery_from + i) marks (is_some (recovery i))
+          erased-row p.zeros_from p.zeros_to (p.recovery_from + i) marks (is_some (recovery i))
           (zeros_in p k r e bound zeros_end (p.recovery_from + i) f (omega arith)
           (elim f.order [ inl low ↦ inr (omega (arith, low.1)) | inr high ↦ inl (omega (arith, high.0, high.1)) ]))
-          (omega arith) (sym (coded i hi));
-      known = λ x above below. erased-known (2 ^ e) p.zeros_from p.zeros_to x marks above (omega arith);
+          (sym (coded i hi));
+      known = λ x above below. erased-known p.zeros_from p.zeros_to x marks above (omega arith);
       other = λ x hx not_own not_coded not_zero.
-          erased-row (2 ^ e) p.zeros_from p.zeros_to x marks false (zeros_in p k r e bound zeros_end x f hx not_zero) hx
+          erased-row p.zeros_from p.zeros_to x marks false (zeros_in p k r e bound zeros_end x f hx not_zero)
           (placed x not_own not_coded);
     }
-
--- past the rows all points are erased, or none is
-pub all_or_none : (p : Placement) (k r e bound zeros_end : ℕ) (marks : List Mark) → IsFrame p k r e bound zeros_end
-    → ((y : ℕ) → 2 ^ e ≤ y → y < 65536 → erased (2 ^ e) p.zeros_from p.zeros_to marks y ≡ 1)
-    ⊎ ((y : ℕ) → 2 ^ e ≤ y → y < 65536 → erased (2 ^ e) p.zeros_from p.zeros_to marks y ≡ 0)
-all_or_none p k r e bound zeros_end marks f =
-    let zeros : (p.zeros_from ≤ zeros_end) × (zeros_end ≤ 2 ^ e) = f.zeros in
-    elim f.whole [
-      | inl same ↦ inl (λ y above below. erased-past (2 ^ e) p.zeros_from p.zeros_to y marks (inr (omega (arith, same.1))) above)
-      | inr wide ↦ inr (λ y above below. erased-known (2 ^ e) p.zeros_from p.zeros_to y marks (omega arith) (omega (arith, wide.1)))
-    ]

@@ -3,7 +3,7 @@ use Rattle.std.proofs.Common.{if◌then◌else◌, ◌≤◌, ◌+◌, ◌-◌, 
 use mathlib.Core.Path.{fun_ext}
 use Rattle.rs_field.specs.Bounds.{CountsRows}
 use Rattle.rs_field.specs.Layout.{row_len}
-use Rattle.rs_field.specs.Locator.{IsLocator}
+use Rattle.rs_field.specs.Locator.{IsLocatorBelow}
 use Rattle.rs_field.specs.Rows.{Chunks}
 use Rattle.rs_field.specs.declared.engine.steps.Steps.{Steps}
 use Rattle.rs_field.proofs.LocatorLemmas.{log_sum-same}
@@ -28,9 +28,9 @@ pub record TailMoved (marks : List Mark) (size p : ℕ) (old new : Chunks) (befo
   pub others : (i k : ℕ) → i ≢ p → k < row_len size → row_chunk new size i k ≡ row_chunk old size i k
   pub counts : CountsRows (if is_given (mark_at marks p) then 0 else 1) before after
 
--- the locator of entries that are the same at all points
-pub locator_same : (old entries new : ℕ → ℕ) → ((y : ℕ) → y < 65536 → entries y ≡ old y) → IsLocator entries new → IsLocator old new
-locator_same old entries new same l x hx = l x hx ∙ ap (λ n. n % 65535) (log_sum-same 65536 entries old x same)
+-- the locator of entries that are the same at all rows
+pub locator_same : (rows : ℕ) (old entries new : ℕ → ℕ) → ((y : ℕ) → y < rows → entries y ≡ old y) → IsLocatorBelow rows entries new → IsLocatorBelow rows old new
+locator_same rows old entries new same l x hx = l x hx ∙ ap (λ n. n % 65535) (log_sum-same rows entries old x same)
 
 -- one row more, and one step more where it holds no given shard
 pub missing_more : (marks : List Mark) (from n : ℕ) (a b c : Steps) → CountsRows (n - given_row_count marks from n) a b

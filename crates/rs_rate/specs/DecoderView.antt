@@ -1,5 +1,5 @@
 -- What a decoder's rows and working space stand for.
-use Rattle.std.specs.Prelude.{◌≡◌, ◌≢◌, ◌+◌, ◌-◌, ◌%◌, ◌<◌, ◌≤◌, ℕ, Bool, true, false, List, Option, Some, None}
+use Rattle.std.specs.Prelude.{◌≡◌, ◌≢◌, ◌+◌, ◌-◌, ◌%◌, ◌<◌, ◌≤◌, ℕ, List, Option, Some, None}
 use Rattle.std.specs.Vec.{vec_capacity}
 use Rattle.rs_field.specs.Column.{Shard}
 use Rattle.rs_field.specs.Counts.{Rate}
@@ -57,19 +57,19 @@ pub record CanBeLaid (shape : DecoderShape) : Type 0 where
   pub recovery_rows : shape.frame.recovery_from + shape.recovery_count ≤ shape.frame.row_count
   pub apart : (i j : ℕ) → i < shape.original_count → j < shape.recovery_count → shape.frame.originals_from + i ≢ shape.frame.recovery_from + j
 
--- the room that a working space has: for chunks and for marks of rows, and whether the locator's buffer is there
+-- the room that a working space has: for chunks, for marks of rows, and for the locator's entries at them
 pub record DecoderRoom : Type 0 where
   pub chunks : ℕ
   pub rows : ℕ
-  pub has_buffer : Bool
+  pub entries : ℕ
 
--- the room of a decoder's memory, in which the buffer is
+-- the room of a decoder's memory
 abbrev pub memory_room : DecoderMemory → DecoderRoom
-memory_room memory = record { chunks = vec_capacity memory.chunks; rows = vec_capacity memory.marks; has_buffer = true }
+memory_room memory = record { chunks = vec_capacity memory.chunks; rows = vec_capacity memory.marks; entries = vec_capacity memory.erasures }
 
 -- the room of memory that is handed on, if there is any
 abbrev pub room_if : Option DecoderMemory → DecoderRoom
-room_if None = record { chunks = 0; rows = 0; has_buffer = false }
+room_if None = record { chunks = 0; rows = 0; entries = 0 }
 room_if (Some memory) = memory_room memory
 
 -- the room of what is handed from one decoder to the next
@@ -80,10 +80,10 @@ work_room work = room_if work.memory
 pub record HasRoom (room : DecoderRoom) (count size : ℕ) : Type 0 where
   pub chunks : chunk_count count size ≤ room.chunks
   pub rows : count ≤ room.rows
-  pub buffer : room.has_buffer ≡ true
+  pub entries : count ≤ room.entries
 
 -- the new room is no less than the old
 pub record Grows (old new : DecoderRoom) : Type 0 where
   pub chunks : old.chunks ≤ new.chunks
   pub rows : old.rows ≤ new.rows
-  pub buffer : old.has_buffer ≡ true → new.has_buffer ≡ true
+  pub entries : old.entries ≤ new.entries

@@ -5,7 +5,7 @@ use Rattle.rs_field.specs.Derivative.{IsDerivativeAdded}
 use Rattle.rs_field.specs.Field.{product, power}
 use Rattle.rs_field.specs.Column.{column}
 use Rattle.rs_field.specs.Layout.{row_len}
-use Rattle.rs_field.specs.Locator.{IsLocator}
+use Rattle.rs_field.specs.Locator.{IsLocatorBelow}
 use Rattle.rs_field.specs.Rows.{Chunks}
 use Rattle.rs_field.specs.Transform.{forward, IsBackward}
 use Rattle.rs_rate.specs.declared.rate.decoder_work.Frame.{Frame}
@@ -14,10 +14,10 @@ use Rattle.rs_rate.specs.declared.rate.marks.Mark.{Mark}
 use Rattle.rs_rate.specs.Marks.{mark_at, is_given, erased}
 use Rattle.rs_rate.specs.ShardRows.{word_in, shard_in_order}
 
--- the entries are words, and the locator's logarithms, modulo 65535, of the points that a frame and marks tell to be erased
+-- the entries are words, and the locator's logarithms, modulo 65535, of the rows that a frame and marks tell to be erased
 pub record IsLocatorOf (frame : Frame) (marks : List Mark) (locator : List ℕ) : Type 0 where
   pub are_words : (x : ℕ) → slice_index locator x < 65536
-  pub values : IsLocator (erased frame.row_count frame.zeros_from frame.zeros_to marks) (λ x. slice_index locator x)
+  pub values : IsLocatorBelow frame.row_count (erased frame.zeros_from frame.zeros_to marks) (λ x. slice_index locator x)
 
 -- the row steps of restoring words in the rows of a shape: each row located, a transform, the surplus rows tested, two transforms, the originals' rows revealed
 abbrev pub restore_steps : DecoderShape → ℕ → ℕ

@@ -46,7 +46,6 @@ abbrev pub ArePlaced : ℕ → ℕ → ℕ → ℕ → List Mark → Type 0
 ArePlaced originals_from k recovery_from r marks =
     (p : ℕ) → (p < originals_from) ⊎ (originals_from + k ≤ p) → (p < recovery_from) ⊎ (recovery_from + r ≤ p) → is_given (mark_at marks p) ≡ false
 
--- whether a point is erased: it is no known zero, and no given shard stands there
-abbrev pub erased : ℕ → ℕ → ℕ → List Mark → ℕ → ℕ
-erased rows zeros_from zeros_to marks y =
-    if (nat_le zeros_from y && nat_lt y zeros_to) || (nat_lt y rows && is_given (mark_at marks y)) then 0 else 1
+-- whether a row is erased: it is no known zero, and no given shard stands there
+abbrev pub erased : ℕ → ℕ → List Mark → ℕ → ℕ
+erased zeros_from zeros_to marks y = if (nat_le zeros_from y && nat_lt y zeros_to) || is_given (mark_at marks y) then 0 else 1

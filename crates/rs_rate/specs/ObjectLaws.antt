@@ -86,5 +86,5 @@ has_own_decoder_room rate rows shaped =
     record {
       chunks = subst (λ (n : ℕ). chunk_count n rows.shape.shard_bytes ≤ vec_capacity rows.memory.chunks) (ap (λ s. s.frame.row_count) shaped) rows.own_chunks;
       rows = subst (λ (n : ℕ). n ≤ vec_capacity rows.memory.marks) (ap (λ s. s.frame.row_count) shaped) rows.own_marks;
-      buffer = refl;
+      entries = subst (λ (n : ℕ). n ≤ vec_capacity rows.memory.erasures) (ap (λ s. s.frame.row_count) shaped) rows.own_entries;
     }

@@ -44,14 +44,35 @@ fn check_locators<E: Engine>(rt: &impl Abort, engine: &E, log: &[GfElement])
     }
 }
 
+// The same of four points alone, at these.
+fn check_first_points<E: Engine>(rt: &impl Abort, engine: &E, log: &[GfElement])
+    requires { length log.now ≡ 65536 }
+{
+    let mut steps = Steps::new();
+    let mut first = [1, 0, 0, 0];
+    engine.locate(&mut steps, &mut first);
+    assert_eq!(rt; [first[0] % 65535, first[1] % 65535], [0, 0]);
+    assert_eq!(rt; [first[2], first[3]], [log[2], log[3]]);
+    let mut last = [0, 0, 1, 1];
+    engine.locate(&mut steps, &mut last);
+    assert_eq!(rt; last.map(|entry| entry % 65535), [0; 4]);
+}
+
+fn check_engine<E: Engine>(rt: &impl Abort, engine: &E, log: &[GfElement])
+    requires { length log.now ≡ 65536 }
+{
+    check_locators(rt, engine, log);
+    check_first_points(rt, engine, log);
+}
+
 #[test]
 fn locators_of_each_engine(rt: HostRuntime) -> Result<(), Fail> {
     let tables = Tables::new(rt.alloc())?;
     let log = get_exp_log(&tables).log.as_slice();
-    check_locators(&rt, &Naive::new(&tables), log);
-    check_locators(&rt, &NoSimd::new(&tables), log);
-    check_locators(&rt, &Ssse3::new(&tables), log);
-    check_locators(&rt, &Avx2::new(&tables), log);
-    check_locators(&rt, &DefaultEngine::new(&tables, EngineKind::Naive), log);
+    check_engine(&rt, &Naive::new(&tables), log);
+    check_engine(&rt, &NoSimd::new(&tables), log);
+    check_engine(&rt, &Ssse3::new(&tables), log);
+    check_engine(&rt, &Avx2::new(&tables), log);
+    check_engine(&rt, &DefaultEngine::new(&tables, EngineKind::Naive), log);
     Ok(())
 }

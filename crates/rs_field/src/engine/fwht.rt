@@ -15,6 +15,14 @@ pub(crate) fn lane_sum(x: GfElement, y: GfElement) -> GfElement
     x.wrapping_add(y).max(x.saturating_sub(!y))
 }
 
+// The residue modulo 65535, where 0 and 65535 both stand for zero.
+#[inline(always)]
+pub(crate) fn residue(n: u32) -> GfElement
+    ensures { result % 65535 ≡ n % 65535 }
+{
+    lane_sum((n & 0xFFFF) as u16, (n >> 16) as u16)
+}
+
 // The difference modulo 65535, where 0 and 65535 both stand for zero; 65534 is minus one.
 #[inline(always)]
 fn sub_mod(x: GfElement, y: GfElement) -> GfElement

@@ -5,7 +5,7 @@ ghost use Rattle.rs_field.specs.Tables.{scaled};
 ghost use Rattle.rs_field.specs.Rows.{chunk, symbol};
 ghost use Rattle.rs_field.specs.TwoLayers.{IsForwardTwoLayers, IsBackwardTwoLayers};
 
-use super::tables::{Tables, get_log_walsh, get_skew};
+use super::tables::{Tables, get_log_walsh, get_log_walsh_below, get_skew};
 use super::transform::{fft, ifft};
 use super::{Engine, GfElement, ShardsRefMut, Steps, utils};
 
@@ -150,5 +150,10 @@ impl<K: Kernel> Engine for K {
     fn eval_poly(&self, steps: &mut Steps, erasures: &mut [GfElement], truncated_size: usize) {
         let log_walsh = get_log_walsh(self.tables());
         utils::eval_poly(steps, erasures, truncated_size, log_walsh);
+    }
+
+    fn locate(&self, steps: &mut Steps, entries: &mut [GfElement]) {
+        let log_walsh = get_log_walsh_below(self.tables(), entries.len());
+        utils::locate(steps, entries, log_walsh);
     }
 }

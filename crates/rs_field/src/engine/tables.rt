@@ -1,11 +1,12 @@
 //! The tables of the field, made at run time and lent.
-ghost use Rattle.std.specs.Prelude.{◌≡◌, ◌+◌, ◌*◌, ◌%◌, ◌^◌, ◌<◌, IfOk, IfErr, ℕ};
+ghost use Rattle.std.specs.Prelude.{◌≡◌, ◌+◌, ◌-◌, ◌*◌, ◌/◌, ◌%◌, ◌^◌, ◌<◌, ◌≤◌, length, slice_index, vec_len, IfOk, IfErr, OnOk, ℕ};
 ghost use Rattle.rs_field.specs.Field.{product, power};
-ghost use Rattle.rs_field.specs.Tables.{IsExpLog, IsLog, IsLogWalsh, IsSkew};
+ghost use Rattle.rs_field.specs.Tables.{IsExpLog, IsLog, IsLogWalsh, IsLogWalshBelow, AreLogWalshes, IsSkew};
 ghost use Rattle.rs_field.specs.Products.{IsMul16, IsMul128};
+ghost use Rattle.rs_field.specs.Walsh.{IsWalsh, log_or_zero};
 
-use super::fwht::fwht;
-use super::{GF_MODULUS, GF_ORDER, GfElement, Steps, mul16, mul128, powers};
+use super::fwht::{fwht, residue};
+use super::{GF_BITS, GF_MODULUS, GF_ORDER, GfElement, Steps, mul16, mul128, powers};
 use crate::error::Error;
 use std::alloc::{AllocError, Global};
 
@@ -18,7 +19,8 @@ pub type Log<'a> = &'a [GfElement];
 /// A lent table of the 65535 factors of butterflies, by their logarithms; 65535 marks the factor zero.
 pub type Skew<'a> = &'a [GfElement];
 
-/// A lent table of 65536 entries: the Walsh-Hadamard transform of the logarithms, where that of 0 counts as 0.
+/// A lent table of a power of two of entries, n: the Walsh-Hadamard transform of the logarithms below n, where that of 0
+/// counts as 0, each times 65536 / n.
 ///
 /// Its entries are residues modulo 65535: 0 and 65535 both stand for zero.
 pub type LogWalsh<'a> = &'a [GfElement];
@@ -58,7 +60,7 @@ pub struct Tables {
     mul128: Vec<Multiply128lutT>,
     pub ghost exp_log_entries: { IsExpLog exp_log.exp.items exp_log.log.items },
     pub ghost skew_entries: { IsSkew skew.items },
-    pub ghost log_walsh_entries: { IsLogWalsh log_walsh.items },
+    pub ghost log_walsh_entries: { AreLogWalshes log_walsh.items },
     pub ghost mul16_entries: { IsMul16 mul16.items },
     pub ghost mul128_entries: { IsMul128 mul128.items },
 }
@@ -97,11 +99,20 @@ pub fn get_skew(tables: &Tables) -> Skew<'_>
     tables.skew.as_slice()
 }
 
-/// The transform of the logarithms, of which locators are made.
+/// The transform of all 65536 logarithms, of which locators of all points are made.
 pub fn get_log_walsh(tables: &Tables) -> LogWalsh<'_>
     ensures { IsLogWalsh result.now }
 {
-    tables.log_walsh.as_slice()
+    get_log_walsh_below(tables, GF_ORDER)
+}
+
+/// The transform of the logarithms below `points`, of which locators of so many points are made.
+pub fn get_log_walsh_below(tables: &Tables, points: usize) -> LogWalsh<'_>
+    requires power { (d : ℕ) × (points ≡ 2 ^ d) }
+    requires few { points ≤ 65536 }
+    ensures { IsLogWalshBelow points result.now }
+{
+    &tables.log_walsh[points - 1..2 * points - 1]
 }
 
 /// The products with each power of the generator, as words.
@@ -165,14 +176,59 @@ fn skew_table(alloc: Global, exp_log: &ExpLog) -> Result<Vec<GfElement>, AllocEr
     Ok(table)
 }
 
-// The transform of the logarithms, for which nothing is counted.
+// The transforms of the logarithms below each power of two, one behind the other; nothing is counted for them.
 fn log_walsh_table(alloc: Global, log: Log<'_>) -> Result<Vec<GfElement>, AllocError>
     requires { IsLog log.now }
-    ensures { IfOk result (λ v. IsLogWalsh v.items) }
+    ensures { IfOk result (λ v. AreLogWalshes v.items) }
 {
-    let mut table = log.to_vec(alloc)?;
-    table[0] = 0;
-    let mut steps = Steps::new();
-    fwht(&mut steps, &mut table, GF_ORDER);
+    let mut table = Vec::with_capacity(alloc, 2 * GF_ORDER - 1)?;
+    for places in 0..GF_BITS + 1 {
+        push_log_walsh(&mut table, log, 1 << places)?;
+    }
     Ok(table)
+}
+
+// Puts the transform of the logarithms below `points` behind those of fewer points.
+fn push_log_walsh(table: &mut Vec<GfElement>, log: Log<'_>, points: usize) -> Result<(), AllocError>
+    requires log { IsLog log.now }
+    requires power { (d : ℕ) × (points ≡ 2 ^ d) }
+    requires few { points ≤ 65536 }
+    requires room { vec_len table.old + points < 2 ^ 32 }
+    ensures length { OnOk result (vec_len table.new ≡ vec_len table.old + points) }
+    ensures before { OnOk result ((i : ℕ) → i < vec_len table.old → slice_index table.new.items i ≡ slice_index table.old.items i) }
+    ensures entries { OnOk result (IsWalsh points (λ z. 65536 / points * log_or_zero z) (λ w. slice_index table.new.items (vec_len table.old + w))) }
+{
+    let from = table.len();
+    push_logs(table, log, points)?;
+    let (_, last) = table.split_at_mut(from);
+    fwht(&mut Steps::new(), last, points);
+    Ok(())
+}
+
+// Puts the logarithms below `points` there, each times 65536 / points: the two transforms of a locator multiply by
+// `points`, and 65536 is one modulo 65535.
+fn push_logs(table: &mut Vec<GfElement>, log: Log<'_>, points: usize) -> Result<(), AllocError>
+    requires log { IsLog log.now }
+    requires some { 0 < points }
+    requires few { points ≤ 65536 }
+    requires room { vec_len table.old + points < 2 ^ 32 }
+    ensures length { OnOk result (vec_len table.new ≡ vec_len table.old + points) }
+    ensures before { OnOk result ((i : ℕ) → i < vec_len table.old → slice_index table.new.items i ≡ slice_index table.old.items i) }
+    ensures entries { OnOk result ((z : ℕ) → z < points
+        → slice_index table.new.items (vec_len table.old + z) % 65535 ≡ 65536 / points * log_or_zero z % 65535) }
+{
+    let factor = (GF_ORDER / points) as u32;
+    for z in 0..points {
+        table.push(residue(factor * u32::from(log_at(log, z))))?;
+    }
+    Ok(())
+}
+
+// The logarithm of a word, and 0 at the word 0.
+fn log_at(log: Log<'_>, z: usize) -> GfElement
+    requires log { IsLog log.now }
+    requires word { z < 65536 }
+    ensures { result ≡ log_or_zero z }
+{
+    if z == 0 { 0 } else { log[z] }
 }

@@ -1,17 +1,17 @@
-//! Sums of rows: of two lists of chunks, and of ranges of rows; and the locator at all points.
-ghost use Rattle.std.specs.Prelude.{◌≡◌, ℕ, ◌+◌, ◌*◌, ◌%◌, ◌<◌, ◌≤◌, ◌⊎◌, length, slice_index, bit_xor};
+//! Sums of rows: of two lists of chunks, and of ranges of rows; and the locator, at all points or the first ones.
+ghost use Rattle.std.specs.Prelude.{◌≡◌, ℕ, ◌+◌, ◌*◌, ◌%◌, ◌^◌, ◌<◌, ◌≤◌, ◌⊎◌, length, slice_index, bit_xor};
 ghost use Rattle.rs_field.specs.Rows.{chunk, symbol};
 ghost use Rattle.rs_field.specs.View.{word, Fits, SameShape, SameRowsOutside};
 ghost use Rattle.rs_field.specs.Pairs.{IsSumStep};
-ghost use Rattle.rs_field.specs.Bounds.{CountsProducts, CountsRows, LocatorCounts};
-ghost use Rattle.rs_field.specs.Locator.{IsLocator};
-ghost use Rattle.rs_field.specs.Tables.{IsLogWalsh};
+ghost use Rattle.rs_field.specs.Bounds.{CountsProducts, CountsRows, LocatorCounts, LocatorCountsBelow};
+ghost use Rattle.rs_field.specs.Locator.{IsLocator, IsLocatorBelow};
+ghost use Rattle.rs_field.specs.Tables.{IsLogWalsh, IsLogWalshBelow};
 
-use super::fwht::{fwht, lane_sum};
+use super::fwht::{fwht, residue};
 use super::pairs::{PairStep, step_pairs};
 use super::tables::LogWalsh;
 use super::vectors::sum;
-use super::{GF_ORDER, GfElement, ShardsRefMut, Steps};
+use super::{GfElement, ShardsRefMut, Steps};
 use std::simd::prelude::*;
 
 #[inline(always)]
@@ -70,8 +70,7 @@ fn product_step(steps: &mut Steps, x: GfElement, y: GfElement) -> GfElement
     ensures counts { CountsProducts 1 steps.old steps.new }
 {
     steps.product();
-    let product = u32::from(x) * u32::from(y);
-    lane_sum((product & 0xFFFF) as u16, (product >> 16) as u16)
+    residue(u32::from(x) * u32::from(y))
 }
 
 // Each entry becomes its product with the factor at the same place.
@@ -105,7 +104,42 @@ pub fn eval_poly(
     ensures values { IsLocator (λ y. slice_index erasures.old y) (λ x. slice_index erasures.new x) }
     ensures counts { LocatorCounts steps.old steps.new }
 {
-    fwht(steps, erasures, truncated_size);
-    products(steps, erasures, log_walsh);
-    fwht(steps, erasures, GF_ORDER);
+    locate_marked(steps, erasures, truncated_size, log_walsh);
+}
+
+/// The locator of the marked points among the first ones, as many as there are entries, at these points: entry x becomes,
+/// modulo 65535, the sum over these points y other than x of entry y times the logarithm of `x XOR y`.
+///
+/// There are a power of two of entries, n, at most 65536; `log_walsh` is the table of `get_log_walsh_below` for n. Where
+/// no point past them is marked the new entries are those that `eval_poly` gives. No row step is counted, and at most
+/// n * log2 n pair sums and n products.
+pub fn locate(steps: &mut Steps, entries: &mut [GfElement], log_walsh: LogWalsh<'_>)
+    requires power { (d : ℕ) × (length entries.old ≡ 2 ^ d) }
+    requires few { length entries.old ≤ 65536 }
+    requires table { IsLogWalshBelow (length entries.old) log_walsh.now }
+    ensures values { IsLocatorBelow (length entries.old) (λ y. slice_index entries.old y) (λ x. slice_index entries.new x) }
+    ensures counts { LocatorCountsBelow (length entries.old) steps.old steps.new }
+{
+    let count = entries.len();
+    locate_marked(steps, entries, count, log_walsh);
+}
+
+// The locator of points of which none is marked from `truncated_size` on.
+fn locate_marked(
+    steps: &mut Steps,
+    entries: &mut [GfElement],
+    truncated_size: usize,
+    log_walsh: LogWalsh<'_>,
+)
+    requires power { (d : ℕ) × (length entries.old ≡ 2 ^ d) }
+    requires few { length entries.old ≤ 65536 }
+    requires tail { (y : ℕ) → truncated_size ≤ y → y < length entries.old → slice_index entries.old y ≡ 0 }
+    requires table { IsLogWalshBelow (length entries.old) log_walsh.now }
+    ensures values { IsLocatorBelow (length entries.old) (λ y. slice_index entries.old y) (λ x. slice_index entries.new x) }
+    ensures counts { LocatorCountsBelow (length entries.old) steps.old steps.new }
+{
+    let count = entries.len();
+    fwht(steps, entries, truncated_size);
+    products(steps, entries, log_walsh);
+    fwht(steps, entries, count);
 }

@@ -9,9 +9,9 @@ ghost use Rattle.rs_rate.specs.ShardRows.{chunk_count as chunk_count_of, shard_l
 ghost use Rattle.rs_rate.specs.Marks.{mark_at, is_given, given_row_count, ArePlaced};
 
 use crate::rate::marks::{Mark, is_given_at, is_restored_at, mark_given, set_empty};
-use crate::rate::memory::{make_room, set_chunks};
+use crate::rate::memory::{make_room, set_chunks, set_length};
 use crate::rate::shard_rows::{chunk_count, insert_at, shard_at, shard_is_bytes};
-use rs_field::engine::{GF_ORDER, GfElement};
+use rs_field::engine::GfElement;
 use rs_field::error::Error;
 use std::alloc::Global;
 
@@ -21,13 +21,12 @@ pub struct DecoderWork {
     pub(crate) memory: Option<DecoderMemory>,
 }
 
-/// Chunks and marks of rows, and the locator's buffer: room for an entry for each point.
+/// Chunks and marks of rows, and the locator's entries at them.
 #[derive(Drop)]
 pub struct DecoderMemory {
     pub(crate) chunks: Vec<[u8; 64]>,
     pub(crate) marks: Vec<Mark>,
     pub(crate) erasures: Vec<GfElement>,
-    pub ghost own_entries: { 65536 ≤ vec_capacity erasures },
 }
 
 /// Where a decoder's shards stand among the points, which points are known zeros, and how many rows it works on.
@@ -67,6 +66,8 @@ pub struct DecoderRows {
     pub ghost sized: { chunk_count_of shape.frame.row_count shape.shard_bytes * 64 < 2 ^ 64 },
     pub ghost marked: { vec_len memory.marks ≡ shape.frame.row_count },
     pub ghost own_marks: { shape.frame.row_count ≤ vec_capacity memory.marks },
+    pub ghost entries: { vec_len memory.erasures ≡ shape.frame.row_count },
+    pub ghost own_entries: { shape.frame.row_count ≤ vec_capacity memory.erasures },
     pub ghost originals_counted: { originals_given ≡ given_row_count memory.marks.items shape.frame.originals_from shape.original_count },
     pub ghost recovery_counted: { recovery_given ≡ given_row_count memory.marks.items shape.frame.recovery_from shape.recovery_count },
     pub ghost placed: { ArePlaced shape.frame.originals_from shape.original_count shape.frame.recovery_from shape.recovery_count memory.marks.items },
@@ -74,22 +75,20 @@ pub struct DecoderRows {
 }
 
 impl DecoderWork {
-    ghost use Rattle.std.specs.Prelude.{false};
     ghost use Rattle.rs_rate.specs.DecoderView.{work_room};
 
     /// A working space that took no memory yet.
     pub fn new() -> DecoderWork
-        ensures { work_room result ≡ record { chunks = 0; rows = 0; has_buffer = false } }
+        ensures { work_room result ≡ record { chunks = 0; rows = 0; entries = 0 } }
     {
         DecoderWork { memory: None }
     }
 }
 
 impl Default for DecoderWork {
-    ghost use Rattle.std.specs.Prelude.{false};
     ghost use Rattle.rs_rate.specs.DecoderView.{work_room};
 
-    ghost is_default = { λ work. work_room work ≡ record { chunks = 0; rows = 0; has_buffer = false } };
+    ghost is_default = { λ work. work_room work ≡ record { chunks = 0; rows = 0; entries = 0 } };
 
     fn default() -> DecoderWork {
         DecoderWork::new()
@@ -99,59 +98,56 @@ impl Default for DecoderWork {
 impl DecoderMemory {
     ghost use Rattle.rs_rate.specs.DecoderView.{HasRoom, Grows, memory_room, work_room};
 
-    // The memory that is handed on, or what a decoder needs before it has rows.
-    fn of(alloc: Global, work: Option<DecoderWork>) -> Result<DecoderMemory, Error>
-        ensures grown { IfOk result (λ m. IfSome work (λ w. Grows (work_room w) (memory_room m))) }
-        ensures memory { IfErr result (λ e. e ≡ Error.OutOfMemory) }
-        ensures enough { IfSome work (λ w. (work_room w).has_buffer ≡ true → IsOk result) }
+    // The memory that is handed on, or one that took nothing yet.
+    fn of(alloc: Global, work: Option<DecoderWork>) -> DecoderMemory
+        ensures { IfSome work (λ w. Grows (work_room w) (memory_room result)) }
     {
         let memory = match work {
             Some(work) => work.memory,
             None => None,
         };
         match memory {
-            Some(memory) => Ok(memory),
-            None => DecoderMemory::new(alloc),
+            Some(memory) => memory,
+            None => DecoderMemory {
+                chunks: Vec::new(alloc),
+                marks: Vec::new(alloc),
+                erasures: Vec::new(alloc),
+            },
         }
-    }
-
-    // Takes the buffer's room and clears nothing: each decode writes every entry.
-    fn new(alloc: Global) -> Result<DecoderMemory, Error>
-        ensures { IfErr result (λ e. e ≡ Error.OutOfMemory) }
-    {
-        let mut erasures = Vec::new(alloc);
-        make_room(&mut erasures, GF_ORDER)?;
-        Ok(DecoderMemory {
-            chunks: Vec::new(alloc),
-            marks: Vec::new(alloc),
-            erasures,
-        })
     }
 
     // Makes room for so many chunks and rows; nothing else changes.
     fn make_room(&mut self, chunks: usize, rows: usize) -> Result<(), Error>
         ensures chunks { self.new.chunks.items ≡ self.old.chunks.items }
         ensures marks { self.new.marks.items ≡ self.old.marks.items }
-        ensures room { OnOk result ((chunks ≤ vec_capacity self.new.chunks) × (rows ≤ vec_capacity self.new.marks)) }
+        ensures entries { self.new.erasures.items ≡ self.old.erasures.items }
+        ensures room { OnOk result ((chunks ≤ vec_capacity self.new.chunks) × (rows ≤ vec_capacity self.new.marks)
+            × (rows ≤ vec_capacity self.new.erasures)) }
         ensures grown { Grows (memory_room self.old) (memory_room self.new) }
         ensures memory { IfErr result (λ e. e ≡ Error.OutOfMemory) }
-        ensures enough { chunks ≤ vec_capacity self.old.chunks → rows ≤ vec_capacity self.old.marks → IsOk result }
+        ensures enough { chunks ≤ vec_capacity self.old.chunks → rows ≤ vec_capacity self.old.marks
+            → rows ≤ vec_capacity self.old.erasures → IsOk result }
     {
         make_room(&mut self.chunks, chunks)?;
-        make_room(&mut self.marks, rows)
+        make_room(&mut self.marks, rows)?;
+        make_room(&mut self.erasures, rows)
     }
 
-    // Holds so many chunks and so many rows that are marked as empty, for which there is room.
+    // Holds so many chunks and so many rows that are marked as empty, for which there is room. What the locator's entries
+    // are is open: each decode writes them.
     fn set_empty(&mut self, chunks: usize, rows: usize)
         requires chunks { chunks ≤ vec_capacity self.old.chunks }
         requires rows { rows ≤ vec_capacity self.old.marks }
+        requires entries { rows ≤ vec_capacity self.old.erasures }
         ensures chunks { vec_len self.new.chunks ≡ chunks }
         ensures marks { vec_len self.new.marks ≡ rows }
+        ensures entries { vec_len self.new.erasures ≡ rows }
         ensures empty { (p : ℕ) → mark_at self.new.marks.items p ≡ Mark.Empty }
         ensures grown { Grows (memory_room self.old) (memory_room self.new) }
     {
         set_chunks(&mut self.chunks, chunks);
         set_empty(&mut self.marks, rows);
+        set_length(&mut self.erasures, rows, 0);
     }
 
     // Lays a shard into row `row` of rows of its size, and marks the row.
@@ -164,7 +160,8 @@ impl DecoderMemory {
         ensures shard { IsShard (length shard.now) shard.now }
         ensures mark { mark_at self.new.marks.items row ≡ Mark.Given }
         ensures other_marks { (p : ℕ) → p ≢ row → mark_at self.new.marks.items p ≡ mark_at self.old.marks.items p }
-        ensures lengths { (vec_len self.new.chunks ≡ vec_len self.old.chunks) × (vec_len self.new.marks ≡ vec_len self.old.marks) }
+        ensures lengths { (vec_len self.new.chunks ≡ vec_len self.old.chunks) × (vec_len self.new.marks ≡ vec_len self.old.marks)
+            × (vec_len self.new.erasures ≡ vec_len self.old.erasures) }
         ensures grown { memory_room self.new ≡ memory_room self.old }
     {
         shard_is_bytes(shard);
@@ -192,7 +189,7 @@ impl DecoderRows {
             → HasRoom (work_room w) shape.frame.row_count shape.shard_bytes → IsOk result) }
     {
         let chunks = chunk_count(shape.frame.row_count, shape.shard_bytes)?;
-        let mut memory = DecoderMemory::of(alloc, work)?;
+        let mut memory = DecoderMemory::of(alloc, work);
         memory.make_room(chunks, shape.frame.row_count)?;
         memory.set_empty(chunks, shape.frame.row_count);
         Ok(DecoderRows {

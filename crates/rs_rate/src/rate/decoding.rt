@@ -1,6 +1,6 @@
-//! The decoding of a round, for every rate: the locator of the erased points, the rows over the chunks, the tails, and
+//! The decoding of a round, for every rate: the locator of the erased rows, the rows over the chunks, the tails, and
 //! the round's end.
-ghost use Rattle.std.specs.Prelude.{◌≡◌, ℕ, ◌+◌, ◌-◌, ◌*◌, ◌/◌, ◌%◌, ◌^◌, ◌<◌, ◌≤◌, ◌⊎◌, ◌&&◌, nat_lt, nat_le, if◌then◌else◌};
+ghost use Rattle.std.specs.Prelude.{◌≡◌, ℕ, ◌+◌, ◌-◌, ◌*◌, ◌/◌, ◌%◌, ◌^◌, ◌<◌, ◌≤◌, ◌⊎◌, ◌&&◌, if◌then◌else◌};
 ghost use Rattle.std.specs.Prelude.{true, false, Ok, List, length, slice_index, IfOk, MatchResult};
 ghost use Rattle.rs_field.specs.Bounds.{CountsRows, CountsUpTo, LocatorCounts, decode_steps, transform_steps};
 ghost use Rattle.rs_field.specs.Configuration.{validated};
@@ -14,11 +14,10 @@ ghost use Rattle.rs_rate.specs.ShardRows.{chunk_count, word_in, shard_laid_out, 
 
 use crate::rate::decoder_work::{DecoderMemory, DecoderRows, DecoderShape, Frame};
 use crate::rate::marks::{Mark, end_marks, is_given_at};
-use crate::rate::memory::set_length;
 use crate::rate::restoring::{Round, restore_rows};
 use crate::rate::shard_rows::{in_order_are_bytes, move_tail};
 use rs_field::engine::layout::row_len;
-use rs_field::engine::{Engine, GF_ORDER, GfElement, ShardsRefMut, Steps};
+use rs_field::engine::{Engine, GfElement, ShardsRefMut, Steps};
 use rs_field::error::Error;
 
 // Restores the missing originals and answers how many they are, or refuses where no message agrees with all that is
@@ -85,11 +84,13 @@ fn restore<E: Engine>(
     requires recovery { shape.frame.recovery_from + shape.recovery_count ≤ shape.frame.row_count }
     requires whole { chunk_count shape.frame.row_count shape.shard_bytes ≤ length memory.old.chunks.items }
     requires marked { shape.frame.row_count ≤ length memory.old.marks.items }
+    requires entries { length memory.old.erasures.items ≡ shape.frame.row_count }
     requires placed { ArePlaced shape.frame.originals_from shape.original_count shape.frame.recovery_from shape.recovery_count memory.old.marks.items }
     requires missing { given_row_count memory.old.marks.items shape.frame.originals_from shape.original_count + missing ≡ shape.original_count }
     requires few_surplus { surplus ≤ shape.frame.row_count }
     ensures marks { memory.new.marks.items ≡ memory.old.marks.items }
     ensures length { length memory.new.chunks.items ≡ length memory.old.chunks.items }
+    ensures entries { length memory.new.erasures.items ≡ length memory.old.erasures.items }
     ensures room { memory_room memory.new ≡ memory_room memory.old }
     ensures nothing { missing ≡ 0 → surplus ≡ 0 → result ≡ true }
     ensures restored { 0 < missing + surplus → (locator : List ℕ) × IsLocatorOf shape.frame memory.old.marks.items locator
@@ -100,7 +101,6 @@ fn restore<E: Engine>(
         return true;
     }
     let marks = memory.marks.as_slice();
-    set_length(&mut memory.erasures, GF_ORDER, 0);
     make_locator(
         engine,
         steps,
@@ -118,7 +118,7 @@ fn restore<E: Engine>(
     restore_chunks(engine, steps, memory.chunks.as_mut_slice(), round)
 }
 
-// The locator of the erased points, at all points.
+// The locator of the erased rows, at all rows.
 fn make_locator<E: Engine>(
     engine: &E,
     steps: &mut Steps,
@@ -126,13 +126,15 @@ fn make_locator<E: Engine>(
     marks: &[Mark],
     frame: Frame,
 )
-    requires points { length entries.old ≡ 65536 }
+    requires power { (d : ℕ) × (frame.row_count ≡ 2 ^ d) }
+    requires few { frame.row_count ≤ 65536 }
+    requires entries { length entries.old ≡ frame.row_count }
     requires marked { frame.row_count ≤ length marks.now }
     ensures locator { IsLocatorOf frame marks.now entries.new }
     ensures counts { LocatorCounts steps.old steps.new }
 {
     mark_erasures(entries, marks, frame);
-    engine.eval_poly(steps, entries, erasures_end(frame));
+    engine.locate(steps, entries);
     entries_are_words(entries);
 }
 
@@ -141,61 +143,28 @@ fn entries_are_words(entries: &[GfElement])
     ensures { (x : ℕ) → slice_index entries.now x < 65536 }
 {}
 
-// Marks the erased points: all but the known zeros and the rows whose shard is given.
+// Marks the erased rows.
 fn mark_erasures(entries: &mut [GfElement], marks: &[Mark], frame: Frame)
-    requires points { length entries.old ≡ 65536 }
+    requires entries { length entries.old ≡ frame.row_count }
     requires marked { frame.row_count ≤ length marks.now }
-    ensures erased { (y : ℕ) → y < 65536 → slice_index entries.new y ≡ erased frame.row_count frame.zeros_from frame.zeros_to marks.now y }
+    ensures { (row : ℕ) → row < frame.row_count → slice_index entries.new row ≡ erased frame.zeros_from frame.zeros_to marks.now row }
 {
-    mark_unknown(entries, frame.zeros_from, frame.zeros_to);
-    for row in 0..GF_ORDER.min(frame.row_count) {
-        entries[row] = unless_given(marks, row, entries[row]);
+    for row in 0..frame.row_count {
+        entries[row] = erased_at(marks, frame, row);
     }
 }
 
-// Marks all points but the known zeros. By runs of points: a test at each one would take a quarter of a small decode.
-fn mark_unknown(entries: &mut [GfElement], zeros_from: usize, zeros_to: usize)
-    requires points { length entries.old ≡ 65536 }
-    ensures length { length entries.new ≡ 65536 }
-    ensures unknown { (y : ℕ) → y < 65536 → slice_index entries.new y ≡ (if nat_le zeros_from y && nat_lt y zeros_to then 0 else 1) }
-{
-    let to = GF_ORDER.min(zeros_to);
-    let from = to.min(zeros_from);
-    fill_points(entries, 0, from, 1);
-    fill_points(entries, from, to, 0);
-    fill_points(entries, to, GF_ORDER, 1);
-}
-
-// Writes the same entry at each point from one on, up to another.
-fn fill_points(entries: &mut [GfElement], from: usize, to: usize, entry: GfElement)
-    requires order { from ≤ to }
-    requires inside { to ≤ length entries.old }
-    ensures length { length entries.new ≡ length entries.old }
-    ensures here { (y : ℕ) → from ≤ y → y < to → slice_index entries.new y ≡ entry }
-    ensures others { (y : ℕ) → (y < from) ⊎ (to ≤ y) → slice_index entries.new y ≡ slice_index entries.old y }
-{
-    for y in from..to {
-        entries[y] = entry;
-    }
-}
-
-// A row's entry: 0 where its shard is given, else what it was. Always written, so that the build needs no branch.
-fn unless_given(marks: &[Mark], row: usize, entry: GfElement) -> GfElement
+// A row's entry: 0 where it is a known zero or its shard is given, else 1.
+fn erased_at(marks: &[Mark], frame: Frame, row: usize) -> GfElement
     requires marked { row < length marks.now }
-    ensures { result ≡ (if is_given (mark_at marks.now row) then 0 else entry) }
+    ensures { result ≡ erased frame.zeros_from frame.zeros_to marks.now row }
 {
-    if is_given_at(marks, row) { 0 } else { entry }
-}
-
-// No point from here on is erased: the known zeros reach to the last point, or all points are looked at.
-fn erasures_end(frame: Frame) -> usize
-    ensures most { result ≤ 65536 }
-    ensures none { (marks : List Mark) (y : ℕ) → result ≤ y → y < 65536 → erased frame.row_count frame.zeros_from frame.zeros_to marks y ≡ 0 }
-{
-    if frame.zeros_to < GF_ORDER {
-        return GF_ORDER;
+    let is_zero = frame.zeros_from <= row && row < frame.zeros_to;
+    if is_zero || is_given_at(marks, row) {
+        0
+    } else {
+        1
     }
-    GF_ORDER.min(frame.zeros_from)
 }
 
 // Restores the missing originals over all chunks where some message agrees, with their tails moved.

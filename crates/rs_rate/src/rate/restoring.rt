@@ -22,7 +22,7 @@ use rs_field::engine::transform::row_symbols_are_words;
 use rs_field::engine::{Engine, GF_MODULUS, GfElement, ShardsRefMut, Steps};
 
 // A round to decode: what the rows are set up for, which of them hold given shards, the locator's logarithm at each
-// point, and how many originals are missing and how many shards are given beyond the originals' number.
+// row, and how many originals are missing and how many shards are given beyond the originals' number.
 #[derive(Clone, Copy)]
 pub(crate) struct Round<'a> {
     pub(crate) shape: DecoderShape,
@@ -35,7 +35,7 @@ pub(crate) struct Round<'a> {
     pub ghost originals: { shape.frame.originals_from + shape.original_count ≤ shape.frame.row_count },
     pub ghost recovery: { shape.frame.recovery_from + shape.recovery_count ≤ shape.frame.row_count },
     pub ghost marked: { shape.frame.row_count ≤ length marks.now },
-    pub ghost points: { length locator.now ≡ 65536 },
+    pub ghost located: { length locator.now ≡ shape.frame.row_count },
     pub ghost placed: { ArePlaced shape.frame.originals_from shape.original_count shape.frame.recovery_from shape.recovery_count marks.now },
     pub ghost counted: { given_row_count marks.now shape.frame.originals_from shape.original_count + missing ≡ shape.original_count },
     pub ghost few_surplus: { surplus ≤ shape.frame.row_count },

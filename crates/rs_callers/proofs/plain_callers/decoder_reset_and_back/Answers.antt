@@ -26,7 +26,7 @@ returns-clause-answer c =
     record {
       chunks = omega (arith, chunks, less, room.chunks, grown.chunks);
       rows = omega (arith, same, room.rows, grown.rows);
-      buffer = grown.buffer room.buffer;
+      entries = omega (arith, same, room.entries, grown.entries);
     } in
     let fits = (valid-decoder c.args.decoder.now).fits in
     c.reset-2.ensures.roomy has

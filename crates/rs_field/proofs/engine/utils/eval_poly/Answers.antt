@@ -1,29 +1,18 @@
-use Rattle.std.proofs.Common.{◌≡◌, ◌∙◌, length, get_or, arith}
-use Rattle.rs_field.proofs.Halving.{walsh-at}
-use Rattle.rs_field.proofs.Convolution.{locator-made, locator-counts}
+use Rattle.std.proofs.Common.{ℕ, length, get_or, subst, arith}
+use Rattle.rs_field.specs.Locator.{IsLocatorBelow}
+use Rattle.rs_field.proofs.Convolution.{counts-below}
+use Rattle.rs_field.proofs.LogWalsh.{below-from_all}
 use Rattle.rs_field.proofs.engine.utils.eval_poly.Goals as goal
 
-pub fwht-requires-clause-power : goal.fwht-requires-clause-power
-fwht-requires-clause-power c = (16, c.requires.size)
+pub locate_marked-requires-clause-power : goal.locate_marked-requires-clause-power
+locate_marked-requires-clause-power c = (16, c.requires.size)
 
-pub fwht-requires-2-clause-power : goal.fwht-requires-2-clause-power
-fwht-requires-2-clause-power c = (16, c.products.auto.entries ∙ c.fwht.auto.data ∙ c.requires.size)
+pub locate_marked-requires-clause-table : goal.locate_marked-requires-clause-table
+locate_marked-requires-clause-table c = below-from_all (length c.args.erasures.now) c.args.log_walsh.now c.requires.size c.requires.table
 
 pub returns-clause-values : goal.returns-clause-values
 returns-clause-values c =
-    let first : length c.fwht.new.data ≡ 65536 = c.fwht.auto.data ∙ c.requires.size in
-    let second : length c.products.new.entries ≡ 65536 = c.products.auto.entries ∙ first in
-    locator-made (λ y. get_or c.args.erasures.now y 0) (λ w. get_or c.fwht.new.data w 0) (λ w. get_or c.products.new.entries w 0)
-    (λ x. get_or c.fwht-2.new.data x 0) (λ w. get_or c.args.log_walsh.now w 0)
-    (walsh-at (length c.args.erasures.now) 65536 (λ y. get_or c.args.erasures.now y 0) (λ w. get_or c.fwht.new.data w 0) c.requires.size c.fwht.ensures.values)
-    c.requires.table.walsh_entry
-    (λ w hw. c.products.ensures.products w (omega arith))
-    (walsh-at (length c.products.new.entries) 65536 (λ y. get_or c.products.new.entries y 0) (λ w. get_or c.fwht-2.new.data w 0) second c.fwht-2.ensures.values)
+    subst (λ (n : ℕ). IsLocatorBelow n (λ y. get_or c.args.erasures.now y 0) (λ x. get_or c.locate_marked.new.entries x 0)) c.requires.size c.locate_marked.ensures.values
 
 pub returns-clause-counts : goal.returns-clause-counts
-returns-clause-counts c =
-    let first : length c.fwht.new.data ≡ 65536 = c.fwht.auto.data ∙ c.requires.size in
-    let second : length c.products.new.entries ≡ 65536 = c.products.auto.entries ∙ first in
-    locator-counts (length c.args.erasures.now) (length c.fwht.new.data) (length c.products.new.entries)
-    c.args.steps.now c.fwht.new.steps c.products.new.steps c.fwht-2.new.steps c.requires.size first second
-    c.fwht.ensures.counts c.products.ensures.counts c.fwht-2.ensures.counts
+returns-clause-counts c = counts-below 16 (length c.args.erasures.now) c.args.steps.now c.locate_marked.new.steps c.requires.size (omega arith) c.locate_marked.ensures.counts

@@ -44,8 +44,8 @@ restore-agrees-requires-clause-few_surplus g c =
     let most_too = given_row_count-most w.memory.marks.items w.shape.frame.recovery_from w.shape.recovery_count in
     omega (arith, most, most_too, w.originals_counted, w.recovery_counted, w.recovery_rows)
 
-pub invariant_of-rows-3 : goal.invariant_of-rows-3
-invariant_of-rows-3 g c =
+pub invariant_of-rows : goal.invariant_of-rows
+invariant_of-rows g c =
     let old = c.args.rows.now in
     let s = old.shape in
     let marks = c.end_marks.new.marks in
@@ -55,6 +55,7 @@ invariant_of-rows-3 g c =
     let room = c.restore-agrees.ensures.room in
     let chunk_room = ap (λ r. r.chunks) room in
     let mark_room = ap (λ r. r.rows) room in
+    let entry_room = ap (λ r. r.entries) room in
     let same_marks = ap length c.restore-agrees.ensures.marks in
     record {
       positive = old.positive;
@@ -68,6 +69,8 @@ invariant_of-rows-3 g c =
       sized = old.sized;
       marked = omega (arith, old.marked, same_marks);
       own_marks = omega (arith, old.own_marks, mark_room);
+      entries = omega (arith, old.entries, c.restore-agrees.ensures.entries);
+      own_entries = omega (arith, old.own_entries, entry_room);
       originals_counted = sym (given_row_count-nothing _ s.frame.originals_from s.original_count (λ i inside. empty (s.frame.originals_from + i)));
       recovery_counted = sym (given_row_count-nothing _ s.frame.recovery_from s.recovery_count (λ i inside. empty (s.frame.recovery_from + i)));
       placed = λ p _ _. empty p;

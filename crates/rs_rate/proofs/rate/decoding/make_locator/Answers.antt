@@ -1,13 +1,20 @@
+use Rattle.std.proofs.Common.{◌≡◌, ℕ, length, ◌∙◌, subst}
 use Rattle.std.specs.Prelude.{slice_index}
+use Rattle.rs_field.specs.Locator.{IsLocatorBelow}
 use Rattle.rs_rate.specs.Marks.{erased}
 use Rattle.rs_rate.proofs.RestoredRows.{locator_same}
 use Rattle.rs_rate.proofs.rate.decoding.make_locator.Goals as goal
 
+pub locate-requires-clause-power : goal.locate-requires-clause-power
+locate-requires-clause-power g c = (c.requires.power.0, c.mark_erasures.auto.entries ∙ c.requires.entries ∙ c.requires.power.1)
+
 pub returns-clause-locator : goal.returns-clause-locator
 returns-clause-locator g c =
     let frame = c.args.frame in
+    let size : length c.mark_erasures.new.entries ≡ c.args.frame.row_count = c.mark_erasures.auto.entries ∙ c.requires.entries in
     record {
       are_words = c.entries_are_words.ensures;
-      values = locator_same (erased frame.row_count frame.zeros_from frame.zeros_to c.args.marks.now) (λ y. slice_index c.mark_erasures.new.entries y) (λ x. slice_index c.eval_poly.new.erasures x)
-          c.mark_erasures.ensures.erased c.eval_poly.ensures.values;
+      values = locator_same frame.row_count (erased frame.zeros_from frame.zeros_to c.args.marks.now) (λ y. slice_index c.mark_erasures.new.entries y) (λ x. slice_index c.locate.new.entries x)
+          c.mark_erasures.ensures
+          (subst (λ (n : ℕ). IsLocatorBelow n (λ y. slice_index c.mark_erasures.new.entries y) (λ x. slice_index c.locate.new.entries x)) size c.locate.ensures.values);
     }

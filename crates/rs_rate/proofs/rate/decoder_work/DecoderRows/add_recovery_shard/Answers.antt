@@ -74,6 +74,7 @@ invariant_of-self c =
     let lengths = c.enter.ensures.lengths in
     let chunks = ap (λ r. r.chunks) c.enter.ensures.grown in
     let rows = ap (λ r. r.rows) c.enter.ensures.grown in
+    let entry_room = ap (λ r. r.entries) c.enter.ensures.grown in
     record {
       positive = w.positive;
       even = w.even;
@@ -86,6 +87,8 @@ invariant_of-self c =
       sized = w.sized;
       marked = omega (arith, w.marked, lengths.1);
       own_marks = omega (arith, w.own_marks, rows);
+      entries = omega (arith, w.entries, lengths.2);
+      own_entries = omega (arith, w.own_entries, entry_room);
       recovery_counted =
           let more = given_row_count-more w.memory.marks.items c.enter.new.self.marks.items w.shape.frame.recovery_from w.shape.recovery_count c.args.index c.if-index-self.false c.enter.ensures.mark (sym (c.if-is_given_at.ensures ∙ ap (λ (marks : List Mark). is_given (mark_at marks (w.shape.frame.recovery_from + c.args.index))) c.as_slice.ensures.value))
           (λ i inside apart. c.enter.ensures.other_marks (w.shape.frame.recovery_from + i) (let away : w.shape.frame.recovery_from + i ≢ row = omega arith in away)) in
