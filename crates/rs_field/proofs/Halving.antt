@@ -142,7 +142,22 @@ walsh-quarters e n q old t0 t1 t2 t3 new is h done0 done1 done2 done3 sums =
           ∙ ap (λ k. (joined t0 t1 k + 65534 * joined t2 t3 k) % 65535) back
     ]
 
--- ---- quarters of lists
+-- ---- halves and quarters of lists
+
+-- halves that were transformed, and a layer of them
+pub walsh-two : (e half : ℕ) (old x0 x1 t0 t1 u0 u1 : List ℕ) → half ≡ 2 ^ e → length old ≡ half + half → x0 ≡ take half old → x1 ≡ drop half old
+    → length u0 ≡ half → IsWalsh half (λ y. get_or x0 y 0) (λ w. get_or t0 w 0) → IsWalsh half (λ y. get_or x1 y 0) (λ w. get_or t1 w 0)
+    → ((i : ℕ) → i < half → get_or u0 i 0 % 65535 ≡ (get_or t0 i 0 + get_or t1 i 0) % 65535)
+    → ((i : ℕ) → i < half → get_or u1 i 0 % 65535 ≡ (get_or t0 i 0 + 65534 * get_or t1 i 0) % 65535)
+    → IsWalsh (half + half) (λ y. get_or old y 0) (λ w. get_or (u0 ++ u1) w 0)
+walsh-two e half old x0 x1 t0 t1 u0 u1 h size is0 is1 new_size done0 done1 sums differences =
+    walsh-halves e (half + half) half (λ y. get_or old y 0) (λ w. get_or t0 w 0) (λ w. get_or t1 w 0) (λ w. get_or (u0 ++ u1) w 0) (let p = pow-suc 2 e in omega arith) h
+    (walsh-same half (λ y. get_or x0 y 0) (λ y. get_or old y 0) (λ w. get_or t0 w 0) (λ y hy. ap (λ (l : List ℕ). get_or l y 0) is0 ∙ get_or-take half old y 0 hy) done0)
+    (walsh-same half (λ y. get_or x1 y 0) (λ y. get_or old (half + y) 0) (λ w. get_or t1 w 0) (λ y hy. ap (λ (l : List ℕ). get_or l y 0) is1 ∙ get_or-drop half old y 0) done1)
+    (record {
+      sums = λ i hi. ap (λ v. v % 65535) (get_or_append_left u0 u1 0 i (omega arith)) ∙ sums i hi;
+      differences = λ i hi. ap (λ v. v % 65535) (ap (λ k. get_or (u0 ++ u1) (k + i) 0) (sym new_size) ∙ get_or-append-add u0 u1 i 0) ∙ differences i hi;
+    })
 
 -- the four quarters of a list
 pub record AreQuarters (q : ℕ) (old x0 x1 x2 x3 : List ℕ) : Type 0 where
@@ -299,8 +314,15 @@ steps_of_64 : transform_steps 64 ≡ 192
 unfolding transform_steps log2 first_below
 steps_of_64 = refl
 
+steps_of_128 : transform_steps 128 ≡ 448
+unfolding transform_steps log2 first_below
+steps_of_128 = refl
+
 pub pair-counts : (n : ℕ) (a b : Steps) → n ≡ 2 → CountsPairs 1 a b → WalshCounts n a b
 pair-counts n a b is counts = exact-counts n 1 a b (ap transform_steps is ∙ steps_of_2) counts
 
 pub block-counts : (n : ℕ) (a b : Steps) → n ≡ 64 → CountsPairs 192 a b → WalshCounts n a b
 block-counts n a b is counts = exact-counts n 192 a b (ap transform_steps is ∙ steps_of_64) counts
+
+pub two_blocks-counts : (n : ℕ) (a b : Steps) → n ≡ 128 → CountsPairs 448 a b → WalshCounts n a b
+two_blocks-counts n a b is counts = exact-counts n 448 a b (ap transform_steps is ∙ steps_of_128) counts

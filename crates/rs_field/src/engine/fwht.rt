@@ -80,6 +80,32 @@ fn quarter_sums(
     }
 }
 
+// One layer, entry by entry: the sums of two halves, and their differences.
+#[inline(always)]
+fn half_sums(steps: &mut Steps, x0: &mut [GfElement], x1: &mut [GfElement])
+    requires { length x0.old ≡ length x1.old }
+    ensures sums { (i : ℕ) → i < length x0.old → slice_index x0.new i % 65535 ≡ (slice_index x0.old i + slice_index x1.old i) % 65535 }
+    ensures differences { (i : ℕ) → i < length x0.old
+        → slice_index x1.new i % 65535 ≡ (slice_index x0.old i + 65534 * slice_index x1.old i) % 65535 }
+    ensures counts { CountsPairs (length x0.old) steps.old steps.new }
+{
+    for i in 0..x0.len() {
+        (x0[i], x1[i]) = pair_sum(steps, x0[i], x1[i]);
+    }
+}
+
+// The transform of 128 entries, of which both halves are done in lanes: so are the quarters of 512 entries, and so on.
+fn walsh_128(steps: &mut Steps, data: &mut [GfElement])
+    requires { length «data».old ≡ 128 }
+    ensures values { IsWalsh 128 (λ y. slice_index «data».old y) (λ w. slice_index «data».new w) }
+    ensures counts { CountsPairs 448 steps.old steps.new }
+{
+    let (low, high) = data.split_at_mut(64);
+    walsh_64(steps, low);
+    walsh_64(steps, high);
+    half_sums(steps, low, high);
+}
+
 /// The Walsh-Hadamard transform modulo 65535: entry w becomes the sum of all entries y, with a minus sign where w and
 /// y have an odd number of set bits in common.
 ///
@@ -96,6 +122,8 @@ pub fn fwht(steps: &mut Steps, data: &mut [GfElement], truncated: usize)
     let n = data.len();
     if n == 64 {
         walsh_64(steps, data);
+    } else if n == 128 {
+        walsh_128(steps, data);
     } else if n == 2 {
         let (sum, difference) = pair_sum(steps, data[0], data[1]);
         data[0] = sum;

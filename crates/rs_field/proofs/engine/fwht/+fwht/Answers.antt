@@ -2,7 +2,7 @@
 use Rattle.std.proofs.Common.{◌≡◌, ℕ, ◌+◌, ◌*◌, ◌/◌, ◌%◌, ◌<◌, List, length, get_or, subst, ap, ◌∙◌, arith}
 use Rattle.std.proofs.lemmas.Nat.{pow_pos}
 use Rattle.rs_field.specs.Bounds.{CountsPairs, WalshCounts}
-use Rattle.rs_field.proofs.Halving.{in_quarters, walsh-joined, walsh-at, walsh-one, walsh-none, walsh-pair, walsh-counts, walsh-quarter-counts, pair-counts, block-counts}
+use Rattle.rs_field.proofs.Halving.{in_quarters, walsh-joined, walsh-at, walsh-one, walsh-none, walsh-pair, walsh-counts, walsh-quarter-counts, pair-counts, block-counts, two_blocks-counts}
 use Rattle.rs_field.proofs.engine.fwht.+fwht.Goals as goal
 use Rattle.rs_field.proofs.engine.fwht.+fwht.Goals.{else-n-gt2-via-then-n-gt2+else-truncated-gt0, else-n-gt2-via-else-n-gt2}
 
@@ -68,6 +68,10 @@ quarter_sums-requires-clause-three t c =
 pub returns-then-n-eq64-clause-counts : goal.returns-then-n-eq64-clause-counts
 returns-then-n-eq64-clause-counts t c =
     block-counts (length c.args.data.now) c.args.steps.now c.walsh_64.new.steps c.if-n-eq64.true c.walsh_64.ensures.counts
+
+pub returns-then-n-eq128-clause-counts : goal.returns-then-n-eq128-clause-counts
+returns-then-n-eq128-clause-counts t c =
+    two_blocks-counts (length c.args.data.now) c.args.steps.now c.walsh_128.new.steps c.if-n-eq128.true c.walsh_128.ensures.counts
 
 pub returns-then-n-eq2-clause-values : goal.returns-then-n-eq2-clause-values
 returns-then-n-eq2-clause-values t c =
