@@ -17,7 +17,7 @@ pub enum Side {
 }
 
 /// As what a shard is given.
-#[derive(Clone, Copy, PartialEq)]
+#[derive(Clone, Copy)]
 pub enum Role {
     /// The encoder's next original.
     Next,

@@ -3,8 +3,8 @@ ghost use Rattle.std.specs.Prelude.{◌≡◌};
 ghost use Rattle.rs_engines.specs.Factors.{log_of};
 
 use crate::any_factor::{AnyFactor, factor_of};
+use crate::butterflies::{Backward, Forward};
 use crate::byte_vector::ByteVector;
-use crate::directions::{Backward, Forward};
 use crate::factors::ThreeFactors;
 use crate::shuffle_rows::{mul_row, one_layer, two_layers};
 use rs_field::engine::GfElement;

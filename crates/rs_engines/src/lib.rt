@@ -2,8 +2,8 @@
 #![tactic(auto)]
 
 mod any_factor;
+mod butterflies;
 mod byte_vector;
-mod directions;
 pub mod engine_default;
 pub mod engine_nosimd;
 pub mod engine_shuffle;

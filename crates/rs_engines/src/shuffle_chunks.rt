@@ -6,8 +6,8 @@ ghost use Rattle.rs_field.specs.Products.{IsNibbleBytes};
 ghost use Rattle.rs_field.specs.Pairs.{at_two_symbols};
 ghost use Rattle.rs_field.specs.TwoLayers.{at_four_symbols};
 
+use crate::butterflies::Butterflies;
 use crate::byte_vector::ByteVector;
-use crate::directions::Direction;
 use crate::factors::{Factor, ThreeFactors};
 use crate::words::{load, store, times};
 use rs_field::engine::tables::Multiply128lutT;
@@ -37,7 +37,7 @@ pub fn mul_chunk<V: ByteVector>(c: &mut [u8; 64], factor: &Multiply128lutT)
 
 // The butterfly of two blocks.
 #[inline(always)]
-fn two_blocks<V: ByteVector, D: Direction, F: Factor>(
+fn two_blocks<V: ByteVector, D: Butterflies, F: Factor>(
     c0: &mut [u8; 64],
     c1: &mut [u8; 64],
     at: usize,
@@ -57,7 +57,7 @@ fn two_blocks<V: ByteVector, D: Direction, F: Factor>(
 
 /// The butterfly of two chunks.
 #[inline(always)]
-pub fn two_chunks<V: ByteVector, D: Direction, F: Factor>(
+pub fn two_chunks<V: ByteVector, D: Butterflies, F: Factor>(
     c0: &mut [u8; 64],
     c1: &mut [u8; 64],
     factor: F,
@@ -72,7 +72,7 @@ pub fn two_chunks<V: ByteVector, D: Direction, F: Factor>(
 
 // Two layers on a block of each of four chunks: one load and one store of each.
 #[inline(always)]
-fn four_blocks<V: ByteVector, D: Direction, F02: Factor, F01: Factor, F23: Factor>(
+fn four_blocks<V: ByteVector, D: Butterflies, F02: Factor, F01: Factor, F23: Factor>(
     c0: &mut [u8; 64],
     c1: &mut [u8; 64],
     c2: &mut [u8; 64],
@@ -102,7 +102,7 @@ fn four_blocks<V: ByteVector, D: Direction, F02: Factor, F01: Factor, F23: Facto
 
 /// Two layers on four chunks.
 #[inline(always)]
-pub fn four_chunks<V: ByteVector, D: Direction, F02: Factor, F01: Factor, F23: Factor>(
+pub fn four_chunks<V: ByteVector, D: Butterflies, F02: Factor, F01: Factor, F23: Factor>(
     c0: &mut [u8; 64],
     c1: &mut [u8; 64],
     c2: &mut [u8; 64],

@@ -8,8 +8,8 @@ ghost use Rattle.rs_field.specs.TwoLayers.{at_four_symbols};
 ghost use Rattle.rs_engines.specs.Factors.{log_of};
 
 use crate::any_factor::AnyFactor;
+use crate::butterflies::Butterflies;
 use crate::byte_vector::ByteVector;
-use crate::directions::Direction;
 use crate::factors::{Factor, General, Small, ThreeFactors};
 use crate::shuffle_chunks::{four_chunks, mul_chunk, two_chunks};
 use rs_field::engine::tables::Multiply128lutT;
@@ -26,7 +26,7 @@ pub fn mul_row<V: ByteVector>(x: &mut [[u8; 64]], factor: &Multiply128lutT)
 
 // The butterfly of two rows by a factor of this class.
 #[inline(always)]
-fn two_rows<V: ByteVector, D: Direction, F: Factor>(
+fn two_rows<V: ByteVector, D: Butterflies, F: Factor>(
     x0: &mut [[u8; 64]],
     x1: &mut [[u8; 64]],
     factor: F,
@@ -41,7 +41,7 @@ fn two_rows<V: ByteVector, D: Direction, F: Factor>(
 }
 
 // Two layers on four rows by factors of these classes.
-fn four_rows<V: ByteVector, D: Direction, F02: Factor, F01: Factor, F23: Factor>(
+fn four_rows<V: ByteVector, D: Butterflies, F02: Factor, F01: Factor, F23: Factor>(
     x0: &mut [[u8; 64]],
     x1: &mut [[u8; 64]],
     x2: &mut [[u8; 64]],
@@ -61,7 +61,7 @@ fn four_rows<V: ByteVector, D: Direction, F02: Factor, F01: Factor, F23: Factor>
     }
 }
 
-// A copy of the products of a factor. No chunk shares memory with it, so a loop over chunks loads its vectors once.
+// A copy of the products of a factor. No chunk shares memory with it, so a loop over chunks can keep its vectors in registers.
 #[inline(always)]
 fn copied(products: &Multiply128lutT) -> Multiply128lutT
     ensures { result ≡ products.now }
@@ -74,7 +74,7 @@ fn copied(products: &Multiply128lutT) -> Multiply128lutT
 
 /// The butterfly of two rows.
 #[inline(always)]
-pub fn one_layer<V: ByteVector, D: Direction>(
+pub fn one_layer<V: ByteVector, D: Butterflies>(
     x0: &mut [[u8; 64]],
     x1: &mut [[u8; 64]],
     factor: AnyFactor<'_>,
@@ -99,7 +99,7 @@ pub fn one_layer<V: ByteVector, D: Direction>(
 /// Two layers on four rows. The classes of the factors are told apart before the loop over chunks, where they are such as
 /// transforms ask for; with others it goes by the classes at each product.
 #[inline(always)]
-pub fn two_layers<V: ByteVector, D: Direction>(
+pub fn two_layers<V: ByteVector, D: Butterflies>(
     x0: &mut [[u8; 64]],
     x1: &mut [[u8; 64]],
     x2: &mut [[u8; 64]],

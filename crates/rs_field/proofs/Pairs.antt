@@ -2,17 +2,17 @@
 use Rattle.std.proofs.Common.{◌≡◌, ℕ, ◌+◌, ◌<◌, ◌≤◌, ◌⊎◌, List, inl, inr, arith, subst, sym}
 use Rattle.std.proofs.lemmas.Bool.{cases_lt}
 use Rattle.rs_field.specs.View.{cell, SameShape, SameRowsOutsideTwo}
-use Rattle.rs_field.specs.Pairs.{OnChunks}
+use Rattle.rs_field.specs.Pairs.{OnTwoChunks}
 use Rattle.rs_field.specs.declared.engine.shards.ShardsRefMut.{ShardsRefMut}
 use Rattle.rs_field.proofs.RowOffsets.{outside_two_cell, outside_two_next, shape_then}
 
 -- the pairs before the i-th are done, and no other row is changed
-pub record PairsDone (related : OnChunks) (a b i : ℕ) (old new : ShardsRefMut) : Type 0 where
+pub record PairsDone (related : OnTwoChunks) (a b i : ℕ) (old new : ShardsRefMut) : Type 0 where
   pub shape : SameShape old new
   pub pairs : (j k : ℕ) → j < i → k < old.shard_len_64 → related (cell old k (a + j)) (cell old k (b + j)) (cell new k (a + j)) (cell new k (b + j))
   pub others : SameRowsOutsideTwo a (a + i) b (b + i) old new
 
-pub pairs_next : (related : OnChunks) (a b count i : ℕ) (old mid new : ShardsRefMut) → (a + count ≤ b) ⊎ (b + count ≤ a) → i < count
+pub pairs_next : (related : OnTwoChunks) (a b count i : ℕ) (old mid new : ShardsRefMut) → (a + count ≤ b) ⊎ (b + count ≤ a) → i < count
     → PairsDone related a b i old mid → SameShape mid new
     → ((k : ℕ) → k < mid.shard_len_64 → related (cell mid k (a + i)) (cell mid k (b + i)) (cell new k (a + i)) (cell new k (b + i)))
     → SameRowsOutsideTwo (a + i) (a + i + 1) (b + i) (b + i + 1) mid new

@@ -8,8 +8,8 @@ abbrev pub OnTwoWords : Type 1
 OnTwoWords = ℕ → ℕ → ℕ → ℕ → Type 0
 
 -- a relation of two old chunks and the two new ones
-abbrev pub OnChunks : Type 1
-OnChunks = List ℕ → List ℕ → List ℕ → List ℕ → Type 0
+abbrev pub OnTwoChunks : Type 1
+OnTwoChunks = List ℕ → List ℕ → List ℕ → List ℕ → Type 0
 
 -- y times the factor was added to x, and then the new x to y
 abbrev pub IsForwardTwo : ℕ → OnTwoWords
@@ -20,17 +20,17 @@ abbrev pub IsBackwardTwo : ℕ → OnTwoWords
 IsBackwardTwo log_m x y x' y' = (x' ≡ bit_xor x (scaled log_m y')) × (y' ≡ bit_xor y x)
 
 -- a relation of symbol s of two old chunks and of the two new ones
-abbrev pub at_two_symbols : ℕ → OnTwoWords → OnChunks
+abbrev pub at_two_symbols : ℕ → OnTwoWords → OnTwoChunks
 at_two_symbols s R x y x' y' = R (symbol x s) (symbol y s) (symbol x' s) (symbol y' s)
 
 -- the forward butterfly on each symbol of two chunks
-abbrev pub IsForwardStep : ℕ → OnChunks
+abbrev pub IsForwardStep : ℕ → OnTwoChunks
 IsForwardStep log_m x y x' y' = (s : ℕ) → s < 32 → at_two_symbols s (IsForwardTwo log_m) x y x' y'
 
 -- the backward one
-abbrev pub IsBackwardStep : ℕ → OnChunks
+abbrev pub IsBackwardStep : ℕ → OnTwoChunks
 IsBackwardStep log_m x y x' y' = (s : ℕ) → s < 32 → at_two_symbols s (IsBackwardTwo log_m) x y x' y'
 
 -- y was added to x; y is unchanged
-abbrev pub IsSumStep : OnChunks
+abbrev pub IsSumStep : OnTwoChunks
 IsSumStep x y x' y' = ((s : ℕ) → s < 32 → symbol x' s ≡ bit_xor (symbol x s) (symbol y s)) × (y' ≡ y)

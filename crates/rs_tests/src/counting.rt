@@ -11,8 +11,13 @@ use std::cell::Cell;
 use std::process::Abort;
 use std::test::Fail;
 
-// How often `fft`, `ifft`, `mul` and `eval_poly` of an engine were called.
+// How often the methods of an engine were called, each at its place.
 type Calls = [u32; 4];
+
+const FFT: usize = 0;
+const IFFT: usize = 1;
+const MUL: usize = 2;
+const EVAL_POLY: usize = 3;
 
 /// The plain engine, which counts its calls.
 #[derive(Drop)]
@@ -29,7 +34,7 @@ impl<'t> Counting<'t> {
         }
     }
 
-    // Counts a call of the engine's method of this number.
+    // Counts a call of the method that has this place.
     fn count(&self, method: usize)
         requires { method < 4 }
     {
@@ -49,7 +54,7 @@ impl Engine for Counting<'_> {
         truncated_size: usize,
         skew_delta: usize,
     ) {
-        self.count(0);
+        self.count(FFT);
         self.naive
             .fft(steps, data, pos, size, truncated_size, skew_delta);
     }
@@ -63,18 +68,18 @@ impl Engine for Counting<'_> {
         truncated_size: usize,
         skew_delta: usize,
     ) {
-        self.count(1);
+        self.count(IFFT);
         self.naive
             .ifft(steps, data, pos, size, truncated_size, skew_delta);
     }
 
     fn mul(&self, steps: &mut Steps, x: &mut [[u8; 64]], log_m: GfElement) {
-        self.count(2);
+        self.count(MUL);
         self.naive.mul(steps, x, log_m);
     }
 
     fn eval_poly(&self, steps: &mut Steps, erasures: &mut [GfElement], truncated_size: usize) {
-        self.count(3);
+        self.count(EVAL_POLY);
         self.naive.eval_poly(steps, erasures, truncated_size);
     }
 }

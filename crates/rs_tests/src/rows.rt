@@ -78,10 +78,11 @@ fn rows_are_summed_lent_and_split(rt: HostRuntime) {
     xor_within(&mut Steps::new(), &mut rows, 0, 2, 2);
     assert_eq!(rt; chunks, [[2; 64], [6; 64], [3; 64], [4; 64], [5; 64]]);
 
+    let mut chunks = CHUNKS;
     let mut rows = ShardsRefMut::new(4, 1, &mut chunks);
     let (_, _, third, _) = rows.dist4_mut(0, 1);
     third.copy_from_slice(&[[9; 64]]);
-    assert_eq!(rt; chunks, [[2; 64], [6; 64], [9; 64], [4; 64], [5; 64]]);
+    assert_eq!(rt; chunks, [[1; 64], [2; 64], [9; 64], [4; 64], [5; 64]]);
 
     let mut rows = ShardsRefMut::new(4, 1, &mut chunks);
     let (front, back) = rows.split_at_mut(1);

@@ -142,8 +142,8 @@ fn two_layers<K: Kernel>(
 }
 
 /// The layers of the transform of the `size` rows from `pos` on, at `skew_delta`: the first ones of the forward transform,
-/// which leave the forward transforms of their parts of `part_rows` rows, each at the point where it begins, and the last
-/// ones of the backward transform, which such parts go before.
+/// which leave the forward transforms of the parts of `part_rows` rows to do, each at the point where it begins, and the
+/// last ones of the backward transform, which come after the backward transforms of these parts.
 ///
 /// `size` is a power of two above one.
 pub(crate) fn layers<K: Kernel>(

@@ -2,7 +2,7 @@
 ghost use Rattle.std.specs.Prelude.{◌≡◌, ℕ, ◌+◌, ◌<◌, ◌≤◌, ◌≢◌, ◌⊎◌, length};
 ghost use Rattle.rs_field.specs.Rows.{chunk, SameOutsideTwo};
 ghost use Rattle.rs_field.specs.View.{cell, Fits, SameShape, SameRowsOutsideTwo};
-ghost use Rattle.rs_field.specs.Pairs.{OnChunks};
+ghost use Rattle.rs_field.specs.Pairs.{OnTwoChunks};
 ghost use Rattle.rs_field.specs.Bounds.{CountsRows};
 
 use super::{ShardsRefMut, Steps};
@@ -10,7 +10,7 @@ use super::{ShardsRefMut, Steps};
 /// A step on two rows of the same number of chunks.
 pub(crate) trait PairStep {
     /// What the step makes of a chunk of each row, from the two old ones.
-    ghost related: { Self → OnChunks };
+    ghost related: { Self → OnTwoChunks };
 
     /// Does the step to two rows.
     fn apply(&self, x: &mut [[u8; 64]], y: &mut [[u8; 64]])

@@ -13,6 +13,7 @@ ghost use Rattle.rs_field.specs.Bounds.{TransformCounts};
 ghost use Rattle.rs_field.specs.Inverse.{TransformsAreInverse};
 
 use super::kernel::Kernel;
+use super::layers::Direction::{Backward, Forward};
 use super::layers::{Direction, layers, part_rows};
 use super::tables::Skew;
 use super::{ShardsRefMut, Steps};
@@ -99,28 +100,10 @@ pub fn fft<K: Kernel>(
     if size == 1 {
         row_symbols_are_words(rows);
     } else if size <= 4 {
-        transform_few(
-            Direction::Forward,
-            kernel,
-            skew,
-            steps,
-            rows,
-            pos,
-            size,
-            skew_delta,
-        );
+        transform_few(Forward, kernel, skew, steps, rows, pos, size, skew_delta);
     } else if truncated_size > 0 {
         let part = part_rows(size);
-        layers(
-            Direction::Forward,
-            kernel,
-            skew,
-            steps,
-            rows,
-            pos,
-            size,
-            skew_delta,
-        );
+        layers(Forward, kernel, skew, steps, rows, pos, size, skew_delta);
         for j in 0..truncated_size.div_ceil(part) {
             let start = j * part;
             let wanted = part.min(truncated_size - start);
@@ -172,16 +155,7 @@ pub fn ifft<K: Kernel>(
     if size == 1 {
         row_symbols_are_words(rows);
     } else if size <= 4 {
-        transform_few(
-            Direction::Backward,
-            kernel,
-            skew,
-            steps,
-            rows,
-            pos,
-            size,
-            skew_delta,
-        );
+        transform_few(Backward, kernel, skew, steps, rows, pos, size, skew_delta);
     } else if truncated_size > 0 {
         let part = part_rows(size);
         for j in 0..truncated_size.div_ceil(part) {
@@ -198,16 +172,7 @@ pub fn ifft<K: Kernel>(
                 skew_delta + start,
             );
         }
-        layers(
-            Direction::Backward,
-            kernel,
-            skew,
-            steps,
-            rows,
-            pos,
-            size,
-            skew_delta,
-        );
+        layers(Backward, kernel, skew, steps, rows, pos, size, skew_delta);
     }
 }
 

@@ -7,7 +7,7 @@ pub returns-then-LANES-lt32 : goal.returns-then-LANES-lt32
 returns-then-LANES-lt32 g c s h =
     let width = g.met.V.ByteVector.width in
     let factors = c.args.factors in
-    let layers = g.D.Direction.four (g.F02.Factor.log factors.f02) (g.F01.Factor.log factors.f01) (g.F23.Factor.log factors.f23) in
+    let layers = g.D.Butterflies.four (g.F02.Factor.log factors.f02) (g.F01.Factor.log factors.f01) (g.F23.Factor.log factors.f23) in
     elim (cases_lt s 16) [
       | inl low ↦
           let next = c.four_blocks-then-LANES-lt32.ensures in

@@ -6,7 +6,7 @@ use Rattle.rs_engines.proofs.shuffle_chunks.two_chunks.Goals as goal
 pub returns-then-LANES-lt32 : goal.returns-then-LANES-lt32
 returns-then-LANES-lt32 g c s h =
     let width = g.met.V.ByteVector.width in
-    let butterfly = g.D.Direction.two (g.F.Factor.log c.args.factor) in
+    let butterfly = g.D.Butterflies.two (g.F.Factor.log c.args.factor) in
     elim (cases_lt s 16) [
       | inl low ↦
           let next = c.two_blocks-then-LANES-lt32.ensures in

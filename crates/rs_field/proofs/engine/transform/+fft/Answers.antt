@@ -64,7 +64,9 @@ loop-j-preserved g t c =
       done =
           forward_next size n c.args.skew_delta c.args.pos c.args.truncated_size j c.args.rows.now c.loop-j.rows c.fft.new.rows part c.requires.truncated begins
           c.loop-j.invariant.done c.fft.ensures.shape c.fft.ensures.others
-          (λ k s i hk hs hi. c.fft.ensures.values k s i hk hs (subst (λ (m : ℕ). i < m) (sym c.min-wanted.ensures) hi));
+          (λ k s i hk hs hi.
+          let wanted = subst (λ (m : ℕ). i < m) (sym c.min-wanted.ensures) hi in
+          c.fft.ensures.values k s i hk hs (omega (arith, wanted)));
       counts = counts_next (layer_steps size) (transform_steps n) j c.args.steps.now c.loop-j.steps c.fft.new.steps c.loop-j.invariant.counts c.fft.ensures.counts;
     }
 

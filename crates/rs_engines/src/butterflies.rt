@@ -8,8 +8,8 @@ use crate::byte_vector::ByteVector;
 use crate::factors::{Factor, ThreeFactors};
 use crate::words::{Words, add};
 
-/// Which way a transform goes, and so the order of a butterfly's two sums and of two layers.
-pub trait Direction {
+/// The butterflies of one direction of a transform: it tells the order of their two sums and of two layers.
+pub trait Butterflies {
     // What a butterfly makes of two words, by the factor of a logarithm.
     ghost two: { ℕ → OnTwoWords };
 
@@ -47,7 +47,7 @@ pub trait Direction {
 /// of rows 0 and 2 and of rows 1 and 3 comes first.
 pub struct Forward;
 
-impl Direction for Forward {
+impl Butterflies for Forward {
     ghost two = { IsForwardTwo };
 
     ghost four = { IsForwardFour };
@@ -84,7 +84,7 @@ impl Direction for Forward {
 /// rows 0 and 1 and of rows 2 and 3 comes first.
 pub struct Backward;
 
-impl Direction for Backward {
+impl Butterflies for Backward {
     ghost two = { IsBackwardTwo };
 
     ghost four = { IsBackwardFour };
