@@ -15,8 +15,11 @@ use std::test::Fail;
 type Calls = [u32; 4];
 
 const FFT: usize = 0;
+
 const IFFT: usize = 1;
+
 const MUL: usize = 2;
+
 const EVAL_POLY: usize = 3;
 
 /// The plain engine, which counts its calls.
