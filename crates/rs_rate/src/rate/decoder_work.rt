@@ -134,7 +134,8 @@ impl DecoderMemory {
     }
 
     // Holds so many chunks and so many rows that are marked as empty, for which there is room. What the locator's entries
-    // are is open: each decode writes them.
+    // are is open: each decode writes them. Inlined, so that the chunks of a new memory become zeros by a `memset`.
+    #[inline(always)]
     fn set_empty(&mut self, chunks: usize, rows: usize)
         requires chunks { chunks ≤ vec_capacity self.old.chunks }
         requires rows { rows ≤ vec_capacity self.old.marks }
