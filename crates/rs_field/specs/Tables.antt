@@ -35,7 +35,7 @@ pub record IsLogWalsh (log_walsh : List ℕ) : Type 0 where
   pub walsh_length : length log_walsh ≡ 65536
   pub walsh_entry : IsWalsh 65536 log_or_zero (λ w. slice_index log_walsh w)
 
--- for n entries, a power of two: the transform of the logarithms below n, each times 65536 / n
+-- for n entries, a power of two: the transform of the logarithms of the words below n, each times 65536 / n, where that of 0 counts as 0
 pub record IsLogWalshBelow (n : ℕ) (log_walsh : List ℕ) : Type 0 where
   pub below_length : length log_walsh ≡ n
   pub below_entry : IsWalsh n (λ z. 65536 / n * log_or_zero z) (λ w. slice_index log_walsh w)

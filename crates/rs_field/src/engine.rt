@@ -131,8 +131,9 @@ pub trait Engine: Drop {
     /// The locator of the marked points among the first ones, as many as there are entries, at these points: entry x
     /// becomes, modulo 65535, the sum over these points y other than x of entry y times the logarithm of `x XOR y`.
     ///
-    /// There are a power of two of entries, at most 65536. Since no point past them is marked, an engine that brings no
-    /// such call has it by one `eval_poly`, over 65536 entries on the stack.
+    /// There are a power of two of entries, at most 65536. Of a new entry the residue alone is fixed: 0 and 65535 both
+    /// stand for zero. An engine that brings no such call makes one `eval_poly`, with no point past the entries marked,
+    /// over 65536 entries on the stack.
     fn locate(&self, steps: &mut Steps, entries: &mut [GfElement])
         requires power { (d : ℕ) × (length entries.old ≡ 2 ^ d) }
         requires few { length entries.old ≤ 65536 }

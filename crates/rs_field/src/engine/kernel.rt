@@ -10,7 +10,7 @@ use super::transform::{fft, ifft};
 use super::{Engine, GfElement, ShardsRefMut, Steps, utils};
 
 /// The logarithms of the factors of two layers on four rows: of rows 0 and 2 and of rows 1 and 3, of rows 0 and 1, and of
-/// rows 2 and 3.
+/// rows 2 and 3; 65535 marks the factor zero.
 #[derive(Clone, Copy)]
 pub struct ThreeLogarithms {
     pub log_m02: GfElement,

@@ -19,8 +19,8 @@ pub type Log<'a> = &'a [GfElement];
 /// A lent table of the 65535 factors of butterflies, by their logarithms; 65535 marks the factor zero.
 pub type Skew<'a> = &'a [GfElement];
 
-/// A lent table of a power of two of entries, n: the Walsh-Hadamard transform of the logarithms below n, where that of 0
-/// counts as 0, each times 65536 / n.
+/// A lent table of a power of two of entries, n: the Walsh-Hadamard transform of the logarithms of the words below n, where
+/// that of 0 counts as 0, each times 65536 / n.
 ///
 /// Its entries are residues modulo 65535: 0 and 65535 both stand for zero.
 pub type LogWalsh<'a> = &'a [GfElement];
@@ -106,7 +106,8 @@ pub fn get_log_walsh(tables: &Tables) -> LogWalsh<'_>
     get_log_walsh_below(tables, GF_ORDER)
 }
 
-/// The transform of the logarithms below `points`, of which locators of so many points are made.
+/// The transform of the logarithms of the words below `points`, each times 65536 / `points`, of which locators of so many
+/// points are made. `points` is a power of two, at most 65536.
 pub fn get_log_walsh_below(tables: &Tables, points: usize) -> LogWalsh<'_>
     requires power { (d : ℕ) × (points ≡ 2 ^ d) }
     requires few { points ≤ 65536 }
@@ -176,7 +177,7 @@ fn skew_table(alloc: Global, exp_log: &ExpLog) -> Result<Vec<GfElement>, AllocEr
     Ok(table)
 }
 
-// The transforms of the logarithms below each power of two, one behind the other; nothing is counted for them.
+// The transforms of the logarithms of the words below each power of two, one behind the other; nothing is counted for them.
 fn log_walsh_table(alloc: Global, log: Log<'_>) -> Result<Vec<GfElement>, AllocError>
     requires { IsLog log.now }
     ensures { IfOk result (λ v. AreLogWalshes v.items) }
@@ -188,7 +189,7 @@ fn log_walsh_table(alloc: Global, log: Log<'_>) -> Result<Vec<GfElement>, AllocE
     Ok(table)
 }
 
-// Puts the transform of the logarithms below `points` behind those of fewer points.
+// Puts the transform of the logarithms of the words below `points` behind those of fewer words.
 fn push_log_walsh(table: &mut Vec<GfElement>, log: Log<'_>, points: usize) -> Result<(), AllocError>
     requires log { IsLog log.now }
     requires power { (d : ℕ) × (points ≡ 2 ^ d) }
@@ -205,8 +206,8 @@ fn push_log_walsh(table: &mut Vec<GfElement>, log: Log<'_>, points: usize) -> Re
     Ok(())
 }
 
-// Puts the logarithms below `points` there, each times 65536 / points: the two transforms of a locator multiply by
-// `points`, and 65536 is one modulo 65535.
+// Puts the logarithms of the words below `points` behind the table's entries, each times 65536 / points: the two transforms
+// of a locator multiply by `points`, and 65536 is one modulo 65535.
 fn push_logs(table: &mut Vec<GfElement>, log: Log<'_>, points: usize) -> Result<(), AllocError>
     requires log { IsLog log.now }
     requires some { 0 < points }

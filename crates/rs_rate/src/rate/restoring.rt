@@ -1,9 +1,9 @@
 //! The decoding of a round over rows, for every rate: from the rows of the given shards to those of the missing
 //! originals.
 //!
-//! The given rows are multiplied by the locator of the erased points, and all others cleared. The polynomial through
+//! The given rows are multiplied by the locator of the erased rows, and all others cleared. The polynomial through
 //! them has as many zero coefficients at its end as shards are given beyond the originals exactly where some message
-//! agrees with all that is given. The polynomial plus its derivative takes at each erased point the wanted word times
+//! agrees with all that is given. The polynomial plus its derivative takes at each erased row the wanted word times
 //! the locator's derivative. The method is that of Lin, Chung and Han in the form of Leopard-RS; the check is added.
 ghost use Rattle.std.specs.Prelude.{◌≡◌, ℕ, ◌+◌, ◌-◌, ◌/◌, ◌%◌, ◌^◌, ◌<◌, ◌≤◌, ◌↔◌, true, false, length, max, replicate, slice_index};
 ghost use Rattle.rs_field.specs.Bounds.{CountsRows, CountsUpTo};
