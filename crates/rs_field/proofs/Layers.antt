@@ -1,8 +1,7 @@
 -- One layer of butterflies between the halves of a block, and two layers between its quarters, for one symbol of the rows.
-use Rattle.std.proofs.Common.{◌≡◌, ℕ, suc, ◌+◌, ◌-◌, ◌*◌, ◌%◌, ◌^◌, ◌<◌, ◌≤◌, Bool, true, false, cond, nat_lt, List, get_or, bit_xor, refl, sym, ap, ap₂, ◌∙◌, subst, inl, inr, arith, pow-suc}
+use Rattle.std.proofs.Common.{◌≡◌, ℕ, suc, ◌+◌, ◌-◌, ◌*◌, ◌%◌, ◌^◌, ◌<◌, ◌≤◌, Bool, true, false, cond, nat_lt, List, get_or, bit_xor, refl, sym, ap, ap₂, ◌∙◌, subst, inl, inr, arith}
 use Rattle.std.proofs.Math.Nat.{mul-le-mul_right}
 use Rattle.std.proofs.lemmas.Bool.{cases_lt}
-use Rattle.std.proofs.lemmas.Nat.{pow_pos}
 use Rattle.rs_field.specs.Field.{product}
 use Rattle.rs_field.specs.Subspace.{subspace}
 use Rattle.rs_field.specs.Transform.{forward}
@@ -36,20 +35,6 @@ block_halves skew n shift b large =
         points = omega (arith, b.points);
       },
     )
-
--- four times a power of two
-pub quarters_block : (skew : List ℕ) (n shift : ℕ) → IsSkew skew → (d : ℕ) × (n ≡ 2 ^ d) → shift % (4 * n) ≡ 0 → shift + 4 * n ≤ 65536 → IsBlock skew (4 * n) shift
-quarters_block skew n shift table (d, is) aligned points =
-    let positive = pow_pos d in
-    let once = pow-suc 2 d in
-    let twice = pow-suc 2 (suc d) in
-    record {
-      table = table;
-      large = omega (arith, positive, is);
-      power = (suc (suc d), omega (arith, once, twice, is));
-      aligned = aligned;
-      points = points;
-    }
 
 -- the factor of the butterflies between the halves, by its logarithm
 abbrev pub factor : List ℕ → ℕ → ℕ → ℕ

@@ -64,3 +64,17 @@ next_power-above n h =
       | inl large ↦ let more : 65536 < next_power n = next_power-large n large in absurd (omega arith)
       | inr small ↦ (next_power-small n small).3
     ]
+
+-- ---- small powers of two are those that are their own
+
+pub power_is_own : (n d : ℕ) → n ≡ 2 ^ d → n ≤ 65536 → next_power n ≡ n
+power_is_own n d is small =
+    let positive = pow_pos d in
+    let few : d < 64 = elim (cases_lt d 64) [
+      | inl h ↦ h
+      | inr many ↦ let big : 2 ^ 64 ≤ 2 ^ d = pow_mono many in absurd (let no : ⊥ = omega arith in no)
+    ] in
+    sym (next_power-is n n d is few (omega arith) (omega arith))
+
+pub own_is_power : (n : ℕ) → next_power n ≡ n → n ≤ 65536 → (d : ℕ) × (n ≡ 2 ^ d)
+own_is_power n own small = let p = next_power-small n small in (p.0, sym own ∙ p.2)

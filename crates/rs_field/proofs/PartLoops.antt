@@ -1,20 +1,22 @@
 -- Loops over the parts of a block, each of which transforms one part, for the rows and for the counts.
-use Rattle.std.proofs.Common.{◌≡◌, ℕ, ◌+◌, ◌-◌, ◌*◌, ◌/◌, ◌%◌, ◌^◌, ◌<◌, ◌≤◌, ◌≢◌, ◌⊎◌, refl, sym, ap, ◌∙◌, inl, inr, arith, subst, mod-lt}
-use Rattle.std.specs.Prelude.{min}
+use Rattle.std.proofs.Common.{◌≡◌, ℕ, ◌+◌, ◌-◌, ◌*◌, ◌/◌, ◌%◌, ◌^◌, ◌<◌, ◌≤◌, ◌⊎◌, true, refl, sym, ap, ◌∙◌, inl, inr, arith, subst, mod-lt}
 use Rattle.std.proofs.Math.Nat.{mul-le-mul_right}
 use Rattle.std.proofs.lemmas.Bool.{cases_eq, cases_lt}
 use Rattle.std.proofs.lemmas.Nat.{div-add-mod'}
 use Rattle.rs_field.specs.Transform.{forward}
 use Rattle.rs_field.specs.Layers.{ArePartsOf, rows_of_part, layer_steps}
-use Rattle.rs_field.specs.View.{cell, word, SameShape, SameRowsOutside, AreZero}
+use Rattle.rs_field.specs.View.{cell, word, SameShape, SameRowsOutside}
+use Rattle.rs_field.specs.MarkedRows.{is_used}
 use Rattle.rs_field.specs.Bounds.{CountsRows, CountsUpTo, TransformCounts, transform_steps}
+use Rattle.rs_field.specs.declared.engine.block.Block.{Block}
+use Rattle.rs_field.specs.declared.engine.marked_rows.UsedRows.{UsedRows}
 use Rattle.rs_field.specs.declared.engine.shards.ShardsRefMut.{ShardsRefMut}
 use Rattle.rs_field.specs.declared.engine.steps.Steps.{Steps}
 use Rattle.rs_field.proofs.Combination.{forward-one, forward-same}
 use Rattle.rs_field.proofs.Counting.{counts_rows, counts_then, counts_within}
 use Rattle.rs_field.proofs.Halves.{quarter_power}
 use Rattle.rs_field.proofs.Parts.{IsPart, part_found, part_of_more, part_of_two, part_within}
-use Rattle.rs_field.proofs.Recursion.{word_same, zero_rows}
+use Rattle.rs_field.proofs.Recursion.{word_same}
 use Rattle.rs_field.proofs.RowOffsets.{outside_both, outside_cell, shape_then}
 
 -- a part of rows by the place of its first row
@@ -34,15 +36,15 @@ kept old new k s n shift pos start i same =
 -- ---- forward
 
 -- the parts before the j-th are transformed, and the others are still as the layers left them
-pub record ForwardDone (size n shift pos wanted j : ℕ) (old new : ShardsRefMut) : Type 0 where
+pub record ForwardDone (size n shift pos : ℕ) (wanted : UsedRows) (j : ℕ) (old new : ShardsRefMut) : Type 0 where
   pub shape : SameShape old new
   pub others : SameRowsOutside pos (pos + size) old new
-  pub values : (k s i : ℕ) → k < old.shard_len_64 → s < 32 → i < j * n → i < wanted
+  pub values : (k s i : ℕ) → k < old.shard_len_64 → s < 32 → i < j * n → is_used wanted i ≡ true
       → word new k s (pos + i) ≡ forward size shift (λ q. word old k s (pos + q)) i
   pub rest : (k s m i : ℕ) → k < old.shard_len_64 → s < 32 → j ≤ m → m * n < size → i < n
       → forward n (shift + m * n) (λ q. word new k s (pos + (m * n + q))) i ≡ forward size shift (λ q. word old k s (pos + q)) (m * n + i)
 
-pub forward_begun : (size n shift pos wanted : ℕ) (old new : ShardsRefMut) → SameShape old new → SameRowsOutside pos (pos + size) old new
+pub forward_begun : (size n shift pos : ℕ) (wanted : UsedRows) (old new : ShardsRefMut) → SameShape old new → SameRowsOutside pos (pos + size) old new
     → ((k s : ℕ) → k < old.shard_len_64 → s < 32 → ArePartsOf size n shift (λ q. word old k s (pos + q)) (λ q. word new k s (pos + q)))
     → ForwardDone size n shift pos wanted 0 old new
 forward_begun size n shift pos wanted old new shape others parts = record {
@@ -52,15 +54,15 @@ forward_begun size n shift pos wanted old new shape others parts = record {
   rest = λ k s m i hk hs hm within hi. parts k s hk hs m i within hi;
 }
 
-pub forward_next : (size n shift pos wanted j : ℕ) (old mid new : ShardsRefMut) → IsPart size n → wanted ≤ size → j * n < wanted
+pub forward_next : (size n shift pos : ℕ) (wanted : UsedRows) (j : ℕ) (old mid new : ShardsRefMut) → IsPart size n → j * n < size
     → ForwardDone size n shift pos wanted j old mid → SameShape mid new → SameRowsOutside (pos + j * n) (pos + j * n + n) mid new
-    → ((k s i : ℕ) → k < mid.shard_len_64 → s < 32 → i < min n (wanted - j * n)
+    → ((k s i : ℕ) → k < mid.shard_len_64 → s < 32 → i < n → is_used wanted (j * n + i) ≡ true
     → word new k s (pos + j * n + i) ≡ forward n (shift + j * n) (λ q. word mid k s (pos + j * n + q)) i)
     → ForwardDone size n shift pos wanted (j + 1) old new
-forward_next size n shift pos wanted j old mid new p most begins done shape others step = record {
+forward_next size n shift pos wanted j old mid new p begins done shape others step = record {
   shape = shape_then old mid new done.shape shape;
   others =
-      let inside = part_within size n j p (omega arith) in
+      let inside = part_within size n j p begins in
       outside_both pos (pos + size) (pos + j * n) (pos + j * n + n) pos (pos + size) old mid new done.shape done.others others
       (omega arith) (omega arith) (omega arith) (omega arith);
   values = λ k s i hk hs hi hw. elim (cases_lt i (j * n)) [
@@ -71,8 +73,7 @@ forward_next size n shift pos wanted j old mid new p most begins done shape othe
         let back : j * n + r ≡ i = omega arith in
         let there : pos + i ≡ pos + j * n + r = omega arith in
         let low : r < n = omega arith in
-        let small : r < min n (wanted - j * n) = let w : r < wanted - j * n = omega arith in omega (arith, low, w) in
-        ap (word new k s) there ∙ step k s r (omega (arith, len)) hs small ∙ placed mid k s n (shift + j * n) pos (j * n) r
+        ap (word new k s) there ∙ step k s r (omega (arith, len)) hs low (subst (λ (m : ℕ). is_used wanted m ≡ true) (sym back) hw) ∙ placed mid k s n (shift + j * n) pos (j * n) r
         ∙ done.rest k s j r hk hs (omega arith) (omega arith) low ∙ ap (forward size shift (λ q. word old k s (pos + q))) back
   ];
   rest = λ k s m i hk hs hm within hi.
@@ -144,36 +145,22 @@ backward_next size n shift pos j old mid new p begins done shape others step = r
         sym (word_same mid old k s (pos + (j * n + i)) (pos + (j * n + i)) (done.rest k (j * n + i) hk (omega arith) (omega (arith, inside))))
         ∙ ap (word mid k s) there ∙ step k s i (omega (arith, len)) hs hi ∙ placed new k s n (shift + j * n) pos (j * n) i
 
--- all parts: those that are left hold zeros
-pub backward_all : (size n shift pos filled j k s m i : ℕ) (old new : ShardsRefMut) → IsPart size n → filled ≤ j * n → AreZero (pos + filled) (pos + size) old
-    → BackwardDone size n shift pos j old new → k < old.shard_len_64 → s < 32 → m * n < size → i < n
-    → word old k s (pos + (m * n + i)) ≡ forward n (shift + m * n) (λ q. word new k s (pos + (m * n + q))) i
-backward_all size n shift pos filled j k s m i old new p all tail done hk hs within hi =
-    elim (cases_lt m j) [
-      | inl before ↦ done.values k s m i hk hs before hi
-      | inr after ↦
-          let le : j * n ≤ m * n = mul-le-mul_right n after in
-          let inside = part_within size n m p within in
-          let there : pos + (m * n + i) ≡ pos + m * n + i = omega arith in
-          ap (word old k s) there
-          ∙ zero_rows old k s (pos + m * n) n (shift + m * n) i hs hi (λ q hq. tail (pos + m * n + q) k hk (omega arith) (omega arith))
-          ∙ placed old k s n (shift + m * n) pos (m * n) i
-          ∙ sym (kept old new k s n (shift + m * n) pos (m * n) i (λ q hq. done.rest k (m * n + q) hk (omega arith) (omega arith)))
-    ]
-
--- and then the layers
-pub backward_whole : (size n shift pos filled j k s i : ℕ) (old mid new : ShardsRefMut) → IsPart size n → filled ≤ j * n → AreZero (pos + filled) (pos + size) old
-    → BackwardDone size n shift pos j old mid
+-- all parts, and then the layers
+pub backward_whole : (size n shift pos j k s i : ℕ) (old mid new : ShardsRefMut) → IsPart size n → size ≤ j * n → BackwardDone size n shift pos j old mid
     → ArePartsOf size n shift (λ q. word new k s (pos + q)) (λ q. word mid k s (pos + q)) → k < old.shard_len_64 → s < 32 → i < size
     → word old k s (pos + i) ≡ forward size shift (λ q. word new k s (pos + q)) i
-backward_whole size n shift pos filled j k s i old mid new p all tail done parts hk hs hi =
+backward_whole size n shift pos j k s i old mid new p all done parts hk hs hi =
     let m : ℕ = i / n in
     let r : ℕ = i % n in
     let low : r < n = mod-lt i p.positive in
     let back : m * n + r ≡ i = div-add-mod' i n in
     let within : m * n < size = omega arith in
+    let before : m < j = elim (cases_lt m j) [
+      | inl h ↦ h
+      | inr past ↦ let le : j * n ≤ m * n = mul-le-mul_right n past in absurd (let no : ⊥ = omega arith in no)
+    ] in
     ap (λ v. word old k s (pos + v)) (sym back)
-    ∙ backward_all size n shift pos filled j k s m r old mid p all tail done hk hs within low
+    ∙ done.values k s m r hk hs before low
     ∙ parts m r within low
     ∙ ap (forward size shift (λ q. word new k s (pos + q))) back
 
@@ -199,10 +186,10 @@ single_rows size shift i f g large few power parts hi word =
 -- ---- counts
 
 -- the layers are no more than the whole
-pub counts_of_layers : (size shift : ℕ) (from to : Steps) → 1 < size → (d : ℕ) × (size ≡ 2 ^ d) → shift + size ≤ 65536 → CountsRows (layer_steps size) from to
-    → TransformCounts size from to
-counts_of_layers size shift from to large power points c =
-    let p = part_found size (rows_of_part size) shift refl (let no : size ≢ 1 = λ e. (let absurdly : ⊥ = omega (arith, e, large) in absurdly) in no) power points in
+pub counts_of_layers : (block : Block) (from to : Steps) → 1 < block.size → CountsRows (layer_steps block.size) from to → TransformCounts block.size from to
+counts_of_layers block from to large c =
+    let size = block.size in
+    let p = part_found block (rows_of_part size) refl large in
     counts_within (layer_steps size) (transform_steps size) from to (let whole = p.steps in omega arith) (counts_rows (layer_steps size) from to c)
 
 -- one more part

@@ -1,15 +1,13 @@
 -- The parts of a block that its first layers leave: their rows, their place among the points, and the row steps.
 use Rattle.std.proofs.Common.{◌≡◌, ℕ, ◌+◌, ◌*◌, ◌/◌, ◌%◌, ◌^◌, ◌<◌, ◌≤◌, ◌≢◌, Bool, cond, eqb, refl, sym, ap, ◌∙◌, subst, inl, inr, arith, ne_eqb}
-use Rattle.std.proofs.Math.Nat.{mul-le-mul_right, add-mul-mod_self_right, mul-mod_left}
+use Rattle.std.proofs.Math.Nat.{mul-le-mul_right, add-mul-mod_self_right, mul-div_cancel, mul-mod_left}
 use Rattle.std.proofs.lemmas.Bool.{cases_eq, cases_lt}
 use Rattle.std.proofs.lemmas.Nat.{pow_pos, div-add-mod'}
-use Rattle.std.proofs.lemmas.Grind.{div_ceil_times}
-use Rattle.std.specs.Int.{div_ceil}
-use Rattle.std.specs.Prelude.{min}
 use Rattle.rs_field.specs.Layers.{rows_of_part, layer_steps}
 use Rattle.rs_field.specs.Bounds.{transform_steps}
 use Rattle.rs_field.proofs.Halves.{quarter_power, no_steps, steps_half, steps_quarters}
-use Rattle.rs_field.proofs.Recursion.{above_one}
+use Rattle.rs_field.proofs.NextPower.{own_is_power}
+use Rattle.rs_field.specs.declared.engine.block.Block.{Block}
 
 pub part_of_two : (size : ℕ) → size ≡ 2 → rows_of_part size ≡ 1
 unfolding rows_of_part
@@ -36,10 +34,21 @@ pub record IsPart (size n : ℕ) : Type 0 where
   pub whole : size ≡ count * n
   pub steps : layer_steps size + count * transform_steps n ≡ transform_steps size
 
-part_is : (size shift : ℕ) → 1 < size → (d : ℕ) × (size ≡ 2 ^ d) → shift + size ≤ 65536 → IsPart size (rows_of_part size)
-part_is size shift large power points =
+-- the rows of a block are a power of two
+pub block_power : (block : Block) → (d : ℕ) × (block.size ≡ 2 ^ d)
+block_power block = own_is_power block.size block.power (let points = block.points in omega arith)
+
+-- and four times those of a quarter, where there are more than two
+pub block_quarters : (block : Block) → 1 < block.size → block.size ≢ 2 → block.size ≡ 4 * (block.size / 4)
+block_quarters block large more = (quarter_power block.size (omega (arith, large, more)) (block_power block)).3
+
+-- the part of a block of more than one row, however its rows were found
+pub part_found : (block : Block) (n : ℕ) → n ≡ rows_of_part block.size → 1 < block.size → IsPart block.size n
+part_found block n is large =
+    let size = block.size in
+    let points = block.points in
     elim (cases_eq size 2) [
-      | inl e ↦ subst (IsPart size) (sym (part_of_two size e)) (record {
+      | inl e ↦ subst (IsPart size) (sym (is ∙ part_of_two size e)) (record {
         power = (0, refl);
         positive = omega arith;
         smaller = large;
@@ -52,9 +61,9 @@ part_is size shift large power points =
             omega (arith, steps_of_two size e, none, one, same);
       })
       | inr ne ↦
-          let q = quarter_power size (omega arith) power in
+          let q = quarter_power size (omega arith) (block_power block) in
           let pos = pow_pos q.0 in
-          subst (IsPart size) (sym (part_of_more size ne)) (record {
+          subst (IsPart size) (sym (is ∙ part_of_more size ne)) (record {
             power = (q.0, q.2);
             positive = omega (arith, q.2, pos);
             smaller = omega (arith, q.2, pos, q.3);
@@ -63,10 +72,6 @@ part_is size shift large power points =
             steps = omega (arith, steps_of_more size ne, steps_quarters size q.0 (size / 4) (omega arith) q.1 q.2, q.3);
           })
     ]
-
--- the part of a block of more than one row, however its rows were found
-pub part_found : (size n shift : ℕ) → n ≡ rows_of_part size → size ≢ 1 → (d : ℕ) × (size ≡ 2 ^ d) → shift + size ≤ 65536 → IsPart size n
-part_found size n shift is more power points = subst (IsPart size) (sym is) (part_is size shift (above_one size more power) power points)
 
 -- part j of a block lies in it
 pub part_within : (size n j : ℕ) → IsPart size n → j * n < size → j * n + n ≤ size
@@ -87,28 +92,21 @@ part_aligned size n shift j p aligned =
     regroup : (u m shift : ℕ) → u * size + shift % size ≡ shift → shift % size ≡ 0 → size ≡ m * n → shift ≡ u * m * n
     regroup u m shift parts aligned whole = omega (arith, ap (λ v. u * v) whole)
 
--- ---- the parts that begin below a number of rows
+-- ---- the parts one by one
 
--- each of them does begin below it
-pub part_begins : (wanted n j parts : ℕ) → 0 < n → parts ≡ div_ceil wanted n → j < parts → j * n < wanted
-part_begins wanted n j parts positive is h =
-    let bounds = div_ceil_times wanted n positive in
-    let next : j + 1 ≤ parts = omega arith in
-    let le : (j + 1) * n ≤ parts * n = mul-le-mul_right n next in
-    let same : parts * n ≡ (wanted / n + min 1 (wanted % n)) * n = ap (λ v. v * n) is in
-    omega (arith, bounds.1, le, same)
+-- a block has so many
+pub parts_number : (size n : ℕ) (p : IsPart size n) → size / n ≡ p.count
+parts_number size n p = ap (λ v. v / n) p.whole ∙ mul-div_cancel p.count p.positive
 
--- together they hold all those rows
-pub parts_cover : (wanted n parts : ℕ) → 0 < n → parts ≡ div_ceil wanted n → wanted ≤ parts * n
-parts_cover wanted n parts positive is = subst (λ (p : ℕ). wanted ≤ p * n) (sym is) (div_ceil_times wanted n positive).0
+-- each begins in it
+pub part_begins : (size n j : ℕ) → IsPart size n → j < size / n → j * n < size
+part_begins size n j p h =
+    let next : j + 1 ≤ p.count = omega (arith, parts_number size n p) in
+    let le : (j + 1) * n ≤ p.count * n = mul-le-mul_right n next in
+    let whole = p.whole in
+    let positive = p.positive in
+    omega arith
 
--- and a block has no more parts
-pub parts_most : (size n wanted parts : ℕ) (p : IsPart size n) → wanted ≤ size → parts ≡ div_ceil wanted n → parts ≤ p.count
-parts_most size n wanted parts p le is =
-    elim (cases_lt p.count parts) [
-      | inl more ↦
-          let begins = part_begins wanted n p.count parts p.positive is more in
-          let whole = p.whole in
-          absurd (let no : ⊥ = omega arith in no)
-      | inr few ↦ few
-    ]
+-- and together they are all of it
+pub parts_whole : (size n j : ℕ) → IsPart size n → j ≡ size / n → j * n ≡ size
+parts_whole size n j p is = ap (λ v. v * n) (is ∙ parts_number size n p) ∙ sym p.whole

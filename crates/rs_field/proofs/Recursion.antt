@@ -1,6 +1,5 @@
 -- A transform of one row and of rows of zeros, and rows that are the same.
-use Rattle.std.proofs.Common.{◌≡◌, ℕ, ◌+◌, ◌^◌, ◌<◌, List, replicate, sym, ap, ◌∙◌, arith}
-use Rattle.std.proofs.lemmas.Nat.{pow_pos}
+use Rattle.std.proofs.Common.{◌≡◌, ℕ, ◌+◌, ◌<◌, List, replicate, sym, ap, ◌∙◌, arith}
 use Rattle.rs_field.specs.Transform.{forward}
 use Rattle.rs_field.specs.Rows.{symbol}
 use Rattle.rs_field.specs.View.{cell, word, Fits, SameShape}
@@ -13,9 +12,6 @@ fits_kept a b p h = rw (p.count, p.len_64, p.length) h
 
 pub word_same : (a b : ShardsRefMut) (k s i j : ℕ) → cell a k i ≡ cell b k j → word a k s i ≡ word b k s j
 word_same a b k s i j e = ap (λ (c : List ℕ). symbol c s) e
-
-pub above_one : (size : ℕ) → (size ≡ 1 → ⊥) → (d : ℕ) × (size ≡ 2 ^ d) → 1 < size
-above_one size differs (d, is) = let pos = pow_pos d in omega arith
 
 -- of one row the transform is that row
 pub one_row : (size shift i : ℕ) (f : ℕ → ℕ) → size ≡ 1 → i < size → f 0 < 65536 → f i ≡ forward size shift f i

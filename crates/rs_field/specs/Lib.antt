@@ -25,6 +25,7 @@ pub mod CountLaws
 pub mod RoundTrip
 pub mod Rows
 pub mod View
+pub mod MarkedRows
 pub mod Pairs
 pub mod TwoLayers
 pub mod Layers

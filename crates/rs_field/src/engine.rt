@@ -1,12 +1,14 @@
 //! Constants of the field, the count of steps, and the trait of an engine.
-ghost use Rattle.std.specs.Prelude.{◌≡◌, ℕ, ◌+◌, ◌%◌, ◌^◌, ◌<◌, ◌≤◌, length, slice_index};
+ghost use Rattle.std.specs.Prelude.{◌≡◌, ℕ, ◌+◌, ◌%◌, ◌^◌, ◌<◌, ◌≤◌, true, length, slice_index};
 ghost use Rattle.rs_field.specs.Field.{product, power};
+ghost use Rattle.rs_field.specs.MarkedRows.{is_marked, OthersAreZero};
 ghost use Rattle.rs_field.specs.Transform.{forward};
 ghost use Rattle.rs_field.specs.Rows.{chunk, symbol};
 ghost use Rattle.rs_field.specs.View.{word, Fits, SameShape, SameRowsOutside, AreZero};
 ghost use Rattle.rs_field.specs.Locator.{IsLocator, IsLocatorBelow};
 ghost use Rattle.rs_field.specs.Bounds.{LocatorCounts, TransformCounts, RowProductCounts};
 
+pub mod block;
 pub mod derivative;
 pub mod engine_naive;
 mod fours;
@@ -14,6 +16,7 @@ mod fwht;
 pub mod kernel;
 mod layers;
 pub mod layout;
+pub mod marked_rows;
 mod mul128;
 mod mul16;
 mod pairs;
@@ -29,6 +32,7 @@ pub mod vectors;
 mod walsh_lanes;
 
 pub use engine_naive::Naive;
+use marked_rows::marked_end;
 pub use shards::ShardsRefMut;
 pub use steps::Steps;
 
@@ -109,6 +113,63 @@ pub trait Engine: Drop {
         ensures values { (k s i : ℕ) → k < «data».old.shard_len_64 → s < 32 → i < size
             → word «data».old k s (pos + i) ≡ forward size skew_delta (λ q. word «data».new k s (pos + q)) i }
         ensures counts { TransformCounts size steps.old steps.new };
+
+    /// The forward transform of as many rows as there are marks, from `pos` on, at `skew_delta`.
+    ///
+    /// Row i of them, where it is marked as wanted, becomes the sum over q of the old row q times the basis polynomial q
+    /// at the point `skew_delta + i`. The rows that aren't wanted are open; rows outside are unchanged. An engine that
+    /// brings no such call makes one `fft`, truncated behind the last wanted row.
+    fn fft_wanted(
+        &self,
+        steps: &mut Steps,
+        data: &mut ShardsRefMut<'_>,
+        pos: usize,
+        wanted: &[bool],
+        skew_delta: usize,
+    )
+        requires fits { Fits «data».old }
+        requires power { (d : ℕ) × (length wanted.now ≡ 2 ^ d) }
+        requires within { pos + length wanted.now ≤ «data».old.shard_count }
+        requires shift { skew_delta % length wanted.now ≡ 0 }
+        requires points { skew_delta + length wanted.now ≤ 65536 }
+        ensures shape { SameShape «data».old «data».new }
+        ensures others { SameRowsOutside pos (pos + length wanted.now) «data».old «data».new }
+        ensures values { (k s i : ℕ) → k < «data».old.shard_len_64 → s < 32 → is_marked wanted.now i ≡ true
+            → word «data».new k s (pos + i) ≡ forward (length wanted.now) skew_delta (λ q. word «data».old k s (pos + q)) i }
+        ensures counts { TransformCounts (length wanted.now) steps.old steps.new }
+    {
+        let end = marked_end(wanted);
+        self.fft(steps, data, pos, wanted.len(), end, skew_delta);
+    }
+
+    /// The backward transform of as many rows as there are marks, from `pos` on, at `skew_delta`.
+    ///
+    /// The rows become those whose forward transform they were. Those that aren't marked as given are zero when the call
+    /// begins; rows outside are unchanged. An engine that brings no such call makes one `ifft`, truncated behind the last
+    /// given row.
+    fn ifft_given(
+        &self,
+        steps: &mut Steps,
+        data: &mut ShardsRefMut<'_>,
+        pos: usize,
+        given: &[bool],
+        skew_delta: usize,
+    )
+        requires fits { Fits «data».old }
+        requires power { (d : ℕ) × (length given.now ≡ 2 ^ d) }
+        requires within { pos + length given.now ≤ «data».old.shard_count }
+        requires shift { skew_delta % length given.now ≡ 0 }
+        requires points { skew_delta + length given.now ≤ 65536 }
+        requires zeros { OthersAreZero given.now pos «data».old }
+        ensures shape { SameShape «data».old «data».new }
+        ensures others { SameRowsOutside pos (pos + length given.now) «data».old «data».new }
+        ensures values { (k s i : ℕ) → k < «data».old.shard_len_64 → s < 32 → i < length given.now
+            → word «data».old k s (pos + i) ≡ forward (length given.now) skew_delta (λ q. word «data».new k s (pos + q)) i }
+        ensures counts { TransformCounts (length given.now) steps.old steps.new }
+    {
+        let end = marked_end(given);
+        self.ifft(steps, data, pos, given.len(), end, skew_delta);
+    }
 
     /// Multiplies every symbol of every chunk of a row by the generator to the power `log_m`; 65535 is the factor one.
     fn mul(&self, steps: &mut Steps, x: &mut [[u8; 64]], log_m: GfElement)

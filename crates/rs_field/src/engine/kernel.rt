@@ -5,7 +5,9 @@ ghost use Rattle.rs_field.specs.Tables.{scaled};
 ghost use Rattle.rs_field.specs.Rows.{chunk, symbol};
 ghost use Rattle.rs_field.specs.TwoLayers.{IsForwardTwoLayers, IsBackwardTwoLayers};
 
-use super::tables::{Tables, get_log_walsh, get_log_walsh_below, get_skew};
+use super::block::Block;
+use super::marked_rows::UsedRows;
+use super::tables::{Tables, get_log_walsh, get_log_walsh_below};
 use super::transform::{fft, ifft};
 use super::{Engine, GfElement, ShardsRefMut, Steps, utils};
 
@@ -20,7 +22,7 @@ pub struct ThreeLogarithms {
 
 /// What tells engines apart: the tables that they read, the butterflies of two rows and the product of a row.
 ///
-/// Each type with these is an engine: its transforms, which take care of blocks, cosets and truncation, its products and
+/// Each type with these is an engine: its transforms, which take care of blocks, cosets and unused rows, its products and
 /// its locator are those of `impl Engine` below. The factor of a butterfly is given by its logarithm `log_m`; 65535 marks
 /// the factor zero.
 pub trait Kernel: Drop {
@@ -107,17 +109,8 @@ impl<K: Kernel> Engine for K {
         truncated_size: usize,
         skew_delta: usize,
     ) {
-        let skew = get_skew(self.tables());
-        fft(
-            self,
-            skew,
-            steps,
-            data,
-            pos,
-            size,
-            truncated_size,
-            skew_delta,
-        );
+        let wanted = UsedRows::First(truncated_size);
+        fft(self, steps, data, Block::new(pos, size, skew_delta), wanted);
     }
 
     fn ifft(
@@ -129,17 +122,32 @@ impl<K: Kernel> Engine for K {
         truncated_size: usize,
         skew_delta: usize,
     ) {
-        let skew = get_skew(self.tables());
-        ifft(
-            self,
-            skew,
-            steps,
-            data,
-            pos,
-            size,
-            truncated_size,
-            skew_delta,
-        );
+        let given = UsedRows::First(truncated_size);
+        ifft(self, steps, data, Block::new(pos, size, skew_delta), given);
+    }
+
+    fn fft_wanted(
+        &self,
+        steps: &mut Steps,
+        data: &mut ShardsRefMut<'_>,
+        pos: usize,
+        wanted: &[bool],
+        skew_delta: usize,
+    ) {
+        let block = Block::new(pos, wanted.len(), skew_delta);
+        fft(self, steps, data, block, UsedRows::Marked(wanted));
+    }
+
+    fn ifft_given(
+        &self,
+        steps: &mut Steps,
+        data: &mut ShardsRefMut<'_>,
+        pos: usize,
+        given: &[bool],
+        skew_delta: usize,
+    ) {
+        let block = Block::new(pos, given.len(), skew_delta);
+        ifft(self, steps, data, block, UsedRows::Marked(given));
     }
 
     fn mul(&self, steps: &mut Steps, x: &mut [[u8; 64]], log_m: GfElement) {

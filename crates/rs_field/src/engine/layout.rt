@@ -3,9 +3,11 @@
 //! Symbol s of a chunk has its low byte at byte s and its high byte at byte s + 32. Whole chunks of a shard lie as they
 //! are. A tail of L bytes lies in the last chunk: its first half from byte 0 on, its second half from byte 32 on. The
 //! other bytes of the last chunk are open.
-ghost use Rattle.std.specs.Prelude.{◌≡◌, ℕ, ◌+◌, ◌*◌, ◌%◌, ◌<◌, ◌≤◌, ◌↔◌, length, slice_index, IsTrue, EachIndex};
+ghost use Rattle.std.specs.Prelude.{◌≡◌, ℕ, ◌+◌, ◌*◌, ◌%◌, ◌<◌, ◌≤◌, ◌↔◌, ◌⊎◌, length, slice_index, IsTrue, EachIndex};
 ghost use Rattle.rs_field.specs.Layout.{row_len as chunks_for, laid_out, in_order, HasZeroColumns};
 ghost use Rattle.rs_field.specs.Rows.{chunk};
+
+use std::simd::prelude::*;
 
 /// How many chunks a row of shards of this size has.
 pub fn row_len(shard_bytes: usize) -> usize
@@ -37,8 +39,24 @@ fn put_whole(row: &mut [[u8; 64]], shard: &[u8], whole: usize)
     row[..whole].copy_from_slice(shard[..whole * 64].as_chunks().0);
 }
 
-// The halves of a tail lie from byte 0 and from byte 32 on.
+// The halves of a tail lie from byte 0 and from byte 32 on. It isn't inlined: a loop over shards would work out beforehand
+// what it needs, also where no shard has a tail.
+#[inline(never)]
 fn put_tail(chunk: &mut [u8; 64], tail: &[u8], half: usize)
+    requires half { half ≤ 32 }
+    requires length { length tail.now ≡ 2 * half }
+    ensures low { (b : ℕ) → b < half → slice_index «chunk».new b ≡ slice_index tail.now b }
+    ensures high { (b : ℕ) → b < half → slice_index «chunk».new (32 + b) ≡ slice_index tail.now (half + b) }
+{
+    if half < 16 {
+        put_short_tail(chunk, tail, half);
+    } else {
+        put_long_tail(chunk, tail, half);
+    }
+}
+
+// By two copies of `half` bytes.
+fn put_short_tail(chunk: &mut [u8; 64], tail: &[u8], half: usize)
     requires half { half ≤ 32 }
     requires length { length tail.now ≡ 2 * half }
     ensures low { (b : ℕ) → b < half → slice_index «chunk».new b ≡ slice_index tail.now b }
@@ -46,6 +64,49 @@ fn put_tail(chunk: &mut [u8; 64], tail: &[u8], half: usize)
 {
     put_bytes(chunk, 0, &tail[..half]);
     put_bytes(chunk, 32, &tail[half..]);
+}
+
+// By two moves of 32 bytes, which cost less than two of a length that is known only here: the last bytes of the tail end
+// where its second half is to end, and its first bytes end before that begins.
+fn put_long_tail(chunk: &mut [u8; 64], tail: &[u8], half: usize)
+    requires half { half ≤ 32 }
+    requires long { 16 ≤ half }
+    requires length { length tail.now ≡ 2 * half }
+    ensures low { (b : ℕ) → b < half → slice_index «chunk».new b ≡ slice_index tail.now b }
+    ensures high { (b : ℕ) → b < half → slice_index «chunk».new (32 + b) ≡ slice_index tail.now (half + b) }
+{
+    let first = load_32(&tail[..32]);
+    let last = load_32(&tail[2 * half - 32..]);
+    put_32(chunk, half, last);
+    put_32(chunk, 0, first);
+}
+
+// 32 bytes as a vector.
+#[inline(always)]
+fn load_32(bytes: &[u8]) -> u8x32
+    requires { length bytes.now ≡ 32 }
+    ensures { result ≡ bytes.now }
+{
+    u8x32::from_slice(bytes)
+}
+
+// These places hold the bytes of a vector.
+#[inline(always)]
+fn store_32(v: u8x32, places: &mut [u8])
+    requires { length places.old ≡ 32 }
+    ensures { places.new ≡ v }
+{
+    v.copy_to_slice(places);
+}
+
+// The bytes of a vector stand from byte `start` on.
+#[inline(always)]
+fn put_32(chunk: &mut [u8; 64], start: usize, v: u8x32)
+    requires { start ≤ 32 }
+    ensures here { (b : ℕ) → b < 32 → slice_index «chunk».new (start + b) ≡ slice_index v b }
+    ensures others { (b : ℕ) → (b < start) ⊎ (start + 32 ≤ b) → slice_index «chunk».new b ≡ slice_index «chunk».old b }
+{
+    store_32(v, &mut chunk[start..start + 32]);
 }
 
 // These bytes stand from byte `start` on.
@@ -69,13 +130,14 @@ pub fn undo_last_chunk_encoding(row: &mut [[u8; 64]], shard_bytes: usize)
     }
 }
 
-// The bytes from byte 32 on move to the end of the first half.
+// The bytes from byte 32 on move to the end of the first half: all 32 of them, since what follows the shard is open.
 fn join_tail(chunk: &mut [u8; 64], half: usize)
     requires { half ≤ 32 }
     ensures low { (b : ℕ) → b < half → slice_index «chunk».new b ≡ slice_index «chunk».old b }
     ensures high { (b : ℕ) → b < half → slice_index «chunk».new (half + b) ≡ slice_index «chunk».old (32 + b) }
 {
-    chunk.copy_within(32..32 + half, half);
+    let high = load_32(&chunk[32..]);
+    put_32(chunk, half, high);
 }
 
 /// The shard that lies in the first bytes of a row.

@@ -1,21 +1,22 @@
-//! The transforms that engines share: one passage over blocks, cosets and truncation, around layers of butterflies.
+//! The transforms that engines share: one passage over blocks, cosets and unused rows, around layers of butterflies.
 //!
 //! The method is that of Lin, Chung and Han in the form of Leopard-RS. A transform of `size` rows is two layers of
 //! butterflies between its quarters and a transform of each quarter, or of two rows one layer, so the recursion goes
 //! depth first and a block that fits the cache stays in it.
-ghost use Rattle.std.specs.Prelude.{◌≡◌, ℕ, ◌+◌, ◌%◌, ◌^◌, ◌<◌, ◌≤◌, length, slice_index};
+ghost use Rattle.std.specs.Prelude.{◌≡◌, ℕ, ◌+◌, ◌%◌, ◌^◌, ◌<◌, ◌≤◌, true, length, slice_index};
 ghost use Rattle.rs_field.specs.Transform.{forward};
-ghost use Rattle.rs_field.specs.Tables.{IsSkew};
 ghost use Rattle.rs_field.specs.Directions.{IsTransform};
 ghost use Rattle.rs_field.specs.Rows.{chunk, symbol};
-ghost use Rattle.rs_field.specs.View.{word, Fits, SameShape, SameRowsOutside, AreZero};
+ghost use Rattle.rs_field.specs.View.{word, Fits, SameShape, SameRowsOutside};
+ghost use Rattle.rs_field.specs.MarkedRows.{is_used, HasMarks, UnusedAreZero};
 ghost use Rattle.rs_field.specs.Bounds.{TransformCounts};
 ghost use Rattle.rs_field.specs.Inverse.{TransformsAreInverse};
 
+use super::block::Block;
 use super::kernel::Kernel;
 use super::layers::Direction::{Backward, Forward};
-use super::layers::{Direction, layers, part_rows};
-use super::tables::Skew;
+use super::layers::{Direction, layers};
+use super::marked_rows::UsedRows;
 use super::{ShardsRefMut, Steps};
 
 /// A symbol is a word, as its bytes are bytes. This and the two functions below do nothing when they run: they tell the
@@ -41,138 +42,108 @@ fn bytes_are_small(bytes: &[u8])
 fn transform_few<K: Kernel>(
     direction: Direction,
     kernel: &K,
-    skew: Skew<'_>,
     steps: &mut Steps,
     rows: &mut ShardsRefMut<'_>,
-    pos: usize,
-    size: usize,
-    skew_delta: usize,
+    block: Block,
 )
-    requires skew { IsSkew skew.now }
     requires fits { Fits rows.old }
-    requires power { (d : ℕ) × (size ≡ 2 ^ d) }
-    requires large { 1 < size }
-    requires few { size ≤ 4 }
-    requires within { pos + size ≤ rows.old.shard_count }
-    requires shift { skew_delta % size ≡ 0 }
-    requires points { skew_delta + size ≤ 65536 }
+    requires large { 1 < block.size }
+    requires few { block.size ≤ 4 }
+    requires within { block.pos + block.size ≤ rows.old.shard_count }
     ensures shape { SameShape rows.old rows.new }
-    ensures others { SameRowsOutside pos (pos + size) rows.old rows.new }
+    ensures others { SameRowsOutside block.pos (block.pos + block.size) rows.old rows.new }
     ensures values { (k s : ℕ) → k < rows.old.shard_len_64 → s < 32
-        → IsTransform direction size skew_delta (λ q. word rows.old k s (pos + q)) (λ q. word rows.new k s (pos + q)) }
-    ensures counts { TransformCounts size steps.old steps.new }
+        → IsTransform direction block.size block.skew_delta (λ q. word rows.old k s (block.pos + q)) (λ q. word rows.new k s (block.pos + q)) }
+    ensures counts { TransformCounts block.size steps.old steps.new }
 {
     row_symbols_are_words(rows);
-    layers(direction, kernel, skew, steps, rows, pos, size, skew_delta);
+    layers(direction, kernel, steps, rows, block);
     row_symbols_are_words(rows);
 }
 
-/// The forward transform of the `size` rows from `pos` on, at `skew_delta`, by an engine's butterflies.
+/// The forward transform of a block, by an engine's butterflies.
 ///
-/// Row i of them, for i below `truncated_size`, becomes the sum over q of the old row q times the basis polynomial q
-/// at the point `skew_delta + i`. The rows from `truncated_size` on are open; rows outside are unchanged.
-///
-/// `size` is a power of two and `skew_delta` a multiple of it, all points lie below 65536, and all rows are there.
-/// `skew` is the table of `get_skew`. At most `size / 2` butterflies are counted for each layer.
+/// Row i of it, where it is wanted, becomes the sum over q of the old row q times the basis polynomial q at the point
+/// `skew_delta + i`. The rows that aren't wanted are open; rows outside are unchanged. At most `size / 2` butterflies are
+/// counted for each layer.
 pub fn fft<K: Kernel>(
     kernel: &K,
-    skew: Skew<'_>,
     steps: &mut Steps,
     rows: &mut ShardsRefMut<'_>,
-    pos: usize,
-    size: usize,
-    truncated_size: usize,
-    skew_delta: usize,
+    block: Block,
+    wanted: UsedRows<'_>,
 )
-    requires skew { IsSkew skew.now }
     requires fits { Fits rows.old }
-    requires power { (d : ℕ) × (size ≡ 2 ^ d) }
-    requires truncated { truncated_size ≤ size }
-    requires within { pos + size ≤ rows.old.shard_count }
-    requires shift { skew_delta % size ≡ 0 }
-    requires points { skew_delta + size ≤ 65536 }
+    requires marks { HasMarks wanted block.size }
+    requires within { block.pos + block.size ≤ rows.old.shard_count }
     ensures shape { SameShape rows.old rows.new }
-    ensures others { SameRowsOutside pos (pos + size) rows.old rows.new }
-    ensures values { (k s i : ℕ) → k < rows.old.shard_len_64 → s < 32 → i < truncated_size
-        → word rows.new k s (pos + i) ≡ forward size skew_delta (λ q. word rows.old k s (pos + q)) i }
-    ensures counts { TransformCounts size steps.old steps.new }
+    ensures others { SameRowsOutside block.pos (block.pos + block.size) rows.old rows.new }
+    ensures values { (k s i : ℕ) → k < rows.old.shard_len_64 → s < 32 → i < block.size → is_used wanted.entry i ≡ true
+        → word rows.new k s (block.pos + i) ≡ forward block.size block.skew_delta (λ q. word rows.old k s (block.pos + q)) i }
+    ensures counts { TransformCounts block.size steps.old steps.new }
 {
-    if size == 1 {
+    if wanted.are_none() {
+        return;
+    }
+    if block.size < 2 {
         row_symbols_are_words(rows);
-    } else if size <= 4 {
-        transform_few(Forward, kernel, skew, steps, rows, pos, size, skew_delta);
-    } else if truncated_size > 0 {
-        let part = part_rows(size);
-        layers(Forward, kernel, skew, steps, rows, pos, size, skew_delta);
-        for j in 0..truncated_size.div_ceil(part) {
-            let start = j * part;
-            let wanted = part.min(truncated_size - start);
+    } else if block.size <= 4 {
+        transform_few(Forward, kernel, steps, rows, block);
+    } else {
+        let part = block.part_rows();
+        layers(Forward, kernel, steps, rows, block);
+        for j in 0..block.size / part {
             fft(
                 kernel,
-                skew,
                 steps,
                 rows,
-                pos + start,
-                part,
-                wanted,
-                skew_delta + start,
+                block.part(j, part),
+                wanted.part(j * part, part),
             );
         }
     }
 }
 
-/// The backward transform of the `size` rows from `pos` on, at `skew_delta`, by an engine's butterflies.
+/// The backward transform of a block, by an engine's butterflies.
 ///
-/// The rows become those whose forward transform they were. The rows from `truncated_size` on are zero when the call
-/// begins; rows outside are unchanged.
-///
-/// `size` is a power of two and `skew_delta` a multiple of it, all points lie below 65536, and all rows are there.
-/// `skew` is the table of `get_skew`. At most `size / 2` butterflies are counted for each layer.
+/// The rows become those whose forward transform they were. Those that aren't given are zero when the call begins; rows
+/// outside are unchanged. At most `size / 2` butterflies are counted for each layer.
 pub fn ifft<K: Kernel>(
     kernel: &K,
-    skew: Skew<'_>,
     steps: &mut Steps,
     rows: &mut ShardsRefMut<'_>,
-    pos: usize,
-    size: usize,
-    truncated_size: usize,
-    skew_delta: usize,
+    block: Block,
+    given: UsedRows<'_>,
 )
-    requires skew { IsSkew skew.now }
     requires fits { Fits rows.old }
-    requires power { (d : ℕ) × (size ≡ 2 ^ d) }
-    requires truncated { truncated_size ≤ size }
-    requires within { pos + size ≤ rows.old.shard_count }
-    requires shift { skew_delta % size ≡ 0 }
-    requires points { skew_delta + size ≤ 65536 }
-    requires tail { AreZero (pos + truncated_size) (pos + size) rows.old }
+    requires marks { HasMarks given block.size }
+    requires within { block.pos + block.size ≤ rows.old.shard_count }
+    requires zeros { UnusedAreZero given block.pos block.size rows.old }
     ensures shape { SameShape rows.old rows.new }
-    ensures others { SameRowsOutside pos (pos + size) rows.old rows.new }
-    ensures values { (k s i : ℕ) → k < rows.old.shard_len_64 → s < 32 → i < size
-        → word rows.old k s (pos + i) ≡ forward size skew_delta (λ q. word rows.new k s (pos + q)) i }
-    ensures counts { TransformCounts size steps.old steps.new }
+    ensures others { SameRowsOutside block.pos (block.pos + block.size) rows.old rows.new }
+    ensures values { (k s i : ℕ) → k < rows.old.shard_len_64 → s < 32 → i < block.size
+        → word rows.old k s (block.pos + i) ≡ forward block.size block.skew_delta (λ q. word rows.new k s (block.pos + q)) i }
+    ensures counts { TransformCounts block.size steps.old steps.new }
 {
-    if size == 1 {
+    if given.are_none() {
+        return;
+    }
+    if block.size < 2 {
         row_symbols_are_words(rows);
-    } else if size <= 4 {
-        transform_few(Backward, kernel, skew, steps, rows, pos, size, skew_delta);
-    } else if truncated_size > 0 {
-        let part = part_rows(size);
-        for j in 0..truncated_size.div_ceil(part) {
-            let start = j * part;
-            let filled = part.min(truncated_size - start);
+    } else if block.size <= 4 {
+        transform_few(Backward, kernel, steps, rows, block);
+    } else {
+        let part = block.part_rows();
+        for j in 0..block.size / part {
             ifft(
                 kernel,
-                skew,
                 steps,
                 rows,
-                pos + start,
-                part,
-                filled,
-                skew_delta + start,
+                block.part(j, part),
+                given.part(j * part, part),
             );
         }
-        layers(Backward, kernel, skew, steps, rows, pos, size, skew_delta);
+        layers(Backward, kernel, steps, rows, block);
     }
 }
 

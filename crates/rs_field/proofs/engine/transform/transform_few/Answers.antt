@@ -1,6 +1,7 @@
 use Rattle.std.proofs.Common.{ℕ, ◌+◌, arith}
 use Rattle.rs_field.specs.View.{word}
 use Rattle.rs_field.proofs.Directions.{layers_of_few}
+use Rattle.rs_field.proofs.Parts.{block_power}
 use Rattle.rs_field.proofs.PartLoops.{counts_of_layers}
 use Rattle.rs_field.proofs.engine.transform.transform_few.Goals as goal
 
@@ -10,13 +11,13 @@ returns-clause-values g c k s hk hs =
     let len = shape.len_64 in
     let count = shape.count in
     let within = c.requires.within in
-    let pos = c.args.pos in
-    layers_of_few c.args.direction c.args.size c.args.skew_delta (λ (q : ℕ). word c.args.rows.now k s (pos + q)) (λ (q : ℕ). word c.layers.new.rows k s (pos + q))
-    c.requires.large c.requires.few c.requires.power
+    let pos = c.args.block.pos in
+    layers_of_few c.args.direction c.args.block.size c.args.block.skew_delta (λ (q : ℕ). word c.args.rows.now k s (pos + q)) (λ (q : ℕ). word c.layers.new.rows k s (pos + q))
+    c.requires.large c.requires.few (block_power c.args.block)
     (λ i hi. c.row_symbols_are_words.ensures k s (pos + i) hk hs (omega (arith, within)))
     (λ i hi. c.row_symbols_are_words-2.ensures k s (pos + i) (omega (arith, len)) hs (omega (arith, count, within)))
     (c.layers.ensures.parts k s hk hs)
 
 pub returns-clause-counts : goal.returns-clause-counts
 returns-clause-counts g c =
-    counts_of_layers c.args.size c.args.skew_delta c.args.steps.now c.layers.new.steps c.requires.large c.requires.power c.requires.points c.layers.ensures.counts
+    counts_of_layers c.args.block c.args.steps.now c.layers.new.steps c.requires.large c.layers.ensures.counts
