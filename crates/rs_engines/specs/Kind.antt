@@ -1,4 +1,6 @@
 -- The engines by name.
+use Rattle.std.specs.Prelude.{ℕ, List, codes, Option, Some, None, if◌then◌else◌}
+use Rattle.std.specs.Str.{bytes_eq}
 use Rattle.rs_field.specs.declared.engine.tables.Tables.{Tables}
 use Rattle.rs_engines.specs.declared.engine_default.EngineKind.{EngineKind}
 use Rattle.rs_engines.specs.declared.engine_default.EngineKind.TheVariants.{Naive, NoSimd, Avx2, Ssse3}
@@ -17,3 +19,12 @@ tables_of (DefaultEngine.Naive engine) = engine.tables.now
 tables_of (DefaultEngine.NoSimd engine) = engine.tables.now
 tables_of (DefaultEngine.Avx2 engine) = engine.tables.now
 tables_of (DefaultEngine.Ssse3 engine) = engine.tables.now
+
+-- the kind that a word names: a line for each
+abbrev pub engine_named : List ℕ → Option EngineKind
+engine_named word =
+    if bytes_eq word (codes "naive") then Some Naive
+    else if bytes_eq word (codes "nosimd") then Some NoSimd
+    else if bytes_eq word (codes "avx2") then Some Avx2
+    else if bytes_eq word (codes "ssse3") then Some Ssse3
+    else None

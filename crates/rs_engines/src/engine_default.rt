@@ -3,9 +3,10 @@ use crate::engine_nosimd::NoSimd;
 use crate::engine_shuffle::{Avx2, Ssse3};
 use rs_field::engine::tables::Tables;
 use rs_field::engine::{Engine, GfElement, Naive, ShardsRefMut, Steps};
+use std::str::FromStr;
 
-/// The names of the engines.
-#[derive(Clone, Copy, Debug, PartialEq)]
+/// The kinds of engines. In lower case the name of each is read as the kind.
+#[derive(Clone, Copy, Debug, PartialEq, Eq, Hash)]
 pub enum EngineKind {
     /// `Naive`, the plain engine.
     Naive,
@@ -15,6 +16,30 @@ pub enum EngineKind {
     Avx2,
     /// `Ssse3`, the engine by shuffles of 16 byte lanes.
     Ssse3,
+}
+
+/// What is read as a kind and isn't the name of one.
+#[derive(Clone, Copy, Debug, PartialEq, Eq, Hash)]
+pub struct UnknownEngine;
+
+/// Reads the name of an engine, in lower case: `naive`, `nosimd`, `avx2` or `ssse3`.
+impl FromStr for EngineKind {
+    ghost use Rattle.std.specs.Prelude.{◌≡◌, Some, None, MatchResult};
+    ghost use Rattle.rs_engines.specs.Kind.{engine_named};
+
+    type Err = UnknownEngine;
+
+    ghost from_str_gives = { λ name result. MatchResult result (λ kind. engine_named name ≡ Some kind) (λ _. engine_named name ≡ None) };
+
+    fn from_str(name: &str) -> Result<EngineKind, UnknownEngine> {
+        match name {
+            "naive" => Ok(EngineKind::Naive),
+            "nosimd" => Ok(EngineKind::NoSimd),
+            "avx2" => Ok(EngineKind::Avx2),
+            "ssse3" => Ok(EngineKind::Ssse3),
+            _ => Err(UnknownEngine),
+        }
+    }
 }
 
 /// An engine of any kind. It borrows the tables and takes no memory of its own.
@@ -128,6 +153,38 @@ impl Engine for DefaultEngine<'_> {
             Self::NoSimd(engine) => engine.ifft(steps, data, pos, size, truncated_size, skew_delta),
             Self::Avx2(engine) => engine.ifft(steps, data, pos, size, truncated_size, skew_delta),
             Self::Ssse3(engine) => engine.ifft(steps, data, pos, size, truncated_size, skew_delta),
+        }
+    }
+
+    fn fft_wanted(
+        &self,
+        steps: &mut Steps,
+        data: &mut ShardsRefMut<'_>,
+        pos: usize,
+        wanted: &[bool],
+        skew_delta: usize,
+    ) {
+        match self {
+            Self::Naive(engine) => engine.fft_wanted(steps, data, pos, wanted, skew_delta),
+            Self::NoSimd(engine) => engine.fft_wanted(steps, data, pos, wanted, skew_delta),
+            Self::Avx2(engine) => engine.fft_wanted(steps, data, pos, wanted, skew_delta),
+            Self::Ssse3(engine) => engine.fft_wanted(steps, data, pos, wanted, skew_delta),
+        }
+    }
+
+    fn ifft_given(
+        &self,
+        steps: &mut Steps,
+        data: &mut ShardsRefMut<'_>,
+        pos: usize,
+        given: &[bool],
+        skew_delta: usize,
+    ) {
+        match self {
+            Self::Naive(engine) => engine.ifft_given(steps, data, pos, given, skew_delta),
+            Self::NoSimd(engine) => engine.ifft_given(steps, data, pos, given, skew_delta),
+            Self::Avx2(engine) => engine.ifft_given(steps, data, pos, given, skew_delta),
+            Self::Ssse3(engine) => engine.ifft_given(steps, data, pos, given, skew_delta),
         }
     }
 
