@@ -15,7 +15,7 @@ pub use rs_rate::{DecoderResult, EncoderResult, Recovery, RestoredOriginal};
 
 /// The field, its tables, and the engines that transform rows of symbols.
 pub mod engine {
-    pub use rs_engines::engine_default::{DefaultEngine, EngineKind};
+    pub use rs_engines::engine_default::{DefaultEngine, EngineKind, UnknownEngine};
     pub use rs_engines::engine_nosimd::NoSimd;
     pub use rs_engines::engine_shuffle::{Avx2, Ssse3};
     pub use rs_field::engine::{

@@ -16,17 +16,17 @@ use Rattle.rs_field.specs.Rows.{Chunks}
 use Rattle.rs_field.specs.Field.{product, power}
 use Rattle.rs_field.specs.Derivative.{IsDerivativeAdded}
 use Rattle.rs_field.specs.Transform.{forward, IsBackward}
+use Rattle.rs_field.specs.MarkedRows.{is_marked}
 use Rattle.rs_field.proofs.Columns.{shard_from_columns}
 use Rattle.rs_field.proofs.LayoutLemmas.{length-up_to, get-up_to}
 use Rattle.rs_field.proofs.MadeShards.{has_recovery}
 use Rattle.rs_field.proofs.RateFrames.{HasFrame, has_frame}
 use Rattle.rs_field.proofs.Agreement.{AreColumns, consistent_exactly, restored_column, one_message}
 use Rattle.rs_field.proofs.LocatorProduct.{same_residue}
-use Rattle.rs_rate.specs.declared.rate.marks.Mark.{Mark}
 use Rattle.rs_rate.specs.declared.rate.decoder_work.DecoderShape.{DecoderShape}
 use Rattle.rs_rate.specs.DecoderView.{configuration_of, decoder_shape, frame_of}
 use Rattle.rs_rate.specs.Decoding.{IsLocatorOf, RestoresShards, located}
-use Rattle.rs_rate.specs.Marks.{mark_at, is_given, is_restored, erased, given_row_count, given_shards, restored_shards, ArePlaced}
+use Rattle.rs_rate.specs.Marks.{erased, given_row_count, given_shards, restored_shards, ArePlaced}
 use Rattle.rs_rate.specs.ObjectLaws.{all-up_to}
 use Rattle.rs_rate.specs.ShardRows.{word_in, shard_laid_out, shard_in_order}
 use Rattle.rs_rate.proofs.DecoderLemmas.{all_given, none_given, count-given, given-marked, restored-out, restored-marked}
@@ -35,7 +35,7 @@ use Rattle.rs_rate.proofs.StateLemmas.{valid-supported}
 use Rattle.rs_rate.proofs.Erased.{erased-row}
 
 -- the state that marked rows of a shape stand for
-abbrev pub state_over : Rate → DecoderShape → List Mark → Chunks → DecoderState
+abbrev pub state_over : Rate → DecoderShape → List Bool → Chunks → DecoderState
 state_over rate s marks chunks = record {
   configuration = configuration_of rate s;
   originals = given_shards marks chunks s.shard_bytes s.frame.originals_from s.original_count;
@@ -43,18 +43,18 @@ state_over rate s marks chunks = record {
 }
 
 -- the originals that lie in rows marked as restored
-abbrev pub restored_over : DecoderShape → List Mark → Chunks → Shards
+abbrev pub restored_over : DecoderShape → List Bool → Chunks → Shards
 restored_over s marks chunks = restored_shards marks chunks s.shard_bytes s.frame.originals_from s.original_count
 
 -- what a decode makes of the rows of a shape: shards of k + surplus marked rows, and the same rows afterwards
-pub record IsDecoded (s : DecoderShape) (marks new : List Mark) (locator : List ℕ) (surplus : ℕ) (before after : Chunks) (agrees : Bool) : Type 0 where
+pub record IsDecoded (s : DecoderShape) (marks new : List Bool) (locator : List ℕ) (surplus : ℕ) (before after : Chunks) (agrees : Bool) : Type 0 where
   pub even : s.shard_bytes % 2 ≡ 0
   pub placed : ArePlaced s.frame.originals_from s.original_count s.frame.recovery_from s.recovery_count marks
-  pub shards : (p : ℕ) → is_given (mark_at marks p) ≡ true → IsShard s.shard_bytes (shard_laid_out before s.shard_bytes p)
+  pub shards : (p : ℕ) → is_marked marks p ≡ true → IsShard s.shard_bytes (shard_laid_out before s.shard_bytes p)
   pub counted : given_row_count marks s.frame.originals_from s.original_count + given_row_count marks s.frame.recovery_from s.recovery_count ≡ s.original_count + surplus
   pub is_locator : IsLocatorOf s.frame marks locator
   pub restores : RestoresShards s marks locator surplus before after agrees
-  pub marked : (i : ℕ) → i < s.original_count → is_restored (mark_at new (s.frame.originals_from + i)) ≡ not (is_given (mark_at marks (s.frame.originals_from + i)))
+  pub marked : (i : ℕ) → i < s.original_count → is_marked new (s.frame.originals_from + i) ≡ not (is_marked marks (s.frame.originals_from + i))
   pub sized : (i : ℕ) → i < s.original_count → IsShard s.shard_bytes (shard_in_order after s.shard_bytes (s.frame.originals_from + i))
 
 -- a message's shard at a missing index
@@ -68,37 +68,37 @@ unfolding missing_of
 missing-out s message i outside = ap (λ a. cond (a && not (is_some (s.originals i))) (Some (shard_at message i)) None) (le-ltb i s.configuration.original_count outside)
 
 -- the restored rows hold the message's missing shards where those of the missing originals are the message's
-pub restores_missing : (rate : Rate) (s : DecoderShape) (marks new : List Mark) (before after : Chunks) (message : List Shard)
-    → ((i : ℕ) → i < s.original_count → is_restored (mark_at new (s.frame.originals_from + i)) ≡ not (is_given (mark_at marks (s.frame.originals_from + i))))
-    → ((i : ℕ) → i < s.original_count → is_given (mark_at marks (s.frame.originals_from + i)) ≡ false
+pub restores_missing : (rate : Rate) (s : DecoderShape) (marks new : List Bool) (before after : Chunks) (message : List Shard)
+    → ((i : ℕ) → i < s.original_count → is_marked new (s.frame.originals_from + i) ≡ not (is_marked marks (s.frame.originals_from + i)))
+    → ((i : ℕ) → i < s.original_count → is_marked marks (s.frame.originals_from + i) ≡ false
     → shard_in_order after s.shard_bytes (s.frame.originals_from + i) ≡ shard_at message i)
     → (i : ℕ) → restored_over s new after i ≡ missing_of (state_over rate s marks before) message i
 restores_missing rate s marks new before after message marked same i =
     elim (cases_lt i s.original_count) [
-      | inl inside ↦ by_mark inside (is_given (mark_at marks (s.frame.originals_from + i))) refl
+      | inl inside ↦ by_mark inside (is_marked marks (s.frame.originals_from + i)) refl
       | inr outside ↦ restored-out new after s.shard_bytes s.frame.originals_from s.original_count i outside ∙ sym (missing-out (state_over rate s marks before) message i outside)
     ]
   where
-    at : i < s.original_count → (given : Bool) → is_given (mark_at marks (s.frame.originals_from + i)) ≡ given
+    at : i < s.original_count → (given : Bool) → is_marked marks (s.frame.originals_from + i) ≡ given
         → ◌≡◌ {A = Option Shard} (cond (not given) (Some (shard_in_order after s.shard_bytes (s.frame.originals_from + i))) None) (cond (not given) (Some (shard_at message i)) None)
     at inside true is = refl
     at inside false is = ap Some (same i inside is)
 
-    by_mark : i < s.original_count → (given : Bool) → is_given (mark_at marks (s.frame.originals_from + i)) ≡ given → restored_over s new after i ≡ missing_of (state_over rate s marks before) message i
+    by_mark : i < s.original_count → (given : Bool) → is_marked marks (s.frame.originals_from + i) ≡ given → restored_over s new after i ≡ missing_of (state_over rate s marks before) message i
     by_mark inside given is =
         restored-marked new after s.shard_bytes s.frame.originals_from s.original_count i (not given) inside (marked i inside ∙ ap not is)
         ∙ at inside given is
         ∙ sym (missing-in (state_over rate s marks before) message i given inside (given-marked marks before s.shard_bytes s.frame.originals_from s.original_count i inside ∙ is))
 
 -- as many shards are given as the marks tell
-given_count : (rate : Rate) (s : DecoderShape) (marks : List Mark) (chunks : Chunks) (n : ℕ)
+given_count : (rate : Rate) (s : DecoderShape) (marks : List Bool) (chunks : Chunks) (n : ℕ)
     → given_row_count marks s.frame.originals_from s.original_count + given_row_count marks s.frame.recovery_from s.recovery_count ≡ n
     → originals_given (state_over rate s marks chunks) + recovery_given (state_over rate s marks chunks) ≡ n
 given_count rate s marks chunks n counted =
     ap₂ (λ (a b : ℕ). a + b) (count-given marks chunks s.shard_bytes s.frame.originals_from s.original_count) (count-given marks chunks s.shard_bytes s.frame.recovery_from s.recovery_count) ∙ counted
 
 -- the columns of the rows that were decoded
-columns_of : (rate : Rate) (k r size surplus : ℕ) (marks new : List Mark) (locator : List ℕ) (before after : Chunks) (agrees : Bool) (f : HasFrame rate k r)
+columns_of : (rate : Rate) (k r size surplus : ℕ) (marks new : List Bool) (locator : List ℕ) (before after : Chunks) (agrees : Bool) (f : HasFrame rate k r)
     → (d : IsDecoded (decoder_shape rate k r size) marks new locator surplus before after agrees)
     → AreColumns (configuration rate k r size) (given_shards marks before size (placement rate k r).originals_from k) (given_shards marks before size (placement rate k r).recovery_from r)
     f.exponent f.bound f.zeros_end (erased (placement rate k r).zeros_from (placement rate k r).zeros_to marks) (words_given marks before size)
@@ -112,7 +112,7 @@ columns_of rate k r size surplus marks new locator before after agrees f d =
     (λ j s hj hs. subst (λ (n : ℕ). IsBackward n 0 (located marks locator (word_in before (row_len size) j s)) (words.coefficients j s)) f.rows (words.are_coefficients j s hj hs))
 
 -- a marked entry at a missing original
-entry_of : (rate : Rate) (k r i : ℕ) (marks : List Mark) (f : HasFrame rate k r) → i < k → is_given (mark_at marks ((placement rate k r).originals_from + i)) ≡ false
+entry_of : (rate : Rate) (k r i : ℕ) (marks : List Bool) (f : HasFrame rate k r) → i < k → is_marked marks ((placement rate k r).originals_from + i) ≡ false
     → erased (placement rate k r).zeros_from (placement rate k r).zeros_to marks ((placement rate k r).originals_from + i) ≡ 1
 entry_of rate k r i marks f inside none =
     let follow : (placement rate k r).zeros_from ≡ (placement rate k r).originals_from + k = f.frame.follow in
@@ -120,7 +120,7 @@ entry_of rate k r i marks f inside none =
     erased-row (placement rate k r).zeros_from (placement rate k r).zeros_to ((placement rate k r).originals_from + i) marks false (inl (omega arith)) none
 
 -- the powers of a locator's entries are those of its sums
-located_at : (rate : Rate) (k r x : ℕ) (marks : List Mark) (locator : List ℕ) (f : HasFrame rate k r) → IsLocatorOf (frame_of rate k r) marks locator → x < 2 ^ f.exponent
+located_at : (rate : Rate) (k r x : ℕ) (marks : List Bool) (locator : List ℕ) (f : HasFrame rate k r) → IsLocatorOf (frame_of rate k r) marks locator → x < 2 ^ f.exponent
     → power (slice_index locator x) ≡ power (log_sum (2 ^ f.exponent) (erased (placement rate k r).zeros_from (placement rate k r).zeros_to marks) x)
 unfolding frame_of
 located_at rate k r x marks locator f l hx =
@@ -128,7 +128,7 @@ located_at rate k r x marks locator f l hx =
     (subst (λ (n : ℕ). IsLocatorBelow n (erased (placement rate k r).zeros_from (placement rate k r).zeros_to marks) (λ y. slice_index locator y)) f.rows l.values x hx)
 
 -- whether the last rows were zero tells whether some message agrees
-told : (rate : Rate) (k r size surplus : ℕ) (marks new : List Mark) (locator : List ℕ) (before after : Chunks) (agrees : Bool) → supports rate k r ≡ true
+told : (rate : Rate) (k r size surplus : ℕ) (marks new : List Bool) (locator : List ℕ) (before after : Chunks) (agrees : Bool) → supports rate k r ≡ true
     → IsDecoded (decoder_shape rate k r size) marks new locator surplus before after agrees
     → IsConsistent (state_over rate (decoder_shape rate k r size) marks before) ↔ (agrees ≡ true)
 unfolding frame_of
@@ -143,10 +143,10 @@ told rate k r size surplus marks new locator before after agrees supported d =
     )
 
 -- what was restored in a missing original's row is the shard of a message that agrees
-restored_shard : (rate : Rate) (k r size surplus i : ℕ) (marks new : List Mark) (locator : List ℕ) (before after : Chunks) (message : List Shard) → supports rate k r ≡ true
+restored_shard : (rate : Rate) (k r size surplus i : ℕ) (marks new : List Bool) (locator : List ℕ) (before after : Chunks) (message : List Shard) → supports rate k r ≡ true
     → IsDecoded (decoder_shape rate k r size) marks new locator surplus before after true
     → Agrees (configuration rate k r size) (given_shards marks before size (placement rate k r).originals_from k) (given_shards marks before size (placement rate k r).recovery_from r) message
-    → i < k → is_given (mark_at marks ((placement rate k r).originals_from + i)) ≡ false
+    → i < k → is_marked marks ((placement rate k r).originals_from + i) ≡ false
     → shard_in_order after size ((placement rate k r).originals_from + i) ≡ shard_at message i
 unfolding frame_of
 restored_shard rate k r size surplus i marks new locator before after message supported d a inside none =
@@ -182,7 +182,7 @@ restored_shard rate k r size surplus i marks new locator before after message su
         (located_at rate k r ((placement rate k r).originals_from + i) marks locator f d.is_locator below)
 
 -- where some message agrees, its missing shards were restored
-agreeing : (rate : Rate) (k r size surplus : ℕ) (marks new : List Mark) (locator : List ℕ) (before after : Chunks) → supports rate k r ≡ true
+agreeing : (rate : Rate) (k r size surplus : ℕ) (marks new : List Bool) (locator : List ℕ) (before after : Chunks) → supports rate k r ≡ true
     → IsDecoded (decoder_shape rate k r size) marks new locator surplus before after true
     → Consistent (configuration rate k r size) (given_shards marks before size (placement rate k r).originals_from k) (given_shards marks before size (placement rate k r).recovery_from r)
     → Restored (state_over rate (decoder_shape rate k r size) marks before) (restored_over (decoder_shape rate k r size) new after)
@@ -199,13 +199,13 @@ agreeing rate k r size surplus marks new locator before after supported d (messa
     }
 
 -- what a decode answers over the rows of a rate's shape
-abbrev pub AnswersOver : Rate → DecoderShape → List Mark → List Mark → Chunks → Chunks → Bool → Type 0
+abbrev pub AnswersOver : Rate → DecoderShape → List Bool → List Bool → Chunks → Chunks → Bool → Type 0
 AnswersOver rate s marks new before after true = Restored (state_over rate s marks before) (restored_over s new after)
 AnswersOver rate s marks new before after false =
     NoneAgrees (state_over rate s marks before)
     (InconsistentShards (given_row_count marks s.frame.originals_from s.original_count) (given_row_count marks s.frame.recovery_from s.recovery_count))
 
-by_answer : (rate : Rate) (k r size surplus : ℕ) (marks new : List Mark) (locator : List ℕ) (before after : Chunks) (agrees : Bool) → supports rate k r ≡ true
+by_answer : (rate : Rate) (k r size surplus : ℕ) (marks new : List Bool) (locator : List ℕ) (before after : Chunks) (agrees : Bool) → supports rate k r ≡ true
     → IsDecoded (decoder_shape rate k r size) marks new locator surplus before after agrees → AnswersOver rate (decoder_shape rate k r size) marks new before after agrees
 unfolding frame_of
 by_answer rate k r size surplus marks new locator before after true supported d =
@@ -224,10 +224,10 @@ by_answer rate k r size surplus marks new locator before after false supported d
     }
 
 -- with all originals and nothing else given they are the only message that agrees, and nothing is missing
-complete : (rate : Rate) (k r size : ℕ) (marks new : List Mark) (before after : Chunks) → supports rate k r ≡ true → size % 2 ≡ 0
-    → ((p : ℕ) → is_given (mark_at marks p) ≡ true → IsShard size (shard_laid_out before size p))
+complete : (rate : Rate) (k r size : ℕ) (marks new : List Bool) (before after : Chunks) → supports rate k r ≡ true → size % 2 ≡ 0
+    → ((p : ℕ) → is_marked marks p ≡ true → IsShard size (shard_laid_out before size p))
     → given_row_count marks (placement rate k r).originals_from k ≡ k → given_row_count marks (placement rate k r).recovery_from r ≡ 0
-    → ((i : ℕ) → i < k → is_restored (mark_at new ((placement rate k r).originals_from + i)) ≡ not (is_given (mark_at marks ((placement rate k r).originals_from + i))))
+    → ((i : ℕ) → i < k → is_marked new ((placement rate k r).originals_from + i) ≡ not (is_marked marks ((placement rate k r).originals_from + i)))
     → Restored (state_over rate (decoder_shape rate k r size) marks before) (restored_over (decoder_shape rate k r size) new after)
 unfolding frame_of
 complete rate k r size marks new before after supported even shards all none marked = record {
@@ -242,7 +242,7 @@ complete rate k r size marks new before after supported even shards all none mar
     message : List Shard
     message = up_to k (λ i. shard_laid_out before size ((placement rate k r).originals_from + i))
 
-    given : (i : ℕ) → i < k → is_given (mark_at marks ((placement rate k r).originals_from + i)) ≡ true
+    given : (i : ℕ) → i < k → is_marked marks ((placement rate k r).originals_from + i) ≡ true
     given i inside = all_given marks (placement rate k r).originals_from k all i inside
 
     count : originals_given (state_over rate (decoder_shape rate k r size) marks before) + recovery_given (state_over rate (decoder_shape rate k r size) marks before) ≡ k
@@ -275,7 +275,7 @@ complete rate k r size marks new before after supported even shards all none mar
         }
 
 -- a decode answers by what it made of the rows
-pub decode_answers : (rate : Rate) (s : DecoderShape) (marks new : List Mark) (locator : List ℕ) (surplus : ℕ) (before after : Chunks) (agrees : Bool)
+pub decode_answers : (rate : Rate) (s : DecoderShape) (marks new : List Bool) (locator : List ℕ) (surplus : ℕ) (before after : Chunks) (agrees : Bool)
     → validated (configuration_of rate s) ≡ Ok tt → s ≡ decoder_shape rate s.original_count s.recovery_count s.shard_bytes
     → IsDecoded s marks new locator surplus before after agrees → AnswersOver rate s marks new before after agrees
 decode_answers rate s marks new locator surplus before after agrees valid shaped d =
@@ -284,11 +284,11 @@ decode_answers rate s marks new locator surplus before after agrees valid shaped
     (subst (λ (t : DecoderShape). IsDecoded t marks new locator surplus before after agrees) shaped d))
 
 -- and where all originals and nothing else are given, nothing is restored
-pub complete_answers : (rate : Rate) (s : DecoderShape) (marks new : List Mark) (before after : Chunks) → validated (configuration_of rate s) ≡ Ok tt
+pub complete_answers : (rate : Rate) (s : DecoderShape) (marks new : List Bool) (before after : Chunks) → validated (configuration_of rate s) ≡ Ok tt
     → s ≡ decoder_shape rate s.original_count s.recovery_count s.shard_bytes → s.shard_bytes % 2 ≡ 0
-    → ((p : ℕ) → is_given (mark_at marks p) ≡ true → IsShard s.shard_bytes (shard_laid_out before s.shard_bytes p))
+    → ((p : ℕ) → is_marked marks p ≡ true → IsShard s.shard_bytes (shard_laid_out before s.shard_bytes p))
     → given_row_count marks s.frame.originals_from s.original_count ≡ s.original_count → given_row_count marks s.frame.recovery_from s.recovery_count ≡ 0
-    → ((i : ℕ) → i < s.original_count → is_restored (mark_at new (s.frame.originals_from + i)) ≡ not (is_given (mark_at marks (s.frame.originals_from + i))))
+    → ((i : ℕ) → i < s.original_count → is_marked new (s.frame.originals_from + i) ≡ not (is_marked marks (s.frame.originals_from + i)))
     → Restored (state_over rate s marks before) (restored_over s new after)
 unfolding frame_of
 complete_answers rate s marks new before after valid shaped even shards all none marked =
@@ -296,10 +296,10 @@ complete_answers rate s marks new before after valid shaped even shards all none
     (complete rate s.original_count s.recovery_count s.shard_bytes marks new before after (valid-supported (configuration_of rate s) valid) even shards
     (subst (λ (t : DecoderShape). given_row_count marks t.frame.originals_from s.original_count ≡ s.original_count) shaped all)
     (subst (λ (t : DecoderShape). given_row_count marks t.frame.recovery_from s.recovery_count ≡ 0) shaped none)
-    (subst (λ (t : DecoderShape). (i : ℕ) → i < s.original_count → is_restored (mark_at new (t.frame.originals_from + i)) ≡ not (is_given (mark_at marks (t.frame.originals_from + i)))) shaped marked))
+    (subst (λ (t : DecoderShape). (i : ℕ) → i < s.original_count → is_marked new (t.frame.originals_from + i) ≡ not (is_marked marks (t.frame.originals_from + i))) shaped marked))
 
 -- the answer that is told: that it is done where some message agrees, else the refusal
-pub told_answer : {T : Type 0} (done : T) (rate : Rate) (s : DecoderShape) (marks new : List Mark) (before after : Chunks) (o r : ℕ) (agrees : Bool) (answer : Result T Error)
+pub told_answer : {T : Type 0} (done : T) (rate : Rate) (s : DecoderShape) (marks new : List Bool) (before after : Chunks) (o r : ℕ) (agrees : Bool) (answer : Result T Error)
     → ((agrees ≡ true) × (answer ≡ Ok done)) ⊎ ((agrees ≡ false) × (answer ≡ Err (InconsistentShards o r)))
     → o ≡ given_row_count marks s.frame.originals_from s.original_count → r ≡ given_row_count marks s.frame.recovery_from s.recovery_count
     → AnswersOver rate s marks new before after agrees

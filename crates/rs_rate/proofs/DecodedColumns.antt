@@ -11,14 +11,14 @@ use Rattle.rs_field.specs.Placement.{Placement, placement}
 use Rattle.rs_field.specs.Configuration.{configuration}
 use Rattle.rs_field.specs.Layout.{row_len}
 use Rattle.rs_field.specs.Rows.{Chunks}
+use Rattle.rs_field.specs.MarkedRows.{is_marked}
 use Rattle.rs_field.proofs.Columns.{column_lt}
 use Rattle.rs_field.proofs.Frame.{IsFrame}
 use Rattle.rs_field.proofs.ExactCheck.{AreLocated, are_located}
 use Rattle.rs_field.proofs.LocatorProduct.{same_residue}
 use Rattle.rs_field.proofs.AgreeingMessages.{AreSized, HasWords}
 use Rattle.rs_field.proofs.Agreement.{AreColumns}
-use Rattle.rs_rate.specs.declared.rate.marks.Mark.{Mark}
-use Rattle.rs_rate.specs.Marks.{mark_at, is_given, erased, given_shards, ArePlaced}
+use Rattle.rs_rate.specs.Marks.{erased, given_shards, ArePlaced}
 use Rattle.rs_rate.specs.ShardRows.{word_in, shard_laid_out}
 use Rattle.rs_rate.specs.Decoding.{located}
 use Rattle.rs_rate.proofs.ShardRowsLemmas.{column-put}
@@ -27,35 +27,35 @@ use Rattle.rs_rate.proofs.RestoringRows.{located-at}
 use Rattle.rs_rate.proofs.Erased.{erased-given, are_erased}
 
 -- column j at point x: that of the shard that is given there, else zero
-unfoldable pub words_given : List Mark → Chunks → ℕ → ℕ → ℕ → ℕ
-words_given marks chunks size j x = cond (is_given (mark_at marks x)) (column j (shard_laid_out chunks size x)) 0
+unfoldable pub words_given : List Bool → Chunks → ℕ → ℕ → ℕ → ℕ
+words_given marks chunks size j x = cond (is_marked marks x) (column j (shard_laid_out chunks size x)) 0
 
-words_given-at : (marks : List Mark) (chunks : Chunks) (size j x : ℕ) (given : Bool) → is_given (mark_at marks x) ≡ given
+words_given-at : (marks : List Bool) (chunks : Chunks) (size j x : ℕ) (given : Bool) → is_marked marks x ≡ given
     → words_given marks chunks size j x ≡ cond given (column j (shard_laid_out chunks size x)) 0
 unfolding words_given
 words_given-at marks chunks size j x given is = ap (λ b. cond b (column j (shard_laid_out chunks size x)) 0) is
 
 -- a shard that is given has an index below the count, a marked row, and lies there
-pub given_some : (marks : List Mark) (chunks : Chunks) (size from n i : ℕ) (shard : Shard) → given_shards marks chunks size from n i ≡ Some shard
-    → (i < n) × (is_given (mark_at marks (from + i)) ≡ true) × (shard_laid_out chunks size (from + i) ≡ shard)
+pub given_some : (marks : List Bool) (chunks : Chunks) (size from n i : ℕ) (shard : Shard) → given_shards marks chunks size from n i ≡ Some shard
+    → (i < n) × (is_marked marks (from + i) ≡ true) × (shard_laid_out chunks size (from + i) ≡ shard)
 given_some marks chunks size from n i shard is =
     elim (cases_lt i n) [
-      | inl inside ↦ let m = by_mark (is_given (mark_at marks (from + i))) refl (sym (given_shards-in marks chunks size from n i inside) ∙ is) in (inside, m.0, m.1)
+      | inl inside ↦ let m = by_mark (is_marked marks (from + i)) refl (sym (given_shards-in marks chunks size from n i inside) ∙ is) in (inside, m.0, m.1)
       | inr outside ↦ absurd (none_some (sym (given_shards-out marks chunks size from n i outside) ∙ is))
     ]
   where
     none_some : ◌≡◌ {A = Option Shard} None (Some shard) → ⊥
     none_some e = true≢false (sym (ap is_some e))
 
-    by_mark : (given : Bool) → is_given (mark_at marks (from + i)) ≡ given → ◌≡◌ {A = Option Shard} (cond (is_given (mark_at marks (from + i))) (Some (shard_laid_out chunks size (from + i))) None) (Some shard)
-        → (is_given (mark_at marks (from + i)) ≡ true) × (shard_laid_out chunks size (from + i) ≡ shard)
+    by_mark : (given : Bool) → is_marked marks (from + i) ≡ given → ◌≡◌ {A = Option Shard} (cond (is_marked marks (from + i)) (Some (shard_laid_out chunks size (from + i))) None) (Some shard)
+        → (is_marked marks (from + i) ≡ true) × (shard_laid_out chunks size (from + i) ≡ shard)
     by_mark true mark e =
         (mark, ap (λ o. unwrap_or o shard) (sym (ap (λ b. cond b (Some (shard_laid_out chunks size (from + i))) None) mark) ∙ e))
     by_mark false mark e =
         absurd (none_some (sym (ap (λ b. cond b (Some (shard_laid_out chunks size (from + i))) None) mark) ∙ e))
 
 -- the shards given in n rows are sized
-given_sized : (marks : List Mark) (chunks : Chunks) (size from n : ℕ) → ((p : ℕ) → is_given (mark_at marks p) ≡ true → IsShard size (shard_laid_out chunks size p))
+given_sized : (marks : List Bool) (chunks : Chunks) (size from n : ℕ) → ((p : ℕ) → is_marked marks p ≡ true → IsShard size (shard_laid_out chunks size p))
     → AreSized n size (given_shards marks chunks size from n)
 given_sized marks chunks size from n shards = record {
   each = λ i shard is.
@@ -63,7 +63,7 @@ given_sized marks chunks size from n shards = record {
 }
 
 -- the words given are the columns of the shards given
-given_words : (p : Placement) (k r : ℕ) (marks : List Mark) (chunks : Chunks) (size j : ℕ)
+given_words : (p : Placement) (k r : ℕ) (marks : List Bool) (chunks : Chunks) (size j : ℕ)
     → HasWords p (given_shards marks chunks size p.originals_from k) (given_shards marks chunks size p.recovery_from r) j (words_given marks chunks size j)
 given_words p k r marks chunks size j = record {
   own = λ i shard is. at p.originals_from k i shard is;
@@ -75,19 +75,19 @@ given_words p k r marks chunks size j = record {
         let s = given_some marks chunks size from n i shard is in words_given-at marks chunks size j (from + i) true s.1 ∙ ap (column j) s.2
 
 -- the located words of a column
-located_words : (n j size : ℕ) (marks : List Mark) (chunks : Chunks) (locator : List ℕ) (marked : ℕ → ℕ) → size % 2 ≡ 0 → j < size / 2
-    → ((x : ℕ) → x < n → is_given (mark_at marks x) ≡ true → marked x ≡ 0)
+located_words : (n j size : ℕ) (marks : List Bool) (chunks : Chunks) (locator : List ℕ) (marked : ℕ → ℕ) → size % 2 ≡ 0 → j < size / 2
+    → ((x : ℕ) → x < n → is_marked marks x ≡ true → marked x ≡ 0)
     → ((x : ℕ) → x < n → power (slice_index locator x) ≡ power (log_sum n marked x))
     → AreLocated n marked (words_given marks chunks size j) (located marks locator (word_in chunks (row_len size) (j / 32) (j % 32)))
 located_words n j size marks chunks locator marked even inside kept same =
     are_located n marked (words_given marks chunks size j) (located marks locator (word_in chunks (row_len size) (j / 32) (j % 32)))
-    (λ x hx one. erased_at x hx one (is_given (mark_at marks x)) refl) (λ x hx none. other_at x hx (is_given (mark_at marks x)) refl)
+    (λ x hx one. erased_at x hx one (is_marked marks x) refl) (λ x hx none. other_at x hx (is_marked marks x) refl)
   where
-    erased_at : (x : ℕ) → x < n → marked x ≡ 1 → (given : Bool) → is_given (mark_at marks x) ≡ given → located marks locator (word_in chunks (row_len size) (j / 32) (j % 32)) x ≡ 0
+    erased_at : (x : ℕ) → x < n → marked x ≡ 1 → (given : Bool) → is_marked marks x ≡ given → located marks locator (word_in chunks (row_len size) (j / 32) (j % 32)) x ≡ 0
     erased_at x hx one true is = absurd (let none : marked x ≡ 0 = kept x hx is in let no : ⊥ = omega arith in no)
     erased_at x hx one false is = located-at marks locator (word_in chunks (row_len size) (j / 32) (j % 32)) x false is
 
-    other_at : (x : ℕ) → x < n → (given : Bool) → is_given (mark_at marks x) ≡ given
+    other_at : (x : ℕ) → x < n → (given : Bool) → is_marked marks x ≡ given
         → ((words_given marks chunks size j x ≡ 0) × (located marks locator (word_in chunks (row_len size) (j / 32) (j % 32)) x ≡ 0))
         ⊎ (located marks locator (word_in chunks (row_len size) (j / 32) (j % 32)) x ≡ product (words_given marks chunks size j x) (power (log_sum n marked x)))
     other_at x hx true is =
@@ -96,18 +96,18 @@ located_words n j size marks chunks locator marked even inside kept same =
     other_at x hx false is = inl (words_given-at marks chunks size j x false is, located-at marks locator (word_in chunks (row_len size) (j / 32) (j % 32)) x false is)
 
 -- what is given at a point is a word
-given_lt : (marks : List Mark) (chunks : Chunks) (size j x : ℕ) → ((p : ℕ) → is_given (mark_at marks p) ≡ true → IsShard size (shard_laid_out chunks size p))
+given_lt : (marks : List Bool) (chunks : Chunks) (size j x : ℕ) → ((p : ℕ) → is_marked marks p ≡ true → IsShard size (shard_laid_out chunks size p))
     → words_given marks chunks size j x < 65536
-given_lt marks chunks size j x shards = by_mark (is_given (mark_at marks x)) refl
+given_lt marks chunks size j x shards = by_mark (is_marked marks x) refl
   where
-    by_mark : (given : Bool) → is_given (mark_at marks x) ≡ given → words_given marks chunks size j x < 65536
+    by_mark : (given : Bool) → is_marked marks x ≡ given → words_given marks chunks size j x < 65536
     by_mark true is = subst (λ (w : ℕ). w < 65536) (sym (words_given-at marks chunks size j x true is)) (column_lt size (shard_laid_out chunks size x) j (shards x is))
     by_mark false is = subst (λ (w : ℕ). w < 65536) (sym (words_given-at marks chunks size j x false is)) (omega arith)
 
 -- the columns of a decoder's rows, with the coefficients whose values the located words are
-pub are_columns : (rate : Rate) (k r size e bound zeros_end : ℕ) (marks : List Mark) (chunks : Chunks) (locator : List ℕ) (coefficients : ℕ → ℕ → ℕ → ℕ) → size % 2 ≡ 0
+pub are_columns : (rate : Rate) (k r size e bound zeros_end : ℕ) (marks : List Bool) (chunks : Chunks) (locator : List ℕ) (coefficients : ℕ → ℕ → ℕ → ℕ) → size % 2 ≡ 0
     → IsFrame (placement rate k r) k r e bound zeros_end → ArePlaced (placement rate k r).originals_from k (placement rate k r).recovery_from r marks
-    → ((p : ℕ) → is_given (mark_at marks p) ≡ true → IsShard size (shard_laid_out chunks size p))
+    → ((p : ℕ) → is_marked marks p ≡ true → IsShard size (shard_laid_out chunks size p))
     → IsLocatorBelow (2 ^ e) (erased (placement rate k r).zeros_from (placement rate k r).zeros_to marks) (λ x. slice_index locator x)
     → ((j s i : ℕ) → j < row_len size → s < 32 → i < 2 ^ e → coefficients j s i < 65536)
     → ((j s : ℕ) → j < row_len size → s < 32 → IsBackward (2 ^ e) 0 (located marks locator (word_in chunks (row_len size) j s)) (coefficients j s))
@@ -137,7 +137,7 @@ are_columns rate k r size e bound zeros_end marks chunks locator coefficients ev
           };
     }
   where
-    zero_row : (x : ℕ) → (placement rate k r).zeros_from ≤ x → x < zeros_end → is_given (mark_at marks x) ≡ false
+    zero_row : (x : ℕ) → (placement rate k r).zeros_from ≤ x → x < zeros_end → is_marked marks x ≡ false
     zero_row x above below =
         let follow : (placement rate k r).zeros_from ≡ (placement rate k r).originals_from + k = frame.follow in
         placed x (inr (omega arith))

@@ -14,6 +14,7 @@ pub mod RateLemmas
 pub mod HighCounts
 pub mod RestoredRows
 pub mod DecodeAnswer
+pub mod SideRows
 pub mod HighCoding
 pub mod Coded
 pub mod EncodeCounting

@@ -1,5 +1,5 @@
 -- The rows of a decode, one after another: what a pass over them did to each.
-use Rattle.std.proofs.Common.{◌≡◌, ℕ, ◌+◌, ◌-◌, ◌*◌, ◌/◌, ◌%◌, ◌<◌, ◌≤◌, Bool, true, false, cond, sym, ap, ◌∙◌, arith, zero-add}
+use Rattle.std.proofs.Common.{◌≡◌, ℕ, ◌+◌, ◌-◌, ◌*◌, ◌/◌, ◌%◌, ◌<◌, ◌≤◌, Bool, true, false, cond, sym, ap, ap₂, ◌∙◌, arith, zero-add}
 use Rattle.std.specs.Prelude.{replicate, slice_index, List, ◌↔◌}
 use mathlib.Core.Path.{fun_ext}
 use Rattle.rs_field.specs.Transform.{forward}
@@ -9,10 +9,9 @@ use Rattle.rs_field.specs.Rows.{chunk}
 use Rattle.rs_field.specs.View.{cell, word, row_at, Fits, SameShape, SameRowsOutside}
 use Rattle.rs_field.specs.declared.engine.shards.ShardsRefMut.{ShardsRefMut}
 use Rattle.rs_field.specs.declared.engine.steps.Steps.{Steps}
+use Rattle.rs_field.specs.MarkedRows.{is_marked}
 use Rattle.rs_field.proofs.RowOffsets.{row_ends}
-use Rattle.rs_rate.specs.declared.rate.marks.Mark.{Mark}
 use Rattle.rs_rate.specs.Decoding.{located}
-use Rattle.rs_rate.specs.Marks.{mark_at, is_given}
 use Rattle.rs_rate.proofs.ShardRowsLemmas.{part-read}
 
 -- a chunk of a row that is read
@@ -23,35 +22,36 @@ row-read r i k fits hi hk =
     part-read r.chunks.now (i * r.shard_len_64) r.shard_len_64 k (omega arith) hk
 
 -- one row was located, in one row step at most, and no other row was changed
-pub record RowLocated (marks : List Mark) (locator : List ℕ) (p : ℕ) (old new : ShardsRefMut) (before after : Steps) : Type 0 where
+pub record RowLocated (marks : List Bool) (locator : List ℕ) (p : ℕ) (old new : ShardsRefMut) (before after : Steps) : Type 0 where
   pub shape : SameShape old new
   pub others : SameRowsOutside p (p + 1) old new
   pub located_here : (k s : ℕ) → k < old.shard_len_64 → s < 32 → word new k s p ≡ located marks locator (word old k s) p
-  pub cleared : (k : ℕ) → k < old.shard_len_64 → is_given (mark_at marks p) ≡ false → cell new k p ≡ replicate 64 0
+  pub cleared : (k : ℕ) → k < old.shard_len_64 → is_marked marks p ≡ false → cell new k p ≡ replicate 64 0
   pub counts : CountsUpTo 1 0 0 before after
 
-pub located-at : (marks : List Mark) (locator : List ℕ) (words : ℕ → ℕ) (p : ℕ) (given : Bool) → is_given (mark_at marks p) ≡ given
+pub located-at : (marks : List Bool) (locator : List ℕ) (words : ℕ → ℕ) (p : ℕ) (given : Bool) → is_marked marks p ≡ given
     → located marks locator words p ≡ cond given (product (words p) (power (slice_index locator p))) 0
 unfolding located
 located-at marks locator words p given is = ap (λ b. cond b (product (words p) (power (slice_index locator p))) 0) is
 
 -- a located row is that of the word there before
-pub located-same : (marks : List Mark) (locator : List ℕ) (old new : ℕ → ℕ) (p : ℕ) → new p ≡ old p → located marks locator new p ≡ located marks locator old p
+pub located-same : (marks : List Bool) (locator : List ℕ) (old new : ℕ → ℕ) (p : ℕ) → new p ≡ old p → located marks locator new p ≡ located marks locator old p
 unfolding located
-located-same marks locator old new p same = ap (λ w. cond (is_given (mark_at marks p)) (product w (power (slice_index locator p))) 0) same
+located-same marks locator old new p same = ap (λ w. cond (is_marked marks p) (product w (power (slice_index locator p))) 0) same
 
 -- one row was revealed where it holds no given shard, in one row step at most, and no other row was changed
-pub record RowRevealed (marks : List Mark) (locator : List ℕ) (p : ℕ) (old new : ShardsRefMut) (before after : Steps) : Type 0 where
+pub record RowRevealed (marks : List Bool) (locator : List ℕ) (p : ℕ) (old new : ShardsRefMut) (before after : Steps) : Type 0 where
   pub shape : SameShape old new
   pub others : SameRowsOutside p (p + 1) old new
-  pub revealed_here : (k s : ℕ) → k < old.shard_len_64 → s < 32 → is_given (mark_at marks p) ≡ false
+  pub revealed_here : (k s : ℕ) → k < old.shard_len_64 → s < 32 → is_marked marks p ≡ false
       → word new k s p ≡ product (word old k s p) (power (65535 - slice_index locator p))
   pub counts : CountsUpTo 1 0 0 before after
 
--- values of rows that are counted from row 0 on
-pub from_row_zero : (n i : ℕ) (values coefficients : ℕ → ℕ) → values (0 + i) ≡ forward n 0 (λ q. coefficients (0 + q)) i → values i ≡ forward n 0 coefficients i
-from_row_zero n i values coefficients is =
-    sym (ap values (zero-add i)) ∙ is ∙ ap (λ (f : ℕ → ℕ). forward n 0 f i) (fun_ext (λ q. ap coefficients (zero-add q)))
+-- values of as many rows, counted from row 0 on
+pub from_row_zero : (size n i : ℕ) (values coefficients : ℕ → ℕ) → size ≡ n → values (0 + i) ≡ forward size 0 (λ q. coefficients (0 + q)) i
+    → values i ≡ forward n 0 coefficients i
+from_row_zero size n i values coefficients same is =
+    sym (ap values (zero-add i)) ∙ is ∙ ap₂ (λ m (f : ℕ → ℕ). forward m 0 f i) same (fun_ext (λ q. ap coefficients (zero-add q)))
 
 -- the last rows, counted from the first of them on
 pub checked_rows : (rows surplus size count first : ℕ) (f : ℕ → ℕ → ℕ → ℕ) (answer agrees : Bool) → surplus ≤ rows → first ≡ rows - surplus → count ≡ rows → answer ≡ agrees

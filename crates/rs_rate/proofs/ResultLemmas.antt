@@ -8,15 +8,15 @@ use Rattle.std.specs.Prelude.{Option, Some, None, is_some, not, option_copied, M
 use Rattle.rs_field.specs.Column.{Shard}
 use Rattle.rs_field.specs.Given.{Shards, Lists, listed, listed_from, count_below}
 use Rattle.rs_field.specs.Rows.{Chunks}
+use Rattle.rs_field.specs.MarkedRows.{is_marked}
 use Rattle.rs_field.proofs.Given.{count_below-zero, count_below-suc}
 use Rattle.rs_field.proofs.LayoutLemmas.{length-up_to, get-up_to}
 use Rattle.rs_field.proofs.Listed.{listed_from-none, listed_from-some, listed_from-past, length-listed}
 use Rattle.rs_rate.specs.declared.rate.decoder_work.DecoderRows.{DecoderRows}
 use Rattle.rs_rate.specs.declared.rate.encoder_work.EncoderRows.{EncoderRows}
-use Rattle.rs_rate.specs.declared.rate.marks.Mark.{Mark}
 use Rattle.rs_rate.specs.DecoderView.{restored_of, restored_from}
 use Rattle.rs_rate.specs.EncoderView.{lent_of}
-use Rattle.rs_rate.specs.Marks.{mark_at, is_given, is_restored, given_row_count, restored_shards}
+use Rattle.rs_rate.specs.Marks.{given_row_count, restored_shards}
 use Rattle.rs_rate.specs.ShardRows.{shard_in_order}
 use Rattle.rs_rate.proofs.DecoderLemmas.{given_row_count-zero, given_row_count-suc, restored-out, restored-marked}
 use Rattle.rs_rate.proofs.ShardRowsLemmas.{count-few}
@@ -67,13 +67,13 @@ restored_from-all rows = ap (λ n. listed_from 0 n (restored_of rows)) (sub-zero
 pub lists-restored : (rows : DecoderRows) → Lists (restored_of rows) (restored_from rows 0)
 lists-restored rows = record {
   count = rows.shape.original_count;
-  none_past = restored-out rows.memory.marks.items rows.memory.chunks.items rows.shape.shard_bytes rows.shape.frame.originals_from rows.shape.original_count;
+  none_past = restored-out rows.memory.marks.restored.items rows.memory.chunks.items rows.shape.shard_bytes rows.shape.frame.originals_from rows.shape.original_count;
   in_order = restored_from-all rows;
 }
 
 -- as many originals are restored as were not given
-count-restored : (old new : List Mark) (chunks : Chunks) (size from m n : ℕ) → n ≤ m
-    → ((i : ℕ) → i < m → is_restored (mark_at new (from + i)) ≡ not (is_given (mark_at old (from + i))))
+count-restored : (old new : List Bool) (chunks : Chunks) (size from m n : ℕ) → n ≤ m
+    → ((i : ℕ) → i < m → is_marked new (from + i) ≡ not (is_marked old (from + i)))
     → count_below n (restored_shards new chunks size from m) + given_row_count old from n ≡ n
 count-restored old new chunks size from m zero fits marked =
     let none = count_below-zero (restored_shards new chunks size from m) in
@@ -83,7 +83,7 @@ count-restored old new chunks size from m (suc n) fits marked =
     let before = count-restored old new chunks size from m n (omega arith) marked in
     let more = count_below-suc n (restored_shards new chunks size from m) in
     let more_too = given_row_count-suc old from n in
-    let given = is_given (mark_at old (from + n)) in
+    let given = is_marked old (from + n) in
     let here = ap {B = ℕ} (λ o. cond (is_some o) 1 0) (restored-marked new chunks size from m n (not given) (omega arith) (marked n (omega arith))) in
     omega (arith, by_mark given (shard_in_order chunks size (from + n)), here)
   where
@@ -91,8 +91,8 @@ count-restored old new chunks size from m (suc n) fits marked =
     by_mark true shard = refl
     by_mark false shard = refl
 
-pub length-restored : (old new : List Mark) (chunks : Chunks) (size from n : ℕ)
-    → ((i : ℕ) → i < n → is_restored (mark_at new (from + i)) ≡ not (is_given (mark_at old (from + i))))
+pub length-restored : (old new : List Bool) (chunks : Chunks) (size from n : ℕ)
+    → ((i : ℕ) → i < n → is_marked new (from + i) ≡ not (is_marked old (from + i)))
     → length (listed n (restored_shards new chunks size from n)) + given_row_count old from n ≡ n
 length-restored old new chunks size from n marked =
     let counted = length-listed n (restored_shards new chunks size from n) in

@@ -1,5 +1,5 @@
 -- How the words of a decoder's rows become those of the missing originals.
-use Rattle.std.specs.Prelude.{◌≡◌, ℕ, ◌+◌, ◌-◌, ◌*◌, ◌/◌, ◌%◌, ◌<◌, ◌≤◌, ◌↔◌, if◌then◌else◌, Bool, true, false, List, slice_index}
+use Rattle.std.specs.Prelude.{◌≡◌, ℕ, ◌+◌, ◌-◌, ◌*◌, ◌/◌, ◌%◌, ◌<◌, ◌≤◌, ◌↔◌, if◌then◌else◌, Bool, true, false, not, List, length, slice_index}
 use Rattle.rs_field.specs.Bounds.{transform_steps}
 use Rattle.rs_field.specs.Derivative.{IsDerivativeAdded}
 use Rattle.rs_field.specs.Field.{product, power}
@@ -8,16 +8,29 @@ use Rattle.rs_field.specs.Layout.{row_len}
 use Rattle.rs_field.specs.Locator.{IsLocatorBelow}
 use Rattle.rs_field.specs.Rows.{Chunks}
 use Rattle.rs_field.specs.Transform.{forward, IsBackward}
+use Rattle.rs_field.specs.MarkedRows.{is_marked}
 use Rattle.rs_rate.specs.declared.rate.decoder_work.Frame.{Frame}
 use Rattle.rs_rate.specs.declared.rate.decoder_work.DecoderShape.{DecoderShape}
-use Rattle.rs_rate.specs.declared.rate.marks.Mark.{Mark}
-use Rattle.rs_rate.specs.Marks.{mark_at, is_given, erased}
+use Rattle.rs_rate.specs.declared.rate.marks.Marks.{Marks}
+use Rattle.rs_rate.specs.Marks.{given_row_count, erased}
 use Rattle.rs_rate.specs.ShardRows.{word_in, shard_in_order}
 
 -- the entries are words, and the locator's logarithms, modulo 65535, of the rows that a frame and marks tell to be erased
-pub record IsLocatorOf (frame : Frame) (marks : List Mark) (locator : List ℕ) : Type 0 where
+pub record IsLocatorOf (frame : Frame) (marks : List Bool) (locator : List ℕ) : Type 0 where
   pub are_words : (x : ℕ) → slice_index locator x < 65536
   pub values : IsLocatorBelow frame.row_count (erased frame.zeros_from frame.zeros_to marks) (λ x. slice_index locator x)
+
+-- what a decode begins with: as many marks as rows, every original's row wanted that holds no given shard, so many of them, and no more surplus shards than rows
+pub record CanBeRestored (shape : DecoderShape) (marks : Marks) (missing surplus : ℕ) : Type 0 where
+  pub few : shape.frame.row_count ≤ 65536
+  pub even : shape.shard_bytes % 2 ≡ 0
+  pub originals : shape.frame.originals_from + shape.original_count ≤ shape.frame.row_count
+  pub given : length marks.given.items ≡ shape.frame.row_count
+  pub restored : length marks.restored.items ≡ shape.frame.row_count
+  pub wanted : (i : ℕ) → i < shape.original_count → is_marked marks.restored.items (shape.frame.originals_from + i)
+      ≡ not (is_marked marks.given.items (shape.frame.originals_from + i))
+  pub counted : given_row_count marks.given.items shape.frame.originals_from shape.original_count + missing ≡ shape.original_count
+  pub few_surplus : surplus ≤ shape.frame.row_count
 
 -- the row steps of restoring words in the rows of a shape: each row located, a transform, the surplus rows tested, two transforms, the originals' rows revealed
 abbrev pub restore_steps : DecoderShape → ℕ → ℕ
@@ -25,18 +38,18 @@ restore_steps shape surplus =
     let w = shape.frame.row_count in w + (transform_steps w + (surplus + (2 * transform_steps w + shape.original_count)))
 
 -- the located word of row p: where a shard is given, its word times the locator's power there, else zero
-unfoldable pub located : List Mark → List ℕ → (ℕ → ℕ) → ℕ → ℕ
-located marks locator words p = if is_given (mark_at marks p) then product (words p) (power (slice_index locator p)) else 0
+unfoldable pub located : List Bool → List ℕ → (ℕ → ℕ) → ℕ → ℕ
+located marks locator words p = if is_marked marks p then product (words p) (power (slice_index locator p)) else 0
 
 -- each of the n rows from one on that holds no given shard has the value of the polynomial plus its derivative, times the locator's inverse power
-abbrev pub AreRevealed : ℕ → ℕ → ℕ → List Mark → List ℕ → (ℕ → ℕ) → (ℕ → ℕ) → Type 0
+abbrev pub AreRevealed : ℕ → ℕ → ℕ → List Bool → List ℕ → (ℕ → ℕ) → (ℕ → ℕ) → Type 0
 AreRevealed rows from n marks locator coefficients new =
-    (i : ℕ) → i < n → is_given (mark_at marks (from + i)) ≡ false
+    (i : ℕ) → i < n → is_marked marks (from + i) ≡ false
     → (added : ℕ → ℕ) × IsDerivativeAdded rows coefficients added
     × (new (from + i) ≡ product (forward rows 0 added (from + i)) (power (65535 - slice_index locator (from + i))))
 
 -- in each column (symbol s of chunk k): the located words are values of a polynomial; whether its last coefficients are zero is answered, and if so the missing words are revealed
-pub record RestoresWords (shape : DecoderShape) (marks : List Mark) (locator : List ℕ) (surplus : ℕ) (old new : ℕ → ℕ → ℕ → ℕ) (agrees : Bool) : Type 0 where
+pub record RestoresWords (shape : DecoderShape) (marks : List Bool) (locator : List ℕ) (surplus : ℕ) (old new : ℕ → ℕ → ℕ → ℕ) (agrees : Bool) : Type 0 where
   pub coefficients : ℕ → ℕ → ℕ → ℕ
   pub are_words : (k s i : ℕ) → k < row_len shape.shard_bytes → s < 32 → i < shape.frame.row_count → coefficients k s i < 65536
   pub are_coefficients : (k s : ℕ) → k < row_len shape.shard_bytes → s < 32 → IsBackward shape.frame.row_count 0 (located marks locator (old k s)) (coefficients k s)
@@ -45,8 +58,8 @@ pub record RestoresWords (shape : DecoderShape) (marks : List Mark) (locator : L
       → AreRevealed shape.frame.row_count shape.frame.originals_from shape.original_count marks locator (coefficients k s) (new k s)
 
 -- over chunks: the words of the rows become restored ones, and the rows of the missing originals hold shards with these as columns
-pub record RestoresShards (shape : DecoderShape) (marks : List Mark) (locator : List ℕ) (surplus : ℕ) (old new : Chunks) (agrees : Bool) : Type 0 where
+pub record RestoresShards (shape : DecoderShape) (marks : List Bool) (locator : List ℕ) (surplus : ℕ) (old new : Chunks) (agrees : Bool) : Type 0 where
   pub words : ℕ → ℕ → ℕ → ℕ
   pub restored : RestoresWords shape marks locator surplus (word_in old (row_len shape.shard_bytes)) words agrees
-  pub shards : agrees ≡ true → (i j : ℕ) → i < shape.original_count → j < shape.shard_bytes / 2 → is_given (mark_at marks (shape.frame.originals_from + i)) ≡ false
+  pub shards : agrees ≡ true → (i j : ℕ) → i < shape.original_count → j < shape.shard_bytes / 2 → is_marked marks (shape.frame.originals_from + i) ≡ false
       → column j (shard_in_order new shape.shard_bytes (shape.frame.originals_from + i)) ≡ words (j / 32) (j % 32) (shape.frame.originals_from + i)

@@ -6,5 +6,6 @@ pub mod Loan
 pub mod Coding
 pub mod ObjectLaws
 pub mod Marks
+pub mod Sides
 pub mod DecoderView
 pub mod Decoding

@@ -12,13 +12,13 @@ use Rattle.rs_field.specs.Given.{AreWithin}
 use Rattle.rs_field.specs.Layout.{up_to}
 use Rattle.rs_field.specs.Placement.{encoder_rows, decoder_rows}
 use Rattle.rs_field.specs.Rows.{Chunks}
+use Rattle.rs_field.specs.MarkedRows.{is_marked}
 use Rattle.rs_field.proofs.LayoutLemmas.{length-up_to, get-up_to}
 use Rattle.rs_rate.specs.declared.rate.encoder_work.EncoderRows.{EncoderRows}
 use Rattle.rs_rate.specs.declared.rate.decoder_work.DecoderRows.{DecoderRows}
-use Rattle.rs_rate.specs.declared.rate.marks.Mark.{Mark}
 use Rattle.rs_rate.specs.EncoderView.{configuration_of, encoder_shape, encoder_state}
 use Rattle.rs_rate.specs.DecoderView.{configuration_of as decoder_configuration, decoder_shape, decoder_state, frame_of, HasRoom, memory_room}
-use Rattle.rs_rate.specs.Marks.{mark_at, is_given, given_shards}
+use Rattle.rs_rate.specs.Marks.{given_shards}
 use Rattle.rs_rate.specs.ShardRows.{chunk_count, shard_laid_out}
 
 -- what holds of each of the first n values holds of their list
@@ -48,16 +48,16 @@ has_own_room rate rows shaped =
     subst (λ (n : ℕ). chunk_count n rows.shape.shard_bytes ≤ vec_capacity rows.chunks) (ap (λ s. s.row_count) shaped) rows.own_room
 
 -- the shards that rows tell of by their marks are of the size
-given_within : (marks : List Mark) (chunks : Chunks) (size from n : ℕ)
-    → ((p : ℕ) → is_given (mark_at marks p) ≡ true → IsShard size (shard_laid_out chunks size p)) → AreWithin n size (given_shards marks chunks size from n)
+given_within : (marks : List Bool) (chunks : Chunks) (size from n : ℕ)
+    → ((p : ℕ) → is_marked marks p ≡ true → IsShard size (shard_laid_out chunks size p)) → AreWithin n size (given_shards marks chunks size from n)
 unfolding given_shards
 given_within marks chunks size from n shards =
     record {
-      none_past = λ i outside. ap (λ b. if b then (if is_given (mark_at marks (from + i)) then Some (shard_laid_out chunks size (from + i)) else None) else None) (le-ltb i n outside);
-      sized = λ i shard is. by_tests i shard (nat_lt i n) (is_given (mark_at marks (from + i))) refl is;
+      none_past = λ i outside. ap (λ b. if b then (if is_marked marks (from + i) then Some (shard_laid_out chunks size (from + i)) else None) else None) (le-ltb i n outside);
+      sized = λ i shard is. by_tests i shard (nat_lt i n) (is_marked marks (from + i)) refl is;
     }
   where
-    by_tests : (i : ℕ) (shard : Shard) (inside given : Bool) → is_given (mark_at marks (from + i)) ≡ given
+    by_tests : (i : ℕ) (shard : Shard) (inside given : Bool) → is_marked marks (from + i) ≡ given
         → (if inside then (if given then Some (shard_laid_out chunks size (from + i)) else None) else None) ≡ Some shard → IsShard size shard
     by_tests i shard true true mark is = subst (IsShard size) (ap (λ o. unwrap_or o shard) is) (shards (from + i) mark)
     by_tests i shard true false mark is = absurd (true≢false (sym (ap is_some is)))
@@ -73,8 +73,8 @@ is_decoder rate rows valid shaped =
       of_rate = refl;
       valid = valid;
       fits = subst (λ (n : ℕ). chunk_count n rows.shape.shard_bytes * 64 < 2 ^ 64) (ap (λ t. t.frame.row_count) shaped) rows.sized;
-      originals_within = given_within rows.memory.marks.items rows.memory.chunks.items s.shard_bytes s.frame.originals_from s.original_count rows.shards;
-      recovery_within = given_within rows.memory.marks.items rows.memory.chunks.items s.shard_bytes s.frame.recovery_from s.recovery_count rows.shards;
+      originals_within = given_within rows.memory.marks.given.items rows.memory.chunks.items s.shard_bytes s.frame.originals_from s.original_count rows.shards;
+      recovery_within = given_within rows.memory.marks.given.items rows.memory.chunks.items s.shard_bytes s.frame.recovery_from s.recovery_count rows.shards;
     }
 
 -- and has room for its own rows
@@ -85,6 +85,7 @@ unfolding frame_of
 has_own_decoder_room rate rows shaped =
     record {
       chunks = subst (λ (n : ℕ). chunk_count n rows.shape.shard_bytes ≤ vec_capacity rows.memory.chunks) (ap (λ s. s.frame.row_count) shaped) rows.own_chunks;
-      rows = subst (λ (n : ℕ). n ≤ vec_capacity rows.memory.marks) (ap (λ s. s.frame.row_count) shaped) rows.own_marks;
+      rows = subst (λ (n : ℕ). n ≤ vec_capacity rows.memory.marks.given) (ap (λ s. s.frame.row_count) shaped) rows.own_marks;
+      restored = subst (λ (n : ℕ). n ≤ vec_capacity rows.memory.marks.restored) (ap (λ s. s.frame.row_count) shaped) rows.own_restored;
       entries = subst (λ (n : ℕ). n ≤ vec_capacity rows.memory.erasures) (ap (λ s. s.frame.row_count) shaped) rows.own_entries;
     }

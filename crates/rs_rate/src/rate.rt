@@ -15,6 +15,7 @@ pub mod names;
 mod restoring;
 pub mod rounds;
 mod shard_rows;
+mod side;
 
 use crate::decoder_result::DecoderResult;
 use crate::encoder_result::EncoderResult;

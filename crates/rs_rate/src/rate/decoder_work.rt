@@ -1,16 +1,20 @@
 //! The working space of a decoder: the memory that is handed on, and a decoder's rows in it.
-ghost use Rattle.std.specs.Prelude.{◌≡◌, ◌≢◌, ℕ, ◌+◌, ◌*◌, ◌%◌, ◌^◌, ◌<◌, ◌≤◌, true, length, vec_len, IfOk, IfErr, IfSome, OnOk, OnErr, IsOk, MatchOption, [], ◌∷◌, option_copied};
+ghost use Rattle.std.specs.Prelude.{◌≡◌, ◌≢◌, ℕ, ◌+◌, ◌*◌, ◌%◌, ◌^◌, ◌<◌, ◌≤◌, true, false, length, vec_len};
+ghost use Rattle.std.specs.Prelude.{IfOk, IfErr, IfSome, OnOk, OnErr, IsOk, MatchOption, [], ◌∷◌, option_copied};
 ghost use Rattle.std.specs.Vec.{vec_capacity};
 ghost use Rattle.rs_field.specs.Column.{IsShard};
 ghost use Rattle.rs_field.specs.Counts.{Rate};
 ghost use Rattle.rs_field.specs.Outcome.{answer_of, state_after};
 ghost use Rattle.rs_field.specs.Decoder.{fresh_decoder, with_original, with_recovery, enough_given};
+ghost use Rattle.rs_field.specs.MarkedRows.{is_marked};
 ghost use Rattle.rs_rate.specs.ShardRows.{chunk_count as chunk_count_of, shard_laid_out};
-ghost use Rattle.rs_rate.specs.Marks.{mark_at, is_given, given_row_count, ArePlaced};
+ghost use Rattle.rs_rate.specs.Marks.{given_row_count, ArePlaced};
+ghost use Rattle.rs_rate.specs.Sides.{with_given};
 
-use crate::rate::marks::{Mark, is_given_at, is_restored_at, mark_given, set_empty};
+use crate::rate::marks::Marks;
 use crate::rate::memory::{make_room, set_chunks, set_length};
 use crate::rate::shard_rows::{chunk_count, insert_at, shard_at, shard_is_bytes};
+use crate::rate::side::Side;
 use rs_field::engine::GfElement;
 use rs_field::error::Error;
 use std::alloc::Global;
@@ -25,7 +29,7 @@ pub struct DecoderWork {
 #[derive(Drop)]
 pub struct DecoderMemory {
     pub(crate) chunks: Vec<[u8; 64]>,
-    pub(crate) marks: Vec<Mark>,
+    pub(crate) marks: Marks,
     pub(crate) erasures: Vec<GfElement>,
 }
 
@@ -64,14 +68,16 @@ pub struct DecoderRows {
     pub ghost whole: { vec_len memory.chunks ≡ chunk_count_of shape.frame.row_count shape.shard_bytes },
     pub ghost own_chunks: { chunk_count_of shape.frame.row_count shape.shard_bytes ≤ vec_capacity memory.chunks },
     pub ghost sized: { chunk_count_of shape.frame.row_count shape.shard_bytes * 64 < 2 ^ 64 },
-    pub ghost marked: { vec_len memory.marks ≡ shape.frame.row_count },
-    pub ghost own_marks: { shape.frame.row_count ≤ vec_capacity memory.marks },
+    pub ghost marked: { vec_len memory.marks.given ≡ shape.frame.row_count },
+    pub ghost own_marks: { shape.frame.row_count ≤ vec_capacity memory.marks.given },
+    pub ghost restored_marked: { vec_len memory.marks.restored ≡ shape.frame.row_count },
+    pub ghost own_restored: { shape.frame.row_count ≤ vec_capacity memory.marks.restored },
     pub ghost entries: { vec_len memory.erasures ≡ shape.frame.row_count },
     pub ghost own_entries: { shape.frame.row_count ≤ vec_capacity memory.erasures },
-    pub ghost originals_counted: { originals_given ≡ given_row_count memory.marks.items shape.frame.originals_from shape.original_count },
-    pub ghost recovery_counted: { recovery_given ≡ given_row_count memory.marks.items shape.frame.recovery_from shape.recovery_count },
-    pub ghost placed: { ArePlaced shape.frame.originals_from shape.original_count shape.frame.recovery_from shape.recovery_count memory.marks.items },
-    pub ghost shards: { (p : ℕ) → is_given (mark_at memory.marks.items p) ≡ true → IsShard shape.shard_bytes (shard_laid_out memory.chunks.items shape.shard_bytes p) },
+    pub ghost originals_counted: { originals_given ≡ given_row_count memory.marks.given.items shape.frame.originals_from shape.original_count },
+    pub ghost recovery_counted: { recovery_given ≡ given_row_count memory.marks.given.items shape.frame.recovery_from shape.recovery_count },
+    pub ghost placed: { ArePlaced shape.frame.originals_from shape.original_count shape.frame.recovery_from shape.recovery_count memory.marks.given.items },
+    pub ghost shards: { (p : ℕ) → is_marked memory.marks.given.items p ≡ true → IsShard shape.shard_bytes (shard_laid_out memory.chunks.items shape.shard_bytes p) },
 }
 
 impl DecoderWork {
@@ -79,7 +85,7 @@ impl DecoderWork {
 
     /// A working space that took no memory yet.
     pub fn new() -> DecoderWork
-        ensures { work_room result ≡ record { chunks = 0; rows = 0; entries = 0 } }
+        ensures { work_room result ≡ record { chunks = 0; rows = 0; restored = 0; entries = 0 } }
     {
         DecoderWork { memory: None }
     }
@@ -88,7 +94,7 @@ impl DecoderWork {
 impl Default for DecoderWork {
     ghost use Rattle.rs_rate.specs.DecoderView.{work_room};
 
-    ghost is_default = { λ work. work_room work ≡ record { chunks = 0; rows = 0; entries = 0 } };
+    ghost is_default = { λ work. work_room work ≡ record { chunks = 0; rows = 0; restored = 0; entries = 0 } };
 
     fn default() -> DecoderWork {
         DecoderWork::new()
@@ -110,7 +116,7 @@ impl DecoderMemory {
             Some(memory) => memory,
             None => DecoderMemory {
                 chunks: Vec::new(alloc),
-                marks: Vec::new(alloc),
+                marks: Marks::new(alloc),
                 erasures: Vec::new(alloc),
             },
         }
@@ -119,17 +125,18 @@ impl DecoderMemory {
     // Makes room for so many chunks and rows; nothing else changes.
     fn make_room(&mut self, chunks: usize, rows: usize) -> Result<(), Error>
         ensures chunks { self.new.chunks.items ≡ self.old.chunks.items }
-        ensures marks { self.new.marks.items ≡ self.old.marks.items }
+        ensures given { self.new.marks.given.items ≡ self.old.marks.given.items }
+        ensures restored { self.new.marks.restored.items ≡ self.old.marks.restored.items }
         ensures entries { self.new.erasures.items ≡ self.old.erasures.items }
-        ensures room { OnOk result ((chunks ≤ vec_capacity self.new.chunks) × (rows ≤ vec_capacity self.new.marks)
-            × (rows ≤ vec_capacity self.new.erasures)) }
+        ensures room { OnOk result ((chunks ≤ vec_capacity self.new.chunks) × (rows ≤ vec_capacity self.new.marks.given)
+            × (rows ≤ vec_capacity self.new.marks.restored) × (rows ≤ vec_capacity self.new.erasures)) }
         ensures grown { Grows (memory_room self.old) (memory_room self.new) }
         ensures memory { IfErr result (λ e. e ≡ Error.OutOfMemory) }
-        ensures enough { chunks ≤ vec_capacity self.old.chunks → rows ≤ vec_capacity self.old.marks
-            → rows ≤ vec_capacity self.old.erasures → IsOk result }
+        ensures enough { chunks ≤ vec_capacity self.old.chunks → rows ≤ vec_capacity self.old.marks.given
+            → rows ≤ vec_capacity self.old.marks.restored → rows ≤ vec_capacity self.old.erasures → IsOk result }
     {
         make_room(&mut self.chunks, chunks)?;
-        make_room(&mut self.marks, rows)?;
+        self.marks.make_room(rows)?;
         make_room(&mut self.erasures, rows)
     }
 
@@ -138,16 +145,18 @@ impl DecoderMemory {
     #[inline(always)]
     fn set_empty(&mut self, chunks: usize, rows: usize)
         requires chunks { chunks ≤ vec_capacity self.old.chunks }
-        requires rows { rows ≤ vec_capacity self.old.marks }
+        requires given { rows ≤ vec_capacity self.old.marks.given }
+        requires restored { rows ≤ vec_capacity self.old.marks.restored }
         requires entries { rows ≤ vec_capacity self.old.erasures }
         ensures chunks { vec_len self.new.chunks ≡ chunks }
-        ensures marks { vec_len self.new.marks ≡ rows }
+        ensures given { vec_len self.new.marks.given ≡ rows }
+        ensures restored { vec_len self.new.marks.restored ≡ rows }
         ensures entries { vec_len self.new.erasures ≡ rows }
-        ensures empty { (p : ℕ) → mark_at self.new.marks.items p ≡ Mark.Empty }
+        ensures empty { (p : ℕ) → is_marked self.new.marks.given.items p ≡ false }
         ensures grown { Grows (memory_room self.old) (memory_room self.new) }
     {
         set_chunks(&mut self.chunks, chunks);
-        set_empty(&mut self.marks, rows);
+        self.marks.set_empty(rows);
         set_length(&mut self.erasures, rows, 0);
     }
 
@@ -155,19 +164,19 @@ impl DecoderMemory {
     fn enter(&mut self, row: usize, shard: &[u8])
         requires room { chunk_count_of (row + 1) (length shard.now) ≤ vec_len self.old.chunks }
         requires even { length shard.now % 2 ≡ 0 }
-        requires marked { row < vec_len self.old.marks }
+        requires marked { row < vec_len self.old.marks.given }
         ensures here { shard_laid_out self.new.chunks.items (length shard.now) row ≡ shard.now }
         ensures others { (i : ℕ) → i ≢ row → shard_laid_out self.new.chunks.items (length shard.now) i ≡ shard_laid_out self.old.chunks.items (length shard.now) i }
         ensures shard { IsShard (length shard.now) shard.now }
-        ensures mark { mark_at self.new.marks.items row ≡ Mark.Given }
-        ensures other_marks { (p : ℕ) → p ≢ row → mark_at self.new.marks.items p ≡ mark_at self.old.marks.items p }
-        ensures lengths { (vec_len self.new.chunks ≡ vec_len self.old.chunks) × (vec_len self.new.marks ≡ vec_len self.old.marks)
-            × (vec_len self.new.erasures ≡ vec_len self.old.erasures) }
+        ensures mark { is_marked self.new.marks.given.items row ≡ true }
+        ensures other_marks { (p : ℕ) → p ≢ row → is_marked self.new.marks.given.items p ≡ is_marked self.old.marks.given.items p }
+        ensures lengths { (vec_len self.new.chunks ≡ vec_len self.old.chunks) × (vec_len self.new.marks.given ≡ vec_len self.old.marks.given)
+            × (vec_len self.new.marks.restored ≡ vec_len self.old.marks.restored) × (vec_len self.new.erasures ≡ vec_len self.old.erasures) }
         ensures grown { memory_room self.new ≡ memory_room self.old }
     {
         shard_is_bytes(shard);
         insert_at(self.chunks.as_mut_slice(), shard, row);
-        mark_given(self.marks.as_mut_slice(), row);
+        self.marks.give(row);
     }
 }
 
@@ -234,25 +243,7 @@ impl DecoderRows {
         ensures shape { self.new.shape ≡ self.old.shape }
         ensures room { memory_room self.new.memory ≡ memory_room self.old.memory }
     {
-        if index >= self.shape.original_count {
-            return Err(Error::InvalidOriginalShardIndex {
-                original_count: self.shape.original_count,
-                index,
-            });
-        }
-        let row = self.shape.frame.originals_from + index;
-        if is_given_at(self.memory.marks.as_slice(), row) {
-            return Err(Error::DuplicateOriginalShardIndex { index });
-        }
-        if original_shard.len() != self.shape.shard_bytes {
-            return Err(Error::DifferentShardSize {
-                shard_bytes: self.shape.shard_bytes,
-                got: original_shard.len(),
-            });
-        }
-        self.memory.enter(row, original_shard);
-        self.originals_given += 1;
-        Ok(())
+        self.add_shard(Side::Original, index, original_shard)
     }
 
     pub(crate) fn add_recovery_shard(
@@ -266,24 +257,33 @@ impl DecoderRows {
         ensures shape { self.new.shape ≡ self.old.shape }
         ensures room { memory_room self.new.memory ≡ memory_room self.old.memory }
     {
-        if index >= self.shape.recovery_count {
-            return Err(Error::InvalidRecoveryShardIndex {
-                recovery_count: self.shape.recovery_count,
-                index,
-            });
+        self.add_shard(Side::Recovery, index, recovery_shard)
+    }
+
+    // Enters a shard of a side in its row, where the row is free.
+    fn add_shard(&mut self, side: Side, index: usize, shard: &[u8]) -> Result<(), Error>
+        ensures answer { (rate : Rate) → result ≡ answer_of (with_given side (decoder_state rate self.old) index shard.now) }
+        ensures left { (rate : Rate) → decoder_state rate self.new
+            ≡ state_after (decoder_state rate self.old) (with_given side (decoder_state rate self.old) index shard.now) }
+        ensures shape { self.new.shape ≡ self.old.shape }
+        ensures room { memory_room self.new.memory ≡ memory_room self.old.memory }
+    {
+        if index >= side.count(self.shape) {
+            return Err(side.index_refused(self.shape, index));
         }
-        let row = self.shape.frame.recovery_from + index;
-        if is_given_at(self.memory.marks.as_slice(), row) {
-            return Err(Error::DuplicateRecoveryShardIndex { index });
+        let row = side.first_row(self.shape) + index;
+        if self.memory.marks.is_given(row) {
+            return Err(side.repeat_refused(index));
         }
-        if recovery_shard.len() != self.shape.shard_bytes {
+        if shard.len() != self.shape.shard_bytes {
             return Err(Error::DifferentShardSize {
                 shard_bytes: self.shape.shard_bytes,
-                got: recovery_shard.len(),
+                got: shard.len(),
             });
         }
-        self.memory.enter(row, recovery_shard);
-        self.recovery_given += 1;
+        self.memory.enter(row, shard);
+        self.originals_given += side.originals();
+        self.recovery_given += side.recovery();
         Ok(())
     }
 
@@ -308,7 +308,7 @@ impl DecoderRows {
             return None;
         }
         let row = self.shape.frame.originals_from + index;
-        if !is_restored_at(self.memory.marks.as_slice(), row) {
+        if !self.memory.marks.is_restored(row) {
             return None;
         }
         Some(shard_at(self.memory.chunks.as_slice(), self.shape.shard_bytes, row))

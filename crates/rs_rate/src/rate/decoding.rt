@@ -7,13 +7,13 @@ ghost use Rattle.rs_field.specs.Configuration.{validated};
 ghost use Rattle.rs_field.specs.Counts.{Rate};
 ghost use Rattle.rs_field.specs.Decoder.{fresh_decoder, Restored, NoneAgrees};
 ghost use Rattle.rs_field.specs.Layout.{row_len as chunks_for};
+ghost use Rattle.rs_field.specs.MarkedRows.{is_marked};
 ghost use Rattle.rs_rate.specs.DecoderView.{configuration_of, decoder_shape, decoder_state, memory_room, restored_of, restored_from};
-ghost use Rattle.rs_rate.specs.Decoding.{restore_steps, IsLocatorOf, RestoresWords, RestoresShards};
-ghost use Rattle.rs_rate.specs.Marks.{mark_at, is_given, erased, given_row_count, ArePlaced};
+ghost use Rattle.rs_rate.specs.Decoding.{restore_steps, CanBeRestored, IsLocatorOf, RestoresWords, RestoresShards};
+ghost use Rattle.rs_rate.specs.Marks.{erased};
 ghost use Rattle.rs_rate.specs.ShardRows.{chunk_count, word_in, shard_laid_out, shard_in_order};
 
 use crate::rate::decoder_work::{DecoderMemory, DecoderRows, DecoderShape, Frame};
-use crate::rate::marks::{Mark, end_marks, is_given_at};
 use crate::rate::restoring::{Round, restore_rows};
 use crate::rate::shard_rows::{in_order_are_bytes, move_tail};
 use rs_field::engine::layout::row_len;
@@ -43,6 +43,9 @@ pub(crate) fn decode_rows<E: Engine>(
     let recovery_received_count = rows.recovery_given;
     let missing = shape.original_count - original_received_count;
     let surplus = original_received_count + recovery_received_count - shape.original_count;
+    rows.memory
+        .marks
+        .want_missing(shape.frame.originals_from, shape.original_count);
     let agrees = restore(engine, steps, &mut rows.memory, shape, missing, surplus);
     let answer = if agrees {
         Ok(missing)
@@ -57,11 +60,7 @@ pub(crate) fn decode_rows<E: Engine>(
         shape.frame.row_count,
         shape.shard_bytes,
     );
-    end_marks(
-        rows.memory.marks.as_mut_slice(),
-        shape.frame.originals_from,
-        shape.original_count,
-    );
+    rows.memory.marks.end_round();
     rows.originals_given = 0;
     rows.recovery_given = 0;
     answer
@@ -78,34 +77,27 @@ fn restore<E: Engine>(
     surplus: usize,
 ) -> bool
     requires power { (d : ℕ) × (shape.frame.row_count ≡ 2 ^ d) }
-    requires few { shape.frame.row_count ≤ 65536 }
-    requires even { shape.shard_bytes % 2 ≡ 0 }
-    requires originals { shape.frame.originals_from + shape.original_count ≤ shape.frame.row_count }
-    requires recovery { shape.frame.recovery_from + shape.recovery_count ≤ shape.frame.row_count }
     requires whole { chunk_count shape.frame.row_count shape.shard_bytes ≤ length memory.old.chunks.items }
-    requires marked { shape.frame.row_count ≤ length memory.old.marks.items }
     requires entries { length memory.old.erasures.items ≡ shape.frame.row_count }
-    requires placed { ArePlaced shape.frame.originals_from shape.original_count shape.frame.recovery_from shape.recovery_count memory.old.marks.items }
-    requires missing { given_row_count memory.old.marks.items shape.frame.originals_from shape.original_count + missing ≡ shape.original_count }
-    requires few_surplus { surplus ≤ shape.frame.row_count }
-    ensures marks { memory.new.marks.items ≡ memory.old.marks.items }
+    requires facts { CanBeRestored shape memory.old.marks missing surplus }
+    ensures marks { memory.new.marks ≡ memory.old.marks }
     ensures length { length memory.new.chunks.items ≡ length memory.old.chunks.items }
     ensures entries { length memory.new.erasures.items ≡ length memory.old.erasures.items }
     ensures room { memory_room memory.new ≡ memory_room memory.old }
     ensures nothing { missing ≡ 0 → surplus ≡ 0 → result ≡ true }
-    ensures restored { 0 < missing + surplus → (locator : List ℕ) × IsLocatorOf shape.frame memory.old.marks.items locator
-        × RestoresShards shape memory.old.marks.items locator surplus memory.old.chunks.items memory.new.chunks.items result }
+    ensures restored { 0 < missing + surplus → (locator : List ℕ) × IsLocatorOf shape.frame memory.old.marks.given.items locator
+        × RestoresShards shape memory.old.marks.given.items locator surplus memory.old.chunks.items memory.new.chunks.items result }
     ensures counts { CountsUpTo (decode_steps shape.frame.row_count) 1048576 65536 steps.old steps.new }
 {
     if missing == 0 && surplus == 0 {
         return true;
     }
-    let marks = memory.marks.as_slice();
+    let marks = &memory.marks;
     make_locator(
         engine,
         steps,
         memory.erasures.as_mut_slice(),
-        marks,
+        marks.given(),
         shape.frame,
     );
     let round = Round {
@@ -123,17 +115,17 @@ fn make_locator<E: Engine>(
     engine: &E,
     steps: &mut Steps,
     entries: &mut [GfElement],
-    marks: &[Mark],
+    given: &[bool],
     frame: Frame,
 )
     requires power { (d : ℕ) × (frame.row_count ≡ 2 ^ d) }
     requires few { frame.row_count ≤ 65536 }
     requires entries { length entries.old ≡ frame.row_count }
-    requires marked { frame.row_count ≤ length marks.now }
-    ensures locator { IsLocatorOf frame marks.now entries.new }
+    requires marked { frame.row_count ≤ length given.now }
+    ensures locator { IsLocatorOf frame given.now entries.new }
     ensures counts { LocatorCounts steps.old steps.new }
 {
-    mark_erasures(entries, marks, frame);
+    mark_erasures(entries, given, frame);
     engine.locate(steps, entries);
     entries_are_words(entries);
 }
@@ -144,27 +136,23 @@ fn entries_are_words(entries: &[GfElement])
 {}
 
 // Marks the erased rows.
-fn mark_erasures(entries: &mut [GfElement], marks: &[Mark], frame: Frame)
+fn mark_erasures(entries: &mut [GfElement], given: &[bool], frame: Frame)
     requires entries { length entries.old ≡ frame.row_count }
-    requires marked { frame.row_count ≤ length marks.now }
-    ensures { (row : ℕ) → row < frame.row_count → slice_index entries.new row ≡ erased frame.zeros_from frame.zeros_to marks.now row }
+    requires marked { frame.row_count ≤ length given.now }
+    ensures { (row : ℕ) → row < frame.row_count → slice_index entries.new row ≡ erased frame.zeros_from frame.zeros_to given.now row }
 {
     for row in 0..frame.row_count {
-        entries[row] = erased_at(marks, frame, row);
+        entries[row] = erased_at(given, frame, row);
     }
 }
 
 // A row's entry: 0 where it is a known zero or its shard is given, else 1.
-fn erased_at(marks: &[Mark], frame: Frame, row: usize) -> GfElement
-    requires marked { row < length marks.now }
-    ensures { result ≡ erased frame.zeros_from frame.zeros_to marks.now row }
+fn erased_at(given: &[bool], frame: Frame, row: usize) -> GfElement
+    requires marked { row < length given.now }
+    ensures { result ≡ erased frame.zeros_from frame.zeros_to given.now row }
 {
     let is_zero = frame.zeros_from <= row && row < frame.zeros_to;
-    if is_zero || is_given_at(marks, row) {
-        0
-    } else {
-        1
-    }
+    if is_zero || given[row] { 0 } else { 1 }
 }
 
 // Restores the missing originals over all chunks where some message agrees, with their tails moved.
@@ -176,7 +164,7 @@ fn restore_chunks<E: Engine>(
 ) -> bool
     requires power { (d : ℕ) × (round.shape.frame.row_count ≡ 2 ^ d) }
     requires whole { chunk_count round.shape.frame.row_count round.shape.shard_bytes ≤ length chunks.old }
-    ensures shards { RestoresShards round.entry.shape round.entry.marks.now round.entry.locator.now round.entry.surplus chunks.old chunks.new result }
+    ensures shards { RestoresShards round.entry.shape round.entry.marks.now.given.items round.entry.locator.now round.entry.surplus chunks.old chunks.new result }
     ensures counts { CountsUpTo (3 * transform_steps round.entry.shape.frame.row_count + 4 * round.entry.shape.frame.row_count) 0 0 steps.old steps.new }
 {
     let agrees = restore_words(engine, steps, chunks, round);
@@ -195,7 +183,7 @@ fn restore_words<E: Engine>(
 ) -> bool
     requires power { (d : ℕ) × (round.shape.frame.row_count ≡ 2 ^ d) }
     requires whole { round.shape.frame.row_count * chunks_for round.shape.shard_bytes ≤ length chunks.old }
-    ensures words { RestoresWords round.entry.shape round.entry.marks.now round.entry.locator.now round.entry.surplus
+    ensures words { RestoresWords round.entry.shape round.entry.marks.now.given.items round.entry.locator.now round.entry.surplus
         (word_in chunks.old (chunks_for round.entry.shape.shard_bytes)) (word_in chunks.new (chunks_for round.entry.shape.shard_bytes)) result }
     ensures counts { CountsUpTo (restore_steps round.entry.shape round.entry.surplus) 0 0 steps.old steps.new }
 {
@@ -208,13 +196,13 @@ fn restore_words<E: Engine>(
 fn move_missing_tails(steps: &mut Steps, chunks: &mut [[u8; 64]], round: Round<'_>)
     requires whole { chunk_count round.shape.frame.row_count round.shape.shard_bytes ≤ length chunks.old }
     ensures moved { (i : ℕ) → i < round.entry.shape.original_count
-        → let p = round.entry.shape.frame.originals_from + i in is_given (mark_at round.entry.marks.now p) ≡ false
+        → let p = round.entry.shape.frame.originals_from + i in is_marked round.entry.marks.now.given.items p ≡ false
         → shard_in_order chunks.new round.entry.shape.shard_bytes p ≡ shard_laid_out chunks.old round.entry.shape.shard_bytes p }
     ensures counts { CountsRows round.entry.missing steps.old steps.new }
 {
     for i in 0..round.shape.original_count {
         let row = round.shape.frame.originals_from + i;
-        if !is_given_at(round.marks, row) {
+        if !round.marks.is_given(row) {
             steps.row_step();
             move_tail(chunks, row, round.shape.shard_bytes);
         }

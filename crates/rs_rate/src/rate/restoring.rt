@@ -5,40 +5,33 @@
 //! them has as many zero coefficients at its end as shards are given beyond the originals exactly where some message
 //! agrees with all that is given. The polynomial plus its derivative takes at each erased row the wanted word times
 //! the locator's derivative. The method is that of Lin, Chung and Han in the form of Leopard-RS; the check is added.
-ghost use Rattle.std.specs.Prelude.{◌≡◌, ℕ, ◌+◌, ◌-◌, ◌/◌, ◌%◌, ◌^◌, ◌<◌, ◌≤◌, ◌↔◌, true, false, length, max, replicate, slice_index};
+ghost use Rattle.std.specs.Prelude.{◌≡◌, ℕ, ◌+◌, ◌-◌, ◌/◌, ◌%◌, ◌^◌, ◌<◌, ◌≤◌, ◌↔◌, true, false, length, replicate, slice_index};
 ghost use Rattle.rs_field.specs.Bounds.{CountsRows, CountsUpTo};
 ghost use Rattle.rs_field.specs.Field.{product, power};
 ghost use Rattle.rs_field.specs.Layout.{row_len as chunks_for};
 ghost use Rattle.rs_field.specs.View.{cell, word, Fits, SameShape};
-ghost use Rattle.rs_rate.specs.Decoding.{located, restore_steps, RestoresWords};
-ghost use Rattle.rs_rate.specs.Marks.{mark_at, is_given, given_row_count, ArePlaced};
+ghost use Rattle.rs_field.specs.MarkedRows.{is_marked};
+ghost use Rattle.rs_rate.specs.Decoding.{located, CanBeRestored, restore_steps, RestoresWords};
 
 use crate::rate::decoder_work::DecoderShape;
-use crate::rate::marks::{Mark, is_given_at};
+use crate::rate::marks::Marks;
 use rs_field::engine::derivative::formal_derivative;
 use rs_field::engine::layout::is_zero_row;
 use rs_field::engine::rows::{clear_rows, mul_row};
 use rs_field::engine::transform::row_symbols_are_words;
 use rs_field::engine::{Engine, GF_MODULUS, GfElement, ShardsRefMut, Steps};
 
-// A round to decode: what the rows are set up for, which of them hold given shards, the locator's logarithm at each
-// row, and how many originals are missing and how many shards are given beyond the originals' number.
+// A round to decode: what the rows are set up for, their marks, the locator's logarithm at each row, and how many
+// originals are missing and how many shards are given beyond the originals' number.
 #[derive(Clone, Copy)]
 pub(crate) struct Round<'a> {
     pub(crate) shape: DecoderShape,
-    pub(crate) marks: &'a [Mark],
+    pub(crate) marks: &'a Marks,
     pub(crate) locator: &'a [GfElement],
     pub(crate) missing: usize,
     pub(crate) surplus: usize,
-    pub ghost few: { shape.frame.row_count ≤ 65536 },
-    pub ghost even: { shape.shard_bytes % 2 ≡ 0 },
-    pub ghost originals: { shape.frame.originals_from + shape.original_count ≤ shape.frame.row_count },
-    pub ghost recovery: { shape.frame.recovery_from + shape.recovery_count ≤ shape.frame.row_count },
-    pub ghost marked: { shape.frame.row_count ≤ length marks.now },
+    pub ghost facts: { CanBeRestored shape marks.now missing surplus },
     pub ghost located: { length locator.now ≡ shape.frame.row_count },
-    pub ghost placed: { ArePlaced shape.frame.originals_from shape.original_count shape.frame.recovery_from shape.recovery_count marks.now },
-    pub ghost counted: { given_row_count marks.now shape.frame.originals_from shape.original_count + missing ≡ shape.original_count },
-    pub ghost few_surplus: { surplus ≤ shape.frame.row_count },
 }
 
 // Restores the words of the missing originals where some message agrees with all that is given, and answers whether
@@ -54,13 +47,12 @@ pub(crate) fn restore_rows<E: Engine>(
     requires rows { «data».old.shard_count ≡ round.shape.frame.row_count }
     requires len { «data».old.shard_len_64 ≡ chunks_for round.shape.shard_bytes }
     ensures shape { SameShape «data».old «data».new }
-    ensures words { RestoresWords round.entry.shape round.entry.marks.now round.entry.locator.now round.entry.surplus (word «data».old) (word «data».new) result }
+    ensures words { RestoresWords round.entry.shape round.entry.marks.now.given.items round.entry.locator.now round.entry.surplus (word «data».old) (word «data».new) result }
     ensures counts { CountsUpTo (restore_steps round.entry.shape round.entry.surplus) 0 0 steps.old steps.new }
 {
     let shape = round.shape;
-    let end = rows_end(shape);
     locate_rows(engine, steps, data, round);
-    engine.ifft(steps, data, 0, shape.frame.row_count, end, 0);
+    engine.ifft_given(steps, data, 0, round.marks.given(), 0);
     row_symbols_are_words(data);
     let first = shape.frame.row_count - round.surplus;
     if !are_zero(steps, data, first, shape.shard_bytes) {
@@ -68,20 +60,10 @@ pub(crate) fn restore_rows<E: Engine>(
     }
     if round.missing > 0 {
         formal_derivative(steps, data);
-        engine.fft(steps, data, 0, shape.frame.row_count, end, 0);
+        engine.fft_wanted(steps, data, 0, round.marks.restored(), 0);
         reveal_rows(engine, steps, data, round);
     }
     true
-}
-
-// The end of the rows where shards stand.
-fn rows_end(shape: DecoderShape) -> usize
-    requires originals { shape.frame.originals_from + shape.original_count ≤ 65536 }
-    requires recovery { shape.frame.recovery_from + shape.recovery_count ≤ 65536 }
-    ensures { result ≡ max (shape.frame.originals_from + shape.original_count) (shape.frame.recovery_from + shape.recovery_count) }
-{
-    let originals_end = shape.frame.originals_from + shape.original_count;
-    originals_end.max(shape.frame.recovery_from + shape.recovery_count)
 }
 
 // Multiplies the given rows by the locator's power at their points, and clears the others; a row step each at most.
@@ -95,13 +77,13 @@ fn locate_rows<E: Engine>(
     requires rows { «data».old.shard_count ≡ round.shape.frame.row_count }
     ensures shape { SameShape «data».old «data».new }
     ensures located { (k s p : ℕ) → k < «data».old.shard_len_64 → s < 32 → p < «data».old.shard_count
-        → word «data».new k s p ≡ located round.entry.marks.now round.entry.locator.now (word «data».old k s) p }
-    ensures cleared { (k p : ℕ) → k < «data».old.shard_len_64 → p < «data».old.shard_count → is_given (mark_at round.entry.marks.now p) ≡ false
+        → word «data».new k s p ≡ located round.entry.marks.now.given.items round.entry.locator.now (word «data».old k s) p }
+    ensures cleared { (k p : ℕ) → k < «data».old.shard_len_64 → p < «data».old.shard_count → is_marked round.entry.marks.now.given.items p ≡ false
         → cell «data».new k p ≡ replicate 64 0 }
     ensures counts { CountsUpTo «data».old.shard_count 0 0 steps.old steps.new }
 {
     for p in 0..data.len() {
-        if is_given_at(round.marks, p) {
+        if round.marks.is_given(p) {
             mul_row(engine, steps, data, p, round.locator[p]);
         } else {
             clear_rows(steps, data, p, p + 1);
@@ -140,13 +122,13 @@ fn reveal_rows<E: Engine>(
     requires rows { «data».old.shard_count ≡ round.shape.frame.row_count }
     ensures shape { SameShape «data».old «data».new }
     ensures revealed { (k s i : ℕ) → k < «data».old.shard_len_64 → s < 32 → i < round.entry.shape.original_count
-        → let p = round.entry.shape.frame.originals_from + i in is_given (mark_at round.entry.marks.now p) ≡ false
+        → let p = round.entry.shape.frame.originals_from + i in is_marked round.entry.marks.now.given.items p ≡ false
         → word «data».new k s p ≡ product (word «data».old k s p) (power (65535 - slice_index round.entry.locator.now p)) }
     ensures counts { CountsUpTo round.entry.shape.original_count 0 0 steps.old steps.new }
 {
     for i in 0..round.shape.original_count {
         let p = round.shape.frame.originals_from + i;
-        if !is_given_at(round.marks, p) {
+        if !round.marks.is_given(p) {
             mul_row(engine, steps, data, p, GF_MODULUS - round.locator[p]);
         }
     }

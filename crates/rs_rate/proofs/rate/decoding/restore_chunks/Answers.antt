@@ -17,5 +17,5 @@ returns-then-agrees-clause-shards g c =
       words = word_in mid (row_len s.shard_bytes);
       restored = c.restore_words-agrees.ensures.words;
       shards = λ _ i j inside hj none.
-          ap (column j) (c.move_missing_tails.ensures.moved i inside none) ∙ column-put mid s.shard_bytes (s.frame.originals_from + i) j c.args.round.even hj;
+          ap (column j) (c.move_missing_tails.ensures.moved i inside none) ∙ column-put mid s.shard_bytes (s.frame.originals_from + i) j c.args.round.facts.even hj;
     }

@@ -17,7 +17,7 @@ returns-clause-words g c =
     let len : c.new-data.result.shard_len_64 ≡ row_len c.args.round.shape.shard_bytes = c.new-data.ensures.len_64 ∙ c.row_len.ensures in
     let len_too : c.restore_rows.new.«data».shard_len_64 ≡ row_len c.args.round.shape.shard_bytes = c.restore_rows.ensures.shape.len_64 ∙ len in
     let new : c.restore_rows.new.«data».chunks.now ≡ _ = search rules in
-    restores_alike round.shape round.marks.now round.locator.now round.surplus (word rows) (word made) (word_in c.args.chunks.now n) (word_in _ n) c.restore_rows.result
+    restores_alike round.shape round.marks.now.given.items round.locator.now round.surplus (word rows) (word made) (word_in c.args.chunks.now n) (word_in _ n) c.restore_rows.result
     (λ k s i. ap₂ (λ (m : ℕ) (xs : Chunks). symbol (chunk xs (i * m + k)) s) len old)
     (λ k s i. ap₂ (λ (m : ℕ) (xs : Chunks). symbol (chunk xs (i * m + k)) s) len_too new)
     c.restore_rows.ensures.words

@@ -5,31 +5,31 @@ use Rattle.rs_field.specs.Rows.{symbol}
 use Rattle.rs_field.specs.View.{cell, word}
 use Rattle.rs_field.specs.declared.engine.shards.ShardsRefMut.{ShardsRefMut}
 use Rattle.rs_field.specs.declared.engine.steps.Steps.{Steps}
+use Rattle.rs_field.specs.MarkedRows.{is_marked}
 use Rattle.rs_field.proofs.Counting.{counts_rows, counts_then}
 use Rattle.rs_field.proofs.Recursion.{fits_kept}
 use Rattle.rs_field.proofs.RowOffsets.{outside_cell, shape_then}
 use Rattle.rs_field.proofs.Symbols.{symbol-zero}
 use Rattle.rs_rate.specs.Decoding.{located}
-use Rattle.rs_rate.specs.Marks.{mark_at, is_given}
 use Rattle.rs_rate.proofs.RestoringRows.{RowLocated, located-at, located-same}
 use Rattle.rs_rate.proofs.rate.restoring.locate_rows.Goals as goal
-use Rattle.rs_rate.proofs.rate.restoring.locate_rows.Goals.{then-is_given_at, else-is_given_at}
+use Rattle.rs_rate.proofs.rate.restoring.locate_rows.Goals.{then-is_given, else-is_given}
 
 pub loop-p-preserved : goal.loop-p-preserved
 loop-p-preserved g c =
     let old = c.args.«data».now in
     let mid = c.loop-p.«data» in
-    let new = c.if-is_given_at.«data» in
-    let marks = c.args.round.marks.now in
+    let new = c.if-is_given.«data» in
+    let marks = c.args.round.marks.now.given.items in
     let locator = c.args.round.locator.now in
     let p = c.loop-p.p in
     let before = c.loop-p.invariant in
     let count = before.shape.count in
-    let step : RowLocated c.args.round.marks.now c.args.round.locator.now c.loop-p.p c.loop-p.«data» c.if-is_given_at.«data» c.loop-p.steps c.if-is_given_at.steps =
-    elim c.if-is_given_at.branch [
-      | then-is_given_at w ↦
-          let given = sym c.is_given_at.ensures ∙ w.if-is_given_at.true in
-          subst (λ (r : ShardsRefMut). RowLocated marks locator p mid r c.loop-p.steps c.if-is_given_at.steps) (sym w.data-is)
+    let step : RowLocated c.args.round.marks.now.given.items c.args.round.locator.now c.loop-p.p c.loop-p.«data» c.if-is_given.«data» c.loop-p.steps c.if-is_given.steps =
+    elim c.if-is_given.branch [
+      | then-is_given w ↦
+          let given = sym c.is_given.ensures ∙ w.if-is_given.true in
+          subst (λ (r : ShardsRefMut). RowLocated marks locator p mid r c.loop-p.steps c.if-is_given.steps) (sym w.data-is)
           (subst (λ (t : Steps). RowLocated marks locator p mid w.mul_row.new.«data» c.loop-p.steps t) (sym w.steps-is)
           (record {
             shape = w.mul_row.ensures.shape;
@@ -38,10 +38,10 @@ loop-p-preserved g c =
             cleared = λ k hk none. absurd (true≢false (sym given ∙ none));
             counts = w.mul_row.ensures.counts;
           }))
-      | else-is_given_at w ↦
-          let none = sym c.is_given_at.ensures ∙ w.if-is_given_at.false in
+      | else-is_given w ↦
+          let none = sym c.is_given.ensures ∙ w.if-is_given.false in
           let cleared_len = w.clear_rows.ensures.shape.len_64 in
-          subst (λ (r : ShardsRefMut). RowLocated marks locator p mid r c.loop-p.steps c.if-is_given_at.steps) (sym w.data-is)
+          subst (λ (r : ShardsRefMut). RowLocated marks locator p mid r c.loop-p.steps c.if-is_given.steps) (sym w.data-is)
           (subst (λ (t : Steps). RowLocated marks locator p mid w.clear_rows.new.«data» c.loop-p.steps t) (sym w.steps-is)
           (record {
             shape = w.clear_rows.ensures.shape;
@@ -68,8 +68,8 @@ loop-p-preserved g c =
         | inl low ↦ kept q k (omega arith) (inl low) ∙ before.cleared k q hk low none
         | inr high ↦
             let here : q ≡ c.loop-p.p = omega arith in
-            ap (cell new k) here ∙ step.cleared k (omega arith) (sym (ap (λ i. is_given (mark_at marks i)) here) ∙ none)
+            ap (cell new k) here ∙ step.cleared k (omega arith) (sym (ap (λ i. is_marked marks i) here) ∙ none)
       ];
       left = λ k q hk hq. kept q k (omega arith) (inr hq) ∙ before.left k q hk (omega arith);
-      counts = counts_then p 1 c.args.steps.now c.loop-p.steps c.if-is_given_at.steps before.counts step.counts;
+      counts = counts_then p 1 c.args.steps.now c.loop-p.steps c.if-is_given.steps before.counts step.counts;
     }

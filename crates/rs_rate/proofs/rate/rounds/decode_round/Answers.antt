@@ -29,7 +29,7 @@ pub decode_rows-requires-clause-enough : goal.decode_rows-requires-clause-enough
 decode_rows-requires-clause-enough g c =
     let rows = c.args.decoder.now.rows in
     let s = rows.shape in
-    let marks = rows.memory.marks.items in
+    let marks = rows.memory.marks.given.items in
     let chunks = rows.memory.chunks.items in
     let least = enough-least (decoder_state g.C.Code.rate rows) (c.in_ok-check_enough_given.ensures g.C.Code.rate) in
     let originals = count-given marks chunks s.shard_bytes s.frame.originals_from s.original_count in

@@ -1,0 +1,153 @@
+-- A shard of either side that is added to a decoder's rows: the outcomes by the tests, and what the rows stand for then.
+use Rattle.std.proofs.Common.{◌≡◌, ◌≢◌, ℕ, ◌+◌, ◌<◌, ◌≤◌, ◌⊎◌, List, Bool, true, false, length, refl, sym, ap, ap₂, subst, ◌∙◌, arith, inl, inr}
+use Rattle.std.specs.Prelude.{Ok, Err, is_some}
+use Rattle.std.proofs.lemmas.Bool.{lt-leb, eq-eqb, ne_eqb}
+use Rattle.rs_field.specs.declared.error.Error.TheVariants.{DifferentShardSize}
+use Rattle.rs_field.specs.Column.{Shard}
+use Rattle.rs_field.specs.Counts.{Rate}
+use Rattle.rs_field.specs.Given.{Shards, entered}
+use Rattle.rs_field.specs.MarkedRows.{is_marked}
+use Rattle.rs_field.specs.Rows.{Chunks}
+use Rattle.rs_rate.specs.declared.rate.decoder_work.DecoderRows.{DecoderRows}
+use Rattle.rs_rate.specs.declared.rate.side.Side.{Side}
+use Rattle.rs_rate.specs.declared.rate.side.Side.TheVariants.{Original, Recovery}
+use Rattle.rs_rate.specs.DecoderView.{configuration_of, decoder_state}
+use Rattle.rs_rate.specs.Marks.{given_row_count, given_shards}
+use Rattle.rs_rate.specs.ShardRows.{shard_laid_out}
+use Rattle.rs_rate.specs.Sides.{side_count, side_from, side_originals, side_recovery, repeat_refused, with_given}
+use Rattle.rs_rate.proofs.DecodeAnswer.{state_over}
+use Rattle.rs_rate.proofs.DecoderLemmas.{given-marked, given-kept, given-entered, given_row_count-kept, given_row_count-more}
+
+-- the other side
+abbrev other : Side → Side
+other Original = Recovery
+other Recovery = Original
+
+-- a side's rows are among the rows
+pub side-within : (w : DecoderRows) (side : Side) → side_from side w.shape + side_count side w.shape ≤ w.shape.frame.row_count
+side-within w Original = w.original_rows
+side-within w Recovery = w.recovery_rows
+
+-- an index of a side tells whether its row is marked
+given-at : (rate : Rate) (w : DecoderRows) (side : Side) (index row : ℕ) (given : Bool) → row ≡ side_from side w.shape + index → index < side_count side w.shape
+    → is_marked w.memory.marks.given.items row ≡ given
+    → is_some (given_shards w.memory.marks.given.items w.memory.chunks.items w.shape.shard_bytes (side_from side w.shape) (side_count side w.shape) index) ≡ given
+given-at rate w side index row given at inside is =
+    given-marked w.memory.marks.given.items w.memory.chunks.items w.shape.shard_bytes (side_from side w.shape) (side_count side w.shape) index inside
+    ∙ ap (λ (p : ℕ). is_marked w.memory.marks.given.items p) (sym at) ∙ is
+
+-- the refusals
+pub add-repeated : (rate : Rate) (w : DecoderRows) (side : Side) (index row : ℕ) (shard : Shard) → row ≡ side_from side w.shape + index → index < side_count side w.shape
+    → is_marked w.memory.marks.given.items row ≡ true → with_given side (decoder_state rate w) index shard ≡ Err (repeat_refused side index)
+add-repeated rate w Original index row shard at inside given =
+    rw (lt-leb w.shape.original_count index inside, given-at rate w Original index row true at inside given) refl
+add-repeated rate w Recovery index row shard at inside given =
+    rw (lt-leb w.shape.recovery_count index inside, given-at rate w Recovery index row true at inside given) refl
+
+pub add-sized : (rate : Rate) (w : DecoderRows) (side : Side) (index row : ℕ) (shard : Shard) → row ≡ side_from side w.shape + index → index < side_count side w.shape
+    → is_marked w.memory.marks.given.items row ≡ false → length shard ≢ w.shape.shard_bytes
+    → with_given side (decoder_state rate w) index shard ≡ Err (DifferentShardSize w.shape.shard_bytes (length shard))
+add-sized rate w Original index row shard at inside free other =
+    rw (lt-leb w.shape.original_count index inside, given-at rate w Original index row false at inside free, ne_eqb (length shard) w.shape.shard_bytes other) refl
+add-sized rate w Recovery index row shard at inside free other =
+    rw (lt-leb w.shape.recovery_count index inside, given-at rate w Recovery index row false at inside free, ne_eqb (length shard) w.shape.shard_bytes other) refl
+
+-- a shard of the size was entered in a free row of a side, and no other row was changed
+pub record RowEntered (w : DecoderRows) (side : Side) (index row : ℕ) (shard : Shard) (marks : List Bool) (chunks : Chunks) : Type 0 where
+  pub at : row ≡ side_from side w.shape + index
+  pub inside : index < side_count side w.shape
+  pub free : is_marked w.memory.marks.given.items row ≡ false
+  pub size : length shard ≡ w.shape.shard_bytes
+  pub marked : is_marked marks row ≡ true
+  pub here : shard_laid_out chunks w.shape.shard_bytes row ≡ shard
+  pub other_marks : (p : ℕ) → p ≢ row → is_marked marks p ≡ is_marked w.memory.marks.given.items p
+  pub others : (p : ℕ) → p ≢ row → shard_laid_out chunks w.shape.shard_bytes p ≡ shard_laid_out w.memory.chunks.items w.shape.shard_bytes p
+
+pub row_entered : (w : DecoderRows) (side : Side) (index first count : ℕ) (shard : Shard) (marks : List Bool) (chunks : Chunks) → first ≡ side_from side w.shape → count ≡ side_count side w.shape
+    → index < count → is_marked w.memory.marks.given.items (first + index) ≡ false → length shard ≡ w.shape.shard_bytes
+    → is_marked marks (first + index) ≡ true → shard_laid_out chunks (length shard) (first + index) ≡ shard
+    → ((p : ℕ) → p ≢ first + index → is_marked marks p ≡ is_marked w.memory.marks.given.items p)
+    → ((p : ℕ) → p ≢ first + index → shard_laid_out chunks (length shard) p ≡ shard_laid_out w.memory.chunks.items (length shard) p)
+    → RowEntered w side index (first + index) shard marks chunks
+row_entered w side index first count shard marks chunks first_is count_is inside free size marked here other_marks others = record {
+  at = ap (λ (n : ℕ). n + index) first_is;
+  inside = omega (arith, inside, count_is);
+  free = free;
+  size = size;
+  marked = marked;
+  here = subst (λ (n : ℕ). shard_laid_out chunks n (first + index) ≡ shard) size here;
+  other_marks = other_marks;
+  others = subst (λ (n : ℕ). (p : ℕ) → p ≢ first + index → shard_laid_out chunks n p ≡ shard_laid_out w.memory.chunks.items n p) size others;
+}
+
+-- another index of the side has another row, and so has each of the other side
+own-apart : (from index i row : ℕ) → row ≡ from + index → i ≢ index → from + i ≢ row
+own-apart from index i row at apart = omega (arith, at, apart)
+
+other-apart : (w : DecoderRows) (side : Side) (index i row : ℕ) → row ≡ side_from side w.shape + index → index < side_count side w.shape → i < side_count (other side) w.shape
+    → side_from (other side) w.shape + i ≢ row
+other-apart w Original index i row at inside within same = w.apart index i inside within (sym (same ∙ at))
+other-apart w Recovery index i row at inside within same = w.apart i index within inside (same ∙ at)
+
+-- the side has one shard more
+own-entered : (w : DecoderRows) (side : Side) (index row : ℕ) (shard : Shard) (marks : List Bool) (chunks : Chunks) → RowEntered w side index row shard marks chunks
+    → let from = side_from side w.shape in let n = side_count side w.shape in
+    (given_shards marks chunks w.shape.shard_bytes from n ≡ entered (given_shards w.memory.marks.given.items w.memory.chunks.items w.shape.shard_bytes from n) index shard)
+    × (given_row_count marks from n ≡ given_row_count w.memory.marks.given.items from n + 1)
+own-entered w side index row shard marks chunks e =
+    let from = side_from side w.shape in
+    let n = side_count side w.shape in
+    let marked = ap (λ (p : ℕ). is_marked marks p) (sym e.at) ∙ e.marked in
+    let same = λ (i : ℕ) (inside : i < n) (apart : i ≢ index). e.other_marks (from + i) (own-apart from index i row e.at apart) in (
+      given-entered w.memory.marks.given.items marks w.memory.chunks.items chunks w.shape.shard_bytes from n index shard e.inside marked
+          (ap (λ (p : ℕ). shard_laid_out chunks w.shape.shard_bytes p) (sym e.at) ∙ e.here) same (λ i inside apart. e.others (from + i) (own-apart from index i row e.at apart)),
+      given_row_count-more w.memory.marks.given.items marks from n index e.inside marked (ap (λ (p : ℕ). is_marked w.memory.marks.given.items p) (sym e.at) ∙ e.free) same,
+    )
+
+-- and the other side has the same
+other-kept : (w : DecoderRows) (side : Side) (index row : ℕ) (shard : Shard) (marks : List Bool) (chunks : Chunks) → RowEntered w side index row shard marks chunks
+    → let from = side_from (other side) w.shape in let n = side_count (other side) w.shape in
+    (given_shards marks chunks w.shape.shard_bytes from n ≡ given_shards w.memory.marks.given.items w.memory.chunks.items w.shape.shard_bytes from n)
+    × (given_row_count marks from n ≡ given_row_count w.memory.marks.given.items from n)
+other-kept w side index row shard marks chunks e =
+    let from = side_from (other side) w.shape in
+    let n = side_count (other side) w.shape in
+    let same = λ (i : ℕ) (within : i < side_count (other side) w.shape). e.other_marks (side_from (other side) w.shape + i) (other-apart w side index i row e.at e.inside within) in (
+      given-kept w.memory.marks.given.items marks w.memory.chunks.items chunks w.shape.shard_bytes from n same
+          (λ i within. e.others (from + i) (other-apart w side index i row e.at e.inside within)),
+      given_row_count-kept w.memory.marks.given.items marks from n same,
+    )
+
+-- the outcome is the state of the rows then
+pub add-entered : (rate : Rate) (w : DecoderRows) (side : Side) (index row : ℕ) (shard : Shard) (marks : List Bool) (chunks : Chunks) → RowEntered w side index row shard marks chunks
+    → with_given side (decoder_state rate w) index shard ≡ Ok (state_over rate w.shape marks chunks)
+add-entered rate w Original index row shard marks chunks e =
+    rw (lt-leb w.shape.original_count index e.inside, given-at rate w Original index row false e.at e.inside e.free, eq-eqb (length shard) w.shape.shard_bytes e.size)
+    (ap₂ (λ (o r : Shards). Ok (record { configuration = configuration_of rate w.shape; originals = o; recovery = r }))
+    (sym ((own-entered w Original index row shard marks chunks e).0)) (sym ((other-kept w Original index row shard marks chunks e).0)))
+add-entered rate w Recovery index row shard marks chunks e =
+    rw (lt-leb w.shape.recovery_count index e.inside, given-at rate w Recovery index row false e.at e.inside e.free, eq-eqb (length shard) w.shape.shard_bytes e.size)
+    (ap₂ (λ (o r : Shards). Ok (record { configuration = configuration_of rate w.shape; originals = o; recovery = r }))
+    (sym ((other-kept w Recovery index row shard marks chunks e).0)) (sym ((own-entered w Recovery index row shard marks chunks e).0)))
+
+-- and so are the counts
+pub add-counted : (w : DecoderRows) (side : Side) (index row : ℕ) (shard : Shard) (marks : List Bool) (chunks : Chunks) → RowEntered w side index row shard marks chunks
+    → (w.originals_given + side_originals side ≡ given_row_count marks w.shape.frame.originals_from w.shape.original_count)
+    × (w.recovery_given + side_recovery side ≡ given_row_count marks w.shape.frame.recovery_from w.shape.recovery_count)
+add-counted w Original index row shard marks chunks e =
+    let more = (own-entered w Original index row shard marks chunks e).1 in
+    let same = (other-kept w Original index row shard marks chunks e).1 in
+    (omega (arith, more, w.originals_counted), omega (arith, same, w.recovery_counted))
+add-counted w Recovery index row shard marks chunks e =
+    let more = (own-entered w Recovery index row shard marks chunks e).1 in
+    let same = (other-kept w Recovery index row shard marks chunks e).1 in
+    (omega (arith, same, w.originals_counted), omega (arith, more, w.recovery_counted))
+
+-- a row outside both sides is none of theirs
+pub outside-apart : (w : DecoderRows) (side : Side) (index row p : ℕ) → row ≡ side_from side w.shape + index → index < side_count side w.shape
+    → (p < w.shape.frame.originals_from) ⊎ (w.shape.frame.originals_from + w.shape.original_count ≤ p)
+    → (p < w.shape.frame.recovery_from) ⊎ (w.shape.frame.recovery_from + w.shape.recovery_count ≤ p) → p ≢ row
+outside-apart w Original index row p at inside not_own not_coded same =
+    elim not_own [ inl before ↦ omega (arith, at, same, before) | inr past ↦ omega (arith, at, same, past, inside) ]
+outside-apart w Recovery index row p at inside not_own not_coded same =
+    elim not_coded [ inl before ↦ omega (arith, at, same, before) | inr past ↦ omega (arith, at, same, past, inside) ]

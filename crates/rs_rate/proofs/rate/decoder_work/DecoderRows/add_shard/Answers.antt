@@ -1,0 +1,115 @@
+use Rattle.std.proofs.Common.{◌≡◌, ℕ, ◌+◌, length, sym, ap, ◌∙◌, arith}
+use Rattle.std.specs.Prelude.{Err}
+use Rattle.rs_field.specs.Outcome.{answer_of, state_after}
+use Rattle.rs_rate.specs.ShardRows.{chunk_count}
+use Rattle.rs_rate.specs.DecoderView.{decoder_state}
+use Rattle.rs_rate.specs.Sides.{side_from}
+use Rattle.rs_rate.proofs.ShardRowsLemmas.{chunk_count-within, shard-entered}
+use Rattle.rs_rate.proofs.DecoderLemmas.{given_row_count-most}
+use Rattle.rs_rate.proofs.SideRows.{row_entered, side-within, add-repeated, add-sized, add-entered, add-counted, outside-apart}
+use Rattle.rs_rate.proofs.rate.decoder_work.DecoderRows.add_shard.Goals as goal
+
+pub returns-then-is_given-clause-answer : goal.returns-then-is_given-clause-answer
+returns-then-is_given-clause-answer c = λ rate.
+    let w = c.args.self.now in
+    let row = c.first_row.result + c.args.index in
+    let at : row ≡ side_from c.args.side c.args.self.now.shape + c.args.index = ap (λ (n : ℕ). n + c.args.index) c.first_row.ensures in
+    ap Err c.repeat_refused.ensures ∙ sym (ap answer_of (add-repeated rate w c.args.side c.args.index row c.args.shard.now at (omega (arith, c.if-index-count.false, c.count.ensures)) (sym c.is_given.ensures ∙ c.if-is_given.true)))
+
+pub returns-then-is_given-clause-left : goal.returns-then-is_given-clause-left
+returns-then-is_given-clause-left c = λ rate.
+    let w = c.args.self.now in
+    let row = c.first_row.result + c.args.index in
+    let at : row ≡ side_from c.args.side c.args.self.now.shape + c.args.index = ap (λ (n : ℕ). n + c.args.index) c.first_row.ensures in
+    sym (ap (state_after (decoder_state rate w)) (add-repeated rate w c.args.side c.args.index row c.args.shard.now at (omega (arith, c.if-index-count.false, c.count.ensures)) (sym c.is_given.ensures ∙ c.if-is_given.true)))
+
+pub returns-then-shard-self-clause-answer : goal.returns-then-shard-self-clause-answer
+returns-then-shard-self-clause-answer c = λ rate.
+    let w = c.args.self.now in
+    let row = c.first_row.result + c.args.index in
+    let at : row ≡ side_from c.args.side c.args.self.now.shape + c.args.index = ap (λ (n : ℕ). n + c.args.index) c.first_row.ensures in
+    sym (ap answer_of (add-sized rate w c.args.side c.args.index row c.args.shard.now at (omega (arith, c.if-index-count.false, c.count.ensures)) (sym c.is_given.ensures ∙ c.if-is_given.false) c.if-shard-self.true))
+
+pub enter-requires-clause-room : goal.enter-requires-clause-room
+enter-requires-clause-room c =
+    let w = c.args.self.now in
+    let row = c.first_row.result + c.args.index in
+    let size = ap (λ n. chunk_count (row + 1) n) c.if-shard-self.false in
+    let below = side-within w c.args.side in
+    let within = chunk_count-within row w.shape.frame.row_count w.shape.shard_bytes (length w.memory.chunks.items) (omega (arith, c.if-index-count.false, c.count.ensures, c.first_row.ensures, below)) (omega (arith, w.whole)) in
+    omega (arith, size, within, w.whole)
+
+pub overflow_add-self : goal.overflow_add-self
+overflow_add-self c =
+    let w = c.args.self.now in
+    let e =
+    row_entered w c.args.side c.args.index c.first_row.result c.count.result c.args.shard.now c.enter.new.self.marks.given.items c.enter.new.self.chunks.items c.first_row.ensures c.count.ensures
+    c.if-index-count.false (sym c.is_given.ensures ∙ c.if-is_given.false) c.if-shard-self.false c.enter.ensures.mark c.enter.ensures.here c.enter.ensures.other_marks c.enter.ensures.others in
+    let counted = (add-counted w c.args.side c.args.index (c.first_row.result + c.args.index) c.args.shard.now c.enter.new.self.marks.given.items c.enter.new.self.chunks.items e).0 in
+    let most = given_row_count-most c.enter.new.self.marks.given.items w.shape.frame.originals_from w.shape.original_count in
+    omega (arith, counted, most, c.originals.ensures, w.original_rows, w.few)
+
+pub overflow_add-self-2 : goal.overflow_add-self-2
+overflow_add-self-2 c =
+    let w = c.args.self.now in
+    let e =
+    row_entered w c.args.side c.args.index c.first_row.result c.count.result c.args.shard.now c.enter.new.self.marks.given.items c.enter.new.self.chunks.items c.first_row.ensures c.count.ensures
+    c.if-index-count.false (sym c.is_given.ensures ∙ c.if-is_given.false) c.if-shard-self.false c.enter.ensures.mark c.enter.ensures.here c.enter.ensures.other_marks c.enter.ensures.others in
+    let counted = (add-counted w c.args.side c.args.index (c.first_row.result + c.args.index) c.args.shard.now c.enter.new.self.marks.given.items c.enter.new.self.chunks.items e).1 in
+    let most = given_row_count-most c.enter.new.self.marks.given.items w.shape.frame.recovery_from w.shape.recovery_count in
+    omega (arith, counted, most, c.recovery.ensures, w.recovery_rows, w.few)
+
+pub returns-clause-answer : goal.returns-clause-answer
+returns-clause-answer c = λ rate.
+    let w = c.args.self.now in
+    let e =
+    row_entered w c.args.side c.args.index c.first_row.result c.count.result c.args.shard.now c.enter.new.self.marks.given.items c.enter.new.self.chunks.items c.first_row.ensures c.count.ensures
+    c.if-index-count.false (sym c.is_given.ensures ∙ c.if-is_given.false) c.if-shard-self.false c.enter.ensures.mark c.enter.ensures.here c.enter.ensures.other_marks c.enter.ensures.others in
+    sym (ap answer_of (add-entered rate w c.args.side c.args.index (c.first_row.result + c.args.index) c.args.shard.now c.enter.new.self.marks.given.items c.enter.new.self.chunks.items e))
+
+pub returns-clause-left : goal.returns-clause-left
+returns-clause-left c = λ rate.
+    let w = c.args.self.now in
+    let e =
+    row_entered w c.args.side c.args.index c.first_row.result c.count.result c.args.shard.now c.enter.new.self.marks.given.items c.enter.new.self.chunks.items c.first_row.ensures c.count.ensures
+    c.if-index-count.false (sym c.is_given.ensures ∙ c.if-is_given.false) c.if-shard-self.false c.enter.ensures.mark c.enter.ensures.here c.enter.ensures.other_marks c.enter.ensures.others in
+    sym (ap (state_after (decoder_state rate w)) (add-entered rate w c.args.side c.args.index (c.first_row.result + c.args.index) c.args.shard.now c.enter.new.self.marks.given.items c.enter.new.self.chunks.items e))
+
+pub invariant_of-self : goal.invariant_of-self
+invariant_of-self c =
+    let w = c.args.self.now in
+    let row = c.first_row.result + c.args.index in
+    let lengths = c.enter.ensures.lengths in
+    let chunks = ap (λ r. r.chunks) c.enter.ensures.grown in
+    let rows = ap (λ r. r.rows) c.enter.ensures.grown in
+    let restored_room = ap (λ r. r.restored) c.enter.ensures.grown in
+    let entry_room = ap (λ r. r.entries) c.enter.ensures.grown in
+    let e =
+    row_entered w c.args.side c.args.index c.first_row.result c.count.result c.args.shard.now c.enter.new.self.marks.given.items c.enter.new.self.chunks.items c.first_row.ensures c.count.ensures
+    c.if-index-count.false (sym c.is_given.ensures ∙ c.if-is_given.false) c.if-shard-self.false c.enter.ensures.mark c.enter.ensures.here c.enter.ensures.other_marks c.enter.ensures.others in
+    let counted = add-counted w c.args.side c.args.index (c.first_row.result + c.args.index) c.args.shard.now c.enter.new.self.marks.given.items c.enter.new.self.chunks.items e in
+    record {
+      positive = w.positive;
+      even = w.even;
+      few = w.few;
+      original_rows = w.original_rows;
+      recovery_rows = w.recovery_rows;
+      apart = w.apart;
+      whole = omega (arith, w.whole, lengths.0);
+      own_chunks = omega (arith, w.own_chunks, chunks);
+      sized = w.sized;
+      marked = omega (arith, w.marked, lengths.1);
+      own_marks = omega (arith, w.own_marks, rows);
+      restored_marked = omega (arith, w.restored_marked, lengths.2);
+      own_restored = omega (arith, w.own_restored, restored_room);
+      entries = omega (arith, w.entries, lengths.3);
+      own_entries = omega (arith, w.own_entries, entry_room);
+      originals_counted = omega (arith, counted.0, c.originals.ensures);
+      recovery_counted = omega (arith, counted.1, c.recovery.ensures);
+      placed = λ p not_own not_coded.
+          c.enter.ensures.other_marks p (outside-apart w c.args.side c.args.index row p e.at e.inside not_own not_coded) ∙ w.placed p not_own not_coded;
+      shards = λ p given.
+          shard-entered w.memory.chunks.items c.enter.new.self.chunks.items w.shape.shard_bytes row (length c.args.shard.now) p c.args.shard.now
+          c.if-shard-self.false c.enter.ensures.shard c.enter.ensures.here c.enter.ensures.others
+          (λ apart. w.shards p (sym (c.enter.ensures.other_marks p apart) ∙ given));
+    }

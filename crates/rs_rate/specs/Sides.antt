@@ -1,0 +1,44 @@
+-- The two sides of a message, from which a decoder is given shards.
+use Rattle.std.specs.Prelude.{ℕ, Result}
+use Rattle.rs_field.specs.declared.error.Error.{Error}
+use Rattle.rs_field.specs.declared.error.Error.TheVariants.{InvalidOriginalShardIndex, InvalidRecoveryShardIndex, DuplicateOriginalShardIndex, DuplicateRecoveryShardIndex}
+use Rattle.rs_field.specs.Column.{Shard}
+use Rattle.rs_field.specs.Decoder.{DecoderState, with_original, with_recovery}
+use Rattle.rs_rate.specs.declared.rate.decoder_work.DecoderShape.{DecoderShape}
+use Rattle.rs_rate.specs.declared.rate.side.Side.{Side}
+use Rattle.rs_rate.specs.declared.rate.side.Side.TheVariants.{Original, Recovery}
+
+-- how many shards a side has
+abbrev pub side_count : Side → DecoderShape → ℕ
+side_count Original s = s.original_count
+side_count Recovery s = s.recovery_count
+
+-- the row of its first shard
+abbrev pub side_from : Side → DecoderShape → ℕ
+side_from Original s = s.frame.originals_from
+side_from Recovery s = s.frame.recovery_from
+
+-- how many originals one of its shards is
+abbrev pub side_originals : Side → ℕ
+side_originals Original = 1
+side_originals Recovery = 0
+
+-- how many recovery shards one of its shards is
+abbrev pub side_recovery : Side → ℕ
+side_recovery Original = 0
+side_recovery Recovery = 1
+
+-- the refusal of an index that a side doesn't have
+abbrev pub index_refused : Side → DecoderShape → ℕ → Error
+index_refused Original s index = InvalidOriginalShardIndex s.original_count index
+index_refused Recovery s index = InvalidRecoveryShardIndex s.recovery_count index
+
+-- the refusal of an index whose shard was given before
+abbrev pub repeat_refused : Side → ℕ → Error
+repeat_refused Original index = DuplicateOriginalShardIndex index
+repeat_refused Recovery index = DuplicateRecoveryShardIndex index
+
+-- the outcome of adding a shard of a side
+abbrev pub with_given : Side → DecoderState → ℕ → Shard → Result DecoderState Error
+with_given Original s index shard = with_original s index shard
+with_given Recovery s index shard = with_recovery s index shard

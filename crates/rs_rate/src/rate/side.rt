@@ -1,0 +1,78 @@
+//! The two sides of a message, from which a decoder is given shards.
+ghost use Rattle.std.specs.Prelude.{◌≡◌};
+ghost use Rattle.rs_rate.specs.Sides.{side_count, side_from, side_originals, side_recovery, index_refused, repeat_refused};
+
+use crate::rate::decoder_work::DecoderShape;
+use rs_field::error::Error;
+
+// A side of a message.
+#[derive(Clone, Copy)]
+pub(crate) enum Side {
+    Original,
+    Recovery,
+}
+
+impl Side {
+    // How many shards it has.
+    pub(crate) fn count(self, shape: DecoderShape) -> usize
+        ensures { result ≡ side_count self shape }
+    {
+        match self {
+            Side::Original => shape.original_count,
+            Side::Recovery => shape.recovery_count,
+        }
+    }
+
+    // The row of its first shard.
+    pub(crate) fn first_row(self, shape: DecoderShape) -> usize
+        ensures { result ≡ side_from self shape }
+    {
+        match self {
+            Side::Original => shape.frame.originals_from,
+            Side::Recovery => shape.frame.recovery_from,
+        }
+    }
+
+    // How many originals one of its shards is.
+    pub(crate) fn originals(self) -> usize
+        ensures { result ≡ side_originals self }
+    {
+        match self {
+            Side::Original => 1,
+            Side::Recovery => 0,
+        }
+    }
+
+    // How many recovery shards one of its shards is.
+    pub(crate) fn recovery(self) -> usize
+        ensures { result ≡ side_recovery self }
+    {
+        1 - self.originals()
+    }
+
+    // The refusal of an index that it doesn't have.
+    pub(crate) fn index_refused(self, shape: DecoderShape, index: usize) -> Error
+        ensures { result ≡ index_refused self shape index }
+    {
+        match self {
+            Side::Original => Error::InvalidOriginalShardIndex {
+                original_count: shape.original_count,
+                index,
+            },
+            Side::Recovery => Error::InvalidRecoveryShardIndex {
+                recovery_count: shape.recovery_count,
+                index,
+            },
+        }
+    }
+
+    // The refusal of an index whose shard was given before.
+    pub(crate) fn repeat_refused(self, index: usize) -> Error
+        ensures { result ≡ repeat_refused self index }
+    {
+        match self {
+            Side::Original => Error::DuplicateOriginalShardIndex { index },
+            Side::Recovery => Error::DuplicateRecoveryShardIndex { index },
+        }
+    }
+}
