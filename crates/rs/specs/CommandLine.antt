@@ -6,18 +6,9 @@ use Rattle.std.specs.Str.{bytes_eq}
 use Rattle.reed_solomon_simd.specs.Column.{Shard}
 use Rattle.reed_solomon_simd.specs.OneCall.{Items}
 use Rattle.reed_solomon_simd.specs.declared.engine.EngineKind.{EngineKind}
-use Rattle.reed_solomon_simd.specs.declared.engine.EngineKind.TheVariants.{Naive, NoSimd, Avx2, Ssse3}
+use Rattle.reed_solomon_simd.specs.Kind.{engine_named}
 use Rattle.rs.specs.Hex.{bytes_of_hex}
 use Rattle.rs.specs.Number.{number_of}
-
--- the engine that a word names: a line for each engine
-abbrev pub engine_named : List ℕ → Option EngineKind
-engine_named word =
-    if bytes_eq word (codes "naive") then Some Naive
-    else if bytes_eq word (codes "nosimd") then Some NoSimd
-    else if bytes_eq word (codes "avx2") then Some Avx2
-    else if bytes_eq word (codes "ssse3") then Some Ssse3
-    else None
 
 -- the shards of words that are all HEX
 abbrev pub shards_of : List (List ℕ) → Option (List Shard)

@@ -3,7 +3,7 @@ ghost use Rattle.std.specs.Prelude.{◌≡◌, [], None, Err, map, take, OnOk, I
 ghost use Rattle.std.specs.Option.{option_zip};
 ghost use Rattle.std.specs.String.{string_bytes};
 ghost use Rattle.rs.specs.Number.{number_of};
-ghost use Rattle.rs.specs.CommandLine.{engine_named, shards_of, indexed_shard_of, item_of, items_of, request_for, request_of};
+ghost use Rattle.rs.specs.CommandLine.{shards_of, indexed_shard_of, item_of, items_of, request_for, request_of};
 ghost use Rattle.rs.specs.Reading.{Reads, as_shards, as_item, as_item_of_line, as_given, as_request};
 
 use crate::fault::Fault;
@@ -11,6 +11,7 @@ use crate::hexadecimal::word;
 use crate::number::number;
 use reed_solomon_simd::engine::EngineKind;
 use std::alloc::{AllocError, Global};
+use std::str::FromStr;
 
 /// The counts of originals and of recovery shards.
 #[derive(Clone, Copy)]
@@ -85,19 +86,6 @@ impl Given {
             Item::Recovery(indexed) => self.recovery.push(indexed)?,
         }
         Ok(())
-    }
-}
-
-// The engine of this name: a line for each engine.
-fn engine_of(name: &str) -> Option<EngineKind>
-    ensures { result ≡ engine_named name.now }
-{
-    match name {
-        "naive" => Some(EngineKind::Naive),
-        "nosimd" => Some(EngineKind::NoSimd),
-        "avx2" => Some(EngineKind::Avx2),
-        "ssse3" => Some(EngineKind::Ssse3),
-        _ => None,
     }
 }
 
@@ -213,7 +201,7 @@ pub fn read_command(alloc: Global, words: &[String]) -> Result<Command, Fault>
     let [name, engine, original, recovery, words @ ..] = words else {
         return Err(Fault::Usage);
     };
-    let Some(engine) = engine_of(engine.as_str()) else {
+    let Ok(engine) = EngineKind::from_str(engine.as_str()) else {
         return Err(Fault::Usage);
     };
     let counts = read_counts(original.as_str(), recovery.as_str())?;
