@@ -124,7 +124,7 @@ pub fn engine_of_kind(tables: &Tables, kind: EngineKind) -> DefaultEngine<'_>
 /// Working spaces that hold nothing yet.
 pub fn works() -> (EncoderWork, DecoderWork)
     ensures encoder { encoder_room result.0 ≡ 0 }
-    ensures decoder { decoder_room result.1 ≡ record { chunks = 0; rows = 0; restored = 0; entries = 0 } }
+    ensures decoder { decoder_room result.1 ≡ record { chunks = 0; rows = 0; entries = 0 } }
 {
     (EncoderWork::new(), DecoderWork::new())
 }

@@ -12,8 +12,21 @@ use Rattle.rs_field.specs.MarkedRows.{is_marked}
 use Rattle.rs_field.proofs.Given.{count_below-suc, count_below-zero}
 use Rattle.rs_rate.specs.declared.rate.decoder_work.DecoderShape.{DecoderShape}
 use Rattle.rs_rate.specs.DecoderView.{configuration_of}
-use Rattle.rs_rate.specs.Marks.{given_row_count, given_shards, restored_shards}
+use Rattle.rs_rate.specs.declared.rate.marks.Marks.{Marks}
+use Rattle.rs_rate.specs.declared.rate.marks.MarkedShards.{MarkedShards}
+use Rattle.rs_rate.specs.declared.rate.marks.MarkedShards.TheVariants.{Given, Restored}
+use Rattle.rs_rate.specs.Marks.{if_given, if_restored, given_marks, restored_marks, given_row_count, given_shards, restored_shards}
 use Rattle.rs_rate.specs.ShardRows.{shard_laid_out, shard_in_order}
+
+-- where marks tell of given shards they are all of them, where they tell of restored ones no row holds a given one
+pub told_given : (marks : Marks) → marks.shards ≡ Given → given_marks marks ≡ marks.rows.items
+told_given marks told = ap (λ t. if_given t marks.rows.items) told
+
+pub told_restored : (marks : Marks) → marks.shards ≡ Restored → restored_marks marks ≡ marks.rows.items
+told_restored marks told = ap (λ t. if_restored t marks.rows.items) told
+
+pub none_told : (marks : Marks) → marks.shards ≡ Restored → (p : ℕ) → is_marked (given_marks marks) p ≡ false
+none_told marks told p = ap (λ t. is_marked (if_given t marks.rows.items) p) told
 
 -- the shard of an index below the count, by its row's mark
 pub given_shards-in : (marks : List Bool) (chunks : Chunks) (size from n i : ℕ) → i < n
@@ -112,6 +125,17 @@ given_row_count-nothing marks from zero empty = given_row_count-zero marks from
 given_row_count-nothing marks from (suc n) empty =
     let rest = given_row_count-nothing marks from n (λ i h. empty i (omega arith)) in
     given_row_count-suc marks from n ∙ ap (λ b. given_row_count marks from n + cond b 1 0) (empty n (omega arith)) ∙ (let none : given_row_count marks from n + 0 ≡ 0 = omega arith in none)
+
+-- marks by which some shard is given tell of given shards
+pub given_if_some : (marks : Marks) (from n from_too m : ℕ) → 0 < given_row_count (given_marks marks) from n + given_row_count (given_marks marks) from_too m → marks.shards ≡ Given
+given_if_some marks from n from_too m some = by_kind marks.shards some
+  where
+    by_kind : (told : MarkedShards) → 0 < given_row_count (if_given told marks.rows.items) from n + given_row_count (if_given told marks.rows.items) from_too m → told ≡ Given
+    by_kind Given some = refl
+    by_kind Restored some =
+        let none = given_row_count-nothing (if_given Restored marks.rows.items) from n (λ i h. refl) in
+        let none_too = given_row_count-nothing (if_given Restored marks.rows.items) from_too m (λ i h. refl) in
+        absurd (let no : ⊥ = omega (arith, some, none, none_too) in no)
 
 -- the same rows, marked in the same way, stand for the same shards
 pub given-kept : (old new : List Bool) (before after : Chunks) (size from n : ℕ) → ((i : ℕ) → i < n → is_marked new (from + i) ≡ is_marked old (from + i))

@@ -39,11 +39,11 @@ pub located-same : (marks : List Bool) (locator : List ℕ) (old new : ℕ → �
 unfolding located
 located-same marks locator old new p same = ap (λ w. cond (is_marked marks p) (product w (power (slice_index locator p))) 0) same
 
--- one row was revealed where it holds no given shard, in one row step at most, and no other row was changed
+-- one row was revealed where it is to be restored, in one row step at most, and no other row was changed
 pub record RowRevealed (marks : List Bool) (locator : List ℕ) (p : ℕ) (old new : ShardsRefMut) (before after : Steps) : Type 0 where
   pub shape : SameShape old new
   pub others : SameRowsOutside p (p + 1) old new
-  pub revealed_here : (k s : ℕ) → k < old.shard_len_64 → s < 32 → is_marked marks p ≡ false
+  pub revealed_here : (k s : ℕ) → k < old.shard_len_64 → s < 32 → is_marked marks p ≡ true
       → word new k s p ≡ product (word old k s p) (power (65535 - slice_index locator p))
   pub counts : CountsUpTo 1 0 0 before after
 

@@ -16,7 +16,7 @@ use Rattle.rs_rate.specs.declared.rate.decoder_work.DecoderRows.{DecoderRows}
 use Rattle.rs_rate.specs.declared.rate.encoder_work.EncoderRows.{EncoderRows}
 use Rattle.rs_rate.specs.DecoderView.{restored_of, restored_from}
 use Rattle.rs_rate.specs.EncoderView.{lent_of}
-use Rattle.rs_rate.specs.Marks.{given_row_count, restored_shards}
+use Rattle.rs_rate.specs.Marks.{restored_marks, given_row_count, restored_shards}
 use Rattle.rs_rate.specs.ShardRows.{shard_in_order}
 use Rattle.rs_rate.proofs.DecoderLemmas.{given_row_count-zero, given_row_count-suc, restored-out, restored-marked}
 use Rattle.rs_rate.proofs.ShardRowsLemmas.{count-few}
@@ -67,7 +67,7 @@ restored_from-all rows = ap (λ n. listed_from 0 n (restored_of rows)) (sub-zero
 pub lists-restored : (rows : DecoderRows) → Lists (restored_of rows) (restored_from rows 0)
 lists-restored rows = record {
   count = rows.shape.original_count;
-  none_past = restored-out rows.memory.marks.restored.items rows.memory.chunks.items rows.shape.shard_bytes rows.shape.frame.originals_from rows.shape.original_count;
+  none_past = restored-out (restored_marks rows.memory.marks) rows.memory.chunks.items rows.shape.shard_bytes rows.shape.frame.originals_from rows.shape.original_count;
   in_order = restored_from-all rows;
 }
 

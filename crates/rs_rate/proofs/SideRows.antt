@@ -12,7 +12,7 @@ use Rattle.rs_rate.specs.declared.rate.decoder_work.DecoderRows.{DecoderRows}
 use Rattle.rs_rate.specs.declared.rate.side.Side.{Side}
 use Rattle.rs_rate.specs.declared.rate.side.Side.TheVariants.{Original, Recovery}
 use Rattle.rs_rate.specs.DecoderView.{configuration_of, decoder_state}
-use Rattle.rs_rate.specs.Marks.{given_row_count, given_shards}
+use Rattle.rs_rate.specs.Marks.{given_marks, given_row_count, given_shards}
 use Rattle.rs_rate.specs.ShardRows.{shard_laid_out}
 use Rattle.rs_rate.specs.Sides.{side_count, side_from, side_originals, side_recovery, repeat_refused, with_given}
 use Rattle.rs_rate.proofs.DecodeAnswer.{state_over}
@@ -30,22 +30,22 @@ side-within w Recovery = w.recovery_rows
 
 -- an index of a side tells whether its row is marked
 given-at : (rate : Rate) (w : DecoderRows) (side : Side) (index row : ℕ) (given : Bool) → row ≡ side_from side w.shape + index → index < side_count side w.shape
-    → is_marked w.memory.marks.given.items row ≡ given
-    → is_some (given_shards w.memory.marks.given.items w.memory.chunks.items w.shape.shard_bytes (side_from side w.shape) (side_count side w.shape) index) ≡ given
+    → is_marked (given_marks w.memory.marks) row ≡ given
+    → is_some (given_shards (given_marks w.memory.marks) w.memory.chunks.items w.shape.shard_bytes (side_from side w.shape) (side_count side w.shape) index) ≡ given
 given-at rate w side index row given at inside is =
-    given-marked w.memory.marks.given.items w.memory.chunks.items w.shape.shard_bytes (side_from side w.shape) (side_count side w.shape) index inside
-    ∙ ap (λ (p : ℕ). is_marked w.memory.marks.given.items p) (sym at) ∙ is
+    given-marked (given_marks w.memory.marks) w.memory.chunks.items w.shape.shard_bytes (side_from side w.shape) (side_count side w.shape) index inside
+    ∙ ap (λ (p : ℕ). is_marked (given_marks w.memory.marks) p) (sym at) ∙ is
 
 -- the refusals
 pub add-repeated : (rate : Rate) (w : DecoderRows) (side : Side) (index row : ℕ) (shard : Shard) → row ≡ side_from side w.shape + index → index < side_count side w.shape
-    → is_marked w.memory.marks.given.items row ≡ true → with_given side (decoder_state rate w) index shard ≡ Err (repeat_refused side index)
+    → is_marked (given_marks w.memory.marks) row ≡ true → with_given side (decoder_state rate w) index shard ≡ Err (repeat_refused side index)
 add-repeated rate w Original index row shard at inside given =
     rw (lt-leb w.shape.original_count index inside, given-at rate w Original index row true at inside given) refl
 add-repeated rate w Recovery index row shard at inside given =
     rw (lt-leb w.shape.recovery_count index inside, given-at rate w Recovery index row true at inside given) refl
 
 pub add-sized : (rate : Rate) (w : DecoderRows) (side : Side) (index row : ℕ) (shard : Shard) → row ≡ side_from side w.shape + index → index < side_count side w.shape
-    → is_marked w.memory.marks.given.items row ≡ false → length shard ≢ w.shape.shard_bytes
+    → is_marked (given_marks w.memory.marks) row ≡ false → length shard ≢ w.shape.shard_bytes
     → with_given side (decoder_state rate w) index shard ≡ Err (DifferentShardSize w.shape.shard_bytes (length shard))
 add-sized rate w Original index row shard at inside free other =
     rw (lt-leb w.shape.original_count index inside, given-at rate w Original index row false at inside free, ne_eqb (length shard) w.shape.shard_bytes other) refl
@@ -56,17 +56,17 @@ add-sized rate w Recovery index row shard at inside free other =
 pub record RowEntered (w : DecoderRows) (side : Side) (index row : ℕ) (shard : Shard) (marks : List Bool) (chunks : Chunks) : Type 0 where
   pub at : row ≡ side_from side w.shape + index
   pub inside : index < side_count side w.shape
-  pub free : is_marked w.memory.marks.given.items row ≡ false
+  pub free : is_marked (given_marks w.memory.marks) row ≡ false
   pub size : length shard ≡ w.shape.shard_bytes
   pub marked : is_marked marks row ≡ true
   pub here : shard_laid_out chunks w.shape.shard_bytes row ≡ shard
-  pub other_marks : (p : ℕ) → p ≢ row → is_marked marks p ≡ is_marked w.memory.marks.given.items p
+  pub other_marks : (p : ℕ) → p ≢ row → is_marked marks p ≡ is_marked (given_marks w.memory.marks) p
   pub others : (p : ℕ) → p ≢ row → shard_laid_out chunks w.shape.shard_bytes p ≡ shard_laid_out w.memory.chunks.items w.shape.shard_bytes p
 
 pub row_entered : (w : DecoderRows) (side : Side) (index first count : ℕ) (shard : Shard) (marks : List Bool) (chunks : Chunks) → first ≡ side_from side w.shape → count ≡ side_count side w.shape
-    → index < count → is_marked w.memory.marks.given.items (first + index) ≡ false → length shard ≡ w.shape.shard_bytes
+    → index < count → is_marked (given_marks w.memory.marks) (first + index) ≡ false → length shard ≡ w.shape.shard_bytes
     → is_marked marks (first + index) ≡ true → shard_laid_out chunks (length shard) (first + index) ≡ shard
-    → ((p : ℕ) → p ≢ first + index → is_marked marks p ≡ is_marked w.memory.marks.given.items p)
+    → ((p : ℕ) → p ≢ first + index → is_marked marks p ≡ is_marked (given_marks w.memory.marks) p)
     → ((p : ℕ) → p ≢ first + index → shard_laid_out chunks (length shard) p ≡ shard_laid_out w.memory.chunks.items (length shard) p)
     → RowEntered w side index (first + index) shard marks chunks
 row_entered w side index first count shard marks chunks first_is count_is inside free size marked here other_marks others = record {
@@ -92,30 +92,30 @@ other-apart w Recovery index i row at inside within same = w.apart i index withi
 -- the side has one shard more
 own-entered : (w : DecoderRows) (side : Side) (index row : ℕ) (shard : Shard) (marks : List Bool) (chunks : Chunks) → RowEntered w side index row shard marks chunks
     → let from = side_from side w.shape in let n = side_count side w.shape in
-    (given_shards marks chunks w.shape.shard_bytes from n ≡ entered (given_shards w.memory.marks.given.items w.memory.chunks.items w.shape.shard_bytes from n) index shard)
-    × (given_row_count marks from n ≡ given_row_count w.memory.marks.given.items from n + 1)
+    (given_shards marks chunks w.shape.shard_bytes from n ≡ entered (given_shards (given_marks w.memory.marks) w.memory.chunks.items w.shape.shard_bytes from n) index shard)
+    × (given_row_count marks from n ≡ given_row_count (given_marks w.memory.marks) from n + 1)
 own-entered w side index row shard marks chunks e =
     let from = side_from side w.shape in
     let n = side_count side w.shape in
     let marked = ap (λ (p : ℕ). is_marked marks p) (sym e.at) ∙ e.marked in
     let same = λ (i : ℕ) (inside : i < n) (apart : i ≢ index). e.other_marks (from + i) (own-apart from index i row e.at apart) in (
-      given-entered w.memory.marks.given.items marks w.memory.chunks.items chunks w.shape.shard_bytes from n index shard e.inside marked
+      given-entered (given_marks w.memory.marks) marks w.memory.chunks.items chunks w.shape.shard_bytes from n index shard e.inside marked
           (ap (λ (p : ℕ). shard_laid_out chunks w.shape.shard_bytes p) (sym e.at) ∙ e.here) same (λ i inside apart. e.others (from + i) (own-apart from index i row e.at apart)),
-      given_row_count-more w.memory.marks.given.items marks from n index e.inside marked (ap (λ (p : ℕ). is_marked w.memory.marks.given.items p) (sym e.at) ∙ e.free) same,
+      given_row_count-more (given_marks w.memory.marks) marks from n index e.inside marked (ap (λ (p : ℕ). is_marked (given_marks w.memory.marks) p) (sym e.at) ∙ e.free) same,
     )
 
 -- and the other side has the same
 other-kept : (w : DecoderRows) (side : Side) (index row : ℕ) (shard : Shard) (marks : List Bool) (chunks : Chunks) → RowEntered w side index row shard marks chunks
     → let from = side_from (other side) w.shape in let n = side_count (other side) w.shape in
-    (given_shards marks chunks w.shape.shard_bytes from n ≡ given_shards w.memory.marks.given.items w.memory.chunks.items w.shape.shard_bytes from n)
-    × (given_row_count marks from n ≡ given_row_count w.memory.marks.given.items from n)
+    (given_shards marks chunks w.shape.shard_bytes from n ≡ given_shards (given_marks w.memory.marks) w.memory.chunks.items w.shape.shard_bytes from n)
+    × (given_row_count marks from n ≡ given_row_count (given_marks w.memory.marks) from n)
 other-kept w side index row shard marks chunks e =
     let from = side_from (other side) w.shape in
     let n = side_count (other side) w.shape in
     let same = λ (i : ℕ) (within : i < side_count (other side) w.shape). e.other_marks (side_from (other side) w.shape + i) (other-apart w side index i row e.at e.inside within) in (
-      given-kept w.memory.marks.given.items marks w.memory.chunks.items chunks w.shape.shard_bytes from n same
+      given-kept (given_marks w.memory.marks) marks w.memory.chunks.items chunks w.shape.shard_bytes from n same
           (λ i within. e.others (from + i) (other-apart w side index i row e.at e.inside within)),
-      given_row_count-kept w.memory.marks.given.items marks from n same,
+      given_row_count-kept (given_marks w.memory.marks) marks from n same,
     )
 
 -- the outcome is the state of the rows then

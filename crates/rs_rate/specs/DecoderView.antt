@@ -13,7 +13,7 @@ use Rattle.rs_rate.specs.declared.rate.decoder_work.DecoderRows.{DecoderRows}
 use Rattle.rs_rate.specs.declared.rate.decoder_work.DecoderMemory.{DecoderMemory}
 use Rattle.rs_rate.specs.declared.rate.decoder_work.DecoderWork.{DecoderWork}
 use Rattle.rs_rate.specs.ShardRows.{chunk_count}
-use Rattle.rs_rate.specs.Marks.{given_shards, restored_shards}
+use Rattle.rs_rate.specs.Marks.{given_marks, restored_marks, given_shards, restored_shards}
 
 -- the configuration of a shape, at this rate
 abbrev pub configuration_of : Rate → DecoderShape → Configuration
@@ -25,14 +25,14 @@ decoder_state rate rows =
     let s = rows.shape in
     record {
       configuration = configuration_of rate s;
-      originals = given_shards rows.memory.marks.given.items rows.memory.chunks.items s.shard_bytes s.frame.originals_from s.original_count;
-      recovery = given_shards rows.memory.marks.given.items rows.memory.chunks.items s.shard_bytes s.frame.recovery_from s.recovery_count;
+      originals = given_shards (given_marks rows.memory.marks) rows.memory.chunks.items s.shard_bytes s.frame.originals_from s.original_count;
+      recovery = given_shards (given_marks rows.memory.marks) rows.memory.chunks.items s.shard_bytes s.frame.recovery_from s.recovery_count;
     }
 
 -- the originals that lie restored in the rows after a round
 abbrev pub restored_of : DecoderRows → Shards
 restored_of rows =
-    restored_shards rows.memory.marks.restored.items rows.memory.chunks.items rows.shape.shard_bytes rows.shape.frame.originals_from rows.shape.original_count
+    restored_shards (restored_marks rows.memory.marks) rows.memory.chunks.items rows.shape.shard_bytes rows.shape.frame.originals_from rows.shape.original_count
 
 -- the originals that lie restored in the rows from an index on, with their indexes, in order of index
 abbrev pub restored_from : DecoderRows → ℕ → List (ℕ × Shard)
@@ -57,21 +57,20 @@ pub record CanBeLaid (shape : DecoderShape) : Type 0 where
   pub recovery_rows : shape.frame.recovery_from + shape.recovery_count ≤ shape.frame.row_count
   pub apart : (i j : ℕ) → i < shape.original_count → j < shape.recovery_count → shape.frame.originals_from + i ≢ shape.frame.recovery_from + j
 
--- the room that a working space has: for chunks, for the marks of given rows, for those of restored rows, and for the locator's entries at the rows
+-- the room that a working space has: for chunks, for the marks of rows, and for the locator's entries at the rows
 pub record DecoderRoom : Type 0 where
   pub chunks : ℕ
   pub rows : ℕ
-  pub restored : ℕ
   pub entries : ℕ
 
 -- the room of a decoder's memory
 abbrev pub memory_room : DecoderMemory → DecoderRoom
 memory_room memory =
-    record { chunks = vec_capacity memory.chunks; rows = vec_capacity memory.marks.given; restored = vec_capacity memory.marks.restored; entries = vec_capacity memory.erasures }
+    record { chunks = vec_capacity memory.chunks; rows = vec_capacity memory.marks.rows; entries = vec_capacity memory.erasures }
 
 -- the room of memory that is handed on, if there is any
 abbrev pub room_if : Option DecoderMemory → DecoderRoom
-room_if None = record { chunks = 0; rows = 0; restored = 0; entries = 0 }
+room_if None = record { chunks = 0; rows = 0; entries = 0 }
 room_if (Some memory) = memory_room memory
 
 -- the room of what is handed from one decoder to the next
@@ -82,12 +81,10 @@ work_room work = room_if work.memory
 pub record HasRoom (room : DecoderRoom) (count size : ℕ) : Type 0 where
   pub chunks : chunk_count count size ≤ room.chunks
   pub rows : count ≤ room.rows
-  pub restored : count ≤ room.restored
   pub entries : count ≤ room.entries
 
 -- the new room is no less than the old
 pub record Grows (old new : DecoderRoom) : Type 0 where
   pub chunks : old.chunks ≤ new.chunks
   pub rows : old.rows ≤ new.rows
-  pub restored : old.restored ≤ new.restored
   pub entries : old.entries ≤ new.entries

@@ -1,5 +1,5 @@
 -- How the words of a decoder's rows become those of the missing originals.
-use Rattle.std.specs.Prelude.{◌≡◌, ℕ, ◌+◌, ◌-◌, ◌*◌, ◌/◌, ◌%◌, ◌<◌, ◌≤◌, ◌↔◌, if◌then◌else◌, Bool, true, false, not, List, length, slice_index}
+use Rattle.std.specs.Prelude.{◌≡◌, ℕ, ◌+◌, ◌-◌, ◌*◌, ◌/◌, ◌%◌, ◌<◌, ◌≤◌, ◌↔◌, if◌then◌else◌, Bool, true, false, List, slice_index, vec_len}
 use Rattle.rs_field.specs.Bounds.{transform_steps}
 use Rattle.rs_field.specs.Derivative.{IsDerivativeAdded}
 use Rattle.rs_field.specs.Field.{product, power}
@@ -12,7 +12,9 @@ use Rattle.rs_field.specs.MarkedRows.{is_marked}
 use Rattle.rs_rate.specs.declared.rate.decoder_work.Frame.{Frame}
 use Rattle.rs_rate.specs.declared.rate.decoder_work.DecoderShape.{DecoderShape}
 use Rattle.rs_rate.specs.declared.rate.marks.Marks.{Marks}
-use Rattle.rs_rate.specs.Marks.{given_row_count, erased}
+use Rattle.rs_rate.specs.declared.rate.marks.MarkedShards.TheVariants.{Given}
+use Rattle.rs_rate.specs.declared.rate.restoring.Round.{Round}
+use Rattle.rs_rate.specs.Marks.{given_marks, given_row_count, erased}
 use Rattle.rs_rate.specs.ShardRows.{word_in, shard_in_order}
 
 -- the entries are words, and the locator's logarithms, modulo 65535, of the rows that a frame and marks tell to be erased
@@ -20,17 +22,15 @@ pub record IsLocatorOf (frame : Frame) (marks : List Bool) (locator : List ℕ) 
   pub are_words : (x : ℕ) → slice_index locator x < 65536
   pub values : IsLocatorBelow frame.row_count (erased frame.zeros_from frame.zeros_to marks) (λ x. slice_index locator x)
 
--- what a decode begins with: as many marks as rows, every original's row wanted that holds no given shard, so many of them, and no more surplus shards than rows
-pub record CanBeRestored (shape : DecoderShape) (marks : Marks) (missing surplus : ℕ) : Type 0 where
-  pub few : shape.frame.row_count ≤ 65536
-  pub even : shape.shard_bytes % 2 ≡ 0
-  pub originals : shape.frame.originals_from + shape.original_count ≤ shape.frame.row_count
-  pub given : length marks.given.items ≡ shape.frame.row_count
-  pub restored : length marks.restored.items ≡ shape.frame.row_count
-  pub wanted : (i : ℕ) → i < shape.original_count → is_marked marks.restored.items (shape.frame.originals_from + i)
-      ≡ not (is_marked marks.given.items (shape.frame.originals_from + i))
-  pub counted : given_row_count marks.given.items shape.frame.originals_from shape.original_count + missing ≡ shape.original_count
-  pub few_surplus : surplus ≤ shape.frame.row_count
+-- what a round begins with: as many marks as rows, which tell of given shards where there is something to do; so many originals missing, and no more surplus shards than rows
+pub record CanBeRestored (round : Round) (marks : Marks) : Type 0 where
+  pub few : round.shape.frame.row_count ≤ 65536
+  pub even : round.shape.shard_bytes % 2 ≡ 0
+  pub originals : round.shape.frame.originals_from + round.shape.original_count ≤ round.shape.frame.row_count
+  pub marked : vec_len marks.rows ≡ round.shape.frame.row_count
+  pub shards : 0 < round.missing + round.surplus → marks.shards ≡ Given
+  pub counted : given_row_count (given_marks marks) round.shape.frame.originals_from round.shape.original_count + round.missing ≡ round.shape.original_count
+  pub few_surplus : round.surplus ≤ round.shape.frame.row_count
 
 -- the row steps of restoring words in the rows of a shape: each row located, a transform, the surplus rows tested, two transforms, the originals' rows revealed
 abbrev pub restore_steps : DecoderShape → ℕ → ℕ

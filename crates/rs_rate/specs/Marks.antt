@@ -1,9 +1,38 @@
 -- The shards that the marks of a decoder's rows tell of.
-use Rattle.std.specs.Prelude.{◌≡◌, ℕ, zero, suc, ◌+◌, ◌<◌, ◌≤◌, ◌⊎◌, nat_lt, nat_le, ◌&&◌, ◌||◌, if◌then◌else◌, Bool, false, List, Some, None}
+use Rattle.std.specs.Prelude.{◌≡◌, ℕ, zero, suc, ◌+◌, ◌<◌, ◌≤◌, ◌⊎◌, nat_lt, nat_le, ◌&&◌, ◌||◌, if◌then◌else◌, Bool, false, not, List, [], Some, None, vec_len}
+use Rattle.std.specs.Vec.{vec_capacity}
 use Rattle.rs_field.specs.Given.{Shards}
 use Rattle.rs_field.specs.MarkedRows.{is_marked}
 use Rattle.rs_field.specs.Rows.{Chunks}
+use Rattle.rs_rate.specs.declared.rate.marks.Marks.{Marks}
+use Rattle.rs_rate.specs.declared.rate.marks.MarkedShards.{MarkedShards}
+use Rattle.rs_rate.specs.declared.rate.marks.MarkedShards.TheVariants.{Given, Restored}
 use Rattle.rs_rate.specs.ShardRows.{shard_laid_out, shard_in_order}
+
+-- marks, where they tell of given shards; else none
+abbrev pub if_given : MarkedShards → List Bool → List Bool
+if_given Given rows = rows
+if_given Restored rows = []
+
+-- marks, where they tell of restored shards; else none
+abbrev pub if_restored : MarkedShards → List Bool → List Bool
+if_restored Given rows = []
+if_restored Restored rows = rows
+
+-- which rows hold given shards
+abbrev pub given_marks : Marks → List Bool
+given_marks marks = if_given marks.shards marks.rows.items
+
+-- which rows hold restored shards, or are to
+abbrev pub restored_marks : Marks → List Bool
+restored_marks marks = if_restored marks.shards marks.rows.items
+
+-- from marks of given shards to those of restored ones: the n rows from one on are marked that held no given shard
+pub record WantsMissing (from n : ℕ) (old new : Marks) : Type 0 where
+  pub shards : new.shards ≡ Restored
+  pub missing : (i : ℕ) → i < n → is_marked (restored_marks new) (from + i) ≡ not (is_marked (given_marks old) (from + i))
+  pub length : vec_len new.rows ≡ vec_len old.rows
+  pub room : vec_capacity new.rows ≡ vec_capacity old.rows
 
 -- by the marks of given shards: how many of the n rows from one on hold one
 unfoldable pub given_row_count : List Bool → ℕ → ℕ → ℕ

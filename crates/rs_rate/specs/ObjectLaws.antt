@@ -18,7 +18,7 @@ use Rattle.rs_rate.specs.declared.rate.encoder_work.EncoderRows.{EncoderRows}
 use Rattle.rs_rate.specs.declared.rate.decoder_work.DecoderRows.{DecoderRows}
 use Rattle.rs_rate.specs.EncoderView.{configuration_of, encoder_shape, encoder_state}
 use Rattle.rs_rate.specs.DecoderView.{configuration_of as decoder_configuration, decoder_shape, decoder_state, frame_of, HasRoom, memory_room}
-use Rattle.rs_rate.specs.Marks.{given_shards}
+use Rattle.rs_rate.specs.Marks.{given_marks, given_shards}
 use Rattle.rs_rate.specs.ShardRows.{chunk_count, shard_laid_out}
 
 -- what holds of each of the first n values holds of their list
@@ -73,8 +73,8 @@ is_decoder rate rows valid shaped =
       of_rate = refl;
       valid = valid;
       fits = subst (λ (n : ℕ). chunk_count n rows.shape.shard_bytes * 64 < 2 ^ 64) (ap (λ t. t.frame.row_count) shaped) rows.sized;
-      originals_within = given_within rows.memory.marks.given.items rows.memory.chunks.items s.shard_bytes s.frame.originals_from s.original_count rows.shards;
-      recovery_within = given_within rows.memory.marks.given.items rows.memory.chunks.items s.shard_bytes s.frame.recovery_from s.recovery_count rows.shards;
+      originals_within = given_within (given_marks rows.memory.marks) rows.memory.chunks.items s.shard_bytes s.frame.originals_from s.original_count rows.shards;
+      recovery_within = given_within (given_marks rows.memory.marks) rows.memory.chunks.items s.shard_bytes s.frame.recovery_from s.recovery_count rows.shards;
     }
 
 -- and has room for its own rows
@@ -85,7 +85,6 @@ unfolding frame_of
 has_own_decoder_room rate rows shaped =
     record {
       chunks = subst (λ (n : ℕ). chunk_count n rows.shape.shard_bytes ≤ vec_capacity rows.memory.chunks) (ap (λ s. s.frame.row_count) shaped) rows.own_chunks;
-      rows = subst (λ (n : ℕ). n ≤ vec_capacity rows.memory.marks.given) (ap (λ s. s.frame.row_count) shaped) rows.own_marks;
-      restored = subst (λ (n : ℕ). n ≤ vec_capacity rows.memory.marks.restored) (ap (λ s. s.frame.row_count) shaped) rows.own_restored;
+      rows = subst (λ (n : ℕ). n ≤ vec_capacity rows.memory.marks.rows) (ap (λ s. s.frame.row_count) shaped) rows.own_marks;
       entries = subst (λ (n : ℕ). n ≤ vec_capacity rows.memory.erasures) (ap (λ s. s.frame.row_count) shaped) rows.own_entries;
     }

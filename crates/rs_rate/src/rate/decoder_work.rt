@@ -8,11 +8,12 @@ ghost use Rattle.rs_field.specs.Outcome.{answer_of, state_after};
 ghost use Rattle.rs_field.specs.Decoder.{fresh_decoder, with_original, with_recovery, enough_given};
 ghost use Rattle.rs_field.specs.MarkedRows.{is_marked};
 ghost use Rattle.rs_rate.specs.ShardRows.{chunk_count as chunk_count_of, shard_laid_out};
-ghost use Rattle.rs_rate.specs.Marks.{given_row_count, ArePlaced};
+ghost use Rattle.rs_rate.specs.Marks.{given_marks, given_row_count, ArePlaced};
 ghost use Rattle.rs_rate.specs.Sides.{with_given};
 
 use crate::rate::marks::Marks;
 use crate::rate::memory::{make_room, set_chunks, set_length};
+use crate::rate::restoring::Round;
 use crate::rate::shard_rows::{chunk_count, insert_at, shard_at, shard_is_bytes};
 use crate::rate::side::Side;
 use rs_field::engine::GfElement;
@@ -68,16 +69,24 @@ pub struct DecoderRows {
     pub ghost whole: { vec_len memory.chunks ≡ chunk_count_of shape.frame.row_count shape.shard_bytes },
     pub ghost own_chunks: { chunk_count_of shape.frame.row_count shape.shard_bytes ≤ vec_capacity memory.chunks },
     pub ghost sized: { chunk_count_of shape.frame.row_count shape.shard_bytes * 64 < 2 ^ 64 },
-    pub ghost marked: { vec_len memory.marks.given ≡ shape.frame.row_count },
-    pub ghost own_marks: { shape.frame.row_count ≤ vec_capacity memory.marks.given },
-    pub ghost restored_marked: { vec_len memory.marks.restored ≡ shape.frame.row_count },
-    pub ghost own_restored: { shape.frame.row_count ≤ vec_capacity memory.marks.restored },
+    pub ghost marked: { vec_len memory.marks.rows ≡ shape.frame.row_count },
+    pub ghost own_marks: { shape.frame.row_count ≤ vec_capacity memory.marks.rows },
     pub ghost entries: { vec_len memory.erasures ≡ shape.frame.row_count },
     pub ghost own_entries: { shape.frame.row_count ≤ vec_capacity memory.erasures },
-    pub ghost originals_counted: { originals_given ≡ given_row_count memory.marks.given.items shape.frame.originals_from shape.original_count },
-    pub ghost recovery_counted: { recovery_given ≡ given_row_count memory.marks.given.items shape.frame.recovery_from shape.recovery_count },
-    pub ghost placed: { ArePlaced shape.frame.originals_from shape.original_count shape.frame.recovery_from shape.recovery_count memory.marks.given.items },
-    pub ghost shards: { (p : ℕ) → is_marked memory.marks.given.items p ≡ true → IsShard shape.shard_bytes (shard_laid_out memory.chunks.items shape.shard_bytes p) },
+    pub ghost originals_counted: { originals_given ≡ given_row_count (given_marks memory.marks) shape.frame.originals_from shape.original_count },
+    pub ghost recovery_counted: { recovery_given ≡ given_row_count (given_marks memory.marks) shape.frame.recovery_from shape.recovery_count },
+    pub ghost placed: { ArePlaced shape.frame.originals_from shape.original_count shape.frame.recovery_from shape.recovery_count (given_marks memory.marks) },
+    pub ghost shards: { (p : ℕ) → is_marked (given_marks memory.marks) p ≡ true → IsShard shape.shard_bytes (shard_laid_out memory.chunks.items shape.shard_bytes p) },
+}
+
+impl DecoderShape {
+    // The row of an original.
+    pub(crate) fn original_row(self, index: usize) -> usize
+        requires { self.frame.originals_from + index < 2 ^ 64 }
+        ensures { result ≡ self.frame.originals_from + index }
+    {
+        self.frame.originals_from + index
+    }
 }
 
 impl DecoderWork {
@@ -85,7 +94,7 @@ impl DecoderWork {
 
     /// A working space that took no memory yet.
     pub fn new() -> DecoderWork
-        ensures { work_room result ≡ record { chunks = 0; rows = 0; restored = 0; entries = 0 } }
+        ensures { work_room result ≡ record { chunks = 0; rows = 0; entries = 0 } }
     {
         DecoderWork { memory: None }
     }
@@ -94,7 +103,7 @@ impl DecoderWork {
 impl Default for DecoderWork {
     ghost use Rattle.rs_rate.specs.DecoderView.{work_room};
 
-    ghost is_default = { λ work. work_room work ≡ record { chunks = 0; rows = 0; restored = 0; entries = 0 } };
+    ghost is_default = { λ work. work_room work ≡ record { chunks = 0; rows = 0; entries = 0 } };
 
     fn default() -> DecoderWork {
         DecoderWork::new()
@@ -125,15 +134,13 @@ impl DecoderMemory {
     // Makes room for so many chunks and rows; nothing else changes.
     fn make_room(&mut self, chunks: usize, rows: usize) -> Result<(), Error>
         ensures chunks { self.new.chunks.items ≡ self.old.chunks.items }
-        ensures given { self.new.marks.given.items ≡ self.old.marks.given.items }
-        ensures restored { self.new.marks.restored.items ≡ self.old.marks.restored.items }
+        ensures rows { self.new.marks.rows.items ≡ self.old.marks.rows.items }
+        ensures shards { self.new.marks.shards ≡ self.old.marks.shards }
         ensures entries { self.new.erasures.items ≡ self.old.erasures.items }
-        ensures room { OnOk result ((chunks ≤ vec_capacity self.new.chunks) × (rows ≤ vec_capacity self.new.marks.given)
-            × (rows ≤ vec_capacity self.new.marks.restored) × (rows ≤ vec_capacity self.new.erasures)) }
+        ensures room { OnOk result ((chunks ≤ vec_capacity self.new.chunks) × (rows ≤ vec_capacity self.new.marks.rows) × (rows ≤ vec_capacity self.new.erasures)) }
         ensures grown { Grows (memory_room self.old) (memory_room self.new) }
         ensures memory { IfErr result (λ e. e ≡ Error.OutOfMemory) }
-        ensures enough { chunks ≤ vec_capacity self.old.chunks → rows ≤ vec_capacity self.old.marks.given
-            → rows ≤ vec_capacity self.old.marks.restored → rows ≤ vec_capacity self.old.erasures → IsOk result }
+        ensures enough { chunks ≤ vec_capacity self.old.chunks → rows ≤ vec_capacity self.old.marks.rows → rows ≤ vec_capacity self.old.erasures → IsOk result }
     {
         make_room(&mut self.chunks, chunks)?;
         self.marks.make_room(rows)?;
@@ -145,14 +152,12 @@ impl DecoderMemory {
     #[inline(always)]
     fn set_empty(&mut self, chunks: usize, rows: usize)
         requires chunks { chunks ≤ vec_capacity self.old.chunks }
-        requires given { rows ≤ vec_capacity self.old.marks.given }
-        requires restored { rows ≤ vec_capacity self.old.marks.restored }
+        requires rows { rows ≤ vec_capacity self.old.marks.rows }
         requires entries { rows ≤ vec_capacity self.old.erasures }
         ensures chunks { vec_len self.new.chunks ≡ chunks }
-        ensures given { vec_len self.new.marks.given ≡ rows }
-        ensures restored { vec_len self.new.marks.restored ≡ rows }
+        ensures rows { vec_len self.new.marks.rows ≡ rows }
         ensures entries { vec_len self.new.erasures ≡ rows }
-        ensures empty { (p : ℕ) → is_marked self.new.marks.given.items p ≡ false }
+        ensures empty { (p : ℕ) → is_marked (given_marks self.new.marks) p ≡ false }
         ensures grown { Grows (memory_room self.old) (memory_room self.new) }
     {
         set_chunks(&mut self.chunks, chunks);
@@ -164,14 +169,14 @@ impl DecoderMemory {
     fn enter(&mut self, row: usize, shard: &[u8])
         requires room { chunk_count_of (row + 1) (length shard.now) ≤ vec_len self.old.chunks }
         requires even { length shard.now % 2 ≡ 0 }
-        requires marked { row < vec_len self.old.marks.given }
+        requires marked { row < vec_len self.old.marks.rows }
         ensures here { shard_laid_out self.new.chunks.items (length shard.now) row ≡ shard.now }
         ensures others { (i : ℕ) → i ≢ row → shard_laid_out self.new.chunks.items (length shard.now) i ≡ shard_laid_out self.old.chunks.items (length shard.now) i }
         ensures shard { IsShard (length shard.now) shard.now }
-        ensures mark { is_marked self.new.marks.given.items row ≡ true }
-        ensures other_marks { (p : ℕ) → p ≢ row → is_marked self.new.marks.given.items p ≡ is_marked self.old.marks.given.items p }
-        ensures lengths { (vec_len self.new.chunks ≡ vec_len self.old.chunks) × (vec_len self.new.marks.given ≡ vec_len self.old.marks.given)
-            × (vec_len self.new.marks.restored ≡ vec_len self.old.marks.restored) × (vec_len self.new.erasures ≡ vec_len self.old.erasures) }
+        ensures mark { is_marked (given_marks self.new.marks) row ≡ true }
+        ensures other_marks { (p : ℕ) → p ≢ row → is_marked (given_marks self.new.marks) p ≡ is_marked (given_marks self.old.marks) p }
+        ensures lengths { (vec_len self.new.chunks ≡ vec_len self.old.chunks) × (vec_len self.new.marks.rows ≡ vec_len self.old.marks.rows)
+            × (vec_len self.new.erasures ≡ vec_len self.old.erasures) }
         ensures grown { memory_room self.new ≡ memory_room self.old }
     {
         shard_is_bytes(shard);
@@ -182,6 +187,7 @@ impl DecoderMemory {
 
 impl DecoderRows {
     ghost use Rattle.rs_rate.specs.DecoderView.{CanBeLaid, HasRoom, Grows, configuration_of, decoder_state, memory_room, work_room, restored_of, restored_from};
+    ghost use Rattle.rs_rate.specs.Decoding.{CanBeRestored};
 
     // Rows with nothing given, in the memory of `work` where one is passed.
     pub(crate) fn new(
@@ -287,6 +293,22 @@ impl DecoderRows {
         Ok(())
     }
 
+    // What a decode of the rows has to do.
+    pub(crate) fn round(&self) -> Round
+        requires { self.now.shape.original_count ≤ self.now.originals_given + self.now.recovery_given }
+        ensures shape { result.shape ≡ self.now.shape }
+        ensures missing { result.missing + self.now.originals_given ≡ self.now.shape.original_count }
+        ensures surplus { result.surplus + self.now.shape.original_count ≡ self.now.originals_given + self.now.recovery_given }
+        ensures facts { CanBeRestored result self.now.memory.marks }
+    {
+        let given = self.originals_given + self.recovery_given;
+        Round {
+            shape: self.shape,
+            missing: self.shape.original_count - self.originals_given,
+            surplus: given - self.shape.original_count,
+        }
+    }
+
     // Refuses where too few shards are given.
     pub(crate) fn check_enough_given(&self) -> Result<(), Error>
         ensures { (rate : Rate) → result ≡ enough_given (decoder_state rate self.now) }
@@ -307,7 +329,7 @@ impl DecoderRows {
         if index >= self.shape.original_count {
             return None;
         }
-        let row = self.shape.frame.originals_from + index;
+        let row = self.shape.original_row(index);
         if !self.memory.marks.is_restored(row) {
             return None;
         }

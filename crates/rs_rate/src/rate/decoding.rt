@@ -1,7 +1,7 @@
 //! The decoding of a round, for every rate: the locator of the erased rows, the rows over the chunks, the tails, and
 //! the round's end.
 ghost use Rattle.std.specs.Prelude.{◌≡◌, ℕ, ◌+◌, ◌-◌, ◌*◌, ◌/◌, ◌%◌, ◌^◌, ◌<◌, ◌≤◌, ◌⊎◌, ◌&&◌, if◌then◌else◌};
-ghost use Rattle.std.specs.Prelude.{true, false, Ok, List, length, slice_index, IfOk, MatchResult};
+ghost use Rattle.std.specs.Prelude.{true, false, Ok, List, length, slice_index, vec_len, IfOk, MatchResult};
 ghost use Rattle.rs_field.specs.Bounds.{CountsRows, CountsUpTo, LocatorCounts, decode_steps, transform_steps};
 ghost use Rattle.rs_field.specs.Configuration.{validated};
 ghost use Rattle.rs_field.specs.Counts.{Rate};
@@ -10,10 +10,11 @@ ghost use Rattle.rs_field.specs.Layout.{row_len as chunks_for};
 ghost use Rattle.rs_field.specs.MarkedRows.{is_marked};
 ghost use Rattle.rs_rate.specs.DecoderView.{configuration_of, decoder_shape, decoder_state, memory_room, restored_of, restored_from};
 ghost use Rattle.rs_rate.specs.Decoding.{restore_steps, CanBeRestored, IsLocatorOf, RestoresWords, RestoresShards};
-ghost use Rattle.rs_rate.specs.Marks.{erased};
+ghost use Rattle.rs_rate.specs.Marks.{erased, given_marks, restored_marks, WantsMissing};
 ghost use Rattle.rs_rate.specs.ShardRows.{chunk_count, word_in, shard_laid_out, shard_in_order};
 
 use crate::rate::decoder_work::{DecoderMemory, DecoderRows, DecoderShape, Frame};
+use crate::rate::marks::{MarkedShards, Marks};
 use crate::rate::restoring::{Round, restore_rows};
 use crate::rate::shard_rows::{in_order_are_bytes, move_tail};
 use rs_field::engine::layout::row_len;
@@ -38,76 +39,60 @@ pub(crate) fn decode_rows<E: Engine>(
     ensures room { memory_room rows.new.memory ≡ memory_room rows.old.memory }
     ensures counts { CountsUpTo (decode_steps rows.old.shape.frame.row_count) 1048576 65536 steps.old steps.new }
 {
-    let shape = rows.shape;
-    let original_received_count = rows.originals_given;
-    let recovery_received_count = rows.recovery_given;
-    let missing = shape.original_count - original_received_count;
-    let surplus = original_received_count + recovery_received_count - shape.original_count;
-    rows.memory
-        .marks
-        .want_missing(shape.frame.originals_from, shape.original_count);
-    let agrees = restore(engine, steps, &mut rows.memory, shape, missing, surplus);
+    let round = rows.round();
+    let agrees = restore(engine, steps, &mut rows.memory, round);
     let answer = if agrees {
-        Ok(missing)
+        Ok(round.missing)
     } else {
         Err(Error::InconsistentShards {
-            original_received_count,
-            recovery_received_count,
+            original_received_count: rows.originals_given,
+            recovery_received_count: rows.recovery_given,
         })
     };
     in_order_are_bytes(
         rows.memory.chunks.as_slice(),
-        shape.frame.row_count,
-        shape.shard_bytes,
+        round.shape.frame.row_count,
+        round.shape.shard_bytes,
     );
-    rows.memory.marks.end_round();
     rows.originals_given = 0;
     rows.recovery_given = 0;
     answer
 }
 
 // Restores the missing originals in their rows where some message agrees with all that is given, and answers whether
-// one does. With all originals and nothing else given there is nothing to do.
+// one does. With all originals and nothing else given there is nothing to restore. The marks of given rows become those
+// of restored ones.
 fn restore<E: Engine>(
     engine: &E,
     steps: &mut Steps,
     memory: &mut DecoderMemory,
-    shape: DecoderShape,
-    missing: usize,
-    surplus: usize,
+    round: Round,
 ) -> bool
-    requires power { (d : ℕ) × (shape.frame.row_count ≡ 2 ^ d) }
-    requires whole { chunk_count shape.frame.row_count shape.shard_bytes ≤ length memory.old.chunks.items }
-    requires entries { length memory.old.erasures.items ≡ shape.frame.row_count }
-    requires facts { CanBeRestored shape memory.old.marks missing surplus }
-    ensures marks { memory.new.marks ≡ memory.old.marks }
+    requires power { (d : ℕ) × (round.shape.frame.row_count ≡ 2 ^ d) }
+    requires whole { chunk_count round.shape.frame.row_count round.shape.shard_bytes ≤ length memory.old.chunks.items }
+    requires entries { length memory.old.erasures.items ≡ round.shape.frame.row_count }
+    requires facts { CanBeRestored round memory.old.marks }
+    ensures marks { WantsMissing round.shape.frame.originals_from round.shape.original_count memory.old.marks memory.new.marks }
     ensures length { length memory.new.chunks.items ≡ length memory.old.chunks.items }
     ensures entries { length memory.new.erasures.items ≡ length memory.old.erasures.items }
     ensures room { memory_room memory.new ≡ memory_room memory.old }
-    ensures nothing { missing ≡ 0 → surplus ≡ 0 → result ≡ true }
-    ensures restored { 0 < missing + surplus → (locator : List ℕ) × IsLocatorOf shape.frame memory.old.marks.given.items locator
-        × RestoresShards shape memory.old.marks.given.items locator surplus memory.old.chunks.items memory.new.chunks.items result }
-    ensures counts { CountsUpTo (decode_steps shape.frame.row_count) 1048576 65536 steps.old steps.new }
+    ensures nothing { round.missing ≡ 0 → round.surplus ≡ 0 → result ≡ true }
+    ensures restored { 0 < round.missing + round.surplus → (locator : List ℕ) × IsLocatorOf round.shape.frame (given_marks memory.old.marks) locator
+        × RestoresShards round.shape (given_marks memory.old.marks) locator round.surplus memory.old.chunks.items memory.new.chunks.items result }
+    ensures counts { CountsUpTo (decode_steps round.shape.frame.row_count) 1048576 65536 steps.old steps.new }
 {
-    if missing == 0 && surplus == 0 {
+    let shape = round.shape;
+    if round.missing == 0 && round.surplus == 0 {
+        memory
+            .marks
+            .want_missing(shape.frame.originals_from, shape.original_count);
         return true;
     }
-    let marks = &memory.marks;
-    make_locator(
-        engine,
-        steps,
-        memory.erasures.as_mut_slice(),
-        marks.given(),
-        shape.frame,
-    );
-    let round = Round {
-        shape,
-        marks,
-        locator: memory.erasures.as_slice(),
-        missing,
-        surplus,
-    };
-    restore_chunks(engine, steps, memory.chunks.as_mut_slice(), round)
+    let entries = memory.erasures.as_mut_slice();
+    make_locator(engine, steps, entries, memory.marks.given(), shape.frame);
+    let chunks = memory.chunks.as_mut_slice();
+    let locator = memory.erasures.as_slice();
+    restore_chunks(engine, steps, chunks, &mut memory.marks, locator, round)
 }
 
 // The locator of the erased rows, at all rows.
@@ -160,16 +145,22 @@ fn restore_chunks<E: Engine>(
     engine: &E,
     steps: &mut Steps,
     chunks: &mut [[u8; 64]],
-    round: Round<'_>,
+    marks: &mut Marks,
+    locator: &[GfElement],
+    round: Round,
 ) -> bool
     requires power { (d : ℕ) × (round.shape.frame.row_count ≡ 2 ^ d) }
     requires whole { chunk_count round.shape.frame.row_count round.shape.shard_bytes ≤ length chunks.old }
-    ensures shards { RestoresShards round.entry.shape round.entry.marks.now.given.items round.entry.locator.now round.entry.surplus chunks.old chunks.new result }
-    ensures counts { CountsUpTo (3 * transform_steps round.entry.shape.frame.row_count + 4 * round.entry.shape.frame.row_count) 0 0 steps.old steps.new }
+    requires facts { CanBeRestored round marks.old }
+    requires given { marks.old.shards ≡ MarkedShards.Given }
+    requires located { length locator.now ≡ round.shape.frame.row_count }
+    ensures marks { WantsMissing round.shape.frame.originals_from round.shape.original_count marks.old marks.new }
+    ensures shards { RestoresShards round.shape (given_marks marks.old) locator.now round.surplus chunks.old chunks.new result }
+    ensures counts { CountsUpTo (3 * transform_steps round.shape.frame.row_count + 4 * round.shape.frame.row_count) 0 0 steps.old steps.new }
 {
-    let agrees = restore_words(engine, steps, chunks, round);
+    let agrees = restore_words(engine, steps, chunks, marks, locator, round);
     if agrees {
-        move_missing_tails(steps, chunks, round);
+        move_restored_tails(steps, chunks, marks, round.shape);
     }
     agrees
 }
@@ -179,32 +170,46 @@ fn restore_words<E: Engine>(
     engine: &E,
     steps: &mut Steps,
     chunks: &mut [[u8; 64]],
-    round: Round<'_>,
+    marks: &mut Marks,
+    locator: &[GfElement],
+    round: Round,
 ) -> bool
     requires power { (d : ℕ) × (round.shape.frame.row_count ≡ 2 ^ d) }
     requires whole { round.shape.frame.row_count * chunks_for round.shape.shard_bytes ≤ length chunks.old }
-    ensures words { RestoresWords round.entry.shape round.entry.marks.now.given.items round.entry.locator.now round.entry.surplus
-        (word_in chunks.old (chunks_for round.entry.shape.shard_bytes)) (word_in chunks.new (chunks_for round.entry.shape.shard_bytes)) result }
-    ensures counts { CountsUpTo (restore_steps round.entry.shape round.entry.surplus) 0 0 steps.old steps.new }
+    requires facts { CanBeRestored round marks.old }
+    requires given { marks.old.shards ≡ MarkedShards.Given }
+    requires located { length locator.now ≡ round.shape.frame.row_count }
+    ensures marks { WantsMissing round.shape.frame.originals_from round.shape.original_count marks.old marks.new }
+    ensures words { RestoresWords round.shape (given_marks marks.old) locator.now round.surplus
+        (word_in chunks.old (chunks_for round.shape.shard_bytes)) (word_in chunks.new (chunks_for round.shape.shard_bytes)) result }
+    ensures counts { CountsUpTo (restore_steps round.shape round.surplus) 0 0 steps.old steps.new }
 {
-    let shape = round.shape;
-    let mut data = ShardsRefMut::new(shape.frame.row_count, row_len(shape.shard_bytes), chunks);
-    restore_rows(engine, steps, &mut data, round)
+    let len = row_len(round.shape.shard_bytes);
+    let mut rows = ShardsRefMut::new(round.shape.frame.row_count, len, chunks);
+    restore_rows(engine, steps, &mut rows, marks, locator, round)
 }
 
-// Moves the tails of the missing originals; a row step each.
-fn move_missing_tails(steps: &mut Steps, chunks: &mut [[u8; 64]], round: Round<'_>)
-    requires whole { chunk_count round.shape.frame.row_count round.shape.shard_bytes ≤ length chunks.old }
-    ensures moved { (i : ℕ) → i < round.entry.shape.original_count
-        → let p = round.entry.shape.frame.originals_from + i in is_marked round.entry.marks.now.given.items p ≡ false
-        → shard_in_order chunks.new round.entry.shape.shard_bytes p ≡ shard_laid_out chunks.old round.entry.shape.shard_bytes p }
-    ensures counts { CountsRows round.entry.missing steps.old steps.new }
+// Moves the tails of the restored originals; a row step each.
+fn move_restored_tails(
+    steps: &mut Steps,
+    chunks: &mut [[u8; 64]],
+    marks: &Marks,
+    shape: DecoderShape,
+)
+    requires even { shape.shard_bytes % 2 ≡ 0 }
+    requires within { shape.frame.originals_from + shape.original_count ≤ shape.frame.row_count }
+    requires few { shape.frame.row_count ≤ 65536 }
+    requires marked { vec_len marks.now.rows ≡ shape.frame.row_count }
+    requires whole { chunk_count shape.frame.row_count shape.shard_bytes ≤ length chunks.old }
+    ensures moved { (i : ℕ) → i < shape.original_count → let p = shape.frame.originals_from + i in is_marked (restored_marks marks.now) p ≡ true
+        → shard_in_order chunks.new shape.shard_bytes p ≡ shard_laid_out chunks.old shape.shard_bytes p }
+    ensures counts { CountsUpTo shape.original_count 0 0 steps.old steps.new }
 {
-    for i in 0..round.shape.original_count {
-        let row = round.shape.frame.originals_from + i;
-        if !round.marks.is_given(row) {
+    for i in 0..shape.original_count {
+        let row = shape.original_row(i);
+        if marks.is_restored(row) {
             steps.row_step();
-            move_tail(chunks, row, round.shape.shard_bytes);
+            move_tail(chunks, row, shape.shard_bytes);
         }
     }
 }

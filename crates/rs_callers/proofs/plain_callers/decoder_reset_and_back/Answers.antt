@@ -26,7 +26,6 @@ returns-clause-answer c =
     record {
       chunks = omega (arith, chunks, less, room.chunks, grown.chunks);
       rows = omega (arith, same, room.rows, grown.rows);
-      restored = omega (arith, same, room.restored, grown.restored);
       entries = omega (arith, same, room.entries, grown.entries);
     } in
     let fits = (valid-decoder c.args.decoder.now).fits in

@@ -1,73 +1,50 @@
-use Rattle.std.proofs.Common.{◌≡◌, ◌+◌, ◌-◌, ◌<◌, ℕ, List, true, false, sym, ap, ◌∙◌, subst, arith, inl, inr}
+use Rattle.std.proofs.Common.{◌≡◌, ◌+◌, ◌-◌, ◌<◌, ◌≤◌, ℕ, List, true, false, sym, ap, ◌∙◌, subst, arith, inl, inr}
 use Rattle.std.proofs.Math.Nat.{sub-zero}
-use Rattle.std.specs.Prelude.{Bool, Ok, Err, not, vec_len, ◌⊎◌}
-use Rattle.rs_field.specs.declared.error.Error.TheVariants.{InconsistentShards}
+use Rattle.std.specs.Prelude.{Ok, Err, length, ◌⊎◌}
 use Rattle.std.proofs.lemmas.Bool.{cases_eq}
+use Rattle.rs_field.specs.declared.error.Error.TheVariants.{InconsistentShards}
+use Rattle.rs_field.specs.Bounds.{CountsUpTo, decode_steps}
 use Rattle.rs_field.specs.Column.{IsShard}
 use Rattle.rs_field.specs.Rows.{Chunks}
 use Rattle.rs_field.specs.MarkedRows.{is_marked}
-use Rattle.rs_rate.specs.Marks.{given_row_count}
-use Rattle.rs_rate.specs.ShardRows.{shard_in_order}
-use Rattle.rs_rate.proofs.DecodeAnswer.{AnswersOver, decode_answers, complete_answers, told_answer}
-use Rattle.rs_rate.proofs.DecoderLemmas.{given_row_count-most, given_row_count-nothing, nothing-given}
-use Rattle.rs_rate.proofs.ResultLemmas.{length-restored}
-use Rattle.rs_rate.specs.declared.rate.marks.Marks.{Marks}
-use Rattle.std.specs.declared.vec.Vec.{Vec}
-use Rattle.std.specs.Vec.{vec_capacity}
-use Rattle.std.specs.declared.alloc.Global.{Global}
+use Rattle.rs_rate.specs.declared.rate.decoder_work.DecoderShape.{DecoderShape}
 use Rattle.rs_rate.specs.Decoding.{IsLocatorOf, RestoresShards}
+use Rattle.rs_rate.specs.Marks.{given_marks, restored_marks, given_row_count, WantsMissing}
+use Rattle.rs_rate.specs.ShardRows.{chunk_count, shard_in_order}
+use Rattle.rs_rate.proofs.DecodeAnswer.{AnswersOver, decode_answers, complete_answers, told_answer}
+use Rattle.rs_rate.proofs.DecoderLemmas.{given_row_count-most, given_row_count-nothing, none_told, nothing-given}
+use Rattle.rs_rate.proofs.ResultLemmas.{length-restored}
 use Rattle.rs_rate.proofs.rate.decoding.decode_rows.Goals as goal
 use Rattle.rs_rate.proofs.rate.decoding.decode_rows.Goals.{then-agrees, else-agrees}
 
-pub overflow_sub-missing : goal.overflow_sub-missing
-overflow_sub-missing g c =
-    let w = c.args.rows.now in
-    let most = given_row_count-most w.memory.marks.given.items w.shape.frame.originals_from w.shape.original_count in
-    omega (arith, most, w.originals_counted)
+pub restore-agrees-requires-clause-power : goal.restore-agrees-requires-clause-power
+restore-agrees-requires-clause-power g c = (c.requires.power.0, ap (λ (s : DecoderShape). s.frame.row_count) c.round-round.ensures.shape ∙ c.requires.power.1)
 
-pub overflow_add-surplus : goal.overflow_add-surplus
-overflow_add-surplus g c =
-    let w = c.args.rows.now in
-    let most = given_row_count-most w.memory.marks.given.items w.shape.frame.originals_from w.shape.original_count in
-    let most_too = given_row_count-most w.memory.marks.given.items w.shape.frame.recovery_from w.shape.recovery_count in
-    omega (arith, most, most_too, w.originals_counted, w.recovery_counted, w.original_rows, w.recovery_rows, w.few)
+pub restore-agrees-requires-clause-whole : goal.restore-agrees-requires-clause-whole
+restore-agrees-requires-clause-whole g c =
+    let count = ap (λ (s : DecoderShape). chunk_count s.frame.row_count s.shard_bytes) c.round-round.ensures.shape in
+    omega (arith, count, c.args.rows.now.whole)
 
-pub restore-agrees-requires-clause-facts : goal.restore-agrees-requires-clause-facts
-restore-agrees-requires-clause-facts g c =
-    let w = c.args.rows.now in
-    let from = w.shape.frame.originals_from in
-    let same = c.want_missing.ensures.given in
-    let most = given_row_count-most w.memory.marks.given.items from w.shape.original_count in
-    let most_too = given_row_count-most w.memory.marks.given.items w.shape.frame.recovery_from w.shape.recovery_count in
-    let length = ap (λ (v : Vec Bool Global). vec_len v) same in
-    let count = ap (λ (v : Vec Bool Global). given_row_count v.items from w.shape.original_count) same in
-    record {
-      few = w.few;
-      even = w.even;
-      originals = w.original_rows;
-      given = omega (arith, length, w.marked);
-      restored = omega (arith, c.want_missing.ensures.length, w.restored_marked);
-      wanted = λ i inside. c.want_missing.ensures.missing i inside ∙ ap (λ (v : Vec Bool Global). not (is_marked v.items (from + i))) (sym same);
-      counted = omega (arith, most, count, w.originals_counted);
-      few_surplus = omega (arith, most, most_too, w.originals_counted, w.recovery_counted, w.recovery_rows);
-    }
+pub restore-agrees-requires-clause-entries : goal.restore-agrees-requires-clause-entries
+restore-agrees-requires-clause-entries g c =
+    let count = ap (λ (s : DecoderShape). s.frame.row_count) c.round-round.ensures.shape in
+    omega (arith, count, c.args.rows.now.entries)
+
+pub in_order_are_bytes-requires : goal.in_order_are_bytes-requires
+in_order_are_bytes-requires g c =
+    let count = ap (λ (s : DecoderShape). chunk_count s.frame.row_count s.shard_bytes) c.round-round.ensures.shape in
+    let slice = ap length c.as_slice.ensures.value in
+    omega (arith, count, slice, c.args.rows.now.whole, c.restore-agrees.ensures.length)
 
 pub invariant_of-rows : goal.invariant_of-rows
 invariant_of-rows g c =
     let old = c.args.rows.now in
     let s = old.shape in
-    let empty = c.end_round.ensures.empty in
+    let missing = c.restore-agrees.ensures.marks in
+    let empty = none_told c.restore-agrees.new.memory.marks missing.shards in
     let room = c.restore-agrees.ensures.room in
     let chunk_room = ap (λ r. r.chunks) room in
-    let given_room = ap (λ r. r.rows) room in
-    let restored_room = ap (λ r. r.restored) room in
     let entry_room = ap (λ r. r.entries) room in
-    let given = ap (λ (v : Vec Bool Global). vec_len v) c.want_missing.ensures.given in
-    let own = ap (λ (v : Vec Bool Global). vec_capacity v) c.want_missing.ensures.given in
-    let kept = ap (λ (m : Marks). vec_len m.given) c.restore-agrees.ensures.marks in
-    let kept_too = ap (λ (m : Marks). vec_len m.restored) c.restore-agrees.ensures.marks in
-    let left = ap (λ (v : Vec Bool Global). vec_len v) c.end_round.ensures.restored in
-    let left_room = ap (λ (v : Vec Bool Global). vec_capacity v) c.end_round.ensures.restored in
     record {
       positive = old.positive;
       even = old.even;
@@ -78,10 +55,8 @@ invariant_of-rows g c =
       whole = omega (arith, old.whole, c.restore-agrees.ensures.length);
       own_chunks = omega (arith, old.own_chunks, chunk_room);
       sized = old.sized;
-      marked = omega (arith, old.marked, given, kept, c.end_round.ensures.length);
-      own_marks = omega (arith, old.own_marks, own, given_room, c.end_round.ensures.room);
-      restored_marked = omega (arith, old.restored_marked, c.want_missing.ensures.length, kept_too, left);
-      own_restored = omega (arith, old.own_restored, c.want_missing.ensures.room, restored_room, left_room);
+      marked = omega (arith, old.marked, missing.length);
+      own_marks = omega (arith, old.own_marks, missing.room);
       entries = omega (arith, old.entries, c.restore-agrees.ensures.entries);
       own_entries = omega (arith, old.own_entries, entry_room);
       originals_counted = sym (given_row_count-nothing _ s.frame.originals_from s.original_count (λ i inside. empty (s.frame.originals_from + i)));
@@ -91,7 +66,9 @@ invariant_of-rows g c =
     }
 
 pub returns-clause-state : goal.returns-clause-state
-returns-clause-state g c = λ rate. nothing-given rate c.args.rows.now.shape _ c.restore-agrees.new.memory.chunks.items c.end_round.ensures.empty
+returns-clause-state g c = λ rate.
+    let new = c.restore-agrees.new.memory in
+    nothing-given rate c.args.rows.now.shape (given_marks new.marks) new.chunks.items (none_told new.marks c.restore-agrees.ensures.marks.shards)
 
 pub returns-clause-answer : goal.returns-clause-answer
 returns-clause-answer g c = λ rate valid shaped.
@@ -99,42 +76,45 @@ returns-clause-answer g c = λ rate valid shaped.
     let s = old.shape in
     let from = s.frame.originals_from in
     let before = old.memory.chunks.items in
-    let given = old.memory.marks.given.items in
-    let marks = c.end_round.new.self.restored.items in
+    let given = given_marks old.memory.marks in
+    let marks = restored_marks c.restore-agrees.new.memory.marks in
     let chunks = c.restore-agrees.new.memory.chunks.items in
-    let kept : c.want_missing.new.self.given.items ≡ c.args.rows.now.memory.marks.given.items = ap (λ (v : Vec Bool Global). v.items) c.want_missing.ensures.given in
+    let round = c.round-round.ensures in
+    let missing : WantsMissing c.args.rows.now.shape.frame.originals_from c.args.rows.now.shape.original_count c.args.rows.now.memory.marks c.restore-agrees.new.memory.marks =
+    subst (λ (x : DecoderShape). WantsMissing x.frame.originals_from x.original_count old.memory.marks c.restore-agrees.new.memory.marks) round.shape c.restore-agrees.ensures.marks in
     let most = given_row_count-most given from s.original_count in
     let most_too = given_row_count-most given s.frame.recovery_from s.recovery_count in
-    let marked = λ (i : ℕ) (inside : i < s.original_count).
-    ap (λ (v : Vec Bool Global). is_marked v.items (from + i)) (c.end_round.ensures.restored ∙ ap (λ (m : Marks). m.restored) c.restore-agrees.ensures.marks)
-    ∙ c.want_missing.ensures.missing i inside in
     let sized = λ (i : ℕ) (inside : i < s.original_count).
     subst (λ (xs : Chunks). IsShard s.shard_bytes (shard_in_order xs s.shard_bytes (from + i))) c.as_slice.ensures.value
-    (c.in_order_are_bytes.ensures (from + i) (omega (arith, inside, old.original_rows))) in
+    (subst (λ (x : DecoderShape). IsShard x.shard_bytes (shard_in_order c.as_slice.result.now x.shard_bytes (from + i))) round.shape
+    (c.in_order_are_bytes.ensures (from + i) (omega (arith, inside, old.original_rows, ap (λ (x : DecoderShape). x.frame.row_count) round.shape)))) in
     let told : ((c.restore-agrees.result ≡ true) × (c.if-agrees.answer ≡ Ok (s.original_count - old.originals_given)))
     ⊎ ((c.restore-agrees.result ≡ false) × (c.if-agrees.answer ≡ Err (InconsistentShards c.args.rows.now.originals_given c.args.rows.now.recovery_given))) =
-    elim c.if-agrees.branch [ then-agrees w ↦ inl (w.if-agrees.true, w.answer-is) | else-agrees w ↦ inr (w.if-agrees.false, w.answer-is) ] in
-    let over : AnswersOver rate c.args.rows.now.shape c.args.rows.now.memory.marks.given.items c.end_round.new.self.restored.items c.args.rows.now.memory.chunks.items c.restore-agrees.new.memory.chunks.items c.restore-agrees.result =
-    elim (cases_eq (s.original_count - old.originals_given + (old.originals_given + old.recovery_given - s.original_count)) 0) [
+    elim c.if-agrees.branch [
+      | then-agrees w ↦ inl (w.if-agrees.true, w.answer-is ∙ ap Ok (let is : c.round-round.result.missing ≡ c.args.rows.now.shape.original_count - c.args.rows.now.originals_given = omega arith in is))
+      | else-agrees w ↦ inr (w.if-agrees.false, w.answer-is)
+    ] in
+    let over : AnswersOver rate c.args.rows.now.shape (given_marks c.args.rows.now.memory.marks) (restored_marks c.restore-agrees.new.memory.marks) c.args.rows.now.memory.chunks.items c.restore-agrees.new.memory.chunks.items c.restore-agrees.result =
+    elim (cases_eq (c.round-round.result.missing + c.round-round.result.surplus) 0) [
       | inl none ↦
           subst (λ b. AnswersOver rate s given marks before chunks b) (sym (c.restore-agrees.ensures.nothing (omega arith) (omega arith)))
           (complete_answers rate s given marks before chunks valid shaped old.even old.shards
-          (omega (arith, none, most, most_too, c.requires.enough, old.originals_counted, old.recovery_counted))
-          (omega (arith, none, most, most_too, c.requires.enough, old.originals_counted, old.recovery_counted)) marked)
+          (omega (arith, none, most, most_too, round.missing, round.surplus, old.originals_counted, old.recovery_counted))
+          (omega (arith, none, most, most_too, round.missing, round.surplus, old.originals_counted, old.recovery_counted)) missing.missing)
       | inr some ↦
           let made =
-          subst (λ (ms : List Bool). (locator : List ℕ) × IsLocatorOf s.frame ms locator
-          × RestoresShards s ms locator (old.originals_given + old.recovery_given - s.original_count) before chunks c.restore-agrees.result) kept
+          subst (λ (x : DecoderShape). (locator : List ℕ) × IsLocatorOf x.frame given locator
+          × RestoresShards x given locator c.round-round.result.surplus before chunks c.restore-agrees.result) round.shape
           (c.restore-agrees.ensures.restored (omega arith)) in
-          decode_answers rate s given marks made.0 (old.originals_given + old.recovery_given - s.original_count) before chunks c.restore-agrees.result valid shaped
+          decode_answers rate s given marks made.0 c.round-round.result.surplus before chunks c.restore-agrees.result valid shaped
           (record {
             even = old.even;
             placed = old.placed;
             shards = old.shards;
-            counted = omega (arith, c.requires.enough, old.originals_counted, old.recovery_counted);
+            counted = omega (arith, round.surplus, old.originals_counted, old.recovery_counted);
             is_locator = made.1;
             restores = made.2;
-            marked = marked;
+            marked = missing.missing;
             sized = sized;
           })
     ] in
@@ -144,15 +124,16 @@ pub returns-clause-counted : goal.returns-clause-counted
 returns-clause-counted g c =
     let old = c.args.rows.now in
     let s = old.shape in
-    let from = s.frame.originals_from in
-    let given = old.memory.marks.given.items in
-    let marks = c.end_round.new.self.restored.items in
-    let chunks = c.restore-agrees.new.memory.chunks.items in
-    let marked = λ (i : ℕ) (inside : i < s.original_count).
-    ap (λ (v : Vec Bool Global). is_marked v.items (from + i)) (c.end_round.ensures.restored ∙ ap (λ (m : Marks). m.restored) c.restore-agrees.ensures.marks)
-    ∙ c.want_missing.ensures.missing i inside in
-    let counted = length-restored given marks chunks s.shard_bytes from s.original_count marked in
+    let given = given_marks old.memory.marks in
+    let new = c.restore-agrees.new.memory in
+    let missing : WantsMissing c.args.rows.now.shape.frame.originals_from c.args.rows.now.shape.original_count c.args.rows.now.memory.marks c.restore-agrees.new.memory.marks =
+    subst (λ (x : DecoderShape). WantsMissing x.frame.originals_from x.original_count old.memory.marks new.marks) c.round-round.ensures.shape c.restore-agrees.ensures.marks in
+    let counted = length-restored given (restored_marks new.marks) new.chunks.items s.shard_bytes s.frame.originals_from s.original_count missing.missing in
     elim c.if-agrees.branch [
-      | then-agrees w ↦ rw (w.answer-is, sub-zero) (omega (arith, counted, old.originals_counted))
-      | else-agrees w ↦ rw (w.answer-is) tt
+      | then-agrees w ↦ let is : c.if-agrees.answer ≡ Ok c.round-round.result.missing = w.answer-is in rw (is, sub-zero) (omega (arith, counted, old.originals_counted, c.round-round.ensures.missing))
+      | else-agrees w ↦ rw w.answer-is tt
     ]
+
+pub returns-clause-counts : goal.returns-clause-counts
+returns-clause-counts g c =
+    subst (λ (s : DecoderShape). CountsUpTo (decode_steps s.frame.row_count) 1048576 65536 c.args.steps.now c.restore-agrees.new.steps) c.round-round.ensures.shape c.restore-agrees.ensures.counts

@@ -1,4 +1,5 @@
 use Rattle.std.proofs.Common.{◌+◌, ap, ◌∙◌, arith}
+use Rattle.std.specs.Prelude.{not}
 use Rattle.rs_field.specs.Column.{column}
 use Rattle.rs_field.specs.Layout.{row_len}
 use Rattle.rs_rate.specs.ShardRows.{word_in}
@@ -13,9 +14,11 @@ pub returns-then-agrees-clause-shards : goal.returns-then-agrees-clause-shards
 returns-then-agrees-clause-shards g c =
     let s = c.args.round.shape in
     let mid = c.restore_words-agrees.new.chunks in
+    let missing = c.restore_words-agrees.ensures.marks in
     record {
       words = word_in mid (row_len s.shard_bytes);
       restored = c.restore_words-agrees.ensures.words;
       shards = λ _ i j inside hj none.
-          ap (column j) (c.move_missing_tails.ensures.moved i inside none) ∙ column-put mid s.shard_bytes (s.frame.originals_from + i) j c.args.round.facts.even hj;
+          ap (column j) (c.move_restored_tails.ensures.moved i inside (missing.missing i inside ∙ ap not none))
+          ∙ column-put mid s.shard_bytes (s.frame.originals_from + i) j c.requires.facts.even hj;
     }

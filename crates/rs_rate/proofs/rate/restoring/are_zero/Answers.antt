@@ -8,7 +8,7 @@ use Rattle.rs_rate.proofs.rate.restoring.are_zero.Goals as goal
 pub returns-then-not-is_zero_row-clause-zero : goal.returns-then-not-is_zero_row-clause-zero
 returns-then-not-is_zero_row-clause-zero c =
     let i = c.loop-i.i in
-    let rows = c.args.«data».now in (
+    let rows = c.args.rows.now in (
       λ all.
           sym c.if-not-is_zero_row.true
           ∙ c.is_zero_row.ensures.1 (λ j inside.
@@ -20,7 +20,7 @@ returns-then-not-is_zero_row-clause-zero c =
 pub loop-i-preserved : goal.loop-i-preserved
 loop-i-preserved c =
     let i = c.loop-i.i in
-    let rows = c.args.«data».now in
+    let rows = c.args.rows.now in
     let before = c.loop-i.invariant in
     record {
       zero = λ q j from to inside. elim (cases_lt q i) [

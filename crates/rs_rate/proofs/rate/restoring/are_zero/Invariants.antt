@@ -5,6 +5,6 @@ use Rattle.rs_rate.proofs.rate.restoring.are_zero.Given as goal
 
 abbrev pub invariant-loop-i : goal.invariant-loop-i
 invariant-loop-i l = record {
-  zero : (i j : ℕ) → l.first ≤ i → i < l.i → j < l.shard_bytes / 2 → word l.«data» (j / 32) (j % 32) i ≡ 0;
+  zero : (i j : ℕ) → l.first ≤ i → i < l.i → j < l.shard_bytes / 2 → word l.rows (j / 32) (j % 32) i ≡ 0;
   counts : CountsRows (l.i - l.first) l.initial.steps l.steps;
 }

@@ -13,23 +13,23 @@ use Rattle.rs_field.proofs.Symbols.{symbol-zero}
 use Rattle.rs_rate.specs.Decoding.{located}
 use Rattle.rs_rate.proofs.RestoringRows.{RowLocated, located-at, located-same}
 use Rattle.rs_rate.proofs.rate.restoring.locate_rows.Goals as goal
-use Rattle.rs_rate.proofs.rate.restoring.locate_rows.Goals.{then-is_given, else-is_given}
+use Rattle.rs_rate.proofs.rate.restoring.locate_rows.Goals.{then-given-p, else-given-p}
 
 pub loop-p-preserved : goal.loop-p-preserved
 loop-p-preserved g c =
-    let old = c.args.«data».now in
-    let mid = c.loop-p.«data» in
-    let new = c.if-is_given.«data» in
-    let marks = c.args.round.marks.now.given.items in
-    let locator = c.args.round.locator.now in
+    let old = c.args.rows.now in
+    let mid = c.loop-p.rows in
+    let new = c.if-given-p.rows in
+    let marks = c.args.given.now in
+    let locator = c.args.locator.now in
     let p = c.loop-p.p in
     let before = c.loop-p.invariant in
     let count = before.shape.count in
-    let step : RowLocated c.args.round.marks.now.given.items c.args.round.locator.now c.loop-p.p c.loop-p.«data» c.if-is_given.«data» c.loop-p.steps c.if-is_given.steps =
-    elim c.if-is_given.branch [
-      | then-is_given w ↦
-          let given = sym c.is_given.ensures ∙ w.if-is_given.true in
-          subst (λ (r : ShardsRefMut). RowLocated marks locator p mid r c.loop-p.steps c.if-is_given.steps) (sym w.data-is)
+    let step : RowLocated c.args.given.now c.args.locator.now c.loop-p.p c.loop-p.rows c.if-given-p.rows c.loop-p.steps c.if-given-p.steps =
+    elim c.if-given-p.branch [
+      | then-given-p w ↦
+          let given = w.if-given-p.true in
+          subst (λ (r : ShardsRefMut). RowLocated marks locator p mid r c.loop-p.steps c.if-given-p.steps) (sym w.rows-is)
           (subst (λ (t : Steps). RowLocated marks locator p mid w.mul_row.new.«data» c.loop-p.steps t) (sym w.steps-is)
           (record {
             shape = w.mul_row.ensures.shape;
@@ -38,10 +38,10 @@ loop-p-preserved g c =
             cleared = λ k hk none. absurd (true≢false (sym given ∙ none));
             counts = w.mul_row.ensures.counts;
           }))
-      | else-is_given w ↦
-          let none = sym c.is_given.ensures ∙ w.if-is_given.false in
+      | else-given-p w ↦
+          let none = w.if-given-p.false in
           let cleared_len = w.clear_rows.ensures.shape.len_64 in
-          subst (λ (r : ShardsRefMut). RowLocated marks locator p mid r c.loop-p.steps c.if-is_given.steps) (sym w.data-is)
+          subst (λ (r : ShardsRefMut). RowLocated marks locator p mid r c.loop-p.steps c.if-given-p.steps) (sym w.rows-is)
           (subst (λ (t : Steps). RowLocated marks locator p mid w.clear_rows.new.«data» c.loop-p.steps t) (sym w.steps-is)
           (record {
             shape = w.clear_rows.ensures.shape;
@@ -52,7 +52,7 @@ loop-p-preserved g c =
             counts = counts_rows 1 c.loop-p.steps w.clear_rows.new.steps (subst (λ (n : ℕ). CountsRows n c.loop-p.steps w.clear_rows.new.steps) (let one : c.loop-p.p + 1 - c.loop-p.p ≡ 1 = omega arith in one) w.clear_rows.ensures.counts);
           }))
     ] in
-    let len : c.loop-p.«data».shard_len_64 ≡ c.args.«data».now.shard_len_64 = before.shape.len_64 in
+    let len : c.loop-p.rows.shard_len_64 ≡ c.args.rows.now.shard_len_64 = before.shape.len_64 in
     let kept = outside_cell p (p + 1) mid new step.shape step.others in
     record {
       fits = fits_kept mid new step.shape before.fits;
@@ -71,5 +71,5 @@ loop-p-preserved g c =
             ap (cell new k) here ∙ step.cleared k (omega arith) (sym (ap (λ i. is_marked marks i) here) ∙ none)
       ];
       left = λ k q hk hq. kept q k (omega arith) (inr hq) ∙ before.left k q hk (omega arith);
-      counts = counts_then p 1 c.args.steps.now c.loop-p.steps c.if-is_given.steps before.counts step.counts;
+      counts = counts_then p 1 c.args.steps.now c.loop-p.steps c.if-given-p.steps before.counts step.counts;
     }

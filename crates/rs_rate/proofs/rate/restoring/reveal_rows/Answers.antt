@@ -10,25 +10,26 @@ use Rattle.rs_field.specs.MarkedRows.{is_marked}
 use Rattle.rs_field.proofs.Counting.{counts_then, counts_none}
 use Rattle.rs_field.proofs.Recursion.{fits_kept}
 use Rattle.rs_field.proofs.RowOffsets.{outside_cell, shape_then}
+use Rattle.rs_rate.specs.Marks.{restored_marks}
 use Rattle.rs_rate.proofs.RestoringRows.{RowRevealed}
 use Rattle.rs_rate.proofs.rate.restoring.reveal_rows.Goals as goal
-use Rattle.rs_rate.proofs.rate.restoring.reveal_rows.Goals.{then-not-is_given, else-not-is_given}
+use Rattle.rs_rate.proofs.rate.restoring.reveal_rows.Goals.{then-is_restored, else-is_restored}
 
 pub loop-i-preserved : goal.loop-i-preserved
 loop-i-preserved g c =
-    let old = c.args.«data».now in
-    let mid = c.loop-i.«data» in
-    let new = c.if-not-is_given.«data» in
-    let marks = c.args.round.marks.now.given.items in
-    let locator = c.args.round.locator.now in
-    let from = c.args.round.shape.frame.originals_from in
-    let p = c.args.round.shape.frame.originals_from + c.loop-i.i in
+    let old = c.args.rows.now in
+    let mid = c.loop-i.rows in
+    let new = c.if-is_restored.rows in
+    let marks = restored_marks c.args.marks.now in
+    let locator = c.args.locator.now in
+    let from = c.args.shape.frame.originals_from in
+    let p = c.original_row-row.result in
     let before = c.loop-i.invariant in
     let count = before.shape.count in
-    let step : RowRevealed c.args.round.marks.now.given.items c.args.round.locator.now (c.args.round.shape.frame.originals_from + c.loop-i.i) c.loop-i.«data» c.if-not-is_given.«data» c.loop-i.steps c.if-not-is_given.steps =
-    elim c.if-not-is_given.branch [
-      | then-not-is_given w ↦
-          subst (λ (r : ShardsRefMut). RowRevealed marks locator p mid r c.loop-i.steps c.if-not-is_given.steps) (sym w.data-is)
+    let step : RowRevealed (restored_marks c.args.marks.now) c.args.locator.now c.original_row-row.result c.loop-i.rows c.if-is_restored.rows c.loop-i.steps c.if-is_restored.steps =
+    elim c.if-is_restored.branch [
+      | then-is_restored w ↦
+          subst (λ (r : ShardsRefMut). RowRevealed marks locator p mid r c.loop-i.steps c.if-is_restored.steps) (sym w.rows-is)
           (subst (λ (t : Steps). RowRevealed marks locator p mid w.mul_row.new.«data» c.loop-i.steps t) (sym w.steps-is)
           (record {
             shape = w.mul_row.ensures.shape;
@@ -36,29 +37,28 @@ loop-i-preserved g c =
             revealed_here = λ k s hk hs _. w.mul_row.ensures.products k s hk hs;
             counts = w.mul_row.ensures.counts;
           }))
-      | else-not-is_given w ↦
-          subst (λ (r : ShardsRefMut). RowRevealed marks locator p mid r c.loop-i.steps c.if-not-is_given.steps) (sym w.data-is)
+      | else-is_restored w ↦
+          subst (λ (r : ShardsRefMut). RowRevealed marks locator p mid r c.loop-i.steps c.if-is_restored.steps) (sym w.rows-is)
           (subst (λ (t : Steps). RowRevealed marks locator p mid mid c.loop-i.steps t) (sym w.steps-is)
           (record {
             shape = record { name = refl; count = refl; len_64 = refl; length = refl };
             others = λ k _. refl;
-            revealed_here = λ k s hk hs none. absurd (true≢false (sym w.if-not-is_given.false ∙ c.is_given.ensures ∙ none));
+            revealed_here = λ k s hk hs marked. absurd (true≢false (sym marked ∙ sym c.is_restored.ensures ∙ w.if-is_restored.false));
             counts = counts_none 1 0 0 c.loop-i.steps;
           }))
     ] in
-    let len : c.loop-i.«data».shard_len_64 ≡ c.args.«data».now.shard_len_64 = before.shape.len_64 in
+    let len : c.loop-i.rows.shard_len_64 ≡ c.args.rows.now.shard_len_64 = before.shape.len_64 in
     let kept = outside_cell p (p + 1) mid new step.shape step.others in
     record {
       fits = fits_kept mid new step.shape before.fits;
       shape = shape_then old mid new before.shape step.shape;
-      revealed = λ k s j hk hs hj none. elim (cases_lt j c.loop-i.i) [
-        | inl low ↦ ap (λ x. symbol x s) (kept (from + j) k (omega arith) (inl (omega arith))) ∙ before.revealed k s j hk hs low none
+      revealed = λ k s j hk hs hj marked. elim (cases_lt j c.loop-i.i) [
+        | inl low ↦ ap (λ x. symbol x s) (kept (from + j) k (omega arith) (inl (omega arith))) ∙ before.revealed k s j hk hs low marked
         | inr high ↦
-            let here : c.loop-i.i ≡ j = omega arith in
-            let is = subst (λ (q : ℕ). is_marked marks (from + q) ≡ false) (sym here) none in
-            subst (λ (q : ℕ). word new k s (from + q) ≡ product (word old k s (from + q)) (power (65535 - slice_index locator (from + q)))) here
-            (step.revealed_here k s (omega arith) hs is ∙ ap (λ x. product (symbol x s) (power (65535 - slice_index locator p))) (before.left k p hk (omega arith)))
+            let here : c.original_row-row.result ≡ c.args.shape.frame.originals_from + j = omega arith in
+            subst (λ (q : ℕ). word new k s q ≡ product (word old k s q) (power (65535 - slice_index locator q))) here
+            (step.revealed_here k s (omega arith) hs (ap (is_marked marks) here ∙ marked) ∙ ap (λ x. product (symbol x s) (power (65535 - slice_index locator p))) (before.left k p hk (omega arith)))
       ];
       left = λ k q hk hq. kept q k (omega arith) (inr (omega arith)) ∙ before.left k q hk (omega arith);
-      counts = counts_then c.loop-i.i 1 c.args.steps.now c.loop-i.steps c.if-not-is_given.steps before.counts step.counts;
+      counts = counts_then c.loop-i.i 1 c.args.steps.now c.loop-i.steps c.if-is_restored.steps before.counts step.counts;
     }

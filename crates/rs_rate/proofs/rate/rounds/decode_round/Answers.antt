@@ -7,6 +7,7 @@ use Rattle.rs_rate.proofs.DecoderSteps.{enough-least}
 use Rattle.rs_rate.proofs.StateLemmas.{valid-supported}
 use Rattle.rs_rate.proofs.RateLemmas.{frame-power}
 use Rattle.rs_rate.proofs.DecoderRows.{after_decode-refused, after_decode-made, decode_answers-refused, decode_answers-made, frame-rows}
+use Rattle.rs_rate.specs.Marks.{given_marks}
 use Rattle.rs_rate.proofs.rate.rounds.decode_round.Goals as goal
 
 pub returns-in_err-check_enough_given-clause-answer : goal.returns-in_err-check_enough_given-clause-answer
@@ -29,7 +30,7 @@ pub decode_rows-requires-clause-enough : goal.decode_rows-requires-clause-enough
 decode_rows-requires-clause-enough g c =
     let rows = c.args.decoder.now.rows in
     let s = rows.shape in
-    let marks = rows.memory.marks.given.items in
+    let marks = (given_marks rows.memory.marks) in
     let chunks = rows.memory.chunks.items in
     let least = enough-least (decoder_state g.C.Code.rate rows) (c.in_ok-check_enough_given.ensures g.C.Code.rate) in
     let originals = count-given marks chunks s.shard_bytes s.frame.originals_from s.original_count in

@@ -7,6 +7,7 @@ use Rattle.rs_rate.specs.Sides.{side_from}
 use Rattle.rs_rate.proofs.ShardRowsLemmas.{chunk_count-within, shard-entered}
 use Rattle.rs_rate.proofs.DecoderLemmas.{given_row_count-most}
 use Rattle.rs_rate.proofs.SideRows.{row_entered, side-within, add-repeated, add-sized, add-entered, add-counted, outside-apart}
+use Rattle.rs_rate.specs.Marks.{given_marks}
 use Rattle.rs_rate.proofs.rate.decoder_work.DecoderRows.add_shard.Goals as goal
 
 pub returns-then-is_given-clause-answer : goal.returns-then-is_given-clause-answer
@@ -43,37 +44,37 @@ pub overflow_add-self : goal.overflow_add-self
 overflow_add-self c =
     let w = c.args.self.now in
     let e =
-    row_entered w c.args.side c.args.index c.first_row.result c.count.result c.args.shard.now c.enter.new.self.marks.given.items c.enter.new.self.chunks.items c.first_row.ensures c.count.ensures
+    row_entered w c.args.side c.args.index c.first_row.result c.count.result c.args.shard.now (given_marks c.enter.new.self.marks) c.enter.new.self.chunks.items c.first_row.ensures c.count.ensures
     c.if-index-count.false (sym c.is_given.ensures ∙ c.if-is_given.false) c.if-shard-self.false c.enter.ensures.mark c.enter.ensures.here c.enter.ensures.other_marks c.enter.ensures.others in
-    let counted = (add-counted w c.args.side c.args.index (c.first_row.result + c.args.index) c.args.shard.now c.enter.new.self.marks.given.items c.enter.new.self.chunks.items e).0 in
-    let most = given_row_count-most c.enter.new.self.marks.given.items w.shape.frame.originals_from w.shape.original_count in
+    let counted = (add-counted w c.args.side c.args.index (c.first_row.result + c.args.index) c.args.shard.now (given_marks c.enter.new.self.marks) c.enter.new.self.chunks.items e).0 in
+    let most = given_row_count-most (given_marks c.enter.new.self.marks) w.shape.frame.originals_from w.shape.original_count in
     omega (arith, counted, most, c.originals.ensures, w.original_rows, w.few)
 
 pub overflow_add-self-2 : goal.overflow_add-self-2
 overflow_add-self-2 c =
     let w = c.args.self.now in
     let e =
-    row_entered w c.args.side c.args.index c.first_row.result c.count.result c.args.shard.now c.enter.new.self.marks.given.items c.enter.new.self.chunks.items c.first_row.ensures c.count.ensures
+    row_entered w c.args.side c.args.index c.first_row.result c.count.result c.args.shard.now (given_marks c.enter.new.self.marks) c.enter.new.self.chunks.items c.first_row.ensures c.count.ensures
     c.if-index-count.false (sym c.is_given.ensures ∙ c.if-is_given.false) c.if-shard-self.false c.enter.ensures.mark c.enter.ensures.here c.enter.ensures.other_marks c.enter.ensures.others in
-    let counted = (add-counted w c.args.side c.args.index (c.first_row.result + c.args.index) c.args.shard.now c.enter.new.self.marks.given.items c.enter.new.self.chunks.items e).1 in
-    let most = given_row_count-most c.enter.new.self.marks.given.items w.shape.frame.recovery_from w.shape.recovery_count in
+    let counted = (add-counted w c.args.side c.args.index (c.first_row.result + c.args.index) c.args.shard.now (given_marks c.enter.new.self.marks) c.enter.new.self.chunks.items e).1 in
+    let most = given_row_count-most (given_marks c.enter.new.self.marks) w.shape.frame.recovery_from w.shape.recovery_count in
     omega (arith, counted, most, c.recovery.ensures, w.recovery_rows, w.few)
 
 pub returns-clause-answer : goal.returns-clause-answer
 returns-clause-answer c = λ rate.
     let w = c.args.self.now in
     let e =
-    row_entered w c.args.side c.args.index c.first_row.result c.count.result c.args.shard.now c.enter.new.self.marks.given.items c.enter.new.self.chunks.items c.first_row.ensures c.count.ensures
+    row_entered w c.args.side c.args.index c.first_row.result c.count.result c.args.shard.now (given_marks c.enter.new.self.marks) c.enter.new.self.chunks.items c.first_row.ensures c.count.ensures
     c.if-index-count.false (sym c.is_given.ensures ∙ c.if-is_given.false) c.if-shard-self.false c.enter.ensures.mark c.enter.ensures.here c.enter.ensures.other_marks c.enter.ensures.others in
-    sym (ap answer_of (add-entered rate w c.args.side c.args.index (c.first_row.result + c.args.index) c.args.shard.now c.enter.new.self.marks.given.items c.enter.new.self.chunks.items e))
+    sym (ap answer_of (add-entered rate w c.args.side c.args.index (c.first_row.result + c.args.index) c.args.shard.now (given_marks c.enter.new.self.marks) c.enter.new.self.chunks.items e))
 
 pub returns-clause-left : goal.returns-clause-left
 returns-clause-left c = λ rate.
     let w = c.args.self.now in
     let e =
-    row_entered w c.args.side c.args.index c.first_row.result c.count.result c.args.shard.now c.enter.new.self.marks.given.items c.enter.new.self.chunks.items c.first_row.ensures c.count.ensures
+    row_entered w c.args.side c.args.index c.first_row.result c.count.result c.args.shard.now (given_marks c.enter.new.self.marks) c.enter.new.self.chunks.items c.first_row.ensures c.count.ensures
     c.if-index-count.false (sym c.is_given.ensures ∙ c.if-is_given.false) c.if-shard-self.false c.enter.ensures.mark c.enter.ensures.here c.enter.ensures.other_marks c.enter.ensures.others in
-    sym (ap (state_after (decoder_state rate w)) (add-entered rate w c.args.side c.args.index (c.first_row.result + c.args.index) c.args.shard.now c.enter.new.self.marks.given.items c.enter.new.self.chunks.items e))
+    sym (ap (state_after (decoder_state rate w)) (add-entered rate w c.args.side c.args.index (c.first_row.result + c.args.index) c.args.shard.now (given_marks c.enter.new.self.marks) c.enter.new.self.chunks.items e))
 
 pub invariant_of-self : goal.invariant_of-self
 invariant_of-self c =
@@ -82,12 +83,11 @@ invariant_of-self c =
     let lengths = c.enter.ensures.lengths in
     let chunks = ap (λ r. r.chunks) c.enter.ensures.grown in
     let rows = ap (λ r. r.rows) c.enter.ensures.grown in
-    let restored_room = ap (λ r. r.restored) c.enter.ensures.grown in
     let entry_room = ap (λ r. r.entries) c.enter.ensures.grown in
     let e =
-    row_entered w c.args.side c.args.index c.first_row.result c.count.result c.args.shard.now c.enter.new.self.marks.given.items c.enter.new.self.chunks.items c.first_row.ensures c.count.ensures
+    row_entered w c.args.side c.args.index c.first_row.result c.count.result c.args.shard.now (given_marks c.enter.new.self.marks) c.enter.new.self.chunks.items c.first_row.ensures c.count.ensures
     c.if-index-count.false (sym c.is_given.ensures ∙ c.if-is_given.false) c.if-shard-self.false c.enter.ensures.mark c.enter.ensures.here c.enter.ensures.other_marks c.enter.ensures.others in
-    let counted = add-counted w c.args.side c.args.index (c.first_row.result + c.args.index) c.args.shard.now c.enter.new.self.marks.given.items c.enter.new.self.chunks.items e in
+    let counted = add-counted w c.args.side c.args.index (c.first_row.result + c.args.index) c.args.shard.now (given_marks c.enter.new.self.marks) c.enter.new.self.chunks.items e in
     record {
       positive = w.positive;
       even = w.even;
@@ -100,9 +100,7 @@ invariant_of-self c =
       sized = w.sized;
       marked = omega (arith, w.marked, lengths.1);
       own_marks = omega (arith, w.own_marks, rows);
-      restored_marked = omega (arith, w.restored_marked, lengths.2);
-      own_restored = omega (arith, w.own_restored, restored_room);
-      entries = omega (arith, w.entries, lengths.3);
+      entries = omega (arith, w.entries, lengths.2);
       own_entries = omega (arith, w.own_entries, entry_room);
       originals_counted = omega (arith, counted.0, c.originals.ensures);
       recovery_counted = omega (arith, counted.1, c.recovery.ensures);

@@ -28,7 +28,7 @@ returns-in_err-rows-clause-roomy g c =
     (λ w. HasRoom (work_room w) rows size → answer_of c.from_residual-in_err-rows.result ≡ started rows set_up)
     (λ w enough room.
     rw (p.1, p.2) (started-short rows set_up c.new.result c.in_err-rows.field-0.0 c.in_err-rows.was (sym c.in_ok-validate.ensures) c.new.ensures.memory
-    (λ fits. enough (omega (arith, chunks, fits)) (record { chunks = omega (arith, chunks, room.chunks); rows = omega (arith, count, room.rows); restored = omega (arith, count, room.restored); entries = omega (arith, count, room.entries) }))))
+    (λ fits. enough (omega (arith, chunks, fits)) (record { chunks = omega (arith, chunks, room.chunks); rows = omega (arith, count, room.rows); entries = omega (arith, count, room.entries) }))))
     c.new.ensures.enough
 
 pub returns-clause-answer : goal.returns-clause-answer

@@ -38,7 +38,7 @@ returns-clause-roomy g c = λ room.
     let chunks = ap₂ chunk_count count bytes in
     grown-roomy rows set_up c.reset.result (sym c.in_ok-validate.ensures) c.reset.ensures.memory
     (subst (λ (n : ℕ). IfOk c.reset.result (λ _. n * 64 < 2 ^ 64)) chunks c.reset.ensures.fits)
-    (λ fits. c.reset.ensures.enough (omega (arith, chunks, fits)) (record { chunks = omega (arith, chunks, room.chunks); rows = omega (arith, count, room.rows); restored = omega (arith, count, room.restored); entries = omega (arith, count, room.entries) }))
+    (λ fits. c.reset.ensures.enough (omega (arith, chunks, fits)) (record { chunks = omega (arith, chunks, room.chunks); rows = omega (arith, count, room.rows); entries = omega (arith, count, room.entries) }))
 
 pub returns-clause-own : goal.returns-clause-own
 returns-clause-own g c = λ within.
@@ -58,7 +58,7 @@ returns-clause-own g c = λ within.
     let own_count = ap (λ s. s.frame.row_count) c.args.self.now.shaped ∙ frame-rows rate own.shape.original_count own.shape.recovery_count in
     let sized = ap (λ n. chunk_count n own.shape.shard_bytes) own_count in
     made-not_short c.reset.result (c.reset.ensures.enough (omega (arith, chunks, same, less, sized, own.sized))
-    (record { chunks = omega (arith, chunks, same, less, own_room.chunks); rows = omega (arith, count, same_rows, own_room.rows); restored = omega (arith, count, same_rows, own_room.restored); entries = omega (arith, count, same_rows, own_room.entries) }))
+    (record { chunks = omega (arith, chunks, same, less, own_room.chunks); rows = omega (arith, count, same_rows, own_room.rows); entries = omega (arith, count, same_rows, own_room.entries) }))
 
 pub returns-clause-ok : goal.returns-clause-ok
 returns-clause-ok g c =

@@ -1,0 +1,42 @@
+use Rattle.std.proofs.Common.{◌≡◌, ◌<◌, ◌+◌, ◌-◌, ℕ, arith}
+use Rattle.std.specs.Prelude.{Bool, List, []}
+use Rattle.rs_rate.specs.declared.rate.marks.MarkedShards.{MarkedShards}
+use Rattle.rs_rate.specs.declared.rate.marks.MarkedShards.TheVariants.{Given, Restored}
+use Rattle.rs_rate.specs.Marks.{given_marks, given_row_count}
+use Rattle.rs_rate.proofs.DecoderLemmas.{given_row_count-most, given_if_some}
+use Rattle.rs_rate.proofs.rate.decoder_work.DecoderRows.round.Goals as goal
+
+pub overflow_add-given : goal.overflow_add-given
+overflow_add-given c =
+    let w = c.args.self.now in
+    let most = given_row_count-most (given_marks w.memory.marks) w.shape.frame.originals_from w.shape.original_count in
+    let most_too = given_row_count-most (given_marks w.memory.marks) w.shape.frame.recovery_from w.shape.recovery_count in
+    omega (arith, most, most_too, w.originals_counted, w.recovery_counted, w.original_rows, w.recovery_rows, w.few)
+
+pub overflow_sub-result : goal.overflow_sub-result
+overflow_sub-result c =
+    let w = c.args.self.now in
+    let most = given_row_count-most (given_marks w.memory.marks) w.shape.frame.originals_from w.shape.original_count in
+    omega (arith, most, w.originals_counted)
+
+pub returns-clause-missing : goal.returns-clause-missing
+returns-clause-missing c =
+    let w = c.args.self.now in
+    let most = given_row_count-most (given_marks w.memory.marks) w.shape.frame.originals_from w.shape.original_count in
+    omega (arith, most, w.originals_counted)
+
+pub returns-clause-facts : goal.returns-clause-facts
+returns-clause-facts c =
+    let w = c.args.self.now in
+    let most = given_row_count-most (given_marks w.memory.marks) w.shape.frame.originals_from w.shape.original_count in
+    let most_too = given_row_count-most (given_marks w.memory.marks) w.shape.frame.recovery_from w.shape.recovery_count in
+    record {
+      few = w.few;
+      even = w.even;
+      originals = w.original_rows;
+      marked = w.marked;
+      shards = λ some. given_if_some w.memory.marks w.shape.frame.originals_from w.shape.original_count w.shape.frame.recovery_from w.shape.recovery_count
+          (omega (arith, some, c.requires, most, w.originals_counted, w.recovery_counted));
+      counted = omega (arith, most, w.originals_counted);
+      few_surplus = omega (arith, most, most_too, w.originals_counted, w.recovery_counted, w.recovery_rows);
+    }

@@ -1,0 +1,15 @@
+use Rattle.std.proofs.Common.{◌≡◌, ℕ, ◌+◌, ◌<◌, ◌≤◌, vec_len}
+use Rattle.std.specs.Prelude.{not}
+use Rattle.std.specs.Vec.{vec_capacity}
+use Rattle.rs_field.specs.MarkedRows.{is_marked}
+use Rattle.rs_rate.specs.Marks.{given_marks}
+use Rattle.rs_rate.proofs.rate.marks.Marks.want_missing.Given as goal
+
+abbrev pub invariant-loop-row : goal.invariant-loop-row
+invariant-loop-row l = record {
+  length : vec_len l.self.rows ≡ vec_len l.initial.self.rows;
+  room : vec_capacity l.self.rows ≡ vec_capacity l.initial.self.rows;
+  shards : l.self.shards ≡ l.initial.self.shards;
+  missing : (p : ℕ) → p < l.row → l.from ≤ p → p < l.from + l.count → is_marked l.self.rows.items p ≡ not (is_marked (given_marks l.initial.self) p);
+  left : (p : ℕ) → l.row ≤ p → is_marked l.self.rows.items p ≡ is_marked l.initial.self.rows.items p;
+}
