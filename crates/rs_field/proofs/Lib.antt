@@ -23,10 +23,8 @@ pub mod RingSolver
 pub mod Runs
 pub mod FourRuns
 pub mod RowOffsets
-pub mod Pairs
+mod Fours
 pub mod LentRows
-pub mod LentFourRows
-pub mod Fours
 pub mod LayoutLemmas
 pub mod ZeroColumns
 pub mod Symbols
