@@ -10,6 +10,7 @@ use Rattle.rs_field.proofs.Halves.{quarter_power, steps_quarters}
 use Rattle.rs_field.specs.Walsh.{total, sign, signed_sum, IsWalsh, IsFourSums}
 use Rattle.rs_field.proofs.Totals.{total-zero, total-suc, total-same, total-near, total-none, total-split, total-scale, add_near, mul_near}
 use Rattle.rs_field.proofs.Signs.{sign-left, sign-right, sign-both, sign-zero}
+use Rattle.rs_field.proofs.Counting.{counted}
 
 -- an entry of the first half
 pub sum_lower : (e w : ℕ) (f : ℕ → ℕ) → w < 2 ^ e
@@ -273,38 +274,17 @@ walsh-counts e n q a b c d f g small is h first second third fourth (x, y, z) =
   where
     of_parts : (t u : ℕ) → 4 * q + 4 * t ≤ u → CountsUpTo 0 t 0 a b → CountsUpTo 0 t 0 b c → CountsUpTo 0 t 0 c d → CountsUpTo 0 t 0 d f
         → g.row_steps ≡ f.row_steps → g.pair_sums ≡ f.pair_sums + 4 * q → g.products ≡ f.products → CountsUpTo 0 u 0 a g
-    of_parts t u le first second third fourth x y z = record {
-      row_steps_rise = omega arith;
-      pair_sums_rise = omega arith;
-      products_rise = omega arith;
-      row_steps_most = omega arith;
-      pair_sums_most = omega arith;
-      products_most = omega arith;
-    }
+    of_parts t u le first second third fourth x y z = counted 0 u 0 a g (omega arith, omega arith) (omega arith, omega arith) (omega arith, omega arith)
 
 -- one quarter alone counts no more than the whole
 pub walsh-quarter-counts : (e n q : ℕ) (a b : Steps) → n ≤ 65536 → n ≡ 2 ^ suc (suc e) → q ≡ 2 ^ e → WalshCounts q a b → WalshCounts n a b
 walsh-quarter-counts e n q a b small is h p =
     let whole : 4 * q + 4 * transform_steps q ≡ transform_steps n = steps_quarters n e q small is h in
-    record {
-      row_steps_rise = p.row_steps_rise;
-      pair_sums_rise = p.pair_sums_rise;
-      products_rise = p.products_rise;
-      row_steps_most = p.row_steps_most;
-      pair_sums_most = omega (arith, p.pair_sums_most);
-      products_most = p.products_most;
-    }
+    counted 0 (transform_steps n) 0 a b (omega arith, omega arith) (omega arith, omega arith) (omega arith, omega arith)
 
 -- a transform that counts all pair sums of its layers
 exact-counts : (n m : ℕ) (a b : Steps) → transform_steps n ≡ m → CountsPairs m a b → WalshCounts n a b
-exact-counts n m a b s (x, y, z) = record {
-  row_steps_rise = omega arith;
-  pair_sums_rise = omega arith;
-  products_rise = omega arith;
-  row_steps_most = omega arith;
-  pair_sums_most = omega arith;
-  products_most = omega arith;
-}
+exact-counts n m a b s (x, y, z) = counted 0 (transform_steps n) 0 a b (omega arith, omega arith) (omega arith, omega arith) (omega arith, omega arith)
 
 steps_of_2 : transform_steps 2 ≡ 1
 unfolding transform_steps log2 first_below

@@ -40,6 +40,11 @@ pub offset_outside : (a b i k n : ℕ) → k < n → (i < a) ⊎ (b ≤ i) → (
 offset_outside a b i k n q h =
     elim h [ inl p ↦ inl (let r = row_ends i a n p in omega arith) | inr p ↦ inr (let r = mul-le-mul_right n p in omega arith) ]
 
+-- a chunk of another row lies outside row a
+pub offset_apart : (a i k n : ℕ) → k < n → i ≢ a → (i * n + k < a * n) ⊎ (a * n + n ≤ i * n + k)
+offset_apart a i k n q ne =
+    elim (cases_lt i a) [ inl p ↦ inl (let r = row_ends i a n p in omega arith) | inr p ↦ inr (let l : a < i = omega arith in let r = row_ends a i n l in omega arith) ]
+
 -- the chunks of the rows outside are unchanged
 pub outside_cell : (a b : ℕ) (old new : ShardsRefMut) → SameShape old new → SameRowsOutside a b old new
     → (i k : ℕ) → k < old.shard_len_64 → (i < a) ⊎ (b ≤ i) → cell new k i ≡ cell old k i
