@@ -20,6 +20,7 @@ pub mod Decided
 pub mod Locator
 pub mod Total
 pub mod RingSolver
+pub mod Walking
 pub mod Runs
 pub mod FourRuns
 pub mod RowOffsets

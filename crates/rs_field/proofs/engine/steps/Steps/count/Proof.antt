@@ -1,22 +1,11 @@
 -- An empty body. The borrow is opened and closed at another ghost value.
-use Rattle.std.proofs.Common.{[], ◌∷◌, ◌+◌, refl}
-use Rattle.std.proofs.raw_atomic.Walks.{proved}
-use mir.Syntax.{named, w64}
+use Rattle.rs_field.proofs.Walking.{refl, [], ◌∷◌, ◌+◌, proved, named, w64, id⊢, ftrue, flft, tables, ‵, ◌⊛◌, ◌$◌, ◌∵◌, !, qed, move, keep, use1}
+use Rattle.rs_field.proofs.Walking.{split, join, fsplit3, fjoin, feq_i, suffices, frame, group, done, of_opd, returns, enter, alloc_all, pass_all}
+use Rattle.rs_field.proofs.Walking.{free_all, look_at, sets, usize, yes, uint_vals, uint_Tells, owns, Valss, MutRef, mut_vals, mut_Tells, plain}
+use Rattle.rs_field.proofs.Walking.{opens, closes, nothing, says, Stays, stay_dropped, walk_of, ends_at, Goes-dropped}
 use mir.Val.{vunit}
-use base.Logic.{id⊢}
-use base.Fml.{ftrue, flft}
-use contract.Running.{tables}
-use types.Kit.{‵, ◌⊛◌, ◌$◌, ◌∵◌, !, qed, move, keep, use1, split, join, fsplit3, fjoin, feq_i, suffices, frame, group, done}
-use types.Run.{unit_lit, of_opd, returns, enter}
-use types.ByLocal.{alloc_all, pass_all, free_all, look_at, sets}
-use denote.Builtin.{usize}
-use denote.Exit.{yes}
-use denote.Plain.{uint_vals, uint_Tells}
-use denote.RattleType.{owns, Valss}
-use denote.Ref.{MutRef, mut_vals, mut_Tells}
-use denote.Signature.{plain}
-use denote.Steps.{opens, closes, nothing}
-use denote.Triple.Walked.{says, Stays, stay_ref, stay_dropped, walk_of, ends_at, Goes-ref, Goes-dropped}
+use types.Run.{unit_lit}
+use denote.Triple.Walked.{stay_ref, Goes-ref}
 use Rattle.rs_field.specs.declared.engine.steps.Steps.{Steps}
 use Rattle.rs_field.specs.contracts.engine.steps.Steps as T
 use Rattle.rs_field.specs.contracts.engine.steps.Steps.count as f
