@@ -14,7 +14,7 @@ use Rattle.rs_field.specs.Code.{AreRecovery}
 use Rattle.rs_field.specs.CodeLaws.{changed}
 use Rattle.rs_field.specs.Given.{Shards, nothing, entered, count_below}
 use Rattle.rs_field.specs.Decoder.{IsAgreeing, IsConsistent, missing_of, Restored, DecodeAnswers}
-use Rattle.rs_field.specs.WorkedCode.{low_bytes, two_given, surplus_given, MixtureRow}
+use Rattle.rs_field.specs.Worked.Codes.{low_bytes, two_given, surplus_given, MixtureRow}
 use Rattle.rs_field.proofs.Linear.{passes_below}
 use Rattle.rs_field.proofs.Agreement.{one_message}
 use Rattle.rs_field.proofs.Changes.{changes_noticed}
