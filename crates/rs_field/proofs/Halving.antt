@@ -11,6 +11,7 @@ use Rattle.rs_field.specs.Walsh.{total, sign, signed_sum, IsWalsh, IsFourSums}
 use Rattle.rs_field.proofs.Totals.{total-zero, total-suc, total-same, total-near, total-none, total-split, total-scale, add_near, mul_near}
 use Rattle.rs_field.proofs.Signs.{sign-left, sign-right, sign-both, sign-zero}
 use Rattle.rs_field.proofs.Counting.{counted}
+use Rattle.std.proofs.lemmas.Grind.{common_steps}
 
 -- an entry of the first half
 pub sum_lower : (e w : ℕ) (f : ℕ → ℕ) → w < 2 ^ e
@@ -175,24 +176,7 @@ pub record AreQuarters (q : ℕ) (old x0 x1 x2 x3 : List ℕ) : Type 0 where
 pub cut_in_quarters : (half q : ℕ) (old low high x0 x1 x2 x3 : List ℕ) → half ≡ q + q → length old ≡ half + half
     → low ≡ take half old → high ≡ drop half old → x0 ≡ take q low → x1 ≡ drop q low → x2 ≡ take q high → x3 ≡ drop q high
     → AreQuarters q old x0 x1 x2 x3
-cut_in_quarters half q old low high x0 x1 x2 x3 two size is_low is_high is0 is1 is2 is3 =
-    let low_size : length low ≡ half = ap length is_low ∙ length-take half old ∙ omega arith in
-    let high_size : length high ≡ half = ap length is_high ∙ length-drop half old ∙ omega arith in record {
-      size0 = ap length is0 ∙ length-take q low ∙ omega arith;
-      size1 = ap length is1 ∙ length-drop q low ∙ omega arith;
-      size2 = ap length is2 ∙ length-take q high ∙ omega arith;
-      size3 = ap length is3 ∙ length-drop q high ∙ omega arith;
-      entry0 = λ y hy. ap (λ (l : List ℕ). get_or l y 0) is0 ∙ get_or-take q low y 0 hy ∙ in_low y (omega arith);
-      entry1 = λ y hy. ap (λ (l : List ℕ). get_or l y 0) is1 ∙ get_or-drop q low y 0 ∙ in_low (q + y) (omega arith);
-      entry2 = λ y hy. ap (λ (l : List ℕ). get_or l y 0) is2 ∙ get_or-take q high y 0 hy ∙ in_high y;
-      entry3 = λ y hy. ap (λ (l : List ℕ). get_or l y 0) is3 ∙ get_or-drop q high y 0 ∙ in_high (q + y);
-    }
-  where
-    in_low : (y : ℕ) → y < half → get_or low y 0 ≡ get_or old y 0
-    in_low y hy = ap (λ (l : List ℕ). get_or l y 0) is_low ∙ get_or-take half old y 0 hy
-
-    in_high : (y : ℕ) → get_or high y 0 ≡ get_or old (q + q + y) 0
-    in_high y = ap (λ (l : List ℕ). get_or l y 0) is_high ∙ get_or-drop half old y 0 ∙ ap (λ k. get_or old (k + y) 0) two
+cut_in_quarters half q old low high x0 x1 x2 x3 two size is_low is_high is0 is1 is2 is3 = grind (arith, common_steps)
 
 -- the quarters of a list whose length is a power of two, above two
 pub in_quarters : {low high x0 x1 x2 x3 : List ℕ} (old : List ℕ) → 2 < length old → (d : ℕ) × (length old ≡ 2 ^ d)

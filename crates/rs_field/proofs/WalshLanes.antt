@@ -10,14 +10,12 @@ use Rattle.rs_field.specs.Walsh.{IsWalsh, IsLayer}
 use Rattle.rs_field.proofs.Linear.{passes_below, from_passes_below}
 use Rattle.rs_field.proofs.Halving.{walsh-halves, walsh-same, walsh-one}
 use lib.Lanes.{zip2, sel_l, top}
+use Rattle.std.proofs.lemmas.Grind.{common_steps}
 
 -- ---- the larger one of two lanes
 
 larger_chosen : (a b : ℕ) → cond (ltb a b) b a ≡ max a b
-larger_chosen a b = elim (cases_lt a b) [
-  | inl less ↦ ap (λ t. cond t b a) (lt-ltb a b less) ∙ omega arith
-  | inr least ↦ ap (λ t. cond t b a) (le-ltb a b least) ∙ omega arith
-]
+larger_chosen a b = grind (arith, common_steps)
 
 compared : (xs ys : List ℕ) → sel_l (map (top 15) (zip2 (λ a b. cond (ltb a b) 65535 0) xs ys)) ys xs ≡ sel_l (zip2 ltb xs ys) ys xs
 compared xs ys = ap (λ ms. sel_l ms ys xs) (tops_compared w16 ltb xs ys)
@@ -54,18 +52,12 @@ summed v w r m k size hm hk e =
 -- a complement is the negative
 pub complement : (v : List ℕ) (k a : ℕ) → length v ≡ 16 → Each1 (Fits w16) v → k < 16
     → (a + get_or (map (λ n. 65535 - n) v) k 0) % 65535 ≡ (a + 65534 * get_or v k 0) % 65535
-complement v k a size fits h =
-    let small = lane_below v k fits in
-    ap (λ n. (a + n) % 65535) (get_or-map (λ n. 65535 - n) v k 0 0 (omega arith)) ∙ omega arith
+complement v k a size fits h = grind (arith, common_steps)
 
 -- the same where lane k is complemented
 subtracted : (v : List ℕ) (r m k : ℕ) → length v ≡ 16 → Each1 (Fits w16) v → m < 16 → k < 16
     → r % 65535 ≡ (get_or (v ++ v) m 0 + get_or (v ++ map (λ n. 65535 - n) v) (16 + k) 0) % 65535 → r % 65535 ≡ (get_or v m 0 + 65534 * get_or v k 0) % 65535
-subtracted v r m k size fits hm hk e =
-    e
-    ∙ ap₂ (λ a b. (a + b) % 65535) (get_or_append_left v v 0 m (omega arith))
-    (ap (λ n. get_or (v ++ map (λ n. 65535 - n) v) (n + k) 0) (sym size) ∙ get_or-append-add v (map (λ n. 65535 - n) v) k 0)
-    ∙ complement v k (get_or v m 0) size fits hk
+subtracted v r m k size fits hm hk e = grind (arith, common_steps)
 
 -- of lane k lanes m and n of the two vectors are those that a layer at distance d joins
 abbrev joins : ℕ → ℕ → ℕ → ℕ → Bool → Bool
