@@ -1,9 +1,9 @@
 -- What a column of a shard is, and that its columns fix a shard.
-use Rattle.std.proofs.Common.{◌≡◌, ℕ, ◌+◌, ◌-◌, ◌*◌, ◌/◌, ◌%◌, ◌<◌, ◌≤◌, List, [], length, min, refl, sym, ap, ap₂, ◌∙◌, subst, arith, inl, inr}
+use Rattle.std.proofs.Common.{◌≡◌, ℕ, ◌+◌, ◌-◌, ◌*◌, ◌/◌, ◌%◌, ◌<◌, ◌≤◌, List, [], length, min, refl, sym, ap, ◌∙◌, subst, arith, inl, inr}
 use Rattle.std.specs.Prelude.{slice_index}
 use Rattle.std.proofs.Math.Nat.{min-eq_left, min-eq_right}
 use Rattle.std.proofs.lemmas.Bool.{cases_lt}
-use Rattle.std.proofs.lemmas.List.{ext_get_or, get_or_past}
+use Rattle.std.proofs.lemmas.List.{ext_get_or}
 use Rattle.std.proofs.Math.ListN.{get_or, get_or-map}
 use Rattle.rs_field.specs.Column.{Shard, IsShard, AreShards, shard_at, column, columns, chunk_words}
 use Rattle.std.proofs.lemmas.Grind.{common_steps}

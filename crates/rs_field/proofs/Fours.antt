@@ -1,5 +1,5 @@
 -- A step on the four quarters of a range of rows, chunk by chunk, is one on their rows.
-use Rattle.std.proofs.Common.{◌≡◌, ℕ, ◌+◌, ◌*◌, ◌<◌, ◌≤◌, length, take, drop, refl, sym, arith}
+use Rattle.std.proofs.Common.{◌≡◌, ℕ, ◌+◌, ◌*◌, ◌<◌, ◌≤◌, length, take, drop, arith}
 use Rattle.rs_field.specs.Rows.{Chunks, chunk}
 use Rattle.rs_field.specs.View.{cell}
 use Rattle.rs_field.specs.TwoLayers.{OnFourChunks}

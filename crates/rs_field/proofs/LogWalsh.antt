@@ -1,12 +1,11 @@
 -- The tables of transformed logarithms: one behind the other, and that of each size.
-use Rattle.std.proofs.Common.{◌≡◌, ℕ, ◌+◌, ◌-◌, ◌*◌, ◌/◌, ◌%◌, ◌^◌, ◌<◌, ◌≤◌, List, length, take, drop, get_or, cond, sym, ap, ◌∙◌, subst, arith, inl, inr, one-mul, pow-suc, pow_mono, add-one, ne_eqb, eq-eqb}
+use Rattle.std.proofs.Common.{◌≡◌, ℕ, ◌+◌, ◌-◌, ◌*◌, ◌/◌, ◌%◌, ◌^◌, ◌<◌, ◌≤◌, List, length, take, drop, get_or, cond, sym, ap, ◌∙◌, subst, arith, inl, inr, pow-suc, pow_mono, add-one, ne_eqb, eq-eqb}
 use Rattle.std.proofs.lemmas.Bool.{cases_eq}
 use Rattle.std.proofs.lemmas.List.{length-drop, length-take-le, get_or-take, get_or-drop}
 use Rattle.std.proofs.lemmas.Nat.{pow_pos}
 use Rattle.rs_field.specs.Field.{log}
 use Rattle.rs_field.specs.Tables.{IsLog, IsLogWalsh, IsLogWalshBelow, AreLogWalshes}
 use Rattle.rs_field.specs.Walsh.{signed_sum, IsWalsh, log_or_zero}
-use Rattle.rs_field.proofs.Halving.{walsh-same}
 use Rattle.std.proofs.lemmas.Grind.{common_steps}
 
 -- for all points the factor is one

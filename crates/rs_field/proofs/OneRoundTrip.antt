@@ -1,12 +1,12 @@
 -- What one-call `encode` coded, and what one-call `decode` brings back of it.
-use Rattle.std.proofs.Common.{◌≡◌, ℕ, ◌+◌, ◌<◌, ◌≤◌, ◌++◌, ◌∷◌, ◌^◌, [], Bool, true, false, cond, not, ◌&&◌, ◌||◌, ◌%◌, List, length, refl, sym, ap, ap₂, subst, ◌∙◌, inl, inr, arith, append_assoc, append-nil, length-append, All, nat_eq, add-zero, zero-add}
-use Rattle.std.specs.Prelude.{Result, Ok, Err, Some, None, is_some, IfOk, IfErr, IsOkAnd, MatchResult, nat_le, nat_lt, ◌==◌}
+use Rattle.std.proofs.Common.{◌≡◌, ℕ, ◌+◌, ◌<◌, ◌≤◌, ◌++◌, ◌∷◌, ◌^◌, [], Bool, true, false, cond, not, ◌&&◌, List, length, refl, sym, ap, ap₂, subst, ◌∙◌, inl, inr, arith, append_assoc, append-nil, length-append, All, nat_eq, add-zero, zero-add}
+use Rattle.std.specs.Prelude.{Result, Ok, Err, Some, None, is_some, IfOk, IfErr, IsOkAnd, MatchResult, nat_le, nat_lt}
 use Rattle.std.specs.List.{AllByRecursion, IsDistinct, list_any}
-use Rattle.std.proofs.lemmas.Bool.{ltb-false, leb-false, lt-leb, eqb-true, eqb-false, eq-eqb, ne_eqb, le-ltb, ltb-true, or_from}
+use Rattle.std.proofs.lemmas.Bool.{lt-leb, eqb-false, eq-eqb, ne_eqb, ltb-true, or_from}
 use Rattle.std.proofs.lemmas.List.Elements.{All-nil, All-cons, recursion_from_All}
 use Rattle.std.proofs.lemmas.Map.Keys.{IsDistinct-head, IsDistinct-tail}
 use Rattle.rs_field.specs.declared.error.Error.{Error}
-use Rattle.rs_field.specs.declared.error.Error.TheVariants.{UnsupportedShardCount, InvalidShardSize, TooFewOriginalShards, TooManyOriginalShards, DifferentShardSize, NotEnoughShards, OutOfMemory}
+use Rattle.rs_field.specs.declared.error.Error.TheVariants.{UnsupportedShardCount, TooFewOriginalShards, NotEnoughShards, OutOfMemory}
 use Rattle.rs_field.specs.Column.{Shard, IsShard, AreShards, shard_at}
 use Rattle.rs_field.specs.Counts.{Rate, default_rate, supports}
 use Rattle.rs_field.specs.Placement.{encoder_rows, decoder_rows}

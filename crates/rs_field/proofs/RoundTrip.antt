@@ -1,16 +1,13 @@
 -- From shards of a message that are left, a decoder restores the lost originals as they were.
-use Rattle.std.proofs.Common.{◌≡◌, ◌≤◌, List, length, Bool, true, false, cond, refl, sym, ap, subst, ◌∙◌, arith}
-use Rattle.std.specs.Prelude.{Result, Ok, Err, IsOkAnd, MatchResult, nat_lt}
-use Rattle.std.proofs.lemmas.Bool.{ltb-false}
+use Rattle.std.proofs.Common.{◌≡◌, ◌≤◌, List, length, arith}
+use Rattle.std.specs.Prelude.{Result, Ok}
 use Rattle.rs_field.specs.declared.error.Error.{Error}
-use Rattle.rs_field.specs.declared.error.Error.TheVariants.{TooFewOriginalShards}
 use Rattle.rs_field.specs.Column.{Shard, AreShards}
 use Rattle.rs_field.specs.Counts.{Rate}
-use Rattle.rs_field.specs.Configuration.{Configuration}
 use Rattle.rs_field.specs.Code.{AreRecovery}
 use Rattle.rs_field.specs.Given.{Shards, AreAmong}
 use Rattle.rs_field.specs.Encoder.{EncoderState, IsEncoder, EncodeAnswers}
-use Rattle.rs_field.specs.Decoder.{DecoderState, enough_given, missing_of, IsAgreeing, Restored, NoneAgrees, DecodeAnswers}
+use Rattle.rs_field.specs.Decoder.{DecoderState, IsAgreeing, DecodeAnswers}
 use Rattle.rs_field.specs.RoundTrip.{BringsBack}
 use Rattle.std.proofs.lemmas.Grind.{common_steps}
 

@@ -5,7 +5,7 @@ use Rattle.std.proofs.lemmas.Bool.{cases_lt}
 use Rattle.std.proofs.lemmas.Grind.{common_steps}
 use Rattle.std.proofs.lemmas.List.{get_or-take, get_or-drop}
 use borrow.Rule.Slice.PartMut.{put_mid}
-use Rattle.rs_field.specs.Rows.{Chunks, chunk, SameOutside, SameOutsideTwo}
+use Rattle.rs_field.specs.Rows.{Chunks, chunk, SameOutside}
 use Rattle.rs_field.specs.View.{cell, SameShape, SameRowsOutside, SameRowsOutsideTwo}
 use Rattle.rs_field.specs.declared.engine.shards.ShardsRefMut.{ShardsRefMut}
 

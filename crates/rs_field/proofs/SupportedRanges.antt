@@ -1,7 +1,6 @@
 -- The ranges of counts that the default rate supports.
 use Rattle.std.proofs.Common.{◌≡◌, ℕ, ◌+◌, ◌^◌, ◌<◌, ◌≤◌, ◌⊎◌, true, min, max, inl, inr, arith, pow_mono}
-use Rattle.std.specs.Prelude.{nat_le, nat_lt, ◌&&◌}
-use Rattle.std.proofs.lemmas.Bool.{cases_lt, lt-ltb, le-leb, and_from}
+use Rattle.std.proofs.lemmas.Bool.{cases_lt}
 use Rattle.rs_field.specs.Counts.{default_rate, next_power, supports}
 use Rattle.rs_field.specs.CountLaws.{AreBeside}
 use Rattle.rs_field.proofs.NextPower.{next_power-small, next_power-least}

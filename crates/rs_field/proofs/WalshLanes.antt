@@ -1,11 +1,11 @@
 -- Larger lanes of two vectors, and layers of sums and differences in 16 lanes.
-use Rattle.std.proofs.Common.{◌≡◌, ℕ, zero, suc, ◌+◌, ◌-◌, ◌*◌, ◌/◌, ◌%◌, ◌<◌, ◌≤◌, ◌^◌, Bool, true, false, ◌&&◌, cond, List, [], ◌∷◌, ◌++◌, map, length, get_or, max, inl, inr, refl, ap, ap₂, sym, ◌∙◌, arith, w16, Fits}
+use Rattle.std.proofs.Common.{◌≡◌, ℕ, zero, suc, ◌+◌, ◌-◌, ◌*◌, ◌/◌, ◌%◌, ◌<◌, ◌≤◌, ◌^◌, Bool, true, false, ◌&&◌, cond, List, [], ◌∷◌, ◌++◌, map, length, get_or, max, refl, ap, ap₂, ◌∙◌, arith, w16, Fits}
 use Rattle.std.specs.Prelude.{◌==◌, if◌then◌else◌, nat_eq, nat_lt}
 use Rattle.std.specs.Simd.Lanes.{Each1}
 use Rattle.std.proofs.Math.Dec.{ltb}
 use Rattle.std.proofs.lemmas.Simd.{tops_compared, get_or-sel_l, length-sel_l, get_or-zip2, length-zip2}
-use Rattle.std.proofs.lemmas.List.{get_or-map, get_or_append_left, get_or-append-add}
-use Rattle.std.proofs.lemmas.Bool.{cases_lt, lt-ltb, le-ltb, and_parts, eqb-true, ltb-true}
+use Rattle.std.proofs.lemmas.List.{get_or-map, get_or_append_left}
+use Rattle.std.proofs.lemmas.Bool.{and_parts, eqb-true, ltb-true}
 use Rattle.rs_field.specs.Walsh.{IsWalsh, IsLayer}
 use Rattle.rs_field.proofs.Linear.{passes_below, from_passes_below}
 use Rattle.rs_field.proofs.Halving.{walsh-halves, walsh-same, walsh-one}

@@ -1,5 +1,5 @@
 -- An empty body. The borrow is opened and closed at another ghost value.
-use Rattle.rs_field.proofs.Walking.{refl, [], ◌∷◌, ◌+◌, proved, named, w64, id⊢, ftrue, flft, tables, ‵, ◌⊛◌, ◌$◌, ◌∵◌, !, qed, move, keep, use1}
+use Rattle.rs_field.proofs.Walking.{refl, [], ◌∷◌, ◌+◌, proved, named, w64, id⊢, ftrue, flft, ‵, ◌⊛◌, ◌$◌, ◌∵◌, !, qed, move, keep, use1}
 use Rattle.rs_field.proofs.Walking.{split, join, fsplit3, fjoin, feq_i, suffices, frame, group, done, of_opd, returns, enter, alloc_all, pass_all}
 use Rattle.rs_field.proofs.Walking.{free_all, look_at, sets, usize, yes, uint_vals, uint_Tells, owns, Valss, MutRef, mut_vals, mut_Tells, plain}
 use Rattle.rs_field.proofs.Walking.{opens, closes, nothing, says, Stays, stay_dropped, walk_of, ends_at, Goes-dropped}
