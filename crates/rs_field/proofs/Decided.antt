@@ -5,7 +5,7 @@ use Rattle.std.specs.List.{list_all}
 use Rattle.std.proofs.lemmas.Bool.{and_parts, not-true, eqb-true, ltb-true, leb-true}
 use Rattle.std.proofs.lemmas.List.Elements.{All-nil, All-cons}
 use Rattle.rs_field.specs.Polynomial.{value}
-use Rattle.rs_field.specs.Column.{Shard, IsShard, AreShards, columns}
+use Rattle.rs_field.specs.Column.{Shard, AreShards, columns}
 use Rattle.rs_field.specs.Counts.{Rate, next_power, is_low}
 use Rattle.rs_field.specs.Placement.{Placement, placement, low_placement, high_placement}
 use Rattle.rs_field.specs.Configuration.{Configuration}
@@ -35,10 +35,6 @@ is_shard size shard = nat_eq (length shard) size && all_below 256 shard
 -- the test of `AreShards`
 abbrev pub are_shards : ℕ → ℕ → List Shard → Bool
 are_shards count size shards = nat_eq (length shards) count && list_all (is_shard size) shards
-
--- what passes `is_shard` is a shard
-shard_from : (size : ℕ) (shard : Shard) → is_shard size shard ≡ true → IsShard size shard
-shard_from size shard h = grind (arith, common_steps)
 
 -- what passes `are_shards` are shards
 pub shards_from : (count size : ℕ) (shards : List Shard) → are_shards count size shards ≡ true → AreShards count size shards

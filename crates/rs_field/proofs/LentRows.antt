@@ -11,18 +11,8 @@ use Rattle.std.proofs.lemmas.Grind.{common_steps}
 pub part-long : (ch : Chunks) (a n : ℕ) → a + n ≤ length ch → length (take n (drop a ch)) ≡ n
 part-long ch a n within = let left = length-drop a ch in length-take-le n (drop a ch) (omega arith)
 
-gap-long : (ch : Chunks) (a b : ℕ) → a ≤ b → b ≤ length ch → length (between a b ch) ≡ b - a
-gap-long ch a b ordered within = part-long ch a (b - a) (omega (arith, ordered, within))
-
--- of two lists, one after another from place p on, the second from place q on: place c
-here : (xs ys : Chunks) (p q c : ℕ) → length xs ≡ q - p → p ≤ c → c < q → chunk (xs ++ ys) (c - p) ≡ chunk xs (c - p)
-here xs ys p q c long from below = get_or_append_left xs ys [] (c - p) (subst (λ m. c - p < m) (sym long) (omega (arith, from, below)))
-
 past : (xs ys : Chunks) (p q c : ℕ) → length xs ≡ q - p → p ≤ q → q ≤ c → chunk (xs ++ ys) (c - p) ≡ chunk ys (c - q)
 past xs ys p q c long ordered from = grind (arith, common_steps)
-
-from-gap : (ch : Chunks) (p q c : ℕ) → p ≤ c → c < q → chunk (between p q ch) (c - p) ≡ chunk ch c
-from-gap ch p q c from below = grind (arith, common_steps)
 
 from-back : (ch : Chunks) (p c : ℕ) → p ≤ c → chunk (drop p ch) (c - p) ≡ chunk ch c
 from-back ch p c from = let e : p + (c - p) ≡ c = omega (arith, from) in get_or-drop p ch (c - p) [] ∙ ap (chunk ch) e
@@ -36,9 +26,6 @@ past-front ch ys i c within from = get_or-append_right (take i ch) ys i c [] (le
 
 -- a part from place a on, then what stands up to place b, then the rest from there on
 module _ (ch part ys : Chunks) (a n b : ℕ) (long : length part ≡ n) (apart : a + n ≤ b) (within : b ≤ length ch) where
-  long-to : length part ≡ a + n - a
-  long-to = omega (arith, long)
-
   pub in-part : (k : ℕ) → k < n → chunk (part ++ ys) (a + k - a) ≡ chunk part k
   in-part k low = grind (arith, common_steps)
 

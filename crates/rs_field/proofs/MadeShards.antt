@@ -1,5 +1,5 @@
 -- Shards with given words as columns, so every message has recovery shards.
-use Rattle.std.proofs.Common.{◌≡◌, ℕ, ◌+◌, ◌-◌, ◌*◌, ◌/◌, ◌%◌, ◌<◌, Bool, true, false, cond, List, [], length, sym, ap, ap₂, ◌∙◌, subst, arith, inl, inr}
+use Rattle.std.proofs.Common.{◌≡◌, ℕ, ◌+◌, ◌-◌, ◌*◌, ◌/◌, ◌%◌, ◌<◌, Bool, true, cond, List, [], length, sym, ap, ap₂, ◌∙◌, subst, arith, inl, inr}
 use Rattle.std.specs.Prelude.{slice_index, nat_lt}
 use Rattle.std.proofs.lemmas.Bool.{cases_lt, lt-ltb}
 use Rattle.std.proofs.lemmas.List.{get_or_past}
@@ -27,10 +27,6 @@ low_byte w q b h = ap (λ (c : Bool). cond c (w (q * 32 + b) % 256) (w (q * 32 +
 high_byte : (w : ℕ → ℕ) (q b : ℕ) → b < 32 → byte_of w q (b + 32) ≡ w (q * 32 + b) / 256
 unfolding byte_of
 high_byte w q b h = grind (arith, common_steps)
-
-either_lt : (c : Bool) (m n : ℕ) → m < 256 → n < 256 → cond c m n < 256
-either_lt true m n hm hn = hm
-either_lt false m n hm hn = hn
 
 byte_lt : (w : ℕ → ℕ) → ((j : ℕ) → w j < 65536) → (q b : ℕ) → byte_of w q b < 256
 unfolding byte_of

@@ -23,7 +23,8 @@ use Rattle.rs_field.proofs.RowOffsets.{outside_both, outside_cell, shape_then}
 
 -- words that are the same are transformed in the same way
 transformed_same : (direction : Direction) (used used' : ℕ → Bool) (n shift : ℕ) (f g f' g' : ℕ → ℕ) → ((q : ℕ) → q < n → f' q ≡ f q)
-    → ((q : ℕ) → q < n → g' q ≡ g q) → ((q : ℕ) → q < n → used q ≡ used' q) → AreTransformed direction used n shift f g → AreTransformed direction used' n shift f' g'
+    → ((q : ℕ) → q < n → g' q ≡ g q) → ((q : ℕ) → q < n → used q ≡ used' q)
+    → AreTransformed direction used n shift f g → AreTransformed direction used' n shift f' g'
 transformed_same Direction.Forward used used' n shift f g f' g' old new same are =
     λ i hi is. new i hi ∙ are i hi (same i hi ∙ is) ∙ sym (forward-same n shift f' f i old)
 transformed_same Direction.Backward used used' n shift f g f' g' old new same are = λ i hi. old i hi ∙ are i hi ∙ sym (forward-same n shift g' g i new)
@@ -61,15 +62,18 @@ parts_next direction used used' size n shift pos j old mid new p begins done sha
     | inl before ↦
         let next : m + 1 ≤ j = omega arith in
         let le : (m + 1) * n ≤ j * n = mul-le-mul_right n next in
-        transformed_same direction (λ i. used (m * n + i)) (λ i. used (m * n + i)) n (shift + m * n) (part old k s m) (part mid k s m) (part old k s m) (part new k s m)
-        (λ q hq. refl) (λ q hq. word_same new mid k s (pos + (m * n + q)) (pos + (m * n + q)) (unchanged (pos + (m * n + q)) k hk (inl (omega arith)))) (λ q hq. refl)
-        (done.values k s m hk hs before)
+        transformed_same direction (λ i. used (m * n + i)) (λ i. used (m * n + i)) n (shift + m * n)
+        (part old k s m) (part mid k s m) (part old k s m) (part new k s m) (λ q hq. refl)
+        (λ q hq. word_same new mid k s (pos + (m * n + q)) (pos + (m * n + q)) (unchanged (pos + (m * n + q)) k hk (inl (omega arith))))
+        (λ q hq. refl) (done.values k s m hk hs before)
     | inr after ↦
         let last : j ≡ m = omega arith in
         subst (λ (v : ℕ). AreTransformed direction (λ i. used (v * n + i)) n (shift + v * n) (part old k s v) (part new k s v)) last
         (transformed_same direction used' (λ i. used (j * n + i)) n (shift + j * n) (λ q. word mid k s (pos + j * n + q)) (λ q. word new k s (pos + j * n + q))
         (part old k s j) (part new k s j)
-        (λ q hq. sym (word_same mid old k s (pos + (j * n + q)) (pos + (j * n + q)) (done.rest k (j * n + q) hk (omega arith) (omega (arith, inside)))) ∙ there mid k s q)
+        (λ q hq.
+        sym (word_same mid old k s (pos + (j * n + q)) (pos + (j * n + q)) (done.rest k (j * n + q) hk (omega arith) (omega (arith, inside))))
+        ∙ there mid k s q)
         (λ q hq. there new k s q) same (step k s (omega (arith, len)) hs))
   ];
   rest = λ k i hk from to. unchanged (pos + i) k hk (inr (omega arith)) ∙ done.rest k i hk (omega arith) to;
@@ -91,8 +95,10 @@ parts_next direction used used' size n shift pos j old mid new p begins done sha
     unchanged r k hk h = outside_cell (pos + j * n) (pos + j * n + n) mid new shape others r k (omega (arith, len)) h
 
 -- rows of a part that aren't used are zero as long as they are unchanged
-pub zeros_of_part : (direction : Direction) (used part : UsedRows) (old mid : ShardsRefMut) (pos size start n : ℕ) → start + n ≤ size → mid.shard_len_64 ≡ old.shard_len_64
-    → ((k i : ℕ) → k < old.shard_len_64 → start ≤ i → i < size → cell mid k (pos + i) ≡ cell old k (pos + i)) → ((i : ℕ) → i < n → is_used part i ≡ is_used used (start + i))
+pub zeros_of_part : (direction : Direction) (used part : UsedRows) (old mid : ShardsRefMut) (pos size start n : ℕ) → start + n ≤ size
+    → mid.shard_len_64 ≡ old.shard_len_64
+    → ((k i : ℕ) → k < old.shard_len_64 → start ≤ i → i < size → cell mid k (pos + i) ≡ cell old k (pos + i))
+    → ((i : ℕ) → i < n → is_used part i ≡ is_used used (start + i))
     → UnusedAreZeroBackward direction used pos size old → UnusedAreZeroBackward direction part (pos + start) n mid
 zeros_of_part Direction.Forward used part old mid pos size start n inside len kept same zeros = omega arith
 zeros_of_part Direction.Backward used part old mid pos size start n inside len kept same zeros = λ i k hk hi unused.
@@ -144,7 +150,8 @@ none_used Direction.Backward used rows k s pos size shift hk hs none zeros =
     λ i hi. zero_rows rows k s pos size shift i hs hi (λ q hq. zeros q k hk hq (none q))
 
 -- there is at most one row
-pub one_used : (direction : Direction) (used : ℕ → Bool) (size shift : ℕ) (f : ℕ → ℕ) → size < 2 → (0 < size → f 0 < 65536) → AreTransformed direction used size shift f f
+pub one_used : (direction : Direction) (used : ℕ → Bool) (size shift : ℕ) (f : ℕ → ℕ) → size < 2 → (0 < size → f 0 < 65536)
+    → AreTransformed direction used size shift f f
 one_used Direction.Forward used size shift f few words = λ i hi is. one_row size shift i f (omega arith) hi (words (omega arith))
 one_used Direction.Backward used size shift f few words = λ i hi. one_row size shift i f (omega arith) hi (words (omega arith))
 
@@ -187,7 +194,8 @@ pub counts_next : (t j : ℕ) (from mid to : Steps) → CountsUpTo (j * t) 0 0 f
 counts_next t j from mid to p q = counts_within (j * t + t) ((j + 1) * t) from to (omega arith) (counts_then (j * t) t from mid to p q)
 
 -- some parts are no more than what the layers leave
-pub counts_of_parts : (size n j : ℕ) (from to : Steps) (p : IsPart size n) → j ≤ p.count → CountsUpTo (j * transform_steps n) 0 0 from to → PartCounts size from to
+pub counts_of_parts : (size n j : ℕ) (from to : Steps) (p : IsPart size n) → j ≤ p.count → CountsUpTo (j * transform_steps n) 0 0 from to
+    → PartCounts size from to
 counts_of_parts size n j from to p few c =
     let le : j * transform_steps n ≤ p.count * transform_steps n = mul-le-mul_right (transform_steps n) few in
     counts_within (j * transform_steps n) (transform_steps size - layer_steps size) from to (let whole = p.steps in omega arith) c

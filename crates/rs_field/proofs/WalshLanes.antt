@@ -70,7 +70,8 @@ joined v r d k m n true size fits h test e =
     let first : (nat_eq m (k + d) ≡ true) × _ = and_parts _ _ test in
     let second : (nat_eq n k ≡ true) × (nat_lt m 16 ≡ true) = and_parts _ _ first.1 in
     let below = ltb-true m 16 second.1 in
-    summed v (map (λ x. 65535 - x) v) r (k + d) k size (omega (arith, eqb-true m (k + d) first.0)) h (rw (eqb-true m (k + d) first.0, eqb-true n k second.0) at e)
+    summed v (map (λ x. 65535 - x) v) r (k + d) k size (omega (arith, eqb-true m (k + d) first.0)) h
+    (rw (eqb-true m (k + d) first.0, eqb-true n k second.0) at e)
 joined v r d k m n false size fits h test e =
     let both : (nat_eq m (k - d) ≡ true) × (nat_eq n (16 + k) ≡ true) = and_parts _ _ test in
     subtracted v r (k - d) k size fits (omega arith) h (rw (eqb-true m (k - d) both.0, eqb-true n (16 + k) both.1) at e)

@@ -6,7 +6,10 @@ use Rattle.rs_field.proofs.engine.pairs.step_pairs.Goals as goal
 pub step_parts-requires-clause-apart : goal.step_parts-requires-clause-apart
 step_parts-requires-clause-apart g c =
     let n = c.args.rows.now.shard_len_64 in
-    elim c.requires.apart [ inl before ↦ inl (rows_end c.args.a c.args.count c.args.b n before) | inr after ↦ inr (rows_end c.args.b c.args.count c.args.a n after) ]
+    elim c.requires.apart [
+      | inl before ↦ inl (rows_end c.args.a c.args.count c.args.b n before)
+      | inr after ↦ inr (rows_end c.args.b c.args.count c.args.a n after)
+    ]
 
 pub step_parts-requires-clause-a_in : goal.step_parts-requires-clause-a_in
 step_parts-requires-clause-a_in g c = omega (arith, rows_end _ _ _ c.args.rows.now.shard_len_64 c.requires.a_in)

@@ -21,7 +21,8 @@ count_spec 𝓤 𝓛 𝓜 𝓡 wired =
     let goes = Goes-dropped 𝓛 1 (plain (λ _. usize)) yes (λ κs x w. refl) in
     proved 𝓛 f.ended stayed c 𝓜 𝓡 (Goes-ref 𝓛 1 0 tt (plain (λ _. T.the_row)), (goes, (goes, (goes, tt))))
     f.Key.name code.function (code.unfolded 𝓤 𝓛.H 𝓜 𝓡 wired)
-    (λ κs. (mut_vals, (uint_vals w64, (uint_vals w64, (uint_vals w64, tt))))) (λ κs. (mut_Tells (named 0) κs.0 T.the_row, (uint_Tells w64, (uint_Tells w64, (uint_Tells w64, tt))))) (λ κs qs bounds a _ are.
+    (λ κs. (mut_vals, (uint_vals w64, (uint_vals w64, (uint_vals w64, tt)))))
+    (λ κs. (mut_Tells (named 0) κs.0 T.the_row, (uint_Tells w64, (uint_Tells w64, (uint_Tells w64, tt))))) (λ κs qs bounds a _ are.
     let b = a.0.ref_ptr.0 in let o = a.0.ref_ptr.1 in let h : Steps = a.0.now in let vs = mut_vals a.0 in
     let after : Steps = record { marker = h.marker; row_steps = h.row_steps + a.1.0; pair_sums = h.pair_sums + a.1.1.0; products = h.products + a.1.1.1.0 } in
     let vals : Valss (usize ∷ usize ∷ usize ∷ []) = (uint_vals w64 a.1.0, (uint_vals w64 a.1.1.0, (uint_vals w64 a.1.1.1.0, tt))) in
