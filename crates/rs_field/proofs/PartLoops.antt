@@ -7,7 +7,7 @@ use Rattle.rs_field.specs.Transform.{forward}
 use Rattle.rs_field.specs.Layers.{ArePartsOf, rows_of_part, layer_steps}
 use Rattle.rs_field.specs.View.{cell, word, SameShape, SameRowsOutside}
 use Rattle.rs_field.specs.MarkedRows.{is_used}
-use Rattle.rs_field.specs.Directions.{IsTransform, AreTransformed, UnusedAreZeroBackward, PartCounts}
+use Rattle.rs_field.specs.Directions.{AreTransformed, UnusedAreZeroBackward, PartCounts}
 use Rattle.rs_field.specs.declared.engine.layers.Direction.{Direction}
 use Rattle.rs_field.specs.Bounds.{CountsRows, CountsUpTo, TransformCounts, transform_steps}
 use Rattle.rs_field.specs.declared.engine.block.Block.{Block}
@@ -154,12 +154,6 @@ pub one_used : (direction : Direction) (used : ℕ → Bool) (size shift : ℕ) 
     → AreTransformed direction used size shift f f
 one_used Direction.Forward used size shift f few words = λ i hi is. one_row size shift i f (omega arith) hi (words (omega arith))
 one_used Direction.Backward used size shift f few words = λ i hi. one_row size shift i f (omega arith) hi (words (omega arith))
-
--- all rows are told
-pub all_used : (direction : Direction) (used : ℕ → Bool) (size shift : ℕ) (old new : ℕ → ℕ) → IsTransform direction size shift old new
-    → AreTransformed direction used size shift old new
-all_used Direction.Forward used size shift old new whole = λ i hi is. whole i hi
-all_used Direction.Backward used size shift old new whole = whole
 
 -- ---- blocks whose parts are single rows
 

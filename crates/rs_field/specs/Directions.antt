@@ -3,7 +3,7 @@ use Rattle.std.specs.Prelude.{◌≡◌, ℕ, ◌+◌, ◌-◌, ◌*◌, ◌<◌
 use Rattle.rs_field.specs.declared.engine.layers.Direction.{Direction}
 use Rattle.rs_field.specs.declared.engine.marked_rows.UsedRows.{UsedRows}
 use Rattle.rs_field.specs.declared.engine.shards.ShardsRefMut.{ShardsRefMut}
-use Rattle.rs_field.specs.Transform.{forward, IsForward, IsBackward}
+use Rattle.rs_field.specs.Transform.{forward, IsBackward}
 use Rattle.rs_field.specs.MarkedRows.{UnusedAreZero}
 use Rattle.rs_field.specs.declared.engine.block.Block.{Block}
 use Rattle.rs_field.specs.declared.engine.steps.Steps.{Steps}
@@ -28,12 +28,7 @@ abbrev pub AreLayers : Direction → ℕ → ℕ → ℕ → (ℕ → ℕ) → (
 AreLayers Direction.Forward size n shift old new = ArePartsOf size n shift old new
 AreLayers Direction.Backward size n shift old new = ArePartsOf size n shift new old
 
--- the new words are the transform of the old ones
-abbrev pub IsTransform : Direction → ℕ → ℕ → (ℕ → ℕ) → (ℕ → ℕ) → Type 0
-IsTransform Direction.Forward size shift old new = IsForward size size shift old new
-IsTransform Direction.Backward size shift old new = IsBackward size shift old new
-
--- the same where only the used words of a forward transform are told
+-- the new words are the transform of the old ones; of a forward one only the used words are told
 abbrev pub AreTransformed : Direction → (ℕ → Bool) → ℕ → ℕ → (ℕ → ℕ) → (ℕ → ℕ) → Type 0
 AreTransformed Direction.Forward used size shift old new = (i : ℕ) → i < size → used i ≡ true → new i ≡ forward size shift old i
 AreTransformed Direction.Backward used size shift old new = IsBackward size shift old new

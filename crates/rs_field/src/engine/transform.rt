@@ -3,8 +3,8 @@
 //! The method is that of Lin, Chung and Han in the form of Leopard-RS. A transform of `size` rows is two layers of
 //! butterflies between its quarters and a transform of each quarter, or of two rows one layer, so the recursion goes
 //! depth first and a block that fits the cache stays in it.
-ghost use Rattle.std.specs.Prelude.{◌≡◌, ℕ, ◌+◌, ◌%◌, ◌^◌, ◌<◌, ◌≤◌, length, slice_index};
-ghost use Rattle.rs_field.specs.Directions.{IsTransform, AreTransformed, ArePartsTransformed, UnusedAreZeroBackward, PartCounts};
+ghost use Rattle.std.specs.Prelude.{◌≡◌, ℕ, ◌+◌, ◌%◌, ◌^◌, ◌<◌, ◌≤◌, Bool, length, slice_index};
+ghost use Rattle.rs_field.specs.Directions.{AreTransformed, ArePartsTransformed, UnusedAreZeroBackward, PartCounts};
 ghost use Rattle.rs_field.specs.Rows.{chunk, symbol};
 ghost use Rattle.rs_field.specs.View.{word, Fits, SameShape, SameRowsOutside};
 ghost use Rattle.rs_field.specs.MarkedRows.{is_used, HasMarks};
@@ -50,8 +50,8 @@ fn transform_few<K: Kernel>(
     requires within { block.pos + block.size ≤ rows.old.shard_count }
     ensures shape { SameShape rows.old rows.new }
     ensures others { SameRowsOutside block.pos (block.pos + block.size) rows.old rows.new }
-    ensures values { (k s : ℕ) → k < rows.old.shard_len_64 → s < 32
-        → IsTransform direction block.size block.skew_delta (λ q. word rows.old k s (block.pos + q)) (λ q. word rows.new k s (block.pos + q)) }
+    ensures values { (k s : ℕ) → k < rows.old.shard_len_64 → s < 32 → (used : ℕ → Bool)
+        → AreTransformed direction used block.size block.skew_delta (λ q. word rows.old k s (block.pos + q)) (λ q. word rows.new k s (block.pos + q)) }
     ensures counts { TransformCounts block.size steps.old steps.new }
 {
     row_symbols_are_words(rows);

@@ -8,7 +8,7 @@ use Rattle.rs_field.specs.Directions.{AreTransformed}
 use Rattle.rs_field.proofs.Counting.{counts_none, counts_rows}
 use Rattle.rs_field.proofs.Recursion.{fits_kept}
 use Rattle.rs_field.proofs.Parts.{part_begins, part_found, part_within, parts_number, parts_whole}
-use Rattle.rs_field.proofs.PartLoops.{parts_begun, parts_next, forward_whole, backward_whole, none_used, one_used, all_used, counts_next, counts_of_parts, counts_of_whole, zeros_of_part, part_before}
+use Rattle.rs_field.proofs.PartLoops.{parts_begun, parts_next, forward_whole, backward_whole, none_used, one_used, counts_next, counts_of_parts, counts_of_whole, zeros_of_part, part_before}
 use Rattle.rs_field.proofs.engine.transform.+transform.Goals as goal
 
 pub transform-returns-then-are_none-clause-values : goal.transform-returns-then-are_none-clause-values
@@ -36,10 +36,7 @@ transform-returns-then-block-lt2-clause-values g t c k s hk hs =
     (λ some. c.row_symbols_are_words.ensures k s (block.pos + 0) hk hs (omega arith))
 
 pub transform-returns-then-block-le4-clause-values : goal.transform-returns-then-block-le4-clause-values
-transform-returns-then-block-le4-clause-values g t c k s hk hs =
-    let block = c.args.block in
-    all_used c.args.direction (is_used c.args.used) block.size block.skew_delta (λ q. word c.args.rows.now k s (block.pos + q))
-    (λ q. word c.transform_few.new.rows k s (block.pos + q)) (c.transform_few.ensures.values k s hk hs)
+transform-returns-then-block-le4-clause-values g t c k s hk hs = c.transform_few.ensures.values k s hk hs (is_used c.args.used)
 
 pub transform-returns-in-Forward-clause-values : goal.transform-returns-in-Forward-clause-values
 transform-returns-in-Forward-clause-values g t c k s hk hs =
