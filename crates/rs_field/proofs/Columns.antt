@@ -1,19 +1,17 @@
 -- What a column of a shard is, and that its columns fix a shard.
-use Rattle.std.proofs.Common.{◌≡◌, ℕ, ◌+◌, ◌-◌, ◌*◌, ◌/◌, ◌%◌, ◌<◌, ◌≤◌, List, [], length, min, refl, sym, ap, ap₂, ◌∙◌, subst, arith, inl, inr}
+use Rattle.std.proofs.Common.{◌≡◌, ℕ, ◌+◌, ◌-◌, ◌*◌, ◌/◌, ◌%◌, ◌<◌, ◌≤◌, List, [], length, min, refl, sym, ap, ◌∙◌, subst, arith, inl, inr}
 use Rattle.std.specs.Prelude.{slice_index}
 use Rattle.std.proofs.Math.Nat.{min-eq_left, min-eq_right}
 use Rattle.std.proofs.lemmas.Bool.{cases_lt}
-use Rattle.std.proofs.lemmas.List.{ext_get_or, get_or_past}
+use Rattle.std.proofs.lemmas.List.{ext_get_or}
 use Rattle.std.proofs.Math.ListN.{get_or, get_or-map}
 use Rattle.rs_field.specs.Column.{Shard, IsShard, AreShards, shard_at, column, columns, chunk_words}
+use Rattle.std.proofs.lemmas.Grind.{common_steps}
 
 -- word i of chunk q
 pub column-at : (q i : ℕ) (s : Shard) → i < 32 → column (q * 32 + i) s ≡ slice_index s (q * 64 + i) + 256 * slice_index s (q * 64 + i + chunk_words s (q * 64))
 unfolding column
-column-at q i s h =
-    let a : (q * 32 + i) / 32 ≡ q = omega arith in
-    let b : (q * 32 + i) % 32 ≡ i = omega arith in
-    ap₂ (λ u v. slice_index s (u * 64 + v) + 256 * slice_index s (u * 64 + v + chunk_words s (u * 64))) a b
+column-at q i s h = grind (arith, common_steps)
 
 -- in a whole chunk the high byte stands 32 bytes after the low one
 pub column-chunk : (q i : ℕ) (s : Shard) → i < 32 → q * 64 + 64 ≤ length s → column (q * 32 + i) s ≡ slice_index s (q * 64 + i) + 256 * slice_index s (q * 64 + i + 32)
@@ -34,11 +32,7 @@ halves a b c d ha hc e = (omega arith, omega arith)
 
 -- an entry of a shard is a byte, also the zero past its end
 pub byte_lt : (size : ℕ) (s : Shard) → IsShard size s → (i : ℕ) → slice_index s i < 256
-byte_lt size s h i =
-    elim (cases_lt i (length s)) [
-      | inl inside ↦ h.bytes i 0 inside
-      | inr past ↦ (let none : slice_index s i ≡ 0 = get_or_past s i 0 past in omega arith)
-    ]
+byte_lt size s h i = grind (arith, common_steps)
 
 -- shards of one size with the same columns are equal
 pub shard_from_columns : (size : ℕ) (s t : Shard) → IsShard size s → IsShard size t → size % 2 ≡ 0
@@ -103,10 +97,7 @@ shard_in count size shards h i hi = h.each i [] (subst (λ (n : ℕ). i < n) (sy
 -- columns are words
 pub column_lt : (size : ℕ) (s : Shard) (j : ℕ) → IsShard size s → column j s < 65536
 unfolding column
-column_lt size s j h =
-    let low : slice_index s (j / 32 * 64 + j % 32) < 256 = byte_lt size s h (j / 32 * 64 + j % 32) in
-    let high : slice_index s (j / 32 * 64 + j % 32 + chunk_words s (j / 32 * 64)) < 256 = byte_lt size s h (j / 32 * 64 + j % 32 + chunk_words s (j / 32 * 64)) in
-    omega arith
+column_lt size s j h = grind (arith, common_steps)
 
 pub columns_lt : (n size : ℕ) (shards : List Shard) → AreShards n size shards → (j i : ℕ) → i < n → slice_index (columns j shards) i < 65536
 columns_lt n size shards h j i hi =

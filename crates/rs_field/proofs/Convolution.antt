@@ -17,6 +17,7 @@ use Rattle.rs_field.proofs.LocatorLemmas.{log_sum-zero, log_sum-suc}
 use Rattle.rs_field.proofs.Totals.{total-zero, total-suc, total-same, total-near, total-scale, total-swap, total-one, mul_near}
 use Rattle.rs_field.proofs.Signs.{sign-comm, sign-zero, sign-xor}
 use Rattle.rs_field.proofs.Halving.{sum_lower, sum_upper}
+use Rattle.rs_field.proofs.Counting.{counted}
 
 -- ---- a sum of signs
 
@@ -197,14 +198,7 @@ locator-counts n a b c d p (x, y, z) q =
 
     of_bounds : (t u : ℕ) → t + t ≤ u → CountsUpTo 0 t 0 a b → CountsUpTo 0 t 0 c d
         → c.row_steps ≡ b.row_steps → c.pair_sums ≡ b.pair_sums → c.products ≡ b.products + n → CountsUpTo 0 u n a d
-    of_bounds t u le p q x y z = record {
-      row_steps_rise = omega arith;
-      pair_sums_rise = omega arith;
-      products_rise = omega arith;
-      row_steps_most = omega arith;
-      pair_sums_most = omega arith;
-      products_most = omega arith;
-    }
+    of_bounds t u le p q x y z = counted 0 u n a d (omega arith, omega arith) (omega arith, omega arith) (omega arith, omega arith)
 
 -- those of 2 ^ d entries are the most with 65536
 most_sums : passes_below 17 (λ d. nat_le (2 ^ d * log2 (2 ^ d)) 1048576) ≡ true
@@ -219,11 +213,4 @@ counts-below d n a b is few p =
     of_bound (n * log2 n) (subst (λ (m : ℕ). m * log2 m ≤ 1048576) (sym is) le) p
   where
     of_bound : (t : ℕ) → t ≤ 1048576 → CountsUpTo 0 t n a b → CountsUpTo 0 1048576 65536 a b
-    of_bound t le p = record {
-      row_steps_rise = omega arith;
-      pair_sums_rise = omega arith;
-      products_rise = omega arith;
-      row_steps_most = omega arith;
-      pair_sums_most = omega arith;
-      products_most = omega arith;
-    }
+    of_bound t le p = counted 0 1048576 65536 a b (omega arith, omega arith) (omega arith, omega arith) (omega arith, omega arith)

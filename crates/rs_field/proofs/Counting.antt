@@ -4,49 +4,33 @@ use Rattle.std.proofs.Math.Nat.{mul-le-mul_right}
 use Rattle.rs_field.specs.Bounds.{CountsRows, CountsUpTo, LocatorCounts, decode_steps, log2, transform_steps}
 use Rattle.rs_field.specs.declared.engine.steps.Steps.{Steps}
 
+-- each count rose, and by no more than its bound
+pub counted : (m n q : ℕ) (a b : Steps) → (a.row_steps ≤ b.row_steps) × (b.row_steps ≤ a.row_steps + m)
+    → (a.pair_sums ≤ b.pair_sums) × (b.pair_sums ≤ a.pair_sums + n) → (a.products ≤ b.products) × (b.products ≤ a.products + q) → CountsUpTo m n q a b
+counted m n q a b x y z = record {
+  row_steps_rise = x.0;
+  pair_sums_rise = y.0;
+  products_rise = z.0;
+  row_steps_most = x.1;
+  pair_sums_most = y.1;
+  products_most = z.1;
+}
+
 -- exactly n row steps are no more than n
 pub counts_rows : (n : ℕ) (a b : Steps) → CountsRows n a b → CountsUpTo n 0 0 a b
-counts_rows n a b (x, y, z) = record {
-  row_steps_rise = omega arith;
-  pair_sums_rise = omega arith;
-  products_rise = omega arith;
-  row_steps_most = omega arith;
-  pair_sums_most = omega arith;
-  products_most = omega arith;
-}
+counts_rows n a b (x, y, z) = counted n 0 0 a b (omega arith, omega arith) (omega arith, omega arith) (omega arith, omega arith)
 
 -- what counts nothing keeps any bound
 pub counts_none : (m n q : ℕ) (a : Steps) → CountsUpTo m n q a a
-counts_none m n q a = record {
-  row_steps_rise = omega arith;
-  pair_sums_rise = omega arith;
-  products_rise = omega arith;
-  row_steps_most = omega arith;
-  pair_sums_most = omega arith;
-  products_most = omega arith;
-}
+counts_none m n q a = counted m n q a a (omega arith, omega arith) (omega arith, omega arith) (omega arith, omega arith)
 
 -- bounds of two calls add up
 pub counts_then : (m n : ℕ) (a b c : Steps) → CountsUpTo m 0 0 a b → CountsUpTo n 0 0 b c → CountsUpTo (m + n) 0 0 a c
-counts_then m n a b c p q = record {
-  row_steps_rise = omega arith;
-  pair_sums_rise = omega arith;
-  products_rise = omega arith;
-  row_steps_most = omega arith;
-  pair_sums_most = omega arith;
-  products_most = omega arith;
-}
+counts_then m n a b c p q = counted (m + n) 0 0 a c (omega arith, omega arith) (omega arith, omega arith) (omega arith, omega arith)
 
 -- a larger bound holds too
 pub counts_within : (m n : ℕ) (a b : Steps) → m ≤ n → CountsUpTo m 0 0 a b → CountsUpTo n 0 0 a b
-counts_within m n a b le p = record {
-  row_steps_rise = p.row_steps_rise;
-  pair_sums_rise = p.pair_sums_rise;
-  products_rise = p.products_rise;
-  row_steps_most = let most = p.row_steps_most in omega arith;
-  pair_sums_most = p.pair_sums_most;
-  products_most = p.products_most;
-}
+counts_within m n a b le p = counted n 0 0 a b (omega arith, omega arith) (omega arith, omega arith) (omega arith, omega arith)
 
 -- a locator, and then three transforms and four steps for each row, are a decode
 pub counts_decode : (w : ℕ) (a b c : Steps) → LocatorCounts a b → CountsUpTo (3 * transform_steps w + 4 * w) 0 0 b c → CountsUpTo (decode_steps w) 1048576 65536 a c
@@ -54,11 +38,5 @@ unfolding transform_steps decode_steps
 counts_decode w a b c p q =
     let thirds : 3 * (w / 2) * log2 w ≤ 3 * w / 2 * log2 w = mul-le-mul_right (log2 w) (let halves : 3 * (w / 2) ≤ 3 * w / 2 = omega arith in halves) in
     let same : 3 * (w / 2 * log2 w) ≡ 3 * (w / 2) * log2 w = sym (mul_assoc 3 (w / 2) (log2 w)) in
-    record {
-      row_steps_rise = omega (arith, p.row_steps_rise, q.row_steps_rise);
-      pair_sums_rise = omega (arith, p.pair_sums_rise, q.pair_sums_rise);
-      products_rise = omega (arith, p.products_rise, q.products_rise);
-      row_steps_most = omega (arith, thirds, same, p.row_steps_most, q.row_steps_most);
-      pair_sums_most = omega (arith, p.pair_sums_most, q.pair_sums_most);
-      products_most = omega (arith, p.products_most, q.products_most);
-    }
+    counted (decode_steps w) 1048576 65536 a c (omega arith, omega (arith, thirds, same, p.row_steps_most, q.row_steps_most))
+    (omega arith, omega arith) (omega arith, omega arith)

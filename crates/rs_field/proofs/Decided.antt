@@ -5,7 +5,7 @@ use Rattle.std.specs.List.{list_all}
 use Rattle.std.proofs.lemmas.Bool.{and_parts, not-true, eqb-true, ltb-true, leb-true}
 use Rattle.std.proofs.lemmas.List.Elements.{All-nil, All-cons}
 use Rattle.rs_field.specs.Polynomial.{value}
-use Rattle.rs_field.specs.Column.{Shard, IsShard, AreShards, columns}
+use Rattle.rs_field.specs.Column.{Shard, AreShards, columns}
 use Rattle.rs_field.specs.Counts.{Rate, next_power, is_low}
 use Rattle.rs_field.specs.Placement.{Placement, placement, low_placement, high_placement}
 use Rattle.rs_field.specs.Configuration.{Configuration}
@@ -15,6 +15,7 @@ use Rattle.rs_field.proofs.Roots.{words_from}
 use Rattle.rs_field.proofs.Factors.{times, points}
 use Rattle.rs_field.proofs.ZerosPast.{value-inside}
 use Rattle.rs_field.proofs.HighCodes.{high_codes}
+use Rattle.std.proofs.lemmas.Grind.{common_steps}
 
 -- each element passes, so each has the property
 all_from : {A : Type 0} (p : A → Bool) (P : A → Type 0) → ((x : A) → p x ≡ true → P x) → (xs : List A) → list_all p xs ≡ true → All P xs
@@ -35,17 +36,9 @@ is_shard size shard = nat_eq (length shard) size && all_below 256 shard
 abbrev pub are_shards : ℕ → ℕ → List Shard → Bool
 are_shards count size shards = nat_eq (length shards) count && list_all (is_shard size) shards
 
--- what passes `is_shard` is a shard
-shard_from : (size : ℕ) (shard : Shard) → is_shard size shard ≡ true → IsShard size shard
-shard_from size shard h =
-    let parts : (nat_eq (length shard) size ≡ true) × (all_below 256 shard ≡ true) = and_parts _ _ h in
-    record { length_is = eqb-true _ _ parts.0; bytes = all_from (λ b. nat_lt b 256) (λ b. b < 256) (λ b. ltb-true b 256) shard parts.1 }
-
 -- what passes `are_shards` are shards
 pub shards_from : (count size : ℕ) (shards : List Shard) → are_shards count size shards ≡ true → AreShards count size shards
-shards_from count size shards h =
-    let parts : (nat_eq (length shards) count ≡ true) × (list_all (is_shard size) shards ≡ true) = and_parts _ _ h in
-    record { length_is = eqb-true _ _ parts.0; each = all_from (is_shard size) (IsShard size) (shard_from size) shards parts.1 }
+shards_from count size shards h = grind (arith, common_steps)
 
 -- two functions are equal at the numbers below n
 abbrev same_below : ℕ → (ℕ → ℕ) → (ℕ → ℕ) → Bool

@@ -19,6 +19,7 @@ use Rattle.rs_field.proofs.ExactCheck.{located_values, AreLocated, Takes, zero_r
 use Rattle.rs_field.proofs.Frame.{IsFrame, CodesIn, framed, unframed}
 use Rattle.rs_field.proofs.ErasedCount.{AreErasures, erased_count}
 use Rattle.rs_field.proofs.CodedWords.{values_of, values_of-at, length-values_of}
+use Rattle.std.proofs.lemmas.Grind.{common_steps}
 
 -- a polynomial takes the words at the places of the shards given
 pub record TakesGiven (p : Placement) (k r : ℕ) (originals recovery : Shards) (words : ℕ → ℕ) (polynomial : List ℕ) : Type 0 where
@@ -172,13 +173,7 @@ own_message p k r e bound zeros_end originals recovery marks words q f h known t
 takes_same : (p : Placement) (k r e bound zeros_end : ℕ) (originals recovery : Shards) (marks words : ℕ → ℕ) (q o : List ℕ)
     → IsFrame p k r e bound zeros_end → AreErasures p k r (2 ^ e) zeros_end originals recovery marks
     → Takes (2 ^ e) bound marks words q → ((x : ℕ) → x < 2 ^ e → value o x ≡ value q x) → TakesGiven p k r originals recovery words o
-takes_same p k r e bound zeros_end originals recovery marks words q o f h takes same =
-    let own_below : p.originals_from + k ≤ 2 ^ e = f.originals in
-    let coded_below : p.recovery_from + r ≤ 2 ^ e = f.recovery in
-    record {
-      own = λ i hi some. same (p.originals_from + i) (omega arith) ∙ takes.given (p.originals_from + i) (omega arith) (h.own i hi ∙ ap (λ (b : Bool). cond b 0 1) some);
-      coded = λ i hi some. same (p.recovery_from + i) (omega arith) ∙ takes.given (p.recovery_from + i) (omega arith) (h.coded i hi ∙ ap (λ (b : Bool). cond b 0 1) some);
-    }
+takes_same p k r e bound zeros_end originals recovery marks words q o f h takes same = grind (arith, common_steps)
 
 -- where they are zero, some polynomial that codes takes the words given
 pub some_message : (rate : Rate) (k r e bound zeros_end t : ℕ) (originals recovery : Shards) (marks words located rows : ℕ → ℕ)

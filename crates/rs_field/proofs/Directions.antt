@@ -1,10 +1,10 @@
 -- The layers of a transform and the transform of few rows, in both directions.
-use Rattle.std.proofs.Common.{◌≡◌, ℕ, ◌+◌, ◌-◌, ◌*◌, ◌%◌, ◌^◌, ◌<◌, ◌≤◌, List, get_or}
+use Rattle.std.proofs.Common.{◌≡◌, ℕ, ◌+◌, ◌-◌, ◌*◌, ◌%◌, ◌^◌, ◌<◌, ◌≤◌, Bool, List, get_or}
 use Rattle.rs_field.specs.declared.engine.layers.Direction.{Direction}
 use Rattle.rs_field.specs.declared.engine.shards.ShardsRefMut.{ShardsRefMut}
 use Rattle.rs_field.specs.Tables.{IsSkew}
 use Rattle.rs_field.specs.Layers.{rows_of_part}
-use Rattle.rs_field.specs.Directions.{IsButterfly, AreTwoLayers, AreLayers, IsTransform}
+use Rattle.rs_field.specs.Directions.{IsButterfly, AreTwoLayers, AreLayers, AreTransformed}
 use Rattle.rs_field.specs.View.{cell, word}
 use Rattle.rs_field.proofs.Layers.{IsBlock, backward_undone, four_rows, pair_undone, two_rows}
 use Rattle.rs_field.proofs.PartLoops.{single_rows}
@@ -30,10 +30,10 @@ layers_of_four Direction.Backward skew n shift pos k s old new block hs fours =
     four_rows skew n shift pos (word new k s) (word old k s) block (λ q hq. backward_undone _ _ _ _ _ _ _ _ _ _ _ (fours q hq s hs))
 
 -- the layers leave single rows, so they are the whole transform
-pub layers_of_few : (direction : Direction) (size shift : ℕ) (old new : ℕ → ℕ) → 1 < size → size ≤ 4 → (d : ℕ) × (size ≡ 2 ^ d)
+pub layers_of_few : (direction : Direction) (used : ℕ → Bool) (size shift : ℕ) (old new : ℕ → ℕ) → 1 < size → size ≤ 4 → (d : ℕ) × (size ≡ 2 ^ d)
     → ((i : ℕ) → i < size → old i < 65536) → ((i : ℕ) → i < size → new i < 65536)
-    → AreLayers direction size (rows_of_part size) shift old new → IsTransform direction size shift old new
-layers_of_few Direction.Forward size shift old new large few power old_words new_words parts = λ i hi.
+    → AreLayers direction size (rows_of_part size) shift old new → AreTransformed direction used size shift old new
+layers_of_few Direction.Forward used size shift old new large few power old_words new_words parts = λ i hi is.
     single_rows size shift i old new large few power parts hi (new_words i hi)
-layers_of_few Direction.Backward size shift old new large few power old_words new_words parts = λ i hi.
+layers_of_few Direction.Backward used size shift old new large few power old_words new_words parts = λ i hi.
     single_rows size shift i new old large few power parts hi (old_words i hi)

@@ -9,6 +9,7 @@ use Rattle.rs_field.specs.Column.{Shard, shard_at}
 use Rattle.rs_field.specs.Given.{Shards, nothing, entered, count_below, AreAmong}
 use Rattle.rs_field.specs.OneCall.{Items}
 use Rattle.rs_field.proofs.Given.{entered_cases, entered_among, count_below-zero, count_below-suc, count_below-same}
+use Rattle.std.proofs.lemmas.Grind.{common_steps}
 
 -- the map with all items entered, in order
 abbrev pub entered_all : Shards → Items → Shards
@@ -89,13 +90,7 @@ among-entered_all (item ∷ items) given shards own among =
 
 some-entered : (given : Shards) (k i : ℕ) (x : Shard) → is_some (entered given k x i) ≡ (is_some (given i) || nat_eq i k)
 unfolding entered
-some-entered given k i x = by_test (nat_eq i k) (given i)
-  where
-    by_test : (b : Bool) (o : Option Shard) → is_some (cond b (Some x) o) ≡ (is_some o || b)
-    by_test true None = refl
-    by_test true (Some y) = refl
-    by_test false None = refl
-    by_test false (Some y) = refl
+some-entered given k i x = grind (arith, common_steps)
 
 -- an index has a shard where it had one, or an item has it
 pub some-entered_all : (items : Items) (given : Shards) (i : ℕ) → is_some (entered_all given items i) ≡ (is_some (given i) || list_any (λ item. nat_eq i item.0) items)

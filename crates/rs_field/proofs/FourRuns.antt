@@ -1,25 +1,18 @@
 -- Four runs of a slice's elements are lent: two runs of each of two.
-use mathlib.Core.Path.{◌≡◌, refl, sym, ap, ◌∙◌}
-use Prim.Native.Nat.{ℕ}
-use mathlib.Core.List.{List, [], ◌∷◌, ◌++◌}
-use lib.ListN.{length}
+use Rattle.rs_field.proofs.Walking.{◌≡◌, refl, sym, ap, ◌∙◌, ℕ, List, [], ◌∷◌, ◌++◌, length, Val, Lft, flft, ‵, ◌⊛◌, ◌$◌, ◌∵◌, !, qed, move, keep}
+use Rattle.rs_field.proofs.Walking.{await, later, some, raw, use1, use2, pick, done, split, split3, rewrite, join, MutBor, RattleType, Array}
+use Rattle.rs_field.proofs.Walking.{MutSlice, Room, slice_val, at}
 use seplogic.Ra.Ura.{Ura}
 use mir.Syntax.{Lifetime}
-use mir.Val.{Val}
 use base.Logic.{SProp, ent, sep, ex, wand, all_e, apply∗}
 use base.Stored.{Gv}
-use base.Fml.{Lft, GName, Share, Fml, fall, fwand, fsep, flft, fres}
+use base.Fml.{GName, Share, Fml, fall, fwand, fsep, fres}
 use types.Logic.{Logic, sem}
-use types.Kit.{Item, by, each, assume, ‵, ◌⊛◌, ◌$◌, ◌∵◌, !, qed, move, keep, updating, await, later, some, raw, use1, use2, use3, pick, now, show, done, split, split3, rewrite, join}
+use types.Kit.{Item, by, each, assume, updating, use3, now, show}
 use types.SemTy.{SemTy, Arr}
 use types.Follow.{after₂, followed₂}
-use denote.Ref.{MutBor}
-use denote.RattleType.{RattleType}
 use denote.Memory.{mem}
-use denote.Array.{Array}
-use denote.Slice.{MutSlice, Room, slice_val}
 use denote.Follow.{follows, followed}
-use borrow.Table.Elements.{at}
 use Rattle.std.proofs.lemmas.List.{append_assoc}
 use Rattle.rs_field.proofs.Runs.{runs_lent, lends_runs}
 

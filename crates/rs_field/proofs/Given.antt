@@ -1,19 +1,15 @@
 -- Maps from index to shard, one entry at a time.
 use Rattle.std.proofs.Common.{◌≡◌, ℕ, zero, suc, ◌+◌, ◌<◌, List, [], refl, sym, ap, ap₂, ◌∙◌, inl, inr, ◌⊎◌, ◌≢◌, true, cond, arith}
 use Rattle.std.specs.Prelude.{Option, Some, None, is_some, unwrap_or}
-use Rattle.std.proofs.lemmas.Bool.Decides.{eqb_tells}
 use Rattle.std.proofs.lemmas.Option.{none-some}
 use Rattle.rs_field.specs.Column.{Shard, shard_at}
 use Rattle.rs_field.specs.Given.{Shards, nothing, entered, count_below, AreAmong}
+use Rattle.std.proofs.lemmas.Grind.{common_steps}
 
 -- an entry of a map with a shard entered is that shard, or an earlier entry
 pub entered_cases : (g : Shards) (k i : ℕ) (s : Shard) → ((i ≡ k) × (entered g k s i ≡ Some s)) ⊎ ((i ≢ k) × (entered g k s i ≡ g i))
 unfolding entered
-entered_cases g k i s =
-    elim (eqb_tells i k) [
-      | inl same ↦ inl (same.1, ap (λ b. cond b (Some s) (g i)) same.0)
-      | inr apart ↦ inr (apart.1, ap (λ b. cond b (Some s) (g i)) apart.0)
-    ]
+entered_cases g k i s = grind (arith, common_steps)
 
 -- the map with no shard is among any shards
 pub nothing_among : (xs : List Shard) → AreAmong nothing xs

@@ -2,7 +2,7 @@
 use Rattle.std.proofs.Common.{◌≡◌, ℕ, suc, cond, ◌+◌, ◌-◌, ◌*◌, ◌/◌, ◌%◌, ◌^◌, ◌<◌, ◌≤◌, List, ◌++◌, length, take, drop, get_or, set, get_or-set_same, get_or-set_other, refl, sym, ap, ap₂, ◌∙◌, subst, arith, inl, inr, pow-suc}
 use Rattle.std.proofs.lemmas.Bool.{cases_lt, lt-ltb, le-ltb}
 use Rattle.std.proofs.Math.Dec.{ltb}
-use Rattle.std.proofs.lemmas.List.{get_or-take, get_or-drop, get_or_append_left, get_or-append-add, length-take, length-drop, length-append, length-set}
+use Rattle.std.proofs.lemmas.List.{get_or-take, get_or-drop, get_or_append_left, get_or-append-add, length-append, length-set}
 use Rattle.rs_field.specs.Search.{first_below}
 use Rattle.rs_field.specs.Bounds.{CountsUpTo, CountsPairs, WalshCounts, log2, transform_steps}
 use Rattle.rs_field.specs.declared.engine.steps.Steps.{Steps}
@@ -10,6 +10,8 @@ use Rattle.rs_field.proofs.Halves.{quarter_power, steps_quarters}
 use Rattle.rs_field.specs.Walsh.{total, sign, signed_sum, IsWalsh, IsFourSums}
 use Rattle.rs_field.proofs.Totals.{total-zero, total-suc, total-same, total-near, total-none, total-split, total-scale, add_near, mul_near}
 use Rattle.rs_field.proofs.Signs.{sign-left, sign-right, sign-both, sign-zero}
+use Rattle.rs_field.proofs.Counting.{counted}
+use Rattle.std.proofs.lemmas.Grind.{common_steps}
 
 -- an entry of the first half
 pub sum_lower : (e w : ℕ) (f : ℕ → ℕ) → w < 2 ^ e
@@ -174,24 +176,7 @@ pub record AreQuarters (q : ℕ) (old x0 x1 x2 x3 : List ℕ) : Type 0 where
 pub cut_in_quarters : (half q : ℕ) (old low high x0 x1 x2 x3 : List ℕ) → half ≡ q + q → length old ≡ half + half
     → low ≡ take half old → high ≡ drop half old → x0 ≡ take q low → x1 ≡ drop q low → x2 ≡ take q high → x3 ≡ drop q high
     → AreQuarters q old x0 x1 x2 x3
-cut_in_quarters half q old low high x0 x1 x2 x3 two size is_low is_high is0 is1 is2 is3 =
-    let low_size : length low ≡ half = ap length is_low ∙ length-take half old ∙ omega arith in
-    let high_size : length high ≡ half = ap length is_high ∙ length-drop half old ∙ omega arith in record {
-      size0 = ap length is0 ∙ length-take q low ∙ omega arith;
-      size1 = ap length is1 ∙ length-drop q low ∙ omega arith;
-      size2 = ap length is2 ∙ length-take q high ∙ omega arith;
-      size3 = ap length is3 ∙ length-drop q high ∙ omega arith;
-      entry0 = λ y hy. ap (λ (l : List ℕ). get_or l y 0) is0 ∙ get_or-take q low y 0 hy ∙ in_low y (omega arith);
-      entry1 = λ y hy. ap (λ (l : List ℕ). get_or l y 0) is1 ∙ get_or-drop q low y 0 ∙ in_low (q + y) (omega arith);
-      entry2 = λ y hy. ap (λ (l : List ℕ). get_or l y 0) is2 ∙ get_or-take q high y 0 hy ∙ in_high y;
-      entry3 = λ y hy. ap (λ (l : List ℕ). get_or l y 0) is3 ∙ get_or-drop q high y 0 ∙ in_high (q + y);
-    }
-  where
-    in_low : (y : ℕ) → y < half → get_or low y 0 ≡ get_or old y 0
-    in_low y hy = ap (λ (l : List ℕ). get_or l y 0) is_low ∙ get_or-take half old y 0 hy
-
-    in_high : (y : ℕ) → get_or high y 0 ≡ get_or old (q + q + y) 0
-    in_high y = ap (λ (l : List ℕ). get_or l y 0) is_high ∙ get_or-drop half old y 0 ∙ ap (λ k. get_or old (k + y) 0) two
+cut_in_quarters half q old low high x0 x1 x2 x3 two size is_low is_high is0 is1 is2 is3 = grind (arith, common_steps)
 
 -- the quarters of a list whose length is a power of two, above two
 pub in_quarters : {low high x0 x1 x2 x3 : List ℕ} (old : List ℕ) → 2 < length old → (d : ℕ) × (length old ≡ 2 ^ d)
@@ -273,38 +258,17 @@ walsh-counts e n q a b c d f g small is h first second third fourth (x, y, z) =
   where
     of_parts : (t u : ℕ) → 4 * q + 4 * t ≤ u → CountsUpTo 0 t 0 a b → CountsUpTo 0 t 0 b c → CountsUpTo 0 t 0 c d → CountsUpTo 0 t 0 d f
         → g.row_steps ≡ f.row_steps → g.pair_sums ≡ f.pair_sums + 4 * q → g.products ≡ f.products → CountsUpTo 0 u 0 a g
-    of_parts t u le first second third fourth x y z = record {
-      row_steps_rise = omega arith;
-      pair_sums_rise = omega arith;
-      products_rise = omega arith;
-      row_steps_most = omega arith;
-      pair_sums_most = omega arith;
-      products_most = omega arith;
-    }
+    of_parts t u le first second third fourth x y z = counted 0 u 0 a g (omega arith, omega arith) (omega arith, omega arith) (omega arith, omega arith)
 
 -- one quarter alone counts no more than the whole
 pub walsh-quarter-counts : (e n q : ℕ) (a b : Steps) → n ≤ 65536 → n ≡ 2 ^ suc (suc e) → q ≡ 2 ^ e → WalshCounts q a b → WalshCounts n a b
 walsh-quarter-counts e n q a b small is h p =
     let whole : 4 * q + 4 * transform_steps q ≡ transform_steps n = steps_quarters n e q small is h in
-    record {
-      row_steps_rise = p.row_steps_rise;
-      pair_sums_rise = p.pair_sums_rise;
-      products_rise = p.products_rise;
-      row_steps_most = p.row_steps_most;
-      pair_sums_most = omega (arith, p.pair_sums_most);
-      products_most = p.products_most;
-    }
+    counted 0 (transform_steps n) 0 a b (omega arith, omega arith) (omega arith, omega arith) (omega arith, omega arith)
 
 -- a transform that counts all pair sums of its layers
 exact-counts : (n m : ℕ) (a b : Steps) → transform_steps n ≡ m → CountsPairs m a b → WalshCounts n a b
-exact-counts n m a b s (x, y, z) = record {
-  row_steps_rise = omega arith;
-  pair_sums_rise = omega arith;
-  products_rise = omega arith;
-  row_steps_most = omega arith;
-  pair_sums_most = omega arith;
-  products_most = omega arith;
-}
+exact-counts n m a b s (x, y, z) = counted 0 (transform_steps n) 0 a b (omega arith, omega arith) (omega arith, omega arith) (omega arith, omega arith)
 
 steps_of_2 : transform_steps 2 ≡ 1
 unfolding transform_steps log2 first_below

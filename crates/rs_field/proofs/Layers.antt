@@ -1,5 +1,5 @@
 -- One layer of butterflies between the halves of a block, and two layers between its quarters, for one symbol of the rows.
-use Rattle.std.proofs.Common.{◌≡◌, ℕ, suc, ◌+◌, ◌-◌, ◌*◌, ◌%◌, ◌^◌, ◌<◌, ◌≤◌, Bool, true, false, cond, nat_lt, List, get_or, bit_xor, refl, sym, ap, ap₂, ◌∙◌, subst, inl, inr, arith}
+use Rattle.std.proofs.Common.{◌≡◌, ℕ, suc, ◌+◌, ◌-◌, ◌*◌, ◌%◌, ◌^◌, ◌<◌, ◌≤◌, cond, nat_lt, List, get_or, bit_xor, refl, sym, ap, ap₂, ◌∙◌, subst, inl, inr, arith}
 use Rattle.std.proofs.Math.Nat.{mul-le-mul_right}
 use Rattle.std.proofs.lemmas.Bool.{cases_lt}
 use Rattle.rs_field.specs.Field.{product}
@@ -11,6 +11,7 @@ use Rattle.rs_field.specs.TwoLayers.{forward_first, forward_second, backward_fir
 use Rattle.rs_field.specs.Layers.{ArePartsOf}
 use Rattle.rs_field.proofs.Combination.{forward-same, lower_half, upper_half}
 use Rattle.rs_field.proofs.Halves.{half_power, few_halves, shift_half, table_factor, xor_undo}
+use Rattle.std.proofs.lemmas.Grind.{common_steps}
 
 -- what a block's size, its place among the points and the table of factors are
 pub record IsBlock (skew : List ℕ) (size shift : ℕ) : Type 0 where
@@ -154,17 +155,11 @@ between log_m half f q = cond (nat_lt q half) (forward_first log_m (f q) (f (hal
 
 between_first : (log_m half : ℕ) (f : ℕ → ℕ) (q : ℕ) → q < half → between log_m half f q ≡ forward_first log_m (f q) (f (half + q))
 unfolding between
-between_first log_m half f q hq =
-    let e : nat_lt q half ≡ true = grind arith in
-    ap (λ (b : Bool). cond b (forward_first log_m (f q) (f (half + q))) (forward_second log_m (f (q - half)) (f q))) e
+between_first log_m half f q hq = grind (arith, common_steps)
 
 between_second : (log_m half : ℕ) (f : ℕ → ℕ) (q : ℕ) → between log_m half f (half + q) ≡ forward_second log_m (f q) (f (half + q))
 unfolding between
-between_second log_m half f q =
-    let e : nat_lt (half + q) half ≡ false = grind arith in
-    let back : half + q - half ≡ q = omega arith in
-    ap (λ (b : Bool). cond b (forward_first log_m (f (half + q)) (f (half + (half + q)))) (forward_second log_m (f (half + q - half)) (f (half + q)))) e
-    ∙ ap (λ p. forward_second log_m (f p) (f (half + q))) back
+between_second log_m half f q = grind (arith, common_steps)
 
 -- a relation of four old words and four new ones in ranges of n, one after the other
 abbrev pub at_quarters : (ℕ → ℕ → ℕ → ℕ → ℕ → ℕ → ℕ → ℕ → Type 0) → ℕ → (ℕ → ℕ) → (ℕ → ℕ) → Type 0

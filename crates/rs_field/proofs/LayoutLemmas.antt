@@ -1,15 +1,15 @@
 -- Where the bytes of a shard lie in a row, and that its columns are the symbols of the row's chunks.
-use Rattle.std.proofs.Common.{◌≡◌, ℕ, zero, suc, ◌+◌, ◌-◌, ◌*◌, ◌/◌, ◌%◌, ◌<◌, ◌≤◌, List, [], ◌∷◌, ◌++◌, length, get_or, min, take, drop, All, false, cond, sym, ap, ap₂, ◌∙◌, refl, subst, arith, inl, inr, add-one, length-append}
-use Rattle.std.specs.Prelude.{slice_index, nat_lt}
+use Rattle.std.proofs.Common.{◌≡◌, ℕ, zero, suc, ◌+◌, ◌-◌, ◌*◌, ◌/◌, ◌%◌, ◌<◌, ◌≤◌, List, [], ◌∷◌, ◌++◌, length, get_or, min, take, drop, All, sym, ap, ap₂, ◌∙◌, refl, subst, arith, inl, inr, add-one, length-append}
+use Rattle.std.specs.Prelude.{slice_index}
 use Rattle.std.proofs.Math.Nat.{min-eq_left, min-eq_right}
 use Rattle.std.proofs.Math.Seq.{get_or-append_seam}
-use Rattle.std.proofs.lemmas.Bool.{cases_lt, lt-ltb}
-use Rattle.std.proofs.lemmas.Bool.Decides.{nat_tests}
+use Rattle.std.proofs.lemmas.Bool.{cases_lt}
 use Rattle.std.proofs.lemmas.List.{ext_get_or, get_or_append_left, get_or-append_right, get_or-take, get_or-drop, length-take-le}
 use Rattle.rs_field.specs.Column.{Shard, IsShard, column}
 use Rattle.std.specs.List.{flat_map}
 use Rattle.rs_field.specs.Rows.{chunk, symbol}
 use Rattle.rs_field.specs.Layout.{row_len, up_to, byte_offset, laid_out, in_order}
+use Rattle.std.proofs.lemmas.Grind.{common_steps}
 
 pub length-up_to : {A : Type 0} (n : ℕ) (f : ℕ → A) → length (up_to n f) ≡ n
 length-up_to zero f = refl
@@ -68,28 +68,18 @@ in_order-same size f g same =
 -- where half the bytes of a chunk or of the tail are `half`, its first half stays where it is
 pub byte_offset-low : (size b half : ℕ) → min 64 (size - b / 64 * 64) / 2 ≡ half → b % 64 < half → byte_offset size b ≡ b % 64
 unfolding byte_offset
-byte_offset-low size b half e h =
-    let lt : b % 64 < min 64 (size - b / 64 * 64) / 2 = subst (λ n. b % 64 < n) (sym e) h in
-    ap (λ t. cond t (b % 64) (b % 64 - min 64 (size - b / 64 * 64) / 2 + 32)) (lt-ltb (b % 64) (min 64 (size - b / 64 * 64) / 2) lt)
-
-not_lt : (a b : ℕ) → b ≤ a → nat_lt a b ≡ false
-not_lt a b h = grind (arith, nat_tests)
+byte_offset-low size b half e h = grind (arith, common_steps)
 
 -- and its second half begins at byte 32
 pub byte_offset-high : (size b half : ℕ) → min 64 (size - b / 64 * 64) / 2 ≡ half → half ≤ b % 64 → byte_offset size b ≡ b % 64 - half + 32
 unfolding byte_offset
-byte_offset-high size b half e h =
-    let le : min 64 (size - b / 64 * 64) / 2 ≤ b % 64 = subst (λ n. n ≤ b % 64) (sym e) h in
-    ap (λ t. cond t (b % 64) (b % 64 - min 64 (size - b / 64 * 64) / 2 + 32)) (not_lt (b % 64) (min 64 (size - b / 64 * 64) / 2) le) ∙ ap (λ n. b % 64 - n + 32) e
+byte_offset-high size b half e h = grind (arith, common_steps)
 
 half-whole : (size b : ℕ) → b / 64 * 64 + 64 ≤ size → min 64 (size - b / 64 * 64) / 2 ≡ 32
 half-whole size b h = ap (λ n. n / 2) (min-eq_left (let r : 64 ≤ size - b / 64 * 64 = omega arith in r))
 
 half-tail : (size b : ℕ) → b / 64 ≡ size / 64 → min 64 (size - b / 64 * 64) / 2 ≡ size % 64 / 2
-half-tail size b h =
-    let left : size - b / 64 * 64 ≡ size % 64 = omega arith in
-    let short : size % 64 ≤ 64 = omega arith in
-    ap (λ n. n / 2) (ap (min 64) left ∙ min-eq_right short)
+half-tail size b h = grind (arith, common_steps)
 
 -- a whole chunk lies as it is
 pub byte_offset-whole : (size b : ℕ) → b / 64 < size / 64 → byte_offset size b ≡ b % 64

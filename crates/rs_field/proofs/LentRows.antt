@@ -6,26 +6,13 @@ use Rattle.rs_field.specs.Rows.{Chunks, chunk}
 use Rattle.rs_field.specs.View.{SameShape, cell}
 use Rattle.rs_field.specs.Lending.{between, with_chunks, with_two}
 use Rattle.rs_field.specs.declared.engine.shards.ShardsRefMut.{ShardsRefMut}
+use Rattle.std.proofs.lemmas.Grind.{common_steps}
 
 pub part-long : (ch : Chunks) (a n : ℕ) → a + n ≤ length ch → length (take n (drop a ch)) ≡ n
 part-long ch a n within = let left = length-drop a ch in length-take-le n (drop a ch) (omega arith)
 
-gap-long : (ch : Chunks) (a b : ℕ) → a ≤ b → b ≤ length ch → length (between a b ch) ≡ b - a
-gap-long ch a b ordered within = part-long ch a (b - a) (omega (arith, ordered, within))
-
--- of two lists, one after another from place p on, the second from place q on: place c
-here : (xs ys : Chunks) (p q c : ℕ) → length xs ≡ q - p → p ≤ c → c < q → chunk (xs ++ ys) (c - p) ≡ chunk xs (c - p)
-here xs ys p q c long from below = get_or_append_left xs ys [] (c - p) (subst (λ m. c - p < m) (sym long) (omega (arith, from, below)))
-
 past : (xs ys : Chunks) (p q c : ℕ) → length xs ≡ q - p → p ≤ q → q ≤ c → chunk (xs ++ ys) (c - p) ≡ chunk ys (c - q)
-past xs ys p q c long ordered from =
-    let e : c - p - (q - p) ≡ c - q = omega (arith, ordered, from) in
-    get_or-append_right xs ys (q - p) (c - p) [] long (omega (arith, ordered, from)) ∙ ap (chunk ys) e
-
-from-gap : (ch : Chunks) (p q c : ℕ) → p ≤ c → c < q → chunk (between p q ch) (c - p) ≡ chunk ch c
-from-gap ch p q c from below =
-    let e : p + (c - p) ≡ c = omega (arith, from) in
-    get_or-take (q - p) (drop p ch) (c - p) [] (omega (arith, from, below)) ∙ get_or-drop p ch (c - p) [] ∙ ap (chunk ch) e
+past xs ys p q c long ordered from = grind (arith, common_steps)
 
 from-back : (ch : Chunks) (p c : ℕ) → p ≤ c → chunk (drop p ch) (c - p) ≡ chunk ch c
 from-back ch p c from = let e : p + (c - p) ≡ c = omega (arith, from) in get_or-drop p ch (c - p) [] ∙ ap (chunk ch) e
@@ -39,30 +26,17 @@ past-front ch ys i c within from = get_or-append_right (take i ch) ys i c [] (le
 
 -- a part from place a on, then what stands up to place b, then the rest from there on
 module _ (ch part ys : Chunks) (a n b : ℕ) (long : length part ≡ n) (apart : a + n ≤ b) (within : b ≤ length ch) where
-  long-to : length part ≡ a + n - a
-  long-to = omega (arith, long)
-
   pub in-part : (k : ℕ) → k < n → chunk (part ++ ys) (a + k - a) ≡ chunk part k
-  in-part k low =
-      let e : a + k - a ≡ k = omega arith in
-      here part ys a (a + n) (a + k) long-to (omega arith) (omega (arith, low)) ∙ ap (chunk part) e
+  in-part k low = grind (arith, common_steps)
 
   pub in-gap : (c : ℕ) → a + n ≤ c → c < b → chunk (part ++ (between (a + n) b ch ++ ys)) (c - a) ≡ chunk ch c
-  in-gap c from below =
-      past part (between (a + n) b ch ++ ys) a (a + n) c long-to (omega arith) from
-      ∙ here (between (a + n) b ch) ys (a + n) b c (gap-long ch (a + n) b apart within) from below ∙ from-gap ch (a + n) b c from below
+  in-gap c from below = grind (arith, common_steps)
 
   pub past-gap : (c : ℕ) → b ≤ c → chunk (part ++ (between (a + n) b ch ++ ys)) (c - a) ≡ chunk ys (c - b)
-  past-gap c from =
-      past part (between (a + n) b ch ++ ys) a (a + n) c long-to (omega arith) (omega (arith, apart, from))
-      ∙ past (between (a + n) b ch) ys (a + n) b c (gap-long ch (a + n) b apart within) apart from
+  past-gap c from = grind (arith, common_steps)
 
   pub length-gap : length (part ++ (between (a + n) b ch ++ ys)) ≡ b - a + length ys
-  length-gap =
-      let p = length-append part (between (a + n) b ch ++ ys) in
-      let q = length-append (between (a + n) b ch) ys in
-      let r = gap-long ch (a + n) b apart within in
-      omega (arith, p, q, r, long, apart)
+  length-gap = grind (arith, common_steps)
 
 -- the same at the end of the list
 module _ (ch part : Chunks) (a n : ℕ) (long : length part ≡ n) (within : a + n ≤ length ch) where

@@ -20,13 +20,12 @@ pub mod Decided
 pub mod Locator
 pub mod Total
 pub mod RingSolver
+pub mod Walking
 pub mod Runs
 pub mod FourRuns
 pub mod RowOffsets
-pub mod Pairs
+mod Fours
 pub mod LentRows
-pub mod LentFourRows
-pub mod Fours
 pub mod LayoutLemmas
 pub mod ZeroColumns
 pub mod Symbols

@@ -12,6 +12,7 @@ use Rattle.rs_field.proofs.Roots.{WordsOneByOne, value_lt}
 use Rattle.rs_field.proofs.Factors.{times, value_with_root, length-with_root}
 use Rattle.rs_field.proofs.Derivative.{derivative_with_root}
 use Rattle.rs_field.proofs.LocatorLemmas.{log_sum-zero, log_sum-itself, log_sum-marked, log_sum-unmarked, difference_pos}
+use Rattle.std.proofs.lemmas.Grind.{common_steps}
 
 -- the marked points below n, the last one first
 unfoldable pub marked : ℕ → (ℕ → ℕ) → List ℕ
@@ -35,9 +36,7 @@ fewer : (n : ℕ) (e : ℕ → ℕ) → AreMarks (suc n) e → AreMarks n e
 fewer n e h = record { mark = λ y hy. h.mark y (omega arith) }
 
 mark_cases : (n : ℕ) (e : ℕ → ℕ) → AreMarks (suc n) e → (e n ≡ 1) ⊎ (e n ≡ 0)
-mark_cases n e h =
-    let most : e n ≤ 1 = h.mark n (omega arith) in
-    elim (cases_eq (e n) 1) [ inl one ↦ inl one | inr other ↦ inr (omega arith) ]
+mark_cases n e h = grind (arith, common_steps)
 
 -- an unmarked point adds nothing
 kept : (n : ℕ) (e : ℕ → ℕ) (x : ℕ) → e n ≡ 0 → log_sum (suc n) e x ≡ log_sum n e x

@@ -1,26 +1,19 @@
 -- The tables of transformed logarithms: one behind the other, and that of each size.
-use Rattle.std.proofs.Common.{◌≡◌, ℕ, ◌+◌, ◌-◌, ◌*◌, ◌/◌, ◌%◌, ◌^◌, ◌<◌, ◌≤◌, List, length, take, drop, get_or, cond, sym, ap, ◌∙◌, subst, arith, inl, inr, one-mul, pow-suc, pow_mono, add-one, ne_eqb, eq-eqb}
+use Rattle.std.proofs.Common.{◌≡◌, ℕ, ◌+◌, ◌-◌, ◌*◌, ◌/◌, ◌%◌, ◌^◌, ◌<◌, ◌≤◌, List, length, take, drop, get_or, cond, sym, ap, ◌∙◌, subst, arith, inl, inr, pow-suc, pow_mono, add-one, ne_eqb, eq-eqb}
 use Rattle.std.proofs.lemmas.Bool.{cases_eq}
 use Rattle.std.proofs.lemmas.List.{length-drop, length-take-le, get_or-take, get_or-drop}
 use Rattle.std.proofs.lemmas.Nat.{pow_pos}
 use Rattle.rs_field.specs.Field.{log}
 use Rattle.rs_field.specs.Tables.{IsLog, IsLogWalsh, IsLogWalshBelow, AreLogWalshes}
 use Rattle.rs_field.specs.Walsh.{signed_sum, IsWalsh, log_or_zero}
-use Rattle.rs_field.proofs.Halving.{walsh-same}
+use Rattle.std.proofs.lemmas.Grind.{common_steps}
 
 -- for all points the factor is one
 pub below-from_all : (n : ℕ) (table : List ℕ) → n ≡ 65536 → IsLogWalsh table → IsLogWalshBelow n table
-below-from_all n table all h =
-    subst (λ (m : ℕ). IsLogWalshBelow m table) (sym all) (record {
-      below_length = h.walsh_length;
-      below_entry = walsh-same 65536 log_or_zero (λ z. 65536 / 65536 * log_or_zero z) (λ w. get_or table w 0) (λ z hz. sym (one-mul (log_or_zero z))) h.walsh_entry;
-    })
+below-from_all n table all h = grind (arith, common_steps)
 
 pub all-from_below : (table : List ℕ) → IsLogWalshBelow 65536 table → IsLogWalsh table
-all-from_below table h = record {
-  walsh_length = h.below_length;
-  walsh_entry = walsh-same 65536 (λ z. 65536 / 65536 * log_or_zero z) log_or_zero (λ w. get_or table w 0) (λ z hz. one-mul (log_or_zero z)) h.below_entry;
-}
+all-from_below table h = grind (arith, common_steps)
 
 -- the part of all tables that is the one for n points
 pub part-below : (d n : ℕ) (all : List ℕ) → n ≡ 2 ^ d → d ≤ 16 → AreLogWalshes all → IsLogWalshBelow n (take (2 * n - 1 - (n - 1)) (drop (n - 1) all))

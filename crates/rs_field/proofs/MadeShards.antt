@@ -1,7 +1,7 @@
 -- Shards with given words as columns, so every message has recovery shards.
-use Rattle.std.proofs.Common.{◌≡◌, ℕ, ◌+◌, ◌-◌, ◌*◌, ◌/◌, ◌%◌, ◌<◌, Bool, true, false, cond, List, [], length, sym, ap, ap₂, ◌∙◌, subst, arith, inl, inr}
+use Rattle.std.proofs.Common.{◌≡◌, ℕ, ◌+◌, ◌-◌, ◌*◌, ◌/◌, ◌%◌, ◌<◌, Bool, true, cond, List, [], length, sym, ap, ap₂, ◌∙◌, subst, arith, inl, inr}
 use Rattle.std.specs.Prelude.{slice_index, nat_lt}
-use Rattle.std.proofs.lemmas.Bool.{cases_lt, lt-ltb, le-ltb}
+use Rattle.std.proofs.lemmas.Bool.{cases_lt, lt-ltb}
 use Rattle.std.proofs.lemmas.List.{get_or_past}
 use Rattle.rs_field.specs.Column.{Shard, IsShard, AreShards, column, columns}
 use Rattle.rs_field.specs.Rows.{symbol}
@@ -14,6 +14,7 @@ use Rattle.rs_field.proofs.Roots.{value_lt, words_from}
 use Rattle.rs_field.proofs.Columns.{columns-at, columns_lt}
 use Rattle.rs_field.proofs.LayoutLemmas.{length-up_to, get-up_to, shard-laid_out, column-laid_out}
 use Rattle.rs_field.proofs.CodedWords.{recovered}
+use Rattle.std.proofs.lemmas.Grind.{common_steps}
 
 -- byte b of chunk q of a row with these words: the low bytes first, then the high ones
 byte_of : (ℕ → ℕ) → ℕ → ℕ → ℕ
@@ -25,19 +26,11 @@ low_byte w q b h = ap (λ (c : Bool). cond c (w (q * 32 + b) % 256) (w (q * 32 +
 
 high_byte : (w : ℕ → ℕ) (q b : ℕ) → b < 32 → byte_of w q (b + 32) ≡ w (q * 32 + b) / 256
 unfolding byte_of
-high_byte w q b h =
-    ap (λ (c : Bool). cond c (w (q * 32 + (b + 32)) % 256) (w (q * 32 + (b + 32 - 32)) / 256)) (le-ltb (b + 32) 32 (omega arith))
-    ∙ ap (λ i. w (q * 32 + i) / 256) (let e : b + 32 - 32 ≡ b = omega arith in e)
-
-either_lt : (c : Bool) (m n : ℕ) → m < 256 → n < 256 → cond c m n < 256
-either_lt true m n hm hn = hm
-either_lt false m n hm hn = hn
+high_byte w q b h = grind (arith, common_steps)
 
 byte_lt : (w : ℕ → ℕ) → ((j : ℕ) → w j < 65536) → (q b : ℕ) → byte_of w q b < 256
 unfolding byte_of
-byte_lt w words q b =
-    let high : w (q * 32 + (b - 32)) < 65536 = words (q * 32 + (b - 32)) in
-    either_lt (nat_lt b 32) (w (q * 32 + b) % 256) (w (q * 32 + (b - 32)) / 256) (omega arith) (omega arith)
+byte_lt w words q b = grind (arith, common_steps)
 
 chunk_of : (ℕ → ℕ) → ℕ → List ℕ
 chunk_of w q = up_to 64 (byte_of w q)

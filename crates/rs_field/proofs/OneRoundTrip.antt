@@ -1,12 +1,12 @@
 -- What one-call `encode` coded, and what one-call `decode` brings back of it.
-use Rattle.std.proofs.Common.{◌≡◌, ℕ, ◌+◌, ◌<◌, ◌≤◌, ◌++◌, ◌∷◌, ◌^◌, [], Bool, true, false, cond, not, ◌&&◌, ◌||◌, ◌%◌, List, length, refl, sym, ap, ap₂, subst, ◌∙◌, inl, inr, arith, append_assoc, append-nil, length-append, All, nat_eq, add-zero, zero-add}
-use Rattle.std.specs.Prelude.{Result, Ok, Err, Some, None, is_some, IfOk, IfErr, IsOkAnd, MatchResult, nat_le, nat_lt, ◌==◌}
+use Rattle.std.proofs.Common.{◌≡◌, ℕ, ◌+◌, ◌<◌, ◌≤◌, ◌++◌, ◌∷◌, ◌^◌, [], Bool, true, false, cond, not, ◌&&◌, List, length, refl, sym, ap, ap₂, subst, ◌∙◌, inl, inr, arith, append_assoc, append-nil, length-append, All, nat_eq, add-zero, zero-add}
+use Rattle.std.specs.Prelude.{Result, Ok, Err, Some, None, is_some, IfOk, IfErr, IsOkAnd, MatchResult, nat_le, nat_lt}
 use Rattle.std.specs.List.{AllByRecursion, IsDistinct, list_any}
-use Rattle.std.proofs.lemmas.Bool.{ltb-false, leb-false, lt-leb, eqb-true, eqb-false, eq-eqb, ne_eqb, le-ltb, ltb-true, or_from}
+use Rattle.std.proofs.lemmas.Bool.{lt-leb, eqb-false, eq-eqb, ne_eqb, ltb-true, or_from}
 use Rattle.std.proofs.lemmas.List.Elements.{All-nil, All-cons, recursion_from_All}
 use Rattle.std.proofs.lemmas.Map.Keys.{IsDistinct-head, IsDistinct-tail}
 use Rattle.rs_field.specs.declared.error.Error.{Error}
-use Rattle.rs_field.specs.declared.error.Error.TheVariants.{UnsupportedShardCount, InvalidShardSize, TooFewOriginalShards, TooManyOriginalShards, DifferentShardSize, NotEnoughShards, OutOfMemory}
+use Rattle.rs_field.specs.declared.error.Error.TheVariants.{UnsupportedShardCount, TooFewOriginalShards, NotEnoughShards, OutOfMemory}
 use Rattle.rs_field.specs.Column.{Shard, IsShard, AreShards, shard_at}
 use Rattle.rs_field.specs.Counts.{Rate, default_rate, supports}
 use Rattle.rs_field.specs.Placement.{encoder_rows, decoder_rows}
@@ -22,6 +22,7 @@ use Rattle.rs_field.proofs.Given.{nothing_among}
 use Rattle.rs_field.proofs.Entries.{entered_all, count-nothing, AreFree, indexes, free-next, count-entered_all, among-entered_all, some-entered_all, all_some}
 use Rattle.rs_field.proofs.RoundTrip.{answered, restores_lost}
 use Rattle.rs_field.proofs.SupportedCounts.{default_fits}
+use Rattle.std.proofs.lemmas.Grind.{common_steps}
 
 -- a step after a success was reached by that success
 then_ok : {S T : Type 0} (f : S → Result T Error) (o : Result S Error) (t : T) → result_and_then f o ≡ Ok t → (s : S) × (o ≡ Ok s) × (f s ≡ Ok t)
@@ -33,14 +34,7 @@ then_ok f (Err e) t is = absurd (let no : ⊥ = cc in no)
 -- a shard that an encoder took has its size, and there was room for it
 one_taken : (s : EncoderState) (x : Shard) (t : EncoderState) → with_shard s x ≡ Ok t
     → (t ≡ record s { given = s.given ++ x ∷ [] }) × (length x ≡ s.configuration.shard_bytes) × (length s.given < s.configuration.original_count)
-one_taken s x t is = by_tests (nat_le s.configuration.original_count (length s.given)) (length x == s.configuration.shard_bytes) refl refl is
-  where
-    by_tests : (full same : Bool) → nat_le s.configuration.original_count (length s.given) ≡ full → (length x == s.configuration.shard_bytes) ≡ same
-        → cond full (Err (TooManyOriginalShards s.configuration.original_count)) (cond (not same) (Err (DifferentShardSize s.configuration.shard_bytes (length x))) (Ok (record s { given = s.given ++ x ∷ [] }))) ≡ Ok t
-        → (t ≡ record s { given = s.given ++ x ∷ [] }) × (length x ≡ s.configuration.shard_bytes) × (length s.given < s.configuration.original_count)
-    by_tests true same f e h = absurd (let no : ⊥ = cc in no)
-    by_tests false false f e h = absurd (let no : ⊥ = cc in no)
-    by_tests false true f e h = (cc, eqb-true (length x) s.configuration.shard_bytes e, leb-false s.configuration.original_count (length s.given) f)
+one_taken s x t is = grind (arith, common_steps)
 
 -- shards that an encoder took
 record AreTaken (s : EncoderState) (shards : List Shard) (t : EncoderState) : Type 0 where
@@ -110,11 +104,7 @@ made = Ok tt
 
 -- counts of a valid configuration are supported
 supported_valid : (k r size : ℕ) → validated (default_of k r size) ≡ Ok tt → supports default_rate k r ≡ true
-supported_valid k r size valid = by_support (supports default_rate k r) valid
-  where
-    by_support : (b : Bool) → cond (not b) (Err (UnsupportedShardCount k r)) (cond (size == 0 || size % 2 == 1) (Err (InvalidShardSize size)) made) ≡ made → b ≡ true
-    by_support true h = refl
-    by_support false h = absurd (let no : ⊥ = cc in no)
+supported_valid k r size valid = grind (arith, common_steps)
 
 counted_valid : (k r size : ℕ) → validated (default_of k r size) ≡ Ok tt → counted k r ≡ Ok tt
 counted_valid k r size valid = ap (λ (b : Bool). cond b made (Err (UnsupportedShardCount k r))) (supported_valid k r size valid)
@@ -133,13 +123,7 @@ all_given (x ∷ xs) s room sized =
 
 -- an encoder that has all its originals is not refused
 encoded_whole : (s : EncoderState) (result : Result (List Shard) Error) → s.configuration.original_count ≤ length s.given → EncodeAnswers s result → IfErr result (λ e. e ≡ OutOfMemory)
-encoded_whole s result many answers = by_test result (nat_lt (length s.given) s.configuration.original_count) (le-ltb (length s.given) s.configuration.original_count many) answers
-  where
-    by_test : (r : Result (List Shard) Error) (few : Bool) → few ≡ false → MatchResult (cond few (Err (TooFewOriginalShards s.configuration.original_count (length s.given))) (Ok s.given))
-        (λ message. IsOkAnd r (AreRecovery s.configuration message)) (λ f. r ≡ Err f) → IfErr r (λ e. e ≡ OutOfMemory)
-    by_test (Ok recovery) few is h = tt
-    by_test (Err e) true is h = absurd (let no : ⊥ = cc in no)
-    by_test (Err e) false is h = absurd h
+encoded_whole s result many answers = grind (arith, common_steps)
 
 module _ (k r size : ℕ) (shards : List Shard) (result : Result (List Shard) Error) (valid : validated (default_of k r size) ≡ Ok tt) (count : length shards ≡ k)
     (sized : All (λ shard. length shard ≡ size) shards) where
@@ -296,11 +280,7 @@ came_left k items below once =
     ∙ ap₂ (λ a b. cond (nat_lt a k) (Err (NotEnoughShards k b 0)) (Ok tt)) (count ∙ sym (add-zero (length items))) count
 
 all_left : (k n : ℕ) (kept : Items) → enough_left k kept [] ≡ Ok tt → n ≡ k → n ≤ length kept
-all_left k n kept enough same = by_test (nat_lt (length kept + 0) k) refl enough
-  where
-    by_test : (few : Bool) → nat_lt (length kept + 0) k ≡ few → cond few (Err (NotEnoughShards k (length kept) 0)) made ≡ made → n ≤ length kept
-    by_test true e h = absurd (let no : ⊥ = cc in no)
-    by_test false e h = let many = ltb-false (length kept + 0) k e in omega arith
+all_left k n kept enough same = grind (arith, common_steps)
 
 -- where all originals are left, none is lost
 none_lost : (originals : List Shard) (kept : Items) → AreLeft originals kept → length originals ≤ length kept → (i : ℕ) → lost_of originals kept i ≡ None

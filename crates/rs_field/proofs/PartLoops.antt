@@ -1,5 +1,5 @@
 -- Loops over the parts of a block, each of which transforms one part, for the rows and for the counts.
-use Rattle.std.proofs.Common.{◌≡◌, ℕ, ◌+◌, ◌-◌, ◌*◌, ◌/◌, ◌%◌, ◌^◌, ◌<◌, ◌≤◌, ◌⊎◌, true, refl, sym, ap, ◌∙◌, inl, inr, arith, subst, mod-lt}
+use Rattle.std.proofs.Common.{◌≡◌, ℕ, ◌+◌, ◌-◌, ◌*◌, ◌/◌, ◌%◌, ◌^◌, ◌<◌, ◌≤◌, ◌⊎◌, Bool, true, false, replicate, refl, sym, ap, ◌∙◌, inl, inr, arith, subst, mod-lt}
 use Rattle.std.proofs.Math.Nat.{mul-le-mul_right}
 use Rattle.std.proofs.lemmas.Bool.{cases_eq, cases_lt}
 use Rattle.std.proofs.lemmas.Nat.{div-add-mod'}
@@ -7,6 +7,8 @@ use Rattle.rs_field.specs.Transform.{forward}
 use Rattle.rs_field.specs.Layers.{ArePartsOf, rows_of_part, layer_steps}
 use Rattle.rs_field.specs.View.{cell, word, SameShape, SameRowsOutside}
 use Rattle.rs_field.specs.MarkedRows.{is_used}
+use Rattle.rs_field.specs.Directions.{AreTransformed, UnusedAreZeroBackward, PartCounts}
+use Rattle.rs_field.specs.declared.engine.layers.Direction.{Direction}
 use Rattle.rs_field.specs.Bounds.{CountsRows, CountsUpTo, TransformCounts, transform_steps}
 use Rattle.rs_field.specs.declared.engine.block.Block.{Block}
 use Rattle.rs_field.specs.declared.engine.marked_rows.UsedRows.{UsedRows}
@@ -16,115 +18,63 @@ use Rattle.rs_field.proofs.Combination.{forward-one, forward-same}
 use Rattle.rs_field.proofs.Counting.{counts_rows, counts_then, counts_within}
 use Rattle.rs_field.proofs.Halves.{quarter_power}
 use Rattle.rs_field.proofs.Parts.{IsPart, part_found, part_of_more, part_of_two, part_within}
-use Rattle.rs_field.proofs.Recursion.{word_same}
+use Rattle.rs_field.proofs.Recursion.{one_row, word_same, zero_rows}
 use Rattle.rs_field.proofs.RowOffsets.{outside_both, outside_cell, shape_then}
 
--- a part of rows by the place of its first row
-placed : (rows : ShardsRefMut) (k s n shift pos start i : ℕ)
-    → forward n shift (λ q. word rows k s (pos + start + q)) i ≡ forward n shift (λ q. word rows k s (pos + (start + q))) i
-placed rows k s n shift pos start i =
-    forward-same n shift (λ q. word rows k s (pos + start + q)) (λ q. word rows k s (pos + (start + q))) i
-    (λ q hq. ap (word rows k s) (let r : pos + start + q ≡ pos + (start + q) = omega arith in r))
+-- words that are the same are transformed in the same way
+transformed_same : (direction : Direction) (used used' : ℕ → Bool) (n shift : ℕ) (f g f' g' : ℕ → ℕ) → ((q : ℕ) → q < n → f' q ≡ f q)
+    → ((q : ℕ) → q < n → g' q ≡ g q) → ((q : ℕ) → q < n → used q ≡ used' q)
+    → AreTransformed direction used n shift f g → AreTransformed direction used' n shift f' g'
+transformed_same Direction.Forward used used' n shift f g f' g' old new same are =
+    λ i hi is. new i hi ∙ are i hi (same i hi ∙ is) ∙ sym (forward-same n shift f' f i old)
+transformed_same Direction.Backward used used' n shift f g f' g' old new same are = λ i hi. old i hi ∙ are i hi ∙ sym (forward-same n shift g' g i new)
 
--- rows that are unchanged have the same transform
-kept : (old new : ShardsRefMut) (k s n shift pos start i : ℕ) → ((q : ℕ) → q < n → cell new k (pos + (start + q)) ≡ cell old k (pos + (start + q)))
-    → forward n shift (λ q. word new k s (pos + (start + q))) i ≡ forward n shift (λ q. word old k s (pos + (start + q))) i
-kept old new k s n shift pos start i same =
-    forward-same n shift (λ q. word new k s (pos + (start + q))) (λ q. word old k s (pos + (start + q))) i
-    (λ q hq. word_same new old k s (pos + (start + q)) (pos + (start + q)) (same q hq))
-
--- ---- forward
-
--- the parts before the j-th are transformed, and the others are still as the layers left them
-pub record ForwardDone (size n shift pos : ℕ) (wanted : UsedRows) (j : ℕ) (old new : ShardsRefMut) : Type 0 where
-  pub shape : SameShape old new
-  pub others : SameRowsOutside pos (pos + size) old new
-  pub values : (k s i : ℕ) → k < old.shard_len_64 → s < 32 → i < j * n → is_used wanted i ≡ true
-      → word new k s (pos + i) ≡ forward size shift (λ q. word old k s (pos + q)) i
-  pub rest : (k s m i : ℕ) → k < old.shard_len_64 → s < 32 → j ≤ m → m * n < size → i < n
-      → forward n (shift + m * n) (λ q. word new k s (pos + (m * n + q))) i ≡ forward size shift (λ q. word old k s (pos + q)) (m * n + i)
-
-pub forward_begun : (size n shift pos : ℕ) (wanted : UsedRows) (old new : ShardsRefMut) → SameShape old new → SameRowsOutside pos (pos + size) old new
-    → ((k s : ℕ) → k < old.shard_len_64 → s < 32 → ArePartsOf size n shift (λ q. word old k s (pos + q)) (λ q. word new k s (pos + q)))
-    → ForwardDone size n shift pos wanted 0 old new
-forward_begun size n shift pos wanted old new shape others parts = record {
-  shape = shape;
-  others = others;
-  values = λ k s i hk hs hi hw. absurd (let no : ⊥ = omega arith in no);
-  rest = λ k s m i hk hs hm within hi. parts k s hk hs m i within hi;
-}
-
-pub forward_next : (size n shift pos : ℕ) (wanted : UsedRows) (j : ℕ) (old mid new : ShardsRefMut) → IsPart size n → j * n < size
-    → ForwardDone size n shift pos wanted j old mid → SameShape mid new → SameRowsOutside (pos + j * n) (pos + j * n + n) mid new
-    → ((k s i : ℕ) → k < mid.shard_len_64 → s < 32 → i < n → is_used wanted (j * n + i) ≡ true
-    → word new k s (pos + j * n + i) ≡ forward n (shift + j * n) (λ q. word mid k s (pos + j * n + q)) i)
-    → ForwardDone size n shift pos wanted (j + 1) old new
-forward_next size n shift pos wanted j old mid new p begins done shape others step = record {
-  shape = shape_then old mid new done.shape shape;
-  others =
-      let inside = part_within size n j p begins in
-      outside_both pos (pos + size) (pos + j * n) (pos + j * n + n) pos (pos + size) old mid new done.shape done.others others
-      (omega arith) (omega arith) (omega arith) (omega arith);
-  values = λ k s i hk hs hi hw. elim (cases_lt i (j * n)) [
-    | inl before ↦
-        word_same new mid k s (pos + i) (pos + i) (unchanged (pos + i) k hk (inl (omega arith))) ∙ done.values k s i hk hs before hw
-    | inr from ↦
-        let r : ℕ = i - j * n in
-        let back : j * n + r ≡ i = omega arith in
-        let there : pos + i ≡ pos + j * n + r = omega arith in
-        let low : r < n = omega arith in
-        ap (word new k s) there ∙ step k s r (omega (arith, len)) hs low (subst (λ (m : ℕ). is_used wanted m ≡ true) (sym back) hw) ∙ placed mid k s n (shift + j * n) pos (j * n) r
-        ∙ done.rest k s j r hk hs (omega arith) (omega arith) low ∙ ap (forward size shift (λ q. word old k s (pos + q))) back
-  ];
-  rest = λ k s m i hk hs hm within hi.
-      let le : (j + 1) * n ≤ m * n = mul-le-mul_right n hm in
-      kept mid new k s n (shift + m * n) pos (m * n) i (λ q hq. unchanged (pos + (m * n + q)) k hk (inr (omega arith)))
-      ∙ done.rest k s m i hk hs (omega arith) within hi;
-}
-  where
-    len : mid.shard_len_64 ≡ old.shard_len_64
-    len = done.shape.len_64
-
-    unchanged : (r k : ℕ) → k < old.shard_len_64 → (r < pos + j * n) ⊎ (pos + j * n + n ≤ r) → cell new k r ≡ cell mid k r
-    unchanged r k hk h = outside_cell (pos + j * n) (pos + j * n + n) mid new shape others r k (omega (arith, len)) h
-
--- ---- backward
+-- ---- the loop
 
 -- the parts before the j-th are transformed, and the rows from there on are unchanged
-pub record BackwardDone (size n shift pos j : ℕ) (old new : ShardsRefMut) : Type 0 where
+pub record PartsDone (direction : Direction) (used : ℕ → Bool) (size n shift pos j : ℕ) (old new : ShardsRefMut) : Type 0 where
   pub shape : SameShape old new
   pub others : SameRowsOutside pos (pos + size) old new
-  pub values : (k s m i : ℕ) → k < old.shard_len_64 → s < 32 → m < j → i < n
-      → word old k s (pos + (m * n + i)) ≡ forward n (shift + m * n) (λ q. word new k s (pos + (m * n + q))) i
+  pub values : (k s m : ℕ) → k < old.shard_len_64 → s < 32 → m < j
+      → AreTransformed direction (λ i. used (m * n + i)) n (shift + m * n) (λ q. word old k s (pos + (m * n + q))) (λ q. word new k s (pos + (m * n + q)))
   pub rest : (k i : ℕ) → k < old.shard_len_64 → j * n ≤ i → i < size → cell new k (pos + i) ≡ cell old k (pos + i)
 
-pub backward_begun : (size n shift pos : ℕ) (rows : ShardsRefMut) → BackwardDone size n shift pos 0 rows rows
-backward_begun size n shift pos rows = record {
+pub parts_begun : (direction : Direction) (used : ℕ → Bool) (size n shift pos : ℕ) (rows : ShardsRefMut) → PartsDone direction used size n shift pos 0 rows rows
+parts_begun direction used size n shift pos rows = record {
   shape = record { name = refl; count = refl; len_64 = refl; length = refl };
   others = λ k h. refl;
-  values = λ k s m i hk hs hm hi. absurd (let no : ⊥ = omega arith in no);
+  values = λ k s m hk hs hm. absurd (let no : ⊥ = omega arith in no);
   rest = λ k i hk from to. refl;
 }
 
-pub backward_next : (size n shift pos j : ℕ) (old mid new : ShardsRefMut) → IsPart size n → j * n < size
-    → BackwardDone size n shift pos j old mid → SameShape mid new → SameRowsOutside (pos + j * n) (pos + j * n + n) mid new
-    → ((k s i : ℕ) → k < mid.shard_len_64 → s < 32 → i < n
-    → word mid k s (pos + j * n + i) ≡ forward n (shift + j * n) (λ q. word new k s (pos + j * n + q)) i)
-    → BackwardDone size n shift pos (j + 1) old new
-backward_next size n shift pos j old mid new p begins done shape others step = record {
+pub parts_next : (direction : Direction) (used used' : ℕ → Bool) (size n shift pos j : ℕ) (old mid new : ShardsRefMut) → IsPart size n → j * n < size
+    → PartsDone direction used size n shift pos j old mid → SameShape mid new → SameRowsOutside (pos + j * n) (pos + j * n + n) mid new
+    → ((i : ℕ) → i < n → used' i ≡ used (j * n + i))
+    → ((k s : ℕ) → k < mid.shard_len_64 → s < 32
+    → AreTransformed direction used' n (shift + j * n) (λ q. word mid k s (pos + j * n + q)) (λ q. word new k s (pos + j * n + q)))
+    → PartsDone direction used size n shift pos (j + 1) old new
+parts_next direction used used' size n shift pos j old mid new p begins done shape others same step = record {
   shape = shape_then old mid new done.shape shape;
   others =
       outside_both pos (pos + size) (pos + j * n) (pos + j * n + n) pos (pos + size) old mid new done.shape done.others others
       (omega arith) (omega arith) (omega arith) (omega (arith, inside));
-  values = λ k s m i hk hs hm hi. elim (cases_lt m j) [
+  values = λ k s m hk hs hm. elim (cases_lt m j) [
     | inl before ↦
         let next : m + 1 ≤ j = omega arith in
         let le : (m + 1) * n ≤ j * n = mul-le-mul_right n next in
-        done.values k s m i hk hs before hi
-        ∙ sym (kept mid new k s n (shift + m * n) pos (m * n) i (λ q hq. unchanged (pos + (m * n + q)) k hk (inl (omega arith))))
+        transformed_same direction (λ i. used (m * n + i)) (λ i. used (m * n + i)) n (shift + m * n)
+        (part old k s m) (part mid k s m) (part old k s m) (part new k s m) (λ q hq. refl)
+        (λ q hq. word_same new mid k s (pos + (m * n + q)) (pos + (m * n + q)) (unchanged (pos + (m * n + q)) k hk (inl (omega arith))))
+        (λ q hq. refl) (done.values k s m hk hs before)
     | inr after ↦
-        let last : m ≡ j = omega arith in
-        subst (λ (v : ℕ). word old k s (pos + (v * n + i)) ≡ forward n (shift + v * n) (λ q. word new k s (pos + (v * n + q))) i) (sym last) (latest k s i hk hs hi)
+        let last : j ≡ m = omega arith in
+        subst (λ (v : ℕ). AreTransformed direction (λ i. used (v * n + i)) n (shift + v * n) (part old k s v) (part new k s v)) last
+        (transformed_same direction used' (λ i. used (j * n + i)) n (shift + j * n) (λ q. word mid k s (pos + j * n + q)) (λ q. word new k s (pos + j * n + q))
+        (part old k s j) (part new k s j)
+        (λ q hq.
+        sym (word_same mid old k s (pos + (j * n + q)) (pos + (j * n + q)) (done.rest k (j * n + q) hk (omega arith) (omega (arith, inside))))
+        ∙ there mid k s q)
+        (λ q hq. there new k s q) same (step k s (omega (arith, len)) hs))
   ];
   rest = λ k i hk from to. unchanged (pos + i) k hk (inr (omega arith)) ∙ done.rest k i hk (omega arith) to;
 }
@@ -135,34 +85,75 @@ backward_next size n shift pos j old mid new p begins done shape others step = r
     len : mid.shard_len_64 ≡ old.shard_len_64
     len = done.shape.len_64
 
+    part : ShardsRefMut → ℕ → ℕ → ℕ → ℕ → ℕ
+    part rows k s m q = word rows k s (pos + (m * n + q))
+
+    there : (rows : ShardsRefMut) (k s q : ℕ) → word rows k s (pos + (j * n + q)) ≡ word rows k s (pos + j * n + q)
+    there rows k s q = ap (word rows k s) (let e : pos + (j * n + q) ≡ pos + j * n + q = omega arith in e)
+
     unchanged : (r k : ℕ) → k < old.shard_len_64 → (r < pos + j * n) ⊎ (pos + j * n + n ≤ r) → cell new k r ≡ cell mid k r
     unchanged r k hk h = outside_cell (pos + j * n) (pos + j * n + n) mid new shape others r k (omega (arith, len)) h
 
-    latest : (k s i : ℕ) → k < old.shard_len_64 → s < 32 → i < n
-        → word old k s (pos + (j * n + i)) ≡ forward n (shift + j * n) (λ q. word new k s (pos + (j * n + q))) i
-    latest k s i hk hs hi =
-        let there : pos + (j * n + i) ≡ pos + j * n + i = omega arith in
-        sym (word_same mid old k s (pos + (j * n + i)) (pos + (j * n + i)) (done.rest k (j * n + i) hk (omega arith) (omega (arith, inside))))
-        ∙ ap (word mid k s) there ∙ step k s i (omega (arith, len)) hs hi ∙ placed new k s n (shift + j * n) pos (j * n) i
+-- rows of a part that aren't used are zero as long as they are unchanged
+pub zeros_of_part : (direction : Direction) (used part : UsedRows) (old mid : ShardsRefMut) (pos size start n : ℕ) → start + n ≤ size
+    → mid.shard_len_64 ≡ old.shard_len_64
+    → ((k i : ℕ) → k < old.shard_len_64 → start ≤ i → i < size → cell mid k (pos + i) ≡ cell old k (pos + i))
+    → ((i : ℕ) → i < n → is_used part i ≡ is_used used (start + i))
+    → UnusedAreZeroBackward direction used pos size old → UnusedAreZeroBackward direction part (pos + start) n mid
+zeros_of_part Direction.Forward used part old mid pos size start n inside len kept same zeros = omega arith
+zeros_of_part Direction.Backward used part old mid pos size start n inside len kept same zeros = λ i k hk hi unused.
+    let at : pos + (start + i) ≡ pos + start + i = omega arith in
+    let zero = zeros (start + i) k (omega (arith, len)) (omega arith) (sym (same i hi) ∙ unused) in
+    subst (λ (p : ℕ). cell mid k p ≡ replicate 64 0) at (kept k (start + i) (omega (arith, len)) (omega arith) (omega arith) ∙ zero)
 
--- all parts, and then the layers
-pub backward_whole : (size n shift pos j k s i : ℕ) (old mid new : ShardsRefMut) → IsPart size n → size ≤ j * n → BackwardDone size n shift pos j old mid
-    → ArePartsOf size n shift (λ q. word new k s (pos + q)) (λ q. word mid k s (pos + q)) → k < old.shard_len_64 → s < 32 → i < size
-    → word old k s (pos + i) ≡ forward size shift (λ q. word new k s (pos + q)) i
-backward_whole size n shift pos j k s i old mid new p all done parts hk hs hi =
+-- a part that begins in the block is one of them
+pub part_before : (size n m j : ℕ) → j * n ≡ size → m * n < size → m < j
+part_before size n m j all within = elim (cases_lt m j) [
+  | inl before ↦ before
+  | inr past ↦ let le : j * n ≤ m * n = mul-le-mul_right n past in absurd (let no : ⊥ = omega arith in no)
+]
+
+-- ---- the parts and the layers
+
+-- values that are transforms of parts, of which the layers are the parts of the whole
+joined : (size n shift i : ℕ) (values parts whole : ℕ → ℕ) → IsPart size n → ArePartsOf size n shift whole parts → i < size
+    → ((m r : ℕ) → m * n < size → r < n → m * n + r ≡ i → values (m * n + r) ≡ forward n (shift + m * n) (λ q. parts (m * n + q)) r)
+    → values i ≡ forward size shift whole i
+joined size n shift i values parts whole p layers hi done =
     let m : ℕ = i / n in
     let r : ℕ = i % n in
     let low : r < n = mod-lt i p.positive in
     let back : m * n + r ≡ i = div-add-mod' i n in
     let within : m * n < size = omega arith in
-    let before : m < j = elim (cases_lt m j) [
-      | inl h ↦ h
-      | inr past ↦ let le : j * n ≤ m * n = mul-le-mul_right n past in absurd (let no : ⊥ = omega arith in no)
-    ] in
-    ap (λ v. word old k s (pos + v)) (sym back)
-    ∙ done.values k s m r hk hs before low
-    ∙ parts m r within low
-    ∙ ap (forward size shift (λ q. word new k s (pos + q))) back
+    ap values (sym back) ∙ done m r within low back ∙ layers m r within low ∙ ap (forward size shift whole) back
+
+pub forward_whole : (size n shift : ℕ) (used : ℕ → Bool) (old mid new : ℕ → ℕ) → IsPart size n → ArePartsOf size n shift old mid
+    → ((m : ℕ) → m * n < size → AreTransformed Direction.Forward (λ i. used (m * n + i)) n (shift + m * n) (λ q. mid (m * n + q)) (λ q. new (m * n + q)))
+    → AreTransformed Direction.Forward used size shift old new
+forward_whole size n shift used old mid new p layers done =
+    λ i hi is. joined size n shift i new mid old p layers hi (λ m r hm hr e. done m hm r hr (ap used e ∙ is))
+
+pub backward_whole : (size n shift : ℕ) (used : ℕ → Bool) (old mid new : ℕ → ℕ) → IsPart size n → ArePartsOf size n shift new mid
+    → ((m : ℕ) → m * n < size → AreTransformed Direction.Backward (λ i. used (m * n + i)) n (shift + m * n) (λ q. old (m * n + q)) (λ q. mid (m * n + q)))
+    → AreTransformed Direction.Backward used size shift old new
+backward_whole size n shift used old mid new p layers done = λ i hi. joined size n shift i old mid new p layers hi (λ m r hm hr e. done m hm r hr)
+
+-- ---- blocks with nothing to do
+
+-- no row is used
+pub none_used : (direction : Direction) (used : UsedRows) (rows : ShardsRefMut) (k s pos size shift : ℕ) → k < rows.shard_len_64 → s < 32
+    → ((i : ℕ) → is_used used i ≡ false) → UnusedAreZeroBackward direction used pos size rows
+    → AreTransformed direction (is_used used) size shift (λ q. word rows k s (pos + q)) (λ q. word rows k s (pos + q))
+none_used Direction.Forward used rows k s pos size shift hk hs none zeros =
+    λ i hi is. absurd (let no : true ≡ false = sym is ∙ none i in let never : ⊥ = cc in never)
+none_used Direction.Backward used rows k s pos size shift hk hs none zeros =
+    λ i hi. zero_rows rows k s pos size shift i hs hi (λ q hq. zeros q k hk hq (none q))
+
+-- there is at most one row
+pub one_used : (direction : Direction) (used : ℕ → Bool) (size shift : ℕ) (f : ℕ → ℕ) → size < 2 → (0 < size → f 0 < 65536)
+    → AreTransformed direction used size shift f f
+one_used Direction.Forward used size shift f few words = λ i hi is. one_row size shift i f (omega arith) hi (words (omega arith))
+one_used Direction.Backward used size shift f few words = λ i hi. one_row size shift i f (omega arith) hi (words (omega arith))
 
 -- ---- blocks whose parts are single rows
 
@@ -193,12 +184,17 @@ counts_of_layers block from to large c =
     counts_within (layer_steps size) (transform_steps size) from to (let whole = p.steps in omega arith) (counts_rows (layer_steps size) from to c)
 
 -- one more part
-pub counts_next : (a t j : ℕ) (from mid to : Steps) → CountsUpTo (a + j * t) 0 0 from mid → CountsUpTo t 0 0 mid to → CountsUpTo (a + (j + 1) * t) 0 0 from to
-counts_next a t j from mid to p q = counts_within (a + j * t + t) (a + (j + 1) * t) from to (omega arith) (counts_then (a + j * t) t from mid to p q)
+pub counts_next : (t j : ℕ) (from mid to : Steps) → CountsUpTo (j * t) 0 0 from mid → CountsUpTo t 0 0 mid to → CountsUpTo ((j + 1) * t) 0 0 from to
+counts_next t j from mid to p q = counts_within (j * t + t) ((j + 1) * t) from to (omega arith) (counts_then (j * t) t from mid to p q)
 
--- the layers and some parts are no more than the whole
-pub counts_of_parts : (size n j : ℕ) (from to : Steps) (p : IsPart size n) → j ≤ p.count → CountsUpTo (layer_steps size + j * transform_steps n) 0 0 from to
-    → TransformCounts size from to
+-- some parts are no more than what the layers leave
+pub counts_of_parts : (size n j : ℕ) (from to : Steps) (p : IsPart size n) → j ≤ p.count → CountsUpTo (j * transform_steps n) 0 0 from to
+    → PartCounts size from to
 counts_of_parts size n j from to p few c =
     let le : j * transform_steps n ≤ p.count * transform_steps n = mul-le-mul_right (transform_steps n) few in
-    counts_within (layer_steps size + j * transform_steps n) (transform_steps size) from to (let whole = p.steps in omega arith) c
+    counts_within (j * transform_steps n) (transform_steps size - layer_steps size) from to (let whole = p.steps in omega arith) c
+
+-- and with the layers they are the whole
+pub counts_of_whole : (size a b : ℕ) (from mid to : Steps) → a + b ≤ transform_steps size → CountsUpTo a 0 0 from mid → CountsUpTo b 0 0 mid to
+    → TransformCounts size from to
+counts_of_whole size a b from mid to few p q = counts_within (a + b) (transform_steps size) from to few (counts_then a b from mid to p q)

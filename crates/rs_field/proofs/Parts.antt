@@ -8,6 +8,7 @@ use Rattle.rs_field.specs.Bounds.{transform_steps}
 use Rattle.rs_field.proofs.Halves.{quarter_power, no_steps, steps_half, steps_quarters}
 use Rattle.rs_field.proofs.NextPower.{own_is_power}
 use Rattle.rs_field.specs.declared.engine.block.Block.{Block}
+use Rattle.std.proofs.lemmas.Grind.{common_steps}
 
 pub part_of_two : (size : ℕ) → size ≡ 2 → rows_of_part size ≡ 1
 unfolding rows_of_part
@@ -100,12 +101,7 @@ parts_number size n p = ap (λ v. v / n) p.whole ∙ mul-div_cancel p.count p.po
 
 -- each begins in it
 pub part_begins : (size n j : ℕ) → IsPart size n → j < size / n → j * n < size
-part_begins size n j p h =
-    let next : j + 1 ≤ p.count = omega (arith, parts_number size n p) in
-    let le : (j + 1) * n ≤ p.count * n = mul-le-mul_right n next in
-    let whole = p.whole in
-    let positive = p.positive in
-    omega arith
+part_begins size n j p h = grind (arith, common_steps)
 
 -- and together they are all of it
 pub parts_whole : (size n j : ℕ) → IsPart size n → j ≡ size / n → j * n ≡ size

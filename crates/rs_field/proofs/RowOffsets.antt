@@ -1,13 +1,39 @@
 -- Where row i of rows of n chunks lies among the chunks, and what is unchanged outside some rows.
-use Rattle.std.proofs.Common.{◌≡◌, ℕ, zero, suc, ◌+◌, ◌-◌, ◌*◌, ◌<◌, ◌≤◌, ◌⊎◌, ◌≢◌, inl, inr, arith, ap, ◌∙◌, subst, sym}
+use Rattle.std.proofs.Common.{◌≡◌, ℕ, zero, suc, [], ◌+◌, ◌-◌, ◌*◌, ◌<◌, ◌≤◌, ◌⊎◌, ◌≢◌, length, take, drop, inl, inr, arith, ap, ◌∙◌, subst, sym}
 use Rattle.std.proofs.Math.Nat.{mul-le-mul_right}
 use Rattle.std.proofs.lemmas.Bool.{cases_lt}
-use Rattle.rs_field.specs.Rows.{chunk, SameOutside, SameOutsideTwo}
+use Rattle.std.proofs.lemmas.Grind.{common_steps}
+use Rattle.std.proofs.lemmas.List.{get_or-take, get_or-drop}
+use borrow.Rule.Slice.PartMut.{put_mid}
+use Rattle.rs_field.specs.Rows.{Chunks, chunk, SameOutside}
 use Rattle.rs_field.specs.View.{cell, SameShape, SameRowsOutside, SameRowsOutsideTwo}
 use Rattle.rs_field.specs.declared.engine.shards.ShardsRefMut.{ShardsRefMut}
 
 pub row_ends : (i m n : ℕ) → i < m → i * n + n ≤ m * n
 row_ends i m n h = let p : (i + 1) * n ≤ m * n = mul-le-mul_right n (omega arith) in omega arith
+
+-- some rows end before a later row begins, and within the rows
+pub rows_end : (a count m n : ℕ) → a + count ≤ m → a * n + count * n ≤ m * n
+rows_end a count m n h = let p : (a + count) * n ≤ m * n = mul-le-mul_right n h in omega arith
+
+-- chunk k of row i of m rows
+pub row_within : (i m k n : ℕ) → i < m → k < n → i * n + k < m * n
+row_within i m k n hi hk = let ends = row_ends i m n hi in omega arith
+
+-- chunk k of row i, at place p of m chunks from a place on
+pub cell_of_part : (rows : ShardsRefMut) (start m i k p : ℕ) → start + p ≡ i * rows.shard_len_64 + k → p < m
+    → chunk (take m (drop start rows.chunks.now)) p ≡ cell rows k i
+unfolding cell
+cell_of_part rows start m i k p at low =
+    get_or-take m (drop start rows.chunks.now) p [] low ∙ get_or-drop start rows.chunks.now p [] ∙ ap (chunk rows.chunks.now) at
+
+-- and where other chunks were put in their place
+pub cell_of_put : (rows : ShardsRefMut) (old part : Chunks) (start m i k p : ℕ) → rows.chunks.now ≡ put_mid start m old part → start ≤ length old
+    → start + p ≡ i * rows.shard_len_64 + k → p < length part → chunk part p ≡ cell rows k i
+unfolding cell
+cell_of_put rows old part start m i k p put begins at low =
+    let placed : chunk (put_mid start m old part) (start + p) ≡ chunk part p = grind (arith, common_steps) in
+    sym placed ∙ ap (chunk (put_mid start m old part)) at ∙ ap (λ chunks. chunk chunks (i * rows.shard_len_64 + k)) (sym put)
 
 -- a chunk of a row below a lies before row a, and one of a row from b on lies from row b on
 pub offset_outside : (a b i k n : ℕ) → k < n → (i < a) ⊎ (b ≤ i) → (i * n + k < a * n) ⊎ (b * n ≤ i * n + k)
@@ -40,24 +66,6 @@ outside_both a b c d e f old mid new shape first second ea bf ec df k h =
     subst (λ (m : ℕ). SameOutside (c * m) (d * m) mid.chunks.now new.chunks.now) shape.len_64 second in
     then k (elim h [ inl before ↦ inl (omega arith) | inr after ↦ inr (omega arith) ])
     ∙ first k (elim h [ inl before ↦ inl (omega arith) | inr after ↦ inr (omega arith) ])
-
--- the same where all but two ranges of rows are unchanged
-pub outside_two_cell : (a b c d : ℕ) (old new : ShardsRefMut) → SameShape old new → SameRowsOutsideTwo a b c d old new
-    → (i k : ℕ) → k < old.shard_len_64 → (i < a) ⊎ (b ≤ i) → (i < c) ⊎ (d ≤ i) → cell new k i ≡ cell old k i
-unfolding cell
-outside_two_cell a b c d old new shape others i k hk h h' =
-    ap (λ n. chunk new.chunks.now (i * n + k)) shape.len_64
-    ∙ others (i * old.shard_len_64 + k) (offset_outside a b i k old.shard_len_64 hk h) (offset_outside c d i k old.shard_len_64 hk h')
-
--- one more row of each of two ranges was changed
-pub outside_two_next : (a b i : ℕ) (old mid new : ShardsRefMut) → SameShape old mid → SameRowsOutsideTwo a (a + i) b (b + i) old mid
-    → SameRowsOutsideTwo (a + i) (a + i + 1) (b + i) (b + i + 1) mid new → SameRowsOutsideTwo a (a + (i + 1)) b (b + (i + 1)) old new
-outside_two_next a b i old mid new shape first second k h h' =
-    let n : ℕ = old.shard_len_64 in
-    let then : SameOutsideTwo ((a + i) * n) ((a + i + 1) * n) ((b + i) * n) ((b + i + 1) * n) mid.chunks.now new.chunks.now =
-    subst (λ (m : ℕ). SameOutsideTwo ((a + i) * m) ((a + i + 1) * m) ((b + i) * m) ((b + i + 1) * m) mid.chunks.now new.chunks.now) shape.len_64 second in
-    then k (elim h [ inl before ↦ inl (omega arith) | inr after ↦ inr (omega arith) ]) (elim h' [ inl before ↦ inl (omega arith) | inr after ↦ inr (omega arith) ])
-    ∙ first k (elim h [ inl before ↦ inl before | inr after ↦ inr (omega arith) ]) (elim h' [ inl before ↦ inl before | inr after ↦ inr (omega arith) ])
 
 -- where the rows of the second range hold the same chunks as before, the first range alone was changed
 pub outside_first : (a b count : ℕ) (old new : ShardsRefMut) → SameShape old new → SameRowsOutsideTwo a (a + count) b (b + count) old new

@@ -1,28 +1,22 @@
 -- A run of a slice's elements is lent as a slice, and two are.
-use mathlib.Core.Path.{◌≡◌, refl, sym, ap, ◌∙◌}
-use Prim.Native.Nat.{ℕ, ◌+◌}
-use native.Mathlib.Omega.{arith}
-use mathlib.Core.List.{List, [], ◌∷◌, ◌++◌}
-use lib.ListN.{length, length-append}
+use Rattle.rs_field.proofs.Walking.{◌≡◌, refl, sym, ap, ◌∙◌, ℕ, ◌+◌, arith, List, [], ◌∷◌, ◌++◌, length, Val, Lft, flft, ‵, ◌⊛◌, ◌$◌, ◌∵◌, !, qed}
+use Rattle.rs_field.proofs.Walking.{move, drop, fsplit, fsplit3, fjoin, await, later, some, use1, use2, group, pick, done, split, split3, rewrite}
+use Rattle.rs_field.proofs.Walking.{feq_l, feq_i, join, MutBor, RattleType, Array, MutSlice, Room, slice_val, follows_both, at}
+use lib.ListN.{length-append}
 use seplogic.Ra.Ura.{Ura}
 use mir.Syntax.{Lifetime}
-use mir.Val.{Val}
 use base.Logic.{SProp, ent, sep, ex, wand}
 use base.Stored.{coded_list}
-use base.Fml.{Lft, GName, Share, flft, fobs, fbor, fres}
+use base.Fml.{GName, Share, fobs, fbor, fres}
 use types.Logic.{Logic, sem}
-use types.Kit.{Item, by, each, assume, ‵, ◌⊛◌, ◌$◌, ◌∵◌, !, qed, move, drop, fsplit, fsplit3, fjoin, updating, await, later, some, use1, use2, group, pick, now, show, done, split, split3, rewrite, feq_l, feq_i, join}
+use types.Kit.{Item, by, each, assume, updating, now, show}
 use types.SemTy.{SemTy, cells, Arr, Body}
-use denote.Ref.{MutBor}
 use types.Follow.{after₂, takes_part, takes_two, followed₂}
 use types.Mut.{open_ref}
-use denote.RattleType.{RattleType}
 use denote.Memory.{mem}
-use denote.Array.{Array}
-use denote.Slice.{MutSlice, Room, slice_val}
-use denote.Follow.{follows, follows_both, both_by, followed}
+use denote.Follow.{follows, both_by, followed}
 use denote.FollowSlice.{heres_id, slice_of}
-use borrow.Table.Elements.{at, cut_app, join_app}
+use borrow.Table.Elements.{cut_app, join_app}
 
 module _ {M : Type 1} {𝓤 : Ura M} (𝓛 : Logic 𝓤) (ℓ : Lifetime) (κ : Lft) (q : Share) (b o : ℕ) (γ : GName) (R : RattleType) (xs front mid back : List R.Denot) (cut : xs ≡ front ++ (mid ++ back)) (p : ℕ) (on : at o (mem R).size (length front) ≡ p) where
   open 𝓛 use {H, A}

@@ -5,6 +5,7 @@ use Rattle.std.specs.Int.Bits.{and_step, xor_add_and, and_lt, and_le_l}
 use Rattle.std.proofs.lemmas.Nat.{xor_shr}
 use Rattle.std.specs.Int.Count.{ones_step}
 use Rattle.rs_field.specs.Walsh.{sign}
+use Rattle.std.proofs.lemmas.Grind.{common_steps}
 
 -- how many bits two words share
 abbrev shared : ℕ → ℕ → ℕ
@@ -48,12 +49,7 @@ pub sign-left : (e w y : ℕ) → w < 2 ^ e → y < 2 ^ e → sign (2 ^ e + w) y
 sign-left e w y hw hy = sign-comm (2 ^ e + w) y ∙ sign-right e y w hy hw ∙ sign-comm y w
 
 sign_turns : (p : ℕ) → sign_at ((1 + p) % 2) % 65535 ≡ 65534 * sign_at (p % 2) % 65535
-sign_turns p = ap (λ v. sign_at v % 65535) (let r : (1 + p) % 2 ≡ (1 + p % 2) % 2 = omega arith in r) ∙ of_bit (p % 2) (mod-lt p (let two : 0 < 2 = omega arith in two))
-  where
-    of_bit : (q : ℕ) → q < 2 → sign_at ((1 + q) % 2) % 65535 ≡ 65534 * sign_at q % 65535
-    of_bit zero h = refl
-    of_bit (suc zero) h = refl
-    of_bit (suc (suc q)) h = absurd (let no : ⊥ = omega arith in no)
+sign_turns p = grind (arith, common_steps)
 
 pub sign-both : (e w y : ℕ) → w < 2 ^ e → y < 2 ^ e → sign (2 ^ e + w) (2 ^ e + y) % 65535 ≡ 65534 * sign w y % 65535
 sign-both e w y hw hy =

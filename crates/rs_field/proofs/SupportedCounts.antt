@@ -1,16 +1,12 @@
 -- What it means that a rate supports the counts.
-use Rattle.std.proofs.Common.{◌≡◌, ℕ, ◌+◌, ◌<◌, ◌≤◌, Bool, true, false, min, max, arith}
-use Rattle.std.specs.Prelude.{nat_le, nat_lt, ◌&&◌, ◌||◌, ◌==◌}
-use Rattle.std.proofs.lemmas.Bool.{and_parts, leb-true, ltb-true}
-use Rattle.std.proofs.lemmas.Bool.Decides.{nat_tests}
+use Rattle.std.proofs.Common.{◌≡◌, ℕ, ◌+◌, ◌<◌, ◌≤◌, true, false, min, max, arith}
+use Rattle.std.specs.Prelude.{nat_le, nat_lt, ◌&&◌}
 use Rattle.rs_field.specs.Counts.{low_rate, high_rate, default_rate, next_power, supports, is_low}
+use Rattle.std.proofs.lemmas.Grind.{common_steps}
 
 -- what it means that two counts are positive and a sum of theirs is within the field's order
 fits : (k r n : ℕ) → (nat_lt 0 k && nat_lt 0 r && nat_le n 65536) ≡ true → (0 < k) × (0 < r) × (n ≤ 65536)
-fits k r n is =
-    let tests = and_parts (nat_lt 0 k && nat_lt 0 r) (nat_le n 65536) is in
-    let some = and_parts (nat_lt 0 k) (nat_lt 0 r) tests.0 in
-    (ltb-true 0 k some.0, ltb-true 0 r some.1, leb-true n 65536 tests.1)
+fits k r n is = grind (arith, common_steps)
 
 pub low_fits : (k r : ℕ) → supports low_rate k r ≡ true → (0 < k) × (0 < r) × (next_power k + r ≤ 65536)
 unfolding supports
@@ -27,16 +23,8 @@ default_fits k r is = fits k r (min (next_power k) (next_power r) + max k r) is
 -- where the default rate is the low rate, k's power is not above r's; else r's is not above k's
 pub low_powers : (k r : ℕ) → is_low default_rate k r ≡ true → next_power k ≤ next_power r
 unfolding is_low
-low_powers k r low = by_tests (next_power k) (next_power r) (nat_lt r k) low
-  where
-    by_tests : (a b : ℕ) (c : Bool) → (nat_lt a b || ((a == b) && c)) ≡ true → a ≤ b
-    by_tests a b true h = grind (arith, nat_tests)
-    by_tests a b false h = grind (arith, nat_tests)
+low_powers k r low = grind (arith, common_steps)
 
 pub high_powers : (k r : ℕ) → is_low default_rate k r ≡ false → next_power r ≤ next_power k
 unfolding is_low
-high_powers k r high = by_tests (next_power k) (next_power r) (nat_lt r k) high
-  where
-    by_tests : (a b : ℕ) (c : Bool) → (nat_lt a b || ((a == b) && c)) ≡ false → b ≤ a
-    by_tests a b true h = grind (arith, nat_tests)
-    by_tests a b false h = grind (arith, nat_tests)
+high_powers k r high = grind (arith, common_steps)

@@ -1,11 +1,11 @@
 -- The ranges of counts that the default rate supports.
 use Rattle.std.proofs.Common.{◌≡◌, ℕ, ◌+◌, ◌^◌, ◌<◌, ◌≤◌, ◌⊎◌, true, min, max, inl, inr, arith, pow_mono}
-use Rattle.std.specs.Prelude.{nat_le, nat_lt, ◌&&◌}
-use Rattle.std.proofs.lemmas.Bool.{cases_lt, lt-ltb, le-leb, and_from}
+use Rattle.std.proofs.lemmas.Bool.{cases_lt}
 use Rattle.rs_field.specs.Counts.{default_rate, next_power, supports}
 use Rattle.rs_field.specs.CountLaws.{AreBeside}
 use Rattle.rs_field.proofs.NextPower.{next_power-small, next_power-least}
 use Rattle.rs_field.proofs.SupportedCounts.{default_fits}
+use Rattle.std.proofs.lemmas.Grind.{common_steps}
 
 -- a power of two below the field's order is at most half of it
 half_most : (n : ℕ) → 2 ^ n < 65536 → (n < 64) × (2 ^ n ≤ 32768)
@@ -17,9 +17,7 @@ half_most n h = elim (cases_lt n 16) [
 -- positive counts are supported where the smaller power and the larger count are within the field's order
 fit : (k r : ℕ) → 0 < k → 0 < r → min (next_power k) (next_power r) + max k r ≤ 65536 → supports default_rate k r ≡ true
 unfolding supports
-fit k r some_k some_r room =
-    and_from (nat_lt 0 k && nat_lt 0 r) (nat_le (min (next_power k) (next_power r) + max k r) 65536)
-    (and_from (nat_lt 0 k) (nat_lt 0 r) (lt-ltb 0 k some_k) (lt-ltb 0 r some_r)) (le-leb (min (next_power k) (next_power r) + max k r) 65536 room)
+fit k r some_k some_r room = grind (arith, common_steps)
 
 -- where one count is below a power of two, and the other below what that leaves, they fit
 beside_fit : (n few many : ℕ) → 0 < many → few ≤ 2 ^ n → many + 2 ^ n ≤ 65536 → min (next_power few) (next_power many) + max few many ≤ 65536

@@ -3,12 +3,13 @@ use Rattle.std.proofs.Common.{◌≡◌, ℕ, zero, suc, ◌+◌, ◌-◌, ◌*�
 use Rattle.std.specs.Prelude.{nat_lt}
 use Rattle.std.specs.Int.Bits.{xor_comm, xor_zero_l}
 use Rattle.std.proofs.Math.Nat.{mul-le-mul_right}
-use Rattle.std.proofs.lemmas.Bool.{cases_lt, lt-ltb, le-ltb}
+use Rattle.std.proofs.lemmas.Bool.{cases_lt, lt-ltb}
 use Rattle.rs_field.specs.Field.{product}
 use Rattle.rs_field.specs.Subspace.{subspace}
 use Rattle.rs_field.specs.Transform.{sum_below, forward}
 use Rattle.rs_field.proofs.Combination.{sum_below-suc, sum_below-zero, sum_below-add, sum_below-same, lower_half, upper_half}
 use Rattle.rs_field.proofs.Halves.{shift_half, few_halves, xor_undo}
+use Rattle.std.proofs.lemmas.Grind.{common_steps}
 
 -- ---- the coefficients behind many blocks
 
@@ -23,10 +24,7 @@ paired-first half c a b q h =
 
 paired-second : (half c : ℕ) (a b : ℕ → ℕ) (q : ℕ) → paired half c a b (half + q) ≡ bit_xor (a q) (b q)
 unfolding paired
-paired-second half c a b q =
-    let back : half + q - half ≡ q = omega arith in
-    ap (λ (t : Bool). cond t (bit_xor (a (half + q)) (product (bit_xor (a (half + q)) (b (half + q))) c)) (bit_xor (a (half + q - half)) (b (half + q - half)))) (le-ltb (half + q) half (omega arith))
-    ∙ ap (λ p. bit_xor (a p) (b p)) back
+paired-second half c a b q = grind (arith, common_steps)
 
 first_of : (half c : ℕ) (a b : ℕ → ℕ) (q : ℕ) → q < half → a q ≡ bit_xor (paired half c a b q) (product (paired half c a b (half + q)) c)
 first_of half c a b q h =

@@ -1,22 +1,21 @@
 -- Larger lanes of two vectors, and layers of sums and differences in 16 lanes.
-use Rattle.std.proofs.Common.{◌≡◌, ℕ, zero, suc, ◌+◌, ◌-◌, ◌*◌, ◌/◌, ◌%◌, ◌<◌, ◌≤◌, ◌^◌, false, cond, List, [], ◌∷◌, ◌++◌, map, length, get_or, max, inl, inr, refl, ap, ap₂, sym, ◌∙◌, arith, w16, Fits}
-use Rattle.std.specs.Prelude.{◌==◌, if◌then◌else◌}
+use Rattle.std.proofs.Common.{◌≡◌, ℕ, zero, suc, ◌+◌, ◌-◌, ◌*◌, ◌/◌, ◌%◌, ◌<◌, ◌≤◌, ◌^◌, Bool, true, false, ◌&&◌, cond, List, [], ◌∷◌, ◌++◌, map, length, get_or, max, refl, ap, ap₂, ◌∙◌, arith, w16, Fits}
+use Rattle.std.specs.Prelude.{◌==◌, if◌then◌else◌, nat_eq, nat_lt}
 use Rattle.std.specs.Simd.Lanes.{Each1}
 use Rattle.std.proofs.Math.Dec.{ltb}
 use Rattle.std.proofs.lemmas.Simd.{tops_compared, get_or-sel_l, length-sel_l, get_or-zip2, length-zip2}
-use Rattle.std.proofs.lemmas.List.{get_or-map, get_or_append_left, get_or-append-add}
-use Rattle.std.proofs.lemmas.Bool.{cases_lt, lt-ltb, le-ltb}
+use Rattle.std.proofs.lemmas.List.{get_or-map, get_or_append_left}
+use Rattle.std.proofs.lemmas.Bool.{and_parts, eqb-true, ltb-true}
 use Rattle.rs_field.specs.Walsh.{IsWalsh, IsLayer}
+use Rattle.rs_field.proofs.Linear.{passes_below, from_passes_below}
 use Rattle.rs_field.proofs.Halving.{walsh-halves, walsh-same, walsh-one}
 use lib.Lanes.{zip2, sel_l, top}
+use Rattle.std.proofs.lemmas.Grind.{common_steps}
 
 -- ---- the larger one of two lanes
 
 larger_chosen : (a b : ℕ) → cond (ltb a b) b a ≡ max a b
-larger_chosen a b = elim (cases_lt a b) [
-  | inl less ↦ ap (λ t. cond t b a) (lt-ltb a b less) ∙ omega arith
-  | inr least ↦ ap (λ t. cond t b a) (le-ltb a b least) ∙ omega arith
-]
+larger_chosen a b = grind (arith, common_steps)
 
 compared : (xs ys : List ℕ) → sel_l (map (top 15) (zip2 (λ a b. cond (ltb a b) 65535 0) xs ys)) ys xs ≡ sel_l (zip2 ltb xs ys) ys xs
 compared xs ys = ap (λ ms. sel_l ms ys xs) (tops_compared w16 ltb xs ys)
@@ -45,7 +44,7 @@ lane_below (x ∷ v) zero h = h.0.fits
 lane_below (x ∷ v) (suc i) h = lane_below v i h.1
 
 -- the sums of lanes m and k, which a swizzle and a shuffle brought together
-pub summed : (v w : List ℕ) (r m k : ℕ) → length v ≡ 16 → m < 16 → k < 16
+summed : (v w : List ℕ) (r m k : ℕ) → length v ≡ 16 → m < 16 → k < 16
     → r % 65535 ≡ (get_or (v ++ v) m 0 + get_or (v ++ w) k 0) % 65535 → r % 65535 ≡ (get_or v m 0 + get_or v k 0) % 65535
 summed v w r m k size hm hk e =
     e ∙ ap₂ (λ a b. (a + b) % 65535) (get_or_append_left v v 0 m (omega arith)) (get_or_append_left v w 0 k (omega arith))
@@ -53,37 +52,41 @@ summed v w r m k size hm hk e =
 -- a complement is the negative
 pub complement : (v : List ℕ) (k a : ℕ) → length v ≡ 16 → Each1 (Fits w16) v → k < 16
     → (a + get_or (map (λ n. 65535 - n) v) k 0) % 65535 ≡ (a + 65534 * get_or v k 0) % 65535
-complement v k a size fits h =
-    let small = lane_below v k fits in
-    ap (λ n. (a + n) % 65535) (get_or-map (λ n. 65535 - n) v k 0 0 (omega arith)) ∙ omega arith
-
-pub below_16 : (P : ℕ → Type 0) → P 0 → P 1 → P 2 → P 3 → P 4 → P 5 → P 6 → P 7 → P 8 → P 9 → P 10 → P 11 → P 12 → P 13 → P 14 → P 15 → (i : ℕ) → i < 16 → P i
-below_16 P p0 p1 p2 p3 p4 p5 p6 p7 p8 p9 p10 p11 p12 p13 p14 p15 zero h = p0
-below_16 P p0 p1 p2 p3 p4 p5 p6 p7 p8 p9 p10 p11 p12 p13 p14 p15 (suc zero) h = p1
-below_16 P p0 p1 p2 p3 p4 p5 p6 p7 p8 p9 p10 p11 p12 p13 p14 p15 (suc (suc zero)) h = p2
-below_16 P p0 p1 p2 p3 p4 p5 p6 p7 p8 p9 p10 p11 p12 p13 p14 p15 (suc (suc (suc zero))) h = p3
-below_16 P p0 p1 p2 p3 p4 p5 p6 p7 p8 p9 p10 p11 p12 p13 p14 p15 (suc (suc (suc (suc zero)))) h = p4
-below_16 P p0 p1 p2 p3 p4 p5 p6 p7 p8 p9 p10 p11 p12 p13 p14 p15 (suc (suc (suc (suc (suc zero))))) h = p5
-below_16 P p0 p1 p2 p3 p4 p5 p6 p7 p8 p9 p10 p11 p12 p13 p14 p15 (suc (suc (suc (suc (suc (suc zero)))))) h = p6
-below_16 P p0 p1 p2 p3 p4 p5 p6 p7 p8 p9 p10 p11 p12 p13 p14 p15 (suc (suc (suc (suc (suc (suc (suc zero))))))) h = p7
-below_16 P p0 p1 p2 p3 p4 p5 p6 p7 p8 p9 p10 p11 p12 p13 p14 p15 (suc (suc (suc (suc (suc (suc (suc (suc zero)))))))) h = p8
-below_16 P p0 p1 p2 p3 p4 p5 p6 p7 p8 p9 p10 p11 p12 p13 p14 p15 (suc (suc (suc (suc (suc (suc (suc (suc (suc zero))))))))) h = p9
-below_16 P p0 p1 p2 p3 p4 p5 p6 p7 p8 p9 p10 p11 p12 p13 p14 p15 (suc (suc (suc (suc (suc (suc (suc (suc (suc (suc zero)))))))))) h = p10
-below_16 P p0 p1 p2 p3 p4 p5 p6 p7 p8 p9 p10 p11 p12 p13 p14 p15 (suc (suc (suc (suc (suc (suc (suc (suc (suc (suc (suc zero))))))))))) h = p11
-below_16 P p0 p1 p2 p3 p4 p5 p6 p7 p8 p9 p10 p11 p12 p13 p14 p15 (suc (suc (suc (suc (suc (suc (suc (suc (suc (suc (suc (suc zero)))))))))))) h = p12
-below_16 P p0 p1 p2 p3 p4 p5 p6 p7 p8 p9 p10 p11 p12 p13 p14 p15 (suc (suc (suc (suc (suc (suc (suc (suc (suc (suc (suc (suc (suc zero))))))))))))) h = p13
-below_16 P p0 p1 p2 p3 p4 p5 p6 p7 p8 p9 p10 p11 p12 p13 p14 p15 (suc (suc (suc (suc (suc (suc (suc (suc (suc (suc (suc (suc (suc (suc zero)))))))))))))) h = p14
-below_16 P p0 p1 p2 p3 p4 p5 p6 p7 p8 p9 p10 p11 p12 p13 p14 p15 (suc (suc (suc (suc (suc (suc (suc (suc (suc (suc (suc (suc (suc (suc (suc zero))))))))))))))) h = p15
-below_16 P p0 p1 p2 p3 p4 p5 p6 p7 p8 p9 p10 p11 p12 p13 p14 p15 (suc (suc (suc (suc (suc (suc (suc (suc (suc (suc (suc (suc (suc (suc (suc (suc n)))))))))))))))) h = absurd (omega arith)
+complement v k a size fits h = grind (arith, common_steps)
 
 -- the same where lane k is complemented
-pub subtracted : (v : List ℕ) (r m k : ℕ) → length v ≡ 16 → Each1 (Fits w16) v → m < 16 → k < 16
+subtracted : (v : List ℕ) (r m k : ℕ) → length v ≡ 16 → Each1 (Fits w16) v → m < 16 → k < 16
     → r % 65535 ≡ (get_or (v ++ v) m 0 + get_or (v ++ map (λ n. 65535 - n) v) (16 + k) 0) % 65535 → r % 65535 ≡ (get_or v m 0 + 65534 * get_or v k 0) % 65535
-subtracted v r m k size fits hm hk e =
-    e
-    ∙ ap₂ (λ a b. (a + b) % 65535) (get_or_append_left v v 0 m (omega arith))
-    (ap (λ n. get_or (v ++ map (λ n. 65535 - n) v) (n + k) 0) (sym size) ∙ get_or-append-add v (map (λ n. 65535 - n) v) k 0)
-    ∙ complement v k (get_or v m 0) size fits hk
+subtracted v r m k size fits hm hk e = grind (arith, common_steps)
+
+-- of lane k lanes m and n of the two vectors are those that a layer at distance d joins
+abbrev joins : ℕ → ℕ → ℕ → ℕ → Bool → Bool
+joins d k m n even = cond even (nat_eq m (k + d) && (nat_eq n k && nat_lt m 16)) (nat_eq m (k - d) && nat_eq n (16 + k))
+
+joined : (v : List ℕ) (r d k m n : ℕ) (even : Bool) → length v ≡ 16 → Each1 (Fits w16) v → k < 16 → joins d k m n even ≡ true
+    → r % 65535 ≡ (get_or (v ++ v) m 0 + get_or (v ++ map (λ x. 65535 - x) v) n 0) % 65535
+    → r % 65535 ≡ cond even (get_or v (k + d) 0 + get_or v k 0) (get_or v (k - d) 0 + 65534 * get_or v k 0) % 65535
+joined v r d k m n true size fits h test e =
+    let first : (nat_eq m (k + d) ≡ true) × _ = and_parts _ _ test in
+    let second : (nat_eq n k ≡ true) × (nat_lt m 16 ≡ true) = and_parts _ _ first.1 in
+    let below = ltb-true m 16 second.1 in
+    summed v (map (λ x. 65535 - x) v) r (k + d) k size (omega (arith, eqb-true m (k + d) first.0)) h
+    (rw (eqb-true m (k + d) first.0, eqb-true n k second.0) at e)
+joined v r d k m n false size fits h test e =
+    let both : (nat_eq m (k - d) ≡ true) × (nat_eq n (16 + k) ≡ true) = and_parts _ _ test in
+    subtracted v r (k - d) k size fits (omega arith) h (rw (eqb-true m (k - d) both.0, eqb-true n (16 + k) both.1) at e)
+
+-- lanes ms of a vector twice, and lanes ns of it and of its complement, joined at each lane
+pub layer_joined : (d : ℕ) (v new ms ns : List ℕ) → length v ≡ 16 → Each1 (Fits w16) v → length ms ≡ 16 → length ns ≡ 16
+    → passes_below 16 (λ k. joins d k (get_or ms k 0) (get_or ns k 0) (k / d % 2 == 0)) ≡ true
+    → ((k : ℕ) → k < 16 → get_or new k 0 % 65535
+    ≡ (get_or (map (λ m. get_or (v ++ v) m 0) ms) k 0 + get_or (map (λ n. get_or (v ++ map (λ x. 65535 - x) v) n 0) ns) k 0) % 65535)
+    → IsLayer d v new
+layer_joined d v new ms ns size fits hm hn test e k h =
+    joined v (get_or new k 0) d k (get_or ms k 0) (get_or ns k 0) (k / d % 2 == 0) size fits h
+    (from_passes_below 16 (λ k. joins d k (get_or ms k 0) (get_or ns k 0) (k / d % 2 == 0)) test k h)
+    (e k h ∙ ap₂ (λ x y. (x + y) % 65535) (get_or-map (λ m. get_or (v ++ v) m 0) ms k 0 0 (omega arith))
+    (get_or-map (λ n. get_or (v ++ map (λ x. 65535 - x) v) n 0) ns k 0 0 (omega arith)))
 
 -- ---- four layers
 

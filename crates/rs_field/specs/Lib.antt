@@ -33,7 +33,5 @@ pub mod Directions
 pub mod Lending
 pub mod Layout
 pub mod Worked
-pub mod WorkedCode
-pub mod WorkedCalls
 pub mod Inverse
 pub mod Derivative

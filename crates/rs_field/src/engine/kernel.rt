@@ -6,9 +6,10 @@ ghost use Rattle.rs_field.specs.Rows.{chunk, symbol};
 ghost use Rattle.rs_field.specs.TwoLayers.{IsForwardTwoLayers, IsBackwardTwoLayers};
 
 use super::block::Block;
+use super::layers::Direction::{Backward, Forward};
 use super::marked_rows::UsedRows;
 use super::tables::{Tables, get_log_walsh, get_log_walsh_below};
-use super::transform::{fft, ifft};
+use super::transform::transform;
 use super::{Engine, GfElement, ShardsRefMut, Steps, utils};
 
 /// The logarithms of the factors of two layers on four rows: of rows 0 and 2 and of rows 1 and 3, of rows 0 and 1, and of
@@ -110,7 +111,8 @@ impl<K: Kernel> Engine for K {
         skew_delta: usize,
     ) {
         let wanted = UsedRows::First(truncated_size);
-        fft(self, steps, data, Block::new(pos, size, skew_delta), wanted);
+        let block = Block::new(pos, size, skew_delta);
+        transform(Forward, self, steps, data, block, wanted);
     }
 
     fn ifft(
@@ -123,7 +125,8 @@ impl<K: Kernel> Engine for K {
         skew_delta: usize,
     ) {
         let given = UsedRows::First(truncated_size);
-        ifft(self, steps, data, Block::new(pos, size, skew_delta), given);
+        let block = Block::new(pos, size, skew_delta);
+        transform(Backward, self, steps, data, block, given);
     }
 
     fn fft_wanted(
@@ -135,7 +138,8 @@ impl<K: Kernel> Engine for K {
         skew_delta: usize,
     ) {
         let block = Block::new(pos, wanted.len(), skew_delta);
-        fft(self, steps, data, block, UsedRows::Marked(wanted));
+        let wanted = UsedRows::Marked(wanted);
+        transform(Forward, self, steps, data, block, wanted);
     }
 
     fn ifft_given(
@@ -147,7 +151,8 @@ impl<K: Kernel> Engine for K {
         skew_delta: usize,
     ) {
         let block = Block::new(pos, given.len(), skew_delta);
-        ifft(self, steps, data, block, UsedRows::Marked(given));
+        let given = UsedRows::Marked(given);
+        transform(Backward, self, steps, data, block, given);
     }
 
     fn mul(&self, steps: &mut Steps, x: &mut [[u8; 64]], log_m: GfElement) {

@@ -1,5 +1,5 @@
-//! One passage over pairs of rows, around a step on two rows: the butterflies of the transforms and the sums of rows.
-ghost use Rattle.std.specs.Prelude.{◌≡◌, ℕ, ◌+◌, ◌<◌, ◌≤◌, ◌≢◌, ◌⊎◌, length};
+//! One passage over pairs of rows, around a step on two chunks: the butterflies of the transforms and the sums of rows.
+ghost use Rattle.std.specs.Prelude.{◌≡◌, ℕ, ◌+◌, ◌<◌, ◌≤◌, ◌⊎◌, length};
 ghost use Rattle.rs_field.specs.Rows.{chunk, SameOutsideTwo};
 ghost use Rattle.rs_field.specs.View.{cell, Fits, SameShape, SameRowsOutsideTwo};
 ghost use Rattle.rs_field.specs.Pairs.{OnTwoChunks};
@@ -7,12 +7,12 @@ ghost use Rattle.rs_field.specs.Bounds.{CountsRows};
 
 use super::{ShardsRefMut, Steps};
 
-/// A step on two rows of the same number of chunks.
+/// A step on two ranges of the same number of chunks, chunk by chunk.
 pub(crate) trait PairStep {
     /// What the step makes of a chunk of each row, from the two old ones.
     ghost related: { Self → OnTwoChunks };
 
-    /// Does the step to two rows.
+    /// Does the step to two ranges.
     fn apply(&self, x: &mut [[u8; 64]], y: &mut [[u8; 64]])
         requires { length x.old ≡ length y.old }
         ensures { (k : ℕ) → k < length x.old → related self.now (chunk x.old k) (chunk y.old k) (chunk x.new k) (chunk y.new k) };
@@ -35,29 +35,6 @@ fn step_parts<P: PairStep>(step: &P, chunks: &mut [[u8; 64]], a: usize, b: usize
     }
 }
 
-// The step on rows a and b; it counts one row step.
-fn step_rows<P: PairStep>(
-    step: &P,
-    steps: &mut Steps,
-    rows: &mut ShardsRefMut<'_>,
-    a: usize,
-    b: usize,
-)
-    requires fits { Fits rows.old }
-    requires apart { a ≢ b }
-    requires a_in { a < rows.old.shard_count }
-    requires b_in { b < rows.old.shard_count }
-    ensures shape { SameShape rows.old rows.new }
-    ensures pairs { (k : ℕ) → k < rows.old.shard_len_64
-        → P.related step.now (cell rows.old k a) (cell rows.old k b) (cell rows.new k a) (cell rows.new k b) }
-    ensures others { SameRowsOutsideTwo a (a + 1) b (b + 1) rows.old rows.new }
-    ensures counts { CountsRows 1 steps.old steps.new }
-{
-    steps.row_step();
-    let n = rows.shard_len_64;
-    step_parts(step, rows.chunks, a * n, b * n, n);
-}
-
 /// The step on rows `a + i` and `b + i`, for each i below `count`; a row step each.
 pub(crate) fn step_pairs<P: PairStep>(
     step: &P,
@@ -77,7 +54,7 @@ pub(crate) fn step_pairs<P: PairStep>(
     ensures others { SameRowsOutsideTwo a (a + count) b (b + count) rows.old rows.new }
     ensures counts { CountsRows count steps.old steps.new }
 {
-    for i in 0..count {
-        step_rows(step, steps, rows, a + i, b + i);
-    }
+    steps.row_steps(count);
+    let len = rows.shard_len_64;
+    step_parts(step, rows.chunks, a * len, b * len, count * len);
 }

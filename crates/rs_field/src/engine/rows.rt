@@ -17,10 +17,8 @@ pub fn clear_rows(steps: &mut Steps, data: &mut ShardsRefMut<'_>, start: usize, 
     ensures others { SameRowsOutside start end «data».old «data».new }
     ensures counts { CountsRows (end - start) steps.old steps.new }
 {
-    for i in start..end {
-        steps.row_step();
-        data.zero(i..i + 1);
-    }
+    steps.row_steps(end - start);
+    data.zero(start..end);
 }
 
 /// Rows `to` to `to + count - 1` become those from `from` on; a row step each.
@@ -39,23 +37,9 @@ pub fn copy_rows(
     ensures others { SameRowsOutside to (to + count) «data».old «data».new }
     ensures counts { CountsRows count steps.old steps.new }
 {
-    for i in 0..count {
-        steps.row_step();
-        copy_row(data, from + i, to + i);
-    }
-}
-
-// Row `to` becomes row `from`.
-fn copy_row(data: &mut ShardsRefMut<'_>, from: usize, to: usize)
-    requires fits { Fits «data».old }
-    requires apart { from < to }
-    requires within { to < «data».old.shard_count }
-    ensures shape { SameShape «data».old «data».new }
-    ensures copied { (k : ℕ) → k < «data».old.shard_len_64 → cell «data».new k to ≡ cell «data».old k from }
-    ensures others { SameRowsOutside to (to + 1) «data».old «data».new }
-{
+    steps.row_steps(count);
     let len = data.shard_len_64;
-    copy_part(data.chunks, from * len, to * len, len);
+    copy_part(data.chunks, from * len, to * len, count * len);
 }
 
 // The n chunks from `to` on become those from `from` on.

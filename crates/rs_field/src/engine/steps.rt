@@ -31,18 +31,50 @@ impl Steps {
         }
     }
 
+    // Counts so many of each.
+    #[inline(always)]
+    fn count(&mut self, row_steps: usize, pair_sums: usize, products: usize)
+        ensures { (self.new.row_steps ≡ self.old.row_steps + row_steps) × (self.new.pair_sums ≡ self.old.pair_sums + pair_sums)
+            × (self.new.products ≡ self.old.products + products) }
+    {}
+
     /// Counts one row step.
+    #[inline(always)]
     pub fn row_step(&mut self)
         ensures { (self.new.row_steps ≡ self.old.row_steps + 1) × (self.new.pair_sums ≡ self.old.pair_sums) × (self.new.products ≡ self.old.products) }
-    {}
+    {
+        self.count(1, 0, 0);
+    }
+
+    /// Counts a row step for each of so many rows.
+    #[inline(always)]
+    pub(crate) fn row_steps(&mut self, rows: usize)
+        ensures { (self.new.row_steps ≡ self.old.row_steps + rows) × (self.new.pair_sums ≡ self.old.pair_sums) × (self.new.products ≡ self.old.products) }
+    {
+        self.count(rows, 0, 0);
+    }
 
     /// Counts one pair sum.
+    #[inline(always)]
     pub fn pair_sum(&mut self)
         ensures { (self.new.row_steps ≡ self.old.row_steps) × (self.new.pair_sums ≡ self.old.pair_sums + 1) × (self.new.products ≡ self.old.products) }
-    {}
+    {
+        self.count(0, 1, 0);
+    }
+
+    /// Counts so many pair sums.
+    #[inline(always)]
+    pub(crate) fn pair_sums(&mut self, sums: usize)
+        ensures { (self.new.row_steps ≡ self.old.row_steps) × (self.new.pair_sums ≡ self.old.pair_sums + sums) × (self.new.products ≡ self.old.products) }
+    {
+        self.count(0, sums, 0);
+    }
 
     /// Counts one product.
+    #[inline(always)]
     pub fn product(&mut self)
         ensures { (self.new.row_steps ≡ self.old.row_steps) × (self.new.pair_sums ≡ self.old.pair_sums) × (self.new.products ≡ self.old.products + 1) }
-    {}
+    {
+        self.count(0, 0, 1);
+    }
 }

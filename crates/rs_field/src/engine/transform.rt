@@ -3,18 +3,16 @@
 //! The method is that of Lin, Chung and Han in the form of Leopard-RS. A transform of `size` rows is two layers of
 //! butterflies between its quarters and a transform of each quarter, or of two rows one layer, so the recursion goes
 //! depth first and a block that fits the cache stays in it.
-ghost use Rattle.std.specs.Prelude.{◌≡◌, ℕ, ◌+◌, ◌%◌, ◌^◌, ◌<◌, ◌≤◌, true, length, slice_index};
-ghost use Rattle.rs_field.specs.Transform.{forward};
-ghost use Rattle.rs_field.specs.Directions.{IsTransform};
+ghost use Rattle.std.specs.Prelude.{◌≡◌, ℕ, ◌+◌, ◌%◌, ◌^◌, ◌<◌, ◌≤◌, Bool, length, slice_index};
+ghost use Rattle.rs_field.specs.Directions.{AreTransformed, ArePartsTransformed, UnusedAreZeroBackward, PartCounts};
 ghost use Rattle.rs_field.specs.Rows.{chunk, symbol};
 ghost use Rattle.rs_field.specs.View.{word, Fits, SameShape, SameRowsOutside};
-ghost use Rattle.rs_field.specs.MarkedRows.{is_used, HasMarks, UnusedAreZero};
+ghost use Rattle.rs_field.specs.MarkedRows.{is_used, HasMarks};
 ghost use Rattle.rs_field.specs.Bounds.{TransformCounts};
 ghost use Rattle.rs_field.specs.Inverse.{TransformsAreInverse};
 
 use super::block::Block;
 use super::kernel::Kernel;
-use super::layers::Direction::{Backward, Forward};
 use super::layers::{Direction, layers};
 use super::marked_rows::UsedRows;
 use super::{ShardsRefMut, Steps};
@@ -52,8 +50,8 @@ fn transform_few<K: Kernel>(
     requires within { block.pos + block.size ≤ rows.old.shard_count }
     ensures shape { SameShape rows.old rows.new }
     ensures others { SameRowsOutside block.pos (block.pos + block.size) rows.old rows.new }
-    ensures values { (k s : ℕ) → k < rows.old.shard_len_64 → s < 32
-        → IsTransform direction block.size block.skew_delta (λ q. word rows.old k s (block.pos + q)) (λ q. word rows.new k s (block.pos + q)) }
+    ensures values { (k s : ℕ) → k < rows.old.shard_len_64 → s < 32 → (used : ℕ → Bool)
+        → AreTransformed direction used block.size block.skew_delta (λ q. word rows.old k s (block.pos + q)) (λ q. word rows.new k s (block.pos + q)) }
     ensures counts { TransformCounts block.size steps.old steps.new }
 {
     row_symbols_are_words(rows);
@@ -61,89 +59,83 @@ fn transform_few<K: Kernel>(
     row_symbols_are_words(rows);
 }
 
-/// The forward transform of a block, by an engine's butterflies.
+/// The transform of a block in a direction, by an engine's butterflies. At most `size / 2` of them are counted for each
+/// layer, and rows outside are unchanged.
 ///
-/// Row i of it, where it is wanted, becomes the sum over q of the old row q times the basis polynomial q at the point
-/// `skew_delta + i`. The rows that aren't wanted are open; rows outside are unchanged. At most `size / 2` butterflies are
-/// counted for each layer.
-pub fn fft<K: Kernel>(
+/// Forward, row i of it, where it is used, becomes the sum over q of the old row q times the basis polynomial q at the
+/// point `skew_delta + i`; the rows that aren't used are open. Backward, the rows become those whose forward transform they
+/// were; those that aren't used are zero when the call begins.
+#[cycle(transform)]
+pub(crate) fn transform<K: Kernel>(
+    direction: Direction,
     kernel: &K,
     steps: &mut Steps,
     rows: &mut ShardsRefMut<'_>,
     block: Block,
-    wanted: UsedRows<'_>,
+    used: UsedRows<'_>,
 )
     requires fits { Fits rows.old }
-    requires marks { HasMarks wanted block.size }
+    requires marks { HasMarks used block.size }
     requires within { block.pos + block.size ≤ rows.old.shard_count }
+    requires zeros { UnusedAreZeroBackward direction used block.pos block.size rows.old }
     ensures shape { SameShape rows.old rows.new }
     ensures others { SameRowsOutside block.pos (block.pos + block.size) rows.old rows.new }
-    ensures values { (k s i : ℕ) → k < rows.old.shard_len_64 → s < 32 → i < block.size → is_used wanted.entry i ≡ true
-        → word rows.new k s (block.pos + i) ≡ forward block.size block.skew_delta (λ q. word rows.old k s (block.pos + q)) i }
+    ensures values { (k s : ℕ) → k < rows.old.shard_len_64 → s < 32
+        → AreTransformed direction (is_used used.entry) block.size block.skew_delta
+        (λ q. word rows.old k s (block.pos + q)) (λ q. word rows.new k s (block.pos + q)) }
     ensures counts { TransformCounts block.size steps.old steps.new }
 {
-    if wanted.are_none() {
+    if used.are_none() {
         return;
     }
     if block.size < 2 {
         row_symbols_are_words(rows);
     } else if block.size <= 4 {
-        transform_few(Forward, kernel, steps, rows, block);
+        transform_few(direction, kernel, steps, rows, block);
     } else {
-        let part = block.part_rows();
-        layers(Forward, kernel, steps, rows, block);
-        for j in 0..block.size / part {
-            fft(
-                kernel,
-                steps,
-                rows,
-                block.part(j, part),
-                wanted.part(j * part, part),
-            );
+        match direction {
+            Direction::Forward => {
+                layers(direction, kernel, steps, rows, block);
+                transform_parts(direction, kernel, steps, rows, block, used);
+            }
+            Direction::Backward => {
+                transform_parts(direction, kernel, steps, rows, block, used);
+                layers(direction, kernel, steps, rows, block);
+            }
         }
     }
 }
 
-/// The backward transform of a block, by an engine's butterflies.
-///
-/// The rows become those whose forward transform they were. Those that aren't given are zero when the call begins; rows
-/// outside are unchanged. At most `size / 2` butterflies are counted for each layer.
-pub fn ifft<K: Kernel>(
+// The transforms of the parts that the layers of a block leave.
+#[cycle(transform)]
+fn transform_parts<K: Kernel>(
+    direction: Direction,
     kernel: &K,
     steps: &mut Steps,
     rows: &mut ShardsRefMut<'_>,
     block: Block,
-    given: UsedRows<'_>,
+    used: UsedRows<'_>,
 )
     requires fits { Fits rows.old }
-    requires marks { HasMarks given block.size }
+    requires large { 1 < block.size }
+    requires marks { HasMarks used block.size }
     requires within { block.pos + block.size ≤ rows.old.shard_count }
-    requires zeros { UnusedAreZero given block.pos block.size rows.old }
+    requires zeros { UnusedAreZeroBackward direction used block.pos block.size rows.old }
     ensures shape { SameShape rows.old rows.new }
     ensures others { SameRowsOutside block.pos (block.pos + block.size) rows.old rows.new }
-    ensures values { (k s i : ℕ) → k < rows.old.shard_len_64 → s < 32 → i < block.size
-        → word rows.old k s (block.pos + i) ≡ forward block.size block.skew_delta (λ q. word rows.new k s (block.pos + q)) i }
-    ensures counts { TransformCounts block.size steps.old steps.new }
+    ensures parts { ArePartsTransformed direction (is_used used.entry) block rows.old rows.new }
+    ensures counts { PartCounts block.size steps.old steps.new }
 {
-    if given.are_none() {
-        return;
-    }
-    if block.size < 2 {
-        row_symbols_are_words(rows);
-    } else if block.size <= 4 {
-        transform_few(Backward, kernel, steps, rows, block);
-    } else {
-        let part = block.part_rows();
-        for j in 0..block.size / part {
-            ifft(
-                kernel,
-                steps,
-                rows,
-                block.part(j, part),
-                given.part(j * part, part),
-            );
-        }
-        layers(Backward, kernel, steps, rows, block);
+    let part = block.part_rows();
+    for j in 0..block.size / part {
+        transform(
+            direction,
+            kernel,
+            steps,
+            rows,
+            block.part(j, part),
+            used.part(j * part, part),
+        );
     }
 }
 

@@ -118,16 +118,6 @@ fn vector_sums(x0: u16x16, x1: u16x16, x2: u16x16, x3: u16x16) -> (u16x16, u16x1
     )
 }
 
-// Counts the sums and differences of six layers.
-#[inline(always)]
-fn count_layers(steps: &mut Steps)
-    ensures { CountsPairs 192 steps.old steps.new }
-{
-    for _pair in 0..192usize {
-        steps.pair_sum();
-    }
-}
-
 // The entries as a vector.
 #[inline(always)]
 fn load(data: &[GfElement]) -> u16x16
@@ -153,7 +143,7 @@ pub(crate) fn walsh_64(steps: &mut Steps, data: &mut [GfElement])
     ensures values { IsWalsh 64 (λ y. slice_index «data».old y) (λ w. slice_index «data».new w) }
     ensures counts { CountsPairs 192 steps.old steps.new }
 {
-    count_layers(steps);
+    steps.pair_sums(192);
     let (low, high) = data.split_at_mut(32);
     let (x0, x1) = low.split_at_mut(16);
     let (x2, x3) = high.split_at_mut(16);

@@ -1,45 +1,30 @@
-use mathlib.Core.Path.{◌≡◌, refl, sym, subst, ◌∙◌}
-use Prim.Native.Nat.{ℕ, ◌+◌, ◌*◌, ◌-◌, ◌<◌, ◌≤◌}
-use native.Mathlib.Omega.{arith}
-use mathlib.Core.List.{List, [], ◌∷◌}
-use lib.ListN.{length}
-use mir.Syntax.{named, w64}
+use Rattle.rs_field.proofs.Walking.{◌≡◌, refl, sym, ◌∙◌, ℕ, ◌+◌, ◌*◌, ◌-◌, ◌<◌, ◌≤◌, arith, List, [], ◌∷◌, length, named, w64, id⊢, emp, full_share}
+use Rattle.rs_field.proofs.Walking.{Lft, ftrue, flft, fact, fact_i, tables, proved, fsplit3, ‵, ◌⊛◌, raw, some, later, ◌$◌, ◌∵◌, !, qed, move, keep}
+use Rattle.rs_field.proofs.Walking.{drop, split, split3, join, fsplit, fjoin, feq_i, use0, use1, use2, await, pick, suffices, done, rewrite, stop}
+use Rattle.rs_field.proofs.Walking.{addr, of_opd, returns, enter, no_more, and_then, alloc_all, pass_all, free_all, look_at, get, through, sets}
+use Rattle.rs_field.proofs.Walking.{lands_as, usize, u8, yes, Is, shows, uint_vals, uint_Tells, uint_Makes, RattleType, owns, Valss, MutBor, MutRef}
+use Rattle.rs_field.proofs.Walking.{mut_vals, mut_Tells, plain, named_lft, Array, nothing, heard, peeks, owned, row, tuple_type, calls_at, lasts}
+use Rattle.rs_field.proofs.Walking.{triple_of, framed, Stays, stay_dropped, walk_of, ends_at, Goes-dropped}
+use mathlib.Core.Path.{subst}
 use mir.Val.{vunit}
-use base.Logic.{id⊢, emp, wand, apply∗}
-use base.Fraction.{full_share}
+use base.Logic.{wand, apply∗}
 use base.Share
-use base.Fml.{Lft, GName, ftrue, flft, fdead, fobs, fres}
+use base.Fml.{GName, fdead, fobs, fres}
 use contract.BorrowLft.{meet_⊑_left, meet_⊑_right}
-use contract.Monad.{fact, fact_i}
-use contract.Running.{tables}
-use Rattle.std.proofs.raw_atomic.Walks.{proved}
-use types.Kit.{fpick, fsplit3, ‵, ◌⊛◌, raw, some, later, ◌$◌, ◌∵◌, !, qed, move, keep, drop, split, split3, join, fsplit, fjoin, feq_i, use0, use1, use2, use3, await, pick, suffices, done, rewrite}
+use types.Kit.{fpick, use3}
 use types.Tokens.{lft_new, lft_end}
-use types.Run.{stop, addr, of_opd, unit_lit, returns, enter, no_more, and_then}
-use types.ByLocal.{alloc_all, pass_all, free_all, look_at, get, through, sets, lands_as}
-use denote.Builtin.{usize, u8, SliceRefOf, ArrayOf}
-use denote.Exit.{yes}
-use denote.Laws.{Is, shows}
+use types.Run.{unit_lit}
+use denote.Builtin.{SliceRefOf, ArrayOf}
 use denote.Lend.{lends_again, comes_back, LentAgain}
-use denote.Plain.{uint_vals, uint_Tells, uint_Makes}
-use denote.RattleType.{RattleType, owns, Valss}
-use denote.Ref.{MutBor, MutRef, mut_vals, mut_Tells}
-use denote.Signature.{Slot, plain, named_lft}
-use denote.Array.{Array}
+use denote.Signature.{Slot}
 use denote.Slice.{ShrSlice, shr_slice_vals, shr_slice_Tells}
-use denote.Steps.{nothing, heard, peeks, owned}
 use types.Follow.{followed₂}
 use denote.Memory.{mem}
 use denote.FollowSlice.{heres_id}
 use base.Stored.{Gv}
 use denote.Follow.{both_by}
-use denote.Struct.Declared.{row}
-use denote.Struct.Tuple.{tuple_type, tuple_laws}
-use denote.Triple.Call.{calls_at}
-use denote.Triple.Clauses.{lasts}
-use denote.Triple.Spec.{triple_of}
-use denote.Triple.Table.{framed}
-use denote.Triple.Walked.{Stays, stay_dropped, stay_ref, walk_of, ends_at, Goes-dropped, Goes-ref}
+use denote.Struct.Tuple.{tuple_laws}
+use denote.Triple.Walked.{stay_ref, Goes-ref}
 use Rattle.rs_callers.proofs.LentHalves.{fits-part, parted, split-written}
 use Rattle.rs_field.proofs.LentRows.{two_written, two-shape, first-of-two, second-of-two}
 use Rattle.rs_callers.proofs.LentTwoRows.{other-than-two}

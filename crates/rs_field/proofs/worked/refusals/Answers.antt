@@ -3,7 +3,7 @@ use Rattle.rs_field.specs.Search.{first_below}
 use Rattle.rs_field.specs.Counts.{next_power, supports, is_low}
 use Rattle.rs_field.specs.Placement.{encoder_rows, decoder_rows}
 use Rattle.rs_field.specs.Given.{entered, count_below}
-use Rattle.rs_field.specs.WorkedCalls.{EncodeOrder, DecodeOrder, NoRecoveryOrder, EncoderRound, DecoderRound, LargestIndex, MemoryOrder}
+use Rattle.rs_field.specs.Worked.Calls.{EncodeOrder, DecodeOrder, NoRecoveryOrder, EncoderRound, DecoderRound, LargestIndex, MemoryOrder}
 use Rattle.rs_field.proofs.worked.refusals.Goals as goal
 
 encode : EncodeOrder

@@ -1,13 +1,9 @@
 use Rattle.std.proofs.Common.{◌≡◌, ℕ, zero, suc, ◌+◌, ◌/◌, ◌%◌, ◌^◌, ◌<◌, cond, bit_xor, refl, sym, ap, ap₂, ◌∙◌, arith}
 use Rattle.std.specs.Prelude.{if◌then◌else◌, ◌==◌}
-use Rattle.rs_field.specs.Search.{first_below}
 use Rattle.rs_field.specs.Field.{product, combine, bits, from_bits, cantor_basis, monomials, carryless, reduce}
 use Rattle.rs_field.specs.Subspace.{product_below, subspace, basis}
 use Rattle.rs_field.specs.Transform.{sum_below, forward}
-use Rattle.rs_field.specs.Bounds.{log2, transform_steps, encode_steps, decode_steps}
-use Rattle.rs_field.specs.Counts.{next_power, is_low}
-use Rattle.rs_field.specs.Placement.{block_rows, encoder_rows, decoder_rows}
-use Rattle.rs_field.specs.Worked.{pair, StepBounds}
+use Rattle.rs_field.specs.Worked.Numbers.{pair}
 use Rattle.rs_field.proofs.Subspace.{product_below-same, subspace_shift}
 use Rattle.rs_field.proofs.worked.transforms.Goals as goal
 
@@ -40,10 +36,5 @@ two zero h = sym (at_point (pair 2 4) 4 0 4 refl (omega arith) ∙ values.0)
 two (suc zero) h = sym (at_point (pair 2 4) 4 1 5 refl (omega arith) ∙ values.1)
 two (suc (suc i)) h = absurd (let no : ⊥ = omega arith in no)
 
--- the bounds compute
-steps : StepBounds
-unfolding transform_steps encode_steps decode_steps log2 encoder_rows decoder_rows block_rows is_low next_power first_below
-steps = (refl, refl, refl, refl, refl, refl, refl, refl, refl, refl, refl, refl)
-
 pub returns : goal.returns
-returns c = record { two = (two, two); steps = steps }
+returns c = (two, two)

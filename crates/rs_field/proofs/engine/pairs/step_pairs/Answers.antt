@@ -1,23 +1,27 @@
-use Rattle.std.proofs.Common.{◌≡◌, ℕ, ◌+◌, arith, subst}
-use Rattle.rs_field.specs.View.{SameRowsOutsideTwo}
-use Rattle.rs_field.proofs.Pairs.{pairs_next}
+use Rattle.std.proofs.Common.{◌≡◌, ◌+◌, ◌*◌, inl, inr, arith}
+use Rattle.rs_field.specs.View.{cell}
+use Rattle.rs_field.proofs.RowOffsets.{row_within, rows_end}
 use Rattle.rs_field.proofs.engine.pairs.step_pairs.Goals as goal
 
-pub loop-i-preserved : goal.loop-i-preserved
-loop-i-preserved g c = record {
-  done =
-      let len = c.loop-i.invariant.done.shape.len_64 in
-      pairs_next (g.P.PairStep.related c.args.step.now) c.args.a c.args.b c.args.count c.loop-i.i c.args.rows.now c.loop-i.rows c.step_rows.new.rows
-      c.requires.apart c.loop-i-test.true c.loop-i.invariant.done c.step_rows.ensures.shape c.step_rows.ensures.pairs c.step_rows.ensures.others;
-  counts = (omega arith, omega arith, omega arith);
-}
+pub step_parts-requires-clause-apart : goal.step_parts-requires-clause-apart
+step_parts-requires-clause-apart g c =
+    let n = c.args.rows.now.shard_len_64 in
+    elim c.requires.apart [
+      | inl before ↦ inl (rows_end c.args.a c.args.count c.args.b n before)
+      | inr after ↦ inr (rows_end c.args.b c.args.count c.args.a n after)
+    ]
+
+pub step_parts-requires-clause-a_in : goal.step_parts-requires-clause-a_in
+step_parts-requires-clause-a_in g c = omega (arith, rows_end _ _ _ c.args.rows.now.shard_len_64 c.requires.a_in)
+
+pub step_parts-requires-clause-b_in : goal.step_parts-requires-clause-b_in
+step_parts-requires-clause-b_in g c = omega (arith, rows_end _ _ _ c.args.rows.now.shard_len_64 c.requires.b_in)
 
 pub returns-clause-pairs : goal.returns-clause-pairs
-returns-clause-pairs g c i k hi hk = c.loop-i.invariant.done.pairs i k (omega arith) hk
-
-pub returns-clause-others : goal.returns-clause-others
-returns-clause-others g c =
-    let a = c.args.a in
-    let b = c.args.b in
-    let done : c.loop-i.i ≡ c.args.count = omega arith in
-    subst (λ (m : ℕ). SameRowsOutsideTwo a (a + m) b (b + m) c.args.rows.now c.loop-i.rows) done c.loop-i.invariant.done.others
+unfolding cell
+returns-clause-pairs g c i k hi hk =
+    let n = c.args.rows.now.shard_len_64 in
+    let a : c.args.a * n + (i * n + k) ≡ (c.args.a + i) * n + k = omega arith in
+    let b : c.args.b * n + (i * n + k) ≡ (c.args.b + i) * n + k = omega arith in
+    let pair = c.step_parts.ensures.pairs (i * n + k) (row_within i c.args.count k n hi hk) in
+    rw (a, b) at pair

@@ -6,13 +6,13 @@ use Rattle.rs_field.proofs.PartLoops.{counts_of_layers}
 use Rattle.rs_field.proofs.engine.transform.transform_few.Goals as goal
 
 pub returns-clause-values : goal.returns-clause-values
-returns-clause-values g c k s hk hs =
+returns-clause-values g c k s hk hs used =
     let shape = c.layers.ensures.shape in
     let len = shape.len_64 in
     let count = shape.count in
     let within = c.requires.within in
     let pos = c.args.block.pos in
-    layers_of_few c.args.direction c.args.block.size c.args.block.skew_delta (λ (q : ℕ). word c.args.rows.now k s (pos + q)) (λ (q : ℕ). word c.layers.new.rows k s (pos + q))
+    layers_of_few c.args.direction used c.args.block.size c.args.block.skew_delta (λ (q : ℕ). word c.args.rows.now k s (pos + q)) (λ (q : ℕ). word c.layers.new.rows k s (pos + q))
     c.requires.large c.requires.few (block_power c.args.block)
     (λ i hi. c.row_symbols_are_words.ensures k s (pos + i) hk hs (omega (arith, within)))
     (λ i hi. c.row_symbols_are_words-2.ensures k s (pos + i) (omega (arith, len)) hs (omega (arith, count, within)))

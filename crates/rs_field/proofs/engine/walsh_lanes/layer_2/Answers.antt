@@ -1,26 +1,11 @@
-use Rattle.std.proofs.Common.{◌≡◌, ◌+◌, ◌-◌, ◌*◌, ◌/◌, ◌%◌, get_or, arith}
-use Rattle.std.specs.Prelude.{◌==◌, if◌then◌else◌}
-use Rattle.rs_field.proofs.WalshLanes.{below_16, summed, subtracted}
+use Rattle.std.proofs.Common.{[], ◌∷◌, refl}
+use Rattle.rs_field.proofs.Linear.{passes_below}
+use Rattle.rs_field.proofs.WalshLanes.{layer_joined}
 use Rattle.rs_field.proofs.engine.walsh_lanes.layer_2.Goals as goal
 
 pub returns : goal.returns
+unfolding passes_below
 returns c =
-    let v = c.args.v in
-    let size = c.fits-v.0 in
-    below_16 (λ k. get_or c.sums.result k 0 % 65535 ≡ (if k / 2 % 2 == 0 then get_or v (k + 2) 0 + get_or v k 0 else get_or v (k - 2) 0 + 65534 * get_or v k 0) % 65535)
-    (summed v _ _ 2 0 size (omega arith) (omega arith) (c.sums.ensures 0 (omega arith)))
-    (summed v _ _ 3 1 size (omega arith) (omega arith) (c.sums.ensures 1 (omega arith)))
-    (subtracted v _ 0 2 size c.fits-v.1 (omega arith) (omega arith) (c.sums.ensures 2 (omega arith)))
-    (subtracted v _ 1 3 size c.fits-v.1 (omega arith) (omega arith) (c.sums.ensures 3 (omega arith)))
-    (summed v _ _ 6 4 size (omega arith) (omega arith) (c.sums.ensures 4 (omega arith)))
-    (summed v _ _ 7 5 size (omega arith) (omega arith) (c.sums.ensures 5 (omega arith)))
-    (subtracted v _ 4 6 size c.fits-v.1 (omega arith) (omega arith) (c.sums.ensures 6 (omega arith)))
-    (subtracted v _ 5 7 size c.fits-v.1 (omega arith) (omega arith) (c.sums.ensures 7 (omega arith)))
-    (summed v _ _ 10 8 size (omega arith) (omega arith) (c.sums.ensures 8 (omega arith)))
-    (summed v _ _ 11 9 size (omega arith) (omega arith) (c.sums.ensures 9 (omega arith)))
-    (subtracted v _ 8 10 size c.fits-v.1 (omega arith) (omega arith) (c.sums.ensures 10 (omega arith)))
-    (subtracted v _ 9 11 size c.fits-v.1 (omega arith) (omega arith) (c.sums.ensures 11 (omega arith)))
-    (summed v _ _ 14 12 size (omega arith) (omega arith) (c.sums.ensures 12 (omega arith)))
-    (summed v _ _ 15 13 size (omega arith) (omega arith) (c.sums.ensures 13 (omega arith)))
-    (subtracted v _ 12 14 size c.fits-v.1 (omega arith) (omega arith) (c.sums.ensures 14 (omega arith)))
-    (subtracted v _ 13 15 size c.fits-v.1 (omega arith) (omega arith) (c.sums.ensures 15 (omega arith)))
+    layer_joined 2 c.args.v c.sums.result (2 ∷ 3 ∷ 0 ∷ 1 ∷ 6 ∷ 7 ∷ 4 ∷ 5 ∷ 10 ∷ 11 ∷ 8 ∷ 9 ∷ 14 ∷ 15 ∷ 12 ∷ 13 ∷ [])
+    (0 ∷ 1 ∷ 18 ∷ 19 ∷ 4 ∷ 5 ∷ 22 ∷ 23 ∷ 8 ∷ 9 ∷ 26 ∷ 27 ∷ 12 ∷ 13 ∷ 30 ∷ 31 ∷ [])
+    c.fits-v.0 c.fits-v.1 refl refl refl c.sums.ensures

@@ -1,39 +1,12 @@
-use mathlib.Core.Path.{◌≡◌, refl, sym, ap, ◌∙◌}
-use Prim.Native.Nat.{ℕ, ◌+◌, ◌*◌, ◌^◌, ◌<◌, ◌≤◌}
-use native.Mathlib.Omega.{arith}
-use mathlib.Core.List.{List, [], ◌∷◌, ◌++◌}
-use lib.ListN.{length, take, drop as drop_list}
-use mir.Syntax.{named, w64}
-use mir.Val.{Val, vstruct, vcons, vnil, of_list}
-use base.Logic.{id⊢, emp}
-use base.Fraction.{full_share}
-use base.Fml.{Lft, ftrue, flft}
-use contract.Monad.{fact, fact_i}
-use contract.Running.{tables}
-use Rattle.std.proofs.raw_atomic.Walks.{proved}
-use Rattle.std.proofs.Math.Nat.{mul-le-mul_right}
-use types.Kit.{‵, ◌⊛◌, raw, some, later, ◌$◌, ◌∵◌, !, qed, move, keep, drop, split, join, fsplit3, fjoin, fjoin3, use0, use1, use2, await, pick, suffices, done, rewrite, group}
-use types.Part.{whole, sub, look_in}
-use types.Run.{stop, fld, addr, load, bin, lit, of_opd, returns, enter, no_more, and_then}
-use types.ByLocal.{alloc_all, pass_all, free_all, look_at, get, through, sets, lands_as}
-use denote.Builtin.{usize, u8}
-use denote.Exit.{yes, no}
-use denote.Laws.{Is, shows}
-use denote.Memory.{cell_at}
-use denote.Plain.{uint_vals, uint_Tells, uint_Makes}
-use denote.RattleType.{RattleType, owns, Valss, flat}
-use denote.Ref.{MutBor, MutRef, mut_vals, mut_Tells}
-use denote.Signature.{plain, named_lft}
-use denote.Array.{Array}
-use denote.Slice.{MutSlice, Room, slice_val}
-use denote.Steps.{nothing, heard, only, opens, closes, peeks, owned}
-use denote.Struct.Declared.{row, fields}
-use denote.Struct.Tuple.{tuple_type}
-use denote.Triple.Call.{calls_at}
-use denote.Triple.Clauses.{lasts}
-use denote.Triple.Spec.{triple_of}
-use denote.Triple.Table.{framed}
-use denote.Triple.Walked.{Stays, stay_dropped, walk_of, ends_at, Goes-dropped, Goes-spent_ref}
+use Rattle.rs_field.proofs.Walking.{◌≡◌, refl, sym, ap, ◌∙◌, ℕ, ◌+◌, ◌*◌, ◌^◌, ◌<◌, ◌≤◌, arith, List, [], ◌∷◌, ◌++◌, length, take, drop_list, named}
+use Rattle.rs_field.proofs.Walking.{w64, Val, vstruct, vcons, vnil, of_list, id⊢, emp, full_share, Lft, ftrue, flft, fact, fact_i, tables, proved}
+use Rattle.rs_field.proofs.Walking.{mul-le-mul_right, ‵, ◌⊛◌, raw, some, later, ◌$◌, ◌∵◌, !, qed, move, keep, drop, split, join, fsplit3, fjoin}
+use Rattle.rs_field.proofs.Walking.{fjoin3, use0, use1, use2, await, pick, suffices, done, rewrite, group, whole, sub, look_in, stop, fld, addr, load}
+use Rattle.rs_field.proofs.Walking.{bin, lit, of_opd, returns, enter, no_more, and_then, alloc_all, pass_all, free_all, look_at, get, through, sets}
+use Rattle.rs_field.proofs.Walking.{lands_as, usize, u8, yes, no, Is, shows, cell_at, uint_vals, uint_Tells, uint_Makes, RattleType, owns, Valss}
+use Rattle.rs_field.proofs.Walking.{flat, MutBor, MutRef, mut_vals, mut_Tells, plain, named_lft, Array, MutSlice, Room, slice_val, nothing, heard}
+use Rattle.rs_field.proofs.Walking.{only, opens, closes, peeks, owned, row, fields, tuple_type, calls_at, lasts, triple_of, framed, Stays}
+use Rattle.rs_field.proofs.Walking.{stay_dropped, walk_of, ends_at, Goes-dropped, Goes-spent_ref}
 use Rattle.rs_field.specs.Rows.{Chunks}
 use Rattle.rs_field.specs.Lending.{LendsFourParts}
 use Rattle.rs_field.specs.declared.engine.shards.ShardsRefMut.{ShardsRefMut}

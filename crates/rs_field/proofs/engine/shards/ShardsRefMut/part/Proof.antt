@@ -1,36 +1,13 @@
-use mathlib.Core.Path.{◌≡◌, refl, sym, ap, ◌∙◌}
-use Prim.Native.Nat.{ℕ, ◌+◌, ◌*◌, ◌-◌, ◌^◌, ◌<◌, ◌≤◌}
-use native.Mathlib.Omega.{arith}
-use mathlib.Core.List.{List, [], ◌∷◌, ◌++◌}
-use lib.ListN.{length, take, drop as drop_list, take-append-drop, length-drop}
-use mir.Syntax.{named, w64}
-use mir.Val.{Val}
-use base.Logic.{id⊢}
-use base.Fml.{ftrue, flft}
-use contract.Monad.{fact}
-use contract.Running.{tables}
-use Rattle.std.proofs.raw_atomic.Walks.{proved}
-use types.Kit.{‵, ◌⊛◌, raw, some, later, at_ret, ◌$◌, ◌∵◌, !, qed, move, keep, drop, split, split3, join, fsplit, fjoin, use1, use2, await, pick, suffices, frame, done, rewrite, feq_l}
-use types.Part.{whole, sub, agg}
-use types.Run.{stop, fld, hop, from, addr, bin, of_opd, lit, first, blocks, exec, returns, enter, no_more, and_then}
-use types.ByLocal.{alloc_all, pass_all, free_all, look_at, look_in_at, get, through, sets, sets_last, lands_as, env}
-use denote.Builtin.{usize, u8}
-use denote.Exit.{yes, no}
-use denote.Plain.{uint_vals, uint_Tells}
-use denote.RattleType.{RattleType, owns}
-use denote.Ref.{MutBor, MutRef, mut_vals, mut_Tells}
-use denote.Signature.{plain, named_lft}
-use denote.Array.{Array}
-use denote.Slice.{MutSlice, Room, room, slice_val, mut_slice_vals, mut_slice_at}
-use denote.Shadow.{pure_l, pure_i}
-use denote.Steps.{nothing, heard, only}
+use Rattle.rs_field.proofs.Walking.{◌≡◌, refl, sym, ap, ◌∙◌, ℕ, ◌+◌, ◌*◌, ◌-◌, ◌^◌, ◌<◌, ◌≤◌, arith, List, [], ◌∷◌, ◌++◌, length, take, drop_list}
+use Rattle.rs_field.proofs.Walking.{take-append-drop, length-drop, named, w64, Val, id⊢, ftrue, flft, fact, tables, proved, ‵, ◌⊛◌, raw, some, later}
+use Rattle.rs_field.proofs.Walking.{at_ret, ◌$◌, ◌∵◌, !, qed, move, keep, drop, split, split3, join, fsplit, fjoin, use1, use2, await, pick, suffices}
+use Rattle.rs_field.proofs.Walking.{frame, done, rewrite, feq_l, whole, sub, agg, stop, fld, hop, from, addr, bin, of_opd, lit, first, blocks, exec}
+use Rattle.rs_field.proofs.Walking.{returns, enter, no_more, and_then, alloc_all, pass_all, free_all, look_at, look_in_at, get, through, sets}
+use Rattle.rs_field.proofs.Walking.{sets_last, lands_as, env, usize, u8, yes, no, uint_vals, uint_Tells, RattleType, owns, MutBor, MutRef, mut_vals}
+use Rattle.rs_field.proofs.Walking.{mut_Tells, plain, named_lft, Array, MutSlice, Room, room, slice_val, mut_slice_vals, mut_slice_at, pure_l, pure_i}
+use Rattle.rs_field.proofs.Walking.{nothing, heard, only, calls_at, lasts, triple_of, framed, says, Stays, stay_dropped, walk_of, ends_at}
+use Rattle.rs_field.proofs.Walking.{Goes-dropped, Goes-spent_ref, at, at_mul, length-take-le}
 use denote.Follow.{follows, follows_then}
-use denote.Triple.Call.{calls_at}
-use denote.Triple.Clauses.{lasts}
-use denote.Triple.Spec.{triple_of}
-use denote.Triple.Table.{framed}
-use denote.Triple.Walked.{says, Stays, stay_dropped, walk_of, ends_at, Goes-dropped, Goes-spent_ref}
-use borrow.Table.Elements.{at, at_mul, length-take-le}
 use Rattle.rs_field.proofs.Runs.{run_lent, lends_run}
 use Rattle.rs_field.specs.Rows.{Chunks}
 use Rattle.rs_field.specs.Lending.{with_chunks, LendsAll}

@@ -1,41 +1,15 @@
-use mathlib.Core.Path.{◌≡◌, refl, sym, ap, ◌∙◌}
-use Prim.Native.Nat.{ℕ, ◌+◌, ◌*◌, ◌-◌, ◌^◌, ◌<◌, ◌≤◌}
-use native.Mathlib.Omega.{arith}
-use mathlib.Core.List.{List, [], ◌∷◌, ◌++◌}
-use lib.ListN.{length, take, drop as drop_list, length-drop}
-use mir.Syntax.{named, w64}
-use mir.Val.{Val, vstruct, vcons, vnil, of_list}
-use base.Logic.{id⊢, emp}
-use base.Fraction.{full_share}
-use base.Fml.{Lft, GName, ftrue, flft}
-use contract.Monad.{fact, fact_i}
-use contract.Running.{tables}
-use Rattle.std.proofs.raw_atomic.Walks.{proved}
-use types.Kit.{‵, ◌⊛◌, raw, some, later, ◌$◌, ◌∵◌, !, qed, move, keep, drop, split, join, fsplit3, fjoin, fjoin3, use0, use1, use2, await, pick, suffices, done, rewrite, group}
-use types.Part.{whole, sub, look_in}
+use Rattle.rs_field.proofs.Walking.{◌≡◌, refl, sym, ap, ◌∙◌, ℕ, ◌+◌, ◌*◌, ◌-◌, ◌^◌, ◌<◌, ◌≤◌, arith, List, [], ◌∷◌, ◌++◌, length, take, drop_list}
+use Rattle.rs_field.proofs.Walking.{length-drop, named, w64, Val, vstruct, vcons, vnil, of_list, id⊢, emp, full_share, Lft, ftrue, flft, fact, fact_i}
+use Rattle.rs_field.proofs.Walking.{tables, proved, ‵, ◌⊛◌, raw, some, later, ◌$◌, ◌∵◌, !, qed, move, keep, drop, split, join, fsplit3, fjoin, fjoin3}
+use Rattle.rs_field.proofs.Walking.{use0, use1, use2, await, pick, suffices, done, rewrite, group, whole, sub, look_in, stop, fld, addr, load, bin}
+use Rattle.rs_field.proofs.Walking.{lit, of_opd, returns, enter, no_more, and_then, alloc_all, pass_all, free_all, look_at, get, through, sets}
+use Rattle.rs_field.proofs.Walking.{lands_as, length-take-le, usize, u8, yes, no, Is, shows, cell_at, uint_vals, uint_Tells, uint_Makes, RattleType}
+use Rattle.rs_field.proofs.Walking.{owns, Valss, flat, MutBor, MutRef, mut_vals, mut_Tells, plain, named_lft, Array, MutSlice, Room, slice_val}
+use Rattle.rs_field.proofs.Walking.{nothing, heard, only, opens, closes, peeks, owned, follows_both, row, fields, tuple_type, calls_at, lasts}
+use Rattle.rs_field.proofs.Walking.{triple_of, framed, Stays, stay_dropped, walk_of, ends_at, Goes-dropped, Goes-spent_ref}
+use base.Fml.{GName}
 use Rattle.std.proofs.Common.{lit<}
-use types.Run.{stop, fld, addr, load, bin, lit, of_opd, returns, enter, no_more, and_then}
-use types.ByLocal.{alloc_all, pass_all, free_all, look_at, get, through, sets, lands_as}
-use borrow.Table.Elements.{length-take-le}
-use denote.Builtin.{usize, u8}
-use denote.Exit.{yes, no}
-use denote.Laws.{Is, shows}
-use denote.Memory.{cell_at}
-use denote.Plain.{uint_vals, uint_Tells, uint_Makes}
-use denote.RattleType.{RattleType, owns, Valss, flat}
-use denote.Ref.{MutBor, MutRef, mut_vals, mut_Tells}
-use denote.Signature.{plain, named_lft}
-use denote.Array.{Array}
-use denote.Slice.{MutSlice, Room, slice_val}
-use denote.Steps.{nothing, heard, only, opens, closes, peeks, owned}
-use denote.Follow.{follows_both}
-use denote.Struct.Declared.{row, fields}
-use denote.Struct.Tuple.{tuple_type, tuple_laws}
-use denote.Triple.Call.{calls_at}
-use denote.Triple.Clauses.{lasts}
-use denote.Triple.Spec.{triple_of}
-use denote.Triple.Table.{framed}
-use denote.Triple.Walked.{Stays, stay_dropped, walk_of, ends_at, Goes-dropped, Goes-spent_ref}
+use denote.Struct.Tuple.{tuple_laws}
 use Rattle.rs_field.specs.Rows.{Chunks}
 use Rattle.rs_field.specs.View.{HasRows, IsListOf}
 use Rattle.rs_field.specs.Lending.{LendsTwoParts, with_chunks, with_two}

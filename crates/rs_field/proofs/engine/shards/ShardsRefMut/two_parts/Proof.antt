@@ -1,45 +1,19 @@
-use mathlib.Core.Path.{◌≡◌, refl, sym, ap, ◌∙◌}
-use Prim.Native.Nat.{ℕ, ◌+◌, ◌*◌, ◌-◌, ◌^◌, ◌<◌, ◌≤◌}
-use native.Mathlib.Omega.{arith}
-use mathlib.Core.List.{List, [], ◌∷◌, ◌++◌}
-use lib.ListN.{length, take, drop as drop_list, take-append-drop, length-drop}
-use mir.Syntax.{named, w64}
-use mir.Val.{Val, vstruct, vcons, vnil}
-use base.Logic.{id⊢}
-use base.Fml.{ftrue, flft, Lft}
-use contract.Monad.{fact}
-use contract.Running.{tables}
-use Rattle.std.proofs.raw_atomic.Walks.{proved}
-use types.Kit.{‵, ◌⊛◌, raw, some, later, at_ret, ◌$◌, ◌∵◌, !, qed, move, keep, drop, split, split3, join, fsplit, fjoin, use1, use2, await, pick, suffices, frame, done, rewrite, feq_l, fpack, feq_i}
-use types.Part.{whole, sub, agg}
-use types.Run.{stop, fld, hop, from, addr, bin, of_opd, lit, first, blocks, exec, returns, enter, no_more, and_then}
-use types.ByLocal.{alloc_all, pass_all, free_all, look_at, look_in_at, get, through, sets, sets_last, lands_as, env}
-use denote.Builtin.{usize, u8}
-use denote.Exit.{yes, no}
-use denote.Plain.{uint_vals, uint_Tells}
-use denote.RattleType.{RattleType, owns, Valss}
-use denote.Ref.{MutBor, MutRef, mut_vals, mut_Tells}
-use denote.Signature.{plain, named_lft}
-use denote.Array.{Array}
-use denote.Slice.{MutSlice, room, slice_val, mut_slice_vals, mut_slice_at}
-use denote.Shadow.{pure_l, pure_i}
-use denote.Steps.{nothing, heard, only}
-use denote.Follow.{both_by, follows_both}
-use denote.Triple.Call.{calls_at}
-use denote.Triple.Clauses.{lasts}
-use denote.Triple.Spec.{triple_of}
-use denote.Triple.Table.{framed}
-use denote.Triple.Walked.{says, Stays, stay_dropped, walk_of, ends_at, Goes-dropped, Goes-spent_ref}
-use borrow.Table.Elements.{at, at_mul, length-take-le}
+use Rattle.rs_field.proofs.Walking.{◌≡◌, refl, sym, ap, ◌∙◌, ℕ, ◌+◌, ◌*◌, ◌-◌, ◌^◌, ◌<◌, ◌≤◌, arith, List, [], ◌∷◌, ◌++◌, length, take, drop_list}
+use Rattle.rs_field.proofs.Walking.{take-append-drop, length-drop, named, w64, Val, vstruct, vcons, vnil, id⊢, ftrue, flft, Lft, fact, tables, proved}
+use Rattle.rs_field.proofs.Walking.{‵, ◌⊛◌, raw, some, later, at_ret, ◌$◌, ◌∵◌, !, qed, move, keep, drop, split, split3, join, fsplit, fjoin, use1}
+use Rattle.rs_field.proofs.Walking.{use2, await, pick, suffices, frame, done, rewrite, feq_l, fpack, feq_i, whole, sub, agg, stop, fld, hop, from}
+use Rattle.rs_field.proofs.Walking.{addr, bin, of_opd, lit, first, blocks, exec, returns, enter, no_more, and_then, alloc_all, pass_all, free_all}
+use Rattle.rs_field.proofs.Walking.{look_at, look_in_at, get, through, sets, sets_last, lands_as, env, usize, u8, yes, no, uint_vals, uint_Tells}
+use Rattle.rs_field.proofs.Walking.{RattleType, owns, Valss, MutBor, MutRef, mut_vals, mut_Tells, plain, named_lft, Array, MutSlice, room, slice_val}
+use Rattle.rs_field.proofs.Walking.{mut_slice_vals, mut_slice_at, pure_l, pure_i, nothing, heard, only, follows_both, calls_at, lasts, triple_of}
+use Rattle.rs_field.proofs.Walking.{framed, says, Stays, stay_dropped, walk_of, ends_at, Goes-dropped, Goes-spent_ref, at, at_mul, length-take-le}
+use Rattle.rs_field.proofs.Walking.{drop-drop, within, tuple_type, shape}
+use denote.Follow.{both_by}
 use Rattle.rs_field.proofs.Runs.{both_then, runs_lent, lends_runs}
 use Rattle.rs_field.specs.Rows.{Chunks}
 use Rattle.rs_field.specs.Lending.{with_chunks, with_two, LendsAll}
 use Rattle.rs_field.specs.contracts.engine.shards.ShardsRefMut.{the_row}
 use Rattle.rs_field.proofs.engine.shards.ShardsRefMut.all.Met.{met}
-use lib.Seq.{drop-drop}
-use denote.Struct.Struct.{within}
-use denote.Struct.Tuple.{tuple_type}
-use denote.Struct.Declared.{shape}
 use Rattle.rs_field.specs.contracts.engine.shards.ShardsRefMut.two_parts as f
 use Rattle.rs_field.proofs.engine.shards.ShardsRefMut.two_parts.Statement.{statement}
 use Rattle.rs_field.proofs.engine.shards.ShardsRefMut.two_parts.Code as code

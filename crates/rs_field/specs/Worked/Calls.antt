@@ -9,7 +9,7 @@ use Rattle.rs_field.specs.Given.{Shards, nothing, entered}
 use Rattle.rs_field.specs.Encoder.{EncoderState, fresh_encoder, with_shard, message_of, after_encode}
 use Rattle.rs_field.specs.Decoder.{fresh_decoder, with_original, with_recovery, enough_given, after_decode}
 use Rattle.rs_field.specs.OneCall.{default_of, encoding, decoding, OneEncodeAnswers, OneDecodes, OneDecodeAnswers}
-use Rattle.rs_field.specs.WorkedCode.{two_given, surplus_given}
+use Rattle.rs_field.specs.Worked.Codes.{two_given, surplus_given}
 
 -- a shard of n zero bytes
 abbrev pub zeros : ℕ → Shard

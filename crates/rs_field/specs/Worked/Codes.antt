@@ -47,6 +47,10 @@ CubicRow rate = Recovers rate (low_bytes (0 ∷ 0 ∷ 2 ∷ 3 ∷ [])) (0 ∷ 0 
 abbrev pub PaddedRow : Rate → Type 0
 PaddedRow rate = Recovers rate (low_bytes (0 ∷ 0 ∷ 1 ∷ [])) (0 ∷ 3 ∷ 2 ∷ 1 ∷ []) (low_bytes (10 ∷ 8 ∷ 12 ∷ 15 ∷ 8 ∷ []))
 
+-- rows of the low rate, and of the default rate where k's power is the smaller
+abbrev pub LowRows : Rate → Type 0
+LowRows rate = ConstantRow rate × LineRow rate × LinearRow rate × PaddedRow rate
+
 -- four bytes are two words: bytes 1 and 3 are the second one
 abbrev pub TailRow : Type 0
 TailRow =
@@ -76,6 +80,10 @@ HighCubicRow rate = AreRecovery (configuration rate 4 4 2) (low_bytes (0 ∷ 0 �
 -- at the high rate 2, 0, 4 stand at the points 2 to 4, with zeros from 5 on, and their recovery words at 0, 1
 abbrev pub HighPaddedRow : Rate → Type 0
 HighPaddedRow rate = AreRecovery (configuration rate 3 2 2) (low_bytes (2 ∷ 0 ∷ 4 ∷ [])) (low_bytes (3 ∷ 5 ∷ []))
+
+-- rows of the high rate, and of the default rate elsewhere
+abbrev pub HighRows : Rate → Type 0
+HighRows rate = SumRow rate × HighLineRow rate × HighCubicRow rate × HighPaddedRow rate
 
 -- a decoder of two originals and three recovery shards that was given the first two recovery shards
 abbrev pub two_given : DecoderState

@@ -1,0 +1,10 @@
+use Rattle.std.proofs.Common.{rules}
+use Rattle.rs_field.specs.Bounds.{log2, transform_steps, encode_steps, decode_steps}
+use Rattle.rs_field.specs.Placement.{block_rows, encoder_rows, decoder_rows}
+use Rattle.rs_field.specs.Counts.{is_low, next_power}
+use Rattle.rs_field.specs.Search.{first_below}
+use Rattle.rs_field.proofs.worked.bounds.Goals as goal
+
+pub returns : goal.returns
+unfolding log2 transform_steps encode_steps decode_steps block_rows encoder_rows decoder_rows is_low next_power first_below
+returns c = search rules
