@@ -58,6 +58,11 @@ module _ {I A T : Type 0} (steps : I → Option A → I → Type 0) (view : A �
       → ((others : List T) → Begins view calls others → P (view item ∷ others)) → (list : List T) → Begins view (more-calls iterator after item gives calls) list → P list
   more-run iterator after item gives calls holds list begins = subst P (sym begins.1) (holds (map view calls.items ++ begins.0) (begins.0, refl, begins.2))
 
+  -- calls that gave an item and then others, of all lists that begin with which that holds
+  pub first-then : {iterator after : I} {item : A} → steps iterator (Some item) after
+      → (calls : Calls steps after) × ((others : List T) → Begins view calls others → P (view item ∷ others)) → (calls : Calls steps iterator) × ((list : List T) → Begins view calls list → P list)
+  first-then {iterator} {after} {item} gives run = (more-calls iterator after item gives run.0, more-run iterator after item gives run.0 run.1)
+
 module _ {I A S T : Type 0} (steps : I → Option A → I → Type 0) (view : A → T) (step : S → T → Result S Error) where
   -- calls gave items, and all lists that begin with them lead on from here by what comes after
   pub record LeadsOn (begin : I) (first : S) (iterator : I) (now : S) : Type 0 where
@@ -74,40 +79,6 @@ Yields-further : {I A : Type 0} (steps : I → Option A → I → Type 0) (items
     → steps iterator (Some item) after → Yields steps begin (items ++ item ∷ []) after
 Yields-further steps [] item begin iterator after gave gives = (after, subst (λ s. steps s (Some item) after) (sym gave) gives, refl)
 Yields-further steps (x ∷ items) item begin iterator after gave gives = (gave.0, gave.1, Yields-further steps items item gave.0 iterator after gave.2 gives)
-
-module _ {I A S T : Type 0} {steps : I → Option A → I → Type 0} {view : A → T} {step : S → T → Result S Error} where
-  -- an item that is taken leads on
-  pub leads-taken : {begin iterator after : I} {first now next : S} {item : A} → LeadsOn steps view step begin first iterator now → steps iterator (Some item) after
-      → step now (view item) ≡ Ok next → LeadsOn steps view step begin first after next
-  leads-taken {begin} {iterator} {after} {first} {now} {next} {item} leads gives taken =
-      record {
-        taken = leads.taken ++ item ∷ [];
-        gave = Yields-further steps leads.taken item begin iterator after leads.gave gives;
-        led = λ more.
-            ap (one_by_one step first) (map-further view leads.taken item more) ∙ leads.led (view item ∷ more) ∙ ap (result_and_then (λ s. one_by_one step s more)) taken;
-      }
-
-  -- an item that is refused decides, whatever would come after it
-  pub leads-refused : {begin iterator after : I} {first now : S} {item : A} {e : Error} → LeadsOn steps view step begin first iterator now → steps iterator (Some item) after
-      → step now (view item) ≡ Err e → (calls : Calls steps begin) × ((items : List T) → Begins view calls items → one_by_one step first items ≡ Err e)
-  leads-refused {begin} {iterator} {after} {first} {now} {item} {e} leads gives refused = (
-    record {
-      items = leads.taken ++ item ∷ [];
-      ended = false;
-      gave = (after, Yields-further steps leads.taken item begin iterator after leads.gave gives, λ ended. absurd (true≢false (sym ended)));
-    },
-    λ items begins.
-        ap (one_by_one step first) (begins.1 ∙ map-further view leads.taken item begins.0) ∙ leads.led (view item ∷ begins.0)
-        ∙ ap (result_and_then (λ s. one_by_one step s begins.0)) refused,
-  )
-
-  -- where the items end, all were taken
-  pub leads-ended : {begin iterator after : I} {first now : S} → LeadsOn steps view step begin first iterator now → steps iterator None after
-      → (calls : Calls steps begin) × ((items : List T) → Begins view calls items → one_by_one step first items ≡ Ok now)
-  leads-ended {begin} {iterator} {after} {first} {now} leads gives = (
-    record { items = leads.taken; ended = true; gave = (iterator, leads.gave, λ _. (after, gives)) },
-    λ items begins. ap (one_by_one step first) (begins.1 ∙ ap (λ more. map view leads.taken ++ more) (begins.2 refl)) ∙ leads.led [],
-  )
 
 -- an outcome of which the caller is told a success is the state that it left
 pub outcome-ok : {S : Type 0} (old new : S) (outcome : Result S Error) → Ok tt ≡ answer_of outcome → new ≡ state_after old outcome → outcome ≡ Ok new
@@ -126,6 +97,47 @@ reaches-ok outcome P s is holds = subst (λ o. Reaches o (Ok tt) P) (sym is) (re
 -- and a refusal, in whatever state
 pub reaches-err : {S : Type 0} (outcome : Result S Error) (P : S → Type 0) (result : Result (Unit {0}) Error) (e : Error) → outcome ≡ Err e → result ≡ Err e → Reaches outcome result P
 reaches-err outcome P result e is refused = subst (λ o. Reaches o result P) (sym is) refused
+
+module _ {I A S T : Type 0} {steps : I → Option A → I → Type 0} {view : A → T} {step : S → T → Result S Error} where
+  -- an item that is taken leads on
+  pub leads-taken : {begin iterator after : I} {first now next : S} {item : A} → LeadsOn steps view step begin first iterator now → steps iterator (Some item) after
+      → step now (view item) ≡ Ok next → LeadsOn steps view step begin first after next
+  leads-taken {begin} {iterator} {after} {first} {now} {next} {item} leads gives taken =
+      record {
+        taken = leads.taken ++ item ∷ [];
+        gave = Yields-further steps leads.taken item begin iterator after leads.gave gives;
+        led = λ more.
+            ap (one_by_one step first) (map-further view leads.taken item more) ∙ leads.led (view item ∷ more) ∙ ap (result_and_then (λ s. one_by_one step s more)) taken;
+      }
+
+  -- an item that is refused decides, whatever would come after it
+  pub leads-refused : {begin iterator after : I} {first now : S} {item : A} {e : Error} {result : Result (Unit {0}) Error} (P : S → Type 0)
+      → LeadsOn steps view step begin first iterator now → steps iterator (Some item) after → step now (view item) ≡ Err e → result ≡ Err e
+      → (calls : Calls steps begin) × ((items : List T) → Begins view calls items → Reaches (one_by_one step first items) result P)
+  leads-refused {begin} {iterator} {after} {first} {now} {item} {e} {result} P leads gives refused told = (
+    record {
+      items = leads.taken ++ item ∷ [];
+      ended = false;
+      gave = (after, Yields-further steps leads.taken item begin iterator after leads.gave gives, λ ended. absurd (true≢false (sym ended)));
+    },
+    λ items begins.
+        reaches-err (one_by_one step first items) P result e
+        (
+        ap (one_by_one step first) (begins.1 ∙ map-further view leads.taken item begins.0) ∙ leads.led (view item ∷ begins.0)
+        ∙ ap (result_and_then (λ s. one_by_one step s begins.0)) refused
+        )
+        told,
+  )
+
+  -- where the items end, all were taken
+  pub leads-ended : {begin iterator after : I} {first now : S} (P : S → Type 0) → LeadsOn steps view step begin first iterator now → steps iterator None after → P now
+      → (calls : Calls steps begin) × ((items : List T) → Begins view calls items → Reaches (one_by_one step first items) (Ok tt) P)
+  leads-ended {begin} {iterator} {after} {first} {now} P leads gives holds = (
+    record { items = leads.taken; ended = true; gave = (iterator, leads.gave, λ _. (after, gives)) },
+    λ items begins.
+        reaches-ok (one_by_one step first items) P now
+        (ap (one_by_one step first) (begins.1 ∙ ap (λ more. map view leads.taken ++ more) (begins.2 refl)) ∙ leads.led []) holds,
+  )
 
 -- a success leads on to what comes after it
 pub reaches-then : {S : Type 0} (outcome : Result S Error) (f : S → Result S Error) (P : S → Type 0) (now : S) (result : Result (Unit {0}) Error)

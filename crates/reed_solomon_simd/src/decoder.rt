@@ -24,6 +24,16 @@ use std::alloc::Global;
 /// A round is: shards are given by their index, at least `original_count` of all, then `decode` lends the originals
 /// that were not given. A refused call leaves the configuration and the given shards as they were, but for
 /// `InconsistentShards`, which ends the round. Memory is taken by `new` and by `reset` alone.
+///
+/// ```
+/// // quoted: crates/rs_callers/src/levels.rt
+/// let mut decoder = ReedSolomonDecoder::new(alloc, 3, 2, 12, engine)?;
+/// decoder.add_original_shard(1, ORIGINAL[1])?;
+/// for (index, shard) in recovery.recovery_iter().enumerate() {
+///     decoder.add_recovery_shard(index, shard)?;
+/// }
+/// let restored = decoder.decode()?;
+/// ```
 #[derive(Drop)]
 pub struct ReedSolomonDecoder<'t> {
     decoder: DefaultRateDecoder<DefaultEngine<'t>>,
@@ -35,6 +45,11 @@ impl<'t> ReedSolomonDecoder<'t> {
     ghost use Rattle.reed_solomon_simd.specs.contracts.decoder.ReedSolomonDecoder.{the_row};
 
     /// Whether `original_count` originals with `recovery_count` recovery shards are supported.
+    ///
+    /// ```
+    /// // quoted: crates/rs_callers/src/surface.rt
+    /// ReedSolomonDecoder::supports(original_count, recovery_count)
+    /// ```
     pub fn supports(original_count: usize, recovery_count: usize) -> bool
         ensures { result ≡ supports_counts default_rate original_count recovery_count }
     {
@@ -45,6 +60,11 @@ impl<'t> ReedSolomonDecoder<'t> {
     ///
     /// Refused with `UnsupportedShardCount`, then with `InvalidShardSize` where the size in bytes is zero or odd, then
     /// with `OutOfMemory` where no memory is found or the working space's size in bytes passes `usize::MAX`.
+    ///
+    /// ```
+    /// // quoted: crates/rs_callers/src/round_trip.rt
+    /// let mut decoder = ReedSolomonDecoder::new(alloc, k, r, shard_bytes, engine)?;
+    /// ```
     pub fn new(
         alloc: Global,
         original_count: usize,
@@ -74,6 +94,11 @@ impl<'t> ReedSolomonDecoder<'t> {
     ///
     /// `OutOfMemory` never comes where the rows fit the room that the decoder has: where they are its own and the size
     /// is not above its own, and where its working space was grown for as much before.
+    ///
+    /// ```
+    /// // quoted: crates/rs_callers/src/plain_callers.rt
+    /// decoder.reset(original_count, recovery_count, shard_bytes)
+    /// ```
     pub fn reset(
         &mut self,
         original_count: usize,
@@ -97,6 +122,16 @@ impl<'t> ReedSolomonDecoder<'t> {
     ///
     /// Refused with `InvalidOriginalShardIndex` where there is none of this index, then with
     /// `DuplicateOriginalShardIndex` where it was given, then with `DifferentShardSize`; a refusal changes nothing.
+    ///
+    /// ```
+    /// // quoted: crates/rs_callers/src/round_trip.rt
+    /// for (index, original) in originals.iter().enumerate() {
+    ///     if lost.contains(&index) {
+    ///         continue;
+    ///     }
+    ///     decoder.add_original_shard(index, original)?;
+    /// }
+    /// ```
     pub fn add_original_shard(&mut self, index: usize, original_shard: &[u8]) -> Result<(), Error>
         ensures answer { result ≡ answer_of (with_original (state_of self.old) index original_shard.now) }
         ensures left { state_of self.new ≡ state_after (state_of self.old) (with_original (state_of self.old) index original_shard.now) }
@@ -110,6 +145,13 @@ impl<'t> ReedSolomonDecoder<'t> {
     ///
     /// Refused with `InvalidRecoveryShardIndex` where there is none of this index, then with
     /// `DuplicateRecoveryShardIndex` where it was given, then with `DifferentShardSize`; a refusal changes nothing.
+    ///
+    /// ```
+    /// // quoted: crates/rs_callers/src/levels.rt
+    /// for (index, shard) in recovery.recovery_iter().enumerate() {
+    ///     decoder.add_recovery_shard(index, shard)?;
+    /// }
+    /// ```
     pub fn add_recovery_shard(&mut self, index: usize, recovery_shard: &[u8]) -> Result<(), Error>
         ensures answer { result ≡ answer_of (with_recovery (state_of self.old) index recovery_shard.now) }
         ensures left { state_of self.new ≡ state_after (state_of self.old) (with_recovery (state_of self.old) index recovery_shard.now) }
@@ -127,6 +169,12 @@ impl<'t> ReedSolomonDecoder<'t> {
     ///
     /// Else the restored shards are, at exactly the indexes that were not given, those of the only message that agrees,
     /// and the decoder has the same configuration with nothing given, whether the result was dropped or forgotten.
+    ///
+    /// ```
+    /// // quoted: crates/rs_callers/src/round_trip.rt
+    /// let restored = decoder.decode()?;
+    /// restored_copies(alloc, &restored)
+    /// ```
     pub fn decode(&mut self) -> Result<DecoderResult<'_>, Error>
         ensures answer { DecodeAnswers (state_of self.old) (answered_originals result) }
         ensures* ends { sem 𝓛 (EndsWith (the_row (record { mir = named 1; lft = [] })) self.entry

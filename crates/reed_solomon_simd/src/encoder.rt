@@ -23,6 +23,15 @@ use std::alloc::Global;
 ///
 /// A round is: `original_count` originals are added in order, then `encode` lends the recovery shards. A refused call
 /// leaves the configuration and the given shards as they were. Memory is taken by `new` and by `reset` alone.
+///
+/// ```
+/// // quoted: crates/rs_callers/src/levels.rt
+/// let mut encoder = ReedSolomonEncoder::new(alloc, 3, 2, 12, engine)?;
+/// for shard in ORIGINAL {
+///     encoder.add_original_shard(shard)?;
+/// }
+/// let recovery = encoder.encode()?;
+/// ```
 #[derive(Drop)]
 pub struct ReedSolomonEncoder<'t> {
     encoder: DefaultRateEncoder<DefaultEngine<'t>>,
@@ -34,6 +43,11 @@ impl<'t> ReedSolomonEncoder<'t> {
     ghost use Rattle.reed_solomon_simd.specs.contracts.encoder.ReedSolomonEncoder.{the_row};
 
     /// Whether `original_count` originals with `recovery_count` recovery shards are supported.
+    ///
+    /// ```
+    /// // quoted: crates/rs_callers/src/surface.rt
+    /// ReedSolomonEncoder::supports(original_count, recovery_count)
+    /// ```
     pub fn supports(original_count: usize, recovery_count: usize) -> bool
         ensures { result ≡ supports_counts default_rate original_count recovery_count }
     {
@@ -44,6 +58,12 @@ impl<'t> ReedSolomonEncoder<'t> {
     ///
     /// Refused with `UnsupportedShardCount`, then with `InvalidShardSize` where the size in bytes is zero or odd, then
     /// with `OutOfMemory` where no memory is found or the working space's size in bytes passes `usize::MAX`.
+    ///
+    /// ```
+    /// // quoted: crates/rs_callers/src/round_trip.rt
+    /// let (k, r) = (originals.len(), recovery_count);
+    /// let mut encoder = ReedSolomonEncoder::new(alloc, k, r, shard_bytes, engine)?;
+    /// ```
     pub fn new(
         alloc: Global,
         original_count: usize,
@@ -73,6 +93,11 @@ impl<'t> ReedSolomonEncoder<'t> {
     ///
     /// `OutOfMemory` never comes where the rows fit the room that the encoder has: where they are its own and the size
     /// is not above its own, and where its working space was grown for as much before.
+    ///
+    /// ```
+    /// // quoted: crates/rs_callers/src/plain_callers.rt
+    /// encoder.reset(original_count, recovery_count, shard_bytes)
+    /// ```
     pub fn reset(
         &mut self,
         original_count: usize,
@@ -96,6 +121,13 @@ impl<'t> ReedSolomonEncoder<'t> {
     ///
     /// Refused with `TooManyOriginalShards` where all are given, then with `DifferentShardSize`; a refusal changes
     /// nothing.
+    ///
+    /// ```
+    /// // quoted: crates/rs_callers/src/round_trip.rt
+    /// for original in originals {
+    ///     encoder.add_original_shard(original)?;
+    /// }
+    /// ```
     pub fn add_original_shard(&mut self, original_shard: &[u8]) -> Result<(), Error>
         ensures answer { result ≡ answer_of (with_shard (state_of self.old) original_shard.now) }
         ensures left { state_of self.new ≡ state_after (state_of self.old) (with_shard (state_of self.old) original_shard.now) }
@@ -109,6 +141,14 @@ impl<'t> ReedSolomonEncoder<'t> {
     ///
     /// Refused with `TooFewOriginalShards` where originals are missing; a refusal changes nothing. After a success the
     /// encoder has the same configuration with nothing given, whether the result was dropped or forgotten.
+    ///
+    /// ```
+    /// // quoted: crates/rs_callers/src/surface.rt
+    /// match encoder.encode()?.recovery(0) {
+    ///     Some(shard) => decoder.add_recovery_shard(0, shard),
+    ///     None => Ok(()),
+    /// }
+    /// ```
     pub fn encode(&mut self) -> Result<EncoderResult<'_>, Error>
         ensures answer { EncodeAnswers (state_of self.old) (answered_shards result) }
         ensures* ends { sem 𝓛 (EndsWith (the_row (record { mir = named 1; lft = [] })) self.entry

@@ -25,6 +25,12 @@ use std::collections::BTreeMap;
 /// as an encoder refuses each original, in order, with `TooManyOriginalShards` or `DifferentShardSize`; with
 /// `TooFewOriginalShards`; with `OutOfMemory` where the results can't be collected. After a refusal no further original
 /// is asked for, and after the iterator's end none at all.
+///
+/// ```
+/// // quoted: crates/rs_callers/src/one_call.rt
+/// let shards = original.iter().map(|shard| shard.as_slice());
+/// encode(alloc, original_count, recovery_count, shards, engine)
+/// ```
 pub fn encode<'a, I: Iterator<Item = &'a [u8]> + Drop>(
     alloc: Global,
     original_count: usize,
@@ -74,6 +80,13 @@ pub fn encode<'a, I: Iterator<Item = &'a [u8]> + Drop>(
 /// Where no recovery shard comes there is nothing to restore, and no size is looked at: the call is refused with
 /// `OutOfMemory` where the indexes can't be noted, then for each original in order with `InvalidOriginalShardIndex` or
 /// `DuplicateOriginalShardIndex`, then with `NotEnoughShards`, and else answers the empty map.
+///
+/// ```
+/// // quoted: crates/rs_callers/src/levels.rt
+/// let received = recovery.iter().map(|shard| shard.as_slice()).enumerate();
+/// let original = [(1, ORIGINAL[1])].into_iter();
+/// let restored = reed_solomon_simd::decode(alloc, 3, 2, original, received, engine)?;
+/// ```
 pub fn decode<'a, O, R>(
     alloc: Global,
     original_count: usize,

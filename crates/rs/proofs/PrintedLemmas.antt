@@ -1,5 +1,5 @@
 -- What is printed, and what is told in its place.
-use Rattle.std.proofs.Common.{◌≡◌, ℕ, Bool, cond, List, [], ◌∷◌, map, Some, Result, Ok, Err, inl, inr, refl, sym, ◌∙◌, ap, ap₂, subst, arith}
+use Rattle.std.proofs.Common.{◌≡◌, ℕ, Bool, true, false, cond, List, [], ◌∷◌, map, Some, Result, Ok, Err, inl, inr, refl, sym, ◌∙◌, ap, ap₂, subst, arith}
 use Rattle.std.specs.Prelude.{nat_eq, MatchResult}
 use Rattle.std.specs.BTreeMap.{BTreeMap, IsOrdered}
 use Rattle.std.specs.List.Sorted.{IsStrictlySortedBy}
@@ -11,15 +11,16 @@ use Rattle.std.specs.declared.string.String.{String}
 use Rattle.std.specs.declared.vec.Vec.{Vec}
 use Rattle.std.proofs.lemmas.Bool.Decides.{nat_tests}
 use Rattle.std.proofs.lemmas.Map.Made.{keys_of-map_values, lookup-map_values}
-use Rattle.reed_solomon_simd.specs.OneCall.{shards_in, OneEncodeAnswers, OneDecodeAnswers}
+use Rattle.reed_solomon_simd.specs.Counts.{default_rate, supports}
+use Rattle.reed_solomon_simd.specs.OneCall.{Items, counted, shards_in, OneEncodeAnswers, OneDecodeAnswers}
 use Rattle.reed_solomon_simd.specs.declared.Error.{Error}
-use Rattle.reed_solomon_simd.specs.declared.Error.TheVariants.{OutOfMemory}
+use Rattle.reed_solomon_simd.specs.declared.Error.TheVariants.{UnsupportedShardCount, OutOfMemory}
 use Rattle.reed_solomon_simd.specs.Column.{Shard}
 use Rattle.reed_solomon_simd.specs.Given.{Shards, Lists}
 use Rattle.rs.specs.declared.fault.Fault.{Fault}
 use Rattle.rs.specs.declared.fault.Fault.TheVariants.{Usage, Refused}
-use Rattle.rs.specs.CommandLine.{GivenItems}
-use Rattle.rs.specs.Printed.{ListsShards, lines_of, CodesLines, RestoresLines, OrLacksMemory, Refuses, HasFault}
+use Rattle.rs.specs.CommandLine.{GivenItems, Task, Coded, Restored}
+use Rattle.rs.specs.Printed.{ListsShards, lines_of, concatenated, CodesLines, RestoresLines, Answers, OrLacksMemory, Refuses, HasFault}
 use Rattle.rs.specs.Told.{status_of, IsToldAs}
 use Rattle.rs.proofs.ListedLemmas.{lists-sorted}
 
@@ -39,17 +40,35 @@ entries_in_order vectors ordered =
     ∙ sym (lookup-map_values (λ v. v.items) (nat_eq i) vectors.entries))
 
 -- the lines of recovery shards, or want of memory
-pub codes-lines : {Y : Type 0} (k r : ℕ) (shards recovery : List Shard) (result : Result (String Y) Error) → OneEncodeAnswers k r shards (Ok recovery)
-    → MatchResult result (λ text. string_bytes text ≡ lines_of recovery) (λ e. e ≡ OutOfMemory) → OrLacksMemory (CodesLines k r shards) result
-codes-lines k r shards recovery (Ok text) answered lines = (recovery, answered, lines)
+pub codes-lines : {Y Z : Type 0} (k r : ℕ) (shards recovery : List Shard) (result : Result (Vec (String Y) Z) Error) → OneEncodeAnswers k r shards (Ok recovery)
+    → MatchResult result (λ texts. concatenated texts ≡ lines_of recovery) (λ e. e ≡ OutOfMemory) → OrLacksMemory (CodesLines k r shards) result
+codes-lines k r shards recovery (Ok texts) answered lines = (recovery, answered, lines)
 codes-lines k r shards recovery (Err e) answered lacking = inr lacking
 
 -- the lines of restored originals, or want of memory
-pub restores-lines : {Y : Type 0} (k r : ℕ) (given : GivenItems) (restored : Shards) (result : Result (String Y) Error)
+pub restores-lines : {Y Z : Type 0} (k r : ℕ) (given : GivenItems) (restored : Shards) (result : Result (Vec (String Y) Z) Error)
     → OneDecodeAnswers k r given.originals given.recovery (Ok restored)
-    → MatchResult result (λ text. ListsShards restored (string_bytes text)) (λ e. e ≡ OutOfMemory) → OrLacksMemory (RestoresLines k r given) result
-restores-lines k r given restored (Ok text) answered lines = (restored, answered, lines)
+    → MatchResult result (λ texts. ListsShards restored (concatenated texts)) (λ e. e ≡ OutOfMemory) → OrLacksMemory (RestoresLines k r given) result
+restores-lines k r given restored (Ok texts) answered lines = (restored, answered, lines)
 restores-lines k r given restored (Err e) answered lacking = inr lacking
+
+-- what is told of counts, by whether they are supported
+abbrev counted_by : ℕ → ℕ → Bool → Result (Unit {0}) Error
+counted_by k r supported = cond supported (Ok tt) (Err (UnsupportedShardCount k r))
+
+unsupported_by : (k r : ℕ) (e : Error) (supported : Bool) → Err e ≡ counted_by k r supported → (supported ≡ false) × (e ≡ UnsupportedShardCount k r)
+unsupported_by k r e true told = cc
+unsupported_by k r e false told = (refl, cc)
+
+-- whatever the task, counts that aren't supported are refused
+pub unsupported : (k r : ℕ) (task : Task) (e : Error) → Err e ≡ counted k r → Answers k r task (Err e)
+unsupported k r (Coded []) e told = let refused = unsupported_by k r e (supports default_rate k r) told in rw (refused.0, refused.1) (inl refl)
+unsupported k r (Coded (shard ∷ shards)) e told = let refused = unsupported_by k r e (supports default_rate k r) told in rw (refused.0, refused.1) (inl refl)
+unsupported k r (Restored given) e told = by_recovery given.recovery
+  where
+    by_recovery : (recovery : Items) → OneDecodeAnswers k r given.originals recovery (Err e)
+    by_recovery [] = let refused = unsupported_by k r e (supports default_rate k r) told in rw (refused.0, refused.1) (inl refl)
+    by_recovery (first ∷ rest) = let refused = unsupported_by k r e (supports default_rate k r) told in rw (refused.0, refused.1) (inl refl)
 
 -- with status 1 what is told of an answer is a refusal of the words
 pub refusal-told : (words : List (List ℕ)) (fault told : Fault) → status_of fault ≡ 1 → HasFault words fault → IsToldAs fault told

@@ -1,10 +1,14 @@
 -- Known bytes that grow by one text after another.
-use Rattle.std.proofs.Common.{◌≡◌, ℕ, ◌+◌, ◌-◌, ◌≤◌, List, ◌++◌, length, take, drop, Option, Some, None, ◌∙◌, ap, append_assoc, arith, length-drop}
+use Rattle.std.proofs.Common.{◌≡◌, ℕ, suc, ◌+◌, ◌-◌, ◌<◌, ◌≤◌, List, [], ◌∷◌, ◌++◌, length, take, drop, get_or, Option, Some, None, refl, ◌∙◌, ap, ap₂, sym, subst, append_assoc, append-nil, arith, length-append, length-drop}
 use Rattle.std.specs.Io.KnownBytes.{Appends, Keeps}
 use Rattle.std.proofs.Math.Seq.{take-add}
-use Rattle.std.proofs.lemmas.List.{take_all}
+use Rattle.std.proofs.lemmas.Grind.{flat_map-append}
+use Rattle.std.proofs.lemmas.List.{take_all, drop_more, take-append-drop, take-append-le}
+use Rattle.std.specs.List.{flat_map}
+use Rattle.rs.specs.Told.{CutShort}
 
-appends-appends : (a b c : Option (List ℕ)) (xs ys : List ℕ) → Appends a b xs → Appends b c ys → Appends a c (xs ++ ys)
+-- bytes that grew by a text and then by another
+pub appends-appends : (a b c : Option (List ℕ)) (xs ys : List ℕ) → Appends a b xs → Appends b c ys → Appends a c (xs ++ ys)
 appends-appends None b c xs ys p q = tt
 appends-appends (Some a) None c xs ys p q = absurd p
 appends-appends (Some a) (Some b) None xs ys p q = absurd q
@@ -27,3 +31,37 @@ appends-front a b c text k n p q = rw (take-add k n text) (appends-appends a b c
 -- the first n of what is left of a text end within it
 pub front-within : (text : List ℕ) (k n : ℕ) → k ≤ length text → n ≤ length (take (length text - k) (drop k text)) → k + n ≤ length text
 front-within text k n within few = let fewer : n ≤ length (drop k text) = rw (left_of text k) at few in omega (arith, length-drop k text)
+
+take-behind : (front text : List ℕ) (n : ℕ) → take (length front + n) (front ++ text) ≡ front ++ take n text
+take-behind [] text n = let none : 0 + n ≡ n = omega arith in ap (λ k. take k text) none
+take-behind (x ∷ front) text n =
+    let more : length (x ∷ front) + n ≡ suc (length front + n) = omega arith in
+    ap (λ k. take k (x ∷ (front ++ text))) more ∙ ap (λ xs. x ∷ xs) (take-behind front text n)
+
+-- bytes that grew by the texts before number i, and then by that one
+pub text-at : {X : Type 0} (f : X → List ℕ) (a b c : Option (List ℕ)) (texts : List X) (i : ℕ) (d : X) → i < length texts → Appends a b (flat_map f (take i texts))
+    → Appends b c (f (get_or texts i d)) → Appends a c (flat_map f (take (i + 1) texts))
+text-at f a b c texts i d inside written more =
+    let further : take (i + 1) texts ≡ take i texts ++ (get_or texts i d ∷ []) = take-add i 1 texts ∙ ap (λ xs. take i texts ++ take 1 xs) (drop_more texts i d inside) in
+    let last : f (get_or texts i d) ++ [] ≡ f (get_or texts i d) = append-nil (f (get_or texts i d)) in
+    let whole : flat_map f (take (i + 1) texts) ≡ flat_map f (take i texts) ++ f (get_or texts i d) =
+    ap (flat_map f) further ∙ flat_map-append f (take i texts) (get_or texts i d ∷ []) ∙ ap (λ xs. flat_map f (take i texts) ++ xs) last in
+    subst (Appends a c) (sym whole) (appends-appends a b c (flat_map f (take i texts)) (f (get_or texts i d)) written more)
+
+-- bytes that grew by the texts before number i, and then by the front of that one, whose end is missing
+pub cut-at : {X : Type 0} (f : X → List ℕ) (a b c : Option (List ℕ)) (texts : List X) (i : ℕ) (d : X) → i < length texts → Appends a b (flat_map f (take i texts))
+    → CutShort b c (f (get_or texts i d)) → CutShort a c (flat_map f texts)
+cut-at f a b c texts i d inside written cut =
+    let front = flat_map f (take i texts) in
+    let text = f (get_or texts i d) in
+    let rest = flat_map f (drop (i + 1) texts) in
+    let whole : flat_map f texts ≡ front ++ (text ++ rest) =
+    ap (flat_map f) (sym (take-append-drop i texts)) ∙ flat_map-append f (take i texts) (drop i texts) ∙ ap (λ xs. front ++ flat_map f xs) (drop_more texts i d inside) in
+    let long : length (front ++ (text ++ rest)) ≡ length front + length (text ++ rest) = length-append front (text ++ rest) in
+    let longer : length (text ++ rest) ≡ length text + length rest = length-append text rest in
+    subst (CutShort a c) (sym whole) (
+      length front + cut.0,
+      omega (arith, long, longer, cut.1),
+      subst (Appends a c) (sym (take-behind front (text ++ rest) cut.0 ∙ ap (λ xs. front ++ xs) (take-append-le cut.0 text rest (omega (arith, cut.1)))))
+          (appends-appends a b c front (take cut.0 text) written cut.2),
+    )

@@ -1,7 +1,7 @@
 -- What a command line asks for.
 use Rattle.std.specs.Prelude.{ℕ, Bool, List, [], ◌∷◌, length, codes, nat_lt, ◌==◌, Option, Some, None, if◌then◌else◌}
 use Rattle.std.specs.List.{position_or_len, before_first, after_first}
-use Rattle.std.specs.Option.{option_map, option_zip, option_and_then}
+use Rattle.std.specs.Option.{option_map, option_zip}
 use Rattle.std.specs.Str.{bytes_eq}
 use Rattle.reed_solomon_simd.specs.Column.{Shard}
 use Rattle.reed_solomon_simd.specs.OneCall.{Items}
@@ -54,27 +54,28 @@ abbrev pub items_of : List (List ℕ) → Option GivenItems
 items_of [] = Some (record { originals = []; recovery = [] })
 items_of (word ∷ words) = option_map (λ p. with_item p.0 p.1) (option_zip (item_of word) (items_of words))
 
--- shards are to be coded, or restored from originals and recovery shards: by an engine, at the counts of originals and of recovery shards
-pub data Request : Type 0 where
-  Coded : EngineKind → ℕ → ℕ → List Shard → Request
-  Restored : EngineKind → ℕ → ℕ → GivenItems → Request
+-- what is to be done: shards are coded, or restored from others
+pub data Task : Type 0 where
+  Coded : List Shard → Task
+  Restored : GivenItems → Task
 
--- the engine that a request asks for
-abbrev pub engine_asked : Request → EngineKind
-engine_asked (Coded engine k r shards) = engine
-engine_asked (Restored engine k r given) = engine
+-- a task, by an engine, at the counts of originals and of recovery shards
+pub record Request : Type 0 where
+  pub engine : EngineKind
+  pub original_count : ℕ
+  pub recovery_count : ℕ
+  pub task : Task
 
--- the request of a command for this engine and these counts, with the words behind them
-abbrev pub request_for : List ℕ → EngineKind → ℕ → ℕ → List (List ℕ) → Option Request
-request_for command engine k r words =
-    if bytes_eq command (codes "encode") then option_map (Coded engine k r) (shards_of words)
-    else if bytes_eq command (codes "decode") then option_map (Restored engine k r) (items_of words)
+-- the task of a command with the words behind the counts
+abbrev pub task_of : List ℕ → List (List ℕ) → Option Task
+task_of command words =
+    if bytes_eq command (codes "encode") then option_map Coded (shards_of words)
+    else if bytes_eq command (codes "decode") then option_map Restored (items_of words)
     else None
 
 -- what words ask for; None where they are no command line
 abbrev pub request_of : List (List ℕ) → Option Request
 request_of (command ∷ engine ∷ original ∷ recovery ∷ words) =
-    option_and_then
-    (λ kind. option_and_then (λ counts. request_for command kind counts.0 counts.1 words) (option_zip (number_of original) (number_of recovery)))
-    (engine_named engine)
+    option_map (λ p. record { engine = p.0; original_count = p.1.0.0; recovery_count = p.1.0.1; task = p.1.1 })
+    (option_zip (engine_named engine) (option_zip (option_zip (number_of original) (number_of recovery)) (task_of command words)))
 request_of _ = None

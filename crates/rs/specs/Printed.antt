@@ -3,6 +3,7 @@ use Rattle.std.specs.Prelude.{◌≡◌, ℕ, List, [], ◌∷◌, ◌++◌, ◌
 use Rattle.std.specs.Fmt.{decimal}
 use Rattle.std.specs.String.{string_bytes}
 use Rattle.std.specs.declared.string.String.{String}
+use Rattle.std.specs.declared.vec.Vec.{Vec}
 use Rattle.reed_solomon_simd.specs.declared.Error.{Error}
 use Rattle.reed_solomon_simd.specs.declared.Error.TheVariants.{OutOfMemory}
 use Rattle.reed_solomon_simd.specs.Column.{Shard}
@@ -11,7 +12,7 @@ use Rattle.reed_solomon_simd.specs.OneCall.{Items, OneEncodeAnswers, OneDecodeAn
 use Rattle.rs.specs.declared.fault.Fault.{Fault}
 use Rattle.rs.specs.declared.fault.Fault.TheVariants.{Usage, Refused}
 use Rattle.rs.specs.Hex.{hex_of}
-use Rattle.rs.specs.CommandLine.{GivenItems, Request, Coded, Restored, request_of}
+use Rattle.rs.specs.CommandLine.{GivenItems, Task, Coded, Restored, Request, request_of}
 
 -- a shard's line: its HEX and a line end
 abbrev pub line_of : Shard → List ℕ
@@ -43,22 +44,30 @@ abbrev pub RestoresLines : ℕ → ℕ → GivenItems → Result (List ℕ) Erro
 RestoresLines k r given (Ok text) = (restored : Shards) × OneDecodeAnswers k r given.originals given.recovery (Ok restored) × ListsShards restored text
 RestoresLines k r given (Err e) = OneDecodeAnswers k r given.originals given.recovery (Err e)
 
--- what is answered to a request: a text, or a refusal
-abbrev pub Answers : Request → Result (List ℕ) Error → Type 0
-Answers (Coded engine k r shards) answer = CodesLines k r shards answer
-Answers (Restored engine k r given) answer = RestoresLines k r given answer
+-- what is answered to a task at these counts: a text, or a refusal
+abbrev pub Answers : ℕ → ℕ → Task → Result (List ℕ) Error → Type 0
+Answers k r (Coded shards) answer = CodesLines k r shards answer
+Answers k r (Restored given) answer = RestoresLines k r given answer
+
+-- what is answered to a request
+abbrev pub IsAnswered : Request → Result (List ℕ) Error → Type 0
+IsAnswered request answer = Answers request.original_count request.recovery_count request.task answer
 
 -- the lines that words ask for
 abbrev pub Prints : List (List ℕ) → List ℕ → Type 0
-Prints words text = (request : Request) × (request_of words ≡ Some request) × Answers request (Ok text)
+Prints words text = (request : Request) × (request_of words ≡ Some request) × IsAnswered request (Ok text)
 
 -- a refusal that words are told: that of the one-call function, or want of memory
 abbrev pub Refuses : List (List ℕ) → Error → Type 0
-Refuses words e = ((request : Request) × (request_of words ≡ Some request) × Answers request (Err e)) ⊎ (e ≡ OutOfMemory)
+Refuses words e = ((request : Request) × (request_of words ≡ Some request) × IsAnswered request (Err e)) ⊎ (e ≡ OutOfMemory)
+
+-- texts one after another
+abbrev pub concatenated : {Y Z : Type 0} → Vec (String Y) Z → List ℕ
+concatenated texts = flat_map string_bytes texts.items
 
 -- an answer of which P holds, or want of memory
-abbrev pub OrLacksMemory : {Y : Type 0} → (Result (List ℕ) Error → Type 0) → Result (String Y) Error → Type 0
-OrLacksMemory P (Ok lines) = P (Ok (string_bytes lines))
+abbrev pub OrLacksMemory : {Y Z : Type 0} → (Result (List ℕ) Error → Type 0) → Result (Vec (String Y) Z) Error → Type 0
+OrLacksMemory P (Ok texts) = P (Ok (concatenated texts))
 OrLacksMemory P (Err e) = P (Err e) ⊎ (e ≡ OutOfMemory)
 
 -- why there are no lines for words: they are no command line, or are refused

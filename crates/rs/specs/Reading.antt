@@ -9,10 +9,11 @@ use Rattle.rs.specs.declared.command.IndexedShard.{IndexedShard}
 use Rattle.rs.specs.declared.command.Item.{Item}
 use Rattle.rs.specs.declared.command.Item.TheVariants.{Original, Recovery}
 use Rattle.rs.specs.declared.command.Command.{Command}
-use Rattle.rs.specs.declared.command.Command.TheVariants.{Encode, Decode}
+use Rattle.rs.specs.declared.command.Task.{Task}
+use Rattle.rs.specs.declared.command.Task.TheVariants.{Encode, Decode}
 use Rattle.rs.specs.declared.fault.Fault.{Fault}
 use Rattle.rs.specs.declared.fault.Fault.TheVariants.{Usage, Refused}
-use Rattle.rs.specs.CommandLine.{Request, Coded, Restored, GivenItems}
+use Rattle.rs.specs.CommandLine.{GivenItems}
 use Rattle.rs.specs.CommandLine as Line
 
 -- words are read as what they ask for; else they ask for nothing that can be read, or memory is lacking
@@ -46,7 +47,12 @@ abbrev pub as_item_of_line : Item → Line.Item
 as_item_of_line (Original indexed) = Line.OriginalItem (as_item indexed)
 as_item_of_line (Recovery indexed) = Line.RecoveryItem (as_item indexed)
 
+-- the task of a command line that a task was read from
+abbrev pub as_task : Task → Line.Task
+as_task (Encode original) = Line.Coded (as_shards original)
+as_task (Decode given) = Line.Restored (as_given given)
+
 -- the request that a command was read from
-abbrev pub as_request : Command → Request
-as_request (Encode engine counts original) = Coded engine counts.original counts.recovery (as_shards original)
-as_request (Decode engine counts given) = Restored engine counts.original counts.recovery (as_given given)
+abbrev pub as_request : Command → Line.Request
+as_request command =
+    record { engine = command.engine; original_count = command.counts.original; recovery_count = command.counts.recovery; task = as_task command.task }

@@ -3,8 +3,8 @@ ghost use Rattle.std.specs.Prelude.{◌≡◌, [], None, Err, map, take, OnOk, I
 ghost use Rattle.std.specs.Option.{option_zip};
 ghost use Rattle.std.specs.String.{string_bytes};
 ghost use Rattle.rs.specs.Number.{number_of};
-ghost use Rattle.rs.specs.CommandLine.{shards_of, indexed_shard_of, item_of, items_of, request_for, request_of};
-ghost use Rattle.rs.specs.Reading.{Reads, as_shards, as_item, as_item_of_line, as_given, as_request};
+ghost use Rattle.rs.specs.CommandLine.{shards_of, indexed_shard_of, item_of, items_of, task_of, request_of};
+ghost use Rattle.rs.specs.Reading.{Reads, as_shards, as_item, as_item_of_line, as_given, as_task, as_request};
 
 use crate::fault::Fault;
 use crate::hexadecimal::word;
@@ -34,36 +34,21 @@ pub struct Given {
     pub recovery: Vec<IndexedShard>,
 }
 
-/// What a command line asks for.
+/// What is to be done.
 #[derive(Drop)]
-pub enum Command {
-    /// The recovery shards of originals.
-    Encode {
-        engine: EngineKind,
-        counts: Counts,
-        original: Vec<Vec<u8>>,
-    },
-    /// The originals that are not among the given shards.
-    Decode {
-        engine: EngineKind,
-        counts: Counts,
-        given: Given,
-    },
+pub enum Task {
+    /// The recovery shards of these originals are wanted.
+    Encode(Vec<Vec<u8>>),
+    /// The originals that are not among these shards are wanted.
+    Decode(Given),
 }
 
-impl Command {
-    ghost use Rattle.std.specs.Prelude.{◌≡◌};
-    ghost use Rattle.rs.specs.CommandLine.{engine_asked};
-    ghost use Rattle.rs.specs.Reading.{as_request};
-
-    /// The engine that it asks for.
-    pub fn engine(&self) -> EngineKind
-        ensures { result ≡ engine_asked (as_request self.now) }
-    {
-        match self {
-            Command::Encode { engine, .. } | Command::Decode { engine, .. } => *engine,
-        }
-    }
+/// What a command line asks for.
+#[derive(Drop)]
+pub struct Command {
+    pub engine: EngineKind,
+    pub counts: Counts,
+    pub task: Task,
 }
 
 // A word of a command line that asks for originals.
@@ -89,6 +74,7 @@ impl Given {
     }
 }
 
+// The counts of words that are numbers.
 fn read_counts(original: &str, recovery: &str) -> Result<Counts, Fault>
     ensures read { Reads (λ counts. (counts.original, counts.recovery)) (option_zip (number_of original.now) (number_of recovery.now)) result }
     ensures usage { IfErr result (λ fault. fault ≡ Fault.Usage) }
@@ -160,34 +146,14 @@ fn read_items(alloc: Global, words: &[String]) -> Result<Given, Fault>
     Ok(given)
 }
 
-// The command of this name with the words behind the counts.
-fn read_command_for(
-    alloc: Global,
-    name: &str,
-    engine: EngineKind,
-    counts: Counts,
-    words: &[String],
-) -> Result<Command, Fault>
-    ensures read { Reads as_request (request_for name.now engine counts.original counts.recovery (map string_bytes words.now)) result }
-    ensures begun { request_for name.now engine counts.original counts.recovery [] ≡ None → result ≡ Err Fault.Usage }
+// The task of a command of this name with the words behind the counts.
+fn read_task(alloc: Global, name: &str, words: &[String]) -> Result<Task, Fault>
+    ensures read { Reads as_task (task_of name.now (map string_bytes words.now)) result }
+    ensures begun { task_of name.now [] ≡ None → result ≡ Err Fault.Usage }
 {
     match name {
-        "encode" => {
-            let original = read_shards(alloc, words)?;
-            Ok(Command::Encode {
-                engine,
-                counts,
-                original,
-            })
-        }
-        "decode" => {
-            let given = read_items(alloc, words)?;
-            Ok(Command::Decode {
-                engine,
-                counts,
-                given,
-            })
-        }
+        "encode" => Ok(Task::Encode(read_shards(alloc, words)?)),
+        "decode" => Ok(Task::Decode(read_items(alloc, words)?)),
         _ => Err(Fault::Usage),
     }
 }
@@ -205,5 +171,10 @@ pub fn read_command(alloc: Global, words: &[String]) -> Result<Command, Fault>
         return Err(Fault::Usage);
     };
     let counts = read_counts(original.as_str(), recovery.as_str())?;
-    read_command_for(alloc, name.as_str(), engine, counts, words)
+    let task = read_task(alloc, name.as_str(), words)?;
+    Ok(Command {
+        engine,
+        counts,
+        task,
+    })
 }

@@ -2,46 +2,46 @@
 ghost use Rattle.std.specs.Prelude.{◌≡◌, ◌≤◌, ℕ, List, ◌⊎◌, None, Err, map, take, MatchResult};
 ghost use Rattle.std.specs.Io.KnownBytes.{Appends};
 ghost use Rattle.std.specs.String.{string_bytes};
-ghost use Rattle.reed_solomon_simd.specs.OneCall.{shards_in};
+ghost use Rattle.reed_solomon_simd.specs.OneCall.{counted, shards_in};
 ghost use Rattle.reed_solomon_simd.specs.Kind.{kind_of};
-ghost use Rattle.rs.specs.CommandLine.{engine_asked, request_of};
+ghost use Rattle.rs.specs.CommandLine.{request_of};
 ghost use Rattle.rs.specs.Reading.{as_given, as_request};
-ghost use Rattle.rs.specs.Printed.{lines_of, ListsShards, CodesLines, RestoresLines, Answers, OrLacksMemory, Prints, Refuses, HasFault};
+ghost use Rattle.rs.specs.Printed.{lines_of, concatenated, ListsShards, CodesLines, RestoresLines, IsAnswered, OrLacksMemory, Prints, Refuses, HasFault};
 ghost use Rattle.rs.specs.Told.{message_of, AppendsFront, CutShort};
 ghost use Rattle.rs.specs.declared.fault.Fault.TheVariants.{Usage, Refused};
 
-use crate::command::{Command, Counts, Given, read_command};
+use crate::command::{Command, Counts, Given, Task, read_command};
 use crate::fault::Fault;
 use crate::hexadecimal::line;
-use crate::writing::write_text;
+use crate::writing::write_texts;
 use reed_solomon_simd::engine::DefaultEngine;
 use reed_solomon_simd::engine::tables::Tables;
-use reed_solomon_simd::{Error, decode, encode};
+use reed_solomon_simd::{Error, ReedSolomonEncoder, decode, encode};
 use std::alloc::Global;
 use std::collections::BTreeMap;
 use std::io::Write;
 
 // A line for each shard.
-fn lines(alloc: Global, shards: &[Vec<u8>]) -> Result<String, Error>
-    ensures { MatchResult result (λ text. string_bytes text ≡ lines_of (map (λ v. v.items) shards.now)) (λ e. e ≡ Error.OutOfMemory) }
+fn lines(alloc: Global, shards: &[Vec<u8>]) -> Result<Vec<String>, Error>
+    ensures { MatchResult result (λ texts. concatenated texts ≡ lines_of (map (λ v. v.items) shards.now)) (λ e. e ≡ Error.OutOfMemory) }
 {
-    let mut text = String::new(alloc);
+    let mut texts = Vec::new(alloc);
     for shard in shards {
-        text.push_str(line(alloc, shard.as_slice())?.as_str())?;
+        texts.push(line(alloc, shard.as_slice())?)?;
     }
-    Ok(text)
+    Ok(texts)
 }
 
 // A line for each shard of a map, behind its index.
-fn indexed_lines(alloc: Global, shards: &BTreeMap<usize, Vec<u8>>) -> Result<String, Error>
-    ensures { MatchResult result (λ text. ListsShards (shards_in shards.now) (string_bytes text)) (λ e. e ≡ Error.OutOfMemory) }
+fn indexed_lines(alloc: Global, shards: &BTreeMap<usize, Vec<u8>>) -> Result<Vec<String>, Error>
+    ensures { MatchResult result (λ texts. ListsShards (shards_in shards.now) (concatenated texts)) (λ e. e ≡ Error.OutOfMemory) }
 {
-    let mut text = String::new(alloc);
+    let mut texts = Vec::new(alloc);
     for (index, shard) in shards {
-        write!(text, "{index} ")?;
-        text.push_str(line(alloc, shard.as_slice())?.as_str())?;
+        texts.push(format!(in alloc; "{index} ")?)?;
+        texts.push(line(alloc, shard.as_slice())?)?;
     }
-    Ok(text)
+    Ok(texts)
 }
 
 // The lines of the recovery shards of the originals.
@@ -50,7 +50,7 @@ fn coded_lines(
     counts: Counts,
     original: &[Vec<u8>],
     engine: DefaultEngine<'_>,
-) -> Result<String, Error>
+) -> Result<Vec<String>, Error>
     ensures { OrLacksMemory (CodesLines counts.original counts.recovery (map (λ v. v.items) original.now)) result }
 {
     let shards = original.iter().map(|shard| shard.as_slice());
@@ -64,7 +64,7 @@ fn restored_lines(
     counts: Counts,
     given: &Given,
     engine: DefaultEngine<'_>,
-) -> Result<String, Error>
+) -> Result<Vec<String>, Error>
     ensures { OrLacksMemory (RestoresLines counts.original counts.recovery (as_given given.now)) result }
 {
     let original = given
@@ -87,35 +87,50 @@ fn restored_lines(
 }
 
 // The lines that answer a command, made by the engine that it asks for.
-fn lines_for(alloc: Global, command: &Command, engine: DefaultEngine<'_>) -> Result<String, Error>
-    requires engine { kind_of engine ≡ engine_asked (as_request command.now) }
-    ensures { OrLacksMemory (Answers (as_request command.now)) result }
+fn lines_for(
+    alloc: Global,
+    command: &Command,
+    engine: DefaultEngine<'_>,
+) -> Result<Vec<String>, Error>
+    requires engine { kind_of engine ≡ command.now.engine }
+    ensures { OrLacksMemory (IsAnswered (as_request command.now)) result }
 {
-    match command {
-        Command::Encode {
-            counts,
-            original,
-            ..
-        } => coded_lines(alloc, *counts, original, engine),
-        Command::Decode { counts, given, .. } => restored_lines(alloc, *counts, given, engine),
+    match &command.task {
+        Task::Encode(original) => coded_lines(alloc, command.counts, original, engine),
+        Task::Decode(given) => restored_lines(alloc, command.counts, given, engine),
     }
 }
 
-// The lines that the words ask for.
-fn answer(alloc: Global, words: &[String]) -> Result<String, Fault>
+// `UnsupportedShardCount` where the counts aren't supported.
+fn check_counts(counts: Counts) -> Result<(), Error>
+    ensures { result ≡ counted counts.original counts.recovery }
+{
+    if ReedSolomonEncoder::supports(counts.original, counts.recovery) {
+        Ok(())
+    } else {
+        Err(Error::UnsupportedShardCount {
+            original_count: counts.original,
+            recovery_count: counts.recovery,
+        })
+    }
+}
+
+// The lines that the words ask for. Tables are made for counts that are supported.
+fn answer(alloc: Global, words: &[String]) -> Result<Vec<String>, Fault>
     ensures begun { request_of (take 4 (map string_bytes words.now)) ≡ None → result ≡ Err Usage }
-    ensures answer { MatchResult result (λ text. Prints (map string_bytes words.now) (string_bytes text))
+    ensures answer { MatchResult result (λ texts. Prints (map string_bytes words.now) (concatenated texts))
         (λ fault. HasFault (map string_bytes words.now) fault) }
 {
     let command = read_command(alloc, words)?;
+    check_counts(command.counts)?;
     let tables = Tables::new(alloc)?;
-    let engine = DefaultEngine::new(&tables, command.engine());
+    let engine = DefaultEngine::new(&tables, command.engine);
     Ok(lines_for(alloc, &command, engine)?)
 }
 
 /// Does what the words ask, and answers the status.
 ///
-/// Every line is made before the first is written. Status 0: all lines were written to `out`. A refusal is told on `err`
+/// Every line is made before the first is written, and no table before the counts are known to be supported. Status 0: all lines were written to `out`. A refusal is told on `err`
 /// with status 1, a bad command line by `usage` with status 2; both write nothing to `out`. A failed write to `out` gives
 /// status 1; one to `err` changes no status. No memory is wanted before the command, the engine and the counts are read:
 /// where these are wrong the status is always 2.
@@ -135,7 +150,7 @@ pub fn run<O: Write, X: Write>(alloc: Global, words: &[String], out: &mut O, err
         × AppendsFront (X.contents err.old) (X.contents err.new) (message_of Usage) }
 {
     match answer(alloc, words) {
-        Ok(text) if write_text(out, text.as_str()) => 0,
+        Ok(texts) if write_texts(out, texts.as_slice()) => 0,
         Ok(_) => 1,
         Err(fault) => {
             let _ = fault.tell(alloc, err);

@@ -1,6 +1,7 @@
 //! Texts written to standard output and standard error.
-ghost use Rattle.std.specs.Prelude.{◌≡◌, false, IsTrue};
+ghost use Rattle.std.specs.Prelude.{◌≡◌, false, IsTrue, flat_map};
 ghost use Rattle.std.specs.Io.KnownBytes.{Appends};
+ghost use Rattle.std.specs.String.{string_bytes};
 ghost use Rattle.rs.specs.Told.{AppendsFront, CutShort};
 
 use std::io::{ErrorKind, Write};
@@ -27,4 +28,18 @@ pub fn write_text<W: Write>(writer: &mut W, text: &str) -> bool
         }
     }
     written == bytes.len()
+}
+
+/// Writes texts one after another, to the end of the last or until a write fails; answers whether all of them were
+/// written.
+pub fn write_texts<W: Write>(writer: &mut W, texts: &[String]) -> bool
+    ensures whole { IsTrue result → Appends (W.contents writer.old) (W.contents writer.new) (flat_map string_bytes texts.now) }
+    ensures cut { result ≡ false → CutShort (W.contents writer.old) (W.contents writer.new) (flat_map string_bytes texts.now) }
+{
+    for text in texts {
+        if !write_text(writer, text.as_str()) {
+            return false;
+        }
+    }
+    true
 }

@@ -6,6 +6,13 @@ use rs_field::engine::{Engine, GfElement, Naive, ShardsRefMut, Steps};
 use std::str::FromStr;
 
 /// The kinds of engines. In lower case the name of each is read as the kind.
+///
+/// ```
+/// // quoted: crates/rs/src/command.rt
+/// let Ok(engine) = EngineKind::from_str(engine.as_str()) else {
+///     return Err(Fault::Usage);
+/// };
+/// ```
 #[derive(Clone, Copy, Debug, PartialEq, Eq, Hash)]
 pub enum EngineKind {
     /// `Naive`, the plain engine.
@@ -43,6 +50,11 @@ impl FromStr for EngineKind {
 }
 
 /// An engine of any kind. It borrows the tables and takes no memory of its own.
+///
+/// ```
+/// // quoted: crates/rs_callers/src/surface.rt
+/// [naive.into(), no_simd.into(), avx2.into(), ssse3.into()]
+/// ```
 #[derive(Clone, Copy)]
 pub enum DefaultEngine<'t> {
     /// The plain engine.
@@ -60,6 +72,12 @@ impl<'t> DefaultEngine<'t> {
     ghost use Rattle.rs_engines.specs.Kind.{kind_of, tables_of};
 
     /// The engine of this kind over these tables.
+    ///
+    /// ```
+    /// // quoted: crates/rs_callers/src/levels.rt
+    /// let tables = Tables::new(alloc)?;
+    /// let engine = DefaultEngine::new(&tables, EngineKind::Ssse3);
+    /// ```
     pub fn new(tables: &'t Tables, kind: EngineKind) -> DefaultEngine<'t>
         ensures kind { kind_of result ≡ kind }
         ensures tables { tables_of result ≡ tables.now }

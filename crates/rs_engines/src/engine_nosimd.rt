@@ -21,6 +21,11 @@ pub struct NoSimd<'t> {
 
 impl<'t> NoSimd<'t> {
     /// The engine over these tables.
+    ///
+    /// ```
+    /// // quoted: crates/rs_tests/src/locators.rt
+    /// check_engine(&rt, &NoSimd::new(&tables), log);
+    /// ```
     pub fn new(tables: &'t Tables) -> NoSimd<'t>
         ensures { result.tables.now ≡ tables.now }
     {

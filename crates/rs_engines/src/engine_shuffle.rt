@@ -31,6 +31,12 @@ pub type Avx2<'t> = ByShuffles<'t, u8x32>;
 
 impl<'t, V: ByteVector> ByShuffles<'t, V> {
     /// The engine over these tables.
+    ///
+    /// ```
+    /// // quoted: crates/rs_callers/src/levels.rt
+    /// let tables = Tables::new(alloc)?;
+    /// let engine = Ssse3::new(&tables);
+    /// ```
     pub fn new(tables: &'t Tables) -> ByShuffles<'t, V>
         ensures { result.tables.now ≡ tables.now }
     {

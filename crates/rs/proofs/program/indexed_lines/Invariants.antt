@@ -1,8 +1,7 @@
 use Rattle.std.proofs.Common.{◌≡◌, ◌++◌, map}
-use Rattle.std.specs.String.{string_bytes}
-use Rattle.rs.specs.Printed.{indexed_lines_of}
+use Rattle.rs.specs.Printed.{indexed_lines_of, concatenated}
 use Rattle.rs.proofs.program.indexed_lines.Given as goal
 
 abbrev pub invariant-loop-index : goal.invariant-loop-index
 invariant-loop-index l =
-    string_bytes l.text ++ indexed_lines_of (map (λ e. (e.0, e.1.items)) l.index-iterator) ≡ indexed_lines_of (map (λ e. (e.0, e.1.items)) l.shards.entries)
+    concatenated l.texts ++ indexed_lines_of (map (λ e. (e.0, e.1.items)) l.index-iterator) ≡ indexed_lines_of (map (λ e. (e.0, e.1.items)) l.shards.entries)

@@ -1,5 +1,6 @@
 use Rattle.std.proofs.Common.{map, inl, inr, refl, sym, ◌∙◌}
 use Rattle.std.specs.String.{string_bytes}
+use Rattle.rs.specs.Printed.{concatenated}
 use Rattle.rs.proofs.PrintedLemmas.{refusal-told}
 use Rattle.rs.proofs.program.run.Goals as goal
 
@@ -10,4 +11,4 @@ returns-in-Err-clause-refused g c = λ one.
 
 pub returns-in-Ok-2-clause-refused : goal.returns-in-Ok-2-clause-refused
 returns-in-Ok-2-clause-refused g c = λ _.
-    inr (string_bytes c.in-Ok.text, c.in-Ok.ensures.answer, refl, rw c.as_str.ensures.value at (c.if-write_text.ensures.cut refl))
+    inr (concatenated c.in-Ok.texts, c.in-Ok.ensures.answer, refl, rw c.as_slice.ensures.value at (c.if-write_texts.ensures.cut refl))
