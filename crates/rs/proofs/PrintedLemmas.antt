@@ -60,7 +60,7 @@ unsupported_by : (k r : ℕ) (e : Error) (supported : Bool) → Err e ≡ counte
 unsupported_by k r e true told = cc
 unsupported_by k r e false told = (refl, cc)
 
--- whatever the task, counts that aren't supported are refused
+-- whatever is asked, counts that aren't supported are refused
 pub unsupported : (k r : ℕ) (task : Task) (e : Error) → Err e ≡ counted k r → Answers k r task (Err e)
 unsupported k r (Coded []) e told = let refused = unsupported_by k r e (supports default_rate k r) told in rw (refused.0, refused.1) (inl refl)
 unsupported k r (Coded (shard ∷ shards)) e told = let refused = unsupported_by k r e (supports default_rate k r) told in rw (refused.0, refused.1) (inl refl)

@@ -66,7 +66,7 @@ pub record Request : Type 0 where
   pub recovery_count : ℕ
   pub task : Task
 
--- the task of a command with the words behind the counts
+-- what a command is to do with the words behind the counts
 abbrev pub task_of : List ℕ → List (List ℕ) → Option Task
 task_of command words =
     if bytes_eq command (codes "encode") then option_map Coded (shards_of words)

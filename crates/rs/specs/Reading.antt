@@ -47,7 +47,7 @@ abbrev pub as_item_of_line : Item → Line.Item
 as_item_of_line (Original indexed) = Line.OriginalItem (as_item indexed)
 as_item_of_line (Recovery indexed) = Line.RecoveryItem (as_item indexed)
 
--- the task of a command line that a task was read from
+-- a task as that of a command line
 abbrev pub as_task : Task → Line.Task
 as_task (Encode original) = Line.Coded (as_shards original)
 as_task (Decode given) = Line.Restored (as_given given)

@@ -146,7 +146,7 @@ fn read_items(alloc: Global, words: &[String]) -> Result<Given, Fault>
     Ok(given)
 }
 
-// The task of a command of this name with the words behind the counts.
+// What a command of this name is to do with the words behind the counts.
 fn read_task(alloc: Global, name: &str, words: &[String]) -> Result<Task, Fault>
     ensures read { Reads as_task (task_of name.now (map string_bytes words.now)) result }
     ensures begun { task_of name.now [] ≡ None → result ≡ Err Fault.Usage }

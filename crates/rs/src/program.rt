@@ -130,10 +130,10 @@ fn answer(alloc: Global, words: &[String]) -> Result<Vec<String>, Fault>
 
 /// Does what the words ask, and answers the status.
 ///
-/// Every line is made before the first is written, and no table before the counts are known to be supported. Status 0: all lines were written to `out`. A refusal is told on `err`
-/// with status 1, a bad command line by `usage` with status 2; both write nothing to `out`. A failed write to `out` gives
-/// status 1; one to `err` changes no status. No memory is wanted before the command, the engine and the counts are read:
-/// where these are wrong the status is always 2.
+/// Every line is made before the first is written, and no table before the counts are known to be supported. Status 0:
+/// all lines were written to `out`. A refusal is told on `err` with status 1, a bad command line by `usage` with status
+/// 2; both write nothing to `out`. A failed write to `out` gives status 1; one to `err` changes no status. No memory is
+/// wanted before the command, the engine and the counts are read: where these are wrong the status is always 2.
 pub fn run<O: Write, X: Write>(alloc: Global, words: &[String], out: &mut O, err: &mut X) -> u8
     ensures status { result ≤ 2 }
     ensures printed { result ≡ 0
