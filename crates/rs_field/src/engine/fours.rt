@@ -28,37 +28,6 @@ pub(crate) trait FourStep {
             (chunk x0.new k) (chunk x1.new k) (chunk x2.new k) (chunk x3.new k) };
 }
 
-// Chunks of a range that the step is done to at once, so that those of all four ranges stay in the fastest cache.
-const BLOCK: usize = 64;
-
-// The step on four ranges of the same number of chunks, in blocks.
-fn step_blocks<F: FourStep>(
-    step: &F,
-    x0: &mut [[u8; 64]],
-    x1: &mut [[u8; 64]],
-    x2: &mut [[u8; 64]],
-    x3: &mut [[u8; 64]],
-)
-    requires one { length x0.old ≡ length x1.old }
-    requires two { length x0.old ≡ length x2.old }
-    requires three { length x0.old ≡ length x3.old }
-    ensures { (k : ℕ) → k < length x0.old
-        → F.related step.now (chunk x0.old k) (chunk x1.old k) (chunk x2.old k) (chunk x3.old k)
-        (chunk x0.new k) (chunk x1.new k) (chunk x2.new k) (chunk x3.new k) }
-{
-    if x0.len() <= BLOCK {
-        step.apply(x0, x1, x2, x3);
-    } else {
-        let half = x0.len() / 2;
-        let (low0, high0) = x0.split_at_mut(half);
-        let (low1, high1) = x1.split_at_mut(half);
-        let (low2, high2) = x2.split_at_mut(half);
-        let (low3, high3) = x3.split_at_mut(half);
-        step_blocks(step, low0, low1, low2, low3);
-        step_blocks(step, high0, high1, high2, high3);
-    }
-}
-
 // The step on both halves of `low` and both halves of `high`, each of n chunks.
 fn step_halves<F: FourStep>(step: &F, low: &mut [[u8; 64]], high: &mut [[u8; 64]], n: usize)
     requires low { length low.old ≡ 2 * n }
@@ -68,7 +37,7 @@ fn step_halves<F: FourStep>(step: &F, low: &mut [[u8; 64]], high: &mut [[u8; 64]
 {
     let (x0, x1) = low.split_at_mut(n);
     let (x2, x3) = high.split_at_mut(n);
-    step_blocks(step, x0, x1, x2, x3);
+    step.apply(x0, x1, x2, x3);
 }
 
 // The step on the four quarters of a list, each of n chunks.
