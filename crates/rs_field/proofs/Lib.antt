@@ -24,8 +24,9 @@ pub mod Walking
 pub mod Runs
 pub mod FourRuns
 pub mod RowOffsets
-mod Fours
 pub mod LentRows
+pub mod LentFourRows
+pub mod Fours
 pub mod LayoutLemmas
 pub mod ZeroColumns
 pub mod Symbols

@@ -1,14 +1,16 @@
-use Rattle.std.proofs.Common.{◌+◌, ◌*◌, ◌≤◌, refl, arith}
-use Rattle.std.proofs.Math.Nat.{mul-le-mul_right}
-use Rattle.rs_field.proofs.Fours.{fours_of_quarters}
+use Rattle.std.proofs.Common.{◌≡◌, ◌+◌, ◌*◌, arith}
+use Rattle.rs_field.proofs.Fours.{fours_next}
 use Rattle.rs_field.proofs.engine.fours.step_fours.Goals as goal
 
-pub slice_bounds-step_quarters-end : goal.slice_bounds-step_quarters-end
-slice_bounds-step_quarters-end g c = let inside = mul-le-mul_right c.args.rows.now.shard_len_64 c.requires.within in omega arith
-
-pub returns-clause-fours : goal.returns-clause-fours
-returns-clause-fours g c i k hi hk =
-    let inside : (c.args.pos + 4 * c.args.quarter) * c.args.rows.now.shard_len_64 ≤ c.args.rows.now.shard_count * c.args.rows.now.shard_len_64 =
-    mul-le-mul_right c.args.rows.now.shard_len_64 c.requires.within in
-    fours_of_quarters (g.F.FourStep.related c.args.step.now) c.args.rows.now _ c.step_quarters.new.chunks c.args.pos c.args.quarter _
-    (omega arith) (omega arith) (omega arith) refl refl c.step_quarters.ensures i k hi hk
+pub loop-i-preserved : goal.loop-i-preserved
+loop-i-preserved g c =
+    let pos = c.args.pos in let quarter = c.args.quarter in let i = c.loop-i.i in
+    let second : pos + i + quarter ≡ pos + quarter + i = omega arith in
+    let third : pos + i + 2 * quarter ≡ pos + 2 * quarter + i = omega arith in
+    let fourth : pos + i + 3 * quarter ≡ pos + 3 * quarter + i = omega arith in
+    record {
+      done =
+          fours_next (g.F.FourStep.related c.args.step.now) pos quarter i c.args.rows.now c.loop-i.rows c.step_rows.new.rows
+          c.loop-i-test.true c.loop-i.invariant.done c.step_rows.ensures.shape (rw (second, third, fourth) at c.step_rows.ensures.fours) (rw (second, third, fourth) at c.step_rows.ensures.others);
+      counts = (omega arith, omega arith, omega arith);
+    }
