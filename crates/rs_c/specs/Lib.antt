@@ -1,0 +1,4 @@
+pub mod Tables
+pub mod Faults
+pub mod Buffers
+pub mod Answers
