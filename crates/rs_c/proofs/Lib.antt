@@ -1,2 +1,5 @@
-mod Steps
 mod BufferLemmas
+mod DecodeLemmas
+mod EncodeLemmas
+mod MarkedLemmas
+mod Steps

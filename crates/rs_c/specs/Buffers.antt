@@ -1,5 +1,5 @@
 -- Shards one behind the other in a buffer.
-use Rattle.std.specs.Prelude.{◌≡◌, ℕ, zero, suc, ◌+◌, ◌*◌, ◌-◌, ◌^◌, ◌==◌, List, [], ◌∷◌, ◌++◌, take, drop, nat_lt, if◌then◌else◌, Result, Ok, Err, unwrap_or}
+use Rattle.std.specs.Prelude.{◌≡◌, ℕ, zero, suc, ◌+◌, ◌*◌, ◌-◌, ◌^◌, ◌==◌, List, [], ◌∷◌, ◌++◌, take, drop, nat_lt, if◌then◌else◌, Result, Ok, Err, unwrap_or, Some, length}
 use Rattle.std.specs.List.{flat_map}
 use Rattle.rs_field.specs.Column.{Shard}
 use Rattle.rs_field.specs.Given.{Shards}
@@ -22,8 +22,8 @@ cut (suc n) size bytes = take size bytes ∷ cut n size (drop size bytes)
 abbrev pub marked : ℕ → ℕ → List ℕ → List ℕ → Items
 marked i size [] bytes = []
 marked i size (mark ∷ marks) bytes =
-    if mark == 0 then marked (suc i) size marks (drop size bytes)
-    else (i, take size bytes) ∷ marked (suc i) size marks (drop size bytes)
+    if mark == 0 then marked (i + 1) size marks (drop size bytes)
+    else (i, take size bytes) ∷ marked (i + 1) size marks (drop size bytes)
 
 -- shards one behind the other
 abbrev pub joined : List Shard → List ℕ
@@ -33,4 +33,8 @@ joined shards = flat_map (λ shard. shard) shards
 abbrev pub with_restored : Shards → ℕ → ℕ → ℕ → List ℕ → List ℕ
 with_restored restored i size zero bytes = []
 with_restored restored i size (suc n) bytes =
-    unwrap_or (restored i) (take size bytes) ++ with_restored restored (suc i) size n (drop size bytes)
+    unwrap_or (restored i) (take size bytes) ++ with_restored restored (i + 1) size n (drop size bytes)
+
+-- every shard of a map has this size
+abbrev pub AreSized : ℕ → Shards → Type 0
+AreSized size restored = (i : ℕ) (shard : Shard) → restored i ≡ Some shard → length shard ≡ size

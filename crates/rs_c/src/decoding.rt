@@ -1,10 +1,10 @@
 //! Decoding over buffers.
-ghost use Rattle.std.specs.Prelude.{◌≡◌, ◌*◌, ◌≤◌, ◌==◌, not, length, count_by, IfSome};
+ghost use Rattle.std.specs.Prelude.{◌≡◌, ◌*◌, ◌==◌, not, length, count_by};
 ghost use Rattle.rs_field.specs.OneCall.{with_originals, with_recoveries};
 ghost use Rattle.rs_rate.specs.ResultView.{restored_originals};
 ghost use Rattle.reed_solomon_simd.specs.Giving.{Reaches};
-ghost use Rattle.rs_c.specs.Buffers.{marked, with_restored};
-ghost use Rattle.rs_c.specs.Answers.{DecodesBuffer};
+ghost use Rattle.rs_c.specs.Buffers.{marked, with_restored, AreSized};
+ghost use Rattle.rs_c.specs.Answers.{DecodesBuffer, all_or_refused};
 
 use crate::buffers::{check_counts, check_length};
 use crate::engine::Borrowing;
@@ -15,13 +15,6 @@ use rs_rate::DecoderResult;
 use rs_rate::rate::{DefaultRateDecoder, RateDecoder};
 use std::alloc::Global;
 
-/// The shards of a message in two buffers, and a mark for each: 0 where it is lost. The marks of originals come first.
-#[derive(Clone, Copy)]
-pub struct Received<'a> {
-    pub recovery: &'a [u8],
-    pub marks: &'a [u8],
-}
-
 /// Writes the originals whose mark is 0 to their places.
 pub fn decode_buffer(
     alloc: Global,
@@ -30,15 +23,16 @@ pub fn decode_buffer(
     recovery_count: usize,
     shard_bytes: usize,
     originals: &mut [u8],
-    received: Received<'_>,
+    recovery: &[u8],
+    marks: &[u8],
 ) -> Result<(), Fault>
-    ensures { DecodesBuffer original_count recovery_count shard_bytes received.marks.now received.recovery.now originals.old originals.new result }
+    ensures { DecodesBuffer original_count recovery_count shard_bytes marks.now recovery.now originals.old originals.new result }
 {
     check_counts(original_count, recovery_count)?;
     check_length(original_count, shard_bytes, originals.len())?;
-    check_length(recovery_count, shard_bytes, received.recovery.len())?;
-    check_length(original_count + recovery_count, 1, received.marks.len())?;
-    let (original_marks, recovery_marks) = received.marks.split_at(original_count);
+    check_length(recovery_count, shard_bytes, recovery.len())?;
+    check_length(original_count + recovery_count, 1, marks.len())?;
+    let (original_marks, recovery_marks) = marks.split_at(original_count);
     if count_marked(recovery_marks) == 0 {
         return Ok(check_all_came(original_marks)?);
     }
@@ -51,7 +45,7 @@ pub fn decode_buffer(
         None,
     )?;
     give_originals(&mut decoder, original_marks, shard_bytes, originals)?;
-    give_recovery(&mut decoder, recovery_marks, shard_bytes, received.recovery)?;
+    give_recovery(&mut decoder, recovery_marks, shard_bytes, recovery)?;
     let result = decoder.decode(&mut Steps::new())?;
     write_restored(&result, original_count, shard_bytes, originals);
     Ok(())
@@ -65,7 +59,9 @@ fn count_marked(marks: &[u8]) -> usize
 }
 
 // Whether all originals came, where no recovery shard did.
-fn check_all_came(marks: &[u8]) -> Result<(), Error> {
+fn check_all_came(marks: &[u8]) -> Result<(), Error>
+    ensures { result ≡ all_or_refused (length marks.now) (count_by (λ mark. not (mark == 0)) marks.now) }
+{
     let original_received_count = count_marked(marks);
     if original_received_count < marks.len() {
         return Err(Error::NotEnoughShards {
@@ -121,7 +117,8 @@ fn give_recovery<E: Engine, X: RateDecoder<E>>(
 
 // Writes the restored originals of a result to their places.
 fn write_restored(lent: &DecoderResult<'_>, count: usize, size: usize, originals: &mut [u8])
-    requires { length originals.old ≡ count * size }
+    requires room { length originals.old ≡ count * size }
+    requires sized { AreSized size (restored_originals lent.now) }
     ensures { originals.new ≡ with_restored (restored_originals lent.now) 0 size count originals.old }
 {
     let mut at = 0;

@@ -2,7 +2,7 @@
 use rs_field::error::Error;
 
 /// Why a call was refused.
-#[derive(Clone, Copy, Debug, PartialEq, Eq)]
+#[derive(Clone, Copy, Debug, PartialEq)]
 pub enum Fault {
     /// The library refused it.
     Refused(Error),

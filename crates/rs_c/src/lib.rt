@@ -16,7 +16,7 @@ ghost use Rattle.rs_c.specs.Tables.{AreTables};
 ghost use Rattle.rs_c.specs.Faults.{fault_of};
 ghost use Rattle.rs_c.specs.Answers.{EncodesBuffer, DecodesBuffer};
 
-use decoding::{Received, decode_buffer};
+use decoding::decode_buffer;
 use encoding::encode_buffer;
 use engine::Borrowing;
 use fault::{Fault, RsFault};
@@ -104,7 +104,8 @@ pub extern "C" fn rs_decode(
         recovery_count,
         shard_bytes,
         originals,
-        Received { recovery, marks },
+        recovery,
+        marks,
     );
     *fault = RsFault::of(answer);
     fault.number
