@@ -127,9 +127,10 @@ static void rows(const char *name) {
     if (!file) wrong(name);
     while (fgets(line, sizeof line, file)) {
         char *words = strstr(line, "| encodes ");
-        if (*line != '#' && words) row_encodes(words + 10), count++;
+        if (strncmp(line, "call ", 5)) continue;
+        if (words) row_encodes(words + 10), count++;
         words = strstr(line, "| decodes ");
-        if (*line != '#' && words) row_decodes(words + 10), count++;
+        if (words) row_decodes(words + 10), count++;
     }
     fclose(file);
     if (!count) wrong("no row was read");
