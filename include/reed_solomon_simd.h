@@ -78,6 +78,10 @@ uint32_t rs_decode(const struct rs_tables *tables, size_t original_count, size_t
                    const uint8_t *recovery, size_t recovery_length,
                    const uint8_t *marks, size_t marks_length, struct rs_fault *fault);
 
+/* Writes the text of a fault, in ASCII and without a NUL, as much as fits, and answers its whole length; 0 where the number is no
+ * fault's, or there is no memory for the text. Bytes that the text doesn't reach are left. */
+size_t rs_fault_text(const struct rs_fault *fault, uint8_t *text, size_t text_length);
+
 /* The version of the library. */
 uint32_t rs_version(void);
 

@@ -157,6 +157,38 @@ static void refused(const struct message *m, int decodes, size_t originals, size
     free(old[1]);
 }
 
+/* The texts are those of the Rust crate, whole or as much as fits. */
+static void texts(void) {
+    static const struct rs_fault faults[] = {{0, 0, 0, 0},  {1, 0, 0, 0},  {2, 70000, 7, 0}, {3, 5, 0, 0},  {4, 64, 66, 0},
+                                             {5, 3, 1, 0},  {6, 3, 0, 0},  {7, 9, 4, 2},     {8, 3, 8, 0},  {9, 2, 6, 0},
+                                             {10, 1, 0, 0}, {11, 4, 0, 0}, {12, 3, 2, 0},    {13, 12, 11, 0}, {14, 1, 1, 1}};
+    static const char *const wanted[] = {
+        "",
+        "out of memory",
+        "unsupported shard count: 70000 original shards with 7 recovery shards",
+        "invalid shard size: 5 bytes (must non-zero and multiple of 2)",
+        "different shard size: expected 64 bytes, got 66 bytes",
+        "too few original shards: got 1 shards while original_count is 3",
+        "too many original shards: got more than original_count (3) shards",
+        "not enough shards: 4 original + 2 recovery < 9 original_count",
+        "invalid original shard index: 8 >= original_count 3",
+        "invalid recovery shard index: 6 >= recovery_count 2",
+        "duplicate original shard index: 1",
+        "duplicate recovery shard index: 4",
+        "inconsistent shards: 3 original + 2 recovery agree with no message",
+        "wrong length: expected 12 bytes, got 11 bytes",
+        ""};
+    for (size_t i = 0; i < sizeof faults / sizeof *faults; i++)
+        for (size_t length = 0; length < 80; length += 8) {
+            uint8_t text[80];
+            size_t whole = strlen(wanted[i]), written = whole < length ? whole : length;
+            memset(text, '#', sizeof text);
+            if (rs_fault_text(&faults[i], text, length) != whole || memcmp(text, wanted[i], written)) wrong("another text");
+            for (size_t n = written; n < sizeof text; n++)
+                if (text[n] != '#') wrong("a text has written past its end");
+        }
+}
+
 static void refusals(void) {
     struct message m = made(3, 2, 4);
     const size_t most = SIZE_MAX;
@@ -203,6 +235,7 @@ static void refusals(void) {
         !rs_supports(65535, 1) || !rs_supports(1, 65535) || rs_supports(65535, 2) || rs_version() / 65536 != RS_VERSION / 65536)
         wrong("other counts or another version");
     let_go(&m);
+    texts();
     puts("test: refusals");
 }
 

@@ -2,3 +2,5 @@ pub mod Tables
 pub mod Faults
 pub mod Buffers
 pub mod Answers
+pub mod FaultTexts
+pub mod Texts

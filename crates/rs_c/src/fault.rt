@@ -1,5 +1,6 @@
 //! Faults, and their numbers.
 use rs_field::error::Error;
+use std::fmt;
 
 /// Why a call was refused.
 #[derive(Clone, Copy, Debug, PartialEq)]
@@ -19,6 +20,23 @@ impl From<Error> for Fault {
 
     fn from(error: Error) -> Fault {
         Fault::Refused(error)
+    }
+}
+
+impl fmt::Display for Fault {
+    ghost use Rattle.std.specs.Prelude.{Some};
+    ghost use Rattle.rs_c.specs.FaultTexts.{text_of};
+
+    ghost output = { λ fault. Some (text_of fault) };
+
+    fn fmt<W: fmt::Write>(&self, f: &mut fmt::Formatter<W>) -> fmt::Result {
+        match self {
+            Fault::Refused(error) => write!(f, "{error}"),
+            Fault::WrongLength { wanted, got } => write!(
+                f,
+                "wrong length: expected {wanted} bytes, got {got} bytes"
+            ),
+        }
     }
 }
 

@@ -8,6 +8,7 @@ mod engine;
 mod fault;
 mod lanes;
 mod tables;
+mod text;
 
 ghost use Rattle.std.specs.Prelude.{◌≡◌, ◌≢◌, ◌↔◌, true, Result};
 ghost use Rattle.rs_field.specs.Counts.{default_rate, supports};
@@ -15,6 +16,7 @@ ghost use Rattle.rs_c.specs.declared.fault.Fault.{Fault as FaultOf};
 ghost use Rattle.rs_c.specs.Tables.{AreTables};
 ghost use Rattle.rs_c.specs.Faults.{fault_of};
 ghost use Rattle.rs_c.specs.Answers.{EncodesBuffer, DecodesBuffer};
+ghost use Rattle.rs_c.specs.Texts.{fault_with, text_with, WritesText};
 
 use decoding::decode_buffer;
 use encoding::encode_buffer;
@@ -109,6 +111,15 @@ pub extern "C" fn rs_decode(
     );
     *fault = RsFault::of(answer);
     fault.number
+}
+
+/// Writes the text of a fault, as much as fits, and answers its whole length; 0 where the number is no fault's, or there is
+/// no memory for the text.
+#[unsafe(no_mangle)]
+pub extern "C" fn rs_fault_text(alloc: Global, fault: &RsFault, text: &mut [u8]) -> usize
+    ensures { WritesText (text_with (fault_with fault.now)) text.old text.new result }
+{
+    text::write_text(alloc, *fault, text)
 }
 
 /// The version of this interface: the major number times 65536, and the minor number.
