@@ -1,5 +1,5 @@
 -- Shards one behind the other, one at a time.
-use Rattle.std.proofs.Common.{◌≡◌, ℕ, zero, suc, ◌+◌, ◌-◌, ◌*◌, ◌<◌, ◌≤◌, ◌==◌, Bool, List, [], ◌∷◌, ◌++◌, length, take, drop, if◌then◌else◌, get_or, Option, Some, None, All, sym, ap, subst, ◌∙◌, refl, arith}
+use Rattle.std.proofs.Common.{◌≡◌, ℕ, zero, suc, ◌+◌, ◌-◌, ◌*◌, ◌<◌, ◌≤◌, Bool, List, [], ◌∷◌, ◌++◌, length, take, drop, if◌then◌else◌, get_or, Option, Some, None, All, sym, ap, subst, ◌∙◌, refl, arith}
 use Rattle.std.specs.Prelude.{unwrap_or}
 use Rattle.std.proofs.Math.Nat.{suc-mul, mul-le-mul_right}
 use Rattle.std.proofs.lemmas.Bool.{eq-eqb, ne_eqb}
@@ -7,7 +7,6 @@ use Rattle.std.proofs.lemmas.List.{append_assoc, append-nil, length-append, leng
 use borrow.Rule.Slice.PartMut.{put_mid}
 use Rattle.rs_field.specs.Column.{Shard, IsShard}
 use Rattle.rs_field.specs.Given.{Shards}
-use Rattle.rs_field.specs.OneCall.{Items}
 use Rattle.rs_c.specs.Buffers.{cut, marked, joined, with_restored, AreSized}
 
 -- one of the numbers below n less than before is left

@@ -1,26 +1,25 @@
 -- From the steps of a decode over buffers to its answer.
-use Rattle.std.proofs.Common.{◌≡◌, ℕ, zero, suc, ◌+◌, ◌-◌, ◌*◌, ◌^◌, ◌<◌, ◌≤◌, ◌==◌, ◌&&◌, Bool, true, false, not, cond, List, [], ◌∷◌, ◌++◌, length, take, drop, nat_le, nat_lt, if◌then◌else◌, Option, Some, None, is_some, Result, Ok, Err, IsOk, MatchResult, inl, inr, sym, ap, subst, ◌∙◌, refl, arith}
+use Rattle.std.proofs.Common.{◌≡◌, ℕ, zero, suc, ◌+◌, ◌*◌, ◌==◌, ◌&&◌, Bool, true, false, not, cond, List, [], ◌∷◌, ◌++◌, length, take, drop, nat_le, nat_lt, if◌then◌else◌, Some, None, is_some, Result, Ok, Err, MatchResult, inl, inr, sym, ap, subst, ◌∙◌, refl, arith}
 use Rattle.std.proofs.lemmas.Bool.{ltb-true}
 use Rattle.std.specs.Result.{result_map_both}
 use Rattle.std.proofs.Math.Nat.{suc-mul}
 use Rattle.std.proofs.lemmas.List.{length-take-le, length-drop, take-append-drop, nil_from_length}
 use Rattle.rs_field.specs.declared.error.Error.{Error}
-use Rattle.rs_field.specs.declared.error.Error.TheVariants.{InvalidOriginalShardIndex, DuplicateOriginalShardIndex, InvalidRecoveryShardIndex, DuplicateRecoveryShardIndex, DifferentShardSize, NotEnoughShards}
-use Rattle.rs_field.specs.Column.{Shard, IsShard, AreShards, shard_at}
+use Rattle.rs_field.specs.declared.error.Error.TheVariants.{InvalidOriginalShardIndex, DuplicateOriginalShardIndex, InvalidRecoveryShardIndex, DuplicateRecoveryShardIndex, DifferentShardSize}
+use Rattle.rs_field.specs.Column.{Shard, AreShards, shard_at}
 use Rattle.rs_field.specs.Given.{Shards, nothing}
 use Rattle.rs_field.specs.Counts.{default_rate}
 use Rattle.rs_field.specs.Placement.{decoder_rows}
 use Rattle.rs_field.specs.Outcome.{result_and_then}
 use Rattle.rs_field.specs.Configuration.{Configuration, started, UpToMemory}
-use Rattle.rs_field.specs.Decoder.{DecoderState, Restored, NoneAgrees, missing_of, enough_given, originals_given, recovery_given, fresh_decoder, with_original, with_recovery, DecodeAnswers}
-use Rattle.rs_field.specs.OneCall.{Items, default_of, counted, all_came, with_originals, with_recoveries, with_both, decoding, OneDecodeAnswers}
+use Rattle.rs_field.specs.Decoder.{DecoderState, Restored, missing_of, enough_given, fresh_decoder, with_original, with_recovery, DecodeAnswers}
+use Rattle.rs_field.specs.OneCall.{Items, default_of, counted, all_came, with_originals, with_recoveries, with_both, OneDecodeAnswers}
 use Rattle.reed_solomon_simd.specs.Giving.{Reaches}
 use Rattle.reed_solomon_simd.proofs.Giving.{reaches-then}
 use Rattle.rs_c.specs.declared.fault.Fault.{Fault}
 use Rattle.rs_c.specs.declared.fault.Fault.TheVariants.{Refused}
-use Rattle.rs_c.specs.Faults.{refusing}
 use Rattle.rs_c.specs.Buffers.{fitting, marked, with_restored, AreSized}
-use Rattle.rs_c.specs.Answers.{DecodesBuffer, Writes, decode_lengths, encode_lengths}
+use Rattle.rs_c.specs.Answers.{DecodesBuffer, Writes, decode_lengths}
 use Rattle.rs_c.proofs.EncodeLemmas.{lengths-ok, started-valid}
 use Rattle.rs_c.proofs.MarkedLemmas.{present}
 use Rattle.rs_c.proofs.Steps.{reached, kept-by-all, ok-same}

@@ -1,11 +1,11 @@
 -- From the steps of an encode over buffers to its answer.
-use Rattle.std.proofs.Common.{◌≡◌, ℕ, zero, suc, ◌-◌, ◌*◌, ◌^◌, ◌<◌, ◌≤◌, ◌==◌, Bool, true, false, not, List, [], ◌∷◌, length, take, drop, nat_le, nat_lt, if◌then◌else◌, Result, Ok, Err, IsOk, MatchResult, IsOkAnd, inl, inr, sym, ap, subst, ◌∙◌, refl, arith}
+use Rattle.std.proofs.Common.{◌≡◌, ℕ, zero, suc, ◌-◌, ◌*◌, ◌^◌, ◌<◌, ◌==◌, Bool, true, false, not, List, [], ◌∷◌, length, take, drop, nat_le, nat_lt, if◌then◌else◌, Result, Ok, Err, IsOk, MatchResult, inl, inr, sym, ap, subst, ◌∙◌, refl, arith}
 use Rattle.std.specs.Result.{result_map_both}
 use Rattle.std.proofs.Math.Nat.{suc-mul}
 use Rattle.std.proofs.lemmas.Bool.{eqb-true}
 use Rattle.std.proofs.lemmas.List.{length-take-le}
 use Rattle.rs_field.specs.declared.error.Error.{Error}
-use Rattle.rs_field.specs.declared.error.Error.TheVariants.{OutOfMemory, TooManyOriginalShards, DifferentShardSize, UnsupportedShardCount}
+use Rattle.rs_field.specs.declared.error.Error.TheVariants.{TooManyOriginalShards, DifferentShardSize, UnsupportedShardCount}
 use Rattle.rs_field.specs.Column.{Shard, AreShards}
 use Rattle.rs_field.specs.Counts.{default_rate, supports}
 use Rattle.rs_field.specs.Placement.{encoder_rows}
@@ -14,7 +14,6 @@ use Rattle.rs_field.specs.Configuration.{Configuration, validated, started, UpTo
 use Rattle.rs_field.specs.Encoder.{EncoderState, fresh_encoder, with_shard, EncodeAnswers}
 use Rattle.rs_field.specs.OneCall.{default_of, counted, with_shards, encoding, OneEncodeAnswers}
 use Rattle.rs_field.proofs.RoundTrip.{answered}
-use Rattle.rs_field.proofs.SupportedCounts.{default_fits}
 use Rattle.reed_solomon_simd.specs.Giving.{Reaches}
 use Rattle.rs_c.specs.declared.fault.Fault.{Fault}
 use Rattle.rs_c.specs.declared.fault.Fault.TheVariants.{Refused, WrongLength}

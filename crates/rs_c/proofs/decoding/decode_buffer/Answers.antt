@@ -1,6 +1,5 @@
-use Rattle.std.proofs.Common.{rules, ◌≡◌, ℕ, ◌+◌, ◌*◌, ◌<◌, ◌==◌, not, List, ◌∷◌, [], length, take, drop, nat_lt, if◌then◌else◌, Ok, Err, sym, ap, subst, ◌∙◌, refl, arith}
+use Rattle.std.proofs.Common.{rules, ◌≡◌, ℕ, ◌+◌, ◌*◌, ◌==◌, not, List, ◌∷◌, length, take, drop, Ok, Err, sym, ap, subst, ◌∙◌, refl, arith}
 use Rattle.std.specs.List.{count_by}
-use Rattle.std.proofs.lemmas.Bool.{cond_below, cond_above}
 use Rattle.std.proofs.lemmas.List.{length-take-le, length-drop}
 use Rattle.rs_field.specs.Configuration.{started, UpToMemory}
 use Rattle.rs_field.specs.Counts.{default_rate}
@@ -14,7 +13,7 @@ use Rattle.rs_rate.specs.ResultView.{restored_originals}
 use Rattle.reed_solomon_simd.specs.Giving.{Reaches}
 use Rattle.reed_solomon_simd.proofs.OneDecode.{answers-none, answers-refused, answers-decoded}
 use Rattle.rs_c.specs.Answers.{all_or_refused}
-use Rattle.rs_c.specs.Buffers.{marked, with_restored}
+use Rattle.rs_c.specs.Buffers.{marked}
 use Rattle.rs_c.proofs.EncodeLemmas.{counted-supports, fits-length}
 use Rattle.rs_c.proofs.MarkedLemmas.{present, count-present, all_came-marked}
 use Rattle.rs_c.proofs.DecodeLemmas.{HasFirst, decode_lengths-ok, restored-sized, both-reached, both-refused, decode-unset, marked-some, marked-none, none-refused, with-nothing, decodes-refused, decodes-done}

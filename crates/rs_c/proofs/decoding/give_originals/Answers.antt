@@ -1,11 +1,11 @@
-use Rattle.std.proofs.Common.{rules, ◌≡◌, ℕ, ◌+◌, ◌-◌, ◌<◌, List, ◌∷◌, length, take, drop, get_or, Ok, Err, sym, ap, subst, ◌∙◌, arith}
+use Rattle.std.proofs.Common.{rules, ◌≡◌, ℕ, ◌+◌, ◌<◌, List, length, take, drop, get_or, Ok, sym, ap, subst, ◌∙◌, arith}
 use Rattle.rs_field.specs.Column.{Shard}
 use Rattle.rs_field.specs.Decoder.{with_original}
 use Rattle.rs_field.specs.OneCall.{with_originals}
-use Rattle.reed_solomon_simd.proofs.Giving.{outcome-ok, outcome-err, reaches-err, reaches-ok}
+use Rattle.reed_solomon_simd.proofs.Giving.{outcome-ok}
 use Rattle.rs_c.specs.Buffers.{marked}
-use Rattle.rs_c.proofs.BufferLemmas.{marked-lost, marked-there, marked-end, left-step}
-use Rattle.rs_c.proofs.Steps.{step-taken, step-refused}
+use Rattle.rs_c.proofs.BufferLemmas.{marked-lost, marked-there, left-step}
+use Rattle.rs_c.proofs.Steps.{step-taken}
 use Rattle.rs_c.proofs.decoding.give_originals.Goals.{then-marks-index-ne0+in_ok-add_original_shard, else-marks-index-ne0}
 use Rattle.rs_c.proofs.decoding.give_originals.Goals as goal
 

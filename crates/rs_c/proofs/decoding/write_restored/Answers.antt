@@ -1,4 +1,4 @@
-use Rattle.std.proofs.Common.{rules, ◌≡◌, ℕ, ◌+◌, ◌-◌, ◌*◌, ◌<◌, ◌≤◌, List, ◌++◌, length, take, drop, Some, None, sym, ap, subst, ◌∙◌, refl, arith}
+use Rattle.std.proofs.Common.{rules, ◌≡◌, ℕ, ◌+◌, ◌-◌, ◌*◌, ◌<◌, ◌≤◌, List, ◌++◌, length, take, drop, Some, None, sym, ap, subst, ◌∙◌, arith}
 use Rattle.std.proofs.lemmas.Slice.{take-put_mid, drop-put_mid}
 use borrow.Rule.Slice.PartMut.{put_mid}
 use Rattle.rs_field.specs.Given.{Shards}

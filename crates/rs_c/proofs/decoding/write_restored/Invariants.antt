@@ -1,4 +1,4 @@
-use Rattle.std.proofs.Common.{◌≡◌, ◌*◌, ◌-◌, length, drop}
+use Rattle.std.proofs.Common.{◌≡◌, ◌*◌, ◌-◌, drop}
 use Rattle.rs_rate.specs.ResultView.{restored_originals}
 use Rattle.rs_c.specs.Buffers.{with_restored}
 use Rattle.rs_c.proofs.BufferLemmas.{IsWritten}

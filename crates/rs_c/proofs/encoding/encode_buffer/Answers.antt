@@ -1,4 +1,4 @@
-use Rattle.std.proofs.Common.{rules, ◌≡◌, ℕ, ◌*◌, ◌<◌, List, ◌∷◌, length, Ok, Err, sym, ap, subst, ◌∙◌, refl}
+use Rattle.std.proofs.Common.{rules, ◌≡◌, ℕ, List, length, Ok, Err, sym, subst, ◌∙◌, refl}
 use Rattle.rs_field.specs.Column.{Shard}
 use Rattle.rs_field.specs.Configuration.{started, UpToMemory}
 use Rattle.rs_field.specs.Counts.{default_rate}
@@ -9,7 +9,7 @@ use Rattle.rs_field.proofs.SupportedCounts.{default_fits}
 use Rattle.rs_rate.specs.EncoderView.{encoder_state}
 use Rattle.rs_rate.specs.ResultView.{recovery_shards}
 use Rattle.reed_solomon_simd.specs.Giving.{Reaches}
-use Rattle.rs_c.specs.Buffers.{cut, joined}
+use Rattle.rs_c.specs.Buffers.{cut}
 use Rattle.rs_c.proofs.EncodeLemmas.{counted-supports, fits-length, lengths-ok, cut-first, answers-unset, answers-refused, answers-encoded, recovery-length, encodes-refused, encodes-done}
 use Rattle.rs_c.proofs.encoding.encode_buffer.Goals as goal
 

@@ -1,4 +1,4 @@
-use Rattle.std.proofs.Common.{rules, ◌≡◌, ℕ, ◌+◌, ◌-◌, ◌<◌, List, ◌∷◌, length, take, drop, Ok, Err, sym, ap, subst, ◌∙◌, arith}
+use Rattle.std.proofs.Common.{rules, ◌≡◌, ℕ, ◌+◌, ◌-◌, ◌<◌, List, length, take, drop, Ok, Err, sym, ap, subst, ◌∙◌, arith}
 use Rattle.rs_field.specs.Column.{Shard}
 use Rattle.rs_field.specs.Encoder.{with_shard}
 use Rattle.rs_field.specs.OneCall.{with_shards}

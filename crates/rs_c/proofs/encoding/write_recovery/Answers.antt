@@ -1,5 +1,5 @@
-use Rattle.std.proofs.Common.{rules, ◌≡◌, ℕ, ◌+◌, ◌-◌, ◌≤◌, List, ◌∷◌, ◌++◌, length, take, drop, sym, ap, subst, ◌∙◌, refl, arith}
-use Rattle.std.proofs.lemmas.Slice.{overwrites, take-put_mid}
+use Rattle.std.proofs.Common.{rules, ◌≡◌, ℕ, ◌+◌, ◌≤◌, List, ◌∷◌, ◌++◌, length, take, sym, ap, subst, ◌∙◌, refl}
+use Rattle.std.proofs.lemmas.Slice.{take-put_mid}
 use Rattle.std.proofs.lemmas.List.{places}
 use Rattle.rs_field.specs.Column.{Shard}
 use Rattle.rs_rate.specs.ResultView.{recovery_shards}

@@ -1,4 +1,3 @@
-use Rattle.std.proofs.Common.{◌≡◌, ◌++◌, ◌≤◌, length, take}
 use Rattle.rs_rate.specs.ResultView.{recovery_shards}
 use Rattle.rs_c.specs.Buffers.{joined}
 use Rattle.rs_c.proofs.BufferLemmas.{IsWritten}

@@ -1,4 +1,4 @@
-use Rattle.std.proofs.Common.{◌≡◌, ℕ, ◌<◌, [], length, get_or}
+use Rattle.std.proofs.Common.{ℕ, ◌<◌, [], get_or}
 use Rattle.rs_field.specs.Field.{power}
 use Rattle.rs_field.specs.Products.{IsNibbleBytes}
 use Rattle.rs_c.specs.Tables.{products_of}
