@@ -1,12 +1,13 @@
 //! A factor whose class is known as the program runs: what a logarithm names.
 ghost use Rattle.std.specs.Prelude.{◌≡◌};
-ghost use Rattle.rs_field.specs.Products.{IsMul128};
+ghost use Rattle.rs_field.specs.Field.{power};
+ghost use Rattle.rs_field.specs.Products.{IsNibbleBytes};
 ghost use Rattle.rs_engines.specs.Factors.{log_of};
 
 use crate::byte_vector::ByteVector;
 use crate::factors::{Factor, General, Small, Zero};
 use crate::words::Words;
-use rs_field::engine::tables::Mul128;
+use rs_field::engine::tables::Multiply128lutT;
 use rs_field::engine::{GF_MODULUS, GfElement};
 
 /// A factor, by its class.
@@ -30,16 +31,15 @@ impl Factor for AnyFactor<'_> {
     }
 }
 
-/// The factor of a butterfly that this logarithm names.
+/// The factor of a butterfly that this logarithm names, where 65535 marks zero; the products are those of the power with it.
 #[inline(always)]
-pub fn factor_of<'t>(mul128: Mul128<'t>, log_m: GfElement) -> AnyFactor<'t>
-    requires { IsMul128 mul128.now }
+pub fn factor_of<'t>(products: &'t Multiply128lutT, log_m: GfElement) -> AnyFactor<'t>
+    requires { IsNibbleBytes (power log_m) products.now }
     ensures { log_of result ≡ log_m }
 {
     if log_m == GF_MODULUS {
         return AnyFactor::Zero(Zero);
     }
-    let products = &mul128[log_m as usize];
     if products.hi[0] == 0 && products.hi[1] == 0 {
         AnyFactor::Small(Small { log_m, products })
     } else {

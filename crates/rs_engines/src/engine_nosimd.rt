@@ -9,6 +9,7 @@ ghost use Rattle.rs_field.specs.Rows.{chunk, symbol};
 ghost use Rattle.rs_field.specs.Products.{IsNibbles};
 
 use rs_field::engine::kernel::Kernel;
+use rs_field::engine::lent_tables::LentTables;
 use rs_field::engine::symbols::{add_symbol, set_symbol};
 use rs_field::engine::tables::{Tables, get_mul16};
 use rs_field::engine::{GF_MODULUS, GfElement, utils};
@@ -108,8 +109,8 @@ impl NoSimd<'_> {
 }
 
 impl Kernel for NoSimd<'_> {
-    fn tables(&self) -> &Tables {
-        self.tables
+    fn tables(&self) -> LentTables<'_> {
+        self.tables.lent()
     }
 
     fn fft_butterfly(&self, x: &mut [[u8; 64]], y: &mut [[u8; 64]], log_m: GfElement) {

@@ -9,6 +9,7 @@ use crate::factors::ThreeFactors;
 use crate::shuffle_rows::{mul_row, one_layer, two_layers};
 use rs_field::engine::GfElement;
 use rs_field::engine::kernel::{Kernel, ThreeLogarithms};
+use rs_field::engine::lent_tables::LentTables;
 use rs_field::engine::tables::{Tables, get_mul128};
 use std::marker::PhantomData;
 use std::simd::prelude::*;
@@ -51,7 +52,7 @@ impl<'t, V: ByteVector> ByShuffles<'t, V> {
     fn factor(&self, log_m: GfElement) -> AnyFactor<'_>
         ensures { log_of result ≡ log_m }
     {
-        factor_of(get_mul128(self.tables), log_m)
+        factor_of(&get_mul128(self.tables)[log_m as usize], log_m)
     }
 
     // Three of them.
@@ -73,8 +74,8 @@ impl<'t, V: ByteVector> ByShuffles<'t, V> {
 }
 
 impl<V: ByteVector> Kernel for ByShuffles<'_, V> {
-    fn tables(&self) -> &Tables {
-        self.tables
+    fn tables(&self) -> LentTables<'_> {
+        self.tables.lent()
     }
 
     fn fft_butterfly(&self, x: &mut [[u8; 64]], y: &mut [[u8; 64]], log_m: GfElement) {

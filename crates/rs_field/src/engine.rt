@@ -16,6 +16,7 @@ mod fwht;
 pub mod kernel;
 mod layers;
 pub mod layout;
+pub mod lent_tables;
 pub mod marked_rows;
 mod mul128;
 mod mul16;

@@ -5,6 +5,7 @@ ghost use Rattle.rs_field.specs.Tables.{IsExpLog, scaled};
 ghost use Rattle.rs_field.specs.Rows.{chunk, symbol};
 
 use super::kernel::Kernel;
+use super::lent_tables::LentTables;
 use super::symbols::{add_symbol, set_symbol, symbol_at};
 use super::tables::{self, Exp, Log, Tables, get_exp_log};
 use super::{GF_MODULUS, GfElement, utils};
@@ -73,8 +74,8 @@ impl Naive<'_> {
 }
 
 impl Kernel for Naive<'_> {
-    fn tables(&self) -> &Tables {
-        self.tables
+    fn tables(&self) -> LentTables<'_> {
+        self.tables.lent()
     }
 
     fn fft_butterfly(&self, x: &mut [[u8; 64]], y: &mut [[u8; 64]], log_m: GfElement) {

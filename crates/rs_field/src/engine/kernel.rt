@@ -7,8 +7,8 @@ ghost use Rattle.rs_field.specs.TwoLayers.{IsForwardTwoLayers, IsBackwardTwoLaye
 
 use super::block::Block;
 use super::layers::Direction::{Backward, Forward};
+use super::lent_tables::LentTables;
 use super::marked_rows::UsedRows;
-use super::tables::{Tables, get_log_walsh, get_log_walsh_below};
 use super::transform::transform;
 use super::{Engine, GfElement, ShardsRefMut, Steps, utils};
 
@@ -27,8 +27,8 @@ pub struct ThreeLogarithms {
 /// its locator are those of `impl Engine` below. The factor of a butterfly is given by its logarithm `log_m`; 65535 marks
 /// the factor zero.
 pub trait Kernel: Drop {
-    /// The tables.
-    fn tables(&self) -> &Tables;
+    /// The tables of transforms and locators.
+    fn tables(&self) -> LentTables<'_>;
 
     /// Adds `y` times the factor to `x`, and then the new `x` to `y`. Both rows have the same number of chunks.
     fn fft_butterfly(&self, x: &mut [[u8; 64]], y: &mut [[u8; 64]], log_m: GfElement)
@@ -161,12 +161,12 @@ impl<K: Kernel> Engine for K {
     }
 
     fn eval_poly(&self, steps: &mut Steps, erasures: &mut [GfElement], truncated_size: usize) {
-        let log_walsh = get_log_walsh(self.tables());
+        let log_walsh = self.tables().log_walsh();
         utils::eval_poly(steps, erasures, truncated_size, log_walsh);
     }
 
     fn locate(&self, steps: &mut Steps, entries: &mut [GfElement]) {
-        let log_walsh = get_log_walsh_below(self.tables(), entries.len());
+        let log_walsh = self.tables().log_walsh_below(entries.len());
         utils::locate(steps, entries, log_walsh);
     }
 }

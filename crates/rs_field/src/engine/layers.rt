@@ -11,7 +11,6 @@ use super::block::Block;
 use super::fours::{FourStep, step_fours};
 use super::kernel::{Kernel, ThreeLogarithms};
 use super::pairs::{PairStep, step_pairs};
-use super::tables::get_skew;
 use super::{GfElement, ShardsRefMut, Steps};
 
 /// Which way a transform goes.
@@ -91,7 +90,7 @@ pub(crate) fn layers<K: Kernel>(
         (λ q. word rows.old k s (block.pos + q)) (λ q. word rows.new k s (block.pos + q)) }
     ensures counts { CountsRows (layer_steps block.size) steps.old steps.new }
 {
-    let skew = get_skew(kernel.tables());
+    let skew = kernel.tables().skew;
     if block.size == 2 {
         let log_m = skew[block.skew_delta];
         let layer = Butterfly {

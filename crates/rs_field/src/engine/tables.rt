@@ -6,6 +6,7 @@ ghost use Rattle.rs_field.specs.Products.{IsMul16, IsMul128};
 ghost use Rattle.rs_field.specs.Walsh.{IsWalsh, log_or_zero};
 
 use super::fwht::{fwht, residue};
+use super::lent_tables::LentTables;
 use super::{GF_BITS, GF_MODULUS, GF_ORDER, GfElement, Steps, mul16, mul128, powers};
 use crate::error::Error;
 use std::alloc::{AllocError, Global};
@@ -83,6 +84,15 @@ impl Tables {
             mul128,
         })
     }
+
+    /// What transforms and locators read of the tables.
+    #[inline(always)]
+    pub fn lent(&self) -> LentTables<'_> {
+        LentTables {
+            skew: self.skew.as_slice(),
+            log_walsh: self.log_walsh.as_slice(),
+        }
+    }
 }
 
 /// The powers of the generator and the logarithms.
@@ -103,7 +113,7 @@ pub fn get_skew(tables: &Tables) -> Skew<'_>
 pub fn get_log_walsh(tables: &Tables) -> LogWalsh<'_>
     ensures { IsLogWalsh result.now }
 {
-    get_log_walsh_below(tables, GF_ORDER)
+    tables.lent().log_walsh()
 }
 
 /// The transform of the logarithms of the words below `points`, each times 65536 / `points`, of which locators of so many
@@ -113,7 +123,7 @@ pub fn get_log_walsh_below(tables: &Tables, points: usize) -> LogWalsh<'_>
     requires few { points ≤ 65536 }
     ensures { IsLogWalshBelow points result.now }
 {
-    &tables.log_walsh[points - 1..2 * points - 1]
+    tables.lent().log_walsh_below(points)
 }
 
 /// The products with each power of the generator, as words.

@@ -25,8 +25,8 @@ returns-then-block-eq2-clause-parts g c k s hk hs =
     let points : block.skew_delta + 2 ≤ 65536 = subst (λ (n : ℕ). block.skew_delta + n ≤ 65536) two block.points in
     subst (λ (n : ℕ). AreLayers c.args.direction block.size n block.skew_delta old new) (sym (part_of_two block.size two))
     (subst (λ (m : ℕ). AreLayers c.args.direction m 1 block.skew_delta old new) (sym two)
-    (layer_of_two c.args.direction c.get_skew-skew.result.now block.skew_delta block.pos k s c.args.rows.now c.step_pairs.new.rows
-    c.get_skew-skew.ensures aligned points hs (c.step_pairs.ensures.pairs 0 k (omega arith) hk)))
+    (layer_of_two c.args.direction c.tables.result.skew.now block.skew_delta block.pos k s c.args.rows.now c.step_pairs.new.rows
+    c.tables.result.skew_entries aligned points hs (c.step_pairs.ensures.pairs 0 k (omega arith) hk)))
 
 pub returns-then-block-eq2-clause-counts : goal.returns-then-block-eq2-clause-counts
 returns-then-block-eq2-clause-counts g c =
@@ -42,9 +42,9 @@ returns-else-block-eq2-clause-parts g c k s hk hs =
     let whole = block_quarters block c.requires.large more in
     let old = λ (q : ℕ). word c.args.rows.now k s (block.pos + q) in
     let new = λ (q : ℕ). word c.step_fours.new.rows k s (block.pos + q) in
-    let quarters : IsBlock c.get_skew-skew.result.now (4 * n) block.skew_delta =
-    subst (λ (m : ℕ). IsBlock c.get_skew-skew.result.now m block.skew_delta) whole (record {
-      table = c.get_skew-skew.ensures;
+    let quarters : IsBlock c.tables.result.skew.now (4 * n) block.skew_delta =
+    subst (λ (m : ℕ). IsBlock c.tables.result.skew.now m block.skew_delta) whole (record {
+      table = c.tables.result.skew_entries;
       large = c.requires.large;
       power = block_power block;
       aligned = block.aligned;
@@ -52,7 +52,7 @@ returns-else-block-eq2-clause-parts g c k s hk hs =
     }) in
     subst (λ (m : ℕ). AreLayers c.args.direction block.size m block.skew_delta old new) (sym (part_of_more block.size more))
     (subst (λ (m : ℕ). AreLayers c.args.direction m n block.skew_delta old new) (sym whole)
-    (layers_of_four c.args.direction c.get_skew-skew.result.now n block.skew_delta block.pos k s c.args.rows.now c.step_fours.new.rows
+    (layers_of_four c.args.direction c.tables.result.skew.now n block.skew_delta block.pos k s c.args.rows.now c.step_fours.new.rows
     quarters hs (λ q hq. c.step_fours.ensures.fours q k hq hk)))
 
 pub returns-else-block-eq2-clause-counts : goal.returns-else-block-eq2-clause-counts

@@ -1,0 +1,167 @@
+-- Shards one behind the other, one at a time.
+use Rattle.std.proofs.Common.{◌≡◌, ℕ, zero, suc, ◌+◌, ◌-◌, ◌*◌, ◌<◌, ◌≤◌, Bool, List, [], ◌∷◌, ◌++◌, length, take, drop, if◌then◌else◌, get_or, Option, Some, None, All, sym, ap, subst, ◌∙◌, refl, arith}
+use Rattle.std.specs.Prelude.{unwrap_or}
+use Rattle.std.proofs.Math.Nat.{suc-mul, mul-le-mul_right}
+use Rattle.std.proofs.lemmas.Bool.{eq-eqb, ne_eqb}
+use Rattle.std.proofs.lemmas.List.{append_assoc, append-nil, length-append, length-drop, length-take-le, drop_more, drop_all, drop-drop, take_all, take-take, drop-take, take-append-drop}
+use borrow.Rule.Slice.PartMut.{put_mid}
+use Rattle.rs_field.specs.Column.{Shard, IsShard}
+use Rattle.rs_field.specs.Given.{Shards}
+use Rattle.rs_c.specs.Buffers.{cut, marked, joined, with_restored, AreSized}
+
+-- one of the numbers below n less than before is left
+one-less : (i n : ℕ) → i < n → n - i ≡ suc (n - (i + 1))
+one-less i n h = omega arith
+
+-- the first of the shards that are left
+pub cut-step : (i n size : ℕ) (bytes : List ℕ) → i < n → cut (n - i) size bytes ≡ take size bytes ∷ cut (n - (i + 1)) size (drop size bytes)
+cut-step i n size bytes h = ap (λ (m : ℕ). cut m size bytes) (one-less i n h)
+
+-- the bytes that are left for shards are one shard and those of the others
+more-left : (i n size : ℕ) (bytes : List ℕ) → i < n → length bytes ≡ (n - i) * size → length bytes ≡ (n - (i + 1)) * size + size
+more-left i n size bytes h sized = sized ∙ ap (λ (m : ℕ). m * size) (one-less i n h) ∙ suc-mul (n - (i + 1)) size
+
+-- what is left behind the first of them
+pub left-step : (i n size : ℕ) (bytes : List ℕ) → i < n → length bytes ≡ (n - i) * size → length (drop size bytes) ≡ (n - (i + 1)) * size
+left-step i n size bytes h sized = let more = more-left i n size bytes h sized in length-drop size bytes ∙ omega (arith, more)
+
+-- a whole shard is left
+pub left-whole : (i n size : ℕ) (bytes : List ℕ) → i < n → length bytes ≡ (n - i) * size → size ≤ length bytes
+left-whole i n size bytes h sized = let more = more-left i n size bytes h sized in omega (arith, more)
+
+-- the marks that are left begin with the one at this index
+next-mark : (i size : ℕ) (marks bytes : List ℕ) → i < length marks → marked i size (drop i marks) bytes ≡ marked i size (get_or marks i 0 ∷ drop (i + 1) marks) bytes
+next-mark i size marks bytes h = ap (λ (left : List ℕ). marked i size left bytes) (drop_more marks i 0 h)
+
+-- the marked shards that are left, where the first is lost
+pub marked-lost : (i size : ℕ) (marks bytes : List ℕ) → i < length marks → get_or marks i 0 ≡ 0
+    → marked i size (drop i marks) bytes ≡ marked (i + 1) size (drop (i + 1) marks) (drop size bytes)
+marked-lost i size marks bytes h lost =
+    next-mark i size marks bytes h
+    ∙ ap (λ (b : Bool). if b then marked (i + 1) size (drop (i + 1) marks) (drop size bytes) else (i, take size bytes) ∷ marked (i + 1) size (drop (i + 1) marks) (drop size bytes))
+    (eq-eqb (get_or marks i 0) 0 lost)
+
+-- and where it is there
+pub marked-there : (i size : ℕ) (marks bytes : List ℕ) → i < length marks → (get_or marks i 0 ≡ 0 → ⊥)
+    → marked i size (drop i marks) bytes ≡ (i, take size bytes) ∷ marked (i + 1) size (drop (i + 1) marks) (drop size bytes)
+marked-there i size marks bytes h there =
+    next-mark i size marks bytes h
+    ∙ ap (λ (b : Bool). if b then marked (i + 1) size (drop (i + 1) marks) (drop size bytes) else (i, take size bytes) ∷ marked (i + 1) size (drop (i + 1) marks) (drop size bytes))
+    (ne_eqb (get_or marks i 0) 0 there)
+
+-- where the marks are at an end
+pub marked-end : (i size : ℕ) (marks bytes : List ℕ) → length marks ≤ i → marked i size (drop i marks) bytes ≡ []
+marked-end i size marks bytes h = ap (λ (rest : List ℕ). marked i size rest bytes) (drop_all i marks h)
+
+-- the bytes before a place, with what is to be written behind them, are the whole, for which there is just room
+pub record IsWritten (whole : List ℕ) (at : ℕ) (bytes rest : List ℕ) : Type 0 where
+  pub inside : at ≤ length bytes
+  pub size : length bytes ≡ length whole
+  pub is_whole : take at bytes ++ rest ≡ whole
+
+-- what is to be written next has room
+pub written-room : (whole : List ℕ) (at : ℕ) (bytes x rest : List ℕ) → IsWritten whole at bytes (x ++ rest) → at + length x ≤ length bytes
+written-room whole at bytes x rest w =
+    let all : at + (length x + length rest) ≡ length whole =
+    ap (λ (n : ℕ). n + (length x + length rest)) (sym (length-take-le at bytes w.inside)) ∙ ap (λ (n : ℕ). length (take at bytes) + n) (sym (length-append x rest))
+    ∙ sym (length-append (take at bytes) (x ++ rest)) ∙ ap length w.is_whole
+    in omega (arith, all, w.size)
+
+-- it is written
+pub written-next : (whole : List ℕ) (at end : ℕ) (old new x rest : List ℕ) → IsWritten whole at old (x ++ rest) → length new ≡ length old → end ≡ at + length x
+    → take end new ≡ take at old ++ x → IsWritten whole end new rest
+written-next whole at end old new x rest w same ends now =
+    record {
+      inside = let room = written-room whole at old x rest w in omega (arith, room, same, ends);
+      size = same ∙ w.size;
+      is_whole = ap (λ (l : List ℕ). l ++ rest) now ∙ append_assoc (take at old) x rest ∙ w.is_whole;
+    }
+
+-- what was there stays
+pub written-kept : (whole : List ℕ) (at n : ℕ) (bytes rest : List ℕ) → IsWritten whole at bytes (take n (drop at bytes) ++ rest) → at + n ≤ length bytes → IsWritten whole (at + n) bytes rest
+written-kept whole at n bytes rest w room =
+    let here : take (at + n) bytes ≡ take at bytes ++ take n (drop at bytes) =
+    sym (take-append-drop at (take (at + n) bytes)) ∙ ap (λ (l : List ℕ). l ++ drop at (take (at + n) bytes)) (take-take at (at + n) bytes (omega arith))
+    ∙ ap (λ (l : List ℕ). take at bytes ++ l) (drop-take at n bytes)
+    in
+    record {
+      inside = room;
+      size = w.size;
+      is_whole = ap (λ (l : List ℕ). l ++ rest) here ∙ append_assoc (take at bytes) (take n (drop at bytes)) rest ∙ w.is_whole;
+    }
+
+-- all is written
+pub written-all : (whole : List ℕ) (at : ℕ) (bytes : List ℕ) → IsWritten whole at bytes [] → bytes ≡ whole
+written-all whole at bytes w =
+    let front : take at bytes ≡ whole = sym (append-nil (take at bytes)) ∙ w.is_whole in
+    let end : at ≡ length bytes = sym (length-take-le at bytes w.inside) ∙ ap length front ∙ sym w.size in
+    sym (take_all at bytes (omega (arith, end))) ∙ front
+
+-- shards of one size one behind the other have so many bytes
+pub length-joined : (size : ℕ) (shards : List Shard) → All (IsShard size) shards → length (joined shards) ≡ length shards * size
+length-joined size [] sized = omega arith
+length-joined size (x ∷ xs) sized =
+    length-append x (joined xs) ∙ ap (λ (n : ℕ). n + length (joined xs)) (sized 0 x (omega arith)).length_is ∙ ap (λ (n : ℕ). size + n) (length-joined size xs (λ k d h. sized (suc k) d (omega (arith, h))))
+    ∙ let more = suc-mul (length xs) size in omega (arith, more)
+
+-- what stands in a place of the size
+length-placed : (size : ℕ) (o : Option Shard) (own : List ℕ) → ((x : Shard) → o ≡ Some x → length x ≡ size) → length own ≡ size → length (unwrap_or o own) ≡ size
+length-placed size (Some x) own sized h = sized x refl
+length-placed size None own sized h = h
+
+-- the restored buffer is as long as it was
+pub length-restored : (restored : Shards) (i size n : ℕ) (bytes : List ℕ) → AreSized size restored → length bytes ≡ n * size
+    → length (with_restored restored i size n bytes) ≡ n * size
+length-restored restored i size zero bytes sized h = omega arith
+length-restored restored i size (suc n) bytes sized h =
+    let more = suc-mul n size in
+    let left : length (drop size bytes) ≡ n * size = length-drop size bytes ∙ omega (arith, h, more) in
+    length-append (unwrap_or (restored i) (take size bytes)) (with_restored restored (i + 1) size n (drop size bytes))
+    ∙ ap (λ (m : ℕ). m + length (with_restored restored (i + 1) size n (drop size bytes)))
+    (length-placed size (restored i) (take size bytes) (sized i) (length-take-le size bytes (omega (arith, h, more))))
+    ∙ ap (λ (m : ℕ). size + m) (length-restored restored (i + 1) size n (drop size bytes) sized left) ∙ omega (arith, more)
+
+-- the first of the places that are left
+pub restored-step : (restored : Shards) (i n size : ℕ) (bytes : List ℕ) → i < n
+    → with_restored restored i size (n - i) bytes ≡ unwrap_or (restored i) (take size bytes) ++ with_restored restored (i + 1) size (n - (i + 1)) (drop size bytes)
+restored-step restored i n size bytes h = ap (λ (m : ℕ). with_restored restored i size m bytes) (one-less i n h)
+
+-- a place that is left lies within the buffer
+pub place-inside : (i n size at length_is : ℕ) → i < n → at ≡ i * size → length_is ≡ n * size → at + size ≤ length_is
+place-inside i n size at length_is h from whole =
+    let more = suc-mul i size in let below = mul-le-mul_right size (let k : suc i ≤ n = omega (arith, h) in k) in omega (arith, more, below, from, whole)
+
+-- the place behind it
+pub place-next : (i size at : ℕ) → at ≡ i * size → at + size ≡ (i + 1) * size
+place-next i size at from = let more = suc-mul i size in ap (λ (n : ℕ). n + size) from ∙ omega (arith, more)
+
+module _ (restored : Shards) (i n size : ℕ) (whole : List ℕ) (at : ℕ) (old : List ℕ) (inside : i < n)
+    (w : IsWritten whole at old (with_restored restored i size (n - i) (drop at old))) where
+  -- what is to be written next, and what after it
+  by-place : IsWritten whole at old (unwrap_or (restored i) (take size (drop at old)) ++ with_restored restored (i + 1) size (n - (i + 1)) (drop (at + size) old))
+  by-place =
+      subst (λ (rest : List ℕ). IsWritten whole at old (unwrap_or (restored i) (take size (drop at old)) ++ with_restored restored (i + 1) size (n - (i + 1)) rest)) (drop-drop size at old)
+      (subst (IsWritten whole at old) (restored-step restored i n size (drop at old) inside) w)
+
+  -- a restored shard is written to its place
+  pub place-written : (new shard : List ℕ) → restored i ≡ Some shard → length shard ≡ size → length new ≡ length old
+      → take (at + size) new ≡ take at old ++ shard → drop (at + size) new ≡ drop (at + size) old
+      → IsWritten whole (at + size) new (with_restored restored (i + 1) size (n - (i + 1)) (drop (at + size) new))
+  place-written new shard is sized same front back =
+      subst (λ (rest : List ℕ). IsWritten whole (at + size) new (with_restored restored (i + 1) size (n - (i + 1)) rest)) (sym back)
+      (written-next whole at (at + size) old new shard _
+      (subst (λ (o : Option Shard). IsWritten whole at old (unwrap_or o (take size (drop at old)) ++ with_restored restored (i + 1) size (n - (i + 1)) (drop (at + size) old))) is by-place)
+      same (ap (λ (m : ℕ). at + m) (sym sized)) front)
+
+  -- a shard that isn't restored stays
+  pub place-kept : restored i ≡ None → at + size ≤ length old → IsWritten whole (at + size) old (with_restored restored (i + 1) size (n - (i + 1)) (drop (at + size) old))
+  place-kept is room =
+      written-kept whole at size old _
+      (subst (λ (o : Option Shard). IsWritten whole at old (unwrap_or o (take size (drop at old)) ++ with_restored restored (i + 1) size (n - (i + 1)) (drop (at + size) old))) is by-place) room
+
+-- a write to a place leaves the length
+pub length-written : (at size : ℕ) (old copy : List ℕ) → length copy ≡ size → at + size ≤ length old → length (put_mid at (at + size - at) old copy) ≡ length old
+length-written at size old copy sized room =
+    length-append (take at old) (copy ++ drop (at + size - at) (drop at old))
+    ∙ ap (λ (n : ℕ). length (take at old) + n) (length-append copy (drop (at + size - at) (drop at old)))
+    ∙ (let front = length-take-le at old (omega (arith, room)) in let rest = length-drop (at + size - at) (drop at old) in let behind = length-drop at old in omega (arith, front, rest, behind, sized, room))

@@ -1,0 +1,5 @@
+mod BufferLemmas
+mod DecodeLemmas
+mod EncodeLemmas
+mod MarkedLemmas
+mod Steps

@@ -1,0 +1,46 @@
+-- What the calls over buffers answer.
+use Rattle.std.specs.Prelude.{◌≡◌, ℕ, ◌+◌, List, take, drop, length, nat_lt, if◌then◌else◌, Result, Ok, Err, MatchResult}
+use Rattle.rs_field.specs.declared.error.Error.{Error}
+use Rattle.rs_field.specs.declared.error.Error.TheVariants.{NotEnoughShards}
+use Rattle.rs_field.specs.Outcome.{result_and_then}
+use Rattle.reed_solomon_simd.specs.Column.{Shard}
+use Rattle.reed_solomon_simd.specs.Given.{Shards}
+use Rattle.reed_solomon_simd.specs.OneCall.{OneEncodeAnswers, OneDecodeAnswers, counted}
+use Rattle.rs_c.specs.declared.fault.Fault.{Fault}
+use Rattle.rs_c.specs.declared.fault.Fault.TheVariants.{Refused}
+use Rattle.rs_c.specs.Faults.{refusing}
+use Rattle.rs_c.specs.Buffers.{fitting, cut, marked, joined, with_restored}
+
+-- a call is done, and its buffer holds this, or it tells the refusal, and the buffer is as it was
+abbrev pub Writes : {T : Type 0} → Result T Error → (T → List ℕ) → List ℕ → List ℕ → Result (Unit {0}) Fault → Type 0
+Writes outcome bytes old new answer =
+    MatchResult outcome (λ x. (answer ≡ Ok tt) × (new ≡ bytes x)) (λ e. (answer ≡ Err (Refused e)) × (new ≡ old))
+
+-- the refusals of an encode that the library doesn't come to: the counts, then the lengths of originals and of recovery shards
+abbrev pub encode_lengths : ℕ → ℕ → ℕ → ℕ → ℕ → Result (Unit {0}) Fault
+encode_lengths k r size originals recovery =
+    result_and_then (λ _. result_and_then (λ _. fitting r size recovery) (fitting k size originals)) (refusing (counted k r))
+
+-- what an encode over buffers answers: where counts and lengths go, what the library's one call answers to the shards, written one behind the other
+abbrev pub EncodesBuffer : ℕ → ℕ → ℕ → List ℕ → List ℕ → List ℕ → Result (Unit {0}) Fault → Type 0
+EncodesBuffer k r size originals old new answer =
+    MatchResult (encode_lengths k r size (length originals) (length old))
+    (λ _. (coded : Result (List Shard) Error) × OneEncodeAnswers k r (cut k size originals) coded × Writes coded joined old new answer)
+    (λ fault. (answer ≡ Err fault) × (new ≡ old))
+
+-- the refusals of a decode that the library doesn't come to: the counts, then the lengths of originals, of recovery shards and of marks
+abbrev pub decode_lengths : ℕ → ℕ → ℕ → ℕ → ℕ → ℕ → Result (Unit {0}) Fault
+decode_lengths k r size originals recovery marks =
+    result_and_then (λ _. fitting (k + r) 1 marks) (encode_lengths k r size originals recovery)
+
+-- what a decode over buffers answers: where counts and lengths go, what the library's one call answers to the marked shards, written to their places
+abbrev pub DecodesBuffer : ℕ → ℕ → ℕ → List ℕ → List ℕ → List ℕ → List ℕ → Result (Unit {0}) Fault → Type 0
+DecodesBuffer k r size marks recovery old new answer =
+    MatchResult (decode_lengths k r size (length old) (length recovery) (length marks))
+    (λ _. (decoded : Result Shards Error) × OneDecodeAnswers k r (marked 0 size (take k marks) old) (marked 0 size (drop k marks) recovery) decoded
+    × Writes decoded (λ restored. with_restored restored 0 size k old) old new answer)
+    (λ fault. (answer ≡ Err fault) × (new ≡ old))
+
+-- whether all k originals came, where so many did and no recovery shard
+abbrev pub all_or_refused : ℕ → ℕ → Result (Unit {0}) Error
+all_or_refused k came = if nat_lt came k then Err (NotEnoughShards k came 0) else Ok tt

@@ -1,0 +1,40 @@
+-- Shards one behind the other in a buffer.
+use Rattle.std.specs.Prelude.{◌≡◌, ℕ, zero, suc, ◌+◌, ◌*◌, ◌-◌, ◌^◌, ◌==◌, List, [], ◌∷◌, ◌++◌, take, drop, nat_lt, if◌then◌else◌, Result, Ok, Err, unwrap_or, Some, length}
+use Rattle.std.specs.List.{flat_map}
+use Rattle.rs_field.specs.Column.{Shard}
+use Rattle.rs_field.specs.Given.{Shards}
+use Rattle.rs_field.specs.OneCall.{Items}
+use Rattle.rs_c.specs.declared.fault.Fault.{Fault}
+use Rattle.rs_c.specs.declared.fault.Fault.TheVariants.{WrongLength}
+
+-- a buffer has count * size bytes, or the fault, with the wanted length, as far as a number of 64 bits goes, and its own
+abbrev pub fitting : ℕ → ℕ → ℕ → Result (Unit {0}) Fault
+fitting count size got =
+    if count * size == got then Ok tt
+    else Err (WrongLength (if nat_lt (count * size) (2 ^ 64) then count * size else 2 ^ 64 - 1) got)
+
+-- the first shards of this size, so many
+abbrev pub cut : ℕ → ℕ → List ℕ → List Shard
+cut zero size bytes = []
+cut (suc n) size bytes = take size bytes ∷ cut n size (drop size bytes)
+
+-- the shards whose marks aren't 0, with their indexes, the first of which is i
+abbrev pub marked : ℕ → ℕ → List ℕ → List ℕ → Items
+marked i size [] bytes = []
+marked i size (mark ∷ marks) bytes =
+    if mark == 0 then marked (i + 1) size marks (drop size bytes)
+    else (i, take size bytes) ∷ marked (i + 1) size marks (drop size bytes)
+
+-- shards one behind the other
+abbrev pub joined : List Shard → List ℕ
+joined shards = flat_map (λ shard. shard) shards
+
+-- the n shards of a buffer, the first of which has index i, each replaced by the one that a map has at its index, if it has one
+abbrev pub with_restored : Shards → ℕ → ℕ → ℕ → List ℕ → List ℕ
+with_restored restored i size zero bytes = []
+with_restored restored i size (suc n) bytes =
+    unwrap_or (restored i) (take size bytes) ++ with_restored restored (i + 1) size n (drop size bytes)
+
+-- every shard of a map has this size
+abbrev pub AreSized : ℕ → Shards → Type 0
+AreSized size restored = (i : ℕ) (shard : Shard) → restored i ≡ Some shard → length shard ≡ size

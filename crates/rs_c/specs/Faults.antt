@@ -1,0 +1,37 @@
+-- The numbers of faults.
+use Rattle.std.specs.Prelude.{ℕ, Result, Ok, Err}
+use Rattle.std.specs.Result.{result_map_both}
+use Rattle.rs_field.specs.declared.error.Error.{Error}
+use Rattle.rs_field.specs.declared.error.Error.TheVariants.{OutOfMemory, UnsupportedShardCount, InvalidShardSize, DifferentShardSize, TooFewOriginalShards, TooManyOriginalShards, NotEnoughShards, InvalidOriginalShardIndex, InvalidRecoveryShardIndex, DuplicateOriginalShardIndex, DuplicateRecoveryShardIndex, InconsistentShards}
+use Rattle.rs_c.specs.declared.fault.Fault.{Fault}
+use Rattle.rs_c.specs.declared.fault.Fault.TheVariants.{Refused, WrongLength}
+use Rattle.rs_c.specs.declared.fault.RsFault.{RsFault}
+
+-- a number and three counts
+abbrev pub numbers : ℕ → ℕ → ℕ → ℕ → RsFault
+numbers number first second third = record { number = number; first = first; second = second; third = third }
+
+-- the numbers of a refusal of the library
+abbrev pub numbers_of : Error → RsFault
+numbers_of OutOfMemory = numbers 1 0 0 0
+numbers_of (UnsupportedShardCount original_count recovery_count) = numbers 2 original_count recovery_count 0
+numbers_of (InvalidShardSize shard_bytes) = numbers 3 shard_bytes 0 0
+numbers_of (DifferentShardSize shard_bytes got) = numbers 4 shard_bytes got 0
+numbers_of (TooFewOriginalShards original_count original_received_count) = numbers 5 original_count original_received_count 0
+numbers_of (TooManyOriginalShards original_count) = numbers 6 original_count 0 0
+numbers_of (NotEnoughShards original_count original_received_count recovery_received_count) = numbers 7 original_count original_received_count recovery_received_count
+numbers_of (InvalidOriginalShardIndex original_count index) = numbers 8 original_count index 0
+numbers_of (InvalidRecoveryShardIndex recovery_count index) = numbers 9 recovery_count index 0
+numbers_of (DuplicateOriginalShardIndex index) = numbers 10 index 0 0
+numbers_of (DuplicateRecoveryShardIndex index) = numbers 11 index 0 0
+numbers_of (InconsistentShards original_received_count recovery_received_count) = numbers 12 original_received_count recovery_received_count 0
+
+-- the numbers of an answer: zeros where nothing was refused
+abbrev pub fault_of : Result (Unit {0}) Fault → RsFault
+fault_of (Ok _) = numbers 0 0 0 0
+fault_of (Err (Refused error)) = numbers_of error
+fault_of (Err (WrongLength wanted got)) = numbers 13 wanted got 0
+
+-- a refusal of the library as a fault
+abbrev pub refusing : {T : Type 0} → Result T Error → Result T Fault
+refusing result = result_map_both (λ x. x) Refused result

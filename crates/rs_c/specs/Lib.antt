@@ -1,0 +1,6 @@
+pub mod Tables
+pub mod Faults
+pub mod Buffers
+pub mod Answers
+pub mod FaultTexts
+pub mod Texts

@@ -1,0 +1,29 @@
+-- The tables in memory of a C program.
+use Rattle.std.specs.Prelude.{ℕ, ◌+◌, ◌*◌, ◌^◌, ◌<◌, List, [], ◌∷◌, slice_index, slice_index_or}
+use Rattle.rs_field.specs.declared.engine.tables.Multiply128lutT.{Multiply128lutT}
+use Rattle.rs_field.specs.Field.{power}
+use Rattle.rs_field.specs.Products.{IsNibbleBytes}
+use Rattle.rs_field.specs.Tables.{IsSkew, AreLogWalshes}
+use Rattle.rs_c.specs.declared.tables.RsTables.{RsTables}
+
+-- number n of numbers of 16 bytes, each from two halves, the lower first
+abbrev pub number : List ℕ → ℕ → ℕ
+number halves n = slice_index halves (2 * n) + 2 ^ 64 * slice_index halves (2 * n + 1)
+
+-- the products with one factor, whose eight numbers stand as halves, those of the low bytes first
+abbrev pub products_of : List ℕ → Multiply128lutT
+products_of halves =
+    record {
+      lo = number halves 0 ∷ number halves 1 ∷ number halves 2 ∷ number halves 3 ∷ [];
+      hi = number halves 4 ∷ number halves 5 ∷ number halves 6 ∷ number halves 7 ∷ [];
+    }
+
+-- entry m has the products with the generator to the power m
+abbrev pub AreProducts : List (List ℕ) → Type 0
+AreProducts table = (m : ℕ) → m < 65536 → IsNibbleBytes (power m) (products_of (slice_index_or table m []))
+
+-- the tables are those of the field, as the call that makes them leaves them
+pub record AreTables (tables : RsTables) : Type 0 where
+  pub products : AreProducts tables.products
+  pub skew : IsSkew tables.skew
+  pub log_walsh : AreLogWalshes tables.log_walsh

@@ -1,0 +1,35 @@
+-- The texts of faults.
+use Rattle.std.specs.Prelude.{◌≡◌, ℕ, ◌==◌, ◌⊎◌, List, [], ◌++◌, length, take, drop, Option, Some, None, if◌then◌else◌}
+use Rattle.rs_field.specs.declared.error.Error.TheVariants.{OutOfMemory, UnsupportedShardCount, InvalidShardSize, DifferentShardSize, TooFewOriginalShards, TooManyOriginalShards, NotEnoughShards, InvalidOriginalShardIndex, InvalidRecoveryShardIndex, DuplicateOriginalShardIndex, DuplicateRecoveryShardIndex, InconsistentShards}
+use Rattle.rs_c.specs.declared.fault.Fault.{Fault}
+use Rattle.rs_c.specs.declared.fault.Fault.TheVariants.{Refused, WrongLength}
+use Rattle.rs_c.specs.declared.fault.RsFault.{RsFault}
+use Rattle.rs_c.specs.FaultTexts.{text_of}
+
+-- the fault that has these numbers
+abbrev pub fault_with : RsFault → Option Fault
+fault_with fault =
+    if fault.number == 1 then Some (Refused OutOfMemory)
+    else if fault.number == 2 then Some (Refused (UnsupportedShardCount fault.first fault.second))
+    else if fault.number == 3 then Some (Refused (InvalidShardSize fault.first))
+    else if fault.number == 4 then Some (Refused (DifferentShardSize fault.first fault.second))
+    else if fault.number == 5 then Some (Refused (TooFewOriginalShards fault.first fault.second))
+    else if fault.number == 6 then Some (Refused (TooManyOriginalShards fault.first))
+    else if fault.number == 7 then Some (Refused (NotEnoughShards fault.first fault.second fault.third))
+    else if fault.number == 8 then Some (Refused (InvalidOriginalShardIndex fault.first fault.second))
+    else if fault.number == 9 then Some (Refused (InvalidRecoveryShardIndex fault.first fault.second))
+    else if fault.number == 10 then Some (Refused (DuplicateOriginalShardIndex fault.first))
+    else if fault.number == 11 then Some (Refused (DuplicateRecoveryShardIndex fault.first))
+    else if fault.number == 12 then Some (Refused (InconsistentShards fault.first fault.second))
+    else if fault.number == 13 then Some (WrongLength fault.first fault.second)
+    else None
+
+-- the text of a fault, and none where there is no fault
+abbrev pub text_with : Option Fault → List ℕ
+text_with (Some fault) = text_of fault
+text_with None = []
+
+-- a room has as much of a text as fits, and the rest as it was; or there was no memory for the text, and all is as it was
+abbrev pub WritesText : List ℕ → List ℕ → List ℕ → ℕ → Type 0
+WritesText text old new told =
+    ((told ≡ length text) × (new ≡ take (length old) text ++ drop (length text) old)) ⊎ ((told ≡ 0) × (new ≡ old))

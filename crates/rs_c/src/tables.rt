@@ -1,0 +1,115 @@
+//! The tables in memory of the caller.
+ghost use Rattle.std.specs.Prelude.{◌≡◌, ℕ, ◌+◌, ◌*◌, ◌/◌, ◌%◌, ◌^◌, ◌<◌, length, OnOk, OnErr};
+ghost use Rattle.rs_field.specs.Products.{IsNibbleBytes, IsMul128};
+ghost use Rattle.rs_c.specs.Tables.{products_of, AreProducts, AreTables};
+
+use rs_field::engine::tables::{Mul128, Multiply128lutT, Tables, get_mul128};
+use rs_field::engine::{GF_ORDER, GfElement};
+use rs_field::error::Error;
+use std::alloc::Global;
+
+/// What the engine reads, as plain arrays. The caller allocates it, one call fills it, and all others borrow it.
+#[repr(C)]
+pub struct RsTables {
+    /// Entry m has the products with the generator to the power m, by bytes, as halves of `Multiply128lutT`'s numbers.
+    pub products: [[u64; 16]; 65536],
+    /// The factors of the butterflies.
+    pub skew: [GfElement; 65535],
+    /// The transforms of logarithms that locators are made of.
+    pub log_walsh: [GfElement; 131071],
+}
+
+// The lower half of a number.
+#[inline(always)]
+fn low(number: u128) -> u64
+    ensures { result ≡ number % 2 ^ 64 }
+{
+    (number & 0xFFFF_FFFF_FFFF_FFFF) as u64
+}
+
+// Its upper half.
+#[inline(always)]
+fn high(number: u128) -> u64
+    ensures { result ≡ number / 2 ^ 64 }
+{
+    (number >> 64) as u64
+}
+
+// The products with one factor as halves.
+fn halves(products: &Multiply128lutT) -> [u64; 16]
+    ensures { (f : ℕ) → IsNibbleBytes f products.now → IsNibbleBytes f (products_of result) }
+{
+    let [l0, l1, l2, l3] = products.lo;
+    let [h0, h1, h2, h3] = products.hi;
+    [
+        low(l0),
+        high(l0),
+        low(l1),
+        high(l1),
+        low(l2),
+        high(l2),
+        low(l3),
+        high(l3),
+        low(h0),
+        high(h0),
+        low(h1),
+        high(h1),
+        low(h2),
+        high(h2),
+        low(h3),
+        high(h3),
+    ]
+}
+
+// A number from its halves.
+#[inline(always)]
+fn joined(low: u64, high: u64) -> u128
+    ensures { result ≡ low + 2 ^ 64 * high }
+{
+    u128::from(low) | (u128::from(high) << 64)
+}
+
+/// The products with one factor from their halves.
+#[inline(always)]
+pub fn whole(halves: &[u64; 16]) -> Multiply128lutT
+    ensures { result ≡ products_of halves.now }
+{
+    Multiply128lutT {
+        lo: [
+            joined(halves[0], halves[1]),
+            joined(halves[2], halves[3]),
+            joined(halves[4], halves[5]),
+            joined(halves[6], halves[7]),
+        ],
+        hi: [
+            joined(halves[8], halves[9]),
+            joined(halves[10], halves[11]),
+            joined(halves[12], halves[13]),
+            joined(halves[14], halves[15]),
+        ],
+    }
+}
+
+// Fills the table of products.
+fn fill_products(table: &mut [[u64; 16]], mul128: Mul128<'_>)
+    requires size { length table.old ≡ 65536 }
+    requires products { IsMul128 mul128.now }
+    ensures { AreProducts table.new }
+{
+    for m in 0..GF_ORDER {
+        table[m] = halves(&mul128[m]);
+    }
+}
+
+/// Fills the tables, or answers `OutOfMemory` and leaves them as they were.
+pub fn fill(alloc: Global, tables: &mut RsTables) -> Result<(), Error>
+    ensures made { OnOk result (AreTables tables.new) }
+    ensures err { OnErr result ((result ≡ Err Error.OutOfMemory) × (tables.new ≡ tables.old)) }
+{
+    let made = Tables::new(alloc)?;
+    let lent = made.lent();
+    fill_products(&mut tables.products, get_mul128(&made));
+    tables.skew.copy_from_slice(lent.skew);
+    tables.log_walsh.copy_from_slice(lent.log_walsh);
+    Ok(())
+}
