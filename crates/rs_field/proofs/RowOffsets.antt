@@ -1,11 +1,8 @@
 -- Where row i of rows of n chunks lies among the chunks, and what is unchanged outside some rows.
-use Rattle.std.proofs.Common.{◌≡◌, ℕ, zero, suc, [], ◌+◌, ◌-◌, ◌*◌, ◌<◌, ◌≤◌, ◌⊎◌, ◌≢◌, length, take, drop, inl, inr, arith, ap, ◌∙◌, subst, sym}
+use Rattle.std.proofs.Common.{◌≡◌, ℕ, zero, suc, ◌+◌, ◌-◌, ◌*◌, ◌<◌, ◌≤◌, ◌⊎◌, ◌≢◌, inl, inr, arith, ap, ◌∙◌, subst, sym}
 use Rattle.std.proofs.Math.Nat.{mul-le-mul_right}
 use Rattle.std.proofs.lemmas.Bool.{cases_lt}
-use Rattle.std.proofs.lemmas.Grind.{common_steps}
-use Rattle.std.proofs.lemmas.List.{get_or-take, get_or-drop}
-use borrow.Rule.Slice.PartMut.{put_mid}
-use Rattle.rs_field.specs.Rows.{Chunks, chunk, SameOutside}
+use Rattle.rs_field.specs.Rows.{chunk, SameOutside}
 use Rattle.rs_field.specs.View.{cell, SameShape, SameRowsOutside, SameRowsOutsideTwo}
 use Rattle.rs_field.specs.declared.engine.shards.ShardsRefMut.{ShardsRefMut}
 
@@ -19,21 +16,6 @@ rows_end a count m n h = let p : (a + count) * n ≤ m * n = mul-le-mul_right n 
 -- chunk k of row i of m rows
 pub row_within : (i m k n : ℕ) → i < m → k < n → i * n + k < m * n
 row_within i m k n hi hk = let ends = row_ends i m n hi in omega arith
-
--- chunk k of row i, at place p of m chunks from a place on
-pub cell_of_part : (rows : ShardsRefMut) (start m i k p : ℕ) → start + p ≡ i * rows.shard_len_64 + k → p < m
-    → chunk (take m (drop start rows.chunks.now)) p ≡ cell rows k i
-unfolding cell
-cell_of_part rows start m i k p at low =
-    get_or-take m (drop start rows.chunks.now) p [] low ∙ get_or-drop start rows.chunks.now p [] ∙ ap (chunk rows.chunks.now) at
-
--- and where other chunks were put in their place
-pub cell_of_put : (rows : ShardsRefMut) (old part : Chunks) (start m i k p : ℕ) → rows.chunks.now ≡ put_mid start m old part → start ≤ length old
-    → start + p ≡ i * rows.shard_len_64 + k → p < length part → chunk part p ≡ cell rows k i
-unfolding cell
-cell_of_put rows old part start m i k p put begins at low =
-    let placed : chunk (put_mid start m old part) (start + p) ≡ chunk part p = grind (arith, common_steps) in
-    sym placed ∙ ap (chunk (put_mid start m old part)) at ∙ ap (λ chunks. chunk chunks (i * rows.shard_len_64 + k)) (sym put)
 
 -- a chunk of a row below a lies before row a, and one of a row from b on lies from row b on
 pub offset_outside : (a b i k n : ℕ) → k < n → (i < a) ⊎ (b ≤ i) → (i * n + k < a * n) ⊎ (b * n ≤ i * n + k)

@@ -1,8 +1,8 @@
 //! The decoding of a round, for every rate: the locator of the erased rows, the rows over the chunks, the tails, and
 //! the round's end.
 ghost use Rattle.std.specs.Prelude.{◌≡◌, ℕ, ◌+◌, ◌-◌, ◌*◌, ◌/◌, ◌%◌, ◌^◌, ◌<◌, ◌≤◌, ◌⊎◌, ◌&&◌, if◌then◌else◌};
-ghost use Rattle.std.specs.Prelude.{true, false, Ok, List, length, slice_index, vec_len, IfOk, MatchResult};
-ghost use Rattle.rs_field.specs.Bounds.{CountsRows, CountsUpTo, LocatorCounts, decode_steps, transform_steps};
+ghost use Rattle.std.specs.Prelude.{true, Ok, List, length, slice_index, vec_len, IfOk, MatchResult};
+ghost use Rattle.rs_field.specs.Bounds.{CountsUpTo, LocatorCounts, decode_steps, transform_steps};
 ghost use Rattle.rs_field.specs.Configuration.{validated};
 ghost use Rattle.rs_field.specs.Counts.{Rate};
 ghost use Rattle.rs_field.specs.Decoder.{fresh_decoder, Restored, NoneAgrees};

@@ -1,4 +1,4 @@
-use Rattle.std.proofs.Common.{◌≡◌, ◌+◌, ◌-◌, ◌<◌, ◌≤◌, ℕ, List, true, false, sym, ap, ◌∙◌, subst, arith, inl, inr}
+use Rattle.std.proofs.Common.{◌≡◌, ◌+◌, ◌-◌, ◌<◌, ℕ, List, true, false, sym, ap, ◌∙◌, subst, arith, inl, inr}
 use Rattle.std.proofs.Math.Nat.{sub-zero}
 use Rattle.std.specs.Prelude.{Ok, Err, length, ◌⊎◌}
 use Rattle.std.proofs.lemmas.Bool.{cases_eq}
@@ -6,10 +6,9 @@ use Rattle.rs_field.specs.declared.error.Error.TheVariants.{InconsistentShards}
 use Rattle.rs_field.specs.Bounds.{CountsUpTo, decode_steps}
 use Rattle.rs_field.specs.Column.{IsShard}
 use Rattle.rs_field.specs.Rows.{Chunks}
-use Rattle.rs_field.specs.MarkedRows.{is_marked}
 use Rattle.rs_rate.specs.declared.rate.decoder_work.DecoderShape.{DecoderShape}
 use Rattle.rs_rate.specs.Decoding.{IsLocatorOf, RestoresShards}
-use Rattle.rs_rate.specs.Marks.{given_marks, restored_marks, given_row_count, WantsMissing}
+use Rattle.rs_rate.specs.Marks.{given_marks, restored_marks, WantsMissing}
 use Rattle.rs_rate.specs.ShardRows.{chunk_count, shard_in_order}
 use Rattle.rs_rate.proofs.DecodeAnswer.{AnswersOver, decode_answers, complete_answers, told_answer}
 use Rattle.rs_rate.proofs.DecoderLemmas.{given_row_count-most, given_row_count-nothing, none_told, nothing-given}

@@ -1,4 +1,4 @@
-use Rattle.std.proofs.Common.{◌<◌, ◌+◌, true, false, length, sym, ap, ◌∙◌, arith}
+use Rattle.std.proofs.Common.{◌<◌, true, false, length, sym, ap, ◌∙◌, arith}
 use Rattle.std.specs.Prelude.{Some}
 use Rattle.rs_field.specs.MarkedRows.{is_marked}
 use Rattle.rs_rate.specs.ShardRows.{shard_in_order}

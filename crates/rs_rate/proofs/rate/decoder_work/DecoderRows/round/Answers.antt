@@ -1,8 +1,5 @@
-use Rattle.std.proofs.Common.{◌≡◌, ◌<◌, ◌+◌, ◌-◌, ℕ, arith}
-use Rattle.std.specs.Prelude.{Bool, List, []}
-use Rattle.rs_rate.specs.declared.rate.marks.MarkedShards.{MarkedShards}
-use Rattle.rs_rate.specs.declared.rate.marks.MarkedShards.TheVariants.{Given, Restored}
-use Rattle.rs_rate.specs.Marks.{given_marks, given_row_count}
+use Rattle.std.proofs.Common.{arith}
+use Rattle.rs_rate.specs.Marks.{given_marks}
 use Rattle.rs_rate.proofs.DecoderLemmas.{given_row_count-most, given_if_some}
 use Rattle.rs_rate.proofs.rate.decoder_work.DecoderRows.round.Goals as goal
 
