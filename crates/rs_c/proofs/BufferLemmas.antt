@@ -3,7 +3,7 @@ use Rattle.std.proofs.Common.{◌≡◌, ℕ, zero, suc, ◌+◌, ◌-◌, ◌*�
 use Rattle.std.specs.Prelude.{unwrap_or}
 use Rattle.std.proofs.Math.Nat.{suc-mul, mul-le-mul_right}
 use Rattle.std.proofs.lemmas.Bool.{eq-eqb, ne_eqb}
-use Rattle.std.proofs.lemmas.List.{append_assoc, append-nil, length-append, length-drop, length-take-le, drop_more, drop_all, drop-drop, take_all, take-take, drop-take, take-append-drop}
+use Rattle.std.proofs.lemmas.List.{append_assoc, length-append, length-drop, length-take-le, drop_more, drop-drop, take-take, drop-take, take-append-drop}
 use borrow.Rule.Slice.PartMut.{put_mid}
 use Rattle.rs_field.specs.Column.{Shard, IsShard}
 use Rattle.rs_field.specs.Given.{Shards}
@@ -25,10 +25,6 @@ more-left i n size bytes h sized = sized ∙ ap (λ (m : ℕ). m * size) (one-le
 pub left-step : (i n size : ℕ) (bytes : List ℕ) → i < n → length bytes ≡ (n - i) * size → length (drop size bytes) ≡ (n - (i + 1)) * size
 left-step i n size bytes h sized = let more = more-left i n size bytes h sized in length-drop size bytes ∙ omega (arith, more)
 
--- a whole shard is left
-pub left-whole : (i n size : ℕ) (bytes : List ℕ) → i < n → length bytes ≡ (n - i) * size → size ≤ length bytes
-left-whole i n size bytes h sized = let more = more-left i n size bytes h sized in omega (arith, more)
-
 -- the marks that are left begin with the one at this index
 next-mark : (i size : ℕ) (marks bytes : List ℕ) → i < length marks → marked i size (drop i marks) bytes ≡ marked i size (get_or marks i 0 ∷ drop (i + 1) marks) bytes
 next-mark i size marks bytes h = ap (λ (left : List ℕ). marked i size left bytes) (drop_more marks i 0 h)
@@ -48,10 +44,6 @@ marked-there i size marks bytes h there =
     next-mark i size marks bytes h
     ∙ ap (λ (b : Bool). if b then marked (i + 1) size (drop (i + 1) marks) (drop size bytes) else (i, take size bytes) ∷ marked (i + 1) size (drop (i + 1) marks) (drop size bytes))
     (ne_eqb (get_or marks i 0) 0 there)
-
--- where the marks are at an end
-pub marked-end : (i size : ℕ) (marks bytes : List ℕ) → length marks ≤ i → marked i size (drop i marks) bytes ≡ []
-marked-end i size marks bytes h = ap (λ (rest : List ℕ). marked i size rest bytes) (drop_all i marks h)
 
 -- the bytes before a place, with what is to be written behind them, are the whole, for which there is just room
 pub record IsWritten (whole : List ℕ) (at : ℕ) (bytes rest : List ℕ) : Type 0 where
@@ -89,13 +81,6 @@ written-kept whole at n bytes rest w room =
       size = w.size;
       is_whole = ap (λ (l : List ℕ). l ++ rest) here ∙ append_assoc (take at bytes) (take n (drop at bytes)) rest ∙ w.is_whole;
     }
-
--- all is written
-pub written-all : (whole : List ℕ) (at : ℕ) (bytes : List ℕ) → IsWritten whole at bytes [] → bytes ≡ whole
-written-all whole at bytes w =
-    let front : take at bytes ≡ whole = sym (append-nil (take at bytes)) ∙ w.is_whole in
-    let end : at ≡ length bytes = sym (length-take-le at bytes w.inside) ∙ ap length front ∙ sym w.size in
-    sym (take_all at bytes (omega (arith, end))) ∙ front
 
 -- shards of one size one behind the other have so many bytes
 pub length-joined : (size : ℕ) (shards : List Shard) → All (IsShard size) shards → length (joined shards) ≡ length shards * size
