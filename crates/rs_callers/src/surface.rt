@@ -1,6 +1,6 @@
 //! Every public path of the library, each used at its type: where a name stood for another item, this file would not
 //! compile or not be proved.
-ghost use Rattle.std.specs.Prelude.{◌≡◌, ℕ, ◌<◌, ◌≤◌, [], ◌∷◌, length, slice_index, bit_xor};
+ghost use Rattle.std.specs.Prelude.{◌≡◌, ℕ, ◌^◌, ◌<◌, ◌≤◌, [], ◌∷◌, length, slice_index, bit_xor};
 ghost use Rattle.reed_solomon_simd.specs.Counts.{low_rate, high_rate, default_rate};
 ghost use Rattle.reed_solomon_simd.specs.Field.{product, power};
 ghost use Rattle.reed_solomon_simd.specs.Kind.{kind_of};
@@ -9,6 +9,7 @@ ghost use Rattle.reed_solomon_simd.specs.Rows.{chunk, symbol};
 ghost use Rattle.reed_solomon_simd.specs.View.{word, Fits};
 ghost use Rattle.reed_solomon_simd.specs.EncoderView.{work_room as encoder_room};
 ghost use Rattle.reed_solomon_simd.specs.DecoderView.{work_room as decoder_room};
+ghost use Rattle.rs_field.specs.Bounds.{LocatorCountsBelow};
 ghost use Rattle.rs_field.specs.Products.{IsMul16, IsMul128};
 ghost use Rattle.reed_solomon_simd.specs.Tables.{IsExpLog, IsLogWalsh, IsSkew};
 
@@ -99,6 +100,15 @@ pub fn locator_below(steps: &mut Steps, entries: &mut [GfElement; 64], tables: &
     ensures { IsLocatorBelow 64 (λ y. slice_index entries.old y) (λ x. slice_index entries.new x) }
 {
     locate(steps, entries, get_log_walsh_below(tables, 64));
+}
+
+/// The locator of as many points as there are entries, by the library's own engine: within the bound for so many.
+pub fn locator_by_engine(engine: DefaultEngine<'_>, steps: &mut Steps, entries: &mut [GfElement])
+    requires power { (d : ℕ) × (length entries.old ≡ 2 ^ d) }
+    requires few { length entries.old ≤ 65536 }
+    ensures { LocatorCountsBelow (length entries.old) steps.old steps.new }
+{
+    engine.locate(steps, entries);
 }
 
 /// Engines that a caller has, as ones that are chosen by name.

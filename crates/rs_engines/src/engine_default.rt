@@ -140,6 +140,10 @@ impl<'t> From<Ssse3<'t>> for DefaultEngine<'t> {
 }
 
 impl Engine for DefaultEngine<'_> {
+    ghost use Rattle.std.specs.Prelude.{◌≡◌, ℕ, ◌^◌, ◌≤◌, length, slice_index};
+    ghost use Rattle.rs_field.specs.Bounds.{LocatorCounts, LocatorCountsBelow};
+    ghost use Rattle.rs_field.specs.Locator.{IsLocatorBelow};
+
     fn fft(
         &self,
         steps: &mut Steps,
@@ -224,7 +228,13 @@ impl Engine for DefaultEngine<'_> {
         }
     }
 
-    fn locate(&self, steps: &mut Steps, entries: &mut [GfElement]) {
+    fn locate(&self, steps: &mut Steps, entries: &mut [GfElement])
+        requires power { (d : ℕ) × (length entries.old ≡ 2 ^ d) }
+        requires few { length entries.old ≤ 65536 }
+        ensures values { IsLocatorBelow (length entries.old) (λ y. slice_index entries.old y) (λ x. slice_index entries.new x) }
+        ensures counts { LocatorCounts steps.old steps.new }
+        ensures own_counts { LocatorCountsBelow (length entries.old) steps.old steps.new }
+    {
         match self {
             Self::Naive(engine) => engine.locate(steps, entries),
             Self::NoSimd(engine) => engine.locate(steps, entries),

@@ -27,10 +27,11 @@ given_marks marks = if_given marks.shards marks.rows.items
 abbrev pub restored_marks : Marks → List Bool
 restored_marks marks = if_restored marks.shards marks.rows.items
 
--- from marks of given shards to those of restored ones: the n rows from one on are marked that held no given shard
+-- from marks of given shards to those of restored ones: those of the n rows from one on are marked that held no given shard, and no others
 pub record WantsMissing (from n : ℕ) (old new : Marks) : Type 0 where
   pub shards : new.shards ≡ Restored
   pub missing : (i : ℕ) → i < n → is_marked (restored_marks new) (from + i) ≡ not (is_marked (given_marks old) (from + i))
+  pub others : (p : ℕ) → (p < from) ⊎ (from + n ≤ p) → is_marked (restored_marks new) p ≡ false
   pub length : vec_len new.rows ≡ vec_len old.rows
   pub room : vec_capacity new.rows ≡ vec_capacity old.rows
 

@@ -1,6 +1,8 @@
 //! What an engine brings of its own, and the engine made of it.
-ghost use Rattle.std.specs.Prelude.{◌≡◌, ℕ, ◌<◌, length, bit_xor};
+ghost use Rattle.std.specs.Prelude.{◌≡◌, ℕ, ◌^◌, ◌<◌, ◌≤◌, length, slice_index, bit_xor};
+ghost use Rattle.rs_field.specs.Bounds.{LocatorCounts, LocatorCountsBelow};
 ghost use Rattle.rs_field.specs.Field.{product, power};
+ghost use Rattle.rs_field.specs.Locator.{IsLocatorBelow};
 ghost use Rattle.rs_field.specs.Tables.{scaled};
 ghost use Rattle.rs_field.specs.Rows.{chunk, symbol};
 ghost use Rattle.rs_field.specs.TwoLayers.{IsForwardTwoLayers, IsBackwardTwoLayers};
@@ -165,7 +167,13 @@ impl<K: Kernel> Engine for K {
         utils::eval_poly(steps, erasures, truncated_size, log_walsh);
     }
 
-    fn locate(&self, steps: &mut Steps, entries: &mut [GfElement]) {
+    fn locate(&self, steps: &mut Steps, entries: &mut [GfElement])
+        requires power { (d : ℕ) × (length entries.old ≡ 2 ^ d) }
+        requires few { length entries.old ≤ 65536 }
+        ensures values { IsLocatorBelow (length entries.old) (λ y. slice_index entries.old y) (λ x. slice_index entries.new x) }
+        ensures counts { LocatorCounts steps.old steps.new }
+        ensures own_counts { LocatorCountsBelow (length entries.old) steps.old steps.new }
+    {
         let log_walsh = self.tables().log_walsh_below(entries.len());
         utils::locate(steps, entries, log_walsh);
     }

@@ -1,5 +1,5 @@
 //! Rows that are marked: those of a transform that are wanted, or that hold anything.
-ghost use Rattle.std.specs.Prelude.{◌≡◌, ℕ, ◌+◌, ◌^◌, ◌<◌, ◌≤◌, true, false, length};
+ghost use Rattle.std.specs.Prelude.{◌≡◌, ℕ, ◌+◌, ◌-◌, ◌^◌, ◌<◌, ◌≤◌, true, false, length};
 ghost use Rattle.rs_field.specs.MarkedRows.{is_marked, is_used, HasMarks};
 
 /// The rows of a block that are of use: of a forward transform those that are wanted, of a backward one those that may
@@ -16,6 +16,7 @@ impl<'a> UsedRows<'a> {
     /// Whether no row is used. Of marks it reads those up to the first used row.
     pub fn are_none(self) -> bool
         ensures none { result ≡ true → (i : ℕ) → is_used self.entry i ≡ false }
+        ensures some { result ≡ false → (i : ℕ) × (is_used self.entry i ≡ true) }
     {
         match self {
             UsedRows::First(count) => count == 0,
@@ -40,6 +41,7 @@ impl<'a> UsedRows<'a> {
 // Whether any row is marked.
 fn any_marked(marks: &[bool]) -> bool
     ensures none { result ≡ false → (i : ℕ) → is_marked marks.now i ≡ false }
+    ensures some { result ≡ true → (i : ℕ) × (is_marked marks.now i ≡ true) }
 {
     for i in 0..marks.len() {
         if marks[i] {
@@ -53,6 +55,7 @@ fn any_marked(marks: &[bool]) -> bool
 pub fn marked_end(marks: &[bool]) -> usize
     ensures within { result ≤ length marks.now }
     ensures past { (i : ℕ) → result ≤ i → is_marked marks.now i ≡ false }
+    ensures last { 0 < result → is_marked marks.now (result - 1) ≡ true }
 {
     let mut end = 0;
     for i in 0..marks.len() {

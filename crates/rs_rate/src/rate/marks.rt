@@ -47,6 +47,7 @@ impl Marks {
     // Has so many rows, none of them with a given shard, for which there is room.
     pub(crate) fn set_empty(&mut self, rows: usize)
         requires { rows ≤ vec_capacity self.old.rows }
+        ensures shards { self.new.shards ≡ MarkedShards.Given }
         ensures empty { (p : ℕ) → is_marked (given_marks self.new) p ≡ false }
         ensures length { vec_len self.new.rows ≡ rows }
         ensures grown { vec_capacity self.old.rows ≤ vec_capacity self.new.rows }
@@ -107,7 +108,7 @@ impl Marks {
         }
     }
 
-    // Marks row `row` as holding a given shard. The first one of a round takes the marks of the last one.
+    // Marks row `row` as holding a given shard. The first one of a round clears the marks of the last one.
     pub(crate) fn give(&mut self, row: usize)
         requires { row < vec_len self.old.rows }
         ensures here { is_marked (given_marks self.new) row ≡ true }
@@ -142,7 +143,7 @@ fn mark(marks: &mut [bool], row: usize, is: bool)
     marks[row] = is;
 }
 
-// Takes all marks.
+// Clears all marks.
 fn clear_marks(marks: &mut [bool])
     ensures { (p : ℕ) → is_marked marks.new p ≡ false }
 {

@@ -1,4 +1,4 @@
-use Rattle.std.proofs.Common.{◌≡◌, ℕ, ◌+◌, ◌<◌, ◌≤◌, vec_len}
+use Rattle.std.proofs.Common.{◌≡◌, ℕ, ◌+◌, ◌<◌, ◌≤◌, ◌⊎◌, false, vec_len}
 use Rattle.std.specs.Prelude.{not}
 use Rattle.std.specs.Vec.{vec_capacity}
 use Rattle.rs_field.specs.MarkedRows.{is_marked}
@@ -11,5 +11,6 @@ invariant-loop-row l = record {
   room : vec_capacity l.self.rows ≡ vec_capacity l.initial.self.rows;
   shards : l.self.shards ≡ l.initial.self.shards;
   missing : (p : ℕ) → p < l.row → l.from ≤ p → p < l.from + l.count → is_marked l.self.rows.items p ≡ not (is_marked (given_marks l.initial.self) p);
+  others : (p : ℕ) → p < l.row → (p < l.from) ⊎ (l.from + l.count ≤ p) → is_marked l.self.rows.items p ≡ false;
   left : (p : ℕ) → l.row ≤ p → is_marked l.self.rows.items p ≡ is_marked l.initial.self.rows.items p;
 }
