@@ -3,11 +3,13 @@
  * k originals of one even size become r recovery shards; any k of the k + r shards give back the missing originals.
  *
  * What the caller owes, and nothing else checks:
- *   - Each pointer leads to as many bytes or entries as the length beside it says, and none is NULL, also at length 0.
+ *   - Each pointer leads to as many bytes or entries as the length beside it says, is aligned for its type, and none is NULL,
+ *     also at length 0.
  *   - What a call writes overlaps nothing else that it is given, and no other thread reads or writes it meanwhile.
- *   - struct rs_tables is as rs_tables_make left it, and was zeroed or written before that call.
+ *   - struct rs_tables is as rs_tables_make of this same version left it, and was zeroed or written before that call.
  * For all else, whatever numbers and bytes are passed, the answer is stated here. Each call returns, keeps no pointer, leaves no
- * memory behind, and may run in any number of threads at once, over the same const tables. None may run in a signal handler. */
+ * memory behind, and may run in any number of threads at once, over the same const tables. None may run in a signal handler, nor in
+ * the forked child of a process with threads. */
 #ifndef REED_SOLOMON_SIMD_H
 #define REED_SOLOMON_SIMD_H
 
@@ -36,7 +38,8 @@ enum rs_status {
     RS_DUPLICATE_ORIGINAL_SHARD_INDEX = 10, /* first: the index */
     RS_DUPLICATE_RECOVERY_SHARD_INDEX = 11, /* first: the index */
     RS_INCONSISTENT_SHARDS = 12,         /* more than k shards, with which no message agrees; first: originals, second: recovery shards */
-    RS_WRONG_LENGTH = 13                 /* a buffer's length isn't count * size; first: the one that is wanted, second: its own */
+    RS_WRONG_LENGTH = 13                 /* a buffer's length isn't count * size; first: the one that is wanted, SIZE_MAX where
+                                            it doesn't fit, second: its own */
 };
 
 /* Why a call was refused: one of enum rs_status, and its counts; 0 where there are none. */
@@ -57,7 +60,8 @@ uint32_t rs_tables_make(struct rs_tables *tables);
 /* 1 where so many originals go with so many recovery shards, else 0. */
 uint32_t rs_supports(size_t original_count, size_t recovery_count);
 
-/* The calls below answer RS_OK or the number of the fault, which they write to *fault. With a fault they write nothing else. */
+/* rs_encode and rs_decode answer RS_OK or the number of the fault, and write it with its counts to *fault, zeros with RS_OK.
+ * With a fault they write nothing else. */
 
 /* Writes the recovery shards of the originals. Shard i of a buffer lies at byte i * shard_bytes.
  *
@@ -69,10 +73,11 @@ uint32_t rs_encode(const struct rs_tables *tables, size_t original_count, size_t
 
 /* Restores, in their places, the originals that are lost, from all shards that are there.
  *
- * marks has a byte for each original, and then for each recovery shard: 0 where it is lost. What lies at its place isn't read.
+ * marks has a byte for each original, and then for each recovery shard: 0 where it is lost, any other where it is there. What
+ * lies at the place of a lost one isn't read.
  * Refused with RS_UNSUPPORTED_SHARD_COUNT; then with RS_WRONG_LENGTH for originals, for recovery shards, and for marks. Then,
- * where no recovery shard is there, with RS_NOT_ENOUGH_SHARDS if an original is lost; else with RS_INVALID_SHARD_SIZE,
- * RS_OUT_OF_MEMORY, RS_NOT_ENOUGH_SHARDS, RS_INCONSISTENT_SHARDS. */
+ * where no recovery shard is there: RS_NOT_ENOUGH_SHARDS if an original is lost, else RS_OK, whatever the size. Where one is
+ * there: RS_INVALID_SHARD_SIZE, RS_OUT_OF_MEMORY, RS_NOT_ENOUGH_SHARDS, RS_INCONSISTENT_SHARDS. */
 uint32_t rs_decode(const struct rs_tables *tables, size_t original_count, size_t recovery_count, size_t shard_bytes,
                    uint8_t *originals, size_t originals_length,
                    const uint8_t *recovery, size_t recovery_length,

@@ -1,4 +1,4 @@
-/* The library from C. Words: `rows FILE..` reads cases of rs_cases; `refusals`; `rounds SEED COUNT`; `threads`; `memory`. */
+/* The library from C. Words: `rows FILE..` reads cases of rs_cases; `refusals`; `rounds SEED COUNT`; `threads`. */
 #define _POSIX_C_SOURCE 200809L
 #include "reed_solomon_simd.h"
 

@@ -1,5 +1,4 @@
 //! The engine over tables in memory of the caller.
-ghost use Rattle.std.specs.Prelude.{◌≡◌};
 ghost use Rattle.rs_field.specs.Field.{power};
 ghost use Rattle.rs_field.specs.Products.{IsNibbleBytes};
 ghost use Rattle.rs_c.specs.Tables.{AreTables};

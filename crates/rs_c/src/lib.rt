@@ -50,6 +50,9 @@ pub extern "C" fn rs_supports(original_count: usize, recovery_count: usize) -> u
 }
 
 /// The recovery shards of originals that lie one behind the other, written one behind the other.
+///
+/// Refused for counts that aren't supported, then for the length of `originals`, then for that of `recovery`, then as
+/// one call refuses the shards. With a fault nothing but the fault is written.
 #[unsafe(no_mangle)]
 pub extern "C" fn rs_encode(
     alloc: Global,
@@ -81,6 +84,9 @@ pub extern "C" fn rs_encode(
 }
 
 /// Restores, in their places, the originals whose mark is 0.
+///
+/// Refused for counts that aren't supported, then for the lengths of `originals`, of `recovery` and of `marks`, then as
+/// one call refuses the shards whose mark isn't 0. With a fault nothing but the fault is written.
 #[unsafe(no_mangle)]
 pub extern "C" fn rs_decode(
     alloc: Global,

@@ -71,7 +71,8 @@ impl<K: Kernel> FourStep for TwoLayers<'_, K> {
 /// The layers of the transform of a block of more than one row: the first ones of the forward transform, which leave the
 /// forward transforms of the parts of `part_rows` rows to do, each at the point where it begins, and the last ones of the
 /// backward transform, which come after the backward transforms of these parts.
-/// Inlined, so that each transform is compiled for its direction.
+///
+/// Inlined, so that transforms of more than four rows are compiled for their direction.
 #[inline(always)]
 pub(crate) fn layers<K: Kernel>(
     direction: Direction,
