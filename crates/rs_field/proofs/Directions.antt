@@ -1,24 +1,24 @@
 -- The layers of a transform and the transform of few rows, in both directions.
-use Rattle.std.proofs.Common.{◌≡◌, ℕ, ◌+◌, ◌-◌, ◌*◌, ◌%◌, ◌^◌, ◌<◌, ◌≤◌, Bool, List, get_or}
+use Rattle.std.proofs.Common.{◌≡◌, ℕ, ◌+◌, ◌-◌, ◌*◌, ◌^◌, ◌<◌, ◌≤◌, Bool, List, get_or}
 use Rattle.rs_field.specs.declared.engine.layers.Direction.{Direction}
 use Rattle.rs_field.specs.declared.engine.shards.ShardsRefMut.{ShardsRefMut}
-use Rattle.rs_field.specs.Tables.{IsSkew}
 use Rattle.rs_field.specs.Layers.{rows_of_part}
 use Rattle.rs_field.specs.Directions.{IsButterfly, AreTwoLayers, AreLayers, AreTransformed}
 use Rattle.rs_field.specs.View.{cell, word}
-use Rattle.rs_field.proofs.Layers.{IsBlock, backward_undone, four_rows, pair_undone, two_rows}
+use Rattle.rs_field.proofs.Layers.{IsBlock, backward_undone, four_rows, half_rows, pair_undone}
 use Rattle.rs_field.proofs.PartLoops.{single_rows}
 
--- the one layer of two rows
-pub layer_of_two : (direction : Direction) (skew : List ℕ) (shift pos k s : ℕ) (old new : ShardsRefMut) → IsSkew skew → shift % 2 ≡ 0 → shift + 2 ≤ 65536 → s < 32
-    → IsButterfly direction (get_or skew shift 0) (cell old k (pos + 0)) (cell old k (pos + 1 + 0)) (cell new k (pos + 0)) (cell new k (pos + 1 + 0))
-    → AreLayers direction 2 1 shift (λ q. word old k s (pos + q)) (λ q. word new k s (pos + q))
-layer_of_two Direction.Forward skew shift pos k s old new table aligned points hs pair =
-    two_rows skew shift pos (word old k s) (word new k s) table aligned points (pair s hs)
-layer_of_two Direction.Backward skew shift pos k s old new table aligned points hs pair =
-    two_rows skew shift pos (word new k s) (word old k s) table aligned points (pair_undone _ _ _ _ _ (pair s hs))
+-- one layer of rows by halves
+pub layer_of_halves : (direction : Direction) (skew : List ℕ) (n shift pos k s : ℕ) (old new : ShardsRefMut) → IsBlock skew (n + n) shift → s < 32
+    → ((q : ℕ) → q < n → IsButterfly direction (get_or skew (shift + n - 1) 0)
+    (cell old k (pos + q)) (cell old k (pos + n + q)) (cell new k (pos + q)) (cell new k (pos + n + q)))
+    → AreLayers direction (n + n) n shift (λ q. word old k s (pos + q)) (λ q. word new k s (pos + q))
+layer_of_halves Direction.Forward skew n shift pos k s old new block hs pairs =
+    half_rows skew n shift pos (word old k s) (word new k s) block (λ q hq. pairs q hq s hs)
+layer_of_halves Direction.Backward skew n shift pos k s old new block hs pairs =
+    half_rows skew n shift pos (word new k s) (word old k s) block (λ q hq. pair_undone _ _ _ _ _ (pairs q hq s hs))
 
--- two layers of more rows
+-- two layers of rows by quarters
 pub layers_of_four : (direction : Direction) (skew : List ℕ) (n shift pos k s : ℕ) (old new : ShardsRefMut) → IsBlock skew (4 * n) shift → s < 32
     → ((q : ℕ) → q < n → AreTwoLayers direction (get_or skew (shift + 2 * n - 1) 0) (get_or skew (shift + n - 1) 0) (get_or skew (shift + 2 * n + n - 1) 0)
     (cell old k (pos + q)) (cell old k (pos + n + q)) (cell old k (pos + 2 * n + q)) (cell old k (pos + 3 * n + q))

@@ -1,5 +1,5 @@
 -- One layer of butterflies between the halves of a block, and two layers between its quarters, for one symbol of the rows.
-use Rattle.std.proofs.Common.{◌≡◌, ℕ, suc, ◌+◌, ◌-◌, ◌*◌, ◌%◌, ◌^◌, ◌<◌, ◌≤◌, cond, nat_lt, List, get_or, bit_xor, refl, sym, ap, ap₂, ◌∙◌, subst, inl, inr, arith}
+use Rattle.std.proofs.Common.{◌≡◌, ℕ, suc, ◌+◌, ◌-◌, ◌*◌, ◌%◌, ◌^◌, ◌<◌, ◌≤◌, cond, nat_lt, List, get_or, bit_xor, sym, ap, ap₂, ◌∙◌, subst, inl, inr, arith}
 use Rattle.std.proofs.Math.Nat.{mul-le-mul_right}
 use Rattle.std.proofs.lemmas.Bool.{cases_lt}
 use Rattle.rs_field.specs.Field.{product}
@@ -235,23 +235,19 @@ pub pair_undone : (log_m x y x' y' : ℕ) → IsBackwardTwo log_m x y x' y' → 
 pair_undone log_m x y x' y' (first, second) =
     (sym (ap (λ v. bit_xor v (scaled log_m y')) first ∙ xor_undo x (scaled log_m y')), sym (ap (λ v. bit_xor v x) second ∙ xor_undo y x))
 
--- the one layer of two rows
-pub two_rows : (skew : List ℕ) (shift pos : ℕ) (f g : ℕ → ℕ) → IsSkew skew → shift % 2 ≡ 0 → shift + 2 ≤ 65536
-    → IsForwardTwo (get_or skew shift 0) (f (pos + 0)) (f (pos + 1 + 0)) (g (pos + 0)) (g (pos + 1 + 0))
-    → ArePartsOf 2 1 shift (λ q. f (pos + q)) (λ q. g (pos + q))
-two_rows skew shift pos f g table aligned points (first, second) =
-    one_layer skew 1 shift (λ q. f (pos + q)) (λ q. g (pos + q))
-    (record { table = table; large = omega arith; power = (1, refl); aligned = aligned; points = points })
+-- the one layer of rows by halves
+pub half_rows : (skew : List ℕ) (n shift pos : ℕ) (f g : ℕ → ℕ) → IsBlock skew (n + n) shift
+    → ((q : ℕ) → q < n → IsForwardTwo (factor skew n shift) (f (pos + q)) (f (pos + n + q)) (g (pos + q)) (g (pos + n + q)))
+    → ArePartsOf (n + n) n shift (λ q. f (pos + q)) (λ q. g (pos + q))
+half_rows skew n shift pos f g b pair =
+    one_layer skew n shift (λ q. f (pos + q)) (λ q. g (pos + q)) b
     (record {
-      first = λ q hq.
-          let z : q ≡ 0 = omega arith in
-          ap (λ p. g (pos + p)) z ∙ first ∙ ap₂ (λ a b. bit_xor a b) (ap (λ p. f (pos + p)) (sym z))
-          (ap₂ (λ m v. scaled (get_or skew m 0) (f v)) (let back : shift ≡ shift + 1 - 1 = omega arith in back) (let on : pos + 1 + 0 ≡ pos + (1 + q) = omega arith in on));
-      second = λ q hq.
-          let z : q ≡ 0 = omega arith in
-          let on : pos + (1 + q) ≡ pos + 1 + 0 = omega arith in
-          ap g on ∙ second ∙ ap₂ (λ a b. bit_xor a b) (ap f (sym on)) (ap (λ p. g (pos + p)) (sym z));
+      first = λ q hq. (pair q hq).0 ∙ ap (λ p. bit_xor (f (pos + q)) (scaled (factor skew n shift) (f p))) (on q);
+      second = λ q hq. ap g (sym (on q)) ∙ (pair q hq).1 ∙ ap (λ p. bit_xor (f p) (g (pos + q))) (on q);
     })
+  where
+    on : (q : ℕ) → pos + n + q ≡ pos + (n + q)
+    on q = omega arith
 
 -- forward butterflies of four words in four rows
 abbrev pub FourRows : ℕ → ℕ → ℕ → (ℕ → ℕ) → (ℕ → ℕ) → ℕ → ℕ → ℕ → ℕ → Type 0

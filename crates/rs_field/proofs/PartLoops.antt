@@ -4,7 +4,7 @@ use Rattle.std.proofs.Math.Nat.{mul-le-mul_right}
 use Rattle.std.proofs.lemmas.Bool.{cases_eq, cases_lt}
 use Rattle.std.proofs.lemmas.Nat.{div-add-mod'}
 use Rattle.rs_field.specs.Transform.{forward}
-use Rattle.rs_field.specs.Layers.{ArePartsOf, rows_of_part, layer_steps}
+use Rattle.rs_field.specs.Layers.{ArePartsOf, is_halved, rows_of_part, layer_steps}
 use Rattle.rs_field.specs.View.{cell, word, SameShape, SameRowsOutside}
 use Rattle.rs_field.specs.MarkedRows.{is_used}
 use Rattle.rs_field.specs.Directions.{AreTransformed, UnusedAreZeroBackward, PartCounts}
@@ -17,7 +17,7 @@ use Rattle.rs_field.specs.declared.engine.steps.Steps.{Steps}
 use Rattle.rs_field.proofs.Combination.{forward-one, forward-same}
 use Rattle.rs_field.proofs.Counting.{counts_rows, counts_then, counts_within}
 use Rattle.rs_field.proofs.Halves.{quarter_power}
-use Rattle.rs_field.proofs.Parts.{IsPart, part_found, part_of_more, part_of_two, part_within}
+use Rattle.rs_field.proofs.Parts.{IsPart, part_found, part_within}
 use Rattle.rs_field.proofs.Recursion.{one_row, word_same, zero_rows}
 use Rattle.rs_field.proofs.RowOffsets.{outside_both, outside_cell, shape_then}
 
@@ -158,10 +158,15 @@ one_used Direction.Backward used size shift f few words = λ i hi. one_row size 
 -- ---- blocks whose parts are single rows
 
 one_row_of_part : (size : ℕ) → 1 < size → size ≤ 4 → (d : ℕ) × (size ≡ 2 ^ d) → rows_of_part size ≡ 1
+unfolding rows_of_part is_halved
 one_row_of_part size large few power =
     elim (cases_eq size 2) [
-      | inl two ↦ part_of_two size two
-      | inr more ↦ let q = quarter_power size (omega arith) power in let whole = q.3 in part_of_more size more ∙ (let r : size / 4 ≡ 1 = omega (arith, whole) in r)
+      | inl two ↦ ap rows_of_part two ∙ (let r : rows_of_part 2 ≡ 1 = refl in r)
+      | inr more ↦
+          let q = quarter_power size (omega arith) power in
+          let whole = q.3 in
+          let four : size ≡ 4 = omega (arith, whole) in
+          ap rows_of_part four ∙ (let r : rows_of_part 4 ≡ 1 = refl in r)
     ]
 
 -- the layers then make the whole transform

@@ -1,30 +1,35 @@
 -- The parts of a block that its first layers leave: their rows, their place among the points, and the row steps.
-use Rattle.std.proofs.Common.{◌≡◌, ℕ, ◌+◌, ◌*◌, ◌/◌, ◌%◌, ◌^◌, ◌<◌, ◌≤◌, ◌≢◌, Bool, cond, eqb, refl, sym, ap, ◌∙◌, subst, inl, inr, arith, ne_eqb}
+use Rattle.std.proofs.Common.{◌≡◌, ℕ, ◌+◌, ◌*◌, ◌/◌, ◌%◌, ◌^◌, ◌<◌, ◌≤◌, ◌≢◌, Bool, true, false, cond, refl, sym, ap, ◌∙◌, subst, inl, inr, arith}
 use Rattle.std.proofs.Math.Nat.{mul-le-mul_right, add-mul-mod_self_right, mul-div_cancel, mul-mod_left}
-use Rattle.std.proofs.lemmas.Bool.{cases_eq, cases_lt}
+use Rattle.std.proofs.lemmas.Bool.{cases_Bool, cases_lt, true≢false}
 use Rattle.std.proofs.lemmas.Nat.{pow_pos, div-add-mod'}
-use Rattle.rs_field.specs.Layers.{rows_of_part, layer_steps}
+use Rattle.rs_field.specs.Layers.{is_halved, rows_of_part, layer_steps}
 use Rattle.rs_field.specs.Bounds.{transform_steps}
-use Rattle.rs_field.proofs.Halves.{quarter_power, no_steps, steps_half, steps_quarters}
+use Rattle.rs_field.proofs.Halves.{few_halves, half_power, quarter_power, steps_half, steps_quarters, two_halves}
 use Rattle.rs_field.proofs.NextPower.{own_is_power}
 use Rattle.rs_field.specs.declared.engine.block.Block.{Block}
 use Rattle.std.proofs.lemmas.Grind.{common_steps}
 
-pub part_of_two : (size : ℕ) → size ≡ 2 → rows_of_part size ≡ 1
+pub part_of_halved : (size : ℕ) → is_halved size ≡ true → rows_of_part size ≡ size / 2
 unfolding rows_of_part
-part_of_two size e = ap (λ n. cond (eqb n 2) 1 (n / 4)) e
+part_of_halved size is = ap (λ (b : Bool). cond b (size / 2) (size / 4)) is
 
-pub part_of_more : (size : ℕ) → size ≢ 2 → rows_of_part size ≡ size / 4
+pub part_of_more : (size : ℕ) → is_halved size ≡ false → rows_of_part size ≡ size / 4
 unfolding rows_of_part
-part_of_more size ne = ap (λ (b : Bool). cond b 1 (size / 4)) (ne_eqb size 2 ne)
+part_of_more size is = ap (λ (b : Bool). cond b (size / 2) (size / 4)) is
 
-pub steps_of_two : (size : ℕ) → size ≡ 2 → layer_steps size ≡ 1
+pub steps_of_halved : (size : ℕ) → is_halved size ≡ true → layer_steps size ≡ size / 2
 unfolding layer_steps
-steps_of_two size e = ap (λ n. cond (eqb n 2) 1 n) e
+steps_of_halved size is = ap (λ (b : Bool). cond b (size / 2) size) is
 
-pub steps_of_more : (size : ℕ) → size ≢ 2 → layer_steps size ≡ size
+pub steps_of_more : (size : ℕ) → is_halved size ≡ false → layer_steps size ≡ size
 unfolding layer_steps
-steps_of_more size ne = ap (λ (b : Bool). cond b 1 size) (ne_eqb size 2 ne)
+steps_of_more size is = ap (λ (b : Bool). cond b (size / 2) size) is
+
+-- two rows are halved
+not_two : (size : ℕ) → is_halved size ≡ false → size ≢ 2
+unfolding is_halved
+not_two size is e = true≢false (sym (let two : is_halved 2 ≡ true = refl in two) ∙ sym (ap is_halved e) ∙ is)
 
 -- the part n of a block of size rows
 pub record IsPart (size n : ℕ) : Type 0 where
@@ -39,38 +44,45 @@ pub record IsPart (size n : ℕ) : Type 0 where
 pub block_power : (block : Block) → (d : ℕ) × (block.size ≡ 2 ^ d)
 block_power block = own_is_power block.size block.power (let points = block.points in omega arith)
 
--- and four times those of a quarter, where there are more than two
-pub block_quarters : (block : Block) → 1 < block.size → block.size ≢ 2 → block.size ≡ 4 * (block.size / 4)
-block_quarters block large more = (quarter_power block.size (omega (arith, large, more)) (block_power block)).3
+-- twice those of a half
+pub block_halves : (block : Block) → 1 < block.size → block.size ≡ block.size / 2 + block.size / 2
+block_halves block large = two_halves block.size large (block_power block)
+
+-- and four times those of a quarter, where they aren't halved
+pub block_quarters : (block : Block) → 1 < block.size → is_halved block.size ≡ false → block.size ≡ 4 * (block.size / 4)
+block_quarters block large more =
+    let ne = not_two block.size more in
+    (quarter_power block.size (omega (arith, large, ne)) (block_power block)).3
 
 -- the part of a block of more than one row, however its rows were found
 pub part_found : (block : Block) (n : ℕ) → n ≡ rows_of_part block.size → 1 < block.size → IsPart block.size n
 part_found block n is large =
     let size = block.size in
     let points = block.points in
-    elim (cases_eq size 2) [
-      | inl e ↦ subst (IsPart size) (sym (is ∙ part_of_two size e)) (record {
-        power = (0, refl);
-        positive = omega arith;
-        smaller = large;
-        count = 2;
-        whole = omega arith;
-        steps =
-            let none = no_steps 1 (omega arith) in
-            let one = steps_half 2 0 1 (omega arith) refl refl in
-            let same : transform_steps size ≡ transform_steps 2 = ap transform_steps e in
-            omega (arith, steps_of_two size e, none, one, same);
-      })
-      | inr ne ↦
-          let q = quarter_power size (omega arith) (block_power block) in
+    elim (cases_Bool (is_halved size)) [
+      | inl halved ↦
+          let p = half_power size large (block_power block) in
+          let pos = pow_pos p.0 in
+          let whole = block_halves block large in
+          subst (IsPart size) (sym (is ∙ part_of_halved size halved)) (record {
+            power = (p.0, p.2);
+            positive = omega (arith, p.2, pos);
+            smaller = omega (arith, p.2, pos, whole);
+            count = 2;
+            whole = omega (arith, whole);
+            steps = omega (arith, steps_of_halved size halved, steps_half size p.0 (size / 2) (few_halves size p.0 0 p.1 (omega arith)) p.1 p.2);
+          })
+      | inr more ↦
+          let ne = not_two size more in
+          let q = quarter_power size (omega (arith, ne)) (block_power block) in
           let pos = pow_pos q.0 in
-          subst (IsPart size) (sym (is ∙ part_of_more size ne)) (record {
+          subst (IsPart size) (sym (is ∙ part_of_more size more)) (record {
             power = (q.0, q.2);
             positive = omega (arith, q.2, pos);
             smaller = omega (arith, q.2, pos, q.3);
             count = 4;
             whole = q.3;
-            steps = omega (arith, steps_of_more size ne, steps_quarters size q.0 (size / 4) (omega arith) q.1 q.2, q.3);
+            steps = omega (arith, steps_of_more size more, steps_quarters size q.0 (size / 4) (omega arith) q.1 q.2, q.3);
           })
     ]
 

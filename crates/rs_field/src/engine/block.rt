@@ -16,7 +16,7 @@ pub struct Block {
 
 impl Block {
     ghost use Rattle.std.specs.Prelude.{ℕ, ◌*◌, ◌^◌, ◌<◌};
-    ghost use Rattle.rs_field.specs.Layers.{rows_of_part};
+    ghost use Rattle.rs_field.specs.Layers.{is_halved as takes_one_layer, rows_of_part};
 
     /// The block of these numbers.
     pub fn new(pos: usize, size: usize, skew_delta: usize) -> Block
@@ -34,11 +34,24 @@ impl Block {
         }
     }
 
+    /// Whether the layers of this block are one, between its halves, and not two, between its quarters. Of 8 and of 32
+    /// rows they are, so that what is left ends in four rows, which take two layers at once, and not in two.
+    #[tactic(auto, unfolding(crate::specs::Layers::is_halved))]
+    pub fn is_halved(self) -> bool
+        ensures { result ≡ takes_one_layer self.size }
+    {
+        matches!(self.size, 2 | 8 | 32)
+    }
+
     /// The rows of a part that the layers of this block leave.
     pub fn part_rows(self) -> usize
         ensures { result ≡ rows_of_part self.size }
     {
-        if self.size == 2 { 1 } else { self.size / 4 }
+        if self.is_halved() {
+            self.size / 2
+        } else {
+            self.size / 4
+        }
     }
 
     /// The j-th part, of `rows` rows.

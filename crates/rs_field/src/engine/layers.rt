@@ -1,4 +1,4 @@
-//! The layers of butterflies that a transform does at once: one layer of two rows, and two layers of more.
+//! The layers of butterflies that a transform does at once: one, between the halves of its rows, or two, between their quarters.
 //!
 //! The forward layers go before the transforms of the parts that they leave, and the backward ones after them.
 ghost use Rattle.std.specs.Prelude.{ℕ, ◌+◌, ◌<◌, ◌≤◌};
@@ -92,14 +92,15 @@ pub(crate) fn layers<K: Kernel>(
     ensures counts { CountsRows (layer_steps block.size) steps.old steps.new }
 {
     let skew = kernel.tables().skew;
-    if block.size == 2 {
-        let log_m = skew[block.skew_delta];
+    if block.is_halved() {
+        let half = block.size / 2;
+        let log_m = skew[block.skew_delta + half - 1];
         let layer = Butterfly {
             kernel,
             direction,
             log_m,
         };
-        step_pairs(&layer, steps, rows, block.pos, block.pos + 1, 1);
+        step_pairs(&layer, steps, rows, block.pos, block.pos + half, half);
     } else {
         let quarter = block.size / 4;
         let middle = block.skew_delta + 2 * quarter;

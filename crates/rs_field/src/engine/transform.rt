@@ -1,8 +1,8 @@
 //! The transforms that engines share: one passage over blocks, cosets and unused rows, around layers of butterflies.
 //!
-//! The method is that of Lin, Chung and Han in the form of Leopard-RS. A transform of `size` rows is two layers of
-//! butterflies between its quarters and a transform of each quarter, or of two rows one layer, so the recursion goes
-//! depth first and a block that fits the cache stays in it.
+//! The method is that of Lin, Chung and Han in the form of Leopard-RS. A transform is two layers of butterflies between the
+//! quarters of its rows and a transform of each quarter, or, of 2, 8 and 32 rows, one layer between the halves and a
+//! transform of each half. So the recursion goes depth first, and a block that fits the cache stays in it.
 ghost use Rattle.std.specs.Prelude.{◌≡◌, ℕ, ◌+◌, ◌%◌, ◌^◌, ◌<◌, ◌≤◌, Bool, length, slice_index};
 ghost use Rattle.rs_field.specs.Directions.{AreTransformed, ArePartsTransformed, UnusedAreZeroBackward, PartCounts};
 ghost use Rattle.rs_field.specs.Rows.{chunk, symbol};
@@ -106,7 +106,8 @@ pub(crate) fn transform<K: Kernel>(
     }
 }
 
-// The transforms of the parts that the layers of a block leave.
+// The transforms of the parts that the layers of a block leave. Inlined: short rows take little longer than a call.
+#[inline(always)]
 #[cycle(transform)]
 fn transform_parts<K: Kernel>(
     direction: Direction,
