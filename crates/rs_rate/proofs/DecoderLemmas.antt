@@ -1,5 +1,5 @@
 -- The shards that a decoder's rows stand for.
-use Rattle.std.proofs.Common.{◌≡◌, ◌≢◌, ℕ, zero, suc, ◌+◌, ◌<◌, ◌≤◌, List, Bool, true, false, cond, refl, sym, ap, ap₂, ◌∙◌, arith, inl, inr}
+use Rattle.std.proofs.Common.{◌≡◌, ◌≢◌, ℕ, zero, suc, ◌+◌, ◌<◌, ◌≤◌, List, Bool, true, false, cond, refl, sym, ap, ap₂, ◌∙◌, arith, inl, inr, length, vec_len, ◌^◌}
 use Rattle.std.specs.Prelude.{Some, None, is_some, nat_eq}
 use Rattle.std.proofs.lemmas.Bool.{cases_lt, cases_eq, lt-ltb, le-ltb, eq-eqb, ne_eqb}
 use mathlib.Core.Path.{fun_ext}
@@ -10,6 +10,8 @@ use Rattle.rs_field.specs.Given.{Shards, nothing, entered, count_below}
 use Rattle.rs_field.specs.Rows.{Chunks}
 use Rattle.rs_field.specs.MarkedRows.{is_marked}
 use Rattle.rs_field.proofs.Given.{count_below-suc, count_below-zero}
+use Rattle.rs_field.proofs.NextPower.{own_is_power}
+use Rattle.rs_rate.specs.Shapes.{DecoderCanBeLaid}
 use Rattle.rs_rate.specs.declared.rate.decoder_work.DecoderShape.{DecoderShape}
 use Rattle.rs_rate.specs.DecoderView.{configuration_of}
 use Rattle.rs_rate.specs.declared.rate.marks.Marks.{Marks}
@@ -19,11 +21,22 @@ use Rattle.rs_rate.specs.Marks.{if_given, if_restored, given_marks, restored_mar
 use Rattle.rs_rate.specs.ShardRows.{shard_laid_out, shard_in_order}
 
 -- where marks tell of given shards they are all of them, where they tell of restored ones no row holds a given one
-pub told_given : (marks : Marks) → marks.shards ≡ Given → given_marks marks ≡ marks.rows.items
+told_given : (marks : Marks) → marks.shards ≡ Given → given_marks marks ≡ marks.rows.items
 told_given marks told = ap (λ t. if_given t marks.rows.items) told
 
-pub told_restored : (marks : Marks) → marks.shards ≡ Restored → restored_marks marks ≡ marks.rows.items
+told_restored : (marks : Marks) → marks.shards ≡ Restored → restored_marks marks ≡ marks.rows.items
 told_restored marks told = ap (λ t. if_restored t marks.rows.items) told
+
+-- and as many as rows are marked
+pub given_length : (marks : Marks) (given : List Bool) → given ≡ given_marks marks → marks.shards ≡ Given → length given ≡ vec_len marks.rows
+given_length marks given is told = let all = ap (λ (xs : List Bool). length xs) (is ∙ told_given marks told) in omega (arith, all)
+
+pub restored_length : (marks : Marks) (restored : List Bool) → restored ≡ restored_marks marks → marks.shards ≡ Restored → length restored ≡ vec_len marks.rows
+restored_length marks restored is told = let all = ap (λ (xs : List Bool). length xs) (is ∙ told_restored marks told) in omega (arith, all)
+
+-- the rows of a shape that can be laid are a power of two
+pub rows_power : (s : DecoderShape) → DecoderCanBeLaid s → (d : ℕ) × (s.frame.row_count ≡ 2 ^ d)
+rows_power s laid = own_is_power s.frame.row_count laid.power laid.few
 
 pub none_told : (marks : Marks) → marks.shards ≡ Restored → (p : ℕ) → is_marked (given_marks marks) p ≡ false
 none_told marks told p = ap (λ t. is_marked (if_given t marks.rows.items) p) told

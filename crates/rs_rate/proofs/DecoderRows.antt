@@ -1,29 +1,19 @@
 -- The rows of a decoder, and what `decode` answers and leaves.
-use Rattle.std.proofs.Common.{◌≡◌, ℕ, ◌+◌, ◌^◌, true, refl, sym, ap, ◌∙◌, subst}
+use Rattle.std.proofs.Common.{◌≡◌, ℕ, ◌+◌, refl, sym, ap, subst}
 use Rattle.std.specs.Prelude.{Result, Ok, Err, is_ok, cond, MatchResult}
 use Rattle.std.specs.Result.{result_map_both}
 use Rattle.rs_field.specs.declared.error.Error.{Error}
 use Rattle.rs_field.specs.Given.{Shards}
 use Rattle.rs_field.specs.Decoder.{DecoderState, fresh_decoder, enough_given, Restored, NoneAgrees, DecodeAnswers, after_decode}
-use Rattle.rs_field.specs.Counts.{Rate, next_power, supports, is_low, low_rate}
+use Rattle.rs_field.specs.Counts.{Rate, next_power, is_low, low_rate}
 use Rattle.rs_field.specs.Placement.{placement, low_placement, decoder_rows}
-use Rattle.rs_field.proofs.SupportedCounts.{low_fits}
-use Rattle.rs_rate.specs.declared.rate.decoder_work.Frame.{Frame}
 use Rattle.rs_rate.specs.DecoderView.{frame_of}
-use Rattle.rs_field.proofs.NextPower.{next_power-small}
 
 -- the frame of a decoder of the low rate, written out
 pub low_frame-is : (k r : ℕ) → frame_of low_rate k r
     ≡ record { row_count = next_power (next_power k + r); originals_from = 0; recovery_from = next_power k; zeros_from = k; zeros_to = next_power k }
 unfolding frame_of placement low_placement is_low decoder_rows
 low_frame-is k r = refl
-
--- its rows are a power of two of points
-pub low_frame-power : (k r : ℕ) (frame : Frame) → frame ≡ frame_of low_rate k r → supports low_rate k r ≡ true → (d : ℕ) × (frame.row_count ≡ 2 ^ d)
-low_frame-power k r frame same is =
-    let fits = low_fits k r is in
-    let known = next_power-small (next_power k + r) fits.2 in
-    (known.0, ap (λ f. f.row_count) (same ∙ low_frame-is k r) ∙ known.2)
 
 -- a frame has the rows of a decoder
 pub frame-rows : (rate : Rate) (k r : ℕ) → (frame_of rate k r).row_count ≡ decoder_rows rate k r

@@ -1,20 +1,18 @@
 -- What a rate is at counts that it supports: the low or the high rate, with its rows, frame and recovery shards.
-use Rattle.std.proofs.Common.{◌≡◌, ℕ, ◌+◌, ◌^◌, ◌<◌, ◌≤◌, Bool, true, false, List, refl, sym, ap, ◌∙◌, subst, arith}
+use Rattle.std.proofs.Common.{◌≡◌, ℕ, ◌+◌, ◌<◌, ◌≤◌, Bool, true, false, List, refl, sym, ap, ◌∙◌, subst, arith}
 use Rattle.std.specs.Prelude.{slice_index, if◌then◌else◌}
 use Rattle.rs_field.specs.Counts.{Rate, next_power, supports, is_low, low_rate, high_rate, default_rate}
 use Rattle.rs_field.specs.Placement.{Placement, placement, low_placement, high_placement, rounded_up, encoder_rows, block_rows, decoder_rows}
 use Rattle.rs_field.specs.Polynomial.{value}
 use Rattle.rs_field.specs.Code.{Codes, AreRecoveryWords}
-use Rattle.rs_field.proofs.SupportedCounts.{default_fits, high_fits, high_powers, low_powers}
+use Rattle.rs_field.proofs.SupportedCounts.{default_fits, high_powers, low_powers}
 use Rattle.rs_rate.specs.declared.rate.decoder_work.Frame.{Frame}
 use Rattle.rs_rate.specs.declared.rate.encoder_work.EncoderShape.{EncoderShape}
 use Rattle.rs_rate.specs.EncoderView.{encoder_shape, shape_chunks}
 use Rattle.rs_rate.specs.ShardRows.{chunk_count}
 use Rattle.rs_rate.specs.DecoderView.{frame_of}
-use Rattle.rs_field.proofs.NextPower.{next_power-small}
 use Rattle.rs_rate.proofs.PowerLemmas.{low_supported}
 use Rattle.rs_rate.proofs.HighCounts.{high_turned}
-use Rattle.rs_rate.proofs.DecoderRows.{low_frame-power}
 
 -- the frame of a decoder of the high rate, written out
 pub high_frame-is : (k r : ℕ) → frame_of high_rate k r
@@ -137,15 +135,3 @@ pub recovery_alike : (one other : Rate) (k r : ℕ) (words recovery : List ℕ) 
     → AreRecoveryWords one k r words recovery → AreRecoveryWords other k r words recovery
 recovery_alike one other k r words recovery alike (polynomial, codes, values) =
     (polynomial, codes_alike one other k r words polynomial alike codes, λ i inside. values i inside ∙ ap (λ p. value polynomial (p.recovery_from + i)) (placement_alike one other k r alike))
-
--- the rows of a decoder of any rate are a power of two of points
-pub frame-power : (rate : Rate) (k r : ℕ) (frame : Frame) → frame ≡ frame_of rate k r → supports rate k r ≡ true → (d : ℕ) × (frame.row_count ≡ 2 ^ d)
-frame-power rate k r frame same is = by_choice (is_low rate k r) refl
-  where
-    by_choice : (b : Bool) → is_low rate k r ≡ b → (d : ℕ) × (frame.row_count ≡ 2 ^ d)
-    by_choice true low =
-        low_frame-power k r frame (same ∙ frame_alike rate low_rate k r (low ∙ sym (low_is k r))) (chosen_low rate k r is low)
-    by_choice false high =
-        let fits = high_fits k r (chosen_high rate k r is high) in
-        let known = next_power-small (next_power r + k) fits.2 in
-        (known.0, ap (λ f. f.row_count) (same ∙ frame_alike rate high_rate k r (high ∙ sym (high_is k r)) ∙ high_frame-is k r) ∙ known.2)

@@ -111,10 +111,10 @@ count-most (suc n) given = let more = count_below-suc n given in omega (arith, c
 pub restored-few : (rows : DecoderRows) → length (restored_from rows 0) < 2 ^ 64
 restored-few rows =
     let listed_all = ap length (restored_from-all rows) ∙ length-listed rows.shape.original_count (restored_of rows) in
-    omega (arith, listed_all, count-most rows.shape.original_count (restored_of rows), rows.few, rows.original_rows)
+    omega (arith, listed_all, count-most rows.shape.original_count (restored_of rows), rows.laid.few, rows.laid.original_rows)
 
 -- nor recovery shards made
 pub recovery-few : (rows : EncoderRows) → length (lent_of rows) < 2 ^ 64
 recovery-few rows =
     let made = length-up_to rows.shape.recovery_count (shard_in_order rows.chunks.items rows.shape.shard_bytes) in
-    omega (arith, made, rows.recovery, count-few rows.shape.row_count rows.shape.shard_bytes rows.positive rows.sized)
+    omega (arith, made, rows.laid.recovery, count-few rows.shape.row_count rows.shape.shard_bytes rows.laid.positive rows.sized)

@@ -25,8 +25,8 @@ other Recovery = Original
 
 -- a side's rows are among the rows
 pub side-within : (w : DecoderRows) (side : Side) → side_from side w.shape + side_count side w.shape ≤ w.shape.frame.row_count
-side-within w Original = w.original_rows
-side-within w Recovery = w.recovery_rows
+side-within w Original = w.laid.original_rows
+side-within w Recovery = w.laid.recovery_rows
 
 -- an index of a side tells whether its row is marked
 given-at : (rate : Rate) (w : DecoderRows) (side : Side) (index row : ℕ) (given : Bool) → row ≡ side_from side w.shape + index → index < side_count side w.shape
@@ -86,8 +86,8 @@ own-apart from index i row at apart = omega (arith, at, apart)
 
 other-apart : (w : DecoderRows) (side : Side) (index i row : ℕ) → row ≡ side_from side w.shape + index → index < side_count side w.shape → i < side_count (other side) w.shape
     → side_from (other side) w.shape + i ≢ row
-other-apart w Original index i row at inside within same = w.apart index i inside within (sym (same ∙ at))
-other-apart w Recovery index i row at inside within same = w.apart i index within inside (same ∙ at)
+other-apart w Original index i row at inside within same = w.laid.apart index i inside within (sym (same ∙ at))
+other-apart w Recovery index i row at inside within same = w.laid.apart i index within inside (same ∙ at)
 
 -- the side has one shard more
 own-entered : (w : DecoderRows) (side : Side) (index row : ℕ) (shard : Shard) (marks : List Bool) (chunks : Chunks) → RowEntered w side index row shard marks chunks

@@ -1,5 +1,5 @@
 -- What a decoder's rows and working space stand for.
-use Rattle.std.specs.Prelude.{◌≡◌, ◌≢◌, ◌+◌, ◌-◌, ◌%◌, ◌<◌, ◌≤◌, ℕ, List, Option, Some, None}
+use Rattle.std.specs.Prelude.{◌-◌, ◌≤◌, ℕ, List, Option, Some, None}
 use Rattle.std.specs.Vec.{vec_capacity}
 use Rattle.rs_field.specs.Column.{Shard}
 use Rattle.rs_field.specs.Counts.{Rate}
@@ -47,15 +47,6 @@ frame_of rate k r =
 -- what a decoder of this rate is set up for at these counts and this size
 abbrev pub decoder_shape : Rate → ℕ → ℕ → ℕ → DecoderShape
 decoder_shape rate k r size = record { original_count = k; recovery_count = r; shard_bytes = size; frame = frame_of rate k r }
-
--- what rows can be set up for: a positive even size, and at most 65536 rows with originals and recovery shards among them, no two in one row
-pub record CanBeLaid (shape : DecoderShape) : Type 0 where
-  pub positive : 0 < shape.shard_bytes
-  pub even : shape.shard_bytes % 2 ≡ 0
-  pub few : shape.frame.row_count ≤ 65536
-  pub original_rows : shape.frame.originals_from + shape.original_count ≤ shape.frame.row_count
-  pub recovery_rows : shape.frame.recovery_from + shape.recovery_count ≤ shape.frame.row_count
-  pub apart : (i j : ℕ) → i < shape.original_count → j < shape.recovery_count → shape.frame.originals_from + i ≢ shape.frame.recovery_from + j
 
 -- the room that a working space has: for chunks, for the marks of rows, and for the locator's entries at the rows
 pub record DecoderRoom : Type 0 where

@@ -15,6 +15,7 @@ use Rattle.rs_rate.specs.declared.rate.marks.Marks.{Marks}
 use Rattle.rs_rate.specs.declared.rate.marks.MarkedShards.TheVariants.{Given}
 use Rattle.rs_rate.specs.declared.rate.restoring.Round.{Round}
 use Rattle.rs_rate.specs.Marks.{given_marks, given_row_count, erased}
+use Rattle.rs_rate.specs.Shapes.{DecoderCanBeLaid, original_row}
 use Rattle.rs_rate.specs.ShardRows.{word_in, shard_in_order}
 
 -- the entries are words, and the locator's logarithms, modulo 65535, of the rows that a frame and marks tell to be erased
@@ -24,9 +25,7 @@ pub record IsLocatorOf (frame : Frame) (marks : List Bool) (locator : List ℕ) 
 
 -- what a round begins with: as many marks as rows, which tell of given shards where there is something to do; so many originals missing, and no more surplus shards than rows
 pub record CanBeRestored (round : Round) (marks : Marks) : Type 0 where
-  pub few : round.shape.frame.row_count ≤ 65536
-  pub even : round.shape.shard_bytes % 2 ≡ 0
-  pub originals : round.shape.frame.originals_from + round.shape.original_count ≤ round.shape.frame.row_count
+  pub laid : DecoderCanBeLaid round.shape
   pub marked : vec_len marks.rows ≡ round.shape.frame.row_count
   pub shards : 0 < round.missing + round.surplus → marks.shards ≡ Given
   pub counted : given_row_count (given_marks marks) round.shape.frame.originals_from round.shape.original_count + round.missing ≡ round.shape.original_count
@@ -61,5 +60,5 @@ pub record RestoresWords (shape : DecoderShape) (marks : List Bool) (locator : L
 pub record RestoresShards (shape : DecoderShape) (marks : List Bool) (locator : List ℕ) (surplus : ℕ) (old new : Chunks) (agrees : Bool) : Type 0 where
   pub words : ℕ → ℕ → ℕ → ℕ
   pub restored : RestoresWords shape marks locator surplus (word_in old (row_len shape.shard_bytes)) words agrees
-  pub shards : agrees ≡ true → (i j : ℕ) → i < shape.original_count → j < shape.shard_bytes / 2 → is_marked marks (shape.frame.originals_from + i) ≡ false
-      → column j (shard_in_order new shape.shard_bytes (shape.frame.originals_from + i)) ≡ words (j / 32) (j % 32) (shape.frame.originals_from + i)
+  pub shards : agrees ≡ true → (i j : ℕ) → i < shape.original_count → j < shape.shard_bytes / 2 → is_marked marks (original_row shape i) ≡ false
+      → column j (shard_in_order new shape.shard_bytes (original_row shape i)) ≡ words (j / 32) (j % 32) (original_row shape i)

@@ -1,5 +1,5 @@
 -- What an encoder's rows and working space stand for.
-use Rattle.std.specs.Prelude.{◌≡◌, ◌%◌, ◌<◌, ◌≤◌, ℕ, List}
+use Rattle.std.specs.Prelude.{ℕ, List}
 use Rattle.rs_field.specs.Column.{Shard}
 use Rattle.rs_field.specs.Counts.{Rate}
 use Rattle.rs_field.specs.Placement.{encoder_rows, block_rows}
@@ -20,13 +20,6 @@ configuration_of rate shape = configuration rate shape.original_count shape.reco
 unfoldable pub encoder_shape : Rate → ℕ → ℕ → ℕ → EncoderShape
 encoder_shape rate k r size =
     record { original_count = k; recovery_count = r; shard_bytes = size; row_count = encoder_rows rate k r; block_rows = block_rows rate k r }
-
--- what rows can be set up for: a positive even size, and rows enough for the originals and for the recovery shards
-pub record CanBeLaid (shape : EncoderShape) : Type 0 where
-  pub positive : 0 < shape.shard_bytes
-  pub even : shape.shard_bytes % 2 ≡ 0
-  pub originals : shape.original_count ≤ shape.row_count
-  pub recovery : shape.recovery_count ≤ shape.row_count
 
 -- the chunks of a shape's rows
 abbrev pub shape_chunks : EncoderShape → ℕ

@@ -2,8 +2,9 @@
 ghost use Rattle.std.specs.Prelude.{◌≡◌, ◌+◌, ◌%◌, ◌<◌, true, Ok};
 ghost use Rattle.rs_field.specs.Counts.{Rate as WhichRate, low_rate, high_rate, default_rate, supports as supports_counts, is_low as is_low_at};
 ghost use Rattle.rs_field.specs.Configuration.{configuration, validated};
-ghost use Rattle.rs_rate.specs.EncoderView.{CanBeLaid as EncoderCanBeLaid, configuration_of, encoder_shape as encoder_shape_of};
-ghost use Rattle.rs_rate.specs.DecoderView.{CanBeLaid as DecoderCanBeLaid, decoder_shape as decoder_shape_of};
+ghost use Rattle.rs_rate.specs.EncoderView.{configuration_of, encoder_shape as encoder_shape_of};
+ghost use Rattle.rs_rate.specs.DecoderView.{decoder_shape as decoder_shape_of};
+ghost use Rattle.rs_rate.specs.Shapes.{EncoderCanBeLaid, DecoderCanBeLaid};
 
 use crate::rate::Rate;
 use crate::rate::counts::{

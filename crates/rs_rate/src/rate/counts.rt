@@ -127,6 +127,7 @@ fn whole_blocks(count: usize, block_rows: usize) -> usize
 pub(crate) fn low_frame(original_count: usize, recovery_count: usize) -> Frame
     requires { supports low_rate original_count recovery_count ≡ true }
     ensures frame { result ≡ frame_of low_rate original_count recovery_count }
+    ensures power { next_power result.row_count ≡ result.row_count }
     ensures few { result.row_count ≤ 65536 }
     ensures originals { result.originals_from + original_count ≤ result.row_count }
     ensures recovery { result.recovery_from + recovery_count ≤ result.row_count }
@@ -147,6 +148,7 @@ pub(crate) fn low_frame(original_count: usize, recovery_count: usize) -> Frame
 pub(crate) fn high_frame(original_count: usize, recovery_count: usize) -> Frame
     requires { supports high_rate original_count recovery_count ≡ true }
     ensures frame { result ≡ frame_of high_rate original_count recovery_count }
+    ensures power { next_power result.row_count ≡ result.row_count }
     ensures few { result.row_count ≤ 65536 }
     ensures originals { result.originals_from + original_count ≤ result.row_count }
     ensures recovery { result.recovery_from + recovery_count ≤ result.row_count }

@@ -7,6 +7,7 @@ ghost use Rattle.rs_field.specs.Counts.{Rate};
 ghost use Rattle.rs_field.specs.Outcome.{answer_of, state_after};
 ghost use Rattle.rs_field.specs.Decoder.{fresh_decoder, with_original, with_recovery, enough_given};
 ghost use Rattle.rs_field.specs.MarkedRows.{is_marked};
+ghost use Rattle.rs_rate.specs.Shapes.{DecoderCanBeLaid, original_row};
 ghost use Rattle.rs_rate.specs.ShardRows.{chunk_count as chunk_count_of, shard_laid_out};
 ghost use Rattle.rs_rate.specs.Marks.{given_marks, given_row_count, ArePlaced};
 ghost use Rattle.rs_rate.specs.Sides.{with_given};
@@ -60,12 +61,7 @@ pub struct DecoderRows {
     pub(crate) originals_given: usize,
     pub(crate) recovery_given: usize,
     pub(crate) memory: DecoderMemory,
-    pub ghost positive: { 0 < shape.shard_bytes },
-    pub ghost even: { shape.shard_bytes % 2 ≡ 0 },
-    pub ghost few: { shape.frame.row_count ≤ 65536 },
-    pub ghost original_rows: { shape.frame.originals_from + shape.original_count ≤ shape.frame.row_count },
-    pub ghost recovery_rows: { shape.frame.recovery_from + shape.recovery_count ≤ shape.frame.row_count },
-    pub ghost apart: { (i j : ℕ) → i < shape.original_count → j < shape.recovery_count → shape.frame.originals_from + i ≢ shape.frame.recovery_from + j },
+    pub ghost laid: { DecoderCanBeLaid shape },
     pub ghost whole: { vec_len memory.chunks ≡ chunk_count_of shape.frame.row_count shape.shard_bytes },
     pub ghost own_chunks: { chunk_count_of shape.frame.row_count shape.shard_bytes ≤ vec_capacity memory.chunks },
     pub ghost sized: { chunk_count_of shape.frame.row_count shape.shard_bytes * 64 < 2 ^ 64 },
@@ -82,8 +78,8 @@ pub struct DecoderRows {
 impl DecoderShape {
     // The row of an original.
     pub(crate) fn original_row(self, index: usize) -> usize
-        requires { self.frame.originals_from + index < 2 ^ 64 }
-        ensures { result ≡ self.frame.originals_from + index }
+        requires { original_row self index < 2 ^ 64 }
+        ensures { result ≡ original_row self index }
     {
         self.frame.originals_from + index
     }
@@ -186,16 +182,17 @@ impl DecoderMemory {
 }
 
 impl DecoderRows {
-    ghost use Rattle.rs_rate.specs.DecoderView.{CanBeLaid, HasRoom, Grows, configuration_of, decoder_state, memory_room, work_room, restored_of, restored_from};
+    ghost use Rattle.rs_rate.specs.DecoderView.{HasRoom, Grows, configuration_of, decoder_state, memory_room, work_room, restored_of, restored_from};
     ghost use Rattle.rs_rate.specs.Decoding.{CanBeRestored};
 
-    // Rows with nothing given, in the memory of `work` where one is passed.
+    // Rows with nothing given, in the memory of `work` where one is passed. Inlined, so that clearing is a `memset`.
+    #[inline(always)]
     pub(crate) fn new(
         alloc: Global,
         shape: DecoderShape,
         work: Option<DecoderWork>,
     ) -> Result<DecoderRows, Error>
-        requires { CanBeLaid shape }
+        requires { DecoderCanBeLaid shape }
         ensures shape { IfOk result (λ x. x.shape ≡ shape) }
         ensures state { IfOk result (λ x. (rate : Rate) → decoder_state rate x ≡ fresh_decoder (configuration_of rate shape)) }
         ensures memory { IfErr result (λ e. e ≡ Error.OutOfMemory) }
@@ -217,8 +214,9 @@ impl DecoderRows {
     }
 
     // The rows of another shape, with nothing given: every growth first.
+    #[inline(always)]
     pub(crate) fn reset(&mut self, shape: DecoderShape) -> Result<(), Error>
-        requires { CanBeLaid shape }
+        requires { DecoderCanBeLaid shape }
         ensures ok { OnOk result ((rate : Rate) → decoder_state rate self.new ≡ fresh_decoder (configuration_of rate shape)) }
         ensures err { OnErr result ((rate : Rate) → decoder_state rate self.new ≡ decoder_state rate self.old) }
         ensures shape { OnOk result (self.new.shape ≡ shape) }

@@ -11,6 +11,7 @@ ghost use Rattle.rs_field.specs.MarkedRows.{is_marked};
 ghost use Rattle.rs_rate.specs.DecoderView.{configuration_of, decoder_shape, decoder_state, memory_room, restored_of, restored_from};
 ghost use Rattle.rs_rate.specs.Decoding.{restore_steps, CanBeRestored, IsLocatorOf, RestoresWords, RestoresShards};
 ghost use Rattle.rs_rate.specs.Marks.{erased, given_marks, restored_marks, WantsMissing};
+ghost use Rattle.rs_rate.specs.Shapes.{DecoderCanBeLaid, original_row};
 ghost use Rattle.rs_rate.specs.ShardRows.{chunk_count, word_in, shard_laid_out, shard_in_order};
 
 use crate::rate::decoder_work::{DecoderMemory, DecoderRows, DecoderShape, Frame};
@@ -28,7 +29,6 @@ pub(crate) fn decode_rows<E: Engine>(
     steps: &mut Steps,
     rows: &mut DecoderRows,
 ) -> Result<usize, Error>
-    requires power { (d : ℕ) × (rows.old.shape.frame.row_count ≡ 2 ^ d) }
     requires enough { rows.old.shape.original_count ≤ rows.old.originals_given + rows.old.recovery_given }
     ensures state { (rate : Rate) → decoder_state rate rows.new ≡ fresh_decoder (configuration_of rate rows.old.shape) }
     ensures answer { (rate : Rate) → validated (configuration_of rate rows.old.shape) ≡ Ok tt
@@ -68,7 +68,6 @@ fn restore<E: Engine>(
     memory: &mut DecoderMemory,
     round: Round,
 ) -> bool
-    requires power { (d : ℕ) × (round.shape.frame.row_count ≡ 2 ^ d) }
     requires whole { chunk_count round.shape.frame.row_count round.shape.shard_bytes ≤ length memory.old.chunks.items }
     requires entries { length memory.old.erasures.items ≡ round.shape.frame.row_count }
     requires facts { CanBeRestored round memory.old.marks }
@@ -89,7 +88,7 @@ fn restore<E: Engine>(
         return true;
     }
     let entries = memory.erasures.as_mut_slice();
-    make_locator(engine, steps, entries, memory.marks.given(), shape.frame);
+    make_locator(engine, steps, entries, memory.marks.given(), shape);
     let chunks = memory.chunks.as_mut_slice();
     let locator = memory.erasures.as_slice();
     restore_chunks(engine, steps, chunks, &mut memory.marks, locator, round)
@@ -101,16 +100,15 @@ fn make_locator<E: Engine>(
     steps: &mut Steps,
     entries: &mut [GfElement],
     given: &[bool],
-    frame: Frame,
+    shape: DecoderShape,
 )
-    requires power { (d : ℕ) × (frame.row_count ≡ 2 ^ d) }
-    requires few { frame.row_count ≤ 65536 }
-    requires entries { length entries.old ≡ frame.row_count }
-    requires marked { frame.row_count ≤ length given.now }
-    ensures locator { IsLocatorOf frame given.now entries.new }
+    requires laid { DecoderCanBeLaid shape }
+    requires entries { length entries.old ≡ shape.frame.row_count }
+    requires marked { shape.frame.row_count ≤ length given.now }
+    ensures locator { IsLocatorOf shape.frame given.now entries.new }
     ensures counts { LocatorCounts steps.old steps.new }
 {
-    mark_erasures(entries, given, frame);
+    mark_erasures(entries, given, shape.frame);
     engine.locate(steps, entries);
     entries_are_words(entries);
 }
@@ -149,7 +147,6 @@ fn restore_chunks<E: Engine>(
     locator: &[GfElement],
     round: Round,
 ) -> bool
-    requires power { (d : ℕ) × (round.shape.frame.row_count ≡ 2 ^ d) }
     requires whole { chunk_count round.shape.frame.row_count round.shape.shard_bytes ≤ length chunks.old }
     requires facts { CanBeRestored round marks.old }
     requires given { marks.old.shards ≡ MarkedShards.Given }
@@ -174,7 +171,6 @@ fn restore_words<E: Engine>(
     locator: &[GfElement],
     round: Round,
 ) -> bool
-    requires power { (d : ℕ) × (round.shape.frame.row_count ≡ 2 ^ d) }
     requires whole { round.shape.frame.row_count * chunks_for round.shape.shard_bytes ≤ length chunks.old }
     requires facts { CanBeRestored round marks.old }
     requires given { marks.old.shards ≡ MarkedShards.Given }
@@ -196,12 +192,10 @@ fn move_restored_tails(
     marks: &Marks,
     shape: DecoderShape,
 )
-    requires even { shape.shard_bytes % 2 ≡ 0 }
-    requires within { shape.frame.originals_from + shape.original_count ≤ shape.frame.row_count }
-    requires few { shape.frame.row_count ≤ 65536 }
+    requires laid { DecoderCanBeLaid shape }
     requires marked { vec_len marks.now.rows ≡ shape.frame.row_count }
     requires whole { chunk_count shape.frame.row_count shape.shard_bytes ≤ length chunks.old }
-    ensures moved { (i : ℕ) → i < shape.original_count → let p = shape.frame.originals_from + i in is_marked (restored_marks marks.now) p ≡ true
+    ensures moved { (i : ℕ) → i < shape.original_count → let p = original_row shape i in is_marked (restored_marks marks.now) p ≡ true
         → shard_in_order chunks.new shape.shard_bytes p ≡ shard_laid_out chunks.old shape.shard_bytes p }
     ensures counts { CountsUpTo shape.original_count 0 0 steps.old steps.new }
 {

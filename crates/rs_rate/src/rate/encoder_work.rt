@@ -5,6 +5,7 @@ ghost use Rattle.rs_field.specs.Column.{IsShard};
 ghost use Rattle.rs_field.specs.Counts.{Rate};
 ghost use Rattle.rs_field.specs.Outcome.{answer_of, state_after};
 ghost use Rattle.rs_field.specs.Encoder.{with_shard, message_of};
+ghost use Rattle.rs_rate.specs.Shapes.{EncoderCanBeLaid};
 ghost use Rattle.rs_rate.specs.ShardRows.{chunk_count as chunk_count_of, shard_laid_out, shard_in_order};
 
 use crate::rate::memory::{make_room, set_chunks, vec_of};
@@ -34,10 +35,7 @@ pub struct EncoderRows {
     pub(crate) shape: EncoderShape,
     pub(crate) originals_given: usize,
     pub(crate) chunks: Vec<[u8; 64]>,
-    pub ghost positive: { 0 < shape.shard_bytes },
-    pub ghost even: { shape.shard_bytes % 2 ≡ 0 },
-    pub ghost originals: { shape.original_count ≤ shape.row_count },
-    pub ghost recovery: { shape.recovery_count ≤ shape.row_count },
+    pub ghost laid: { EncoderCanBeLaid shape },
     pub ghost no_more: { originals_given ≤ shape.original_count },
     pub ghost whole: { vec_len chunks ≡ chunk_count_of shape.row_count shape.shard_bytes },
     pub ghost own_room: { chunk_count_of shape.row_count shape.shard_bytes ≤ vec_capacity chunks },
@@ -67,7 +65,7 @@ impl Default for EncoderWork {
 }
 
 impl EncoderRows {
-    ghost use Rattle.rs_rate.specs.EncoderView.{CanBeLaid, encoder_state, shape_chunks, work_room};
+    ghost use Rattle.rs_rate.specs.EncoderView.{encoder_state, shape_chunks, work_room};
 
     // Rows with nothing given, in the memory of `work` where one is passed.
     pub(crate) fn new(
@@ -75,7 +73,7 @@ impl EncoderRows {
         shape: EncoderShape,
         work: Option<EncoderWork>,
     ) -> Result<EncoderRows, Error>
-        requires { CanBeLaid shape }
+        requires { EncoderCanBeLaid shape }
         ensures made { IfOk result (λ x. (x.shape ≡ shape) × (x.originals_given ≡ 0)) }
         ensures memory { IfErr result (λ e. e ≡ Error.OutOfMemory) }
         ensures fits { IfOk result (λ _. shape_chunks shape * 64 < 2 ^ 64) }
@@ -98,7 +96,7 @@ impl EncoderRows {
 
     // The rows of another shape, with nothing given: growth first.
     pub(crate) fn reset(&mut self, shape: EncoderShape) -> Result<(), Error>
-        requires { CanBeLaid shape }
+        requires { EncoderCanBeLaid shape }
         ensures ok { OnOk result ((self.new.shape ≡ shape) × (self.new.originals_given ≡ 0)) }
         ensures err { OnErr result ((self.new.shape ≡ self.old.shape) × (self.new.originals_given ≡ self.old.originals_given) × (self.new.chunks.items ≡ self.old.chunks.items)) }
         ensures memory { IfErr result (λ e. e ≡ Error.OutOfMemory) }

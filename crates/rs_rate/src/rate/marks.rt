@@ -45,6 +45,7 @@ impl Marks {
     }
 
     // Has so many rows, none of them with a given shard, for which there is room.
+    #[inline(always)]
     pub(crate) fn set_empty(&mut self, rows: usize)
         requires { rows ≤ vec_capacity self.old.rows }
         ensures shards { self.new.shards ≡ MarkedShards.Given }

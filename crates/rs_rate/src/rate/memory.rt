@@ -29,6 +29,7 @@ pub(crate) fn make_room<T>(items: &mut Vec<T>, count: usize) -> Result<(), Error
 }
 
 // Holds so many items, for which there is room; those that are added are copies of `item`.
+#[inline(always)]
 pub(crate) fn set_length<T: Copy>(items: &mut Vec<T>, count: usize, item: T)
     requires { count ≤ vec_capacity items.old }
     ensures length { vec_len items.new ≡ count }

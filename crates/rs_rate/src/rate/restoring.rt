@@ -13,6 +13,7 @@ ghost use Rattle.rs_field.specs.View.{cell, word, Fits, SameShape};
 ghost use Rattle.rs_field.specs.MarkedRows.{is_marked};
 ghost use Rattle.rs_rate.specs.Decoding.{located, CanBeRestored, restore_steps, RestoresWords};
 ghost use Rattle.rs_rate.specs.Marks.{given_marks, restored_marks, WantsMissing};
+ghost use Rattle.rs_rate.specs.Shapes.{DecoderCanBeLaid, original_row};
 
 use crate::rate::decoder_work::DecoderShape;
 use crate::rate::marks::{MarkedShards, Marks};
@@ -41,7 +42,6 @@ pub(crate) fn restore_rows<E: Engine>(
     locator: &[GfElement],
     round: Round,
 ) -> bool
-    requires power { (d : ℕ) × (round.shape.frame.row_count ≡ 2 ^ d) }
     requires fits { Fits rows.old }
     requires count { rows.old.shard_count ≡ round.shape.frame.row_count }
     requires len { rows.old.shard_len_64 ≡ chunks_for round.shape.shard_bytes }
@@ -129,13 +129,13 @@ fn reveal_rows<E: Engine>(
     shape: DecoderShape,
 )
     requires fits { Fits rows.old }
-    requires within { shape.frame.originals_from + shape.original_count ≤ rows.old.shard_count }
-    requires few { rows.old.shard_count ≤ 65536 }
+    requires laid { DecoderCanBeLaid shape }
+    requires count { rows.old.shard_count ≡ shape.frame.row_count }
     requires marked { vec_len marks.now.rows ≡ rows.old.shard_count }
     requires located { length locator.now ≡ rows.old.shard_count }
     ensures shape { SameShape rows.old rows.new }
     ensures revealed { (k s i : ℕ) → k < rows.old.shard_len_64 → s < 32 → i < shape.original_count
-        → let p = shape.frame.originals_from + i in is_marked (restored_marks marks.now) p ≡ true
+        → let p = original_row shape i in is_marked (restored_marks marks.now) p ≡ true
         → word rows.new k s p ≡ product (word rows.old k s p) (power (65535 - slice_index locator.now p)) }
     ensures counts { CountsUpTo shape.original_count 0 0 steps.old steps.new }
 {

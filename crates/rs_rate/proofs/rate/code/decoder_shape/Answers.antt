@@ -31,10 +31,10 @@ pub returns-then-is_low-clause-laid : goal.returns-then-is_low-clause-laid
 returns-then-is_low-clause-laid g c =
     let size = valid-size (configuration g.C.Code.rate c.args.original_count c.args.recovery_count c.args.shard_bytes) c.requires in
     let frame = c.low_frame-frame.ensures in
-    record { positive = size.0; even = size.1; few = frame.few; original_rows = frame.originals; recovery_rows = frame.recovery; apart = frame.apart }
+    record { positive = size.0; even = size.1; power = frame.power; few = frame.few; original_rows = frame.originals; recovery_rows = frame.recovery; apart = frame.apart }
 
 pub returns-else-is_low-clause-laid : goal.returns-else-is_low-clause-laid
 returns-else-is_low-clause-laid g c =
     let size = valid-size (configuration g.C.Code.rate c.args.original_count c.args.recovery_count c.args.shard_bytes) c.requires in
     let frame = c.high_frame-frame.ensures in
-    record { positive = size.0; even = size.1; few = frame.few; original_rows = frame.originals; recovery_rows = frame.recovery; apart = frame.apart }
+    record { positive = size.0; even = size.1; power = frame.power; few = frame.few; original_rows = frame.originals; recovery_rows = frame.recovery; apart = frame.apart }

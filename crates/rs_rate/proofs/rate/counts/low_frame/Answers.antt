@@ -1,5 +1,6 @@
 use Rattle.std.proofs.Common.{◌+◌, sym, ap, ap₂, ◌∙◌, ℕ, arith}
 use Rattle.rs_field.specs.Counts.{next_power}
+use Rattle.rs_field.proofs.NextPower.{power_is_own}
 use Rattle.rs_field.proofs.SupportedCounts.{low_fits}
 use Rattle.rs_rate.specs.declared.rate.decoder_work.Frame.{Frame}
 use Rattle.rs_rate.proofs.PowerLemmas.{low_small}
@@ -25,3 +26,8 @@ returns-clause-frame c =
     ap₂ (λ (m n : ℕ). let frame : Frame = record { row_count = n; originals_from = 0; recovery_from = m; zeros_from = c.args.original_count; zeros_to = m } in frame)
     block (c.power_of_two-row_count.ensures.value ∙ ap (λ m. next_power (m + c.args.recovery_count)) block)
     ∙ sym (low_frame-is c.args.original_count c.args.recovery_count)
+
+pub returns-clause-power : goal.returns-clause-power
+returns-clause-power c =
+    let p = c.power_of_two-row_count.ensures.power in
+    power_is_own c.power_of_two-row_count.result p.0 p.2 c.power_of_two-row_count.ensures.upper_bound

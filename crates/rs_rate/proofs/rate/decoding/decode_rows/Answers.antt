@@ -16,9 +16,6 @@ use Rattle.rs_rate.proofs.ResultLemmas.{length-restored}
 use Rattle.rs_rate.proofs.rate.decoding.decode_rows.Goals as goal
 use Rattle.rs_rate.proofs.rate.decoding.decode_rows.Goals.{then-agrees, else-agrees}
 
-pub restore-agrees-requires-clause-power : goal.restore-agrees-requires-clause-power
-restore-agrees-requires-clause-power g c = (c.requires.power.0, ap (λ (s : DecoderShape). s.frame.row_count) c.round-round.ensures.shape ∙ c.requires.power.1)
-
 pub restore-agrees-requires-clause-whole : goal.restore-agrees-requires-clause-whole
 restore-agrees-requires-clause-whole g c =
     let count = ap (λ (s : DecoderShape). chunk_count s.frame.row_count s.shard_bytes) c.round-round.ensures.shape in
@@ -45,12 +42,7 @@ invariant_of-rows g c =
     let chunk_room = ap (λ r. r.chunks) room in
     let entry_room = ap (λ r. r.entries) room in
     record {
-      positive = old.positive;
-      even = old.even;
-      few = old.few;
-      original_rows = old.original_rows;
-      recovery_rows = old.recovery_rows;
-      apart = old.apart;
+      laid = old.laid;
       whole = omega (arith, old.whole, c.restore-agrees.ensures.length);
       own_chunks = omega (arith, old.own_chunks, chunk_room);
       sized = old.sized;
@@ -86,7 +78,7 @@ returns-clause-answer g c = λ rate valid shaped.
     let sized = λ (i : ℕ) (inside : i < s.original_count).
     subst (λ (xs : Chunks). IsShard s.shard_bytes (shard_in_order xs s.shard_bytes (from + i))) c.as_slice.ensures.value
     (subst (λ (x : DecoderShape). IsShard x.shard_bytes (shard_in_order c.as_slice.result.now x.shard_bytes (from + i))) round.shape
-    (c.in_order_are_bytes.ensures (from + i) (omega (arith, inside, old.original_rows, ap (λ (x : DecoderShape). x.frame.row_count) round.shape)))) in
+    (c.in_order_are_bytes.ensures (from + i) (omega (arith, inside, old.laid.original_rows, ap (λ (x : DecoderShape). x.frame.row_count) round.shape)))) in
     let told : ((c.restore-agrees.result ≡ true) × (c.if-agrees.answer ≡ Ok (s.original_count - old.originals_given)))
     ⊎ ((c.restore-agrees.result ≡ false) × (c.if-agrees.answer ≡ Err (InconsistentShards c.args.rows.now.originals_given c.args.rows.now.recovery_given))) =
     elim c.if-agrees.branch [
@@ -97,7 +89,7 @@ returns-clause-answer g c = λ rate valid shaped.
     elim (cases_eq (c.round-round.result.missing + c.round-round.result.surplus) 0) [
       | inl none ↦
           subst (λ b. AnswersOver rate s given marks before chunks b) (sym (c.restore-agrees.ensures.nothing (omega arith) (omega arith)))
-          (complete_answers rate s given marks before chunks valid shaped old.even old.shards
+          (complete_answers rate s given marks before chunks valid shaped old.laid.even old.shards
           (omega (arith, none, most, most_too, round.missing, round.surplus, old.originals_counted, old.recovery_counted))
           (omega (arith, none, most, most_too, round.missing, round.surplus, old.originals_counted, old.recovery_counted)) missing.missing)
       | inr some ↦
@@ -107,7 +99,7 @@ returns-clause-answer g c = λ rate valid shaped.
           (c.restore-agrees.ensures.restored (omega arith)) in
           decode_answers rate s given marks made.0 c.round-round.result.surplus before chunks c.restore-agrees.result valid shaped
           (record {
-            even = old.even;
+            even = old.laid.even;
             placed = old.placed;
             shards = old.shards;
             counted = omega (arith, round.surplus, old.originals_counted, old.recovery_counted);

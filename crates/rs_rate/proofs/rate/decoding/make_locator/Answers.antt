@@ -2,16 +2,19 @@ use Rattle.std.proofs.Common.{◌≡◌, ℕ, length, ◌∙◌, subst}
 use Rattle.std.specs.Prelude.{slice_index}
 use Rattle.rs_field.specs.Locator.{IsLocatorBelow}
 use Rattle.rs_rate.specs.Marks.{erased}
+use Rattle.rs_rate.proofs.DecoderLemmas.{rows_power}
 use Rattle.rs_rate.proofs.RestoredRows.{locator_same}
 use Rattle.rs_rate.proofs.rate.decoding.make_locator.Goals as goal
 
 pub locate-requires-clause-power : goal.locate-requires-clause-power
-locate-requires-clause-power g c = (c.requires.power.0, c.mark_erasures.auto.entries ∙ c.requires.entries ∙ c.requires.power.1)
+locate-requires-clause-power g c =
+    let p = rows_power c.args.shape c.requires.laid in
+    (p.0, c.mark_erasures.auto.entries ∙ c.requires.entries ∙ p.1)
 
 pub returns-clause-locator : goal.returns-clause-locator
 returns-clause-locator g c =
-    let frame = c.args.frame in
-    let size : length c.mark_erasures.new.entries ≡ c.args.frame.row_count = c.mark_erasures.auto.entries ∙ c.requires.entries in
+    let frame = c.args.shape.frame in
+    let size : length c.mark_erasures.new.entries ≡ c.args.shape.frame.row_count = c.mark_erasures.auto.entries ∙ c.requires.entries in
     record {
       are_words = c.entries_are_words.ensures;
       values = locator_same frame.row_count (erased frame.zeros_from frame.zeros_to c.args.given.now) (λ y. slice_index c.mark_erasures.new.entries y) (λ x. slice_index c.locate.new.entries x)

@@ -20,5 +20,5 @@ returns-then-agrees-clause-shards g c =
       restored = c.restore_words-agrees.ensures.words;
       shards = λ _ i j inside hj none.
           ap (column j) (c.move_restored_tails.ensures.moved i inside (missing.missing i inside ∙ ap not none))
-          ∙ column-put mid s.shard_bytes (s.frame.originals_from + i) j c.requires.facts.even hj;
+          ∙ column-put mid s.shard_bytes (s.frame.originals_from + i) j c.requires.facts.laid.even hj;
     }

@@ -1,4 +1,4 @@
-use Rattle.std.proofs.Common.{◌≡◌, ℕ, List, Bool, length, ◌+◌, ◌-◌, true, false, refl, sym, ap, ◌∙◌, subst, arith, true≢false}
+use Rattle.std.proofs.Common.{◌≡◌, ℕ, List, Bool, ◌+◌, ◌-◌, true, false, refl, sym, ap, ◌∙◌, subst, arith, true≢false}
 use Rattle.std.specs.Prelude.{not, slice_index}
 use Rattle.rs_field.specs.MarkedRows.{is_marked}
 use Rattle.rs_field.specs.Field.{product, power}
@@ -6,9 +6,25 @@ use Rattle.rs_field.specs.Derivative.{IsDerivativeAdded}
 use Rattle.rs_field.specs.View.{word}
 use Rattle.rs_rate.specs.Decoding.{located}
 use Rattle.rs_rate.specs.Marks.{given_marks}
-use Rattle.rs_rate.proofs.DecoderLemmas.{all_given, told_given, told_restored}
+use Rattle.rs_rate.proofs.DecoderLemmas.{all_given, given_length, restored_length, rows_power}
 use Rattle.rs_rate.proofs.RestoringRows.{from_row_zero, checked_rows}
 use Rattle.rs_rate.proofs.rate.restoring.restore_rows.Goals as goal
+
+pub ifft_given-requires-clause-power : goal.ifft_given-requires-clause-power
+ifft_given-requires-clause-power g c =
+    let p = rows_power c.args.round.shape c.requires.facts.laid in
+    (p.0, given_length c.args.marks.now c.given-given.result.now c.given-given.ensures c.requires.given ∙ c.requires.facts.marked ∙ p.1)
+
+pub formal_derivative-requires-clause-power : goal.formal_derivative-requires-clause-power
+formal_derivative-requires-clause-power g c =
+    let p = rows_power c.args.round.shape c.requires.facts.laid in
+    (p.0, c.ifft_given.ensures.shape.count ∙ c.locate_rows.ensures.shape.count ∙ c.requires.count ∙ p.1)
+
+pub fft_wanted-requires-clause-power : goal.fft_wanted-requires-clause-power
+fft_wanted-requires-clause-power g c =
+    let p = rows_power c.args.round.shape c.requires.facts.laid in
+    let missing = c.want_missing.ensures in
+    (p.0, restored_length c.want_missing.new.self c.restored.result.now c.restored.ensures missing.shards ∙ missing.length ∙ c.requires.facts.marked ∙ p.1)
 
 pub returns-then-not-are_zero-clause-words : goal.returns-then-not-are_zero-clause-words
 returns-then-not-are_zero-clause-words g c =
@@ -21,8 +37,7 @@ returns-then-not-are_zero-clause-words g c =
     let shape = c.ifft_given.ensures.shape in
     let rows = s.frame.row_count in
     let told : c.given-given.result.now ≡ given_marks c.args.marks.now = c.given-given.ensures in
-    let size : length c.given-given.result.now ≡ c.args.round.shape.frame.row_count =
-    let all = ap (λ (xs : List Bool). length xs) (told ∙ told_given c.args.marks.now c.requires.given) in omega (arith, all, c.requires.facts.marked) in
+    let size = given_length c.args.marks.now c.given-given.result.now told c.requires.given ∙ c.requires.facts.marked in
     record {
       coefficients = word passed;
       are_words = λ k t i hk ht hi. c.row_symbols_are_words.ensures k t i (omega (arith, hk, shape.len_64, located_shape.len_64, c.requires.len)) ht (omega (arith, hi, shape.count, located_shape.count, c.requires.count));
@@ -50,11 +65,9 @@ returns-then-round-gt0-clause-words g c =
     let valued_shape = c.fft_wanted.ensures.shape in
     let rows = s.frame.row_count in
     let told : c.given-given.result.now ≡ given_marks c.args.marks.now = c.given-given.ensures in
-    let size : length c.given-given.result.now ≡ c.args.round.shape.frame.row_count =
-    let all = ap (λ (xs : List Bool). length xs) (told ∙ told_given c.args.marks.now c.requires.given) in omega (arith, all, c.requires.facts.marked) in
+    let size = given_length c.args.marks.now c.given-given.result.now told c.requires.given ∙ c.requires.facts.marked in
     let missing = c.want_missing.ensures in
-    let wanted_size : length c.restored.result.now ≡ c.args.round.shape.frame.row_count =
-    let all = ap (λ (xs : List Bool). length xs) (c.restored.ensures ∙ told_restored c.want_missing.new.self missing.shards) in omega (arith, all, missing.length, c.requires.facts.marked) in
+    let wanted_size = restored_length c.want_missing.new.self c.restored.result.now c.restored.ensures missing.shards ∙ missing.length ∙ c.requires.facts.marked in
     record {
       coefficients = word passed;
       are_words = λ k t i hk ht hi. c.row_symbols_are_words.ensures k t i (omega (arith, hk, shape.len_64, located_shape.len_64, c.requires.len)) ht (omega (arith, hi, shape.count, located_shape.count, c.requires.count));
@@ -86,8 +99,7 @@ returns-else-round-gt0-clause-words g c =
     let shape = c.ifft_given.ensures.shape in
     let rows = s.frame.row_count in
     let told : c.given-given.result.now ≡ given_marks c.args.marks.now = c.given-given.ensures in
-    let size : length c.given-given.result.now ≡ c.args.round.shape.frame.row_count =
-    let all = ap (λ (xs : List Bool). length xs) (told ∙ told_given c.args.marks.now c.requires.given) in omega (arith, all, c.requires.facts.marked) in
+    let size = given_length c.args.marks.now c.given-given.result.now told c.requires.given ∙ c.requires.facts.marked in
     record {
       coefficients = word passed;
       are_words = λ k t i hk ht hi. c.row_symbols_are_words.ensures k t i (omega (arith, hk, shape.len_64, located_shape.len_64, c.requires.len)) ht (omega (arith, hi, shape.count, located_shape.count, c.requires.count));

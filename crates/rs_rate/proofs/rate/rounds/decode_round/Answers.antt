@@ -1,11 +1,9 @@
 use Rattle.std.proofs.Common.{ℕ, sym, ap, ◌∙◌, subst, arith}
 use Rattle.std.proofs.lemmas.Result.{err_from_is_err_and}
 use Rattle.rs_field.specs.Bounds.{CountsUpTo, decode_steps}
-use Rattle.rs_rate.specs.DecoderView.{configuration_of, decoder_state, restored_of}
+use Rattle.rs_rate.specs.DecoderView.{decoder_state, restored_of}
 use Rattle.rs_rate.proofs.DecoderLemmas.{count-given}
 use Rattle.rs_rate.proofs.DecoderSteps.{enough-least}
-use Rattle.rs_rate.proofs.StateLemmas.{valid-supported}
-use Rattle.rs_rate.proofs.RateLemmas.{frame-power}
 use Rattle.rs_rate.proofs.DecoderRows.{after_decode-refused, after_decode-made, decode_answers-refused, decode_answers-made, frame-rows}
 use Rattle.rs_rate.specs.Marks.{given_marks}
 use Rattle.rs_rate.proofs.rate.rounds.decode_round.Goals as goal
@@ -20,14 +18,8 @@ pub returns-in_err-check_enough_given-clause-state : goal.returns-in_err-check_e
 returns-in_err-check_enough_given-clause-state g c =
     after_decode-refused (decoder_state g.C.Code.rate c.args.decoder.now.rows) _ (c.in_err-check_enough_given.ensures g.C.Code.rate)
 
-pub decode_rows-requires-clause-power : goal.decode_rows-requires-clause-power
-decode_rows-requires-clause-power g c =
-    let rows = c.args.decoder.now.rows in
-    frame-power g.C.Code.rate rows.shape.original_count rows.shape.recovery_count rows.shape.frame (ap (λ s. s.frame) c.args.decoder.now.shaped)
-    (valid-supported (configuration_of g.C.Code.rate rows.shape) c.args.decoder.now.valid)
-
-pub decode_rows-requires-clause-enough : goal.decode_rows-requires-clause-enough
-decode_rows-requires-clause-enough g c =
+pub decode_rows-requires : goal.decode_rows-requires
+decode_rows-requires g c =
     let rows = c.args.decoder.now.rows in
     let s = rows.shape in
     let marks = (given_marks rows.memory.marks) in

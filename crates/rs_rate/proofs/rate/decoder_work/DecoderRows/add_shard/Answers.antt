@@ -48,7 +48,7 @@ overflow_add-self c =
     c.if-index-count.false (sym c.is_given.ensures ∙ c.if-is_given.false) c.if-shard-self.false c.enter.ensures.mark c.enter.ensures.here c.enter.ensures.other_marks c.enter.ensures.others in
     let counted = (add-counted w c.args.side c.args.index (c.first_row.result + c.args.index) c.args.shard.now (given_marks c.enter.new.self.marks) c.enter.new.self.chunks.items e).0 in
     let most = given_row_count-most (given_marks c.enter.new.self.marks) w.shape.frame.originals_from w.shape.original_count in
-    omega (arith, counted, most, c.originals.ensures, w.original_rows, w.few)
+    omega (arith, counted, most, c.originals.ensures, w.laid.original_rows, w.laid.few)
 
 pub overflow_add-self-2 : goal.overflow_add-self-2
 overflow_add-self-2 c =
@@ -58,7 +58,7 @@ overflow_add-self-2 c =
     c.if-index-count.false (sym c.is_given.ensures ∙ c.if-is_given.false) c.if-shard-self.false c.enter.ensures.mark c.enter.ensures.here c.enter.ensures.other_marks c.enter.ensures.others in
     let counted = (add-counted w c.args.side c.args.index (c.first_row.result + c.args.index) c.args.shard.now (given_marks c.enter.new.self.marks) c.enter.new.self.chunks.items e).1 in
     let most = given_row_count-most (given_marks c.enter.new.self.marks) w.shape.frame.recovery_from w.shape.recovery_count in
-    omega (arith, counted, most, c.recovery.ensures, w.recovery_rows, w.few)
+    omega (arith, counted, most, c.recovery.ensures, w.laid.recovery_rows, w.laid.few)
 
 pub returns-clause-answer : goal.returns-clause-answer
 returns-clause-answer c = λ rate.
@@ -89,12 +89,7 @@ invariant_of-self c =
     c.if-index-count.false (sym c.is_given.ensures ∙ c.if-is_given.false) c.if-shard-self.false c.enter.ensures.mark c.enter.ensures.here c.enter.ensures.other_marks c.enter.ensures.others in
     let counted = add-counted w c.args.side c.args.index (c.first_row.result + c.args.index) c.args.shard.now (given_marks c.enter.new.self.marks) c.enter.new.self.chunks.items e in
     record {
-      positive = w.positive;
-      even = w.even;
-      few = w.few;
-      original_rows = w.original_rows;
-      recovery_rows = w.recovery_rows;
-      apart = w.apart;
+      laid = w.laid;
       whole = omega (arith, w.whole, lengths.0);
       own_chunks = omega (arith, w.own_chunks, chunks);
       sized = w.sized;

@@ -10,7 +10,7 @@ overflow_add-self c =
     let w = c.args.self.now in
     let originals = given_row_count-most (given_marks w.memory.marks) w.shape.frame.originals_from w.shape.original_count in
     let recovery = given_row_count-most (given_marks w.memory.marks) w.shape.frame.recovery_from w.shape.recovery_count in
-    omega (arith, w.originals_counted, w.recovery_counted, w.original_rows, w.recovery_rows, w.few)
+    omega (arith, w.originals_counted, w.recovery_counted, w.laid.original_rows, w.laid.recovery_rows, w.laid.few)
 
 pub returns-then-self : goal.returns-then-self
 returns-then-self c = λ rate.

@@ -11,12 +11,7 @@ invariant_of-result c =
     let room = c.in_ok-make_room.ensures.room in
     let grown = c.set_empty.ensures.grown in
     record {
-      positive = c.requires.positive;
-      even = c.requires.even;
-      few = c.requires.few;
-      original_rows = c.requires.original_rows;
-      recovery_rows = c.requires.recovery_rows;
-      apart = c.requires.apart;
+      laid = c.requires;
       whole = omega (arith, c.set_empty.ensures.chunks, c.in_ok-chunks.ensures.0);
       own_chunks = omega (arith, room.0, grown.chunks, c.in_ok-chunks.ensures.0);
       sized = omega (arith, c.in_ok-chunks.ensures.0, c.in_ok-chunks.ensures.1);

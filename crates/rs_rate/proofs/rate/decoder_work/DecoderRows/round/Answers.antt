@@ -8,7 +8,7 @@ overflow_add-given c =
     let w = c.args.self.now in
     let most = given_row_count-most (given_marks w.memory.marks) w.shape.frame.originals_from w.shape.original_count in
     let most_too = given_row_count-most (given_marks w.memory.marks) w.shape.frame.recovery_from w.shape.recovery_count in
-    omega (arith, most, most_too, w.originals_counted, w.recovery_counted, w.original_rows, w.recovery_rows, w.few)
+    omega (arith, most, most_too, w.originals_counted, w.recovery_counted, w.laid.original_rows, w.laid.recovery_rows, w.laid.few)
 
 pub overflow_sub-result : goal.overflow_sub-result
 overflow_sub-result c =
@@ -28,12 +28,10 @@ returns-clause-facts c =
     let most = given_row_count-most (given_marks w.memory.marks) w.shape.frame.originals_from w.shape.original_count in
     let most_too = given_row_count-most (given_marks w.memory.marks) w.shape.frame.recovery_from w.shape.recovery_count in
     record {
-      few = w.few;
-      even = w.even;
-      originals = w.original_rows;
+      laid = w.laid;
       marked = w.marked;
       shards = λ some. given_if_some w.memory.marks w.shape.frame.originals_from w.shape.original_count w.shape.frame.recovery_from w.shape.recovery_count
           (omega (arith, some, c.requires, most, w.originals_counted, w.recovery_counted));
       counted = omega (arith, most, w.originals_counted);
-      few_surplus = omega (arith, most, most_too, w.originals_counted, w.recovery_counted, w.recovery_rows);
+      few_surplus = omega (arith, most, most_too, w.originals_counted, w.recovery_counted, w.laid.recovery_rows);
     }

@@ -27,17 +27,14 @@ pub insert_at-requires-clause-room : goal.insert_at-requires-clause-room
 insert_at-requires-clause-room c =
     let w = c.args.self.now in
     let size = ap (λ n. chunk_count (w.originals_given + 1) n) c.if-original_shard-self.false in
-    let within = chunk_count-within w.originals_given w.shape.row_count w.shape.shard_bytes (length w.chunks.items) (omega (arith, c.if-self.false, w.no_more, w.originals)) (omega (arith, w.whole)) in
+    let within = chunk_count-within w.originals_given w.shape.row_count w.shape.shard_bytes (length w.chunks.items) (omega (arith, c.if-self.false, w.no_more, w.laid.originals)) (omega (arith, w.whole)) in
     omega (arith, size, within, c.as_mut_slice.ensures.len)
 
 pub invariant_of-self : goal.invariant_of-self
 invariant_of-self c =
     let w = c.args.self.now in
     record {
-      positive = w.positive;
-      even = w.even;
-      originals = w.originals;
-      recovery = w.recovery;
+      laid = w.laid;
       no_more = omega (arith, c.if-self.false, w.no_more);
       whole = omega (arith, w.whole, c.insert_at.auto.chunks, c.as_mut_slice.ensures.len);
       own_room = w.own_room;
