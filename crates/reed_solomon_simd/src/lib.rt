@@ -6,11 +6,22 @@
 mod decoder;
 mod encoder;
 mod one_call;
+mod slices;
 
 pub use decoder::ReedSolomonDecoder;
 pub use encoder::ReedSolomonEncoder;
 pub use one_call::{decode, encode};
+/// Why a call was refused.
+///
+/// ```
+/// // quoted: crates/rs/src/fault.rt
+/// match format!(in alloc; "{refusal}\n") {
+///     Ok(text) => write_text(err, text.as_str()),
+///     Err(_) => write_text(err, "out of memory\n"),
+/// }
+/// ```
 pub use rs_field::error::Error;
+pub use slices::{decode_slice, encode_slice};
 /// What a round lends, and the walks through it.
 ///
 /// ```
@@ -32,10 +43,23 @@ pub mod engine {
     pub use rs_engines::engine_default::{DefaultEngine, EngineKind, UnknownEngine};
     pub use rs_engines::engine_nosimd::NoSimd;
     pub use rs_engines::engine_shuffle::{Avx2, Ssse3};
+    /// The field's constants.
+    ///
+    /// ```
+    /// // quoted: crates/rs_callers/src/surface.rt
+    /// let first = CANTOR_BASIS[0];
+    /// (GF_BITS, GF_ORDER, GF_MODULUS, GF_POLYNOMIAL, first)
+    /// ```
     pub use rs_field::engine::{
-        CANTOR_BASIS, Engine, GF_BITS, GF_MODULUS, GF_ORDER, GF_POLYNOMIAL, GfElement, Naive,
-        ShardsRefMut, Steps,
+        CANTOR_BASIS, GF_BITS, GF_MODULUS, GF_ORDER, GF_POLYNOMIAL, GfElement,
     };
+    /// What each engine does, the plain one, the rows that it works on, and the count of its steps.
+    ///
+    /// ```
+    /// // quoted: crates/rs_callers/src/surface.rt
+    /// engine.locate(steps, entries);
+    /// ```
+    pub use rs_field::engine::{Engine, Naive, ShardsRefMut, Steps};
 
     /// The powers of the generator, the logarithms, their transforms, the factors of butterflies and the products by nibbles.
     ///
@@ -70,9 +94,36 @@ pub mod engine {
 /// let mut encoder = HighRateEncoder::new(alloc, 3, 2, 12, engine, None)?;
 /// ```
 pub mod rate {
+    /// Encoders and decoders, and what is common to those of all rates.
+    ///
+    /// ```
+    /// // quoted: crates/rs_callers/src/callers.rt
+    /// let result = encoder.encode(steps)?;
+    /// ```
     pub use rs_rate::rate::{
-        DecoderWork, DefaultRate, DefaultRateDecoder, DefaultRateEncoder, EncoderWork, HighRate,
-        HighRateDecoder, HighRateEncoder, LowRate, LowRateDecoder, LowRateEncoder, Rate,
-        RateDecoder, RateEncoder,
+        DefaultRateDecoder, DefaultRateEncoder, HighRateDecoder, HighRateEncoder, LowRateDecoder,
+        LowRateEncoder, RateDecoder, RateEncoder,
     };
+    /// Memory that passes from object to object.
+    ///
+    /// ```
+    /// // quoted: crates/rs_callers/src/surface.rt
+    /// (EncoderWork::new(), DecoderWork::new())
+    /// ```
+    pub use rs_rate::rate::{DecoderWork, EncoderWork};
+    /// What a rate makes: its encoders and decoders.
+    ///
+    /// ```
+    /// // quoted: crates/rs_callers/src/callers.rt
+    /// let (engine, work) = decoder.into_parts();
+    /// R::decoder(
+    ///     alloc,
+    ///     original_count,
+    ///     recovery_count,
+    ///     shard_bytes,
+    ///     engine,
+    ///     Some(work),
+    /// )
+    /// ```
+    pub use rs_rate::rate::{DefaultRate, HighRate, LowRate, Rate};
 }

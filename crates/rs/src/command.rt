@@ -14,28 +14,28 @@ use std::alloc::{AllocError, Global};
 use std::str::FromStr;
 
 /// The counts of originals and of recovery shards.
-#[derive(Clone, Copy)]
+#[derive(Clone, Copy, Debug, PartialEq, Eq, Hash)]
 pub struct Counts {
     pub original: usize,
     pub recovery: usize,
 }
 
 /// A shard with its index.
-#[derive(Drop)]
+#[derive(Debug, Drop, PartialEq, Eq)]
 pub struct IndexedShard {
     pub index: usize,
     pub shard: Vec<u8>,
 }
 
 /// The shards that a decoder is given, in order.
-#[derive(Drop)]
+#[derive(Debug, Drop, PartialEq, Eq)]
 pub struct Given {
     pub original: Vec<IndexedShard>,
     pub recovery: Vec<IndexedShard>,
 }
 
 /// What is to be done.
-#[derive(Drop)]
+#[derive(Debug, Drop, PartialEq, Eq)]
 pub enum Task {
     /// The recovery shards of these originals are wanted.
     Encode(Vec<Vec<u8>>),
@@ -44,7 +44,7 @@ pub enum Task {
 }
 
 /// What a command line asks for.
-#[derive(Drop)]
+#[derive(Debug, Drop, PartialEq, Eq)]
 pub struct Command {
     pub engine: EngineKind,
     pub counts: Counts,
@@ -52,7 +52,7 @@ pub struct Command {
 }
 
 // A word of a command line that asks for originals.
-#[derive(Drop)]
+#[derive(Debug, Drop, PartialEq, Eq)]
 enum Item {
     Original(IndexedShard),
     Recovery(IndexedShard),

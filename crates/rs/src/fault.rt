@@ -5,7 +5,7 @@ use std::alloc::{AllocError, AllocFailed, Global};
 use std::io::Write;
 
 /// Why there are no lines for a command line.
-#[derive(Drop)]
+#[derive(Clone, Copy, Debug, PartialEq, Eq, Hash)]
 pub enum Fault {
     /// The words are no command line.
     Usage,

@@ -4,7 +4,9 @@
 use reed_solomon_simd::engine::tables::Tables;
 use reed_solomon_simd::engine::{DefaultEngine, EngineKind, Ssse3, Steps};
 use reed_solomon_simd::rate::{HighRateDecoder, HighRateEncoder, RateDecoder, RateEncoder};
-use reed_solomon_simd::{DecoderResult, Error, ReedSolomonDecoder, ReedSolomonEncoder};
+use reed_solomon_simd::{
+    DecoderResult, Error, ReedSolomonDecoder, ReedSolomonEncoder, decode_slice, encode_slice,
+};
 use std::alloc::Global;
 
 const ORIGINAL: [&[u8]; 3] = [b"Three shards", b" of one size", b" are coded. "];
@@ -19,6 +21,24 @@ pub fn in_one_call(alloc: Global) -> Result<bool, Error> {
     let received = recovery.iter().map(|shard| shard.as_slice()).enumerate();
     let original = [(1, ORIGINAL[1])].into_iter();
     let restored = reed_solomon_simd::decode(alloc, 3, 2, original, received, engine)?;
+
+    let first = restored.get(&0).map(|shard| shard.as_slice());
+    let last = restored.get(&2).map(|shard| shard.as_slice());
+    Ok(restored.len() == 2 && first == Some(ORIGINAL[0]) && last == Some(ORIGINAL[2]))
+}
+
+/// By the one-call functions over slices. `OutOfMemory` where no memory is found.
+pub fn over_slices(alloc: Global) -> Result<bool, Error> {
+    let tables = Tables::new(alloc)?;
+    let engine = DefaultEngine::new(&tables, EngineKind::Ssse3);
+    let recovery = encode_slice(alloc, 3, 2, &ORIGINAL, engine)?;
+
+    let mut received = Vec::new(alloc);
+    for (index, shard) in recovery.into_iter().enumerate() {
+        received.push((index, shard))?;
+    }
+    let original = [(1, ORIGINAL[1])];
+    let restored = decode_slice(alloc, 3, 2, &original, received.as_slice(), engine)?;
 
     let first = restored.get(&0).map(|shard| shard.as_slice());
     let last = restored.get(&2).map(|shard| shard.as_slice());

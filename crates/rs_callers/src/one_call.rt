@@ -3,7 +3,7 @@ ghost use Rattle.std.specs.Prelude.{map};
 ghost use Rattle.reed_solomon_simd.specs.OneCall.{OneEncodeAnswers, OneDecodeAnswers, collected, collected_map};
 
 use reed_solomon_simd::engine::DefaultEngine;
-use reed_solomon_simd::{Error, decode, encode};
+use reed_solomon_simd::{Error, decode_slice, encode, encode_slice};
 use std::alloc::Global;
 use std::collections::BTreeMap;
 
@@ -21,6 +21,18 @@ pub fn encode_vectors(
     encode(alloc, original_count, recovery_count, shards, engine)
 }
 
+/// The recovery shards of originals that are arrays.
+pub fn encode_arrays<const K: usize, const N: usize>(
+    alloc: Global,
+    recovery_count: usize,
+    original: &[[u8; N]; K],
+    engine: DefaultEngine<'_>,
+) -> Result<Vec<Vec<u8>>, Error>
+    ensures { OneEncodeAnswers K recovery_count original.now (collected result) }
+{
+    encode_slice(alloc, K, recovery_count, original, engine)
+}
+
 /// The originals that are missing among shards that are vectors with their indexes.
 pub fn decode_vectors(
     alloc: Global,
@@ -33,12 +45,12 @@ pub fn decode_vectors(
     ensures { OneDecodeAnswers original_count recovery_count (map (λ item. (item.0, item.1.items)) original.now)
         (map (λ item. (item.0, item.1.items)) recovery.now) (collected_map result) }
 {
-    decode(
+    decode_slice(
         alloc,
         original_count,
         recovery_count,
-        original.iter().map(|item| (item.0, item.1.as_slice())),
-        recovery.iter().map(|item| (item.0, item.1.as_slice())),
+        original,
+        recovery,
         engine,
     )
 }

@@ -29,7 +29,7 @@ use reed_solomon_simd::rate::{
 };
 use reed_solomon_simd::{
     DecoderResult, EncoderResult, Error, Recovery, ReedSolomonDecoder, ReedSolomonEncoder,
-    RestoredOriginal, decode, encode,
+    RestoredOriginal, decode, decode_slice, encode, encode_slice,
 };
 use std::alloc::Global;
 use std::collections::BTreeMap;
@@ -188,5 +188,16 @@ pub fn one_shard(
     let recovery = encode(alloc, 1, 1, [shard].into_iter(), engine)?;
     let given = [(0, shard)];
     let restored = decode(alloc, 1, 1, given.into_iter(), [].into_iter(), engine)?;
+    Ok((recovery, restored))
+}
+
+/// The same of an array, over slices.
+pub fn one_array(
+    alloc: Global,
+    shard: [u8; 64],
+    engine: DefaultEngine<'_>,
+) -> Result<(Vec<Vec<u8>>, BTreeMap<usize, Vec<u8>>), Error> {
+    let recovery = encode_slice(alloc, 1, 1, &[shard], engine)?;
+    let restored = decode_slice::<[u8; 64], &[u8]>(alloc, 1, 1, &[(0, shard)], &[], engine)?;
     Ok((recovery, restored))
 }

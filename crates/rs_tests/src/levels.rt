@@ -6,6 +6,7 @@ use std::test::Fail;
 fn what_was_lost_comes_back(rt: HostRuntime) -> Result<(), Fail> {
     let alloc = rt.alloc();
     assert!(rt; levels::in_one_call(alloc)?);
+    assert!(rt; levels::over_slices(alloc)?);
     assert!(rt; levels::with_objects(alloc)?);
     assert!(rt; levels::with_a_rate_and_an_engine(alloc)?);
     Ok(())

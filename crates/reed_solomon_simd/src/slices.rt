@@ -1,0 +1,65 @@
+//! Encoding and decoding in one call, over slices of shards.
+ghost use Rattle.std.specs.Prelude.{map, IfOk};
+ghost use Rattle.rs_field.specs.OneCall.{OneEncodeAnswers, OneDecodeAnswers, collected, collected_map};
+ghost use Rattle.rs_field.specs.RoundTrip.{AreCoded};
+
+use crate::engine::DefaultEngine;
+use crate::{Error, decode, encode};
+use std::alloc::Global;
+use std::collections::BTreeMap;
+use std::convert::AsSlice;
+
+/// `encode` of originals that lie in a slice: vectors, arrays or slices of bytes. Refused as `encode`.
+///
+/// ```
+/// // quoted: crates/rs_callers/src/one_call.rt
+/// encode_slice(alloc, K, recovery_count, original, engine)
+/// ```
+pub fn encode_slice<T: AsSlice<u8>>(
+    alloc: Global,
+    original_count: usize,
+    recovery_count: usize,
+    original: &[T],
+    engine: DefaultEngine<'_>,
+) -> Result<Vec<Vec<u8>>, Error>
+    ensures answer { OneEncodeAnswers original_count recovery_count (map T.items original.now) (collected result) }
+    ensures coded { IfOk (collected result) (AreCoded original_count recovery_count (map T.items original.now)) }
+{
+    let shards = original.iter().map(|shard| shard.as_slice());
+    encode(alloc, original_count, recovery_count, shards, engine)
+}
+
+/// `decode` of shards that lie in slices, each with its index: originals, and recovery shards, each of them vectors,
+/// arrays or slices of bytes. Refused as `decode`.
+///
+/// ```
+/// // quoted: crates/rs_callers/src/one_call.rt
+/// decode_slice(
+///     alloc,
+///     original_count,
+///     recovery_count,
+///     original,
+///     recovery,
+///     engine,
+/// )
+/// ```
+pub fn decode_slice<O: AsSlice<u8>, R: AsSlice<u8>>(
+    alloc: Global,
+    original_count: usize,
+    recovery_count: usize,
+    original: &[(usize, O)],
+    recovery: &[(usize, R)],
+    engine: DefaultEngine<'_>,
+) -> Result<BTreeMap<usize, Vec<u8>>, Error>
+    ensures { OneDecodeAnswers original_count recovery_count (map (λ item. (item.0, O.items item.1)) original.now)
+        (map (λ item. (item.0, R.items item.1)) recovery.now) (collected_map result) }
+{
+    decode(
+        alloc,
+        original_count,
+        recovery_count,
+        original.iter().map(|item| (item.0, item.1.as_slice())),
+        recovery.iter().map(|item| (item.0, item.1.as_slice())),
+        engine,
+    )
+}
