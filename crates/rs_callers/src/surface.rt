@@ -1,10 +1,11 @@
 //! Every public path of the library, each used at its type: where a name stood for another item, this file would not
 //! compile or not be proved.
-ghost use Rattle.std.specs.Prelude.{◌≡◌, ℕ, ◌^◌, ◌<◌, ◌≤◌, [], ◌∷◌, length, slice_index, bit_xor};
+ghost use Rattle.std.specs.Prelude.{◌≡◌, ℕ, ◌^◌, ◌<◌, ◌≤◌, true, [], ◌∷◌, length, slice_index, bit_xor};
 ghost use Rattle.reed_solomon_simd.specs.Counts.{low_rate, high_rate, default_rate};
 ghost use Rattle.reed_solomon_simd.specs.Field.{product, power};
 ghost use Rattle.reed_solomon_simd.specs.Kind.{kind_of};
 ghost use Rattle.reed_solomon_simd.specs.Locator.{IsLocatorBelow};
+ghost use Rattle.rs_field.specs.MarkedRows.{is_marked, OthersAreZero};
 ghost use Rattle.reed_solomon_simd.specs.Rows.{chunk, symbol};
 ghost use Rattle.reed_solomon_simd.specs.View.{word, Fits};
 ghost use Rattle.reed_solomon_simd.specs.EncoderView.{work_room as encoder_room};
@@ -109,6 +110,24 @@ pub fn locator_by_engine(engine: DefaultEngine<'_>, steps: &mut Steps, entries: 
     ensures { LocatorCountsBelow (length entries.old) steps.old steps.new }
 {
     engine.locate(steps, entries);
+}
+
+/// The transforms of marked rows, one after the other: each marked row is what it was.
+pub fn back_and_forth<E: Engine>(
+    engine: &E,
+    steps: &mut Steps,
+    rows: &mut ShardsRefMut<'_>,
+    marks: &[bool],
+)
+    requires fits { Fits rows.old }
+    requires power { (d : ℕ) × (length marks.now ≡ 2 ^ d) }
+    requires few { length marks.now ≤ 65536 }
+    requires count { length marks.now ≤ rows.old.shard_count }
+    requires zeros { OthersAreZero marks.now 0 rows.old }
+    ensures { (k s i : ℕ) → k < rows.old.shard_len_64 → s < 32 → is_marked marks.now i ≡ true → word rows.new k s i ≡ word rows.old k s i }
+{
+    engine.ifft_given(steps, rows, 0, marks, 0);
+    engine.fft_wanted(steps, rows, 0, marks, 0);
 }
 
 /// Engines that a caller has, as ones that are chosen by name.
