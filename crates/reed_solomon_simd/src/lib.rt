@@ -8,6 +8,9 @@ mod encoder;
 mod one_call;
 mod slices;
 
+/// The version of this library.
+pub const VERSION: &str = "1.1";
+
 pub use decoder::ReedSolomonDecoder;
 pub use encoder::ReedSolomonEncoder;
 pub use one_call::{decode, encode};
