@@ -94,7 +94,7 @@ pub mod engine {
 /// // quoted: crates/rs_callers/src/levels.rt
 /// let engine = Ssse3::new(&tables);
 /// let mut steps = Steps::new();
-/// let mut encoder = HighRateEncoder::new(alloc, 3, 2, 12, engine, None)?;
+/// let mut encoder = DefaultRateEncoder::new(alloc, 3, 2, 12, engine, None)?;
 /// ```
 pub mod rate {
     /// Encoders and decoders, and what is common to those of all rates.

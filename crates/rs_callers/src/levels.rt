@@ -3,7 +3,7 @@
 //! what was lost came back.
 use reed_solomon_simd::engine::tables::Tables;
 use reed_solomon_simd::engine::{DefaultEngine, EngineKind, Ssse3, Steps};
-use reed_solomon_simd::rate::{HighRateDecoder, HighRateEncoder, RateDecoder, RateEncoder};
+use reed_solomon_simd::rate::{DefaultRateDecoder, DefaultRateEncoder, RateDecoder, RateEncoder};
 use reed_solomon_simd::{
     DecoderResult, Error, ReedSolomonDecoder, ReedSolomonEncoder, decode_slice, encode_slice,
 };
@@ -70,13 +70,13 @@ pub fn with_a_rate_and_an_engine(alloc: Global) -> Result<bool, Error> {
     let tables = Tables::new(alloc)?;
     let engine = Ssse3::new(&tables);
     let mut steps = Steps::new();
-    let mut encoder = HighRateEncoder::new(alloc, 3, 2, 12, engine, None)?;
+    let mut encoder = DefaultRateEncoder::new(alloc, 3, 2, 12, engine, None)?;
     for shard in ORIGINAL {
         encoder.add_original_shard(shard)?;
     }
     let recovery = encoder.encode(&mut steps)?;
 
-    let mut decoder = HighRateDecoder::new(alloc, 3, 2, 12, engine, None)?;
+    let mut decoder = DefaultRateDecoder::new(alloc, 3, 2, 12, engine, None)?;
     decoder.add_original_shard(1, ORIGINAL[1])?;
     for (index, shard) in recovery.recovery_iter().enumerate() {
         decoder.add_recovery_shard(index, shard)?;
