@@ -12,8 +12,9 @@ use std::convert::AsSlice;
 /// `encode` of originals that lie in a slice: vectors, arrays or slices of bytes. Refused as `encode`.
 ///
 /// ```
-/// // quoted: crates/rs_callers/src/one_call.rt
-/// encode_slice(alloc, K, recovery_count, original, engine)
+/// // quoted: crates/rs_callers/src/levels.rt
+/// let engine = DefaultEngine::new(&tables, EngineKind::Ssse3);
+/// let recovery = encode_slice(alloc, 3, 2, &ORIGINAL, engine)?;
 /// ```
 pub fn encode_slice<T: AsSlice<u8>>(
     alloc: Global,
@@ -33,15 +34,9 @@ pub fn encode_slice<T: AsSlice<u8>>(
 /// arrays or slices of bytes. Refused as `decode`.
 ///
 /// ```
-/// // quoted: crates/rs_callers/src/one_call.rt
-/// decode_slice(
-///     alloc,
-///     original_count,
-///     recovery_count,
-///     original,
-///     recovery,
-///     engine,
-/// )
+/// // quoted: crates/rs_callers/src/levels.rt
+/// let received: Vec<(usize, Vec<u8>)> = recovery.into_iter().enumerate().collect(alloc)?;
+/// let restored = decode_slice(alloc, 3, 2, &[(1, ORIGINAL[1])], &received, engine)?;
 /// ```
 pub fn decode_slice<O: AsSlice<u8>, R: AsSlice<u8>>(
     alloc: Global,

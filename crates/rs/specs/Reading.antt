@@ -5,7 +5,6 @@ use Rattle.reed_solomon_simd.specs.declared.Error.TheVariants.{OutOfMemory}
 use Rattle.reed_solomon_simd.specs.Column.{Shard}
 use Rattle.reed_solomon_simd.specs.OneCall.{Items}
 use Rattle.rs.specs.declared.command.Given.{Given}
-use Rattle.rs.specs.declared.command.IndexedShard.{IndexedShard}
 use Rattle.rs.specs.declared.command.Item.{Item}
 use Rattle.rs.specs.declared.command.Item.TheVariants.{Original, Recovery}
 use Rattle.rs.specs.declared.command.Command.{Command}
@@ -26,12 +25,12 @@ Reads meaning asked (Err (Refused e)) = e ≡ OutOfMemory
 abbrev pub as_shards : {Y Z : Type 0} → Vec (Vec ℕ Y) Z → List Shard
 as_shards vectors = map (λ v. v.items) vectors.items
 
--- an indexed shard as an index and a shard
-abbrev pub as_item : IndexedShard → ℕ × Shard
-as_item indexed = (indexed.index, indexed.shard.items)
+-- an index and a vector as an index and a shard
+abbrev pub as_item : {Y : Type 0} → ℕ × Vec ℕ Y → ℕ × Shard
+as_item indexed = (indexed.0, indexed.1.items)
 
--- indexed shards as shards with their indexes
-abbrev pub as_items : {Z : Type 0} → Vec IndexedShard Z → Items
+-- vectors with their indexes as shards with their indexes
+abbrev pub as_items : {Y Z : Type 0} → Vec (ℕ × Vec ℕ Y) Z → Items
 as_items vector = map as_item vector.items
 
 -- given shards as those of a command line

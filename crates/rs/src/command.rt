@@ -20,12 +20,8 @@ pub struct Counts {
     pub recovery: usize,
 }
 
-/// A shard with its index.
-#[derive(Debug, Drop, PartialEq, Eq)]
-pub struct IndexedShard {
-    pub index: usize,
-    pub shard: Vec<u8>,
-}
+/// A shard behind its index.
+pub type IndexedShard = (usize, Vec<u8>);
 
 /// The shards that a decoder is given, in order.
 #[derive(Debug, Drop, PartialEq, Eq)]
@@ -115,7 +111,7 @@ fn read_indexed_shard(alloc: Global, text: &str) -> Result<IndexedShard, Fault>
     let Some(shard) = word(alloc, shard)? else {
         return Err(Fault::Usage);
     };
-    Ok(IndexedShard { index, shard })
+    Ok((index, shard))
 }
 
 // The shard of oI=HEX or rI=HEX.

@@ -16,7 +16,7 @@ use crate::hexadecimal::line;
 use crate::writing::write_texts;
 use reed_solomon_simd::engine::DefaultEngine;
 use reed_solomon_simd::engine::tables::Tables;
-use reed_solomon_simd::{Error, ReedSolomonEncoder, decode, encode};
+use reed_solomon_simd::{Error, ReedSolomonEncoder, decode_slice, encode_slice};
 use std::alloc::Global;
 use std::collections::BTreeMap;
 use std::io::Write;
@@ -53,8 +53,7 @@ fn coded_lines(
 ) -> Result<Vec<String>, Error>
     ensures { OrLacksMemory (CodesLines counts.original counts.recovery (map (λ v. v.items) original.now)) result }
 {
-    let shards = original.iter().map(|shard| shard.as_slice());
-    let recovery = encode(alloc, counts.original, counts.recovery, shards, engine)?;
+    let recovery = encode_slice(alloc, counts.original, counts.recovery, original, engine)?;
     lines(alloc, recovery.as_slice())
 }
 
@@ -67,20 +66,12 @@ fn restored_lines(
 ) -> Result<Vec<String>, Error>
     ensures { OrLacksMemory (RestoresLines counts.original counts.recovery (as_given given.now)) result }
 {
-    let original = given
-        .original
-        .iter()
-        .map(|given| (given.index, given.shard.as_slice()));
-    let recovery = given
-        .recovery
-        .iter()
-        .map(|given| (given.index, given.shard.as_slice()));
-    let restored = decode(
+    let restored = decode_slice(
         alloc,
         counts.original,
         counts.recovery,
-        original,
-        recovery,
+        given.original.as_slice(),
+        given.recovery.as_slice(),
         engine,
     )?;
     indexed_lines(alloc, &restored)

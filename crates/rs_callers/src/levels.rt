@@ -8,6 +8,7 @@ use reed_solomon_simd::{
     DecoderResult, Error, ReedSolomonDecoder, ReedSolomonEncoder, decode_slice, encode_slice,
 };
 use std::alloc::Global;
+use std::collections::BTreeMap;
 
 const ORIGINAL: [&[u8]; 3] = [b"Three shards", b" of one size", b" are coded. "];
 
@@ -22,9 +23,7 @@ pub fn in_one_call(alloc: Global) -> Result<bool, Error> {
     let original = [(1, ORIGINAL[1])].into_iter();
     let restored = reed_solomon_simd::decode(alloc, 3, 2, original, received, engine)?;
 
-    let first = restored.get(&0).map(|shard| shard.as_slice());
-    let last = restored.get(&2).map(|shard| shard.as_slice());
-    Ok(restored.len() == 2 && first == Some(ORIGINAL[0]) && last == Some(ORIGINAL[2]))
+    Ok(are_in(&restored))
 }
 
 /// By the one-call functions over slices. `OutOfMemory` where no memory is found.
@@ -33,16 +32,18 @@ pub fn over_slices(alloc: Global) -> Result<bool, Error> {
     let engine = DefaultEngine::new(&tables, EngineKind::Ssse3);
     let recovery = encode_slice(alloc, 3, 2, &ORIGINAL, engine)?;
 
-    let mut received = Vec::new(alloc);
-    for (index, shard) in recovery.into_iter().enumerate() {
-        received.push((index, shard))?;
-    }
-    let original = [(1, ORIGINAL[1])];
-    let restored = decode_slice(alloc, 3, 2, &original, received.as_slice(), engine)?;
+    // Originals 0 and 2 are lost. Any three shards are enough.
+    let received: Vec<(usize, Vec<u8>)> = recovery.into_iter().enumerate().collect(alloc)?;
+    let restored = decode_slice(alloc, 3, 2, &[(1, ORIGINAL[1])], &received, engine)?;
 
+    Ok(are_in(&restored))
+}
+
+// Whether originals 0 and 2, and no others, are in a map.
+fn are_in(restored: &BTreeMap<usize, Vec<u8>>) -> bool {
     let first = restored.get(&0).map(|shard| shard.as_slice());
     let last = restored.get(&2).map(|shard| shard.as_slice());
-    Ok(restored.len() == 2 && first == Some(ORIGINAL[0]) && last == Some(ORIGINAL[2]))
+    restored.len() == 2 && first == Some(ORIGINAL[0]) && last == Some(ORIGINAL[2])
 }
 
 /// By objects. `OutOfMemory` where no memory is found.
