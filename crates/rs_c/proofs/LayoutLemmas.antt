@@ -1,12 +1,11 @@
 -- Shards by their places.
 use Rattle.std.proofs.Common.{◌≡◌, ℕ, zero, suc, ◌+◌, ◌*◌, ◌<◌, ◌≤◌, ◌==◌, false, List, [], ◌∷◌, length, take, drop, map, get_or, sym, ap, ◌∙◌, refl, arith}
 use Rattle.std.proofs.Math.Nat.{suc-mul, mul-le-mul_right}
-use Rattle.std.proofs.lemmas.List.{drop-drop, drop_more, drop_all, drop-map, length-map, nil_from_length}
+use Rattle.std.proofs.lemmas.List.{drop-drop, drop_more, drop-map, length-map, nil_from_length}
 use Rattle.rs_field.specs.Column.{shard_at}
 use Rattle.rs_c.specs.declared.layouts.RsShard.{RsShard}
 use Rattle.rs_c.specs.Arrays.{items_of}
 use Rattle.rs_c.specs.Buffers.{cut, marked}
-use Rattle.rs_c.proofs.BufferLemmas.{marked-lost, marked-there}
 
 -- a buffer has as many shards as were cut
 pub length-cut : (n size : ℕ) (bytes : List ℕ) → length (cut n size bytes) ≡ n
@@ -18,11 +17,6 @@ pub place-within : (i n size all : ℕ) → i < n → all ≡ n * size → i * s
 place-within i n size all h whole =
     let more = suc-mul i size in let below = mul-le-mul_right size (let k : suc i ≤ n = omega (arith, h) in k) in omega (arith, more, below, whole)
 
--- what is left behind a shard
-pub drop-next : (i size : ℕ) (bytes : List ℕ) → drop size (drop (i * size) bytes) ≡ drop ((i + 1) * size) bytes
-drop-next i size bytes =
-    drop-drop size (i * size) bytes ∙ ap (λ (n : ℕ). drop n bytes) (let more = suc-mul i size in let e : i * size + size ≡ (i + 1) * size = omega (arith, more) in e)
-
 -- a shard of a buffer, by its place
 pub cut-at : (i n size : ℕ) (bytes : List ℕ) → i < n → shard_at (cut n size bytes) i ≡ take size (drop (i * size) bytes)
 cut-at i zero size bytes h = absurd (omega (arith, h))
@@ -30,23 +24,6 @@ cut-at zero (suc n) size bytes h = ap (λ (m : ℕ). take size (drop m bytes)) (
 cut-at (suc i) (suc n) size bytes h =
     cut-at i n size (drop size bytes) (omega (arith, h))
     ∙ ap (take size) (drop-drop (i * size) size bytes ∙ ap (λ (m : ℕ). drop m bytes) (let more = suc-mul i size in let e : size + i * size ≡ suc i * size = omega (arith, more) in e))
-
--- the marked shards from a place on, where none is there
-pub place-lost : (i size : ℕ) (marks bytes : List ℕ) → i < length marks → get_or marks i 0 ≡ 0
-    → marked i size (drop i marks) (drop (i * size) bytes) ≡ marked (i + 1) size (drop (i + 1) marks) (drop ((i + 1) * size) bytes)
-place-lost i size marks bytes h lost =
-    marked-lost i size marks (drop (i * size) bytes) h lost ∙ ap (marked (i + 1) size (drop (i + 1) marks)) (drop-next i size bytes)
-
--- and where one is
-pub place-there : (i size : ℕ) (marks bytes : List ℕ) → i < length marks → (get_or marks i 0 ≡ 0 → ⊥)
-    → marked i size (drop i marks) (drop (i * size) bytes) ≡ (i, take size (drop (i * size) bytes)) ∷ marked (i + 1) size (drop (i + 1) marks) (drop ((i + 1) * size) bytes)
-place-there i size marks bytes h there =
-    marked-there i size marks (drop (i * size) bytes) h there
-    ∙ ap (λ rest. (i, take size (drop (i * size) bytes)) ∷ marked (i + 1) size (drop (i + 1) marks) rest) (drop-next i size bytes)
-
--- behind the last place nothing comes
-pub place-last : (size : ℕ) (marks bytes : List ℕ) → marked (length marks) size (drop (length marks) marks) bytes ≡ []
-place-last size marks bytes = ap (λ (left : List ℕ). marked (length marks) size left bytes) (drop_all (length marks) marks (omega arith))
 
 -- as many shards as an array has entries
 pub items-count : (array : List RsShard) → length (items_of array) ≡ length array

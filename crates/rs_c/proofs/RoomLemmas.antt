@@ -70,14 +70,6 @@ filled-next i rooms shard shards h =
     ∙ ap (λ (x : List ℕ). take i rooms ++ x ∷ []) (get_or-set_same rooms i shard [] h))
     ∙ append_assoc (take i rooms) (shard ∷ []) shards
 
--- rooms that go with shards are as many
-pub fit-number : (shards : List Shard) (rooms : List (List ℕ)) → rooms_fit shards rooms ≡ Ok tt → length rooms ≡ length shards
-fit-number shards rooms fits = by_test (length shards == length rooms) refl fits
-  where
-    by_test : (b : Bool) → (length shards == length rooms) ≡ b → rooms_fit shards rooms ≡ Ok tt → length rooms ≡ length shards
-    by_test true same fits = sym (eqb-true (length shards) (length rooms) same)
-    by_test false same fits = absurd (let no : ⊥ = cc in no)
-
 -- while rooms are left, so are shards
 pub shards-left : (i : ℕ) (rooms : List (List ℕ)) (left all : List Shard) → i < length rooms → take i rooms ++ left ≡ all → length rooms ≡ length all → left ≡ [] → ⊥
 shards-left i rooms left all h filled number none =

@@ -8,7 +8,7 @@ ghost use Rattle.rs_field.specs.OneCall.{default_of, with_shards, OneEncodeAnswe
 ghost use Rattle.rs_rate.specs.EncoderView.{encoder_state};
 ghost use Rattle.rs_rate.specs.ResultView.{recovery_shards};
 ghost use Rattle.reed_solomon_simd.specs.Giving.{Reaches};
-ghost use Rattle.rs_c.specs.Buffers.{cut, joined};
+ghost use Rattle.rs_c.specs.Buffers.{joined};
 ghost use Rattle.rs_c.specs.Answers.{EncodesBuffer};
 ghost use Rattle.rs_c.specs.Arrays.{shards_of, EncodesArrays, KeepsRooms, bytes_in};
 ghost use Rattle.rs_c.specs.Given.{BeginsSized};

@@ -1,5 +1,5 @@
 //! How shards lie in memory: one behind the other in a buffer, or anywhere, as an array tells.
-ghost use Rattle.std.specs.Prelude.{◌≡◌, ◌+◌, ◌*◌, ◌<◌, ◌≤◌, [], ◌∷◌, length, drop, map, slice_index_or, MatchOption};
+ghost use Rattle.std.specs.Prelude.{◌≡◌, ◌+◌, ◌*◌, ◌<◌, ◌≤◌, [], ◌∷◌, length, drop, map, MatchOption};
 ghost use Rattle.rs_field.specs.Column.{shard_at};
 ghost use Rattle.rs_c.specs.Buffers.{cut, marked};
 ghost use Rattle.rs_c.specs.Arrays.{items_of};

@@ -1,5 +1,5 @@
 //! Rooms of the caller, one for each shard that is written.
-ghost use Rattle.std.specs.Prelude.{◌≡◌, ℕ, ◌<◌, ◌^◌, [], ◌∷◌, length, map, Ok, OnOk, MatchOption};
+ghost use Rattle.std.specs.Prelude.{◌≡◌, map, Ok};
 ghost use Rattle.rs_c.specs.Arrays.{bytes_in, KeepsRooms, as_many, lengths_fit, rooms_fit};
 
 use crate::fault::Fault;
