@@ -133,15 +133,15 @@ int main(void) {
         memset(originals, 7, sizeof originals);
         for (int anywhere = 0; anywhere < 2; anywhere++) {
             memset(recovery, 1, sizeof recovery);
-            each("an encode", anywhere ? encode_shards : encode, recovery, sizeof recovery);
+            each(anywhere ? "rs_encode_shards" : "rs_encode", anywhere ? encode_shards : encode, recovery, sizeof recovery);
             memset(originals, 1, 1200);
             memset(originals + 2400, 1, 1200);
-            each("a decode", anywhere ? decode_shards : decode, originals, sizeof originals);
+            each(anywhere ? "rs_decode_shards" : "rs_decode", anywhere ? decode_shards : decode, originals, sizeof originals);
             for (size_t n = 0; n < sizeof originals; n++)
                 if (originals[n] != 7) wrong("not what was encoded");
         }
     }
-    each("a decode without recovery shards", decode_none, originals, sizeof originals);
+    each("rs_decode_shards without recovery shards", decode_none, originals, sizeof originals);
     each("rs_fault_text", text_made, text, sizeof text);
     free(tables);
     return 0;
