@@ -60,8 +60,45 @@ static uint32_t decode(void) {
     return answer == fault.number ? answer : 99;
 }
 
+/* Both over arrays too: originals and recovery shards as they lie in the buffers. */
+static uint32_t encode_shards(void) {
+    struct rs_bytes from[3];
+    struct rs_room to[2];
+    struct rs_fault fault;
+    uint32_t answer;
+    for (size_t i = 0; i < 3; i++) from[i].bytes = originals + i * 1200, from[i].length = 1200;
+    for (size_t i = 0; i < 2; i++) to[i].bytes = recovery + i * 1200, to[i].length = 1200;
+    answer = rs_encode_shards(tables, 3, 2, from, 3, to, 2, &fault);
+    return answer == fault.number ? answer : 99;
+}
+
+static uint32_t decode_shards(void) {
+    struct rs_shard own = {1, originals + 1200, 1200}, other[2] = {{1, recovery + 1200, 1200}, {0, recovery, 1200}};
+    struct rs_room to[2] = {{originals, 1200}, {originals + 2400, 1200}};
+    struct rs_fault fault;
+    uint32_t answer = rs_decode_shards(tables, 3, 2, &own, 1, other, 2, to, 2, &fault);
+    return answer == fault.number ? answer : 99;
+}
+
+/* Nothing is lost and no recovery shard comes: the indexes of arrays are noted in memory. */
+static uint32_t decode_none(void) {
+    struct rs_shard all[3] = {{2, originals, 1200}, {0, originals, 1200}, {1, originals, 1200}};
+    struct rs_room none[1];
+    struct rs_fault fault;
+    uint32_t answer = rs_decode_shards(tables, 3, 2, all, 3, all, 0, none, 0, &fault);
+    return answer == fault.number ? answer : 99;
+}
+
 static uint32_t make(void) {
     return rs_tables_make(tables);
+}
+
+/* The text of a fault, which is 0 long without memory. */
+static uint8_t text[40];
+static uint32_t text_made(void) {
+    const struct rs_fault fault = {RS_INVALID_SHARD_SIZE, 3, 0, 0};
+    size_t length = rs_fault_text(&fault, text, sizeof text);
+    return length == 0 ? RS_OUT_OF_MEMORY : length == 61 ? RS_OK : 99;
 }
 
 /* A call with each of its requests refused in turn, until one isn't refused any more. */
@@ -87,16 +124,25 @@ static void each(const char *name, uint32_t (*call)(void), void *written, size_t
 }
 
 int main(void) {
-    tables = calloc(1, sizeof *tables);
+    static const uint8_t images[] = {0, 255, 170};
+    tables = malloc(sizeof *tables);
     if (!tables) wrong("no memory for the test");
-    each("rs_tables_make", make, tables, sizeof *tables);
-    memset(originals, 7, sizeof originals);
-    each("rs_encode", encode, recovery, sizeof recovery);
-    memset(originals, 1, 1200);
-    memset(originals + 2400, 1, 1200);
-    each("rs_decode", decode, originals, sizeof originals);
-    for (size_t i = 0; i < sizeof originals; i++)
-        if (originals[i] != 7) wrong("not what was encoded");
+    for (size_t i = 0; i < sizeof images; i++) {
+        memset(tables, images[i], sizeof *tables);
+        each("rs_tables_make", make, tables, sizeof *tables);
+        memset(originals, 7, sizeof originals);
+        for (int anywhere = 0; anywhere < 2; anywhere++) {
+            memset(recovery, 1, sizeof recovery);
+            each(anywhere ? "rs_encode_shards" : "rs_encode", anywhere ? encode_shards : encode, recovery, sizeof recovery);
+            memset(originals, 1, 1200);
+            memset(originals + 2400, 1, 1200);
+            each(anywhere ? "rs_decode_shards" : "rs_decode", anywhere ? decode_shards : decode, originals, sizeof originals);
+            for (size_t n = 0; n < sizeof originals; n++)
+                if (originals[n] != 7) wrong("not what was encoded");
+        }
+    }
+    each("rs_decode_shards without recovery shards", decode_none, originals, sizeof originals);
+    each("rs_fault_text", text_made, text, sizeof text);
     free(tables);
     return 0;
 }

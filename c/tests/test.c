@@ -49,17 +49,99 @@ static void let_go(struct message *m) {
     free(m->marks);
 }
 
-static uint32_t encode(const struct message *m, struct rs_fault *fault) {
-    return rs_encode(tables, m->k, m->r, m->size, m->originals, m->k * m->size, m->recovery, m->r * m->size, fault);
-}
-
-static uint32_t decode(const struct message *m, struct rs_fault *fault) {
-    return rs_decode(tables, m->k, m->r, m->size, m->originals, m->k * m->size, m->recovery, m->r * m->size, m->marks, m->k + m->r,
-                     fault);
-}
-
 static int told(const struct rs_fault *fault, uint32_t number, size_t first, size_t second, size_t third) {
     return fault->number == number && fault->first == first && fault->second == second && fault->third == third;
+}
+
+static uint8_t *copied(const uint8_t *from, size_t size) {
+    return memcpy(room(size), from, size);
+}
+
+/* Rooms of one size, each in memory of its own, that hold rubbish. */
+static struct rs_room *rooms_made(size_t count, size_t size) {
+    struct rs_room *rooms = room(count * sizeof *rooms);
+    for (size_t i = 0; i < count; i++) {
+        rooms[i].bytes = memset(room(size), '#', size);
+        rooms[i].length = size;
+    }
+    return rooms;
+}
+
+/* An encode over originals and rooms that lie anywhere. */
+static uint32_t encode_anywhere(const struct message *m, uint8_t *recovery, struct rs_fault *fault) {
+    struct rs_bytes *originals = room(m->k * sizeof *originals);
+    struct rs_room *rooms = rooms_made(m->r, m->size), *before = room(m->r * sizeof *rooms);
+    uint32_t answer;
+    for (size_t i = m->k; i-- > 0;) {
+        originals[i].bytes = copied(m->originals + i * m->size, m->size);
+        originals[i].length = m->size;
+    }
+    memcpy(before, rooms, m->r * sizeof *rooms);
+    answer = rs_encode_shards(tables, m->k, m->r, originals, m->k, rooms, m->r, fault);
+    for (size_t i = 0; i < m->r; i++) {
+        if (rooms[i].bytes != before[i].bytes || rooms[i].length != m->size) wrong("an array of rooms has changed");
+        memcpy(recovery + i * m->size, rooms[i].bytes, m->size);
+        free(rooms[i].bytes);
+    }
+    for (size_t i = 0; i < m->k; i++) free((void *)originals[i].bytes);
+    free(originals);
+    free(rooms);
+    free(before);
+    return answer;
+}
+
+/* A decode over shards and rooms that lie anywhere, the shards from the last to the first. */
+static uint32_t decode_anywhere(const struct message *m, uint8_t *restored, struct rs_fault *fault) {
+    struct rs_shard *shards[2] = {room(m->k * sizeof **shards), room(m->r * sizeof **shards)};
+    size_t counts[2] = {0, 0}, lost;
+    struct rs_room *rooms;
+    uint32_t answer;
+    for (size_t i = m->k + m->r; i-- > 0;) {
+        int kind = i >= m->k;
+        size_t index = kind ? i - m->k : i;
+        struct rs_shard shard = {index, NULL, m->size};
+        if (!m->marks[i]) continue;
+        shard.bytes = copied((kind ? m->recovery : m->originals) + index * m->size, m->size);
+        shards[kind][counts[kind]++] = shard;
+    }
+    lost = m->k - counts[0];
+    rooms = rooms_made(lost, m->size);
+    answer = rs_decode_shards(tables, m->k, m->r, shards[0], counts[0], shards[1], counts[1], rooms, lost, fault);
+    for (size_t i = 0, next = 0; i < m->k; i++)
+        if (!m->marks[i]) memcpy(restored + i * m->size, rooms[next++].bytes, m->size);
+    for (size_t i = 0; i < lost; i++) free(rooms[i].bytes);
+    for (int kind = 0; kind < 2; kind++) {
+        for (size_t i = 0; i < counts[kind]; i++) free((void *)shards[kind][i].bytes);
+        free(shards[kind]);
+    }
+    free(rooms);
+    return answer;
+}
+
+/* Both forms of an encode, which are to answer the same. */
+static uint32_t encode(const struct message *m, struct rs_fault *fault) {
+    struct rs_fault other;
+    uint8_t *recovery = room(m->r * m->size);
+    uint32_t answer = rs_encode(tables, m->k, m->r, m->size, m->originals, m->k * m->size, m->recovery, m->r * m->size, fault);
+    if (encode_anywhere(m, recovery, &other) != answer || !told(fault, other.number, other.first, other.second, other.third) ||
+        (!answer && memcmp(recovery, m->recovery, m->r * m->size)))
+        wrong("two encodes differ");
+    free(recovery);
+    return answer;
+}
+
+/* And of a decode. */
+static uint32_t decode(const struct message *m, struct rs_fault *fault) {
+    struct rs_fault other;
+    uint8_t *restored = copied(m->originals, m->k * m->size);
+    uint32_t answer = rs_decode(tables, m->k, m->r, m->size, m->originals, m->k * m->size, m->recovery, m->r * m->size, m->marks,
+                                m->k + m->r, fault);
+    if (decode_anywhere(m, restored, &other) != answer || !told(fault, other.number, other.first, other.second, other.third))
+        wrong("two decodes differ");
+    for (size_t i = 0; i < m->k * m->size; i++)
+        if (!m->marks[i / m->size] && restored[i] != (answer ? '#' : m->originals[i])) wrong("two decodes differ in bytes");
+    free(restored);
+    return answer;
 }
 
 /* HEX, or parts of HEX*N with `+` between them. */
@@ -157,11 +239,106 @@ static void refused(const struct message *m, int decodes, size_t originals, size
     free(old[1]);
 }
 
+struct given {
+    size_t index, size;
+};
+
+/* A refused call over arrays: shards of these indexes and sizes, and rooms of these sizes, each array up to an entry of size END. */
+#define END ((size_t)-1)
+static void refused_anywhere(int decodes, size_t k, size_t r, const struct given *originals, const struct given *recovery,
+                             const size_t *lengths, uint32_t number, size_t first, size_t second, size_t third) {
+    const struct given *given[2] = {originals, recovery};
+    struct rs_shard shards[2][8];
+    struct rs_bytes bytes[8];
+    struct rs_room rooms[8];
+    struct rs_fault fault = {99, 99, 99, 99};
+    size_t counts[3] = {0, 0, 0};
+    uint32_t answer;
+    for (int kind = 0; kind < 2; kind++)
+        for (; given[kind][counts[kind]].size != END; counts[kind]++) {
+            struct given one = given[kind][counts[kind]];
+            struct rs_shard shard = {one.index, memset(room(one.size), kind ? 9 : 7, one.size), one.size};
+            shards[kind][counts[kind]] = shard;
+        }
+    for (size_t i = 0; i < counts[0]; i++) {
+        bytes[i].bytes = shards[0][i].bytes;
+        bytes[i].length = shards[0][i].length;
+    }
+    for (; lengths[counts[2]] != END; counts[2]++) {
+        rooms[counts[2]].length = lengths[counts[2]];
+        rooms[counts[2]].bytes = memset(room(lengths[counts[2]]), '#', lengths[counts[2]]);
+    }
+    answer = decodes ? rs_decode_shards(tables, k, r, shards[0], counts[0], shards[1], counts[1], rooms, counts[2], &fault)
+                     : rs_encode_shards(tables, k, r, bytes, counts[0], rooms, counts[2], &fault);
+    if (answer != number || !told(&fault, number, first, second, third)) {
+        printf("test: %" PRIu32 " %zu %zu %zu told, wanted %" PRIu32 "\n", fault.number, fault.first, fault.second, fault.third, number);
+        wrong("another fault over arrays");
+    }
+    for (size_t i = 0; i < counts[2]; i++) {
+        for (size_t n = 0; n < lengths[i]; n++)
+            if (rooms[i].bytes[n] != '#') wrong("a refused call over arrays has written");
+        free(rooms[i].bytes);
+    }
+    for (int kind = 0; kind < 2; kind++)
+        for (size_t i = 0; i < counts[kind]; i++) free((void *)shards[kind][i].bytes);
+}
+
+#define SHARDS(...) (const struct given[]){__VA_ARGS__, {0, END}}
+#define NO_SHARD (const struct given[]){{0, END}}
+#define ROOMS(...) (const size_t[]){__VA_ARGS__, END}
+#define NO_ROOM (const size_t[]){END}
+
+static void encodes_refused_anywhere(void) {
+    const struct given *three = SHARDS({0, 4}, {1, 4}, {2, 4});
+    const size_t *two = ROOMS(4, 4);
+    refused_anywhere(0, 0, 2, three, NO_SHARD, two, RS_UNSUPPORTED_SHARD_COUNT, 0, 2, 0);
+    refused_anywhere(0, 3, 0, three, NO_SHARD, NO_ROOM, RS_UNSUPPORTED_SHARD_COUNT, 3, 0, 0);
+    refused_anywhere(0, SIZE_MAX, SIZE_MAX, NO_SHARD, NO_SHARD, two, RS_UNSUPPORTED_SHARD_COUNT, SIZE_MAX, SIZE_MAX, 0);
+    refused_anywhere(0, 3, 2, NO_SHARD, NO_SHARD, two, RS_TOO_FEW_ORIGINAL_SHARDS, 3, 0, 0);
+    refused_anywhere(0, 3, 2, SHARDS({0, 0}, {1, 4}), NO_SHARD, two, RS_INVALID_SHARD_SIZE, 0, 0, 0);
+    refused_anywhere(0, 3, 2, SHARDS({0, 3}, {1, 4}), NO_SHARD, NO_ROOM, RS_INVALID_SHARD_SIZE, 3, 0, 0);
+    refused_anywhere(0, 3, 2, SHARDS({0, 4}, {1, 4}, {2, 6}, {3, 4}), NO_SHARD, two, RS_DIFFERENT_SHARD_SIZE, 4, 6, 0);
+    refused_anywhere(0, 3, 2, SHARDS({0, 4}, {1, 4}, {2, 4}, {3, 6}), NO_SHARD, two, RS_TOO_MANY_ORIGINAL_SHARDS, 3, 0, 0);
+    refused_anywhere(0, 3, 2, SHARDS({0, 4}, {1, 4}), NO_SHARD, NO_ROOM, RS_TOO_FEW_ORIGINAL_SHARDS, 3, 2, 0);
+    refused_anywhere(0, 3, 2, three, NO_SHARD, NO_ROOM, RS_WRONG_NUMBER_OF_ROOMS, 2, 0, 0);
+    refused_anywhere(0, 3, 2, three, NO_SHARD, ROOMS(4), RS_WRONG_NUMBER_OF_ROOMS, 2, 1, 0);
+    refused_anywhere(0, 3, 2, three, NO_SHARD, ROOMS(6, 4, 4), RS_WRONG_NUMBER_OF_ROOMS, 2, 3, 0);
+    refused_anywhere(0, 3, 2, three, NO_SHARD, ROOMS(4, 6), RS_WRONG_LENGTH, 4, 6, 0);
+    refused_anywhere(0, 3, 2, three, NO_SHARD, ROOMS(2, 6), RS_WRONG_LENGTH, 4, 2, 0);
+}
+
+static void decodes_refused_anywhere(void) {
+    const struct given *three = SHARDS({2, 4}, {0, 4}, {1, 4}), *one = SHARDS({1, 4});
+    refused_anywhere(1, 0, 2, NO_SHARD, one, NO_ROOM, RS_UNSUPPORTED_SHARD_COUNT, 0, 2, 0);
+    refused_anywhere(1, 3, 0, three, NO_SHARD, NO_ROOM, RS_UNSUPPORTED_SHARD_COUNT, 3, 0, 0);
+    refused_anywhere(1, 3, 2, SHARDS({9, 1}), SHARDS({9, 0}), NO_ROOM, RS_INVALID_SHARD_SIZE, 0, 0, 0);
+    refused_anywhere(1, 3, 2, SHARDS({0, 4}, {3, 2}), SHARDS({9, 4}), NO_ROOM, RS_INVALID_ORIGINAL_SHARD_INDEX, 3, 3, 0);
+    refused_anywhere(1, 3, 2, SHARDS({SIZE_MAX, 4}), one, NO_ROOM, RS_INVALID_ORIGINAL_SHARD_INDEX, 3, SIZE_MAX, 0);
+    refused_anywhere(1, 3, 2, SHARDS({1, 4}, {1, 2}), SHARDS({9, 4}), NO_ROOM, RS_DUPLICATE_ORIGINAL_SHARD_INDEX, 1, 0, 0);
+    refused_anywhere(1, 3, 2, SHARDS({1, 2}), SHARDS({9, 4}), NO_ROOM, RS_DIFFERENT_SHARD_SIZE, 4, 2, 0);
+    refused_anywhere(1, 3, 2, one, SHARDS({2, 4}), NO_ROOM, RS_INVALID_RECOVERY_SHARD_INDEX, 2, 2, 0);
+    refused_anywhere(1, 3, 2, one, SHARDS({0, 4}, {0, 6}), NO_ROOM, RS_DUPLICATE_RECOVERY_SHARD_INDEX, 0, 0, 0);
+    refused_anywhere(1, 3, 2, one, SHARDS({0, 4}, {1, 6}), NO_ROOM, RS_DIFFERENT_SHARD_SIZE, 4, 6, 0);
+    refused_anywhere(1, 3, 2, one, SHARDS({0, 4}), NO_ROOM, RS_NOT_ENOUGH_SHARDS, 3, 1, 1);
+    refused_anywhere(1, 3, 2, three, one, ROOMS(4), RS_INCONSISTENT_SHARDS, 3, 1, 0);
+    refused_anywhere(1, 3, 2, SHARDS({1, 4}, {2, 4}), one, NO_ROOM, RS_WRONG_NUMBER_OF_ROOMS, 1, 0, 0);
+    refused_anywhere(1, 3, 2, SHARDS({1, 4}, {2, 4}), one, ROOMS(6, 4), RS_WRONG_NUMBER_OF_ROOMS, 1, 2, 0);
+    refused_anywhere(1, 3, 2, SHARDS({1, 4}, {2, 4}), one, ROOMS(6), RS_WRONG_LENGTH, 4, 6, 0);
+    refused_anywhere(1, 3, 2, SHARDS({1, 4}), SHARDS({1, 4}, {0, 4}), ROOMS(4, 2), RS_WRONG_LENGTH, 4, 2, 0);
+    refused_anywhere(1, 3, 2, NO_SHARD, NO_SHARD, NO_ROOM, RS_NOT_ENOUGH_SHARDS, 3, 0, 0);
+    refused_anywhere(1, 3, 2, SHARDS({2, 1}, {0, 0}), NO_SHARD, ROOMS(4), RS_NOT_ENOUGH_SHARDS, 3, 2, 0);
+    refused_anywhere(1, 3, 2, SHARDS({2, 4}, {3, 4}, {2, 4}), NO_SHARD, NO_ROOM, RS_INVALID_ORIGINAL_SHARD_INDEX, 3, 3, 0);
+    refused_anywhere(1, 3, 2, SHARDS({2, 4}, {2, 4}, {3, 4}), NO_SHARD, NO_ROOM, RS_DUPLICATE_ORIGINAL_SHARD_INDEX, 2, 0, 0);
+    refused_anywhere(1, 3, 2, three, NO_SHARD, ROOMS(0), RS_WRONG_NUMBER_OF_ROOMS, 0, 1, 0);
+    refused_anywhere(1, 3, 2, SHARDS({2, 9}, {0, 0}, {1, 5}), NO_SHARD, NO_ROOM, RS_OK, 0, 0, 0);
+}
+
 /* The texts are those of the Rust crate, whole or as much as fits. */
 static void texts(void) {
     static const struct rs_fault faults[] = {{0, 0, 0, 0},  {1, 0, 0, 0},  {2, 70000, 7, 0}, {3, 5, 0, 0},  {4, 64, 66, 0},
                                              {5, 3, 1, 0},  {6, 3, 0, 0},  {7, 9, 4, 2},     {8, 3, 8, 0},  {9, 2, 6, 0},
-                                             {10, 1, 0, 0}, {11, 4, 0, 0}, {12, 3, 2, 0},    {13, 12, 11, 0}, {14, 1, 1, 1}};
+                                             {10, 1, 0, 0}, {11, 4, 0, 0}, {12, 3, 2, 0},    {13, 12, 11, 0}, {14, 2, 3, 0},
+                                             {15, 1, 1, 1}};
     static const char *const wanted[] = {
         "",
         "out of memory",
@@ -177,6 +354,7 @@ static void texts(void) {
         "duplicate recovery shard index: 4",
         "inconsistent shards: 3 original + 2 recovery agree with no message",
         "wrong length: expected 12 bytes, got 11 bytes",
+        "wrong number of rooms: expected 2, got 3",
         ""};
     for (size_t i = 0; i < sizeof faults / sizeof *faults; i++)
         for (size_t length = 0; length < 80; length += 8) {
@@ -235,6 +413,8 @@ static void refusals(void) {
         !rs_supports(65535, 1) || !rs_supports(1, 65535) || rs_supports(65535, 2) || rs_version() / 65536 != RS_VERSION / 65536)
         wrong("other counts or another version");
     let_go(&m);
+    encodes_refused_anywhere();
+    decodes_refused_anywhere();
     texts();
     puts("test: refusals");
 }

@@ -11,9 +11,23 @@ class Fault(ctypes.Structure):
     _fields_ = [("number", ctypes.c_uint32), ("first", ctypes.c_size_t), ("second", ctypes.c_size_t), ("third", ctypes.c_size_t)]
 
 
+class Bytes(ctypes.Structure):
+    _fields_ = [("bytes", ctypes.c_char_p), ("length", ctypes.c_size_t)]
+
+
+class Room(ctypes.Structure):
+    _fields_ = [("bytes", ctypes.c_void_p), ("length", ctypes.c_size_t)]
+
+
+class Shard(ctypes.Structure):
+    _fields_ = [("index", ctypes.c_size_t), ("bytes", ctypes.c_char_p), ("length", ctypes.c_size_t)]
+
+
 size, pointer = ctypes.c_size_t, ctypes.c_void_p
 library.rs_encode.argtypes = [pointer, size, size, size, ctypes.c_char_p, size, pointer, size, ctypes.POINTER(Fault)]
 library.rs_decode.argtypes = [pointer, size, size, size, pointer, size, ctypes.c_char_p, size, ctypes.c_char_p, size, ctypes.POINTER(Fault)]
+library.rs_encode_shards.argtypes = [pointer, size, size, pointer, size, pointer, size, ctypes.POINTER(Fault)]
+library.rs_decode_shards.argtypes = [pointer, size, size, pointer, size, pointer, size, pointer, size, ctypes.POINTER(Fault)]
 library.rs_tables_make.argtypes = [pointer]
 tables = ctypes.create_string_buffer(8 * 1097728)
 assert library.rs_tables_make(tables) == 0
@@ -37,6 +51,34 @@ def decode(k, r, given):
     if number:
         raise ValueError(number, fault.first, fault.second, fault.third)
     return [originals.raw[i * n:(i + 1) * n] for i in range(k)]
+
+
+def rooms_of(count, n):
+    """Rooms, and the memory that they lead to."""
+    memory = [ctypes.create_string_buffer(n) for _ in range(count)]
+    return (Room * count)(*[(ctypes.addressof(at), n) for at in memory]), memory
+
+
+def encode_shards(originals, r):
+    fault, (rooms, memory) = Fault(), rooms_of(r, len(originals[0]))
+    given = (Bytes * len(originals))(*[(shard, len(shard)) for shard in originals])
+    number = library.rs_encode_shards(tables, len(originals), r, given, len(given), rooms, r, fault)
+    if number:
+        raise ValueError(number, fault.first, fault.second, fault.third)
+    return [at.raw for at in memory]
+
+
+def decode_shards(k, r, given):
+    lost, fault = [i for i in range(k) if i not in given], Fault()
+    rooms, memory = rooms_of(len(lost), len(next(iter(given.values()))))
+    originals = [(i, shard, len(shard)) for i, shard in given.items() if i < k]
+    recovery = [(i - k, shard, len(shard)) for i, shard in given.items() if i >= k]
+    number = library.rs_decode_shards(tables, k, r, (Shard * len(originals))(*originals), len(originals),
+                                      (Shard * len(recovery))(*recovery), len(recovery), rooms, len(lost), fault)
+    if number:
+        raise ValueError(number, fault.first, fault.second, fault.third)
+    restored = dict(zip(lost, (at.raw for at in memory)))
+    return [given.get(i, restored.get(i)) for i in range(k)]
 
 
 def drawn(seed, length):
@@ -75,15 +117,18 @@ for line in open(sys.argv[2]):
                 originals = [bytes((7 * i + 13 * j + 5) % 251 for i in range(n)) for j in range(k)]
             recovery = encode(originals, r)
             assert hashlib.sha256(b"".join(recovery)).hexdigest() == words[2], line
+            assert encode_shards(originals, r) == recovery
             left = dict(enumerate(originals + recovery))
             for i in range(0, min(k, r)):
                 del left[i]
             assert decode(k, r, left) == originals
+            assert decode_shards(k, r, left) == originals
             count += 1
 assert count > 10
-try:
-    encode([b"odd"], 1)
-    raise AssertionError
-except ValueError as fault:
-    assert fault.args == (3, 3, 0, 0)
+for call in encode, encode_shards:
+    try:
+        call([b"odd"], 1)
+        raise AssertionError
+    except ValueError as fault:
+        assert fault.args == (3, 3, 0, 0)
 print(f"python: {count} digests")

@@ -1,49 +1,16 @@
 -- Shards one behind the other, one at a time.
-use Rattle.std.proofs.Common.{◌≡◌, ℕ, zero, suc, ◌+◌, ◌-◌, ◌*◌, ◌<◌, ◌≤◌, Bool, List, [], ◌∷◌, ◌++◌, length, take, drop, if◌then◌else◌, get_or, Option, Some, None, All, sym, ap, subst, ◌∙◌, refl, arith}
+use Rattle.std.proofs.Common.{◌≡◌, ℕ, zero, suc, ◌+◌, ◌-◌, ◌*◌, ◌<◌, ◌≤◌, List, [], ◌∷◌, ◌++◌, length, take, drop, Option, Some, None, All, sym, ap, subst, ◌∙◌, refl, arith}
 use Rattle.std.specs.Prelude.{unwrap_or}
 use Rattle.std.proofs.Math.Nat.{suc-mul, mul-le-mul_right}
-use Rattle.std.proofs.lemmas.Bool.{eq-eqb, ne_eqb}
-use Rattle.std.proofs.lemmas.List.{append_assoc, length-append, length-drop, length-take-le, drop_more, drop-drop, take-take, drop-take, take-append-drop}
+use Rattle.std.proofs.lemmas.List.{append_assoc, length-append, length-drop, length-take-le, drop-drop, take-take, drop-take, take-append-drop}
 use borrow.Rule.Slice.PartMut.{put_mid}
 use Rattle.rs_field.specs.Column.{Shard, IsShard}
 use Rattle.rs_field.specs.Given.{Shards}
-use Rattle.rs_c.specs.Buffers.{cut, marked, joined, with_restored, AreSized}
+use Rattle.rs_c.specs.Buffers.{joined, with_restored, AreSized}
 
 -- one of the numbers below n less than before is left
 one-less : (i n : ℕ) → i < n → n - i ≡ suc (n - (i + 1))
 one-less i n h = omega arith
-
--- the first of the shards that are left
-pub cut-step : (i n size : ℕ) (bytes : List ℕ) → i < n → cut (n - i) size bytes ≡ take size bytes ∷ cut (n - (i + 1)) size (drop size bytes)
-cut-step i n size bytes h = ap (λ (m : ℕ). cut m size bytes) (one-less i n h)
-
--- the bytes that are left for shards are one shard and those of the others
-more-left : (i n size : ℕ) (bytes : List ℕ) → i < n → length bytes ≡ (n - i) * size → length bytes ≡ (n - (i + 1)) * size + size
-more-left i n size bytes h sized = sized ∙ ap (λ (m : ℕ). m * size) (one-less i n h) ∙ suc-mul (n - (i + 1)) size
-
--- what is left behind the first of them
-pub left-step : (i n size : ℕ) (bytes : List ℕ) → i < n → length bytes ≡ (n - i) * size → length (drop size bytes) ≡ (n - (i + 1)) * size
-left-step i n size bytes h sized = let more = more-left i n size bytes h sized in length-drop size bytes ∙ omega (arith, more)
-
--- the marks that are left begin with the one at this index
-next-mark : (i size : ℕ) (marks bytes : List ℕ) → i < length marks → marked i size (drop i marks) bytes ≡ marked i size (get_or marks i 0 ∷ drop (i + 1) marks) bytes
-next-mark i size marks bytes h = ap (λ (left : List ℕ). marked i size left bytes) (drop_more marks i 0 h)
-
--- the marked shards that are left, where the first is lost
-pub marked-lost : (i size : ℕ) (marks bytes : List ℕ) → i < length marks → get_or marks i 0 ≡ 0
-    → marked i size (drop i marks) bytes ≡ marked (i + 1) size (drop (i + 1) marks) (drop size bytes)
-marked-lost i size marks bytes h lost =
-    next-mark i size marks bytes h
-    ∙ ap (λ (b : Bool). if b then marked (i + 1) size (drop (i + 1) marks) (drop size bytes) else (i, take size bytes) ∷ marked (i + 1) size (drop (i + 1) marks) (drop size bytes))
-    (eq-eqb (get_or marks i 0) 0 lost)
-
--- and where it is there
-pub marked-there : (i size : ℕ) (marks bytes : List ℕ) → i < length marks → (get_or marks i 0 ≡ 0 → ⊥)
-    → marked i size (drop i marks) bytes ≡ (i, take size bytes) ∷ marked (i + 1) size (drop (i + 1) marks) (drop size bytes)
-marked-there i size marks bytes h there =
-    next-mark i size marks bytes h
-    ∙ ap (λ (b : Bool). if b then marked (i + 1) size (drop (i + 1) marks) (drop size bytes) else (i, take size bytes) ∷ marked (i + 1) size (drop (i + 1) marks) (drop size bytes))
-    (ne_eqb (get_or marks i 0) 0 there)
 
 -- the bytes before a place, with what is to be written behind them, are the whole, for which there is just room
 pub record IsWritten (whole : List ℕ) (at : ℕ) (bytes rest : List ℕ) : Type 0 where

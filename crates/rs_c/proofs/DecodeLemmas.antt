@@ -1,11 +1,11 @@
 -- From the steps of a decode over buffers to its answer.
-use Rattle.std.proofs.Common.{◌≡◌, ℕ, zero, suc, ◌+◌, ◌*◌, ◌==◌, ◌&&◌, Bool, true, false, not, cond, List, [], ◌∷◌, ◌++◌, length, take, drop, nat_le, nat_lt, if◌then◌else◌, Some, None, is_some, Result, Ok, Err, MatchResult, inl, inr, sym, ap, subst, ◌∙◌, refl, arith}
+use Rattle.std.proofs.Common.{◌≡◌, ℕ, zero, suc, ◌+◌, ◌*◌, ◌==◌, ◌&&◌, Bool, true, false, not, cond, List, [], ◌∷◌, ◌++◌, length, take, drop, nat_le, nat_lt, if◌then◌else◌, Some, None, is_some, Result, Ok, Err, IsOk, MatchResult, inl, inr, sym, ap, subst, ◌∙◌, refl, arith}
 use Rattle.std.proofs.lemmas.Bool.{ltb-true}
 use Rattle.std.specs.Result.{result_map_both}
 use Rattle.std.proofs.Math.Nat.{suc-mul}
 use Rattle.std.proofs.lemmas.List.{length-take-le, length-drop, take-append-drop, nil_from_length}
 use Rattle.rs_field.specs.declared.error.Error.{Error}
-use Rattle.rs_field.specs.declared.error.Error.TheVariants.{InvalidOriginalShardIndex, DuplicateOriginalShardIndex, InvalidRecoveryShardIndex, DuplicateRecoveryShardIndex, DifferentShardSize}
+use Rattle.rs_field.specs.declared.error.Error.TheVariants.{InvalidOriginalShardIndex, DuplicateOriginalShardIndex, InvalidRecoveryShardIndex, DuplicateRecoveryShardIndex, DifferentShardSize, OutOfMemory}
 use Rattle.rs_field.specs.Column.{Shard, AreShards, shard_at}
 use Rattle.rs_field.specs.Given.{Shards, nothing}
 use Rattle.rs_field.specs.Counts.{default_rate}
@@ -19,10 +19,11 @@ use Rattle.reed_solomon_simd.proofs.Giving.{reaches-then}
 use Rattle.rs_c.specs.declared.fault.Fault.{Fault}
 use Rattle.rs_c.specs.declared.fault.Fault.TheVariants.{Refused}
 use Rattle.rs_c.specs.Buffers.{fitting, marked, with_restored, AreSized}
+use Rattle.rs_c.specs.Given.{BeginsItemSized}
 use Rattle.rs_c.specs.Answers.{DecodesBuffer, Writes, decode_lengths}
 use Rattle.rs_c.proofs.EncodeLemmas.{lengths-ok, started-valid}
 use Rattle.rs_c.proofs.MarkedLemmas.{present}
-use Rattle.rs_c.proofs.Steps.{reached, kept-by-all, ok-same}
+use Rattle.rs_c.proofs.Steps.{ok-same}
 
 -- lengths that aren't refused
 pub decode_lengths-ok : (k r size originals recovery marks : ℕ) → Ok tt ≡ counted k r → Ok tt ≡ fitting k size originals → Ok tt ≡ fitting r size recovery → Ok tt ≡ fitting (k + r) 1 marks
@@ -31,7 +32,7 @@ decode_lengths-ok k r size originals recovery marks counts own other all =
     ap (result_and_then (λ _. fitting (k + r) 1 marks)) (lengths-ok k r size originals recovery counts own other) ∙ sym all
 
 -- an original that is added leaves the configuration
-kept-original : (s t : DecoderState) (item : ℕ × Shard) → with_original s item.0 item.1 ≡ Ok t → t.configuration ≡ s.configuration
+pub kept-original : (s t : DecoderState) (item : ℕ × Shard) → with_original s item.0 item.1 ≡ Ok t → t.configuration ≡ s.configuration
 kept-original s t item is =
     by_tests (nat_le s.configuration.original_count item.0) (is_some (s.originals item.0)) (not (length item.1 == s.configuration.shard_bytes)) _ refl is
   where
@@ -45,7 +46,7 @@ kept-original s t item is =
     by_tests false false false next same is = ap (λ (u : DecoderState). u.configuration) (sym (ok-same next t (Ok next) refl is)) ∙ same
 
 -- and so does a recovery shard
-kept-recovery : (s t : DecoderState) (item : ℕ × Shard) → with_recovery s item.0 item.1 ≡ Ok t → t.configuration ≡ s.configuration
+pub kept-recovery : (s t : DecoderState) (item : ℕ × Shard) → with_recovery s item.0 item.1 ≡ Ok t → t.configuration ≡ s.configuration
 kept-recovery s t item is =
     by_tests (nat_le s.configuration.recovery_count item.0) (is_some (s.recovery item.0)) (not (length item.1 == s.configuration.shard_bytes)) _ refl is
   where
@@ -70,16 +71,9 @@ missing-sized k size o message i x are is = by_tests (nat_lt i k) refl o is
     by_tests false below c same = absurd (let no : ⊥ = cc in no)
 
 -- what a decoder restores has the size
-pub restored-sized : (k r size : ℕ) (originals recoveries : Items) (start now given : DecoderState) (restored : Shards) → start ≡ fresh_decoder (default_of k r size)
-    → Reaches (with_originals start originals) (Ok tt) (λ s. now ≡ s) → Reaches (with_recoveries now recoveries) (Ok tt) (λ s. given ≡ s)
-    → DecodeAnswers given (Ok restored) → AreSized size restored
+pub restored-sized : (k r size : ℕ) (given : DecoderState) (restored : Shards) → given.configuration ≡ default_of k r size → DecodeAnswers given (Ok restored) → AreSized size restored
 unfolding missing_of
-restored-sized k r size originals recoveries start now given restored fresh one other answers i x is =
-    let c : given.configuration ≡ default_of k r size =
-    kept-by-all (λ s item. with_recovery s item.0 item.1) (λ s. s.configuration) kept-recovery recoveries now given (reached (with_recoveries now recoveries) given other)
-    ∙ kept-by-all (λ s item. with_original s item.0 item.1) (λ s. s.configuration) kept-original originals start now (reached (with_originals start originals) now one)
-    ∙ ap (λ (s : DecoderState). s.configuration) fresh
-    in
+restored-sized k r size given restored c answers i x is =
     let done : Restored given restored = by_outcome (enough_given given) answers in
     missing-sized given.configuration.original_count given.configuration.shard_bytes (not (is_some (given.originals i))) done.message i x done.agrees.shards (sym (done.missing i) ∙ is)
     ∙ ap (λ (d : Configuration). d.shard_bytes) c
@@ -112,21 +106,17 @@ decode-unset k r originals first rest e (inl same) =
 decode-unset k r originals first rest e (inr lacks) =
     inr (started-valid (decoder_rows default_rate k r) (default_of k r (length first.1)) lacks.0, ap (result_map_both (λ (u : Unit {0}). nothing) (λ (x : Error). x)) lacks.1)
 
--- marked shards of which there is a first, of the size
-abbrev pub HasFirst : ℕ → Items → Type 0
-HasFirst size items = (first : ℕ × Shard) × (rest : Items) × (items ≡ first ∷ rest) × (length first.1 ≡ size)
-
 -- where some mark isn't 0 a first marked shard comes
-pub marked-some : (i size : ℕ) (marks bytes : List ℕ) → (present marks ≡ 0 → ⊥) → length bytes ≡ length marks * size → HasFirst size (marked i size marks bytes)
+pub marked-some : (i size : ℕ) (marks bytes : List ℕ) → (present marks ≡ 0 → ⊥) → length bytes ≡ length marks * size → BeginsItemSized size (marked i size marks bytes)
 marked-some i size [] bytes some sized = absurd (some refl)
 marked-some i size (mark ∷ marks) bytes some sized =
     let more = suc-mul (length marks) size in
     by_mark (mark == 0) some (λ further. marked-some (i + 1) size marks (drop size bytes) further (length-drop size bytes ∙ omega (arith, sized, more)))
     (length-take-le size bytes (omega (arith, sized, more)))
   where
-    by_mark : (lost : Bool) → (cond (not lost) (1 + present marks) (present marks) ≡ 0 → ⊥) → ((present marks ≡ 0 → ⊥) → HasFirst size (marked (i + 1) size marks (drop size bytes)))
+    by_mark : (lost : Bool) → (cond (not lost) (1 + present marks) (present marks) ≡ 0 → ⊥) → ((present marks ≡ 0 → ⊥) → BeginsItemSized size (marked (i + 1) size marks (drop size bytes)))
         → length (take size bytes) ≡ size
-        → HasFirst size (if lost then marked (i + 1) size marks (drop size bytes) else (i, take size bytes) ∷ marked (i + 1) size marks (drop size bytes))
+        → BeginsItemSized size (if lost then marked (i + 1) size marks (drop size bytes) else (i, take size bytes) ∷ marked (i + 1) size marks (drop size bytes))
     by_mark true some further long = further some
     by_mark false some further long = ((i, take size bytes), marked (i + 1) size marks (drop size bytes), refl, long)
 
@@ -140,11 +130,26 @@ marked-none i size (mark ∷ marks) bytes none = by_mark (mark == 0) none (marke
     by_mark true none further = further none
     by_mark false none further = absurd (omega (arith, none))
 
+-- where no recovery shard came the counts decide
+pub none-uncounted : (k r : ℕ) (originals : Items) (e : Error) → Err e ≡ counted k r → OneDecodeAnswers k r originals [] (Err e)
+none-uncounted k r originals e is =
+    inl (subst (λ (o : Result (Unit {0}) Error). MatchResult (result_and_then (λ _. all_came k originals) o) (λ _. ◌≡◌ {A = Result Shards Error} (Err e) (Ok nothing)) (λ f. ◌≡◌ {A = Result Shards Error} (Err e) (Err f))) is refl)
+
 -- where no recovery shard came and an original didn't
 pub none-refused : (k r : ℕ) (originals : Items) (e : Error) → Ok tt ≡ counted k r → all_came k originals ≡ Err e → OneDecodeAnswers k r originals [] (Err e)
 none-refused k r originals e supported came =
     inl (subst (λ (o : Result (Unit {0}) Error). MatchResult o (λ _. ◌≡◌ {A = Result Shards Error} (Err e) (Ok nothing)) (λ f. ◌≡◌ {A = Result Shards Error} (Err e) (Err f)))
     (sym came ∙ ap (result_and_then (λ _. all_came k originals)) supported) refl)
+
+-- and where memory lacks for the indexes
+pub none-lacks : (k r : ℕ) (originals : Items) (e : Error) → Ok tt ≡ counted k r → ◌≡◌ {A = Result (Unit {0}) Error} (Err e) (Err OutOfMemory) → OneDecodeAnswers k r originals [] (Err e)
+none-lacks k r originals e supported lacks =
+    inr (subst (λ (o : Result (Unit {0}) Error). IsOk o) supported refl, ap (result_map_both (λ (u : Unit {0}). nothing) (λ (x : Error). x)) lacks)
+
+-- an answer to the same shards
+pub same-shards : (k r : ℕ) (one own two other : Items) (o : Result Shards Error) → one ≡ own → two ≡ other → OneDecodeAnswers k r one two o → OneDecodeAnswers k r own other o
+same-shards k r one own two other o first second answers =
+    subst (λ (items : Items). OneDecodeAnswers k r own items o) second (subst (λ (items : Items). OneDecodeAnswers k r items two o) first answers)
 
 -- where nothing is restored the buffer stays
 pub with-nothing : (i size n : ℕ) (bytes : List ℕ) → length bytes ≡ n * size → with_restored nothing i size n bytes ≡ bytes

@@ -5,7 +5,7 @@ use Rattle.std.proofs.Math.Nat.{suc-mul}
 use Rattle.std.proofs.lemmas.Bool.{eqb-true}
 use Rattle.std.proofs.lemmas.List.{length-take-le}
 use Rattle.rs_field.specs.declared.error.Error.{Error}
-use Rattle.rs_field.specs.declared.error.Error.TheVariants.{TooManyOriginalShards, DifferentShardSize, UnsupportedShardCount}
+use Rattle.rs_field.specs.declared.error.Error.TheVariants.{TooFewOriginalShards, TooManyOriginalShards, DifferentShardSize, UnsupportedShardCount}
 use Rattle.rs_field.specs.Column.{Shard, AreShards}
 use Rattle.rs_field.specs.Counts.{default_rate, supports}
 use Rattle.rs_field.specs.Placement.{encoder_rows}
@@ -21,7 +21,7 @@ use Rattle.rs_c.specs.Faults.{refusing}
 use Rattle.rs_c.specs.Buffers.{fitting, cut, joined}
 use Rattle.rs_c.specs.Answers.{EncodesBuffer, Writes, encode_lengths}
 use Rattle.rs_c.proofs.BufferLemmas.{length-joined}
-use Rattle.rs_c.proofs.Steps.{reached, kept-by-all, ok-same}
+use Rattle.rs_c.proofs.Steps.{reached, ok-same}
 
 -- counts that aren't refused are supported
 pub counted-supports : (k r : ℕ) → Ok tt ≡ counted k r → supports default_rate k r ≡ true
@@ -109,7 +109,7 @@ module _ (k r : ℕ) (first : Shard) (rest : List Shard) where
         (sym (reached (with_shards start (first ∷ rest)) given reaches)) answered)
 
 -- an original that is added leaves the configuration
-kept-shard : (s t : EncoderState) (x : Shard) → with_shard s x ≡ Ok t → t.configuration ≡ s.configuration
+pub kept-shard : (s t : EncoderState) (x : Shard) → with_shard s x ≡ Ok t → t.configuration ≡ s.configuration
 kept-shard s t x is = by_tests (nat_le s.configuration.original_count (length s.given)) (not (length x == s.configuration.shard_bytes)) _ refl is
   where
     by_tests : (full other : Bool) (next : EncoderState) → next.configuration ≡ s.configuration
@@ -120,14 +120,24 @@ kept-shard s t x is = by_tests (nat_le s.configuration.original_count (length s.
     by_tests false false next same is = ap (λ (u : EncoderState). u.configuration) (sym (ok-same next t (Ok next) refl is)) ∙ same
 
 -- the recovery shards of a round fill a buffer of their number and size
-pub recovery-length : (k r size : ℕ) (items : List Shard) (start given : EncoderState) (shards : List Shard) → start ≡ fresh_encoder (default_of k r size)
-    → Reaches (with_shards start items) (Ok tt) (λ s. given ≡ s) → EncodeAnswers given (Ok shards) → length (joined shards) ≡ r * size
-recovery-length k r size items start given shards fresh reaches answers =
-    let c : given.configuration ≡ default_of k r size =
-    kept-by-all with_shard (λ s. s.configuration) kept-shard items start given (reached (with_shards start items) given reaches) ∙ ap (λ (s : EncoderState). s.configuration) fresh
-    in
+pub recovery-length : (k r size : ℕ) (given : EncoderState) (shards : List Shard) → given.configuration ≡ default_of k r size → EncodeAnswers given (Ok shards) → length (joined shards) ≡ r * size
+recovery-length k r size given shards c answers =
     let are : AreShards r size shards = subst (λ (d : Configuration). AreShards d.recovery_count d.shard_bytes shards) c (answered given shards answers).1.shards in
     length-joined size shards are.each ∙ ap (λ (n : ℕ). n * size) are.length_is
+
+-- the outcome where no original came, by that of the counts
+abbrev no_shard : ℕ → Result (Unit {0}) Error → Result EncoderState Error
+no_shard k counts = result_and_then (λ _. Err (TooFewOriginalShards k 0)) counts
+
+-- where no original came the counts decide
+pub none-uncounted : (k r : ℕ) (e : Error) → Err e ≡ counted k r → OneEncodeAnswers k r [] (Err e)
+none-uncounted k r e is =
+    inl (subst (λ (o : Result (Unit {0}) Error). MatchResult (no_shard k o) (λ s. EncodeAnswers s (Err e)) (λ f. ◌≡◌ {A = Result (List Shard) Error} (Err e) (Err f))) is refl)
+
+-- and else there are too few
+pub none-few : (k r : ℕ) → Ok tt ≡ counted k r → OneEncodeAnswers k r [] (Err (TooFewOriginalShards k 0))
+none-few k r is =
+    inl (subst (λ (o : Result (Unit {0}) Error). MatchResult (no_shard k o) (λ s. EncodeAnswers s (Err (TooFewOriginalShards k 0))) (λ f. ◌≡◌ {A = Result (List Shard) Error} (Err (TooFewOriginalShards k 0)) (Err f))) is refl)
 
 -- a refusal of the library, where counts and lengths go
 pub encodes-refused : (k r size : ℕ) (originals old new : List ℕ) (answer : Result (Unit {0}) Fault) (e : Error) → encode_lengths k r size (length originals) (length old) ≡ Ok tt

@@ -1,5 +1,7 @@
 mod BufferLemmas
 mod DecodeLemmas
 mod EncodeLemmas
+mod LayoutLemmas
 mod MarkedLemmas
+mod RoomLemmas
 mod Steps

@@ -1,7 +1,7 @@
 -- What the calls over buffers answer.
-use Rattle.std.specs.Prelude.{◌≡◌, ℕ, ◌+◌, List, take, drop, length, nat_lt, if◌then◌else◌, Result, Ok, Err, MatchResult}
+use Rattle.std.specs.Prelude.{◌≡◌, ◌≢◌, ℕ, ◌+◌, ◌==◌, not, count_by, List, take, drop, length, nat_lt, if◌then◌else◌, Result, Ok, Err, MatchResult}
 use Rattle.rs_field.specs.declared.error.Error.{Error}
-use Rattle.rs_field.specs.declared.error.Error.TheVariants.{NotEnoughShards}
+use Rattle.rs_field.specs.declared.error.Error.TheVariants.{NotEnoughShards, OutOfMemory}
 use Rattle.rs_field.specs.Outcome.{result_and_then}
 use Rattle.reed_solomon_simd.specs.Column.{Shard}
 use Rattle.reed_solomon_simd.specs.Given.{Shards}
@@ -40,6 +40,10 @@ DecodesBuffer k r size marks recovery old new answer =
     (λ _. (decoded : Result Shards Error) × OneDecodeAnswers k r (marked 0 size (take k marks) old) (marked 0 size (drop k marks) recovery) decoded
     × Writes decoded (λ restored. with_restored restored 0 size k old) old new answer)
     (λ fault. (answer ≡ Err fault) × (new ≡ old))
+
+-- where no recovery shard is marked no memory is wanted
+abbrev pub WantsNoMemory : ℕ → List ℕ → Result (Unit {0}) Fault → Type 0
+WantsNoMemory k marks answer = count_by (λ mark. not (mark == 0)) (drop k marks) ≡ 0 → answer ≢ Err (Refused OutOfMemory)
 
 -- whether all k originals came, where so many did and no recovery shard
 abbrev pub all_or_refused : ℕ → ℕ → Result (Unit {0}) Error

@@ -2,5 +2,7 @@ pub mod Tables
 pub mod Faults
 pub mod Buffers
 pub mod Answers
+pub mod Arrays
+pub mod Given
 pub mod FaultTexts
 pub mod Texts

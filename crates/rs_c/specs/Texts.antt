@@ -1,28 +1,41 @@
 -- The texts of faults.
 use Rattle.std.specs.Prelude.{◌≡◌, ℕ, ◌==◌, ◌⊎◌, List, [], ◌++◌, length, take, drop, Option, Some, None, if◌then◌else◌}
+use Rattle.std.specs.Option.{option_map}
+use Rattle.rs_field.specs.declared.error.Error.{Error}
 use Rattle.rs_field.specs.declared.error.Error.TheVariants.{OutOfMemory, UnsupportedShardCount, InvalidShardSize, DifferentShardSize, TooFewOriginalShards, TooManyOriginalShards, NotEnoughShards, InvalidOriginalShardIndex, InvalidRecoveryShardIndex, DuplicateOriginalShardIndex, DuplicateRecoveryShardIndex, InconsistentShards}
 use Rattle.rs_c.specs.declared.fault.Fault.{Fault}
-use Rattle.rs_c.specs.declared.fault.Fault.TheVariants.{Refused, WrongLength}
+use Rattle.rs_c.specs.declared.fault.Fault.TheVariants.{Refused, WrongLength, WrongNumberOfRooms}
 use Rattle.rs_c.specs.declared.fault.RsFault.{RsFault}
 use Rattle.rs_c.specs.FaultTexts.{text_of}
+
+-- the refusal of shards that came that has these numbers
+abbrev pub shard_refusal_with : RsFault → Option Error
+shard_refusal_with fault =
+    if fault.number == 8 then Some (InvalidOriginalShardIndex fault.first fault.second)
+    else if fault.number == 9 then Some (InvalidRecoveryShardIndex fault.first fault.second)
+    else if fault.number == 10 then Some (DuplicateOriginalShardIndex fault.first)
+    else if fault.number == 11 then Some (DuplicateRecoveryShardIndex fault.first)
+    else if fault.number == 12 then Some (InconsistentShards fault.first fault.second)
+    else None
+
+-- the refusal of the library that has these numbers
+abbrev pub refusal_with : RsFault → Option Error
+refusal_with fault =
+    if fault.number == 1 then Some OutOfMemory
+    else if fault.number == 2 then Some (UnsupportedShardCount fault.first fault.second)
+    else if fault.number == 3 then Some (InvalidShardSize fault.first)
+    else if fault.number == 4 then Some (DifferentShardSize fault.first fault.second)
+    else if fault.number == 5 then Some (TooFewOriginalShards fault.first fault.second)
+    else if fault.number == 6 then Some (TooManyOriginalShards fault.first)
+    else if fault.number == 7 then Some (NotEnoughShards fault.first fault.second fault.third)
+    else shard_refusal_with fault
 
 -- the fault that has these numbers
 abbrev pub fault_with : RsFault → Option Fault
 fault_with fault =
-    if fault.number == 1 then Some (Refused OutOfMemory)
-    else if fault.number == 2 then Some (Refused (UnsupportedShardCount fault.first fault.second))
-    else if fault.number == 3 then Some (Refused (InvalidShardSize fault.first))
-    else if fault.number == 4 then Some (Refused (DifferentShardSize fault.first fault.second))
-    else if fault.number == 5 then Some (Refused (TooFewOriginalShards fault.first fault.second))
-    else if fault.number == 6 then Some (Refused (TooManyOriginalShards fault.first))
-    else if fault.number == 7 then Some (Refused (NotEnoughShards fault.first fault.second fault.third))
-    else if fault.number == 8 then Some (Refused (InvalidOriginalShardIndex fault.first fault.second))
-    else if fault.number == 9 then Some (Refused (InvalidRecoveryShardIndex fault.first fault.second))
-    else if fault.number == 10 then Some (Refused (DuplicateOriginalShardIndex fault.first))
-    else if fault.number == 11 then Some (Refused (DuplicateRecoveryShardIndex fault.first))
-    else if fault.number == 12 then Some (Refused (InconsistentShards fault.first fault.second))
-    else if fault.number == 13 then Some (WrongLength fault.first fault.second)
-    else None
+    if fault.number == 13 then Some (WrongLength fault.first fault.second)
+    else if fault.number == 14 then Some (WrongNumberOfRooms fault.first fault.second)
+    else option_map Refused (refusal_with fault)
 
 -- the text of a fault, and none where there is no fault
 abbrev pub text_with : Option Fault → List ℕ

@@ -1,14 +1,24 @@
-//! Decoding over buffers.
-ghost use Rattle.std.specs.Prelude.{◌≡◌, ◌*◌, ◌==◌, not, length, count_by};
-ghost use Rattle.rs_field.specs.OneCall.{with_originals, with_recoveries};
+//! Decoding, of shards in buffers and of shards anywhere.
+ghost use Rattle.std.specs.Prelude.{◌≡◌, ◌≢◌, ◌*◌, ◌==◌, not, length, count_by, Result, Ok, Err, IfOk, IfErr};
+ghost use Rattle.rs_field.specs.declared.error.Error.{Error as ErrorOf};
+ghost use Rattle.rs_field.specs.Given.{Shards};
+ghost use Rattle.rs_field.specs.Counts.{default_rate};
+ghost use Rattle.rs_field.specs.Decoder.{DecodeAnswers};
+ghost use Rattle.rs_field.specs.OneCall.{default_of, with_originals, with_recoveries, OneDecodeAnswers};
+ghost use Rattle.rs_rate.specs.DecoderView.{decoder_state};
 ghost use Rattle.rs_rate.specs.ResultView.{restored_originals};
 ghost use Rattle.reed_solomon_simd.specs.Giving.{Reaches};
-ghost use Rattle.rs_c.specs.Buffers.{marked, with_restored, AreSized};
-ghost use Rattle.rs_c.specs.Answers.{DecodesBuffer, all_or_refused};
+ghost use Rattle.rs_c.specs.Buffers.{with_restored, AreSized};
+ghost use Rattle.rs_c.specs.Answers.{DecodesBuffer, WantsNoMemory, all_or_refused};
+ghost use Rattle.rs_c.specs.Arrays.{items_of, DecodesArrays, KeepsRooms, bytes_in};
+ghost use Rattle.rs_c.specs.Given.{BeginsItemSized};
 
 use crate::buffers::{check_counts, check_length};
 use crate::engine::Borrowing;
 use crate::fault::Fault;
+use crate::layouts::{Listed, Marked, Received, RsShard};
+use crate::noting::check_all_listed;
+use crate::rooms::{check_number, check_rooms, fill_rooms};
 use rs_field::engine::{Engine, Steps};
 use rs_field::error::Error;
 use rs_rate::DecoderResult;
@@ -26,7 +36,8 @@ pub fn decode_buffer(
     recovery: &[u8],
     marks: &[u8],
 ) -> Result<(), Fault>
-    ensures { DecodesBuffer original_count recovery_count shard_bytes marks.now recovery.now originals.old originals.new result }
+    ensures answer { DecodesBuffer original_count recovery_count shard_bytes marks.now recovery.now originals.old originals.new result }
+    ensures memory { WantsNoMemory original_count marks.now result }
 {
     check_counts(original_count, recovery_count)?;
     check_length(original_count, shard_bytes, originals.len())?;
@@ -34,20 +45,53 @@ pub fn decode_buffer(
     check_length(original_count + recovery_count, 1, marks.len())?;
     let (original_marks, recovery_marks) = marks.split_at(original_count);
     if count_marked(recovery_marks) == 0 {
-        return Ok(check_all_came(original_marks)?);
+        return Ok(check_all_marked(original_marks)?);
     }
-    let mut decoder = DefaultRateDecoder::new(
+    let mut decoder = given_decoder(
         alloc,
+        engine,
         original_count,
         recovery_count,
         shard_bytes,
-        engine,
-        None,
+        &Marked::new(original_marks, shard_bytes, originals),
+        &Marked::new(recovery_marks, shard_bytes, recovery),
     )?;
-    give_originals(&mut decoder, original_marks, shard_bytes, originals)?;
-    give_recovery(&mut decoder, recovery_marks, shard_bytes, recovery)?;
     let result = decoder.decode(&mut Steps::new())?;
     write_restored(&result, original_count, shard_bytes, originals);
+    Ok(())
+}
+
+/// Writes the originals that aren't among the given shards into rooms, one for each, in order of index.
+pub fn decode_arrays(
+    alloc: Global,
+    engine: Borrowing<'_>,
+    original_count: usize,
+    recovery_count: usize,
+    originals: &[RsShard<'_>],
+    recovery: &[RsShard<'_>],
+    restored: &mut [&mut [u8]],
+) -> Result<(), Fault>
+    ensures answer { DecodesArrays original_count recovery_count (items_of originals.now) (items_of recovery.now)
+        (bytes_in restored.old) (bytes_in restored.new) result }
+    ensures kept { KeepsRooms restored.old restored.new }
+{
+    if recovery.is_empty() {
+        check_counts(original_count, recovery_count)?;
+        check_all_listed(alloc, original_count, originals)?;
+        return check_number(0, restored.len());
+    }
+    let mut decoder = given_decoder(
+        alloc,
+        engine,
+        original_count,
+        recovery_count,
+        recovery[0].bytes.len(),
+        &Listed { shards: originals },
+        &Listed { shards: recovery },
+    )?;
+    let result = decoder.decode(&mut Steps::new())?;
+    check_rooms(result.restored_original_iter(), restored)?;
+    fill_rooms(result.restored_original_iter(), restored);
     Ok(())
 }
 
@@ -58,8 +102,8 @@ fn count_marked(marks: &[u8]) -> usize
     marks.iter().filter(|mark| **mark != 0).count()
 }
 
-// Whether all originals came, where no recovery shard did.
-fn check_all_came(marks: &[u8]) -> Result<(), Error>
+// Whether all originals are marked, where no recovery shard is.
+fn check_all_marked(marks: &[u8]) -> Result<(), Error>
     ensures { result ≡ all_or_refused (length marks.now) (count_by (λ mark. not (mark == 0)) marks.now) }
 {
     let original_received_count = count_marked(marks);
@@ -73,44 +117,61 @@ fn check_all_came(marks: &[u8]) -> Result<(), Error>
     Ok(())
 }
 
-// Gives a decoder the marked originals of a buffer; the first refused one decides.
-fn give_originals<E: Engine, X: RateDecoder<E>>(
-    decoder: &mut X,
-    marks: &[u8],
+// A decoder that was given originals and recovery shards, of which the first has this size.
+fn given_decoder<'t, O: Received, R: Received>(
+    alloc: Global,
+    engine: Borrowing<'t>,
+    original_count: usize,
+    recovery_count: usize,
     size: usize,
-    originals: &[u8],
-) -> Result<(), Error>
-    requires { length originals.now ≡ length marks.now * size }
-    ensures { Reaches (with_originals (X.state decoder.old) (marked 0 size marks.now originals.now)) result (λ s. X.state decoder.new ≡ s) }
+    originals: &O,
+    recovery: &R,
+) -> Result<DefaultRateDecoder<Borrowing<'t>>, Error>
+    requires { BeginsItemSized size (R.from_place recovery.now 0) }
+    ensures refused { IfErr result (λ e. OneDecodeAnswers original_count recovery_count (O.from_place originals.now 0) (R.from_place recovery.now 0) (Err e)) }
+    ensures configured { IfOk result (λ x. (decoder_state default_rate x.rows).configuration ≡ default_of original_count recovery_count size) }
+    ensures answers { IfOk result (λ x. (decoded : Result Shards ErrorOf) → DecodeAnswers (decoder_state default_rate x.rows) decoded
+        → OneDecodeAnswers original_count recovery_count (O.from_place originals.now 0) (R.from_place recovery.now 0) decoded) }
 {
-    let mut rest = originals;
-    for index in 0..marks.len() {
-        let (shard, others) = rest.split_at(size);
-        if marks[index] != 0 {
+    let mut decoder = DefaultRateDecoder::new(
+        alloc,
+        original_count,
+        recovery_count,
+        size,
+        engine,
+        None,
+    )?;
+    give_originals(&mut decoder, originals)?;
+    give_recovery(&mut decoder, recovery)?;
+    Ok(decoder)
+}
+
+// Gives a decoder originals; the first refused one decides.
+fn give_originals<E: Engine, X: RateDecoder<E>, O: Received>(
+    decoder: &mut X,
+    originals: &O,
+) -> Result<(), Error>
+    ensures { Reaches (with_originals (X.state decoder.old) (O.from_place originals.now 0)) result (λ s. X.state decoder.new ≡ s) }
+{
+    for place in 0..originals.places() {
+        if let Some((index, shard)) = originals.at(place) {
             decoder.add_original_shard(index, shard)?;
         }
-        rest = others;
     }
     Ok(())
 }
 
-// Gives a decoder the marked recovery shards of a buffer; the first refused one decides.
-fn give_recovery<E: Engine, X: RateDecoder<E>>(
+// Gives a decoder recovery shards; the first refused one decides.
+fn give_recovery<E: Engine, X: RateDecoder<E>, R: Received>(
     decoder: &mut X,
-    marks: &[u8],
-    size: usize,
-    recovery: &[u8],
+    recovery: &R,
 ) -> Result<(), Error>
-    requires { length recovery.now ≡ length marks.now * size }
-    ensures { Reaches (with_recoveries (X.state decoder.old) (marked 0 size marks.now recovery.now)) result (λ s. X.state decoder.new ≡ s) }
+    ensures { Reaches (with_recoveries (X.state decoder.old) (R.from_place recovery.now 0)) result (λ s. X.state decoder.new ≡ s) }
 {
-    let mut rest = recovery;
-    for index in 0..marks.len() {
-        let (shard, others) = rest.split_at(size);
-        if marks[index] != 0 {
+    for place in 0..recovery.places() {
+        if let Some((index, shard)) = recovery.at(place) {
             decoder.add_recovery_shard(index, shard)?;
         }
-        rest = others;
     }
     Ok(())
 }

@@ -7,8 +7,10 @@ use std::fmt;
 pub enum Fault {
     /// The library refused it.
     Refused(Error),
-    /// A buffer has another length than counts and size say.
+    /// A buffer has another length than counts and size say, or a room another than its shard.
     WrongLength { wanted: usize, got: usize },
+    /// There are more rooms or fewer than shards to be written.
+    WrongNumberOfRooms { wanted: usize, got: usize },
 }
 
 /// A refusal of the library as a fault.
@@ -35,6 +37,10 @@ impl fmt::Display for Fault {
             Fault::WrongLength { wanted, got } => write!(
                 f,
                 "wrong length: expected {wanted} bytes, got {got} bytes"
+            ),
+            Fault::WrongNumberOfRooms { wanted, got } => write!(
+                f,
+                "wrong number of rooms: expected {wanted}, got {got}"
             ),
         }
     }
@@ -73,52 +79,74 @@ impl RsFault {
             Ok(()) => RsFault::new(0, 0, 0, 0),
             Err(Fault::Refused(error)) => RsFault::of_refusal(error),
             Err(Fault::WrongLength { wanted, got }) => RsFault::new(13, wanted, got, 0),
+            Err(Fault::WrongNumberOfRooms { wanted, got }) => RsFault::new(14, wanted, got, 0),
         }
     }
 
-    // The numbers of a refusal of the library.
+    // A refusal of the library.
     fn of_refusal(error: Error) -> RsFault
         ensures { result ≡ numbers_of error }
     {
+        let (first, second, third) = RsFault::counts_of(error);
+        RsFault::new(RsFault::number_of(error), first, second, third)
+    }
+
+    // Its number.
+    fn number_of(error: Error) -> u32
+        ensures { result ≡ (numbers_of error).number }
+    {
         match error {
-            Error::OutOfMemory => RsFault::new(1, 0, 0, 0),
+            Error::OutOfMemory => 1,
+            Error::UnsupportedShardCount { .. } => 2,
+            Error::InvalidShardSize { .. } => 3,
+            Error::DifferentShardSize { .. } => 4,
+            Error::TooFewOriginalShards { .. } => 5,
+            Error::TooManyOriginalShards { .. } => 6,
+            Error::NotEnoughShards { .. } => 7,
+            Error::InvalidOriginalShardIndex { .. } => 8,
+            Error::InvalidRecoveryShardIndex { .. } => 9,
+            Error::DuplicateOriginalShardIndex { .. } => 10,
+            Error::DuplicateRecoveryShardIndex { .. } => 11,
+            Error::InconsistentShards { .. } => 12,
+        }
+    }
+
+    // Its counts, indexes or sizes.
+    fn counts_of(error: Error) -> (usize, usize, usize)
+        ensures { let n = numbers_of error in (result.0 ≡ n.first) × (result.1 ≡ n.second) × (result.2 ≡ n.third) }
+    {
+        match error {
+            Error::OutOfMemory => (0, 0, 0),
             Error::UnsupportedShardCount {
                 original_count,
                 recovery_count,
-            } => RsFault::new(2, original_count, recovery_count, 0),
-            Error::InvalidShardSize { shard_bytes } => RsFault::new(3, shard_bytes, 0, 0),
-            Error::DifferentShardSize { shard_bytes, got } => RsFault::new(4, shard_bytes, got, 0),
+            } => (original_count, recovery_count, 0),
+            Error::InvalidShardSize { shard_bytes } => (shard_bytes, 0, 0),
+            Error::DifferentShardSize { shard_bytes, got } => (shard_bytes, got, 0),
             Error::TooFewOriginalShards {
                 original_count,
                 original_received_count,
-            } => RsFault::new(5, original_count, original_received_count, 0),
-            Error::TooManyOriginalShards { original_count } => {
-                RsFault::new(6, original_count, 0, 0)
-            }
+            } => (original_count, original_received_count, 0),
+            Error::TooManyOriginalShards { original_count } => (original_count, 0, 0),
             Error::NotEnoughShards {
                 original_count,
-                original_received_count,
-                recovery_received_count,
-            } => RsFault::new(
-                7,
-                original_count,
-                original_received_count,
-                recovery_received_count,
-            ),
+                original_received_count: originals,
+                recovery_received_count: recovery,
+            } => (original_count, originals, recovery),
             Error::InvalidOriginalShardIndex {
-                original_count,
+                original_count: count,
                 index,
-            } => RsFault::new(8, original_count, index, 0),
-            Error::InvalidRecoveryShardIndex {
-                recovery_count,
+            }
+            | Error::InvalidRecoveryShardIndex {
+                recovery_count: count,
                 index,
-            } => RsFault::new(9, recovery_count, index, 0),
-            Error::DuplicateOriginalShardIndex { index } => RsFault::new(10, index, 0, 0),
-            Error::DuplicateRecoveryShardIndex { index } => RsFault::new(11, index, 0, 0),
+            } => (count, index, 0),
+            Error::DuplicateOriginalShardIndex { index }
+            | Error::DuplicateRecoveryShardIndex { index } => (index, 0, 0),
             Error::InconsistentShards {
                 original_received_count,
                 recovery_received_count,
-            } => RsFault::new(12, original_received_count, recovery_received_count, 0),
+            } => (original_received_count, recovery_received_count, 0),
         }
     }
 }

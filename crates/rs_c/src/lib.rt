@@ -7,6 +7,9 @@ mod encoding;
 mod engine;
 mod fault;
 mod lanes;
+mod layouts;
+mod noting;
+mod rooms;
 mod tables;
 mod text;
 
@@ -15,13 +18,15 @@ ghost use Rattle.rs_field.specs.Counts.{default_rate, supports};
 ghost use Rattle.rs_c.specs.declared.fault.Fault.{Fault as FaultOf};
 ghost use Rattle.rs_c.specs.Tables.{AreTables};
 ghost use Rattle.rs_c.specs.Faults.{fault_of};
-ghost use Rattle.rs_c.specs.Answers.{EncodesBuffer, DecodesBuffer};
+ghost use Rattle.rs_c.specs.Answers.{EncodesBuffer, DecodesBuffer, WantsNoMemory};
+ghost use Rattle.rs_c.specs.Arrays.{shards_of, items_of, bytes_in, KeepsRooms, EncodesArrays, DecodesArrays};
 ghost use Rattle.rs_c.specs.Texts.{fault_with, text_with, WritesText};
 
-use decoding::decode_buffer;
-use encoding::encode_buffer;
+use decoding::{decode_arrays, decode_buffer};
+use encoding::{encode_arrays, encode_buffer};
 use engine::Borrowing;
 use fault::{Fault, RsFault};
+use layouts::RsShard;
 use std::alloc::Global;
 use tables::{RsTables, fill};
 
@@ -101,7 +106,8 @@ pub extern "C" fn rs_decode(
 ) -> u32
     requires { AreTables tables.now }
     ensures answer { (answer : Result (Unit {0}) FaultOf) × (fault.new ≡ fault_of answer)
-        × DecodesBuffer original_count recovery_count shard_bytes marks.now recovery.now originals.old originals.new answer }
+        × DecodesBuffer original_count recovery_count shard_bytes marks.now recovery.now originals.old originals.new answer
+        × WantsNoMemory original_count marks.now answer }
     ensures told { result ≡ fault.new.number }
 {
     let engine = Borrowing::new(tables);
@@ -119,6 +125,76 @@ pub extern "C" fn rs_decode(
     fault.number
 }
 
+/// The recovery shards of originals that lie anywhere, written into rooms that lie anywhere. The shards' size is that of the
+/// first original.
+///
+/// Refused for counts that aren't supported, and as one call refuses the shards; then for another number of rooms than
+/// `recovery_count`, then for the length of a room. With a fault nothing but the fault is written.
+#[unsafe(no_mangle)]
+pub extern "C" fn rs_encode_shards(
+    alloc: Global,
+    tables: &RsTables,
+    original_count: usize,
+    recovery_count: usize,
+    originals: &[&[u8]],
+    recovery: &mut [&mut [u8]],
+    fault: &mut RsFault,
+) -> u32
+    requires { AreTables tables.now }
+    ensures answer { (answer : Result (Unit {0}) FaultOf) × (fault.new ≡ fault_of answer)
+        × EncodesArrays original_count recovery_count (shards_of originals.now) (bytes_in recovery.old) (bytes_in recovery.new) answer }
+    ensures kept { KeepsRooms recovery.old recovery.new }
+    ensures told { result ≡ fault.new.number }
+{
+    let engine = Borrowing::new(tables);
+    let answer = encode_arrays(
+        alloc,
+        engine,
+        original_count,
+        recovery_count,
+        originals,
+        recovery,
+    );
+    *fault = RsFault::of(answer);
+    fault.number
+}
+
+/// The originals that aren't among the given shards, written into rooms in order of their index. The shards' size is that of
+/// the first recovery shard.
+///
+/// Refused for counts that aren't supported, and as one call refuses the shards; then for another number of rooms than there
+/// are originals missing, then for the length of a room. With a fault nothing but the fault is written.
+#[unsafe(no_mangle)]
+pub extern "C" fn rs_decode_shards(
+    alloc: Global,
+    tables: &RsTables,
+    original_count: usize,
+    recovery_count: usize,
+    originals: &[RsShard<'_>],
+    recovery: &[RsShard<'_>],
+    restored: &mut [&mut [u8]],
+    fault: &mut RsFault,
+) -> u32
+    requires { AreTables tables.now }
+    ensures answer { (answer : Result (Unit {0}) FaultOf) × (fault.new ≡ fault_of answer)
+        × DecodesArrays original_count recovery_count (items_of originals.now) (items_of recovery.now) (bytes_in restored.old) (bytes_in restored.new) answer }
+    ensures kept { KeepsRooms restored.old restored.new }
+    ensures told { result ≡ fault.new.number }
+{
+    let engine = Borrowing::new(tables);
+    let answer = decode_arrays(
+        alloc,
+        engine,
+        original_count,
+        recovery_count,
+        originals,
+        recovery,
+        restored,
+    );
+    *fault = RsFault::of(answer);
+    fault.number
+}
+
 /// Writes the text of a fault, as much as fits, and answers its whole length; 0 where the number is no fault's, or there is
 /// no memory for the text.
 #[unsafe(no_mangle)]
@@ -131,7 +207,7 @@ pub extern "C" fn rs_fault_text(alloc: Global, fault: &RsFault, text: &mut [u8])
 /// The version of this interface: the major number times 65536, and the minor number.
 #[unsafe(no_mangle)]
 pub extern "C" fn rs_version() -> u32
-    ensures { result ≡ 65536 }
+    ensures { result ≡ 65537 }
 {
-    65536
+    65537
 }

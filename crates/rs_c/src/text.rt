@@ -1,6 +1,6 @@
 //! The texts of faults.
 ghost use Rattle.std.specs.Prelude.{◌≡◌};
-ghost use Rattle.rs_c.specs.Texts.{fault_with, text_with, WritesText};
+ghost use Rattle.rs_c.specs.Texts.{shard_refusal_with, refusal_with, fault_with, text_with, WritesText};
 
 use crate::fault::{Fault, RsFault};
 use rs_field::error::Error;
@@ -10,48 +10,74 @@ use std::alloc::Global;
 fn read(fault: RsFault) -> Option<Fault>
     ensures { result ≡ fault_with fault }
 {
+    let (first, second) = (fault.first, fault.second);
     match fault.number {
-        1 => Some(Fault::Refused(Error::OutOfMemory)),
-        2 => Some(Fault::Refused(Error::UnsupportedShardCount {
-            original_count: fault.first,
-            recovery_count: fault.second,
-        })),
-        3 => Some(Fault::Refused(Error::InvalidShardSize {
-            shard_bytes: fault.first,
-        })),
-        4 => Some(Fault::Refused(Error::DifferentShardSize {
-            shard_bytes: fault.first,
-            got: fault.second,
-        })),
-        5 => Some(Fault::Refused(Error::TooFewOriginalShards {
-            original_count: fault.first,
-            original_received_count: fault.second,
-        })),
-        6 => Some(Fault::Refused(Error::TooManyOriginalShards {
-            original_count: fault.first,
-        })),
-        7 => Some(Fault::Refused(Error::NotEnoughShards {
-            original_count: fault.first,
-            original_received_count: fault.second,
-            recovery_received_count: fault.third,
-        })),
-        8 => Some(Fault::Refused(Error::InvalidOriginalShardIndex {
-            original_count: fault.first,
-            index: fault.second,
-        })),
-        9 => Some(Fault::Refused(Error::InvalidRecoveryShardIndex {
-            recovery_count: fault.first,
-            index: fault.second,
-        })),
-        10 => Some(Fault::Refused(Error::DuplicateOriginalShardIndex { index: fault.first })),
-        11 => Some(Fault::Refused(Error::DuplicateRecoveryShardIndex { index: fault.first })),
-        12 => Some(Fault::Refused(Error::InconsistentShards {
-            original_received_count: fault.first,
-            recovery_received_count: fault.second,
-        })),
         13 => Some(Fault::WrongLength {
-            wanted: fault.first,
-            got: fault.second,
+            wanted: first,
+            got: second,
+        }),
+        14 => Some(Fault::WrongNumberOfRooms {
+            wanted: first,
+            got: second,
+        }),
+        _ => match read_refusal(fault) {
+            Some(error) => Some(Fault::Refused(error)),
+            None => None,
+        },
+    }
+}
+
+// The refusal of the library that has these numbers: of counts and sizes here.
+fn read_refusal(fault: RsFault) -> Option<Error>
+    ensures { result ≡ refusal_with fault }
+{
+    let (first, second) = (fault.first, fault.second);
+    match fault.number {
+        1 => Some(Error::OutOfMemory),
+        2 => Some(Error::UnsupportedShardCount {
+            original_count: first,
+            recovery_count: second,
+        }),
+        3 => Some(Error::InvalidShardSize { shard_bytes: first }),
+        4 => Some(Error::DifferentShardSize {
+            shard_bytes: first,
+            got: second,
+        }),
+        5 => Some(Error::TooFewOriginalShards {
+            original_count: first,
+            original_received_count: second,
+        }),
+        6 => Some(Error::TooManyOriginalShards {
+            original_count: first,
+        }),
+        7 => Some(Error::NotEnoughShards {
+            original_count: first,
+            original_received_count: second,
+            recovery_received_count: fault.third,
+        }),
+        _ => read_shard_refusal(fault),
+    }
+}
+
+// Of the shards that came here.
+fn read_shard_refusal(fault: RsFault) -> Option<Error>
+    ensures { result ≡ shard_refusal_with fault }
+{
+    let (first, second) = (fault.first, fault.second);
+    match fault.number {
+        8 => Some(Error::InvalidOriginalShardIndex {
+            original_count: first,
+            index: second,
+        }),
+        9 => Some(Error::InvalidRecoveryShardIndex {
+            recovery_count: first,
+            index: second,
+        }),
+        10 => Some(Error::DuplicateOriginalShardIndex { index: first }),
+        11 => Some(Error::DuplicateRecoveryShardIndex { index: first }),
+        12 => Some(Error::InconsistentShards {
+            original_received_count: first,
+            recovery_received_count: second,
         }),
         _ => None,
     }

@@ -1,10 +1,8 @@
-use Rattle.std.proofs.Common.{◌≡◌, ◌*◌, ◌-◌, length}
+use Rattle.std.proofs.Common.{◌≡◌, drop}
 use Rattle.rs_field.specs.OneCall.{with_shards}
-use Rattle.rs_c.specs.Buffers.{cut}
 use Rattle.rs_c.proofs.encoding.give_originals.Given as goal
 
--- what is left of the buffer, and where its shards lead
-abbrev pub invariant-loop : goal.invariant-loop
-invariant-loop g l =
-    (length l.rest ≡ (l.count - l.counter) * l.size)
-    × (with_shards (g.X.RateEncoder.state l.encoder) (cut (l.count - l.counter) l.size l.rest) ≡ with_shards (g.X.RateEncoder.state l.initial.encoder) (cut l.count l.size l.originals))
+-- where the originals that are left lead
+abbrev pub invariant-loop-index : goal.invariant-loop-index
+invariant-loop-index g l =
+    with_shards (g.X.RateEncoder.state l.encoder) (drop l.index (g.O.Originals.shards l.originals)) ≡ with_shards (g.X.RateEncoder.state l.initial.encoder) (g.O.Originals.shards l.originals)
