@@ -1,4 +1,4 @@
-//! What calls over buffers share: tests of counts and lengths.
+//! Tests of counts and lengths.
 ghost use Rattle.std.specs.Prelude.{◌≡◌};
 ghost use Rattle.rs_field.specs.OneCall.{counted};
 ghost use Rattle.rs_c.specs.Buffers.{fitting};
@@ -8,7 +8,7 @@ use crate::fault::Fault;
 use rs_field::error::Error;
 use rs_rate::rate::{DefaultRateEncoder, RateEncoder};
 
-/// `UnsupportedShardCount` where the default rate doesn't support the counts.
+/// `UnsupportedShardCount` where the default rate doesn't support the counts. The library keeps its own to itself.
 pub fn check_counts(original_count: usize, recovery_count: usize) -> Result<(), Error>
     ensures { result ≡ counted original_count recovery_count }
 {
