@@ -43,12 +43,12 @@ with_root_is a p = refl
 -- a factor x + a keeps the last coefficient
 entry-with_root : (a n : ℕ) (p : List ℕ) → length p ≡ suc n → slice_index (with_root a p) (suc n) ≡ slice_index p n
 entry-with_root a n p size =
-    grind (arith, common_steps, with_root_is, entry-add, scale, bit_xor, entry-shifted, entry-scale, get_or_past, product_zero, xor_zero_r)
+    grind (arith, common_steps, with_root_is, entry-add, entry-shifted, entry-scale, get_or_past, product_zero, xor_zero_r)
 
 entry-times : (a m n : ℕ) (p : List ℕ) → length p ≡ suc n → slice_index (times (points a m) p) (m + n) ≡ slice_index p n
 unfolding times points
 entry-times a zero n p size = ap (slice_index p) (zero-add n)
-entry-times a (suc m) n p size = grind (arith, common_steps, length, times, points, length-times, with_root, entry-with_root, entry-times a m n p size)
+entry-times a (suc m) n p size = grind (arith, common_steps, length-times, with_root, entry-with_root, entry-times a m n p size)
 
 -- ---- the basis polynomials
 
@@ -88,11 +88,11 @@ basis_polynomial (suc e) q he hq =
 -- ---- sums of n terms
 
 forward-more : (n : ℕ) (f : ℕ → ℕ) (x : ℕ) → forward (suc n) 0 f x ≡ bit_xor (forward n 0 f x) (product (f n) (basis n x))
-forward-more n f x = grind (arith, common_steps, forward_is, sum_below-suc, bit_xor, zero-add)
+forward-more n f x = grind (arith, common_steps, forward_is, sum_below-suc, zero-add)
 
 -- terms that are zero can be left out
 pub forward-fewer : (n t : ℕ) (f : ℕ → ℕ) (x : ℕ) → ((i : ℕ) → i < t → f (n + i) ≡ 0) → forward (n + t) 0 f x ≡ forward n 0 f x
-forward-fewer n t f x none = grind (arith, common_steps, forward_is, sum_below-add, bit_xor, sum_below-zero, zero_product, xor_zero_r)
+forward-fewer n t f x none = grind (arith, common_steps, forward_is, sum_below-add, sum_below-zero, zero_product, xor_zero_r)
 
 -- a polynomial of n coefficients for a sum of n terms
 record IsSum (n : ℕ) (f : ℕ → ℕ) (p : List ℕ) : Type 0 where
@@ -105,7 +105,7 @@ sum_none f = record { size = refl; words = tt; at = λ x. value-nil x ∙ sym (f
 
 sum_more : (n : ℕ) (f : ℕ → ℕ) (b p : List ℕ) → IsBasis n b → IsSum n f p → IsSum (suc n) f (add (scale (f n) b) p)
 sum_more n f b p hb hp =
-    grind (arith, common_steps, length, scale, length-scale, length-add, words_add, words_scale, value_add, bit_xor, value_scale, xor_comm, forward-more)
+    grind (arith, common_steps, length-scale, length-add, words_add, words_scale, value_add, value_scale, xor_comm, forward-more)
 
 sum_polynomial : (n : ℕ) (f : ℕ → ℕ) → n ≤ 65536 → (p : List ℕ) × IsSum n f p
 sum_polynomial zero f hn = ([], sum_none f)
@@ -120,7 +120,7 @@ polynomial_of_terms n f hn = let p = sum_polynomial n f hn in (p.0, p.1.size, al
 
 -- the last coefficient is the last term's
 last_term : (n : ℕ) (f : ℕ → ℕ) (b p : List ℕ) → f n < 2 ^ 16 → IsBasis n b → IsSum n f p → slice_index (add (scale (f n) b) p) n ≡ f n
-last_term n f b p word hb hp = grind (arith, common_steps, entry-add, scale, bit_xor, entry-scale, product_one, get_or_past, length, xor_zero_r)
+last_term n f b p word hb hp = grind (arith, common_steps, entry-add, entry-scale, product_one, get_or_past, xor_zero_r)
 
 entry-padded : (n : ℕ) (p : List ℕ) (i : ℕ) → length p ≤ i → slice_index (padded n p) i ≡ 0
 unfolding padded

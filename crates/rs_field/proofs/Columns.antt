@@ -15,11 +15,11 @@ column-at q i s h = grind (arith, common_steps)
 
 -- in a whole chunk the high byte stands 32 bytes after the low one
 pub column-chunk : (q i : ℕ) (s : Shard) → i < 32 → q * 64 + 64 ≤ length s → column (q * 32 + i) s ≡ slice_index s (q * 64 + i) + 256 * slice_index s (q * 64 + i + 32)
-column-chunk q i s h fits = grind (arith, common_steps, length, column-at, min-eq_left)
+column-chunk q i s h fits = grind (arith, common_steps, column-at, min-eq_left)
 
 -- in a tail of L bytes it stands L / 2 bytes after it
 pub column-tail : (q i : ℕ) (s : Shard) → i < 32 → q ≡ length s / 64 → column (q * 32 + i) s ≡ slice_index s (q * 64 + i) + 256 * slice_index s (q * 64 + i + length s % 64 / 2)
-column-tail q i s h last = grind (arith, common_steps, length, column-at, min, min-eq_right)
+column-tail q i s h last = grind (arith, common_steps, column-at, min-eq_right)
 
 -- two words are equal only if their low and high bytes are
 halves : (a b c d : ℕ) → a < 256 → c < 256 → a + 256 * b ≡ c + 256 * d → (a ≡ c) × (b ≡ d)

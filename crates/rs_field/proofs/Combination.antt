@@ -187,7 +187,7 @@ forward-moved n shift more f i = ap (λ x. sum_below n (λ q. product (f q) (bas
 
 -- of one word the transform is that word
 pub forward-one : (shift : ℕ) (f : ℕ → ℕ) (i : ℕ) → f 0 < 2 ^ 16 → forward 1 shift f i ≡ f 0
-forward-one shift f i word = grind (arith, common_steps, forward_is, sum_below-suc, bit_xor, sum_below-zero, basis-zero, product_one)
+forward-one shift f i word = grind (arith, common_steps, forward_is, sum_below-suc, sum_below-zero, basis-zero, product_one)
 
 -- a sum of 2 ^ (e + 1) terms is one of its first half, and the subspace polynomial e times one of its second half
 pub forward-half : (e shift : ℕ) (f : ℕ → ℕ) (i : ℕ) → e < 16
@@ -245,7 +245,7 @@ mixed e shift f g i made =
 pub lower_half : (e shift : ℕ) (f g : ℕ → ℕ) (i : ℕ) → e < 16 → shift % 2 ^ suc e ≡ 0 → shift + 2 ^ suc e ≤ 65536 → i < 2 ^ e
     → ((q : ℕ) → q < 2 ^ e → g q ≡ bit_xor (f q) (product (f (2 ^ e + q)) (subspace e shift)))
     → forward (2 ^ e) shift g i ≡ forward (2 ^ suc e) shift f i
-lower_half e shift f g i he whole fits hi made = grind (arith, common_steps, mixed, forward-half, bit_xor, lower_factor)
+lower_half e shift f g i he whole fits hi made = grind (arith, common_steps, mixed, forward-half, lower_factor)
 
 -- and that of the second rows is its second half
 pub upper_half : (e shift : ℕ) (f g h : ℕ → ℕ) (i : ℕ) → e < 16 → shift % 2 ^ suc e ≡ 0 → shift + 2 ^ suc e ≤ 65536 → i < 2 ^ e

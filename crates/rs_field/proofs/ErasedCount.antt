@@ -24,7 +24,7 @@ total-marked : (n : ℕ) (marks : ℕ → ℕ) → AreMarks n marks → length (
 unfolding total marked
 total-marked zero marks m = refl
 total-marked (suc n) marks m =
-    grind (arith, common_steps, length, marked, cases_eq, marked-more, marked-same, total-marked n marks (record { mark = λ y hy. m.mark y (omega arith) }))
+    grind (arith, common_steps, cases_eq, marked-more, marked-same, total-marked n marks (record { mark = λ y hy. m.mark y (omega arith) }))
 
 -- n more that are all zero
 past_zeros : (a n b : ℕ) (f : ℕ → ℕ) → a + n ≡ b → ((x : ℕ) → a ≤ x → x < b → f x ≡ 0) → total b f ≡ total a f

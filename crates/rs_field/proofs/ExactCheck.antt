@@ -42,30 +42,13 @@ pub falling_marked : (n : ℕ) (marks : ℕ → ℕ) → AreMarks n marks → Ar
 unfolding marked
 falling_marked zero marks m = tt
 falling_marked (suc n) marks m =
-    grind (
-      arith,
-      common_steps,
-      marked,
-      marked-more,
-      marked-same,
-      falling_more,
-      cases_eq,
-      falling_marked n marks (record { mark = λ y hy. m.mark y (omega arith) }),
-    )
+    grind (arith, common_steps, marked-more, marked-same, falling_more, cases_eq, falling_marked n marks (record { mark = λ y hy. m.mark y (omega arith) }))
 
 pub roots_marked : (n : ℕ) (marks : ℕ → ℕ) (p : List ℕ) → AreMarks n marks → ((x : ℕ) → x < n → marks x ≡ 1 → value p x ≡ 0) → AreRoots p (marked n marks)
 unfolding marked
 roots_marked zero marks p m at = tt
 roots_marked (suc n) marks p m at =
-    grind (
-      arith,
-      common_steps,
-      marked,
-      cases_eq,
-      marked-more,
-      marked-same,
-      roots_marked n marks p (record { mark = λ y hy. m.mark y (omega arith) }) (λ x hx. at x (omega arith)),
-    )
+    grind (arith, common_steps, cases_eq, marked-more, marked-same, roots_marked n marks p (record { mark = λ y hy. m.mark y (omega arith) }) (λ x hx. at x (omega arith)))
 
 -- ---- the located polynomial
 

@@ -72,7 +72,7 @@ length-add (a ∷ p) (b ∷ q) h = ap suc (length-add p q (let le : length q ≤
 
 pub length-with_root : (a : ℕ) (p : List ℕ) → length (with_root a p) ≡ suc (length p)
 unfolding with_root
-length-with_root a p = grind (arith, common_steps, length, length-scale, length-add)
+length-with_root a p = grind (arith, common_steps, length-scale, length-add)
 
 pub words_add : (p q : List ℕ) → WordsOneByOne p → WordsOneByOne q → WordsOneByOne (add p q)
 unfolding add
@@ -102,8 +102,8 @@ length-times a (suc n) p = let e : length (times (points a n) p) ≡ n + length 
 -- its value is the polynomial's times the product of the factors
 pub value-times : (a n : ℕ) (p : List ℕ) → WordsOneByOne p → (x : ℕ) → value (times (points a n) p) x ≡ product (product_below n (λ i. bit_xor x (a + i))) (value p x)
 unfolding times points
-value-times a zero p w x = grind (arith, common_steps, product_below-zero, bit_xor, one_product, value_lt)
-value-times a (suc n) p w x = grind (arith, common_steps, value_with_root, bit_xor, product-assoc, product-comm, product_below-suc, value-times a n p w x)
+value-times a zero p w x = grind (arith, common_steps, product_below-zero, one_product, value_lt)
+value-times a (suc n) p w x = grind (arith, common_steps, value_with_root, product-assoc, product-comm, product_below-suc, value-times a n p w x)
 
 -- words one after another are words by entry
 pub all_words : (p : List ℕ) → WordsOneByOne p → All (λ w. w < 65536) p

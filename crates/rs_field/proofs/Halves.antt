@@ -13,7 +13,6 @@ use Rattle.rs_field.proofs.Search.{first_below-is}
 use Rattle.rs_field.proofs.Product.{product_zero}
 use Rattle.rs_field.proofs.Power.{log_lt, power-log}
 use Rattle.rs_field.proofs.Subspace.{product_below_lt}
-use Rattle.std.proofs.lemmas.Grind.{common_steps}
 
 -- half of a power of two that is above one
 pub half_power : (size : ℕ) → 1 < size → (d : ℕ) × (size ≡ 2 ^ d) → (e : ℕ) × (size ≡ 2 ^ suc e) × (size / 2 ≡ 2 ^ e)
@@ -24,7 +23,10 @@ half_power size h (suc e, is) = (e, is, let p = pow-suc 2 e in omega arith)
 pub quarter_power : (size : ℕ) → 2 < size → (d : ℕ) × (size ≡ 2 ^ d) → (e : ℕ) × (size ≡ 2 ^ suc (suc e)) × (size / 4 ≡ 2 ^ e) × (size ≡ 4 * (size / 4))
 quarter_power size h (zero, is) = absurd (let no : ⊥ = omega arith in no)
 quarter_power size h (suc zero, is) = absurd (let no : ⊥ = omega arith in no)
-quarter_power size h (suc (suc e), is) = grind (arith, common_steps, pow-suc)
+quarter_power size h (suc (suc e), is) =
+    let p = pow-suc 2 e in
+    let q = pow-suc 2 (suc e) in
+    (e, is, omega arith, omega arith)
 
 pub two_halves : (size : ℕ) → 1 < size → (d : ℕ) × (size ≡ 2 ^ d) → size ≡ size / 2 + size / 2
 two_halves size h power =
@@ -68,7 +70,17 @@ mark_word z e = ap (λ (b : Bool). cond b 65535 (log z)) e
 
 -- what the entry of a factor stands for
 pub scaled_by : (c w : ℕ) → c < 2 ^ 16 → scaled (log_or_mark c) w ≡ product w c
-scaled_by c w hc = grind (arith, common_steps, cases_eq, mark_zero, product_zero, log_lt, mark_word, ne_eqb, power-log)
+scaled_by c w hc =
+    elim (cases_eq c 0) [
+      | inl e ↦ ap (λ m. scaled (log_or_mark m) w) e ∙ ap (λ m. scaled m w) mark_zero ∙ sym (ap (product w) e ∙ product_zero w)
+      | inr apart ↦
+          let pos : 0 < c = omega arith in
+          let small : log c < 65535 = log_lt c pos hc in
+          let differs : log c ≢ 65535 = λ e. let no : ⊥ = omega arith in no in
+          ap (λ m. scaled m w) (mark_word c (ne_eqb c 0 apart))
+          ∙ ap (λ (b : Bool). cond b 0 (product w (power (log c)))) (ne_eqb (log c) 65535 differs)
+          ∙ ap (product w) (power-log c pos hc)
+    ]
 
 pub subspace_lt : (d x : ℕ) → subspace d x < 2 ^ 16
 unfolding subspace

@@ -42,7 +42,7 @@ value-one_more a n p v x = value_add (scale (missing a n p v) (times (points a n
 
 -- a value that was there stays
 stays : (a n : ℕ) (p : List ℕ) (v i : ℕ) → i < n → value (one_more a n p v) (a + i) ≡ value p (a + i)
-stays a n p v i hi = grind (arith, common_steps, value-one_more, bit_xor, root_there, product_zero, xor_zero_l)
+stays a n p v i hi = grind (arith, common_steps, value-one_more, root_there, product_zero, xor_zero_l)
 
 -- the next one comes
 comes : (a n : ℕ) (p : List ℕ) (v : ℕ) → a + n < 2 ^ 16 → v < 2 ^ 16 → WordsOneByOne p → value (one_more a n p v) (a + n) ≡ v
@@ -63,23 +63,7 @@ comes a n p v hn hv words =
 has_more : (a n : ℕ) (v : ℕ → ℕ) (p : List ℕ) → a + n < 2 ^ 16 → v n < 2 ^ 16 → Has a n v p → Has a (suc n) v (one_more a n p (v n))
 unfolding one_more
 has_more a n v p hn hv h =
-    grind (
-      arith,
-      common_steps,
-      length,
-      scale,
-      times,
-      points,
-      length-scale,
-      length-times,
-      length-add,
-      words_add,
-      words_scale,
-      cases_eq,
-      one_more,
-      comes,
-      stays,
-    )
+    grind (arith, common_steps, length-scale, length-times, length-add, words_add, words_scale, cases_eq, one_more, comes, stays)
 
 -- Newton's form
 pub interpolated : (a n : ℕ) (v : ℕ → ℕ) → a + n ≤ 2 ^ 16 → ((i : ℕ) → i < n → v i < 2 ^ 16) → (p : List ℕ) × Has a n v p

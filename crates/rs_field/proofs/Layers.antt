@@ -48,11 +48,7 @@ pub record IsLayer (skew : List ℕ) (half shift : ℕ) (f g : ℕ → ℕ) : Ty
 
 made : (skew : List ℕ) (n e shift : ℕ) (f g : ℕ → ℕ) → IsBlock skew (n + n) shift → n + n ≡ 2 ^ suc e → n ≡ 2 ^ e → IsLayer skew n shift f g
     → (q : ℕ) → q < 2 ^ e → g q ≡ bit_xor (f q) (product (f (2 ^ e + q)) (subspace e shift))
-made skew n e shift f g b is half l q hq =
-    let whole : shift % 2 ^ suc e ≡ 0 = subst (λ (m : ℕ). shift % m ≡ 0) is b.aligned in
-    let within : shift + 2 ^ suc e ≤ 65536 = subst (λ (m : ℕ). shift + m ≤ 65536) is b.points in
-    l.first q (subst (λ (m : ℕ). q < m) (sym half) hq)
-    ∙ ap (bit_xor (f q)) (table_factor skew e n shift (f (n + q)) b.table half whole within ∙ ap (λ m. product (f (m + q)) (subspace e shift)) half)
+made skew n e shift f g b is half l q hq = grind (arith, common_steps, table_factor)
 
 -- the transform of the first half
 layer_low : (skew : List ℕ) (n shift i : ℕ) (f g : ℕ → ℕ) → IsBlock skew (n + n) shift → i < n → IsLayer skew n shift f g

@@ -97,7 +97,7 @@ byte_offset_lt size b h = grind (arith, common_steps, cases_lt, byte_offset-whol
 pub bytes-laid_out : (size : ℕ) (chunks : ℕ → List ℕ) → ((k b : ℕ) → k < row_len size → b < 64 → slice_index (chunks k) b < 256)
     → All (λ b. b < 256) (laid_out size chunks)
 unfolding laid_out
-bytes-laid_out size chunks small i d h = grind (arith, common_steps, length-laid_out, get_or, get-up_to, chunk_of, byte_offset_lt)
+bytes-laid_out size chunks small i d h = grind (arith, common_steps, length-laid_out, get-up_to, chunk_of, byte_offset_lt)
 
 pub shard-laid_out : (size : ℕ) (chunks : ℕ → List ℕ) → ((k b : ℕ) → k < row_len size → b < 64 → slice_index (chunks k) b < 256)
     → IsShard size (laid_out size chunks)
@@ -107,7 +107,7 @@ shard-laid_out size chunks small = record { length_is = length-laid_out size chu
 pub shard-in_order : (size : ℕ) (chunks : ℕ → List ℕ) → ((k b : ℕ) → k < row_len size → b < 64 → slice_index (chunks k) b < 256)
     → IsShard size (in_order size chunks)
 unfolding in_order
-shard-in_order size chunks small = grind (arith, common_steps, length-in_order, get_or, get-up_to, chunk_of)
+shard-in_order size chunks small = grind (arith, common_steps, length-in_order, get-up_to, chunk_of)
 
 -- word i of chunk q: its low byte and its high byte
 word-laid_out : (size q i half : ℕ) (chunks : ℕ → List ℕ) → min 64 (size - q * 64) / 2 ≡ half → i < half → half ≤ 32 → q * 64 + 2 * half ≤ size
@@ -130,7 +130,7 @@ word-laid_out size q i half chunks e low most fits =
 pub column-laid_out : (size j : ℕ) (chunks : ℕ → List ℕ) → size % 2 ≡ 0 → j < size / 2
     → column j (laid_out size chunks) ≡ symbol (chunks (j / 32)) (j % 32)
 unfolding column
-column-laid_out size j chunks even h = grind (arith, common_steps, length, length-laid_out, min, word-laid_out, cases_lt, min-eq_right, min-eq_left)
+column-laid_out size j chunks even h = grind (arith, common_steps, length-laid_out, word-laid_out, cases_lt, min-eq_right, min-eq_left)
 
 -- a row whose whole chunks are those of the shard, and whose last chunk holds the halves of its tail
 pub laid_out-is : (size : ℕ) (chunks : ℕ → List ℕ) (s : Shard) → length s ≡ size → size % 2 ≡ 0

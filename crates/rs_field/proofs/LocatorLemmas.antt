@@ -42,4 +42,4 @@ difference_pos x y differs =
 -- the sum is that of the entries below the bound alone
 pub log_sum-same : (n : ℕ) (e f : ℕ → ℕ) (x : ℕ) → ((y : ℕ) → y < n → e y ≡ f y) → log_sum n e x ≡ log_sum n f x
 log_sum-same zero e f x same = grind (arith, common_steps, log_sum-zero)
-log_sum-same (suc y) e f x same = grind (arith, common_steps, log_sum-suc, eqb, bit_xor, log_sum-same y e f x (λ z hz. same z (omega arith)))
+log_sum-same (suc y) e f x same = grind (arith, common_steps, log_sum-suc, log_sum-same y e f x (λ z hz. same z (omega arith)))

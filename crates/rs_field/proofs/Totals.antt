@@ -3,7 +3,6 @@ use Rattle.std.proofs.Common.{◌≡◌, ℕ, zero, suc, ◌+◌, ◌*◌, ◌%�
 use Rattle.std.proofs.lemmas.Bool.{cases_eq}
 use Rattle.std.proofs.lemmas.Nat.{mul-mod_first, mul-mod_second}
 use Rattle.rs_field.specs.Walsh.{total}
-use Rattle.std.proofs.lemmas.Grind.{common_steps}
 
 pub total-zero : (g : ℕ → ℕ) → total 0 g ≡ 0
 unfolding total
@@ -28,8 +27,10 @@ mul_near a b c d p q =
     ∙ sym (mul-mod_second c b 65535) ∙ ap (λ v. c * v % 65535) q ∙ mul-mod_second c d 65535
 
 pub total-near : (n : ℕ) (g h : ℕ → ℕ) → ((y : ℕ) → y < n → g y % 65535 ≡ h y % 65535) → total n g % 65535 ≡ total n h % 65535
-total-near zero g h near = grind (arith, common_steps, total-zero)
-total-near (suc n) g h near = grind (arith, common_steps, total-suc, add_near, total-near n g h (λ y hy. near y (omega arith)))
+total-near zero g h near = ap (λ v. v % 65535) (total-zero g ∙ sym (total-zero h))
+total-near (suc n) g h near =
+    ap (λ v. v % 65535) (total-suc n g) ∙ add_near (total n g) (g n) (total n h) (h n) (total-near n g h (λ y hy. near y (omega arith))) (near n (omega arith))
+    ∙ ap (λ v. v % 65535) (sym (total-suc n h))
 
 pub total-none : (n : ℕ) (g : ℕ → ℕ) → ((y : ℕ) → y < n → g y ≡ 0) → total n g ≡ 0
 total-none zero g none = total-zero g
@@ -51,8 +52,13 @@ total-scale (suc n) c g =
     ∙ sym (ap (λ v. c * v) (total-suc n g) ∙ (let r : c * (total n g + g n) ≡ c * total n g + c * g n = omega arith in r))
 
 pub total-plus : (n : ℕ) (g h : ℕ → ℕ) → total n (λ y. g y + h y) ≡ total n g + total n h
-total-plus zero g h = grind (arith, common_steps, total-zero)
-total-plus (suc n) g h = grind (arith, common_steps, total-suc, total-plus n g h)
+total-plus zero g h = total-zero (λ y. g y + h y) ∙ sym (ap₂ (λ a b. a + b) (total-zero g) (total-zero h))
+total-plus (suc n) g h =
+    let s = total-suc n (λ y. g y + h y) in
+    let more = total-plus n g h in
+    let a = total-suc n g in
+    let b = total-suc n h in
+    omega arith
 
 -- a sum of sums in the other order
 pub total-swap : (n m : ℕ) (g : ℕ → ℕ → ℕ) → total n (λ x. total m (λ y. g x y)) ≡ total m (λ y. total n (λ x. g x y))
