@@ -7,7 +7,7 @@ use Rattle.std.proofs.lemmas.List.{get_or_past}
 use Rattle.rs_field.specs.Field.{product}
 use Rattle.rs_field.specs.Polynomial.{AreWords, value}
 use Rattle.rs_field.specs.Subspace.{subspace, basis}
-use Rattle.rs_field.specs.Transform.{sum_below, forward}
+use Rattle.rs_field.specs.Transform.{forward}
 use Rattle.rs_field.proofs.Product.{product_zero, zero_product, product_one}
 use Rattle.rs_field.proofs.Total.{product-comm}
 use Rattle.rs_field.proofs.Roots.{WordsOneByOne, value-nil, value-one}

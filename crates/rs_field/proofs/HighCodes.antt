@@ -1,10 +1,10 @@
 -- A polynomial that is made zero at all other points codes the originals of the high rate.
-use Rattle.std.proofs.Common.{◌≡◌, ℕ, ◌+◌, ◌-◌, ◌^◌, ◌<◌, ◌≤◌, List, length, ap, sym, subst, ◌∙◌, arith, inl, inr}
+use Rattle.std.proofs.Common.{◌≡◌, ℕ, ◌+◌, ◌-◌, ◌^◌, ◌<◌, ◌≤◌, List, length, arith}
 use Rattle.std.specs.Prelude.{slice_index}
 use Rattle.std.proofs.lemmas.Bool.{cases_lt}
 use Rattle.rs_field.specs.Polynomial.{value}
 use Rattle.rs_field.specs.Counts.{Rate, next_power}
-use Rattle.rs_field.specs.Placement.{Placement, placement, high_placement}
+use Rattle.rs_field.specs.Placement.{placement, high_placement}
 use Rattle.rs_field.specs.Code.{Codes}
 use Rattle.rs_field.proofs.Roots.{WordsOneByOne}
 use Rattle.rs_field.proofs.Factors.{points, times, length-times, words_times, all_words}

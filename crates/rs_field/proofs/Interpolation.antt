@@ -1,5 +1,5 @@
 -- A polynomial of n coefficients with n given values at points one after another.
-use Rattle.std.proofs.Common.{◌≡◌, ℕ, zero, suc, ◌+◌, ◌^◌, ◌<◌, ◌≤◌, ◌≢◌, List, [], ◌∷◌, length, bit_xor, refl, sym, ap, ◌∙◌, arith, inl, inr}
+use Rattle.std.proofs.Common.{◌≡◌, ℕ, zero, suc, ◌+◌, ◌^◌, ◌<◌, ◌≤◌, ◌≢◌, List, [], ◌∷◌, length, bit_xor, refl, ap, ◌∙◌, arith}
 use Rattle.std.specs.Int.Bits.{xor_zero_l, xor_lt}
 use Rattle.std.proofs.lemmas.Bool.{cases_eq}
 use Rattle.rs_field.specs.Field.{product}

@@ -1,5 +1,5 @@
 -- The sum of logarithms that a locator is, point by point.
-use Rattle.std.proofs.Common.{◌≡◌, ℕ, zero, suc, ◌+◌, ◌*◌, ◌<◌, ◌≢◌, Bool, cond, eqb, bit_xor, refl, sym, ap, ap₂, ◌∙◌, arith, add-zero, zero-mul, one-mul, ne_eqb, eq-eqb, inl, inr}
+use Rattle.std.proofs.Common.{◌≡◌, ℕ, zero, suc, ◌+◌, ◌*◌, ◌<◌, ◌≢◌, Bool, cond, eqb, bit_xor, refl, sym, ap, ◌∙◌, arith, add-zero, zero-mul, one-mul, ne_eqb, eq-eqb, inl, inr}
 use Rattle.std.proofs.lemmas.Bool.{cases_eq}
 use Rattle.rs_field.specs.Field.{log}
 use Rattle.rs_field.specs.Locator.{log_sum}

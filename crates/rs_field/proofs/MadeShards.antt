@@ -1,5 +1,5 @@
 -- Shards with given words as columns, so every message has recovery shards.
-use Rattle.std.proofs.Common.{◌≡◌, ℕ, ◌+◌, ◌-◌, ◌*◌, ◌/◌, ◌%◌, ◌<◌, Bool, true, cond, List, [], length, sym, ap, ap₂, ◌∙◌, subst, arith, inl, inr}
+use Rattle.std.proofs.Common.{◌≡◌, ℕ, ◌+◌, ◌-◌, ◌*◌, ◌/◌, ◌%◌, ◌<◌, Bool, true, cond, List, [], length, sym, ap, ◌∙◌, subst, arith}
 use Rattle.std.specs.Prelude.{slice_index, nat_lt}
 use Rattle.std.proofs.lemmas.Bool.{cases_lt, lt-ltb}
 use Rattle.std.proofs.lemmas.List.{get_or_past}
@@ -7,7 +7,6 @@ use Rattle.rs_field.specs.Column.{Shard, IsShard, AreShards, column, columns}
 use Rattle.rs_field.specs.Rows.{symbol}
 use Rattle.rs_field.specs.Layout.{up_to, laid_out}
 use Rattle.rs_field.specs.Counts.{Rate, supports}
-use Rattle.rs_field.specs.Placement.{placement}
 use Rattle.rs_field.specs.Configuration.{Configuration}
 use Rattle.rs_field.specs.Code.{AreRecoveryWords, AreRecovery}
 use Rattle.rs_field.proofs.Roots.{value_lt, words_from}

@@ -1,5 +1,5 @@
 -- Shards at k places of a codeword fix its message.
-use Rattle.std.proofs.Common.{◌≡◌, ℕ, zero, suc, ◌+◌, ◌-◌, ◌%◌, ◌^◌, ◌<◌, ◌≤◌, ◌⊎◌, Bool, true, false, cond, List, [], ◌++◌, length, sym, ap, ◌∙◌, arith, inl, inr, pow_mono, refl, subst, add-zero, add-suc}
+use Rattle.std.proofs.Common.{◌≡◌, ℕ, zero, suc, ◌+◌, ◌-◌, ◌%◌, ◌<◌, ◌≤◌, ◌⊎◌, Bool, true, false, cond, List, [], ◌++◌, length, sym, ap, ◌∙◌, arith, inl, inr, pow_mono, refl, subst, add-zero, add-suc}
 use Rattle.std.specs.Prelude.{slice_index, nat_lt, Option, Some, is_some}
 use Rattle.std.proofs.lemmas.Bool.{cases_lt, lt-ltb, le-ltb}
 use Rattle.std.proofs.lemmas.List.{get_or_append_left, get_or-append_right, length-map, map-append}
