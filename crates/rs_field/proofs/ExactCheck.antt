@@ -48,7 +48,8 @@ pub roots_marked : (n : ℕ) (marks : ℕ → ℕ) (p : List ℕ) → AreMarks n
 unfolding marked
 roots_marked zero marks p m at = tt
 roots_marked (suc n) marks p m at =
-    grind (arith, common_steps, cases_eq, marked-more, marked-same, roots_marked n marks p (record { mark = λ y hy. m.mark y (omega arith) }) (λ x hx. at x (omega arith)))
+    let below = roots_marked n marks p (record { mark = λ y hy. m.mark y (omega arith) }) (λ x hx. at x (omega arith)) in
+    grind (arith, common_steps, cases_eq, marked-more, marked-same, below)
 
 -- ---- the located polynomial
 
