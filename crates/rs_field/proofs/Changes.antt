@@ -13,6 +13,7 @@ use Rattle.rs_field.proofs.Given.{count_below-zero, count_below-suc}
 use Rattle.rs_field.proofs.Unique.{recovery_unique}
 use Rattle.rs_field.proofs.RateFrames.{few_originals}
 use Rattle.rs_field.proofs.Agreement.{one_message}
+use Rattle.std.proofs.lemmas.Grind.{common_steps}
 
 -- those of the given shards that are the list's
 kept : Shards → List Shard → Shards
@@ -21,31 +22,13 @@ kept given shards i = cond (bytes_eq (unwrap_or (given i) []) (shard_at shards i
 -- an entry is kept or changed
 count-kept : (n : ℕ) (given : Shards) (shards : List Shard) → count_below n (changed given shards) + count_below n (kept given shards) ≡ count_below n given
 unfolding changed kept
-count-kept zero given shards = omega (arith, count_below-zero (changed given shards), count_below-zero (kept given shards), count_below-zero given)
-count-kept (suc n) given shards =
-    omega (
-      arith,
-      count-kept n given shards,
-      count_below-suc n (changed given shards),
-      count_below-suc n (kept given shards),
-      count_below-suc n given,
-      by_test (bytes_eq (unwrap_or (given n) []) (shard_at shards n)) (given n),
-    )
-  where
-    by_test : (b : Bool) (o : Option Shard) → cond (is_some (cond b None o)) 1 0 + cond (is_some (cond b o None)) 1 0 ≡ cond (is_some o) 1 0
-    by_test true o = omega arith
-    by_test false o = omega arith
+count-kept zero given shards = grind (arith, common_steps, count_below-zero)
+count-kept (suc n) given shards = grind (arith, common_steps, count_below-suc, count-kept n given shards)
 
 -- what is kept is given, and is the list's
 kept_given : (given : Shards) (shards : List Shard) (i : ℕ) (shard : Shard) → kept given shards i ≡ Some shard → (given i ≡ Some shard) × (shard_at shards i ≡ shard)
 unfolding kept
-kept_given given shards i shard e = by_test (bytes_eq (unwrap_or (given i) []) (shard_at shards i)) refl
-  where
-    by_test : (b : Bool) → bytes_eq (unwrap_or (given i) []) (shard_at shards i) ≡ b → (given i ≡ Some shard) × (shard_at shards i ≡ shard)
-    by_test true same =
-        let is : given i ≡ Some shard = sym (ap (λ (b : Bool). cond b (given i) None) same) ∙ e in
-        (is, sym ((bytes_eq-Decides (unwrap_or (given i) []) (shard_at shards i)).0 same) ∙ ap (λ o. unwrap_or o []) is)
-    by_test false other = absurd (none-some shard (sym (ap (λ (b : Bool). cond b (given i) None) other) ∙ e))
+kept_given given shards i shard e = grind (arith, common_steps, bytes_eq-Decides, none-some)
 
 either_none : (b : Bool) → ◌≡◌ {A = Option Shard} (cond b None None) None
 either_none true = refl

@@ -1,5 +1,5 @@
 -- Any k words are coded by a polynomial, so they have recovery words.
-use Rattle.std.proofs.Common.{◌≡◌, ℕ, zero, suc, ◌+◌, ◌-◌, ◌^◌, ◌<◌, ◌≤◌, Bool, true, cond, List, [], ◌∷◌, length, refl, ap, ◌∙◌, arith, inl, inr, pow_mono, subst}
+use Rattle.std.proofs.Common.{◌≡◌, ℕ, zero, suc, ◌+◌, ◌-◌, ◌^◌, ◌<◌, ◌≤◌, Bool, true, cond, List, [], ◌∷◌, length, refl, ap, ◌∙◌, arith, pow_mono, subst}
 use Rattle.std.specs.Prelude.{slice_index, nat_lt}
 use Rattle.std.proofs.lemmas.Bool.{cases_lt, lt-ltb, le-ltb}
 use Rattle.rs_field.specs.Polynomial.{value}
@@ -10,6 +10,7 @@ use Rattle.rs_field.proofs.Roots.{value_lt, words_from}
 use Rattle.rs_field.proofs.Interpolation.{interpolated}
 use Rattle.rs_field.proofs.Frame.{IsFrame, CodesIn, unframed}
 use Rattle.rs_field.proofs.RateFrames.{has_frame}
+use Rattle.std.proofs.lemmas.Grind.{common_steps}
 
 -- the first k values, and zero from there on
 first : ℕ → (ℕ → ℕ) → ℕ → ℕ
@@ -24,11 +25,7 @@ unfolding first
 first-past k f i h = ap (λ (b : Bool). cond b (f i) 0) (le-ltb i k h)
 
 first-word : (k : ℕ) (f : ℕ → ℕ) → ((i : ℕ) → i < k → f i < 2 ^ 16) → (i : ℕ) → first k f i < 2 ^ 16
-first-word k f words i =
-    elim (cases_lt i k) [
-      | inl below ↦ (let w = words i below in omega (arith, first-below k f i below))
-      | inr past ↦ omega (arith, first-past k f i past)
-    ]
+first-word k f words i = grind (arith, common_steps, cases_lt, first-below, first-past)
 
 -- in a frame any k words are coded
 pub coded_in : (p : Placement) (k r e bound zeros_end : ℕ) (words : List ℕ) → IsFrame p k r e bound zeros_end → ((j : ℕ) → j < k → slice_index words j < 65536)

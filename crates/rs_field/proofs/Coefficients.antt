@@ -7,7 +7,7 @@ use Rattle.std.proofs.lemmas.List.{get_or_past}
 use Rattle.rs_field.specs.Field.{product}
 use Rattle.rs_field.specs.Polynomial.{AreWords, value}
 use Rattle.rs_field.specs.Subspace.{subspace, basis}
-use Rattle.rs_field.specs.Transform.{sum_below, forward}
+use Rattle.rs_field.specs.Transform.{forward}
 use Rattle.rs_field.proofs.Product.{product_zero, zero_product, product_one}
 use Rattle.rs_field.proofs.Total.{product-comm}
 use Rattle.rs_field.proofs.Roots.{WordsOneByOne, value-nil, value-one}
@@ -16,6 +16,7 @@ use Rattle.rs_field.proofs.Subspace.{subspace_from_zero}
 use Rattle.rs_field.proofs.Factors.{add, scale, with_root, points, times, value_add, value_scale, value-times, length-add, length-scale, length-times, words_add, words_scale, words_times, all_words}
 use Rattle.rs_field.proofs.Combination.{sum_below-suc, sum_below-zero, sum_below-add, basis-zero, basis-half, forward_is, forward-zero}
 use Rattle.rs_field.proofs.Padding.{padded, length-padded, words_padded, value-padded}
+use Rattle.std.proofs.lemmas.Grind.{common_steps}
 
 -- ---- entries, zero past the end
 
@@ -42,18 +43,12 @@ with_root_is a p = refl
 -- a factor x + a keeps the last coefficient
 entry-with_root : (a n : ℕ) (p : List ℕ) → length p ≡ suc n → slice_index (with_root a p) (suc n) ≡ slice_index p n
 entry-with_root a n p size =
-    ap (λ (q : List ℕ). slice_index q (suc n)) (with_root_is a p) ∙ entry-add (0 ∷ p) (scale a p) (suc n)
-    ∙ ap₂ bit_xor (entry-shifted p n) (entry-scale a p (suc n) ∙ ap (product a) (get_or_past p (suc n) 0 (omega arith)) ∙ product_zero a)
-    ∙ xor_zero_r (slice_index p n)
+    grind (arith, common_steps, with_root_is, entry-add, entry-shifted, entry-scale, get_or_past, product_zero, xor_zero_r)
 
 entry-times : (a m n : ℕ) (p : List ℕ) → length p ≡ suc n → slice_index (times (points a m) p) (m + n) ≡ slice_index p n
 unfolding times points
 entry-times a zero n p size = ap (slice_index p) (zero-add n)
-entry-times a (suc m) n p size =
-    let next : suc m + n ≡ suc (m + n) = omega arith in
-    let long : length (times (points a m) p) ≡ suc (m + n) = length-times a m p ∙ omega arith in
-    ap (slice_index (with_root (a + m) (times (points a m) p))) next
-    ∙ entry-with_root (a + m) (m + n) (times (points a m) p) long ∙ entry-times a m n p size
+entry-times a (suc m) n p size = grind (arith, common_steps, length-times, with_root, entry-with_root, entry-times a m n p size)
 
 -- ---- the basis polynomials
 
@@ -65,12 +60,7 @@ record IsBasis (q : ℕ) (p : List ℕ) : Type 0 where
   at : (x : ℕ) → value p x ≡ basis q x
 
 basis_first : (q : ℕ) → q ≡ 0 → IsBasis q (1 ∷ [])
-basis_first q e = record {
-  size = ap suc (sym e);
-  words = (omega arith, tt);
-  last = ap (slice_index (1 ∷ [])) e;
-  at = λ x. value-one 1 x ∙ sym (ap (λ k. basis k x) e ∙ basis-zero x);
-}
+basis_first q e = grind (arith, common_steps, value-one, basis-zero)
 
 basis_next : (e q n : ℕ) (p : List ℕ) → e < 16 → n < 2 ^ e → q ≡ 2 ^ e + n → IsBasis n p → IsBasis q (times (points 0 (2 ^ e)) p)
 basis_next e q n p he hn is h = record {
@@ -98,17 +88,11 @@ basis_polynomial (suc e) q he hq =
 -- ---- sums of n terms
 
 forward-more : (n : ℕ) (f : ℕ → ℕ) (x : ℕ) → forward (suc n) 0 f x ≡ bit_xor (forward n 0 f x) (product (f n) (basis n x))
-forward-more n f x =
-    forward_is (suc n) 0 f x ∙ sum_below-suc n (λ q. product (f q) (basis q (0 + x)))
-    ∙ ap₂ bit_xor (sym (forward_is n 0 f x)) (ap (λ y. product (f n) (basis n y)) (zero-add x))
+forward-more n f x = grind (arith, common_steps, forward_is, sum_below-suc, zero-add)
 
 -- terms that are zero can be left out
 pub forward-fewer : (n t : ℕ) (f : ℕ → ℕ) (x : ℕ) → ((i : ℕ) → i < t → f (n + i) ≡ 0) → forward (n + t) 0 f x ≡ forward n 0 f x
-forward-fewer n t f x none =
-    let term : ℕ → ℕ = λ q. product (f q) (basis q (0 + x)) in
-    forward_is (n + t) 0 f x ∙ sum_below-add n t term
-    ∙ ap (bit_xor (sum_below n term)) (sum_below-zero t (λ i. term (n + i)) (λ i h. ap (λ v. product v (basis (n + i) (0 + x))) (none i h) ∙ zero_product (basis (n + i) (0 + x))))
-    ∙ xor_zero_r (sum_below n term) ∙ sym (forward_is n 0 f x)
+forward-fewer n t f x none = grind (arith, common_steps, forward_is, sum_below-add, sum_below-zero, zero_product, xor_zero_r)
 
 -- a polynomial of n coefficients for a sum of n terms
 record IsSum (n : ℕ) (f : ℕ → ℕ) (p : List ℕ) : Type 0 where
@@ -121,15 +105,7 @@ sum_none f = record { size = refl; words = tt; at = λ x. value-nil x ∙ sym (f
 
 sum_more : (n : ℕ) (f : ℕ → ℕ) (b p : List ℕ) → IsBasis n b → IsSum n f p → IsSum (suc n) f (add (scale (f n) b) p)
 sum_more n f b p hb hp =
-    let sb : length b ≡ suc n = hb.size in
-    let sp : length p ≡ n = hp.size in
-    let sc : length (scale (f n) b) ≡ length b = length-scale (f n) b in
-    record {
-      size = length-add (scale (f n) b) p (omega arith) ∙ sc ∙ sb;
-      words = words_add (scale (f n) b) p (words_scale (f n) b) hp.words;
-      at = λ x. value_add (scale (f n) b) p x ∙ ap₂ bit_xor (value_scale (f n) b x ∙ ap (product (f n)) (hb.at x)) (hp.at x)
-          ∙ xor_comm (product (f n) (basis n x)) (forward n 0 f x) ∙ sym (forward-more n f x);
-    }
+    grind (arith, common_steps, length-scale, length-add, words_add, words_scale, value_add, value_scale, xor_comm, forward-more)
 
 sum_polynomial : (n : ℕ) (f : ℕ → ℕ) → n ≤ 65536 → (p : List ℕ) × IsSum n f p
 sum_polynomial zero f hn = ([], sum_none f)
@@ -144,10 +120,7 @@ polynomial_of_terms n f hn = let p = sum_polynomial n f hn in (p.0, p.1.size, al
 
 -- the last coefficient is the last term's
 last_term : (n : ℕ) (f : ℕ → ℕ) (b p : List ℕ) → f n < 2 ^ 16 → IsBasis n b → IsSum n f p → slice_index (add (scale (f n) b) p) n ≡ f n
-last_term n f b p word hb hp =
-    entry-add (scale (f n) b) p n
-    ∙ ap₂ bit_xor (entry-scale (f n) b n ∙ ap (product (f n)) hb.last ∙ product_one (f n) word) (get_or_past p n 0 (let sp : length p ≡ n = hp.size in omega arith))
-    ∙ xor_zero_r (f n)
+last_term n f b p word hb hp = grind (arith, common_steps, entry-add, entry-scale, product_one, get_or_past, xor_zero_r)
 
 entry-padded : (n : ℕ) (p : List ℕ) (i : ℕ) → length p ≤ i → slice_index (padded n p) i ≡ 0
 unfolding padded

@@ -15,16 +15,11 @@ column-at q i s h = grind (arith, common_steps)
 
 -- in a whole chunk the high byte stands 32 bytes after the low one
 pub column-chunk : (q i : ℕ) (s : Shard) → i < 32 → q * 64 + 64 ≤ length s → column (q * 32 + i) s ≡ slice_index s (q * 64 + i) + 256 * slice_index s (q * 64 + i + 32)
-column-chunk q i s h fits =
-    let room : 64 ≤ length s - q * 64 = omega arith in
-    column-at q i s h ∙ ap (λ w. slice_index s (q * 64 + i) + 256 * slice_index s (q * 64 + i + w / 2)) (min-eq_left room)
+column-chunk q i s h fits = grind (arith, common_steps, column-at, min-eq_left)
 
 -- in a tail of L bytes it stands L / 2 bytes after it
 pub column-tail : (q i : ℕ) (s : Shard) → i < 32 → q ≡ length s / 64 → column (q * 32 + i) s ≡ slice_index s (q * 64 + i) + 256 * slice_index s (q * 64 + i + length s % 64 / 2)
-column-tail q i s h last =
-    let left : length s - q * 64 ≡ length s % 64 = omega arith in
-    let short : length s % 64 ≤ 64 = omega arith in
-    column-at q i s h ∙ ap (λ w. slice_index s (q * 64 + i) + 256 * slice_index s (q * 64 + i + w / 2)) (ap (min 64) left ∙ min-eq_right short)
+column-tail q i s h last = grind (arith, common_steps, column-at, min-eq_right)
 
 -- two words are equal only if their low and high bytes are
 halves : (a b c d : ℕ) → a < 256 → c < 256 → a + 256 * b ≡ c + 256 * d → (a ≡ c) × (b ≡ d)

@@ -11,6 +11,7 @@ use Rattle.rs_field.proofs.Linear.{xor_swap}
 use Rattle.rs_field.proofs.Product.{product_lt, product_one, zero_product, product_xor_left, product_xor_right}
 use Rattle.rs_field.proofs.Total.{product-comm, product-assoc, product-right_comm}
 use Rattle.rs_field.proofs.Subspace.{product_below_lt, product_below-same, product_below-suc, product_below-zero, subspace_shift}
+use Rattle.std.proofs.lemmas.Grind.{common_steps}
 
 -- ---- sums
 
@@ -158,9 +159,7 @@ forward_lt n shift f i = sum_below_lt n _ (λ q h. product_lt (f q) (basis q (sh
 
 pub forward-same : (n shift : ℕ) (f g : ℕ → ℕ) (i : ℕ) → ((q : ℕ) → q < n → f q ≡ g q) → forward n shift f i ≡ forward n shift g i
 unfolding forward
-forward-same n shift f g i same =
-    sum_below-same n (λ q. product (f q) (basis q (shift + i))) (λ q. product (g q) (basis q (shift + i)))
-    (λ q h. ap (λ v. product v (basis q (shift + i))) (same q h))
+forward-same n shift f g i same = grind (arith, common_steps, sum_below-same)
 
 pub forward-zero : (n shift : ℕ) (f : ℕ → ℕ) (i : ℕ) → ((q : ℕ) → q < n → f q ≡ 0) → forward n shift f i ≡ 0
 unfolding forward
@@ -188,10 +187,7 @@ forward-moved n shift more f i = ap (λ x. sum_below n (λ q. product (f q) (bas
 
 -- of one word the transform is that word
 pub forward-one : (shift : ℕ) (f : ℕ → ℕ) (i : ℕ) → f 0 < 2 ^ 16 → forward 1 shift f i ≡ f 0
-forward-one shift f i word =
-    forward_is 1 shift f i ∙ sum_below-suc 0 (λ q. product (f q) (basis q (shift + i)))
-    ∙ ap₂ bit_xor (sum_below-zero 0 (λ q. product (f q) (basis q (shift + i))) (λ q h. let no : ⊥ = omega arith in absurd no))
-    (ap (product (f 0)) (basis-zero (shift + i)) ∙ product_one (f 0) word)
+forward-one shift f i word = grind (arith, common_steps, forward_is, sum_below-suc, sum_below-zero, basis-zero, product_one)
 
 -- a sum of 2 ^ (e + 1) terms is one of its first half, and the subspace polynomial e times one of its second half
 pub forward-half : (e shift : ℕ) (f : ℕ → ℕ) (i : ℕ) → e < 16
@@ -220,12 +216,7 @@ even_block e shift h =
 
 -- on the first half of the block the subspace polynomial e is what it is at the block's start
 pub lower_factor : (e shift i : ℕ) → e < 16 → shift % 2 ^ suc e ≡ 0 → shift + 2 ^ suc e ≤ 65536 → i < 2 ^ e → subspace e (shift + i) ≡ subspace e shift
-lower_factor e shift i he whole fits hi =
-    let d : 2 ^ suc e ≡ 2 ^ e + 2 ^ e = two-pow-succ e in
-    let b = even_block e shift whole in
-    subspace_shift e (shift + i) (omega arith) (omega arith)
-    ∙ ap (λ v. (v + i) / 2 ^ e) b.1 ∙ div-mul-add (b.0 * 2) (2 ^ e) i hi
-    ∙ sym (subspace_shift e shift (omega arith) (omega arith) ∙ ap (λ v. v / 2 ^ e) (b.1 ∙ sym (add-zero (b.0 * 2 * 2 ^ e))) ∙ div-mul-add (b.0 * 2) (2 ^ e) 0 (pow_pos e))
+lower_factor e shift i he whole fits hi = grind (arith, common_steps, two-pow-succ, even_block, subspace_shift, div-mul-add, add-zero, pow_pos)
 
 -- and on the second half that XOR 1
 pub upper_factor : (e shift i : ℕ) → e < 16 → shift % 2 ^ suc e ≡ 0 → shift + 2 ^ suc e ≤ 65536 → i < 2 ^ e → subspace e (shift + (2 ^ e + i)) ≡ bit_xor (subspace e shift) 1
@@ -254,10 +245,7 @@ mixed e shift f g i made =
 pub lower_half : (e shift : ℕ) (f g : ℕ → ℕ) (i : ℕ) → e < 16 → shift % 2 ^ suc e ≡ 0 → shift + 2 ^ suc e ≤ 65536 → i < 2 ^ e
     → ((q : ℕ) → q < 2 ^ e → g q ≡ bit_xor (f q) (product (f (2 ^ e + q)) (subspace e shift)))
     → forward (2 ^ e) shift g i ≡ forward (2 ^ suc e) shift f i
-lower_half e shift f g i he whole fits hi made =
-    let c : ℕ = subspace e shift in
-    mixed e shift f g i made
-    ∙ sym (forward-half e shift f i he ∙ ap (λ v. bit_xor (forward (2 ^ e) shift f i) (product (forward (2 ^ e) shift (λ q. f (2 ^ e + q)) i) v)) (lower_factor e shift i he whole fits hi))
+lower_half e shift f g i he whole fits hi made = grind (arith, common_steps, mixed, forward-half, lower_factor)
 
 -- and that of the second rows is its second half
 pub upper_half : (e shift : ℕ) (f g h : ℕ → ℕ) (i : ℕ) → e < 16 → shift % 2 ^ suc e ≡ 0 → shift + 2 ^ suc e ≤ 65536 → i < 2 ^ e

@@ -3,18 +3,12 @@ use Rattle.std.proofs.Common.{◌≡◌, ℕ, ◌+◌, ◌*◌, ◌/◌, ◌≤�
 use Rattle.std.proofs.Math.Nat.{mul-le-mul_right}
 use Rattle.rs_field.specs.Bounds.{CountsRows, CountsUpTo, LocatorCounts, decode_steps, log2, transform_steps}
 use Rattle.rs_field.specs.declared.engine.steps.Steps.{Steps}
+use Rattle.std.proofs.lemmas.Grind.{common_steps}
 
 -- each count rose, and by no more than its bound
 pub counted : (m n q : ℕ) (a b : Steps) → (a.row_steps ≤ b.row_steps) × (b.row_steps ≤ a.row_steps + m)
     → (a.pair_sums ≤ b.pair_sums) × (b.pair_sums ≤ a.pair_sums + n) → (a.products ≤ b.products) × (b.products ≤ a.products + q) → CountsUpTo m n q a b
-counted m n q a b x y z = record {
-  row_steps_rise = x.0;
-  pair_sums_rise = y.0;
-  products_rise = z.0;
-  row_steps_most = x.1;
-  pair_sums_most = y.1;
-  products_most = z.1;
-}
+counted m n q a b x y z = grind (arith, common_steps)
 
 -- exactly n row steps are no more than n
 pub counts_rows : (n : ℕ) (a b : Steps) → CountsRows n a b → CountsUpTo n 0 0 a b

@@ -161,14 +161,7 @@ length-message_of p k q = length-values_of k (λ j. value q (p.originals_from + 
 own_message : (p : Placement) (k r e bound zeros_end : ℕ) (originals recovery : Shards) (marks words : ℕ → ℕ) (q : List ℕ)
     → IsFrame p k r e bound zeros_end → AreErasures p k r (2 ^ e) zeros_end originals recovery marks
     → ((x : ℕ) → p.zeros_from ≤ x → x < zeros_end → words x ≡ 0) → Takes (2 ^ e) bound marks words q → CodesIn p k bound zeros_end (message_of p k q) q
-own_message p k r e bound zeros_end originals recovery marks words q f h known takes =
-    let zeros : (p.zeros_from ≤ zeros_end) × (zeros_end ≤ 2 ^ e) = f.zeros in
-    record {
-      degree = takes.degree;
-      coefficients = takes.coefficients;
-      originals = λ j hj. sym (message_of-at p k q j hj);
-      zeros = λ x a b. takes.given x (omega arith) (h.known x a b) ∙ known x a b;
-    }
+own_message p k r e bound zeros_end originals recovery marks words q f h known takes = grind (arith, common_steps, message_of-at)
 
 takes_same : (p : Placement) (k r e bound zeros_end : ℕ) (originals recovery : Shards) (marks words : ℕ → ℕ) (q o : List ℕ)
     → IsFrame p k r e bound zeros_end → AreErasures p k r (2 ^ e) zeros_end originals recovery marks

@@ -12,6 +12,7 @@ use Rattle.rs_field.proofs.Roots.{WordsOneByOne, value_lt}
 use Rattle.rs_field.proofs.Subspace.{product_below_lt, product_below-same, product_below-suc, product_below-zero, product_below-add, subspace_shift}
 use Rattle.rs_field.proofs.Factors.{add, scale, with_root, points, times, value_add, value_scale, value-times}
 use Rattle.rs_field.proofs.RingSolver.{plus, v, times as both, by_algebra}
+use Rattle.std.proofs.lemmas.Grind.{common_steps}
 
 pub derivative-nil : (x : ℕ) → derivative_value [] x ≡ 0
 unfolding derivative_value
@@ -30,27 +31,19 @@ derivative_lt (c ∷ cs) x h = xor_lt 16 (value cs x) (product x (derivative_val
 pub derivative_add : (p q : List ℕ) (x : ℕ) → derivative_value (add p q) x ≡ bit_xor (derivative_value p x) (derivative_value q x)
 unfolding derivative_value add
 derivative_add [] q x = refl
-derivative_add (a ∷ p) [] x = sym (xor_zero_r (bit_xor (value p x) (product x (derivative_value p x))))
-derivative_add (a ∷ p) (b ∷ q) x =
-    rw (derivative_add p q x, value_add p q x, product_xor_right x (derivative_value p x) (derivative_value q x))
-    (xor_swap (value p x) (value q x) (product x (derivative_value p x)) (product x (derivative_value q x)))
+derivative_add (a ∷ p) [] x = grind (arith, common_steps, xor_zero_r)
+derivative_add (a ∷ p) (b ∷ q) x = grind (arith, common_steps, value_add, product_xor_right, xor_swap, derivative_add p q x)
 
 -- of a multiple it is the multiple
 pub derivative_scale : (c : ℕ) (p : List ℕ) (x : ℕ) → derivative_value (scale c p) x ≡ product c (derivative_value p x)
 unfolding derivative_value scale
 derivative_scale c [] x = sym (product_zero c)
-derivative_scale c (a ∷ p) x =
-    ap₂ bit_xor (value_scale c p x) (ap (product x) (derivative_scale c p x) ∙ product-left_comm x c (derivative_value p x))
-    ∙ sym (product_xor_right c (value p x) (product x (derivative_value p x)))
+derivative_scale c (a ∷ p) x = grind (arith, common_steps, value_scale, product-left_comm, product_xor_right, derivative_scale c p x)
 
 -- one more factor x + a
 pub derivative_with_root : (a : ℕ) (p : List ℕ) (x : ℕ) → derivative_value (with_root a p) x ≡ bit_xor (value p x) (product (bit_xor x a) (derivative_value p x))
 unfolding with_root
-derivative_with_root a p x =
-    derivative_add (0 ∷ p) (scale a p) x
-    ∙ ap₂ bit_xor (derivative-cons 0 p x) (derivative_scale a p x)
-    ∙ xor_assoc (value p x) (product x (derivative_value p x)) (product a (derivative_value p x))
-    ∙ ap (bit_xor (value p x)) (sym (product_xor_left x a (derivative_value p x)))
+derivative_with_root a p x = grind (arith, common_steps, derivative_add, derivative-cons, derivative_scale, xor_assoc, product_xor_left)
 
 -- ---- products of factors
 
@@ -160,11 +153,8 @@ factors-moved e n x h =
     product_below-same n (λ i. bit_xor x (2 ^ e + i)) (λ i. bit_xor (bit_xor x (2 ^ e)) (0 + i)) (λ i hi. moved_point e i x (omega arith))
 
 slope-moved : (e n x : ℕ) → n ≤ 2 ^ e → slope (2 ^ e) n x ≡ slope 0 n (bit_xor x (2 ^ e))
-slope-moved e zero x h = slope-zero (2 ^ e) x ∙ sym (slope-zero 0 (bit_xor x (2 ^ e)))
-slope-moved e (suc n) x h =
-    slope-suc (2 ^ e) n x
-    ∙ ap₂ bit_xor (factors-moved e n x (omega arith)) (ap₂ product (moved_point e n x (omega arith)) (slope-moved e n x (omega arith)))
-    ∙ sym (slope-suc 0 n (bit_xor x (2 ^ e)))
+slope-moved e zero x h = grind (arith, common_steps, slope-zero)
+slope-moved e (suc n) x h = grind (arith, common_steps, slope-suc, factors-moved, moved_point, slope-moved e n x (omega arith))
 
 -- ---- subspace polynomials
 

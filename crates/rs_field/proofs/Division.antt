@@ -1,9 +1,10 @@
 -- A polynomial with roots at several words is the product of their factors with another polynomial.
-use Rattle.std.proofs.Common.{◌≡◌, ℕ, ◌+◌, ◌^◌, ◌<◌, ◌≤◌, ◌≢◌, List, [], ◌∷◌, length, refl, sym, ap, ◌∙◌, arith, bit_xor}
+use Rattle.std.proofs.Common.{◌≡◌, ℕ, ◌+◌, ◌^◌, ◌<◌, ◌≤◌, List, [], ◌∷◌, length, refl, sym, ap, ◌∙◌, arith, bit_xor}
 use Rattle.rs_field.specs.Field.{product}
 use Rattle.rs_field.specs.Polynomial.{value}
 use Rattle.rs_field.proofs.Roots.{WordsOneByOne, steps, length-steps, words_steps, factor-root, next_root}
 use Rattle.rs_field.proofs.Factors.{times, value_with_root}
+use Rattle.std.proofs.lemmas.Grind.{common_steps}
 
 -- distinct numbers below n: each is below the one before
 abbrev pub AreFalling : ℕ → List ℕ → Type 0
@@ -19,9 +20,7 @@ AreRoots p (a ∷ r) = (value p a ≡ 0) × AreRoots p r
 other_roots : (a n c : ℕ) (cs r : List ℕ) → a < 2 ^ 16 → n ≤ a → AreFalling n r → WordsOneByOne cs → value (c ∷ cs) a ≡ 0 → AreRoots (c ∷ cs) r → AreRoots (steps a cs) r
 other_roots a n c cs [] ha hn falling words root roots = tt
 other_roots a n c cs (b ∷ r) ha hn falling words root roots =
-    let below : b < n = falling.0 in
-    let differ : b ≢ a = λ e. omega arith in
-    (next_root a b c cs ha (omega arith) words root roots.0 differ, other_roots a b c cs r ha (omega arith) falling.1 words root roots.1)
+    grind (arith, common_steps, next_root, other_roots a b c cs r ha (omega arith) falling.1 words root roots.1)
 
 -- a polynomial that is zero at distinct words is that of their factors and as many fewer coefficients
 pub divided_by : (n : ℕ) (r p : List ℕ) (b : ℕ) → n ≤ 2 ^ 16 → AreFalling n r → length p ≡ length r + b → WordsOneByOne p → AreRoots p r

@@ -9,6 +9,7 @@ use Rattle.rs_field.proofs.Totals.{total-zero, total-suc}
 use Rattle.rs_field.proofs.Given.{count_below-zero, count_below-suc}
 use Rattle.rs_field.proofs.LocatorProduct.{marked, marked-more, marked-same, AreMarks}
 use Rattle.rs_field.proofs.Frame.{IsFrame}
+use Rattle.std.proofs.lemmas.Grind.{common_steps}
 
 -- the marks of the n rows: each is marked but the known zeros and the places of shards given
 pub record AreErasures (p : Placement) (k r n zeros_end : ℕ) (originals recovery : Shards) (marks : ℕ → ℕ) : Type 0 where
@@ -23,12 +24,7 @@ total-marked : (n : ℕ) (marks : ℕ → ℕ) → AreMarks n marks → length (
 unfolding total marked
 total-marked zero marks m = refl
 total-marked (suc n) marks m =
-    let rest : length (marked n marks) ≡ total n marks = total-marked n marks (record { mark = λ y hy. m.mark y (omega arith) }) in
-    let most : marks n ≤ 1 = m.mark n (omega arith) in
-    elim (cases_eq (marks n) 1) [
-      | inl one ↦ ap length (marked-more n marks one) ∙ omega arith
-      | inr other ↦ ap length (marked-same n marks (omega arith)) ∙ omega arith
-    ]
+    grind (arith, common_steps, cases_eq, marked-more, marked-same, total-marked n marks (record { mark = λ y hy. m.mark y (omega arith) }))
 
 -- n more that are all zero
 past_zeros : (a n b : ℕ) (f : ℕ → ℕ) → a + n ≡ b → ((x : ℕ) → a ≤ x → x < b → f x ≡ 0) → total b f ≡ total a f

@@ -1,5 +1,5 @@
 -- Whether some polynomial takes the words given, by the rows after the backward transform: one column.
-use Rattle.std.proofs.Common.{◌≡◌, ℕ, zero, suc, ◌+◌, ◌^◌, ◌<◌, ◌≤◌, ◌⊎◌, ◌≢◌, List, [], ◌∷◌, length, sym, ap, ◌∙◌, arith, inl, inr, subst}
+use Rattle.std.proofs.Common.{◌≡◌, ℕ, zero, suc, ◌+◌, ◌^◌, ◌<◌, ◌≤◌, ◌⊎◌, ◌≢◌, List, [], ◌∷◌, length, sym, ap, ◌∙◌, arith}
 use Rattle.std.proofs.lemmas.Bool.{cases_eq}
 use Rattle.rs_field.specs.Field.{product, power}
 use Rattle.rs_field.specs.Polynomial.{AreWords, value}
@@ -14,6 +14,7 @@ use Rattle.rs_field.proofs.Factors.{times, words_times}
 use Rattle.rs_field.proofs.LocatorProduct.{marked, marked-more, marked-same, AreMarks, locator_value, locator_root, length-marked_times}
 use Rattle.rs_field.proofs.Division.{AreFalling, AreRoots, divided_by}
 use Rattle.rs_field.proofs.Coefficients.{forward-fewer, polynomial_of_terms, no_terms_past}
+use Rattle.std.proofs.lemmas.Grind.{common_steps}
 
 -- the located words: nothing at a marked point, elsewhere the word given there times the locator's power; at a known zero the word is 0
 pub record AreLocated (n : ℕ) (marks words f : ℕ → ℕ) : Type 0 where
@@ -29,13 +30,7 @@ pub record Takes (n b : ℕ) (marks words : ℕ → ℕ) (q : List ℕ) : Type 0
 -- rows located one at a time: nothing at a marked point, nothing at a known zero, a given word times the locator's power
 pub are_located : (n : ℕ) (marks words f : ℕ → ℕ) → ((x : ℕ) → x < n → marks x ≡ 1 → f x ≡ 0)
     → ((x : ℕ) → x < n → marks x ≡ 0 → ((words x ≡ 0) × (f x ≡ 0)) ⊎ (f x ≡ product (words x) (power (log_sum n marks x)))) → AreLocated n marks words f
-are_located n marks words f erased rest = record {
-  erased = erased;
-  given = λ x hx none. elim (rest x hx none) [
-    | inl known ↦ known.1 ∙ sym (ap (λ w. product w (power (log_sum n marks x))) known.0 ∙ zero_product (power (log_sum n marks x)))
-    | inr given ↦ given
-  ];
-}
+are_located n marks words f erased rest = grind (arith, common_steps, zero_product)
 
 -- ---- the marked points as roots
 
@@ -47,27 +42,14 @@ pub falling_marked : (n : ℕ) (marks : ℕ → ℕ) → AreMarks n marks → Ar
 unfolding marked
 falling_marked zero marks m = tt
 falling_marked (suc n) marks m =
-    let rest : AreFalling n (marked n marks) = falling_marked n marks (record { mark = λ y hy. m.mark y (omega arith) }) in
-    elim (mark_cases (suc n) marks m n (omega arith)) [
-      | inl one ↦ subst (λ (r : List ℕ). AreFalling (suc n) r) (sym (marked-more n marks one)) (omega arith, rest)
-      | inr none ↦ subst (λ (r : List ℕ). AreFalling (suc n) r) (sym (marked-same n marks none)) (falling_more n (suc n) (marked n marks) (omega arith) rest)
-    ]
-  where
-    mark_cases : (n : ℕ) (marks : ℕ → ℕ) → AreMarks n marks → (x : ℕ) → x < n → (marks x ≡ 1) ⊎ (marks x ≡ 0)
-    mark_cases n marks m x hx =
-        let most : marks x ≤ 1 = m.mark x hx in
-        elim (cases_eq (marks x) 1) [ inl one ↦ inl one | inr other ↦ inr (omega arith) ]
+    grind (arith, common_steps, marked-more, marked-same, falling_more, cases_eq, falling_marked n marks (record { mark = λ y hy. m.mark y (omega arith) }))
 
 pub roots_marked : (n : ℕ) (marks : ℕ → ℕ) (p : List ℕ) → AreMarks n marks → ((x : ℕ) → x < n → marks x ≡ 1 → value p x ≡ 0) → AreRoots p (marked n marks)
 unfolding marked
 roots_marked zero marks p m at = tt
 roots_marked (suc n) marks p m at =
-    let rest : AreRoots p (marked n marks) = roots_marked n marks p (record { mark = λ y hy. m.mark y (omega arith) }) (λ x hx. at x (omega arith)) in
-    let most : marks n ≤ 1 = m.mark n (omega arith) in
-    elim (cases_eq (marks n) 1) [
-      | inl one ↦ subst (λ (r : List ℕ). AreRoots p r) (sym (marked-more n marks one)) (at n (omega arith) one, rest)
-      | inr other ↦ subst (λ (r : List ℕ). AreRoots p r) (sym (marked-same n marks (omega arith))) rest
-    ]
+    let below = roots_marked n marks p (record { mark = λ y hy. m.mark y (omega arith) }) (λ x hx. at x (omega arith)) in
+    grind (arith, common_steps, cases_eq, marked-more, marked-same, below)
 
 -- ---- the located polynomial
 
@@ -77,16 +59,7 @@ not_both marks x y none one e = let same : marks y ≡ marks x = ap marks e in o
 -- a polynomial that takes the words given has the located words as values, once a root is put in at each marked point
 pub located_values : (n b : ℕ) (marks words f : ℕ → ℕ) (q : List ℕ) → n ≤ 2 ^ 16 → AreMarks n marks → AreLocated n marks words f → Takes n b marks words q
     → (x : ℕ) → x < n → f x ≡ value (times (marked n marks) q) x
-located_values n b marks words f q hn m l h x hx =
-    let most : marks x ≤ 1 = m.mark x hx in
-    elim (cases_eq (marks x) 1) [
-      | inl one ↦ l.erased x hx one ∙ sym (locator_root n marks q x m hx one)
-      | inr other ↦
-          let none : marks x ≡ 0 = omega arith in
-          l.given x hx none ∙ ap (λ w. product w (power (log_sum n marks x))) (sym (h.given x hx none))
-          ∙ product-comm (value q x) (power (log_sum n marks x))
-          ∙ sym (locator_value n marks q x hn (omega arith) h.coefficients m (λ y hy one. not_both marks x y none one))
-    ]
+located_values n b marks words f q hn m l h x hx = grind (arith, common_steps, cases_eq, locator_root, product-comm, locator_value, not_both)
 
 -- ---- the check
 
@@ -105,18 +78,8 @@ zero_rows n b t marks words f F hn m count l word at (q, h) i above below =
 divided_takes : (n b : ℕ) (marks words f : ℕ → ℕ) (h : List ℕ) → n ≤ 2 ^ 16 → AreMarks n marks → AreLocated n marks words f
     → ((x : ℕ) → x < n → marks x ≡ 0 → words x < 2 ^ 16) → ((x : ℕ) → x < n → value h x ≡ f x)
     → (q : List ℕ) × (length q ≡ b) × WordsOneByOne q × ((x : ℕ) → value h x ≡ value (times (marked n marks) q) x) → (q : List ℕ) × Takes n b marks words q
-divided_takes n b marks words f h hn m l given same (q, size, are_words, at) = (
-  q,
-  record {
-    degree = size;
-    coefficients = are_words;
-    given = λ x hx none.
-        product_cancel (power (log_sum n marks x)) (value q x) (words x) (power_pos (log_sum n marks x)) (power_lt (log_sum n marks x)) (value_lt q x are_words) (given x hx none)
-        (product-comm (value q x) (power (log_sum n marks x))
-        ∙ sym (locator_value n marks q x hn (omega arith) are_words m (λ y hy one. not_both marks x y none one))
-        ∙ sym (at x) ∙ same x hx ∙ l.given x hx none);
-  },
-)
+divided_takes n b marks words f h hn m l given same (q, size, are_words, at) =
+    grind (arith, common_steps, product_cancel, power_pos, power_lt, value_lt, product-comm, locator_value, not_both)
 
 -- as many coefficients as the marked points and those of the polynomial wanted, with the located words as values
 few_coefficients : (n k t : ℕ) (f F : ℕ → ℕ) → n ≤ 2 ^ 16 → k + t ≡ n → ((x : ℕ) → x < n → forward n 0 F x ≡ f x)

@@ -10,6 +10,7 @@ use Rattle.rs_field.proofs.Product.{product_lt, product_zero, one_product, produ
 use Rattle.rs_field.proofs.Total.{product-comm, product-assoc, product-left_comm}
 use Rattle.rs_field.proofs.Roots.{WordsOneByOne, value_lt}
 use Rattle.rs_field.proofs.Subspace.{product_below-suc, product_below-zero}
+use Rattle.std.proofs.lemmas.Grind.{common_steps}
 
 -- the sum of two polynomials
 unfoldable pub add : List ℕ → List ℕ → List ℕ
@@ -71,9 +72,7 @@ length-add (a ∷ p) (b ∷ q) h = ap suc (length-add p q (let le : length q ≤
 
 pub length-with_root : (a : ℕ) (p : List ℕ) → length (with_root a p) ≡ suc (length p)
 unfolding with_root
-length-with_root a p =
-    let same : length (scale a p) ≡ length p = length-scale a p in
-    length-add (0 ∷ p) (scale a p) (let le : length (scale a p) ≤ suc (length p) = omega arith in le)
+length-with_root a p = grind (arith, common_steps, length-scale, length-add)
 
 pub words_add : (p q : List ℕ) → WordsOneByOne p → WordsOneByOne q → WordsOneByOne (add p q)
 unfolding add
@@ -103,11 +102,8 @@ length-times a (suc n) p = let e : length (times (points a n) p) ≡ n + length 
 -- its value is the polynomial's times the product of the factors
 pub value-times : (a n : ℕ) (p : List ℕ) → WordsOneByOne p → (x : ℕ) → value (times (points a n) p) x ≡ product (product_below n (λ i. bit_xor x (a + i))) (value p x)
 unfolding times points
-value-times a zero p w x = sym (ap (λ v. product v (value p x)) (product_below-zero (λ i. bit_xor x (a + i))) ∙ one_product (value p x) (value_lt p x w))
-value-times a (suc n) p w x =
-    value_with_root (a + n) (times (points a n) p) x ∙ ap (product (bit_xor x (a + n))) (value-times a n p w x)
-    ∙ sym (product-assoc (bit_xor x (a + n)) (product_below n (λ i. bit_xor x (a + i))) (value p x))
-    ∙ ap (λ v. product v (value p x)) (product-comm (bit_xor x (a + n)) (product_below n (λ i. bit_xor x (a + i))) ∙ sym (product_below-suc n (λ i. bit_xor x (a + i))))
+value-times a zero p w x = grind (arith, common_steps, product_below-zero, one_product, value_lt)
+value-times a (suc n) p w x = grind (arith, common_steps, value_with_root, product-assoc, product-comm, product_below-suc, value-times a n p w x)
 
 -- words one after another are words by entry
 pub all_words : (p : List ℕ) → WordsOneByOne p → All (λ w. w < 65536) p

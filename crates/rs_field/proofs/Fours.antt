@@ -1,5 +1,5 @@
 -- A loop over four ranges of rows, one after the other: row i of each.
-use Rattle.std.proofs.Common.{◌≡◌, ℕ, ◌+◌, ◌*◌, ◌<◌, ◌≤◌, ◌⊎◌, ◌≢◌, List, inl, inr, arith, ap, ◌∙◌, subst, sym}
+use Rattle.std.proofs.Common.{◌≡◌, ℕ, ◌+◌, ◌*◌, ◌<◌, ◌≤◌, ◌⊎◌, ◌≢◌, inl, inr, arith, ◌∙◌, subst, sym}
 use Rattle.std.proofs.Math.Nat.{mul-le-mul_right}
 use Rattle.std.proofs.lemmas.Bool.{cases_lt}
 use Rattle.rs_field.specs.Rows.{chunk}
@@ -7,6 +7,7 @@ use Rattle.rs_field.specs.View.{cell, SameShape, SameRowsOutside, SameRowsOutsid
 use Rattle.rs_field.specs.TwoLayers.{OnFourChunks}
 use Rattle.rs_field.specs.declared.engine.shards.ShardsRefMut.{ShardsRefMut}
 use Rattle.rs_field.proofs.RowOffsets.{offset_apart, row_ends, shape_then}
+use Rattle.std.proofs.lemmas.Grind.{common_steps}
 
 -- a relation between chunk k of four old rows and of four new ones
 abbrev pub on_rows : OnFourChunks → ShardsRefMut → ShardsRefMut → ℕ → ℕ → ℕ → ℕ → ℕ → Type 0
@@ -28,28 +29,17 @@ pub record FoursDone (related : OnFourChunks) (pos quarter i : ℕ) (old new : S
 outside_four_cell : (a b c d : ℕ) (old new : ShardsRefMut) → SameShape old new → SameRowsOutsideFour a b c d old new
     → (i k : ℕ) → k < old.shard_len_64 → i ≢ a → i ≢ b → i ≢ c → i ≢ d → cell new k i ≡ cell old k i
 unfolding cell
-outside_four_cell a b c d old new shape others i k hk na nb nc nd =
-    let n : ℕ = old.shard_len_64 in
-    ap (λ m. chunk new.chunks.now (i * m + k)) shape.len_64
-    ∙ others (i * n + k) (offset_apart a i k n hk na) (offset_apart b i k n hk nb) (offset_apart c i k n hk nc) (offset_apart d i k n hk nd)
+outside_four_cell a b c d old new shape others i k hk na nb nc nd = grind (arith, common_steps, offset_apart)
 
 -- relations of rows that are kept before
 related_before : (related : OnFourChunks) (old mid new : ShardsRefMut) (k a b c d : ℕ) → Kept old mid k a b c d
     → on_rows related mid new k a b c d → on_rows related old new k a b c d
-related_before related old mid new k a b c d kept r =
-    subst (λ (x : List ℕ). related x (cell old k b) (cell old k c) (cell old k d) (cell new k a) (cell new k b) (cell new k c) (cell new k d)) kept.0
-    (subst (λ (x : List ℕ). related (cell mid k a) x (cell old k c) (cell old k d) (cell new k a) (cell new k b) (cell new k c) (cell new k d)) kept.1
-    (subst (λ (x : List ℕ). related (cell mid k a) (cell mid k b) x (cell old k d) (cell new k a) (cell new k b) (cell new k c) (cell new k d)) kept.2
-    (subst (λ (x : List ℕ). related (cell mid k a) (cell mid k b) (cell mid k c) x (cell new k a) (cell new k b) (cell new k c) (cell new k d)) kept.3 r)))
+related_before related old mid new k a b c d kept r = grind (arith, common_steps)
 
 -- and afterwards
 related_after : (related : OnFourChunks) (old mid new : ShardsRefMut) (k a b c d : ℕ) → Kept mid new k a b c d
     → on_rows related old mid k a b c d → on_rows related old new k a b c d
-related_after related old mid new k a b c d kept r =
-    subst (λ (x : List ℕ). related (cell old k a) (cell old k b) (cell old k c) (cell old k d) x (cell new k b) (cell new k c) (cell new k d)) (sym kept.0)
-    (subst (λ (x : List ℕ). related (cell old k a) (cell old k b) (cell old k c) (cell old k d) (cell mid k a) x (cell new k c) (cell new k d)) (sym kept.1)
-    (subst (λ (x : List ℕ). related (cell old k a) (cell old k b) (cell old k c) (cell old k d) (cell mid k a) (cell mid k b) x (cell new k d)) (sym kept.2)
-    (subst (λ (x : List ℕ). related (cell old k a) (cell old k b) (cell old k c) (cell old k d) (cell mid k a) (cell mid k b) (cell mid k c) x) (sym kept.3) r)))
+related_after related old mid new k a b c d kept r = grind (arith, common_steps)
 
 pub fours_next : (related : OnFourChunks) (pos quarter i : ℕ) (old mid new : ShardsRefMut) → i < quarter → FoursDone related pos quarter i old mid → SameShape mid new
     → ((k : ℕ) → k < mid.shard_len_64 → on_rows related mid new k (pos + i) (pos + quarter + i) (pos + 2 * quarter + i) (pos + 3 * quarter + i))

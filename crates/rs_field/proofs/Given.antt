@@ -1,6 +1,6 @@
 -- Maps from index to shard, one entry at a time.
-use Rattle.std.proofs.Common.{◌≡◌, ℕ, zero, suc, ◌+◌, ◌<◌, List, [], refl, sym, ap, ap₂, ◌∙◌, inl, inr, ◌⊎◌, ◌≢◌, true, cond, arith}
-use Rattle.std.specs.Prelude.{Option, Some, None, is_some, unwrap_or}
+use Rattle.std.proofs.Common.{◌≡◌, ℕ, zero, suc, ◌+◌, ◌<◌, List, refl, sym, ap₂, ◌∙◌, ◌⊎◌, ◌≢◌, true, cond, arith}
+use Rattle.std.specs.Prelude.{Option, Some, None, is_some}
 use Rattle.std.proofs.lemmas.Option.{none-some}
 use Rattle.rs_field.specs.Column.{Shard, shard_at}
 use Rattle.rs_field.specs.Given.{Shards, nothing, entered, count_below, AreAmong}
@@ -17,11 +17,7 @@ nothing_among xs i shard e = absurd (none-some shard e)
 
 -- a shard of the list may be entered at its index
 pub entered_among : (g : Shards) (k : ℕ) (s : Shard) (xs : List Shard) → AreAmong g xs → shard_at xs k ≡ s → AreAmong (entered g k s) xs
-entered_among g k s xs h is i shard e =
-    elim (entered_cases g k i s) [
-      | inl here ↦ ap (shard_at xs) here.0 ∙ is ∙ ap (λ o. unwrap_or o []) (sym here.1 ∙ e)
-      | inr other ↦ h i shard (sym other.1 ∙ e)
-    ]
+entered_among g k s xs h is i shard e = grind (arith, common_steps, entered_cases)
 
 pub count_below-zero : (given : Shards) → count_below 0 given ≡ 0
 unfolding count_below

@@ -1,5 +1,5 @@
 -- A polynomial of n coefficients with n given values at points one after another.
-use Rattle.std.proofs.Common.{◌≡◌, ℕ, zero, suc, ◌+◌, ◌^◌, ◌<◌, ◌≤◌, ◌≢◌, List, [], ◌∷◌, length, bit_xor, refl, sym, ap, ◌∙◌, arith, inl, inr}
+use Rattle.std.proofs.Common.{◌≡◌, ℕ, zero, suc, ◌+◌, ◌^◌, ◌<◌, ◌≤◌, ◌≢◌, List, [], ◌∷◌, length, bit_xor, refl, ap, ◌∙◌, arith}
 use Rattle.std.specs.Int.Bits.{xor_zero_l, xor_lt}
 use Rattle.std.proofs.lemmas.Bool.{cases_eq}
 use Rattle.rs_field.specs.Field.{product}
@@ -14,6 +14,7 @@ use Rattle.rs_field.proofs.Roots.{WordsOneByOne, value_lt, value-one}
 use Rattle.rs_field.proofs.Subspace.{product_below_lt}
 use Rattle.rs_field.proofs.Factors.{add, scale, points, times, value_add, value_scale, value-times, length-add, length-scale, length-times, words_add, words_scale}
 use Rattle.rs_field.proofs.ZerosPast.{root_there}
+use Rattle.std.proofs.lemmas.Grind.{common_steps}
 
 -- the differences of a point from others are no zero together
 differences_pos : (a n x : ℕ) → x < 2 ^ 16 → a + n ≤ 2 ^ 16 → ((i : ℕ) → i < n → a + i ≢ x) → 0 < product_below n (λ i. bit_xor x (a + i))
@@ -41,10 +42,7 @@ value-one_more a n p v x = value_add (scale (missing a n p v) (times (points a n
 
 -- a value that was there stays
 stays : (a n : ℕ) (p : List ℕ) (v i : ℕ) → i < n → value (one_more a n p v) (a + i) ≡ value p (a + i)
-stays a n p v i hi =
-    value-one_more a n p v (a + i)
-    ∙ ap (λ w. bit_xor w (value p (a + i))) (ap (product (missing a n p v)) (root_there a n (1 ∷ []) i hi) ∙ product_zero (missing a n p v))
-    ∙ xor_zero_l (value p (a + i))
+stays a n p v i hi = grind (arith, common_steps, value-one_more, root_there, product_zero, xor_zero_l)
 
 -- the next one comes
 comes : (a n : ℕ) (p : List ℕ) (v : ℕ) → a + n < 2 ^ 16 → v < 2 ^ 16 → WordsOneByOne p → value (one_more a n p v) (a + n) ≡ v
@@ -65,17 +63,7 @@ comes a n p v hn hv words =
 has_more : (a n : ℕ) (v : ℕ → ℕ) (p : List ℕ) → a + n < 2 ^ 16 → v n < 2 ^ 16 → Has a n v p → Has a (suc n) v (one_more a n p (v n))
 unfolding one_more
 has_more a n v p hn hv h =
-    let size : length (scale (missing a n p (v n)) (times (points a n) (1 ∷ []))) ≡ length (times (points a n) (1 ∷ [])) = length-scale (missing a n p (v n)) (times (points a n) (1 ∷ [])) in
-    let long : length (times (points a n) (1 ∷ [])) ≡ n + 1 = length-times a n (1 ∷ []) in
-    let short : length p ≡ n = h.degree in
-    record {
-      degree = length-add (scale (missing a n p (v n)) (times (points a n) (1 ∷ []))) p (omega arith) ∙ omega arith;
-      coefficients = words_add (scale (missing a n p (v n)) (times (points a n) (1 ∷ []))) p (words_scale (missing a n p (v n)) (times (points a n) (1 ∷ []))) h.coefficients;
-      at = λ i hi. elim (cases_eq i n) [
-        | inl e ↦ ap (λ j. value (one_more a n p (v n)) (a + j)) e ∙ comes a n p (v n) hn hv h.coefficients ∙ ap v (sym e)
-        | inr apart ↦ stays a n p (v n) i (omega arith) ∙ h.at i (omega arith)
-      ];
-    }
+    grind (arith, common_steps, length-scale, length-times, length-add, words_add, words_scale, cases_eq, one_more, comes, stays)
 
 -- Newton's form
 pub interpolated : (a n : ℕ) (v : ℕ → ℕ) → a + n ≤ 2 ^ 16 → ((i : ℕ) → i < n → v i < 2 ^ 16) → (p : List ℕ) × Has a n v p

@@ -48,11 +48,7 @@ pub record IsLayer (skew : List ℕ) (half shift : ℕ) (f g : ℕ → ℕ) : Ty
 
 made : (skew : List ℕ) (n e shift : ℕ) (f g : ℕ → ℕ) → IsBlock skew (n + n) shift → n + n ≡ 2 ^ suc e → n ≡ 2 ^ e → IsLayer skew n shift f g
     → (q : ℕ) → q < 2 ^ e → g q ≡ bit_xor (f q) (product (f (2 ^ e + q)) (subspace e shift))
-made skew n e shift f g b is half l q hq =
-    let whole : shift % 2 ^ suc e ≡ 0 = subst (λ (m : ℕ). shift % m ≡ 0) is b.aligned in
-    let within : shift + 2 ^ suc e ≤ 65536 = subst (λ (m : ℕ). shift + m ≤ 65536) is b.points in
-    l.first q (subst (λ (m : ℕ). q < m) (sym half) hq)
-    ∙ ap (bit_xor (f q)) (table_factor skew e n shift (f (n + q)) b.table half whole within ∙ ap (λ m. product (f (m + q)) (subspace e shift)) half)
+made skew n e shift f g b is half l q hq = grind (arith, common_steps, table_factor)
 
 -- the transform of the first half
 layer_low : (skew : List ℕ) (n shift i : ℕ) (f g : ℕ → ℕ) → IsBlock skew (n + n) shift → i < n → IsLayer skew n shift f g
@@ -205,35 +201,22 @@ forward_parts skew n shift f h b four =
 
 -- a forward butterfly undoes the backward one
 undo_first : (log_m x y : ℕ) → forward_first log_m (backward_first log_m x y) (backward_second x y) ≡ x
-undo_first log_m x y = xor_undo x (scaled log_m (backward_second x y))
+undo_first log_m x y = grind (arith, common_steps)
 
 undo_second : (log_m x y : ℕ) → forward_second log_m (backward_first log_m x y) (backward_second x y) ≡ y
-undo_second log_m x y = ap (bit_xor (backward_second x y)) (undo_first log_m x y) ∙ xor_undo y x
+undo_second log_m x y = grind (arith, common_steps, undo_first, xor_undo)
 
 -- and so do two layers
 pub backward_undone : (m02 m01 m23 x0 x1 x2 x3 y0 y1 y2 y3 : ℕ) → IsBackwardFour m02 m01 m23 x0 x1 x2 x3 y0 y1 y2 y3
     → IsForwardFour m02 m01 m23 y0 y1 y2 y3 x0 x1 x2 x3
-backward_undone m02 m01 m23 x0 x1 x2 x3 y0 y1 y2 y3 (e0, e1, e2, e3) =
-    let z0 : ℕ = backward_first m01 x0 x1 in
-    let z1 : ℕ = backward_second x0 x1 in
-    let z2 : ℕ = backward_first m23 x2 x3 in
-    let z3 : ℕ = backward_second x2 x3 in
-    let w0 : forward_first m02 y0 y2 ≡ z0 = ap₂ (forward_first m02) e0 e2 ∙ undo_first m02 z0 z2 in
-    let w1 : forward_first m02 y1 y3 ≡ z1 = ap₂ (forward_first m02) e1 e3 ∙ undo_first m02 z1 z3 in
-    let w2 : forward_second m02 y0 y2 ≡ z2 = ap₂ (forward_second m02) e0 e2 ∙ undo_second m02 z0 z2 in
-    let w3 : forward_second m02 y1 y3 ≡ z3 = ap₂ (forward_second m02) e1 e3 ∙ undo_second m02 z1 z3 in (
-      sym (ap₂ (forward_first m01) w0 w1 ∙ undo_first m01 x0 x1),
-      sym (ap₂ (forward_second m01) w0 w1 ∙ undo_second m01 x0 x1),
-      sym (ap₂ (forward_first m23) w2 w3 ∙ undo_first m23 x2 x3),
-      sym (ap₂ (forward_second m23) w2 w3 ∙ undo_second m23 x2 x3),
-    )
+backward_undone m02 m01 m23 x0 x1 x2 x3 y0 y1 y2 y3 (e0, e1, e2, e3) = grind (arith, common_steps, undo_first, undo_second)
 
 -- ---- rows
 
 -- a forward butterfly undoes a backward one
 pub pair_undone : (log_m x y x' y' : ℕ) → IsBackwardTwo log_m x y x' y' → IsForwardTwo log_m x' y' x y
 pair_undone log_m x y x' y' (first, second) =
-    (sym (ap (λ v. bit_xor v (scaled log_m y')) first ∙ xor_undo x (scaled log_m y')), sym (ap (λ v. bit_xor v x) second ∙ xor_undo y x))
+    grind (arith, common_steps, xor_undo)
 
 -- the one layer of rows by halves
 pub half_rows : (skew : List ℕ) (n shift pos : ℕ) (f g : ℕ → ℕ) → IsBlock skew (n + n) shift

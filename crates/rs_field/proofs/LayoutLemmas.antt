@@ -83,11 +83,7 @@ half-tail size b h = grind (arith, common_steps)
 
 -- a whole chunk lies as it is
 pub byte_offset-whole : (size b : ℕ) → b / 64 < size / 64 → byte_offset size b ≡ b % 64
-byte_offset-whole size b h =
-    elim (cases_lt (b % 64) 32) [
-      | inl low ↦ byte_offset-low size b 32 (half-whole size b (omega arith)) low
-      | inr high ↦ byte_offset-high size b 32 (half-whole size b (omega arith)) high ∙ (let e : b % 64 - 32 + 32 ≡ b % 64 = omega arith in e)
-    ]
+byte_offset-whole size b h = grind (arith, common_steps, cases_lt, byte_offset-low, half-whole, byte_offset-high)
 
 pub byte_offset-tail_low : (size b : ℕ) → b / 64 ≡ size / 64 → b % 64 < size % 64 / 2 → byte_offset size b ≡ b % 64
 byte_offset-tail_low size b q h = byte_offset-low size b (size % 64 / 2) (half-tail size b q) h
@@ -96,25 +92,12 @@ pub byte_offset-tail_high : (size b : ℕ) → b / 64 ≡ size / 64 → size % 6
 byte_offset-tail_high size b q h = byte_offset-high size b (size % 64 / 2) (half-tail size b q) h
 
 byte_offset_lt : (size b : ℕ) → b < size → byte_offset size b < 64
-byte_offset_lt size b h =
-    elim (cases_lt (b / 64) (size / 64)) [
-      | inl whole ↦ subst (λ n. n < 64) (sym (byte_offset-whole size b whole)) (omega arith)
-      | inr last ↦
-          let q : b / 64 ≡ size / 64 = omega arith in
-          elim (cases_lt (b % 64) (size % 64 / 2)) [
-            | inl low ↦ subst (λ n. n < 64) (sym (byte_offset-tail_low size b q low)) (omega arith)
-            | inr high ↦ subst (λ n. n < 64) (sym (byte_offset-tail_high size b q high)) (omega arith)
-          ]
-    ]
+byte_offset_lt size b h = grind (arith, common_steps, cases_lt, byte_offset-whole, byte_offset-tail_low, byte_offset-tail_high)
 
 pub bytes-laid_out : (size : ℕ) (chunks : ℕ → List ℕ) → ((k b : ℕ) → k < row_len size → b < 64 → slice_index (chunks k) b < 256)
     → All (λ b. b < 256) (laid_out size chunks)
 unfolding laid_out
-bytes-laid_out size chunks small i d h =
-    let lt : i < size = subst (λ n. i < n) (length-laid_out size chunks) h in
-    let e : get_or (laid_out size chunks) i d ≡ slice_index (chunks (i / 64)) (byte_offset size i)
-    = get-up_to size (λ b. slice_index (chunks (b / 64)) (byte_offset size b)) i d lt in
-    subst (λ n. n < 256) (sym e) (small (i / 64) (byte_offset size i) (chunk_of size i lt) (byte_offset_lt size i lt))
+bytes-laid_out size chunks small i d h = grind (arith, common_steps, length-laid_out, get-up_to, chunk_of, byte_offset_lt)
 
 pub shard-laid_out : (size : ℕ) (chunks : ℕ → List ℕ) → ((k b : ℕ) → k < row_len size → b < 64 → slice_index (chunks k) b < 256)
     → IsShard size (laid_out size chunks)
@@ -124,14 +107,7 @@ shard-laid_out size chunks small = record { length_is = length-laid_out size chu
 pub shard-in_order : (size : ℕ) (chunks : ℕ → List ℕ) → ((k b : ℕ) → k < row_len size → b < 64 → slice_index (chunks k) b < 256)
     → IsShard size (in_order size chunks)
 unfolding in_order
-shard-in_order size chunks small = record {
-  length_is = length-in_order size chunks;
-  bytes = λ i d h.
-      let lt : i < size = subst (λ n. i < n) (length-in_order size chunks) h in
-      let e : get_or (in_order size chunks) i d ≡ slice_index (chunks (i / 64)) (i % 64)
-      = get-up_to size (λ b. slice_index (chunks (b / 64)) (b % 64)) i d lt in
-      subst (λ n. n < 256) (sym e) (small (i / 64) (i % 64) (chunk_of size i lt) (omega arith));
-}
+shard-in_order size chunks small = grind (arith, common_steps, length-in_order, get-up_to, chunk_of)
 
 -- word i of chunk q: its low byte and its high byte
 word-laid_out : (size q i half : ℕ) (chunks : ℕ → List ℕ) → min 64 (size - q * 64) / 2 ≡ half → i < half → half ≤ 32 → q * 64 + 2 * half ≤ size
@@ -154,19 +130,7 @@ word-laid_out size q i half chunks e low most fits =
 pub column-laid_out : (size j : ℕ) (chunks : ℕ → List ℕ) → size % 2 ≡ 0 → j < size / 2
     → column j (laid_out size chunks) ≡ symbol (chunks (j / 32)) (j % 32)
 unfolding column
-column-laid_out size j chunks even h =
-    let q : ℕ = j / 32 in
-    let i : ℕ = j % 32 in
-    let s : Shard = laid_out size chunks in
-    let len : length s ≡ size = length-laid_out size chunks in
-    let at : (half : ℕ) → min 64 (size - q * 64) / 2 ≡ half → i < half → half ≤ 32 → q * 64 + 2 * half ≤ size → column j s ≡ symbol (chunks q) i
-    = λ half e low most fits. ap (λ w. slice_index s (q * 64 + i) + 256 * slice_index s (q * 64 + i + w)) (ap (λ n. min 64 (n - q * 64) / 2) len ∙ e)
-    ∙ word-laid_out size q i half chunks e low most fits in
-    elim (cases_lt (size - q * 64) 64) [
-      | inl tail ↦
-          at ((size - q * 64) / 2) (ap (λ n. n / 2) (min-eq_right (let r : size - q * 64 ≤ 64 = omega arith in r))) (omega arith) (omega arith) (omega arith)
-      | inr whole ↦ at 32 (ap (λ n. n / 2) (min-eq_left whole)) (omega arith) (omega arith) (omega arith)
-    ]
+column-laid_out size j chunks even h = grind (arith, common_steps, length-laid_out, word-laid_out, cases_lt, min-eq_right, min-eq_left)
 
 -- a row whose whole chunks are those of the shard, and whose last chunk holds the halves of its tail
 pub laid_out-is : (size : ℕ) (chunks : ℕ → List ℕ) (s : Shard) → length s ≡ size → size % 2 ≡ 0

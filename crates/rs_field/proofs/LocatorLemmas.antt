@@ -1,9 +1,10 @@
 -- The sum of logarithms that a locator is, point by point.
-use Rattle.std.proofs.Common.{◌≡◌, ℕ, zero, suc, ◌+◌, ◌*◌, ◌<◌, ◌≢◌, Bool, cond, eqb, bit_xor, refl, sym, ap, ap₂, ◌∙◌, arith, add-zero, zero-mul, one-mul, ne_eqb, eq-eqb, inl, inr}
+use Rattle.std.proofs.Common.{◌≡◌, ℕ, zero, suc, ◌+◌, ◌*◌, ◌<◌, ◌≢◌, Bool, cond, eqb, bit_xor, refl, sym, ap, ◌∙◌, arith, add-zero, zero-mul, one-mul, ne_eqb, eq-eqb, inl, inr}
 use Rattle.std.proofs.lemmas.Bool.{cases_eq}
 use Rattle.rs_field.specs.Field.{log}
 use Rattle.rs_field.specs.Locator.{log_sum}
 use Rattle.rs_field.proofs.Roots.{same_from_xor}
+use Rattle.std.proofs.lemmas.Grind.{common_steps}
 
 pub log_sum-zero : (e : ℕ → ℕ) (x : ℕ) → log_sum 0 e x ≡ 0
 unfolding log_sum
@@ -40,8 +41,5 @@ difference_pos x y differs =
 
 -- the sum is that of the entries below the bound alone
 pub log_sum-same : (n : ℕ) (e f : ℕ → ℕ) (x : ℕ) → ((y : ℕ) → y < n → e y ≡ f y) → log_sum n e x ≡ log_sum n f x
-log_sum-same zero e f x same = log_sum-zero e x ∙ sym (log_sum-zero f x)
-log_sum-same (suc y) e f x same =
-    log_sum-suc y e x
-    ∙ ap₂ (λ (a b : ℕ). a + cond (eqb x y) 0 (b * log (bit_xor x y))) (log_sum-same y e f x (λ z hz. same z (omega arith))) (same y (omega arith))
-    ∙ sym (log_sum-suc y f x)
+log_sum-same zero e f x same = grind (arith, common_steps, log_sum-zero)
+log_sum-same (suc y) e f x same = grind (arith, common_steps, log_sum-suc, log_sum-same y e f x (λ z hz. same z (omega arith)))

@@ -1,5 +1,5 @@
 -- Shards with given words as columns, so every message has recovery shards.
-use Rattle.std.proofs.Common.{◌≡◌, ℕ, ◌+◌, ◌-◌, ◌*◌, ◌/◌, ◌%◌, ◌<◌, Bool, true, cond, List, [], length, sym, ap, ap₂, ◌∙◌, subst, arith, inl, inr}
+use Rattle.std.proofs.Common.{◌≡◌, ℕ, ◌+◌, ◌-◌, ◌*◌, ◌/◌, ◌%◌, ◌<◌, Bool, true, cond, List, [], length, sym, ap, ◌∙◌, subst, arith}
 use Rattle.std.specs.Prelude.{slice_index, nat_lt}
 use Rattle.std.proofs.lemmas.Bool.{cases_lt, lt-ltb}
 use Rattle.std.proofs.lemmas.List.{get_or_past}
@@ -7,7 +7,6 @@ use Rattle.rs_field.specs.Column.{Shard, IsShard, AreShards, column, columns}
 use Rattle.rs_field.specs.Rows.{symbol}
 use Rattle.rs_field.specs.Layout.{up_to, laid_out}
 use Rattle.rs_field.specs.Counts.{Rate, supports}
-use Rattle.rs_field.specs.Placement.{placement}
 use Rattle.rs_field.specs.Configuration.{Configuration}
 use Rattle.rs_field.specs.Code.{AreRecoveryWords, AreRecovery}
 use Rattle.rs_field.proofs.Roots.{value_lt, words_from}
@@ -40,12 +39,7 @@ unfolding chunk_of
 chunk_of-at w q b h = get-up_to 64 (byte_of w q) b 0 h
 
 symbol-chunk_of : (w : ℕ → ℕ) (q i : ℕ) → i < 32 → symbol (chunk_of w q) i ≡ w (q * 32 + i)
-symbol-chunk_of w q i h =
-    ap₂ (λ l u. l + 256 * u) (chunk_of-at w q i (omega arith) ∙ low_byte w q i h) (chunk_of-at w q (i + 32) (omega arith) ∙ high_byte w q i h)
-    ∙ parts (w (q * 32 + i))
-  where
-    parts : (v : ℕ) → v % 256 + 256 * (v / 256) ≡ v
-    parts v = omega arith
+symbol-chunk_of w q i h = grind (arith, common_steps, chunk_of-at, low_byte, high_byte)
 
 -- the shard of a size with these words as columns
 shard_of : ℕ → (ℕ → ℕ) → Shard
@@ -57,9 +51,7 @@ is_shard_of size w words = shard-laid_out size (chunk_of w) (λ k b hk hb. subst
 
 column-shard_of : (size j : ℕ) (w : ℕ → ℕ) → size % 2 ≡ 0 → j < size / 2 → column j (shard_of size w) ≡ w j
 unfolding shard_of
-column-shard_of size j w even h =
-    let back : j / 32 * 32 + j % 32 ≡ j = omega arith in
-    column-laid_out size j (chunk_of w) even h ∙ symbol-chunk_of w (j / 32) (j % 32) (omega arith) ∙ ap w back
+column-shard_of size j w even h = grind (arith, common_steps, column-laid_out, chunk_of, symbol-chunk_of)
 
 -- n shards of an even size with given words, word j of shard i, as columns
 pub shards_of : (n size : ℕ) (w : ℕ → ℕ → ℕ) → size % 2 ≡ 0 → ((i j : ℕ) → w i j < 65536)
@@ -79,12 +71,7 @@ shards_of n size w even words = (
 )
 
 recovery_lt : (rate : Rate) (k r : ℕ) (words recovery : List ℕ) → length recovery ≡ r → AreRecoveryWords rate k r words recovery → (i : ℕ) → slice_index recovery i < 65536
-recovery_lt rate k r words recovery size (p, codes, at) i =
-    elim (cases_lt i r) [
-      | inl inside ↦
-          subst (λ (v : ℕ). v < 65536) (sym (at i inside)) (value_lt p ((placement rate k r).recovery_from + i) (words_from p codes.coefficients))
-      | inr past ↦ (let none : slice_index recovery i ≡ 0 = get_or_past recovery i 0 (omega arith) in omega arith)
-    ]
+recovery_lt rate k r words recovery size (p, codes, at) i = grind (arith, common_steps, cases_lt, value_lt, words_from, get_or_past)
 
 -- every message of a configuration with supported counts and an even size has recovery shards
 pub has_recovery : (c : Configuration) (message : List Shard) → supports c.rate c.original_count c.recovery_count ≡ true → c.shard_bytes % 2 ≡ 0

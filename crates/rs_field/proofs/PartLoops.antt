@@ -1,5 +1,5 @@
 -- Loops over the parts of a block, each of which transforms one part, for the rows and for the counts.
-use Rattle.std.proofs.Common.{◌≡◌, ℕ, ◌+◌, ◌-◌, ◌*◌, ◌/◌, ◌%◌, ◌^◌, ◌<◌, ◌≤◌, ◌⊎◌, Bool, true, false, replicate, refl, sym, ap, ◌∙◌, inl, inr, arith, subst, mod-lt}
+use Rattle.std.proofs.Common.{◌≡◌, ℕ, ◌+◌, ◌*◌, ◌/◌, ◌%◌, ◌^◌, ◌<◌, ◌≤◌, ◌⊎◌, Bool, false, replicate, refl, sym, ap, ◌∙◌, inl, inr, arith, subst, mod-lt}
 use Rattle.std.proofs.Math.Nat.{mul-le-mul_right}
 use Rattle.std.proofs.lemmas.Bool.{cases_eq, cases_lt}
 use Rattle.std.proofs.lemmas.Nat.{div-add-mod'}
@@ -20,6 +20,7 @@ use Rattle.rs_field.proofs.Halves.{quarter_power}
 use Rattle.rs_field.proofs.Parts.{IsPart, part_found, part_within}
 use Rattle.rs_field.proofs.Recursion.{one_row, word_same, zero_rows}
 use Rattle.rs_field.proofs.RowOffsets.{outside_both, outside_cell, shape_then}
+use Rattle.std.proofs.lemmas.Grind.{common_steps}
 
 -- words that are the same are transformed in the same way
 transformed_same : (direction : Direction) (used used' : ℕ → Bool) (n shift : ℕ) (f g f' g' : ℕ → ℕ) → ((q : ℕ) → q < n → f' q ≡ f q)
@@ -40,12 +41,7 @@ pub record PartsDone (direction : Direction) (used : ℕ → Bool) (size n shift
   pub rest : (k i : ℕ) → k < old.shard_len_64 → j * n ≤ i → i < size → cell new k (pos + i) ≡ cell old k (pos + i)
 
 pub parts_begun : (direction : Direction) (used : ℕ → Bool) (size n shift pos : ℕ) (rows : ShardsRefMut) → PartsDone direction used size n shift pos 0 rows rows
-parts_begun direction used size n shift pos rows = record {
-  shape = record { name = refl; count = refl; len_64 = refl; length = refl };
-  others = λ k h. refl;
-  values = λ k s m hk hs hm. absurd (let no : ⊥ = omega arith in no);
-  rest = λ k i hk from to. refl;
-}
+parts_begun direction used size n shift pos rows = grind (arith, common_steps)
 
 pub parts_next : (direction : Direction) (used used' : ℕ → Bool) (size n shift pos j : ℕ) (old mid new : ShardsRefMut) → IsPart size n → j * n < size
     → PartsDone direction used size n shift pos j old mid → SameShape mid new → SameRowsOutside (pos + j * n) (pos + j * n + n) mid new
@@ -108,10 +104,7 @@ zeros_of_part Direction.Backward used part old mid pos size start n inside len k
 
 -- a part that begins in the block is one of them
 pub part_before : (size n m j : ℕ) → j * n ≡ size → m * n < size → m < j
-part_before size n m j all within = elim (cases_lt m j) [
-  | inl before ↦ before
-  | inr past ↦ let le : j * n ≤ m * n = mul-le-mul_right n past in absurd (let no : ⊥ = omega arith in no)
-]
+part_before size n m j all within = grind (arith, common_steps, cases_lt, mul-le-mul_right)
 
 -- ---- the parts and the layers
 
@@ -144,10 +137,8 @@ backward_whole size n shift used old mid new p layers done = λ i hi. joined siz
 pub none_used : (direction : Direction) (used : UsedRows) (rows : ShardsRefMut) (k s pos size shift : ℕ) → k < rows.shard_len_64 → s < 32
     → ((i : ℕ) → is_used used i ≡ false) → UnusedAreZeroBackward direction used pos size rows
     → AreTransformed direction (is_used used) size shift (λ q. word rows k s (pos + q)) (λ q. word rows k s (pos + q))
-none_used Direction.Forward used rows k s pos size shift hk hs none zeros =
-    λ i hi is. absurd (let no : true ≡ false = sym is ∙ none i in let never : ⊥ = cc in never)
-none_used Direction.Backward used rows k s pos size shift hk hs none zeros =
-    λ i hi. zero_rows rows k s pos size shift i hs hi (λ q hq. zeros q k hk hq (none q))
+none_used Direction.Forward used rows k s pos size shift hk hs none zeros = grind (arith, common_steps)
+none_used Direction.Backward used rows k s pos size shift hk hs none zeros = grind (arith, common_steps, zero_rows)
 
 -- there is at most one row
 pub one_used : (direction : Direction) (used : ℕ → Bool) (size shift : ℕ) (f : ℕ → ℕ) → size < 2 → (0 < size → f 0 < 65536)
@@ -195,9 +186,7 @@ counts_next t j from mid to p q = counts_within (j * t + t) ((j + 1) * t) from t
 -- some parts are no more than what the layers leave
 pub counts_of_parts : (size n j : ℕ) (from to : Steps) (p : IsPart size n) → j ≤ p.count → CountsUpTo (j * transform_steps n) 0 0 from to
     → PartCounts size from to
-counts_of_parts size n j from to p few c =
-    let le : j * transform_steps n ≤ p.count * transform_steps n = mul-le-mul_right (transform_steps n) few in
-    counts_within (j * transform_steps n) (transform_steps size - layer_steps size) from to (let whole = p.steps in omega arith) c
+counts_of_parts size n j from to p few c = grind (arith, common_steps, mul-le-mul_right, counts_within)
 
 -- and with the layers they are the whole
 pub counts_of_whole : (size a b : ℕ) (from mid to : Steps) → a + b ≤ transform_steps size → CountsUpTo a 0 0 from mid → CountsUpTo b 0 0 mid to

@@ -1,5 +1,5 @@
 -- Shards at k places of a codeword fix its message.
-use Rattle.std.proofs.Common.{◌≡◌, ℕ, zero, suc, ◌+◌, ◌-◌, ◌%◌, ◌^◌, ◌<◌, ◌≤◌, ◌⊎◌, Bool, true, false, cond, List, [], ◌++◌, length, sym, ap, ◌∙◌, arith, inl, inr, pow_mono, refl, subst, add-zero, add-suc}
+use Rattle.std.proofs.Common.{◌≡◌, ℕ, zero, suc, ◌+◌, ◌-◌, ◌%◌, ◌<◌, ◌≤◌, ◌⊎◌, Bool, true, false, cond, List, [], ◌++◌, length, sym, ap, ◌∙◌, arith, inl, inr, pow_mono, refl, subst, add-zero, add-suc}
 use Rattle.std.specs.Prelude.{slice_index, nat_lt, Option, Some, is_some}
 use Rattle.std.proofs.lemmas.Bool.{cases_lt, lt-ltb, le-ltb}
 use Rattle.std.proofs.lemmas.List.{get_or_append_left, get_or-append_right, length-map, map-append}
@@ -17,6 +17,7 @@ use Rattle.rs_field.proofs.Columns.{columns-at, shards_from_columns}
 use Rattle.rs_field.proofs.Given.{count_below-zero, count_below-suc, count_below-same}
 use Rattle.rs_field.proofs.Frame.{IsFrame}
 use Rattle.rs_field.proofs.RateFrames.{HasFrame, has_frame}
+use Rattle.std.proofs.lemmas.Grind.{common_steps}
 
 -- a choice by whether a number is below another
 below_or : {A : Type 0} → ℕ → (ℕ → A) → (ℕ → A) → ℕ → A
@@ -41,31 +42,7 @@ record IsSpread (p : Placement) (k r : ℕ) : Type 0 where
   counts : p.degree_bound + p.zeros_from ≡ k + p.zeros_to
 
 spread : (p : Placement) (k r e bound zeros_end : ℕ) → IsFrame p k r e bound zeros_end → IsSpread p k r
-spread p k r e bound zeros_end f =
-    let room : 2 ^ e ≤ 2 ^ 16 = pow_mono f.few in
-    let follow : p.zeros_from ≡ p.originals_from + k = f.follow in
-    let own : p.originals_from + k ≤ 2 ^ e = f.originals in
-    let coded : p.recovery_from + r ≤ 2 ^ e = f.recovery in
-    let zeros : (p.zeros_from ≤ zeros_end) × (zeros_end ≤ 2 ^ e) = f.zeros in
-    let counts : zeros_end ≡ bound + p.originals_from = f.counts in
-    elim f.whole [
-      | inl same ↦
-          record {
-            originals = sym follow;
-            recovery = omega arith;
-            zeros = (omega (arith, same.1), omega (arith, same.1));
-            apart = λ i hi. elim f.order [ inl low ↦ inl (omega (arith, low.1, same.1)) | inr high ↦ inr (omega (arith, high.0, high.1)) ];
-            counts = omega (arith, same.0, same.1);
-          }
-      | inr wide ↦
-          record {
-            originals = sym follow;
-            recovery = omega arith;
-            zeros = (omega (arith, wide.1), omega (arith, wide.1));
-            apart = λ i hi. elim f.order [ inl low ↦ absurd (omega (arith, low.1, wide.2)) | inr high ↦ inr (omega (arith, high.0, high.1)) ];
-            counts = omega (arith, wide.0, wide.1, wide.2);
-          }
-    ]
+spread p k r e bound zeros_end f = grind (arith, common_steps, pow_mono)
 
 -- the point of a place: the originals' points, then those of the recovery shards
 point : Placement → ℕ → ℕ → ℕ
@@ -74,10 +51,7 @@ point p k x = below_or k (λ i. p.originals_from + i) (λ i. p.recovery_from + i
 -- a point is that of an original, or of a recovery shard
 point_cases : (p : Placement) (k r x : ℕ) → x < k + r → ((x < k) × (point p k x ≡ p.originals_from + x)) ⊎ ((k ≤ x) × (x - k < r) × (point p k x ≡ p.recovery_from + (x - k)))
 unfolding point
-point_cases p k r x h = elim (cases_lt x k) [
-  | inl own ↦ inl (own, below_or-first k (λ i. p.originals_from + i) (λ i. p.recovery_from + i) x own)
-  | inr coded ↦ inr (coded, omega arith, below_or-then k (λ i. p.originals_from + i) (λ i. p.recovery_from + i) x coded)
-]
+point_cases p k r x h = grind (arith, common_steps, cases_lt, below_or-first, below_or-then)
 
 -- a point is a word that is no known zero
 point_apart : (p : Placement) (k r x : ℕ) → IsSpread p k r → x < k + r → (point p k x < 65536) × ((point p k x < p.zeros_from) ⊎ (p.zeros_to ≤ point p k x))

@@ -6,6 +6,7 @@ use Rattle.rs_field.specs.View.{cell, word, Fits, SameShape}
 use Rattle.rs_field.specs.declared.engine.shards.ShardsRefMut.{ShardsRefMut}
 use Rattle.rs_field.proofs.Symbols.{symbol-zero}
 use Rattle.rs_field.proofs.Combination.{forward-one, forward-zero}
+use Rattle.std.proofs.lemmas.Grind.{common_steps}
 
 pub fits_kept : (a b : ShardsRefMut) → SameShape a b → Fits a → Fits b
 fits_kept a b p h = rw (p.count, p.len_64, p.length) h
@@ -15,9 +16,7 @@ word_same a b k s i j e = ap (λ (c : List ℕ). symbol c s) e
 
 -- of one row the transform is that row
 pub one_row : (size shift i : ℕ) (f : ℕ → ℕ) → size ≡ 1 → i < size → f 0 < 65536 → f i ≡ forward size shift f i
-one_row size shift i f e h fits =
-    let first : i ≡ 0 = omega arith in
-    ap f first ∙ sym (ap (λ n. forward n shift f i) e ∙ forward-one shift f i fits)
+one_row size shift i f e h fits = grind (arith, common_steps, forward-one)
 
 -- rows of zeros are the transform of rows of zeros
 pub zero_rows : (rows : ShardsRefMut) (k s a size shift i : ℕ) → s < 32 → i < size → ((q : ℕ) → q < size → cell rows k (a + q) ≡ replicate 64 0)

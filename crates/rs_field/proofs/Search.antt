@@ -1,6 +1,7 @@
 -- A search among the first numbers: where it ends.
-use Rattle.std.proofs.Common.{◌≡◌, ℕ, zero, suc, ◌<◌, ◌≤◌, Bool, true, false, cond, refl, sym, ap, ◌∙◌, subst, arith}
+use Rattle.std.proofs.Common.{◌≡◌, ℕ, zero, suc, ◌<◌, ◌≤◌, Bool, true, false, cond, ap, ◌∙◌, arith}
 use Rattle.rs_field.specs.Search.{first_below}
+use Rattle.std.proofs.lemmas.Grind.{common_steps}
 
 -- it ends at the first number that passes
 pub first_below-is : (n : ℕ) (p : ℕ → Bool) (i : ℕ) → i < n → p i ≡ true → ((j : ℕ) → j < i → p j ≡ false) → first_below n p ≡ i
@@ -15,20 +16,11 @@ first_below-is (suc n) p (suc i) h passes before =
 pub first_below-passes : (n : ℕ) (p : ℕ → Bool) → first_below n p < n → p (first_below n p) ≡ true
 unfolding first_below
 first_below-passes zero p h = absurd (let no : ⊥ = omega arith in no)
-first_below-passes (suc n) p h = by_first (first_below-passes n (λ k. p (suc k))) (p 0) refl
-  where
-    by_first : (first_below n (λ k. p (suc k)) < n → p (suc (first_below n (λ k. p (suc k)))) ≡ true) → (b : Bool) → p 0 ≡ b
-        → p (cond (p 0) 0 (suc (first_below n (λ k. p (suc k))))) ≡ true
-    by_first later true e = ap (λ b. p (cond b 0 (suc (first_below n (λ k. p (suc k)))))) e ∙ e
-    by_first later false e =
-        let rest : suc (first_below n (λ k. p (suc k))) < suc n = subst (λ (b : Bool). cond b 0 (suc (first_below n (λ k. p (suc k)))) < suc n) e h in
-        ap (λ b. p (cond b 0 (suc (first_below n (λ k. p (suc k)))))) e ∙ later (omega arith)
+first_below-passes (suc n) p h = grind (arith, common_steps, first_below-passes n (λ k. p (suc k)))
 
 -- it ends no later than at a number that passes
 pub first_below_most : (n : ℕ) (p : ℕ → Bool) (i : ℕ) → i < n → p i ≡ true → first_below n p ≤ i
 unfolding first_below
 first_below_most zero p i h e = absurd (let no : ⊥ = omega arith in no)
-first_below_most (suc n) p zero h e = subst (λ (b : Bool). cond b 0 (suc (first_below n (λ k. p (suc k)))) ≤ 0) (sym e) (omega arith)
-first_below_most (suc n) p (suc i) h e =
-    let rest : first_below n (λ k. p (suc k)) ≤ i = first_below_most n (λ k. p (suc k)) i (omega arith) e in
-    elim (p 0) as (λ b. cond b 0 (suc (first_below n (λ k. p (suc k)))) ≤ suc i) [ true ↦ omega arith | false ↦ omega arith ]
+first_below_most (suc n) p zero h e = grind (arith, common_steps)
+first_below_most (suc n) p (suc i) h e = grind (arith, common_steps, first_below_most n (λ k. p (suc k)) i (omega arith) e)
