@@ -1,11 +1,11 @@
 /* The library from C beside ISA-L, whose code is over GF(2^8): docs/measurements/c prints the table. */
 #define _POSIX_C_SOURCE 200809L
 #include "reed_solomon_simd.h"
+#include "thread_time.h"
 #include <isa-l.h>
 #include <stdio.h>
 #include <stdlib.h>
 #include <string.h>
-#include <time.h>
 
 enum { SIZE = 65536, TURNS = 15, MOST = 255 };
 
@@ -14,12 +14,6 @@ static size_t k, r;
 static uint8_t *originals, *recovery, *lost, marks[MOST];
 static unsigned char matrix[MOST * MOST], left[MOST * MOST], inverse[MOST * MOST], wanted[MOST * MOST];
 static unsigned char coding[32 * MOST * MOST], decoding[32 * MOST * MOST], *from[MOST], *to[MOST];
-
-static double now(void) {
-    struct timespec time;
-    clock_gettime(CLOCK_THREAD_CPUTIME_ID, &time);
-    return (double)time.tv_sec + 1e-9 * (double)time.tv_nsec;
-}
 
 static void our_encode(void) {
     struct rs_fault fault;

@@ -2,10 +2,10 @@
  * arrays. The best of many, each of a thousand rounds. docs/measurements/c runs it. */
 #define _POSIX_C_SOURCE 200809L
 #include "reed_solomon_simd.h"
+#include "thread_time.h"
 #include <stdio.h>
 #include <stdlib.h>
 #include <string.h>
-#include <time.h>
 
 enum { ROUNDS = 1000, TURNS = 25, MOST = 64 };
 
@@ -15,12 +15,6 @@ static uint8_t *originals, *recovery, marks[2 * MOST];
 static struct rs_bytes from[MOST];
 static struct rs_room to[MOST], lost[MOST];
 static struct rs_shard own[MOST], other[MOST];
-
-static double now(void) {
-    struct timespec time;
-    clock_gettime(CLOCK_THREAD_CPUTIME_ID, &time);
-    return (double)time.tv_sec + 1e-9 * (double)time.tv_nsec;
-}
 
 static void buffers(void) {
     struct rs_fault fault;
