@@ -3,9 +3,9 @@ use Rattle.std.proofs.Common.{◌≡◌, ◌≢◌, ℕ, ◌+◌, ◌<◌, ◌�
 use Rattle.std.specs.Prelude.{nat_le, nat_lt, ◌&&◌, ◌||◌, Some, None, cond}
 use Rattle.std.proofs.lemmas.Bool.{cases_lt, lt-leb, lt-ltb, le-ltb, eq-eqb, ne_eqb, false_from_ne_true}
 use Rattle.std.proofs.Math.Bool.{and-false}
-use Rattle.rs_field.specs.Counts.{Rate, next_power, supports, is_low, low_rate, high_rate, default_rate}
-use Rattle.rs_field.specs.Placement.{block_rows}
-use Rattle.rs_field.proofs.SupportedCounts.{low_fits, high_fits, default_fits, low_powers, high_powers}
+use Rattle.rs_field.specs.code.Counts.{Rate, next_power, supports, is_low, low_rate, high_rate, default_rate}
+use Rattle.rs_field.specs.code.Placement.{block_rows}
+use Rattle.rs_field.proofs.of_code.SupportedCounts.{low_fits, high_fits, default_fits, low_powers, high_powers}
 use Rattle.rs_rate.specs.declared.rate.counts.Choice.{Choice}
 use Rattle.rs_rate.specs.Configured.{choice_of}
 use Rattle.rs_rate.proofs.PowerLemmas.{low_small}

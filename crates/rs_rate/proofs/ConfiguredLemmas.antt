@@ -2,12 +2,12 @@
 use Rattle.std.proofs.Common.{◌≡◌, ◌≢◌, ℕ, ◌+◌, ◌%◌, ◌^◌, ◌<◌, ◌≤◌, Bool, true, false, refl, sym, ap, ◌∙◌, subst, arith, pow_mono}
 use Rattle.std.specs.Prelude.{cond, Result, Ok, Err, OnOk, OnErr}
 use Rattle.std.proofs.lemmas.Nat.{pow_pos}
-use Rattle.rs_field.specs.declared.error.Error.{Error}
-use Rattle.rs_field.specs.Configuration.{configuration, validated}
-use Rattle.rs_field.specs.Counts.{Rate, next_power, supports, is_low, low_rate, high_rate}
-use Rattle.rs_field.specs.Placement.{block_rows, encoder_rows, rounded_up}
-use Rattle.rs_field.proofs.NextPower.{next_power-small, power_is_own}
-use Rattle.rs_field.proofs.SupportedCounts.{low_fits, high_fits}
+use Rattle.rs_field.specs.declared.code.error.Error.{Error}
+use Rattle.rs_field.specs.code.Configuration.{configuration, validated}
+use Rattle.rs_field.specs.code.Counts.{Rate, next_power, supports, is_low, low_rate, high_rate}
+use Rattle.rs_field.specs.code.Placement.{block_rows, encoder_rows, rounded_up}
+use Rattle.rs_field.proofs.of_code.NextPower.{next_power-small, power_is_own}
+use Rattle.rs_field.proofs.of_code.SupportedCounts.{low_fits, high_fits}
 use Rattle.rs_rate.specs.declared.rate.configuration.Configuration.{Configuration}
 use Rattle.rs_rate.specs.declared.rate.decoder_work.Frame.{Frame}
 use Rattle.rs_rate.specs.declared.rate.encoder_work.EncoderShape.{EncoderShape}

@@ -1,7 +1,7 @@
 -- What a coder is set up for at a rate, and the rows that follow from it.
 use Rattle.std.specs.Prelude.{◌≡◌, ◌%◌, ◌<◌, ℕ, Bool, true, if◌then◌else◌, Option, Some, None}
-use Rattle.rs_field.specs.Counts.{Rate, low_rate, high_rate, supports, is_low}
-use Rattle.rs_field.specs.Placement.{placement, block_rows, encoder_rows, decoder_rows}
+use Rattle.rs_field.specs.code.Counts.{Rate, low_rate, high_rate, supports, is_low}
+use Rattle.rs_field.specs.code.Placement.{placement, block_rows, encoder_rows, decoder_rows}
 use Rattle.rs_rate.specs.declared.rate.configuration.Configuration.{Configuration}
 use Rattle.rs_rate.specs.declared.rate.counts.Choice.{Choice}
 use Rattle.rs_rate.specs.declared.rate.decoder_work.Frame.{Frame}

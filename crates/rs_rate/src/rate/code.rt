@@ -1,6 +1,6 @@
 //! What a rate brings: the counts that it supports, and at which of them it is the low rate.
 ghost use Rattle.std.specs.Prelude.{◌≡◌};
-ghost use Rattle.rs_field.specs.Counts.{Rate as WhichRate, low_rate, high_rate, default_rate};
+ghost use Rattle.rs_field.specs.code.Counts.{Rate as WhichRate, low_rate, high_rate, default_rate};
 ghost use Rattle.rs_rate.specs.Configured.{choice_of};
 
 use crate::rate::Rate;

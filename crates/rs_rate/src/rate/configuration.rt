@@ -1,6 +1,6 @@
 //! What a coder is set up for, validated once: from it come the rows of an encoder and the frame of a decoder.
 ghost use Rattle.std.specs.Prelude.{◌≡◌, Ok, Err, MatchResult};
-ghost use Rattle.rs_field.specs.Configuration.{configuration, validated as validated_as};
+ghost use Rattle.rs_field.specs.code.Configuration.{configuration, validated as validated_as};
 ghost use Rattle.rs_rate.specs.Configured.{configured, shape_of_encoder, shape_of_decoder, IsConfigured};
 ghost use Rattle.rs_rate.specs.Shapes.{EncoderCanBeLaid, DecoderCanBeLaid};
 

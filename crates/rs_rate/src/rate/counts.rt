@@ -1,6 +1,6 @@
 //! Powers of two, supported counts, and which rate a rate is at them.
 ghost use Rattle.std.specs.Prelude.{◌≡◌, ◌↔◌, ℕ, ◌+◌, ◌^◌, ◌<◌, ◌≤◌, nat_le, IsTrue, Some, None, if◌then◌else◌};
-ghost use Rattle.rs_field.specs.Counts.{next_power, low_rate, high_rate, default_rate};
+ghost use Rattle.rs_field.specs.code.Counts.{next_power, low_rate, high_rate, default_rate};
 ghost use Rattle.rs_rate.specs.Configured.{choice_of};
 
 use rs_field::engine::GF_ORDER;

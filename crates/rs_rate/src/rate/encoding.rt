@@ -1,9 +1,9 @@
 //! The coding of a round: the rows over the chunks, the coding of the rate, the tails.
 ghost use Rattle.std.specs.Prelude.{◌≡◌, ℕ, ◌<◌, ◌≤◌, length};
 ghost use Rattle.std.specs.Vec.{vec_capacity};
-ghost use Rattle.rs_field.specs.Bounds.{EncodeCountsAt};
-ghost use Rattle.rs_field.specs.Code.{AreRecovery};
-ghost use Rattle.rs_field.specs.Layout.{row_len as chunks_for};
+ghost use Rattle.rs_field.specs.code.Bounds.{EncodeCountsAt};
+ghost use Rattle.rs_field.specs.code.Code.{AreRecovery};
+ghost use Rattle.rs_field.specs.rows.Layout.{row_len as chunks_for};
 ghost use Rattle.rs_rate.specs.Coding.{CodesWords, CodingCounts};
 ghost use Rattle.rs_rate.specs.Configured.{low_or_high};
 ghost use Rattle.rs_rate.specs.EncoderView.{configuration_of, shape_chunks, given_of, lent_of};

@@ -1,6 +1,6 @@
 use Rattle.std.proofs.Common.{◌≡◌, ℕ, ◌+◌, min, sym, ap₂, ◌∙◌}
 use Rattle.std.specs.Prelude.{nat_le}
-use Rattle.rs_field.specs.Counts.{is_low, default_rate}
+use Rattle.rs_field.specs.code.Counts.{is_low, default_rate}
 use Rattle.rs_rate.proofs.ChoiceLemmas.{choice-made, choice-outside, default_supported, default_block, low_where_less, low_where_equal, low_where_more}
 use Rattle.rs_rate.proofs.rate.counts.default_choice.Goals.{then-original_power-recovery_power, else-original_power-recovery_power+then-original_power-recovery_power-2, else-original_power-recovery_power+else-original_power-recovery_power-2}
 use Rattle.rs_rate.proofs.rate.counts.default_choice.Goals as goal

@@ -1,6 +1,6 @@
 use Rattle.std.proofs.Common.{ℕ, ◌+◌, sym, ap, ◌∙◌, false}
 use Rattle.std.specs.Prelude.{nat_le}
-use Rattle.rs_field.specs.Counts.{high_rate}
+use Rattle.rs_field.specs.code.Counts.{high_rate}
 use Rattle.rs_rate.proofs.ChoiceLemmas.{choice-made, choice-outside, high_supported-by}
 use Rattle.rs_rate.proofs.RateLemmas.{high_is, high_block}
 use Rattle.rs_rate.proofs.rate.counts.high_choice.Goals as goal

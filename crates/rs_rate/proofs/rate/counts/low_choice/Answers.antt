@@ -1,6 +1,6 @@
 use Rattle.std.proofs.Common.{ℕ, ◌+◌, sym, ap, ◌∙◌, true}
 use Rattle.std.specs.Prelude.{nat_le}
-use Rattle.rs_field.specs.Counts.{low_rate}
+use Rattle.rs_field.specs.code.Counts.{low_rate}
 use Rattle.rs_rate.proofs.ChoiceLemmas.{choice-made, choice-outside, low_supported-by}
 use Rattle.rs_rate.proofs.RateLemmas.{low_is, low_block}
 use Rattle.rs_rate.proofs.rate.counts.low_choice.Goals as goal

@@ -1,6 +1,6 @@
 use Rattle.std.proofs.Common.{◌≡◌, ℕ, rules, Bool, sym, ◌∙◌, subst, arith}
-use Rattle.rs_field.specs.Counts.{low_rate, high_rate}
-use Rattle.rs_field.specs.Layout.{row_len}
+use Rattle.rs_field.specs.code.Counts.{low_rate, high_rate}
+use Rattle.rs_field.specs.rows.Layout.{row_len}
 use Rattle.rs_rate.specs.Coding.{CodesWords}
 use Rattle.rs_rate.specs.Configured.{low_or_high}
 use Rattle.rs_rate.specs.ShardRows.{word_in}

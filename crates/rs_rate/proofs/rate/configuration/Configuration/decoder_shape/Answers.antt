@@ -1,6 +1,6 @@
 use Rattle.std.proofs.Common.{ℕ, ◌+◌, Bool, sym, ap, ap₂, ◌∙◌, subst, arith}
-use Rattle.rs_field.specs.Counts.{next_power}
-use Rattle.rs_field.proofs.SupportedCounts.{low_fits, high_fits}
+use Rattle.rs_field.specs.code.Counts.{next_power}
+use Rattle.rs_field.proofs.of_code.SupportedCounts.{low_fits, high_fits}
 use Rattle.rs_rate.specs.declared.rate.decoder_work.Frame.{Frame}
 use Rattle.rs_rate.specs.declared.rate.decoder_work.DecoderShape.{DecoderShape}
 use Rattle.rs_rate.specs.Configured.{frame_of, low_or_high}

@@ -1,7 +1,7 @@
 use Rattle.std.proofs.Common.{◌≡◌, ◌%◌, sym, ap, ◌∙◌, subst, refl, arith}
 use Rattle.std.specs.Prelude.{Ok}
 use Rattle.std.proofs.lemmas.Bool.{ne_eqb}
-use Rattle.rs_field.specs.Configuration.{configuration, validated}
+use Rattle.rs_field.specs.code.Configuration.{configuration, validated}
 use Rattle.rs_rate.specs.declared.rate.configuration.Configuration.{Configuration}
 use Rattle.rs_rate.specs.declared.rate.counts.Choice.{Choice}
 use Rattle.rs_rate.specs.Configured.{IsConfigured}
