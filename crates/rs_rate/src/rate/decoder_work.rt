@@ -274,7 +274,7 @@ impl DecoderRows {
         if index >= side.count(self.shape) {
             return Err(side.index_refused(self.shape, index));
         }
-        let row = side.first_row(self.shape) + index;
+        let row = side.row(self.shape, index);
         if self.memory.marks.is_given(row) {
             return Err(side.repeat_refused(index));
         }

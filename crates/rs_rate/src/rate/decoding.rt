@@ -16,7 +16,7 @@ ghost use Rattle.rs_rate.specs.Shapes.{DecoderCanBeLaid, original_row};
 ghost use Rattle.rs_rate.specs.ShardRows.{chunk_count, word_in, shard_laid_out, shard_in_order};
 
 use crate::rate::decoder_work::{DecoderMemory, DecoderRows, DecoderShape, Frame};
-use crate::rate::marks::{MarkedShards, Marks};
+use crate::rate::marks::Marks;
 use crate::rate::restoring::{Round, restore_rows};
 use crate::rate::shard_rows::{in_order_are_bytes, move_tail};
 use rs_field::engine::layout::row_len;
@@ -151,7 +151,6 @@ fn restore_chunks<E: Engine>(
 ) -> bool
     requires whole { chunk_count round.shape.frame.row_count round.shape.configuration.shard_bytes ≤ length chunks.old }
     requires facts { CanBeRestored round marks.old }
-    requires given { marks.old.shards ≡ MarkedShards.Given }
     requires located { length locator.now ≡ round.shape.frame.row_count }
     ensures marks { WantsMissing round.shape.frame.originals_from round.shape.configuration.original_count marks.old marks.new }
     ensures shards { RestoresShards round.shape (given_marks marks.old) locator.now round.surplus chunks.old chunks.new result }
@@ -165,6 +164,7 @@ fn restore_chunks<E: Engine>(
 }
 
 // Restores the words of the missing originals over all chunks where some message agrees, and answers whether one does.
+#[tactic(auto, unfolding(crate::specs::ShardRows::chunk_count))]
 fn restore_words<E: Engine>(
     engine: &E,
     steps: &mut Steps,
@@ -173,9 +173,8 @@ fn restore_words<E: Engine>(
     locator: &[GfElement],
     round: Round,
 ) -> bool
-    requires whole { round.shape.frame.row_count * chunks_for round.shape.configuration.shard_bytes ≤ length chunks.old }
+    requires whole { chunk_count round.shape.frame.row_count round.shape.configuration.shard_bytes ≤ length chunks.old }
     requires facts { CanBeRestored round marks.old }
-    requires given { marks.old.shards ≡ MarkedShards.Given }
     requires located { length locator.now ≡ round.shape.frame.row_count }
     ensures marks { WantsMissing round.shape.frame.originals_from round.shape.configuration.original_count marks.old marks.new }
     ensures words { RestoresWords round.shape (given_marks marks.old) locator.now round.surplus

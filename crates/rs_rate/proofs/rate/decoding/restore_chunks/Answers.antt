@@ -1,14 +1,10 @@
-use Rattle.std.proofs.Common.{◌+◌, ap, ◌∙◌, arith}
+use Rattle.std.proofs.Common.{◌+◌, ap, ◌∙◌}
 use Rattle.std.specs.Prelude.{not}
 use Rattle.rs_field.specs.code.Column.{column}
 use Rattle.rs_field.specs.rows.Layout.{row_len}
 use Rattle.rs_rate.specs.ShardRows.{word_in}
-use Rattle.rs_rate.proofs.ShardRowsLemmas.{chunk_count-is, column-put}
+use Rattle.rs_rate.proofs.ShardRowsLemmas.{column-put}
 use Rattle.rs_rate.proofs.rate.decoding.restore_chunks.Goals as goal
-
-pub restore_words-agrees-requires-clause-whole : goal.restore_words-agrees-requires-clause-whole
-restore_words-agrees-requires-clause-whole g c =
-    let is = chunk_count-is c.args.round.shape.frame.row_count c.args.round.shape.configuration.shard_bytes in omega (arith, is, c.requires.whole)
 
 pub returns-then-agrees-clause-shards : goal.returns-then-agrees-clause-shards
 returns-then-agrees-clause-shards g c =
