@@ -17,15 +17,8 @@ use Rattle.rs_rate.specs.DecoderView.{configuration_of, state_over}
 use Rattle.rs_rate.specs.declared.rate.marks.Marks.{Marks}
 use Rattle.rs_rate.specs.declared.rate.marks.MarkedShards.{MarkedShards}
 use Rattle.rs_rate.specs.declared.rate.marks.MarkedShards.TheVariants.{Given, Restored}
-use Rattle.rs_rate.specs.Marks.{if_given, if_restored, given_marks, restored_marks, given_row_count, given_shards, restored_shards}
+use Rattle.rs_rate.specs.Marks.{if_given, given_marks, given_row_count, given_shards, restored_shards}
 use Rattle.rs_rate.specs.ShardRows.{shard_laid_out, shard_in_order}
-
--- where marks tell of given shards they are all of them, where they tell of restored ones no row holds a given one
-told_given : (marks : Marks) → marks.shards ≡ Given → given_marks marks ≡ marks.rows.items
-told_given marks told = ap (λ t. if_given t marks.rows.items) told
-
-told_restored : (marks : Marks) → marks.shards ≡ Restored → restored_marks marks ≡ marks.rows.items
-told_restored marks told = ap (λ t. if_restored t marks.rows.items) told
 
 -- the rows of a shape that can be laid are a power of two
 pub rows_power : (s : DecoderShape) → DecoderCanBeLaid s → (d : ℕ) × (s.frame.row_count ≡ 2 ^ d)

@@ -48,6 +48,10 @@ restored_from rows index = listed_from index (rows.shape.configuration.original_
 abbrev pub decoder_shape : Rate → ℕ → ℕ → ℕ → DecoderShape
 decoder_shape rate k r size = record { configuration = configured rate k r size; frame = frame_of rate k r }
 
+-- the chunks of a shape's rows
+abbrev pub shape_chunks : DecoderShape → ℕ
+shape_chunks shape = chunk_count shape.frame.row_count shape.configuration.shard_bytes
+
 -- the room that a working space has: for chunks, for the marks of rows, and for the locator's entries at the rows
 pub record DecoderRoom : Type 0 where
   pub chunks : ℕ
