@@ -6,4 +6,5 @@ pub mod engine;
 mod rows;
 mod words;
 
-pub use code::{bytes, error, laws, worked};
+pub use code::{error, laws, worked};
+pub use rows::bytes;

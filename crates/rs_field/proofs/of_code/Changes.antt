@@ -1,6 +1,6 @@
 -- Changed shards are noticed: no message agrees with k shards of a codeword and others that are changed.
-use Rattle.std.proofs.Common.{◌≡◌, ℕ, zero, suc, ◌+◌, ◌%◌, ◌<◌, ◌≤◌, Bool, true, false, cond, List, [], refl, sym, ap, ap₂, ◌∙◌, arith, subst}
-use Rattle.std.specs.Prelude.{Option, Some, None, is_some, unwrap_or, bytes_eq}
+use Rattle.std.proofs.Common.{rules, ◌≡◌, ℕ, zero, suc, ◌+◌, ◌%◌, ◌<◌, ◌≤◌, Bool, true, cond, List, [], sym, ap, ◌∙◌, arith, subst}
+use Rattle.std.specs.Prelude.{Option, Some, None, unwrap_or, bytes_eq}
 use Rattle.std.proofs.lemmas.Option.{none-some}
 use Rattle.std.proofs.lemmas.Slice.Eq.{bytes_eq-Decides}
 use Rattle.rs_field.specs.code.Column.{Shard, AreShards, shard_at}
@@ -31,22 +31,13 @@ unfolding kept
 kept_given given shards i shard e = grind (arith, common_steps, bytes_eq-Decides, none-some)
 
 either_none : (b : Bool) → ◌≡◌ {A = Option Shard} (cond b None None) None
-either_none true = refl
-either_none false = refl
+either_none b = search rules
 
 -- where all given shards are the list's, none is changed
 none_changed : (n : ℕ) (given : Shards) (shards : List Shard) → AreAmong given shards → count_below n (changed given shards) ≡ 0
 unfolding changed
 none_changed zero given shards are = count_below-zero (changed given shards)
-none_changed (suc n) given shards are =
-    count_below-suc n (changed given shards)
-    ∙ ap₂ (λ m o. m + cond (is_some o) 1 0) (none_changed n given shards are) (by_entry (given n) refl)
-  where
-    by_entry : (o : Option Shard) → given n ≡ o → changed given shards n ≡ None
-    by_entry None e = ap (λ (o : Option Shard). cond (bytes_eq (unwrap_or o []) (shard_at shards n)) None o) e ∙ either_none (bytes_eq [] (shard_at shards n))
-    by_entry (Some s) e =
-        ap (λ (b : Bool). cond b None (given n))
-        ((bytes_eq-Decides (unwrap_or (given n) []) (shard_at shards n)).1 (ap (λ o. unwrap_or o []) e ∙ sym (are n s e)))
+none_changed (suc n) given shards are = search (rules, count_below-suc, either_none, bytes_eq-Decides, none_changed n given shards are)
 
 -- with at least one shard changed and k that are not, no message agrees
 pub changes_noticed : (c : Configuration) (message all : List Shard) (originals recovery : Shards)

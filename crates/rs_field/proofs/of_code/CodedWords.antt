@@ -1,5 +1,5 @@
 -- Any k words are coded by a polynomial, so they have recovery words.
-use Rattle.std.proofs.Common.{◌≡◌, ℕ, zero, suc, ◌+◌, ◌-◌, ◌^◌, ◌<◌, ◌≤◌, Bool, true, cond, List, [], ◌∷◌, length, refl, ap, ◌∙◌, arith, pow_mono, subst}
+use Rattle.std.proofs.Common.{rules, ◌≡◌, ℕ, zero, suc, ◌+◌, ◌-◌, ◌^◌, ◌<◌, ◌≤◌, Bool, true, cond, List, [], ◌∷◌, length, refl, ap, ◌∙◌, arith, pow_mono}
 use Rattle.std.specs.Prelude.{slice_index, nat_lt}
 use Rattle.std.proofs.lemmas.Bool.{cases_lt, lt-ltb, le-ltb}
 use Rattle.rs_field.specs.words.Polynomial.{value}
@@ -58,8 +58,7 @@ coded rate k r words is are_words =
 
 -- words that are coded are words
 pub coded_lt : (rate : Rate) (k r : ℕ) (words p : List ℕ) → Codes rate k r words p → (j : ℕ) → j < k → slice_index words j < 65536
-coded_lt rate k r words p codes j hj =
-    subst (λ (w : ℕ). w < 65536) (codes.originals j hj) (value_lt p ((placement rate k r).originals_from + j) (words_from p codes.coefficients))
+coded_lt rate k r words p codes j hj = search (rules, value_lt, words_from)
 
 -- the first n values of a function
 unfoldable pub values_of : ℕ → (ℕ → ℕ) → List ℕ

@@ -1,5 +1,5 @@
 -- What a column of a shard is, and that its columns fix a shard.
-use Rattle.std.proofs.Common.{◌≡◌, ℕ, ◌+◌, ◌-◌, ◌*◌, ◌/◌, ◌%◌, ◌<◌, ◌≤◌, List, [], length, min, refl, sym, ap, ◌∙◌, subst, arith, inl, inr}
+use Rattle.std.proofs.Common.{rules, ◌≡◌, ℕ, ◌+◌, ◌-◌, ◌*◌, ◌/◌, ◌%◌, ◌<◌, ◌≤◌, List, [], length, min, refl, sym, ap, ◌∙◌, subst, arith, inl, inr}
 use Rattle.std.specs.Prelude.{slice_index}
 use Rattle.std.proofs.Math.Nat.{min-eq_left, min-eq_right}
 use Rattle.std.proofs.lemmas.Bool.{cases_lt}
@@ -95,9 +95,7 @@ unfolding column
 column_lt size s j h = grind (arith, common_steps)
 
 pub columns_lt : (n size : ℕ) (shards : List Shard) → AreShards n size shards → (j i : ℕ) → i < n → slice_index (columns j shards) i < 65536
-columns_lt n size shards h j i hi =
-    subst (λ (v : ℕ). v < 65536) (sym (columns-at j shards i))
-    (column_lt size (shard_at shards i) j (shard_in n size shards h i hi))
+columns_lt n size shards h j i hi = search (rules, columns-at, column_lt, shard_in)
 
 -- lists of so many shards of one even size with the same columns are equal
 pub shards_from_columns : (count size : ℕ) (a b : List Shard) → AreShards count size a → AreShards count size b → size % 2 ≡ 0

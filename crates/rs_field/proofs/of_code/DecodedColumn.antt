@@ -1,5 +1,5 @@
 -- One column of a decode at either rate: whether words given at some places of a code are those of a polynomial that codes.
-use Rattle.std.proofs.Common.{◌≡◌, ℕ, ◌+◌, ◌-◌, ◌^◌, ◌<◌, ◌≤◌, ◌⊎◌, Bool, true, false, cond, List, length, refl, sym, ap, ◌∙◌, arith, inl, inr, pow_mono}
+use Rattle.std.proofs.Common.{rules, ◌≡◌, ℕ, ◌+◌, ◌-◌, ◌^◌, ◌<◌, ◌≤◌, ◌⊎◌, Bool, true, cond, List, length, sym, ap, ◌∙◌, arith, inl, inr, pow_mono}
 use Rattle.std.specs.Prelude.{slice_index, is_some}
 use Rattle.std.proofs.lemmas.Bool.{cases_lt}
 use Rattle.rs_field.specs.words.Polynomial.{value}
@@ -28,8 +28,7 @@ pub record TakesGiven (p : Placement) (k r : ℕ) (originals recovery : Shards) 
 
 -- what a row that is not marked is
 unmarked_by : (b : Bool) (m : ℕ) → m ≡ cond b 0 1 → m ≡ 0 → b ≡ true
-unmarked_by true m e none = refl
-unmarked_by false m e none = absurd (let no : ⊥ = omega arith in no)
+unmarked_by b m h1 h2 = search rules
 
 pub at_unmarked : (p : Placement) (k r n zeros_end : ℕ) (originals recovery : Shards) (marks words : ℕ → ℕ) (q : List ℕ) → AreErasures p k r n zeros_end originals recovery marks
     → TakesGiven p k r originals recovery words q → ((x : ℕ) → p.zeros_from ≤ x → x < zeros_end → value q x ≡ words x)

@@ -1,6 +1,6 @@
 -- A list of shards with their indexes, entered in a map one after another.
-use Rattle.std.proofs.Common.{◌≡◌, ℕ, zero, suc, ◌+◌, ◌<◌, ◌≤◌, ◌||◌, Bool, true, false, cond, List, [], ◌∷◌, length, map, refl, sym, ap, ap₂, ◌∙◌, inl, inr, arith, nat_eq}
-use Rattle.std.specs.Prelude.{Option, Some, None, is_some}
+use Rattle.std.proofs.Common.{rules, ◌≡◌, ℕ, zero, suc, ◌+◌, ◌<◌, ◌≤◌, ◌||◌, Bool, true, false, cond, List, [], ◌∷◌, length, map, refl, sym, ap, ap₂, ◌∙◌, inl, inr, arith, nat_eq}
+use Rattle.std.specs.Prelude.{None, is_some}
 use Rattle.std.specs.List.{AllByRecursion, IsDistinct, list_any}
 use Rattle.std.proofs.Math.Bool.{or_assoc}
 use Rattle.std.proofs.lemmas.Bool.{cases_eq, eqb-false}
@@ -32,11 +32,7 @@ count-nothing (suc n) = ap (λ (m : ℕ). m + 0) (count-nothing n)
 
 -- an entry elsewhere leaves an index free
 entered_free : (given : Shards) (k i : ℕ) (x : Shard) → nat_eq k i ≡ false → given i ≡ None → entered given k x i ≡ None
-entered_free given k i x apart free =
-    elim (entered_cases given k i x) [
-      | inl here ↦ absurd (eqb-false k i apart (sym here.0))
-      | inr other ↦ other.1 ∙ free
-    ]
+entered_free given k i x apart free = search (rules, entered_cases, eqb-false)
 
 -- so the indexes of other items stay free
 pub free-entered : (given : Shards) (k : ℕ) (x : Shard) (items : Items) → AllByRecursion (λ i. nat_eq k i ≡ false) (indexes items) → AreFree given items → AreFree (entered given k x) items
@@ -45,8 +41,7 @@ free-entered given k x (item ∷ items) apart free = (entered_free given k item.
 
 -- with one item entered, the others are free
 pub free-next : (given : Shards) (item : ℕ × Shard) (items : Items) → IsDistinct nat_eq (indexes (item ∷ items)) → AreFree given (item ∷ items) → AreFree (entered given item.0 item.1) items
-free-next given item items once free =
-    free-entered given item.0 item.1 items (IsDistinct-head nat_eq item.0 (indexes items) once) free.1
+free-next given item items once free = search (rules, free-entered, IsDistinct-head)
 
 -- one entry more, at an index that was free
 pub count-entered : (n : ℕ) (given : Shards) (k : ℕ) (x : Shard) → k < n → given k ≡ None → count_below n (entered given k x) ≡ count_below n given + 1
@@ -94,11 +89,7 @@ some-entered given k i x = grind (arith, common_steps)
 
 -- an index has a shard where it had one, or an item has it
 pub some-entered_all : (items : Items) (given : Shards) (i : ℕ) → is_some (entered_all given items i) ≡ (is_some (given i) || list_any (λ item. nat_eq i item.0) items)
-some-entered_all [] given i = by_entry (given i)
-  where
-    by_entry : (o : Option Shard) → is_some o ≡ (is_some o || false)
-    by_entry None = refl
-    by_entry (Some y) = refl
+some-entered_all [] given i = search rules
 some-entered_all (item ∷ items) given i =
     some-entered_all items (entered given item.0 item.1) i
     ∙ ap (λ b. b || list_any (λ item. nat_eq i item.0) items) (some-entered given item.0 i item.1)
@@ -106,11 +97,7 @@ some-entered_all (item ∷ items) given i =
 
 count_most : (n : ℕ) (given : Shards) → count_below n given ≤ n
 count_most zero given = omega (arith, count_below-zero given)
-count_most (suc n) given = omega (arith, count_most n given, count_below-suc n given, at_most_one (is_some (given n)))
-  where
-    at_most_one : (b : Bool) → cond b 1 0 ≤ 1
-    at_most_one true = omega arith
-    at_most_one false = omega arith
+count_most (suc n) given = search (rules, count_below-suc, count_most n given)
 
 -- where there are n shards below n, each index below n has one
 pub all_some : (n : ℕ) (given : Shards) → n ≤ count_below n given → (i : ℕ) → i < n → is_some (given i) ≡ true

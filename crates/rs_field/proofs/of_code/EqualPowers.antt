@@ -1,14 +1,13 @@
 -- Where both counts have one power, both rates have the same recovery words.
-use Rattle.std.proofs.Common.{◌≡◌, ℕ, suc, ◌+◌, ◌-◌, ◌*◌, ◌^◌, ◌<◌, ◌≤◌, List, [], ◌∷◌, length, bit_xor, refl, sym, ap, ap₂, ◌∙◌, arith, inl, inr, one-mul, zero-add, pow_mono, pow-suc}
+use Rattle.std.proofs.Common.{rules, ◌≡◌, ℕ, suc, ◌+◌, ◌-◌, ◌*◌, ◌^◌, ◌<◌, ◌≤◌, List, [], ◌∷◌, length, bit_xor, refl, sym, ap, ◌∙◌, arith, inl, inr, one-mul, zero-add, pow_mono, pow-suc}
 use Rattle.std.specs.Prelude.{slice_index, ◌↔◌, true}
 use Rattle.std.specs.Int.Bits.{xor_comm, xor_shifted}
 use Rattle.std.proofs.lemmas.Bool.{cases_lt}
-use Rattle.rs_field.specs.words.Field.{product}
 use Rattle.rs_field.specs.words.Polynomial.{value}
 use Rattle.rs_field.specs.code.Counts.{low_rate, high_rate, next_power, supports, is_low}
 use Rattle.rs_field.specs.code.Placement.{placement, low_placement, high_placement}
 use Rattle.rs_field.specs.code.Code.{Codes, AreRecoveryWords, AreRecovery}
-use Rattle.rs_field.specs.code.Column.{Shard, columns}
+use Rattle.rs_field.specs.code.Column.{Shard}
 use Rattle.rs_field.specs.code.Configuration.{configuration}
 use Rattle.rs_field.proofs.of_words.Halves.{xor_undo}
 use Rattle.rs_field.proofs.of_words.Roots.{WordsOneByOne, value-nil, value-cons, value-one}
@@ -29,17 +28,12 @@ moved c (a ∷ p) = add (with_root c (moved c p)) (a ∷ [])
 value-moved : (c : ℕ) (p : List ℕ) (x : ℕ) → value (moved c p) x ≡ value p (bit_xor x c)
 unfolding moved
 value-moved c [] x = value-nil x ∙ sym (value-nil (bit_xor x c))
-value-moved c (a ∷ p) x =
-    value_add (with_root c (moved c p)) (a ∷ []) x
-    ∙ ap₂ bit_xor (value_with_root c (moved c p) x ∙ ap (product (bit_xor x c)) (value-moved c p x)) (value-one a x)
-    ∙ xor_comm (product (bit_xor x c) (value p (bit_xor x c))) a ∙ sym (value-cons a p (bit_xor x c))
+value-moved c (a ∷ p) x = search (rules, value_add, moved, value_with_root, value-one, xor_comm, value-cons, value-moved c p x)
 
 length-moved : (c : ℕ) (p : List ℕ) → length (moved c p) ≡ length p
 unfolding moved
 length-moved c [] = refl
-length-moved c (a ∷ p) =
-    let long : length (with_root c (moved c p)) ≡ suc (length (moved c p)) = length-with_root c (moved c p) in
-    length-add (with_root c (moved c p)) (a ∷ []) (let le : 1 ≤ length (with_root c (moved c p)) = omega arith in le) ∙ long ∙ ap suc (length-moved c p)
+length-moved c (a ∷ p) = search (rules, moved, length-with_root, length-add, length-moved c p)
 
 words_moved : (c : ℕ) (p : List ℕ) → WordsOneByOne p → WordsOneByOne (moved c p)
 unfolding moved
@@ -139,7 +133,4 @@ to_low k r words recovery low high same own = by_recovery (recovered low_rate k 
 -- and recovery shards
 pub one_code : (k r size : ℕ) (message recovery : List Shard) → supports low_rate k r ≡ true → supports high_rate k r ≡ true → next_power k ≡ next_power r
     → AreRecovery (configuration low_rate k r size) message recovery ↔ AreRecovery (configuration high_rate k r size) message recovery
-one_code k r size message recovery low high same = (
-  λ h. record { shards = h.shards; words = λ j hj. to_high k r (columns j message) (columns j recovery) low high same (h.words j hj) },
-  λ h. record { shards = h.shards; words = λ j hj. to_low k r (columns j message) (columns j recovery) low high same (h.words j hj) },
-)
+one_code k r size message recovery low high same = search (rules, to_high, to_low)

@@ -1,5 +1,5 @@
 -- Erased points, given shards and known zeros are as many as the rows.
-use Rattle.std.proofs.Common.{◌≡◌, ℕ, zero, suc, ◌+◌, ◌-◌, ◌^◌, ◌<◌, ◌≤◌, ◌⊎◌, Bool, true, false, cond, length, refl, sym, ap, ◌∙◌, arith, inl, inr, add-zero, add-suc}
+use Rattle.std.proofs.Common.{rules, ◌≡◌, ℕ, zero, suc, ◌+◌, ◌-◌, ◌^◌, ◌<◌, ◌≤◌, ◌⊎◌, Bool, cond, length, refl, sym, ap, ◌∙◌, arith, inl, inr, add-zero, add-suc}
 use Rattle.std.specs.Prelude.{is_some}
 use Rattle.std.proofs.lemmas.Bool.{cases_eq}
 use Rattle.rs_field.specs.code.Given.{Shards, count_below}
@@ -45,8 +45,7 @@ past_ones a (suc n) b f e all =
     ap (λ k. total k f) last ∙ total-suc (a + n) f ∙ omega arith
 
 one_of_two : (b : Bool) → cond b 0 1 + cond b 1 0 ≡ 1
-one_of_two true = omega arith
-one_of_two false = omega arith
+one_of_two b = search rules
 
 -- n more of which those missing from a map are one
 past_given : (a n : ℕ) (f : ℕ → ℕ) (g : Shards) → ((i : ℕ) → i < n → f (a + i) ≡ cond (is_some (g i)) 0 1) → total (a + n) f + count_below n g ≡ total a f + n

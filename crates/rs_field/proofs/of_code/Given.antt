@@ -1,6 +1,6 @@
 -- Maps from index to shard, one entry at a time.
-use Rattle.std.proofs.Common.{◌≡◌, ℕ, zero, suc, ◌+◌, ◌<◌, List, refl, sym, ap₂, ◌∙◌, ◌⊎◌, ◌≢◌, true, cond, arith}
-use Rattle.std.specs.Prelude.{Option, Some, None, is_some}
+use Rattle.std.proofs.Common.{rules, ◌≡◌, ℕ, zero, suc, ◌+◌, ◌<◌, List, refl, sym, ap₂, ◌∙◌, ◌⊎◌, ◌≢◌, true, cond, arith}
+use Rattle.std.specs.Prelude.{Option, Some, is_some}
 use Rattle.std.proofs.lemmas.Option.{none-some}
 use Rattle.rs_field.specs.code.Column.{Shard, shard_at}
 use Rattle.rs_field.specs.code.Given.{Shards, nothing, entered, count_below, AreAmong}
@@ -34,5 +34,4 @@ count_below-same (suc n) g h same =
 
 -- the shard of an entry that has one
 pub some_of : (o : Option Shard) → is_some o ≡ true → (shard : Shard) × (o ≡ Some shard)
-some_of (Some s) h = (s, refl)
-some_of None h = absurd (let no : ⊥ = cc in no)
+some_of o h1 = search rules

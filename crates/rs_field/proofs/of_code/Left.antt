@@ -1,5 +1,5 @@
 -- What is left of a list of shards, each with its index, where a test tells which are lost.
-use Rattle.std.proofs.Common.{◌≡◌, ℕ, ◌+◌, ◌<◌, ◌&&◌, Bool, true, false, cond, not, List, [], ◌∷◌, length, refl, sym, ap, subst, ◌∙◌, arith, nat_eq, nat_lt, Some, None, Result, Ok, Err, IfOk, IfErr, inl, inr, ◌≤◌}
+use Rattle.std.proofs.Common.{rules, ◌≡◌, ℕ, ◌+◌, ◌<◌, ◌&&◌, Bool, true, false, cond, not, List, [], ◌∷◌, length, refl, sym, ap, subst, ◌∙◌, arith, nat_eq, nat_lt, Some, None, Result, IfOk, IfErr, ◌≤◌}
 use Rattle.std.specs.List.{AllByRecursion, IsDistinct, enumerate_from, filter, list_any}
 use Rattle.std.proofs.lemmas.Bool.{eqb-true, ne_eqb, eq-eqb, le-ltb, ltb-true}
 use Rattle.std.proofs.lemmas.List.{get_or_default}
@@ -13,7 +13,7 @@ use Rattle.rs_field.specs.code.Given.{Shards}
 use Rattle.rs_field.specs.code.OneCall.{Items}
 use Rattle.rs_field.specs.code.RoundTrip.{AreLeft, lost_of, OneBringsBack}
 use Rattle.rs_field.specs.declared.code.error.Error.{Error}
-use Rattle.rs_field.specs.declared.code.error.Error.TheVariants.{NotEnoughShards, OutOfMemory}
+use Rattle.rs_field.specs.declared.code.error.Error.TheVariants.{OutOfMemory}
 use Rattle.rs_field.proofs.of_code.Entries.{indexes}
 
 -- the shards that aren't lost, with their indexes
@@ -68,18 +68,9 @@ lost-kept shards lost i = by_test (nat_lt i (length shards)) refl
 -- so what is lost of shards that are left but for these is just these
 pub just-lost : (shards : List Shard) (lost : ℕ → Bool) (result : Result Shards Error) → IfOk result (λ out. (i : ℕ) → out i ≡ lost_of shards (kept_of shards lost) i)
     → IfOk result (λ out. (i : ℕ) → out i ≡ cond (nat_lt i (length shards) && lost i) (Some (shard_at shards i)) None)
-just-lost shards lost (Ok out) same = λ i. same i ∙ lost-kept shards lost i
-just-lost shards lost (Err e) same = tt
+just-lost shards lost result h1 = search (rules, lost-kept)
 
 -- where as many are left as there are originals, one-call `decode` is never refused but for want of memory
 pub enough-left : (originals : List Shard) (kept received : Items) (result : Result Shards Error) → OneBringsBack originals kept received result
     → length originals ≤ length kept + length received → IfErr result (λ e. e ≡ OutOfMemory)
-enough-left originals kept received (Ok out) back many = tt
-enough-left originals kept received (Err e) back many = elim back.answer [
-  | inl same ↦ by_test (nat_lt (length kept + length received) (length originals)) (le-ltb (length kept + length received) (length originals) many) same
-  | inr short ↦ cc
-]
-  where
-    by_test : (few : Bool) → few ≡ false → ◌≡◌ {A = Result (Unit {0}) Error} (Err e) (cond few (Err (NotEnoughShards (length originals) (length kept) (length received))) (Ok tt)) → e ≡ OutOfMemory
-    by_test true is h = absurd (let no : ⊥ = cc in no)
-    by_test false is h = absurd (let no : ⊥ = cc in no)
+enough-left originals kept received result h1 h2 = search (rules, le-ltb)

@@ -1,6 +1,6 @@
 -- What one-call `encode` coded, and what one-call `decode` brings back of it.
-use Rattle.std.proofs.Common.{◌≡◌, ℕ, ◌+◌, ◌<◌, ◌≤◌, ◌++◌, ◌∷◌, ◌^◌, [], Bool, true, false, cond, not, ◌&&◌, List, length, refl, sym, ap, ap₂, subst, ◌∙◌, inl, inr, arith, append_assoc, append-nil, length-append, All, nat_eq, add-zero, zero-add}
-use Rattle.std.specs.Prelude.{Result, Ok, Err, Some, None, is_some, IfOk, IfErr, IsOkAnd, MatchResult, nat_le, nat_lt}
+use Rattle.std.proofs.Common.{rules, ◌≡◌, ℕ, ◌+◌, ◌<◌, ◌≤◌, ◌++◌, ◌∷◌, ◌^◌, [], Bool, true, false, cond, not, ◌&&◌, List, length, refl, sym, ap, ap₂, subst, ◌∙◌, inl, inr, arith, append_assoc, append-nil, length-append, All, nat_eq, add-zero, zero-add}
+use Rattle.std.specs.Prelude.{Result, Ok, Err, Some, None, IfOk, IfErr, IsOkAnd, MatchResult, nat_le, nat_lt}
 use Rattle.std.specs.List.{AllByRecursion, IsDistinct, list_any}
 use Rattle.std.proofs.lemmas.Bool.{lt-leb, eqb-false, eq-eqb, ne_eqb, ltb-true, or_from}
 use Rattle.std.proofs.lemmas.List.Elements.{All-nil, All-cons, recursion_from_All}
@@ -10,7 +10,7 @@ use Rattle.rs_field.specs.declared.code.error.Error.TheVariants.{UnsupportedShar
 use Rattle.rs_field.specs.code.Column.{Shard, IsShard, AreShards, shard_at}
 use Rattle.rs_field.specs.code.Counts.{Rate, default_rate, supports}
 use Rattle.rs_field.specs.code.Placement.{encoder_rows, decoder_rows}
-use Rattle.rs_field.specs.code.Outcome.{answer_of, result_and_then}
+use Rattle.rs_field.specs.code.Outcome.{result_and_then}
 use Rattle.rs_field.specs.code.Configuration.{Configuration, validated, space, started}
 use Rattle.rs_field.specs.code.Code.{AreRecovery}
 use Rattle.rs_field.specs.code.Given.{Shards, nothing, entered, count_below, AreAmong}
@@ -26,8 +26,7 @@ use Rattle.std.proofs.lemmas.Grind.{common_steps}
 
 -- a step after a success was reached by that success
 then_ok : {S T : Type 0} (f : S → Result T Error) (o : Result S Error) (t : T) → result_and_then f o ≡ Ok t → (s : S) × (o ≡ Ok s) × (f s ≡ Ok t)
-then_ok f (Ok s) t is = (s, refl, is)
-then_ok f (Err e) t is = absurd (let no : ⊥ = cc in no)
+then_ok {S} {T} f o t h1 = search rules
 
 -- ---- what was coded
 
@@ -44,14 +43,7 @@ record AreTaken (s : EncoderState) (shards : List Shard) (t : EncoderState) : Ty
   pub few : length s.given ≤ s.configuration.original_count → length t.given ≤ s.configuration.original_count
 
 taken : (shards : List Shard) (s t : EncoderState) → with_shards s shards ≡ Ok t → AreTaken s shards t
-taken [] s t is =
-    let same : t ≡ s = cc in
-    record {
-      of = ap (λ (u : EncoderState). u.configuration) same;
-      given = ap (λ (u : EncoderState). u.given) same ∙ sym (append-nil s.given);
-      sized = All-nil (λ y. length y ≡ s.configuration.shard_bytes);
-      few = λ h. subst (λ (u : EncoderState). length u.given ≤ s.configuration.original_count) (sym same) h;
-    }
+taken [] s t is = search (rules, append-nil, All-nil)
 taken (x ∷ xs) s t is =
     let first = then_ok (λ next. one_by_one with_shard next xs) (with_shard s x) t is in
     let one = one_taken s x first.0 first.1 in
@@ -132,16 +124,7 @@ module _ (k r size : ℕ) (shards : List Shard) (result : Result (List Shard) Er
   Set set = MatchResult (result_and_then (λ _. with_shards (fresh_encoder (default_of k r size)) shards) set) (λ s. EncodeAnswers s result) (λ e. result ≡ Err e)
 
   whole_by_start : Set (started (encoder_rows default_rate k r) (default_of k r size)) → IfErr result (λ e. e ≡ OutOfMemory)
-  whole_by_start answers =
-      by_space (nat_le (2 ^ 64) (space (encoder_rows default_rate k r) size))
-      (subst Set (ap (result_and_then (λ _. cond (nat_le (2 ^ 64) (space (encoder_rows default_rate k r) size)) (Err OutOfMemory) (Ok tt))) valid) answers)
-    where
-      by_space : (full : Bool) → Set (cond full (Err OutOfMemory) (Ok tt)) → IfErr result (λ e. e ≡ OutOfMemory)
-      by_space true h = subst (λ (o : Result (List Shard) Error). IfErr o (λ e. e ≡ OutOfMemory)) (sym h) refl
-      by_space false h =
-          let all = all_given shards (fresh_encoder (default_of k r size)) (omega (arith, count)) (recursion_from_All (λ x. length x ≡ size) shards sized) in
-          encoded_whole (record { configuration = default_of k r size; given = shards }) result (omega (arith, count))
-          (subst (λ (o : Result EncoderState Error). MatchResult o (λ s. EncodeAnswers s result) (λ e. result ≡ Err e)) all h)
+  whole_by_start answers = search (rules, all_given, recursion_from_All, encoded_whole)
 
 pub encodes_in_one_call : (k r size : ℕ) (originals : List Shard) (result : Result (List Shard) Error) → validated (default_of k r size) ≡ Ok tt
     → length originals ≡ k → All (λ shard. length shard ≡ size) originals → OneEncodeAnswers k r originals result → IfErr result (λ e. e ≡ OutOfMemory)
@@ -193,13 +176,11 @@ AreFitting count size items = AllByRecursion (λ item. (item.0 < count) × (leng
 
 original_taken : (s : DecoderState) (i : ℕ) (x : Shard) → i < s.configuration.original_count → length x ≡ s.configuration.shard_bytes → s.originals i ≡ None
     → with_original s i x ≡ Ok (record s { originals = entered s.originals i x })
-original_taken s i x inside same free =
-    rw (lt-leb s.configuration.original_count i inside, free, eq-eqb (length x) s.configuration.shard_bytes same) refl
+original_taken s i x inside same free = search (rules, lt-leb, eq-eqb)
 
 recovery_taken : (s : DecoderState) (i : ℕ) (x : Shard) → i < s.configuration.recovery_count → length x ≡ s.configuration.shard_bytes → s.recovery i ≡ None
     → with_recovery s i x ≡ Ok (record s { recovery = entered s.recovery i x })
-recovery_taken s i x inside same free =
-    rw (lt-leb s.configuration.recovery_count i inside, free, eq-eqb (length x) s.configuration.shard_bytes same) refl
+recovery_taken s i x inside same free = search (rules, lt-leb, eq-eqb)
 
 originals_taken : (items : Items) (s : DecoderState) → AreFitting s.configuration.original_count s.configuration.shard_bytes items → AreFree s.originals items
     → IsDistinct nat_eq (indexes items) → with_originals s items ≡ Ok (record s { originals = entered_all s.originals items })
@@ -221,22 +202,17 @@ all_free (item ∷ items) = (refl, all_free items)
 
 -- what is left of shards of one size is taken
 fitting : (count size : ℕ) (shards : List Shard) (items : Items) → length shards ≡ count → All (λ shard. length shard ≡ size) shards → AreLeft shards items → AreFitting count size items
-fitting count size shards items long sized left =
-    recursion_from_All (λ item. (item.0 < count) × (length item.1 ≡ size)) items
-    (λ i d inside. let own = left.own i d inside in (omega (arith, own.0), sym (ap length own.1) ∙ sized _ [] own.0))
+fitting count size shards items long sized left = search (rules, recursion_from_All)
 
 within : (count : ℕ) (shards : List Shard) (items : Items) → length shards ≡ count → AreLeft shards items → AllByRecursion (λ item. item.0 < count) items
-within count shards items long left =
-    recursion_from_All (λ item. item.0 < count) items (λ i d inside. let own = left.own i d inside in omega (arith, own.0))
+within count shards items long left = search (rules, recursion_from_All)
 
 -- the map of what is left has shards of the list alone, as many as there are items
 left_among : (shards : List Shard) (items : Items) → AreLeft shards items → AreAmong (entered_all nothing items) shards
-left_among shards items left =
-    among-entered_all items nothing shards (recursion_from_All (λ item. shard_at shards item.0 ≡ item.1) items (λ i d inside. (left.own i d inside).1)) (nothing_among shards)
+left_among shards items left = search (rules, among-entered_all, recursion_from_All, nothing_among)
 
 left_count : (count : ℕ) (shards : List Shard) (items : Items) → length shards ≡ count → AreLeft shards items → count_below count (entered_all nothing items) ≡ length items
-left_count count shards items long left =
-    count-entered_all count items nothing (within count shards items long left) (all_free items) left.once ∙ ap (λ n. n + length items) (count-nothing count) ∙ zero-add (length items)
+left_count count shards items long left = search (rules, count-entered_all, within, all_free, count-nothing, zero-add)
 
 -- ---- what comes back
 
@@ -244,18 +220,13 @@ left_count count shards items long left =
 lost_same : (s : DecoderState) (originals : List Shard) (kept : Items) (i : ℕ) → length originals ≡ s.configuration.original_count → s.originals ≡ entered_all nothing kept
     → missing_of s originals i ≡ lost_of originals kept i
 unfolding missing_of lost_of
-lost_same s originals kept i long is =
-    ap₂ (λ (n : ℕ) (b : Bool). cond (nat_lt i n && not b) (Some (shard_at originals i)) None) (sym long)
-    (ap (λ (g : Shards). is_some (g i)) is ∙ some-entered_all kept nothing i)
+lost_same s originals kept i long is = search (rules, some-entered_all)
 
 -- an index that was noted is not one of the others
 absent_next : (k : ℕ) (came : List ℕ) (items : Items) → AllByRecursion (λ i. nat_eq k i ≡ false) (indexes items) → AllByRecursion (λ item. list_any (nat_eq item.0) came ≡ false) items
     → AllByRecursion (λ item. list_any (nat_eq item.0) (k ∷ came) ≡ false) items
 absent_next k came [] apart absent = tt
-absent_next k came (item ∷ items) apart absent = (
-  or_from (nat_eq item.0 k) (list_any (nat_eq item.0) came) (ne_eqb item.0 k (λ e. eqb-false k item.0 apart.0 (sym e))) absent.0,
-  absent_next k came items apart.1 absent.1,
-)
+absent_next k came (item ∷ items) apart absent = search (rules, or_from, ne_eqb, eqb-false, absent_next k came items apart.1 absent.1)
 
 -- indexes below k, none of which comes twice, are all noted
 all_noted : (k : ℕ) (items : Items) (came : List ℕ) → AllByRecursion (λ item. item.0 < k) items → AllByRecursion (λ item. list_any (nat_eq item.0) came ≡ false) items
@@ -304,8 +275,7 @@ abbrev by_numbers : ℕ → ℕ → ℕ → Result (Unit {0}) Error
 by_numbers k originals recovery = cond (nat_lt (originals + recovery) k) (Err (NotEnoughShards k originals recovery)) (Ok tt)
 
 if_ok-map : (result : Result Shards Error) (P Q : Shards → Type 0) → ((out : Shards) → P out → Q out) → IfOk result P → IfOk result Q
-if_ok-map (Ok out) P Q follows h = follows out h
-if_ok-map (Err e) P Q follows h = tt
+if_ok-map result P Q h1 h2 = search rules
 
 if_ok-refused : (result : Result Shards Error) (e : Error) (P : Shards → Type 0) → result ≡ Err e → IfOk result P
 if_ok-refused result e P is = subst (λ (r : Result Shards Error). IfOk r P) (sym is) tt
@@ -314,27 +284,14 @@ module _ (c : Configuration) (message recovery : List Shard) (kept received : It
     (left : AreLeft message kept) (got : AreLeft recovery received) where
   -- a decoder takes all that is left
   pub all_taken : with_both (fresh_decoder c) kept received ≡ Ok (left_with c kept received)
-  all_taken =
-      ap (result_and_then (λ now. with_recoveries now received))
-      (originals_taken kept (fresh_decoder c) (fitting c.original_count c.shard_bytes message kept are.length_is (λ i d inside. (are.each i d inside).length_is) left) (all_free kept) left.once)
-      ∙ recoveries_taken received (record (fresh_decoder c) { originals = entered_all nothing kept })
-      (fitting c.recovery_count c.shard_bytes recovery received coded.shards.length_is (λ i d inside. (coded.shards.each i d inside).length_is) got) (all_free received) got.once
+  all_taken = search (rules, originals_taken, fitting, all_free, recoveries_taken)
 
   -- and gives back what is lost
   pub gives_back : (result : Result Shards Error) → DecodeAnswers (left_with c kept received) result → GivesBack message kept received result
-  gives_back result answers =
-      let back = restores_lost (left_with c kept received) message recovery result are coded (left_among message kept left) (left_among recovery received got) answers in
-      record {
-        answer =
-            back.answer
-            ∙ ap₂ (by_numbers c.original_count) (left_count c.original_count message kept are.length_is left) (left_count c.recovery_count recovery received coded.shards.length_is got)
-            ∙ ap (λ n. by_numbers n (length kept) (length received)) (sym are.length_is);
-        restored = if_ok-map result _ _ (λ out h i. h i ∙ lost_same (left_with c kept received) message kept i are.length_is refl) back.restored;
-      }
+  gives_back result answers = search (rules, restores_lost, left_among, left_count, if_ok-map, lost_same)
 
   pub restores_left : IsOkAnd (with_both (fresh_decoder c) kept received) (λ s. (result : Result Shards Error) → DecodeAnswers s result → GivesBack message kept received result)
-  restores_left =
-      subst (λ (o : Result DecoderState Error). IsOkAnd o (λ s. (result : Result Shards Error) → DecodeAnswers s result → GivesBack message kept received result)) (sym all_taken) gives_back
+  restores_left = search (rules, all_taken, gives_back)
 
 -- so does one that took all this
 pub taken_gives_back : (c : Configuration) (message recovery : List Shard) (kept received : Items) (s : DecoderState) (result : Result Shards Error)
@@ -367,22 +324,7 @@ module _ (k r : ℕ) (originals recovery : List Shard) (kept : Items) (was : Are
 
   -- where no recovery shard is left
   by_indexes : (result : Result Shards Error) → OneDecodes k r kept [] result → OneBringsBack originals kept [] result
-  by_indexes result answers =
-      by_outcome (enough_left k kept []) refl
-      (subst (λ (o : Result (Unit {0}) Error). MatchResult o (λ _. result ≡ Ok nothing) (λ e. result ≡ Err e))
-      (ap (result_and_then (λ _. all_came k kept)) (counted_valid k r was.size was.valid) ∙ came_left k kept (within k originals kept was.shards.length_is left) left.once) answers)
-    where
-      by_outcome : (m : Result (Unit {0}) Error) → enough_left k kept [] ≡ m → MatchResult m (λ _. result ≡ Ok nothing) (λ e. result ≡ Err e) → OneBringsBack originals kept [] result
-      by_outcome (Ok tt) enough h = record {
-        answer = inl (ap answer_of h ∙ sym enough ∙ ap (λ n. enough_left n kept []) (sym was.shards.length_is));
-        restored =
-            subst (λ (o : Result Shards Error). IfOk o (λ out. (i : ℕ) → out i ≡ lost_of originals kept i)) (sym h)
-            (λ i. sym (none_lost originals kept left (all_left k (length originals) kept enough was.shards.length_is) i));
-      }
-      by_outcome (Err e) few h = record {
-        answer = inl (ap answer_of h ∙ sym few ∙ ap (λ n. enough_left n kept []) (sym was.shards.length_is));
-        restored = if_ok-refused result e _ h;
-      }
+  by_indexes result answers = search (rules, counted_valid, came_left, within, none_lost, all_left, if_ok-refused)
 
   by_answer : (received : Items) (result : Result Shards Error) → AreLeft recovery received → OneDecodeAnswers k r kept received result → OneBringsBack originals kept received result
   by_answer received result got (inr lacks) = record { answer = inr lacks.1; restored = if_ok-refused result OutOfMemory _ lacks.1 }

@@ -1,5 +1,5 @@
 -- Shards at k places of a codeword fix its message.
-use Rattle.std.proofs.Common.{◌≡◌, ℕ, zero, suc, ◌+◌, ◌-◌, ◌%◌, ◌<◌, ◌≤◌, ◌⊎◌, Bool, true, false, cond, List, [], ◌++◌, length, sym, ap, ◌∙◌, arith, inl, inr, pow_mono, refl, subst, add-zero, add-suc}
+use Rattle.std.proofs.Common.{rules, ◌≡◌, ℕ, zero, suc, ◌+◌, ◌-◌, ◌%◌, ◌<◌, ◌≤◌, ◌⊎◌, Bool, true, false, cond, List, ◌++◌, length, sym, ap, ◌∙◌, arith, inl, inr, pow_mono, refl, add-zero, add-suc}
 use Rattle.std.specs.Prelude.{slice_index, nat_lt, Option, Some, is_some}
 use Rattle.std.proofs.lemmas.Bool.{cases_lt, lt-ltb, le-ltb}
 use Rattle.std.proofs.lemmas.List.{get_or_append_left, get_or-append_right, length-map, map-append}
@@ -228,10 +228,7 @@ by_place k originals recovery = below_or k originals recovery
 
 pub count-by_place : (k r : ℕ) (originals recovery : Shards) → count_below (k + r) (by_place k originals recovery) ≡ count_below k originals + count_below r recovery
 unfolding by_place
-count-by_place k zero originals recovery =
-    ap (λ n. count_below n (below_or k originals recovery)) (add-zero k)
-    ∙ count_below-same k (below_or k originals recovery) originals (λ i h. below_or-first k originals recovery i h)
-    ∙ (let none = count_below-zero recovery in omega arith)
+count-by_place k zero originals recovery = search (rules, below_or, add-zero, count_below-same, below_or-first, count_below-zero)
 count-by_place k (suc r) originals recovery =
     let rest : count_below (k + r) (below_or k originals recovery) ≡ count_below k originals + count_below r recovery = count-by_place k r originals recovery in
     let back : k + r - k ≡ r = omega arith in
@@ -244,12 +241,4 @@ count-by_place k (suc r) originals recovery =
 pub codeword_given : (c : Configuration) (originals recovery : Shards) (message : List Shard) (a : Agrees c originals recovery message) (x : ℕ) (shard : Shard)
     → by_place c.original_count originals recovery x ≡ Some shard → shard_at (message ++ a.coded.0) x ≡ shard
 unfolding by_place
-codeword_given c originals recovery message a x shard e =
-    elim (cases_lt x c.original_count) [
-      | inl own ↦
-          get_or_append_left message a.coded.0 [] x (subst (λ (n : ℕ). x < n) (sym a.shards.length_is) own)
-          ∙ a.own x shard (sym (below_or-first c.original_count originals recovery x own) ∙ e)
-      | inr coded ↦
-          get_or-append_right message a.coded.0 c.original_count x [] a.shards.length_is coded
-          ∙ a.coded.2 (x - c.original_count) shard (sym (below_or-then c.original_count originals recovery x coded) ∙ e)
-    ]
+codeword_given c originals recovery message a x shard e = search (rules, cases_lt, get_or_append_left, below_or-first, get_or-append_right, below_or-then)

@@ -1,5 +1,5 @@
 -- Every rate has its frame at supported counts.
-use Rattle.std.proofs.Common.{◌≡◌, ℕ, ◌+◌, ◌-◌, ◌^◌, ◌≤◌, Bool, true, false, cond, min, max, refl, sym, ap, ◌∙◌, arith, inl, inr, pow_mono, subst}
+use Rattle.std.proofs.Common.{rules, ◌≡◌, ℕ, ◌+◌, ◌-◌, ◌^◌, ◌≤◌, Bool, true, false, cond, min, max, refl, sym, ap, ◌∙◌, arith, inl, inr, pow_mono, subst}
 use Rattle.rs_field.specs.code.Counts.{Rate, low_rate, high_rate, default_rate, next_power, supports, is_low}
 use Rattle.rs_field.specs.code.Placement.{low_placement, high_placement, placement, decoder_rows}
 use Rattle.rs_field.proofs.of_code.NextPower.{next_power-small, next_power-above}
@@ -89,10 +89,8 @@ high_chosen k r = refl
 
 -- at supported counts the rate has a frame
 pub has_frame : (rate : Rate) (k r : ℕ) → supports rate k r ≡ true → HasFrame rate k r
-has_frame low_rate k r is =
-    frame_by low_rate k r (λ e. (low_fits k r is).2) (λ e. absurd (let no : true ≡ false = sym (low_chosen k r) ∙ e in let never : ⊥ = cc in never))
-has_frame high_rate k r is =
-    frame_by high_rate k r (λ e. absurd (let no : false ≡ true = sym (high_chosen k r) ∙ e in let never : ⊥ = cc in never)) (λ e. (high_fits k r is).2)
+has_frame low_rate k r is = search (rules, frame_by, low_fits, low_chosen)
+has_frame high_rate k r is = search (rules, frame_by, high_chosen, high_fits)
 has_frame default_rate k r is =
     let fit : min (next_power k) (next_power r) + max k r ≤ 65536 = (default_fits k r is).2 in
     frame_by default_rate k r

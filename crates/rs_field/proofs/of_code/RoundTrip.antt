@@ -1,5 +1,5 @@
 -- From shards of a message that are left, a decoder restores the lost originals as they were.
-use Rattle.std.proofs.Common.{◌≡◌, ◌≤◌, List, length, arith}
+use Rattle.std.proofs.Common.{rules, ◌≡◌, ◌≤◌, List, length, arith}
 use Rattle.std.specs.Prelude.{Result, Ok}
 use Rattle.rs_field.specs.declared.code.error.Error.{Error}
 use Rattle.rs_field.specs.code.Column.{Shard, AreShards}
@@ -18,8 +18,7 @@ brings_back s message result agrees answers = grind (arith, common_steps)
 pub restores_lost : (s : DecoderState) (message recovery : List Shard) (result : Result Shards Error)
     → AreShards s.configuration.original_count s.configuration.shard_bytes message → AreRecovery s.configuration message recovery
     → AreAmong s.originals message → AreAmong s.recovery recovery → DecodeAnswers s result → BringsBack s message result
-restores_lost s message recovery result are coded own among answers =
-    brings_back s message result (record { shards = are; own = own; coded = (recovery, coded, among) }) answers
+restores_lost s message recovery result are coded own among answers = search (rules, brings_back)
 
 -- what an encoder answered is the recovery shards of what it was given, and that was all
 pub answered : (s : EncoderState) (recovery : List Shard) → EncodeAnswers s (Ok recovery) → (s.configuration.original_count ≤ length s.given) × AreRecovery s.configuration s.given recovery

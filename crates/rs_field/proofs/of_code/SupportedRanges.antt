@@ -1,5 +1,5 @@
 -- The ranges of counts that the default rate supports.
-use Rattle.std.proofs.Common.{◌≡◌, ℕ, ◌+◌, ◌^◌, ◌<◌, ◌≤◌, ◌⊎◌, true, min, max, inl, inr, arith, pow_mono}
+use Rattle.std.proofs.Common.{rules, ◌≡◌, ℕ, ◌+◌, ◌^◌, ◌<◌, ◌≤◌, ◌⊎◌, true, min, max, inl, inr, arith, pow_mono}
 use Rattle.std.proofs.lemmas.Bool.{cases_lt}
 use Rattle.rs_field.specs.code.Counts.{default_rate, next_power, supports}
 use Rattle.rs_field.specs.code.CountLaws.{AreBeside}
@@ -21,13 +21,7 @@ fit k r some_k some_r room = grind (arith, common_steps)
 
 -- where one count is below a power of two, and the other below what that leaves, they fit
 beside_fit : (n few many : ℕ) → 0 < many → few ≤ 2 ^ n → many + 2 ^ n ≤ 65536 → min (next_power few) (next_power many) + max few many ≤ 65536
-beside_fit n few many some small large =
-    let most = half_most n (omega arith) in
-    let own : next_power few ≤ 2 ^ n = next_power-least few n most.0 small in
-    elim (cases_lt many few) [
-      | inl less ↦ let other : next_power many ≤ 2 ^ n = next_power-least many n most.0 (omega arith) in omega (arith, most.1)
-      | inr more ↦ omega arith
-    ]
+beside_fit n few many some small large = search (rules, half_most, next_power-least, cases_lt)
 
 pub few_originals : (n k r : ℕ) → 0 < k → k ≤ 2 ^ n → 0 < r → r + 2 ^ n ≤ 65536 → supports default_rate k r ≡ true
 few_originals n k r some_k small some_r large = fit k r some_k some_r (beside_fit n k r some_r small large)

@@ -3,9 +3,8 @@
 //! The method is that of Lin, Chung and Han in the form of Leopard-RS. A transform is two layers of butterflies between the
 //! quarters of its rows and a transform of each quarter, or, of 2, 8 and 32 rows, one layer between the halves and a
 //! transform of each half. So the recursion goes depth first, and a block that fits the cache stays in it.
-ghost use Rattle.std.specs.Prelude.{◌≡◌, ℕ, ◌+◌, ◌%◌, ◌^◌, ◌<◌, ◌≤◌, Bool, length, slice_index};
+ghost use Rattle.std.specs.Prelude.{ℕ, ◌+◌, ◌<◌, ◌≤◌, Bool};
 ghost use Rattle.rs_field.specs.rows.Directions.{AreTransformed, ArePartsTransformed, UnusedAreZeroBackward, PartCounts};
-ghost use Rattle.rs_field.specs.rows.Rows.{chunk, symbol};
 ghost use Rattle.rs_field.specs.rows.View.{word, Fits, SameShape, SameRowsOutside};
 ghost use Rattle.rs_field.specs.rows.MarkedRows.{is_used, HasMarks};
 ghost use Rattle.rs_field.specs.words.StepBounds.{TransformCounts};
@@ -13,29 +12,11 @@ ghost use Rattle.rs_field.specs.words.Inverse.{TransformsAreInverse};
 
 use super::ShardsRefMut;
 use super::block::Block;
+use super::bytes::row_symbols_are_words;
 use super::kernel::Kernel;
 use super::layers::{Direction, layers};
 use super::marked_rows::UsedRows;
 use crate::words::Steps;
-
-/// A symbol is a word, as its bytes are bytes. This and the two functions below do nothing when they run: they tell the
-/// checker so where nothing else does.
-pub fn row_symbols_are_words(rows: &ShardsRefMut<'_>)
-    requires { Fits rows.now }
-    ensures { (k s i : ℕ) → k < rows.now.shard_len_64 → s < 32 → i < rows.now.shard_count → word rows.now k s i < 65536 }
-{
-    symbols_are_words(rows.chunks);
-}
-
-fn symbols_are_words(chunks: &[[u8; 64]])
-    ensures { (k s : ℕ) → k < length chunks.now → s < 32 → symbol (chunk chunks.now k) s < 65536 }
-{
-    bytes_are_small(chunks.as_flattened());
-}
-
-fn bytes_are_small(bytes: &[u8])
-    ensures { (j : ℕ) → slice_index bytes.now j < 256 }
-{}
 
 // The transform of two or four rows: the layers leave parts of one row, and there is no more to do.
 fn transform_few<K: Kernel>(

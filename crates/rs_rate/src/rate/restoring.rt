@@ -17,10 +17,10 @@ ghost use Rattle.rs_rate.specs.Shapes.{DecoderCanBeLaid, original_row};
 
 use crate::rate::decoder_work::DecoderShape;
 use crate::rate::marks::Marks;
+use rs_field::bytes::row_symbols_are_words;
 use rs_field::engine::derivative::formal_derivative;
 use rs_field::engine::layout::is_zero_row;
 use rs_field::engine::rows::{clear_rows, mul_row};
-use rs_field::engine::transform::row_symbols_are_words;
 use rs_field::engine::{Engine, GF_MODULUS, GfElement, ShardsRefMut, Steps};
 
 // What a round has to do: what its rows are set up for, how many originals are missing, and how many shards are given

@@ -1,6 +1,6 @@
 use Rattle.std.proofs.Common.{◌<◌, All}
 use Rattle.std.specs.List.{AllWithin}
-use Rattle.rs_field.proofs.code.bytes.slices_are_bytes.Given as goal
+use Rattle.rs_field.proofs.rows.bytes.slices_are_bytes.Given as goal
 
 -- the shards so far are bytes
 abbrev pub invariant-loop-shard : goal.invariant-loop-shard

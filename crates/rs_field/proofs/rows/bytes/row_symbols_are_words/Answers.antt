@@ -1,7 +1,7 @@
 use Rattle.std.proofs.Common.{◌+◌, ◌*◌, arith}
 use Rattle.rs_field.specs.rows.View.{cell}
 use Rattle.rs_field.proofs.of_rows.RowOffsets.{row_ends}
-use Rattle.rs_field.proofs.rows.transform.row_symbols_are_words.Goals as goal
+use Rattle.rs_field.proofs.rows.bytes.row_symbols_are_words.Goals as goal
 
 pub returns : goal.returns
 unfolding cell

@@ -1,0 +1,55 @@
+//! Bytes in memory lie below 256, and symbols of rows below 65536, as contracts of functions that do nothing when they run.
+//!
+//! The laws speak of shards whose bytes do; a caller that proves something of shards in memory calls the one that fits.
+ghost use Rattle.std.specs.Prelude.{ℕ, ◌<◌, All, length, slice_index};
+ghost use Rattle.rs_field.specs.rows.Rows.{chunk, symbol};
+ghost use Rattle.rs_field.specs.rows.View.{word, Fits};
+
+use super::ShardsRefMut;
+
+/// The bytes of a slice, and what is read at any index.
+pub fn are_bytes(bytes: &[u8])
+    ensures all { All (λ b. b < 256) bytes.now }
+    ensures each { (j : ℕ) → slice_index bytes.now j < 256 }
+{}
+
+/// The bytes of each vector.
+pub fn vectors_are_bytes(shards: &[Vec<u8>])
+    ensures { All (λ shard. All (λ b. b < 256) shard.items) shards.now }
+{
+    for shard in shards {
+        are_bytes(shard);
+    }
+}
+
+/// The bytes of each slice.
+pub fn slices_are_bytes(shards: &[&[u8]])
+    ensures { All (λ shard. All (λ b. b < 256) shard.now) shards.now }
+{
+    for shard in shards {
+        are_bytes(shard);
+    }
+}
+
+/// The bytes of each array.
+pub fn arrays_are_bytes<const N: usize>(shards: &[[u8; N]])
+    ensures { All (All (λ b. b < 256)) shards.now }
+{
+    for shard in shards {
+        are_bytes(shard);
+    }
+}
+
+/// The symbols of rows.
+pub fn row_symbols_are_words(rows: &ShardsRefMut<'_>)
+    requires { Fits rows.now }
+    ensures { (k s i : ℕ) → k < rows.now.shard_len_64 → s < 32 → i < rows.now.shard_count → word rows.now k s i < 65536 }
+{
+    symbols_are_words(rows.chunks);
+}
+
+fn symbols_are_words(chunks: &[[u8; 64]])
+    ensures { (k s : ℕ) → k < length chunks.now → s < 32 → symbol (chunk chunks.now k) s < 65536 }
+{
+    are_bytes(chunks.as_flattened());
+}
