@@ -1,18 +1,18 @@
-//! One passage over four ranges of rows, around a step on four rows: two layers of the transforms at once.
+//! One passage over four ranges of rows, around a step on four chunks: two layers of the transforms at once.
 ghost use Rattle.std.specs.Prelude.{◌≡◌, ℕ, ◌+◌, ◌*◌, ◌<◌, ◌≤◌, length};
-ghost use Rattle.rs_field.specs.Rows.{chunk};
-ghost use Rattle.rs_field.specs.View.{cell, Fits, SameShape, SameRowsOutside, SameRowsOutsideFour};
+ghost use Rattle.rs_field.specs.Rows.{chunk, SameOutside};
+ghost use Rattle.rs_field.specs.View.{cell, Fits, SameShape, SameRowsOutside};
 ghost use Rattle.rs_field.specs.TwoLayers.{OnFourChunks};
 ghost use Rattle.rs_field.specs.Bounds.{CountsRows};
 
 use super::{ShardsRefMut, Steps};
 
-/// A step on four rows of the same number of chunks.
+/// A step on four ranges of the same number of chunks, chunk by chunk.
 pub(crate) trait FourStep {
-    /// What the step makes of a chunk of each row, from the four old ones.
+    /// What the step makes of a chunk of each range, from the four old ones.
     ghost related: { Self → OnFourChunks };
 
-    /// Does the step to four rows.
+    /// Does the step to four ranges.
     fn apply(
         &self,
         x0: &mut [[u8; 64]],
@@ -28,43 +28,18 @@ pub(crate) trait FourStep {
             (chunk x0.new k) (chunk x1.new k) (chunk x2.new k) (chunk x3.new k) };
 }
 
-// The step on four lent rows.
-fn step_lent<'a, F: FourStep>(
-    step: &F,
-    lent: (
-        &'a mut [[u8; 64]],
-        &'a mut [[u8; 64]],
-        &'a mut [[u8; 64]],
-        &'a mut [[u8; 64]],
-    ),
-)
-    requires one { length lent.0.now ≡ length lent.1.now }
-    requires two { length lent.0.now ≡ length lent.2.now }
-    requires three { length lent.0.now ≡ length lent.3.now }
-    ensures fours { (k : ℕ) → k < length lent.entry.0.now
-        → F.related step.now (chunk lent.entry.0.now k) (chunk lent.entry.1.now k) (chunk lent.entry.2.now k) (chunk lent.entry.3.now k)
-        (chunk lent.exit.0.now k) (chunk lent.exit.1.0.now k) (chunk lent.exit.1.1.0.now k) (chunk lent.exit.1.1.1.0.now k) }
-    ensures first { length lent.exit.0.now ≡ length lent.entry.0.now }
-    ensures second { length lent.exit.1.0.now ≡ length lent.entry.0.now }
-    ensures third { length lent.exit.1.1.0.now ≡ length lent.entry.0.now }
-    ensures fourth { length lent.exit.1.1.1.0.now ≡ length lent.entry.0.now }
+// The step on the four quarters of some chunks, each of n chunks.
+fn step_quarters<F: FourStep>(step: &F, chunks: &mut [[u8; 64]], n: usize)
+    requires { length chunks.old ≡ 4 * n }
+    ensures length { length chunks.new ≡ 4 * n }
+    ensures fours { (k : ℕ) → k < n
+        → F.related step.now (chunk chunks.old k) (chunk chunks.old (n + k)) (chunk chunks.old (2 * n + k)) (chunk chunks.old (3 * n + k))
+        (chunk chunks.new k) (chunk chunks.new (n + k)) (chunk chunks.new (2 * n + k)) (chunk chunks.new (3 * n + k)) }
 {
-    let (x0, x1, x2, x3) = lent;
-    step.apply(x0, x1, x2, x3);
-}
-
-// The step on rows `pos`, `pos + dist`, `pos + 2 * dist` and `pos + 3 * dist`.
-fn step_rows<F: FourStep>(step: &F, rows: &mut ShardsRefMut<'_>, pos: usize, dist: usize)
-    requires fits { Fits rows.old }
-    requires apart { 0 < dist }
-    requires within { pos + 3 * dist < rows.old.shard_count }
-    ensures shape { SameShape rows.old rows.new }
-    ensures fours { (k : ℕ) → k < rows.old.shard_len_64
-        → F.related step.now (cell rows.old k pos) (cell rows.old k (pos + dist)) (cell rows.old k (pos + 2 * dist)) (cell rows.old k (pos + 3 * dist))
-        (cell rows.new k pos) (cell rows.new k (pos + dist)) (cell rows.new k (pos + 2 * dist)) (cell rows.new k (pos + 3 * dist)) }
-    ensures others { SameRowsOutsideFour pos (pos + dist) (pos + 2 * dist) (pos + 3 * dist) rows.old rows.new }
-{
-    step_lent(step, rows.dist4_mut(pos, dist));
+    let (front, back) = chunks.split_at_mut(2 * n);
+    let (first, second) = front.split_at_mut(n);
+    let (third, fourth) = back.split_at_mut(n);
+    step.apply(first, second, third, fourth);
 }
 
 /// The step on rows `pos + i`, `pos + quarter + i`, `pos + 2 * quarter + i` and `pos + 3 * quarter + i`, for each i
@@ -87,11 +62,7 @@ pub(crate) fn step_fours<F: FourStep>(
     ensures others { SameRowsOutside pos (pos + 4 * quarter) rows.old rows.new }
     ensures counts { CountsRows (4 * quarter) steps.old steps.new }
 {
-    for i in 0..quarter {
-        steps.row_step();
-        steps.row_step();
-        steps.row_step();
-        steps.row_step();
-        step_rows(step, rows, pos + i, quarter);
-    }
+    steps.row_steps(4 * quarter);
+    let len = rows.shard_len_64;
+    step_quarters(step, &mut rows.chunks[pos * len..(pos + 4 * quarter) * len], quarter * len);
 }
