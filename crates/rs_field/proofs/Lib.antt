@@ -25,8 +25,6 @@ pub mod Runs
 pub mod FourRuns
 pub mod RowOffsets
 pub mod LentRows
-pub mod LentFourRows
-pub mod Fours
 pub mod LayoutLemmas
 pub mod ZeroColumns
 pub mod Symbols

@@ -1,7 +1,7 @@
 -- The rows of a `ShardsRefMut`, by row, chunk and symbol.
 use Rattle.std.specs.Prelude.{◌≡◌, ℕ, List, ◌+◌, ◌*◌, ◌≤◌, ◌<◌, length, replicate, take, drop}
 use Rattle.std.specs.Borrow.{MutBor}
-use Rattle.rs_field.specs.Rows.{Chunks, chunk, symbol, SameOutside, SameOutsideTwo, SameOutsideFour}
+use Rattle.rs_field.specs.Rows.{Chunks, chunk, symbol, SameOutside, SameOutsideTwo}
 use Rattle.rs_field.specs.declared.engine.shards.ShardsRefMut.{ShardsRefMut}
 
 -- there are chunks enough for the rows
@@ -48,11 +48,6 @@ SameRowsOutside a b old new = SameOutside (a * old.shard_len_64) (b * old.shard_
 abbrev pub SameRowsOutsideTwo : ℕ → ℕ → ℕ → ℕ → ShardsRefMut → ShardsRefMut → Type 0
 SameRowsOutsideTwo a b c d old new =
     let n = old.shard_len_64 in SameOutsideTwo (a * n) (b * n) (c * n) (d * n) old.chunks.now new.chunks.now
-
--- the same of the chunks outside rows a, b, c and d
-abbrev pub SameRowsOutsideFour : ℕ → ℕ → ℕ → ℕ → ShardsRefMut → ShardsRefMut → Type 0
-SameRowsOutsideFour a b c d old new =
-    let n = old.shard_len_64 in SameOutsideFour (a * n) (b * n) (c * n) (d * n) n old.chunks.now new.chunks.now
 
 -- rows a to b - 1 are zero bytes
 abbrev pub AreZero : ℕ → ℕ → ShardsRefMut → Type 0

@@ -73,6 +73,7 @@ impl<K: Kernel> FourStep for TwoLayers<'_, K> {
 /// backward transform, which come after the backward transforms of these parts.
 ///
 /// Inlined, so that transforms of more than four rows are compiled for their direction.
+#[tactic(auto, using(crate::proofs::Parts::block_quarters))]
 #[inline(always)]
 pub(crate) fn layers<K: Kernel>(
     direction: Direction,

@@ -7,18 +7,6 @@ use Rattle.rs_field.proofs.Layers.{IsBlock}
 use Rattle.rs_field.proofs.Parts.{block_halves, block_power, block_quarters, part_of_halved, part_of_more, steps_of_halved, steps_of_more}
 use Rattle.rs_field.proofs.engine.layers.layers.Goals as goal
 
-pub overflow_sub-logs : goal.overflow_sub-logs
-overflow_sub-logs g c =
-    let whole = block_quarters c.args.block c.requires.large (sym c.is_halved.ensures ∙ c.if-is_halved.false) in omega (arith, whole)
-
-pub overflow_sub-logs-else-is_halved : goal.overflow_sub-logs-else-is_halved
-overflow_sub-logs-else-is_halved g c =
-    let whole = block_quarters c.args.block c.requires.large (sym c.is_halved.ensures ∙ c.if-is_halved.false) in omega (arith, whole)
-
-pub overflow_sub-logs-else-is_halved-2 : goal.overflow_sub-logs-else-is_halved-2
-overflow_sub-logs-else-is_halved-2 g c =
-    let whole = block_quarters c.args.block c.requires.large (sym c.is_halved.ensures ∙ c.if-is_halved.false) in omega (arith, whole)
-
 pub returns-then-is_halved-clause-others : goal.returns-then-is_halved-clause-others
 returns-then-is_halved-clause-others g c k out =
     let block = c.args.block in
