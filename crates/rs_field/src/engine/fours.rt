@@ -64,5 +64,9 @@ pub(crate) fn step_fours<F: FourStep>(
 {
     steps.row_steps(4 * quarter);
     let len = rows.shard_len_64;
-    step_quarters(step, &mut rows.chunks[pos * len..(pos + 4 * quarter) * len], quarter * len);
+    step_quarters(
+        step,
+        &mut rows.chunks[pos * len..(pos + 4 * quarter) * len],
+        quarter * len,
+    );
 }

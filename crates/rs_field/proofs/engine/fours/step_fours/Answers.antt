@@ -38,6 +38,17 @@ returns-clause-fours g c i k hi hk =
     let below₂ : 2 * (quarter * n) + p < 4 * (quarter * n) = omega (arith, inside) in
     let below₃ : 3 * (quarter * n) + p < 4 * (quarter * n) = omega (arith, inside) in
     let r = c.step_quarters.ensures.fours p inside in
-    rw (old_at p below₀, old_at (quarter * n + p) below₁, old_at (2 * (quarter * n) + p) below₂, old_at (3 * (quarter * n) + p) below₃,
-        new_at p below₀, new_at (quarter * n + p) below₁, new_at (2 * (quarter * n) + p) below₂, new_at (3 * (quarter * n) + p) below₃,
-        first, second, third, fourth) at r
+    rw (
+      old_at p below₀,
+      old_at (quarter * n + p) below₁,
+      old_at (2 * (quarter * n) + p) below₂,
+      old_at (3 * (quarter * n) + p) below₃,
+      new_at p below₀,
+      new_at (quarter * n + p) below₁,
+      new_at (2 * (quarter * n) + p) below₂,
+      new_at (3 * (quarter * n) + p) below₃,
+      first,
+      second,
+      third,
+      fourth,
+    ) at r

@@ -16,8 +16,8 @@ transform-returns-then-are_none-clause-values g t c k s hk hs =
     let block = c.args.block in
     none_used c.args.direction c.args.used c.args.rows.now k s block.pos block.size block.skew_delta hk hs (c.are_none.ensures.none c.if-are_none.true) c.requires.zeros
 
-pub transform-transform_parts-requires : goal.transform-transform_parts-requires
-transform-transform_parts-requires g t c κs within =
+pub transform_many-transform_parts-requires : goal.transform_many-transform_parts-requires
+transform_many-transform_parts-requires g t c κs within =
     let shape = c.layers.ensures.shape in
     let count = shape.count in
     let open_rows : 0 ≤ c.args.block.size = omega arith in (
@@ -25,8 +25,8 @@ transform-transform_parts-requires g t c κs within =
       (within, (fits_kept c.args.rows.now c.layers.new.rows shape c.requires.fits, (omega arith, (c.requires.marks, (omega arith, rw c.in-Forward.is open_rows))))),
     )
 
-pub transform-transform_parts-requires-in-Backward : goal.transform-transform_parts-requires-in-Backward
-transform-transform_parts-requires-in-Backward g t c κs within =
+pub transform_many-transform_parts-requires-in-Backward : goal.transform_many-transform_parts-requires-in-Backward
+transform_many-transform_parts-requires-in-Backward g t c κs within =
     (omega arith, (within, (c.requires.fits, (omega arith, (c.requires.marks, (c.requires.within, c.requires.zeros))))))
 
 pub transform-returns-then-block-lt2-clause-values : goal.transform-returns-then-block-lt2-clause-values
@@ -38,8 +38,8 @@ transform-returns-then-block-lt2-clause-values g t c k s hk hs =
 pub transform-returns-then-block-le4-clause-values : goal.transform-returns-then-block-le4-clause-values
 transform-returns-then-block-le4-clause-values g t c k s hk hs = c.transform_few.ensures.values k s hk hs (is_used c.args.used)
 
-pub transform-returns-in-Forward-clause-values : goal.transform-returns-in-Forward-clause-values
-transform-returns-in-Forward-clause-values g t c k s hk hs =
+pub transform_many-returns-in-Forward-clause-values : goal.transform_many-returns-in-Forward-clause-values
+transform_many-returns-in-Forward-clause-values g t c k s hk hs =
     let block = c.args.block in
     let large : 1 < block.size = omega arith in
     let len = c.layers.ensures.shape.len_64 in
@@ -49,8 +49,8 @@ transform-returns-in-Forward-clause-values g t c k s hk hs =
     (rw c.in-Forward.is at layers)
     (λ m hm. let parts = c.transform_parts.ensures.parts k s m (omega (arith, len)) hs hm in rw c.in-Forward.is at parts))
 
-pub transform-returns-in-Forward-clause-counts : goal.transform-returns-in-Forward-clause-counts
-transform-returns-in-Forward-clause-counts g t c =
+pub transform_many-returns-in-Forward-clause-counts : goal.transform_many-returns-in-Forward-clause-counts
+transform_many-returns-in-Forward-clause-counts g t c =
     let block = c.args.block in
     let large : 1 < block.size = omega arith in
     let few = (part_found block _ refl large).steps in
@@ -58,8 +58,8 @@ transform-returns-in-Forward-clause-counts g t c =
     counts_of_whole size (layer_steps size) (transform_steps size - layer_steps size) c.args.steps.now c.layers.new.steps c.transform_parts.new.steps (omega (arith, few))
     (counts_rows (layer_steps block.size) c.args.steps.now c.layers.new.steps c.layers.ensures.counts) c.transform_parts.ensures.counts
 
-pub transform-returns-in-Backward-clause-values : goal.transform-returns-in-Backward-clause-values
-transform-returns-in-Backward-clause-values g t c k s hk hs =
+pub transform_many-returns-in-Backward-clause-values : goal.transform_many-returns-in-Backward-clause-values
+transform_many-returns-in-Backward-clause-values g t c k s hk hs =
     let block = c.args.block in
     let large : 1 < block.size = omega arith in
     let len = c.transform_parts-in-Backward.ensures.shape.len_64 in
@@ -69,8 +69,8 @@ transform-returns-in-Backward-clause-values g t c k s hk hs =
     (rw c.in-Backward.is at layers)
     (λ m hm. let parts = c.transform_parts-in-Backward.ensures.parts k s m hk hs hm in rw c.in-Backward.is at parts))
 
-pub transform-returns-in-Backward-clause-counts : goal.transform-returns-in-Backward-clause-counts
-transform-returns-in-Backward-clause-counts g t c =
+pub transform_many-returns-in-Backward-clause-counts : goal.transform_many-returns-in-Backward-clause-counts
+transform_many-returns-in-Backward-clause-counts g t c =
     let block = c.args.block in
     let large : 1 < block.size = omega arith in
     let few = (part_found block _ refl large).steps in
