@@ -40,6 +40,7 @@ pub mod Parts
 pub mod Recursion
 pub mod PartLoops
 pub mod Directions
+pub mod BlockChunks
 pub mod Injective
 pub mod Derivative
 pub mod DerivativeStep

@@ -11,7 +11,6 @@ ghost use Rattle.rs_field.specs.Bounds.{LocatorCounts, TransformCounts, RowProdu
 pub mod block;
 pub mod derivative;
 pub mod engine_naive;
-mod fours;
 mod fwht;
 pub mod kernel;
 mod layers;
@@ -20,7 +19,6 @@ pub mod lent_tables;
 pub mod marked_rows;
 mod mul128;
 mod mul16;
-mod pairs;
 mod powers;
 pub mod rows;
 pub mod shards;
