@@ -22,7 +22,7 @@ pub(crate) enum Direction {
 }
 
 // One layer of butterflies, by the factor of a logarithm: of the chunks of two halves.
-fn one_layer<K: Kernel>(
+fn butterflies_of_halves<K: Kernel>(
     direction: Direction,
     kernel: &K,
     chunks: &mut [[u8; 64]],
@@ -42,7 +42,7 @@ fn one_layer<K: Kernel>(
 }
 
 // Two layers of butterflies, by the factors of three logarithms: of the chunks of four quarters.
-fn two_layers<K: Kernel>(
+fn butterflies_of_quarters<K: Kernel>(
     direction: Direction,
     kernel: &K,
     chunks: &mut [[u8; 64]],
@@ -98,7 +98,7 @@ pub(crate) fn layers<K: Kernel>(
         let log_m = skew[block.skew_delta + half - 1];
         steps.row_steps(half);
         let chunks = &mut rows.chunks[start..end];
-        one_layer(direction, kernel, chunks, half * len, log_m);
+        butterflies_of_halves(direction, kernel, chunks, half * len, log_m);
     } else {
         let quarter = block.size / 4;
         let middle = block.skew_delta + 2 * quarter;
@@ -109,6 +109,6 @@ pub(crate) fn layers<K: Kernel>(
         };
         steps.row_steps(block.size);
         let chunks = &mut rows.chunks[start..end];
-        two_layers(direction, kernel, chunks, quarter * len, logs);
+        butterflies_of_quarters(direction, kernel, chunks, quarter * len, logs);
     }
 }

@@ -3,14 +3,14 @@ use Rattle.rs_field.proofs.BlockChunks.{block_long, one_layer_made, two_layers_m
 use Rattle.rs_field.proofs.Parts.{block_halves, block_quarters, steps_of_halved, steps_of_more}
 use Rattle.rs_field.proofs.engine.layers.layers.Goals as goal
 
-pub one_layer-requires : goal.one_layer-requires
-one_layer-requires g c =
+pub butterflies_of_halves-requires : goal.butterflies_of_halves-requires
+butterflies_of_halves-requires g c =
     let block = c.args.block in
     let long = block_long block c.args.rows.now c.requires.fits c.requires.within in
     omega (arith, long, ap (λ v. v * c.args.rows.now.shard_len_64) (block_halves block c.requires.large))
 
-pub two_layers-requires : goal.two_layers-requires
-two_layers-requires g c =
+pub butterflies_of_quarters-requires : goal.butterflies_of_quarters-requires
+butterflies_of_quarters-requires g c =
     let block = c.args.block in
     let long = block_long block c.args.rows.now c.requires.fits c.requires.within in
     omega (arith, long, ap (λ v. v * c.args.rows.now.shard_len_64) (block_quarters block c.requires.large (sym c.is_halved.ensures ∙ c.if-is_halved.false)))
@@ -19,9 +19,9 @@ pub returns-then-is_halved-clause-parts : goal.returns-then-is_halved-clause-par
 returns-then-is_halved-clause-parts g c k s hk hs =
     let block = c.args.block in
     let times = ap (λ v. v * c.args.rows.now.shard_len_64) (block_halves block c.requires.large) in
-    one_layer_made block c.args.rows.now c.requires.fits c.requires.within _ c.one_layer.new.chunks refl refl
-    (omega (arith, c.one_layer.ensures.length, times))
-    c.requires.large c.args.direction c.tables.result.skew.now c.tables.result.skew_entries k s hk hs (sym c.is_halved.ensures ∙ c.if-is_halved.true) c.one_layer.ensures.pairs
+    one_layer_made block c.args.rows.now c.requires.fits c.requires.within _ c.butterflies_of_halves.new.chunks refl refl
+    (omega (arith, c.butterflies_of_halves.ensures.length, times))
+    c.requires.large c.args.direction c.tables.result.skew.now c.tables.result.skew_entries k s hk hs (sym c.is_halved.ensures ∙ c.if-is_halved.true) c.butterflies_of_halves.ensures.pairs
 
 pub returns-then-is_halved-clause-counts : goal.returns-then-is_halved-clause-counts
 returns-then-is_halved-clause-counts g c =
@@ -34,9 +34,9 @@ returns-else-is_halved-clause-parts g c k s hk hs =
     let block = c.args.block in
     let more = sym c.is_halved.ensures ∙ c.if-is_halved.false in
     let times = ap (λ v. v * c.args.rows.now.shard_len_64) (block_quarters block c.requires.large more) in
-    two_layers_made block c.args.rows.now c.requires.fits c.requires.within _ c.two_layers.new.chunks refl refl
-    (omega (arith, c.two_layers.ensures.length, times))
-    c.requires.large c.args.direction c.tables.result.skew.now c.tables.result.skew_entries k s hk hs more c.two_layers.ensures.fours
+    two_layers_made block c.args.rows.now c.requires.fits c.requires.within _ c.butterflies_of_quarters.new.chunks refl refl
+    (omega (arith, c.butterflies_of_quarters.ensures.length, times))
+    c.requires.large c.args.direction c.tables.result.skew.now c.tables.result.skew_entries k s hk hs more c.butterflies_of_quarters.ensures.fours
 
 pub returns-else-is_halved-clause-counts : goal.returns-else-is_halved-clause-counts
 returns-else-is_halved-clause-counts g c =

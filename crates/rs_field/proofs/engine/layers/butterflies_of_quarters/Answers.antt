@@ -2,7 +2,7 @@ use Rattle.std.proofs.Common.{◌≡◌, ℕ, ◌+◌, ◌*◌, ◌<◌, List, �
 use Rattle.std.proofs.lemmas.Grind.{common_steps}
 use Rattle.rs_field.specs.Rows.{Chunks, chunk}
 use Rattle.rs_field.specs.TwoLayers.{OnFourChunks, IsForwardTwoLayers, IsBackwardTwoLayers}
-use Rattle.rs_field.proofs.engine.layers.two_layers.Goals as goal
+use Rattle.rs_field.proofs.engine.layers.butterflies_of_quarters.Goals as goal
 
 -- chunks of four quarters are chunks of the whole
 of_quarters : (related : OnFourChunks) (n k : ℕ) (w x y z : Chunks) (a b c d : List ℕ) → length w ≡ n → length x ≡ n → length y ≡ n → k < n
