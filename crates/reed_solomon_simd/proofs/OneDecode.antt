@@ -1,16 +1,16 @@
 -- From the steps of one-call `decode` to its answer.
 use Rattle.std.proofs.Common.{◌≡◌, ℕ, [], ◌∷◌, length, Result, Ok, Err, IsOk, MatchResult, inl, inr, refl, sym, ap, subst, ◌∙◌}
 use Rattle.std.specs.Result.{result_map_both}
-use Rattle.rs_field.specs.declared.error.Error.{Error}
-use Rattle.rs_field.specs.declared.error.Error.TheVariants.{OutOfMemory}
-use Rattle.rs_field.specs.Column.{Shard}
-use Rattle.rs_field.specs.Counts.{default_rate}
-use Rattle.rs_field.specs.Placement.{decoder_rows}
-use Rattle.rs_field.specs.Outcome.{result_and_then}
-use Rattle.rs_field.specs.Configuration.{Configuration, validated, started, UpToMemory}
-use Rattle.rs_field.specs.Given.{Shards, nothing}
-use Rattle.rs_field.specs.Decoder.{DecoderState, fresh_decoder, DecodeAnswers}
-use Rattle.rs_field.specs.OneCall.{Items, default_of, counted, all_came, with_both, decoding, OneDecodeAnswers}
+use Rattle.rs_field.specs.declared.code.error.Error.{Error}
+use Rattle.rs_field.specs.declared.code.error.Error.TheVariants.{OutOfMemory}
+use Rattle.rs_field.specs.code.Column.{Shard}
+use Rattle.rs_field.specs.code.Counts.{default_rate}
+use Rattle.rs_field.specs.code.Placement.{decoder_rows}
+use Rattle.rs_field.specs.code.Outcome.{result_and_then}
+use Rattle.rs_field.specs.code.Configuration.{Configuration, validated, started, UpToMemory}
+use Rattle.rs_field.specs.code.Given.{Shards, nothing}
+use Rattle.rs_field.specs.code.Decoder.{DecoderState, fresh_decoder, DecodeAnswers}
+use Rattle.rs_field.specs.code.OneCall.{Items, default_of, counted, all_came, with_both, decoding, OneDecodeAnswers}
 use Rattle.reed_solomon_simd.specs.Giving.{Reaches}
 
 -- no recovery shard came, and all originals did

@@ -1,14 +1,14 @@
 -- From the steps of one-call `encode` to what it coded.
 use Rattle.std.proofs.Common.{◌≡◌, ℕ, ◌∷◌, List, length, Result, Ok, Err, IfOk, MatchResult, sym, ap, subst, ◌∙◌}
-use Rattle.rs_field.specs.declared.error.Error.{Error}
-use Rattle.rs_field.specs.declared.error.Error.TheVariants.{OutOfMemory}
-use Rattle.rs_field.specs.Column.{Shard}
-use Rattle.rs_field.specs.Counts.{default_rate}
-use Rattle.rs_field.specs.Encoder.{EncoderState, IsEncoder, fresh_encoder, with_shard, EncodeAnswers}
-use Rattle.rs_field.specs.OneCall.{default_of, with_shards}
-use Rattle.rs_field.specs.Outcome.{answer_of, state_after, result_and_then}
-use Rattle.rs_field.specs.RoundTrip.{AreCoded}
-use Rattle.rs_field.proofs.OneRoundTrip.{coded_by}
+use Rattle.rs_field.specs.declared.code.error.Error.{Error}
+use Rattle.rs_field.specs.declared.code.error.Error.TheVariants.{OutOfMemory}
+use Rattle.rs_field.specs.code.Column.{Shard}
+use Rattle.rs_field.specs.code.Counts.{default_rate}
+use Rattle.rs_field.specs.code.Encoder.{EncoderState, IsEncoder, fresh_encoder, with_shard, EncodeAnswers}
+use Rattle.rs_field.specs.code.OneCall.{default_of, with_shards}
+use Rattle.rs_field.specs.code.Outcome.{answer_of, state_after, result_and_then}
+use Rattle.rs_field.specs.code.RoundTrip.{AreCoded}
+use Rattle.rs_field.proofs.of_code.OneRoundTrip.{coded_by}
 use Rattle.reed_solomon_simd.specs.Giving.{Reaches}
 use Rattle.reed_solomon_simd.proofs.Giving.{outcome-ok}
 

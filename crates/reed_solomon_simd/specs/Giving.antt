@@ -1,7 +1,7 @@
 -- What calls that give shards one after another lead to.
 use Rattle.std.specs.Prelude.{◌≡◌, ℕ, Bool, false, List, length, count_by, nat_eq, slice_index_or, Result, Ok, Err, MatchResult}
 use Rattle.std.specs.List.{list_any}
-use Rattle.rs_field.specs.declared.error.Error.{Error}
+use Rattle.rs_field.specs.declared.code.error.Error.{Error}
 
 -- a call answered as the outcome says: a success, with such a state as the outcome names, or the refusal
 abbrev pub Reaches : {S : Type 0} → Result S Error → Result (Unit {0}) Error → (S → Type 0) → Type 0

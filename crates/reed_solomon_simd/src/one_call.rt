@@ -2,10 +2,10 @@
 ghost use Rattle.std.specs.Prelude.{◌≡◌, ◌∷◌, ◌⊎◌, if◌then◌else◌, ℕ, nat_le, true, false, List, length, count_by};
 ghost use Rattle.std.specs.Prelude.{slice_index_or, slice_set, Ok, Err, IfOk, IfErr, OnOk, MatchResult};
 ghost use Rattle.std.specs.Iterator.{IsFinite};
-ghost use Rattle.rs_field.specs.Column.{Shard};
-ghost use Rattle.rs_field.specs.OneCall.{Items, Lends, LendsItems, collected, collected_map, OneEncodeAnswers, OneDecodeAnswers};
-ghost use Rattle.rs_field.specs.RoundTrip.{AreCoded};
-ghost use Rattle.rs_field.specs.OneCall.{counted, one_by_one, noted, all_came, with_shards, with_originals, with_recoveries, with_both};
+ghost use Rattle.rs_field.specs.code.Column.{Shard};
+ghost use Rattle.rs_field.specs.code.OneCall.{Items, Lends, LendsItems, collected, collected_map, OneEncodeAnswers, OneDecodeAnswers};
+ghost use Rattle.rs_field.specs.code.RoundTrip.{AreCoded};
+ghost use Rattle.rs_field.specs.code.OneCall.{counted, one_by_one, noted, all_came, with_shards, with_originals, with_recoveries, with_both};
 ghost use Rattle.rs_rate.specs.ResultView.{recovery_shards, restored_originals};
 ghost use Rattle.reed_solomon_simd.specs.Calls.{Calls, BeginsWith, BeginsWithItems};
 ghost use Rattle.reed_solomon_simd.specs.Giving.{Reaches, AreNoted};

@@ -4,16 +4,16 @@ use Rattle.std.proofs.lemmas.Bool.{ltb-true}
 use Rattle.std.specs.Result.{result_map_both}
 use Rattle.std.proofs.Math.Nat.{suc-mul}
 use Rattle.std.proofs.lemmas.List.{length-take-le, length-drop, take-append-drop, nil_from_length}
-use Rattle.rs_field.specs.declared.error.Error.{Error}
-use Rattle.rs_field.specs.declared.error.Error.TheVariants.{InvalidOriginalShardIndex, DuplicateOriginalShardIndex, InvalidRecoveryShardIndex, DuplicateRecoveryShardIndex, DifferentShardSize, OutOfMemory}
-use Rattle.rs_field.specs.Column.{Shard, AreShards, shard_at}
-use Rattle.rs_field.specs.Given.{Shards, nothing}
-use Rattle.rs_field.specs.Counts.{default_rate}
-use Rattle.rs_field.specs.Placement.{decoder_rows}
-use Rattle.rs_field.specs.Outcome.{result_and_then}
-use Rattle.rs_field.specs.Configuration.{Configuration, started, UpToMemory}
-use Rattle.rs_field.specs.Decoder.{DecoderState, Restored, missing_of, enough_given, fresh_decoder, with_original, with_recovery, DecodeAnswers}
-use Rattle.rs_field.specs.OneCall.{Items, default_of, counted, all_came, with_originals, with_recoveries, with_both, OneDecodeAnswers}
+use Rattle.rs_field.specs.declared.code.error.Error.{Error}
+use Rattle.rs_field.specs.declared.code.error.Error.TheVariants.{InvalidOriginalShardIndex, DuplicateOriginalShardIndex, InvalidRecoveryShardIndex, DuplicateRecoveryShardIndex, DifferentShardSize, OutOfMemory}
+use Rattle.rs_field.specs.code.Column.{Shard, AreShards, shard_at}
+use Rattle.rs_field.specs.code.Given.{Shards, nothing}
+use Rattle.rs_field.specs.code.Counts.{default_rate}
+use Rattle.rs_field.specs.code.Placement.{decoder_rows}
+use Rattle.rs_field.specs.code.Outcome.{result_and_then}
+use Rattle.rs_field.specs.code.Configuration.{Configuration, started, UpToMemory}
+use Rattle.rs_field.specs.code.Decoder.{DecoderState, Restored, missing_of, enough_given, fresh_decoder, with_original, with_recovery, DecodeAnswers}
+use Rattle.rs_field.specs.code.OneCall.{Items, default_of, counted, all_came, with_originals, with_recoveries, with_both, OneDecodeAnswers}
 use Rattle.reed_solomon_simd.specs.Giving.{Reaches}
 use Rattle.reed_solomon_simd.proofs.Giving.{reaches-then}
 use Rattle.rs_c.specs.declared.fault.Fault.{Fault}

@@ -4,16 +4,16 @@ use Rattle.std.specs.Result.{result_map_both}
 use Rattle.std.proofs.Math.Nat.{suc-mul}
 use Rattle.std.proofs.lemmas.Bool.{eqb-true}
 use Rattle.std.proofs.lemmas.List.{length-take-le}
-use Rattle.rs_field.specs.declared.error.Error.{Error}
-use Rattle.rs_field.specs.declared.error.Error.TheVariants.{TooFewOriginalShards, TooManyOriginalShards, DifferentShardSize, UnsupportedShardCount}
-use Rattle.rs_field.specs.Column.{Shard, AreShards}
-use Rattle.rs_field.specs.Counts.{default_rate, supports}
-use Rattle.rs_field.specs.Placement.{encoder_rows}
-use Rattle.rs_field.specs.Outcome.{result_and_then}
-use Rattle.rs_field.specs.Configuration.{Configuration, validated, started, UpToMemory}
-use Rattle.rs_field.specs.Encoder.{EncoderState, fresh_encoder, with_shard, EncodeAnswers}
-use Rattle.rs_field.specs.OneCall.{default_of, counted, with_shards, encoding, OneEncodeAnswers}
-use Rattle.rs_field.proofs.RoundTrip.{answered}
+use Rattle.rs_field.specs.declared.code.error.Error.{Error}
+use Rattle.rs_field.specs.declared.code.error.Error.TheVariants.{TooFewOriginalShards, TooManyOriginalShards, DifferentShardSize, UnsupportedShardCount}
+use Rattle.rs_field.specs.code.Column.{Shard, AreShards}
+use Rattle.rs_field.specs.code.Counts.{default_rate, supports}
+use Rattle.rs_field.specs.code.Placement.{encoder_rows}
+use Rattle.rs_field.specs.code.Outcome.{result_and_then}
+use Rattle.rs_field.specs.code.Configuration.{Configuration, validated, started, UpToMemory}
+use Rattle.rs_field.specs.code.Encoder.{EncoderState, fresh_encoder, with_shard, EncodeAnswers}
+use Rattle.rs_field.specs.code.OneCall.{default_of, counted, with_shards, encoding, OneEncodeAnswers}
+use Rattle.rs_field.proofs.of_code.RoundTrip.{answered}
 use Rattle.reed_solomon_simd.specs.Giving.{Reaches}
 use Rattle.rs_c.specs.declared.fault.Fault.{Fault}
 use Rattle.rs_c.specs.declared.fault.Fault.TheVariants.{Refused, WrongLength}

@@ -2,7 +2,7 @@
 use Rattle.std.proofs.Common.{◌≡◌, ℕ, zero, suc, ◌+◌, ◌*◌, ◌<◌, ◌≤◌, ◌==◌, false, List, [], ◌∷◌, length, take, drop, map, get_or, sym, ap, ◌∙◌, refl, arith}
 use Rattle.std.proofs.Math.Nat.{suc-mul, mul-le-mul_right}
 use Rattle.std.proofs.lemmas.List.{drop-drop, drop_more, drop-map, length-map, nil_from_length}
-use Rattle.rs_field.specs.Column.{shard_at}
+use Rattle.rs_field.specs.code.Column.{shard_at}
 use Rattle.rs_c.specs.declared.layouts.RsShard.{RsShard}
 use Rattle.rs_c.specs.Arrays.{items_of}
 use Rattle.rs_c.specs.Buffers.{cut, marked}

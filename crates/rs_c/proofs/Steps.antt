@@ -1,8 +1,8 @@
 -- Steps one after another.
 use Rattle.std.proofs.Common.{◌≡◌, List, [], ◌∷◌, Result, Ok, Err, sym, ap, ◌∙◌, refl}
-use Rattle.rs_field.specs.declared.error.Error.{Error}
-use Rattle.rs_field.specs.Outcome.{result_and_then}
-use Rattle.rs_field.specs.OneCall.{one_by_one}
+use Rattle.rs_field.specs.declared.code.error.Error.{Error}
+use Rattle.rs_field.specs.code.Outcome.{result_and_then}
+use Rattle.rs_field.specs.code.OneCall.{one_by_one}
 use Rattle.reed_solomon_simd.specs.Giving.{Reaches}
 
 module _ {S T : Type 0} (step : S → T → Result S Error) where

@@ -1,7 +1,7 @@
 -- What a coder is given first.
 use Rattle.std.specs.Prelude.{◌≡◌, ℕ, List, ◌∷◌, length}
-use Rattle.rs_field.specs.Column.{Shard}
-use Rattle.rs_field.specs.OneCall.{Items}
+use Rattle.rs_field.specs.code.Column.{Shard}
+use Rattle.rs_field.specs.code.OneCall.{Items}
 
 -- there is a first shard, of this size
 abbrev pub BeginsSized : ℕ → List Shard → Type 0

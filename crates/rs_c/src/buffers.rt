@@ -1,6 +1,6 @@
 //! Tests of counts and lengths.
 ghost use Rattle.std.specs.Prelude.{◌≡◌};
-ghost use Rattle.rs_field.specs.OneCall.{counted};
+ghost use Rattle.rs_field.specs.code.OneCall.{counted};
 ghost use Rattle.rs_c.specs.Buffers.{fitting};
 
 use crate::engine::Borrowing;

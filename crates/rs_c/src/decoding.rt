@@ -1,10 +1,10 @@
 //! Decoding, of shards in buffers and of shards anywhere.
 ghost use Rattle.std.specs.Prelude.{◌≡◌, ◌≢◌, ◌*◌, ◌==◌, not, length, count_by, Result, Ok, Err, IfOk, IfErr};
-ghost use Rattle.rs_field.specs.declared.error.Error.{Error as ErrorOf};
-ghost use Rattle.rs_field.specs.Given.{Shards};
-ghost use Rattle.rs_field.specs.Counts.{default_rate};
-ghost use Rattle.rs_field.specs.Decoder.{DecodeAnswers};
-ghost use Rattle.rs_field.specs.OneCall.{default_of, with_originals, with_recoveries, OneDecodeAnswers};
+ghost use Rattle.rs_field.specs.declared.code.error.Error.{Error as ErrorOf};
+ghost use Rattle.rs_field.specs.code.Given.{Shards};
+ghost use Rattle.rs_field.specs.code.Counts.{default_rate};
+ghost use Rattle.rs_field.specs.code.Decoder.{DecodeAnswers};
+ghost use Rattle.rs_field.specs.code.OneCall.{default_of, with_originals, with_recoveries, OneDecodeAnswers};
 ghost use Rattle.rs_rate.specs.DecoderView.{decoder_state};
 ghost use Rattle.rs_rate.specs.ResultView.{restored_originals};
 ghost use Rattle.reed_solomon_simd.specs.Giving.{Reaches};

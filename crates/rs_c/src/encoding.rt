@@ -1,10 +1,10 @@
 //! Encoding, of shards in a buffer and of shards anywhere.
 ghost use Rattle.std.specs.Prelude.{◌≡◌, ◌*◌, length, Result, Err, IfOk, IfErr, List};
-ghost use Rattle.rs_field.specs.declared.error.Error.{Error as ErrorOf};
-ghost use Rattle.rs_field.specs.Column.{Shard};
-ghost use Rattle.rs_field.specs.Counts.{default_rate};
-ghost use Rattle.rs_field.specs.Encoder.{EncodeAnswers};
-ghost use Rattle.rs_field.specs.OneCall.{default_of, with_shards, OneEncodeAnswers};
+ghost use Rattle.rs_field.specs.declared.code.error.Error.{Error as ErrorOf};
+ghost use Rattle.rs_field.specs.code.Column.{Shard};
+ghost use Rattle.rs_field.specs.code.Counts.{default_rate};
+ghost use Rattle.rs_field.specs.code.Encoder.{EncodeAnswers};
+ghost use Rattle.rs_field.specs.code.OneCall.{default_of, with_shards, OneEncodeAnswers};
 ghost use Rattle.rs_rate.specs.EncoderView.{encoder_state};
 ghost use Rattle.rs_rate.specs.ResultView.{recovery_shards};
 ghost use Rattle.reed_solomon_simd.specs.Giving.{Reaches};

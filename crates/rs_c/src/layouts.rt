@@ -1,13 +1,13 @@
 //! How shards lie in memory: one behind the other in a buffer, or anywhere, as an array tells.
 ghost use Rattle.std.specs.Prelude.{◌≡◌, ◌+◌, ◌*◌, ◌<◌, ◌≤◌, [], ◌∷◌, length, drop, map, MatchOption};
-ghost use Rattle.rs_field.specs.Column.{shard_at};
+ghost use Rattle.rs_field.specs.code.Column.{shard_at};
 ghost use Rattle.rs_c.specs.Buffers.{cut, marked};
 ghost use Rattle.rs_c.specs.Arrays.{items_of};
 
 /// Originals in order of index, which an encoder is given.
 pub trait Originals {
     ghost use Rattle.std.specs.Prelude.{◌≡◌, ◌<◌, List, length};
-    ghost use Rattle.rs_field.specs.Column.{Shard, shard_at};
+    ghost use Rattle.rs_field.specs.code.Column.{Shard, shard_at};
 
     ghost shards: { Self → List Shard };
 
@@ -24,7 +24,7 @@ pub trait Originals {
 /// Shards with their indexes, which a decoder is given. A place may have none.
 pub trait Received {
     ghost use Rattle.std.specs.Prelude.{◌≡◌, ◌+◌, ◌<◌, ℕ, [], ◌∷◌, MatchOption};
-    ghost use Rattle.rs_field.specs.OneCall.{Items};
+    ghost use Rattle.rs_field.specs.code.OneCall.{Items};
 
     ghost place_count: { Self → ℕ };
 

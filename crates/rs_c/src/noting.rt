@@ -2,7 +2,7 @@
 //!
 //! The library's own call has the like over iterators, but keeps it to itself.
 ghost use Rattle.std.specs.Prelude.{◌≡◌, ◌⊎◌, if◌then◌else◌, nat_le, false, [], true, length, count_by, slice_index_or, slice_set, Ok, Err, OnOk};
-ghost use Rattle.rs_field.specs.OneCall.{one_by_one, noted, all_came};
+ghost use Rattle.rs_field.specs.code.OneCall.{one_by_one, noted, all_came};
 ghost use Rattle.reed_solomon_simd.specs.Giving.{Reaches, AreNoted};
 ghost use Rattle.rs_c.specs.Arrays.{items_of};
 

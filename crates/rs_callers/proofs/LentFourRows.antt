@@ -1,13 +1,13 @@
 -- What stands where in a list of which four rows were replaced.
 use Rattle.std.proofs.Common.{◌≡◌, ℕ, ◌+◌, ◌-◌, ◌*◌, ◌<◌, ◌≤◌, ◌⊎◌, [], ◌∷◌, ◌++◌, length, take, drop, ◌∙◌, refl, arith, inl, inr, length-append}
 use Rattle.std.proofs.lemmas.List.{length-take-le}
-use Rattle.rs_field.specs.Rows.{Chunks, chunk}
-use Rattle.rs_field.specs.View.{SameShape, cell}
-use Rattle.rs_field.specs.Lending.{between, with_chunks, with_four}
-use Rattle.rs_field.specs.declared.engine.shards.ShardsRefMut.{ShardsRefMut}
+use Rattle.rs_field.specs.rows.Rows.{Chunks, chunk}
+use Rattle.rs_field.specs.rows.View.{SameShape, cell}
+use Rattle.rs_field.specs.rows.Lending.{between, with_chunks, with_four}
+use Rattle.rs_field.specs.declared.rows.shards.ShardsRefMut.{ShardsRefMut}
 use Rattle.rs_callers.specs.RowsBut.{SameRowsBut}
 use Rattle.rs_callers.proofs.LentTwoRows.{side}
-use Rattle.rs_field.proofs.LentRows.{from-front, past-front, in-part, in-gap, past-gap, length-gap, past-last, length-last, cell-is, ends}
+use Rattle.rs_field.proofs.of_rows.LentRows.{from-front, past-front, in-part, in-gap, past-gap, length-gap, past-last, length-last, cell-is, ends}
 
 module _ (h : ShardsRefMut) (pos dist : ℕ) (first second third fourth : Chunks) (fits : h.shard_count * h.shard_len_64 ≤ length h.chunks.now) (ordered : 0 < dist)
     (within : pos + 3 * dist < h.shard_count) (l₁ : length first ≡ h.shard_len_64) (l₂ : length second ≡ h.shard_len_64) (l₃ : length third ≡ h.shard_len_64) (l₄ : length fourth ≡ h.shard_len_64) where

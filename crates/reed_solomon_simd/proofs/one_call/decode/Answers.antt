@@ -1,5 +1,5 @@
 use Rattle.std.proofs.Common.{rules, ◌≡◌, Ok, Err, ap, inl, inr}
-use Rattle.rs_field.specs.OneCall.{OneDecodeAnswers, all_came, collected_map}
+use Rattle.rs_field.specs.code.OneCall.{OneDecodeAnswers, all_came, collected_map}
 use Rattle.reed_solomon_simd.proofs.Giving.{no-calls, ended-calls, more-calls, ended-run, more-run, begins-always}
 use Rattle.reed_solomon_simd.proofs.Collecting.{shards_in-empty}
 use Rattle.reed_solomon_simd.proofs.OneDecode.{answers-none, answers-refused, answers-decoded, answers-collected}

@@ -1,8 +1,8 @@
 use Rattle.std.proofs.Common.{rules, Err, IfOk}
-use Rattle.rs_field.specs.declared.error.Error.TheVariants.{TooFewOriginalShards}
-use Rattle.rs_field.specs.Counts.{default_rate}
-use Rattle.rs_field.specs.OneCall.{OneEncodeAnswers, collected}
-use Rattle.rs_field.specs.RoundTrip.{AreCoded}
+use Rattle.rs_field.specs.declared.code.error.Error.TheVariants.{TooFewOriginalShards}
+use Rattle.rs_field.specs.code.Counts.{default_rate}
+use Rattle.rs_field.specs.code.OneCall.{OneEncodeAnswers, collected}
+use Rattle.rs_field.specs.code.RoundTrip.{AreCoded}
 use Rattle.rs_rate.specs.ObjectLaws.{is_encoder}
 use Rattle.rs_rate.specs.ResultView.{recovery_shards}
 use Rattle.reed_solomon_simd.proofs.OneEncode.{encode-coded}

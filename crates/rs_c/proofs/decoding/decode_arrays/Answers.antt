@@ -1,8 +1,8 @@
 use Rattle.std.proofs.Common.{rules, ◌≡◌, ℕ, List, [], length, map, Ok, Err, inl, inr, sym, ap, subst, ◌∙◌, refl}
 use Rattle.std.proofs.lemmas.Bool.{eqb-true}
-use Rattle.rs_field.specs.Column.{Shard}
-use Rattle.rs_field.specs.Given.{Shards, nothing}
-use Rattle.rs_field.specs.OneCall.{Items, all_came, OneDecodeAnswers}
+use Rattle.rs_field.specs.code.Column.{Shard}
+use Rattle.rs_field.specs.code.Given.{Shards, nothing}
+use Rattle.rs_field.specs.code.OneCall.{Items, all_came, OneDecodeAnswers}
 use Rattle.rs_rate.specs.ResultView.{restored_originals}
 use Rattle.reed_solomon_simd.proofs.OneDecode.{answers-none}
 use Rattle.rs_c.specs.declared.layouts.RsShard.{RsShard}

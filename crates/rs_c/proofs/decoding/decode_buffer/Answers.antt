@@ -1,10 +1,10 @@
 use Rattle.std.proofs.Common.{rules, ◌≡◌, ℕ, ◌+◌, ◌*◌, ◌==◌, not, List, Bor, length, take, drop, Ok, Err, sym, ap, subst, ◌∙◌, refl, arith}
 use Rattle.std.specs.List.{count_by}
 use Rattle.std.proofs.lemmas.List.{length-take-le, length-drop}
-use Rattle.rs_field.specs.Counts.{default_rate}
-use Rattle.rs_field.specs.Given.{Shards, nothing}
-use Rattle.rs_field.specs.OneCall.{Items, all_came, OneDecodeAnswers}
-use Rattle.rs_field.proofs.SupportedCounts.{default_fits}
+use Rattle.rs_field.specs.code.Counts.{default_rate}
+use Rattle.rs_field.specs.code.Given.{Shards, nothing}
+use Rattle.rs_field.specs.code.OneCall.{Items, all_came, OneDecodeAnswers}
+use Rattle.rs_field.proofs.of_code.SupportedCounts.{default_fits}
 use Rattle.rs_rate.specs.DecoderView.{decoder_state}
 use Rattle.rs_rate.specs.ResultView.{restored_originals}
 use Rattle.reed_solomon_simd.proofs.OneDecode.{answers-none}

@@ -1,5 +1,5 @@
 use Rattle.std.proofs.Common.{◌≡◌}
-use Rattle.rs_field.specs.OneCall.{with_recoveries}
+use Rattle.rs_field.specs.code.OneCall.{with_recoveries}
 use Rattle.rs_c.proofs.decoding.give_recovery.Given as goal
 
 -- where the shards that are left lead

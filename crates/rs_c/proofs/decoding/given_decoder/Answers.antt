@@ -1,9 +1,9 @@
 use Rattle.std.proofs.Common.{rules, ◌≡◌, ℕ, ◌∷◌, Ok, Err, sym, ap, subst, ◌∙◌, refl}
-use Rattle.rs_field.specs.Configuration.{started, UpToMemory}
-use Rattle.rs_field.specs.Counts.{default_rate}
-use Rattle.rs_field.specs.Decoder.{DecoderState, fresh_decoder, with_original, with_recovery}
-use Rattle.rs_field.specs.OneCall.{Items, default_of, with_originals, with_recoveries, with_both, OneDecodeAnswers}
-use Rattle.rs_field.specs.Placement.{decoder_rows}
+use Rattle.rs_field.specs.code.Configuration.{started, UpToMemory}
+use Rattle.rs_field.specs.code.Counts.{default_rate}
+use Rattle.rs_field.specs.code.Decoder.{DecoderState, fresh_decoder, with_original, with_recovery}
+use Rattle.rs_field.specs.code.OneCall.{Items, default_of, with_originals, with_recoveries, with_both, OneDecodeAnswers}
+use Rattle.rs_field.specs.code.Placement.{decoder_rows}
 use Rattle.rs_rate.specs.DecoderView.{decoder_state}
 use Rattle.reed_solomon_simd.specs.Giving.{Reaches}
 use Rattle.reed_solomon_simd.proofs.OneDecode.{answers-refused, answers-decoded}

@@ -1,8 +1,8 @@
 use Rattle.std.proofs.Common.{rules, ◌≡◌, ℕ, List, [], length, Ok, Err, Bor, sym, ap, subst, ◌∙◌, refl}
 use Rattle.std.proofs.lemmas.Bool.{eqb-true}
-use Rattle.rs_field.specs.declared.error.Error.TheVariants.{TooFewOriginalShards}
-use Rattle.rs_field.specs.Column.{Shard}
-use Rattle.rs_field.specs.OneCall.{OneEncodeAnswers}
+use Rattle.rs_field.specs.declared.code.error.Error.TheVariants.{TooFewOriginalShards}
+use Rattle.rs_field.specs.code.Column.{Shard}
+use Rattle.rs_field.specs.code.OneCall.{OneEncodeAnswers}
 use Rattle.rs_rate.specs.ResultView.{recovery_shards}
 use Rattle.rs_c.specs.Arrays.{shards_of, bytes_in, rooms_fit}
 use Rattle.rs_c.proofs.EncodeLemmas.{none-uncounted, none-few}

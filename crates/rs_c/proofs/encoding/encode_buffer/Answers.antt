@@ -1,7 +1,7 @@
 use Rattle.std.proofs.Common.{rules, ℕ, List, length, Ok, Err, sym, ◌∙◌, refl}
-use Rattle.rs_field.specs.Column.{Shard}
-use Rattle.rs_field.specs.Counts.{default_rate}
-use Rattle.rs_field.proofs.SupportedCounts.{default_fits}
+use Rattle.rs_field.specs.code.Column.{Shard}
+use Rattle.rs_field.specs.code.Counts.{default_rate}
+use Rattle.rs_field.proofs.of_code.SupportedCounts.{default_fits}
 use Rattle.rs_rate.specs.EncoderView.{encoder_state}
 use Rattle.rs_rate.specs.ResultView.{recovery_shards}
 use Rattle.rs_c.proofs.EncodeLemmas.{counted-supports, fits-length, lengths-ok, cut-first, recovery-length, encodes-refused, encodes-done}

@@ -1,5 +1,5 @@
 use Rattle.std.proofs.Common.{◌≡◌, drop}
-use Rattle.rs_field.specs.OneCall.{with_shards}
+use Rattle.rs_field.specs.code.OneCall.{with_shards}
 use Rattle.rs_c.proofs.encoding.give_originals.Given as goal
 
 -- where the originals that are left lead

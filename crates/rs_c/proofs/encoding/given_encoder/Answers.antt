@@ -1,10 +1,10 @@
 use Rattle.std.proofs.Common.{rules, ◌≡◌, ℕ, List, Ok, Err, sym, ap, subst, ◌∙◌, refl}
-use Rattle.rs_field.specs.Column.{Shard}
-use Rattle.rs_field.specs.Configuration.{started, UpToMemory}
-use Rattle.rs_field.specs.Counts.{default_rate}
-use Rattle.rs_field.specs.Encoder.{EncoderState, fresh_encoder, with_shard}
-use Rattle.rs_field.specs.OneCall.{default_of, with_shards, OneEncodeAnswers}
-use Rattle.rs_field.specs.Placement.{encoder_rows}
+use Rattle.rs_field.specs.code.Column.{Shard}
+use Rattle.rs_field.specs.code.Configuration.{started, UpToMemory}
+use Rattle.rs_field.specs.code.Counts.{default_rate}
+use Rattle.rs_field.specs.code.Encoder.{EncoderState, fresh_encoder, with_shard}
+use Rattle.rs_field.specs.code.OneCall.{default_of, with_shards, OneEncodeAnswers}
+use Rattle.rs_field.specs.code.Placement.{encoder_rows}
 use Rattle.rs_rate.specs.EncoderView.{encoder_state}
 use Rattle.reed_solomon_simd.specs.Giving.{Reaches}
 use Rattle.rs_c.proofs.EncodeLemmas.{answers-unset, answers-refused, answers-encoded, kept-shard}

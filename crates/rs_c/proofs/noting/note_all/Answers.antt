@@ -1,6 +1,6 @@
 use Rattle.std.proofs.Common.{rules, ℕ, ◌+◌, List, [], ◌∷◌, length, drop, get_or, sym, ap, ◌∙◌, refl, arith}
 use Rattle.std.proofs.lemmas.List.{drop_all}
-use Rattle.rs_field.specs.OneCall.{one_by_one, noted}
+use Rattle.rs_field.specs.code.OneCall.{one_by_one, noted}
 use Rattle.reed_solomon_simd.specs.Giving.{AreNoted}
 use Rattle.reed_solomon_simd.proofs.Giving.{reaches-ok, reaches-err}
 use Rattle.reed_solomon_simd.proofs.Noting.{noted-refused, noted-added, noted-more}

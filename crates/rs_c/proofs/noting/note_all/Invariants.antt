@@ -1,5 +1,5 @@
 use Rattle.std.proofs.Common.{◌≡◌, ℕ, List, [], length, drop}
-use Rattle.rs_field.specs.OneCall.{one_by_one, noted}
+use Rattle.rs_field.specs.code.OneCall.{one_by_one, noted}
 use Rattle.reed_solomon_simd.specs.Giving.{AreNoted}
 use Rattle.rs_c.specs.Arrays.{items_of}
 use Rattle.rs_c.proofs.noting.note_all.Given as goal

@@ -28,7 +28,7 @@ use denote.Signature.{Slot, plain, named_lft}
 use denote.Array.{Array}
 use denote.Slice.{MutSlice, ShrSlice, Room, slice_val, shr_slice_vals, shr_slice_Tells}
 use denote.Steps.{nothing, heard, only, peeks, owned}
-use Rattle.rs_field.proofs.FourRuns.{followed₄}
+use Rattle.rs_field.proofs.of_rows.FourRuns.{followed₄}
 use denote.FollowSlice.{finally-res}
 use base.Stored.{Gv}
 use denote.Struct.Declared.{row}
@@ -38,19 +38,19 @@ use denote.Triple.Clauses.{lasts}
 use denote.Triple.Spec.{triple_of}
 use denote.Triple.Table.{framed}
 use denote.Triple.Walked.{Stays, stay_dropped, stay_ref, walk_of, ends_at, Goes-dropped, Goes-ref}
-use Rattle.rs_field.proofs.LentRows.{part-long, ends}
+use Rattle.rs_field.proofs.of_rows.LentRows.{part-long, ends}
 use Rattle.rs_callers.proofs.LentFourRows.{four-shape, first-of-four, second-of-four, third-of-four, fourth-of-four, other-than-four}
-use Rattle.rs_field.specs.Rows.{Chunks, chunk}
-use Rattle.rs_field.specs.View.{SameShape, cell, row_at}
+use Rattle.rs_field.specs.rows.Rows.{Chunks, chunk}
+use Rattle.rs_field.specs.rows.View.{SameShape, cell, row_at}
 use Rattle.rs_callers.specs.RowsBut.{SameRowsBut}
-use Rattle.rs_field.specs.Lending.{LendsFourRows, with_chunks, with_four}
-use Rattle.rs_field.specs.declared.engine.shards.ShardsRefMut.{ShardsRefMut}
-use Rattle.rs_field.specs.contracts.engine.shards.ShardsRefMut.{the_row}
+use Rattle.rs_field.specs.rows.Lending.{LendsFourRows, with_chunks, with_four}
+use Rattle.rs_field.specs.declared.rows.shards.ShardsRefMut.{ShardsRefMut}
+use Rattle.rs_field.specs.contracts.rows.shards.ShardsRefMut.{the_row}
 use Rattle.rs_callers.specs.contracts.lent_rows.write_four_rows as f
 use Rattle.rs_callers.proofs.lent_rows.write_four_rows.Statement.{statement}
 use Rattle.rs_callers.proofs.lent_rows.write_four_rows.Code as code
-use Rattle.rs_field.specs.contracts.engine.shards.ShardsRefMut.dist4_mut as g
-use Rattle.rs_field.proofs.engine.shards.ShardsRefMut.dist4_mut.Met.{met}
+use Rattle.rs_field.specs.contracts.rows.shards.ShardsRefMut.dist4_mut as g
+use Rattle.rs_field.proofs.rows.shards.ShardsRefMut.dist4_mut.Met.{met}
 use Rattle.rs_callers.specs.contracts.lent_rows.write_four as g'
 use Rattle.rs_callers.proofs.lent_rows.write_four.Met.{met as met'}
 
@@ -133,7 +133,7 @@ write_four_rows_spec 𝓤 𝓛 𝓜 𝓡 wired =
     use0 𝓛 (raw (fact 𝓤 (0 < dist))) (fact_i 𝓤 (0 < dist) (emp 𝓤) apart) $ join ! $
     use0 𝓛 (raw (fact 𝓤 (h.shard_count * n ≤ length ch))) (fact_i 𝓤 (h.shard_count * n ≤ length ch) (emp 𝓤) fits) $ join ! $
     move ! (1 ∷ 0 ∷ []) $ use2 𝓛 (raw (G.pre z)) (id⊢ 𝓤 _) $
-    calls_at ! (framed 𝓤 𝓛.H 𝓜 𝓣) G (met 𝓤 𝓛 𝓜 𝓡 (code.calls-rs_field::engine::shards::ShardsRefMut::dist4_mut 𝓡.env wired)) z
+    calls_at ! (framed 𝓤 𝓛.H 𝓜 𝓣) G (met 𝓤 𝓛 𝓜 𝓡 (code.calls-rs_field::rows::shards::ShardsRefMut::dist4_mut 𝓡.env wired)) z
     (and_then ! (get ! refl) (and_then ! (get ! refl) (and_then ! (get ! refl) (no_more !)))) (λ v.
     use1 𝓛 (later (some (λ (x : MutBor Chunks × MutBor Chunks × MutBor Chunks × MutBor Chunks). ((‵ (flft κ ql) ⊛ ‵ (flft κ₁ qr) ⊛ ‵ ftrue) ⊛ ‵ ((Fours κ).own_val x (v ∷ []))) ⊛
     some (λ (ws : Unit {0} × (Unit {0} × (Unit {0} × Unit {0}))). ‵ (lasts g.ended z.0.0 z.0.3 ws) ⊛ ‵ (LendsFourRows lent pos (pos + dist) (pos + 2 * dist) (pos + 3 * dist) x)
