@@ -24,7 +24,8 @@ use Rattle.rs_field.proofs.of_code.RateFrames.{HasFrame, has_frame}
 use Rattle.rs_field.proofs.of_code.Agreement.{AreColumns, consistent_exactly, restored_column, one_message}
 use Rattle.rs_field.proofs.of_words.LocatorProduct.{same_residue}
 use Rattle.rs_rate.specs.declared.rate.decoder_work.DecoderShape.{DecoderShape}
-use Rattle.rs_rate.specs.DecoderView.{configuration_of, decoder_shape, frame_of}
+use Rattle.rs_rate.specs.DecoderView.{configuration_of, decoder_shape}
+use Rattle.rs_rate.specs.Configured.{frame_of}
 use Rattle.rs_rate.specs.Decoding.{IsLocatorOf, RestoresShards, located}
 use Rattle.rs_rate.specs.Marks.{erased, given_row_count, given_shards, restored_shards, ArePlaced}
 use Rattle.rs_rate.specs.ObjectLaws.{all-up_to}
@@ -38,24 +39,24 @@ use Rattle.rs_rate.proofs.Erased.{erased-row}
 abbrev pub state_over : Rate → DecoderShape → List Bool → Chunks → DecoderState
 state_over rate s marks chunks = record {
   configuration = configuration_of rate s;
-  originals = given_shards marks chunks s.shard_bytes s.frame.originals_from s.original_count;
-  recovery = given_shards marks chunks s.shard_bytes s.frame.recovery_from s.recovery_count;
+  originals = given_shards marks chunks s.configuration.shard_bytes s.frame.originals_from s.configuration.original_count;
+  recovery = given_shards marks chunks s.configuration.shard_bytes s.frame.recovery_from s.configuration.recovery_count;
 }
 
 -- the originals that lie in rows marked as restored
 abbrev pub restored_over : DecoderShape → List Bool → Chunks → Shards
-restored_over s marks chunks = restored_shards marks chunks s.shard_bytes s.frame.originals_from s.original_count
+restored_over s marks chunks = restored_shards marks chunks s.configuration.shard_bytes s.frame.originals_from s.configuration.original_count
 
 -- what a decode makes of the rows of a shape: shards of k + surplus marked rows, and the same rows afterwards
 pub record IsDecoded (s : DecoderShape) (marks new : List Bool) (locator : List ℕ) (surplus : ℕ) (before after : Chunks) (agrees : Bool) : Type 0 where
-  pub even : s.shard_bytes % 2 ≡ 0
-  pub placed : ArePlaced s.frame.originals_from s.original_count s.frame.recovery_from s.recovery_count marks
-  pub shards : (p : ℕ) → is_marked marks p ≡ true → IsShard s.shard_bytes (shard_laid_out before s.shard_bytes p)
-  pub counted : given_row_count marks s.frame.originals_from s.original_count + given_row_count marks s.frame.recovery_from s.recovery_count ≡ s.original_count + surplus
+  pub even : s.configuration.shard_bytes % 2 ≡ 0
+  pub placed : ArePlaced s.frame.originals_from s.configuration.original_count s.frame.recovery_from s.configuration.recovery_count marks
+  pub shards : (p : ℕ) → is_marked marks p ≡ true → IsShard s.configuration.shard_bytes (shard_laid_out before s.configuration.shard_bytes p)
+  pub counted : given_row_count marks s.frame.originals_from s.configuration.original_count + given_row_count marks s.frame.recovery_from s.configuration.recovery_count ≡ s.configuration.original_count + surplus
   pub is_locator : IsLocatorOf s.frame marks locator
   pub restores : RestoresShards s marks locator surplus before after agrees
-  pub marked : (i : ℕ) → i < s.original_count → is_marked new (s.frame.originals_from + i) ≡ not (is_marked marks (s.frame.originals_from + i))
-  pub sized : (i : ℕ) → i < s.original_count → IsShard s.shard_bytes (shard_in_order after s.shard_bytes (s.frame.originals_from + i))
+  pub marked : (i : ℕ) → i < s.configuration.original_count → is_marked new (s.frame.originals_from + i) ≡ not (is_marked marks (s.frame.originals_from + i))
+  pub sized : (i : ℕ) → i < s.configuration.original_count → IsShard s.configuration.shard_bytes (shard_in_order after s.configuration.shard_bytes (s.frame.originals_from + i))
 
 -- a message's shard at a missing index
 missing-in : (s : DecoderState) (message : List Shard) (i : ℕ) (given : Bool) → i < s.configuration.original_count → is_some (s.originals i) ≡ given
@@ -69,33 +70,33 @@ missing-out s message i outside = ap (λ a. cond (a && not (is_some (s.originals
 
 -- the restored rows hold the message's missing shards where those of the missing originals are the message's
 pub restores_missing : (rate : Rate) (s : DecoderShape) (marks new : List Bool) (before after : Chunks) (message : List Shard)
-    → ((i : ℕ) → i < s.original_count → is_marked new (s.frame.originals_from + i) ≡ not (is_marked marks (s.frame.originals_from + i)))
-    → ((i : ℕ) → i < s.original_count → is_marked marks (s.frame.originals_from + i) ≡ false
-    → shard_in_order after s.shard_bytes (s.frame.originals_from + i) ≡ shard_at message i)
+    → ((i : ℕ) → i < s.configuration.original_count → is_marked new (s.frame.originals_from + i) ≡ not (is_marked marks (s.frame.originals_from + i)))
+    → ((i : ℕ) → i < s.configuration.original_count → is_marked marks (s.frame.originals_from + i) ≡ false
+    → shard_in_order after s.configuration.shard_bytes (s.frame.originals_from + i) ≡ shard_at message i)
     → (i : ℕ) → restored_over s new after i ≡ missing_of (state_over rate s marks before) message i
 restores_missing rate s marks new before after message marked same i =
-    elim (cases_lt i s.original_count) [
+    elim (cases_lt i s.configuration.original_count) [
       | inl inside ↦ by_mark inside (is_marked marks (s.frame.originals_from + i)) refl
-      | inr outside ↦ restored-out new after s.shard_bytes s.frame.originals_from s.original_count i outside ∙ sym (missing-out (state_over rate s marks before) message i outside)
+      | inr outside ↦ restored-out new after s.configuration.shard_bytes s.frame.originals_from s.configuration.original_count i outside ∙ sym (missing-out (state_over rate s marks before) message i outside)
     ]
   where
-    at : i < s.original_count → (given : Bool) → is_marked marks (s.frame.originals_from + i) ≡ given
-        → ◌≡◌ {A = Option Shard} (cond (not given) (Some (shard_in_order after s.shard_bytes (s.frame.originals_from + i))) None) (cond (not given) (Some (shard_at message i)) None)
+    at : i < s.configuration.original_count → (given : Bool) → is_marked marks (s.frame.originals_from + i) ≡ given
+        → ◌≡◌ {A = Option Shard} (cond (not given) (Some (shard_in_order after s.configuration.shard_bytes (s.frame.originals_from + i))) None) (cond (not given) (Some (shard_at message i)) None)
     at inside true is = refl
     at inside false is = ap Some (same i inside is)
 
-    by_mark : i < s.original_count → (given : Bool) → is_marked marks (s.frame.originals_from + i) ≡ given → restored_over s new after i ≡ missing_of (state_over rate s marks before) message i
+    by_mark : i < s.configuration.original_count → (given : Bool) → is_marked marks (s.frame.originals_from + i) ≡ given → restored_over s new after i ≡ missing_of (state_over rate s marks before) message i
     by_mark inside given is =
-        restored-marked new after s.shard_bytes s.frame.originals_from s.original_count i (not given) inside (marked i inside ∙ ap not is)
+        restored-marked new after s.configuration.shard_bytes s.frame.originals_from s.configuration.original_count i (not given) inside (marked i inside ∙ ap not is)
         ∙ at inside given is
-        ∙ sym (missing-in (state_over rate s marks before) message i given inside (given-marked marks before s.shard_bytes s.frame.originals_from s.original_count i inside ∙ is))
+        ∙ sym (missing-in (state_over rate s marks before) message i given inside (given-marked marks before s.configuration.shard_bytes s.frame.originals_from s.configuration.original_count i inside ∙ is))
 
 -- as many shards are given as the marks tell
 given_count : (rate : Rate) (s : DecoderShape) (marks : List Bool) (chunks : Chunks) (n : ℕ)
-    → given_row_count marks s.frame.originals_from s.original_count + given_row_count marks s.frame.recovery_from s.recovery_count ≡ n
+    → given_row_count marks s.frame.originals_from s.configuration.original_count + given_row_count marks s.frame.recovery_from s.configuration.recovery_count ≡ n
     → originals_given (state_over rate s marks chunks) + recovery_given (state_over rate s marks chunks) ≡ n
 given_count rate s marks chunks n counted =
-    ap₂ (λ (a b : ℕ). a + b) (count-given marks chunks s.shard_bytes s.frame.originals_from s.original_count) (count-given marks chunks s.shard_bytes s.frame.recovery_from s.recovery_count) ∙ counted
+    ap₂ (λ (a b : ℕ). a + b) (count-given marks chunks s.configuration.shard_bytes s.frame.originals_from s.configuration.original_count) (count-given marks chunks s.configuration.shard_bytes s.frame.recovery_from s.configuration.recovery_count) ∙ counted
 
 -- the columns of the rows that were decoded
 columns_of : (rate : Rate) (k r size surplus : ℕ) (marks new : List Bool) (locator : List ℕ) (before after : Chunks) (agrees : Bool) (f : HasFrame rate k r)
@@ -203,7 +204,7 @@ abbrev pub AnswersOver : Rate → DecoderShape → List Bool → List Bool → C
 AnswersOver rate s marks new before after true = Restored (state_over rate s marks before) (restored_over s new after)
 AnswersOver rate s marks new before after false =
     NoneAgrees (state_over rate s marks before)
-    (InconsistentShards (given_row_count marks s.frame.originals_from s.original_count) (given_row_count marks s.frame.recovery_from s.recovery_count))
+    (InconsistentShards (given_row_count marks s.frame.originals_from s.configuration.original_count) (given_row_count marks s.frame.recovery_from s.configuration.recovery_count))
 
 by_answer : (rate : Rate) (k r size surplus : ℕ) (marks new : List Bool) (locator : List ℕ) (before after : Chunks) (agrees : Bool) → supports rate k r ≡ true
     → IsDecoded (decoder_shape rate k r size) marks new locator surplus before after agrees → AnswersOver rate (decoder_shape rate k r size) marks new before after agrees
@@ -218,7 +219,7 @@ by_answer rate k r size surplus marks new locator before after false supported d
       | inr some ↦ omega arith
     ] in
     record {
-      refusal = sym (ap₂ InconsistentShards (count-given marks before s.shard_bytes s.frame.originals_from s.original_count) (count-given marks before s.shard_bytes s.frame.recovery_from s.recovery_count));
+      refusal = sym (ap₂ InconsistentShards (count-given marks before s.configuration.shard_bytes s.frame.originals_from s.configuration.original_count) (count-given marks before s.configuration.shard_bytes s.frame.recovery_from s.configuration.recovery_count));
       surplus = omega (arith, count, some);
       none = λ consistent. true≢false (sym ((told rate k r size surplus marks new locator before after false supported d).0 consistent));
     }
@@ -276,32 +277,32 @@ complete rate k r size marks new before after supported even shards all none mar
 
 -- a decode answers by what it made of the rows
 pub decode_answers : (rate : Rate) (s : DecoderShape) (marks new : List Bool) (locator : List ℕ) (surplus : ℕ) (before after : Chunks) (agrees : Bool)
-    → validated (configuration_of rate s) ≡ Ok tt → s ≡ decoder_shape rate s.original_count s.recovery_count s.shard_bytes
+    → validated (configuration_of rate s) ≡ Ok tt → s ≡ decoder_shape rate s.configuration.original_count s.configuration.recovery_count s.configuration.shard_bytes
     → IsDecoded s marks new locator surplus before after agrees → AnswersOver rate s marks new before after agrees
 decode_answers rate s marks new locator surplus before after agrees valid shaped d =
     subst (λ (t : DecoderShape). AnswersOver rate t marks new before after agrees) (sym shaped)
-    (by_answer rate s.original_count s.recovery_count s.shard_bytes surplus marks new locator before after agrees (valid-supported (configuration_of rate s) valid)
+    (by_answer rate s.configuration.original_count s.configuration.recovery_count s.configuration.shard_bytes surplus marks new locator before after agrees (valid-supported (configuration_of rate s) valid)
     (subst (λ (t : DecoderShape). IsDecoded t marks new locator surplus before after agrees) shaped d))
 
 -- and where all originals and nothing else are given, nothing is restored
 pub complete_answers : (rate : Rate) (s : DecoderShape) (marks new : List Bool) (before after : Chunks) → validated (configuration_of rate s) ≡ Ok tt
-    → s ≡ decoder_shape rate s.original_count s.recovery_count s.shard_bytes → s.shard_bytes % 2 ≡ 0
-    → ((p : ℕ) → is_marked marks p ≡ true → IsShard s.shard_bytes (shard_laid_out before s.shard_bytes p))
-    → given_row_count marks s.frame.originals_from s.original_count ≡ s.original_count → given_row_count marks s.frame.recovery_from s.recovery_count ≡ 0
-    → ((i : ℕ) → i < s.original_count → is_marked new (s.frame.originals_from + i) ≡ not (is_marked marks (s.frame.originals_from + i)))
+    → s ≡ decoder_shape rate s.configuration.original_count s.configuration.recovery_count s.configuration.shard_bytes → s.configuration.shard_bytes % 2 ≡ 0
+    → ((p : ℕ) → is_marked marks p ≡ true → IsShard s.configuration.shard_bytes (shard_laid_out before s.configuration.shard_bytes p))
+    → given_row_count marks s.frame.originals_from s.configuration.original_count ≡ s.configuration.original_count → given_row_count marks s.frame.recovery_from s.configuration.recovery_count ≡ 0
+    → ((i : ℕ) → i < s.configuration.original_count → is_marked new (s.frame.originals_from + i) ≡ not (is_marked marks (s.frame.originals_from + i)))
     → Restored (state_over rate s marks before) (restored_over s new after)
 unfolding frame_of
 complete_answers rate s marks new before after valid shaped even shards all none marked =
     subst (λ (t : DecoderShape). Restored (state_over rate t marks before) (restored_over t new after)) (sym shaped)
-    (complete rate s.original_count s.recovery_count s.shard_bytes marks new before after (valid-supported (configuration_of rate s) valid) even shards
-    (subst (λ (t : DecoderShape). given_row_count marks t.frame.originals_from s.original_count ≡ s.original_count) shaped all)
-    (subst (λ (t : DecoderShape). given_row_count marks t.frame.recovery_from s.recovery_count ≡ 0) shaped none)
-    (subst (λ (t : DecoderShape). (i : ℕ) → i < s.original_count → is_marked new (t.frame.originals_from + i) ≡ not (is_marked marks (t.frame.originals_from + i))) shaped marked))
+    (complete rate s.configuration.original_count s.configuration.recovery_count s.configuration.shard_bytes marks new before after (valid-supported (configuration_of rate s) valid) even shards
+    (subst (λ (t : DecoderShape). given_row_count marks t.frame.originals_from s.configuration.original_count ≡ s.configuration.original_count) shaped all)
+    (subst (λ (t : DecoderShape). given_row_count marks t.frame.recovery_from s.configuration.recovery_count ≡ 0) shaped none)
+    (subst (λ (t : DecoderShape). (i : ℕ) → i < s.configuration.original_count → is_marked new (t.frame.originals_from + i) ≡ not (is_marked marks (t.frame.originals_from + i))) shaped marked))
 
 -- the answer that is told: that it is done where some message agrees, else the refusal
 pub told_answer : {T : Type 0} (done : T) (rate : Rate) (s : DecoderShape) (marks new : List Bool) (before after : Chunks) (o r : ℕ) (agrees : Bool) (answer : Result T Error)
     → ((agrees ≡ true) × (answer ≡ Ok done)) ⊎ ((agrees ≡ false) × (answer ≡ Err (InconsistentShards o r)))
-    → o ≡ given_row_count marks s.frame.originals_from s.original_count → r ≡ given_row_count marks s.frame.recovery_from s.recovery_count
+    → o ≡ given_row_count marks s.frame.originals_from s.configuration.original_count → r ≡ given_row_count marks s.frame.recovery_from s.configuration.recovery_count
     → AnswersOver rate s marks new before after agrees
     → MatchResult answer (λ _. Restored (state_over rate s marks before) (restored_over s new after)) (NoneAgrees (state_over rate s marks before))
 told_answer {T = T} done rate s marks new before after o r agrees answer (inl told) o_is r_is answers =

@@ -236,11 +236,11 @@ pub nothing-given : (rate : Rate) (s : DecoderShape) (marks : List Bool) (chunks
     → ◌≡◌ {A = DecoderState}
     (record {
       configuration = configuration_of rate s;
-      originals = given_shards marks chunks s.shard_bytes s.frame.originals_from s.original_count;
-      recovery = given_shards marks chunks s.shard_bytes s.frame.recovery_from s.recovery_count;
+      originals = given_shards marks chunks s.configuration.shard_bytes s.frame.originals_from s.configuration.original_count;
+      recovery = given_shards marks chunks s.configuration.shard_bytes s.frame.recovery_from s.configuration.recovery_count;
     })
     (fresh_decoder (configuration_of rate s))
 nothing-given rate s marks chunks empty =
     ap₂ (λ (o r : Shards). let state : DecoderState = record { configuration = configuration_of rate s; originals = o; recovery = r } in state)
-    (given-nothing marks chunks s.shard_bytes s.frame.originals_from s.original_count (λ i inside. empty (s.frame.originals_from + i)))
-    (given-nothing marks chunks s.shard_bytes s.frame.recovery_from s.recovery_count (λ i inside. empty (s.frame.recovery_from + i)))
+    (given-nothing marks chunks s.configuration.shard_bytes s.frame.originals_from s.configuration.original_count (λ i inside. empty (s.frame.originals_from + i)))
+    (given-nothing marks chunks s.configuration.shard_bytes s.frame.recovery_from s.configuration.recovery_count (λ i inside. empty (s.frame.recovery_from + i)))

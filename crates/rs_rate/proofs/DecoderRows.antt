@@ -7,7 +7,7 @@ use Rattle.rs_field.specs.code.Given.{Shards}
 use Rattle.rs_field.specs.code.Decoder.{DecoderState, fresh_decoder, enough_given, Restored, NoneAgrees, DecodeAnswers, after_decode}
 use Rattle.rs_field.specs.code.Counts.{Rate, next_power, is_low, low_rate}
 use Rattle.rs_field.specs.code.Placement.{placement, low_placement, decoder_rows}
-use Rattle.rs_rate.specs.DecoderView.{frame_of}
+use Rattle.rs_rate.specs.Configured.{frame_of}
 
 -- the frame of a decoder of the low rate, written out
 pub low_frame-is : (k r : ℕ) → frame_of low_rate k r

@@ -8,7 +8,7 @@ use Rattle.rs_field.specs.words.StepBounds.{CountsUpTo, transform_steps}
 use Rattle.rs_field.specs.code.Bounds.{encode_steps, encode_steps_at}
 use Rattle.rs_field.specs.declared.words.steps.Steps.{Steps}
 use Rattle.rs_field.proofs.of_words.Counting.{counts_then, counts_within}
-use Rattle.rs_rate.specs.Coding.{further_blocks, CodingCounts}
+use Rattle.rs_rate.specs.Coding.{further_blocks}
 use Rattle.rs_rate.proofs.HighCounts.{HasRows, low_rows-fit, high_rows-fit}
 use Rattle.rs_rate.proofs.RateLemmas.{low_is, high_is, low_block, high_block, rows_alike, block_alike, chosen_low, chosen_high}
 
@@ -81,12 +81,8 @@ high_total k r m rows is block all =
     sum r m t f few = omega arith
 
 -- rates that choose alike have the same bound
-steps_alike : (one other : Rate) (k r : ℕ) → is_low one k r ≡ is_low other k r → encode_steps_at one k r ≡ encode_steps_at other k r
+pub steps_alike : (one other : Rate) (k r : ℕ) → is_low one k r ≡ is_low other k r → encode_steps_at one k r ≡ encode_steps_at other k r
 steps_alike one other k r same = ap₂ (λ n m. encode_steps (n / m) m) (rows_alike one other k r same) (block_alike one other k r same)
-
-pub coding_alike : (one other : Rate) (k r : ℕ) (a b : Steps) → is_low one k r ≡ is_low other k r → CodingCounts one k r a b → CodingCounts other k r a b
-coding_alike one other k r a b same counts =
-    let e = steps_alike one other k r same in counts_within (encode_steps_at one k r - r) (encode_steps_at other k r - r) a b (omega arith) counts
 
 -- an encode's bound has room for the tails
 pub tails_within : (rate : Rate) (k r : ℕ) → supports rate k r ≡ true → r ≤ encode_steps_at rate k r

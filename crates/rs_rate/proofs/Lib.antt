@@ -18,3 +18,4 @@ pub mod SideRows
 pub mod HighCoding
 pub mod Coded
 pub mod EncodeCounting
+pub mod ConfiguredLemmas

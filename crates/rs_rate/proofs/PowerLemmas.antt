@@ -18,9 +18,6 @@ low_test k r = refl
 pub low_supported : (k r : ℕ) → 0 < k → 0 < r → next_power k + r ≤ 65536 → supports low_rate k r ≡ true
 low_supported k r some_k some_r fit = low_test k r ∙ rw (lt-ltb 0 k some_k, lt-ltb 0 r some_r, le-leb (next_power k + r) 65536 fit) refl
 
-pub low_not_supported : (k r : ℕ) → 65536 < next_power k + r → supports low_rate k r ≡ false
-low_not_supported k r more = low_test k r ∙ rw (lt-leb (next_power k + r) 65536 more) (and-false (nat_lt 0 k && nat_lt 0 r))
-
 -- the multiple of m that is not below n and below n + m is n rounded up
 pub rounded_up-is : (n m result : ℕ) → 0 < m → n ≤ result → result < n + m → result % m ≡ 0 → result ≡ rounded_up n m
 rounded_up-is n m result some low high multiple =

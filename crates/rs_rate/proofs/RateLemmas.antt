@@ -4,13 +4,14 @@ use Rattle.std.specs.Prelude.{slice_index, if◌then◌else◌}
 use Rattle.rs_field.specs.code.Counts.{Rate, next_power, supports, is_low, low_rate, high_rate, default_rate}
 use Rattle.rs_field.specs.code.Placement.{Placement, placement, low_placement, high_placement, rounded_up, encoder_rows, block_rows, decoder_rows}
 use Rattle.rs_field.specs.words.Polynomial.{value}
-use Rattle.rs_field.specs.code.Code.{Codes, AreRecoveryWords}
+use Rattle.rs_field.specs.code.Column.{Shard, columns}
+use Rattle.rs_field.specs.code.Configuration.{configuration}
+use Rattle.rs_field.specs.code.Code.{Codes, AreRecovery, AreRecoveryWords}
 use Rattle.rs_field.proofs.of_code.SupportedCounts.{default_fits, high_powers, low_powers}
 use Rattle.rs_rate.specs.declared.rate.decoder_work.Frame.{Frame}
-use Rattle.rs_rate.specs.declared.rate.encoder_work.EncoderShape.{EncoderShape}
 use Rattle.rs_rate.specs.EncoderView.{encoder_shape, shape_chunks}
 use Rattle.rs_rate.specs.ShardRows.{chunk_count}
-use Rattle.rs_rate.specs.DecoderView.{frame_of}
+use Rattle.rs_rate.specs.Configured.{frame_of}
 use Rattle.rs_rate.proofs.PowerLemmas.{low_supported}
 use Rattle.rs_rate.proofs.HighCounts.{high_turned}
 
@@ -20,26 +21,7 @@ pub high_frame-is : (k r : ℕ) → frame_of high_rate k r
 unfolding frame_of placement high_placement is_low decoder_rows
 high_frame-is k r = refl
 
--- what an encoder of the low and of the high rate is set up for, written out
-pub low_shape-is : (k r size : ℕ) → encoder_shape low_rate k r size
-    ≡ record { original_count = k; recovery_count = r; shard_bytes = size; row_count = encoder_rows low_rate k r; block_rows = next_power k }
-unfolding encoder_shape block_rows is_low
-low_shape-is k r size = refl
-
-pub high_shape-is : (k r size : ℕ) → encoder_shape high_rate k r size
-    ≡ record { original_count = k; recovery_count = r; shard_bytes = size; row_count = encoder_rows low_rate r k; block_rows = next_power r }
-unfolding encoder_shape encoder_rows block_rows is_low
-high_shape-is k r size = refl
-
--- the rows and the block of an encoder of any rate
-pub shape-rows : (rate : Rate) (k r size : ℕ) → (encoder_shape rate k r size).row_count ≡ encoder_rows rate k r
-unfolding encoder_shape
-shape-rows rate k r size = refl
-
-pub shape-block : (rate : Rate) (k r size : ℕ) → (encoder_shape rate k r size).block_rows ≡ block_rows rate k r
-unfolding encoder_shape
-shape-block rate k r size = refl
-
+-- the chunks of an encoder of any rate
 pub shape-chunks : (rate : Rate) (k r size : ℕ) → shape_chunks (encoder_shape rate k r size) ≡ chunk_count (encoder_rows rate k r) size
 unfolding encoder_shape
 shape-chunks rate k r size = refl
@@ -70,21 +52,7 @@ chosen_high default_rate k r is high =
     let powers = high_powers k r high in
     sym (high_turned k r) ∙ low_supported r k fits.1 fits.0 (omega (arith, fits.2, powers))
 
--- rates that choose alike have the same shape, frame, placement and recovery words
-shape_by : ℕ → ℕ → ℕ → Bool → EncoderShape
-shape_by k r size b =
-    record {
-      original_count = k;
-      recovery_count = r;
-      shard_bytes = size;
-      row_count = if b then rounded_up r (next_power k) else rounded_up k (next_power r);
-      block_rows = if b then next_power k else next_power r;
-    }
-
-pub shape_alike : (one other : Rate) (k r size : ℕ) → is_low one k r ≡ is_low other k r → encoder_shape one k r size ≡ encoder_shape other k r size
-unfolding encoder_shape encoder_rows block_rows shape_by
-shape_alike one other k r size same = ap (shape_by k r size) same
-
+-- rates that choose alike have the same rows, frame, placement and recovery words
 pub rows_alike : (one other : Rate) (k r : ℕ) → is_low one k r ≡ is_low other k r → encoder_rows one k r ≡ encoder_rows other k r
 unfolding encoder_rows
 rows_alike one other k r same = ap (λ b. if b then rounded_up r (next_power k) else rounded_up k (next_power r)) same
@@ -131,7 +99,12 @@ codes_alike one other k r words polynomial alike codes =
       zeros = λ x from to. codes.zeros x (subst (λ (p : Placement). p.zeros_from ≤ x) (sym same) from) (subst (λ (p : Placement). x < p.zeros_to) (sym same) to);
     }
 
-pub recovery_alike : (one other : Rate) (k r : ℕ) (words recovery : List ℕ) → is_low one k r ≡ is_low other k r
+recovery_alike : (one other : Rate) (k r : ℕ) (words recovery : List ℕ) → is_low one k r ≡ is_low other k r
     → AreRecoveryWords one k r words recovery → AreRecoveryWords other k r words recovery
 recovery_alike one other k r words recovery alike (polynomial, codes, values) =
     (polynomial, codes_alike one other k r words polynomial alike codes, λ i inside. values i inside ∙ ap (λ p. value polynomial (p.recovery_from + i)) (placement_alike one other k r alike))
+
+pub shards_alike : (one other : Rate) (k r size : ℕ) (message recovery : List Shard) → is_low one k r ≡ is_low other k r
+    → AreRecovery (configuration one k r size) message recovery → AreRecovery (configuration other k r size) message recovery
+shards_alike one other k r size message recovery alike coded =
+    record { shards = coded.shards; words = λ j inside. recovery_alike one other k r (columns j message) (columns j recovery) alike (coded.words j inside) }

@@ -22,52 +22,52 @@ use Rattle.rs_rate.proofs.DecoderLemmas.{given_row_count-zero, given_row_count-s
 use Rattle.rs_rate.proofs.ShardRowsLemmas.{count-few}
 
 -- the recovery shards from an index on
-pub length-left : (rows : EncoderRows) (i : ℕ) → length (drop i (lent_of rows)) ≡ rows.shape.recovery_count - i
+pub length-left : (rows : EncoderRows) (i : ℕ) → length (drop i (lent_of rows)) ≡ rows.shape.configuration.recovery_count - i
 length-left rows i =
-    length-drop i (lent_of rows) ∙ ap (λ n. n - i) (length-up_to rows.shape.recovery_count (shard_in_order rows.chunks.items rows.shape.shard_bytes))
+    length-drop i (lent_of rows) ∙ ap (λ n. n - i) (length-up_to rows.shape.configuration.recovery_count (shard_in_order rows.chunks.items rows.shape.configuration.shard_bytes))
 
-pub left-past : (rows : EncoderRows) (i : ℕ) → rows.shape.recovery_count ≤ i → drop i (lent_of rows) ≡ []
+pub left-past : (rows : EncoderRows) (i : ℕ) → rows.shape.configuration.recovery_count ≤ i → drop i (lent_of rows) ≡ []
 left-past rows i past =
-    let count = length-up_to rows.shape.recovery_count (shard_in_order rows.chunks.items rows.shape.shard_bytes) in
+    let count = length-up_to rows.shape.configuration.recovery_count (shard_in_order rows.chunks.items rows.shape.configuration.shard_bytes) in
     drop_all i (lent_of rows) (omega arith)
 
 -- a look-up of the next index lends the first of them
-pub lends_next : (rows : EncoderRows) (i : ℕ) (r : Option (Bor Shard)) → i < rows.shape.recovery_count
-    → MatchOption r (rows.shape.recovery_count ≤ i)
-    (λ shard. (i < rows.shape.recovery_count) × (shard.now ≡ shard_in_order rows.chunks.items rows.shape.shard_bytes i))
+pub lends_next : (rows : EncoderRows) (i : ℕ) (r : Option (Bor Shard)) → i < rows.shape.configuration.recovery_count
+    → MatchOption r (rows.shape.configuration.recovery_count ≤ i)
+    (λ shard. (i < rows.shape.configuration.recovery_count) × (shard.now ≡ shard_in_order rows.chunks.items rows.shape.configuration.shard_bytes i))
     → (shard : Bor Shard) × (r ≡ Some shard) × (drop i (lent_of rows) ≡ shard.now ∷ drop (i + 1) (lent_of rows))
 lends_next rows i None inside lends = absurd (let no : ⊥ = omega (arith, lends) in no)
 lends_next rows i (Some shard) inside lends =
-    let f = shard_in_order rows.chunks.items rows.shape.shard_bytes in
-    let count = length-up_to rows.shape.recovery_count f in (
+    let f = shard_in_order rows.chunks.items rows.shape.configuration.shard_bytes in
+    let count = length-up_to rows.shape.configuration.recovery_count f in (
       shard,
       refl,
       drop-cons (lent_of rows) i [] (omega arith)
-          ∙ ap₂ (λ x n. x ∷ drop n (lent_of rows)) (get-up_to rows.shape.recovery_count f i [] inside ∙ sym lends.1) (let n : suc i ≡ i + 1 = omega arith in n),
+          ∙ ap₂ (λ x n. x ∷ drop n (lent_of rows)) (get-up_to rows.shape.configuration.recovery_count f i [] inside ∙ sym lends.1) (let n : suc i ≡ i + 1 = omega arith in n),
     )
 
 -- the restored originals from an index on
-pub restored_from-past : (rows : DecoderRows) (i : ℕ) → rows.shape.original_count ≤ i → restored_from rows i ≡ []
-restored_from-past rows i past = listed_from-past i rows.shape.original_count (restored_of rows) past
+pub restored_from-past : (rows : DecoderRows) (i : ℕ) → rows.shape.configuration.original_count ≤ i → restored_from rows i ≡ []
+restored_from-past rows i past = listed_from-past i rows.shape.configuration.original_count (restored_of rows) past
 
-pub restored_from-none : (rows : DecoderRows) (i : ℕ) (r : Option (Bor Shard)) → i < rows.shape.original_count → r ≡ None → option_copied r ≡ restored_of rows i
+pub restored_from-none : (rows : DecoderRows) (i : ℕ) (r : Option (Bor Shard)) → i < rows.shape.configuration.original_count → r ≡ None → option_copied r ≡ restored_of rows i
     → restored_from rows i ≡ restored_from rows (i + 1)
 restored_from-none rows i r inside none lends =
-    listed_from-none i rows.shape.original_count (restored_of rows) inside (sym lends ∙ ap option_copied none)
+    listed_from-none i rows.shape.configuration.original_count (restored_of rows) inside (sym lends ∙ ap option_copied none)
 
-pub restored_from-some : (rows : DecoderRows) (i : ℕ) (r : Option (Bor Shard)) (shard : Bor Shard) → i < rows.shape.original_count → r ≡ Some shard
+pub restored_from-some : (rows : DecoderRows) (i : ℕ) (r : Option (Bor Shard)) (shard : Bor Shard) → i < rows.shape.configuration.original_count → r ≡ Some shard
     → option_copied r ≡ restored_of rows i → restored_from rows i ≡ (i, shard.now) ∷ restored_from rows (i + 1)
 restored_from-some rows i r shard inside some lends =
-    listed_from-some i rows.shape.original_count (restored_of rows) shard.now inside (sym lends ∙ ap option_copied some)
+    listed_from-some i rows.shape.configuration.original_count (restored_of rows) shard.now inside (sym lends ∙ ap option_copied some)
 
 -- all restored originals
-restored_from-all : (rows : DecoderRows) → restored_from rows 0 ≡ listed rows.shape.original_count (restored_of rows)
-restored_from-all rows = ap (λ n. listed_from 0 n (restored_of rows)) (sub-zero rows.shape.original_count)
+restored_from-all : (rows : DecoderRows) → restored_from rows 0 ≡ listed rows.shape.configuration.original_count (restored_of rows)
+restored_from-all rows = ap (λ n. listed_from 0 n (restored_of rows)) (sub-zero rows.shape.configuration.original_count)
 
 pub lists-restored : (rows : DecoderRows) → Lists (restored_of rows) (restored_from rows 0)
 lists-restored rows = record {
-  count = rows.shape.original_count;
-  none_past = restored-out (restored_marks rows.memory.marks) rows.memory.chunks.items rows.shape.shard_bytes rows.shape.frame.originals_from rows.shape.original_count;
+  count = rows.shape.configuration.original_count;
+  none_past = restored-out (restored_marks rows.memory.marks) rows.memory.chunks.items rows.shape.configuration.shard_bytes rows.shape.frame.originals_from rows.shape.configuration.original_count;
   in_order = restored_from-all rows;
 }
 
@@ -110,11 +110,11 @@ count-most (suc n) given = let more = count_below-suc n given in omega (arith, c
 -- no more originals are restored than rows can be
 pub restored-few : (rows : DecoderRows) → length (restored_from rows 0) < 2 ^ 64
 restored-few rows =
-    let listed_all = ap length (restored_from-all rows) ∙ length-listed rows.shape.original_count (restored_of rows) in
-    omega (arith, listed_all, count-most rows.shape.original_count (restored_of rows), rows.laid.few, rows.laid.original_rows)
+    let listed_all = ap length (restored_from-all rows) ∙ length-listed rows.shape.configuration.original_count (restored_of rows) in
+    omega (arith, listed_all, count-most rows.shape.configuration.original_count (restored_of rows), rows.laid.few, rows.laid.original_rows)
 
 -- nor recovery shards made
 pub recovery-few : (rows : EncoderRows) → length (lent_of rows) < 2 ^ 64
 recovery-few rows =
-    let made = length-up_to rows.shape.recovery_count (shard_in_order rows.chunks.items rows.shape.shard_bytes) in
-    omega (arith, made, rows.laid.recovery, count-few rows.shape.row_count rows.shape.shard_bytes rows.laid.positive rows.sized)
+    let made = length-up_to rows.shape.configuration.recovery_count (shard_in_order rows.chunks.items rows.shape.configuration.shard_bytes) in
+    omega (arith, made, rows.laid.recovery, count-few rows.shape.row_count rows.shape.configuration.shard_bytes rows.laid.configured.positive rows.sized)

@@ -31,40 +31,40 @@ side-within w Recovery = w.laid.recovery_rows
 -- an index of a side tells whether its row is marked
 given-at : (rate : Rate) (w : DecoderRows) (side : Side) (index row : ℕ) (given : Bool) → row ≡ side_from side w.shape + index → index < side_count side w.shape
     → is_marked (given_marks w.memory.marks) row ≡ given
-    → is_some (given_shards (given_marks w.memory.marks) w.memory.chunks.items w.shape.shard_bytes (side_from side w.shape) (side_count side w.shape) index) ≡ given
+    → is_some (given_shards (given_marks w.memory.marks) w.memory.chunks.items w.shape.configuration.shard_bytes (side_from side w.shape) (side_count side w.shape) index) ≡ given
 given-at rate w side index row given at inside is =
-    given-marked (given_marks w.memory.marks) w.memory.chunks.items w.shape.shard_bytes (side_from side w.shape) (side_count side w.shape) index inside
+    given-marked (given_marks w.memory.marks) w.memory.chunks.items w.shape.configuration.shard_bytes (side_from side w.shape) (side_count side w.shape) index inside
     ∙ ap (λ (p : ℕ). is_marked (given_marks w.memory.marks) p) (sym at) ∙ is
 
 -- the refusals
 pub add-repeated : (rate : Rate) (w : DecoderRows) (side : Side) (index row : ℕ) (shard : Shard) → row ≡ side_from side w.shape + index → index < side_count side w.shape
     → is_marked (given_marks w.memory.marks) row ≡ true → with_given side (decoder_state rate w) index shard ≡ Err (repeat_refused side index)
 add-repeated rate w Original index row shard at inside given =
-    rw (lt-leb w.shape.original_count index inside, given-at rate w Original index row true at inside given) refl
+    rw (lt-leb w.shape.configuration.original_count index inside, given-at rate w Original index row true at inside given) refl
 add-repeated rate w Recovery index row shard at inside given =
-    rw (lt-leb w.shape.recovery_count index inside, given-at rate w Recovery index row true at inside given) refl
+    rw (lt-leb w.shape.configuration.recovery_count index inside, given-at rate w Recovery index row true at inside given) refl
 
 pub add-sized : (rate : Rate) (w : DecoderRows) (side : Side) (index row : ℕ) (shard : Shard) → row ≡ side_from side w.shape + index → index < side_count side w.shape
-    → is_marked (given_marks w.memory.marks) row ≡ false → length shard ≢ w.shape.shard_bytes
-    → with_given side (decoder_state rate w) index shard ≡ Err (DifferentShardSize w.shape.shard_bytes (length shard))
+    → is_marked (given_marks w.memory.marks) row ≡ false → length shard ≢ w.shape.configuration.shard_bytes
+    → with_given side (decoder_state rate w) index shard ≡ Err (DifferentShardSize w.shape.configuration.shard_bytes (length shard))
 add-sized rate w Original index row shard at inside free other =
-    rw (lt-leb w.shape.original_count index inside, given-at rate w Original index row false at inside free, ne_eqb (length shard) w.shape.shard_bytes other) refl
+    rw (lt-leb w.shape.configuration.original_count index inside, given-at rate w Original index row false at inside free, ne_eqb (length shard) w.shape.configuration.shard_bytes other) refl
 add-sized rate w Recovery index row shard at inside free other =
-    rw (lt-leb w.shape.recovery_count index inside, given-at rate w Recovery index row false at inside free, ne_eqb (length shard) w.shape.shard_bytes other) refl
+    rw (lt-leb w.shape.configuration.recovery_count index inside, given-at rate w Recovery index row false at inside free, ne_eqb (length shard) w.shape.configuration.shard_bytes other) refl
 
 -- a shard of the size was entered in a free row of a side, and no other row was changed
 pub record RowEntered (w : DecoderRows) (side : Side) (index row : ℕ) (shard : Shard) (marks : List Bool) (chunks : Chunks) : Type 0 where
   pub at : row ≡ side_from side w.shape + index
   pub inside : index < side_count side w.shape
   pub free : is_marked (given_marks w.memory.marks) row ≡ false
-  pub size : length shard ≡ w.shape.shard_bytes
+  pub size : length shard ≡ w.shape.configuration.shard_bytes
   pub marked : is_marked marks row ≡ true
-  pub here : shard_laid_out chunks w.shape.shard_bytes row ≡ shard
+  pub here : shard_laid_out chunks w.shape.configuration.shard_bytes row ≡ shard
   pub other_marks : (p : ℕ) → p ≢ row → is_marked marks p ≡ is_marked (given_marks w.memory.marks) p
-  pub others : (p : ℕ) → p ≢ row → shard_laid_out chunks w.shape.shard_bytes p ≡ shard_laid_out w.memory.chunks.items w.shape.shard_bytes p
+  pub others : (p : ℕ) → p ≢ row → shard_laid_out chunks w.shape.configuration.shard_bytes p ≡ shard_laid_out w.memory.chunks.items w.shape.configuration.shard_bytes p
 
 pub row_entered : (w : DecoderRows) (side : Side) (index first count : ℕ) (shard : Shard) (marks : List Bool) (chunks : Chunks) → first ≡ side_from side w.shape → count ≡ side_count side w.shape
-    → index < count → is_marked (given_marks w.memory.marks) (first + index) ≡ false → length shard ≡ w.shape.shard_bytes
+    → index < count → is_marked (given_marks w.memory.marks) (first + index) ≡ false → length shard ≡ w.shape.configuration.shard_bytes
     → is_marked marks (first + index) ≡ true → shard_laid_out chunks (length shard) (first + index) ≡ shard
     → ((p : ℕ) → p ≢ first + index → is_marked marks p ≡ is_marked (given_marks w.memory.marks) p)
     → ((p : ℕ) → p ≢ first + index → shard_laid_out chunks (length shard) p ≡ shard_laid_out w.memory.chunks.items (length shard) p)
@@ -92,28 +92,28 @@ other-apart w Recovery index i row at inside within same = w.laid.apart i index 
 -- the side has one shard more
 own-entered : (w : DecoderRows) (side : Side) (index row : ℕ) (shard : Shard) (marks : List Bool) (chunks : Chunks) → RowEntered w side index row shard marks chunks
     → let from = side_from side w.shape in let n = side_count side w.shape in
-    (given_shards marks chunks w.shape.shard_bytes from n ≡ entered (given_shards (given_marks w.memory.marks) w.memory.chunks.items w.shape.shard_bytes from n) index shard)
+    (given_shards marks chunks w.shape.configuration.shard_bytes from n ≡ entered (given_shards (given_marks w.memory.marks) w.memory.chunks.items w.shape.configuration.shard_bytes from n) index shard)
     × (given_row_count marks from n ≡ given_row_count (given_marks w.memory.marks) from n + 1)
 own-entered w side index row shard marks chunks e =
     let from = side_from side w.shape in
     let n = side_count side w.shape in
     let marked = ap (λ (p : ℕ). is_marked marks p) (sym e.at) ∙ e.marked in
     let same = λ (i : ℕ) (inside : i < n) (apart : i ≢ index). e.other_marks (from + i) (own-apart from index i row e.at apart) in (
-      given-entered (given_marks w.memory.marks) marks w.memory.chunks.items chunks w.shape.shard_bytes from n index shard e.inside marked
-          (ap (λ (p : ℕ). shard_laid_out chunks w.shape.shard_bytes p) (sym e.at) ∙ e.here) same (λ i inside apart. e.others (from + i) (own-apart from index i row e.at apart)),
+      given-entered (given_marks w.memory.marks) marks w.memory.chunks.items chunks w.shape.configuration.shard_bytes from n index shard e.inside marked
+          (ap (λ (p : ℕ). shard_laid_out chunks w.shape.configuration.shard_bytes p) (sym e.at) ∙ e.here) same (λ i inside apart. e.others (from + i) (own-apart from index i row e.at apart)),
       given_row_count-more (given_marks w.memory.marks) marks from n index e.inside marked (ap (λ (p : ℕ). is_marked (given_marks w.memory.marks) p) (sym e.at) ∙ e.free) same,
     )
 
 -- and the other side has the same
 other-kept : (w : DecoderRows) (side : Side) (index row : ℕ) (shard : Shard) (marks : List Bool) (chunks : Chunks) → RowEntered w side index row shard marks chunks
     → let from = side_from (other side) w.shape in let n = side_count (other side) w.shape in
-    (given_shards marks chunks w.shape.shard_bytes from n ≡ given_shards (given_marks w.memory.marks) w.memory.chunks.items w.shape.shard_bytes from n)
+    (given_shards marks chunks w.shape.configuration.shard_bytes from n ≡ given_shards (given_marks w.memory.marks) w.memory.chunks.items w.shape.configuration.shard_bytes from n)
     × (given_row_count marks from n ≡ given_row_count (given_marks w.memory.marks) from n)
 other-kept w side index row shard marks chunks e =
     let from = side_from (other side) w.shape in
     let n = side_count (other side) w.shape in
     let same = λ (i : ℕ) (within : i < side_count (other side) w.shape). e.other_marks (side_from (other side) w.shape + i) (other-apart w side index i row e.at e.inside within) in (
-      given-kept (given_marks w.memory.marks) marks w.memory.chunks.items chunks w.shape.shard_bytes from n same
+      given-kept (given_marks w.memory.marks) marks w.memory.chunks.items chunks w.shape.configuration.shard_bytes from n same
           (λ i within. e.others (from + i) (other-apart w side index i row e.at e.inside within)),
       given_row_count-kept (given_marks w.memory.marks) marks from n same,
     )
@@ -122,18 +122,18 @@ other-kept w side index row shard marks chunks e =
 pub add-entered : (rate : Rate) (w : DecoderRows) (side : Side) (index row : ℕ) (shard : Shard) (marks : List Bool) (chunks : Chunks) → RowEntered w side index row shard marks chunks
     → with_given side (decoder_state rate w) index shard ≡ Ok (state_over rate w.shape marks chunks)
 add-entered rate w Original index row shard marks chunks e =
-    rw (lt-leb w.shape.original_count index e.inside, given-at rate w Original index row false e.at e.inside e.free, eq-eqb (length shard) w.shape.shard_bytes e.size)
+    rw (lt-leb w.shape.configuration.original_count index e.inside, given-at rate w Original index row false e.at e.inside e.free, eq-eqb (length shard) w.shape.configuration.shard_bytes e.size)
     (ap₂ (λ (o r : Shards). Ok (record { configuration = configuration_of rate w.shape; originals = o; recovery = r }))
     (sym ((own-entered w Original index row shard marks chunks e).0)) (sym ((other-kept w Original index row shard marks chunks e).0)))
 add-entered rate w Recovery index row shard marks chunks e =
-    rw (lt-leb w.shape.recovery_count index e.inside, given-at rate w Recovery index row false e.at e.inside e.free, eq-eqb (length shard) w.shape.shard_bytes e.size)
+    rw (lt-leb w.shape.configuration.recovery_count index e.inside, given-at rate w Recovery index row false e.at e.inside e.free, eq-eqb (length shard) w.shape.configuration.shard_bytes e.size)
     (ap₂ (λ (o r : Shards). Ok (record { configuration = configuration_of rate w.shape; originals = o; recovery = r }))
     (sym ((other-kept w Recovery index row shard marks chunks e).0)) (sym ((own-entered w Recovery index row shard marks chunks e).0)))
 
 -- and so are the counts
 pub add-counted : (w : DecoderRows) (side : Side) (index row : ℕ) (shard : Shard) (marks : List Bool) (chunks : Chunks) → RowEntered w side index row shard marks chunks
-    → (w.originals_given + side_originals side ≡ given_row_count marks w.shape.frame.originals_from w.shape.original_count)
-    × (w.recovery_given + side_recovery side ≡ given_row_count marks w.shape.frame.recovery_from w.shape.recovery_count)
+    → (w.originals_given + side_originals side ≡ given_row_count marks w.shape.frame.originals_from w.shape.configuration.original_count)
+    × (w.recovery_given + side_recovery side ≡ given_row_count marks w.shape.frame.recovery_from w.shape.configuration.recovery_count)
 add-counted w Original index row shard marks chunks e =
     let more = (own-entered w Original index row shard marks chunks e).1 in
     let same = (other-kept w Original index row shard marks chunks e).1 in
@@ -145,8 +145,8 @@ add-counted w Recovery index row shard marks chunks e =
 
 -- a row outside both sides is none of theirs
 pub outside-apart : (w : DecoderRows) (side : Side) (index row p : ℕ) → row ≡ side_from side w.shape + index → index < side_count side w.shape
-    → (p < w.shape.frame.originals_from) ⊎ (w.shape.frame.originals_from + w.shape.original_count ≤ p)
-    → (p < w.shape.frame.recovery_from) ⊎ (w.shape.frame.recovery_from + w.shape.recovery_count ≤ p) → p ≢ row
+    → (p < w.shape.frame.originals_from) ⊎ (w.shape.frame.originals_from + w.shape.configuration.original_count ≤ p)
+    → (p < w.shape.frame.recovery_from) ⊎ (w.shape.frame.recovery_from + w.shape.configuration.recovery_count ≤ p) → p ≢ row
 outside-apart w Original index row p at inside not_own not_coded same =
     elim not_own [ inl before ↦ omega (arith, at, same, before) | inr past ↦ omega (arith, at, same, past, inside) ]
 outside-apart w Recovery index row p at inside not_own not_coded same =

@@ -82,21 +82,6 @@ valid-supported c valid = by_support (supports c.rate c.original_count c.recover
     by_support true h = refl
     by_support false h = absurd (let no : ⊥ = cc in no)
 
--- and an even positive size
-pub valid-size : (c : Configuration) → validated c ≡ Ok tt → (0 < c.shard_bytes) × (c.shard_bytes % 2 ≡ 0)
-valid-size c valid =
-    by_size (c.shard_bytes == 0) (c.shard_bytes % 2 == 1) refl refl
-    (ap (λ b. tested c b (c.shard_bytes == 0) (c.shard_bytes % 2 == 1)) (sym (valid-supported c valid)) ∙ valid)
-  where
-    by_size : (none odd : Bool) → (c.shard_bytes == 0) ≡ none → (c.shard_bytes % 2 == 1) ≡ odd → tested c true none odd ≡ Ok tt
-        → (0 < c.shard_bytes) × (c.shard_bytes % 2 ≡ 0)
-    by_size true odd e f h = absurd (let no : ⊥ = cc in no)
-    by_size false true e f h = absurd (let no : ⊥ = cc in no)
-    by_size false false e f h =
-        let some = eqb-false c.shard_bytes 0 e in
-        let even = eqb-false (c.shard_bytes % 2) 1 f in
-        (omega arith, omega arith)
-
 -- what holds of every value holds of one that may be there
 pub if_some-every : {S : Type 0} (o : Option S) (P : S → Type 0) → ((x : S) → P x) → IfSome o P
 if_some-every None P every = tt
@@ -179,4 +164,4 @@ pub encoder_state-fresh : (rate : Rate) (rows : EncoderRows) (shape : EncoderSha
     → encoder_state rate rows ≡ fresh_encoder (configuration_of rate shape)
 encoder_state-fresh rate rows shape same none =
     let F : EncoderShape → List Shard → EncoderState = λ s given. record { configuration = configuration_of rate s; given = given } in
-    ap₂ F same (ap (λ n. up_to n (shard_laid_out rows.chunks.items rows.shape.shard_bytes)) none)
+    ap₂ F same (ap (λ n. up_to n (shard_laid_out rows.chunks.items rows.shape.configuration.shard_bytes)) none)

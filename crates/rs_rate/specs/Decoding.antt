@@ -28,13 +28,13 @@ pub record CanBeRestored (round : Round) (marks : Marks) : Type 0 where
   pub laid : DecoderCanBeLaid round.shape
   pub marked : vec_len marks.rows ≡ round.shape.frame.row_count
   pub shards : 0 < round.missing + round.surplus → marks.shards ≡ Given
-  pub counted : given_row_count (given_marks marks) round.shape.frame.originals_from round.shape.original_count + round.missing ≡ round.shape.original_count
+  pub counted : given_row_count (given_marks marks) round.shape.frame.originals_from round.shape.configuration.original_count + round.missing ≡ round.shape.configuration.original_count
   pub few_surplus : round.surplus ≤ round.shape.frame.row_count
 
 -- the row steps of restoring words in the rows of a shape: each row located, a transform, the surplus rows tested, two transforms, the originals' rows revealed
 abbrev pub restore_steps : DecoderShape → ℕ → ℕ
 restore_steps shape surplus =
-    let w = shape.frame.row_count in w + (transform_steps w + (surplus + (2 * transform_steps w + shape.original_count)))
+    let w = shape.frame.row_count in w + (transform_steps w + (surplus + (2 * transform_steps w + shape.configuration.original_count)))
 
 -- the located word of row p: where a shard is given, its word times the locator's power there, else zero
 unfoldable pub located : List Bool → List ℕ → (ℕ → ℕ) → ℕ → ℕ
@@ -50,15 +50,15 @@ AreRevealed rows from n marks locator coefficients new =
 -- in each column (symbol s of chunk k): the located words are values of a polynomial; whether its last coefficients are zero is answered, and if so the missing words are revealed
 pub record RestoresWords (shape : DecoderShape) (marks : List Bool) (locator : List ℕ) (surplus : ℕ) (old new : ℕ → ℕ → ℕ → ℕ) (agrees : Bool) : Type 0 where
   pub coefficients : ℕ → ℕ → ℕ → ℕ
-  pub are_words : (k s i : ℕ) → k < row_len shape.shard_bytes → s < 32 → i < shape.frame.row_count → coefficients k s i < 65536
-  pub are_coefficients : (k s : ℕ) → k < row_len shape.shard_bytes → s < 32 → IsBackward shape.frame.row_count 0 (located marks locator (old k s)) (coefficients k s)
-  pub checked : ((i j : ℕ) → shape.frame.row_count ≤ i + surplus → i < shape.frame.row_count → j < shape.shard_bytes / 2 → coefficients (j / 32) (j % 32) i ≡ 0) ↔ (agrees ≡ true)
-  pub revealed : agrees ≡ true → (k s : ℕ) → k < row_len shape.shard_bytes → s < 32
-      → AreRevealed shape.frame.row_count shape.frame.originals_from shape.original_count marks locator (coefficients k s) (new k s)
+  pub are_words : (k s i : ℕ) → k < row_len shape.configuration.shard_bytes → s < 32 → i < shape.frame.row_count → coefficients k s i < 65536
+  pub are_coefficients : (k s : ℕ) → k < row_len shape.configuration.shard_bytes → s < 32 → IsBackward shape.frame.row_count 0 (located marks locator (old k s)) (coefficients k s)
+  pub checked : ((i j : ℕ) → shape.frame.row_count ≤ i + surplus → i < shape.frame.row_count → j < shape.configuration.shard_bytes / 2 → coefficients (j / 32) (j % 32) i ≡ 0) ↔ (agrees ≡ true)
+  pub revealed : agrees ≡ true → (k s : ℕ) → k < row_len shape.configuration.shard_bytes → s < 32
+      → AreRevealed shape.frame.row_count shape.frame.originals_from shape.configuration.original_count marks locator (coefficients k s) (new k s)
 
 -- over chunks: the words of the rows become restored ones, and the rows of the missing originals hold shards with these as columns
 pub record RestoresShards (shape : DecoderShape) (marks : List Bool) (locator : List ℕ) (surplus : ℕ) (old new : Chunks) (agrees : Bool) : Type 0 where
   pub words : ℕ → ℕ → ℕ → ℕ
-  pub restored : RestoresWords shape marks locator surplus (word_in old (row_len shape.shard_bytes)) words agrees
-  pub shards : agrees ≡ true → (i j : ℕ) → i < shape.original_count → j < shape.shard_bytes / 2 → is_marked marks (original_row shape i) ≡ false
-      → column j (shard_in_order new shape.shard_bytes (original_row shape i)) ≡ words (j / 32) (j % 32) (original_row shape i)
+  pub restored : RestoresWords shape marks locator surplus (word_in old (row_len shape.configuration.shard_bytes)) words agrees
+  pub shards : agrees ≡ true → (i j : ℕ) → i < shape.configuration.original_count → j < shape.configuration.shard_bytes / 2 → is_marked marks (original_row shape i) ≡ false
+      → column j (shard_in_order new shape.configuration.shard_bytes (original_row shape i)) ≡ words (j / 32) (j % 32) (original_row shape i)

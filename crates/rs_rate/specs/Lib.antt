@@ -1,5 +1,6 @@
 pub mod Memory
 pub mod ShardRows
+pub mod Configured
 pub mod Shapes
 pub mod EncoderView
 pub mod ResultView

@@ -1,15 +1,17 @@
 -- What the rows of an encoder and of a decoder can be set up for, and where a decoder's shards stand.
-use Rattle.std.specs.Prelude.{◌≡◌, ◌≢◌, ◌+◌, ◌%◌, ◌<◌, ◌≤◌, ℕ}
+use Rattle.std.specs.Prelude.{◌≡◌, ◌≢◌, ◌+◌, ◌<◌, ◌≤◌, ℕ}
 use Rattle.rs_field.specs.code.Counts.{next_power}
+use Rattle.rs_field.specs.code.Placement.{encoder_rows}
+use Rattle.rs_rate.specs.Configured.{IsConfigured, low_or_high}
 use Rattle.rs_rate.specs.declared.rate.encoder_work.EncoderShape.{EncoderShape}
 use Rattle.rs_rate.specs.declared.rate.decoder_work.DecoderShape.{DecoderShape}
 
--- a positive even size, and rows enough for the originals and for the recovery shards
+-- a configuration, and its rows: enough for the originals and for the recovery shards
 pub record EncoderCanBeLaid (shape : EncoderShape) : Type 0 where
-  pub positive : 0 < shape.shard_bytes
-  pub even : shape.shard_bytes % 2 ≡ 0
-  pub originals : shape.original_count ≤ shape.row_count
-  pub recovery : shape.recovery_count ≤ shape.row_count
+  pub configured : IsConfigured shape.configuration
+  pub rows : shape.row_count ≡ encoder_rows (low_or_high shape.configuration.is_low) shape.configuration.original_count shape.configuration.recovery_count
+  pub originals : shape.configuration.original_count ≤ shape.row_count
+  pub recovery : shape.configuration.recovery_count ≤ shape.row_count
 
 -- the row of an original
 abbrev pub original_row : DecoderShape → ℕ → ℕ
@@ -19,12 +21,11 @@ original_row shape index = shape.frame.originals_from + index
 abbrev pub recovery_row : DecoderShape → ℕ → ℕ
 recovery_row shape index = shape.frame.recovery_from + index
 
--- a positive even size, and a power of two of at most 65536 rows, with originals and recovery shards among them, no two in one row
+-- a configuration, and a power of two of at most 65536 rows, with originals and recovery shards among them, no two in one row
 pub record DecoderCanBeLaid (shape : DecoderShape) : Type 0 where
-  pub positive : 0 < shape.shard_bytes
-  pub even : shape.shard_bytes % 2 ≡ 0
+  pub configured : IsConfigured shape.configuration
   pub power : next_power shape.frame.row_count ≡ shape.frame.row_count
   pub few : shape.frame.row_count ≤ 65536
-  pub original_rows : original_row shape shape.original_count ≤ shape.frame.row_count
-  pub recovery_rows : recovery_row shape shape.recovery_count ≤ shape.frame.row_count
-  pub apart : (i j : ℕ) → i < shape.original_count → j < shape.recovery_count → original_row shape i ≢ recovery_row shape j
+  pub original_rows : original_row shape shape.configuration.original_count ≤ shape.frame.row_count
+  pub recovery_rows : recovery_row shape shape.configuration.recovery_count ≤ shape.frame.row_count
+  pub apart : (i j : ℕ) → i < shape.configuration.original_count → j < shape.configuration.recovery_count → original_row shape i ≢ recovery_row shape j

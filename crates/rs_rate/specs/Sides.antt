@@ -10,8 +10,8 @@ use Rattle.rs_rate.specs.declared.rate.side.Side.TheVariants.{Original, Recovery
 
 -- how many shards a side has
 abbrev pub side_count : Side → DecoderShape → ℕ
-side_count Original s = s.original_count
-side_count Recovery s = s.recovery_count
+side_count Original s = s.configuration.original_count
+side_count Recovery s = s.configuration.recovery_count
 
 -- the row of its first shard
 abbrev pub side_from : Side → DecoderShape → ℕ
@@ -30,8 +30,8 @@ side_recovery Recovery = 1
 
 -- the refusal of an index that a side doesn't have
 abbrev pub index_refused : Side → DecoderShape → ℕ → Error
-index_refused Original s index = InvalidOriginalShardIndex s.original_count index
-index_refused Recovery s index = InvalidRecoveryShardIndex s.recovery_count index
+index_refused Original s index = InvalidOriginalShardIndex s.configuration.original_count index
+index_refused Recovery s index = InvalidRecoveryShardIndex s.configuration.recovery_count index
 
 -- the refusal of an index whose shard was given before
 abbrev pub repeat_refused : Side → ℕ → Error

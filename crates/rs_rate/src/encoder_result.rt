@@ -61,7 +61,7 @@ impl<'a> Model for Recovery<'a> {
 
     ghost view = { λ x. drop x.next_index (lent_of x.rows.now) };
 
-    ghost invariant = { λ x. x.next_index ≤ x.rows.now.shape.recovery_count };
+    ghost invariant = { λ x. x.next_index ≤ x.rows.now.shape.configuration.recovery_count };
 }
 
 impl<'a> Iterator for Recovery<'a> {
@@ -74,7 +74,7 @@ impl<'a> Iterator for Recovery<'a> {
     fn next(&mut self) -> Option<&'a [u8]> {
         let rows = self.rows;
         let index = self.next_index;
-        if index >= rows.shape.recovery_count {
+        if index >= rows.shape.configuration.recovery_count {
             return None;
         }
         self.next_index = index + 1;
@@ -93,7 +93,7 @@ impl<'a> Iterator for Recovery<'a> {
 
 impl<'a> ExactSizeIterator for Recovery<'a> {
     fn len(&self) -> usize {
-        self.rows.shape.recovery_count - self.next_index
+        self.rows.shape.configuration.recovery_count - self.next_index
     }
 }
 

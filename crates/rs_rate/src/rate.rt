@@ -1,6 +1,7 @@
 //! The traits of a rate, its encoder and its decoder.
 mod code;
-mod counts;
+pub(crate) mod configuration;
+pub(crate) mod counts;
 pub(crate) mod decoder_work;
 mod decoders;
 mod decoding;

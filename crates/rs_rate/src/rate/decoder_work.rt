@@ -12,6 +12,7 @@ ghost use Rattle.rs_rate.specs.ShardRows.{chunk_count as chunk_count_of, shard_l
 ghost use Rattle.rs_rate.specs.Marks.{given_marks, given_row_count, ArePlaced};
 ghost use Rattle.rs_rate.specs.Sides.{with_given};
 
+use crate::rate::configuration::Configuration;
 use crate::rate::marks::Marks;
 use crate::rate::memory::{make_room, set_chunks, set_length};
 use crate::rate::restoring::Round;
@@ -45,12 +46,10 @@ pub struct Frame {
     pub zeros_to: usize,
 }
 
-/// What a decoder's rows are set up for: its counts, the size of a shard, and where its shards stand.
+/// What a decoder's rows are set up for, and where its shards stand.
 #[derive(Clone, Copy)]
 pub struct DecoderShape {
-    pub original_count: usize,
-    pub recovery_count: usize,
-    pub shard_bytes: usize,
+    pub configuration: Configuration,
     pub frame: Frame,
 }
 
@@ -62,17 +61,17 @@ pub struct DecoderRows {
     pub(crate) recovery_given: usize,
     pub(crate) memory: DecoderMemory,
     pub ghost laid: { DecoderCanBeLaid shape },
-    pub ghost whole: { vec_len memory.chunks ≡ chunk_count_of shape.frame.row_count shape.shard_bytes },
-    pub ghost own_chunks: { chunk_count_of shape.frame.row_count shape.shard_bytes ≤ vec_capacity memory.chunks },
-    pub ghost sized: { chunk_count_of shape.frame.row_count shape.shard_bytes * 64 < 2 ^ 64 },
+    pub ghost whole: { vec_len memory.chunks ≡ chunk_count_of shape.frame.row_count shape.configuration.shard_bytes },
+    pub ghost own_chunks: { chunk_count_of shape.frame.row_count shape.configuration.shard_bytes ≤ vec_capacity memory.chunks },
+    pub ghost sized: { chunk_count_of shape.frame.row_count shape.configuration.shard_bytes * 64 < 2 ^ 64 },
     pub ghost marked: { vec_len memory.marks.rows ≡ shape.frame.row_count },
     pub ghost own_marks: { shape.frame.row_count ≤ vec_capacity memory.marks.rows },
     pub ghost entries: { vec_len memory.erasures ≡ shape.frame.row_count },
     pub ghost own_entries: { shape.frame.row_count ≤ vec_capacity memory.erasures },
-    pub ghost originals_counted: { originals_given ≡ given_row_count (given_marks memory.marks) shape.frame.originals_from shape.original_count },
-    pub ghost recovery_counted: { recovery_given ≡ given_row_count (given_marks memory.marks) shape.frame.recovery_from shape.recovery_count },
-    pub ghost placed: { ArePlaced shape.frame.originals_from shape.original_count shape.frame.recovery_from shape.recovery_count (given_marks memory.marks) },
-    pub ghost shards: { (p : ℕ) → is_marked (given_marks memory.marks) p ≡ true → IsShard shape.shard_bytes (shard_laid_out memory.chunks.items shape.shard_bytes p) },
+    pub ghost originals_counted: { originals_given ≡ given_row_count (given_marks memory.marks) shape.frame.originals_from shape.configuration.original_count },
+    pub ghost recovery_counted: { recovery_given ≡ given_row_count (given_marks memory.marks) shape.frame.recovery_from shape.configuration.recovery_count },
+    pub ghost placed: { ArePlaced shape.frame.originals_from shape.configuration.original_count shape.frame.recovery_from shape.configuration.recovery_count (given_marks memory.marks) },
+    pub ghost shards: { (p : ℕ) → is_marked (given_marks memory.marks) p ≡ true → IsShard shape.configuration.shard_bytes (shard_laid_out memory.chunks.items shape.configuration.shard_bytes p) },
 }
 
 impl DecoderShape {
@@ -196,12 +195,12 @@ impl DecoderRows {
         ensures shape { IfOk result (λ x. x.shape ≡ shape) }
         ensures state { IfOk result (λ x. (rate : Rate) → decoder_state rate x ≡ fresh_decoder (configuration_of rate shape)) }
         ensures memory { IfErr result (λ e. e ≡ Error.OutOfMemory) }
-        ensures fits { IfOk result (λ _. chunk_count_of shape.frame.row_count shape.shard_bytes * 64 < 2 ^ 64) }
+        ensures fits { IfOk result (λ _. chunk_count_of shape.frame.row_count shape.configuration.shard_bytes * 64 < 2 ^ 64) }
         ensures grown { IfOk result (λ x. IfSome work (λ w. Grows (work_room w) (memory_room x.memory))) }
-        ensures enough { IfSome work (λ w. chunk_count_of shape.frame.row_count shape.shard_bytes * 64 < 2 ^ 64
-            → HasRoom (work_room w) shape.frame.row_count shape.shard_bytes → IsOk result) }
+        ensures enough { IfSome work (λ w. chunk_count_of shape.frame.row_count shape.configuration.shard_bytes * 64 < 2 ^ 64
+            → HasRoom (work_room w) shape.frame.row_count shape.configuration.shard_bytes → IsOk result) }
     {
-        let chunks = chunk_count(shape.frame.row_count, shape.shard_bytes)?;
+        let chunks = chunk_count(shape.frame.row_count, shape.configuration.shard_bytes)?;
         let mut memory = DecoderMemory::of(alloc, work);
         memory.make_room(chunks, shape.frame.row_count)?;
         memory.set_empty(chunks, shape.frame.row_count);
@@ -222,12 +221,12 @@ impl DecoderRows {
         ensures shape { OnOk result (self.new.shape ≡ shape) }
         ensures same_shape { OnErr result (self.new.shape ≡ self.old.shape) }
         ensures memory { IfErr result (λ e. e ≡ Error.OutOfMemory) }
-        ensures fits { IfOk result (λ _. chunk_count_of shape.frame.row_count shape.shard_bytes * 64 < 2 ^ 64) }
+        ensures fits { IfOk result (λ _. chunk_count_of shape.frame.row_count shape.configuration.shard_bytes * 64 < 2 ^ 64) }
         ensures grown { Grows (memory_room self.old.memory) (memory_room self.new.memory) }
-        ensures enough { chunk_count_of shape.frame.row_count shape.shard_bytes * 64 < 2 ^ 64
-            → HasRoom (memory_room self.old.memory) shape.frame.row_count shape.shard_bytes → IsOk result }
+        ensures enough { chunk_count_of shape.frame.row_count shape.configuration.shard_bytes * 64 < 2 ^ 64
+            → HasRoom (memory_room self.old.memory) shape.frame.row_count shape.configuration.shard_bytes → IsOk result }
     {
-        let chunks = chunk_count(shape.frame.row_count, shape.shard_bytes)?;
+        let chunks = chunk_count(shape.frame.row_count, shape.configuration.shard_bytes)?;
         self.memory.make_room(chunks, shape.frame.row_count)?;
         self.memory.set_empty(chunks, shape.frame.row_count);
         self.shape = shape;
@@ -279,9 +278,9 @@ impl DecoderRows {
         if self.memory.marks.is_given(row) {
             return Err(side.repeat_refused(index));
         }
-        if shard.len() != self.shape.shard_bytes {
+        if shard.len() != self.shape.configuration.shard_bytes {
             return Err(Error::DifferentShardSize {
-                shard_bytes: self.shape.shard_bytes,
+                shard_bytes: self.shape.configuration.shard_bytes,
                 got: shard.len(),
             });
         }
@@ -293,17 +292,17 @@ impl DecoderRows {
 
     // What a decode of the rows has to do.
     pub(crate) fn round(&self) -> Round
-        requires { self.now.shape.original_count ≤ self.now.originals_given + self.now.recovery_given }
+        requires { self.now.shape.configuration.original_count ≤ self.now.originals_given + self.now.recovery_given }
         ensures shape { result.shape ≡ self.now.shape }
-        ensures missing { result.missing + self.now.originals_given ≡ self.now.shape.original_count }
-        ensures surplus { result.surplus + self.now.shape.original_count ≡ self.now.originals_given + self.now.recovery_given }
+        ensures missing { result.missing + self.now.originals_given ≡ self.now.shape.configuration.original_count }
+        ensures surplus { result.surplus + self.now.shape.configuration.original_count ≡ self.now.originals_given + self.now.recovery_given }
         ensures facts { CanBeRestored result self.now.memory.marks }
     {
         let given = self.originals_given + self.recovery_given;
         Round {
             shape: self.shape,
-            missing: self.shape.original_count - self.originals_given,
-            surplus: given - self.shape.original_count,
+            missing: self.shape.configuration.original_count - self.originals_given,
+            surplus: given - self.shape.configuration.original_count,
         }
     }
 
@@ -311,9 +310,9 @@ impl DecoderRows {
     pub(crate) fn check_enough_given(&self) -> Result<(), Error>
         ensures { (rate : Rate) → result ≡ enough_given (decoder_state rate self.now) }
     {
-        if self.originals_given + self.recovery_given < self.shape.original_count {
+        if self.originals_given + self.recovery_given < self.shape.configuration.original_count {
             return Err(Error::NotEnoughShards {
-                original_count: self.shape.original_count,
+                original_count: self.shape.configuration.original_count,
                 original_received_count: self.originals_given,
                 recovery_received_count: self.recovery_given,
             });
@@ -324,22 +323,26 @@ impl DecoderRows {
     pub(crate) fn restored_original(&self, index: usize) -> Option<&[u8]>
         ensures { option_copied result ≡ restored_of self.now index }
     {
-        if index >= self.shape.original_count {
+        if index >= self.shape.configuration.original_count {
             return None;
         }
         let row = self.shape.original_row(index);
         if !self.memory.marks.is_restored(row) {
             return None;
         }
-        Some(shard_at(self.memory.chunks.as_slice(), self.shape.shard_bytes, row))
+        Some(shard_at(
+            self.memory.chunks.as_slice(),
+            self.shape.configuration.shard_bytes,
+            row,
+        ))
     }
 
     // The first restored original from an index on, with its index.
     pub(crate) fn next_restored(&self, from: usize) -> Option<(usize, &[u8])>
         ensures { MatchOption result (restored_from self.now from ≡ [])
-            (λ item. (item.0 < self.now.shape.original_count) × (restored_from self.now from ≡ (item.0, item.1.now) ∷ restored_from self.now (item.0 + 1))) }
+            (λ item. (item.0 < self.now.shape.configuration.original_count) × (restored_from self.now from ≡ (item.0, item.1.now) ∷ restored_from self.now (item.0 + 1))) }
     {
-        for index in from..self.shape.original_count {
+        for index in from..self.shape.configuration.original_count {
             if let Some(shard) = self.restored_original(index) {
                 return Some((index, shard));
             }

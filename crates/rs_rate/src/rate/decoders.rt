@@ -4,7 +4,8 @@ ghost use Rattle.rs_field.specs.code.Configuration.{validated};
 ghost use Rattle.rs_rate.specs.DecoderView.{configuration_of, decoder_shape as decoder_shape_of, decoder_state, memory_room};
 
 use crate::decoder_result::DecoderResult;
-use crate::rate::code::{Code, DefaultCode, HighCode, LowCode, RateOf, decoder_shape, validate};
+use crate::rate::code::{Code, DefaultCode, HighCode, LowCode, RateOf};
+use crate::rate::configuration::Configuration;
 use crate::rate::decoder_work::DecoderRows;
 use crate::rate::rounds::{decode_round, lent_originals};
 use crate::rate::{DecoderWork, RateDecoder};
@@ -29,7 +30,7 @@ pub struct Decoder<E: Engine, C: Code> {
     pub(crate) rows: DecoderRows,
     code: PhantomData<C>,
     pub ghost valid: { validated (configuration_of C.rate rows.shape) ≡ Ok tt },
-    pub ghost shaped: { rows.shape ≡ decoder_shape_of C.rate rows.shape.original_count rows.shape.recovery_count rows.shape.shard_bytes },
+    pub ghost shaped: { rows.shape ≡ decoder_shape_of C.rate rows.shape.configuration.original_count rows.shape.configuration.recovery_count rows.shape.configuration.shard_bytes },
 }
 
 impl<E: Engine, C: Code> RateDecoder<E> for Decoder<E, C> {
@@ -46,7 +47,7 @@ impl<E: Engine, C: Code> RateDecoder<E> for Decoder<E, C> {
     ghost room = { λ x. memory_room x.rows.memory };
 
     fn supports(original_count: usize, recovery_count: usize) -> bool {
-        C::supports(original_count, recovery_count)
+        C::choose(original_count, recovery_count).is_some()
     }
 
     fn validate(
@@ -54,7 +55,8 @@ impl<E: Engine, C: Code> RateDecoder<E> for Decoder<E, C> {
         recovery_count: usize,
         shard_bytes: usize,
     ) -> Result<(), Error> {
-        validate::<C>(original_count, recovery_count, shard_bytes)
+        Configuration::validated::<C>(original_count, recovery_count, shard_bytes)?;
+        Ok(())
     }
 
     fn new(
@@ -65,9 +67,12 @@ impl<E: Engine, C: Code> RateDecoder<E> for Decoder<E, C> {
         engine: E,
         work: Option<DecoderWork>,
     ) -> Result<Decoder<E, C>, Error> {
-        Self::validate(original_count, recovery_count, shard_bytes)?;
-        let shape = decoder_shape::<C>(original_count, recovery_count, shard_bytes);
-        let rows = DecoderRows::new(alloc, shape, work)?;
+        let configuration = Configuration::validated::<C>(
+            original_count,
+            recovery_count,
+            shard_bytes,
+        )?;
+        let rows = DecoderRows::new(alloc, configuration.decoder_shape(), work)?;
         Ok(Decoder {
             engine,
             rows,
@@ -81,9 +86,12 @@ impl<E: Engine, C: Code> RateDecoder<E> for Decoder<E, C> {
         recovery_count: usize,
         shard_bytes: usize,
     ) -> Result<(), Error> {
-        validate::<C>(original_count, recovery_count, shard_bytes)?;
-        let shape = decoder_shape::<C>(original_count, recovery_count, shard_bytes);
-        self.rows.reset(shape)
+        let configuration = Configuration::validated::<C>(
+            original_count,
+            recovery_count,
+            shard_bytes,
+        )?;
+        self.rows.reset(configuration.decoder_shape())
     }
 
     fn add_original_shard(&mut self, index: usize, original_shard: &[u8]) -> Result<(), Error> {

@@ -30,10 +30,10 @@ pub(crate) fn decode_rows<E: Engine>(
     steps: &mut Steps,
     rows: &mut DecoderRows,
 ) -> Result<usize, Error>
-    requires enough { rows.old.shape.original_count ≤ rows.old.originals_given + rows.old.recovery_given }
+    requires enough { rows.old.shape.configuration.original_count ≤ rows.old.originals_given + rows.old.recovery_given }
     ensures state { (rate : Rate) → decoder_state rate rows.new ≡ fresh_decoder (configuration_of rate rows.old.shape) }
     ensures answer { (rate : Rate) → validated (configuration_of rate rows.old.shape) ≡ Ok tt
-        → rows.old.shape ≡ decoder_shape rate rows.old.shape.original_count rows.old.shape.recovery_count rows.old.shape.shard_bytes
+        → rows.old.shape ≡ decoder_shape rate rows.old.shape.configuration.original_count rows.old.shape.configuration.recovery_count rows.old.shape.configuration.shard_bytes
         → MatchResult result (λ _. Restored (decoder_state rate rows.old) (restored_of rows.new)) (NoneAgrees (decoder_state rate rows.old)) }
     ensures counted { IfOk result (λ count. count ≡ length (restored_from rows.new 0)) }
     ensures shape { rows.new.shape ≡ rows.old.shape }
@@ -53,7 +53,7 @@ pub(crate) fn decode_rows<E: Engine>(
     in_order_are_bytes(
         rows.memory.chunks.as_slice(),
         round.shape.frame.row_count,
-        round.shape.shard_bytes,
+        round.shape.configuration.shard_bytes,
     );
     rows.originals_given = 0;
     rows.recovery_given = 0;
@@ -69,10 +69,10 @@ fn restore<E: Engine>(
     memory: &mut DecoderMemory,
     round: Round,
 ) -> bool
-    requires whole { chunk_count round.shape.frame.row_count round.shape.shard_bytes ≤ length memory.old.chunks.items }
+    requires whole { chunk_count round.shape.frame.row_count round.shape.configuration.shard_bytes ≤ length memory.old.chunks.items }
     requires entries { length memory.old.erasures.items ≡ round.shape.frame.row_count }
     requires facts { CanBeRestored round memory.old.marks }
-    ensures marks { WantsMissing round.shape.frame.originals_from round.shape.original_count memory.old.marks memory.new.marks }
+    ensures marks { WantsMissing round.shape.frame.originals_from round.shape.configuration.original_count memory.old.marks memory.new.marks }
     ensures length { length memory.new.chunks.items ≡ length memory.old.chunks.items }
     ensures entries { length memory.new.erasures.items ≡ length memory.old.erasures.items }
     ensures room { memory_room memory.new ≡ memory_room memory.old }
@@ -83,9 +83,10 @@ fn restore<E: Engine>(
 {
     let shape = round.shape;
     if round.missing == 0 && round.surplus == 0 {
-        memory
-            .marks
-            .want_missing(shape.frame.originals_from, shape.original_count);
+        memory.marks.want_missing(
+            shape.frame.originals_from,
+            shape.configuration.original_count,
+        );
         return true;
     }
     let entries = memory.erasures.as_mut_slice();
@@ -148,11 +149,11 @@ fn restore_chunks<E: Engine>(
     locator: &[GfElement],
     round: Round,
 ) -> bool
-    requires whole { chunk_count round.shape.frame.row_count round.shape.shard_bytes ≤ length chunks.old }
+    requires whole { chunk_count round.shape.frame.row_count round.shape.configuration.shard_bytes ≤ length chunks.old }
     requires facts { CanBeRestored round marks.old }
     requires given { marks.old.shards ≡ MarkedShards.Given }
     requires located { length locator.now ≡ round.shape.frame.row_count }
-    ensures marks { WantsMissing round.shape.frame.originals_from round.shape.original_count marks.old marks.new }
+    ensures marks { WantsMissing round.shape.frame.originals_from round.shape.configuration.original_count marks.old marks.new }
     ensures shards { RestoresShards round.shape (given_marks marks.old) locator.now round.surplus chunks.old chunks.new result }
     ensures counts { CountsUpTo (3 * transform_steps round.shape.frame.row_count + 4 * round.shape.frame.row_count) 0 0 steps.old steps.new }
 {
@@ -172,16 +173,16 @@ fn restore_words<E: Engine>(
     locator: &[GfElement],
     round: Round,
 ) -> bool
-    requires whole { round.shape.frame.row_count * chunks_for round.shape.shard_bytes ≤ length chunks.old }
+    requires whole { round.shape.frame.row_count * chunks_for round.shape.configuration.shard_bytes ≤ length chunks.old }
     requires facts { CanBeRestored round marks.old }
     requires given { marks.old.shards ≡ MarkedShards.Given }
     requires located { length locator.now ≡ round.shape.frame.row_count }
-    ensures marks { WantsMissing round.shape.frame.originals_from round.shape.original_count marks.old marks.new }
+    ensures marks { WantsMissing round.shape.frame.originals_from round.shape.configuration.original_count marks.old marks.new }
     ensures words { RestoresWords round.shape (given_marks marks.old) locator.now round.surplus
-        (word_in chunks.old (chunks_for round.shape.shard_bytes)) (word_in chunks.new (chunks_for round.shape.shard_bytes)) result }
+        (word_in chunks.old (chunks_for round.shape.configuration.shard_bytes)) (word_in chunks.new (chunks_for round.shape.configuration.shard_bytes)) result }
     ensures counts { CountsUpTo (restore_steps round.shape round.surplus) 0 0 steps.old steps.new }
 {
-    let len = row_len(round.shape.shard_bytes);
+    let len = row_len(round.shape.configuration.shard_bytes);
     let mut rows = ShardsRefMut::new(round.shape.frame.row_count, len, chunks);
     restore_rows(engine, steps, &mut rows, marks, locator, round)
 }
@@ -195,16 +196,16 @@ fn move_restored_tails(
 )
     requires laid { DecoderCanBeLaid shape }
     requires marked { vec_len marks.now.rows ≡ shape.frame.row_count }
-    requires whole { chunk_count shape.frame.row_count shape.shard_bytes ≤ length chunks.old }
-    ensures moved { (i : ℕ) → i < shape.original_count → let p = original_row shape i in is_marked (restored_marks marks.now) p ≡ true
-        → shard_in_order chunks.new shape.shard_bytes p ≡ shard_laid_out chunks.old shape.shard_bytes p }
-    ensures counts { CountsUpTo shape.original_count 0 0 steps.old steps.new }
+    requires whole { chunk_count shape.frame.row_count shape.configuration.shard_bytes ≤ length chunks.old }
+    ensures moved { (i : ℕ) → i < shape.configuration.original_count → let p = original_row shape i in is_marked (restored_marks marks.now) p ≡ true
+        → shard_in_order chunks.new shape.configuration.shard_bytes p ≡ shard_laid_out chunks.old shape.configuration.shard_bytes p }
+    ensures counts { CountsUpTo shape.configuration.original_count 0 0 steps.old steps.new }
 {
-    for i in 0..shape.original_count {
+    for i in 0..shape.configuration.original_count {
         let row = shape.original_row(i);
         if marks.is_restored(row) {
             steps.row_step();
-            move_tail(chunks, row, shape.shard_bytes);
+            move_tail(chunks, row, shape.configuration.shard_bytes);
         }
     }
 }

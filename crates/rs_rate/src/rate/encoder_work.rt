@@ -8,6 +8,7 @@ ghost use Rattle.rs_field.specs.code.Encoder.{with_shard, message_of};
 ghost use Rattle.rs_rate.specs.Shapes.{EncoderCanBeLaid};
 ghost use Rattle.rs_rate.specs.ShardRows.{chunk_count as chunk_count_of, shard_laid_out, shard_in_order};
 
+use crate::rate::configuration::Configuration;
 use crate::rate::memory::{make_room, set_chunks, vec_of};
 use crate::rate::shard_rows::{chunk_count, insert_at, shard_at, shard_is_bytes};
 use rs_field::error::Error;
@@ -19,14 +20,11 @@ pub struct EncoderWork {
     pub(crate) chunks: Option<Vec<[u8; 64]>>,
 }
 
-/// What an encoder's rows are set up for: its counts, the size of a shard, its rows, and the rows of a block.
+/// What an encoder's rows are set up for, and how many they are.
 #[derive(Clone, Copy)]
 pub struct EncoderShape {
-    pub original_count: usize,
-    pub recovery_count: usize,
-    pub shard_bytes: usize,
+    pub configuration: Configuration,
     pub row_count: usize,
-    pub block_rows: usize,
 }
 
 /// The rows of an encoder, and how many originals were given.
@@ -36,11 +34,11 @@ pub struct EncoderRows {
     pub(crate) originals_given: usize,
     pub(crate) chunks: Vec<[u8; 64]>,
     pub ghost laid: { EncoderCanBeLaid shape },
-    pub ghost no_more: { originals_given ≤ shape.original_count },
-    pub ghost whole: { vec_len chunks ≡ chunk_count_of shape.row_count shape.shard_bytes },
-    pub ghost own_room: { chunk_count_of shape.row_count shape.shard_bytes ≤ vec_capacity chunks },
-    pub ghost sized: { chunk_count_of shape.row_count shape.shard_bytes * 64 < 2 ^ 64 },
-    pub ghost shards: { (i : ℕ) → i < originals_given → IsShard shape.shard_bytes (shard_laid_out chunks.items shape.shard_bytes i) },
+    pub ghost no_more: { originals_given ≤ shape.configuration.original_count },
+    pub ghost whole: { vec_len chunks ≡ chunk_count_of shape.row_count shape.configuration.shard_bytes },
+    pub ghost own_room: { chunk_count_of shape.row_count shape.configuration.shard_bytes ≤ vec_capacity chunks },
+    pub ghost sized: { chunk_count_of shape.row_count shape.configuration.shard_bytes * 64 < 2 ^ 64 },
+    pub ghost shards: { (i : ℕ) → i < originals_given → IsShard shape.configuration.shard_bytes (shard_laid_out chunks.items shape.configuration.shard_bytes i) },
 }
 
 impl EncoderWork {
@@ -80,7 +78,7 @@ impl EncoderRows {
         ensures grown { IfOk result (λ x. IfSome work (λ w. work_room w ≤ vec_capacity x.chunks)) }
         ensures enough { IfSome work (λ w. shape_chunks shape * 64 < 2 ^ 64 → shape_chunks shape ≤ work_room w → IsOk result) }
     {
-        let count = chunk_count(shape.row_count, shape.shard_bytes)?;
+        let count = chunk_count(shape.row_count, shape.configuration.shard_bytes)?;
         let mut chunks = match work {
             Some(work) => vec_of(alloc, work.chunks),
             None => Vec::new(alloc),
@@ -104,7 +102,7 @@ impl EncoderRows {
         ensures grown { vec_capacity self.old.chunks ≤ vec_capacity self.new.chunks }
         ensures enough { shape_chunks shape * 64 < 2 ^ 64 → shape_chunks shape ≤ vec_capacity self.old.chunks → IsOk result }
     {
-        let count = chunk_count(shape.row_count, shape.shard_bytes)?;
+        let count = chunk_count(shape.row_count, shape.configuration.shard_bytes)?;
         make_room(&mut self.chunks, count)?;
         self.originals_given = 0;
         set_chunks(&mut self.chunks, count);
@@ -118,14 +116,14 @@ impl EncoderRows {
         ensures shape { self.new.shape ≡ self.old.shape }
         ensures room { vec_capacity self.new.chunks ≡ vec_capacity self.old.chunks }
     {
-        if self.originals_given == self.shape.original_count {
+        if self.originals_given == self.shape.configuration.original_count {
             return Err(Error::TooManyOriginalShards {
-                original_count: self.shape.original_count,
+                original_count: self.shape.configuration.original_count,
             });
         }
-        if original_shard.len() != self.shape.shard_bytes {
+        if original_shard.len() != self.shape.configuration.shard_bytes {
             return Err(Error::DifferentShardSize {
-                shard_bytes: self.shape.shard_bytes,
+                shard_bytes: self.shape.configuration.shard_bytes,
                 got: original_shard.len(),
             });
         }
@@ -143,9 +141,9 @@ impl EncoderRows {
     pub(crate) fn check_all_given(&self) -> Result<(), Error>
         ensures { (rate : Rate) → result ≡ answer_of (message_of (encoder_state rate self.now)) }
     {
-        if self.originals_given < self.shape.original_count {
+        if self.originals_given < self.shape.configuration.original_count {
             return Err(Error::TooFewOriginalShards {
-                original_count: self.shape.original_count,
+                original_count: self.shape.configuration.original_count,
                 original_received_count: self.originals_given,
             });
         }
@@ -153,12 +151,16 @@ impl EncoderRows {
     }
 
     pub(crate) fn recovery(&self, index: usize) -> Option<&[u8]>
-        ensures { MatchOption result (self.now.shape.recovery_count ≤ index)
-            (λ shard. (index < self.now.shape.recovery_count) × (shard.now ≡ shard_in_order self.now.chunks.items self.now.shape.shard_bytes index)) }
+        ensures { MatchOption result (self.now.shape.configuration.recovery_count ≤ index)
+            (λ shard. (index < self.now.shape.configuration.recovery_count) × (shard.now ≡ shard_in_order self.now.chunks.items self.now.shape.configuration.shard_bytes index)) }
     {
-        if index >= self.shape.recovery_count {
+        if index >= self.shape.configuration.recovery_count {
             return None;
         }
-        Some(shard_at(self.chunks.as_slice(), self.shape.shard_bytes, index))
+        Some(shard_at(
+            self.chunks.as_slice(),
+            self.shape.configuration.shard_bytes,
+            index,
+        ))
     }
 }

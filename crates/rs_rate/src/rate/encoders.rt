@@ -5,7 +5,8 @@ ghost use Rattle.rs_field.specs.code.Configuration.{validated};
 ghost use Rattle.rs_rate.specs.EncoderView.{configuration_of, encoder_shape as encoder_shape_of, encoder_state};
 
 use crate::encoder_result::EncoderResult;
-use crate::rate::code::{Code, DefaultCode, HighCode, LowCode, RateOf, encoder_shape, validate};
+use crate::rate::code::{Code, DefaultCode, HighCode, LowCode, RateOf};
+use crate::rate::configuration::Configuration;
 use crate::rate::encoder_work::EncoderRows;
 use crate::rate::rounds::{encode_round, lent_recovery};
 use crate::rate::{EncoderWork, RateEncoder};
@@ -30,7 +31,7 @@ pub struct Encoder<E: Engine, C: Code> {
     pub(crate) rows: EncoderRows,
     code: PhantomData<C>,
     pub ghost valid: { validated (configuration_of C.rate rows.shape) ≡ Ok tt },
-    pub ghost shaped: { rows.shape ≡ encoder_shape_of C.rate rows.shape.original_count rows.shape.recovery_count rows.shape.shard_bytes },
+    pub ghost shaped: { rows.shape ≡ encoder_shape_of C.rate rows.shape.configuration.original_count rows.shape.configuration.recovery_count rows.shape.configuration.shard_bytes },
 }
 
 impl<E: Engine, C: Code> RateEncoder<E> for Encoder<E, C> {
@@ -47,7 +48,7 @@ impl<E: Engine, C: Code> RateEncoder<E> for Encoder<E, C> {
     ghost room = { λ x. vec_capacity x.rows.chunks };
 
     fn supports(original_count: usize, recovery_count: usize) -> bool {
-        C::supports(original_count, recovery_count)
+        C::choose(original_count, recovery_count).is_some()
     }
 
     fn validate(
@@ -55,7 +56,8 @@ impl<E: Engine, C: Code> RateEncoder<E> for Encoder<E, C> {
         recovery_count: usize,
         shard_bytes: usize,
     ) -> Result<(), Error> {
-        validate::<C>(original_count, recovery_count, shard_bytes)
+        Configuration::validated::<C>(original_count, recovery_count, shard_bytes)?;
+        Ok(())
     }
 
     fn new(
@@ -66,9 +68,12 @@ impl<E: Engine, C: Code> RateEncoder<E> for Encoder<E, C> {
         engine: E,
         work: Option<EncoderWork>,
     ) -> Result<Encoder<E, C>, Error> {
-        Self::validate(original_count, recovery_count, shard_bytes)?;
-        let shape = encoder_shape::<C>(original_count, recovery_count, shard_bytes);
-        let rows = EncoderRows::new(alloc, shape, work)?;
+        let configuration = Configuration::validated::<C>(
+            original_count,
+            recovery_count,
+            shard_bytes,
+        )?;
+        let rows = EncoderRows::new(alloc, configuration.encoder_shape(), work)?;
         Ok(Encoder {
             engine,
             rows,
@@ -82,9 +87,12 @@ impl<E: Engine, C: Code> RateEncoder<E> for Encoder<E, C> {
         recovery_count: usize,
         shard_bytes: usize,
     ) -> Result<(), Error> {
-        validate::<C>(original_count, recovery_count, shard_bytes)?;
-        let shape = encoder_shape::<C>(original_count, recovery_count, shard_bytes);
-        self.rows.reset(shape)
+        let configuration = Configuration::validated::<C>(
+            original_count,
+            recovery_count,
+            shard_bytes,
+        )?;
+        self.rows.reset(configuration.encoder_shape())
     }
 
     fn add_original_shard(&mut self, original_shard: &[u8]) -> Result<(), Error> {

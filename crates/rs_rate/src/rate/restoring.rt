@@ -44,12 +44,12 @@ pub(crate) fn restore_rows<E: Engine>(
 ) -> bool
     requires fits { Fits rows.old }
     requires count { rows.old.shard_count ≡ round.shape.frame.row_count }
-    requires len { rows.old.shard_len_64 ≡ chunks_for round.shape.shard_bytes }
+    requires len { rows.old.shard_len_64 ≡ chunks_for round.shape.configuration.shard_bytes }
     requires facts { CanBeRestored round marks.old }
     requires given { marks.old.shards ≡ MarkedShards.Given }
     requires located { length locator.now ≡ round.shape.frame.row_count }
     ensures shape { SameShape rows.old rows.new }
-    ensures marks { WantsMissing round.shape.frame.originals_from round.shape.original_count marks.old marks.new }
+    ensures marks { WantsMissing round.shape.frame.originals_from round.shape.configuration.original_count marks.old marks.new }
     ensures words { RestoresWords round.shape (given_marks marks.old) locator.now round.surplus (word rows.old) (word rows.new) result }
     ensures counts { CountsUpTo (restore_steps round.shape round.surplus) 0 0 steps.old steps.new }
 {
@@ -58,9 +58,12 @@ pub(crate) fn restore_rows<E: Engine>(
     locate_rows(engine, steps, rows, given, locator);
     engine.ifft_given(steps, rows, 0, given, 0);
     row_symbols_are_words(rows);
-    marks.want_missing(shape.frame.originals_from, shape.original_count);
+    marks.want_missing(
+        shape.frame.originals_from,
+        shape.configuration.original_count,
+    );
     let first = shape.frame.row_count - round.surplus;
-    if !are_zero(steps, rows, first, shape.shard_bytes) {
+    if !are_zero(steps, rows, first, shape.configuration.shard_bytes) {
         return false;
     }
     if round.missing > 0 {
@@ -134,12 +137,12 @@ fn reveal_rows<E: Engine>(
     requires marked { vec_len marks.now.rows ≡ rows.old.shard_count }
     requires located { length locator.now ≡ rows.old.shard_count }
     ensures shape { SameShape rows.old rows.new }
-    ensures revealed { (k s i : ℕ) → k < rows.old.shard_len_64 → s < 32 → i < shape.original_count
+    ensures revealed { (k s i : ℕ) → k < rows.old.shard_len_64 → s < 32 → i < shape.configuration.original_count
         → let p = original_row shape i in is_marked (restored_marks marks.now) p ≡ true
         → word rows.new k s p ≡ product (word rows.old k s p) (power (65535 - slice_index locator.now p)) }
-    ensures counts { CountsUpTo shape.original_count 0 0 steps.old steps.new }
+    ensures counts { CountsUpTo shape.configuration.original_count 0 0 steps.old steps.new }
 {
-    for i in 0..shape.original_count {
+    for i in 0..shape.configuration.original_count {
         let row = shape.original_row(i);
         if marks.is_restored(row) {
             mul_row(engine, steps, rows, row, GF_MODULUS - locator[row]);

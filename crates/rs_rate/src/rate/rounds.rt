@@ -38,7 +38,7 @@ pub fn encode_round<E: Engine, C: Code>(
         ≡ ⟦<Encoder<E, C> as RateEncoder<E>>⟧.room encoder.old }
 {
     encoder.rows.check_all_given()?;
-    encode_rows::<E, C>(&encoder.engine, steps, &mut encoder.rows);
+    encode_rows(&encoder.engine, steps, &mut encoder.rows);
     Ok(())
 }
 

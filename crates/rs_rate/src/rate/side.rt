@@ -18,8 +18,8 @@ impl Side {
         ensures { result ≡ side_count self shape }
     {
         match self {
-            Side::Original => shape.original_count,
-            Side::Recovery => shape.recovery_count,
+            Side::Original => shape.configuration.original_count,
+            Side::Recovery => shape.configuration.recovery_count,
         }
     }
 
@@ -56,11 +56,11 @@ impl Side {
     {
         match self {
             Side::Original => Error::InvalidOriginalShardIndex {
-                original_count: shape.original_count,
+                original_count: shape.configuration.original_count,
                 index,
             },
             Side::Recovery => Error::InvalidRecoveryShardIndex {
-                recovery_count: shape.recovery_count,
+                recovery_count: shape.configuration.recovery_count,
                 index,
             },
         }

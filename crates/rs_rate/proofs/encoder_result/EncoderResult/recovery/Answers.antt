@@ -16,4 +16,4 @@ in_list n index f (Some shard) (inside, is) = let same = length-up_to n f in (om
 pub returns : goal.returns
 returns c =
     let rows = c.args.self.now.rows.now in
-    in_list rows.shape.recovery_count c.args.index (shard_in_order rows.chunks.items rows.shape.shard_bytes) c.recovery.result c.recovery.ensures
+    in_list rows.shape.configuration.recovery_count c.args.index (shard_in_order rows.chunks.items rows.shape.configuration.shard_bytes) c.recovery.result c.recovery.ensures

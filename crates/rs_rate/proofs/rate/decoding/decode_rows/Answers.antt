@@ -19,7 +19,7 @@ use Rattle.rs_rate.proofs.rate.decoding.decode_rows.Goals.{then-agrees, else-agr
 
 pub restore-agrees-requires-clause-whole : goal.restore-agrees-requires-clause-whole
 restore-agrees-requires-clause-whole g c =
-    let count = ap (λ (s : DecoderShape). chunk_count s.frame.row_count s.shard_bytes) c.round-round.ensures.shape in
+    let count = ap (λ (s : DecoderShape). chunk_count s.frame.row_count s.configuration.shard_bytes) c.round-round.ensures.shape in
     omega (arith, count, c.args.rows.now.whole)
 
 pub restore-agrees-requires-clause-entries : goal.restore-agrees-requires-clause-entries
@@ -29,7 +29,7 @@ restore-agrees-requires-clause-entries g c =
 
 pub in_order_are_bytes-requires : goal.in_order_are_bytes-requires
 in_order_are_bytes-requires g c =
-    let count = ap (λ (s : DecoderShape). chunk_count s.frame.row_count s.shard_bytes) c.round-round.ensures.shape in
+    let count = ap (λ (s : DecoderShape). chunk_count s.frame.row_count s.configuration.shard_bytes) c.round-round.ensures.shape in
     let slice = ap length c.as_slice.ensures.value in
     omega (arith, count, slice, c.args.rows.now.whole, c.restore-agrees.ensures.length)
 
@@ -51,8 +51,8 @@ invariant_of-rows g c =
       own_marks = omega (arith, old.own_marks, missing.room);
       entries = omega (arith, old.entries, c.restore-agrees.ensures.entries);
       own_entries = omega (arith, old.own_entries, entry_room);
-      originals_counted = sym (given_row_count-nothing _ s.frame.originals_from s.original_count (λ i inside. empty (s.frame.originals_from + i)));
-      recovery_counted = sym (given_row_count-nothing _ s.frame.recovery_from s.recovery_count (λ i inside. empty (s.frame.recovery_from + i)));
+      originals_counted = sym (given_row_count-nothing _ s.frame.originals_from s.configuration.original_count (λ i inside. empty (s.frame.originals_from + i)));
+      recovery_counted = sym (given_row_count-nothing _ s.frame.recovery_from s.configuration.recovery_count (λ i inside. empty (s.frame.recovery_from + i)));
       placed = λ p _ _. empty p;
       shards = λ p given. absurd (let no : true ≡ false = sym given ∙ empty p in let never : ⊥ = cc in never);
     }
@@ -72,25 +72,25 @@ returns-clause-answer g c = λ rate valid shaped.
     let marks = restored_marks c.restore-agrees.new.memory.marks in
     let chunks = c.restore-agrees.new.memory.chunks.items in
     let round = c.round-round.ensures in
-    let missing : WantsMissing c.args.rows.now.shape.frame.originals_from c.args.rows.now.shape.original_count c.args.rows.now.memory.marks c.restore-agrees.new.memory.marks =
-    subst (λ (x : DecoderShape). WantsMissing x.frame.originals_from x.original_count old.memory.marks c.restore-agrees.new.memory.marks) round.shape c.restore-agrees.ensures.marks in
-    let most = given_row_count-most given from s.original_count in
-    let most_too = given_row_count-most given s.frame.recovery_from s.recovery_count in
-    let sized = λ (i : ℕ) (inside : i < s.original_count).
-    subst (λ (xs : Chunks). IsShard s.shard_bytes (shard_in_order xs s.shard_bytes (from + i))) c.as_slice.ensures.value
-    (subst (λ (x : DecoderShape). IsShard x.shard_bytes (shard_in_order c.as_slice.result.now x.shard_bytes (from + i))) round.shape
+    let missing : WantsMissing c.args.rows.now.shape.frame.originals_from c.args.rows.now.shape.configuration.original_count c.args.rows.now.memory.marks c.restore-agrees.new.memory.marks =
+    subst (λ (x : DecoderShape). WantsMissing x.frame.originals_from x.configuration.original_count old.memory.marks c.restore-agrees.new.memory.marks) round.shape c.restore-agrees.ensures.marks in
+    let most = given_row_count-most given from s.configuration.original_count in
+    let most_too = given_row_count-most given s.frame.recovery_from s.configuration.recovery_count in
+    let sized = λ (i : ℕ) (inside : i < s.configuration.original_count).
+    subst (λ (xs : Chunks). IsShard s.configuration.shard_bytes (shard_in_order xs s.configuration.shard_bytes (from + i))) c.as_slice.ensures.value
+    (subst (λ (x : DecoderShape). IsShard x.configuration.shard_bytes (shard_in_order c.as_slice.result.now x.configuration.shard_bytes (from + i))) round.shape
     (c.in_order_are_bytes.ensures (from + i) (omega (arith, inside, old.laid.original_rows, ap (λ (x : DecoderShape). x.frame.row_count) round.shape)))) in
-    let told : ((c.restore-agrees.result ≡ true) × (c.if-agrees.answer ≡ Ok (s.original_count - old.originals_given)))
+    let told : ((c.restore-agrees.result ≡ true) × (c.if-agrees.answer ≡ Ok (s.configuration.original_count - old.originals_given)))
     ⊎ ((c.restore-agrees.result ≡ false) × (c.if-agrees.answer ≡ Err (InconsistentShards c.args.rows.now.originals_given c.args.rows.now.recovery_given))) =
     elim c.if-agrees.branch [
-      | then-agrees w ↦ inl (w.if-agrees.true, w.answer-is ∙ ap Ok (let is : c.round-round.result.missing ≡ c.args.rows.now.shape.original_count - c.args.rows.now.originals_given = omega arith in is))
+      | then-agrees w ↦ inl (w.if-agrees.true, w.answer-is ∙ ap Ok (let is : c.round-round.result.missing ≡ c.args.rows.now.shape.configuration.original_count - c.args.rows.now.originals_given = omega arith in is))
       | else-agrees w ↦ inr (w.if-agrees.false, w.answer-is)
     ] in
     let over : AnswersOver rate c.args.rows.now.shape (given_marks c.args.rows.now.memory.marks) (restored_marks c.restore-agrees.new.memory.marks) c.args.rows.now.memory.chunks.items c.restore-agrees.new.memory.chunks.items c.restore-agrees.result =
     elim (cases_eq (c.round-round.result.missing + c.round-round.result.surplus) 0) [
       | inl none ↦
           subst (λ b. AnswersOver rate s given marks before chunks b) (sym (c.restore-agrees.ensures.nothing (omega arith) (omega arith)))
-          (complete_answers rate s given marks before chunks valid shaped old.laid.even old.shards
+          (complete_answers rate s given marks before chunks valid shaped old.laid.configured.even old.shards
           (omega (arith, none, most, most_too, round.missing, round.surplus, old.originals_counted, old.recovery_counted))
           (omega (arith, none, most, most_too, round.missing, round.surplus, old.originals_counted, old.recovery_counted)) missing.missing)
       | inr some ↦
@@ -100,7 +100,7 @@ returns-clause-answer g c = λ rate valid shaped.
           (c.restore-agrees.ensures.restored (omega arith)) in
           decode_answers rate s given marks made.0 c.round-round.result.surplus before chunks c.restore-agrees.result valid shaped
           (record {
-            even = old.laid.even;
+            even = old.laid.configured.even;
             placed = old.placed;
             shards = old.shards;
             counted = omega (arith, round.surplus, old.originals_counted, old.recovery_counted);
@@ -110,7 +110,7 @@ returns-clause-answer g c = λ rate valid shaped.
             sized = sized;
           })
     ] in
-    told_answer (s.original_count - old.originals_given) rate s given marks before chunks old.originals_given old.recovery_given c.restore-agrees.result c.if-agrees.answer told old.originals_counted old.recovery_counted over
+    told_answer (s.configuration.original_count - old.originals_given) rate s given marks before chunks old.originals_given old.recovery_given c.restore-agrees.result c.if-agrees.answer told old.originals_counted old.recovery_counted over
 
 pub returns-clause-counted : goal.returns-clause-counted
 returns-clause-counted g c =
@@ -118,9 +118,9 @@ returns-clause-counted g c =
     let s = old.shape in
     let given = given_marks old.memory.marks in
     let new = c.restore-agrees.new.memory in
-    let missing : WantsMissing c.args.rows.now.shape.frame.originals_from c.args.rows.now.shape.original_count c.args.rows.now.memory.marks c.restore-agrees.new.memory.marks =
-    subst (λ (x : DecoderShape). WantsMissing x.frame.originals_from x.original_count old.memory.marks new.marks) c.round-round.ensures.shape c.restore-agrees.ensures.marks in
-    let counted = length-restored given (restored_marks new.marks) new.chunks.items s.shard_bytes s.frame.originals_from s.original_count missing.missing in
+    let missing : WantsMissing c.args.rows.now.shape.frame.originals_from c.args.rows.now.shape.configuration.original_count c.args.rows.now.memory.marks c.restore-agrees.new.memory.marks =
+    subst (λ (x : DecoderShape). WantsMissing x.frame.originals_from x.configuration.original_count old.memory.marks new.marks) c.round-round.ensures.shape c.restore-agrees.ensures.marks in
+    let counted = length-restored given (restored_marks new.marks) new.chunks.items s.configuration.shard_bytes s.frame.originals_from s.configuration.original_count missing.missing in
     elim c.if-agrees.branch [
       | then-agrees w ↦ let is : c.if-agrees.answer ≡ Ok c.round-round.result.missing = w.answer-is in rw (is, sub-zero) (omega (arith, counted, old.originals_counted, c.round-round.ensures.missing))
       | else-agrees w ↦ rw w.answer-is tt

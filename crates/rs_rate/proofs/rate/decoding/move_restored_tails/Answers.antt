@@ -16,12 +16,12 @@ pub move_tail-requires-clause-room : goal.move_tail-requires-clause-room
 move_tail-requires-clause-room c =
     let s = c.args.shape in
     let below : c.original_row-row.result < s.frame.row_count = omega (arith, c.loop-i-test.true, c.original_row-row.ensures, c.requires.laid.original_rows) in
-    let within = chunk_count-within c.original_row-row.result s.frame.row_count s.shard_bytes (length c.args.chunks.now) below c.requires.whole in
+    let within = chunk_count-within c.original_row-row.result s.frame.row_count s.configuration.shard_bytes (length c.args.chunks.now) below c.requires.whole in
     omega (arith, within, c.loop-i.auto.chunks)
 
 pub loop-i-preserved : goal.loop-i-preserved
 loop-i-preserved c =
-    let size = c.args.shape.shard_bytes in
+    let size = c.args.shape.configuration.shard_bytes in
     let marks = restored_marks c.args.marks.now in
     let from = c.args.shape.frame.originals_from in
     let p = c.original_row-row.result in
@@ -29,7 +29,7 @@ loop-i-preserved c =
     let mid = c.loop-i.chunks in
     let new = c.if-is_restored.chunks in
     let before = c.loop-i.invariant in
-    let step : TailMoved (restored_marks c.args.marks.now) c.args.shape.shard_bytes c.original_row-row.result c.loop-i.chunks c.if-is_restored.chunks c.loop-i.steps c.if-is_restored.steps =
+    let step : TailMoved (restored_marks c.args.marks.now) c.args.shape.configuration.shard_bytes c.original_row-row.result c.loop-i.chunks c.if-is_restored.chunks c.loop-i.steps c.if-is_restored.steps =
     elim c.if-is_restored.branch [
       | then-is_restored w ↦
           subst (λ (r : Chunks). TailMoved marks size p mid r c.loop-i.steps c.if-is_restored.steps) (sym w.chunks-is)

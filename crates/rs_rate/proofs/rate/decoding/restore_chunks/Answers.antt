@@ -8,7 +8,7 @@ use Rattle.rs_rate.proofs.rate.decoding.restore_chunks.Goals as goal
 
 pub restore_words-agrees-requires-clause-whole : goal.restore_words-agrees-requires-clause-whole
 restore_words-agrees-requires-clause-whole g c =
-    let is = chunk_count-is c.args.round.shape.frame.row_count c.args.round.shape.shard_bytes in omega (arith, is, c.requires.whole)
+    let is = chunk_count-is c.args.round.shape.frame.row_count c.args.round.shape.configuration.shard_bytes in omega (arith, is, c.requires.whole)
 
 pub returns-then-agrees-clause-shards : goal.returns-then-agrees-clause-shards
 returns-then-agrees-clause-shards g c =
@@ -16,9 +16,9 @@ returns-then-agrees-clause-shards g c =
     let mid = c.restore_words-agrees.new.chunks in
     let missing = c.restore_words-agrees.ensures.marks in
     record {
-      words = word_in mid (row_len s.shard_bytes);
+      words = word_in mid (row_len s.configuration.shard_bytes);
       restored = c.restore_words-agrees.ensures.words;
       shards = λ _ i j inside hj none.
           ap (column j) (c.move_restored_tails.ensures.moved i inside (missing.missing i inside ∙ ap not none))
-          ∙ column-put mid s.shard_bytes (s.frame.originals_from + i) j c.requires.facts.laid.even hj;
+          ∙ column-put mid s.configuration.shard_bytes (s.frame.originals_from + i) j c.requires.facts.laid.configured.even hj;
     }

@@ -1,30 +1,33 @@
-use Rattle.std.proofs.Common.{◌≡◌, ℕ, ◌+◌, ◌*◌, rules, ap, ap₂, sym, ◌∙◌, arith}
+use Rattle.std.proofs.Common.{◌≡◌, ℕ, rules, Bool, sym, ◌∙◌, subst, arith}
+use Rattle.rs_field.specs.code.Counts.{low_rate, high_rate}
 use Rattle.rs_field.specs.rows.Layout.{row_len}
-use Rattle.rs_field.specs.rows.Rows.{chunk, symbol, Chunks}
-use Rattle.rs_field.specs.rows.View.{cell, word}
+use Rattle.rs_rate.specs.Coding.{CodesWords}
+use Rattle.rs_rate.specs.Configured.{low_or_high}
 use Rattle.rs_rate.specs.ShardRows.{word_in}
-use Rattle.rs_rate.proofs.Coded.{words-read}
-use Rattle.rs_rate.proofs.RateLemmas.{shape-rows, shape-block}
+use Rattle.rs_rate.proofs.Coded.{rows-read}
+use Rattle.rs_rate.proofs.ConfiguredLemmas.{configured-low, configured-high}
 use Rattle.rs_rate.proofs.rate.encoding.code_chunks.Goals as goal
 
-pub code_rows-requires-clause-rows : goal.code_rows-requires-clause-rows
-code_rows-requires-clause-rows g c =
-    c.new-data.ensures.count ∙ ap (λ s. s.row_count) c.requires.shaped ∙ shape-rows g.C.Code.rate c.args.shape.original_count c.args.shape.recovery_count c.args.shape.shard_bytes
+pub code_low-requires-clause-block : goal.code_low-requires-clause-block
+code_low-requires-clause-block g c = (configured-low c.args.shape.configuration c.requires.laid.configured c.if-configuration.true).1
 
-pub code_rows-requires-clause-block : goal.code_rows-requires-clause-block
-code_rows-requires-clause-block g c =
-    ap (λ s. s.block_rows) c.requires.shaped ∙ shape-block g.C.Code.rate c.args.shape.original_count c.args.shape.recovery_count c.args.shape.shard_bytes
+pub returns-then-configuration-clause-words : goal.returns-then-configuration-clause-words
+returns-then-configuration-clause-words g c = λ k s inside symbols.
+    let own = c.args.shape.configuration in
+    let n : ℕ = row_len own.shard_bytes in
+    let len : c.new-rows.result.shard_len_64 ≡ n = c.new-rows.ensures.len_64 ∙ c.row_len-len.ensures in
+    subst (λ (low : Bool). CodesWords (low_or_high low) own.original_count own.recovery_count (word_in c.args.chunks.now n k s) (word_in c.chunks-1.given.0 n k s)) (sym c.if-configuration.true)
+    (rows-read low_rate own.original_count own.recovery_count n k s c.args.chunks.now c.chunks-1.given.0 c.new-rows.result c.code_low.new.rows
+    len (c.code_low.ensures.shape.len_64 ∙ len) c.new-rows.ensures.chunks (search rules) (c.code_low.ensures.words k s (omega arith) symbols))
 
-pub returns-clause-words : goal.returns-clause-words
-unfolding cell
-returns-clause-words g c = λ k s inside symbols.
-    let n : ℕ = row_len c.args.shape.shard_bytes in
-    let old : c.new-data.result.chunks.now ≡ c.args.chunks.now = c.new-data.ensures.chunks in
-    let len : c.new-data.result.shard_len_64 ≡ row_len c.args.shape.shard_bytes = c.new-data.ensures.len_64 ∙ c.row_len.ensures in
-    let len_too : c.code_rows.new.«data».shard_len_64 ≡ row_len c.args.shape.shard_bytes = c.code_rows.ensures.shape.len_64 ∙ len in
-    let new : c.chunks-1.given.0 ≡ c.code_rows.new.«data».chunks.now = search rules in
-    words-read g.C.Code.rate c.args.shape.original_count c.args.shape.recovery_count
-    (word c.new-data.result k s) (word c.code_rows.new.«data» k s) (word_in c.args.chunks.now n k s) (word_in c.chunks-1.given.0 n k s)
-    (λ i few. ap₂ (λ (m : ℕ) (xs : Chunks). symbol (chunk xs (i * m + k)) s) (sym len) (sym old))
-    (λ i few. ap₂ (λ (m : ℕ) (xs : Chunks). symbol (chunk xs (i * m + k)) s) (sym len_too) new)
-    (c.code_rows.ensures.words k s (omega arith) symbols)
+pub code_high-requires-clause-block : goal.code_high-requires-clause-block
+code_high-requires-clause-block g c = (configured-high c.args.shape.configuration c.requires.laid.configured c.if-configuration.false).1
+
+pub returns-else-configuration-clause-words : goal.returns-else-configuration-clause-words
+returns-else-configuration-clause-words g c = λ k s inside symbols.
+    let own = c.args.shape.configuration in
+    let n : ℕ = row_len own.shard_bytes in
+    let len : c.new-rows.result.shard_len_64 ≡ n = c.new-rows.ensures.len_64 ∙ c.row_len-len.ensures in
+    subst (λ (low : Bool). CodesWords (low_or_high low) own.original_count own.recovery_count (word_in c.args.chunks.now n k s) (word_in c.chunks-else-configuration-1.given.0 n k s)) (sym c.if-configuration.false)
+    (rows-read high_rate own.original_count own.recovery_count n k s c.args.chunks.now c.chunks-else-configuration-1.given.0 c.new-rows.result c.code_high.new.rows
+    len (c.code_high.ensures.shape.len_64 ∙ len) c.new-rows.ensures.chunks (search rules) (c.code_high.ensures.words k s (omega arith) symbols))

@@ -16,19 +16,19 @@ use Rattle.rs_rate.proofs.rate.low_encoding.code_further.Goals as goal
 pub copy_rows-requires-clause-within : goal.copy_rows-requires-clause-within
 copy_rows-requires-clause-within g c =
     let loop = c.loop-start.invariant in
-    let next = next_block c.loop-start.start c.args.«data».now.shard_count c.args.block (omega (arith, c.requires.enough)) loop.whole c.requires.whole in
+    let next = next_block c.loop-start.start c.args.rows.now.shard_count c.args.block (omega (arith, c.requires.enough)) loop.whole c.requires.whole in
     omega (arith, next, loop.shape.count)
 
 pub fft-requires-clause-within : goal.fft-requires-clause-within
 fft-requires-clause-within g c =
     let loop = c.loop-start.invariant in
-    let next = next_block c.loop-start.start c.args.«data».now.shard_count c.args.block (omega (arith, c.requires.enough)) loop.whole c.requires.whole in
+    let next = next_block c.loop-start.start c.args.rows.now.shard_count c.args.block (omega (arith, c.requires.enough)) loop.whole c.requires.whole in
     omega (arith, next, loop.shape.count, c.copy_rows.ensures.shape.count)
 
 pub fft-requires-clause-points : goal.fft-requires-clause-points
 fft-requires-clause-points g c =
     let loop = c.loop-start.invariant in
-    let next = next_block c.loop-start.start c.args.«data».now.shard_count c.args.block (omega (arith, c.requires.enough)) loop.whole c.requires.whole in
+    let next = next_block c.loop-start.start c.args.rows.now.shard_count c.args.block (omega (arith, c.requires.enough)) loop.whole c.requires.whole in
     omega (arith, next, c.requires.points)
 
 pub fft-requires-clause-shift : goal.fft-requires-clause-shift
@@ -40,18 +40,18 @@ loop-start-preserved g c =
     let block = c.args.block in
     let some : 0 < c.args.block = (let p = pow_pos c.requires.power.0 in omega (arith, c.requires.power.1)) in
     let step : ℕ = c.args.block + transform_steps c.args.block in
-    let next = next_block c.loop-start.start c.args.«data».now.shard_count c.args.block (omega (arith, c.requires.enough)) loop.whole c.requires.whole in
-    let same : c.loop-start.«data».shard_len_64 ≡ c.args.«data».now.shard_len_64 = loop.shape.len_64 in
-    let same_too : c.copy_rows.new.«data».shard_len_64 ≡ c.args.«data».now.shard_len_64 = c.copy_rows.ensures.shape.len_64 ∙ same in
-    let kept_before : (i k : ℕ) → k < c.args.«data».now.shard_len_64 → i < c.loop-start.start → cell c.copy_rows.new.«data» k i ≡ cell c.loop-start.«data» k i
-    = λ i k inside before. outside_cell _ _ c.loop-start.«data» c.copy_rows.new.«data» c.copy_rows.ensures.shape c.copy_rows.ensures.others i k (omega arith) (inl before) in
-    let kept_after : (i k : ℕ) → k < c.args.«data».now.shard_len_64 → i < c.loop-start.start → cell c.fft.new.«data» k i ≡ cell c.copy_rows.new.«data» k i
+    let next = next_block c.loop-start.start c.args.rows.now.shard_count c.args.block (omega (arith, c.requires.enough)) loop.whole c.requires.whole in
+    let same : c.loop-start.rows.shard_len_64 ≡ c.args.rows.now.shard_len_64 = loop.shape.len_64 in
+    let same_too : c.copy_rows.new.«data».shard_len_64 ≡ c.args.rows.now.shard_len_64 = c.copy_rows.ensures.shape.len_64 ∙ same in
+    let kept_before : (i k : ℕ) → k < c.args.rows.now.shard_len_64 → i < c.loop-start.start → cell c.copy_rows.new.«data» k i ≡ cell c.loop-start.rows k i
+    = λ i k inside before. outside_cell _ _ c.loop-start.rows c.copy_rows.new.«data» c.copy_rows.ensures.shape c.copy_rows.ensures.others i k (omega arith) (inl before) in
+    let kept_after : (i k : ℕ) → k < c.args.rows.now.shard_len_64 → i < c.loop-start.start → cell c.fft.new.«data» k i ≡ cell c.copy_rows.new.«data» k i
     = λ i k inside before. outside_cell _ _ c.copy_rows.new.«data» c.fft.new.«data» c.fft.ensures.shape c.fft.ensures.others i k (omega arith) (inl before) in
     record {
       first = omega arith;
       whole = add-mod_right c.loop-start.start c.args.block ∙ loop.whole;
       within = omega (arith, next);
-      fits = fits_kept c.copy_rows.new.«data» c.fft.new.«data» c.fft.ensures.shape (fits_kept c.loop-start.«data» c.copy_rows.new.«data» c.copy_rows.ensures.shape loop.fits);
+      fits = fits_kept c.copy_rows.new.«data» c.fft.new.«data» c.fft.ensures.shape (fits_kept c.loop-start.rows c.copy_rows.new.«data» c.copy_rows.ensures.shape loop.fits);
       shape = record {
         name = c.fft.ensures.shape.name ∙ c.copy_rows.ensures.shape.name ∙ loop.shape.name;
         count = c.fft.ensures.shape.count ∙ c.copy_rows.ensures.shape.count ∙ loop.shape.count;
@@ -61,11 +61,11 @@ loop-start-preserved g c =
       combination = λ i k inside small.
           kept_after i k inside (omega arith) ∙ kept_before i k inside (omega arith) ∙ loop.combination i k inside small;
       values = λ k s i inside symbols low high few.
-          further-more c.args.block c.loop-start.start c.args.recovery_count c.min-wanted.result (word c.args.«data».now k s) (word c.loop-start.«data» k s) (word c.copy_rows.new.«data» k s) (word c.fft.new.«data» k s)
+          further-more c.args.block c.loop-start.start c.args.recovery_count c.min-wanted.result (word c.args.rows.now k s) (word c.loop-start.rows k s) (word c.copy_rows.new.«data» k s) (word c.fft.new.«data» k s)
           c.min-wanted.ensures loop.first
           (λ q small. ap (λ x. symbol x s) (loop.combination q k inside small))
           (λ j from to below. loop.values k s j inside symbols from to below)
-          (λ q small. ap (λ x. symbol x s) (c.copy_rows.ensures.copied q k (omega arith) (omega arith)) ∙ ap (word c.loop-start.«data» k s) (zero-add q))
+          (λ q small. ap (λ x. symbol x s) (c.copy_rows.ensures.copied q k (omega arith) (omega arith)) ∙ ap (word c.loop-start.rows k s) (zero-add q))
           (λ j before. ap (λ x. symbol x s) (kept_before j k inside before))
           (λ j wanted. c.fft.ensures.values k s j (omega arith) symbols wanted)
           (λ j before. ap (λ x. symbol x s) (kept_after j k inside before))
@@ -79,7 +79,7 @@ loop-start-preserved g c =
 pub returns-clause-counts : goal.returns-clause-counts
 returns-clause-counts g c =
     let block : ℕ = c.args.block in
-    let rows : ℕ = c.args.«data».now.shard_count in
+    let rows : ℕ = c.args.rows.now.shard_count in
     let step : ℕ = c.args.block + transform_steps c.args.block in
     let loop = c.loop-start.invariant in
     let some : 0 < c.args.block = (let p = pow_pos c.requires.power.0 in omega (arith, c.requires.power.1)) in

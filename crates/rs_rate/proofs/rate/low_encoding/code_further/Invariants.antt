@@ -9,12 +9,12 @@ abbrev pub invariant-loop-start : goal.invariant-loop-start
 invariant-loop-start g l = record {
   first : l.block ≤ l.start;
   whole : l.start % l.block ≡ 0;
-  within : l.start - l.block ≤ l.fn.«data».shard_count - l.block;
-  fits : Fits l.«data»;
-  shape : SameShape l.initial.«data» l.«data»;
-  combination : (i k : ℕ) → k < l.initial.«data».shard_len_64 → i < l.block → cell l.«data» k i ≡ cell l.initial.«data» k i;
-  values : (k s i : ℕ) → k < l.initial.«data».shard_len_64 → s < 32 → l.block ≤ i → i < l.start → i < l.recovery_count
-      → word l.«data» k s i ≡ forward l.block 0 (λ q. word l.initial.«data» k s q) (l.block + i);
+  within : l.start - l.block ≤ l.fn.rows.shard_count - l.block;
+  fits : Fits l.rows;
+  shape : SameShape l.initial.rows l.rows;
+  combination : (i k : ℕ) → k < l.initial.rows.shard_len_64 → i < l.block → cell l.rows k i ≡ cell l.initial.rows k i;
+  values : (k s i : ℕ) → k < l.initial.rows.shard_len_64 → s < 32 → l.block ≤ i → i < l.start → i < l.recovery_count
+      → word l.rows k s i ≡ forward l.block 0 (λ q. word l.initial.rows k s q) (l.block + i);
   counts : CountsUpTo (further_blocks l.block l.start * (l.block + transform_steps l.block)) 0 0 l.fn.steps l.steps;
 }
 

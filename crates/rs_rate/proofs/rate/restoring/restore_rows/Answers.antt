@@ -45,7 +45,7 @@ returns-then-not-are_zero-clause-words g c =
           ap (λ given. located given locator (word old k t) i) (sym told) ∙ sym (c.locate_rows.ensures.located k t i (omega (arith, hk, c.requires.len)) ht (omega (arith, hi, c.requires.count)))
           ∙ from_row_zero _ rows i (word c.locate_rows.new.rows k t) (word passed k t) size
           (c.ifft_given.ensures.values k t i (omega (arith, hk, located_shape.len_64, c.requires.len)) ht (omega (arith, hi, size)));
-      checked = checked_rows rows c.args.round.surplus s.shard_bytes passed.shard_count (rows - c.args.round.surplus) (word passed) c.are_zero.result false
+      checked = checked_rows rows c.args.round.surplus s.configuration.shard_bytes passed.shard_count (rows - c.args.round.surplus) (word passed) c.are_zero.result false
           c.requires.facts.few_surplus refl (shape.count ∙ located_shape.count ∙ c.requires.count) c.if-not-are_zero.true c.are_zero.ensures.zero;
       revealed = λ no. absurd (true≢false (sym no));
     }
@@ -75,7 +75,7 @@ returns-then-round-gt0-clause-words g c =
           ap (λ given. located given locator (word old k t) i) (sym told) ∙ sym (c.locate_rows.ensures.located k t i (omega (arith, hk, c.requires.len)) ht (omega (arith, hi, c.requires.count)))
           ∙ from_row_zero _ rows i (word c.locate_rows.new.rows k t) (word passed k t) size
           (c.ifft_given.ensures.values k t i (omega (arith, hk, located_shape.len_64, c.requires.len)) ht (omega (arith, hi, size)));
-      checked = checked_rows rows c.args.round.surplus s.shard_bytes passed.shard_count (rows - c.args.round.surplus) (word passed) c.are_zero.result true
+      checked = checked_rows rows c.args.round.surplus s.configuration.shard_bytes passed.shard_count (rows - c.args.round.surplus) (word passed) c.are_zero.result true
           c.requires.facts.few_surplus refl (shape.count ∙ located_shape.count ∙ c.requires.count) c.if-not-are_zero.false c.are_zero.ensures.zero;
       revealed = λ _ k t hk ht i hi none. (
         word added k t,
@@ -107,7 +107,7 @@ returns-else-round-gt0-clause-words g c =
           ap (λ given. located given locator (word old k t) i) (sym told) ∙ sym (c.locate_rows.ensures.located k t i (omega (arith, hk, c.requires.len)) ht (omega (arith, hi, c.requires.count)))
           ∙ from_row_zero _ rows i (word c.locate_rows.new.rows k t) (word passed k t) size
           (c.ifft_given.ensures.values k t i (omega (arith, hk, located_shape.len_64, c.requires.len)) ht (omega (arith, hi, size)));
-      checked = checked_rows rows c.args.round.surplus s.shard_bytes passed.shard_count (rows - c.args.round.surplus) (word passed) c.are_zero.result true
+      checked = checked_rows rows c.args.round.surplus s.configuration.shard_bytes passed.shard_count (rows - c.args.round.surplus) (word passed) c.are_zero.result true
           c.requires.facts.few_surplus refl (shape.count ∙ located_shape.count ∙ c.requires.count) c.if-not-are_zero.false c.are_zero.ensures.zero;
-      revealed = λ _ k t hk ht i hi none. absurd (true≢false (sym (all_given (given_marks c.args.marks.now) s.frame.originals_from s.original_count (omega (arith, c.if-round-gt0.false, c.requires.facts.counted)) i hi) ∙ none));
+      revealed = λ _ k t hk ht i hi none. absurd (true≢false (sym (all_given (given_marks c.args.marks.now) s.frame.originals_from s.configuration.original_count (omega (arith, c.if-round-gt0.false, c.requires.facts.counted)) i hi) ∙ none));
     }

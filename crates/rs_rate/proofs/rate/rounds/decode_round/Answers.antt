@@ -26,8 +26,8 @@ decode_rows-requires g c =
     let marks = (given_marks rows.memory.marks) in
     let chunks = rows.memory.chunks.items in
     let least = enough-least (decoder_state g.C.Code.rate rows) (c.in_ok-check_enough_given.ensures g.C.Code.rate) in
-    let originals = count-given marks chunks s.shard_bytes s.frame.originals_from s.original_count in
-    let recovery = count-given marks chunks s.shard_bytes s.frame.recovery_from s.recovery_count in
+    let originals = count-given marks chunks s.configuration.shard_bytes s.frame.originals_from s.configuration.original_count in
+    let recovery = count-given marks chunks s.configuration.shard_bytes s.frame.recovery_from s.configuration.recovery_count in
     omega (arith, least, originals, recovery, rows.originals_counted, rows.recovery_counted)
 
 pub returns-clause-answer : goal.returns-clause-answer
@@ -38,7 +38,7 @@ returns-clause-answer g c =
 pub returns-clause-counts : goal.returns-clause-counts
 returns-clause-counts g c =
     let rows = c.args.decoder.now.rows in
-    let rate_rows = ap (λ s. s.frame.row_count) c.args.decoder.now.shaped ∙ frame-rows g.C.Code.rate rows.shape.original_count rows.shape.recovery_count in
+    let rate_rows = ap (λ s. s.frame.row_count) c.args.decoder.now.shaped ∙ frame-rows g.C.Code.rate rows.shape.configuration.original_count rows.shape.configuration.recovery_count in
     subst (λ (n : ℕ). CountsUpTo (decode_steps n) 1048576 65536 c.args.steps.now c.decode_rows.new.steps) rate_rows c.decode_rows.ensures.counts
 
 pub returns-clause-state : goal.returns-clause-state

@@ -1,7 +1,12 @@
-use Rattle.std.proofs.Common.{sym, ◌∙◌, arith}
+use Rattle.std.proofs.Common.{ℕ, sym, ◌∙◌, subst, arith}
 use Rattle.std.proofs.lemmas.Result.{err_from_is_err_and}
 use Rattle.rs_field.proofs.of_rows.LayoutLemmas.{length-up_to}
-use Rattle.rs_rate.specs.EncoderView.{encoder_state, lent_of}
+use Rattle.rs_field.specs.words.StepBounds.{CountsUpTo}
+use Rattle.rs_rate.specs.Configured.{low_or_high}
+use Rattle.rs_rate.specs.EncoderView.{encoder_state, given_of, lent_of}
+use Rattle.rs_rate.proofs.ConfiguredLemmas.{encoder-alike}
+use Rattle.rs_rate.proofs.EncodeCounting.{steps_alike}
+use Rattle.rs_rate.proofs.RateLemmas.{shards_alike}
 use Rattle.rs_rate.specs.ShardRows.{shard_laid_out}
 use Rattle.rs_rate.proofs.StateLemmas.{after_encode-refused, encode_answers-refused, message-whole, after_encode-made, encode_answers-made, encoder_state-fresh}
 use Rattle.rs_rate.proofs.rate.rounds.encode_round.Goals as goal
@@ -16,17 +21,29 @@ pub returns-in_err-check_all_given-clause-state : goal.returns-in_err-check_all_
 returns-in_err-check_all_given-clause-state g c =
     after_encode-refused (encoder_state g.C.Code.rate c.args.encoder.now.rows) _ (c.in_err-check_all_given.ensures g.C.Code.rate)
 
-pub encode_rows-requires-clause-full : goal.encode_rows-requires-clause-full
-encode_rows-requires-clause-full g c =
+pub encode_rows-requires : goal.encode_rows-requires
+encode_rows-requires g c =
     let rows = c.args.encoder.now.rows in
     let whole = message-whole (encoder_state g.C.Code.rate rows) (c.in_ok-check_all_given.ensures g.C.Code.rate) in
-    let given = length-up_to rows.originals_given (shard_laid_out rows.chunks.items rows.shape.shard_bytes) in
+    let given = length-up_to rows.originals_given (shard_laid_out rows.chunks.items rows.shape.configuration.shard_bytes) in
     omega (arith, whole.0, given, rows.no_more)
 
 pub returns-clause-answer : goal.returns-clause-answer
 returns-clause-answer g c =
-    let state = encoder_state g.C.Code.rate c.args.encoder.now.rows in
-    encode_answers-made state (lent_of c.encode_rows.new.rows) (c.in_ok-check_all_given.ensures g.C.Code.rate) c.encode_rows.ensures.recovery
+    let rows = c.args.encoder.now.rows in
+    let own = rows.shape.configuration in
+    let state = encoder_state g.C.Code.rate rows in
+    let alike = encoder-alike g.C.Code.rate own.original_count own.recovery_count own.shard_bytes rows.shape c.args.encoder.now.shaped in
+    encode_answers-made state (lent_of c.encode_rows.new.rows) (c.in_ok-check_all_given.ensures g.C.Code.rate)
+    (shards_alike (low_or_high own.is_low) g.C.Code.rate own.original_count own.recovery_count own.shard_bytes (given_of rows) (lent_of c.encode_rows.new.rows) alike
+    c.encode_rows.ensures.recovery)
+
+pub returns-clause-counts : goal.returns-clause-counts
+returns-clause-counts g c =
+    let rows = c.args.encoder.now.rows in
+    let own = rows.shape.configuration in
+    let alike = encoder-alike g.C.Code.rate own.original_count own.recovery_count own.shard_bytes rows.shape c.args.encoder.now.shaped in
+    subst (λ (n : ℕ). CountsUpTo n 0 0 c.args.steps.now c.encode_rows.new.steps) (steps_alike (low_or_high own.is_low) g.C.Code.rate own.original_count own.recovery_count alike) c.encode_rows.ensures.counts
 
 pub returns-clause-state : goal.returns-clause-state
 returns-clause-state g c =

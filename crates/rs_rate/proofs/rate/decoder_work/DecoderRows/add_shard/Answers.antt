@@ -37,7 +37,7 @@ enter-requires-clause-room c =
     let row = c.first_row.result + c.args.index in
     let size = ap (λ n. chunk_count (row + 1) n) c.if-shard-self.false in
     let below = side-within w c.args.side in
-    let within = chunk_count-within row w.shape.frame.row_count w.shape.shard_bytes (length w.memory.chunks.items) (omega (arith, c.if-index-count.false, c.count.ensures, c.first_row.ensures, below)) (omega (arith, w.whole)) in
+    let within = chunk_count-within row w.shape.frame.row_count w.shape.configuration.shard_bytes (length w.memory.chunks.items) (omega (arith, c.if-index-count.false, c.count.ensures, c.first_row.ensures, below)) (omega (arith, w.whole)) in
     omega (arith, size, within, w.whole)
 
 pub overflow_add-self : goal.overflow_add-self
@@ -47,7 +47,7 @@ overflow_add-self c =
     row_entered w c.args.side c.args.index c.first_row.result c.count.result c.args.shard.now (given_marks c.enter.new.self.marks) c.enter.new.self.chunks.items c.first_row.ensures c.count.ensures
     c.if-index-count.false (sym c.is_given.ensures ∙ c.if-is_given.false) c.if-shard-self.false c.enter.ensures.mark c.enter.ensures.here c.enter.ensures.other_marks c.enter.ensures.others in
     let counted = (add-counted w c.args.side c.args.index (c.first_row.result + c.args.index) c.args.shard.now (given_marks c.enter.new.self.marks) c.enter.new.self.chunks.items e).0 in
-    let most = given_row_count-most (given_marks c.enter.new.self.marks) w.shape.frame.originals_from w.shape.original_count in
+    let most = given_row_count-most (given_marks c.enter.new.self.marks) w.shape.frame.originals_from w.shape.configuration.original_count in
     omega (arith, counted, most, c.originals.ensures, w.laid.original_rows, w.laid.few)
 
 pub overflow_add-self-2 : goal.overflow_add-self-2
@@ -57,7 +57,7 @@ overflow_add-self-2 c =
     row_entered w c.args.side c.args.index c.first_row.result c.count.result c.args.shard.now (given_marks c.enter.new.self.marks) c.enter.new.self.chunks.items c.first_row.ensures c.count.ensures
     c.if-index-count.false (sym c.is_given.ensures ∙ c.if-is_given.false) c.if-shard-self.false c.enter.ensures.mark c.enter.ensures.here c.enter.ensures.other_marks c.enter.ensures.others in
     let counted = (add-counted w c.args.side c.args.index (c.first_row.result + c.args.index) c.args.shard.now (given_marks c.enter.new.self.marks) c.enter.new.self.chunks.items e).1 in
-    let most = given_row_count-most (given_marks c.enter.new.self.marks) w.shape.frame.recovery_from w.shape.recovery_count in
+    let most = given_row_count-most (given_marks c.enter.new.self.marks) w.shape.frame.recovery_from w.shape.configuration.recovery_count in
     omega (arith, counted, most, c.recovery.ensures, w.laid.recovery_rows, w.laid.few)
 
 pub returns-clause-answer : goal.returns-clause-answer
@@ -102,7 +102,7 @@ invariant_of-self c =
       placed = λ p not_own not_coded.
           c.enter.ensures.other_marks p (outside-apart w c.args.side c.args.index row p e.at e.inside not_own not_coded) ∙ w.placed p not_own not_coded;
       shards = λ p given.
-          shard-entered w.memory.chunks.items c.enter.new.self.chunks.items w.shape.shard_bytes row (length c.args.shard.now) p c.args.shard.now
+          shard-entered w.memory.chunks.items c.enter.new.self.chunks.items w.shape.configuration.shard_bytes row (length c.args.shard.now) p c.args.shard.now
           c.if-shard-self.false c.enter.ensures.shard c.enter.ensures.here c.enter.ensures.others
           (λ apart. w.shards p (sym (c.enter.ensures.other_marks p apart) ∙ given));
     }

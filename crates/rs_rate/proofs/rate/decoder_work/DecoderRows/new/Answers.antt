@@ -19,8 +19,8 @@ invariant_of-result c =
       own_marks = omega (arith, room.1, grown.rows);
       entries = c.set_empty.ensures.entries;
       own_entries = omega (arith, room.2, grown.entries);
-      originals_counted = sym (given_row_count-nothing marks s.frame.originals_from s.original_count (λ i inside. empty (s.frame.originals_from + i)));
-      recovery_counted = sym (given_row_count-nothing marks s.frame.recovery_from s.recovery_count (λ i inside. empty (s.frame.recovery_from + i)));
+      originals_counted = sym (given_row_count-nothing marks s.frame.originals_from s.configuration.original_count (λ i inside. empty (s.frame.originals_from + i)));
+      recovery_counted = sym (given_row_count-nothing marks s.frame.recovery_from s.configuration.recovery_count (λ i inside. empty (s.frame.recovery_from + i)));
       placed = λ p not_own not_coded. empty p;
       shards = λ p given. absurd (let no : true ≡ false = sym given ∙ empty p in let never : ⊥ = cc in never);
     }

@@ -6,31 +6,31 @@ use Rattle.rs_rate.proofs.rate.decoder_work.DecoderRows.round.Goals as goal
 pub overflow_add-given : goal.overflow_add-given
 overflow_add-given c =
     let w = c.args.self.now in
-    let most = given_row_count-most (given_marks w.memory.marks) w.shape.frame.originals_from w.shape.original_count in
-    let most_too = given_row_count-most (given_marks w.memory.marks) w.shape.frame.recovery_from w.shape.recovery_count in
+    let most = given_row_count-most (given_marks w.memory.marks) w.shape.frame.originals_from w.shape.configuration.original_count in
+    let most_too = given_row_count-most (given_marks w.memory.marks) w.shape.frame.recovery_from w.shape.configuration.recovery_count in
     omega (arith, most, most_too, w.originals_counted, w.recovery_counted, w.laid.original_rows, w.laid.recovery_rows, w.laid.few)
 
 pub overflow_sub-result : goal.overflow_sub-result
 overflow_sub-result c =
     let w = c.args.self.now in
-    let most = given_row_count-most (given_marks w.memory.marks) w.shape.frame.originals_from w.shape.original_count in
+    let most = given_row_count-most (given_marks w.memory.marks) w.shape.frame.originals_from w.shape.configuration.original_count in
     omega (arith, most, w.originals_counted)
 
 pub returns-clause-missing : goal.returns-clause-missing
 returns-clause-missing c =
     let w = c.args.self.now in
-    let most = given_row_count-most (given_marks w.memory.marks) w.shape.frame.originals_from w.shape.original_count in
+    let most = given_row_count-most (given_marks w.memory.marks) w.shape.frame.originals_from w.shape.configuration.original_count in
     omega (arith, most, w.originals_counted)
 
 pub returns-clause-facts : goal.returns-clause-facts
 returns-clause-facts c =
     let w = c.args.self.now in
-    let most = given_row_count-most (given_marks w.memory.marks) w.shape.frame.originals_from w.shape.original_count in
-    let most_too = given_row_count-most (given_marks w.memory.marks) w.shape.frame.recovery_from w.shape.recovery_count in
+    let most = given_row_count-most (given_marks w.memory.marks) w.shape.frame.originals_from w.shape.configuration.original_count in
+    let most_too = given_row_count-most (given_marks w.memory.marks) w.shape.frame.recovery_from w.shape.configuration.recovery_count in
     record {
       laid = w.laid;
       marked = w.marked;
-      shards = λ some. given_if_some w.memory.marks w.shape.frame.originals_from w.shape.original_count w.shape.frame.recovery_from w.shape.recovery_count
+      shards = λ some. given_if_some w.memory.marks w.shape.frame.originals_from w.shape.configuration.original_count w.shape.frame.recovery_from w.shape.configuration.recovery_count
           (omega (arith, some, c.requires, most, w.originals_counted, w.recovery_counted));
       counted = omega (arith, most, w.originals_counted);
       few_surplus = omega (arith, most, most_too, w.originals_counted, w.recovery_counted, w.laid.recovery_rows);

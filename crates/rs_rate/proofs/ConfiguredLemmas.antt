@@ -1,0 +1,191 @@
+-- What a coder is set up for: its rate is the low or the high rate, whose rows and frame have room for its shards.
+use Rattle.std.proofs.Common.{◌≡◌, ◌≢◌, ℕ, ◌+◌, ◌%◌, ◌^◌, ◌<◌, ◌≤◌, Bool, true, false, refl, sym, ap, ◌∙◌, subst, arith, pow_mono}
+use Rattle.std.specs.Prelude.{cond, Result, Ok, Err, OnOk, OnErr}
+use Rattle.std.proofs.lemmas.Nat.{pow_pos}
+use Rattle.rs_field.specs.declared.code.error.Error.{Error}
+use Rattle.rs_field.specs.code.Configuration.{configuration, validated}
+use Rattle.rs_field.specs.code.Counts.{Rate, next_power, supports, is_low, low_rate, high_rate}
+use Rattle.rs_field.specs.code.Placement.{block_rows, encoder_rows, rounded_up}
+use Rattle.rs_field.proofs.of_code.NextPower.{next_power-small, power_is_own}
+use Rattle.rs_field.proofs.of_code.SupportedCounts.{low_fits, high_fits}
+use Rattle.rs_rate.specs.declared.rate.configuration.Configuration.{Configuration}
+use Rattle.rs_rate.specs.declared.rate.decoder_work.Frame.{Frame}
+use Rattle.rs_rate.specs.declared.rate.encoder_work.EncoderShape.{EncoderShape}
+use Rattle.rs_rate.specs.declared.rate.decoder_work.DecoderShape.{DecoderShape}
+use Rattle.rs_rate.specs.Configured.{configured, low_or_high, frame_of, shape_of_encoder, shape_of_decoder, IsConfigured}
+use Rattle.rs_rate.specs.DecoderView.{configuration_of as decoder_configuration, decoder_shape}
+use Rattle.rs_rate.specs.EncoderView.{configuration_of, encoder_shape}
+use Rattle.rs_rate.specs.Shapes.{EncoderCanBeLaid, DecoderCanBeLaid}
+use Rattle.rs_rate.proofs.DecoderRows.{low_frame-is}
+use Rattle.rs_rate.proofs.HighCounts.{high_rows, high_small, low_rows-fit, high_rows-fit}
+use Rattle.rs_rate.proofs.PowerLemmas.{low_small, rounded_up-low}
+use Rattle.rs_rate.proofs.RateLemmas.{chosen_low, chosen_high, low_is, high_is, low_block, high_block, rows_alike, block_alike, frame_alike, high_frame-is}
+
+-- the low or high rate that a rate is at counts chooses as it does, and supports them
+pub chooses_alike : (rate : Rate) (k r : ℕ) → is_low (low_or_high (is_low rate k r)) k r ≡ is_low rate k r
+chooses_alike rate k r = by_choice (is_low rate k r)
+  where
+    by_choice : (b : Bool) → is_low (low_or_high b) k r ≡ b
+    by_choice true = low_is k r
+    by_choice false = high_is k r
+
+chosen-supported : (rate : Rate) (k r : ℕ) → supports rate k r ≡ true → supports (low_or_high (is_low rate k r)) k r ≡ true
+chosen-supported rate k r is = by_choice (is_low rate k r) refl
+  where
+    by_choice : (b : Bool) → is_low rate k r ≡ b → supports (low_or_high b) k r ≡ true
+    by_choice true low = chosen_low rate k r is low
+    by_choice false high = chosen_high rate k r is high
+
+-- a rate's configuration is one
+pub configured-is : (rate : Rate) (k r size : ℕ) → supports rate k r ≡ true → 0 < size → size % 2 ≡ 0 → IsConfigured (configured rate k r size)
+configured-is rate k r size is some even =
+    record {
+      positive = some;
+      even = even;
+      supported = chosen-supported rate k r is;
+      block = block_alike rate (low_or_high (is_low rate k r)) k r (sym (chooses_alike rate k r));
+    }
+
+-- what a configuration of the low and of the high rate is
+pub configured-low : (c : Configuration) → IsConfigured c → c.is_low ≡ true
+    → (supports low_rate c.original_count c.recovery_count ≡ true) × (c.block_rows ≡ next_power c.original_count)
+configured-low c is low = (
+  subst (λ (b : Bool). supports (low_or_high b) c.original_count c.recovery_count ≡ true) low is.supported,
+  is.block ∙ ap (λ (b : Bool). block_rows (low_or_high b) c.original_count c.recovery_count) low ∙ low_block c.original_count c.recovery_count,
+)
+
+pub configured-high : (c : Configuration) → IsConfigured c → c.is_low ≡ false
+    → (supports high_rate c.original_count c.recovery_count ≡ true) × (c.block_rows ≡ next_power c.recovery_count)
+configured-high c is high = (
+  subst (λ (b : Bool). supports (low_or_high b) c.original_count c.recovery_count ≡ true) high is.supported,
+  is.block ∙ ap (λ (b : Bool). block_rows (low_or_high b) c.original_count c.recovery_count) high ∙ high_block c.original_count c.recovery_count,
+)
+
+-- the blocks that an encoder codes: they hold so many shards, and are few
+pub record HasBlocks (c : Configuration) (coded : ℕ) : Type 0 where
+  pub some : 0 < c.block_rows
+  pub few : c.block_rows + coded ≤ 65536
+  pub rows : rounded_up coded c.block_rows ≡ encoder_rows (low_or_high c.is_low) c.original_count c.recovery_count
+
+pub blocks-known : (c : Configuration) → IsConfigured c → (low : Bool) → c.is_low ≡ low → HasBlocks c (cond low c.recovery_count c.original_count)
+blocks-known c is true low =
+    let known = configured-low c is low in
+    let fits = low_fits c.original_count c.recovery_count known.0 in
+    let power = next_power-small c.original_count (low_small c.original_count c.recovery_count known.0) in
+    let positive = pow_pos power.0 in
+    record {
+      some = omega (arith, positive, power.2, known.1);
+      few = omega (arith, fits.2, known.1);
+      rows = ap (rounded_up c.recovery_count) known.1 ∙ rounded_up-low c.original_count c.recovery_count
+          ∙ ap (λ (b : Bool). encoder_rows (low_or_high b) c.original_count c.recovery_count) (sym low);
+    }
+blocks-known c is false high =
+    let known = configured-high c is high in
+    let fits = high_fits c.original_count c.recovery_count known.0 in
+    let power = next_power-small c.recovery_count (high_small c.original_count c.recovery_count known.0) in
+    let positive = pow_pos power.0 in
+    record {
+      some = omega (arith, positive, power.2, known.1);
+      few = omega (arith, fits.2, known.1);
+      rows = ap (rounded_up c.original_count) known.1 ∙ rounded_up-low c.recovery_count c.original_count ∙ high_rows c.original_count c.recovery_count
+          ∙ ap (λ (b : Bool). encoder_rows (low_or_high b) c.original_count c.recovery_count) (sym high);
+    }
+
+-- what a coder of it is set up for is what the rate tells
+pub encoder_shape-is : (rate : Rate) (k r size : ℕ) (c : Configuration) (shape : EncoderShape) → c ≡ configured rate k r size → shape ≡ shape_of_encoder c
+    → shape ≡ encoder_shape rate k r size
+unfolding encoder_shape
+encoder_shape-is rate k r size c shape is laid =
+    laid ∙ ap shape_of_encoder is ∙ ap (λ (n : ℕ). let own : EncoderShape = record { configuration = configured rate k r size; row_count = n } in own)
+    (rows_alike (low_or_high (is_low rate k r)) rate k r (chooses_alike rate k r))
+
+pub decoder_shape-is : (rate : Rate) (k r size : ℕ) (c : Configuration) (shape : DecoderShape) → c ≡ configured rate k r size → shape ≡ shape_of_decoder c
+    → shape ≡ decoder_shape rate k r size
+decoder_shape-is rate k r size c shape is laid =
+    laid ∙ ap shape_of_decoder is ∙ ap (λ (f : Frame). let own : DecoderShape = record { configuration = configured rate k r size; frame = f } in own)
+    (frame_alike (low_or_high (is_low rate k r)) rate k r (chooses_alike rate k r))
+
+-- such a shape is valid, and what the rate tells of its own numbers
+abbrev pub EncoderIsOf : Rate → EncoderShape → Type 0
+EncoderIsOf rate shape =
+    (validated (configuration_of rate shape) ≡ Ok tt)
+    × (shape ≡ encoder_shape rate shape.configuration.original_count shape.configuration.recovery_count shape.configuration.shard_bytes)
+
+abbrev pub DecoderIsOf : Rate → DecoderShape → Type 0
+DecoderIsOf rate shape =
+    (validated (decoder_configuration rate shape) ≡ Ok tt)
+    × (shape ≡ decoder_shape rate shape.configuration.original_count shape.configuration.recovery_count shape.configuration.shard_bytes)
+
+pub encoder_is_of : (rate : Rate) (k r size : ℕ) (shape : EncoderShape) → validated (configuration rate k r size) ≡ Ok tt → shape ≡ encoder_shape rate k r size
+    → EncoderIsOf rate shape
+unfolding encoder_shape
+encoder_is_of rate k r size shape valid is = rw is (valid, refl)
+
+pub decoder_is_of : (rate : Rate) (k r size : ℕ) (shape : DecoderShape) → validated (configuration rate k r size) ≡ Ok tt → shape ≡ decoder_shape rate k r size
+    → DecoderIsOf rate shape
+decoder_is_of rate k r size shape valid is = rw is (valid, refl)
+
+-- the rate that it was set up for chooses as the low or the high rate that it tells
+pub encoder-alike : (rate : Rate) (k r size : ℕ) (shape : EncoderShape) → shape ≡ encoder_shape rate k r size → is_low (low_or_high shape.configuration.is_low) k r ≡ is_low rate k r
+unfolding encoder_shape
+encoder-alike rate k r size shape is = ap (λ (s : EncoderShape). is_low (low_or_high s.configuration.is_low) k r) is ∙ chooses_alike rate k r
+
+-- what holds after a success and after a refusal
+pub either_way : {Made Kept P : Type 0} (result : Result (Unit {0}) Error) → OnOk result Made → OnErr result Kept → (Made → P) → (Kept → P) → P
+either_way (Ok tt) made kept by_made by_kept = by_made made
+either_way (Err e) made kept by_made by_kept = by_kept kept
+
+-- an encoder has rows for its originals and for its recovery shards
+pub encoder-laid : (c : Configuration) → IsConfigured c → EncoderCanBeLaid (shape_of_encoder c)
+encoder-laid c is =
+    let rows = by_choice c.is_low is.supported in record { configured = is; rows = refl; originals = rows.0; recovery = rows.1 }
+  where
+    k : ℕ
+    k = c.original_count
+
+    r : ℕ
+    r = c.recovery_count
+
+    by_choice : (b : Bool) → supports (low_or_high b) k r ≡ true → (k ≤ encoder_rows (low_or_high b) k r) × (r ≤ encoder_rows (low_or_high b) k r)
+    by_choice true is = let rows = low_rows-fit k r is in (omega (arith, rows.block, rows.some), rows.enough)
+    by_choice false is = let rows = high_rows-fit k r is in (rows.enough, omega (arith, rows.block, rows.some))
+
+-- a frame has a power of two of rows, with originals and recovery shards among them, no two in one row
+record HasPlaces (k r : ℕ) (f : Frame) : Type 0 where
+  power : next_power f.row_count ≡ f.row_count
+  few : f.row_count ≤ 65536
+  originals : f.originals_from + k ≤ f.row_count
+  recovery : f.recovery_from + r ≤ f.row_count
+  apart : (i j : ℕ) → i < k → j < r → f.originals_from + i ≢ f.recovery_from + j
+
+rows-known : (n : ℕ) → n ≤ 65536 → (next_power (next_power n) ≡ next_power n) × (next_power n ≤ 65536) × (n ≤ next_power n)
+rows-known n small =
+    let known = next_power-small n small in
+    let most : 2 ^ known.0 ≤ 2 ^ 16 = pow_mono known.1 in
+    let few : next_power n ≤ 65536 = omega (arith, known.2) in
+    (power_is_own (next_power n) known.0 known.2 few, few, known.3)
+
+low-places : (k r : ℕ) → supports low_rate k r ≡ true → HasPlaces k r (frame_of low_rate k r)
+low-places k r is =
+    let fits = low_fits k r is in
+    let block = rows-known k (low_small k r is) in
+    let rows = rows-known (next_power k + r) fits.2 in
+    subst (HasPlaces k r) (sym (low_frame-is k r))
+    (record { power = rows.0; few = rows.1; originals = omega (arith, block.2, rows.2); recovery = rows.2; apart = λ i j own coded. omega (arith, block.2) })
+
+high-places : (k r : ℕ) → supports high_rate k r ≡ true → HasPlaces k r (frame_of high_rate k r)
+high-places k r is =
+    let fits = high_fits k r is in
+    let block = rows-known r (high_small k r is) in
+    let rows = rows-known (next_power r + k) fits.2 in
+    subst (HasPlaces k r) (sym (high_frame-is k r))
+    (record { power = rows.0; few = rows.1; originals = rows.2; recovery = omega (arith, block.2, rows.2); apart = λ i j own coded. omega (arith, block.2) })
+
+pub decoder-laid : (c : Configuration) → IsConfigured c → DecoderCanBeLaid (shape_of_decoder c)
+decoder-laid c is =
+    let places = by_choice c.is_low is.supported in
+    record { configured = is; power = places.power; few = places.few; original_rows = places.originals; recovery_rows = places.recovery; apart = places.apart }
+  where
+    by_choice : (b : Bool) → supports (low_or_high b) c.original_count c.recovery_count ≡ true → HasPlaces c.original_count c.recovery_count (frame_of (low_or_high b) c.original_count c.recovery_count)
+    by_choice true is = low-places c.original_count c.recovery_count is
+    by_choice false is = high-places c.original_count c.recovery_count is

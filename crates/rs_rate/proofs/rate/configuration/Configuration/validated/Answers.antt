@@ -1,0 +1,22 @@
+use Rattle.std.proofs.Common.{◌≡◌, ◌%◌, sym, ap, ◌∙◌, subst, refl, arith}
+use Rattle.std.specs.Prelude.{Ok}
+use Rattle.std.proofs.lemmas.Bool.{ne_eqb}
+use Rattle.rs_field.specs.code.Configuration.{configuration, validated}
+use Rattle.rs_rate.specs.declared.rate.configuration.Configuration.{Configuration}
+use Rattle.rs_rate.specs.declared.rate.counts.Choice.{Choice}
+use Rattle.rs_rate.specs.Configured.{IsConfigured}
+use Rattle.rs_rate.proofs.ChoiceLemmas.{choice-some}
+use Rattle.rs_rate.proofs.ConfiguredLemmas.{configured-is}
+use Rattle.rs_rate.proofs.rate.configuration.Configuration.validated.Goals as goal
+
+pub returns : goal.returns
+returns g c =
+    let rate = g.C.Code.rate in
+    let k = c.args.original_count in
+    let r = c.args.recovery_count in
+    let size = c.args.shard_bytes in
+    let known = choice-some rate k r c.in-Some.choice (sym c.in-Some.is ∙ c.choose.ensures) in
+    let valid : validated (configuration rate k r size) ≡ Ok tt = rw (known.0, ne_eqb size 0 c.if-shard_bytes-eq0.false, ne_eqb (size % 2) 1 c.if-shard_bytes-eq1.false) refl in
+    let same =
+    ap (λ (x : Choice). let own : Configuration = record { original_count = k; recovery_count = r; shard_bytes = size; is_low = x.is_low; block_rows = x.block_rows } in own) known.1 in
+    (valid, same, subst IsConfigured (sym same) (configured-is rate k r size known.0 (omega (arith, c.if-shard_bytes-eq0.false)) (omega (arith, c.if-shard_bytes-eq1.false))))

@@ -1,0 +1,102 @@
+//! What a coder is set up for, validated once: from it come the rows of an encoder and the frame of a decoder.
+ghost use Rattle.std.specs.Prelude.{◌≡◌, Ok, Err, MatchResult};
+ghost use Rattle.rs_field.specs.code.Configuration.{configuration, validated as validated_as};
+ghost use Rattle.rs_rate.specs.Configured.{configured, shape_of_encoder, shape_of_decoder, IsConfigured};
+ghost use Rattle.rs_rate.specs.Shapes.{EncoderCanBeLaid, DecoderCanBeLaid};
+
+use crate::rate::code::Code;
+use crate::rate::counts::power_of_two;
+use crate::rate::decoder_work::{DecoderShape, Frame};
+use crate::rate::encoder_work::EncoderShape;
+use rs_field::engine::GF_ORDER;
+use rs_field::error::Error;
+
+/// The counts and the size of a shard, whether the rate is the low rate at these counts, and the rows of a block: the
+/// power of two of the originals at the low rate, else that of the recovery shards.
+#[derive(Clone, Copy)]
+pub struct Configuration {
+    pub original_count: usize,
+    pub recovery_count: usize,
+    pub shard_bytes: usize,
+    pub is_low: bool,
+    pub block_rows: usize,
+}
+
+impl Configuration {
+    // The configuration of a rate, or the first refusal: of its counts, then of its size.
+    #[inline(always)]
+    pub(crate) fn validated<C: Code>(
+        original_count: usize,
+        recovery_count: usize,
+        shard_bytes: usize,
+    ) -> Result<Configuration, Error>
+        ensures { MatchResult result
+            (λ c. (validated_as (configuration C.rate original_count recovery_count shard_bytes) ≡ Ok tt)
+            × (c ≡ configured C.rate original_count recovery_count shard_bytes) × IsConfigured c)
+            (λ e. validated_as (configuration C.rate original_count recovery_count shard_bytes) ≡ Err e) }
+    {
+        let Some(choice) = C::choose(original_count, recovery_count) else {
+            return Err(Error::UnsupportedShardCount {
+                original_count,
+                recovery_count,
+            });
+        };
+        if shard_bytes == 0 || shard_bytes % 2 == 1 {
+            return Err(Error::InvalidShardSize { shard_bytes });
+        }
+        Ok(Configuration {
+            original_count,
+            recovery_count,
+            shard_bytes,
+            is_low: choice.is_low,
+            block_rows: choice.block_rows,
+        })
+    }
+
+    // What an encoder is set up for: rows for the recovery shards at the low rate, else for the originals, in whole blocks.
+    pub(crate) fn encoder_shape(self) -> EncoderShape
+        requires { IsConfigured self }
+        ensures shape { result ≡ shape_of_encoder self }
+        ensures laid { EncoderCanBeLaid result }
+    {
+        let coded = if self.is_low {
+            self.recovery_count
+        } else {
+            self.original_count
+        };
+        EncoderShape {
+            configuration: self,
+            row_count: coded.next_multiple_of(self.block_rows),
+        }
+    }
+
+    // What a decoder is set up for: the originals before the recovery shards at the low rate, else after them.
+    pub(crate) fn decoder_shape(self) -> DecoderShape
+        requires { IsConfigured self }
+        ensures shape { result ≡ shape_of_decoder self }
+        ensures laid { DecoderCanBeLaid result }
+    {
+        let block = self.block_rows;
+        let frame = if self.is_low {
+            Frame {
+                row_count: power_of_two(block + self.recovery_count),
+                originals_from: 0,
+                recovery_from: block,
+                zeros_from: self.original_count,
+                zeros_to: block,
+            }
+        } else {
+            Frame {
+                row_count: power_of_two(block + self.original_count),
+                originals_from: block,
+                recovery_from: 0,
+                zeros_from: block + self.original_count,
+                zeros_to: GF_ORDER,
+            }
+        };
+        DecoderShape {
+            configuration: self,
+            frame,
+        }
+    }
+}
