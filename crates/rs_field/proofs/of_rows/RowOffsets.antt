@@ -1,6 +1,7 @@
 -- Where row i of rows of n chunks lies among the chunks, and what is unchanged outside some rows.
-use Rattle.std.proofs.Common.{◌≡◌, ℕ, ◌+◌, ◌*◌, ◌<◌, ◌≤◌, ◌⊎◌, inl, inr, arith, ap, ◌∙◌, subst}
+use Rattle.std.proofs.Common.{◌≡◌, ℕ, ◌+◌, ◌*◌, ◌<◌, ◌≤◌, ◌⊎◌, ◌≢◌, inl, inr, arith, ap, ◌∙◌, subst}
 use Rattle.std.proofs.Math.Nat.{mul-le-mul_right}
+use Rattle.std.proofs.lemmas.Bool.{cases_lt}
 use Rattle.rs_field.specs.rows.Rows.{chunk, SameOutside}
 use Rattle.rs_field.specs.rows.View.{cell, SameShape, SameRowsOutside}
 use Rattle.rs_field.specs.declared.rows.shards.ShardsRefMut.{ShardsRefMut}
@@ -20,6 +21,11 @@ row_within i m k n hi hk = let ends = row_ends i m n hi in omega arith
 pub offset_outside : (a b i k n : ℕ) → k < n → (i < a) ⊎ (b ≤ i) → (i * n + k < a * n) ⊎ (b * n ≤ i * n + k)
 offset_outside a b i k n q h =
     elim h [ inl p ↦ inl (let r = row_ends i a n p in omega arith) | inr p ↦ inr (let r = mul-le-mul_right n p in omega arith) ]
+
+-- a chunk of another row lies outside row a
+pub offset_apart : (a i k n : ℕ) → k < n → i ≢ a → (i * n + k < a * n) ⊎ (a * n + n ≤ i * n + k)
+offset_apart a i k n q ne =
+    elim (cases_lt i a) [ inl p ↦ inl (let r = row_ends i a n p in omega arith) | inr p ↦ inr (let l : a < i = omega arith in let r = row_ends a i n l in omega arith) ]
 
 -- the chunks of the rows outside are unchanged
 pub outside_cell : (a b : ℕ) (old new : ShardsRefMut) → SameShape old new → SameRowsOutside a b old new

@@ -37,30 +37,6 @@ fn bytes_are_small(bytes: &[u8])
     ensures { (j : ℕ) → slice_index bytes.now j < 256 }
 {}
 
-// The transform of two or four rows: the layers leave parts of one row, and there is no more to do.
-#[inline(always)]
-fn transform_few<K: Kernel>(
-    direction: Direction,
-    kernel: &K,
-    steps: &mut Steps,
-    rows: &mut ShardsRefMut<'_>,
-    block: Block,
-)
-    requires fits { Fits rows.old }
-    requires large { 1 < block.size }
-    requires few { block.size ≤ 4 }
-    requires within { block.pos + block.size ≤ rows.old.shard_count }
-    ensures shape { SameShape rows.old rows.new }
-    ensures others { SameRowsOutside block.pos (block.pos + block.size) rows.old rows.new }
-    ensures values { (k s : ℕ) → k < rows.old.shard_len_64 → s < 32 → (used : ℕ → Bool)
-        → AreTransformed direction used block.size block.skew_delta (λ q. word rows.old k s (block.pos + q)) (λ q. word rows.new k s (block.pos + q)) }
-    ensures counts { TransformCounts block.size steps.old steps.new }
-{
-    row_symbols_are_words(rows);
-    layers(direction, kernel, steps, rows, block);
-    row_symbols_are_words(rows);
-}
-
 /// The transform of a block in a direction, by an engine's butterflies. At most `size / 2` of them are counted for each
 /// layer, and rows outside are unchanged.
 ///
@@ -93,12 +69,14 @@ pub(crate) fn transform<K: Kernel>(
     if used.are_none() {
         return;
     }
-    if block.size < 2 {
-        row_symbols_are_words(rows);
-    } else if block.size <= 4 {
-        transform_few(direction, kernel, steps, rows, block);
-    } else {
+    if block.size > 4 {
         transform_many(direction, kernel, steps, rows, block, used);
+        return;
+    }
+    row_symbols_are_words(rows);
+    if block.size > 1 {
+        layers(direction, kernel, steps, rows, block);
+        row_symbols_are_words(rows);
     }
 }
 

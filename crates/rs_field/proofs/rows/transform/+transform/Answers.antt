@@ -7,8 +7,9 @@ use Rattle.rs_field.specs.rows.MarkedRows.{is_used, HasMarks}
 use Rattle.rs_field.specs.rows.Directions.{AreTransformed}
 use Rattle.rs_field.proofs.of_words.Counting.{counts_none, counts_rows}
 use Rattle.rs_field.proofs.of_rows.Recursion.{fits_kept}
-use Rattle.rs_field.proofs.of_rows.Parts.{part_begins, part_found, part_within, parts_number, parts_whole}
-use Rattle.rs_field.proofs.of_rows.PartLoops.{parts_begun, parts_next, forward_whole, backward_whole, none_used, one_used, counts_next, counts_of_parts, counts_of_whole, zeros_of_part, part_before}
+use Rattle.rs_field.proofs.of_rows.Directions.{layers_of_few}
+use Rattle.rs_field.proofs.of_rows.Parts.{block_power, part_begins, part_found, part_within, parts_number, parts_whole}
+use Rattle.rs_field.proofs.of_rows.PartLoops.{parts_begun, parts_next, forward_whole, backward_whole, none_used, one_used, counts_next, counts_of_layers, counts_of_parts, counts_of_whole, zeros_of_part, part_before}
 use Rattle.rs_field.proofs.rows.transform.+transform.Goals as goal
 
 pub transform-returns-then-are_none-clause-values : goal.transform-returns-then-are_none-clause-values
@@ -29,14 +30,28 @@ pub transform_many-transform_parts-requires-in-Backward : goal.transform_many-tr
 transform_many-transform_parts-requires-in-Backward g t c κs within =
     (omega arith, (within, (c.requires.fits, (omega arith, (c.requires.marks, (c.requires.within, c.requires.zeros))))))
 
-pub transform-returns-then-block-lt2-clause-values : goal.transform-returns-then-block-lt2-clause-values
-transform-returns-then-block-lt2-clause-values g t c k s hk hs =
+pub transform-returns-then-block-gt1-clause-values : goal.transform-returns-then-block-gt1-clause-values
+transform-returns-then-block-gt1-clause-values g t c k s hk hs =
     let block = c.args.block in
-    one_used c.args.direction (is_used c.args.used) block.size block.skew_delta (λ q. word c.args.rows.now k s (block.pos + q)) c.if-block-lt2.true
-    (λ some. c.row_symbols_are_words.ensures k s (block.pos + 0) hk hs (omega arith))
+    let shape = c.layers.ensures.shape in
+    let len = shape.len_64 in
+    let count = shape.count in
+    let within = c.requires.within in
+    layers_of_few c.args.direction (is_used c.args.used) block.size block.skew_delta (λ (q : ℕ). word c.args.rows.now k s (block.pos + q))
+    (λ (q : ℕ). word c.layers.new.rows k s (block.pos + q)) (omega arith) (omega arith) (block_power block)
+    (λ i hi. c.row_symbols_are_words.ensures k s (block.pos + i) hk hs (omega (arith, within)))
+    (λ i hi. c.row_symbols_are_words-then-block-gt1.ensures k s (block.pos + i) (omega (arith, len)) hs (omega (arith, count, within)))
+    (c.layers.ensures.parts k s hk hs)
 
-pub transform-returns-then-block-le4-clause-values : goal.transform-returns-then-block-le4-clause-values
-transform-returns-then-block-le4-clause-values g t c k s hk hs = c.transform_few.ensures.values k s hk hs (is_used c.args.used)
+pub transform-returns-then-block-gt1-clause-counts : goal.transform-returns-then-block-gt1-clause-counts
+transform-returns-then-block-gt1-clause-counts g t c =
+    counts_of_layers c.args.block c.args.steps.now c.layers.new.steps (omega arith) c.layers.ensures.counts
+
+pub transform-returns-else-block-gt1-clause-values : goal.transform-returns-else-block-gt1-clause-values
+transform-returns-else-block-gt1-clause-values g t c k s hk hs =
+    let block = c.args.block in
+    one_used c.args.direction (is_used c.args.used) block.size block.skew_delta (λ q. word c.args.rows.now k s (block.pos + q)) (omega arith)
+    (λ some. c.row_symbols_are_words.ensures k s (block.pos + 0) hk hs (omega arith))
 
 pub transform_many-returns-in-Forward-clause-values : goal.transform_many-returns-in-Forward-clause-values
 transform_many-returns-in-Forward-clause-values g t c k s hk hs =
