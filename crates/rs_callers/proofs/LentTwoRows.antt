@@ -5,7 +5,7 @@ use Rattle.rs_field.specs.declared.rows.shards.ShardsRefMut.{ShardsRefMut}
 use Rattle.rs_field.proofs.of_rows.LentRows.{two_written, others-of-two}
 use Rattle.rs_callers.specs.RowsBut.{IsOutside, SameRowsBut}
 
-side : (h : ShardsRefMut) (i c : ℕ) → IsOutside h i c → (c < i * h.shard_len_64) ⊎ (i * h.shard_len_64 + h.shard_len_64 ≤ c)
+pub side : (h : ShardsRefMut) (i c : ℕ) → IsOutside h i c → (c < i * h.shard_len_64) ⊎ (i * h.shard_len_64 + h.shard_len_64 ≤ c)
 side h i c (inl low) = inl low
 side h i c (inr high) = inr (omega (arith, high))
 

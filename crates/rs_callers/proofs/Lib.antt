@@ -1,4 +1,5 @@
 pub mod LentTwoRows
+pub mod LentFourRows
 pub mod LentHalves
 pub mod Chains
 pub mod Stepping

@@ -43,6 +43,62 @@ fn write_two<'a>(
     y.copy_from_slice(second);
 }
 
+/// Rows `pos`, `pos + dist`, `pos + 2 * dist` and `pos + 3 * dist` become these, and all other chunks stay.
+pub fn write_four_rows(
+    rows: &mut ShardsRefMut<'_>,
+    pos: usize,
+    dist: usize,
+    first: &[[u8; 64]],
+    second: &[[u8; 64]],
+    third: &[[u8; 64]],
+    fourth: &[[u8; 64]],
+)
+    requires fits { Fits rows.old }
+    requires apart { 0 < dist }
+    requires within { pos + 3 * dist < rows.old.shard_count }
+    requires first { length first.now ≡ rows.old.shard_len_64 }
+    requires second { length second.now ≡ rows.old.shard_len_64 }
+    requires third { length third.now ≡ rows.old.shard_len_64 }
+    requires fourth { length fourth.now ≡ rows.old.shard_len_64 }
+    ensures shape { SameShape rows.old rows.new }
+    ensures first { (k : ℕ) → k < rows.old.shard_len_64 → cell rows.new k pos ≡ chunk first.now k }
+    ensures second { (k : ℕ) → k < rows.old.shard_len_64 → cell rows.new k (pos + dist) ≡ chunk second.now k }
+    ensures third { (k : ℕ) → k < rows.old.shard_len_64 → cell rows.new k (pos + 2 * dist) ≡ chunk third.now k }
+    ensures fourth { (k : ℕ) → k < rows.old.shard_len_64 → cell rows.new k (pos + 3 * dist) ≡ chunk fourth.now k }
+    ensures others { SameRowsBut (pos ∷ (pos + dist) ∷ (pos + 2 * dist) ∷ (pos + 3 * dist) ∷ []) rows.old rows.new }
+{
+    write_four(rows.dist4_mut(pos, dist), first, second, third, fourth);
+}
+
+// Each of four rows becomes another.
+fn write_four<'a>(
+    lent: (
+        &'a mut [[u8; 64]],
+        &'a mut [[u8; 64]],
+        &'a mut [[u8; 64]],
+        &'a mut [[u8; 64]],
+    ),
+    first: &[[u8; 64]],
+    second: &[[u8; 64]],
+    third: &[[u8; 64]],
+    fourth: &[[u8; 64]],
+)
+    requires first { length first.now ≡ length lent.0.now }
+    requires second { length second.now ≡ length lent.1.now }
+    requires third { length third.now ≡ length lent.2.now }
+    requires fourth { length fourth.now ≡ length lent.3.now }
+    ensures first { lent.exit.0.now ≡ first.now }
+    ensures second { lent.exit.1.0.now ≡ second.now }
+    ensures third { lent.exit.1.1.0.now ≡ third.now }
+    ensures fourth { lent.exit.1.1.1.0.now ≡ fourth.now }
+{
+    let (w, x, y, z) = lent;
+    w.copy_from_slice(first);
+    x.copy_from_slice(second);
+    y.copy_from_slice(third);
+    z.copy_from_slice(fourth);
+}
+
 /// The list is split at row `mid`, and the first row of each part becomes one of these: all other chunks stay.
 pub fn write_split_rows(
     rows: &mut ShardsRefMut<'_>,

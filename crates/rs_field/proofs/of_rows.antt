@@ -3,8 +3,6 @@ pub mod Runs
 pub mod FourRuns
 pub mod RowOffsets
 pub mod LentRows
-pub mod LentFourRows
-pub mod Fours
 pub mod LayoutLemmas
 pub mod ZeroColumns
 pub mod Symbols
@@ -13,4 +11,5 @@ pub mod Parts
 pub mod Recursion
 pub mod PartLoops
 pub mod Directions
+pub mod BlockChunks
 pub mod DerivativeStep

@@ -1,9 +1,9 @@
 -- Where row i of rows of n chunks lies among the chunks, and what is unchanged outside some rows.
-use Rattle.std.proofs.Common.{◌≡◌, ℕ, zero, suc, ◌+◌, ◌-◌, ◌*◌, ◌<◌, ◌≤◌, ◌⊎◌, ◌≢◌, inl, inr, arith, ap, ◌∙◌, subst, sym}
+use Rattle.std.proofs.Common.{◌≡◌, ℕ, ◌+◌, ◌*◌, ◌<◌, ◌≤◌, ◌⊎◌, ◌≢◌, inl, inr, arith, ap, ◌∙◌, subst}
 use Rattle.std.proofs.Math.Nat.{mul-le-mul_right}
 use Rattle.std.proofs.lemmas.Bool.{cases_lt}
 use Rattle.rs_field.specs.rows.Rows.{chunk, SameOutside}
-use Rattle.rs_field.specs.rows.View.{cell, SameShape, SameRowsOutside, SameRowsOutsideTwo}
+use Rattle.rs_field.specs.rows.View.{cell, SameShape, SameRowsOutside}
 use Rattle.rs_field.specs.declared.rows.shards.ShardsRefMut.{ShardsRefMut}
 
 pub row_ends : (i m n : ℕ) → i < m → i * n + n ≤ m * n
@@ -48,32 +48,6 @@ outside_both a b c d e f old mid new shape first second ea bf ec df k h =
     subst (λ (m : ℕ). SameOutside (c * m) (d * m) mid.chunks.now new.chunks.now) shape.len_64 second in
     then k (elim h [ inl before ↦ inl (omega arith) | inr after ↦ inr (omega arith) ])
     ∙ first k (elim h [ inl before ↦ inl (omega arith) | inr after ↦ inr (omega arith) ])
-
--- where the rows of the second range hold the same chunks as before, the first range alone was changed
-pub outside_first : (a b count : ℕ) (old new : ShardsRefMut) → SameShape old new → SameRowsOutsideTwo a (a + count) b (b + count) old new
-    → ((i k : ℕ) → i < count → k < old.shard_len_64 → cell new k (b + i) ≡ cell old k (b + i)) → SameRowsOutside a (a + count) old new
-unfolding cell
-outside_first a b count old new shape others kept k h =
-    elim (cases_lt k (b * old.shard_len_64)) [
-      | inl before ↦ others k h (inl before)
-      | inr from ↦ elim (cases_lt k ((b + count) * old.shard_len_64)) [
-        | inl inside ↦ within count
-            (λ i r hi hr. ap (λ n. chunk new.chunks.now ((b + i) * n + r)) (sym shape.len_64) ∙ kept i r hi hr) k from inside
-        | inr after ↦ others k h (inr after)
-      ]
-    ]
-  where
-    within : (m : ℕ) → ((i r : ℕ) → i < m → r < old.shard_len_64 → chunk new.chunks.now ((b + i) * old.shard_len_64 + r) ≡ chunk old.chunks.now ((b + i) * old.shard_len_64 + r))
-        → (k : ℕ) → b * old.shard_len_64 ≤ k → k < (b + m) * old.shard_len_64 → chunk new.chunks.now k ≡ chunk old.chunks.now k
-    within zero same k from to = absurd (let no : ⊥ = omega arith in no)
-    within (suc m) same k from to =
-        elim (cases_lt k ((b + m) * old.shard_len_64)) [
-          | inl low ↦ within m (λ i r hi hr. same i r (omega arith) hr) k from low
-          | inr high ↦
-              let r : ℕ = k - (b + m) * old.shard_len_64 in
-              let is : (b + m) * old.shard_len_64 + r ≡ k = omega arith in
-              subst (λ (p : ℕ). chunk new.chunks.now p ≡ chunk old.chunks.now p) is (same m r (omega arith) (omega arith))
-        ]
 
 pub shape_then : (old mid new : ShardsRefMut) → SameShape old mid → SameShape mid new → SameShape old new
 shape_then old mid new p q = record { name = q.name ∙ p.name; count = q.count ∙ p.count; len_64 = q.len_64 ∙ p.len_64; length = q.length ∙ p.length }

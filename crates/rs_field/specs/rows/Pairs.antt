@@ -30,7 +30,3 @@ IsForwardStep log_m x y x' y' = (s : ℕ) → s < 32 → at_two_symbols s (IsFor
 -- the backward one
 abbrev pub IsBackwardStep : ℕ → OnTwoChunks
 IsBackwardStep log_m x y x' y' = (s : ℕ) → s < 32 → at_two_symbols s (IsBackwardTwo log_m) x y x' y'
-
--- y was added to x; y is unchanged
-abbrev pub IsSumStep : OnTwoChunks
-IsSumStep x y x' y' = ((s : ℕ) → s < 32 → symbol x' s ≡ bit_xor (symbol x s) (symbol y s)) × (y' ≡ y)

@@ -16,12 +16,3 @@ symbol c s = slice_index c s + 256 * slice_index c (s + 32)
 -- the chunks before the a-th and from the b-th on are the same in both lists
 abbrev pub SameOutside : ℕ → ℕ → Chunks → Chunks → Type 0
 SameOutside a b old new = (k : ℕ) → (k < a) ⊎ (b ≤ k) → chunk new k ≡ chunk old k
-
--- the same of all chunks that lie outside both of two ranges
-abbrev pub SameOutsideTwo : ℕ → ℕ → ℕ → ℕ → Chunks → Chunks → Type 0
-SameOutsideTwo a b c d old new = (k : ℕ) → (k < a) ⊎ (b ≤ k) → (k < c) ⊎ (d ≤ k) → chunk new k ≡ chunk old k
-
--- the same of all chunks that lie outside the n chunks from each of four places on
-abbrev pub SameOutsideFour : ℕ → ℕ → ℕ → ℕ → ℕ → Chunks → Chunks → Type 0
-SameOutsideFour a b c d n old new =
-    (k : ℕ) → (k < a) ⊎ (a + n ≤ k) → (k < b) ⊎ (b + n ≤ k) → (k < c) ⊎ (c + n ≤ k) → (k < d) ⊎ (d + n ≤ k) → chunk new k ≡ chunk old k

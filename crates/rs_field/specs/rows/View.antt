@@ -1,7 +1,7 @@
 -- The rows of a `ShardsRefMut`, by row, chunk and symbol.
 use Rattle.std.specs.Prelude.{◌≡◌, ℕ, List, ◌+◌, ◌*◌, ◌≤◌, ◌<◌, length, replicate, take, drop}
 use Rattle.std.specs.Borrow.{MutBor}
-use Rattle.rs_field.specs.rows.Rows.{Chunks, chunk, symbol, SameOutside, SameOutsideTwo, SameOutsideFour}
+use Rattle.rs_field.specs.rows.Rows.{Chunks, chunk, symbol, SameOutside}
 use Rattle.rs_field.specs.declared.rows.shards.ShardsRefMut.{ShardsRefMut}
 
 -- there are chunks enough for the rows
@@ -43,16 +43,6 @@ pub record SameShape (old new : ShardsRefMut) : Type 0 where
 -- the chunks before row a and from row b on are the same in both, to the last one past the rows
 abbrev pub SameRowsOutside : ℕ → ℕ → ShardsRefMut → ShardsRefMut → Type 0
 SameRowsOutside a b old new = SameOutside (a * old.shard_len_64) (b * old.shard_len_64) old.chunks.now new.chunks.now
-
--- the same of the chunks outside rows a to b - 1 and outside rows c to d - 1
-abbrev pub SameRowsOutsideTwo : ℕ → ℕ → ℕ → ℕ → ShardsRefMut → ShardsRefMut → Type 0
-SameRowsOutsideTwo a b c d old new =
-    let n = old.shard_len_64 in SameOutsideTwo (a * n) (b * n) (c * n) (d * n) old.chunks.now new.chunks.now
-
--- the same of the chunks outside rows a, b, c and d
-abbrev pub SameRowsOutsideFour : ℕ → ℕ → ℕ → ℕ → ShardsRefMut → ShardsRefMut → Type 0
-SameRowsOutsideFour a b c d old new =
-    let n = old.shard_len_64 in SameOutsideFour (a * n) (b * n) (c * n) (d * n) n old.chunks.now new.chunks.now
 
 -- rows a to b - 1 are zero bytes
 abbrev pub AreZero : ℕ → ℕ → ShardsRefMut → Type 0

@@ -1,7 +1,8 @@
 //! The layers of butterflies that a transform does at once: one, between the halves of its rows, or two, between their quarters.
 //!
 //! The forward layers go before the transforms of the parts that they leave, and the backward ones after them.
-ghost use Rattle.std.specs.Prelude.{ℕ, ◌+◌, ◌<◌, ◌≤◌};
+ghost use Rattle.std.specs.Prelude.{◌≡◌, ℕ, ◌+◌, ◌*◌, ◌<◌, ◌≤◌, length};
+ghost use Rattle.rs_field.specs.rows.Rows.{chunk};
 ghost use Rattle.rs_field.specs.rows.Layers.{rows_of_part, layer_steps};
 ghost use Rattle.rs_field.specs.rows.Directions.{IsButterfly, AreTwoLayers, AreLayers};
 ghost use Rattle.rs_field.specs.rows.View.{word, Fits, SameShape, SameRowsOutside};
@@ -9,9 +10,7 @@ ghost use Rattle.rs_field.specs.words.StepBounds.{CountsRows};
 
 use super::ShardsRefMut;
 use super::block::Block;
-use super::fours::{FourStep, step_fours};
 use super::kernel::{Kernel, ThreeLogarithms};
-use super::pairs::{PairStep, step_pairs};
 use crate::words::{GfElement, Steps};
 
 /// Which way a transform goes.
@@ -23,49 +22,47 @@ pub(crate) enum Direction {
     Backward,
 }
 
-// The butterfly of a factor.
-#[derive(Drop)]
-struct Butterfly<'k, K> {
-    kernel: &'k K,
+// One layer of butterflies, by the factor of a logarithm: of the chunks of two halves.
+fn butterflies_of_halves<K: Kernel>(
     direction: Direction,
+    kernel: &K,
+    chunks: &mut [[u8; 64]],
+    half: usize,
     log_m: GfElement,
-}
-
-impl<K: Kernel> PairStep for Butterfly<'_, K> {
-    ghost related = { λ step. IsButterfly step.direction step.log_m };
-
-    #[inline(always)]
-    fn apply(&self, x: &mut [[u8; 64]], y: &mut [[u8; 64]]) {
-        match self.direction {
-            Direction::Forward => self.kernel.fft_butterfly(x, y, self.log_m),
-            Direction::Backward => self.kernel.ifft_butterfly(x, y, self.log_m),
-        }
+)
+    requires { length chunks.old ≡ 2 * half }
+    ensures length { length chunks.new ≡ 2 * half }
+    ensures pairs { (k : ℕ) → k < half
+        → IsButterfly direction log_m (chunk chunks.old k) (chunk chunks.old (half + k)) (chunk chunks.new k) (chunk chunks.new (half + k)) }
+{
+    let (x, y) = chunks.split_at_mut(half);
+    match direction {
+        Direction::Forward => kernel.fft_butterfly(x, y, log_m),
+        Direction::Backward => kernel.ifft_butterfly(x, y, log_m),
     }
 }
 
-// Two layers of butterflies of three factors.
-#[derive(Drop)]
-struct TwoLayers<'k, K> {
-    kernel: &'k K,
+// Two layers of butterflies, by the factors of three logarithms: of the chunks of four quarters.
+fn butterflies_of_quarters<K: Kernel>(
     direction: Direction,
+    kernel: &K,
+    chunks: &mut [[u8; 64]],
+    quarter: usize,
     logs: ThreeLogarithms,
-}
-
-impl<K: Kernel> FourStep for TwoLayers<'_, K> {
-    ghost related = { λ step. AreTwoLayers step.direction step.logs.log_m02 step.logs.log_m01 step.logs.log_m23 };
-
-    #[inline(always)]
-    fn apply(
-        &self,
-        x0: &mut [[u8; 64]],
-        x1: &mut [[u8; 64]],
-        x2: &mut [[u8; 64]],
-        x3: &mut [[u8; 64]],
-    ) {
-        match self.direction {
-            Direction::Forward => self.kernel.fft_two_layers(x0, x1, x2, x3, self.logs),
-            Direction::Backward => self.kernel.ifft_two_layers(x0, x1, x2, x3, self.logs),
-        }
+)
+    requires { length chunks.old ≡ 4 * quarter }
+    ensures length { length chunks.new ≡ 4 * quarter }
+    ensures fours { (k : ℕ) → k < quarter
+        → AreTwoLayers direction logs.log_m02 logs.log_m01 logs.log_m23
+        (chunk chunks.old k) (chunk chunks.old (quarter + k)) (chunk chunks.old (2 * quarter + k)) (chunk chunks.old (3 * quarter + k))
+        (chunk chunks.new k) (chunk chunks.new (quarter + k)) (chunk chunks.new (2 * quarter + k)) (chunk chunks.new (3 * quarter + k)) }
+{
+    let (front, back) = chunks.split_at_mut(2 * quarter);
+    let (x0, x1) = front.split_at_mut(quarter);
+    let (x2, x3) = back.split_at_mut(quarter);
+    match direction {
+        Direction::Forward => kernel.fft_two_layers(x0, x1, x2, x3, logs),
+        Direction::Backward => kernel.ifft_two_layers(x0, x1, x2, x3, logs),
     }
 }
 
@@ -74,6 +71,7 @@ impl<K: Kernel> FourStep for TwoLayers<'_, K> {
 /// backward transform, which come after the backward transforms of these parts.
 ///
 /// Inlined, so that transforms of more than four rows are compiled for their direction.
+#[tactic(auto, using(crate::proofs::of_rows::Parts::block_quarters))]
 #[inline(always)]
 pub(crate) fn layers<K: Kernel>(
     direction: Direction,
@@ -93,15 +91,15 @@ pub(crate) fn layers<K: Kernel>(
     ensures counts { CountsRows (layer_steps block.size) steps.old steps.new }
 {
     let skew = kernel.tables().skew;
+    let len = rows.shard_len_64;
+    let start = block.pos * len;
+    let end = (block.pos + block.size) * len;
     if block.is_halved() {
         let half = block.size / 2;
         let log_m = skew[block.skew_delta + half - 1];
-        let layer = Butterfly {
-            kernel,
-            direction,
-            log_m,
-        };
-        step_pairs(&layer, steps, rows, block.pos, block.pos + half, half);
+        steps.row_steps(half);
+        let chunks = &mut rows.chunks[start..end];
+        butterflies_of_halves(direction, kernel, chunks, half * len, log_m);
     } else {
         let quarter = block.size / 4;
         let middle = block.skew_delta + 2 * quarter;
@@ -110,11 +108,8 @@ pub(crate) fn layers<K: Kernel>(
             log_m01: skew[block.skew_delta + quarter - 1],
             log_m23: skew[middle + quarter - 1],
         };
-        let layers = TwoLayers {
-            kernel,
-            direction,
-            logs,
-        };
-        step_fours(&layers, steps, rows, block.pos, quarter);
+        steps.row_steps(block.size);
+        let chunks = &mut rows.chunks[start..end];
+        butterflies_of_quarters(direction, kernel, chunks, quarter * len, logs);
     }
 }

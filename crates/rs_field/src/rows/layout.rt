@@ -30,13 +30,19 @@ pub fn insert(row: &mut [[u8; 64]], shard: &[u8])
     }
 }
 
-// The first chunks of a shard lie as they are.
+// The first chunks of a shard lie as they are. A single one is moved by itself: a copy of a length that is known only here
+// is a call.
 fn put_whole(row: &mut [[u8; 64]], shard: &[u8], whole: usize)
     requires room { whole ≤ length row.old }
     requires within { whole * 64 ≤ length shard.now }
     ensures { (k b : ℕ) → k < whole → b < 64 → slice_index (chunk row.new k) b ≡ slice_index shard.now (k * 64 + b) }
 {
-    row[..whole].copy_from_slice(shard[..whole * 64].as_chunks().0);
+    let chunks = shard[..whole * 64].as_chunks().0;
+    if whole == 1 {
+        row[0] = chunks[0];
+    } else {
+        row[..whole].copy_from_slice(chunks);
+    }
 }
 
 // The halves of a tail lie from byte 0 and from byte 32 on. It isn't inlined: a loop over shards would work out beforehand

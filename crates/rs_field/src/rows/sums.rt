@@ -1,12 +1,10 @@
 //! Sums of rows: of two lists of chunks, and of ranges of rows.
 ghost use Rattle.std.specs.Prelude.{◌≡◌, ℕ, ◌+◌, ◌*◌, ◌<◌, ◌≤◌, ◌⊎◌, length, slice_index, bit_xor};
-ghost use Rattle.rs_field.specs.rows.Rows.{chunk, symbol};
+ghost use Rattle.rs_field.specs.rows.Rows.{chunk, symbol, SameOutside};
 ghost use Rattle.rs_field.specs.rows.View.{word, Fits, SameShape, SameRowsOutside};
-ghost use Rattle.rs_field.specs.rows.Pairs.{IsSumStep};
 ghost use Rattle.rs_field.specs.words.StepBounds.{CountsRows};
 
 use super::ShardsRefMut;
-use super::pairs::{PairStep, step_pairs};
 use super::vectors::sum;
 use crate::words::Steps;
 use std::simd::prelude::*;
@@ -31,15 +29,20 @@ pub fn xor(xs: &mut [[u8; 64]], ys: &[[u8; 64]])
     }
 }
 
-// The sum of two rows, which leaves the second as it is.
-#[derive(Clone, Copy)]
-struct Sum;
-
-impl PairStep for Sum {
-    ghost related = { λ _. IsSumStep };
-
-    fn apply(&self, x: &mut [[u8; 64]], y: &mut [[u8; 64]]) {
-        xor(x, y);
+// The n chunks from a on become their sums with those from b on.
+fn xor_parts(chunks: &mut [[u8; 64]], a: usize, b: usize, n: usize)
+    requires apart { (a + n ≤ b) ⊎ (b + n ≤ a) }
+    requires a_in { a + n ≤ length chunks.old }
+    requires b_in { b + n ≤ length chunks.old }
+    ensures sums { (k s : ℕ) → k < n → s < 32
+        → symbol (chunk chunks.new (a + k)) s ≡ bit_xor (symbol (chunk chunks.old (a + k)) s) (symbol (chunk chunks.old (b + k)) s) }
+    ensures others { SameOutside a (a + n) chunks.old chunks.new }
+{
+    let (front, back) = chunks.split_at_mut(a.max(b));
+    if a < b {
+        xor(&mut front[a..a + n], &back[..n]);
+    } else {
+        xor(&mut back[..n], &front[b..b + n]);
     }
 }
 
@@ -57,5 +60,7 @@ pub fn xor_within(steps: &mut Steps, data: &mut ShardsRefMut<'_>, x: usize, y: u
     ensures others { SameRowsOutside x (x + count) «data».old «data».new }
     ensures counts { CountsRows count steps.old steps.new }
 {
-    step_pairs(&Sum, steps, data, x, y, count);
+    steps.row_steps(count);
+    let len = data.shard_len_64;
+    xor_parts(data.chunks, x * len, y * len, count * len);
 }

@@ -18,35 +18,15 @@ use super::layers::{Direction, layers};
 use super::marked_rows::UsedRows;
 use crate::words::Steps;
 
-// The transform of two or four rows: the layers leave parts of one row, and there is no more to do.
-fn transform_few<K: Kernel>(
-    direction: Direction,
-    kernel: &K,
-    steps: &mut Steps,
-    rows: &mut ShardsRefMut<'_>,
-    block: Block,
-)
-    requires fits { Fits rows.old }
-    requires large { 1 < block.size }
-    requires few { block.size ≤ 4 }
-    requires within { block.pos + block.size ≤ rows.old.shard_count }
-    ensures shape { SameShape rows.old rows.new }
-    ensures others { SameRowsOutside block.pos (block.pos + block.size) rows.old rows.new }
-    ensures values { (k s : ℕ) → k < rows.old.shard_len_64 → s < 32 → (used : ℕ → Bool)
-        → AreTransformed direction used block.size block.skew_delta (λ q. word rows.old k s (block.pos + q)) (λ q. word rows.new k s (block.pos + q)) }
-    ensures counts { TransformCounts block.size steps.old steps.new }
-{
-    row_symbols_are_words(rows);
-    layers(direction, kernel, steps, rows, block);
-    row_symbols_are_words(rows);
-}
-
 /// The transform of a block in a direction, by an engine's butterflies. At most `size / 2` of them are counted for each
 /// layer, and rows outside are unchanged.
 ///
 /// Forward, row i of it, where it is used, becomes the sum over q of the old row q times the basis polynomial q at the
 /// point `skew_delta + i`; the rows that aren't used are open. Backward, the rows become those whose forward transform they
 /// were; those that aren't used are zero when the call begins.
+///
+/// Inlined, so that blocks of up to four rows are done without a call.
+#[inline(always)]
 #[cycle(transform)]
 pub(crate) fn transform<K: Kernel>(
     direction: Direction,
@@ -70,20 +50,47 @@ pub(crate) fn transform<K: Kernel>(
     if used.are_none() {
         return;
     }
-    if block.size < 2 {
+    if block.size > 4 {
+        transform_many(direction, kernel, steps, rows, block, used);
+        return;
+    }
+    row_symbols_are_words(rows);
+    if block.size > 1 {
+        layers(direction, kernel, steps, rows, block);
         row_symbols_are_words(rows);
-    } else if block.size <= 4 {
-        transform_few(direction, kernel, steps, rows, block);
-    } else {
-        match direction {
-            Direction::Forward => {
-                layers(direction, kernel, steps, rows, block);
-                transform_parts(direction, kernel, steps, rows, block, used);
-            }
-            Direction::Backward => {
-                transform_parts(direction, kernel, steps, rows, block, used);
-                layers(direction, kernel, steps, rows, block);
-            }
+    }
+}
+
+// The transform of more than four rows.
+#[cycle(transform)]
+fn transform_many<K: Kernel>(
+    direction: Direction,
+    kernel: &K,
+    steps: &mut Steps,
+    rows: &mut ShardsRefMut<'_>,
+    block: Block,
+    used: UsedRows<'_>,
+)
+    requires fits { Fits rows.old }
+    requires large { 1 < block.size }
+    requires marks { HasMarks used block.size }
+    requires within { block.pos + block.size ≤ rows.old.shard_count }
+    requires zeros { UnusedAreZeroBackward direction used block.pos block.size rows.old }
+    ensures shape { SameShape rows.old rows.new }
+    ensures others { SameRowsOutside block.pos (block.pos + block.size) rows.old rows.new }
+    ensures values { (k s : ℕ) → k < rows.old.shard_len_64 → s < 32
+        → AreTransformed direction (is_used used.entry) block.size block.skew_delta
+        (λ q. word rows.old k s (block.pos + q)) (λ q. word rows.new k s (block.pos + q)) }
+    ensures counts { TransformCounts block.size steps.old steps.new }
+{
+    match direction {
+        Direction::Forward => {
+            layers(direction, kernel, steps, rows, block);
+            transform_parts(direction, kernel, steps, rows, block, used);
+        }
+        Direction::Backward => {
+            transform_parts(direction, kernel, steps, rows, block, used);
+            layers(direction, kernel, steps, rows, block);
         }
     }
 }

@@ -1,4 +1,5 @@
-use Rattle.std.proofs.Common.{◌≡◌, ℕ, zero, suc, ◌+◌, ◌*◌, ◌/◌, ◌<◌, List, [], length, take, drop, get_or, ap, ◌∙◌, arith, length-take-le}
+use Rattle.std.proofs.Common.{◌≡◌, ℕ, zero, suc, ◌+◌, ◌*◌, ◌/◌, ◌<◌, ◌≤◌, List, [], length, take, drop, get_or, ap, ◌∙◌, arith, sym, length-take-le, get_or-set_same}
+use lib.ListN.{set}
 use Rattle.std.specs.Simd.{first_chunks}
 use Rattle.std.proofs.lemmas.List.{get_or_append_left, get_or-take, get_or-drop}
 use Rattle.rs_field.proofs.rows.layout.put_whole.Goals as goal
@@ -10,13 +11,29 @@ byte_of_chunk (suc count) zero b bytes h hb = get_or-take 64 bytes b 0 hb ∙ ap
 byte_of_chunk (suc count) (suc k) b bytes h hb =
     byte_of_chunk count k b (drop 64 bytes) (omega arith) hb ∙ get_or-drop 64 bytes (k * 64 + b) 0 ∙ ap (λ i. get_or bytes i 0) (omega arith)
 
-pub returns : goal.returns
-returns c k b h hb =
-    let bytes = take (c.args.whole * 64) c.args.shard.now in
-    let long : length bytes ≡ c.args.whole * 64 = length-take-le (c.args.whole * 64) c.args.shard.now (omega arith) in
+-- and of the chunks of the first bytes of a shard
+byte_of_shard : (count k b : ℕ) (shard : List ℕ) (chunks : List (List ℕ)) → chunks ≡ first_chunks 64 (length (take (count * 64) shard) / 64) (take (count * 64) shard)
+    → count * 64 ≤ length shard → k < count → b < 64 → get_or (get_or chunks k []) b 0 ≡ get_or shard (k * 64 + b) 0
+byte_of_shard count k b shard chunks are within h hb =
+    let bytes = take (count * 64) shard in
+    let long : length bytes ≡ count * 64 = length-take-le (count * 64) shard within in
+    ap (λ l. get_or (get_or l k []) b 0) are ∙ byte_of_chunk (length bytes / 64) k b bytes (omega (arith, long, h)) hb
+    ∙ get_or-take (count * 64) shard (k * 64 + b) 0 (omega (arith, h, hb))
+
+pub returns-then-whole-eq1 : goal.returns-then-whole-eq1
+returns-then-whole-eq1 c k b h hb =
+    let row = c.args.row.now in
+    let x = get_or c.as_chunks.result.0.now 0 [] in
+    let first : k ≡ 0 = omega arith in
+    let some : 0 < length row = omega arith in
+    let laid : get_or (set row 0 x) k [] ≡ x = ap (λ i. get_or (set row 0 x) i []) first ∙ get_or-set_same row 0 x [] some in
+    let put = byte_of_shard c.args.whole 0 b c.args.shard.now c.as_chunks.result.0.now c.as_chunks.ensures.front c.requires.within (omega arith) hb in
+    ap (λ chunk. get_or chunk b 0) laid ∙ put ∙ ap (λ i. get_or c.args.shard.now (i * 64 + b) 0) (sym first)
+
+pub returns-else-whole-eq1 : goal.returns-else-whole-eq1
+returns-else-whole-eq1 c k b h hb =
     let laid : length c.copy_from_slice.new.self ≡ c.args.whole = c.copy_from_slice.ensures.len ∙ length-take-le c.args.whole c.args.row.now (omega arith) in
     ap (λ chunk. get_or chunk b 0)
     (get_or_append_left c.copy_from_slice.new.self (drop c.args.whole c.args.row.now) [] k (omega arith)
-    ∙ ap (λ chunks. get_or chunks k []) (c.copy_from_slice.ensures.after ∙ c.as_chunks.ensures.front))
-    ∙ byte_of_chunk (length bytes / 64) k b bytes (omega arith) hb
-    ∙ get_or-take (c.args.whole * 64) c.args.shard.now (k * 64 + b) 0 (omega arith)
+    ∙ ap (λ chunks. get_or chunks k []) c.copy_from_slice.ensures.after)
+    ∙ byte_of_shard c.args.whole k b c.args.shard.now c.as_chunks.result.0.now c.as_chunks.ensures.front c.requires.within h hb

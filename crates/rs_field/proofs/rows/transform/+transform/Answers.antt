@@ -7,8 +7,9 @@ use Rattle.rs_field.specs.rows.MarkedRows.{is_used, HasMarks}
 use Rattle.rs_field.specs.rows.Directions.{AreTransformed}
 use Rattle.rs_field.proofs.of_words.Counting.{counts_none, counts_rows}
 use Rattle.rs_field.proofs.of_rows.Recursion.{fits_kept}
-use Rattle.rs_field.proofs.of_rows.Parts.{part_begins, part_found, part_within, parts_number, parts_whole}
-use Rattle.rs_field.proofs.of_rows.PartLoops.{parts_begun, parts_next, forward_whole, backward_whole, none_used, one_used, counts_next, counts_of_parts, counts_of_whole, zeros_of_part, part_before}
+use Rattle.rs_field.proofs.of_rows.Directions.{layers_of_few}
+use Rattle.rs_field.proofs.of_rows.Parts.{block_power, part_begins, part_found, part_within, parts_number, parts_whole}
+use Rattle.rs_field.proofs.of_rows.PartLoops.{parts_begun, parts_next, forward_whole, backward_whole, none_used, one_used, counts_next, counts_of_layers, counts_of_parts, counts_of_whole, zeros_of_part, part_before}
 use Rattle.rs_field.proofs.rows.transform.+transform.Goals as goal
 
 pub transform-returns-then-are_none-clause-values : goal.transform-returns-then-are_none-clause-values
@@ -16,8 +17,8 @@ transform-returns-then-are_none-clause-values g t c k s hk hs =
     let block = c.args.block in
     none_used c.args.direction c.args.used c.args.rows.now k s block.pos block.size block.skew_delta hk hs (c.are_none.ensures.none c.if-are_none.true) c.requires.zeros
 
-pub transform-transform_parts-requires : goal.transform-transform_parts-requires
-transform-transform_parts-requires g t c κs within =
+pub transform_many-transform_parts-requires : goal.transform_many-transform_parts-requires
+transform_many-transform_parts-requires g t c κs within =
     let shape = c.layers.ensures.shape in
     let count = shape.count in
     let open_rows : 0 ≤ c.args.block.size = omega arith in (
@@ -25,21 +26,35 @@ transform-transform_parts-requires g t c κs within =
       (within, (fits_kept c.args.rows.now c.layers.new.rows shape c.requires.fits, (omega arith, (c.requires.marks, (omega arith, rw c.in-Forward.is open_rows))))),
     )
 
-pub transform-transform_parts-requires-in-Backward : goal.transform-transform_parts-requires-in-Backward
-transform-transform_parts-requires-in-Backward g t c κs within =
+pub transform_many-transform_parts-requires-in-Backward : goal.transform_many-transform_parts-requires-in-Backward
+transform_many-transform_parts-requires-in-Backward g t c κs within =
     (omega arith, (within, (c.requires.fits, (omega arith, (c.requires.marks, (c.requires.within, c.requires.zeros))))))
 
-pub transform-returns-then-block-lt2-clause-values : goal.transform-returns-then-block-lt2-clause-values
-transform-returns-then-block-lt2-clause-values g t c k s hk hs =
+pub transform-returns-then-block-gt1-clause-values : goal.transform-returns-then-block-gt1-clause-values
+transform-returns-then-block-gt1-clause-values g t c k s hk hs =
     let block = c.args.block in
-    one_used c.args.direction (is_used c.args.used) block.size block.skew_delta (λ q. word c.args.rows.now k s (block.pos + q)) c.if-block-lt2.true
+    let shape = c.layers.ensures.shape in
+    let len = shape.len_64 in
+    let count = shape.count in
+    let within = c.requires.within in
+    layers_of_few c.args.direction (is_used c.args.used) block.size block.skew_delta (λ (q : ℕ). word c.args.rows.now k s (block.pos + q))
+    (λ (q : ℕ). word c.layers.new.rows k s (block.pos + q)) (omega arith) (omega arith) (block_power block)
+    (λ i hi. c.row_symbols_are_words.ensures k s (block.pos + i) hk hs (omega (arith, within)))
+    (λ i hi. c.row_symbols_are_words-then-block-gt1.ensures k s (block.pos + i) (omega (arith, len)) hs (omega (arith, count, within)))
+    (c.layers.ensures.parts k s hk hs)
+
+pub transform-returns-then-block-gt1-clause-counts : goal.transform-returns-then-block-gt1-clause-counts
+transform-returns-then-block-gt1-clause-counts g t c =
+    counts_of_layers c.args.block c.args.steps.now c.layers.new.steps (omega arith) c.layers.ensures.counts
+
+pub transform-returns-else-block-gt1-clause-values : goal.transform-returns-else-block-gt1-clause-values
+transform-returns-else-block-gt1-clause-values g t c k s hk hs =
+    let block = c.args.block in
+    one_used c.args.direction (is_used c.args.used) block.size block.skew_delta (λ q. word c.args.rows.now k s (block.pos + q)) (omega arith)
     (λ some. c.row_symbols_are_words.ensures k s (block.pos + 0) hk hs (omega arith))
 
-pub transform-returns-then-block-le4-clause-values : goal.transform-returns-then-block-le4-clause-values
-transform-returns-then-block-le4-clause-values g t c k s hk hs = c.transform_few.ensures.values k s hk hs (is_used c.args.used)
-
-pub transform-returns-in-Forward-clause-values : goal.transform-returns-in-Forward-clause-values
-transform-returns-in-Forward-clause-values g t c k s hk hs =
+pub transform_many-returns-in-Forward-clause-values : goal.transform_many-returns-in-Forward-clause-values
+transform_many-returns-in-Forward-clause-values g t c k s hk hs =
     let block = c.args.block in
     let large : 1 < block.size = omega arith in
     let len = c.layers.ensures.shape.len_64 in
@@ -49,8 +64,8 @@ transform-returns-in-Forward-clause-values g t c k s hk hs =
     (rw c.in-Forward.is at layers)
     (λ m hm. let parts = c.transform_parts.ensures.parts k s m (omega (arith, len)) hs hm in rw c.in-Forward.is at parts))
 
-pub transform-returns-in-Forward-clause-counts : goal.transform-returns-in-Forward-clause-counts
-transform-returns-in-Forward-clause-counts g t c =
+pub transform_many-returns-in-Forward-clause-counts : goal.transform_many-returns-in-Forward-clause-counts
+transform_many-returns-in-Forward-clause-counts g t c =
     let block = c.args.block in
     let large : 1 < block.size = omega arith in
     let few = (part_found block _ refl large).steps in
@@ -58,8 +73,8 @@ transform-returns-in-Forward-clause-counts g t c =
     counts_of_whole size (layer_steps size) (transform_steps size - layer_steps size) c.args.steps.now c.layers.new.steps c.transform_parts.new.steps (omega (arith, few))
     (counts_rows (layer_steps block.size) c.args.steps.now c.layers.new.steps c.layers.ensures.counts) c.transform_parts.ensures.counts
 
-pub transform-returns-in-Backward-clause-values : goal.transform-returns-in-Backward-clause-values
-transform-returns-in-Backward-clause-values g t c k s hk hs =
+pub transform_many-returns-in-Backward-clause-values : goal.transform_many-returns-in-Backward-clause-values
+transform_many-returns-in-Backward-clause-values g t c k s hk hs =
     let block = c.args.block in
     let large : 1 < block.size = omega arith in
     let len = c.transform_parts-in-Backward.ensures.shape.len_64 in
@@ -69,8 +84,8 @@ transform-returns-in-Backward-clause-values g t c k s hk hs =
     (rw c.in-Backward.is at layers)
     (λ m hm. let parts = c.transform_parts-in-Backward.ensures.parts k s m hk hs hm in rw c.in-Backward.is at parts))
 
-pub transform-returns-in-Backward-clause-counts : goal.transform-returns-in-Backward-clause-counts
-transform-returns-in-Backward-clause-counts g t c =
+pub transform_many-returns-in-Backward-clause-counts : goal.transform_many-returns-in-Backward-clause-counts
+transform_many-returns-in-Backward-clause-counts g t c =
     let block = c.args.block in
     let large : 1 < block.size = omega arith in
     let few = (part_found block _ refl large).steps in

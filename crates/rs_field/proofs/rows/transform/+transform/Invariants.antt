@@ -5,10 +5,13 @@ use Rattle.rs_field.proofs.of_rows.PartLoops.{PartsDone}
 use Rattle.rs_field.proofs.rows.transform.+transform.Given as goal
 
 abbrev pub decreases-transform : goal.decreases-transform
-decreases-transform g l = 2 * l.block.size + 1
+decreases-transform g l = 3 * l.block.size + 2
+
+abbrev pub decreases-transform_many : goal.decreases-transform_many
+decreases-transform_many g l = 3 * l.block.size + 1
 
 abbrev pub decreases-transform_parts : goal.decreases-transform_parts
-decreases-transform_parts g l = 2 * l.block.size
+decreases-transform_parts g l = 3 * l.block.size
 
 abbrev pub invariant-transform_parts-loop-j : goal.invariant-transform_parts-loop-j
 invariant-transform_parts-loop-j g l = record {
