@@ -193,6 +193,10 @@ module _ (k r : ℕ) (originals recovery : Items) (s : DecoderState) (is : IsDec
   decoding-kept =
       let led = decoding-led in
       let set_up = first-ok _ (started (decoder_rows default_rate k r) (default_of k r (length led.0.1))) s (sym led.3) in
-      let one = first-ok (λ now. with_recoveries now (led.0 ∷ led.1)) (with_originals (fresh_decoder (default_of k r (length led.0.1))) originals) s (sym set_up.2) in
-      (led.0, led.1, led.2, kept-by-all (λ s item. with_recovery s item.0 item.1) (λ s. s.configuration) kept-recovery (led.0 ∷ led.1) one.0 s one.2
-      ∙ kept-by-all (λ s item. with_original s item.0 item.1) (λ s. s.configuration) kept-original originals _ one.0 one.1)
+      let one = first-ok (λ now. with_recoveries now (led.0 ∷ led.1)) (with_originals (fresh_decoder (default_of k r (length led.0.1))) originals) s (sym set_up.2) in (
+        led.0,
+        led.1,
+        led.2,
+        kept-by-all (λ s item. with_recovery s item.0 item.1) (λ s. s.configuration) kept-recovery (led.0 ∷ led.1) one.0 s one.2
+            ∙ kept-by-all (λ s item. with_original s item.0 item.1) (λ s. s.configuration) kept-original originals _ one.0 one.1,
+      )

@@ -1,17 +1,10 @@
 -- What is printed, and what is told in its place.
-use Rattle.std.proofs.Common.{◌≡◌, ℕ, Bool, true, false, cond, List, [], ◌∷◌, map, Some, Result, Ok, Err, inl, inr, refl, sym, ◌∙◌, ap, ap₂, subst, arith}
-use Rattle.std.specs.Prelude.{nat_eq, MatchResult}
-use Rattle.std.specs.BTreeMap.{BTreeMap, IsOrdered}
-use Rattle.std.specs.List.Sorted.{IsStrictlySortedBy}
-use Rattle.std.specs.Map.{lookup}
-use Rattle.std.specs.Option.{option_map}
-use Rattle.std.specs.Ordering.{nat_cmp, is_eq}
+use Rattle.std.proofs.Common.{◌≡◌, ℕ, Bool, true, false, cond, List, [], ◌∷◌, Result, Ok, Err, inl, inr, refl, arith}
+use Rattle.std.specs.Prelude.{MatchResult}
 use Rattle.std.specs.declared.string.String.{String}
 use Rattle.std.specs.declared.vec.Vec.{Vec}
-use Rattle.std.proofs.lemmas.Bool.Decides.{nat_tests}
-use Rattle.std.proofs.lemmas.Map.Made.{keys_of-map_values, lookup-map_values}
 use Rattle.reed_solomon_simd.specs.Counts.{default_rate, supports}
-use Rattle.reed_solomon_simd.specs.OneCall.{Items, counted, shards_in, OneEncodeAnswers, OneDecodeAnswers}
+use Rattle.reed_solomon_simd.specs.OneCall.{Items, counted, OneEncodeAnswers, OneDecodeAnswers}
 use Rattle.reed_solomon_simd.specs.declared.Error.{Error}
 use Rattle.reed_solomon_simd.specs.declared.Error.TheVariants.{UnsupportedShardCount, OutOfMemory}
 use Rattle.reed_solomon_simd.specs.Column.{Shard}
@@ -21,7 +14,6 @@ use Rattle.rs.specs.declared.fault.Fault.TheVariants.{Usage, Refused}
 use Rattle.rs.specs.CommandLine.{GivenItems, Task, Coded, Restored}
 use Rattle.rs.specs.Printed.{lines_of, indexed_lines_of, concatenated, CodesLines, RestoresLines, Answers, OrLacksMemory, Refuses, HasFault}
 use Rattle.rs.specs.Told.{status_of, IsToldAs}
-use Rattle.rs.proofs.ListedLemmas.{lists-sorted}
 
 -- the lines of recovery shards, or want of memory
 pub codes-lines : {Y Z : Type 0} (k r : ℕ) (shards recovery : List Shard) (result : Result (Vec (String Y) Z) Error) → OneEncodeAnswers k r shards (Ok recovery)

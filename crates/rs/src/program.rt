@@ -23,7 +23,7 @@ use std::io::Write;
 
 // A line for each recovery shard.
 fn lines(alloc: Global, shards: Recovery<'_>) -> Result<Vec<String>, Error>
-    ensures { MatchResult result (λ texts. concatenated texts ≡ lines_of shards) (λ e. e ≡ Error.OutOfMemory) }
+    ensures { MatchResult result (λ texts. concatenated texts ≡ lines_of shards.entry) (λ e. e ≡ Error.OutOfMemory) }
 {
     let mut texts = Vec::new(alloc);
     for shard in shards {
@@ -34,7 +34,7 @@ fn lines(alloc: Global, shards: Recovery<'_>) -> Result<Vec<String>, Error>
 
 // A line for each restored original, behind its index.
 fn indexed_lines(alloc: Global, shards: RestoredOriginal<'_>) -> Result<Vec<String>, Error>
-    ensures { MatchResult result (λ texts. concatenated texts ≡ indexed_lines_of shards) (λ e. e ≡ Error.OutOfMemory) }
+    ensures { MatchResult result (λ texts. concatenated texts ≡ indexed_lines_of shards.entry) (λ e. e ≡ Error.OutOfMemory) }
 {
     let mut texts = Vec::new(alloc);
     for (index, shard) in shards {

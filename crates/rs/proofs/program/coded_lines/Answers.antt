@@ -1,4 +1,4 @@
-use Rattle.std.proofs.Common.{rules, Err, Ok, inl, map, subst}
+use Rattle.std.proofs.Common.{rules, Err, Ok, inl, map}
 use Rattle.std.proofs.lemmas.Iterator.{YieldsList-from_slice, YieldsList-from_map_by}
 use Rattle.std.proofs.lemmas.Result.{err_from_is_err_and}
 use Rattle.reed_solomon_simd.specs.ResultView.{recovery_shards}
@@ -10,7 +10,7 @@ use Rattle.rs.proofs.program.coded_lines.Goals as goal
 pub returns-in_err-encoder : goal.returns-in_err-encoder
 returns-in_err-encoder c =
     let shards = YieldsList-from_map_by _ (λ shard. shard.now) (λ v. v.items) (YieldsList-from_slice c.args.original.now cc) c.map-shards.ensures.closure (λ x r q k. search rules) in
-    let exit = err_from_is_err_and c.from_residual-in_err-encoder.result c.from_residual-in_err-encoder.ensures.1 in
+    let exit = err_from_is_err_and c.from_residual.result c.from_residual.ensures.1 in
     rw (exit.1, exit.2) (inl (encoding-refused c.args.counts.original c.args.counts.recovery _ _ (always-run c.in_err-encoder.ensures.run (map (λ v. v.items) c.args.original.now) shards.runs)))
 
 pub returns-in_err-coded : goal.returns-in_err-coded
@@ -24,5 +24,5 @@ pub returns : goal.returns
 returns c =
     let shards = YieldsList-from_map_by _ (λ shard. shard.now) (λ v. v.items) (YieldsList-from_slice c.args.original.now cc) c.map-shards.ensures.closure (λ x r q k. search rules) in
     let led = always-run c.in_ok-encoder.ensures.run (map (λ v. v.items) c.args.original.now) shards.runs in
-    codes-lines c.args.counts.original c.args.counts.recovery _ (recovery_shards c.in_ok-coded.result) _
-    (encoding-answers c.args.counts.original c.args.counts.recovery _ _ led (Ok (recovery_shards c.in_ok-coded.result)) c.in_ok-coded.ensures.answer) (rw c.recovery_iter.ensures.shards at c.lines.ensures)
+    codes-lines c.args.counts.original c.args.counts.recovery _ (recovery_shards c.in_ok-coded.coded) _
+    (encoding-answers c.args.counts.original c.args.counts.recovery _ _ led (Ok (recovery_shards c.in_ok-coded.coded)) c.in_ok-coded.ensures.answer) (rw c.recovery_iter.ensures.shards at c.lines.ensures)

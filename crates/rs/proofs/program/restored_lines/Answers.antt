@@ -1,4 +1,4 @@
-use Rattle.std.proofs.Common.{rules, Err, Ok, [], inl, refl}
+use Rattle.std.proofs.Common.{rules, Err, Ok, [], inl}
 use Rattle.std.proofs.lemmas.Iterator.{YieldsList-from_slice, YieldsList-from_map_by}
 use Rattle.std.proofs.lemmas.Result.{err_from_is_err_and}
 use Rattle.reed_solomon_simd.specs.Given.{nothing}
@@ -15,7 +15,7 @@ returns-in_err-decoder c =
     let recovery = YieldsList-from_map_by _ (λ item. (item.0, item.1.now)) (λ item. (item.0, item.1.items)) (YieldsList-from_slice c.args.given.now.recovery.items cc) c.map-recovery.ensures.closure (λ x r q k. search rules) in
     let given = as_given c.args.given.now in
     let led = always-both (λ item. (item.0, item.1.now)) (λ item. (item.0, item.1.now)) _ c.in_err-decoder.ensures.run given.originals given.recovery original.runs recovery.runs in
-    let exit = err_from_is_err_and c.from_residual-in_err-decoder.result c.from_residual-in_err-decoder.ensures.1 in
+    let exit = err_from_is_err_and c.from_residual.result c.from_residual.ensures.1 in
     rw (exit.1, exit.2) (inl (decoding-refused c.args.counts.original c.args.counts.recovery given.originals given.recovery _ led))
 
 pub returns-in_default : goal.returns-in_default
@@ -41,5 +41,5 @@ returns c =
     let recovery = YieldsList-from_map_by _ (λ item. (item.0, item.1.now)) (λ item. (item.0, item.1.items)) (YieldsList-from_slice c.args.given.now.recovery.items cc) c.map-recovery.ensures.closure (λ x r q k. search rules) in
     let given = as_given c.args.given.now in
     let led = always-both (λ item. (item.0, item.1.now)) (λ item. (item.0, item.1.now)) _ (rw c.in-Some.is at c.in_ok-decoder.ensures.run) given.originals given.recovery original.runs recovery.runs in
-    let restored = restored_originals c.in_ok-restored.result in
+    let restored = restored_originals c.in_ok-restored.restored in
     restores-lines c.args.counts.original c.args.counts.recovery given restored _ _ (decoding-answers c.args.counts.original c.args.counts.recovery given.originals given.recovery _ led (Ok restored) c.in_ok-restored.ensures.answer) c.restored_original_iter.ensures.listed c.indexed_lines.ensures
