@@ -4,14 +4,14 @@ use Rattle.std.specs.Prelude.{nat_le, nat_lt, ◌&&◌, Result, Err, is_ok, IfOk
 use Rattle.std.proofs.lemmas.Bool.{and_parts, ltb-true, lt-ltb}
 use Rattle.std.specs.BTreeMap.{BTreeMap}
 use Rattle.std.specs.declared.vec.Vec.{Vec}
-use Rattle.rs_field.specs.declared.error.Error.{Error}
-use Rattle.rs_field.specs.declared.error.Error.TheVariants.{NotEnoughShards}
-use Rattle.rs_field.specs.Given.{Shards}
-use Rattle.rs_field.specs.Decoder.{DecoderState, fresh_decoder, enough_given, after_decode}
-use Rattle.rs_field.specs.OneCall.{collected_map, shards_in}
-use Rattle.rs_field.specs.Counts.{Rate, low_rate, high_rate, default_rate, next_power, supports}
-use Rattle.rs_field.specs.Configuration.{Configuration, validated}
-use Rattle.rs_field.proofs.Entries.{count-nothing}
+use Rattle.rs_field.specs.declared.code.error.Error.{Error}
+use Rattle.rs_field.specs.declared.code.error.Error.TheVariants.{NotEnoughShards}
+use Rattle.rs_field.specs.code.Given.{Shards}
+use Rattle.rs_field.specs.code.Decoder.{DecoderState, fresh_decoder, enough_given, after_decode}
+use Rattle.rs_field.specs.code.OneCall.{collected_map, shards_in}
+use Rattle.rs_field.specs.code.Counts.{Rate, low_rate, high_rate, default_rate, next_power, supports}
+use Rattle.rs_field.specs.code.Configuration.{Configuration, validated}
+use Rattle.rs_field.proofs.of_code.Entries.{count-nothing}
 use Rattle.rs_rate.proofs.StateLemmas.{valid-supported}
 
 some_originals : (rate : Rate) (k r : ℕ) → supports rate k r ≡ true → 0 < k

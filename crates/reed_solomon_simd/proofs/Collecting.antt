@@ -9,10 +9,10 @@ use Rattle.std.specs.Option.{option_map}
 use Rattle.std.specs.Ordering.{nat_cmp, is_eq}
 use Rattle.std.specs.declared.cmp.Ordering.TheVariants.{Less, Equal, Greater}
 use Rattle.std.specs.declared.vec.Vec.{Vec}
-use Rattle.rs_field.specs.Column.{Shard}
-use Rattle.rs_field.specs.Given.{Shards, nothing, entered, listed_one, listed_from, Lists}
-use Rattle.rs_field.specs.OneCall.{Items, shards_in}
-use Rattle.rs_field.proofs.Listed.{listed_from-zero, listed_from-suc}
+use Rattle.rs_field.specs.code.Column.{Shard}
+use Rattle.rs_field.specs.code.Given.{Shards, nothing, entered, listed_one, listed_from, Lists}
+use Rattle.rs_field.specs.code.OneCall.{Items, shards_in}
+use Rattle.rs_field.proofs.of_code.Listed.{listed_from-zero, listed_from-suc}
 
 -- a map with the items entered, one after another
 abbrev pub with_entries : Shards → Items → Shards

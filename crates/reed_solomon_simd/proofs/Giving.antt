@@ -1,9 +1,9 @@
 -- Following an iterator whose items are taken one after another.
 use Rattle.std.proofs.Common.{◌≡◌, true, false, List, [], ◌∷◌, ◌++◌, map, Option, Some, None, Result, Ok, Err, refl, sym, ap, subst, ◌∙◌, true≢false}
 use Rattle.std.specs.Iterator.{AlwaysYields, Yields}
-use Rattle.rs_field.specs.declared.error.Error.{Error}
-use Rattle.rs_field.specs.Outcome.{result_and_then, answer_of, state_after}
-use Rattle.rs_field.specs.OneCall.{one_by_one}
+use Rattle.rs_field.specs.declared.code.error.Error.{Error}
+use Rattle.rs_field.specs.code.Outcome.{result_and_then, answer_of, state_after}
+use Rattle.rs_field.specs.code.OneCall.{one_by_one}
 use Rattle.reed_solomon_simd.specs.Calls.{Calls, Begins}
 use Rattle.reed_solomon_simd.specs.Giving.{Reaches}
 

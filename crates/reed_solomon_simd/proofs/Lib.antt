@@ -8,9 +8,9 @@ pub mod Collecting
 pub mod OneCall
 pub mod CallerLemmas
 pub mod ObjectRoundTrip
-pub use Rattle.rs_field.proofs.Given
-pub use Rattle.rs_field.proofs.Listed
-pub use Rattle.rs_field.proofs.Entries
-pub use Rattle.rs_field.proofs.RoundTrip
-pub use Rattle.rs_field.proofs.OneRoundTrip
-pub use Rattle.rs_field.proofs.Left
+pub use Rattle.rs_field.proofs.of_code.Given
+pub use Rattle.rs_field.proofs.of_code.Listed
+pub use Rattle.rs_field.proofs.of_code.Entries
+pub use Rattle.rs_field.proofs.of_code.RoundTrip
+pub use Rattle.rs_field.proofs.of_code.OneRoundTrip
+pub use Rattle.rs_field.proofs.of_code.Left

@@ -7,10 +7,10 @@ use Rattle.std.proofs.lemmas.List.{get_or-replicate, get_or-set_other, length-re
 use Rattle.std.proofs.lemmas.List.Folds.{sum_by-replicate}
 use Rattle.std.proofs.lemmas.List.Sums.{sum_by-set}
 use Rattle.std.specs.List.{sum_by, count_by, list_any}
-use Rattle.rs_field.specs.declared.error.Error.{Error}
-use Rattle.rs_field.specs.declared.error.Error.TheVariants.{InvalidOriginalShardIndex, DuplicateOriginalShardIndex, NotEnoughShards}
-use Rattle.rs_field.specs.Outcome.{answer_of, result_and_then}
-use Rattle.rs_field.specs.OneCall.{Items, one_by_one, noted, all_came}
+use Rattle.rs_field.specs.declared.code.error.Error.{Error}
+use Rattle.rs_field.specs.declared.code.error.Error.TheVariants.{InvalidOriginalShardIndex, DuplicateOriginalShardIndex, NotEnoughShards}
+use Rattle.rs_field.specs.code.Outcome.{answer_of, result_and_then}
+use Rattle.rs_field.specs.code.OneCall.{Items, one_by_one, noted, all_came}
 use Rattle.reed_solomon_simd.specs.Giving.{Reaches, AreNoted}
 use Rattle.reed_solomon_simd.proofs.Giving.{outcome-err}
 

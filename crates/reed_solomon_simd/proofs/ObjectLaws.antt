@@ -1,9 +1,9 @@
 -- What every plain object keeps: a valid configuration of the default rate, no more given than that takes, and room for its own rows.
 use Rattle.std.proofs.Common.{◌≤◌}
-use Rattle.rs_field.specs.Counts.{default_rate}
-use Rattle.rs_field.specs.Encoder.{IsEncoder}
-use Rattle.rs_field.specs.Decoder.{IsDecoder}
-use Rattle.rs_field.specs.Placement.{encoder_rows, decoder_rows}
+use Rattle.rs_field.specs.code.Counts.{default_rate}
+use Rattle.rs_field.specs.code.Encoder.{IsEncoder}
+use Rattle.rs_field.specs.code.Decoder.{IsDecoder}
+use Rattle.rs_field.specs.code.Placement.{encoder_rows, decoder_rows}
 use Rattle.rs_rate.specs.DecoderView.{HasRoom}
 use Rattle.rs_rate.specs.ObjectLaws.{is_encoder, is_decoder, has_own_room, has_own_decoder_room}
 use Rattle.rs_rate.specs.ShardRows.{chunk_count}

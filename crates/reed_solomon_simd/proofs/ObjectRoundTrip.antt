@@ -5,22 +5,22 @@ use Rattle.std.specs.Prelude.{MatchResult, IsOkAnd}
 use Rattle.std.proofs.lemmas.Bool.{lt-leb, eq-eqb, le-ltb}
 use Rattle.std.proofs.lemmas.List.Elements.{recursion_from_All}
 use Rattle.std.proofs.Math.Path.{fun_ext}
-use Rattle.rs_field.specs.declared.error.Error.{Error}
-use Rattle.rs_field.specs.declared.error.Error.TheVariants.{TooFewOriginalShards, OutOfMemory}
-use Rattle.rs_field.specs.Code.{AreRecovery}
-use Rattle.rs_field.specs.Column.{Shard, AreShards, shard_at}
-use Rattle.rs_field.specs.Counts.{Rate}
-use Rattle.rs_field.specs.Configuration.{Configuration, started}
-use Rattle.rs_field.specs.Decoder.{DecoderState, fresh_decoder, DecodeAnswers}
-use Rattle.rs_field.specs.Encoder.{EncoderState, IsEncoder, fresh_encoder, with_shard, EncodeAnswers}
-use Rattle.rs_field.specs.Given.{Shards, Lists}
-use Rattle.rs_field.specs.OneCall.{Items, with_shards, with_originals, with_recoveries}
-use Rattle.rs_field.specs.Outcome.{result_and_then}
-use Rattle.rs_field.specs.RoundTrip.{GivesBack}
+use Rattle.rs_field.specs.declared.code.error.Error.{Error}
+use Rattle.rs_field.specs.declared.code.error.Error.TheVariants.{TooFewOriginalShards, OutOfMemory}
+use Rattle.rs_field.specs.code.Code.{AreRecovery}
+use Rattle.rs_field.specs.code.Column.{Shard, AreShards, shard_at}
+use Rattle.rs_field.specs.code.Counts.{Rate}
+use Rattle.rs_field.specs.code.Configuration.{Configuration, started}
+use Rattle.rs_field.specs.code.Decoder.{DecoderState, fresh_decoder, DecodeAnswers}
+use Rattle.rs_field.specs.code.Encoder.{EncoderState, IsEncoder, fresh_encoder, with_shard, EncodeAnswers}
+use Rattle.rs_field.specs.code.Given.{Shards, Lists}
+use Rattle.rs_field.specs.code.OneCall.{Items, with_shards, with_originals, with_recoveries}
+use Rattle.rs_field.specs.code.Outcome.{result_and_then}
+use Rattle.rs_field.specs.code.RoundTrip.{GivesBack}
 use Rattle.reed_solomon_simd.specs.Giving.{Reaches}
 use Rattle.reed_solomon_simd.proofs.Giving.{reached-err}
-use Rattle.rs_field.proofs.Left.{kept_of, kept-left, just-lost, enough-left}
-use Rattle.rs_field.proofs.OneRoundTrip.{encoded_all, all_taken, taken_gives_back}
+use Rattle.rs_field.proofs.of_code.Left.{kept_of, kept-left, just-lost, enough-left}
+use Rattle.rs_field.proofs.of_code.OneRoundTrip.{encoded_all, all_taken, taken_gives_back}
 
 -- what a new encoder was given, all of it, is a message, and what it answered are its recovery shards
 pub codes-given : (rate : Rate) (c : Configuration) (shards recovery : List Shard) (new_encoder encoder : EncoderState) → new_encoder ≡ fresh_encoder c → with_shards new_encoder shards ≡ Ok encoder

@@ -1,20 +1,20 @@
 -- From coders that were given shards to what one call answers.
 use Rattle.std.proofs.Common.{◌≡◌, ℕ, List, [], ◌∷◌, length, Option, Some, None, Result, Ok, Err, IsOk, IfOk, MatchResult, inl, inr, refl, sym, ap, subst, ◌⊎◌, ◌∙◌, arith}
 use Rattle.std.proofs.lemmas.Grind.{common_steps}
-use Rattle.rs_field.specs.declared.error.Error.{Error}
-use Rattle.rs_field.specs.declared.error.Error.TheVariants.{OutOfMemory}
-use Rattle.rs_field.specs.Column.{Shard}
-use Rattle.rs_field.specs.Configuration.{Configuration, validated, started, UpToMemory}
-use Rattle.rs_field.specs.Counts.{default_rate}
-use Rattle.rs_field.specs.Decoder.{DecoderState, fresh_decoder, with_original, with_recovery, DecodeAnswers}
-use Rattle.rs_field.specs.Encoder.{EncoderState, IsEncoder, fresh_encoder, EncodeAnswers}
-use Rattle.rs_field.specs.Given.{Shards, nothing, Lists}
-use Rattle.rs_field.specs.OneCall.{Items, default_of, counted, all_came, encode_opening, decode_opening, one_by_one, with_shards, with_originals, with_recoveries, with_both, encoding, decoding, OneEncodeAnswers, OneDecodeAnswers}
-use Rattle.rs_field.specs.Outcome.{result_and_then}
-use Rattle.rs_field.specs.Placement.{encoder_rows, decoder_rows}
-use Rattle.rs_field.specs.RoundTrip.{AreCoded}
-use Rattle.rs_field.proofs.Listed.{listed_from-zero}
-use Rattle.rs_field.proofs.OneRoundTrip.{coded_by}
+use Rattle.rs_field.specs.declared.code.error.Error.{Error}
+use Rattle.rs_field.specs.declared.code.error.Error.TheVariants.{OutOfMemory}
+use Rattle.rs_field.specs.code.Column.{Shard}
+use Rattle.rs_field.specs.code.Configuration.{Configuration, validated, started, UpToMemory}
+use Rattle.rs_field.specs.code.Counts.{default_rate}
+use Rattle.rs_field.specs.code.Decoder.{DecoderState, fresh_decoder, with_original, with_recovery, DecodeAnswers}
+use Rattle.rs_field.specs.code.Encoder.{EncoderState, IsEncoder, fresh_encoder, EncodeAnswers}
+use Rattle.rs_field.specs.code.Given.{Shards, nothing, Lists}
+use Rattle.rs_field.specs.code.OneCall.{Items, default_of, counted, all_came, encode_opening, decode_opening, one_by_one, with_shards, with_originals, with_recoveries, with_both, encoding, decoding, OneEncodeAnswers, OneDecodeAnswers}
+use Rattle.rs_field.specs.code.Outcome.{result_and_then}
+use Rattle.rs_field.specs.code.Placement.{encoder_rows, decoder_rows}
+use Rattle.rs_field.specs.code.RoundTrip.{AreCoded}
+use Rattle.rs_field.proofs.of_code.Listed.{listed_from-zero}
+use Rattle.rs_field.proofs.of_code.OneRoundTrip.{coded_by}
 use Rattle.reed_solomon_simd.specs.Giving.{IsEncoding, IsDecoding, decoding_any}
 
 -- ---- steps one after another

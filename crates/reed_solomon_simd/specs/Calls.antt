@@ -2,8 +2,8 @@
 use Rattle.std.specs.Prelude.{◌≡◌, ℕ, Bool, true, List, [], ◌++◌, map, Option}
 use Rattle.std.specs.Borrow.{Bor}
 use Rattle.std.specs.Iterator.{DrainsIf}
-use Rattle.rs_field.specs.Column.{Shard}
-use Rattle.rs_field.specs.OneCall.{Items}
+use Rattle.rs_field.specs.code.Column.{Shard}
+use Rattle.rs_field.specs.code.OneCall.{Items}
 
 -- calls of `next` on an iterator gave these items, and then the end, or no more was asked for
 pub record Calls {I A : Type 0} (steps : I → Option A → I → Type 0) (iterator : I) : Type 0 where

@@ -1,6 +1,6 @@
 -- What a plain decoder stands for.
-use Rattle.rs_field.specs.Counts.{default_rate}
-use Rattle.rs_field.specs.Decoder.{DecoderState}
+use Rattle.rs_field.specs.code.Counts.{default_rate}
+use Rattle.rs_field.specs.code.Decoder.{DecoderState}
 use Rattle.rs_engines.specs.declared.engine_default.DefaultEngine.{DefaultEngine}
 use Rattle.rs_rate.specs.DecoderView.{DecoderRoom, decoder_state, memory_room}
 use Rattle.reed_solomon_simd.specs.declared.decoder.ReedSolomonDecoder.{ReedSolomonDecoder}

@@ -1,8 +1,8 @@
 -- What a plain encoder stands for.
 use Rattle.std.specs.Prelude.{ℕ}
 use Rattle.std.specs.Vec.{vec_capacity}
-use Rattle.rs_field.specs.Counts.{default_rate}
-use Rattle.rs_field.specs.Encoder.{EncoderState}
+use Rattle.rs_field.specs.code.Counts.{default_rate}
+use Rattle.rs_field.specs.code.Encoder.{EncoderState}
 use Rattle.rs_engines.specs.declared.engine_default.DefaultEngine.{DefaultEngine}
 use Rattle.rs_rate.specs.EncoderView.{encoder_state}
 use Rattle.reed_solomon_simd.specs.declared.encoder.ReedSolomonEncoder.{ReedSolomonEncoder}

@@ -1,12 +1,12 @@
 -- What calls that give shards one after another lead to.
 use Rattle.std.specs.Prelude.{◌≡◌, ◌⊎◌, ℕ, Bool, false, List, [], ◌∷◌, length, count_by, nat_eq, slice_index_or, Option, Some, None, Result, Ok, Err, MatchResult}
 use Rattle.std.specs.List.{list_any}
-use Rattle.rs_field.specs.declared.error.Error.{Error}
-use Rattle.rs_field.specs.Column.{Shard}
-use Rattle.rs_field.specs.Decoder.{DecoderState}
-use Rattle.rs_field.specs.Encoder.{EncoderState}
-use Rattle.rs_field.specs.OneCall.{Items, LacksMemory, counted, all_came, encode_opening, encoding, decode_opening, decoding}
-use Rattle.rs_field.specs.Outcome.{result_and_then}
+use Rattle.rs_field.specs.declared.code.error.Error.{Error}
+use Rattle.rs_field.specs.code.Column.{Shard}
+use Rattle.rs_field.specs.code.Decoder.{DecoderState}
+use Rattle.rs_field.specs.code.Encoder.{EncoderState}
+use Rattle.rs_field.specs.code.OneCall.{Items, LacksMemory, counted, all_came, encode_opening, encoding, decode_opening, decoding}
+use Rattle.rs_field.specs.code.Outcome.{result_and_then}
 
 -- a call answered as the outcome says: a success, with such a state as the outcome names, or the refusal
 abbrev pub Reaches : {S : Type 0} → Result S Error → Result (Unit {0}) Error → (S → Type 0) → Type 0

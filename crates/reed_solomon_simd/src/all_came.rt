@@ -2,7 +2,7 @@
 ghost use Rattle.std.specs.Prelude.{◌≡◌, ◌⊎◌, if◌then◌else◌, ℕ, nat_le, true, false, List, length, count_by};
 ghost use Rattle.std.specs.Prelude.{slice_index_or, slice_set, Err, Ok, OnOk};
 ghost use Rattle.std.specs.Iterator.{IsFinite};
-ghost use Rattle.rs_field.specs.OneCall.{Items, one_by_one, noted, all_came};
+ghost use Rattle.rs_field.specs.code.OneCall.{Items, one_by_one, noted, all_came};
 ghost use Rattle.reed_solomon_simd.specs.Calls.{Calls, BeginsWithItems};
 ghost use Rattle.reed_solomon_simd.specs.Giving.{Reaches, AreNoted};
 

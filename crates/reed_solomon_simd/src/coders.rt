@@ -3,9 +3,9 @@ ghost use Rattle.std.specs.Prelude.{◌≡◌, ◌∷◌, ℕ, List, Err, IfErr}
 ghost use Rattle.std.specs.Iterator.{IsFinite};
 ghost use Rattle.std.specs.Option.{option_map};
 ghost use Rattle.std.specs.Result.{result_map_both};
-ghost use Rattle.rs_field.specs.Column.{Shard};
-ghost use Rattle.rs_field.specs.Counts.{default_rate};
-ghost use Rattle.rs_field.specs.OneCall.{Items, Lends, LendsItems, counted, with_shards, with_originals, with_recoveries, with_both};
+ghost use Rattle.rs_field.specs.code.Column.{Shard};
+ghost use Rattle.rs_field.specs.code.Counts.{default_rate};
+ghost use Rattle.rs_field.specs.code.OneCall.{Items, Lends, LendsItems, counted, with_shards, with_originals, with_recoveries, with_both};
 ghost use Rattle.rs_rate.specs.EncoderView.{encoder_state};
 ghost use Rattle.rs_rate.specs.DecoderView.{decoder_state};
 ghost use Rattle.reed_solomon_simd.specs.Calls.{Calls, BeginsWith, BeginsWithItems};

@@ -2,12 +2,12 @@
 ghost use mir.Syntax.{named};
 ghost use Rattle.std.specs.Prelude.{◌≡◌, ◌≢◌, ◌≤◌, [], Err, IfOk, OnOk, OnErr};
 ghost use Rattle.std.specs.Borrow.{sem};
-ghost use Rattle.rs_field.specs.Configuration.{started, UpToMemory, FitsWithin};
-ghost use Rattle.rs_field.specs.Counts.{default_rate, supports as supports_counts};
-ghost use Rattle.rs_field.specs.Encoder.{fresh_encoder, with_shard, EncodeAnswers, after_encode};
-ghost use Rattle.rs_field.specs.OneCall.{default_of};
-ghost use Rattle.rs_field.specs.Outcome.{answer_of, state_after};
-ghost use Rattle.rs_field.specs.Placement.{encoder_rows};
+ghost use Rattle.rs_field.specs.code.Configuration.{started, UpToMemory, FitsWithin};
+ghost use Rattle.rs_field.specs.code.Counts.{default_rate, supports as supports_counts};
+ghost use Rattle.rs_field.specs.code.Encoder.{fresh_encoder, with_shard, EncodeAnswers, after_encode};
+ghost use Rattle.rs_field.specs.code.OneCall.{default_of};
+ghost use Rattle.rs_field.specs.code.Outcome.{answer_of, state_after};
+ghost use Rattle.rs_field.specs.code.Placement.{encoder_rows};
 ghost use Rattle.rs_rate.specs.Loan.{EndsWith};
 ghost use Rattle.rs_rate.specs.ResultView.{answered_shards};
 ghost use Rattle.rs_rate.specs.ShardRows.{chunk_count};

@@ -1,9 +1,9 @@
 //! Encoding and decoding in one call, over iterators of shards.
 ghost use Rattle.std.specs.Prelude.{◌≡◌, List, Err, IfOk, IfErr, MatchResult};
 ghost use Rattle.std.specs.Iterator.{IsFinite};
-ghost use Rattle.rs_field.specs.Column.{Shard};
-ghost use Rattle.rs_field.specs.OneCall.{Items, Lends, LendsItems, counted, collected, collected_map, OneEncodeAnswers, OneDecodeAnswers};
-ghost use Rattle.rs_field.specs.RoundTrip.{AreCoded};
+ghost use Rattle.rs_field.specs.code.Column.{Shard};
+ghost use Rattle.rs_field.specs.code.OneCall.{Items, Lends, LendsItems, counted, collected, collected_map, OneEncodeAnswers, OneDecodeAnswers};
+ghost use Rattle.rs_field.specs.code.RoundTrip.{AreCoded};
 ghost use Rattle.rs_rate.specs.ResultView.{recovery_shards, restored_originals};
 ghost use Rattle.reed_solomon_simd.specs.Calls.{Calls, BeginsWith, BeginsWithItems};
 

@@ -1,7 +1,7 @@
 //! Encoding and decoding in one call, over slices of shards.
 ghost use Rattle.std.specs.Prelude.{map, IfOk};
-ghost use Rattle.rs_field.specs.OneCall.{OneEncodeAnswers, OneDecodeAnswers, collected, collected_map};
-ghost use Rattle.rs_field.specs.RoundTrip.{AreCoded};
+ghost use Rattle.rs_field.specs.code.OneCall.{OneEncodeAnswers, OneDecodeAnswers, collected, collected_map};
+ghost use Rattle.rs_field.specs.code.RoundTrip.{AreCoded};
 
 use crate::engine::DefaultEngine;
 use crate::{Error, decode, encode};

@@ -4,8 +4,8 @@ use Rattle.std.specs.Prelude.{unwrap_or}
 use Rattle.std.proofs.Math.Nat.{suc-mul, mul-le-mul_right}
 use Rattle.std.proofs.lemmas.List.{append_assoc, length-append, length-drop, length-take-le, drop-drop, take-take, drop-take, take-append-drop}
 use borrow.Rule.Slice.PartMut.{put_mid}
-use Rattle.rs_field.specs.Column.{Shard, IsShard}
-use Rattle.rs_field.specs.Given.{Shards}
+use Rattle.rs_field.specs.code.Column.{Shard, IsShard}
+use Rattle.rs_field.specs.code.Given.{Shards}
 use Rattle.rs_c.specs.Buffers.{joined, with_restored, AreSized}
 
 -- one of the numbers below n less than before is left

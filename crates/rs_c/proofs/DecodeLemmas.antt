@@ -4,13 +4,13 @@ use Rattle.std.proofs.lemmas.Bool.{ltb-true}
 use Rattle.std.proofs.Math.Nat.{suc-mul}
 use Rattle.std.proofs.lemmas.List.{length-take-le, length-drop, take-append-drop, nil_from_length}
 use Rattle.std.specs.List.{count_by}
-use Rattle.rs_field.specs.declared.error.Error.{Error}
-use Rattle.rs_field.specs.Column.{Shard, AreShards, shard_at}
-use Rattle.rs_field.specs.Given.{Shards, nothing}
-use Rattle.rs_field.specs.Outcome.{result_and_then}
-use Rattle.rs_field.specs.Configuration.{Configuration}
-use Rattle.rs_field.specs.Decoder.{DecoderState, Restored, missing_of, enough_given, DecodeAnswers}
-use Rattle.rs_field.specs.OneCall.{Items, counted, OneDecodeAnswers}
+use Rattle.rs_field.specs.declared.code.error.Error.{Error}
+use Rattle.rs_field.specs.code.Column.{Shard, AreShards, shard_at}
+use Rattle.rs_field.specs.code.Given.{Shards, nothing}
+use Rattle.rs_field.specs.code.Outcome.{result_and_then}
+use Rattle.rs_field.specs.code.Configuration.{Configuration}
+use Rattle.rs_field.specs.code.Decoder.{DecoderState, Restored, missing_of, enough_given, DecodeAnswers}
+use Rattle.rs_field.specs.code.OneCall.{Items, counted, OneDecodeAnswers}
 use Rattle.reed_solomon_simd.specs.Giving.{IsDecoding}
 use Rattle.reed_solomon_simd.proofs.OneCall.{decoding-none, decoding-kept}
 use Rattle.rs_c.specs.declared.fault.Fault.{Fault}

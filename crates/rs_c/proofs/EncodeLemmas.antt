@@ -3,14 +3,14 @@ use Rattle.std.proofs.Common.{◌≡◌, ℕ, zero, suc, ◌+◌, ◌-◌, ◌�
 use Rattle.std.proofs.Math.Nat.{suc-mul}
 use Rattle.std.proofs.lemmas.Bool.{eqb-true}
 use Rattle.std.proofs.lemmas.List.{length-take-le}
-use Rattle.rs_field.specs.declared.error.Error.{Error}
-use Rattle.rs_field.specs.declared.error.Error.TheVariants.{UnsupportedShardCount}
-use Rattle.rs_field.specs.Column.{Shard}
-use Rattle.rs_field.specs.Counts.{default_rate, supports}
-use Rattle.rs_field.specs.Outcome.{result_and_then}
-use Rattle.rs_field.specs.OneCall.{counted, default_of, OneEncodeAnswers}
-use Rattle.rs_field.specs.RoundTrip.{AreCoded}
-use Rattle.rs_field.proofs.SupportedCounts.{default_fits}
+use Rattle.rs_field.specs.declared.code.error.Error.{Error}
+use Rattle.rs_field.specs.declared.code.error.Error.TheVariants.{UnsupportedShardCount}
+use Rattle.rs_field.specs.code.Column.{Shard}
+use Rattle.rs_field.specs.code.Counts.{default_rate, supports}
+use Rattle.rs_field.specs.code.Outcome.{result_and_then}
+use Rattle.rs_field.specs.code.OneCall.{counted, default_of, OneEncodeAnswers}
+use Rattle.rs_field.specs.code.RoundTrip.{AreCoded}
+use Rattle.rs_field.proofs.of_code.SupportedCounts.{default_fits}
 use Rattle.reed_solomon_simd.proofs.CallerLemmas.{valid-some}
 use Rattle.rs_c.specs.declared.fault.Fault.{Fault}
 use Rattle.rs_c.specs.declared.fault.Fault.TheVariants.{WrongLength}

@@ -3,10 +3,10 @@ use Rattle.std.proofs.Common.{◌≡◌, ℕ, ◌+◌, ◌≤◌, ◌<◌, ◌==
 use Rattle.std.proofs.lemmas.Bool.{ne_eqb, lt-leb}
 use Rattle.std.proofs.lemmas.List.Recursion.{is_count_by}
 use Rattle.std.specs.List.{count_by, list_any}
-use Rattle.rs_field.specs.declared.error.Error.{Error}
-use Rattle.rs_field.specs.declared.error.Error.TheVariants.{InvalidOriginalShardIndex, DuplicateOriginalShardIndex}
-use Rattle.rs_field.specs.Outcome.{result_and_then}
-use Rattle.rs_field.specs.OneCall.{Items, one_by_one, noted, all_came}
+use Rattle.rs_field.specs.declared.code.error.Error.{Error}
+use Rattle.rs_field.specs.declared.code.error.Error.TheVariants.{InvalidOriginalShardIndex, DuplicateOriginalShardIndex}
+use Rattle.rs_field.specs.code.Outcome.{result_and_then}
+use Rattle.rs_field.specs.code.OneCall.{Items, one_by_one, noted, all_came}
 use Rattle.rs_c.specs.Answers.{all_or_refused}
 use Rattle.rs_c.specs.Buffers.{marked}
 

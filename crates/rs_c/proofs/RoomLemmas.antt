@@ -2,11 +2,11 @@
 use Rattle.std.proofs.Common.{◌≡◌, ℕ, zero, suc, ◌+◌, ◌-◌, ◌<◌, ◌≤◌, ◌==◌, Bool, true, false, List, [], ◌∷◌, ◌++◌, length, take, drop, get_or, set, if◌then◌else◌, None, Result, Ok, Err, MatchResult, MutBor, inl, inr, sym, ap, subst, ◌∙◌, refl, arith}
 use Rattle.std.proofs.lemmas.Bool.{cases_lt, eq-eqb, ne_eqb, eqb-true}
 use Rattle.std.proofs.lemmas.List.{append_assoc, length-append, length-take-le, length-map, get_or-map, drop_more, drop_all, nil_from_length, take-set-le, length-set, get_or-set_same, take_more}
-use Rattle.rs_field.specs.Outcome.{result_and_then}
-use Rattle.rs_field.specs.Column.{Shard}
-use Rattle.rs_field.specs.Given.{Shards, nothing, listed, listed_one, listed_from, Lists}
-use Rattle.rs_field.specs.OneCall.{Items}
-use Rattle.rs_field.proofs.Listed.{listed_from-zero, listed_from-suc}
+use Rattle.rs_field.specs.code.Outcome.{result_and_then}
+use Rattle.rs_field.specs.code.Column.{Shard}
+use Rattle.rs_field.specs.code.Given.{Shards, nothing, listed, listed_one, listed_from, Lists}
+use Rattle.rs_field.specs.code.OneCall.{Items}
+use Rattle.rs_field.proofs.of_code.Listed.{listed_from-zero, listed_from-suc}
 use Rattle.rs_c.specs.declared.fault.Fault.{Fault}
 use Rattle.rs_c.specs.declared.fault.Fault.TheVariants.{WrongLength, WrongNumberOfRooms}
 use Rattle.rs_c.specs.Arrays.{bytes_in, lengths_fit, rooms_fit, as_many, Fills}

@@ -1,11 +1,11 @@
 -- Shards anywhere, and rooms for those that are written.
 use Rattle.std.specs.Prelude.{◌≡◌, ℕ, ◌==◌, List, [], ◌∷◌, length, map, if◌then◌else◌, Result, Ok, Err, MatchResult}
 use Rattle.std.specs.Borrow.{Bor, MutBor}
-use Rattle.rs_field.specs.declared.error.Error.{Error}
-use Rattle.rs_field.specs.Column.{Shard}
-use Rattle.rs_field.specs.Outcome.{result_and_then}
-use Rattle.rs_field.specs.Given.{Shards, Lists}
-use Rattle.rs_field.specs.OneCall.{Items, OneEncodeAnswers, OneDecodeAnswers}
+use Rattle.rs_field.specs.declared.code.error.Error.{Error}
+use Rattle.rs_field.specs.code.Column.{Shard}
+use Rattle.rs_field.specs.code.Outcome.{result_and_then}
+use Rattle.rs_field.specs.code.Given.{Shards, Lists}
+use Rattle.rs_field.specs.code.OneCall.{Items, OneEncodeAnswers, OneDecodeAnswers}
 use Rattle.rs_c.specs.declared.fault.Fault.{Fault}
 use Rattle.rs_c.specs.declared.fault.Fault.TheVariants.{Refused, WrongLength, WrongNumberOfRooms}
 use Rattle.rs_c.specs.declared.layouts.RsShard.{RsShard}

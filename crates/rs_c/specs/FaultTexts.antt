@@ -1,7 +1,7 @@
 -- What a fault is told by.
 use Rattle.std.specs.Prelude.{ℕ, List, ◌++◌, codes}
 use Rattle.std.specs.Fmt.{decimal}
-use Rattle.rs_field.specs.Texts.{text_of as refusal_text}
+use Rattle.rs_field.specs.code.Texts.{text_of as refusal_text}
 use Rattle.rs_c.specs.declared.fault.Fault.{Fault}
 use Rattle.rs_c.specs.declared.fault.Fault.TheVariants.{Refused, WrongLength, WrongNumberOfRooms}
 

@@ -1,8 +1,8 @@
 -- The numbers of faults.
 use Rattle.std.specs.Prelude.{ℕ, Result, Ok, Err}
 use Rattle.std.specs.Result.{result_map_both}
-use Rattle.rs_field.specs.declared.error.Error.{Error}
-use Rattle.rs_field.specs.declared.error.Error.TheVariants.{OutOfMemory, UnsupportedShardCount, InvalidShardSize, DifferentShardSize, TooFewOriginalShards, TooManyOriginalShards, NotEnoughShards, InvalidOriginalShardIndex, InvalidRecoveryShardIndex, DuplicateOriginalShardIndex, DuplicateRecoveryShardIndex, InconsistentShards}
+use Rattle.rs_field.specs.declared.code.error.Error.{Error}
+use Rattle.rs_field.specs.declared.code.error.Error.TheVariants.{OutOfMemory, UnsupportedShardCount, InvalidShardSize, DifferentShardSize, TooFewOriginalShards, TooManyOriginalShards, NotEnoughShards, InvalidOriginalShardIndex, InvalidRecoveryShardIndex, DuplicateOriginalShardIndex, DuplicateRecoveryShardIndex, InconsistentShards}
 use Rattle.rs_c.specs.declared.fault.Fault.{Fault}
 use Rattle.rs_c.specs.declared.fault.Fault.TheVariants.{Refused, WrongLength, WrongNumberOfRooms}
 use Rattle.rs_c.specs.declared.fault.RsFault.{RsFault}

@@ -1,9 +1,9 @@
 -- The tables in memory of a C program.
 use Rattle.std.specs.Prelude.{ℕ, ◌+◌, ◌*◌, ◌^◌, ◌<◌, List, [], ◌∷◌, slice_index, slice_index_or}
-use Rattle.rs_field.specs.declared.engine.tables.Multiply128lutT.{Multiply128lutT}
-use Rattle.rs_field.specs.Field.{power}
-use Rattle.rs_field.specs.Products.{IsNibbleBytes}
-use Rattle.rs_field.specs.Tables.{IsSkew, AreLogWalshes}
+use Rattle.rs_field.specs.declared.words.tables.Multiply128lutT.{Multiply128lutT}
+use Rattle.rs_field.specs.words.Field.{power}
+use Rattle.rs_field.specs.words.Products.{IsNibbleBytes}
+use Rattle.rs_field.specs.words.Tables.{IsSkew, AreLogWalshes}
 use Rattle.rs_c.specs.declared.tables.RsTables.{RsTables}
 
 -- number n of numbers of 16 bytes, each from two halves, the lower first

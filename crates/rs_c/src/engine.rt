@@ -1,6 +1,6 @@
 //! The engine over tables in memory of the caller.
-ghost use Rattle.rs_field.specs.Field.{power};
-ghost use Rattle.rs_field.specs.Products.{IsNibbleBytes};
+ghost use Rattle.rs_field.specs.words.Field.{power};
+ghost use Rattle.rs_field.specs.words.Products.{IsNibbleBytes};
 ghost use Rattle.rs_c.specs.Tables.{AreTables};
 
 use crate::lanes::Lanes;

@@ -15,7 +15,7 @@ pub struct Joined<'a> {
 
 impl<'a> Model for Joined<'a> {
     ghost use Rattle.std.specs.Prelude.{◌≡◌, ◌*◌, List, length};
-    ghost use Rattle.rs_field.specs.Column.{Shard};
+    ghost use Rattle.rs_field.specs.code.Column.{Shard};
     ghost use Rattle.rs_c.specs.Buffers.{cut};
 
     ghost Value = { List Shard };
@@ -68,7 +68,7 @@ pub struct Marked<'a> {
 
 impl<'a> Model for Marked<'a> {
     ghost use Rattle.std.specs.Prelude.{◌≡◌, ◌*◌, ◌≤◌, drop, length};
-    ghost use Rattle.rs_field.specs.OneCall.{Items};
+    ghost use Rattle.rs_field.specs.code.OneCall.{Items};
     ghost use Rattle.rs_c.specs.Buffers.{marked};
 
     ghost Value = { Items };

@@ -13,7 +13,7 @@ mod tables;
 mod text;
 
 ghost use Rattle.std.specs.Prelude.{◌≡◌, ◌≢◌, ◌↔◌, true, Result};
-ghost use Rattle.rs_field.specs.Counts.{default_rate, supports};
+ghost use Rattle.rs_field.specs.code.Counts.{default_rate, supports};
 ghost use Rattle.rs_c.specs.declared.fault.Fault.{Fault as FaultOf};
 ghost use Rattle.rs_c.specs.Tables.{AreTables};
 ghost use Rattle.rs_c.specs.Faults.{fault_of};

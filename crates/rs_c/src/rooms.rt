@@ -8,7 +8,7 @@ use rs_rate::{Recovery, RestoredOriginal};
 /// Shards that a round lends, in order.
 pub trait Lent<'a>: Drop {
     ghost use Rattle.std.specs.Prelude.{◌≡◌, [], ◌∷◌, List, length, MatchOption};
-    ghost use Rattle.rs_field.specs.Column.{Shard};
+    ghost use Rattle.rs_field.specs.code.Column.{Shard};
 
     ghost left: { Self → List Shard };
 

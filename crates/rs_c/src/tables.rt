@@ -1,6 +1,6 @@
 //! The tables in memory of the caller.
 ghost use Rattle.std.specs.Prelude.{◌≡◌, ℕ, ◌+◌, ◌*◌, ◌/◌, ◌%◌, ◌^◌, ◌<◌, length, OnOk, OnErr};
-ghost use Rattle.rs_field.specs.Products.{IsNibbleBytes, IsMul128};
+ghost use Rattle.rs_field.specs.words.Products.{IsNibbleBytes, IsMul128};
 ghost use Rattle.rs_c.specs.Tables.{products_of, AreProducts, AreTables};
 
 use rs_field::engine::tables::{Mul128, Multiply128lutT, Tables, get_mul128};

@@ -2,12 +2,12 @@
 use Rattle.std.proofs.Common.{◌≡◌, ℕ, ◌+◌, ◌-◌, ◌*◌, ◌<◌, ◌≤◌, [], ◌++◌, length, take, drop, sym, ap, ap₂, ◌∙◌, refl, arith}
 use Rattle.std.proofs.lemmas.List.{append_assoc, take-append-drop, drop-take, drop-append-le, length-take-le, length-drop}
 use lib.Seq.{drop-drop}
-use Rattle.rs_field.specs.Rows.{Chunks}
-use Rattle.rs_field.specs.View.{Fits, HasRows}
-use Rattle.rs_field.specs.Lending.{between, with_two}
-use Rattle.rs_field.specs.declared.engine.shards.ShardsRefMut.{ShardsRefMut}
+use Rattle.rs_field.specs.rows.Rows.{Chunks}
+use Rattle.rs_field.specs.rows.View.{Fits, HasRows}
+use Rattle.rs_field.specs.rows.Lending.{between, with_two}
+use Rattle.rs_field.specs.declared.rows.shards.ShardsRefMut.{ShardsRefMut}
 use Rattle.rs_callers.specs.RowsBut.{HasFirstRow}
-use Rattle.rs_field.proofs.LentRows.{part-long, ends}
+use Rattle.rs_field.proofs.of_rows.LentRows.{part-long, ends}
 
 -- the rows of a part fit its chunks
 pub fits-part : (h : ShardsRefMut) (i m : ℕ) (r : ShardsRefMut) → i * h.shard_len_64 + m * h.shard_len_64 ≤ length h.chunks.now → HasRows h i m r → Fits r

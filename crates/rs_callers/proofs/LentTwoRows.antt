@@ -1,8 +1,8 @@
 -- What stays in a list of which two rows were replaced.
 use Rattle.std.proofs.Common.{◌≡◌, ℕ, ◌+◌, ◌*◌, ◌<◌, ◌≤◌, ◌⊎◌, [], ◌∷◌, length, arith, inl, inr}
-use Rattle.rs_field.specs.Rows.{Chunks}
-use Rattle.rs_field.specs.declared.engine.shards.ShardsRefMut.{ShardsRefMut}
-use Rattle.rs_field.proofs.LentRows.{two_written, others-of-two}
+use Rattle.rs_field.specs.rows.Rows.{Chunks}
+use Rattle.rs_field.specs.declared.rows.shards.ShardsRefMut.{ShardsRefMut}
+use Rattle.rs_field.proofs.of_rows.LentRows.{two_written, others-of-two}
 use Rattle.rs_callers.specs.RowsBut.{IsOutside, SameRowsBut}
 
 side : (h : ShardsRefMut) (i c : ℕ) → IsOutside h i c → (c < i * h.shard_len_64) ⊎ (i * h.shard_len_64 + h.shard_len_64 ≤ c)

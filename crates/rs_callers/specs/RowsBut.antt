@@ -1,7 +1,7 @@
 -- Lists of rows that are the same but for some rows.
 use Rattle.std.specs.Prelude.{◌≡◌, ℕ, ◌+◌, ◌*◌, ◌<◌, ◌≤◌, ◌⊎◌, ◌++◌, List, All, drop}
 use Rattle.reed_solomon_simd.specs.Rows.{Chunks, chunk}
-use Rattle.rs_field.specs.declared.engine.shards.ShardsRefMut.{ShardsRefMut}
+use Rattle.rs_field.specs.declared.rows.shards.ShardsRefMut.{ShardsRefMut}
 
 -- chunk c lies before row i, or past it
 abbrev pub IsOutside : ShardsRefMut → ℕ → ℕ → Type 0

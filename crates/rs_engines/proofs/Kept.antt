@@ -1,7 +1,7 @@
 -- Relations of words where words are kept before or after.
 use Rattle.std.proofs.Common.{◌≡◌, ℕ, sym, subst}
-use Rattle.rs_field.specs.TwoLayers.{OnFourWords}
-use Rattle.rs_field.specs.Pairs.{OnTwoWords}
+use Rattle.rs_field.specs.rows.TwoLayers.{OnFourWords}
+use Rattle.rs_field.specs.rows.Pairs.{OnTwoWords}
 
 -- the old words were kept until then
 pub two_kept_before : (R : OnTwoWords) (w0 w1 x0 x1 y0 y1 : ℕ) → w0 ≡ x0 → w1 ≡ x1 → R w0 w1 y0 y1 → R x0 x1 y0 y1

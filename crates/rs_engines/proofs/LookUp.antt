@@ -3,8 +3,8 @@ use Rattle.std.proofs.Common.{◌≡◌, ℕ, List, ◌<◌, ◌*◌, ◌+◌, �
 use Rattle.std.proofs.lemmas.Nat.{and_mask, and_le_r}
 use lib.Lanes.{zip2, Each1}
 use Rattle.std.proofs.lemmas.Simd.{length-replicate, swz_l, SwzOk, SwzOk-from_below, Each1-zip2, Each2-splat, Each1-all, Each1-weaker, below_from_Fits, length-zip2, get_or-swz_l_below, get_or-zip2, get_or-replicate}
-use Rattle.rs_field.specs.Products.{byte_at}
-use Rattle.rs_field.proofs.Symbols.{byte_of}
+use Rattle.rs_field.specs.words.Products.{byte_at}
+use Rattle.rs_field.proofs.of_rows.Symbols.{byte_of}
 
 -- a lane is the byte at its place
 looked_up : (n b : ℕ) (table places : List ℕ) (t i p : ℕ) → n ≡ b * 16 → length places ≡ n → ((j : ℕ) → j < n → get_or table j 0 ≡ byte_at t (j % 16))

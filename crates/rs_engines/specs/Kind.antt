@@ -1,7 +1,7 @@
 -- The engines by name.
 use Rattle.std.specs.Prelude.{ℕ, List, codes, Option, Some, None, if◌then◌else◌}
 use Rattle.std.specs.Str.{bytes_eq}
-use Rattle.rs_field.specs.declared.engine.tables.Tables.{Tables}
+use Rattle.rs_field.specs.declared.words.tables.Tables.{Tables}
 use Rattle.rs_engines.specs.declared.engine_default.EngineKind.{EngineKind}
 use Rattle.rs_engines.specs.declared.engine_default.EngineKind.TheVariants.{Naive, NoSimd, Avx2, Ssse3}
 use Rattle.rs_engines.specs.declared.engine_default.DefaultEngine.{DefaultEngine}

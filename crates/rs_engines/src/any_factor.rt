@@ -1,7 +1,7 @@
 //! A factor whose class is known as the program runs: what a logarithm names.
 ghost use Rattle.std.specs.Prelude.{◌≡◌};
-ghost use Rattle.rs_field.specs.Field.{power};
-ghost use Rattle.rs_field.specs.Products.{IsNibbleBytes};
+ghost use Rattle.rs_field.specs.words.Field.{power};
+ghost use Rattle.rs_field.specs.words.Products.{IsNibbleBytes};
 ghost use Rattle.rs_engines.specs.Factors.{log_of};
 
 use crate::byte_vector::ByteVector;

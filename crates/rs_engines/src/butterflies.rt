@@ -1,7 +1,7 @@
 //! Butterflies of words in lanes, forward and backward: one layer on two blocks, two layers on four.
 ghost use Rattle.std.specs.Prelude.{◌≡◌, ℕ, ◌<◌};
-ghost use Rattle.rs_field.specs.Pairs.{OnTwoWords, IsForwardTwo, IsBackwardTwo};
-ghost use Rattle.rs_field.specs.TwoLayers.{OnFourWords, IsForwardFour, IsBackwardFour};
+ghost use Rattle.rs_field.specs.rows.Pairs.{OnTwoWords, IsForwardTwo, IsBackwardTwo};
+ghost use Rattle.rs_field.specs.rows.TwoLayers.{OnFourWords, IsForwardFour, IsBackwardFour};
 ghost use Rattle.rs_engines.specs.Lanes.{lane};
 
 use crate::byte_vector::ByteVector;

@@ -1,7 +1,7 @@
 //! Vectors of 16 or of 32 bytes, whose lanes are looked up in a table of 16 bytes all at once.
 ghost use Rattle.std.specs.Prelude.{◌≡◌, ℕ, ◌+◌, ◌/◌, ◌%◌, ◌<◌, ◌≤◌, ◌⊎◌, List, slice_index, bit_xor, refl};
 ghost use Rattle.std.proofs.Common.{inl, inr};
-ghost use Rattle.rs_field.specs.Products.{byte_at};
+ghost use Rattle.rs_field.specs.words.Products.{byte_at};
 
 use rs_field::engine::vectors;
 use std::simd::prelude::*;

@@ -141,8 +141,8 @@ impl<'t> From<Ssse3<'t>> for DefaultEngine<'t> {
 
 impl Engine for DefaultEngine<'_> {
     ghost use Rattle.std.specs.Prelude.{◌≡◌, ℕ, ◌^◌, ◌≤◌, length, slice_index};
-    ghost use Rattle.rs_field.specs.Bounds.{LocatorCounts, LocatorCountsBelow};
-    ghost use Rattle.rs_field.specs.Locator.{IsLocatorBelow};
+    ghost use Rattle.rs_field.specs.words.StepBounds.{LocatorCounts, LocatorCountsBelow};
+    ghost use Rattle.rs_field.specs.words.Locator.{IsLocatorBelow};
 
     fn fft(
         &self,

@@ -3,10 +3,10 @@
 //! The products of the sixteen values of each nibble with a factor are 4-bit tables, as Leopard-RS has them; the product
 //! of a word is the sum of its nibbles'.
 ghost use Rattle.std.specs.Prelude.{◌≡◌, ℕ, ◌+◌, ◌*◌, ◌<◌, length, bit_xor};
-ghost use Rattle.rs_field.specs.Field.{product};
-ghost use Rattle.rs_field.specs.Tables.{scaled};
-ghost use Rattle.rs_field.specs.Rows.{chunk, symbol};
-ghost use Rattle.rs_field.specs.Products.{IsNibbles};
+ghost use Rattle.rs_field.specs.words.Field.{product};
+ghost use Rattle.rs_field.specs.words.Tables.{scaled};
+ghost use Rattle.rs_field.specs.rows.Rows.{chunk, symbol};
+ghost use Rattle.rs_field.specs.words.Products.{IsNibbles};
 
 use rs_field::engine::kernel::Kernel;
 use rs_field::engine::lent_tables::LentTables;

@@ -3,9 +3,9 @@
 //! The product of a byte with a factor below 256 is a byte: of the eight look-ups of a product two give zero, and are
 //! left out.
 ghost use Rattle.std.specs.Prelude.{◌≡◌, ◌≢◌, ℕ, ◌<◌, slice_index, bit_xor};
-ghost use Rattle.rs_field.specs.Field.{power};
-ghost use Rattle.rs_field.specs.Tables.{scaled};
-ghost use Rattle.rs_field.specs.Products.{IsNibbleBytes};
+ghost use Rattle.rs_field.specs.words.Field.{power};
+ghost use Rattle.rs_field.specs.words.Tables.{scaled};
+ghost use Rattle.rs_field.specs.words.Products.{IsNibbleBytes};
 ghost use Rattle.rs_engines.specs.Lanes.{lane};
 
 use crate::byte_vector::ByteVector;

@@ -1,10 +1,10 @@
 //! Products, butterflies and two layers of butterflies of chunks by shuffles: a chunk is one block of words or two.
 ghost use Rattle.std.specs.Prelude.{◌≡◌, ℕ, ◌+◌, ◌<◌, ◌≤◌, ◌⊎◌};
-ghost use Rattle.rs_field.specs.Field.{product};
-ghost use Rattle.rs_field.specs.Rows.{symbol};
-ghost use Rattle.rs_field.specs.Products.{IsNibbleBytes};
-ghost use Rattle.rs_field.specs.Pairs.{at_two_symbols};
-ghost use Rattle.rs_field.specs.TwoLayers.{at_four_symbols};
+ghost use Rattle.rs_field.specs.words.Field.{product};
+ghost use Rattle.rs_field.specs.rows.Rows.{symbol};
+ghost use Rattle.rs_field.specs.words.Products.{IsNibbleBytes};
+ghost use Rattle.rs_field.specs.rows.Pairs.{at_two_symbols};
+ghost use Rattle.rs_field.specs.rows.TwoLayers.{at_four_symbols};
 
 use crate::butterflies::Butterflies;
 use crate::byte_vector::ByteVector;

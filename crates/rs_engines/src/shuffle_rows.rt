@@ -1,10 +1,10 @@
 //! Products, butterflies and two layers of butterflies of rows by shuffles, chunk by chunk.
 ghost use Rattle.std.specs.Prelude.{◌≡◌, ℕ, ◌<◌, length};
-ghost use Rattle.rs_field.specs.Field.{product};
-ghost use Rattle.rs_field.specs.Rows.{chunk, symbol};
-ghost use Rattle.rs_field.specs.Products.{IsNibbleBytes};
-ghost use Rattle.rs_field.specs.Pairs.{at_two_symbols};
-ghost use Rattle.rs_field.specs.TwoLayers.{at_four_symbols};
+ghost use Rattle.rs_field.specs.words.Field.{product};
+ghost use Rattle.rs_field.specs.rows.Rows.{chunk, symbol};
+ghost use Rattle.rs_field.specs.words.Products.{IsNibbleBytes};
+ghost use Rattle.rs_field.specs.rows.Pairs.{at_two_symbols};
+ghost use Rattle.rs_field.specs.rows.TwoLayers.{at_four_symbols};
 ghost use Rattle.rs_engines.specs.Factors.{log_of};
 
 use crate::any_factor::AnyFactor;

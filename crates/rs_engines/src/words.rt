@@ -3,9 +3,9 @@
 //! A product is the sum of the products of the word's four nibbles. Each byte of these is one of the 16 bytes of a
 //! number, so a shuffle looks up those of all lanes at once.
 ghost use Rattle.std.specs.Prelude.{◌≡◌, ℕ, ◌+◌, ◌/◌, ◌%◌, ◌<◌, ◌≤◌, ◌⊎◌, slice_index, bit_xor};
-ghost use Rattle.rs_field.specs.Field.{product};
-ghost use Rattle.rs_field.specs.Rows.{symbol};
-ghost use Rattle.rs_field.specs.Products.{AreLowNibbles, AreHighNibbles, IsNibbleBytes};
+ghost use Rattle.rs_field.specs.words.Field.{product};
+ghost use Rattle.rs_field.specs.rows.Rows.{symbol};
+ghost use Rattle.rs_field.specs.words.Products.{AreLowNibbles, AreHighNibbles, IsNibbleBytes};
 ghost use Rattle.rs_engines.specs.Lanes.{lane};
 
 use crate::byte_vector::ByteVector;

@@ -1,62 +1,28 @@
-//! Constants of the field, the count of steps, and the trait of an engine.
+//! The trait of an engine, and at their public paths what engines are made of.
 ghost use Rattle.std.specs.Prelude.{◌≡◌, ℕ, ◌+◌, ◌%◌, ◌^◌, ◌<◌, ◌≤◌, true, length, slice_index};
-ghost use Rattle.rs_field.specs.Field.{product, power};
-ghost use Rattle.rs_field.specs.MarkedRows.{is_marked, OthersAreZero};
-ghost use Rattle.rs_field.specs.Transform.{forward};
-ghost use Rattle.rs_field.specs.Rows.{chunk, symbol};
-ghost use Rattle.rs_field.specs.View.{word, Fits, SameShape, SameRowsOutside, AreZero};
-ghost use Rattle.rs_field.specs.Locator.{IsLocator, IsLocatorBelow};
-ghost use Rattle.rs_field.specs.Bounds.{LocatorCounts, TransformCounts, RowProductCounts};
+ghost use Rattle.rs_field.specs.words.Field.{product, power};
+ghost use Rattle.rs_field.specs.rows.MarkedRows.{is_marked, OthersAreZero};
+ghost use Rattle.rs_field.specs.words.Transform.{forward};
+ghost use Rattle.rs_field.specs.rows.Rows.{chunk, symbol};
+ghost use Rattle.rs_field.specs.rows.View.{word, Fits, SameShape, SameRowsOutside, AreZero};
+ghost use Rattle.rs_field.specs.words.Locator.{IsLocator, IsLocatorBelow};
+ghost use Rattle.rs_field.specs.words.StepBounds.{LocatorCounts, TransformCounts, RowProductCounts};
 
-pub mod block;
-pub mod derivative;
-pub mod engine_naive;
-mod fours;
-mod fwht;
-pub mod kernel;
-mod layers;
-pub mod layout;
-pub mod lent_tables;
-pub mod marked_rows;
-mod mul128;
-mod mul16;
-mod pairs;
-mod powers;
-pub mod rows;
-pub mod shards;
-mod steps;
-pub mod symbols;
-pub mod tables;
-pub mod transform;
-pub mod utils;
-pub mod vectors;
-mod walsh_lanes;
+use crate::rows::marked_rows::marked_end;
+pub use crate::rows::{
+    Naive, ShardsRefMut, block, derivative, engine_naive, kernel, layout, marked_rows, rows,
+    shards, symbols, transform, vectors,
+};
+pub use crate::words::{
+    CANTOR_BASIS, GF_BITS, GF_MODULUS, GF_ORDER, GF_POLYNOMIAL, GfElement, Steps, lent_tables,
+    tables,
+};
 
-pub use engine_naive::Naive;
-use marked_rows::marked_end;
-pub use shards::ShardsRefMut;
-pub use steps::Steps;
-
-/// An element of the field: a word of 16 coordinates.
-pub type GfElement = u16;
-
-/// The coordinates of an element.
-pub const GF_BITS: usize = 16;
-
-/// The elements of the field.
-pub const GF_ORDER: usize = 65536;
-
-/// The nonzero elements of the field, and the modulus of their logarithms.
-pub const GF_MODULUS: GfElement = 65535;
-
-/// The polynomial that products of bits are reduced by.
-pub const GF_POLYNOMIAL: usize = 0x1002D;
-
-/// What the words 1, 2, 4, .., 0x8000 stand for, each as the word of its bits.
-pub const CANTOR_BASIS: [GfElement; GF_BITS] = [
-    0x0001, 0xACCA, 0x3C0E, 0x163E, 0xC582, 0xED2E, 0x914C, 0x4012, 0x6C98, 0x10D8, 0x6A72, 0xB900,
-    0xFDB8, 0xFB34, 0xFF38, 0x991E,
-];
+/// Row functions and the locator, which engines share.
+pub mod utils {
+    pub use crate::rows::sums::{xor, xor_within};
+    pub use crate::words::locating::{eval_poly, locate};
+}
 
 /// What the coder asks of an engine: transforms of rows, the product of a row, and the locator.
 ///

@@ -1,8 +1,9 @@
 //! The field of 65536 elements, its tables, the rows of a working space, and the plain engine.
 #![tactic(auto)]
 
-pub mod bytes;
+mod code;
 pub mod engine;
-pub mod error;
-pub mod laws;
-pub mod worked;
+mod rows;
+mod words;
+
+pub use code::{bytes, error, laws, worked};

@@ -3,7 +3,7 @@ use Rattle.std.proofs.Common.{◌≡◌, ◌≢◌, ℕ, ◌+◌, ◌<◌, ◌�
 use Rattle.std.specs.Prelude.{nat_le, nat_lt, ◌&&◌, ◌||◌}
 use Rattle.std.proofs.lemmas.Bool.{cases_lt, lt-leb, lt-ltb, le-ltb, eq-eqb, ne_eqb}
 use Rattle.std.proofs.Math.Bool.{and-false}
-use Rattle.rs_field.specs.Counts.{next_power, supports, is_low, default_rate}
+use Rattle.rs_field.specs.code.Counts.{next_power, supports, is_low, default_rate}
 
 default_test : (k r : ℕ) → supports default_rate k r ≡ (nat_lt 0 k && nat_lt 0 r && nat_le (min (next_power k) (next_power r) + max k r) 65536)
 unfolding supports

@@ -1,12 +1,12 @@
 -- The recovery shards of a message, from the words of each column.
 use Rattle.std.proofs.Common.{◌≡◌, ℕ, zero, suc, ◌/◌, ◌<◌, List, [], ◌∷◌, ◌++◌, refl, sym, ap, ◌∙◌, subst}
 use Rattle.std.proofs.lemmas.List.{map-append}
-use Rattle.rs_field.specs.Column.{Shard, IsShard, column, columns}
-use Rattle.rs_field.specs.Code.{AreRecovery, AreRecoveryWords}
-use Rattle.rs_field.specs.Configuration.{Configuration}
-use Rattle.rs_field.specs.Counts.{Rate}
-use Rattle.rs_field.specs.Layout.{up_to}
-use Rattle.rs_field.proofs.LayoutLemmas.{length-up_to, up_to-same}
+use Rattle.rs_field.specs.code.Column.{Shard, IsShard, column, columns}
+use Rattle.rs_field.specs.code.Code.{AreRecovery, AreRecoveryWords}
+use Rattle.rs_field.specs.code.Configuration.{Configuration}
+use Rattle.rs_field.specs.code.Counts.{Rate}
+use Rattle.rs_field.specs.rows.Layout.{up_to}
+use Rattle.rs_field.proofs.of_rows.LayoutLemmas.{length-up_to, up_to-same}
 use Rattle.rs_rate.specs.Coding.{CodesWords}
 use Rattle.rs_rate.specs.ObjectLaws.{all-up_to}
 

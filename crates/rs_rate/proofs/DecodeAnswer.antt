@@ -2,27 +2,27 @@
 use Rattle.std.proofs.Common.{◌≡◌, ℕ, ◌+◌, ◌-◌, ◌/◌, ◌%◌, ◌^◌, ◌<◌, ◌≤◌, ◌⊎◌, List, Bool, true, false, cond, refl, sym, ap, ap₂, ◌∙◌, arith, inl, inr, subst, true≢false}
 use Rattle.std.specs.Prelude.{slice_index, Option, Some, None, is_some, not, ◌&&◌, ◌↔◌, [], Result, Ok, Err, MatchResult}
 use Rattle.std.proofs.lemmas.Bool.{cases_lt, cases_eq, lt-ltb, le-ltb}
-use Rattle.rs_field.specs.declared.error.Error.{Error}
-use Rattle.rs_field.specs.declared.error.Error.TheVariants.{InconsistentShards}
-use Rattle.rs_field.specs.Column.{Shard, IsShard, AreShards, shard_at, column}
-use Rattle.rs_field.specs.Counts.{Rate, supports}
-use Rattle.rs_field.specs.Placement.{placement, decoder_rows}
-use Rattle.rs_field.specs.Configuration.{configuration, validated}
-use Rattle.rs_field.specs.Decoder.{DecoderState, originals_given, recovery_given, IsConsistent, missing_of, Restored, NoneAgrees}
-use Rattle.rs_field.specs.Given.{Shards, count_below, Agrees, Consistent}
-use Rattle.rs_field.specs.Layout.{row_len, up_to}
-use Rattle.rs_field.specs.Locator.{IsLocatorBelow, log_sum}
-use Rattle.rs_field.specs.Rows.{Chunks}
-use Rattle.rs_field.specs.Field.{product, power}
-use Rattle.rs_field.specs.Derivative.{IsDerivativeAdded}
-use Rattle.rs_field.specs.Transform.{forward, IsBackward}
-use Rattle.rs_field.specs.MarkedRows.{is_marked}
-use Rattle.rs_field.proofs.Columns.{shard_from_columns}
-use Rattle.rs_field.proofs.LayoutLemmas.{length-up_to, get-up_to}
-use Rattle.rs_field.proofs.MadeShards.{has_recovery}
-use Rattle.rs_field.proofs.RateFrames.{HasFrame, has_frame}
-use Rattle.rs_field.proofs.Agreement.{AreColumns, consistent_exactly, restored_column, one_message}
-use Rattle.rs_field.proofs.LocatorProduct.{same_residue}
+use Rattle.rs_field.specs.declared.code.error.Error.{Error}
+use Rattle.rs_field.specs.declared.code.error.Error.TheVariants.{InconsistentShards}
+use Rattle.rs_field.specs.code.Column.{Shard, IsShard, AreShards, shard_at, column}
+use Rattle.rs_field.specs.code.Counts.{Rate, supports}
+use Rattle.rs_field.specs.code.Placement.{placement, decoder_rows}
+use Rattle.rs_field.specs.code.Configuration.{configuration, validated}
+use Rattle.rs_field.specs.code.Decoder.{DecoderState, originals_given, recovery_given, IsConsistent, missing_of, Restored, NoneAgrees}
+use Rattle.rs_field.specs.code.Given.{Shards, count_below, Agrees, Consistent}
+use Rattle.rs_field.specs.rows.Layout.{row_len, up_to}
+use Rattle.rs_field.specs.words.Locator.{IsLocatorBelow, log_sum}
+use Rattle.rs_field.specs.rows.Rows.{Chunks}
+use Rattle.rs_field.specs.words.Field.{product, power}
+use Rattle.rs_field.specs.words.Derivative.{IsDerivativeAdded}
+use Rattle.rs_field.specs.words.Transform.{forward, IsBackward}
+use Rattle.rs_field.specs.rows.MarkedRows.{is_marked}
+use Rattle.rs_field.proofs.of_code.Columns.{shard_from_columns}
+use Rattle.rs_field.proofs.of_rows.LayoutLemmas.{length-up_to, get-up_to}
+use Rattle.rs_field.proofs.of_code.MadeShards.{has_recovery}
+use Rattle.rs_field.proofs.of_code.RateFrames.{HasFrame, has_frame}
+use Rattle.rs_field.proofs.of_code.Agreement.{AreColumns, consistent_exactly, restored_column, one_message}
+use Rattle.rs_field.proofs.of_words.LocatorProduct.{same_residue}
 use Rattle.rs_rate.specs.declared.rate.decoder_work.DecoderShape.{DecoderShape}
 use Rattle.rs_rate.specs.DecoderView.{configuration_of, decoder_shape, frame_of}
 use Rattle.rs_rate.specs.Decoding.{IsLocatorOf, RestoresShards, located}

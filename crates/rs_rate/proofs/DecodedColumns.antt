@@ -2,22 +2,22 @@
 use Rattle.std.proofs.Common.{◌≡◌, ℕ, ◌+◌, ◌/◌, ◌%◌, ◌^◌, ◌<◌, ◌≤◌, ◌⊎◌, List, Bool, true, false, cond, refl, sym, ap, ap₂, ◌∙◌, arith, inl, inr, subst, true≢false, pow_mono}
 use Rattle.std.specs.Prelude.{slice_index, Option, Some, None, is_some, unwrap_or}
 use Rattle.std.proofs.lemmas.Bool.{cases_lt}
-use Rattle.rs_field.specs.Field.{product, power}
-use Rattle.rs_field.specs.Transform.{IsBackward}
-use Rattle.rs_field.specs.Locator.{IsLocatorBelow, log_sum}
-use Rattle.rs_field.specs.Column.{Shard, IsShard, column}
-use Rattle.rs_field.specs.Counts.{Rate}
-use Rattle.rs_field.specs.Placement.{Placement, placement}
-use Rattle.rs_field.specs.Configuration.{configuration}
-use Rattle.rs_field.specs.Layout.{row_len}
-use Rattle.rs_field.specs.Rows.{Chunks}
-use Rattle.rs_field.specs.MarkedRows.{is_marked}
-use Rattle.rs_field.proofs.Columns.{column_lt}
-use Rattle.rs_field.proofs.Frame.{IsFrame}
-use Rattle.rs_field.proofs.ExactCheck.{AreLocated, are_located}
-use Rattle.rs_field.proofs.LocatorProduct.{same_residue}
-use Rattle.rs_field.proofs.AgreeingMessages.{AreSized, HasWords}
-use Rattle.rs_field.proofs.Agreement.{AreColumns}
+use Rattle.rs_field.specs.words.Field.{product, power}
+use Rattle.rs_field.specs.words.Transform.{IsBackward}
+use Rattle.rs_field.specs.words.Locator.{IsLocatorBelow, log_sum}
+use Rattle.rs_field.specs.code.Column.{Shard, IsShard, column}
+use Rattle.rs_field.specs.code.Counts.{Rate}
+use Rattle.rs_field.specs.code.Placement.{Placement, placement}
+use Rattle.rs_field.specs.code.Configuration.{configuration}
+use Rattle.rs_field.specs.rows.Layout.{row_len}
+use Rattle.rs_field.specs.rows.Rows.{Chunks}
+use Rattle.rs_field.specs.rows.MarkedRows.{is_marked}
+use Rattle.rs_field.proofs.of_code.Columns.{column_lt}
+use Rattle.rs_field.proofs.of_code.Frame.{IsFrame}
+use Rattle.rs_field.proofs.of_words.ExactCheck.{AreLocated, are_located}
+use Rattle.rs_field.proofs.of_words.LocatorProduct.{same_residue}
+use Rattle.rs_field.proofs.of_code.AgreeingMessages.{AreSized, HasWords}
+use Rattle.rs_field.proofs.of_code.Agreement.{AreColumns}
 use Rattle.rs_rate.specs.Marks.{erased, given_shards, ArePlaced}
 use Rattle.rs_rate.specs.ShardRows.{word_in, shard_laid_out}
 use Rattle.rs_rate.specs.Decoding.{located}

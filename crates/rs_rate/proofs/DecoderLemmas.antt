@@ -3,14 +3,14 @@ use Rattle.std.proofs.Common.{◌≡◌, ◌≢◌, ℕ, zero, suc, ◌+◌, ◌
 use Rattle.std.specs.Prelude.{Some, None, is_some, nat_eq}
 use Rattle.std.proofs.lemmas.Bool.{cases_lt, cases_eq, lt-ltb, le-ltb, eq-eqb, ne_eqb}
 use mathlib.Core.Path.{fun_ext}
-use Rattle.rs_field.specs.Column.{Shard}
-use Rattle.rs_field.specs.Counts.{Rate}
-use Rattle.rs_field.specs.Decoder.{DecoderState, fresh_decoder}
-use Rattle.rs_field.specs.Given.{Shards, nothing, entered, count_below}
-use Rattle.rs_field.specs.Rows.{Chunks}
-use Rattle.rs_field.specs.MarkedRows.{is_marked}
-use Rattle.rs_field.proofs.Given.{count_below-suc, count_below-zero}
-use Rattle.rs_field.proofs.NextPower.{own_is_power}
+use Rattle.rs_field.specs.code.Column.{Shard}
+use Rattle.rs_field.specs.code.Counts.{Rate}
+use Rattle.rs_field.specs.code.Decoder.{DecoderState, fresh_decoder}
+use Rattle.rs_field.specs.code.Given.{Shards, nothing, entered, count_below}
+use Rattle.rs_field.specs.rows.Rows.{Chunks}
+use Rattle.rs_field.specs.rows.MarkedRows.{is_marked}
+use Rattle.rs_field.proofs.of_code.Given.{count_below-suc, count_below-zero}
+use Rattle.rs_field.proofs.of_code.NextPower.{own_is_power}
 use Rattle.rs_rate.specs.Shapes.{DecoderCanBeLaid}
 use Rattle.rs_rate.specs.declared.rate.decoder_work.DecoderShape.{DecoderShape}
 use Rattle.rs_rate.specs.DecoderView.{configuration_of}

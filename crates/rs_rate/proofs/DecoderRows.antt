@@ -2,11 +2,11 @@
 use Rattle.std.proofs.Common.{◌≡◌, ℕ, ◌+◌, refl, sym, ap, subst}
 use Rattle.std.specs.Prelude.{Result, Ok, Err, is_ok, cond, MatchResult}
 use Rattle.std.specs.Result.{result_map_both}
-use Rattle.rs_field.specs.declared.error.Error.{Error}
-use Rattle.rs_field.specs.Given.{Shards}
-use Rattle.rs_field.specs.Decoder.{DecoderState, fresh_decoder, enough_given, Restored, NoneAgrees, DecodeAnswers, after_decode}
-use Rattle.rs_field.specs.Counts.{Rate, next_power, is_low, low_rate}
-use Rattle.rs_field.specs.Placement.{placement, low_placement, decoder_rows}
+use Rattle.rs_field.specs.declared.code.error.Error.{Error}
+use Rattle.rs_field.specs.code.Given.{Shards}
+use Rattle.rs_field.specs.code.Decoder.{DecoderState, fresh_decoder, enough_given, Restored, NoneAgrees, DecodeAnswers, after_decode}
+use Rattle.rs_field.specs.code.Counts.{Rate, next_power, is_low, low_rate}
+use Rattle.rs_field.specs.code.Placement.{placement, low_placement, decoder_rows}
 use Rattle.rs_rate.specs.DecoderView.{frame_of}
 
 -- the frame of a decoder of the low rate, written out

@@ -2,9 +2,9 @@
 use Rattle.std.proofs.Common.{◌≡◌, ℕ, ◌+◌, ◌<◌, ◌≤◌, cond, refl, ap, ap₂, ◌∙◌, inl, inr, true≢false}
 use Rattle.std.specs.Prelude.{Result, Ok, Err, is_ok, nat_lt}
 use Rattle.std.proofs.lemmas.Bool.{cases_lt, lt-ltb, le-ltb}
-use Rattle.rs_field.specs.declared.error.Error.{Error}
-use Rattle.rs_field.specs.declared.error.Error.TheVariants.{NotEnoughShards}
-use Rattle.rs_field.specs.Decoder.{DecoderState, originals_given, recovery_given, enough_given}
+use Rattle.rs_field.specs.declared.code.error.Error.{Error}
+use Rattle.rs_field.specs.declared.code.error.Error.TheVariants.{NotEnoughShards}
+use Rattle.rs_field.specs.code.Decoder.{DecoderState, originals_given, recovery_given, enough_given}
 
 -- what is answered for these counts
 counted : ℕ → ℕ → ℕ → Result (Unit {0}) Error

@@ -2,11 +2,12 @@
 use Rattle.std.proofs.Common.{◌≡◌, ℕ, true, false, Bool, ◌+◌, ◌-◌, ◌*◌, ◌/◌, ◌%◌, ◌<◌, ◌≤◌, refl, sym, ap, ap₂, ◌∙◌, arith}
 use Rattle.std.proofs.Math.Nat.{add-div_right, div-mul-le_self, mul-le-mul_right}
 use Rattle.std.proofs.lemmas.Nat.{pow_pos, le-div, div-add-mod'}
-use Rattle.rs_field.specs.Counts.{Rate, next_power, supports, is_low, low_rate, high_rate}
-use Rattle.rs_field.specs.Placement.{encoder_rows, block_rows}
-use Rattle.rs_field.specs.Bounds.{CountsUpTo, transform_steps, encode_steps, encode_steps_at}
-use Rattle.rs_field.specs.declared.engine.steps.Steps.{Steps}
-use Rattle.rs_field.proofs.Counting.{counts_then, counts_within}
+use Rattle.rs_field.specs.code.Counts.{Rate, next_power, supports, is_low, low_rate, high_rate}
+use Rattle.rs_field.specs.code.Placement.{encoder_rows, block_rows}
+use Rattle.rs_field.specs.words.StepBounds.{CountsUpTo, transform_steps}
+use Rattle.rs_field.specs.code.Bounds.{encode_steps, encode_steps_at}
+use Rattle.rs_field.specs.declared.words.steps.Steps.{Steps}
+use Rattle.rs_field.proofs.of_words.Counting.{counts_then, counts_within}
 use Rattle.rs_rate.specs.Coding.{further_blocks, CodingCounts}
 use Rattle.rs_rate.proofs.HighCounts.{HasRows, low_rows-fit, high_rows-fit}
 use Rattle.rs_rate.proofs.RateLemmas.{low_is, high_is, low_block, high_block, rows_alike, block_alike, chosen_low, chosen_high}

@@ -3,11 +3,11 @@ use Rattle.std.proofs.Common.{◌≡◌, ℕ, ◌+◌, ◌^◌, ◌<◌, ◌≤�
 use Rattle.std.specs.Prelude.{is_some, nat_le, nat_lt, ◌&&◌, ◌||◌}
 use Rattle.std.proofs.Math.Bool.{and-false}
 use Rattle.std.proofs.lemmas.Bool.{le-leb, lt-leb, lt-ltb, le-ltb}
-use Rattle.rs_field.specs.Given.{Shards}
-use Rattle.rs_field.specs.Placement.{Placement}
-use Rattle.rs_field.specs.MarkedRows.{is_marked}
-use Rattle.rs_field.proofs.Frame.{IsFrame}
-use Rattle.rs_field.proofs.ErasedCount.{AreErasures}
+use Rattle.rs_field.specs.code.Given.{Shards}
+use Rattle.rs_field.specs.code.Placement.{Placement}
+use Rattle.rs_field.specs.rows.MarkedRows.{is_marked}
+use Rattle.rs_field.proofs.of_code.Frame.{IsFrame}
+use Rattle.rs_field.proofs.of_code.ErasedCount.{AreErasures}
 use Rattle.rs_rate.specs.Marks.{erased, ArePlaced}
 
 -- the entry by both tests

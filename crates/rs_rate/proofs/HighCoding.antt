@@ -5,16 +5,16 @@ use Rattle.std.specs.Int.Bits.{xor_self, xor_zero_l, xor_zero_r}
 use Rattle.std.proofs.Math.Nat.{zero-mod, mul-le-mul_right, div_self, add-div_right}
 use Rattle.std.proofs.lemmas.Bool.{cases_lt, lt-ltb, le-ltb, eq-eqb}
 use Rattle.std.proofs.lemmas.Nat.{pow_pos, div-add-mod'}
-use Rattle.rs_field.specs.Polynomial.{value}
-use Rattle.rs_field.specs.Transform.{sum_below, forward}
-use Rattle.rs_field.specs.Counts.{next_power, supports, is_low, high_rate}
-use Rattle.rs_field.specs.Placement.{placement, high_placement}
-use Rattle.rs_field.proofs.LayoutLemmas.{get-up_to}
-use Rattle.rs_field.proofs.Combination.{sum_below-suc, sum_below-zero, sum_below-same, sum_below-add, forward-same, forward-zero}
-use Rattle.rs_field.proofs.Coefficients.{forward-fewer, polynomial_of_terms}
-use Rattle.rs_field.proofs.TopBlock.{joined_blocks, values-joined, last-joined}
+use Rattle.rs_field.specs.words.Polynomial.{value}
+use Rattle.rs_field.specs.words.Transform.{sum_below, forward}
+use Rattle.rs_field.specs.code.Counts.{next_power, supports, is_low, high_rate}
+use Rattle.rs_field.specs.code.Placement.{placement, high_placement}
+use Rattle.rs_field.proofs.of_rows.LayoutLemmas.{get-up_to}
+use Rattle.rs_field.proofs.of_words.Combination.{sum_below-suc, sum_below-zero, sum_below-same, sum_below-add, forward-same, forward-zero}
+use Rattle.rs_field.proofs.of_words.Coefficients.{forward-fewer, polynomial_of_terms}
+use Rattle.rs_field.proofs.of_words.TopBlock.{joined_blocks, values-joined, last-joined}
 use Rattle.rs_rate.specs.Coding.{SumsBlocks, CodesWords}
-use Rattle.rs_field.proofs.NextPower.{next_power-small}
+use Rattle.rs_field.proofs.of_code.NextPower.{next_power-small}
 use Rattle.rs_rate.proofs.HighCounts.{high_small}
 
 -- ---- sums of combinations

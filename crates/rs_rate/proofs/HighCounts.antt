@@ -4,10 +4,10 @@ use Rattle.std.specs.Prelude.{nat_le, nat_lt, ◌&&◌}
 use Rattle.std.proofs.Math.Nat.{mul-mod_left, mul-le-mul_right}
 use Rattle.std.proofs.lemmas.Bool.{cases_lt}
 use Rattle.std.proofs.lemmas.Nat.{pow_pos, div-add-mod'}
-use Rattle.rs_field.specs.Counts.{next_power, supports, is_low, low_rate, high_rate}
-use Rattle.rs_field.specs.Placement.{encoder_rows}
-use Rattle.rs_field.proofs.NextPower.{next_power-small}
-use Rattle.rs_field.proofs.SupportedCounts.{low_fits}
+use Rattle.rs_field.specs.code.Counts.{next_power, supports, is_low, low_rate, high_rate}
+use Rattle.rs_field.specs.code.Placement.{encoder_rows}
+use Rattle.rs_field.proofs.of_code.NextPower.{next_power-small}
+use Rattle.rs_field.proofs.of_code.SupportedCounts.{low_fits}
 use Rattle.rs_rate.proofs.PowerLemmas.{low_small, low_rows-enough, rounded_up-low, multiple_least, multiple_room}
 
 swapped : (a b : Bool) → (a && b) ≡ (b && a)

@@ -2,16 +2,16 @@
 use Rattle.std.proofs.Common.{◌≡◌, ℕ, true, ◌+◌, ◌-◌, ◌<◌, ◌≤◌, List, min, sym, ap, ◌∙◌, arith, inl, inr, zero-add}
 use Rattle.std.specs.Prelude.{slice_index}
 use Rattle.std.proofs.lemmas.Bool.{cases_lt}
-use Rattle.rs_field.specs.Polynomial.{value}
-use Rattle.rs_field.specs.Transform.{forward}
-use Rattle.rs_field.specs.Counts.{next_power, supports, is_low, low_rate}
-use Rattle.rs_field.specs.Placement.{placement, low_placement}
-use Rattle.rs_field.specs.Code.{AreRecoveryWords}
-use Rattle.rs_field.specs.Layout.{up_to}
-use Rattle.rs_field.proofs.Combination.{forward-same, forward-moved}
-use Rattle.rs_field.proofs.Coefficients.{polynomial_of_terms}
-use Rattle.rs_field.proofs.LayoutLemmas.{get-up_to}
-use Rattle.rs_field.proofs.SupportedCounts.{low_fits}
+use Rattle.rs_field.specs.words.Polynomial.{value}
+use Rattle.rs_field.specs.words.Transform.{forward}
+use Rattle.rs_field.specs.code.Counts.{next_power, supports, is_low, low_rate}
+use Rattle.rs_field.specs.code.Placement.{placement, low_placement}
+use Rattle.rs_field.specs.code.Code.{AreRecoveryWords}
+use Rattle.rs_field.specs.rows.Layout.{up_to}
+use Rattle.rs_field.proofs.of_words.Combination.{forward-same, forward-moved}
+use Rattle.rs_field.proofs.of_words.Coefficients.{polynomial_of_terms}
+use Rattle.rs_field.proofs.of_rows.LayoutLemmas.{get-up_to}
+use Rattle.rs_field.proofs.of_code.SupportedCounts.{low_fits}
 use Rattle.rs_rate.specs.Coding.{CodesLow, CodesWords}
 
 -- a transform at a shift takes its values from there on

@@ -6,10 +6,10 @@ use Rattle.std.proofs.lemmas.Nat.{pow_pos, pow-add, div-add-mod'}
 use Rattle.std.proofs.Math.Nat.{div-eq_of_lt-le, mod-eq_of_lt, mul-le-mul_right}
 use Rattle.std.specs.Int.{next_multiple_of}
 use Rattle.std.proofs.Math.Bool.{and-false}
-use Rattle.rs_field.proofs.NextPower.{next_power-small, next_power-large}
-use Rattle.rs_field.specs.Counts.{next_power, supports, is_low, low_rate}
-use Rattle.rs_field.specs.Placement.{rounded_up, encoder_rows}
-use Rattle.rs_field.proofs.SupportedCounts.{low_fits}
+use Rattle.rs_field.proofs.of_code.NextPower.{next_power-small, next_power-large}
+use Rattle.rs_field.specs.code.Counts.{next_power, supports, is_low, low_rate}
+use Rattle.rs_field.specs.code.Placement.{rounded_up, encoder_rows}
+use Rattle.rs_field.proofs.of_code.SupportedCounts.{low_fits}
 
 low_test : (k r : ℕ) → supports low_rate k r ≡ (nat_lt 0 k && nat_lt 0 r && nat_le (next_power k + r) 65536)
 unfolding supports

@@ -1,11 +1,11 @@
 -- What a rate is at counts that it supports: the low or the high rate, with its rows, frame and recovery shards.
 use Rattle.std.proofs.Common.{◌≡◌, ℕ, ◌+◌, ◌<◌, ◌≤◌, Bool, true, false, List, refl, sym, ap, ◌∙◌, subst, arith}
 use Rattle.std.specs.Prelude.{slice_index, if◌then◌else◌}
-use Rattle.rs_field.specs.Counts.{Rate, next_power, supports, is_low, low_rate, high_rate, default_rate}
-use Rattle.rs_field.specs.Placement.{Placement, placement, low_placement, high_placement, rounded_up, encoder_rows, block_rows, decoder_rows}
-use Rattle.rs_field.specs.Polynomial.{value}
-use Rattle.rs_field.specs.Code.{Codes, AreRecoveryWords}
-use Rattle.rs_field.proofs.SupportedCounts.{default_fits, high_powers, low_powers}
+use Rattle.rs_field.specs.code.Counts.{Rate, next_power, supports, is_low, low_rate, high_rate, default_rate}
+use Rattle.rs_field.specs.code.Placement.{Placement, placement, low_placement, high_placement, rounded_up, encoder_rows, block_rows, decoder_rows}
+use Rattle.rs_field.specs.words.Polynomial.{value}
+use Rattle.rs_field.specs.code.Code.{Codes, AreRecoveryWords}
+use Rattle.rs_field.proofs.of_code.SupportedCounts.{default_fits, high_powers, low_powers}
 use Rattle.rs_rate.specs.declared.rate.decoder_work.Frame.{Frame}
 use Rattle.rs_rate.specs.declared.rate.encoder_work.EncoderShape.{EncoderShape}
 use Rattle.rs_rate.specs.EncoderView.{encoder_shape, shape_chunks}

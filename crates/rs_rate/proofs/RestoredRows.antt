@@ -1,13 +1,13 @@
 -- The rows of a decode over chunks: their words, their tails, and the locator's entries.
 use Rattle.std.proofs.Common.{true, ◌≡◌, ◌≢◌, ℕ, ◌%◌, ◌<◌, List, Bool, ap, ◌∙◌, subst}
 use mathlib.Core.Path.{fun_ext}
-use Rattle.rs_field.specs.Bounds.{CountsUpTo}
-use Rattle.rs_field.specs.Layout.{row_len}
-use Rattle.rs_field.specs.Locator.{IsLocatorBelow}
-use Rattle.rs_field.specs.Rows.{Chunks}
-use Rattle.rs_field.specs.declared.engine.steps.Steps.{Steps}
-use Rattle.rs_field.specs.MarkedRows.{is_marked}
-use Rattle.rs_field.proofs.LocatorLemmas.{log_sum-same}
+use Rattle.rs_field.specs.words.StepBounds.{CountsUpTo}
+use Rattle.rs_field.specs.rows.Layout.{row_len}
+use Rattle.rs_field.specs.words.Locator.{IsLocatorBelow}
+use Rattle.rs_field.specs.rows.Rows.{Chunks}
+use Rattle.rs_field.specs.declared.words.steps.Steps.{Steps}
+use Rattle.rs_field.specs.rows.MarkedRows.{is_marked}
+use Rattle.rs_field.proofs.of_words.LocatorLemmas.{log_sum-same}
 use Rattle.rs_rate.specs.declared.rate.decoder_work.DecoderShape.{DecoderShape}
 use Rattle.rs_rate.specs.Decoding.{RestoresWords}
 use Rattle.rs_rate.specs.ShardRows.{row_chunk, shard_laid_out, shard_in_order}

@@ -2,15 +2,15 @@
 use Rattle.std.proofs.Common.{◌≡◌, ℕ, ◌+◌, ◌-◌, ◌*◌, ◌/◌, ◌%◌, ◌<◌, ◌≤◌, Bool, true, false, cond, sym, ap, ap₂, ◌∙◌, arith, zero-add}
 use Rattle.std.specs.Prelude.{replicate, slice_index, List, ◌↔◌}
 use mathlib.Core.Path.{fun_ext}
-use Rattle.rs_field.specs.Transform.{forward}
-use Rattle.rs_field.specs.Bounds.{CountsUpTo}
-use Rattle.rs_field.specs.Field.{product, power}
-use Rattle.rs_field.specs.Rows.{chunk}
-use Rattle.rs_field.specs.View.{cell, word, row_at, Fits, SameShape, SameRowsOutside}
-use Rattle.rs_field.specs.declared.engine.shards.ShardsRefMut.{ShardsRefMut}
-use Rattle.rs_field.specs.declared.engine.steps.Steps.{Steps}
-use Rattle.rs_field.specs.MarkedRows.{is_marked}
-use Rattle.rs_field.proofs.RowOffsets.{row_ends}
+use Rattle.rs_field.specs.words.Transform.{forward}
+use Rattle.rs_field.specs.words.StepBounds.{CountsUpTo}
+use Rattle.rs_field.specs.words.Field.{product, power}
+use Rattle.rs_field.specs.rows.Rows.{chunk}
+use Rattle.rs_field.specs.rows.View.{cell, word, row_at, Fits, SameShape, SameRowsOutside}
+use Rattle.rs_field.specs.declared.rows.shards.ShardsRefMut.{ShardsRefMut}
+use Rattle.rs_field.specs.declared.words.steps.Steps.{Steps}
+use Rattle.rs_field.specs.rows.MarkedRows.{is_marked}
+use Rattle.rs_field.proofs.of_rows.RowOffsets.{row_ends}
 use Rattle.rs_rate.specs.Decoding.{located}
 use Rattle.rs_rate.proofs.ShardRowsLemmas.{part-read}
 

@@ -5,13 +5,13 @@ use Rattle.std.proofs.Math.Seq.{drop-cons}
 use Rattle.std.proofs.lemmas.List.{length-drop, drop_all}
 use Rattle.std.specs.Borrow.{Bor}
 use Rattle.std.specs.Prelude.{Option, Some, None, is_some, not, option_copied, MatchOption}
-use Rattle.rs_field.specs.Column.{Shard}
-use Rattle.rs_field.specs.Given.{Shards, Lists, listed, listed_from, count_below}
-use Rattle.rs_field.specs.Rows.{Chunks}
-use Rattle.rs_field.specs.MarkedRows.{is_marked}
-use Rattle.rs_field.proofs.Given.{count_below-zero, count_below-suc}
-use Rattle.rs_field.proofs.LayoutLemmas.{length-up_to, get-up_to}
-use Rattle.rs_field.proofs.Listed.{listed_from-none, listed_from-some, listed_from-past, length-listed}
+use Rattle.rs_field.specs.code.Column.{Shard}
+use Rattle.rs_field.specs.code.Given.{Shards, Lists, listed, listed_from, count_below}
+use Rattle.rs_field.specs.rows.Rows.{Chunks}
+use Rattle.rs_field.specs.rows.MarkedRows.{is_marked}
+use Rattle.rs_field.proofs.of_code.Given.{count_below-zero, count_below-suc}
+use Rattle.rs_field.proofs.of_rows.LayoutLemmas.{length-up_to, get-up_to}
+use Rattle.rs_field.proofs.of_code.Listed.{listed_from-none, listed_from-some, listed_from-past, length-listed}
 use Rattle.rs_rate.specs.declared.rate.decoder_work.DecoderRows.{DecoderRows}
 use Rattle.rs_rate.specs.declared.rate.encoder_work.EncoderRows.{EncoderRows}
 use Rattle.rs_rate.specs.DecoderView.{restored_of, restored_from}

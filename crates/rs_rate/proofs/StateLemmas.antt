@@ -2,15 +2,15 @@
 use Rattle.std.proofs.Common.{◌≡◌, ℕ, ◌<◌, ◌≤◌, ◌*◌, ◌^◌, ◌%◌, ◌++◌, ◌∷◌, [], length, refl, sym, ap, ap₂, ◌∙◌, subst, inl, inr, Bool, true, false, cond, arith}
 use Rattle.std.specs.Prelude.{nat_le, Result, Ok, Err, IsOk, OnOk, OnErr, IfOk, IfErr, not, ◌||◌, ◌==◌, Option, Some, None, IfSome, List, nat_lt, is_ok, IsOkAnd, MatchResult}
 use Rattle.std.proofs.lemmas.Bool.{lt-leb, le-leb, eq-eqb, cases_lt, eqb-false, ltb-false}
-use Rattle.rs_field.specs.declared.error.Error.{Error}
-use Rattle.rs_field.specs.declared.error.Error.TheVariants.{OutOfMemory, UnsupportedShardCount, InvalidShardSize, TooFewOriginalShards}
-use Rattle.rs_field.specs.Column.{Shard}
-use Rattle.rs_field.specs.Counts.{Rate, supports}
-use Rattle.rs_field.specs.Outcome.{answer_of, state_after, result_and_then}
-use Rattle.rs_field.specs.Configuration.{Configuration, validated, space, started, UpToMemory}
-use Rattle.rs_field.specs.Encoder.{EncoderState, fresh_encoder, with_shard, message_of, EncodeAnswers, after_encode}
-use Rattle.rs_field.specs.Code.{AreRecovery}
-use Rattle.rs_field.specs.Layout.{up_to}
+use Rattle.rs_field.specs.declared.code.error.Error.{Error}
+use Rattle.rs_field.specs.declared.code.error.Error.TheVariants.{OutOfMemory, UnsupportedShardCount, InvalidShardSize, TooFewOriginalShards}
+use Rattle.rs_field.specs.code.Column.{Shard}
+use Rattle.rs_field.specs.code.Counts.{Rate, supports}
+use Rattle.rs_field.specs.code.Outcome.{answer_of, state_after, result_and_then}
+use Rattle.rs_field.specs.code.Configuration.{Configuration, validated, space, started, UpToMemory}
+use Rattle.rs_field.specs.code.Encoder.{EncoderState, fresh_encoder, with_shard, message_of, EncodeAnswers, after_encode}
+use Rattle.rs_field.specs.code.Code.{AreRecovery}
+use Rattle.rs_field.specs.rows.Layout.{up_to}
 use Rattle.rs_rate.specs.declared.rate.encoder_work.EncoderRows.{EncoderRows}
 use Rattle.rs_rate.specs.declared.rate.encoder_work.EncoderShape.{EncoderShape}
 use Rattle.rs_rate.specs.EncoderView.{configuration_of, encoder_state}

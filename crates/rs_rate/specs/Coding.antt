@@ -1,11 +1,12 @@
 -- How the words of one column become recovery words, and in how many row steps.
 use Rattle.std.specs.Prelude.{◌≡◌, ℕ, ◌+◌, ◌-◌, ◌*◌, ◌/◌, ◌<◌, ◌≤◌}
-use Rattle.rs_field.specs.Counts.{Rate}
-use Rattle.rs_field.specs.Layout.{up_to}
-use Rattle.rs_field.specs.Code.{AreRecoveryWords}
-use Rattle.rs_field.specs.Transform.{sum_below, forward}
-use Rattle.rs_field.specs.Bounds.{CountsUpTo, encode_steps_at}
-use Rattle.rs_field.specs.declared.engine.steps.Steps.{Steps}
+use Rattle.rs_field.specs.code.Counts.{Rate}
+use Rattle.rs_field.specs.rows.Layout.{up_to}
+use Rattle.rs_field.specs.code.Code.{AreRecoveryWords}
+use Rattle.rs_field.specs.words.Transform.{sum_below, forward}
+use Rattle.rs_field.specs.words.StepBounds.{CountsUpTo}
+use Rattle.rs_field.specs.code.Bounds.{encode_steps_at}
+use Rattle.rs_field.specs.declared.words.steps.Steps.{Steps}
 
 -- the k old words are the first values of a combination of m basis polynomials that is zero at the points from k to m - 1, and the r new words are its values from the point m on
 abbrev pub CodesLow : ℕ → ℕ → ℕ → (ℕ → ℕ) → (ℕ → ℕ) → Type 0

@@ -1,12 +1,12 @@
 -- What a decoder's rows and working space stand for.
 use Rattle.std.specs.Prelude.{◌-◌, ◌≤◌, ℕ, List, Option, Some, None}
 use Rattle.std.specs.Vec.{vec_capacity}
-use Rattle.rs_field.specs.Column.{Shard}
-use Rattle.rs_field.specs.Counts.{Rate}
-use Rattle.rs_field.specs.Placement.{placement, decoder_rows}
-use Rattle.rs_field.specs.Configuration.{Configuration, configuration}
-use Rattle.rs_field.specs.Given.{Shards, listed_from}
-use Rattle.rs_field.specs.Decoder.{DecoderState}
+use Rattle.rs_field.specs.code.Column.{Shard}
+use Rattle.rs_field.specs.code.Counts.{Rate}
+use Rattle.rs_field.specs.code.Placement.{placement, decoder_rows}
+use Rattle.rs_field.specs.code.Configuration.{Configuration, configuration}
+use Rattle.rs_field.specs.code.Given.{Shards, listed_from}
+use Rattle.rs_field.specs.code.Decoder.{DecoderState}
 use Rattle.rs_rate.specs.declared.rate.decoder_work.Frame.{Frame}
 use Rattle.rs_rate.specs.declared.rate.decoder_work.DecoderShape.{DecoderShape}
 use Rattle.rs_rate.specs.declared.rate.decoder_work.DecoderRows.{DecoderRows}

@@ -1,14 +1,14 @@
 -- How the words of a decoder's rows become those of the missing originals.
 use Rattle.std.specs.Prelude.{◌≡◌, ℕ, ◌+◌, ◌-◌, ◌*◌, ◌/◌, ◌%◌, ◌<◌, ◌≤◌, ◌↔◌, if◌then◌else◌, Bool, true, false, List, slice_index, vec_len}
-use Rattle.rs_field.specs.Bounds.{transform_steps}
-use Rattle.rs_field.specs.Derivative.{IsDerivativeAdded}
-use Rattle.rs_field.specs.Field.{product, power}
-use Rattle.rs_field.specs.Column.{column}
-use Rattle.rs_field.specs.Layout.{row_len}
-use Rattle.rs_field.specs.Locator.{IsLocatorBelow}
-use Rattle.rs_field.specs.Rows.{Chunks}
-use Rattle.rs_field.specs.Transform.{forward, IsBackward}
-use Rattle.rs_field.specs.MarkedRows.{is_marked}
+use Rattle.rs_field.specs.words.StepBounds.{transform_steps}
+use Rattle.rs_field.specs.words.Derivative.{IsDerivativeAdded}
+use Rattle.rs_field.specs.words.Field.{product, power}
+use Rattle.rs_field.specs.code.Column.{column}
+use Rattle.rs_field.specs.rows.Layout.{row_len}
+use Rattle.rs_field.specs.words.Locator.{IsLocatorBelow}
+use Rattle.rs_field.specs.rows.Rows.{Chunks}
+use Rattle.rs_field.specs.words.Transform.{forward, IsBackward}
+use Rattle.rs_field.specs.rows.MarkedRows.{is_marked}
 use Rattle.rs_rate.specs.declared.rate.decoder_work.Frame.{Frame}
 use Rattle.rs_rate.specs.declared.rate.decoder_work.DecoderShape.{DecoderShape}
 use Rattle.rs_rate.specs.declared.rate.marks.Marks.{Marks}

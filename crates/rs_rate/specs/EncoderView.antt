@@ -1,11 +1,11 @@
 -- What an encoder's rows and working space stand for.
 use Rattle.std.specs.Prelude.{ℕ, List}
-use Rattle.rs_field.specs.Column.{Shard}
-use Rattle.rs_field.specs.Counts.{Rate}
-use Rattle.rs_field.specs.Placement.{encoder_rows, block_rows}
-use Rattle.rs_field.specs.Configuration.{Configuration, configuration}
-use Rattle.rs_field.specs.Encoder.{EncoderState}
-use Rattle.rs_field.specs.Layout.{up_to}
+use Rattle.rs_field.specs.code.Column.{Shard}
+use Rattle.rs_field.specs.code.Counts.{Rate}
+use Rattle.rs_field.specs.code.Placement.{encoder_rows, block_rows}
+use Rattle.rs_field.specs.code.Configuration.{Configuration, configuration}
+use Rattle.rs_field.specs.code.Encoder.{EncoderState}
+use Rattle.rs_field.specs.rows.Layout.{up_to}
 use Rattle.rs_rate.specs.declared.rate.encoder_work.EncoderShape.{EncoderShape}
 use Rattle.rs_rate.specs.declared.rate.encoder_work.EncoderRows.{EncoderRows}
 use Rattle.rs_rate.specs.declared.rate.encoder_work.EncoderWork.{EncoderWork}

@@ -1,9 +1,9 @@
 -- The shards that the marks of a decoder's rows tell of.
 use Rattle.std.specs.Prelude.{◌≡◌, ℕ, zero, suc, ◌+◌, ◌<◌, ◌≤◌, ◌⊎◌, nat_lt, nat_le, ◌&&◌, ◌||◌, if◌then◌else◌, Bool, false, not, List, [], Some, None, vec_len}
 use Rattle.std.specs.Vec.{vec_capacity}
-use Rattle.rs_field.specs.Given.{Shards}
-use Rattle.rs_field.specs.MarkedRows.{is_marked}
-use Rattle.rs_field.specs.Rows.{Chunks}
+use Rattle.rs_field.specs.code.Given.{Shards}
+use Rattle.rs_field.specs.rows.MarkedRows.{is_marked}
+use Rattle.rs_field.specs.rows.Rows.{Chunks}
 use Rattle.rs_rate.specs.declared.rate.marks.Marks.{Marks}
 use Rattle.rs_rate.specs.declared.rate.marks.MarkedShards.{MarkedShards}
 use Rattle.rs_rate.specs.declared.rate.marks.MarkedShards.TheVariants.{Given, Restored}

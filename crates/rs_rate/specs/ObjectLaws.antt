@@ -3,17 +3,17 @@ use Rattle.std.specs.Prelude.{◌≡◌, ◌+◌, ◌*◌, ◌^◌, ◌<◌, ◌
 use Rattle.std.proofs.Common.{sym, ap, subst, true≢false}
 use Rattle.std.proofs.lemmas.Bool.{le-ltb}
 use Rattle.std.specs.Vec.{vec_capacity}
-use Rattle.rs_field.specs.Column.{Shard, IsShard}
-use Rattle.rs_field.specs.Counts.{Rate}
-use Rattle.rs_field.specs.Configuration.{validated}
-use Rattle.rs_field.specs.Encoder.{IsEncoder}
-use Rattle.rs_field.specs.Decoder.{IsDecoder}
-use Rattle.rs_field.specs.Given.{AreWithin}
-use Rattle.rs_field.specs.Layout.{up_to}
-use Rattle.rs_field.specs.Placement.{encoder_rows, decoder_rows}
-use Rattle.rs_field.specs.Rows.{Chunks}
-use Rattle.rs_field.specs.MarkedRows.{is_marked}
-use Rattle.rs_field.proofs.LayoutLemmas.{length-up_to, get-up_to}
+use Rattle.rs_field.specs.code.Column.{Shard, IsShard}
+use Rattle.rs_field.specs.code.Counts.{Rate}
+use Rattle.rs_field.specs.code.Configuration.{validated}
+use Rattle.rs_field.specs.code.Encoder.{IsEncoder}
+use Rattle.rs_field.specs.code.Decoder.{IsDecoder}
+use Rattle.rs_field.specs.code.Given.{AreWithin}
+use Rattle.rs_field.specs.rows.Layout.{up_to}
+use Rattle.rs_field.specs.code.Placement.{encoder_rows, decoder_rows}
+use Rattle.rs_field.specs.rows.Rows.{Chunks}
+use Rattle.rs_field.specs.rows.MarkedRows.{is_marked}
+use Rattle.rs_field.proofs.of_rows.LayoutLemmas.{length-up_to, get-up_to}
 use Rattle.rs_rate.specs.declared.rate.encoder_work.EncoderRows.{EncoderRows}
 use Rattle.rs_rate.specs.declared.rate.decoder_work.DecoderRows.{DecoderRows}
 use Rattle.rs_rate.specs.EncoderView.{configuration_of, encoder_shape, encoder_state}

@@ -1,9 +1,9 @@
 -- What a result lends.
 use Rattle.std.specs.Prelude.{List, Result}
 use Rattle.std.specs.Result.{result_map_both}
-use Rattle.rs_field.specs.Column.{Shard}
-use Rattle.rs_field.specs.Given.{Shards}
-use Rattle.rs_field.specs.declared.error.Error.{Error}
+use Rattle.rs_field.specs.code.Column.{Shard}
+use Rattle.rs_field.specs.code.Given.{Shards}
+use Rattle.rs_field.specs.declared.code.error.Error.{Error}
 use Rattle.rs_rate.specs.declared.encoder_result.EncoderResult.{EncoderResult}
 use Rattle.rs_rate.specs.declared.decoder_result.DecoderResult.{DecoderResult}
 use Rattle.rs_rate.specs.EncoderView.{lent_of}

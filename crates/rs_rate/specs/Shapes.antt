@@ -1,6 +1,6 @@
 -- What the rows of an encoder and of a decoder can be set up for, and where a decoder's shards stand.
 use Rattle.std.specs.Prelude.{◌≡◌, ◌≢◌, ◌+◌, ◌%◌, ◌<◌, ◌≤◌, ℕ}
-use Rattle.rs_field.specs.Counts.{next_power}
+use Rattle.rs_field.specs.code.Counts.{next_power}
 use Rattle.rs_rate.specs.declared.rate.encoder_work.EncoderShape.{EncoderShape}
 use Rattle.rs_rate.specs.declared.rate.decoder_work.DecoderShape.{DecoderShape}
 

@@ -1,8 +1,8 @@
 -- Rows of chunks, and the shards in them.
 use Rattle.std.specs.Prelude.{ℕ, ◌+◌, ◌*◌, List}
-use Rattle.rs_field.specs.Column.{Shard}
-use Rattle.rs_field.specs.Rows.{Chunks, chunk, symbol}
-use Rattle.rs_field.specs.Layout.{row_len, laid_out, in_order}
+use Rattle.rs_field.specs.code.Column.{Shard}
+use Rattle.rs_field.specs.rows.Rows.{Chunks, chunk, symbol}
+use Rattle.rs_field.specs.rows.Layout.{row_len, laid_out, in_order}
 
 -- the chunks of so many rows for shards of this size
 unfoldable pub chunk_count : ℕ → ℕ → ℕ

@@ -1,9 +1,9 @@
 -- The two sides of a message, from which a decoder is given shards.
 use Rattle.std.specs.Prelude.{ℕ, Result}
-use Rattle.rs_field.specs.declared.error.Error.{Error}
-use Rattle.rs_field.specs.declared.error.Error.TheVariants.{InvalidOriginalShardIndex, InvalidRecoveryShardIndex, DuplicateOriginalShardIndex, DuplicateRecoveryShardIndex}
-use Rattle.rs_field.specs.Column.{Shard}
-use Rattle.rs_field.specs.Decoder.{DecoderState, with_original, with_recovery}
+use Rattle.rs_field.specs.declared.code.error.Error.{Error}
+use Rattle.rs_field.specs.declared.code.error.Error.TheVariants.{InvalidOriginalShardIndex, InvalidRecoveryShardIndex, DuplicateOriginalShardIndex, DuplicateRecoveryShardIndex}
+use Rattle.rs_field.specs.code.Column.{Shard}
+use Rattle.rs_field.specs.code.Decoder.{DecoderState, with_original, with_recovery}
 use Rattle.rs_rate.specs.declared.rate.decoder_work.DecoderShape.{DecoderShape}
 use Rattle.rs_rate.specs.declared.rate.side.Side.{Side}
 use Rattle.rs_rate.specs.declared.rate.side.Side.TheVariants.{Original, Recovery}

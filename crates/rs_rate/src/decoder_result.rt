@@ -18,7 +18,7 @@ pub struct DecoderResult<'a> {
 
 impl<'a> DecoderResult<'a> {
     ghost use Rattle.std.specs.Prelude.{◌^◌, ◌<◌, option_copied};
-    ghost use Rattle.rs_field.specs.Given.{Lists};
+    ghost use Rattle.rs_field.specs.code.Given.{Lists};
     ghost use Rattle.rs_rate.specs.DecoderView.{restored_of};
     ghost use Rattle.rs_rate.specs.ResultView.{restored_originals};
 
@@ -64,7 +64,7 @@ pub struct RestoredOriginal<'a> {
 
 impl<'a> Model for RestoredOriginal<'a> {
     ghost use Rattle.std.specs.Prelude.{◌≡◌, ℕ, List, length};
-    ghost use Rattle.rs_field.specs.Column.{Shard};
+    ghost use Rattle.rs_field.specs.code.Column.{Shard};
     ghost use Rattle.rs_rate.specs.DecoderView.{restored_from};
 
     ghost Value = { List (ℕ × Shard) };

@@ -15,7 +15,7 @@ pub struct EncoderResult<'a> {
 
 impl<'a> EncoderResult<'a> {
     ghost use Rattle.std.specs.Prelude.{◌≡◌, ◌^◌, ◌<◌, ◌≤◌, length, MatchOption};
-    ghost use Rattle.rs_field.specs.Column.{shard_at};
+    ghost use Rattle.rs_field.specs.code.Column.{shard_at};
     ghost use Rattle.rs_rate.specs.EncoderView.{lent_of};
     ghost use Rattle.rs_rate.specs.ResultView.{recovery_shards};
 
@@ -54,7 +54,7 @@ pub struct Recovery<'a> {
 
 impl<'a> Model for Recovery<'a> {
     ghost use Rattle.std.specs.Prelude.{◌≤◌, List, drop};
-    ghost use Rattle.rs_field.specs.Column.{Shard};
+    ghost use Rattle.rs_field.specs.code.Column.{Shard};
     ghost use Rattle.rs_rate.specs.EncoderView.{lent_of};
 
     ghost Value = { List Shard };

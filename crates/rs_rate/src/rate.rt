@@ -31,12 +31,12 @@ use std::alloc::Global;
 /// A rate of the code, over an engine: the counts that it supports, its encoders and its decoders.
 pub trait Rate<E: Engine>: Sized {
     ghost use Rattle.std.specs.Prelude.{◌≡◌, ◌≤◌, IfOk, IfSome};
-    ghost use Rattle.rs_field.specs.Counts.{Rate as WhichRate, supports as supports_counts};
-    ghost use Rattle.rs_field.specs.Placement.{encoder_rows, decoder_rows};
-    ghost use Rattle.rs_field.specs.Outcome.{answer_of};
-    ghost use Rattle.rs_field.specs.Configuration.{configuration, validated, started, UpToMemory};
-    ghost use Rattle.rs_field.specs.Encoder.{fresh_encoder};
-    ghost use Rattle.rs_field.specs.Decoder.{fresh_decoder};
+    ghost use Rattle.rs_field.specs.code.Counts.{Rate as WhichRate, supports as supports_counts};
+    ghost use Rattle.rs_field.specs.code.Placement.{encoder_rows, decoder_rows};
+    ghost use Rattle.rs_field.specs.code.Outcome.{answer_of};
+    ghost use Rattle.rs_field.specs.code.Configuration.{configuration, validated, started, UpToMemory};
+    ghost use Rattle.rs_field.specs.code.Encoder.{fresh_encoder};
+    ghost use Rattle.rs_field.specs.code.Decoder.{fresh_decoder};
     ghost use Rattle.rs_rate.specs.ShardRows.{chunk_count};
     ghost use Rattle.rs_rate.specs.EncoderView.{work_room};
     ghost use Rattle.rs_rate.specs.DecoderView.{HasRoom, Grows, work_room as decoder_work_room};
@@ -136,12 +136,12 @@ pub trait Rate<E: Engine>: Sized {
 pub trait RateEncoder<E: Engine>: Sized {
     ghost use Rattle.std.specs.Prelude.{◌≡◌, ◌≢◌, ◌≤◌, ℕ, Err, IfOk, IfSome, OnOk, OnErr};
     ghost use Rattle.std.specs.Borrow.{sem};
-    ghost use Rattle.rs_field.specs.Bounds.{EncodeCountsAt};
-    ghost use Rattle.rs_field.specs.Counts.{Rate as WhichRate, supports as supports_counts};
-    ghost use Rattle.rs_field.specs.Placement.{encoder_rows};
-    ghost use Rattle.rs_field.specs.Outcome.{answer_of, state_after};
-    ghost use Rattle.rs_field.specs.Configuration.{configuration, validated, started, UpToMemory, FitsWithin};
-    ghost use Rattle.rs_field.specs.Encoder.{EncoderState, IsEncoder, fresh_encoder, with_shard, EncodeAnswers, after_encode};
+    ghost use Rattle.rs_field.specs.code.Bounds.{EncodeCountsAt};
+    ghost use Rattle.rs_field.specs.code.Counts.{Rate as WhichRate, supports as supports_counts};
+    ghost use Rattle.rs_field.specs.code.Placement.{encoder_rows};
+    ghost use Rattle.rs_field.specs.code.Outcome.{answer_of, state_after};
+    ghost use Rattle.rs_field.specs.code.Configuration.{configuration, validated, started, UpToMemory, FitsWithin};
+    ghost use Rattle.rs_field.specs.code.Encoder.{EncoderState, IsEncoder, fresh_encoder, with_shard, EncodeAnswers, after_encode};
     ghost use Rattle.rs_rate.specs.ShardRows.{chunk_count};
     ghost use Rattle.rs_rate.specs.EncoderView.{work_room};
     ghost use Rattle.rs_rate.specs.ResultView.{answered_shards};
@@ -255,12 +255,12 @@ pub trait RateEncoder<E: Engine>: Sized {
 pub trait RateDecoder<E: Engine>: Sized {
     ghost use Rattle.std.specs.Prelude.{◌≡◌, ◌≢◌, ◌≤◌, ℕ, Err, IfOk, IfSome, OnOk, OnErr};
     ghost use Rattle.std.specs.Borrow.{sem};
-    ghost use Rattle.rs_field.specs.Counts.{Rate as WhichRate, supports as supports_counts};
-    ghost use Rattle.rs_field.specs.Placement.{decoder_rows};
-    ghost use Rattle.rs_field.specs.Outcome.{answer_of, state_after};
-    ghost use Rattle.rs_field.specs.Configuration.{configuration, validated, started, UpToMemory, FitsWithin};
-    ghost use Rattle.rs_field.specs.Bounds.{DecodeCountsAt};
-    ghost use Rattle.rs_field.specs.Decoder.{DecoderState, IsDecoder, fresh_decoder, with_original, with_recovery, DecodeAnswers, after_decode};
+    ghost use Rattle.rs_field.specs.code.Counts.{Rate as WhichRate, supports as supports_counts};
+    ghost use Rattle.rs_field.specs.code.Placement.{decoder_rows};
+    ghost use Rattle.rs_field.specs.code.Outcome.{answer_of, state_after};
+    ghost use Rattle.rs_field.specs.code.Configuration.{configuration, validated, started, UpToMemory, FitsWithin};
+    ghost use Rattle.rs_field.specs.code.Bounds.{DecodeCountsAt};
+    ghost use Rattle.rs_field.specs.code.Decoder.{DecoderState, IsDecoder, fresh_decoder, with_original, with_recovery, DecodeAnswers, after_decode};
     ghost use Rattle.rs_rate.specs.DecoderView.{DecoderRoom, HasRoom, Grows, work_room};
     ghost use Rattle.rs_rate.specs.ResultView.{answered_originals};
     ghost use Rattle.rs_rate.specs.Loan.{EndsWith};

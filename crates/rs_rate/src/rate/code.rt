@@ -1,7 +1,7 @@
 //! What a rate brings: the counts that it supports, and at which of them it is the low rate.
 ghost use Rattle.std.specs.Prelude.{◌≡◌, ◌+◌, ◌%◌, ◌<◌, true, Ok};
-ghost use Rattle.rs_field.specs.Counts.{Rate as WhichRate, low_rate, high_rate, default_rate, supports as supports_counts, is_low as is_low_at};
-ghost use Rattle.rs_field.specs.Configuration.{configuration, validated};
+ghost use Rattle.rs_field.specs.code.Counts.{Rate as WhichRate, low_rate, high_rate, default_rate, supports as supports_counts, is_low as is_low_at};
+ghost use Rattle.rs_field.specs.code.Configuration.{configuration, validated};
 ghost use Rattle.rs_rate.specs.EncoderView.{configuration_of, encoder_shape as encoder_shape_of};
 ghost use Rattle.rs_rate.specs.DecoderView.{decoder_shape as decoder_shape_of};
 ghost use Rattle.rs_rate.specs.Shapes.{EncoderCanBeLaid, DecoderCanBeLaid};
@@ -68,7 +68,7 @@ impl Code for LowCode {
         low_supports(original_count, recovery_count)
     }
 
-    #[tactic(auto, unfolding(rs_field::specs::Counts::is_low))]
+    #[tactic(auto, unfolding(rs_field::specs::code::Counts::is_low))]
     fn is_low(_original_count: usize, _recovery_count: usize) -> bool {
         true
     }
@@ -81,7 +81,7 @@ impl Code for HighCode {
         high_supports(original_count, recovery_count)
     }
 
-    #[tactic(auto, unfolding(rs_field::specs::Counts::is_low))]
+    #[tactic(auto, unfolding(rs_field::specs::code::Counts::is_low))]
     fn is_low(_original_count: usize, _recovery_count: usize) -> bool {
         false
     }

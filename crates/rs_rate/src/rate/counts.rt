@@ -1,7 +1,7 @@
 //! Powers of two, supported counts and numbers of rows.
 ghost use Rattle.std.specs.Prelude.{◌≡◌, ◌≢◌, ◌↔◌, ℕ, ◌+◌, ◌^◌, ◌<◌, ◌≤◌, IsTrue, true};
-ghost use Rattle.rs_field.specs.Counts.{next_power, supports, is_low, low_rate, high_rate, default_rate};
-ghost use Rattle.rs_field.specs.Placement.{rounded_up};
+ghost use Rattle.rs_field.specs.code.Counts.{next_power, supports, is_low, low_rate, high_rate, default_rate};
+ghost use Rattle.rs_field.specs.code.Placement.{rounded_up};
 ghost use Rattle.rs_rate.specs.EncoderView.{encoder_shape};
 ghost use Rattle.rs_rate.specs.DecoderView.{frame_of};
 

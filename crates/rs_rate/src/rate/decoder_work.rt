@@ -2,11 +2,11 @@
 ghost use Rattle.std.specs.Prelude.{◌≡◌, ◌≢◌, ℕ, ◌+◌, ◌*◌, ◌%◌, ◌^◌, ◌<◌, ◌≤◌, true, false, length, vec_len};
 ghost use Rattle.std.specs.Prelude.{IfOk, IfErr, IfSome, OnOk, OnErr, IsOk, MatchOption, [], ◌∷◌, option_copied};
 ghost use Rattle.std.specs.Vec.{vec_capacity};
-ghost use Rattle.rs_field.specs.Column.{IsShard};
-ghost use Rattle.rs_field.specs.Counts.{Rate};
-ghost use Rattle.rs_field.specs.Outcome.{answer_of, state_after};
-ghost use Rattle.rs_field.specs.Decoder.{fresh_decoder, with_original, with_recovery, enough_given};
-ghost use Rattle.rs_field.specs.MarkedRows.{is_marked};
+ghost use Rattle.rs_field.specs.code.Column.{IsShard};
+ghost use Rattle.rs_field.specs.code.Counts.{Rate};
+ghost use Rattle.rs_field.specs.code.Outcome.{answer_of, state_after};
+ghost use Rattle.rs_field.specs.code.Decoder.{fresh_decoder, with_original, with_recovery, enough_given};
+ghost use Rattle.rs_field.specs.rows.MarkedRows.{is_marked};
 ghost use Rattle.rs_rate.specs.Shapes.{DecoderCanBeLaid, original_row};
 ghost use Rattle.rs_rate.specs.ShardRows.{chunk_count as chunk_count_of, shard_laid_out};
 ghost use Rattle.rs_rate.specs.Marks.{given_marks, given_row_count, ArePlaced};

@@ -1,6 +1,6 @@
 //! The decoders of the rates.
 ghost use Rattle.std.specs.Prelude.{◌≡◌, Ok};
-ghost use Rattle.rs_field.specs.Configuration.{validated};
+ghost use Rattle.rs_field.specs.code.Configuration.{validated};
 ghost use Rattle.rs_rate.specs.DecoderView.{configuration_of, decoder_shape as decoder_shape_of, decoder_state, memory_room};
 
 use crate::decoder_result::DecoderResult;

@@ -2,12 +2,13 @@
 //! the round's end.
 ghost use Rattle.std.specs.Prelude.{◌≡◌, ℕ, ◌+◌, ◌-◌, ◌*◌, ◌/◌, ◌%◌, ◌^◌, ◌<◌, ◌≤◌, ◌⊎◌, ◌&&◌, if◌then◌else◌};
 ghost use Rattle.std.specs.Prelude.{true, Ok, List, length, slice_index, vec_len, IfOk, MatchResult};
-ghost use Rattle.rs_field.specs.Bounds.{CountsUpTo, LocatorCounts, decode_steps, transform_steps};
-ghost use Rattle.rs_field.specs.Configuration.{validated};
-ghost use Rattle.rs_field.specs.Counts.{Rate};
-ghost use Rattle.rs_field.specs.Decoder.{fresh_decoder, Restored, NoneAgrees};
-ghost use Rattle.rs_field.specs.Layout.{row_len as chunks_for};
-ghost use Rattle.rs_field.specs.MarkedRows.{is_marked};
+ghost use Rattle.rs_field.specs.words.StepBounds.{CountsUpTo, LocatorCounts, transform_steps};
+ghost use Rattle.rs_field.specs.code.Bounds.{decode_steps};
+ghost use Rattle.rs_field.specs.code.Configuration.{validated};
+ghost use Rattle.rs_field.specs.code.Counts.{Rate};
+ghost use Rattle.rs_field.specs.code.Decoder.{fresh_decoder, Restored, NoneAgrees};
+ghost use Rattle.rs_field.specs.rows.Layout.{row_len as chunks_for};
+ghost use Rattle.rs_field.specs.rows.MarkedRows.{is_marked};
 ghost use Rattle.rs_rate.specs.DecoderView.{configuration_of, decoder_shape, decoder_state, memory_room, restored_of, restored_from};
 ghost use Rattle.rs_rate.specs.Decoding.{restore_steps, CanBeRestored, IsLocatorOf, RestoresWords, RestoresShards};
 ghost use Rattle.rs_rate.specs.Marks.{erased, given_marks, restored_marks, WantsMissing};

@@ -1,10 +1,10 @@
 //! The working space of an encoder: the memory that is handed on, and an encoder's rows in it.
 ghost use Rattle.std.specs.Prelude.{◌≡◌, ℕ, ◌*◌, ◌%◌, ◌^◌, ◌<◌, ◌≤◌, vec_len, IfOk, OnOk, OnErr, IsOk, IfErr, IfSome, MatchOption};
 ghost use Rattle.std.specs.Vec.{vec_capacity};
-ghost use Rattle.rs_field.specs.Column.{IsShard};
-ghost use Rattle.rs_field.specs.Counts.{Rate};
-ghost use Rattle.rs_field.specs.Outcome.{answer_of, state_after};
-ghost use Rattle.rs_field.specs.Encoder.{with_shard, message_of};
+ghost use Rattle.rs_field.specs.code.Column.{IsShard};
+ghost use Rattle.rs_field.specs.code.Counts.{Rate};
+ghost use Rattle.rs_field.specs.code.Outcome.{answer_of, state_after};
+ghost use Rattle.rs_field.specs.code.Encoder.{with_shard, message_of};
 ghost use Rattle.rs_rate.specs.Shapes.{EncoderCanBeLaid};
 ghost use Rattle.rs_rate.specs.ShardRows.{chunk_count as chunk_count_of, shard_laid_out, shard_in_order};
 

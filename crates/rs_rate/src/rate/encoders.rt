@@ -1,7 +1,7 @@
 //! The encoders of the rates.
 ghost use Rattle.std.specs.Prelude.{◌≡◌, Ok};
 ghost use Rattle.std.specs.Vec.{vec_capacity};
-ghost use Rattle.rs_field.specs.Configuration.{validated};
+ghost use Rattle.rs_field.specs.code.Configuration.{validated};
 ghost use Rattle.rs_rate.specs.EncoderView.{configuration_of, encoder_shape as encoder_shape_of, encoder_state};
 
 use crate::encoder_result::EncoderResult;

@@ -1,13 +1,13 @@
 //! The coding of a round: the rows over the chunks, the coding of the rate, the tails.
 ghost use Rattle.std.specs.Prelude.{◌≡◌, ℕ, ◌*◌, ◌<◌, ◌≤◌, true, Ok, length};
 ghost use Rattle.std.specs.Vec.{vec_capacity};
-ghost use Rattle.rs_field.specs.Bounds.{EncodeCountsAt};
-ghost use Rattle.rs_field.specs.Code.{AreRecovery};
-ghost use Rattle.rs_field.specs.Configuration.{validated};
-ghost use Rattle.rs_field.specs.Counts.{supports};
-ghost use Rattle.rs_field.specs.Layout.{row_len as chunks_for, up_to};
-ghost use Rattle.rs_field.specs.Placement.{encoder_rows, block_rows};
-ghost use Rattle.rs_field.specs.View.{Fits, SameShape, word};
+ghost use Rattle.rs_field.specs.code.Bounds.{EncodeCountsAt};
+ghost use Rattle.rs_field.specs.code.Code.{AreRecovery};
+ghost use Rattle.rs_field.specs.code.Configuration.{validated};
+ghost use Rattle.rs_field.specs.code.Counts.{supports};
+ghost use Rattle.rs_field.specs.rows.Layout.{row_len as chunks_for, up_to};
+ghost use Rattle.rs_field.specs.code.Placement.{encoder_rows, block_rows};
+ghost use Rattle.rs_field.specs.rows.View.{Fits, SameShape, word};
 ghost use Rattle.rs_rate.specs.Coding.{CodesWords, CodingCounts};
 ghost use Rattle.rs_rate.specs.EncoderView.{configuration_of, encoder_shape, shape_chunks, given_of, lent_of};
 ghost use Rattle.rs_rate.specs.ShardRows.{shard_laid_out, shard_in_order, word_in};

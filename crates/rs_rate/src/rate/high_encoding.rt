@@ -1,11 +1,11 @@
 //! The coding of the high rate: originals as values at the points from the first block's end on, recovery shards as
 //! values at the first points.
 ghost use Rattle.std.specs.Prelude.{◌≡◌, ℕ, ◌+◌, ◌*◌, ◌%◌, ◌^◌, ◌<◌, ◌≤◌, true};
-ghost use Rattle.rs_field.specs.Bounds.{CountsUpTo, transform_steps};
-ghost use Rattle.rs_field.specs.Counts.{next_power, supports, high_rate};
-ghost use Rattle.rs_field.specs.Placement.{encoder_rows};
-ghost use Rattle.rs_field.specs.Transform.{forward};
-ghost use Rattle.rs_field.specs.View.{word, Fits, SameShape, SameRowsOutside};
+ghost use Rattle.rs_field.specs.words.StepBounds.{CountsUpTo, transform_steps};
+ghost use Rattle.rs_field.specs.code.Counts.{next_power, supports, high_rate};
+ghost use Rattle.rs_field.specs.code.Placement.{encoder_rows};
+ghost use Rattle.rs_field.specs.words.Transform.{forward};
+ghost use Rattle.rs_field.specs.rows.View.{word, Fits, SameShape, SameRowsOutside};
 ghost use Rattle.rs_rate.specs.Coding.{SumsBlocks, CodesWords, CodingCounts, further_blocks};
 
 use rs_field::engine::rows::clear_rows;

@@ -1,11 +1,11 @@
 //! The coding of the low rate: originals and zeros as values at the first points, recovery shards as values at the
 //! points after them.
 ghost use Rattle.std.specs.Prelude.{◌≡◌, ℕ, ◌+◌, ◌*◌, ◌%◌, ◌^◌, ◌<◌, ◌≤◌, true};
-ghost use Rattle.rs_field.specs.Bounds.{CountsUpTo, transform_steps};
-ghost use Rattle.rs_field.specs.Counts.{low_rate, next_power, supports};
-ghost use Rattle.rs_field.specs.Placement.{encoder_rows};
-ghost use Rattle.rs_field.specs.Transform.{forward};
-ghost use Rattle.rs_field.specs.View.{cell, word, Fits, SameShape};
+ghost use Rattle.rs_field.specs.words.StepBounds.{CountsUpTo, transform_steps};
+ghost use Rattle.rs_field.specs.code.Counts.{low_rate, next_power, supports};
+ghost use Rattle.rs_field.specs.code.Placement.{encoder_rows};
+ghost use Rattle.rs_field.specs.words.Transform.{forward};
+ghost use Rattle.rs_field.specs.rows.View.{cell, word, Fits, SameShape};
 ghost use Rattle.rs_rate.specs.Coding.{CodesWords, CodingCounts, further_blocks};
 
 use rs_field::engine::rows::{clear_rows, copy_rows};

@@ -1,7 +1,7 @@
 //! Which rows of a decoder hold given shards and, once a decode restores, which of them restored ones.
 ghost use Rattle.std.specs.Prelude.{◌≡◌, ◌≢◌, ℕ, ◌+◌, ◌<◌, ◌≤◌, true, false, length, vec_len, OnOk, IfErr, IsOk};
 ghost use Rattle.std.specs.Vec.{vec_capacity};
-ghost use Rattle.rs_field.specs.MarkedRows.{is_marked};
+ghost use Rattle.rs_field.specs.rows.MarkedRows.{is_marked};
 ghost use Rattle.rs_rate.specs.Marks.{given_marks, restored_marks, WantsMissing};
 
 use crate::rate::memory::{make_room, set_length};

@@ -1,6 +1,6 @@
 //! What the names of the rates and of their objects stand for: laws, carried by functions that do nothing.
 ghost use Rattle.std.specs.Prelude.{◌≡◌};
-ghost use Rattle.rs_field.specs.Counts.{low_rate, high_rate, default_rate};
+ghost use Rattle.rs_field.specs.code.Counts.{low_rate, high_rate, default_rate};
 
 use crate::rate::{
     DefaultRate, DefaultRateDecoder, DefaultRateEncoder, HighRate, HighRateDecoder,

@@ -6,11 +6,11 @@
 //! agrees with all that is given. The polynomial plus its derivative takes at each erased row the wanted word times
 //! the locator's derivative. The method is that of Lin, Chung and Han in the form of Leopard-RS; the check is added.
 ghost use Rattle.std.specs.Prelude.{◌≡◌, ℕ, ◌+◌, ◌-◌, ◌/◌, ◌%◌, ◌^◌, ◌<◌, ◌≤◌, ◌↔◌, true, false, length, replicate, slice_index, vec_len};
-ghost use Rattle.rs_field.specs.Bounds.{CountsRows, CountsUpTo};
-ghost use Rattle.rs_field.specs.Field.{product, power};
-ghost use Rattle.rs_field.specs.Layout.{row_len as chunks_for};
-ghost use Rattle.rs_field.specs.View.{cell, word, Fits, SameShape};
-ghost use Rattle.rs_field.specs.MarkedRows.{is_marked};
+ghost use Rattle.rs_field.specs.words.StepBounds.{CountsRows, CountsUpTo};
+ghost use Rattle.rs_field.specs.words.Field.{product, power};
+ghost use Rattle.rs_field.specs.rows.Layout.{row_len as chunks_for};
+ghost use Rattle.rs_field.specs.rows.View.{cell, word, Fits, SameShape};
+ghost use Rattle.rs_field.specs.rows.MarkedRows.{is_marked};
 ghost use Rattle.rs_rate.specs.Decoding.{located, CanBeRestored, restore_steps, RestoresWords};
 ghost use Rattle.rs_rate.specs.Marks.{given_marks, restored_marks, WantsMissing};
 ghost use Rattle.rs_rate.specs.Shapes.{DecoderCanBeLaid, original_row};

@@ -2,9 +2,9 @@
 //! and of its steps can code with the one, and lend from the other.
 ghost use Rattle.std.specs.Prelude.{◌≡◌, length, IfOk};
 ghost use Rattle.std.specs.Result.{result_map_both};
-ghost use Rattle.rs_field.specs.Bounds.{EncodeCountsAt, DecodeCountsAt};
-ghost use Rattle.rs_field.specs.Decoder.{DecodeAnswers, after_decode};
-ghost use Rattle.rs_field.specs.Encoder.{EncodeAnswers, after_encode};
+ghost use Rattle.rs_field.specs.code.Bounds.{EncodeCountsAt, DecodeCountsAt};
+ghost use Rattle.rs_field.specs.code.Decoder.{DecodeAnswers, after_decode};
+ghost use Rattle.rs_field.specs.code.Encoder.{EncodeAnswers, after_encode};
 ghost use Rattle.rs_rate.specs.DecoderView.{restored_of, restored_from};
 ghost use Rattle.rs_rate.specs.EncoderView.{lent_of};
 ghost use Rattle.rs_rate.specs.ResultView.{recovery_shards, restored_originals};

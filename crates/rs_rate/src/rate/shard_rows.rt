@@ -1,8 +1,8 @@
 //! Shards in rows of chunks: room for them, laying them in, their tails, and reading them.
 ghost use Rattle.std.specs.Prelude.{◌≡◌, ◌≢◌, ℕ, ◌+◌, ◌*◌, ◌%◌, ◌^◌, ◌<◌, ◌≤◌, length, slice_index, MatchResult};
-ghost use Rattle.rs_field.specs.Column.{IsShard};
-ghost use Rattle.rs_field.specs.Layout.{row_len as chunks_for};
-ghost use Rattle.rs_field.specs.Bounds.{CountsRows};
+ghost use Rattle.rs_field.specs.code.Column.{IsShard};
+ghost use Rattle.rs_field.specs.rows.Layout.{row_len as chunks_for};
+ghost use Rattle.rs_field.specs.words.StepBounds.{CountsRows};
 ghost use Rattle.rs_rate.specs.ShardRows.{chunk_count as chunk_count_of, row_chunk, shard_laid_out, shard_in_order};
 
 use rs_field::engine::Steps;

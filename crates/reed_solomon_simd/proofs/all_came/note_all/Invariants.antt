@@ -1,6 +1,6 @@
 use Rattle.std.proofs.Common.{◌≡◌, ℕ, List, length}
-use Rattle.rs_field.specs.Column.{Shard}
-use Rattle.rs_field.specs.OneCall.{noted}
+use Rattle.rs_field.specs.code.Column.{Shard}
+use Rattle.rs_field.specs.code.OneCall.{noted}
 use Rattle.reed_solomon_simd.specs.Giving.{AreNoted}
 use Rattle.reed_solomon_simd.proofs.Giving.{LeadsOn}
 use Rattle.reed_solomon_simd.proofs.all_came.note_all.Given as goal

@@ -1,7 +1,7 @@
 use Rattle.std.proofs.Common.{rules, ◌≡◌, ◌∷◌, sym, subst}
-use Rattle.rs_field.specs.Decoder.{DecoderState}
-use Rattle.rs_field.specs.Outcome.{result_and_then}
-use Rattle.rs_field.specs.OneCall.{with_originals, with_recoveries}
+use Rattle.rs_field.specs.code.Decoder.{DecoderState}
+use Rattle.rs_field.specs.code.Outcome.{result_and_then}
+use Rattle.rs_field.specs.code.OneCall.{with_originals, with_recoveries}
 use Rattle.reed_solomon_simd.specs.Giving.{Reaches}
 use Rattle.reed_solomon_simd.proofs.Giving.{no-calls, outcome-ok, reaches-then}
 use Rattle.reed_solomon_simd.proofs.coders.give_both.Goals as goal

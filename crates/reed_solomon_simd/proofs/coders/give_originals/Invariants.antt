@@ -1,6 +1,6 @@
 use Rattle.std.proofs.Common.{ℕ}
-use Rattle.rs_field.specs.Column.{Shard}
-use Rattle.rs_field.specs.Decoder.{with_original}
+use Rattle.rs_field.specs.code.Column.{Shard}
+use Rattle.rs_field.specs.code.Decoder.{with_original}
 use Rattle.reed_solomon_simd.proofs.Giving.{LeadsOn}
 use Rattle.reed_solomon_simd.proofs.coders.give_originals.Given as goal
 

@@ -1,4 +1,4 @@
-use Rattle.rs_field.specs.Encoder.{with_shard}
+use Rattle.rs_field.specs.code.Encoder.{with_shard}
 use Rattle.reed_solomon_simd.proofs.Giving.{LeadsOn}
 use Rattle.reed_solomon_simd.proofs.coders.give_shards.Given as goal
 

@@ -1,6 +1,6 @@
 use Rattle.std.proofs.Common.{◌≡◌}
 use Rattle.rs_rate.specs.ResultView.{restored_originals}
-use Rattle.rs_field.specs.OneCall.{shards_in}
+use Rattle.rs_field.specs.code.OneCall.{shards_in}
 use Rattle.reed_solomon_simd.proofs.Collecting.{with_entries}
 use Rattle.reed_solomon_simd.proofs.one_call.collect_originals.Given as goal
 

@@ -1,5 +1,5 @@
 use Rattle.std.proofs.Common.{rules, Ok, Err, sym, subst}
-use Rattle.rs_field.specs.OneCall.{OneDecodeAnswers}
+use Rattle.rs_field.specs.code.OneCall.{OneDecodeAnswers}
 use Rattle.rs_rate.specs.ResultView.{restored_originals}
 use Rattle.reed_solomon_simd.proofs.Collecting.{shards_in-empty}
 use Rattle.reed_solomon_simd.proofs.Giving.{always-both}

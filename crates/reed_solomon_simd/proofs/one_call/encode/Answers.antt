@@ -1,7 +1,7 @@
 use Rattle.std.proofs.Common.{rules, Ok, Err, IfOk}
-use Rattle.rs_field.specs.Counts.{default_rate}
-use Rattle.rs_field.specs.RoundTrip.{AreCoded}
-use Rattle.rs_field.specs.OneCall.{collected}
+use Rattle.rs_field.specs.code.Counts.{default_rate}
+use Rattle.rs_field.specs.code.RoundTrip.{AreCoded}
+use Rattle.rs_field.specs.code.OneCall.{collected}
 use Rattle.rs_rate.specs.ObjectLaws.{is_encoder}
 use Rattle.rs_rate.specs.ResultView.{recovery_shards}
 use Rattle.reed_solomon_simd.proofs.Giving.{always-run}

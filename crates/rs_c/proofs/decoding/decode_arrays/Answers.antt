@@ -1,8 +1,8 @@
 use Rattle.std.proofs.Common.{rules, List, [], map, Ok, Err, sym, ap, ◌∙◌, refl}
 use Rattle.std.proofs.lemmas.Iterator.{YieldsList-from_slice, YieldsList-from_map_by}
-use Rattle.rs_field.specs.Column.{Shard}
-use Rattle.rs_field.specs.Given.{nothing}
-use Rattle.rs_field.specs.OneCall.{Items}
+use Rattle.rs_field.specs.code.Column.{Shard}
+use Rattle.rs_field.specs.code.Given.{nothing}
+use Rattle.rs_field.specs.code.OneCall.{Items}
 use Rattle.rs_rate.specs.ResultView.{restored_originals}
 use Rattle.reed_solomon_simd.proofs.Giving.{always-both}
 use Rattle.reed_solomon_simd.proofs.OneCall.{decoding-refused, decoding-nothing, decoding-answers, lists-none}

@@ -1,7 +1,7 @@
 use Rattle.std.proofs.Common.{rules, ◌≡◌, ℕ, ◌+◌, ◌*◌, ◌==◌, not, length, take, drop, Ok, Err, sym, ap, ◌∙◌, refl, arith}
 use Rattle.std.specs.List.{count_by}
 use Rattle.std.proofs.lemmas.List.{length-take-le, length-drop}
-use Rattle.rs_field.specs.Given.{nothing}
+use Rattle.rs_field.specs.code.Given.{nothing}
 use Rattle.rs_rate.specs.ResultView.{restored_originals}
 use Rattle.reed_solomon_simd.proofs.Giving.{always-both}
 use Rattle.reed_solomon_simd.proofs.OneCall.{decoding-refused, decoding-nothing, decoding-answers}

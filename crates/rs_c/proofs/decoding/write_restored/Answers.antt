@@ -1,7 +1,7 @@
 use Rattle.std.proofs.Common.{rules, ◌≡◌, ℕ, ◌+◌, ◌-◌, ◌*◌, ◌<◌, ◌≤◌, List, ◌++◌, length, take, drop, Some, None, sym, ap, subst, ◌∙◌, arith}
 use Rattle.std.proofs.lemmas.Slice.{take-put_mid, drop-put_mid}
 use borrow.Rule.Slice.PartMut.{put_mid}
-use Rattle.rs_field.specs.Given.{Shards}
+use Rattle.rs_field.specs.code.Given.{Shards}
 use Rattle.rs_rate.specs.ResultView.{restored_originals}
 use Rattle.rs_c.specs.Buffers.{with_restored}
 use Rattle.rs_c.proofs.BufferLemmas.{IsWritten, length-restored, place-inside, place-next, place-written, place-kept, length-written}

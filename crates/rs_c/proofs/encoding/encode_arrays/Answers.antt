@@ -1,6 +1,6 @@
 use Rattle.std.proofs.Common.{rules, List, Ok, Err, ap, sym, ◌∙◌, refl}
 use Rattle.std.proofs.lemmas.Iterator.{YieldsList-from_slice, YieldsList-from_map_by}
-use Rattle.rs_field.specs.Column.{Shard}
+use Rattle.rs_field.specs.code.Column.{Shard}
 use Rattle.rs_rate.specs.ResultView.{recovery_shards}
 use Rattle.reed_solomon_simd.proofs.Giving.{always-run}
 use Rattle.reed_solomon_simd.proofs.OneCall.{encoding-refused, encoding-answers}

@@ -1,5 +1,5 @@
 use Rattle.std.proofs.Common.{rules, length, Ok, Err, sym, ◌∙◌, refl}
-use Rattle.rs_field.specs.Counts.{default_rate}
+use Rattle.rs_field.specs.code.Counts.{default_rate}
 use Rattle.rs_rate.specs.ObjectLaws.{is_encoder}
 use Rattle.rs_rate.specs.ResultView.{recovery_shards}
 use Rattle.reed_solomon_simd.proofs.Giving.{always-run}

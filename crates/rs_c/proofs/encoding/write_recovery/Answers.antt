@@ -1,7 +1,7 @@
 use Rattle.std.proofs.Common.{rules, ◌≡◌, ℕ, ◌+◌, ◌≤◌, List, ◌∷◌, ◌++◌, length, take, sym, ap, subst, ◌∙◌, refl}
 use Rattle.std.proofs.lemmas.Slice.{take-put_mid}
 use Rattle.std.proofs.lemmas.List.{places}
-use Rattle.rs_field.specs.Column.{Shard}
+use Rattle.rs_field.specs.code.Column.{Shard}
 use Rattle.rs_rate.specs.ResultView.{recovery_shards}
 use Rattle.rs_c.specs.Buffers.{joined}
 use Rattle.rs_c.proofs.BufferLemmas.{IsWritten, written-room, written-next}

@@ -1,5 +1,5 @@
 use Rattle.std.proofs.Common.{rules, ◌≡◌, ℕ, List, [], ◌∷◌, length, get_or, Err, MutBor, sym, ap, ◌∙◌, arith}
-use Rattle.rs_field.specs.Column.{Shard}
+use Rattle.rs_field.specs.code.Column.{Shard}
 use Rattle.rs_c.specs.declared.fault.Fault.TheVariants.{WrongLength}
 use Rattle.rs_c.specs.Arrays.{bytes_in}
 use Rattle.rs_c.proofs.RoomLemmas.{fit-same, fit-other, fit-end, bytes-count, bytes-at}

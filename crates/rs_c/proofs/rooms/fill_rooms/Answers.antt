@@ -1,7 +1,7 @@
 use Rattle.std.proofs.Common.{rules, ◌≡◌, ℕ, ◌+◌, ◌<◌, List, [], ◌∷◌, ◌++◌, length, take, drop, get_or, set, MutBor, Ok, sym, ap, subst, ◌∙◌, refl, arith}
 use Rattle.std.proofs.lemmas.List.{map-set, drop-set-lt, length-set}
 use Rattle.std.proofs.Math.Seq.{map-set_same}
-use Rattle.rs_field.specs.Column.{Shard}
+use Rattle.rs_field.specs.code.Column.{Shard}
 use Rattle.rs_c.specs.Arrays.{bytes_in, lengths_fit, KeepsRooms}
 use Rattle.rs_c.proofs.RoomLemmas.{bytes-count, fit-long, fit-same, bytes-at, filled-next, shards-left}
 use Rattle.rs_c.proofs.rooms.fill_rooms.Goals.{in-Some, in_default}

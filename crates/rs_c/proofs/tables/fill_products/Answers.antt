@@ -1,8 +1,8 @@
 use Rattle.std.proofs.Common.{rules, ◌≡◌, ℕ, ◌+◌, ◌<◌, [], List, get_or, set, sym, subst, inl, inr, arith}
 use Rattle.std.proofs.lemmas.Bool.{cases_eq}
 use Rattle.std.proofs.lemmas.List.{get_or-set_same, get_or-set_other}
-use Rattle.rs_field.specs.Field.{power}
-use Rattle.rs_field.specs.Products.{IsNibbleBytes}
+use Rattle.rs_field.specs.words.Field.{power}
+use Rattle.rs_field.specs.words.Products.{IsNibbleBytes}
 use Rattle.rs_c.specs.Tables.{products_of}
 use Rattle.rs_c.proofs.tables.fill_products.Goals as goal
 

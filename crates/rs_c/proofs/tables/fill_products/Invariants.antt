@@ -1,6 +1,6 @@
 use Rattle.std.proofs.Common.{ℕ, ◌<◌, [], get_or}
-use Rattle.rs_field.specs.Field.{power}
-use Rattle.rs_field.specs.Products.{IsNibbleBytes}
+use Rattle.rs_field.specs.words.Field.{power}
+use Rattle.rs_field.specs.words.Products.{IsNibbleBytes}
 use Rattle.rs_c.specs.Tables.{products_of}
 use Rattle.rs_c.proofs.tables.fill_products.Given as goal
 

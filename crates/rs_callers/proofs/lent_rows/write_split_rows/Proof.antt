@@ -26,20 +26,20 @@ use denote.Follow.{both_by}
 use denote.Struct.Tuple.{tuple_laws}
 use denote.Triple.Walked.{stay_ref, Goes-ref}
 use Rattle.rs_callers.proofs.LentHalves.{fits-part, parted, split-written}
-use Rattle.rs_field.proofs.LentRows.{two_written, two-shape, first-of-two, second-of-two}
+use Rattle.rs_field.proofs.of_rows.LentRows.{two_written, two-shape, first-of-two, second-of-two}
 use Rattle.rs_callers.proofs.LentTwoRows.{other-than-two}
-use Rattle.rs_field.specs.Rows.{Chunks, chunk}
-use Rattle.rs_field.specs.View.{SameShape, Fits, HasRows, cell}
+use Rattle.rs_field.specs.rows.Rows.{Chunks, chunk}
+use Rattle.rs_field.specs.rows.View.{SameShape, Fits, HasRows, cell}
 use Rattle.rs_callers.specs.RowsBut.{SameRowsBut, HasFirstRow}
-use Rattle.rs_field.specs.Lending.{LendsHalves, with_chunks, with_two}
-use Rattle.rs_field.specs.declared.engine.shards.ShardsRefMut.{ShardsRefMut}
-use Rattle.rs_field.specs.contracts.engine.shards.ShardsRefMut.{the_row}
-use Rattle.rs_field.proofs.engine.shards.ShardsRefMut.TheLaws.{the_row_laws}
+use Rattle.rs_field.specs.rows.Lending.{LendsHalves, with_chunks, with_two}
+use Rattle.rs_field.specs.declared.rows.shards.ShardsRefMut.{ShardsRefMut}
+use Rattle.rs_field.specs.contracts.rows.shards.ShardsRefMut.{the_row}
+use Rattle.rs_field.proofs.rows.shards.ShardsRefMut.TheLaws.{the_row_laws}
 use Rattle.rs_callers.specs.contracts.lent_rows.write_split_rows as f
 use Rattle.rs_callers.proofs.lent_rows.write_split_rows.Statement.{statement}
 use Rattle.rs_callers.proofs.lent_rows.write_split_rows.Code as code
-use Rattle.rs_field.specs.contracts.engine.shards.ShardsRefMut.split_at_mut as g
-use Rattle.rs_field.proofs.engine.shards.ShardsRefMut.split_at_mut.Met.{met}
+use Rattle.rs_field.specs.contracts.rows.shards.ShardsRefMut.split_at_mut as g
+use Rattle.rs_field.proofs.rows.shards.ShardsRefMut.split_at_mut.Met.{met}
 use Rattle.rs_callers.specs.contracts.lent_rows.write_first_rows as g'
 use Rattle.rs_callers.proofs.lent_rows.write_first_rows.Met.{met as met'}
 
@@ -116,7 +116,7 @@ write_split_rows_spec 𝓤 𝓛 𝓜 𝓡 wired =
     use0 𝓛 (raw (fact 𝓤 (mid ≤ h.shard_count))) (fact_i 𝓤 (mid ≤ h.shard_count) (emp 𝓤) inside) $
     use0 𝓛 (raw (fact 𝓤 (h.shard_count * n ≤ length ch))) (fact_i 𝓤 (h.shard_count * n ≤ length ch) (emp 𝓤) fits) $ join ! $
     move ! (1 ∷ 0 ∷ []) $ use2 𝓛 (raw (G.pre z)) (id⊢ 𝓤 _) $
-    calls_at ! (framed 𝓤 𝓛.H 𝓜 𝓣) G (met 𝓤 𝓛 𝓜 𝓡 (code.calls-rs_field::engine::shards::ShardsRefMut::split_at_mut 𝓡.env wired)) z
+    calls_at ! (framed 𝓤 𝓛.H 𝓜 𝓣) G (met 𝓤 𝓛 𝓜 𝓡 (code.calls-rs_field::rows::shards::ShardsRefMut::split_at_mut 𝓡.env wired)) z
     (and_then ! (get ! refl) (and_then ! (get ! refl) (no_more !))) (λ v.
     use1 𝓛 (later (some (λ (x : ShardsRefMut × ShardsRefMut). ((‵ (flft κ ql) ⊛ ‵ (flft κ₁ qr) ⊛ ‵ ftrue) ⊛ ‵ ((Lists κ).own_val x (v ∷ []))) ⊛
     some (λ (ws : Unit {0} × (Unit {0} × Unit {0})). ‵ (lasts g.ended z.0.0 z.0.3 ws) ⊛ ‵ (LendsHalves lent mid x)

@@ -24,19 +24,19 @@ use denote.FollowSlice.{finally-res}
 use base.Stored.{Gv}
 use denote.Follow.{both_by}
 use denote.Triple.Walked.{stay_ref, Goes-ref}
-use Rattle.rs_field.proofs.LentRows.{part-long, two-shape, first-of-two, second-of-two}
+use Rattle.rs_field.proofs.of_rows.LentRows.{part-long, two-shape, first-of-two, second-of-two}
 use Rattle.rs_callers.proofs.LentTwoRows.{other-than-two}
-use Rattle.rs_field.specs.Rows.{Chunks, chunk}
-use Rattle.rs_field.specs.View.{SameShape, cell, row_at}
+use Rattle.rs_field.specs.rows.Rows.{Chunks, chunk}
+use Rattle.rs_field.specs.rows.View.{SameShape, cell, row_at}
 use Rattle.rs_callers.specs.RowsBut.{SameRowsBut}
-use Rattle.rs_field.specs.Lending.{LendsTwoRows, with_chunks, with_two}
-use Rattle.rs_field.specs.declared.engine.shards.ShardsRefMut.{ShardsRefMut}
-use Rattle.rs_field.specs.contracts.engine.shards.ShardsRefMut.{the_row}
+use Rattle.rs_field.specs.rows.Lending.{LendsTwoRows, with_chunks, with_two}
+use Rattle.rs_field.specs.declared.rows.shards.ShardsRefMut.{ShardsRefMut}
+use Rattle.rs_field.specs.contracts.rows.shards.ShardsRefMut.{the_row}
 use Rattle.rs_callers.specs.contracts.lent_rows.write_two_rows as f
 use Rattle.rs_callers.proofs.lent_rows.write_two_rows.Statement.{statement}
 use Rattle.rs_callers.proofs.lent_rows.write_two_rows.Code as code
-use Rattle.rs_field.specs.contracts.engine.shards.ShardsRefMut.dist2_mut as g
-use Rattle.rs_field.proofs.engine.shards.ShardsRefMut.dist2_mut.Met.{met}
+use Rattle.rs_field.specs.contracts.rows.shards.ShardsRefMut.dist2_mut as g
+use Rattle.rs_field.proofs.rows.shards.ShardsRefMut.dist2_mut.Met.{met}
 use Rattle.rs_callers.specs.contracts.lent_rows.write_two as g'
 use Rattle.rs_callers.proofs.lent_rows.write_two.Met.{met as met'}
 
@@ -111,7 +111,7 @@ write_two_rows_spec 𝓤 𝓛 𝓜 𝓡 wired =
     use0 𝓛 (raw (fact 𝓤 (0 < dist))) (fact_i 𝓤 (0 < dist) (emp 𝓤) apart) $ join ! $
     use0 𝓛 (raw (fact 𝓤 (h.shard_count * n ≤ length ch))) (fact_i 𝓤 (h.shard_count * n ≤ length ch) (emp 𝓤) fits) $ join ! $
     move ! (1 ∷ 0 ∷ []) $ use2 𝓛 (raw (G.pre z)) (id⊢ 𝓤 _) $
-    calls_at ! (framed 𝓤 𝓛.H 𝓜 𝓣) G (met 𝓤 𝓛 𝓜 𝓡 (code.calls-rs_field::engine::shards::ShardsRefMut::dist2_mut 𝓡.env wired)) z
+    calls_at ! (framed 𝓤 𝓛.H 𝓜 𝓣) G (met 𝓤 𝓛 𝓜 𝓡 (code.calls-rs_field::rows::shards::ShardsRefMut::dist2_mut 𝓡.env wired)) z
     (and_then ! (get ! refl) (and_then ! (get ! refl) (and_then ! (get ! refl) (no_more !)))) (λ v.
     use1 𝓛 (later (some (λ (x : MutBor Chunks × MutBor Chunks). ((‵ (flft κ ql) ⊛ ‵ (flft κ₁ qr) ⊛ ‵ ftrue) ⊛ ‵ ((Pair κ).own_val x (v ∷ []))) ⊛
     some (λ (ws : Unit {0} × (Unit {0} × (Unit {0} × Unit {0}))). ‵ (lasts g.ended z.0.0 z.0.3 ws) ⊛ ‵ (LendsTwoRows lent pos (pos + dist) x)

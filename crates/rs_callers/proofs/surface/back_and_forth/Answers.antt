@@ -1,7 +1,7 @@
 use Rattle.std.proofs.Common.{◌≡◌, ◌+◌, true, false, length, sym, ap, ◌∙◌, subst, arith, inl, inr}
 use Rattle.std.proofs.lemmas.Bool.{cases_lt, true≢false}
 use Rattle.std.proofs.lemmas.List.{get_or_past}
-use Rattle.rs_field.specs.View.{word}
+use Rattle.rs_field.specs.rows.View.{word}
 use Rattle.rs_callers.proofs.surface.back_and_forth.Goals as goal
 
 pub returns : goal.returns

@@ -1,7 +1,7 @@
 use Rattle.std.proofs.Common.{◌≡◌, ℕ, ◌<◌, ◌≤◌, bit_xor}
-use Rattle.rs_field.specs.Rows.{symbol, chunk}
-use Rattle.rs_field.specs.Field.{product}
-use Rattle.rs_field.specs.Products.{IsNibbles}
+use Rattle.rs_field.specs.rows.Rows.{symbol, chunk}
+use Rattle.rs_field.specs.words.Field.{product}
+use Rattle.rs_field.specs.words.Products.{IsNibbles}
 use Rattle.rs_engines.proofs.engine_nosimd.mul_add_chunks.Given as goal
 
 abbrev pub invariant-loop-k : goal.invariant-loop-k

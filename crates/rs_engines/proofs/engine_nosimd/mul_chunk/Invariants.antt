@@ -1,7 +1,7 @@
 use Rattle.std.proofs.Common.{◌≡◌, ℕ, ◌*◌, ◌<◌, ◌≤◌}
-use Rattle.rs_field.specs.Rows.{symbol}
-use Rattle.rs_field.specs.Field.{product}
-use Rattle.rs_field.specs.Products.{IsNibbles}
+use Rattle.rs_field.specs.rows.Rows.{symbol}
+use Rattle.rs_field.specs.words.Field.{product}
+use Rattle.rs_field.specs.words.Products.{IsNibbles}
 use Rattle.rs_engines.proofs.engine_nosimd.mul_chunk.Given as goal
 
 abbrev pub invariant-loop-i : goal.invariant-loop-i

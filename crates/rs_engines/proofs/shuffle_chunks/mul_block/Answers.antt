@@ -1,5 +1,5 @@
 use Rattle.std.proofs.Common.{ap, ◌∙◌}
-use Rattle.rs_field.specs.Field.{product}
+use Rattle.rs_field.specs.words.Field.{product}
 use Rattle.rs_engines.proofs.shuffle_chunks.mul_block.Goals as goal
 
 pub returns-clause-products : goal.returns-clause-products

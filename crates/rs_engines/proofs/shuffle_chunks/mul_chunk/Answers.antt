@@ -1,6 +1,6 @@
 use Rattle.std.proofs.Common.{◌-◌, inl, inr, ap, ◌∙◌, arith}
 use Rattle.std.proofs.lemmas.Bool.{cases_lt}
-use Rattle.rs_field.specs.Field.{product}
+use Rattle.rs_field.specs.words.Field.{product}
 use Rattle.rs_engines.proofs.shuffle_chunks.mul_chunk.Goals as goal
 
 pub returns-then-LANES-lt32 : goal.returns-then-LANES-lt32

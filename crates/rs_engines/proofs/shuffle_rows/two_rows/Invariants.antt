@@ -1,6 +1,6 @@
 use Rattle.std.proofs.Common.{◌≡◌, ℕ, ◌<◌, ◌≤◌}
-use Rattle.rs_field.specs.Rows.{chunk}
-use Rattle.rs_field.specs.Pairs.{at_two_symbols}
+use Rattle.rs_field.specs.rows.Rows.{chunk}
+use Rattle.rs_field.specs.rows.Pairs.{at_two_symbols}
 use Rattle.rs_engines.proofs.shuffle_rows.two_rows.Given as goal
 
 abbrev pub invariant-loop-k : goal.invariant-loop-k

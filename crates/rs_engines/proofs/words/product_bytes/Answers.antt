@@ -1,5 +1,5 @@
 use Rattle.std.proofs.Common.{◌/◌, ◌%◌, get_or, ◌∙◌, arith}
-use Rattle.rs_field.specs.Field.{product}
+use Rattle.rs_field.specs.words.Field.{product}
 use Rattle.rs_engines.proofs.FourNibbles.{sum_of_nibbles, low_additive, high_additive}
 use Rattle.rs_engines.proofs.words.product_bytes.Goals as goal
 

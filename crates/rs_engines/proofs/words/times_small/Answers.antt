@@ -1,8 +1,8 @@
 use Rattle.std.proofs.Common.{◌≡◌, ℕ, ◌/◌, ◌%◌, ◌^◌, get_or, refl, ap, sym, ◌∙◌, arith}
 use Rattle.std.specs.Int.Bits.{xor_comm, xor_zero_r}
 use Rattle.std.proofs.Math.Nat.{zero-div}
-use Rattle.rs_field.specs.Field.{product}
-use Rattle.rs_field.specs.Products.{byte_at}
+use Rattle.rs_field.specs.words.Field.{product}
+use Rattle.rs_field.specs.words.Products.{byte_at}
 use Rattle.rs_engines.proofs.FourNibbles.{sum_of_nibbles, high_additive}
 use Rattle.rs_engines.proofs.WordBytes.{product_word}
 use Rattle.rs_engines.proofs.words.times_small.Goals as goal

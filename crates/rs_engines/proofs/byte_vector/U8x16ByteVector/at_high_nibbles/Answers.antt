@@ -1,5 +1,5 @@
 use Rattle.std.proofs.Common.{ap, ◌∙◌, arith, refl}
-use Rattle.rs_field.specs.Products.{byte_at}
+use Rattle.rs_field.specs.words.Products.{byte_at}
 use Rattle.rs_engines.proofs.LookUp.{high_places, high_byte}
 use Rattle.rs_engines.proofs.byte_vector.U8x16ByteVector.at_high_nibbles.Goals as goal
 

@@ -1,5 +1,5 @@
 use Rattle.std.proofs.Common.{◌≡◌, ℕ, ◌+◌, ◌-◌, replicate, subst, arith}
-use Rattle.rs_field.specs.View.{cell}
+use Rattle.rs_field.specs.rows.View.{cell}
 use Rattle.rs_field.proofs.engine.Engine.ifft_given.Goals as goal
 
 pub ifft-requires-clause-tail : goal.ifft-requires-clause-tail

@@ -1,6 +1,6 @@
 use Rattle.std.proofs.Common.{sym, ap, ◌∙◌}
-use Rattle.rs_field.specs.Counts.{low_rate, high_rate}
-use Rattle.rs_field.specs.Configuration.{configuration}
+use Rattle.rs_field.specs.code.Counts.{low_rate, high_rate}
+use Rattle.rs_field.specs.code.Configuration.{configuration}
 use Rattle.rs_rate.proofs.StateLemmas.{valid-supported, valid-size}
 use Rattle.rs_rate.proofs.RateLemmas.{chosen_low, chosen_high, low_is, high_is, frame_alike}
 use Rattle.rs_rate.specs.declared.rate.decoder_work.Frame.{Frame}

@@ -1,8 +1,8 @@
 use Rattle.std.proofs.Common.{◌+◌, min, sym, ap, ap₂, ◌∙◌, true≢false, arith}
 use Rattle.std.specs.Prelude.{nat_le}
 use Rattle.std.proofs.lemmas.Bool.{false_from_ne_true}
-use Rattle.rs_field.specs.Counts.{supports, default_rate}
-use Rattle.rs_field.proofs.SupportedCounts.{default_fits}
+use Rattle.rs_field.specs.code.Counts.{supports, default_rate}
+use Rattle.rs_field.proofs.of_code.SupportedCounts.{default_fits}
 use Rattle.rs_rate.proofs.ChoiceLemmas.{default_supported}
 use Rattle.rs_rate.proofs.rate.counts.default_supports.Goals as goal
 

@@ -1,7 +1,7 @@
 use Rattle.std.proofs.Common.{◌+◌, sym, ap, ap₂, ◌∙◌, ℕ, arith}
-use Rattle.rs_field.specs.Counts.{next_power}
-use Rattle.rs_field.proofs.NextPower.{power_is_own}
-use Rattle.rs_field.proofs.SupportedCounts.{high_fits}
+use Rattle.rs_field.specs.code.Counts.{next_power}
+use Rattle.rs_field.proofs.of_code.NextPower.{power_is_own}
+use Rattle.rs_field.proofs.of_code.SupportedCounts.{high_fits}
 use Rattle.rs_rate.specs.declared.rate.decoder_work.Frame.{Frame}
 use Rattle.rs_rate.proofs.HighCounts.{high_small}
 use Rattle.rs_rate.proofs.RateLemmas.{high_frame-is}

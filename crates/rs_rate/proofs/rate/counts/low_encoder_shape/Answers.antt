@@ -1,6 +1,6 @@
 use Rattle.std.proofs.Common.{ℕ, sym, ap, ap₂, ◌∙◌, arith}
-use Rattle.rs_field.specs.Placement.{rounded_up}
-use Rattle.rs_field.proofs.SupportedCounts.{low_fits}
+use Rattle.rs_field.specs.code.Placement.{rounded_up}
+use Rattle.rs_field.proofs.of_code.SupportedCounts.{low_fits}
 use Rattle.rs_rate.specs.declared.rate.encoder_work.EncoderShape.{EncoderShape}
 use Rattle.rs_rate.proofs.PowerLemmas.{low_small, rounded_up-low}
 use Rattle.rs_rate.proofs.RateLemmas.{low_shape-is}

@@ -1,8 +1,8 @@
 use Rattle.std.proofs.Common.{◌+◌, sym, ap, ◌∙◌, true≢false, arith, inl, inr}
 use Rattle.std.specs.Prelude.{nat_le}
 use Rattle.std.proofs.lemmas.Bool.{cases_lt, lt-leb, le-leb, false_from_ne_true}
-use Rattle.rs_field.specs.Counts.{supports, next_power, low_rate}
-use Rattle.rs_field.proofs.SupportedCounts.{low_fits}
+use Rattle.rs_field.specs.code.Counts.{supports, next_power, low_rate}
+use Rattle.rs_field.proofs.of_code.SupportedCounts.{low_fits}
 use Rattle.rs_rate.proofs.PowerLemmas.{low_small, low_not_supported, low_supported}
 use Rattle.rs_rate.proofs.rate.counts.low_supports.Goals as goal
 

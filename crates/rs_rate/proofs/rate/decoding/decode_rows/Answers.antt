@@ -2,10 +2,11 @@ use Rattle.std.proofs.Common.{◌≡◌, ◌+◌, ◌-◌, ◌<◌, ℕ, List, t
 use Rattle.std.proofs.Math.Nat.{sub-zero}
 use Rattle.std.specs.Prelude.{Ok, Err, length, ◌⊎◌}
 use Rattle.std.proofs.lemmas.Bool.{cases_eq}
-use Rattle.rs_field.specs.declared.error.Error.TheVariants.{InconsistentShards}
-use Rattle.rs_field.specs.Bounds.{CountsUpTo, decode_steps}
-use Rattle.rs_field.specs.Column.{IsShard}
-use Rattle.rs_field.specs.Rows.{Chunks}
+use Rattle.rs_field.specs.declared.code.error.Error.TheVariants.{InconsistentShards}
+use Rattle.rs_field.specs.words.StepBounds.{CountsUpTo}
+use Rattle.rs_field.specs.code.Bounds.{decode_steps}
+use Rattle.rs_field.specs.code.Column.{IsShard}
+use Rattle.rs_field.specs.rows.Rows.{Chunks}
 use Rattle.rs_rate.specs.declared.rate.decoder_work.DecoderShape.{DecoderShape}
 use Rattle.rs_rate.specs.Decoding.{IsLocatorOf, RestoresShards}
 use Rattle.rs_rate.specs.Marks.{given_marks, restored_marks, WantsMissing}

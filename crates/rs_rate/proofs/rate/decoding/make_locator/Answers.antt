@@ -1,6 +1,6 @@
 use Rattle.std.proofs.Common.{◌≡◌, ℕ, length, ◌∙◌, subst}
 use Rattle.std.specs.Prelude.{slice_index}
-use Rattle.rs_field.specs.Locator.{IsLocatorBelow}
+use Rattle.rs_field.specs.words.Locator.{IsLocatorBelow}
 use Rattle.rs_rate.specs.Marks.{erased}
 use Rattle.rs_rate.proofs.DecoderLemmas.{rows_power}
 use Rattle.rs_rate.proofs.RestoredRows.{locator_same}

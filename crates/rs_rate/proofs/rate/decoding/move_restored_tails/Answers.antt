@@ -1,10 +1,10 @@
 use Rattle.std.proofs.Common.{◌≡◌, ◌≢◌, ℕ, ◌+◌, ◌<◌, length, refl, sym, ap, ◌∙◌, subst, arith, inl, inr, true≢false}
 use Rattle.std.proofs.lemmas.Bool.{cases_lt}
-use Rattle.rs_field.specs.Rows.{Chunks}
-use Rattle.rs_field.specs.declared.engine.steps.Steps.{Steps}
-use Rattle.rs_field.specs.MarkedRows.{is_marked}
-use Rattle.rs_field.proofs.Counting.{counts_rows, counts_none, counts_then}
-use Rattle.rs_field.proofs.LayoutLemmas.{laid_out-same, in_order-same}
+use Rattle.rs_field.specs.rows.Rows.{Chunks}
+use Rattle.rs_field.specs.declared.words.steps.Steps.{Steps}
+use Rattle.rs_field.specs.rows.MarkedRows.{is_marked}
+use Rattle.rs_field.proofs.of_words.Counting.{counts_rows, counts_none, counts_then}
+use Rattle.rs_field.proofs.of_rows.LayoutLemmas.{laid_out-same, in_order-same}
 use Rattle.rs_rate.specs.Marks.{restored_marks}
 use Rattle.rs_rate.specs.ShardRows.{row_chunk, shard_laid_out, shard_in_order}
 use Rattle.rs_rate.proofs.RestoredRows.{TailMoved}

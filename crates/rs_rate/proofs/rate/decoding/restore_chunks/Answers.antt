@@ -1,7 +1,7 @@
 use Rattle.std.proofs.Common.{◌+◌, ap, ◌∙◌, arith}
 use Rattle.std.specs.Prelude.{not}
-use Rattle.rs_field.specs.Column.{column}
-use Rattle.rs_field.specs.Layout.{row_len}
+use Rattle.rs_field.specs.code.Column.{column}
+use Rattle.rs_field.specs.rows.Layout.{row_len}
 use Rattle.rs_rate.specs.ShardRows.{word_in}
 use Rattle.rs_rate.proofs.ShardRowsLemmas.{chunk_count-is, column-put}
 use Rattle.rs_rate.proofs.rate.decoding.restore_chunks.Goals as goal

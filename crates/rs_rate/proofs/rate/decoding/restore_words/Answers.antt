@@ -1,7 +1,7 @@
 use Rattle.std.proofs.Common.{◌≡◌, ℕ, ◌+◌, ◌*◌, rules, ap₂, ◌∙◌}
-use Rattle.rs_field.specs.Layout.{row_len}
-use Rattle.rs_field.specs.Rows.{chunk, symbol, Chunks}
-use Rattle.rs_field.specs.View.{cell, word}
+use Rattle.rs_field.specs.rows.Layout.{row_len}
+use Rattle.rs_field.specs.rows.Rows.{chunk, symbol, Chunks}
+use Rattle.rs_field.specs.rows.View.{cell, word}
 use Rattle.rs_rate.specs.Marks.{given_marks}
 use Rattle.rs_rate.specs.ShardRows.{word_in}
 use Rattle.rs_rate.proofs.RestoredRows.{restores_alike}

@@ -1,7 +1,7 @@
 use Rattle.std.proofs.Common.{sym, ◌∙◌}
-use Rattle.rs_field.specs.Counts.{low_rate, high_rate}
-use Rattle.rs_field.specs.Layout.{up_to}
-use Rattle.rs_field.specs.View.{word}
+use Rattle.rs_field.specs.code.Counts.{low_rate, high_rate}
+use Rattle.rs_field.specs.rows.Layout.{up_to}
+use Rattle.rs_field.specs.rows.View.{word}
 use Rattle.rs_rate.proofs.RateLemmas.{chosen_low, chosen_high, low_is, high_is, rows_alike, block_alike, low_block, high_block, recovery_alike}
 use Rattle.rs_rate.proofs.EncodeCounting.{coding_alike}
 use Rattle.rs_rate.proofs.rate.encoding.code_rows.Goals as goal

@@ -1,9 +1,9 @@
 use Rattle.std.proofs.Common.{ℕ, ◌-◌, ◌/◌, ◌%◌, ap, sym, subst, ◌∙◌, arith}
-use Rattle.rs_field.specs.Bounds.{encode_steps_at}
-use Rattle.rs_field.specs.Column.{IsShard, column}
-use Rattle.rs_field.specs.Rows.{Chunks}
-use Rattle.rs_field.specs.Layout.{row_len}
-use Rattle.rs_field.proofs.Counting.{counts_rows}
+use Rattle.rs_field.specs.code.Bounds.{encode_steps_at}
+use Rattle.rs_field.specs.code.Column.{IsShard, column}
+use Rattle.rs_field.specs.rows.Rows.{Chunks}
+use Rattle.rs_field.specs.rows.Layout.{row_len}
+use Rattle.rs_field.proofs.of_words.Counting.{counts_rows}
 use Rattle.rs_rate.specs.EncoderView.{configuration_of}
 use Rattle.rs_rate.specs.ShardRows.{word_in, shard_laid_out, shard_in_order}
 use Rattle.rs_rate.proofs.ShardRowsLemmas.{chunk_count-is, chunk_count-more, column-put}

@@ -1,12 +1,13 @@
 use Rattle.std.proofs.Common.{◌≡◌, ℕ, ◌+◌, ◌-◌, ◌*◌, ◌≤◌, sym, ap, ◌∙◌, subst, arith, zero-add}
 use Rattle.std.proofs.Math.Nat.{zero-mod}
-use Rattle.rs_field.specs.View.{word}
-use Rattle.rs_field.specs.Transform.{forward}
-use Rattle.rs_field.specs.Bounds.{transform_steps, encode_steps_at}
-use Rattle.rs_field.specs.Counts.{high_rate}
-use Rattle.rs_field.proofs.Combination.{forward-same}
-use Rattle.rs_field.proofs.Recursion.{fits_kept}
-use Rattle.rs_field.proofs.SupportedCounts.{high_fits}
+use Rattle.rs_field.specs.rows.View.{word}
+use Rattle.rs_field.specs.words.Transform.{forward}
+use Rattle.rs_field.specs.words.StepBounds.{transform_steps}
+use Rattle.rs_field.specs.code.Bounds.{encode_steps_at}
+use Rattle.rs_field.specs.code.Counts.{high_rate}
+use Rattle.rs_field.proofs.of_words.Combination.{forward-same}
+use Rattle.rs_field.proofs.of_rows.Recursion.{fits_kept}
+use Rattle.rs_field.proofs.of_code.SupportedCounts.{high_fits}
 use Rattle.rs_rate.specs.Coding.{SumsBlocks, further_blocks}
 use Rattle.rs_rate.proofs.HighCounts.{high_rows-fit}
 use Rattle.rs_rate.proofs.HighCoding.{high_coded}

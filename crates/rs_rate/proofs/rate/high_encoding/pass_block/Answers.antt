@@ -1,8 +1,8 @@
 use Rattle.std.proofs.Common.{◌≡◌, ◌+◌, sym, ap, ◌∙◌, inl, arith}
 use Rattle.std.proofs.Math.Nat.{add-mod_right}
-use Rattle.rs_field.specs.Rows.{symbol}
-use Rattle.rs_field.proofs.RowOffsets.{outside_cell}
-use Rattle.rs_field.proofs.Symbols.{symbol-zero}
+use Rattle.rs_field.specs.rows.Rows.{symbol}
+use Rattle.rs_field.proofs.of_rows.RowOffsets.{outside_cell}
+use Rattle.rs_field.proofs.of_rows.Symbols.{symbol-zero}
 use Rattle.rs_rate.proofs.rate.high_encoding.pass_block.Goals as goal
 
 pub ifft-requires-clause-shift : goal.ifft-requires-clause-shift

@@ -1,12 +1,12 @@
 use Rattle.std.proofs.Common.{◌≡◌, ℕ, ◌+◌, ◌*◌, ◌/◌, ◌%◌, ◌<◌, ap, ◌∙◌, inl, inr, arith}
 use Rattle.std.proofs.Math.Nat.{mod_self, add-mod_right}
 use Rattle.std.proofs.lemmas.Nat.{pow_pos, div-add-mod'}
-use Rattle.rs_field.specs.Rows.{symbol}
-use Rattle.rs_field.specs.View.{word}
-use Rattle.rs_field.proofs.RowOffsets.{outside_cell, shape_then}
-use Rattle.rs_field.specs.Bounds.{transform_steps}
-use Rattle.rs_field.proofs.Recursion.{fits_kept}
-use Rattle.rs_field.proofs.Counting.{counts_rows, counts_within}
+use Rattle.rs_field.specs.rows.Rows.{symbol}
+use Rattle.rs_field.specs.rows.View.{word}
+use Rattle.rs_field.proofs.of_rows.RowOffsets.{outside_cell, shape_then}
+use Rattle.rs_field.specs.words.StepBounds.{transform_steps}
+use Rattle.rs_field.proofs.of_rows.Recursion.{fits_kept}
+use Rattle.rs_field.proofs.of_words.Counting.{counts_rows, counts_within}
 use Rattle.rs_rate.specs.Coding.{further_blocks}
 use Rattle.rs_rate.proofs.PowerLemmas.{multiple_least}
 use Rattle.rs_rate.proofs.HighCounts.{next_block}

@@ -1,6 +1,6 @@
 use Rattle.std.proofs.Common.{◌≡◌, ℕ, ◌+◌, ◌-◌, ◌*◌, ◌/◌, ◌%◌, ◌<◌, ◌≤◌}
-use Rattle.rs_field.specs.Bounds.{CountsUpTo, transform_steps}
-use Rattle.rs_field.specs.View.{cell, word, Fits, SameShape}
+use Rattle.rs_field.specs.words.StepBounds.{CountsUpTo, transform_steps}
+use Rattle.rs_field.specs.rows.View.{cell, word, Fits, SameShape}
 use Rattle.rs_rate.specs.Coding.{SumsBlocks, further_blocks}
 use Rattle.rs_rate.proofs.rate.high_encoding.sum_blocks.Given as goal
 

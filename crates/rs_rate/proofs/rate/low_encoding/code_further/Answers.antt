@@ -1,12 +1,12 @@
 use Rattle.std.proofs.Common.{◌≡◌, ℕ, ◌+◌, ◌*◌, ◌<◌, arith, ap, ◌∙◌, inl, zero-add}
 use Rattle.std.proofs.Math.Nat.{add-mod_right}
 use Rattle.std.proofs.lemmas.Nat.{pow_pos}
-use Rattle.rs_field.specs.Bounds.{transform_steps}
-use Rattle.rs_field.specs.Rows.{symbol}
-use Rattle.rs_field.specs.View.{cell, word}
-use Rattle.rs_field.proofs.RowOffsets.{outside_cell}
-use Rattle.rs_field.proofs.Recursion.{fits_kept}
-use Rattle.rs_field.proofs.Counting.{counts_rows, counts_then, counts_within}
+use Rattle.rs_field.specs.words.StepBounds.{transform_steps}
+use Rattle.rs_field.specs.rows.Rows.{symbol}
+use Rattle.rs_field.specs.rows.View.{cell, word}
+use Rattle.rs_field.proofs.of_rows.RowOffsets.{outside_cell}
+use Rattle.rs_field.proofs.of_rows.Recursion.{fits_kept}
+use Rattle.rs_field.proofs.of_words.Counting.{counts_rows, counts_then, counts_within}
 use Rattle.rs_rate.specs.Coding.{further_blocks}
 use Rattle.rs_rate.proofs.HighCounts.{next_block}
 use Rattle.rs_rate.proofs.EncodeCounting.{counts_both, further-next, further-within}

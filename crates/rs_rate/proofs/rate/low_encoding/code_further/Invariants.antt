@@ -1,7 +1,7 @@
 use Rattle.std.proofs.Common.{◌≡◌, ℕ, ◌+◌, ◌-◌, ◌*◌, ◌%◌, ◌<◌, ◌≤◌}
-use Rattle.rs_field.specs.Bounds.{CountsUpTo, transform_steps}
-use Rattle.rs_field.specs.Transform.{forward}
-use Rattle.rs_field.specs.View.{cell, word, Fits, SameShape}
+use Rattle.rs_field.specs.words.StepBounds.{CountsUpTo, transform_steps}
+use Rattle.rs_field.specs.words.Transform.{forward}
+use Rattle.rs_field.specs.rows.View.{cell, word, Fits, SameShape}
 use Rattle.rs_rate.specs.Coding.{further_blocks}
 use Rattle.rs_rate.proofs.rate.low_encoding.code_further.Given as goal
 

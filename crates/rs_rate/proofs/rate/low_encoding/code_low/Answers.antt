@@ -1,13 +1,14 @@
 use Rattle.std.proofs.Common.{◌≡◌, ℕ, ◌+◌, ◌-◌, ◌*◌, ◌≤◌, ◌∙◌, ap, subst, arith, inl, inr}
-use Rattle.rs_field.specs.Rows.{symbol}
-use Rattle.rs_field.specs.Counts.{next_power}
-use Rattle.rs_field.specs.View.{word}
-use Rattle.rs_field.specs.Bounds.{transform_steps, encode_steps_at}
-use Rattle.rs_field.specs.Counts.{low_rate}
-use Rattle.rs_field.proofs.Counting.{counts_rows, counts_then}
-use Rattle.rs_field.proofs.Recursion.{fits_kept}
-use Rattle.rs_field.proofs.RowOffsets.{outside_cell}
-use Rattle.rs_field.proofs.Symbols.{symbol-zero}
+use Rattle.rs_field.specs.rows.Rows.{symbol}
+use Rattle.rs_field.specs.code.Counts.{next_power}
+use Rattle.rs_field.specs.rows.View.{word}
+use Rattle.rs_field.specs.words.StepBounds.{transform_steps}
+use Rattle.rs_field.specs.code.Bounds.{encode_steps_at}
+use Rattle.rs_field.specs.code.Counts.{low_rate}
+use Rattle.rs_field.proofs.of_words.Counting.{counts_rows, counts_then}
+use Rattle.rs_field.proofs.of_rows.Recursion.{fits_kept}
+use Rattle.rs_field.proofs.of_rows.RowOffsets.{outside_cell}
+use Rattle.rs_field.proofs.of_rows.Symbols.{symbol-zero}
 use Rattle.rs_rate.specs.Coding.{CodesLow, further_blocks}
 use Rattle.rs_rate.proofs.HighCounts.{low_rows-fit}
 use Rattle.rs_rate.proofs.LowCoding.{coded, codes_words}

@@ -1,5 +1,5 @@
 use Rattle.std.proofs.Common.{◌≡◌, ℕ, ◌<◌, false, length}
-use Rattle.rs_field.specs.MarkedRows.{is_marked}
+use Rattle.rs_field.specs.rows.MarkedRows.{is_marked}
 use Rattle.rs_rate.proofs.rate.marks.clear_marks.Given as goal
 
 abbrev pub invariant-loop-row : goal.invariant-loop-row

@@ -1,7 +1,7 @@
 use Rattle.std.proofs.Common.{◌≡◌, ◌/◌, ◌%◌, sym, ap, ◌∙◌, arith, inl, inr, true≢false}
 use Rattle.std.proofs.lemmas.Bool.{cases_lt}
-use Rattle.rs_field.specs.Rows.{chunk, symbol}
-use Rattle.rs_field.specs.View.{word}
+use Rattle.rs_field.specs.rows.Rows.{chunk, symbol}
+use Rattle.rs_field.specs.rows.View.{word}
 use Rattle.rs_rate.proofs.RestoringRows.{row-read}
 use Rattle.rs_rate.proofs.rate.restoring.are_zero.Goals as goal
 

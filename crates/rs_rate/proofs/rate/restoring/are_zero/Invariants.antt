@@ -1,6 +1,6 @@
 use Rattle.std.proofs.Common.{◌≡◌, ℕ, ◌-◌, ◌/◌, ◌%◌, ◌<◌, ◌≤◌}
-use Rattle.rs_field.specs.Bounds.{CountsRows}
-use Rattle.rs_field.specs.View.{word}
+use Rattle.rs_field.specs.words.StepBounds.{CountsRows}
+use Rattle.rs_field.specs.rows.View.{word}
 use Rattle.rs_rate.proofs.rate.restoring.are_zero.Given as goal
 
 abbrev pub invariant-loop-i : goal.invariant-loop-i

@@ -1,15 +1,15 @@
 use Rattle.std.proofs.Common.{◌≡◌, ℕ, ◌+◌, ◌-◌, true, false, sym, ap, ◌∙◌, subst, arith, inl, inr, true≢false}
 use Rattle.std.proofs.lemmas.Bool.{cases_lt}
-use Rattle.rs_field.specs.Bounds.{CountsRows}
-use Rattle.rs_field.specs.Rows.{symbol}
-use Rattle.rs_field.specs.View.{cell, word}
-use Rattle.rs_field.specs.declared.engine.shards.ShardsRefMut.{ShardsRefMut}
-use Rattle.rs_field.specs.declared.engine.steps.Steps.{Steps}
-use Rattle.rs_field.specs.MarkedRows.{is_marked}
-use Rattle.rs_field.proofs.Counting.{counts_rows, counts_then}
-use Rattle.rs_field.proofs.Recursion.{fits_kept}
-use Rattle.rs_field.proofs.RowOffsets.{outside_cell, shape_then}
-use Rattle.rs_field.proofs.Symbols.{symbol-zero}
+use Rattle.rs_field.specs.words.StepBounds.{CountsRows}
+use Rattle.rs_field.specs.rows.Rows.{symbol}
+use Rattle.rs_field.specs.rows.View.{cell, word}
+use Rattle.rs_field.specs.declared.rows.shards.ShardsRefMut.{ShardsRefMut}
+use Rattle.rs_field.specs.declared.words.steps.Steps.{Steps}
+use Rattle.rs_field.specs.rows.MarkedRows.{is_marked}
+use Rattle.rs_field.proofs.of_words.Counting.{counts_rows, counts_then}
+use Rattle.rs_field.proofs.of_rows.Recursion.{fits_kept}
+use Rattle.rs_field.proofs.of_rows.RowOffsets.{outside_cell, shape_then}
+use Rattle.rs_field.proofs.of_rows.Symbols.{symbol-zero}
 use Rattle.rs_rate.specs.Decoding.{located}
 use Rattle.rs_rate.proofs.RestoringRows.{RowLocated, located-at, located-same}
 use Rattle.rs_rate.proofs.rate.restoring.locate_rows.Goals as goal

@@ -1,8 +1,8 @@
 use Rattle.std.proofs.Common.{◌≡◌, ℕ, ◌<◌, ◌≤◌, false}
 use Rattle.std.specs.Prelude.{replicate}
-use Rattle.rs_field.specs.Bounds.{CountsUpTo}
-use Rattle.rs_field.specs.View.{cell, word, Fits, SameShape}
-use Rattle.rs_field.specs.MarkedRows.{is_marked}
+use Rattle.rs_field.specs.words.StepBounds.{CountsUpTo}
+use Rattle.rs_field.specs.rows.View.{cell, word, Fits, SameShape}
+use Rattle.rs_field.specs.rows.MarkedRows.{is_marked}
 use Rattle.rs_rate.specs.Decoding.{located}
 use Rattle.rs_rate.proofs.rate.restoring.locate_rows.Given as goal
 

@@ -1,9 +1,9 @@
 use Rattle.std.proofs.Common.{◌≡◌, ℕ, List, Bool, ◌+◌, ◌-◌, true, false, refl, sym, ap, ◌∙◌, subst, arith, true≢false}
 use Rattle.std.specs.Prelude.{not, slice_index}
-use Rattle.rs_field.specs.MarkedRows.{is_marked}
-use Rattle.rs_field.specs.Field.{product, power}
-use Rattle.rs_field.specs.Derivative.{IsDerivativeAdded}
-use Rattle.rs_field.specs.View.{word}
+use Rattle.rs_field.specs.rows.MarkedRows.{is_marked}
+use Rattle.rs_field.specs.words.Field.{product, power}
+use Rattle.rs_field.specs.words.Derivative.{IsDerivativeAdded}
+use Rattle.rs_field.specs.rows.View.{word}
 use Rattle.rs_rate.specs.Decoding.{located}
 use Rattle.rs_rate.specs.Marks.{given_marks}
 use Rattle.rs_rate.proofs.DecoderLemmas.{all_given, given_length, restored_length, rows_power}

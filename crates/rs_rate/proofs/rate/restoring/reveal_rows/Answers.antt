@@ -1,15 +1,15 @@
 use Rattle.std.proofs.Common.{◌≡◌, ℕ, ◌+◌, ◌-◌, refl, sym, ap, ◌∙◌, subst, arith, inl, inr, true≢false}
 use Rattle.std.specs.Prelude.{slice_index}
 use Rattle.std.proofs.lemmas.Bool.{cases_lt}
-use Rattle.rs_field.specs.Field.{product, power}
-use Rattle.rs_field.specs.Rows.{symbol}
-use Rattle.rs_field.specs.View.{word}
-use Rattle.rs_field.specs.declared.engine.shards.ShardsRefMut.{ShardsRefMut}
-use Rattle.rs_field.specs.declared.engine.steps.Steps.{Steps}
-use Rattle.rs_field.specs.MarkedRows.{is_marked}
-use Rattle.rs_field.proofs.Counting.{counts_then, counts_none}
-use Rattle.rs_field.proofs.Recursion.{fits_kept}
-use Rattle.rs_field.proofs.RowOffsets.{outside_cell, shape_then}
+use Rattle.rs_field.specs.words.Field.{product, power}
+use Rattle.rs_field.specs.rows.Rows.{symbol}
+use Rattle.rs_field.specs.rows.View.{word}
+use Rattle.rs_field.specs.declared.rows.shards.ShardsRefMut.{ShardsRefMut}
+use Rattle.rs_field.specs.declared.words.steps.Steps.{Steps}
+use Rattle.rs_field.specs.rows.MarkedRows.{is_marked}
+use Rattle.rs_field.proofs.of_words.Counting.{counts_then, counts_none}
+use Rattle.rs_field.proofs.of_rows.Recursion.{fits_kept}
+use Rattle.rs_field.proofs.of_rows.RowOffsets.{outside_cell, shape_then}
 use Rattle.rs_rate.specs.Marks.{restored_marks}
 use Rattle.rs_rate.proofs.RestoringRows.{RowRevealed}
 use Rattle.rs_rate.proofs.rate.restoring.reveal_rows.Goals as goal

@@ -1,9 +1,9 @@
 use Rattle.std.proofs.Common.{◌≡◌, ℕ, ◌+◌, ◌-◌, ◌<◌, ◌≤◌, true}
 use Rattle.std.specs.Prelude.{slice_index}
-use Rattle.rs_field.specs.Bounds.{CountsUpTo}
-use Rattle.rs_field.specs.Field.{product, power}
-use Rattle.rs_field.specs.View.{cell, word, Fits, SameShape}
-use Rattle.rs_field.specs.MarkedRows.{is_marked}
+use Rattle.rs_field.specs.words.StepBounds.{CountsUpTo}
+use Rattle.rs_field.specs.words.Field.{product, power}
+use Rattle.rs_field.specs.rows.View.{cell, word, Fits, SameShape}
+use Rattle.rs_field.specs.rows.MarkedRows.{is_marked}
 use Rattle.rs_rate.specs.Marks.{restored_marks}
 use Rattle.rs_rate.proofs.rate.restoring.reveal_rows.Given as goal
 

@@ -1,6 +1,7 @@
 use Rattle.std.proofs.Common.{ℕ, sym, ap, ◌∙◌, subst, arith}
 use Rattle.std.proofs.lemmas.Result.{err_from_is_err_and}
-use Rattle.rs_field.specs.Bounds.{CountsUpTo, decode_steps}
+use Rattle.rs_field.specs.words.StepBounds.{CountsUpTo}
+use Rattle.rs_field.specs.code.Bounds.{decode_steps}
 use Rattle.rs_rate.specs.DecoderView.{decoder_state, restored_of}
 use Rattle.rs_rate.proofs.DecoderLemmas.{count-given}
 use Rattle.rs_rate.proofs.DecoderSteps.{enough-least}

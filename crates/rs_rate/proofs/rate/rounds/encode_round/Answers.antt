@@ -1,6 +1,6 @@
 use Rattle.std.proofs.Common.{sym, ◌∙◌, arith}
 use Rattle.std.proofs.lemmas.Result.{err_from_is_err_and}
-use Rattle.rs_field.proofs.LayoutLemmas.{length-up_to}
+use Rattle.rs_field.proofs.of_rows.LayoutLemmas.{length-up_to}
 use Rattle.rs_rate.specs.EncoderView.{encoder_state, lent_of}
 use Rattle.rs_rate.specs.ShardRows.{shard_laid_out}
 use Rattle.rs_rate.proofs.StateLemmas.{after_encode-refused, encode_answers-refused, message-whole, after_encode-made, encode_answers-made, encoder_state-fresh}

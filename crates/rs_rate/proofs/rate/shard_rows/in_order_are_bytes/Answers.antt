@@ -1,4 +1,4 @@
-use Rattle.rs_field.proofs.LayoutLemmas.{shard-in_order}
+use Rattle.rs_field.proofs.of_rows.LayoutLemmas.{shard-in_order}
 use Rattle.rs_rate.specs.ShardRows.{row_chunk}
 use Rattle.rs_rate.proofs.ShardRowsLemmas.{row-fits}
 use Rattle.rs_rate.proofs.rate.shard_rows.in_order_are_bytes.Goals as goal

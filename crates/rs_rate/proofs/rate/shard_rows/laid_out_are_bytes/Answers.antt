@@ -1,4 +1,4 @@
-use Rattle.rs_field.proofs.LayoutLemmas.{shard-laid_out}
+use Rattle.rs_field.proofs.of_rows.LayoutLemmas.{shard-laid_out}
 use Rattle.rs_rate.specs.ShardRows.{row_chunk}
 use Rattle.rs_rate.proofs.ShardRowsLemmas.{row-fits}
 use Rattle.rs_rate.proofs.rate.shard_rows.laid_out_are_bytes.Goals as goal

@@ -1,6 +1,6 @@
 use Rattle.std.proofs.Common.{◌≢◌, length, sym, ap, ◌∙◌, arith, inl, inr}
 use Rattle.std.proofs.lemmas.Bool.{cases_eq}
-use Rattle.rs_field.proofs.LayoutLemmas.{laid_out-same, in_order-same}
+use Rattle.rs_field.proofs.of_rows.LayoutLemmas.{laid_out-same, in_order-same}
 use Rattle.rs_rate.specs.ShardRows.{row_chunk, shard_laid_out, shard_in_order}
 use Rattle.rs_rate.proofs.ShardRowsLemmas.{chunk_count-within}
 use Rattle.rs_rate.proofs.rate.shard_rows.move_tails.Goals as goal

@@ -1,6 +1,6 @@
 use Rattle.std.proofs.Common.{◌≡◌, ℕ, ◌<◌, ◌≤◌}
-use Rattle.rs_field.specs.Layout.{row_len}
-use Rattle.rs_field.specs.Bounds.{CountsRows}
+use Rattle.rs_field.specs.rows.Layout.{row_len}
+use Rattle.rs_field.specs.words.StepBounds.{CountsRows}
 use Rattle.rs_rate.specs.ShardRows.{row_chunk, shard_laid_out, shard_in_order}
 use Rattle.rs_rate.proofs.rate.shard_rows.move_tails.Given as goal
 

@@ -1,8 +1,8 @@
 use Rattle.std.proofs.Common.{◌<◌, true, false, length, sym, ap, ◌∙◌, arith}
 use Rattle.std.specs.Prelude.{Some}
-use Rattle.rs_field.specs.MarkedRows.{is_marked}
+use Rattle.rs_field.specs.rows.MarkedRows.{is_marked}
 use Rattle.rs_rate.specs.ShardRows.{shard_in_order}
-use Rattle.rs_field.specs.Rows.{Chunks}
+use Rattle.rs_field.specs.rows.Rows.{Chunks}
 use Rattle.rs_rate.proofs.ShardRowsLemmas.{chunk_count-within}
 use Rattle.rs_rate.proofs.DecoderLemmas.{restored-out, restored-marked}
 use Rattle.rs_rate.specs.Marks.{restored_marks}

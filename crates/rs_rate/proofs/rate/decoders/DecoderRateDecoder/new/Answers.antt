@@ -1,10 +1,10 @@
 use Rattle.std.proofs.Common.{◌≡◌, ◌<◌, ◌*◌, ◌^◌, refl, sym, ap, ap₂, ◌∙◌, arith}
 use Rattle.std.specs.Prelude.{Ok, IsOk}
 use Rattle.std.proofs.lemmas.Result.{err_from_is_err_and}
-use Rattle.rs_field.specs.Configuration.{configuration, started}
-use Rattle.rs_field.specs.Decoder.{fresh_decoder}
-use Rattle.rs_field.specs.Outcome.{answer_of}
-use Rattle.rs_field.specs.Placement.{decoder_rows}
+use Rattle.rs_field.specs.code.Configuration.{configuration, started}
+use Rattle.rs_field.specs.code.Decoder.{fresh_decoder}
+use Rattle.rs_field.specs.code.Outcome.{answer_of}
+use Rattle.rs_field.specs.code.Placement.{decoder_rows}
 use Rattle.rs_rate.specs.DecoderView.{HasRoom, configuration_of, work_room}
 use Rattle.rs_rate.specs.ShardRows.{chunk_count}
 use Rattle.rs_rate.proofs.DecoderRows.{frame-rows}

@@ -1,9 +1,9 @@
 use Rattle.std.proofs.Common.{◌≡◌, ◌<◌, ◌*◌, ◌^◌, ℕ, sym, ap, ap₂, ◌∙◌, arith, subst}
 use Rattle.std.specs.Prelude.{IfOk, OnOk}
-use Rattle.rs_field.specs.Configuration.{configuration}
-use Rattle.rs_field.specs.Counts.{Rate}
-use Rattle.rs_field.specs.Decoder.{fresh_decoder}
-use Rattle.rs_field.specs.Placement.{decoder_rows}
+use Rattle.rs_field.specs.code.Configuration.{configuration}
+use Rattle.rs_field.specs.code.Counts.{Rate}
+use Rattle.rs_field.specs.code.Decoder.{fresh_decoder}
+use Rattle.rs_field.specs.code.Placement.{decoder_rows}
 use Rattle.rs_rate.specs.declared.rate.decoder_work.DecoderShape.{DecoderShape}
 use Rattle.rs_rate.specs.DecoderView.{configuration_of, decoder_state}
 use Rattle.rs_rate.specs.ObjectLaws.{has_own_decoder_room}

@@ -1,11 +1,11 @@
 use Rattle.std.proofs.Common.{rules, ◌≡◌, ◌≢◌, ℕ, ◌+◌, arith, ap, ◌<◌, ◌∙◌, sym, length, List, subst}
 use Rattle.std.proofs.lemmas.List.{with_items_is}
-use Rattle.rs_field.proofs.LayoutLemmas.{length-up_to}
+use Rattle.rs_field.proofs.of_rows.LayoutLemmas.{length-up_to}
 use Rattle.rs_rate.proofs.ShardRowsLemmas.{chunk_count-within, given-more, shard-entered}
-use Rattle.rs_field.specs.Column.{Shard, IsShard}
-use Rattle.rs_field.specs.Encoder.{EncoderState}
-use Rattle.rs_field.specs.Layout.{up_to}
-use Rattle.rs_field.specs.Rows.{Chunks}
+use Rattle.rs_field.specs.code.Column.{Shard, IsShard}
+use Rattle.rs_field.specs.code.Encoder.{EncoderState}
+use Rattle.rs_field.specs.rows.Layout.{up_to}
+use Rattle.rs_field.specs.rows.Rows.{Chunks}
 use Rattle.rs_rate.specs.EncoderView.{configuration_of, encoder_state}
 use Rattle.rs_rate.proofs.StateLemmas.{with_shard-added}
 use Rattle.rs_rate.specs.ShardRows.{chunk_count, shard_laid_out}

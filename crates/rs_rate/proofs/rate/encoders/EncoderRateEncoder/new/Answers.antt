@@ -1,9 +1,9 @@
 use Rattle.std.proofs.Common.{◌≡◌, ◌<◌, ◌≤◌, ◌*◌, ◌^◌, sym, ap, ◌∙◌, arith}
 use Rattle.std.specs.Prelude.{Ok, IsOk}
 use Rattle.std.proofs.lemmas.Result.{err_from_is_err_and}
-use Rattle.rs_field.specs.Configuration.{configuration, started}
-use Rattle.rs_field.specs.Outcome.{answer_of}
-use Rattle.rs_field.specs.Placement.{encoder_rows}
+use Rattle.rs_field.specs.code.Configuration.{configuration, started}
+use Rattle.rs_field.specs.code.Outcome.{answer_of}
+use Rattle.rs_field.specs.code.Placement.{encoder_rows}
 use Rattle.rs_rate.specs.EncoderView.{shape_chunks, work_room}
 use Rattle.rs_rate.specs.ShardRows.{chunk_count}
 use Rattle.rs_rate.proofs.RateLemmas.{shape-chunks}

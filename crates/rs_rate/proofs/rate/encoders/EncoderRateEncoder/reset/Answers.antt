@@ -1,7 +1,7 @@
 use Rattle.std.proofs.Common.{◌<◌, ◌*◌, ◌^◌, ℕ, sym, ap, ap₂, ◌∙◌, arith, subst}
 use Rattle.std.specs.Prelude.{IfOk}
-use Rattle.rs_field.specs.Configuration.{configuration}
-use Rattle.rs_field.specs.Placement.{encoder_rows}
+use Rattle.rs_field.specs.code.Configuration.{configuration}
+use Rattle.rs_field.specs.code.Placement.{encoder_rows}
 use Rattle.rs_rate.specs.EncoderView.{shape_chunks}
 use Rattle.rs_rate.specs.ObjectLaws.{has_own_room}
 use Rattle.rs_rate.specs.ShardRows.{chunk_count}

@@ -1,0 +1,11 @@
+use Rattle.rs_field.proofs.of_code.Columns.{column-chunk, column-tail, shard_from_columns}
+use Rattle.rs_field.proofs.of_code.Unique.{codes_unique, recovery_unique}
+use Rattle.rs_field.proofs.code.laws.code_laws.Goals as goal
+
+pub returns : goal.returns
+returns c = record {
+  column = record { in_chunk = column-chunk; in_tail = column-tail };
+  shard = shard_from_columns;
+  polynomial = codes_unique;
+  recovery = recovery_unique;
+}

@@ -1,0 +1,150 @@
+-- Which messages agree: those that have the given shards, and by the laws no other.
+use Rattle.std.proofs.Common.{◌≡◌, Bool, true, cond, inl, inr, ℕ, zero, suc, List, [], ◌∷◌, refl, sym, ap, ◌∙◌, arith, lit<, lit≤}
+use Rattle.std.specs.Prelude.{Some, None, ◌&&◌, not, is_some, Ok, Err}
+use Rattle.std.proofs.lemmas.Bool.{le-ltb}
+use Rattle.rs_field.specs.declared.code.error.Error.TheVariants.{InconsistentShards}
+use Rattle.rs_field.specs.words.Search.{first_below}
+use Rattle.rs_field.specs.words.Field.{product, combine, bits, from_bits, cantor_basis, monomials, carryless, reduce}
+use Rattle.rs_field.specs.words.Polynomial.{value}
+use Rattle.rs_field.specs.code.Column.{Shard, AreShards, shard_at, column}
+use Rattle.rs_field.specs.code.Counts.{next_power, supports, is_low, default_rate}
+use Rattle.rs_field.specs.code.Placement.{placement, low_placement, high_placement}
+use Rattle.rs_field.specs.code.Configuration.{configuration}
+use Rattle.rs_field.specs.code.Code.{AreRecovery}
+use Rattle.rs_field.specs.code.CodeLaws.{changed}
+use Rattle.rs_field.specs.code.Given.{Shards, nothing, entered, count_below}
+use Rattle.rs_field.specs.code.Decoder.{IsAgreeing, IsConsistent, missing_of, Restored, DecodeAnswers}
+use Rattle.rs_field.specs.worked.Codes.{low_bytes, two_given, surplus_given, MixtureRow}
+use Rattle.rs_field.proofs.of_words.Linear.{passes_below}
+use Rattle.rs_field.proofs.of_code.Agreement.{one_message}
+use Rattle.rs_field.proofs.of_code.Changes.{changes_noticed}
+use Rattle.rs_field.proofs.of_code.Given.{entered_cases, nothing_among, entered_among}
+use Rattle.rs_field.proofs.of_code.Decided.{shards_from, recovery_from, recovery_from_high}
+use Rattle.rs_field.proofs.code.worked.agreement.Goals as goal
+
+-- the message that is restored
+abbrev message : List Shard
+message = low_bytes (0 ∷ 1 ∷ [])
+
+-- its recovery shards
+abbrev recovered : List Shard
+recovered = low_bytes (2 ∷ 3 ∷ 4 ∷ [])
+
+-- the message is one of two shards
+message_shards : AreShards 2 2 message
+message_shards = shards_from 2 2 message refl
+
+-- its recovery shards are values of the polynomial x
+line : AreRecovery (configuration default_rate 2 3 2) message recovered
+unfolding passes_below placement low_placement high_placement is_low next_power first_below value product combine bits from_bits cantor_basis monomials carryless reduce column
+line = recovery_from _ _ _ ((0 ∷ 1 ∷ []) ∷ []) refl
+
+-- the recovery shards of one original are values of a constant
+copies : AreRecovery (configuration default_rate 1 2 2) ((7 ∷ 9 ∷ []) ∷ []) ((7 ∷ 9 ∷ []) ∷ (7 ∷ 9 ∷ []) ∷ [])
+unfolding passes_below placement low_placement high_placement is_low next_power first_below value product combine bits from_bits cantor_basis monomials carryless reduce column
+copies = recovery_from _ _ _ ((2311 ∷ []) ∷ []) refl
+
+-- the message agrees with two of its recovery shards
+agrees : IsAgreeing two_given message
+agrees = record {
+  shards = message_shards;
+  own = nothing_among message;
+  coded = (recovered, line, entered_among _ 1 (3 ∷ 0 ∷ []) recovered (entered_among nothing 0 (2 ∷ 0 ∷ []) recovered (nothing_among recovered) refl) refl);
+}
+
+-- two shards fix a message of two
+only : (m : List Shard) → IsAgreeing two_given m → m ≡ message
+unfolding supports next_power first_below entered count_below
+only m a = one_message two_given.configuration two_given.originals two_given.recovery m message refl refl (lit≤ tt) a agrees
+
+-- the originals that are restored
+abbrev out : Shards
+out = entered (entered nothing 0 (0 ∷ 0 ∷ [])) 1 (1 ∷ 0 ∷ [])
+
+-- both originals are restored, and nothing else
+out_missing : (i : ℕ) → out i ≡ missing_of two_given message i
+unfolding entered missing_of
+out_missing zero = refl
+out_missing (suc zero) = refl
+out_missing (suc (suc i)) = none ∙ sym (ap (λ (b : Bool). cond (b && true) (Some (shard_at message (suc (suc i)))) None) (le-ltb (suc (suc i)) 2 (omega arith)))
+  where
+    none : out (suc (suc i)) ≡ None
+    none = elim (entered_cases (entered nothing 0 (0 ∷ 0 ∷ [])) 1 (suc (suc i)) (1 ∷ 0 ∷ [])) [
+      | inl one ↦ absurd (omega (arith, one.0))
+      | inr other ↦ elim (entered_cases nothing 0 (suc (suc i)) (0 ∷ 0 ∷ [])) [ inl first ↦ absurd (omega (arith, first.0)) | inr last ↦ other.1 ∙ last.1 ]
+    ]
+
+-- so the message is restored
+restored : Restored two_given out
+restored = record { message = message; agrees = agrees; only = only; missing = out_missing }
+
+-- a message of four originals
+abbrev four : List Shard
+four = low_bytes (0 ∷ 0 ∷ 2 ∷ 3 ∷ [])
+
+-- its recovery shards
+abbrev four_more : List Shard
+four_more = low_bytes (11 ∷ 9 ∷ 14 ∷ 13 ∷ [])
+
+-- they are values of a polynomial that is zero from the point 8 on
+cubic : AreRecovery (configuration default_rate 4 4 2) four four_more
+unfolding passes_below is_low next_power first_below value product combine bits from_bits cantor_basis monomials carryless reduce column
+cubic = recovery_from_high 3 _ _ _ ((11 ∷ 6 ∷ 5 ∷ 1 ∷ []) ∷ []) refl
+
+-- two of each agree with it
+mixture : MixtureRow
+mixture = record {
+  shards = shards_from 4 2 four refl;
+  own = entered_among _ 1 (0 ∷ 0 ∷ []) four (entered_among nothing 3 (3 ∷ 0 ∷ []) four (nothing_among four) refl) refl;
+  coded = (four_more, cubic, entered_among _ 0 (11 ∷ 0 ∷ []) four_more (entered_among nothing 2 (14 ∷ 0 ∷ []) four_more (nothing_among four_more) refl) refl);
+}
+
+-- a message of one original
+abbrev original : List Shard
+original = (7 ∷ 9 ∷ []) ∷ []
+
+-- its recovery shards
+abbrev copied : List Shard
+copied = (7 ∷ 9 ∷ []) ∷ (7 ∷ 9 ∷ []) ∷ []
+
+-- the original agrees with its copy
+original_agrees : IsAgreeing (surplus_given (7 ∷ 9 ∷ [])) original
+original_agrees = record {
+  shards = shards_from 1 2 original refl;
+  own = entered_among nothing 0 (7 ∷ 9 ∷ []) original (nothing_among original) refl;
+  coded = (copied, copies, entered_among nothing 0 (7 ∷ 9 ∷ []) copied (nothing_among copied) refl);
+}
+
+-- one of the two shards is other than the message's
+inconsistent : IsConsistent (surplus_given (7 ∷ 8 ∷ [])) → ⊥
+unfolding supports next_power first_below entered count_below changed
+inconsistent =
+    let given = surplus_given (7 ∷ 8 ∷ []) in
+    changes_noticed given.configuration original copied given.originals given.recovery refl refl (shards_from 1 2 original refl) copies (lit< tt) (lit≤ tt)
+
+-- one shard fixes a message of one
+only_original : (m : List Shard) → IsAgreeing (surplus_given (7 ∷ 9 ∷ [])) m → m ≡ original
+unfolding supports next_power first_below entered count_below
+only_original m a =
+    let given = surplus_given (7 ∷ 9 ∷ []) in
+    one_message given.configuration given.originals given.recovery m original refl refl (lit≤ tt) a original_agrees
+
+-- no original is missing
+none_missing : (i : ℕ) → nothing i ≡ missing_of (surplus_given (7 ∷ 9 ∷ [])) original i
+unfolding entered missing_of
+none_missing zero = refl
+none_missing (suc i) =
+    sym (ap (λ (b : Bool). cond (b && not (is_some ((surplus_given (7 ∷ 9 ∷ [])).originals (suc i)))) (Some (shard_at original (suc i))) None) (le-ltb (suc i) 1 (omega arith)))
+
+-- so nothing is restored
+agreed : DecodeAnswers (surplus_given (7 ∷ 9 ∷ [])) (Ok nothing)
+unfolding entered count_below
+agreed = record { message = original; agrees = original_agrees; only = only_original; missing = none_missing }
+
+-- and where none agrees that is answered
+refused : DecodeAnswers (surplus_given (7 ∷ 8 ∷ [])) (Err (InconsistentShards 1 1))
+unfolding entered count_below
+refused = record { refusal = refl; surplus = omega arith; none = inconsistent }
+
+pub returns : goal.returns
+returns c = record { restored = (agrees, only, restored); mixture = mixture; surplus = (agreed, refused) }

@@ -1,0 +1,67 @@
+-- Each polynomial passes the tests that decide.
+use Rattle.std.proofs.Common.{[], ◌∷◌, ◌++◌, refl}
+use Rattle.std.specs.Prelude.{replicate}
+use Rattle.rs_field.specs.words.Search.{first_below}
+use Rattle.rs_field.specs.words.Field.{product, combine, bits, from_bits, cantor_basis, monomials, carryless, reduce}
+use Rattle.rs_field.specs.words.Polynomial.{value}
+use Rattle.rs_field.specs.code.Column.{column}
+use Rattle.rs_field.specs.code.Counts.{next_power, is_low, low_rate, high_rate, default_rate}
+use Rattle.rs_field.specs.code.Placement.{placement, low_placement, high_placement}
+use Rattle.rs_field.specs.code.CodeLaws.{xor_bytes, xor_shards}
+use Rattle.rs_field.specs.worked.Codes.{LowRows, HighRows, ShortLineRow, CubicRow, TailRow, ChunkAndTailRow}
+use Rattle.rs_field.proofs.of_words.Linear.{passes_below}
+use Rattle.rs_field.proofs.of_code.Decided.{codes_from, recovery_from, recovery_from_high}
+use Rattle.rs_field.proofs.code.worked.codes.Goals as goal
+
+-- the tests of the low rate
+low : LowRows low_rate × LowRows default_rate × ShortLineRow low_rate × CubicRow low_rate × TailRow × ChunkAndTailRow
+unfolding passes_below placement low_placement high_placement is_low next_power first_below value product combine bits from_bits cantor_basis monomials carryless reduce column xor_bytes xor_shards
+low = (
+  (
+    (codes_from _ _ _ _ _ refl, recovery_from _ _ _ ((2311 ∷ []) ∷ []) refl),
+    (codes_from _ _ _ _ _ refl, recovery_from _ _ _ ((0 ∷ 1 ∷ []) ∷ []) refl),
+    ((codes_from _ _ _ _ _ refl, recovery_from _ _ _ ((1 ∷ 0 ∷ []) ∷ []) refl), refl, (codes_from _ _ _ _ _ refl, recovery_from _ _ _ ((1 ∷ 1 ∷ []) ∷ []) refl), refl),
+    (codes_from _ _ _ _ _ refl, recovery_from _ _ _ ((0 ∷ 3 ∷ 2 ∷ 1 ∷ []) ∷ []) refl),
+  ),
+  (
+    (codes_from _ _ _ _ _ refl, recovery_from _ _ _ ((2311 ∷ []) ∷ []) refl),
+    (codes_from _ _ _ _ _ refl, recovery_from _ _ _ ((0 ∷ 1 ∷ []) ∷ []) refl),
+    ((codes_from _ _ _ _ _ refl, recovery_from _ _ _ ((1 ∷ 0 ∷ []) ∷ []) refl), refl, (codes_from _ _ _ _ _ refl, recovery_from _ _ _ ((1 ∷ 1 ∷ []) ∷ []) refl), refl),
+    (codes_from _ _ _ _ _ refl, recovery_from _ _ _ ((0 ∷ 3 ∷ 2 ∷ 1 ∷ []) ∷ []) refl),
+  ),
+  (codes_from _ _ _ _ _ refl, recovery_from _ _ _ ((0 ∷ 1 ∷ []) ∷ []) refl),
+  (codes_from _ _ _ _ _ refl, recovery_from _ _ _ ((0 ∷ 0 ∷ 1 ∷ 1 ∷ []) ∷ []) refl),
+  recovery_from _ _ _ ((0 ∷ 0 ∷ []) ∷ (0 ∷ 1 ∷ []) ∷ []) refl,
+  -- 32 columns are zero, and the last is the polynomial x
+  recovery_from _ _ _ (replicate 32 (0 ∷ 0 ∷ []) ++ (0 ∷ 1 ∷ []) ∷ []) refl,
+)
+
+-- those of the high rate, below 4 or below 8
+high : HighRows high_rate × HighRows default_rate
+unfolding passes_below is_low next_power first_below value product combine bits from_bits cantor_basis monomials carryless reduce column
+high = (
+  (
+    recovery_from_high 2 _ _ _ ((10773 ∷ 15782 ∷ 5554 ∷ []) ∷ []) refl,
+    recovery_from_high 2 _ _ _ ((2 ∷ 1 ∷ []) ∷ []) refl,
+    recovery_from_high 3 _ _ _ ((11 ∷ 6 ∷ 5 ∷ 1 ∷ []) ∷ []) refl,
+    recovery_from_high 3 _ _ _ ((3 ∷ 6 ∷ 15 ∷ 4 ∷ 2 ∷ 9 ∷ []) ∷ []) refl,
+  ),
+  (
+    recovery_from_high 2 _ _ _ ((10773 ∷ 15782 ∷ 5554 ∷ []) ∷ []) refl,
+    recovery_from_high 2 _ _ _ ((2 ∷ 1 ∷ []) ∷ []) refl,
+    recovery_from_high 3 _ _ _ ((11 ∷ 6 ∷ 5 ∷ 1 ∷ []) ∷ []) refl,
+    recovery_from_high 3 _ _ _ ((3 ∷ 6 ∷ 15 ∷ 4 ∷ 2 ∷ 9 ∷ []) ∷ []) refl,
+  ),
+)
+
+pub returns : goal.returns
+returns c = record {
+  low = low.0;
+  short_line = low.2;
+  cubic = low.3;
+  high = high.0;
+  default_low = low.1;
+  tail = low.4;
+  chunk_and_tail = low.5;
+  default_high = high.1;
+}

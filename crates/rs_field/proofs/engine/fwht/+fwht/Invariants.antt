@@ -1,5 +1,0 @@
-use Rattle.std.proofs.Common.{length}
-use Rattle.rs_field.proofs.engine.fwht.+fwht.Given as goal
-
-abbrev pub decreases-fwht : goal.decreases-fwht
-decreases-fwht l = length l.«data».now

@@ -1,9 +1,0 @@
-use Rattle.std.proofs.Common.{refl}
-use Rattle.rs_field.proofs.LogWalsh.{all-from_below}
-use Rattle.rs_field.proofs.engine.lent_tables.LentTables.log_walsh.Goals as goal
-
-pub log_walsh_below-requires-clause-power : goal.log_walsh_below-requires-clause-power
-log_walsh_below-requires-clause-power c = (16, refl)
-
-pub returns : goal.returns
-returns c = all-from_below c.log_walsh_below.result.now c.log_walsh_below.ensures

@@ -1,6 +1,0 @@
-use Rattle.std.proofs.Common.{◌∙◌}
-use Rattle.rs_field.proofs.Sums.{high_of_four}
-use Rattle.rs_field.proofs.engine.mul128.high_bytes.Goals as goal
-
-pub returns : goal.returns
-returns c n f i are h = c.spread.ensures i h ∙ high_of_four n f c.args.words.now i are h

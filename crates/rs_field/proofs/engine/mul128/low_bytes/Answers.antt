@@ -1,6 +1,0 @@
-use Rattle.std.proofs.Common.{◌∙◌}
-use Rattle.rs_field.proofs.Sums.{low_of_four}
-use Rattle.rs_field.proofs.engine.mul128.low_bytes.Goals as goal
-
-pub returns : goal.returns
-returns c n f i are h = c.spread.ensures i h ∙ low_of_four n f c.args.words.now i are h

@@ -1,6 +1,0 @@
-use Rattle.rs_field.specs.View.{cell}
-use Rattle.rs_field.proofs.engine.rows.mul_row.Goals as goal
-
-pub returns-clause-products : goal.returns-clause-products
-unfolding cell
-returns-clause-products g c k s inside symbols = c.mul_part.ensures.products k s inside symbols

@@ -1,5 +1,0 @@
-use Rattle.rs_field.proofs.WalshLanes.{larger_lane}
-use Rattle.rs_field.proofs.engine.walsh_lanes.larger.Goals as goal
-
-pub returns : goal.returns
-returns c i h = larger_lane c.args.x c.args.y i c.fits-x.0 c.fits-y.0 h

@@ -1,8 +1,0 @@
-use Rattle.std.proofs.Common.{◌≡◌, ◌+◌, get_or, ap, ◌∙◌, arith}
-use Rattle.std.proofs.lemmas.Simd.{get_or-chunk}
-use Rattle.rs_field.proofs.engine.walsh_lanes.load.Goals as goal
-
-pub returns : goal.returns
-returns c i h =
-    let z : 0 + i ≡ i = omega arith in
-    get_or-chunk 0 16 c.args.data.now i 0 h ∙ ap (λ k. get_or c.args.data.now k 0) z

@@ -1,0 +1,26 @@
+-- Lemmas of the code: who codes and restores what, states, round trips. They rest on `words`, and on where shards lie in `rows`.
+pub mod NextPower
+pub mod Columns
+pub mod Given
+pub mod Listed
+pub mod Unique
+pub mod HighCodes
+pub mod Decided
+pub mod Frame
+pub mod SupportedCounts
+pub mod SupportedRanges
+pub mod RateFrames
+pub mod ErasedCount
+pub mod DecodedColumn
+pub mod Places
+pub mod Linearity
+pub mod CodedWords
+pub mod MadeShards
+pub mod EqualPowers
+pub mod AgreeingMessages
+pub mod Agreement
+pub mod Changes
+pub mod Entries
+pub mod RoundTrip
+pub mod OneRoundTrip
+pub mod Left

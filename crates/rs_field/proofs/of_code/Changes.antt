@@ -1,0 +1,77 @@
+-- Changed shards are noticed: no message agrees with k shards of a codeword and others that are changed.
+use Rattle.std.proofs.Common.{◌≡◌, ℕ, zero, suc, ◌+◌, ◌%◌, ◌<◌, ◌≤◌, Bool, true, false, cond, List, [], refl, sym, ap, ap₂, ◌∙◌, arith, subst}
+use Rattle.std.specs.Prelude.{Option, Some, None, is_some, unwrap_or, bytes_eq}
+use Rattle.std.proofs.lemmas.Option.{none-some}
+use Rattle.std.proofs.lemmas.Slice.Eq.{bytes_eq-Decides}
+use Rattle.rs_field.specs.code.Column.{Shard, AreShards, shard_at}
+use Rattle.rs_field.specs.code.Counts.{supports}
+use Rattle.rs_field.specs.code.Configuration.{Configuration}
+use Rattle.rs_field.specs.code.Code.{AreRecovery}
+use Rattle.rs_field.specs.code.Given.{Shards, count_below, AreAmong, Agrees, Consistent}
+use Rattle.rs_field.specs.code.CodeLaws.{changed}
+use Rattle.rs_field.proofs.of_code.Given.{count_below-zero, count_below-suc}
+use Rattle.rs_field.proofs.of_code.Unique.{recovery_unique}
+use Rattle.rs_field.proofs.of_code.RateFrames.{few_originals}
+use Rattle.rs_field.proofs.of_code.Agreement.{one_message}
+use Rattle.std.proofs.lemmas.Grind.{common_steps}
+
+-- those of the given shards that are the list's
+kept : Shards → List Shard → Shards
+kept given shards i = cond (bytes_eq (unwrap_or (given i) []) (shard_at shards i)) (given i) None
+
+-- an entry is kept or changed
+count-kept : (n : ℕ) (given : Shards) (shards : List Shard) → count_below n (changed given shards) + count_below n (kept given shards) ≡ count_below n given
+unfolding changed kept
+count-kept zero given shards = grind (arith, common_steps, count_below-zero)
+count-kept (suc n) given shards = grind (arith, common_steps, count_below-suc, count-kept n given shards)
+
+-- what is kept is given, and is the list's
+kept_given : (given : Shards) (shards : List Shard) (i : ℕ) (shard : Shard) → kept given shards i ≡ Some shard → (given i ≡ Some shard) × (shard_at shards i ≡ shard)
+unfolding kept
+kept_given given shards i shard e = grind (arith, common_steps, bytes_eq-Decides, none-some)
+
+either_none : (b : Bool) → ◌≡◌ {A = Option Shard} (cond b None None) None
+either_none true = refl
+either_none false = refl
+
+-- where all given shards are the list's, none is changed
+none_changed : (n : ℕ) (given : Shards) (shards : List Shard) → AreAmong given shards → count_below n (changed given shards) ≡ 0
+unfolding changed
+none_changed zero given shards are = count_below-zero (changed given shards)
+none_changed (suc n) given shards are =
+    count_below-suc n (changed given shards)
+    ∙ ap₂ (λ m o. m + cond (is_some o) 1 0) (none_changed n given shards are) (by_entry (given n) refl)
+  where
+    by_entry : (o : Option Shard) → given n ≡ o → changed given shards n ≡ None
+    by_entry None e = ap (λ (o : Option Shard). cond (bytes_eq (unwrap_or o []) (shard_at shards n)) None o) e ∙ either_none (bytes_eq [] (shard_at shards n))
+    by_entry (Some s) e =
+        ap (λ (b : Bool). cond b None (given n))
+        ((bytes_eq-Decides (unwrap_or (given n) []) (shard_at shards n)).1 (ap (λ o. unwrap_or o []) e ∙ sym (are n s e)))
+
+-- with at least one shard changed and k that are not, no message agrees
+pub changes_noticed : (c : Configuration) (message all : List Shard) (originals recovery : Shards)
+    → supports c.rate c.original_count c.recovery_count ≡ true → c.shard_bytes % 2 ≡ 0
+    → AreShards c.original_count c.shard_bytes message → AreRecovery c message all
+    → 0 < count_below c.original_count (changed originals message) + count_below c.recovery_count (changed recovery all)
+    → count_below c.original_count (changed originals message) + count_below c.recovery_count (changed recovery all) + c.original_count
+    ≤ count_below c.original_count originals + count_below c.recovery_count recovery
+    → Consistent c originals recovery → ⊥
+changes_noticed c message all originals recovery is even are own some few (other, a) =
+    let own_count = count-kept c.original_count originals message in
+    let coded_count = count-kept c.recovery_count recovery all in
+    let here : Agrees c (kept originals message) (kept recovery all) message = record {
+      shards = are;
+      own = λ i s e. (kept_given originals message i s e).1;
+      coded = (all, own, λ i s e. (kept_given recovery all i s e).1);
+    } in
+    let there : Agrees c (kept originals message) (kept recovery all) other = record {
+      shards = a.shards;
+      own = λ i s e. a.own i s (kept_given originals message i s e).0;
+      coded = (a.coded.0, a.coded.1, λ i s e. a.coded.2 i s (kept_given recovery all i s e).0);
+    } in
+    let same : message ≡ other = one_message c (kept originals message) (kept recovery all) message other is even (omega arith) here there in
+    let same_recovery : all ≡ a.coded.0 = recovery_unique c message all a.coded.0 (few_originals c.rate c.original_count c.recovery_count is) even own
+    (subst (λ (m : List Shard). AreRecovery c m a.coded.0) (sym same) a.coded.1) in
+    let none_own = none_changed c.original_count originals message (λ i s e. ap (λ (m : List Shard). shard_at m i) same ∙ a.own i s e) in
+    let none_coded = none_changed c.recovery_count recovery all (λ i s e. ap (λ (m : List Shard). shard_at m i) same_recovery ∙ a.coded.2 i s e) in
+    omega arith

@@ -1,0 +1,109 @@
+-- What a column of a shard is, and that its columns fix a shard.
+use Rattle.std.proofs.Common.{◌≡◌, ℕ, ◌+◌, ◌-◌, ◌*◌, ◌/◌, ◌%◌, ◌<◌, ◌≤◌, List, [], length, min, refl, sym, ap, ◌∙◌, subst, arith, inl, inr}
+use Rattle.std.specs.Prelude.{slice_index}
+use Rattle.std.proofs.Math.Nat.{min-eq_left, min-eq_right}
+use Rattle.std.proofs.lemmas.Bool.{cases_lt}
+use Rattle.std.proofs.lemmas.List.{ext_get_or}
+use Rattle.std.proofs.Math.ListN.{get_or, get_or-map}
+use Rattle.rs_field.specs.code.Column.{Shard, IsShard, AreShards, shard_at, column, columns, chunk_words}
+use Rattle.std.proofs.lemmas.Grind.{common_steps}
+
+-- word i of chunk q
+pub column-at : (q i : ℕ) (s : Shard) → i < 32 → column (q * 32 + i) s ≡ slice_index s (q * 64 + i) + 256 * slice_index s (q * 64 + i + chunk_words s (q * 64))
+unfolding column
+column-at q i s h = grind (arith, common_steps)
+
+-- in a whole chunk the high byte stands 32 bytes after the low one
+pub column-chunk : (q i : ℕ) (s : Shard) → i < 32 → q * 64 + 64 ≤ length s → column (q * 32 + i) s ≡ slice_index s (q * 64 + i) + 256 * slice_index s (q * 64 + i + 32)
+column-chunk q i s h fits = grind (arith, common_steps, column-at, min-eq_left)
+
+-- in a tail of L bytes it stands L / 2 bytes after it
+pub column-tail : (q i : ℕ) (s : Shard) → i < 32 → q ≡ length s / 64 → column (q * 32 + i) s ≡ slice_index s (q * 64 + i) + 256 * slice_index s (q * 64 + i + length s % 64 / 2)
+column-tail q i s h last = grind (arith, common_steps, column-at, min-eq_right)
+
+-- two words are equal only if their low and high bytes are
+halves : (a b c d : ℕ) → a < 256 → c < 256 → a + 256 * b ≡ c + 256 * d → (a ≡ c) × (b ≡ d)
+halves a b c d ha hc e = (omega arith, omega arith)
+
+-- an entry of a shard is a byte, also the zero past its end
+pub byte_lt : (size : ℕ) (s : Shard) → IsShard size s → (i : ℕ) → slice_index s i < 256
+byte_lt size s h i = grind (arith, common_steps)
+
+-- shards of one size with the same columns are equal
+pub shard_from_columns : (size : ℕ) (s t : Shard) → IsShard size s → IsShard size t → size % 2 ≡ 0
+    → ((j : ℕ) → j < size / 2 → column j s ≡ column j t) → s ≡ t
+shard_from_columns size s t hs ht even same =
+    ext_get_or 0 s t (hs.length_is ∙ sym ht.length_is) (λ b hb. byte b (subst (λ (n : ℕ). b < n) hs.length_is hb))
+  where
+    -- the two bytes of word i of a chunk of w words
+    both : (q i w : ℕ) → i < w → w ≤ 32 → q * 64 + 2 * w ≤ size → chunk_words s (q * 64) ≡ w → chunk_words t (q * 64) ≡ w
+        → (slice_index s (q * 64 + i) ≡ slice_index t (q * 64 + i)) × (slice_index s (q * 64 + i + w) ≡ slice_index t (q * 64 + i + w))
+    both q i w hi hw fits ws wt =
+        let small : i < 32 = omega arith in
+        let place : q * 32 + i < size / 2 = omega arith in
+        halves (slice_index s (q * 64 + i)) _ (slice_index t (q * 64 + i)) _ (byte_lt size s hs (q * 64 + i)) (byte_lt size t ht (q * 64 + i))
+        (ap (λ v. slice_index s (q * 64 + i) + 256 * slice_index s (q * 64 + i + v)) (sym ws) ∙ sym (column-at q i s small) ∙ same (q * 32 + i) place
+        ∙ column-at q i t small ∙ ap (λ v. slice_index t (q * 64 + i) + 256 * slice_index t (q * 64 + i + v)) wt)
+
+    -- byte r of a chunk of w words
+    at : (q r w : ℕ) → r < 2 * w → w ≤ 32 → q * 64 + 2 * w ≤ size → chunk_words s (q * 64) ≡ w → chunk_words t (q * 64) ≡ w
+        → slice_index s (q * 64 + r) ≡ slice_index t (q * 64 + r)
+    at q r w hr hw fits ws wt =
+        elim (cases_lt r w) [
+          | inl low ↦ (both q r w low hw fits ws wt).0
+          | inr high ↦
+              let place : q * 64 + (r - w) + w ≡ q * 64 + r = omega arith in
+              let low : r - w < w = omega arith in
+              ap (slice_index s) (sym place) ∙ (both q (r - w) w low hw fits ws wt).1 ∙ ap (slice_index t) place
+        ]
+
+    -- each byte, by the chunk that it is in
+    byte : (b : ℕ) → b < size → slice_index s b ≡ slice_index t b
+    byte b hb =
+        let place : b / 64 * 64 + b % 64 ≡ b = omega arith in
+        let under : b % 64 < 64 = omega arith in
+        let fits : b / 64 * 64 ≤ size = omega arith in
+        let words : (u : Shard) → length u ≡ size → (w : ℕ) → min 64 (size - b / 64 * 64) / 2 ≡ w → chunk_words u (b / 64 * 64) ≡ w
+        = λ u e w is. ap (λ n. min 64 (n - b / 64 * 64) / 2) e ∙ is in
+        ap (slice_index s) (sym place)
+        ∙ elim (cases_lt (size - b / 64 * 64) 64) [
+          | inl tail ↦
+              let is : min 64 (size - b / 64 * 64) / 2 ≡ (size - b / 64 * 64) / 2 = ap (λ n. n / 2) (min-eq_right (let h : size - b / 64 * 64 ≤ 64 = omega arith in h)) in
+              at (b / 64) (b % 64) ((size - b / 64 * 64) / 2) (omega arith) (omega arith) (omega arith) (words s hs.length_is _ is) (words t ht.length_is _ is)
+          | inr whole ↦
+              let is : min 64 (size - b / 64 * 64) / 2 ≡ 32 = ap (λ n. n / 2) (min-eq_left whole) in
+              at (b / 64) (b % 64) 32 (omega arith) (omega arith) (omega arith) (words s hs.length_is _ is) (words t ht.length_is _ is)
+        ]
+        ∙ ap (slice_index t) place
+
+-- an empty shard has zero columns
+column-none : (j : ℕ) → column j [] ≡ 0
+unfolding column
+column-none j = refl
+
+-- column j of shard i
+pub columns-at : (j : ℕ) (xs : List Shard) (i : ℕ) → slice_index (columns j xs) i ≡ column j (shard_at xs i)
+columns-at j xs i = ap (λ d. get_or (columns j xs) i d) (sym (column-none j)) ∙ get_or-map (column j) xs i []
+
+-- shard i of so many
+pub shard_in : (count size : ℕ) (shards : List Shard) → AreShards count size shards → (i : ℕ) → i < count → IsShard size (shard_at shards i)
+shard_in count size shards h i hi = h.each i [] (subst (λ (n : ℕ). i < n) (sym h.length_is) hi)
+
+-- columns are words
+pub column_lt : (size : ℕ) (s : Shard) (j : ℕ) → IsShard size s → column j s < 65536
+unfolding column
+column_lt size s j h = grind (arith, common_steps)
+
+pub columns_lt : (n size : ℕ) (shards : List Shard) → AreShards n size shards → (j i : ℕ) → i < n → slice_index (columns j shards) i < 65536
+columns_lt n size shards h j i hi =
+    subst (λ (v : ℕ). v < 65536) (sym (columns-at j shards i))
+    (column_lt size (shard_at shards i) j (shard_in n size shards h i hi))
+
+-- lists of so many shards of one even size with the same columns are equal
+pub shards_from_columns : (count size : ℕ) (a b : List Shard) → AreShards count size a → AreShards count size b → size % 2 ≡ 0
+    → ((i j : ℕ) → i < count → j < size / 2 → slice_index (columns j a) i ≡ slice_index (columns j b) i) → a ≡ b
+shards_from_columns count size a b ha hb even same =
+    ext_get_or [] a b (ha.length_is ∙ sym hb.length_is) (λ i h.
+    let below : i < count = subst (λ (n : ℕ). i < n) ha.length_is h in
+    shard_from_columns size (shard_at a i) (shard_at b i) (ha.each i [] h) (hb.each i [] (subst (λ (n : ℕ). i < n) (sym hb.length_is) below)) even
+    (λ j hj. sym (columns-at j a i) ∙ same i j below hj ∙ columns-at j b i))

@@ -1,0 +1,145 @@
+-- Where both counts have one power, both rates have the same recovery words.
+use Rattle.std.proofs.Common.{◌≡◌, ℕ, suc, ◌+◌, ◌-◌, ◌*◌, ◌^◌, ◌<◌, ◌≤◌, List, [], ◌∷◌, length, bit_xor, refl, sym, ap, ap₂, ◌∙◌, arith, inl, inr, one-mul, zero-add, pow_mono, pow-suc}
+use Rattle.std.specs.Prelude.{slice_index, ◌↔◌, true}
+use Rattle.std.specs.Int.Bits.{xor_comm, xor_shifted}
+use Rattle.std.proofs.lemmas.Bool.{cases_lt}
+use Rattle.rs_field.specs.words.Field.{product}
+use Rattle.rs_field.specs.words.Polynomial.{value}
+use Rattle.rs_field.specs.code.Counts.{low_rate, high_rate, next_power, supports, is_low}
+use Rattle.rs_field.specs.code.Placement.{placement, low_placement, high_placement}
+use Rattle.rs_field.specs.code.Code.{Codes, AreRecoveryWords, AreRecovery}
+use Rattle.rs_field.specs.code.Column.{Shard, columns}
+use Rattle.rs_field.specs.code.Configuration.{configuration}
+use Rattle.rs_field.proofs.of_words.Halves.{xor_undo}
+use Rattle.rs_field.proofs.of_words.Roots.{WordsOneByOne, value-nil, value-cons, value-one}
+use Rattle.rs_field.proofs.of_words.Factors.{add, with_root, value_add, value_with_root, length-add, length-with_root, words_add, words_with_root, all_words}
+use Rattle.rs_field.proofs.of_code.Unique.{codes_unique}
+use Rattle.rs_field.proofs.of_code.NextPower.{next_power-small, next_power-least, next_power-above}
+use Rattle.rs_field.proofs.of_code.Frame.{CodesIn, framed}
+use Rattle.rs_field.proofs.of_code.SupportedCounts.{high_fits}
+use Rattle.rs_field.proofs.of_code.RateFrames.{high_frame}
+use Rattle.rs_field.proofs.of_code.CodedWords.{recovered, coded_lt}
+
+-- ---- a polynomial with its argument moved by c
+
+moved : ℕ → List ℕ → List ℕ
+moved c [] = []
+moved c (a ∷ p) = add (with_root c (moved c p)) (a ∷ [])
+
+value-moved : (c : ℕ) (p : List ℕ) (x : ℕ) → value (moved c p) x ≡ value p (bit_xor x c)
+unfolding moved
+value-moved c [] x = value-nil x ∙ sym (value-nil (bit_xor x c))
+value-moved c (a ∷ p) x =
+    value_add (with_root c (moved c p)) (a ∷ []) x
+    ∙ ap₂ bit_xor (value_with_root c (moved c p) x ∙ ap (product (bit_xor x c)) (value-moved c p x)) (value-one a x)
+    ∙ xor_comm (product (bit_xor x c) (value p (bit_xor x c))) a ∙ sym (value-cons a p (bit_xor x c))
+
+length-moved : (c : ℕ) (p : List ℕ) → length (moved c p) ≡ length p
+unfolding moved
+length-moved c [] = refl
+length-moved c (a ∷ p) =
+    let long : length (with_root c (moved c p)) ≡ suc (length (moved c p)) = length-with_root c (moved c p) in
+    length-add (with_root c (moved c p)) (a ∷ []) (let le : 1 ≤ length (with_root c (moved c p)) = omega arith in le) ∙ long ∙ ap suc (length-moved c p)
+
+words_moved : (c : ℕ) (p : List ℕ) → WordsOneByOne p → WordsOneByOne (moved c p)
+unfolding moved
+words_moved c [] h = tt
+words_moved c (a ∷ p) h = words_add (with_root c (moved c p)) (a ∷ []) (words_with_root c (moved c p) (words_moved c p h.1)) (h.0, tt)
+
+-- ---- points moved by a power of two
+
+up : (d j : ℕ) → j < 2 ^ d → bit_xor j (2 ^ d) ≡ 2 ^ d + j
+up d j h = xor_comm j (2 ^ d) ∙ ap (λ w. bit_xor w j) (sym (one-mul (2 ^ d))) ∙ xor_shifted 1 d j h ∙ ap (λ w. w + j) (one-mul (2 ^ d))
+
+down : (d j : ℕ) → j < 2 ^ d → bit_xor (2 ^ d + j) (2 ^ d) ≡ j
+down d j h = ap (λ w. bit_xor w (2 ^ d)) (sym (up d j h)) ∙ xor_undo j (2 ^ d)
+
+-- ---- the law
+
+-- where both counts have the power m, the high rate's rows are 2 m
+rows_double : (k r d e : ℕ) → 0 < k → d ≤ 16 → next_power r ≡ 2 ^ d → k ≤ 2 ^ d → next_power (next_power r + k) ≡ 2 ^ e → next_power r + k ≤ 2 ^ e → 2 ^ e ≡ 2 ^ d + 2 ^ d
+rows_double k r d e some hd power most rows above =
+    let double : 2 ^ suc d ≡ 2 ^ d * 2 = pow-suc 2 d in
+    let least : next_power (next_power r + k) ≤ 2 ^ suc d = next_power-least (next_power r + k) (suc d) (omega arith) (omega arith) in
+    elim (cases_lt d e) [
+      | inl more ↦ let big : 2 ^ suc d ≤ 2 ^ e = pow_mono more in omega arith
+      | inr less ↦ let small : 2 ^ e ≤ 2 ^ d = pow_mono less in absurd (omega arith)
+    ]
+
+-- the high rate's polynomial, its argument moved by m, codes at the low rate
+record IsMoved (k r d : ℕ) (words p q : List ℕ) : Type 0 where
+  codes : Codes low_rate k r words q
+  recovery : (i : ℕ) → i < r → value q (2 ^ d + i) ≡ value p i
+
+moved_codes : (k r d : ℕ) (words p : List ℕ) → 0 < k → d ≤ 16 → next_power r ≡ 2 ^ d → next_power k ≡ 2 ^ d → k ≤ 2 ^ d → r ≤ 2 ^ d → next_power r + k ≤ 65536
+    → Codes high_rate k r words p → (q : List ℕ) × IsMoved k r d words p q
+unfolding placement low_placement high_placement is_low
+moved_codes k r d words p some hd power_r power_k most_k most_r fit codes =
+    let f = high_frame k r fit (omega arith) in
+    let above : next_power r + k ≤ 2 ^ f.0 = f.2.originals in
+    let rows : 2 ^ f.0 ≡ 2 ^ d + 2 ^ d = rows_double k r d f.0 some hd power_r most_k f.1 above in
+    let q = framed high_rate k r f.0 (2 ^ f.0 - next_power r) (2 ^ f.0) words p f.2 codes in
+    let c : CodesIn (high_placement k r) k (2 ^ f.0 - next_power r) (2 ^ f.0) words q.0 = q.1 in
+    let at : (j : ℕ) → j < 2 ^ d → value (moved (2 ^ d) q.0) j ≡ value q.0 (2 ^ d + j) = λ j hj. value-moved (2 ^ d) q.0 j ∙ ap (value q.0) (up d j hj) in (
+      moved (2 ^ d) q.0,
+      record {
+        codes = record {
+          degree = length-moved (2 ^ d) q.0 ∙ c.degree ∙ omega arith;
+          coefficients = all_words (moved (2 ^ d) q.0) (words_moved (2 ^ d) q.0 c.coefficients);
+          originals = λ j hj.
+              ap (value (moved (2 ^ d) q.0)) (zero-add j) ∙ at j (omega arith)
+              ∙ ap (λ m. value q.0 (m + j)) (sym power_r) ∙ c.originals j hj;
+          zeros = λ x a b. at x (omega arith) ∙ c.zeros (2 ^ d + x) (omega arith) (omega arith);
+        };
+        recovery = λ i hi. value-moved (2 ^ d) q.0 (2 ^ d + i) ∙ ap (value q.0) (down d i (omega arith)) ∙ q.2 i (omega arith);
+      },
+    )
+
+equal_powers : (k r : ℕ) (words low high : List ℕ) → 0 < k → next_power k ≡ next_power r → next_power r + k ≤ 65536
+    → AreRecoveryWords low_rate k r words low → AreRecoveryWords high_rate k r words high → (i : ℕ) → i < r → slice_index low i ≡ slice_index high i
+unfolding placement low_placement high_placement is_low
+equal_powers k r words low high some same fit (p, hp, at_low) (o, ho, at_high) i hi =
+    let most_r : r ≤ next_power r = next_power-above r (omega arith) in
+    by_power (next_power-small r (omega arith))
+  where
+    by_moved : (d : ℕ) → next_power k ≡ 2 ^ d → k ≤ 65536 → (q : List ℕ) × IsMoved k r d words o q → slice_index low i ≡ slice_index high i
+    by_moved d power few (q, m) =
+        at_low i hi
+        ∙ ap (λ (w : List ℕ). value w (next_power k + i)) (codes_unique low_rate k r words p q few hp m.codes)
+        ∙ ap (λ w. value q (w + i)) power
+        ∙ m.recovery i hi
+        ∙ ap (value o) (sym (zero-add i))
+        ∙ sym (at_high i hi)
+
+    by_power : (d : ℕ) × (d ≤ 16) × (next_power r ≡ 2 ^ d) × (r ≤ next_power r) → slice_index low i ≡ slice_index high i
+    by_power (d, hd, power, most_r) =
+        let most_k : k ≤ next_power k = next_power-above k (omega arith) in
+        by_moved d (same ∙ power) (omega arith) (moved_codes k r d words o some hd power (same ∙ power) (omega arith) (omega arith) fit ho)
+
+-- so recovery words at the one rate are those at the other
+to_high : (k r : ℕ) (words recovery : List ℕ) → supports low_rate k r ≡ true → supports high_rate k r ≡ true → next_power k ≡ next_power r
+    → AreRecoveryWords low_rate k r words recovery → AreRecoveryWords high_rate k r words recovery
+to_high k r words recovery low high same own =
+    by_recovery (recovered high_rate k r words high (coded_lt low_rate k r words own.0 own.1))
+  where
+    by_recovery : (other : List ℕ) × (length other ≡ r) × AreRecoveryWords high_rate k r words other → AreRecoveryWords high_rate k r words recovery
+    by_recovery (other, size, (o, codes, at)) =
+        let f = high_fits k r high in
+        (o, codes, λ i hi. equal_powers k r words recovery other f.0 same f.2 own (o, codes, at) i hi ∙ at i hi)
+
+to_low : (k r : ℕ) (words recovery : List ℕ) → supports low_rate k r ≡ true → supports high_rate k r ≡ true → next_power k ≡ next_power r
+    → AreRecoveryWords high_rate k r words recovery → AreRecoveryWords low_rate k r words recovery
+to_low k r words recovery low high same own = by_recovery (recovered low_rate k r words low (coded_lt high_rate k r words own.0 own.1))
+  where
+    by_recovery : (other : List ℕ) × (length other ≡ r) × AreRecoveryWords low_rate k r words other → AreRecoveryWords low_rate k r words recovery
+    by_recovery (other, size, (o, codes, at)) =
+        let f = high_fits k r high in
+        (o, codes, λ i hi. sym (equal_powers k r words other recovery f.0 same f.2 (o, codes, at) own i hi) ∙ at i hi)
+
+-- and recovery shards
+pub one_code : (k r size : ℕ) (message recovery : List Shard) → supports low_rate k r ≡ true → supports high_rate k r ≡ true → next_power k ≡ next_power r
+    → AreRecovery (configuration low_rate k r size) message recovery ↔ AreRecovery (configuration high_rate k r size) message recovery
+one_code k r size message recovery low high same = (
+  λ h. record { shards = h.shards; words = λ j hj. to_high k r (columns j message) (columns j recovery) low high same (h.words j hj) },
+  λ h. record { shards = h.shards; words = λ j hj. to_low k r (columns j message) (columns j recovery) low high same (h.words j hj) },
+)

@@ -1,0 +1,21 @@
+-- A polynomial that is made zero at all other points codes the originals of the high rate.
+use Rattle.std.proofs.Common.{◌≡◌, ℕ, ◌+◌, ◌-◌, ◌^◌, ◌<◌, ◌≤◌, List, length, arith}
+use Rattle.std.specs.Prelude.{slice_index}
+use Rattle.std.proofs.lemmas.Bool.{cases_lt}
+use Rattle.rs_field.specs.words.Polynomial.{value}
+use Rattle.rs_field.specs.code.Counts.{Rate, next_power}
+use Rattle.rs_field.specs.code.Placement.{placement, high_placement}
+use Rattle.rs_field.specs.code.Code.{Codes}
+use Rattle.rs_field.proofs.of_words.Roots.{WordsOneByOne}
+use Rattle.rs_field.proofs.of_words.Factors.{points, times, length-times, words_times, all_words}
+use Rattle.rs_field.proofs.of_words.ZerosPast.{value-inside, zero_outside}
+use Rattle.std.proofs.lemmas.Grind.{common_steps}
+
+-- where the originals of the high rate lie below 2 ^ d, a polynomial that codes them there codes them once it is made zero at the other points
+pub high_codes : (rate : Rate) (k r d : ℕ) (words p : List ℕ) → placement rate k r ≡ high_placement k r → d ≤ 16 → 2 ^ d ≤ 65536
+    → next_power r + k ≤ 2 ^ d → length p ≡ 2 ^ d - next_power r → WordsOneByOne p
+    → ((j : ℕ) → j < k → value p (next_power r + j) ≡ slice_index words j) → ((x : ℕ) → next_power r + k ≤ x → x < 2 ^ d → value p x ≡ 0)
+    → Codes rate k r words (times (points (2 ^ d) (65536 - 2 ^ d)) p)
+unfolding high_placement
+high_codes rate k r d words p is hd top within size w at zero_at =
+    grind (arith, common_steps, length-times, length, all_words, words_times, points, times, value-inside, cases_lt, zero_outside)

@@ -1,0 +1,141 @@
+-- The code is linear: the recovery shards of the XOR of two messages are the XOR of their recovery shards.
+use Rattle.std.proofs.Common.{◌≡◌, ℕ, ◌+◌, ◌-◌, ◌*◌, ◌/◌, ◌%◌, ◌<◌, List, [], length, min, bit_xor, sym, ap, ap₂, ◌∙◌, subst, arith, inl, inr}
+use Rattle.std.specs.Prelude.{slice_index, slice_index_or, zip}
+use Rattle.std.specs.Int.Bits.{xor_lt}
+use Rattle.std.proofs.lemmas.Bool.{cases_lt}
+use Rattle.std.proofs.lemmas.List.{get_or-map, length-map, get_or_past}
+use Rattle.std.proofs.lemmas.Slice.Zip.{get_or-zip, length-zip}
+use Rattle.rs_field.specs.code.Column.{Shard, IsShard, AreShards, shard_at, column, columns, chunk_words}
+use Rattle.rs_field.specs.code.Counts.{Rate}
+use Rattle.rs_field.specs.code.Placement.{placement}
+use Rattle.rs_field.specs.code.Configuration.{Configuration}
+use Rattle.rs_field.specs.code.Code.{Codes, AreRecoveryWords, AreRecovery}
+use Rattle.rs_field.specs.code.CodeLaws.{xor_bytes, xor_shards}
+use Rattle.rs_field.proofs.of_words.Roots.{words_from}
+use Rattle.rs_field.proofs.of_words.Factors.{add, value_add, length-add, words_add, all_words}
+use Rattle.rs_field.proofs.of_code.Columns.{byte_lt, columns-at, shard_in}
+use Rattle.rs_field.proofs.of_rows.Symbols.{sum_of_bytes}
+
+-- ---- polynomials
+
+-- the first n words of a list are the sums of those of two others
+abbrev AreSums : ℕ → List ℕ → List ℕ → List ℕ → Type 0
+AreSums n one other sums = (i : ℕ) → i < n → slice_index sums i ≡ bit_xor (slice_index one i) (slice_index other i)
+
+-- the sum of two polynomials that code codes the sums
+codes_sums : (rate : Rate) (k r : ℕ) (one other sums p q : List ℕ) → AreSums k one other sums → Codes rate k r one p → Codes rate k r other q → Codes rate k r sums (add p q)
+codes_sums rate k r one other sums p q are hp hq =
+    let dp : length p ≡ (placement rate k r).degree_bound = hp.degree in
+    let dq : length q ≡ (placement rate k r).degree_bound = hq.degree in
+    record {
+      degree = length-add p q (omega arith) ∙ dp;
+      coefficients = all_words (add p q) (words_add p q (words_from p hp.coefficients) (words_from q hq.coefficients));
+      originals = λ j hj. value_add p q ((placement rate k r).originals_from + j) ∙ ap₂ bit_xor (hp.originals j hj) (hq.originals j hj) ∙ sym (are j hj);
+      zeros = λ x a b. value_add p q x ∙ ap₂ bit_xor (hp.zeros x a b) (hq.zeros x a b);
+    }
+
+-- so the sums of the recovery words are the recovery words of the sums
+recovery_sums : (rate : Rate) (k r : ℕ) (one other sums one_recovery other_recovery recovery : List ℕ) → AreSums k one other sums → AreSums r one_recovery other_recovery recovery
+    → AreRecoveryWords rate k r one one_recovery → AreRecoveryWords rate k r other other_recovery → AreRecoveryWords rate k r sums recovery
+recovery_sums rate k r one other sums one_recovery other_recovery recovery are are_recovery (p, codes_p, at_p) (q, codes_q, at_q) = (
+  add p q,
+  codes_sums rate k r one other sums p q are codes_p codes_q,
+  λ i hi. are_recovery i hi ∙ ap₂ bit_xor (at_p i hi) (at_q i hi) ∙ sym (value_add p q ((placement rate k r).recovery_from + i)),
+)
+
+-- ---- shards
+
+length-xor_bytes : (size : ℕ) (s t : Shard) → length s ≡ size → length t ≡ size → length (xor_bytes s t) ≡ size
+unfolding xor_bytes
+length-xor_bytes size s t hs ht =
+    length-map (zip s t) (λ pair. bit_xor pair.0 pair.1) ∙ length-zip s t ∙ (let e : min (length s) (length t) ≡ size = omega arith in e)
+
+-- a byte of the XOR of two shards of one size is the XOR of their bytes
+byte-xor : (size : ℕ) (s t : Shard) (i d : ℕ) → length s ≡ size → length t ≡ size → i < size → slice_index_or (xor_bytes s t) i d ≡ bit_xor (slice_index s i) (slice_index t i)
+unfolding xor_bytes
+byte-xor size s t i d hs ht inside =
+    let both : length (zip s t) ≡ min (length s) (length t) = length-zip s t in
+    get_or-map (λ pair. bit_xor pair.0 pair.1) (zip s t) i (0, 0) d (omega arith)
+    ∙ ap (λ (pair : ℕ × ℕ). bit_xor pair.0 pair.1) (get_or-zip s t i (0, 0) (omega arith) (omega arith))
+
+-- also past their end
+any_byte-xor : (size : ℕ) (s t : Shard) (i : ℕ) → length s ≡ size → length t ≡ size → slice_index (xor_bytes s t) i ≡ bit_xor (slice_index s i) (slice_index t i)
+any_byte-xor size s t i hs ht =
+    elim (cases_lt i size) [
+      | inl inside ↦ byte-xor size s t i 0 hs ht inside
+      | inr past ↦
+          get_or_past (xor_bytes s t) i 0 (let e = length-xor_bytes size s t hs ht in omega arith)
+          ∙ sym (ap₂ bit_xor (get_or_past s i 0 (omega arith)) (get_or_past t i 0 (omega arith)))
+    ]
+
+shard-xor : (size : ℕ) (s t : Shard) → IsShard size s → IsShard size t → IsShard size (xor_bytes s t)
+shard-xor size s t hs ht =
+    let same : length (xor_bytes s t) ≡ size = length-xor_bytes size s t hs.length_is ht.length_is in
+    record {
+      length_is = same;
+      bytes = λ i d h.
+          subst (λ (b : ℕ). b < 256) (sym (byte-xor size s t i d hs.length_is ht.length_is (omega arith)))
+          (xor_lt 8 (slice_index s i) (slice_index t i) (byte_lt size s hs i) (byte_lt size t ht i));
+    }
+
+-- and so of its columns
+column-xor : (size j : ℕ) (s t : Shard) → IsShard size s → IsShard size t → column j (xor_bytes s t) ≡ bit_xor (column j s) (column j t)
+unfolding column
+column-xor size j s t hs ht =
+    let start : ℕ = j / 32 * 64 in
+    let low : ℕ = j / 32 * 64 + j % 32 in
+    let w : ℕ = chunk_words s start in
+    let at : (i : ℕ) → slice_index (xor_bytes s t) i ≡ bit_xor (slice_index s i) (slice_index t i) = λ i. any_byte-xor size s t i hs.length_is ht.length_is in
+    let words : (u : Shard) → length u ≡ length s → chunk_words u start ≡ w = λ u e. ap (λ l. min 64 (l - start) / 2) e in
+    let of_xor : length (xor_bytes s t) ≡ length s = length-xor_bytes size s t hs.length_is ht.length_is ∙ sym hs.length_is in
+    ap₂ (λ a n. a + 256 * slice_index (xor_bytes s t) (low + n)) (at low) (words (xor_bytes s t) of_xor)
+    ∙ ap (λ b. bit_xor (slice_index s low) (slice_index t low) + 256 * b) (at (low + w))
+    ∙ sum_of_bytes (slice_index s low) (slice_index s (low + w)) (slice_index t low) (slice_index t (low + w)) (byte_lt size s hs low) (byte_lt size t ht low)
+    ∙ ap (λ n. bit_xor (slice_index s low + 256 * slice_index s (low + w)) (slice_index t low + 256 * slice_index t (low + n))) (sym (words t (ht.length_is ∙ sym hs.length_is)))
+
+-- shard i of the XOR of two lists of as many shards
+shard_at-xor : (count i : ℕ) (a b : List Shard) (d : Shard) → length a ≡ count → length b ≡ count → i < count
+    → slice_index_or (xor_shards a b) i d ≡ xor_bytes (shard_at a i) (shard_at b i)
+unfolding xor_shards
+shard_at-xor count i a b d ha hb h =
+    let both : length (zip a b) ≡ min (length a) (length b) = length-zip a b in
+    get_or-map (λ pair. xor_bytes pair.0 pair.1) (zip a b) i ([], []) d (omega arith)
+    ∙ ap (λ (pair : Shard × Shard). xor_bytes pair.0 pair.1) (get_or-zip a b i ([], []) (omega arith) (omega arith))
+
+length-xor_shards : (count : ℕ) (a b : List Shard) → length a ≡ count → length b ≡ count → length (xor_shards a b) ≡ count
+unfolding xor_shards
+length-xor_shards count a b ha hb =
+    length-map (zip a b) (λ pair. xor_bytes pair.0 pair.1) ∙ length-zip a b ∙ (let e : min (length a) (length b) ≡ count = omega arith in e)
+
+shards-xor : (count size : ℕ) (a b : List Shard) → AreShards count size a → AreShards count size b → AreShards count size (xor_shards a b)
+shards-xor count size a b ha hb =
+    let same : length (xor_shards a b) ≡ count = length-xor_shards count a b ha.length_is hb.length_is in
+    record {
+      length_is = same;
+      each = λ i d h.
+          let below : i < count = omega arith in
+          subst (λ (s : Shard). IsShard size s) (sym (shard_at-xor count i a b d ha.length_is hb.length_is below))
+          (shard-xor size (shard_at a i) (shard_at b i) (shard_in count size a ha i below) (shard_in count size b hb i below));
+    }
+
+columns-xor : (count size j : ℕ) (a b : List Shard) → AreShards count size a → AreShards count size b → AreSums count (columns j a) (columns j b) (columns j (xor_shards a b))
+columns-xor count size j a b ha hb i below =
+    columns-at j (xor_shards a b) i
+    ∙ ap (column j) (shard_at-xor count i a b [] ha.length_is hb.length_is below)
+    ∙ column-xor size j (shard_at a i) (shard_at b i) (shard_in count size a ha i below) (shard_in count size b hb i below)
+    ∙ sym (ap₂ bit_xor (columns-at j a i) (columns-at j b i))
+
+-- the XOR of the recovery shards of two messages are the recovery shards of their XOR
+pub recovery-xor : (c : Configuration) (one other one_recovery other_recovery : List Shard)
+    → AreShards c.original_count c.shard_bytes one → AreShards c.original_count c.shard_bytes other
+    → AreRecovery c one one_recovery → AreRecovery c other other_recovery
+    → AreRecovery c (xor_shards one other) (xor_shards one_recovery other_recovery)
+recovery-xor c one other one_recovery other_recovery a b recovery_a recovery_b = record {
+  shards = shards-xor c.recovery_count c.shard_bytes one_recovery other_recovery recovery_a.shards recovery_b.shards;
+  words = λ j hj.
+      recovery_sums c.rate c.original_count c.recovery_count (columns j one) (columns j other) (columns j (xor_shards one other))
+      (columns j one_recovery) (columns j other_recovery) (columns j (xor_shards one_recovery other_recovery))
+      (columns-xor c.original_count c.shard_bytes j one other a b)
+      (columns-xor c.recovery_count c.shard_bytes j one_recovery other_recovery recovery_a.shards recovery_b.shards)
+      (recovery_a.words j hj) (recovery_b.words j hj);
+}

@@ -1,0 +1,59 @@
+-- The shards of a map, listed with their indexes.
+use Rattle.std.proofs.Common.{◌≡◌, ℕ, zero, suc, ◌+◌, ◌-◌, ◌<◌, ◌≤◌, [], ◌∷◌, ◌++◌, length, cond, refl, sym, ap, ap₂, ◌∙◌, arith, length-append, append_assoc, append-nil, add-zero}
+use Rattle.std.proofs.Math.Nat.{add-suc, suc-add}
+use Rattle.std.specs.Prelude.{Option, Some, None, is_some}
+use Rattle.rs_field.specs.code.Column.{Shard}
+use Rattle.rs_field.specs.code.Given.{Shards, listed_one, listed_from, listed, count_below}
+use Rattle.rs_field.proofs.of_code.Given.{count_below-zero, count_below-suc}
+
+pub listed_from-zero : (from : ℕ) (given : Shards) → listed_from from 0 given ≡ []
+unfolding listed_from
+listed_from-zero from given = refl
+
+pub listed_from-suc : (from n : ℕ) (given : Shards) → listed_from from (suc n) given ≡ listed_one from (given from) ++ listed_from (suc from) n given
+unfolding listed_from
+listed_from-suc from n given = refl
+
+-- an index with no shard is passed over
+pub listed_from-none : (from n : ℕ) (given : Shards) → from < n → given from ≡ None → listed_from from (n - from) given ≡ listed_from (from + 1) (n - (from + 1)) given
+listed_from-none from n given inside none =
+    ap (λ m. listed_from from m given) (let m : n - from ≡ suc (n - (from + 1)) = omega arith in m)
+    ∙ listed_from-suc from (n - (from + 1)) given
+    ∙ ap₂ (λ o i. listed_one from o ++ listed_from i (n - (from + 1)) given) none (let i : suc from ≡ from + 1 = omega arith in i)
+
+-- an index with a shard heads the list
+pub listed_from-some : (from n : ℕ) (given : Shards) (shard : Shard) → from < n → given from ≡ Some shard
+    → listed_from from (n - from) given ≡ (from, shard) ∷ listed_from (from + 1) (n - (from + 1)) given
+listed_from-some from n given shard inside some =
+    ap (λ m. listed_from from m given) (let m : n - from ≡ suc (n - (from + 1)) = omega arith in m)
+    ∙ listed_from-suc from (n - (from + 1)) given
+    ∙ ap₂ (λ o i. listed_one from o ++ listed_from i (n - (from + 1)) given) some (let i : suc from ≡ from + 1 = omega arith in i)
+
+-- nothing is listed from the end on
+pub listed_from-past : (from n : ℕ) (given : Shards) → n ≤ from → listed_from from (n - from) given ≡ []
+listed_from-past from n given past = ap (λ m. listed_from from m given) (let m : n - from ≡ 0 = omega arith in m) ∙ listed_from-zero from given
+
+-- one index more
+listed_from-more : (from n : ℕ) (given : Shards) → listed_from from (suc n) given ≡ listed_from from n given ++ listed_one (from + n) (given (from + n))
+listed_from-more from zero given =
+    listed_from-suc from 0 given ∙ ap (λ xs. listed_one from (given from) ++ xs) (listed_from-zero (suc from) given) ∙ append-nil (listed_one from (given from))
+    ∙ ap₂ (λ xs i. xs ++ listed_one i (given i)) (sym (listed_from-zero from given)) (sym (add-zero from))
+listed_from-more from (suc n) given =
+    listed_from-suc from (suc n) given
+    ∙ ap (λ xs. listed_one from (given from) ++ xs) (listed_from-more (suc from) n given)
+    ∙ sym (append_assoc (listed_one from (given from)) (listed_from (suc from) n given) (listed_one (suc from + n) (given (suc from + n))))
+    ∙ ap₂ (λ xs i. xs ++ listed_one i (given i)) (sym (listed_from-suc from n given)) (suc-add from n ∙ sym (add-suc from n))
+
+length-one : (i : ℕ) (o : Option Shard) → length (listed_one i o) ≡ cond (is_some o) 1 0
+length-one i None = refl
+length-one i (Some shard) = refl
+
+-- as many shards are listed as indexes have one
+pub length-listed : (n : ℕ) (given : Shards) → length (listed n given) ≡ count_below n given
+length-listed zero given = ap length (listed_from-zero 0 given) ∙ sym (count_below-zero given)
+length-listed (suc n) given =
+    ap length (listed_from-more 0 n given)
+    ∙ length-append (listed n given) (listed_one (0 + n) (given (0 + n)))
+    ∙ ap₂ (λ a i. a + length (listed_one i (given i))) (length-listed n given) (let i : 0 + n ≡ n = omega arith in i)
+    ∙ ap (λ c. count_below n given + c) (length-one n (given n))
+    ∙ sym (count_below-suc n given)

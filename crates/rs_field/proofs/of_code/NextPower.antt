@@ -1,0 +1,80 @@
+-- The power of two that a count is rounded up to.
+use Rattle.std.proofs.Common.{◌≡◌, ℕ, zero, suc, ◌*◌, ◌/◌, ◌^◌, ◌<◌, ◌≤◌, max, refl, sym, ap, ◌∙◌, subst, arith, inl, inr, pow_mono, pow-suc}
+use Rattle.std.specs.Prelude.{nat_le}
+use Rattle.std.proofs.lemmas.Bool.{cases_lt, le-leb, lt-leb, leb-true}
+use Rattle.std.proofs.lemmas.Nat.{pow_pos}
+use Rattle.rs_field.specs.words.Search.{first_below}
+use Rattle.rs_field.specs.code.Counts.{next_power}
+use Rattle.rs_field.proofs.of_words.Search.{first_below-is, first_below-passes, first_below_most}
+
+-- the least power of two that is not below n, for small n
+pub next_power-small : (n : ℕ) → n ≤ 65536 → (d : ℕ) × (d ≤ 16) × (next_power n ≡ 2 ^ d) × (n ≤ next_power n)
+unfolding next_power
+next_power-small n small =
+    let d : ℕ = first_below 64 (λ e. nat_le n (2 ^ e)) in
+    let most : first_below 64 (λ e. nat_le n (2 ^ e)) ≤ 16 = first_below_most 64 (λ e. nat_le n (2 ^ e)) 16 (omega arith) (le-leb n 65536 small) in
+    (d, most, refl, leb-true n (2 ^ d) (first_below-passes 64 (λ e. nat_le n (2 ^ e)) (omega arith)))
+
+-- no power of two that is not below n is less
+pub next_power-least : (n d : ℕ) → d < 64 → n ≤ 2 ^ d → next_power n ≤ 2 ^ d
+unfolding next_power
+next_power-least n d hd h =
+    let most : first_below 64 (λ e. nat_le n (2 ^ e)) ≤ d = first_below_most 64 (λ e. nat_le n (2 ^ e)) d hd (le-leb n (2 ^ d) h) in
+    pow_mono {i = first_below 64 (λ e. nat_le n (2 ^ e))} most
+
+-- the power of two that is not below n, of which half is below n
+pub next_power-is : (n p x : ℕ) → p ≡ 2 ^ x → x < 64 → n ≤ p → p / 2 < max 1 n → p ≡ next_power n
+unfolding next_power
+next_power-is n p x power few above half =
+    power ∙ ap (λ d. 2 ^ d) (sym (first_below-is 64 (λ d. nat_le n (2 ^ d)) x few (le-leb n (2 ^ x) (omega arith)) (λ j less. lt-leb n (2 ^ j) (below j less))))
+  where
+    halved : (j y : ℕ) → j < suc y → 2 ^ suc y / 2 < max 1 n → 2 ^ j < n
+    halved j y less h =
+        let even : 2 ^ suc y ≡ 2 ^ y * 2 = pow-suc 2 y in
+        let le : 2 ^ j ≤ 2 ^ y = pow_mono (omega arith) in
+        let positive : 0 < 2 ^ j = pow_pos j in
+        omega arith
+
+    at : (j z : ℕ) → z ≡ x → j < z → 2 ^ z / 2 < max 1 n → 2 ^ j < n
+    at j zero e less h = absurd (let no : ⊥ = omega arith in no)
+    at j (suc y) e less h = halved j y less h
+
+    below : (j : ℕ) → j < x → 2 ^ j < n
+    below j less = at j x refl less (subst (λ (q : ℕ). q / 2 < max 1 n) power half)
+
+-- the power of a large number is large
+pub next_power-large : (n : ℕ) → 65536 < n → 65536 < next_power n
+unfolding next_power
+next_power-large n large =
+    elim (cases_lt 65536 (2 ^ first_below 64 (λ e. nat_le n (2 ^ e)))) [
+      | inl above ↦ above
+      | inr small ↦
+          let few : first_below 64 (λ e. nat_le n (2 ^ e)) < 17 = exponent (first_below 64 (λ e. nat_le n (2 ^ e))) small in
+          let no : n ≤ 2 ^ first_below 64 (λ e. nat_le n (2 ^ e)) = leb-true n (2 ^ first_below 64 (λ e. nat_le n (2 ^ e))) (first_below-passes 64 (λ e. nat_le n (2 ^ e)) (omega arith)) in
+          absurd (omega arith)
+    ]
+  where
+    exponent : (d : ℕ) → 2 ^ d ≤ 65536 → d < 17
+    exponent d h = elim (cases_lt d 17) [ inl few ↦ few | inr many ↦ let big : 2 ^ 17 ≤ 2 ^ d = pow_mono many in absurd (omega arith) ]
+
+-- a power of two that is small is not below its number
+pub next_power-above : (n : ℕ) → next_power n ≤ 65536 → n ≤ next_power n
+next_power-above n h =
+    elim (cases_lt 65536 n) [
+      | inl large ↦ let more : 65536 < next_power n = next_power-large n large in absurd (omega arith)
+      | inr small ↦ (next_power-small n small).3
+    ]
+
+-- ---- small powers of two are those that are their own
+
+pub power_is_own : (n d : ℕ) → n ≡ 2 ^ d → n ≤ 65536 → next_power n ≡ n
+power_is_own n d is small =
+    let positive = pow_pos d in
+    let few : d < 64 = elim (cases_lt d 64) [
+      | inl h ↦ h
+      | inr many ↦ let big : 2 ^ 64 ≤ 2 ^ d = pow_mono many in absurd (let no : ⊥ = omega arith in no)
+    ] in
+    sym (next_power-is n n d is few (omega arith) (omega arith))
+
+pub own_is_power : (n : ℕ) → next_power n ≡ n → n ≤ 65536 → (d : ℕ) × (n ≡ 2 ^ d)
+own_is_power n own small = let p = next_power-small n small in (p.0, sym own ∙ p.2)

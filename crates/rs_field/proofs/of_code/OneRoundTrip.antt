@@ -1,0 +1,399 @@
+-- What one-call `encode` coded, and what one-call `decode` brings back of it.
+use Rattle.std.proofs.Common.{◌≡◌, ℕ, ◌+◌, ◌<◌, ◌≤◌, ◌++◌, ◌∷◌, ◌^◌, [], Bool, true, false, cond, not, ◌&&◌, List, length, refl, sym, ap, ap₂, subst, ◌∙◌, inl, inr, arith, append_assoc, append-nil, length-append, All, nat_eq, add-zero, zero-add}
+use Rattle.std.specs.Prelude.{Result, Ok, Err, Some, None, is_some, IfOk, IfErr, IsOkAnd, MatchResult, nat_le, nat_lt}
+use Rattle.std.specs.List.{AllByRecursion, IsDistinct, list_any}
+use Rattle.std.proofs.lemmas.Bool.{lt-leb, eqb-false, eq-eqb, ne_eqb, ltb-true, or_from}
+use Rattle.std.proofs.lemmas.List.Elements.{All-nil, All-cons, recursion_from_All}
+use Rattle.std.proofs.lemmas.Map.Keys.{IsDistinct-head, IsDistinct-tail}
+use Rattle.rs_field.specs.declared.code.error.Error.{Error}
+use Rattle.rs_field.specs.declared.code.error.Error.TheVariants.{UnsupportedShardCount, TooFewOriginalShards, NotEnoughShards, OutOfMemory}
+use Rattle.rs_field.specs.code.Column.{Shard, IsShard, AreShards, shard_at}
+use Rattle.rs_field.specs.code.Counts.{Rate, default_rate, supports}
+use Rattle.rs_field.specs.code.Placement.{encoder_rows, decoder_rows}
+use Rattle.rs_field.specs.code.Outcome.{answer_of, result_and_then}
+use Rattle.rs_field.specs.code.Configuration.{Configuration, validated, space, started}
+use Rattle.rs_field.specs.code.Code.{AreRecovery}
+use Rattle.rs_field.specs.code.Given.{Shards, nothing, entered, count_below, AreAmong}
+use Rattle.rs_field.specs.code.Encoder.{EncoderState, IsEncoder, fresh_encoder, with_shard, EncodeAnswers}
+use Rattle.rs_field.specs.code.Decoder.{DecoderState, fresh_decoder, with_original, with_recovery, missing_of, DecodeAnswers}
+use Rattle.rs_field.specs.code.OneCall.{Items, default_of, counted, one_by_one, with_shards, with_originals, with_recoveries, with_both, encoding, noted, all_came, OneEncodeAnswers, OneDecodes, OneDecodeAnswers}
+use Rattle.rs_field.specs.code.RoundTrip.{AreCoded, AreLeft, enough_left, lost_of, GivesBack, OneBringsBack}
+use Rattle.rs_field.proofs.of_code.Given.{nothing_among}
+use Rattle.rs_field.proofs.of_code.Entries.{entered_all, count-nothing, AreFree, indexes, free-next, count-entered_all, among-entered_all, some-entered_all, all_some}
+use Rattle.rs_field.proofs.of_code.RoundTrip.{answered, restores_lost}
+use Rattle.rs_field.proofs.of_code.SupportedCounts.{default_fits}
+use Rattle.std.proofs.lemmas.Grind.{common_steps}
+
+-- a step after a success was reached by that success
+then_ok : {S T : Type 0} (f : S → Result T Error) (o : Result S Error) (t : T) → result_and_then f o ≡ Ok t → (s : S) × (o ≡ Ok s) × (f s ≡ Ok t)
+then_ok f (Ok s) t is = (s, refl, is)
+then_ok f (Err e) t is = absurd (let no : ⊥ = cc in no)
+
+-- ---- what was coded
+
+-- a shard that an encoder took has its size, and there was room for it
+one_taken : (s : EncoderState) (x : Shard) (t : EncoderState) → with_shard s x ≡ Ok t
+    → (t ≡ record s { given = s.given ++ x ∷ [] }) × (length x ≡ s.configuration.shard_bytes) × (length s.given < s.configuration.original_count)
+one_taken s x t is = grind (arith, common_steps)
+
+-- shards that an encoder took
+record AreTaken (s : EncoderState) (shards : List Shard) (t : EncoderState) : Type 0 where
+  pub of : t.configuration ≡ s.configuration
+  pub given : t.given ≡ s.given ++ shards
+  pub sized : All (λ x. length x ≡ s.configuration.shard_bytes) shards
+  pub few : length s.given ≤ s.configuration.original_count → length t.given ≤ s.configuration.original_count
+
+taken : (shards : List Shard) (s t : EncoderState) → with_shards s shards ≡ Ok t → AreTaken s shards t
+taken [] s t is =
+    let same : t ≡ s = cc in
+    record {
+      of = ap (λ (u : EncoderState). u.configuration) same;
+      given = ap (λ (u : EncoderState). u.given) same ∙ sym (append-nil s.given);
+      sized = All-nil (λ y. length y ≡ s.configuration.shard_bytes);
+      few = λ h. subst (λ (u : EncoderState). length u.given ≤ s.configuration.original_count) (sym same) h;
+    }
+taken (x ∷ xs) s t is =
+    let first = then_ok (λ next. one_by_one with_shard next xs) (with_shard s x) t is in
+    let one = one_taken s x first.0 first.1 in
+    let more = taken xs first.0 t first.2 in
+    let same : first.0.configuration ≡ s.configuration = ap (λ (u : EncoderState). u.configuration) one.0 in
+    let now : first.0.given ≡ s.given ++ x ∷ [] = ap (λ (u : EncoderState). u.given) one.0 in
+    let count : first.0.configuration.original_count ≡ s.configuration.original_count = ap (λ (c : Configuration). c.original_count) same in
+    record {
+      of = more.of ∙ same;
+      given = more.given ∙ ap (λ ys. ys ++ xs) now ∙ append_assoc s.given (x ∷ []) xs;
+      sized = All-cons (λ y. length y ≡ s.configuration.shard_bytes) x xs one.1 (subst (λ (c : Configuration). All (λ y. length y ≡ c.shard_bytes) xs) same more.sized);
+      few = λ h.
+          let long : length first.0.given ≡ length s.given + 1 = ap length now ∙ length-append s.given (x ∷ []) in
+          let most : length t.given ≤ first.0.configuration.original_count = more.few (omega (arith, one.2)) in
+          omega arith;
+    }
+
+pub codes_in_one_call : (k r : ℕ) (originals recovery : List Shard) → All (All (λ b. b < 256)) originals → OneEncodeAnswers k r originals (Ok recovery) → AreCoded k r originals recovery
+codes_in_one_call k r originals recovery bytes (inr lacks) = absurd (let e = lacks.1 in let no : ⊥ = cc in no)
+codes_in_one_call k r originals recovery bytes (inl answers) = by_outcome originals bytes (encoding k r originals) refl answers
+  where
+    by_shards : (shards : List Shard) → All (All (λ b. b < 256)) shards → (s : EncoderState) → encoding k r shards ≡ Ok s → EncodeAnswers s (Ok recovery) → AreCoded k r shards recovery
+    by_shards [] small s same h =
+        let none = then_ok (λ _. Err (TooFewOriginalShards k 0)) (counted k r) s same in
+        let e = none.2 in absurd (let no : ⊥ = cc in no)
+    by_shards (x ∷ xs) small s same h =
+        let c = default_of k r (length x) in
+        let begun = then_ok (λ _. with_shards (fresh_encoder c) (x ∷ xs)) (started (encoder_rows default_rate k r) c) s same in
+        let valid = then_ok _ (validated c) begun.0 begun.1 in
+        let all = taken (x ∷ xs) (fresh_encoder c) s begun.2 in
+        let out = answered s recovery h in
+        let given : s.given ≡ x ∷ xs = all.given in
+        let most : length s.given ≤ k = all.few (omega arith) in
+        let least : k ≤ length s.given = subst (λ (d : Configuration). d.original_count ≤ length s.given) all.of out.0 in
+        let long : length s.given ≡ length (x ∷ xs) = ap length given in
+        record {
+          size = length x;
+          valid = valid.1;
+          shards = record { length_is = omega arith; each = λ i d inside. record { length_is = all.sized i d inside; bytes = small i d inside } };
+          coded = subst (λ (d : Configuration). AreRecovery d (x ∷ xs) recovery) all.of (subst (λ (m : List Shard). AreRecovery s.configuration m recovery) given out.1);
+        }
+
+    by_outcome : (shards : List Shard) → All (All (λ b. b < 256)) shards → (o : Result EncoderState Error) → encoding k r shards ≡ o → MatchResult o (λ s. EncodeAnswers s (Ok recovery)) (λ e. Ok recovery ≡ Err e) → AreCoded k r shards recovery
+    by_outcome shards small (Err e) same h = absurd (let no : ⊥ = cc in no)
+    by_outcome shards small (Ok s) same h = by_shards shards small s same h
+
+-- a success without a value
+abbrev made : Result (Unit {0}) Error
+made = Ok tt
+
+-- counts of a valid configuration are supported
+supported_valid : (k r size : ℕ) → validated (default_of k r size) ≡ Ok tt → supports default_rate k r ≡ true
+supported_valid k r size valid = grind (arith, common_steps)
+
+counted_valid : (k r size : ℕ) → validated (default_of k r size) ≡ Ok tt → counted k r ≡ Ok tt
+counted_valid k r size valid = ap (λ (b : Bool). cond b made (Err (UnsupportedShardCount k r))) (supported_valid k r size valid)
+
+-- an encoder takes shards of its size, as many as there is room for
+all_given : (shards : List Shard) (s : EncoderState) → length s.given + length shards ≤ s.configuration.original_count → AllByRecursion (λ x. length x ≡ s.configuration.shard_bytes) shards
+    → with_shards s shards ≡ Ok (record s { given = s.given ++ shards })
+all_given [] s room sized = ap (λ given. Ok (record s { given = given })) (sym (append-nil s.given))
+all_given (x ∷ xs) s room sized =
+    let first : with_shard s x ≡ Ok (record s { given = s.given ++ x ∷ [] }) =
+    rw (lt-leb s.configuration.original_count (length s.given) (omega arith), eq-eqb (length x) s.configuration.shard_bytes sized.0) refl in
+    let long : length (s.given ++ x ∷ []) ≡ length s.given + 1 = length-append s.given (x ∷ []) in
+    ap (result_and_then (λ next. with_shards next xs)) first
+    ∙ all_given xs (record s { given = s.given ++ x ∷ [] }) (omega arith) sized.1
+    ∙ ap (λ given. Ok (record s { given = given })) (append_assoc s.given (x ∷ []) xs)
+
+-- an encoder that has all its originals is not refused
+encoded_whole : (s : EncoderState) (result : Result (List Shard) Error) → s.configuration.original_count ≤ length s.given → EncodeAnswers s result → IfErr result (λ e. e ≡ OutOfMemory)
+encoded_whole s result many answers = grind (arith, common_steps)
+
+module _ (k r size : ℕ) (shards : List Shard) (result : Result (List Shard) Error) (valid : validated (default_of k r size) ≡ Ok tt) (count : length shards ≡ k)
+    (sized : All (λ shard. length shard ≡ size) shards) where
+  -- what is answered by what setting up an encoder answered
+  abbrev Set : Result (Unit {0}) Error → Type 0
+  Set set = MatchResult (result_and_then (λ _. with_shards (fresh_encoder (default_of k r size)) shards) set) (λ s. EncodeAnswers s result) (λ e. result ≡ Err e)
+
+  whole_by_start : Set (started (encoder_rows default_rate k r) (default_of k r size)) → IfErr result (λ e. e ≡ OutOfMemory)
+  whole_by_start answers =
+      by_space (nat_le (2 ^ 64) (space (encoder_rows default_rate k r) size))
+      (subst Set (ap (result_and_then (λ _. cond (nat_le (2 ^ 64) (space (encoder_rows default_rate k r) size)) (Err OutOfMemory) (Ok tt))) valid) answers)
+    where
+      by_space : (full : Bool) → Set (cond full (Err OutOfMemory) (Ok tt)) → IfErr result (λ e. e ≡ OutOfMemory)
+      by_space true h = subst (λ (o : Result (List Shard) Error). IfErr o (λ e. e ≡ OutOfMemory)) (sym h) refl
+      by_space false h =
+          let all = all_given shards (fresh_encoder (default_of k r size)) (omega (arith, count)) (recursion_from_All (λ x. length x ≡ size) shards sized) in
+          encoded_whole (record { configuration = default_of k r size; given = shards }) result (omega (arith, count))
+          (subst (λ (o : Result EncoderState Error). MatchResult o (λ s. EncodeAnswers s result) (λ e. result ≡ Err e)) all h)
+
+pub encodes_in_one_call : (k r size : ℕ) (originals : List Shard) (result : Result (List Shard) Error) → validated (default_of k r size) ≡ Ok tt
+    → length originals ≡ k → All (λ shard. length shard ≡ size) originals → OneEncodeAnswers k r originals result → IfErr result (λ e. e ≡ OutOfMemory)
+encodes_in_one_call k r size originals result valid count sized (inr lacks) = subst (λ (o : Result (List Shard) Error). IfErr o (λ e. e ≡ OutOfMemory)) (sym lacks.1) refl
+encodes_in_one_call k r size [] result valid count sized (inl answers) =
+    let some = default_fits k r (supported_valid k r size valid) in
+    let none : 0 ≡ k = count in
+    absurd (let no : ⊥ = omega (arith, some.0) in no)
+encodes_in_one_call k r size (x ∷ xs) result valid count sized (inl answers) =
+    let first : length x ≡ size = sized 0 x (omega arith) in
+    whole_by_start k r size (x ∷ xs) result valid count sized
+    (subst (λ (n : ℕ). MatchResult (result_and_then (λ _. with_shards (fresh_encoder (default_of k r n)) (x ∷ xs)) (started (encoder_rows default_rate k r) (default_of k r n)))
+    (λ s. EncodeAnswers s result) (λ e. result ≡ Err e)) first answers)
+
+-- shards that an encoder took one after another are a message, and what it answered are their recovery shards
+pub encoded_all : (rate : Rate) (c : Configuration) (shards recovery : List Shard) (s : EncoderState) → IsEncoder rate s → with_shards (fresh_encoder c) shards ≡ Ok s
+    → EncodeAnswers s (Ok recovery) → AreShards c.original_count c.shard_bytes shards × AreRecovery c shards recovery
+encoded_all rate c shards recovery s is made h =
+    let all = taken shards (fresh_encoder c) s made in
+    let out = answered s recovery h in
+    let given : s.given ≡ shards = all.given in
+    let least : c.original_count ≤ length s.given = subst (λ (d : Configuration). d.original_count ≤ length s.given) all.of out.0 in
+    let most : length s.given ≤ c.original_count = subst (λ (d : Configuration). length s.given ≤ d.original_count) all.of is.no_more in
+    let long : length s.given ≡ length shards = ap length given in (
+      record {
+        length_is = omega arith;
+        each = subst (λ (m : List Shard). All (IsShard c.shard_bytes) m) given (subst (λ (d : Configuration). All (IsShard d.shard_bytes) s.given) all.of is.sized);
+      },
+      subst (λ (d : Configuration). AreRecovery d shards recovery) all.of (subst (λ (m : List Shard). AreRecovery s.configuration m recovery) given out.1),
+    )
+
+-- the same in one call, by the size of the first
+pub coded_by : (k r : ℕ) (x : Shard) (xs recovery : List Shard) (s : EncoderState) → IsEncoder default_rate s → with_shards (fresh_encoder (default_of k r (length x))) (x ∷ xs) ≡ Ok s
+    → EncodeAnswers s (Ok recovery) → AreCoded k r (x ∷ xs) recovery
+coded_by k r x xs recovery s is made h =
+    let all = encoded_all default_rate (default_of k r (length x)) (x ∷ xs) recovery s is made h in
+    record {
+      size = length x;
+      valid = subst (λ (d : Configuration). validated d ≡ Ok tt) (taken (x ∷ xs) (fresh_encoder (default_of k r (length x))) s made).of is.valid;
+      shards = all.0;
+      coded = all.1;
+    }
+
+-- ---- what a decoder takes
+
+-- items that a decoder takes: at indexes below its count, of its size
+abbrev AreFitting : ℕ → ℕ → Items → Type 0
+AreFitting count size items = AllByRecursion (λ item. (item.0 < count) × (length item.1 ≡ size)) items
+
+original_taken : (s : DecoderState) (i : ℕ) (x : Shard) → i < s.configuration.original_count → length x ≡ s.configuration.shard_bytes → s.originals i ≡ None
+    → with_original s i x ≡ Ok (record s { originals = entered s.originals i x })
+original_taken s i x inside same free =
+    rw (lt-leb s.configuration.original_count i inside, free, eq-eqb (length x) s.configuration.shard_bytes same) refl
+
+recovery_taken : (s : DecoderState) (i : ℕ) (x : Shard) → i < s.configuration.recovery_count → length x ≡ s.configuration.shard_bytes → s.recovery i ≡ None
+    → with_recovery s i x ≡ Ok (record s { recovery = entered s.recovery i x })
+recovery_taken s i x inside same free =
+    rw (lt-leb s.configuration.recovery_count i inside, free, eq-eqb (length x) s.configuration.shard_bytes same) refl
+
+originals_taken : (items : Items) (s : DecoderState) → AreFitting s.configuration.original_count s.configuration.shard_bytes items → AreFree s.originals items
+    → IsDistinct nat_eq (indexes items) → with_originals s items ≡ Ok (record s { originals = entered_all s.originals items })
+originals_taken [] s fit free once = refl
+originals_taken (item ∷ items) s fit free once =
+    ap (result_and_then (λ next. with_originals next items)) (original_taken s item.0 item.1 fit.0.0 fit.0.1 free.0)
+    ∙ originals_taken items (record s { originals = entered s.originals item.0 item.1 }) fit.1 (free-next s.originals item items once free) (IsDistinct-tail nat_eq item.0 (indexes items) once)
+
+recoveries_taken : (items : Items) (s : DecoderState) → AreFitting s.configuration.recovery_count s.configuration.shard_bytes items → AreFree s.recovery items
+    → IsDistinct nat_eq (indexes items) → with_recoveries s items ≡ Ok (record s { recovery = entered_all s.recovery items })
+recoveries_taken [] s fit free once = refl
+recoveries_taken (item ∷ items) s fit free once =
+    ap (result_and_then (λ next. with_recoveries next items)) (recovery_taken s item.0 item.1 fit.0.0 fit.0.1 free.0)
+    ∙ recoveries_taken items (record s { recovery = entered s.recovery item.0 item.1 }) fit.1 (free-next s.recovery item items once free) (IsDistinct-tail nat_eq item.0 (indexes items) once)
+
+all_free : (items : Items) → AreFree nothing items
+all_free [] = tt
+all_free (item ∷ items) = (refl, all_free items)
+
+-- what is left of shards of one size is taken
+fitting : (count size : ℕ) (shards : List Shard) (items : Items) → length shards ≡ count → All (λ shard. length shard ≡ size) shards → AreLeft shards items → AreFitting count size items
+fitting count size shards items long sized left =
+    recursion_from_All (λ item. (item.0 < count) × (length item.1 ≡ size)) items
+    (λ i d inside. let own = left.own i d inside in (omega (arith, own.0), sym (ap length own.1) ∙ sized _ [] own.0))
+
+within : (count : ℕ) (shards : List Shard) (items : Items) → length shards ≡ count → AreLeft shards items → AllByRecursion (λ item. item.0 < count) items
+within count shards items long left =
+    recursion_from_All (λ item. item.0 < count) items (λ i d inside. let own = left.own i d inside in omega (arith, own.0))
+
+-- the map of what is left has shards of the list alone, as many as there are items
+left_among : (shards : List Shard) (items : Items) → AreLeft shards items → AreAmong (entered_all nothing items) shards
+left_among shards items left =
+    among-entered_all items nothing shards (recursion_from_All (λ item. shard_at shards item.0 ≡ item.1) items (λ i d inside. (left.own i d inside).1)) (nothing_among shards)
+
+left_count : (count : ℕ) (shards : List Shard) (items : Items) → length shards ≡ count → AreLeft shards items → count_below count (entered_all nothing items) ≡ length items
+left_count count shards items long left =
+    count-entered_all count items nothing (within count shards items long left) (all_free items) left.once ∙ ap (λ n. n + length items) (count-nothing count) ∙ zero-add (length items)
+
+-- ---- what comes back
+
+-- what was kept and what is lost are at the same indexes in both views
+lost_same : (s : DecoderState) (originals : List Shard) (kept : Items) (i : ℕ) → length originals ≡ s.configuration.original_count → s.originals ≡ entered_all nothing kept
+    → missing_of s originals i ≡ lost_of originals kept i
+unfolding missing_of lost_of
+lost_same s originals kept i long is =
+    ap₂ (λ (n : ℕ) (b : Bool). cond (nat_lt i n && not b) (Some (shard_at originals i)) None) (sym long)
+    (ap (λ (g : Shards). is_some (g i)) is ∙ some-entered_all kept nothing i)
+
+-- an index that was noted is not one of the others
+absent_next : (k : ℕ) (came : List ℕ) (items : Items) → AllByRecursion (λ i. nat_eq k i ≡ false) (indexes items) → AllByRecursion (λ item. list_any (nat_eq item.0) came ≡ false) items
+    → AllByRecursion (λ item. list_any (nat_eq item.0) (k ∷ came) ≡ false) items
+absent_next k came [] apart absent = tt
+absent_next k came (item ∷ items) apart absent = (
+  or_from (nat_eq item.0 k) (list_any (nat_eq item.0) came) (ne_eqb item.0 k (λ e. eqb-false k item.0 apart.0 (sym e))) absent.0,
+  absent_next k came items apart.1 absent.1,
+)
+
+-- indexes below k, none of which comes twice, are all noted
+all_noted : (k : ℕ) (items : Items) (came : List ℕ) → AllByRecursion (λ item. item.0 < k) items → AllByRecursion (λ item. list_any (nat_eq item.0) came ≡ false) items
+    → IsDistinct nat_eq (indexes items) → (all : List ℕ) × (one_by_one (λ so_far item. noted k so_far item.0) came items ≡ Ok all) × (length all ≡ length came + length items)
+all_noted k [] came below absent once = (came, refl, sym (add-zero (length came)))
+all_noted k (item ∷ items) came below absent once =
+    let rest = all_noted k items (item.0 ∷ came) below.1 (absent_next item.0 came items (IsDistinct-head nat_eq item.0 (indexes items) once) absent.1)
+    (IsDistinct-tail nat_eq item.0 (indexes items) once) in
+    let first : noted k came item.0 ≡ Ok (item.0 ∷ came) = rw (lt-leb k item.0 below.0, absent.0) refl in
+    (rest.0, ap (result_and_then (λ next. one_by_one (λ so_far one. noted k so_far one.0) next items)) first ∙ rest.1, omega (arith, rest.2))
+
+none_noted : (items : Items) → AllByRecursion (λ item. list_any (nat_eq item.0) [] ≡ false) items
+none_noted [] = tt
+none_noted (item ∷ items) = (refl, none_noted items)
+
+-- so all came where k are left
+came_left : (k : ℕ) (items : Items) → AllByRecursion (λ item. item.0 < k) items → IsDistinct nat_eq (indexes items) → all_came k items ≡ enough_left k items []
+came_left k items below once =
+    let all = all_noted k items [] below (none_noted items) once in
+    let count : length all.0 ≡ length items = all.2 ∙ zero-add (length items) in
+    ap (result_and_then (λ came. cond (nat_lt (length came) k) (Err (NotEnoughShards k (length came) 0)) (Ok tt))) all.1
+    ∙ ap₂ (λ a b. cond (nat_lt a k) (Err (NotEnoughShards k b 0)) (Ok tt)) (count ∙ sym (add-zero (length items))) count
+
+all_left : (k n : ℕ) (kept : Items) → enough_left k kept [] ≡ Ok tt → n ≡ k → n ≤ length kept
+all_left k n kept enough same = grind (arith, common_steps)
+
+-- where all originals are left, none is lost
+none_lost : (originals : List Shard) (kept : Items) → AreLeft originals kept → length originals ≤ length kept → (i : ℕ) → lost_of originals kept i ≡ None
+unfolding lost_of
+none_lost originals kept left many i = by_test (nat_lt i (length originals)) refl
+  where
+    by_test : (inside : Bool) → nat_lt i (length originals) ≡ inside → cond (inside && not (list_any (λ item. nat_eq i item.0) kept)) (Some (shard_at originals i)) None ≡ None
+    by_test false e = refl
+    by_test true e =
+        let count = left_count (length originals) originals kept refl left in
+        let there = all_some (length originals) (entered_all nothing kept) (omega arith) i (ltb-true i (length originals) e) in
+        let came : list_any (λ item. nat_eq i item.0) kept ≡ true = sym (some-entered_all kept nothing i) ∙ there in
+        ap (λ b. cond (not b) (Some (shard_at originals i)) None) came
+
+-- a decoder that was given just what is left
+abbrev pub left_with : Configuration → Items → Items → DecoderState
+left_with c kept received = record { configuration = c; originals = entered_all nothing kept; recovery = entered_all nothing received }
+
+-- whether k shards are there, by the numbers of originals and of recovery shards
+abbrev by_numbers : ℕ → ℕ → ℕ → Result (Unit {0}) Error
+by_numbers k originals recovery = cond (nat_lt (originals + recovery) k) (Err (NotEnoughShards k originals recovery)) (Ok tt)
+
+if_ok-map : (result : Result Shards Error) (P Q : Shards → Type 0) → ((out : Shards) → P out → Q out) → IfOk result P → IfOk result Q
+if_ok-map (Ok out) P Q follows h = follows out h
+if_ok-map (Err e) P Q follows h = tt
+
+if_ok-refused : (result : Result Shards Error) (e : Error) (P : Shards → Type 0) → result ≡ Err e → IfOk result P
+if_ok-refused result e P is = subst (λ (r : Result Shards Error). IfOk r P) (sym is) tt
+
+module _ (c : Configuration) (message recovery : List Shard) (kept received : Items) (are : AreShards c.original_count c.shard_bytes message) (coded : AreRecovery c message recovery)
+    (left : AreLeft message kept) (got : AreLeft recovery received) where
+  -- a decoder takes all that is left
+  pub all_taken : with_both (fresh_decoder c) kept received ≡ Ok (left_with c kept received)
+  all_taken =
+      ap (result_and_then (λ now. with_recoveries now received))
+      (originals_taken kept (fresh_decoder c) (fitting c.original_count c.shard_bytes message kept are.length_is (λ i d inside. (are.each i d inside).length_is) left) (all_free kept) left.once)
+      ∙ recoveries_taken received (record (fresh_decoder c) { originals = entered_all nothing kept })
+      (fitting c.recovery_count c.shard_bytes recovery received coded.shards.length_is (λ i d inside. (coded.shards.each i d inside).length_is) got) (all_free received) got.once
+
+  -- and gives back what is lost
+  pub gives_back : (result : Result Shards Error) → DecodeAnswers (left_with c kept received) result → GivesBack message kept received result
+  gives_back result answers =
+      let back = restores_lost (left_with c kept received) message recovery result are coded (left_among message kept left) (left_among recovery received got) answers in
+      record {
+        answer =
+            back.answer
+            ∙ ap₂ (by_numbers c.original_count) (left_count c.original_count message kept are.length_is left) (left_count c.recovery_count recovery received coded.shards.length_is got)
+            ∙ ap (λ n. by_numbers n (length kept) (length received)) (sym are.length_is);
+        restored = if_ok-map result _ _ (λ out h i. h i ∙ lost_same (left_with c kept received) message kept i are.length_is refl) back.restored;
+      }
+
+  pub restores_left : IsOkAnd (with_both (fresh_decoder c) kept received) (λ s. (result : Result Shards Error) → DecodeAnswers s result → GivesBack message kept received result)
+  restores_left =
+      subst (λ (o : Result DecoderState Error). IsOkAnd o (λ s. (result : Result Shards Error) → DecodeAnswers s result → GivesBack message kept received result)) (sym all_taken) gives_back
+
+-- so does one that took all this
+pub taken_gives_back : (c : Configuration) (message recovery : List Shard) (kept received : Items) (s : DecoderState) (result : Result Shards Error)
+    → AreShards c.original_count c.shard_bytes message → AreRecovery c message recovery → AreLeft message kept → AreLeft recovery received
+    → with_both (fresh_decoder c) kept received ≡ Ok s → DecodeAnswers s result → GivesBack message kept received result
+taken_gives_back c message recovery kept received s result are coded left got is answers =
+    subst (λ (o : Result DecoderState Error). IsOkAnd o (λ s. (result : Result Shards Error) → DecodeAnswers s result → GivesBack message kept received result)) is
+    (restores_left c message recovery kept received are coded left got) result answers
+
+module _ (k r : ℕ) (originals recovery : List Shard) (kept : Items) (was : AreCoded k r originals recovery) (left : AreLeft originals kept) where
+  -- what is answered by what setting up a decoder answered
+  abbrev Begun : Items → Result Shards Error → Result (Unit {0}) Error → Type 0
+  Begun received result begun =
+      MatchResult (result_and_then (λ _. with_both (fresh_decoder (default_of k r was.size)) kept received) begun) (λ s. DecodeAnswers s result) (λ e. result ≡ Err e)
+
+  -- so it brings back what is lost, where memory can be had
+  by_start : (received : Items) (result : Result Shards Error) → AreLeft recovery received → Begun received result (started (decoder_rows default_rate k r) (default_of k r was.size))
+      → OneBringsBack originals kept received result
+  by_start received result got answers =
+      by_space (nat_le (2 ^ 64) (space (decoder_rows default_rate k r) was.size))
+      (subst (Begun received result) (ap (result_and_then (λ _. cond (nat_le (2 ^ 64) (space (decoder_rows default_rate k r) was.size)) (Err OutOfMemory) (Ok tt))) was.valid) answers)
+    where
+      by_space : (full : Bool) → Begun received result (cond full (Err OutOfMemory) (Ok tt)) → OneBringsBack originals kept received result
+      by_space true h = record { answer = inr h; restored = if_ok-refused result OutOfMemory _ h }
+      by_space false h =
+          let all = all_taken (default_of k r was.size) originals recovery kept received was.shards was.coded left got in
+          let back = gives_back (default_of k r was.size) originals recovery kept received was.shards was.coded left got result
+          (subst (λ (o : Result DecoderState Error). MatchResult o (λ s. DecodeAnswers s result) (λ e. result ≡ Err e)) all h) in
+          record { answer = inl back.answer; restored = back.restored }
+
+  -- where no recovery shard is left
+  by_indexes : (result : Result Shards Error) → OneDecodes k r kept [] result → OneBringsBack originals kept [] result
+  by_indexes result answers =
+      by_outcome (enough_left k kept []) refl
+      (subst (λ (o : Result (Unit {0}) Error). MatchResult o (λ _. result ≡ Ok nothing) (λ e. result ≡ Err e))
+      (ap (result_and_then (λ _. all_came k kept)) (counted_valid k r was.size was.valid) ∙ came_left k kept (within k originals kept was.shards.length_is left) left.once) answers)
+    where
+      by_outcome : (m : Result (Unit {0}) Error) → enough_left k kept [] ≡ m → MatchResult m (λ _. result ≡ Ok nothing) (λ e. result ≡ Err e) → OneBringsBack originals kept [] result
+      by_outcome (Ok tt) enough h = record {
+        answer = inl (ap answer_of h ∙ sym enough ∙ ap (λ n. enough_left n kept []) (sym was.shards.length_is));
+        restored =
+            subst (λ (o : Result Shards Error). IfOk o (λ out. (i : ℕ) → out i ≡ lost_of originals kept i)) (sym h)
+            (λ i. sym (none_lost originals kept left (all_left k (length originals) kept enough was.shards.length_is) i));
+      }
+      by_outcome (Err e) few h = record {
+        answer = inl (ap answer_of h ∙ sym few ∙ ap (λ n. enough_left n kept []) (sym was.shards.length_is));
+        restored = if_ok-refused result e _ h;
+      }
+
+  by_answer : (received : Items) (result : Result Shards Error) → AreLeft recovery received → OneDecodeAnswers k r kept received result → OneBringsBack originals kept received result
+  by_answer received result got (inr lacks) = record { answer = inr lacks.1; restored = if_ok-refused result OutOfMemory _ lacks.1 }
+  by_answer [] result got (inl answers) = by_indexes result answers
+  by_answer (first ∷ rest) result got (inl answers) =
+      let own = got.own 0 first (omega arith) in
+      let size : length first.1 ≡ was.size = sym (ap length own.1) ∙ (was.coded.shards.each first.0 [] own.0).length_is in
+      by_start (first ∷ rest) result got
+      (subst (λ (n : ℕ). MatchResult (result_and_then (λ _. with_both (fresh_decoder (default_of k r n)) kept (first ∷ rest)) (started (decoder_rows default_rate k r) (default_of k r n)))
+      (λ s. DecodeAnswers s result) (λ e. result ≡ Err e)) size answers)
+
+pub restores_in_one_call : (k r : ℕ) (originals recovery : List Shard) (kept received : Items) (result : Result Shards Error)
+    → AreCoded k r originals recovery → AreLeft originals kept → AreLeft recovery received → OneDecodeAnswers k r kept received result → OneBringsBack originals kept received result
+restores_in_one_call k r originals recovery kept received result was left got answers = by_answer k r originals recovery kept was left received result got answers

@@ -1,0 +1,31 @@
+-- From shards of a message that are left, a decoder restores the lost originals as they were.
+use Rattle.std.proofs.Common.{◌≡◌, ◌≤◌, List, length, arith}
+use Rattle.std.specs.Prelude.{Result, Ok}
+use Rattle.rs_field.specs.declared.code.error.Error.{Error}
+use Rattle.rs_field.specs.code.Column.{Shard, AreShards}
+use Rattle.rs_field.specs.code.Counts.{Rate}
+use Rattle.rs_field.specs.code.Code.{AreRecovery}
+use Rattle.rs_field.specs.code.Given.{Shards, AreAmong}
+use Rattle.rs_field.specs.code.Encoder.{EncoderState, IsEncoder, EncodeAnswers}
+use Rattle.rs_field.specs.code.Decoder.{DecoderState, IsAgreeing, DecodeAnswers}
+use Rattle.rs_field.specs.code.RoundTrip.{BringsBack}
+use Rattle.std.proofs.lemmas.Grind.{common_steps}
+
+-- what a decoder answers that some message agrees with
+pub brings_back : (s : DecoderState) (message : List Shard) (result : Result Shards Error) → IsAgreeing s message → DecodeAnswers s result → BringsBack s message result
+brings_back s message result agrees answers = grind (arith, common_steps)
+
+pub restores_lost : (s : DecoderState) (message recovery : List Shard) (result : Result Shards Error)
+    → AreShards s.configuration.original_count s.configuration.shard_bytes message → AreRecovery s.configuration message recovery
+    → AreAmong s.originals message → AreAmong s.recovery recovery → DecodeAnswers s result → BringsBack s message result
+restores_lost s message recovery result are coded own among answers =
+    brings_back s message result (record { shards = are; own = own; coded = (recovery, coded, among) }) answers
+
+-- what an encoder answered is the recovery shards of what it was given, and that was all
+pub answered : (s : EncoderState) (recovery : List Shard) → EncodeAnswers s (Ok recovery) → (s.configuration.original_count ≤ length s.given) × AreRecovery s.configuration s.given recovery
+answered s recovery h = grind (arith, common_steps)
+
+pub restores_encoded : (rate : Rate) (encoder : EncoderState) (recovery : List Shard) (s : DecoderState) (result : Result Shards Error)
+    → IsEncoder rate encoder → EncodeAnswers encoder (Ok recovery) → s.configuration ≡ encoder.configuration
+    → AreAmong s.originals encoder.given → AreAmong s.recovery recovery → DecodeAnswers s result → BringsBack s encoder.given result
+restores_encoded rate encoder recovery s result is encoded same own among answers = grind (arith, common_steps)

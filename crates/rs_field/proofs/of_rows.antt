@@ -1,0 +1,16 @@
+-- Lemmas of rows: layers, parts, lending, layout. They rest on `words`, and on columns and powers of two of `code`.
+pub mod Runs
+pub mod FourRuns
+pub mod RowOffsets
+pub mod LentRows
+pub mod LentFourRows
+pub mod Fours
+pub mod LayoutLemmas
+pub mod ZeroColumns
+pub mod Symbols
+pub mod Layers
+pub mod Parts
+pub mod Recursion
+pub mod PartLoops
+pub mod Directions
+pub mod DerivativeStep

@@ -1,0 +1,264 @@
+-- One layer of butterflies between the halves of a block, and two layers between its quarters, for one symbol of the rows.
+use Rattle.std.proofs.Common.{◌≡◌, ℕ, suc, ◌+◌, ◌-◌, ◌*◌, ◌%◌, ◌^◌, ◌<◌, ◌≤◌, cond, nat_lt, List, get_or, bit_xor, sym, ap, ap₂, ◌∙◌, subst, inl, inr, arith}
+use Rattle.std.proofs.Math.Nat.{mul-le-mul_right}
+use Rattle.std.proofs.lemmas.Bool.{cases_lt}
+use Rattle.rs_field.specs.words.Field.{product}
+use Rattle.rs_field.specs.words.Subspace.{subspace}
+use Rattle.rs_field.specs.words.Transform.{forward}
+use Rattle.rs_field.specs.words.Tables.{IsSkew, scaled}
+use Rattle.rs_field.specs.rows.Pairs.{IsForwardTwo, IsBackwardTwo}
+use Rattle.rs_field.specs.rows.TwoLayers.{forward_first, forward_second, backward_first, backward_second, IsForwardFour, IsBackwardFour}
+use Rattle.rs_field.specs.rows.Layers.{ArePartsOf}
+use Rattle.rs_field.proofs.of_words.Combination.{forward-same, lower_half, upper_half}
+use Rattle.rs_field.proofs.of_words.Halves.{half_power, few_halves, shift_half, table_factor, xor_undo}
+use Rattle.std.proofs.lemmas.Grind.{common_steps}
+
+-- what a block's size, its place among the points and the table of factors are
+pub record IsBlock (skew : List ℕ) (size shift : ℕ) : Type 0 where
+  pub table : IsSkew skew
+  pub large : 1 < size
+  pub power : (d : ℕ) × (size ≡ 2 ^ d)
+  pub aligned : shift % size ≡ 0
+  pub points : shift + size ≤ 65536
+
+-- both halves of a block of more than two rows
+block_halves : (skew : List ℕ) (n shift : ℕ) → IsBlock skew (n + n) shift → 1 < n → IsBlock skew n shift × IsBlock skew n (shift + n)
+block_halves skew n shift b large =
+    let p = half_power (n + n) b.large b.power in
+    let half : n ≡ 2 ^ p.0 = omega (arith, p.2) in
+    let s = shift_half (n + n) p.0 shift p.1 b.aligned in (
+      record { table = b.table; large = large; power = (p.0, half); aligned = subst (λ (m : ℕ). shift % m ≡ 0) (sym half) s.0; points = omega (arith, b.points) },
+      record {
+        table = b.table;
+        large = large;
+        power = (p.0, half);
+        aligned = subst (λ (m : ℕ). (shift + m) % m ≡ 0) (sym half) s.1;
+        points = omega (arith, b.points);
+      },
+    )
+
+-- the factor of the butterflies between the halves, by its logarithm
+abbrev pub factor : List ℕ → ℕ → ℕ → ℕ
+factor skew half shift = get_or skew (shift + half - 1) 0
+
+-- the words g come of the words f by one layer of butterflies between the halves
+pub record IsLayer (skew : List ℕ) (half shift : ℕ) (f g : ℕ → ℕ) : Type 0 where
+  pub first : (q : ℕ) → q < half → g q ≡ bit_xor (f q) (scaled (factor skew half shift) (f (half + q)))
+  pub second : (q : ℕ) → q < half → g (half + q) ≡ bit_xor (f (half + q)) (g q)
+
+made : (skew : List ℕ) (n e shift : ℕ) (f g : ℕ → ℕ) → IsBlock skew (n + n) shift → n + n ≡ 2 ^ suc e → n ≡ 2 ^ e → IsLayer skew n shift f g
+    → (q : ℕ) → q < 2 ^ e → g q ≡ bit_xor (f q) (product (f (2 ^ e + q)) (subspace e shift))
+made skew n e shift f g b is half l q hq = grind (arith, common_steps, table_factor)
+
+-- the transform of the first half
+layer_low : (skew : List ℕ) (n shift i : ℕ) (f g : ℕ → ℕ) → IsBlock skew (n + n) shift → i < n → IsLayer skew n shift f g
+    → forward n shift g i ≡ forward (n + n) shift f i
+layer_low skew n shift i f g b hi l =
+    let p = half_power (n + n) b.large b.power in
+    of_power p.0 p.1 (omega (arith, p.2))
+  where
+    of_power : (e : ℕ) → n + n ≡ 2 ^ suc e → n ≡ 2 ^ e → forward n shift g i ≡ forward (n + n) shift f i
+    of_power e is half =
+        ap (λ m. forward m shift g i) half
+        ∙ lower_half e shift f g i (few_halves (n + n) e shift is b.points) (subst (λ (m : ℕ). shift % m ≡ 0) is b.aligned)
+        (subst (λ (m : ℕ). shift + m ≤ 65536) is b.points) (subst (λ (m : ℕ). i < m) half hi) (made skew n e shift f g b is half l)
+        ∙ ap (λ m. forward m shift f i) (sym is)
+
+-- and of the second
+layer_high : (skew : List ℕ) (n shift i : ℕ) (f g : ℕ → ℕ) → IsBlock skew (n + n) shift → i < n → IsLayer skew n shift f g
+    → forward n (shift + n) (λ q. g (n + q)) i ≡ forward (n + n) shift f (n + i)
+layer_high skew n shift i f g b hi l =
+    let p = half_power (n + n) b.large b.power in
+    of_power p.0 p.1 (omega (arith, p.2))
+  where
+    of_power : (e : ℕ) → n + n ≡ 2 ^ suc e → n ≡ 2 ^ e → forward n (shift + n) (λ q. g (n + q)) i ≡ forward (n + n) shift f (n + i)
+    of_power e is half =
+        ap (λ m. forward m (shift + m) (λ q. g (n + q)) i) half
+        ∙ upper_half e shift f g (λ q. g (n + q)) i (few_halves (n + n) e shift is b.points) (subst (λ (m : ℕ). shift % m ≡ 0) is b.aligned)
+        (subst (λ (m : ℕ). shift + m ≤ 65536) is b.points) (subst (λ (m : ℕ). i < m) half hi) (made skew n e shift f g b is half l)
+        (λ q hq. l.second q (subst (λ (m : ℕ). q < m) (sym half) hq) ∙ ap (λ m. bit_xor (f (m + q)) (g q)) half)
+        ∙ ap₂ (λ m o. forward m shift f (o + i)) (sym is) (sym half)
+
+-- a part by another name of the place where it begins
+as_part : (size n shift start i to at : ℕ) (f g h : ℕ → ℕ) → shift + start ≡ to → start + i ≡ at → ((q : ℕ) → g (start + q) ≡ h q)
+    → forward n to h i ≡ forward size shift f at → forward n (shift + start) (λ q. g (start + q)) i ≡ forward size shift f (start + i)
+as_part size n shift start i to at f g h e place same r =
+    forward-same n (shift + start) (λ q. g (start + q)) h i (λ q hq. same q) ∙ ap (λ t. forward n t h i) e ∙ r ∙ ap (forward size shift f) (sym place)
+
+-- one layer leaves two parts
+pub one_layer : (skew : List ℕ) (n shift : ℕ) (f g : ℕ → ℕ) → IsBlock skew (n + n) shift → IsLayer skew n shift f g → ArePartsOf (n + n) n shift f g
+one_layer skew n shift f g b l j i hj hi =
+    elim (cases_lt j 1) [
+      | inl low ↦
+          let e : j ≡ 0 = omega arith in
+          let start : j * n ≡ 0 * n = ap (λ v. v * n) e in
+          as_part (n + n) n shift (j * n) i shift i f g g (omega arith) (omega arith) (λ q. ap g (let r : j * n + q ≡ q = omega arith in r)) (layer_low skew n shift i f g b hi l)
+      | inr high ↦ elim (cases_lt j 2) [
+        | inl low ↦
+            let e : j ≡ 1 = omega arith in
+            let start : j * n ≡ 1 * n = ap (λ v. v * n) e in
+            as_part (n + n) n shift (j * n) i (shift + n) (n + i) f g (λ q. g (n + q)) (omega arith) (omega arith)
+            (λ q. ap g (let r : j * n + q ≡ n + q = omega arith in r)) (layer_high skew n shift i f g b hi l)
+        | inr past ↦ let le : 2 * n ≤ j * n = mul-le-mul_right n past in absurd (let no : ⊥ = omega arith in no)
+      ]
+    ]
+
+-- two layers leave four
+pub two_layers : (skew : List ℕ) (n shift : ℕ) (f g h : ℕ → ℕ) → IsBlock skew (n + n + (n + n)) shift → IsLayer skew (n + n) shift f g
+    → IsLayer skew n shift g h → IsLayer skew n (shift + (n + n)) (λ q. g (n + n + q)) (λ q. h (n + n + q)) → ArePartsOf (n + n + (n + n)) n shift f h
+two_layers skew n shift f g h b l low high j i hj hi =
+    let b2 = block_halves skew (n + n) shift b (omega arith) in
+    elim (cases_lt j 2) [
+      | inl before ↦ elim (cases_lt j 1) [
+        | inl none ↦
+            let e : j ≡ 0 = omega arith in
+            let start : j * n ≡ 0 * n = ap (λ v. v * n) e in
+            as_part (n + n + (n + n)) n shift (j * n) i shift i f h h (omega arith) (omega arith) (λ q. ap h (let r : j * n + q ≡ q = omega arith in r))
+            (layer_low skew n shift i g h b2.0 hi low ∙ layer_low skew (n + n) shift i f g b (omega arith) l)
+        | inr one ↦
+            let e : j ≡ 1 = omega arith in
+            let start : j * n ≡ 1 * n = ap (λ v. v * n) e in
+            as_part (n + n + (n + n)) n shift (j * n) i (shift + n) (n + i) f h (λ q. h (n + q)) (omega arith) (omega arith)
+            (λ q. ap h (let r : j * n + q ≡ n + q = omega arith in r))
+            (layer_high skew n shift i g h b2.0 hi low ∙ layer_low skew (n + n) shift (n + i) f g b (omega arith) l)
+      ]
+      | inr after ↦ elim (cases_lt j 3) [
+        | inl two ↦
+            let e : j ≡ 2 = omega arith in
+            let start : j * n ≡ 2 * n = ap (λ v. v * n) e in
+            as_part (n + n + (n + n)) n shift (j * n) i (shift + (n + n)) (n + n + i) f h (λ q. h (n + n + q)) (omega arith) (omega arith)
+            (λ q. ap h (let r : j * n + q ≡ n + n + q = omega arith in r))
+            (layer_low skew n (shift + (n + n)) i (λ q. g (n + n + q)) (λ q. h (n + n + q)) b2.1 hi high
+            ∙ layer_high skew (n + n) shift i f g b (omega arith) l)
+        | inr more ↦ elim (cases_lt j 4) [
+          | inl within ↦
+              let e : j ≡ 3 = omega arith in
+              let start : j * n ≡ 3 * n = ap (λ v. v * n) e in
+              as_part (n + n + (n + n)) n shift (j * n) i (shift + (n + n) + n) (n + n + (n + i)) f h (λ q. h (n + n + (n + q))) (omega arith) (omega arith)
+              (λ q. ap h (let r : j * n + q ≡ n + n + (n + q) = omega arith in r))
+              (layer_high skew n (shift + (n + n)) i (λ q. g (n + n + q)) (λ q. h (n + n + q)) b2.1 hi high
+              ∙ layer_high skew (n + n) shift (n + i) f g b (omega arith) l)
+          | inr past ↦ let le : 4 * n ≤ j * n = mul-le-mul_right n past in absurd (let no : ⊥ = omega arith in no)
+        ]
+      ]
+    ]
+
+-- ---- butterflies of four words
+
+-- the words between the two layers
+between : (log_m half : ℕ) (f : ℕ → ℕ) → ℕ → ℕ
+between log_m half f q = cond (nat_lt q half) (forward_first log_m (f q) (f (half + q))) (forward_second log_m (f (q - half)) (f q))
+
+between_first : (log_m half : ℕ) (f : ℕ → ℕ) (q : ℕ) → q < half → between log_m half f q ≡ forward_first log_m (f q) (f (half + q))
+unfolding between
+between_first log_m half f q hq = grind (arith, common_steps)
+
+between_second : (log_m half : ℕ) (f : ℕ → ℕ) (q : ℕ) → between log_m half f (half + q) ≡ forward_second log_m (f q) (f (half + q))
+unfolding between
+between_second log_m half f q = grind (arith, common_steps)
+
+-- a relation of four old words and four new ones in ranges of n, one after the other
+abbrev pub at_quarters : (ℕ → ℕ → ℕ → ℕ → ℕ → ℕ → ℕ → ℕ → Type 0) → ℕ → (ℕ → ℕ) → (ℕ → ℕ) → Type 0
+at_quarters related n f h =
+    (q : ℕ) → q < n → related (f q) (f (n + q)) (f (n + n + q)) (f (n + n + (n + q))) (h q) (h (n + q)) (h (n + n + q)) (h (n + n + (n + q)))
+
+-- forward butterflies of four leave the parts of a block
+pub forward_parts : (skew : List ℕ) (n shift : ℕ) (f h : ℕ → ℕ) → IsBlock skew (n + n + (n + n)) shift
+    → at_quarters (IsForwardFour (factor skew (n + n) shift) (factor skew n shift) (factor skew n (shift + (n + n)))) n f h
+    → ArePartsOf (n + n + (n + n)) n shift f h
+forward_parts skew n shift f h b four =
+    two_layers skew n shift f g h b
+    (record {
+      first = λ q hq. between_first m (n + n) f q hq;
+      second = λ q hq. between_second m (n + n) f q ∙ ap (bit_xor (f (n + n + q))) (sym (between_first m (n + n) f q hq));
+    })
+    (record {
+      first = λ q hq. (four q hq).0 ∙ sym (ap₂ (forward_first (factor skew n shift)) (g0 q hq) (g1 q hq));
+      second = λ q hq. (four q hq).1 ∙ sym (ap₂ bit_xor (g1 q hq) ((four q hq).0));
+    })
+    (record {
+      first = λ q hq. (four q hq).2 ∙ sym (ap₂ (forward_first (factor skew n (shift + (n + n)))) (g2 q) (g3 q));
+      second = λ q hq. (four q hq).3 ∙ sym (ap₂ bit_xor (g3 q) ((four q hq).2));
+    })
+  where
+    m : ℕ
+    m = factor skew (n + n) shift
+
+    g : ℕ → ℕ
+    g = between m (n + n) f
+
+    g0 : (q : ℕ) → q < n → g q ≡ forward_first m (f q) (f (n + n + q))
+    g0 q hq = between_first m (n + n) f q (omega arith)
+
+    g1 : (q : ℕ) → q < n → g (n + q) ≡ forward_first m (f (n + q)) (f (n + n + (n + q)))
+    g1 q hq = between_first m (n + n) f (n + q) (omega arith)
+
+    g2 : (q : ℕ) → g (n + n + q) ≡ forward_second m (f q) (f (n + n + q))
+    g2 q = between_second m (n + n) f q
+
+    g3 : (q : ℕ) → g (n + n + (n + q)) ≡ forward_second m (f (n + q)) (f (n + n + (n + q)))
+    g3 q = between_second m (n + n) f (n + q)
+
+-- a forward butterfly undoes the backward one
+undo_first : (log_m x y : ℕ) → forward_first log_m (backward_first log_m x y) (backward_second x y) ≡ x
+undo_first log_m x y = grind (arith, common_steps)
+
+undo_second : (log_m x y : ℕ) → forward_second log_m (backward_first log_m x y) (backward_second x y) ≡ y
+undo_second log_m x y = grind (arith, common_steps, undo_first, xor_undo)
+
+-- and so do two layers
+pub backward_undone : (m02 m01 m23 x0 x1 x2 x3 y0 y1 y2 y3 : ℕ) → IsBackwardFour m02 m01 m23 x0 x1 x2 x3 y0 y1 y2 y3
+    → IsForwardFour m02 m01 m23 y0 y1 y2 y3 x0 x1 x2 x3
+backward_undone m02 m01 m23 x0 x1 x2 x3 y0 y1 y2 y3 (e0, e1, e2, e3) = grind (arith, common_steps, undo_first, undo_second)
+
+-- ---- rows
+
+-- a forward butterfly undoes a backward one
+pub pair_undone : (log_m x y x' y' : ℕ) → IsBackwardTwo log_m x y x' y' → IsForwardTwo log_m x' y' x y
+pair_undone log_m x y x' y' (first, second) =
+    grind (arith, common_steps, xor_undo)
+
+-- the one layer of rows by halves
+pub half_rows : (skew : List ℕ) (n shift pos : ℕ) (f g : ℕ → ℕ) → IsBlock skew (n + n) shift
+    → ((q : ℕ) → q < n → IsForwardTwo (factor skew n shift) (f (pos + q)) (f (pos + n + q)) (g (pos + q)) (g (pos + n + q)))
+    → ArePartsOf (n + n) n shift (λ q. f (pos + q)) (λ q. g (pos + q))
+half_rows skew n shift pos f g b pair =
+    one_layer skew n shift (λ q. f (pos + q)) (λ q. g (pos + q)) b
+    (record {
+      first = λ q hq. (pair q hq).0 ∙ ap (λ p. bit_xor (f (pos + q)) (scaled (factor skew n shift) (f p))) (on q);
+      second = λ q hq. ap g (sym (on q)) ∙ (pair q hq).1 ∙ ap (λ p. bit_xor (f p) (g (pos + q))) (on q);
+    })
+  where
+    on : (q : ℕ) → pos + n + q ≡ pos + (n + q)
+    on q = omega arith
+
+-- forward butterflies of four words in four rows
+abbrev pub FourRows : ℕ → ℕ → ℕ → (ℕ → ℕ) → (ℕ → ℕ) → ℕ → ℕ → ℕ → ℕ → Type 0
+FourRows m02 m01 m23 f g a b c d = IsForwardFour m02 m01 m23 (f a) (f b) (f c) (f d) (g a) (g b) (g c) (g d)
+
+-- two layers of more rows
+pub four_rows : (skew : List ℕ) (n shift pos : ℕ) (f g : ℕ → ℕ) → IsBlock skew (4 * n) shift
+    → ((q : ℕ) → q < n → FourRows (get_or skew (shift + 2 * n - 1) 0) (get_or skew (shift + n - 1) 0) (get_or skew (shift + 2 * n + n - 1) 0) f g
+    (pos + q) (pos + n + q) (pos + 2 * n + q) (pos + 3 * n + q))
+    → ArePartsOf (4 * n) n shift (λ q. f (pos + q)) (λ q. g (pos + q))
+four_rows skew n shift pos f g b four =
+    subst (λ (m : ℕ). ArePartsOf m n shift (λ q. f (pos + q)) (λ q. g (pos + q))) (sym whole)
+    (forward_parts skew n shift (λ q. f (pos + q)) (λ q. g (pos + q)) (subst (λ (m : ℕ). IsBlock skew m shift) whole b) placed)
+  where
+    whole : 4 * n ≡ n + n + (n + n)
+    whole = omega arith
+
+    placed : at_quarters (IsForwardFour (factor skew (n + n) shift) (factor skew n shift) (factor skew n (shift + (n + n)))) n (λ q. f (pos + q)) (λ q. g (pos + q))
+    placed q hq =
+        let m01 : ℕ = factor skew n shift in
+        let m23 : ℕ = get_or skew (shift + 2 * n + n - 1) 0 in
+        let on02 : shift + 2 * n - 1 ≡ shift + (n + n) - 1 = omega arith in
+        let on23 : shift + 2 * n + n - 1 ≡ shift + (n + n) + n - 1 = omega arith in
+        let on1 : pos + n + q ≡ pos + (n + q) = omega arith in
+        let on2 : pos + 2 * n + q ≡ pos + (n + n + q) = omega arith in
+        let on3 : pos + 3 * n + q ≡ pos + (n + n + (n + q)) = omega arith in
+        subst (λ (p : ℕ). FourRows (factor skew (n + n) shift) m01 (get_or skew p 0) f g (pos + q) (pos + (n + q)) (pos + (n + n + q)) (pos + (n + n + (n + q)))) on23
+        (subst (λ (p : ℕ). FourRows (get_or skew p 0) m01 m23 f g (pos + q) (pos + (n + q)) (pos + (n + n + q)) (pos + (n + n + (n + q)))) on02
+        (subst (λ (p : ℕ). FourRows (get_or skew (shift + 2 * n - 1) 0) m01 m23 f g (pos + q) (pos + (n + q)) (pos + (n + n + q)) p) on3
+        (subst (λ (p : ℕ). FourRows (get_or skew (shift + 2 * n - 1) 0) m01 m23 f g (pos + q) (pos + (n + q)) p (pos + 3 * n + q)) on2
+        (subst (λ (p : ℕ). FourRows (get_or skew (shift + 2 * n - 1) 0) m01 m23 f g (pos + q) p (pos + 2 * n + q) (pos + 3 * n + q)) on1 (four q hq)))))

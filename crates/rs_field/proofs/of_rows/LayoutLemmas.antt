@@ -1,0 +1,230 @@
+-- Where the bytes of a shard lie in a row, and that its columns are the symbols of the row's chunks.
+use Rattle.std.proofs.Common.{◌≡◌, ℕ, zero, suc, ◌+◌, ◌-◌, ◌*◌, ◌/◌, ◌%◌, ◌<◌, ◌≤◌, List, [], ◌∷◌, ◌++◌, length, get_or, min, take, drop, All, sym, ap, ap₂, ◌∙◌, refl, subst, arith, inl, inr, add-one, length-append}
+use Rattle.std.specs.Prelude.{slice_index}
+use Rattle.std.proofs.Math.Nat.{min-eq_left, min-eq_right}
+use Rattle.std.proofs.Math.Seq.{get_or-append_seam}
+use Rattle.std.proofs.lemmas.Bool.{cases_lt}
+use Rattle.std.proofs.lemmas.List.{ext_get_or, get_or_append_left, get_or-append_right, get_or-take, get_or-drop, length-take-le}
+use Rattle.rs_field.specs.code.Column.{Shard, IsShard, column}
+use Rattle.std.specs.List.{flat_map}
+use Rattle.rs_field.specs.rows.Rows.{chunk, symbol}
+use Rattle.rs_field.specs.rows.Layout.{row_len, up_to, byte_offset, laid_out, in_order}
+use Rattle.std.proofs.lemmas.Grind.{common_steps}
+
+pub length-up_to : {A : Type 0} (n : ℕ) (f : ℕ → A) → length (up_to n f) ≡ n
+length-up_to zero f = refl
+length-up_to (suc n) f = length-append (up_to n f) (f n ∷ []) ∙ ap (λ k. k + 1) (length-up_to n f) ∙ add-one n
+
+pub get-up_to : {A : Type 0} (n : ℕ) (f : ℕ → A) (i : ℕ) (d : A) → i < n → get_or (up_to n f) i d ≡ f i
+get-up_to zero f i d h = absurd (omega arith)
+get-up_to (suc n) f i d h =
+    elim (cases_lt i n) [
+      | inl low ↦
+          get_or_append_left (up_to n f) (f n ∷ []) d i (subst (λ k. i < k) (sym (length-up_to n f)) low) ∙ get-up_to n f i d low
+      | inr high ↦
+          let last : i ≡ n = omega arith in
+          let seam = get_or-append_seam (up_to n f) (f n) [] d in
+          ap (λ k. get_or (up_to n f ++ f n ∷ []) k d) (last ∙ sym (length-up_to n f)) ∙ seam ∙ ap f (sym last)
+    ]
+
+pub up_to-same : {A : Type 0} (n : ℕ) (f g : ℕ → A) → ((i : ℕ) → i < n → f i ≡ g i) → up_to n f ≡ up_to n g
+up_to-same zero f g same = refl
+up_to-same (suc n) f g same =
+    ap₂ (λ xs x. xs ++ x ∷ []) (up_to-same n f g (λ i h. same i (omega arith))) (same n (omega arith))
+
+-- a list of n elements that are those of f
+pub up_to-is : {A : Type 0} (d : A) (n : ℕ) (f : ℕ → A) (s : List A) → length s ≡ n → ((i : ℕ) → i < n → f i ≡ get_or s i d) → up_to n f ≡ s
+up_to-is d n f s len same =
+    ext_get_or d (up_to n f) s (length-up_to n f ∙ sym len) (λ i h.
+    let lt : i < n = subst (λ k. i < k) (length-up_to n f) h in get-up_to n f i d lt ∙ same i lt)
+
+pub length-laid_out : (size : ℕ) (chunks : ℕ → List ℕ) → length (laid_out size chunks) ≡ size
+unfolding laid_out
+length-laid_out size chunks = length-up_to size (λ b. slice_index (chunks (b / 64)) (byte_offset size b))
+
+pub length-in_order : (size : ℕ) (chunks : ℕ → List ℕ) → length (in_order size chunks) ≡ size
+unfolding in_order
+length-in_order size chunks = length-up_to size (λ b. slice_index (chunks (b / 64)) (b % 64))
+
+-- byte b of the shard
+pub get-laid_out : (size b : ℕ) (chunks : ℕ → List ℕ) → b < size → slice_index (laid_out size chunks) b ≡ slice_index (chunks (b / 64)) (byte_offset size b)
+unfolding laid_out
+get-laid_out size b chunks h = get-up_to size (λ b. slice_index (chunks (b / 64)) (byte_offset size b)) b 0 h
+
+-- a byte of the shard lies in a chunk of the row
+chunk_of : (size b : ℕ) → b < size → b / 64 < row_len size
+chunk_of size b h = omega arith
+
+pub laid_out-same : (size : ℕ) (f g : ℕ → List ℕ) → ((k : ℕ) → k < row_len size → f k ≡ g k) → laid_out size f ≡ laid_out size g
+unfolding laid_out
+laid_out-same size f g same =
+    up_to-same size _ _ (λ b h. ap (λ c. slice_index c (byte_offset size b)) (same (b / 64) (chunk_of size b h)))
+
+pub in_order-same : (size : ℕ) (f g : ℕ → List ℕ) → ((k : ℕ) → k < row_len size → f k ≡ g k) → in_order size f ≡ in_order size g
+unfolding in_order
+in_order-same size f g same =
+    up_to-same size _ _ (λ b h. ap (λ c. slice_index c (b % 64)) (same (b / 64) (chunk_of size b h)))
+
+-- where half the bytes of a chunk or of the tail are `half`, its first half stays where it is
+pub byte_offset-low : (size b half : ℕ) → min 64 (size - b / 64 * 64) / 2 ≡ half → b % 64 < half → byte_offset size b ≡ b % 64
+unfolding byte_offset
+byte_offset-low size b half e h = grind (arith, common_steps)
+
+-- and its second half begins at byte 32
+pub byte_offset-high : (size b half : ℕ) → min 64 (size - b / 64 * 64) / 2 ≡ half → half ≤ b % 64 → byte_offset size b ≡ b % 64 - half + 32
+unfolding byte_offset
+byte_offset-high size b half e h = grind (arith, common_steps)
+
+half-whole : (size b : ℕ) → b / 64 * 64 + 64 ≤ size → min 64 (size - b / 64 * 64) / 2 ≡ 32
+half-whole size b h = ap (λ n. n / 2) (min-eq_left (let r : 64 ≤ size - b / 64 * 64 = omega arith in r))
+
+half-tail : (size b : ℕ) → b / 64 ≡ size / 64 → min 64 (size - b / 64 * 64) / 2 ≡ size % 64 / 2
+half-tail size b h = grind (arith, common_steps)
+
+-- a whole chunk lies as it is
+pub byte_offset-whole : (size b : ℕ) → b / 64 < size / 64 → byte_offset size b ≡ b % 64
+byte_offset-whole size b h = grind (arith, common_steps, cases_lt, byte_offset-low, half-whole, byte_offset-high)
+
+pub byte_offset-tail_low : (size b : ℕ) → b / 64 ≡ size / 64 → b % 64 < size % 64 / 2 → byte_offset size b ≡ b % 64
+byte_offset-tail_low size b q h = byte_offset-low size b (size % 64 / 2) (half-tail size b q) h
+
+pub byte_offset-tail_high : (size b : ℕ) → b / 64 ≡ size / 64 → size % 64 / 2 ≤ b % 64 → byte_offset size b ≡ b % 64 - size % 64 / 2 + 32
+byte_offset-tail_high size b q h = byte_offset-high size b (size % 64 / 2) (half-tail size b q) h
+
+byte_offset_lt : (size b : ℕ) → b < size → byte_offset size b < 64
+byte_offset_lt size b h = grind (arith, common_steps, cases_lt, byte_offset-whole, byte_offset-tail_low, byte_offset-tail_high)
+
+pub bytes-laid_out : (size : ℕ) (chunks : ℕ → List ℕ) → ((k b : ℕ) → k < row_len size → b < 64 → slice_index (chunks k) b < 256)
+    → All (λ b. b < 256) (laid_out size chunks)
+unfolding laid_out
+bytes-laid_out size chunks small i d h = grind (arith, common_steps, length-laid_out, get-up_to, chunk_of, byte_offset_lt)
+
+pub shard-laid_out : (size : ℕ) (chunks : ℕ → List ℕ) → ((k b : ℕ) → k < row_len size → b < 64 → slice_index (chunks k) b < 256)
+    → IsShard size (laid_out size chunks)
+shard-laid_out size chunks small = record { length_is = length-laid_out size chunks; bytes = bytes-laid_out size chunks small }
+
+-- the same of the shard whose tail was moved
+pub shard-in_order : (size : ℕ) (chunks : ℕ → List ℕ) → ((k b : ℕ) → k < row_len size → b < 64 → slice_index (chunks k) b < 256)
+    → IsShard size (in_order size chunks)
+unfolding in_order
+shard-in_order size chunks small = grind (arith, common_steps, length-in_order, get-up_to, chunk_of)
+
+-- word i of chunk q: its low byte and its high byte
+word-laid_out : (size q i half : ℕ) (chunks : ℕ → List ℕ) → min 64 (size - q * 64) / 2 ≡ half → i < half → half ≤ 32 → q * 64 + 2 * half ≤ size
+    → slice_index (laid_out size chunks) (q * 64 + i) + 256 * slice_index (laid_out size chunks) (q * 64 + i + half) ≡ symbol (chunks q) i
+word-laid_out size q i half chunks e low most fits =
+    let ql : (q * 64 + i) / 64 ≡ q = omega arith in
+    let rl : (q * 64 + i) % 64 ≡ i = omega arith in
+    let qh : (q * 64 + i + half) / 64 ≡ q = omega arith in
+    let rh : (q * 64 + i + half) % 64 ≡ i + half = omega arith in
+    let el : min 64 (size - (q * 64 + i) / 64 * 64) / 2 ≡ half = ap (λ n. min 64 (size - n * 64) / 2) ql ∙ e in
+    let eh : min 64 (size - (q * 64 + i + half) / 64 * 64) / 2 ≡ half = ap (λ n. min 64 (size - n * 64) / 2) qh ∙ e in
+    let pl : byte_offset size (q * 64 + i) ≡ i = byte_offset-low size (q * 64 + i) half el (subst (λ n. n < half) (sym rl) low) ∙ rl in
+    let ph : byte_offset size (q * 64 + i + half) ≡ i + 32
+    = byte_offset-high size (q * 64 + i + half) half eh (omega arith) ∙ ap (λ n. n - half + 32) rh ∙ (let r : i + half - half + 32 ≡ i + 32 = omega arith in r) in
+    ap₂ (λ u v. u + 256 * v)
+    (get-laid_out size (q * 64 + i) chunks (omega arith) ∙ ap₂ (λ k n. slice_index (chunks k) n) ql pl)
+    (get-laid_out size (q * 64 + i + half) chunks (omega arith) ∙ ap₂ (λ k n. slice_index (chunks k) n) qh ph)
+
+-- a column of the shard is the symbol of a chunk
+pub column-laid_out : (size j : ℕ) (chunks : ℕ → List ℕ) → size % 2 ≡ 0 → j < size / 2
+    → column j (laid_out size chunks) ≡ symbol (chunks (j / 32)) (j % 32)
+unfolding column
+column-laid_out size j chunks even h = grind (arith, common_steps, length-laid_out, word-laid_out, cases_lt, min-eq_right, min-eq_left)
+
+-- a row whose whole chunks are those of the shard, and whose last chunk holds the halves of its tail
+pub laid_out-is : (size : ℕ) (chunks : ℕ → List ℕ) (s : Shard) → length s ≡ size → size % 2 ≡ 0
+    → ((k b : ℕ) → k < size / 64 → b < 64 → slice_index (chunks k) b ≡ slice_index s (k * 64 + b))
+    → ((b : ℕ) → b < size % 64 / 2 → slice_index (chunks (size / 64)) b ≡ slice_index s (size / 64 * 64 + b))
+    → ((b : ℕ) → b < size % 64 / 2 → slice_index (chunks (size / 64)) (32 + b) ≡ slice_index s (size / 64 * 64 + (size % 64 / 2 + b)))
+    → laid_out size chunks ≡ s
+unfolding laid_out
+laid_out-is size chunks s len even whole low high = up_to-is 0 size (λ b. slice_index (chunks (b / 64)) (byte_offset size b)) s len byte
+  where
+    byte : (b : ℕ) → b < size → slice_index (chunks (b / 64)) (byte_offset size b) ≡ slice_index s b
+    byte b h =
+        elim (cases_lt (b / 64) (size / 64)) [
+          | inl before ↦
+              let e : b / 64 * 64 + b % 64 ≡ b = omega arith in
+              ap (slice_index (chunks (b / 64))) (byte_offset-whole size b before) ∙ whole (b / 64) (b % 64) before (omega arith) ∙ ap (slice_index s) e
+          | inr last ↦
+              let q : b / 64 ≡ size / 64 = omega arith in
+              elim (cases_lt (b % 64) (size % 64 / 2)) [
+                | inl first ↦
+                    let e : size / 64 * 64 + b % 64 ≡ b = omega arith in
+                    ap₂ (λ k n. slice_index (chunks k) n) q (byte_offset-tail_low size b q first) ∙ low (b % 64) first ∙ ap (slice_index s) e
+                | inr second ↦
+                    let at : b % 64 - size % 64 / 2 + 32 ≡ 32 + (b % 64 - size % 64 / 2) = omega arith in
+                    let e : size / 64 * 64 + (size % 64 / 2 + (b % 64 - size % 64 / 2)) ≡ b = omega arith in
+                    ap₂ (λ k n. slice_index (chunks k) n) q (byte_offset-tail_high size b q second ∙ at)
+                    ∙ high (b % 64 - size % 64 / 2) (omega arith) ∙ ap (slice_index s) e
+              ]
+        ]
+
+-- moving the second half of the tail puts the bytes in order
+pub in_order-is : (size : ℕ) (new old : ℕ → List ℕ) → size % 2 ≡ 0
+    → ((k : ℕ) → k < size / 64 → new k ≡ old k)
+    → ((b : ℕ) → b < size % 64 / 2 → slice_index (new (size / 64)) b ≡ slice_index (old (size / 64)) b)
+    → ((b : ℕ) → b < size % 64 / 2 → slice_index (new (size / 64)) (size % 64 / 2 + b) ≡ slice_index (old (size / 64)) (32 + b))
+    → in_order size new ≡ laid_out size old
+unfolding in_order laid_out
+in_order-is size new old even whole low high = up_to-same size _ _ byte
+  where
+    byte : (b : ℕ) → b < size → slice_index (new (b / 64)) (b % 64) ≡ slice_index (old (b / 64)) (byte_offset size b)
+    byte b h =
+        elim (cases_lt (b / 64) (size / 64)) [
+          | inl before ↦ ap₂ slice_index (whole (b / 64) before) (sym (byte_offset-whole size b before))
+          | inr last ↦
+              let q : b / 64 ≡ size / 64 = omega arith in
+              elim (cases_lt (b % 64) (size % 64 / 2)) [
+                | inl first ↦
+                    ap (λ k. slice_index (new k) (b % 64)) q ∙ low (b % 64) first
+                    ∙ sym (ap₂ (λ k n. slice_index (old k) n) q (byte_offset-tail_low size b q first))
+                | inr second ↦
+                    let at : b % 64 - size % 64 / 2 + 32 ≡ 32 + (b % 64 - size % 64 / 2) = omega arith in
+                    let e : b % 64 ≡ size % 64 / 2 + (b % 64 - size % 64 / 2) = omega arith in
+                    ap₂ (λ k n. slice_index (new k) n) q e ∙ high (b % 64 - size % 64 / 2) (omega arith)
+                    ∙ sym (ap₂ (λ k n. slice_index (old k) n) q (byte_offset-tail_high size b q second ∙ at))
+              ]
+        ]
+
+-- byte i of what stands in a list from place a on
+pub get-rest : (s : List ℕ) (a i : ℕ) → i < length s - a → slice_index (take (length s - a) (drop a s)) i ≡ slice_index s (a + i)
+get-rest s a i h = get_or-take (length s - a) (drop a s) i 0 h ∙ get_or-drop a s i 0
+
+-- byte b of chunks one after another
+pub get-flat : (rows : List (List ℕ)) → ((i : ℕ) → i < length rows → length (get_or rows i []) ≡ 64) → (b : ℕ) → b < length rows * 64
+    → slice_index (flat_map (λ x. x) rows) b ≡ slice_index (get_or rows (b / 64) []) (b % 64)
+get-flat [] sized b h = absurd (omega arith)
+get-flat (x ∷ rows) sized b h =
+    let len : length x ≡ 64 = sized 0 (omega arith) in
+    elim (cases_lt b 64) [
+      | inl low ↦
+          let q : b / 64 ≡ 0 = omega arith in
+          let r : b % 64 ≡ b = omega arith in
+          get_or_append_left x (flat_map (λ y. y) rows) 0 b (subst (λ n. b < n) (sym len) low)
+          ∙ sym (ap₂ (λ k n. slice_index (get_or (x ∷ rows) k []) n) q r)
+      | inr high ↦
+          let q : b / 64 ≡ suc ((b - 64) / 64) = omega arith in
+          let r : b % 64 ≡ (b - 64) % 64 = omega arith in
+          get_or-append_right x (flat_map (λ y. y) rows) 64 b 0 len high
+          ∙ get-flat rows (λ i g. sized (suc i) (omega arith)) (b - 64) (omega arith)
+          ∙ sym (ap₂ (λ k n. slice_index (get_or (x ∷ rows) k []) n) q r)
+    ]
+
+length-flat : (rows : List (List ℕ)) → ((i : ℕ) → i < length rows → length (get_or rows i []) ≡ 64) → length (flat_map (λ x. x) rows) ≡ length rows * 64
+length-flat [] sized = refl
+length-flat (x ∷ rows) sized =
+    let len : length x ≡ 64 = sized 0 (omega arith) in
+    let more = length-flat rows (λ i g. sized (suc i) (omega arith)) in
+    length-append x (flat_map (λ y. y) rows) ∙ (let e : length x + length (flat_map (λ y. y) rows) ≡ suc (length rows) * 64 = omega arith in e)
+
+-- the first bytes of the chunks one after another
+pub take-flat : (size : ℕ) (rows : List (List ℕ)) → ((i : ℕ) → i < length rows → length (get_or rows i []) ≡ 64) → length rows ≡ row_len size
+    → take size (flat_map (λ x. x) rows) ≡ in_order size (λ k. chunk rows k)
+unfolding in_order
+take-flat size rows sized len =
+    sym
+    (up_to-is 0 size (λ b. slice_index (chunk rows (b / 64)) (b % 64)) (take size (flat_map (λ x. x) rows))
+    (length-take-le size _ (let whole = length-flat rows sized in omega arith))
+    (λ b h. sym (get_or-take size (flat_map (λ x. x) rows) b 0 h ∙ get-flat rows sized b (omega arith))))

@@ -1,0 +1,120 @@
+-- The parts of a block that its first layers leave: their rows, their place among the points, and the row steps.
+use Rattle.std.proofs.Common.{◌≡◌, ℕ, ◌+◌, ◌*◌, ◌/◌, ◌%◌, ◌^◌, ◌<◌, ◌≤◌, ◌≢◌, Bool, true, false, cond, refl, sym, ap, ◌∙◌, subst, inl, inr, arith}
+use Rattle.std.proofs.Math.Nat.{mul-le-mul_right, add-mul-mod_self_right, mul-div_cancel, mul-mod_left}
+use Rattle.std.proofs.lemmas.Bool.{cases_Bool, cases_lt, true≢false}
+use Rattle.std.proofs.lemmas.Nat.{pow_pos, div-add-mod'}
+use Rattle.rs_field.specs.rows.Layers.{is_halved, rows_of_part, layer_steps}
+use Rattle.rs_field.specs.words.StepBounds.{transform_steps}
+use Rattle.rs_field.proofs.of_words.Halves.{few_halves, half_power, quarter_power, steps_half, steps_quarters, two_halves}
+use Rattle.rs_field.proofs.of_code.NextPower.{own_is_power}
+use Rattle.rs_field.specs.declared.rows.block.Block.{Block}
+use Rattle.std.proofs.lemmas.Grind.{common_steps}
+
+pub part_of_halved : (size : ℕ) → is_halved size ≡ true → rows_of_part size ≡ size / 2
+unfolding rows_of_part
+part_of_halved size is = ap (λ (b : Bool). cond b (size / 2) (size / 4)) is
+
+pub part_of_more : (size : ℕ) → is_halved size ≡ false → rows_of_part size ≡ size / 4
+unfolding rows_of_part
+part_of_more size is = ap (λ (b : Bool). cond b (size / 2) (size / 4)) is
+
+pub steps_of_halved : (size : ℕ) → is_halved size ≡ true → layer_steps size ≡ size / 2
+unfolding layer_steps
+steps_of_halved size is = ap (λ (b : Bool). cond b (size / 2) size) is
+
+pub steps_of_more : (size : ℕ) → is_halved size ≡ false → layer_steps size ≡ size
+unfolding layer_steps
+steps_of_more size is = ap (λ (b : Bool). cond b (size / 2) size) is
+
+-- two rows are halved
+not_two : (size : ℕ) → is_halved size ≡ false → size ≢ 2
+unfolding is_halved
+not_two size is e = true≢false (sym (let two : is_halved 2 ≡ true = refl in two) ∙ sym (ap is_halved e) ∙ is)
+
+-- the part n of a block of size rows
+pub record IsPart (size n : ℕ) : Type 0 where
+  pub power : (d : ℕ) × (n ≡ 2 ^ d)
+  pub positive : 0 < n
+  pub smaller : n < size
+  pub count : ℕ
+  pub whole : size ≡ count * n
+  pub steps : layer_steps size + count * transform_steps n ≡ transform_steps size
+
+-- the rows of a block are a power of two
+pub block_power : (block : Block) → (d : ℕ) × (block.size ≡ 2 ^ d)
+block_power block = own_is_power block.size block.power (let points = block.points in omega arith)
+
+-- twice those of a half
+pub block_halves : (block : Block) → 1 < block.size → block.size ≡ block.size / 2 + block.size / 2
+block_halves block large = two_halves block.size large (block_power block)
+
+-- and four times those of a quarter, where they aren't halved
+pub block_quarters : (block : Block) → 1 < block.size → is_halved block.size ≡ false → block.size ≡ 4 * (block.size / 4)
+block_quarters block large more =
+    let ne = not_two block.size more in
+    (quarter_power block.size (omega (arith, large, ne)) (block_power block)).3
+
+-- the part of a block of more than one row, however its rows were found
+pub part_found : (block : Block) (n : ℕ) → n ≡ rows_of_part block.size → 1 < block.size → IsPart block.size n
+part_found block n is large =
+    let size = block.size in
+    let points = block.points in
+    elim (cases_Bool (is_halved size)) [
+      | inl halved ↦
+          let p = half_power size large (block_power block) in
+          let pos = pow_pos p.0 in
+          let whole = block_halves block large in
+          subst (IsPart size) (sym (is ∙ part_of_halved size halved)) (record {
+            power = (p.0, p.2);
+            positive = omega (arith, p.2, pos);
+            smaller = omega (arith, p.2, pos, whole);
+            count = 2;
+            whole = omega (arith, whole);
+            steps = omega (arith, steps_of_halved size halved, steps_half size p.0 (size / 2) (few_halves size p.0 0 p.1 (omega arith)) p.1 p.2);
+          })
+      | inr more ↦
+          let ne = not_two size more in
+          let q = quarter_power size (omega (arith, ne)) (block_power block) in
+          let pos = pow_pos q.0 in
+          subst (IsPart size) (sym (is ∙ part_of_more size more)) (record {
+            power = (q.0, q.2);
+            positive = omega (arith, q.2, pos);
+            smaller = omega (arith, q.2, pos, q.3);
+            count = 4;
+            whole = q.3;
+            steps = omega (arith, steps_of_more size more, steps_quarters size q.0 (size / 4) (omega arith) q.1 q.2, q.3);
+          })
+    ]
+
+-- part j of a block lies in it
+pub part_within : (size n j : ℕ) → IsPart size n → j * n < size → j * n + n ≤ size
+part_within size n j p within =
+    elim (cases_lt j p.count) [
+      | inl before ↦ let next : j + 1 ≤ p.count = omega arith in let le : (j + 1) * n ≤ p.count * n = mul-le-mul_right n next in let w = p.whole in omega arith
+      | inr past ↦ let le : p.count * n ≤ j * n = mul-le-mul_right n past in let w = p.whole in absurd (let no : ⊥ = omega arith in no)
+    ]
+
+-- and begins at a multiple of its rows
+pub part_aligned : (size n shift j : ℕ) → IsPart size n → shift % size ≡ 0 → (shift + j * n) % n ≡ 0
+part_aligned size n shift j p aligned =
+    let u : ℕ = shift / size in
+    let parts : u * size + shift % size ≡ shift = div-add-mod' shift size in
+    let made : shift ≡ u * p.count * n = regroup u p.count shift parts aligned p.whole in
+    add-mul-mod_self_right shift j n ∙ ap (λ v. v % n) made ∙ mul-mod_left (u * p.count) n
+  where
+    regroup : (u m shift : ℕ) → u * size + shift % size ≡ shift → shift % size ≡ 0 → size ≡ m * n → shift ≡ u * m * n
+    regroup u m shift parts aligned whole = omega (arith, ap (λ v. u * v) whole)
+
+-- ---- the parts one by one
+
+-- a block has so many
+pub parts_number : (size n : ℕ) (p : IsPart size n) → size / n ≡ p.count
+parts_number size n p = ap (λ v. v / n) p.whole ∙ mul-div_cancel p.count p.positive
+
+-- each begins in it
+pub part_begins : (size n j : ℕ) → IsPart size n → j < size / n → j * n < size
+part_begins size n j p h = grind (arith, common_steps)
+
+-- and together they are all of it
+pub parts_whole : (size n j : ℕ) → IsPart size n → j ≡ size / n → j * n ≡ size
+parts_whole size n j p is = ap (λ v. v * n) (is ∙ parts_number size n p) ∙ sym p.whole

@@ -1,0 +1,79 @@
+-- Where row i of rows of n chunks lies among the chunks, and what is unchanged outside some rows.
+use Rattle.std.proofs.Common.{◌≡◌, ℕ, zero, suc, ◌+◌, ◌-◌, ◌*◌, ◌<◌, ◌≤◌, ◌⊎◌, ◌≢◌, inl, inr, arith, ap, ◌∙◌, subst, sym}
+use Rattle.std.proofs.Math.Nat.{mul-le-mul_right}
+use Rattle.std.proofs.lemmas.Bool.{cases_lt}
+use Rattle.rs_field.specs.rows.Rows.{chunk, SameOutside}
+use Rattle.rs_field.specs.rows.View.{cell, SameShape, SameRowsOutside, SameRowsOutsideTwo}
+use Rattle.rs_field.specs.declared.rows.shards.ShardsRefMut.{ShardsRefMut}
+
+pub row_ends : (i m n : ℕ) → i < m → i * n + n ≤ m * n
+row_ends i m n h = let p : (i + 1) * n ≤ m * n = mul-le-mul_right n (omega arith) in omega arith
+
+-- some rows end before a later row begins, and within the rows
+pub rows_end : (a count m n : ℕ) → a + count ≤ m → a * n + count * n ≤ m * n
+rows_end a count m n h = let p : (a + count) * n ≤ m * n = mul-le-mul_right n h in omega arith
+
+-- chunk k of row i of m rows
+pub row_within : (i m k n : ℕ) → i < m → k < n → i * n + k < m * n
+row_within i m k n hi hk = let ends = row_ends i m n hi in omega arith
+
+-- a chunk of a row below a lies before row a, and one of a row from b on lies from row b on
+pub offset_outside : (a b i k n : ℕ) → k < n → (i < a) ⊎ (b ≤ i) → (i * n + k < a * n) ⊎ (b * n ≤ i * n + k)
+offset_outside a b i k n q h =
+    elim h [ inl p ↦ inl (let r = row_ends i a n p in omega arith) | inr p ↦ inr (let r = mul-le-mul_right n p in omega arith) ]
+
+-- a chunk of another row lies outside row a
+pub offset_apart : (a i k n : ℕ) → k < n → i ≢ a → (i * n + k < a * n) ⊎ (a * n + n ≤ i * n + k)
+offset_apart a i k n q ne =
+    elim (cases_lt i a) [ inl p ↦ inl (let r = row_ends i a n p in omega arith) | inr p ↦ inr (let l : a < i = omega arith in let r = row_ends a i n l in omega arith) ]
+
+-- the chunks of the rows outside are unchanged
+pub outside_cell : (a b : ℕ) (old new : ShardsRefMut) → SameShape old new → SameRowsOutside a b old new
+    → (i k : ℕ) → k < old.shard_len_64 → (i < a) ⊎ (b ≤ i) → cell new k i ≡ cell old k i
+unfolding cell
+outside_cell a b old new shape others i k hk h =
+    ap (λ n. chunk new.chunks.now (i * n + k)) shape.len_64
+    ∙ others (i * old.shard_len_64 + k) (offset_outside a b i k old.shard_len_64 hk h)
+
+-- two changes one after another, each within rows e to f - 1
+pub outside_both : (a b c d e f : ℕ) (old mid new : ShardsRefMut) → SameShape old mid → SameRowsOutside a b old mid → SameRowsOutside c d mid new
+    → e ≤ a → b ≤ f → e ≤ c → d ≤ f → SameRowsOutside e f old new
+outside_both a b c d e f old mid new shape first second ea bf ec df k h =
+    let n : ℕ = old.shard_len_64 in
+    let ea_n : e * n ≤ a * n = mul-le-mul_right n ea in
+    let bf_n : b * n ≤ f * n = mul-le-mul_right n bf in
+    let ec_n : e * n ≤ c * n = mul-le-mul_right n ec in
+    let df_n : d * n ≤ f * n = mul-le-mul_right n df in
+    let then : SameOutside (c * n) (d * n) mid.chunks.now new.chunks.now =
+    subst (λ (m : ℕ). SameOutside (c * m) (d * m) mid.chunks.now new.chunks.now) shape.len_64 second in
+    then k (elim h [ inl before ↦ inl (omega arith) | inr after ↦ inr (omega arith) ])
+    ∙ first k (elim h [ inl before ↦ inl (omega arith) | inr after ↦ inr (omega arith) ])
+
+-- where the rows of the second range hold the same chunks as before, the first range alone was changed
+pub outside_first : (a b count : ℕ) (old new : ShardsRefMut) → SameShape old new → SameRowsOutsideTwo a (a + count) b (b + count) old new
+    → ((i k : ℕ) → i < count → k < old.shard_len_64 → cell new k (b + i) ≡ cell old k (b + i)) → SameRowsOutside a (a + count) old new
+unfolding cell
+outside_first a b count old new shape others kept k h =
+    elim (cases_lt k (b * old.shard_len_64)) [
+      | inl before ↦ others k h (inl before)
+      | inr from ↦ elim (cases_lt k ((b + count) * old.shard_len_64)) [
+        | inl inside ↦ within count
+            (λ i r hi hr. ap (λ n. chunk new.chunks.now ((b + i) * n + r)) (sym shape.len_64) ∙ kept i r hi hr) k from inside
+        | inr after ↦ others k h (inr after)
+      ]
+    ]
+  where
+    within : (m : ℕ) → ((i r : ℕ) → i < m → r < old.shard_len_64 → chunk new.chunks.now ((b + i) * old.shard_len_64 + r) ≡ chunk old.chunks.now ((b + i) * old.shard_len_64 + r))
+        → (k : ℕ) → b * old.shard_len_64 ≤ k → k < (b + m) * old.shard_len_64 → chunk new.chunks.now k ≡ chunk old.chunks.now k
+    within zero same k from to = absurd (let no : ⊥ = omega arith in no)
+    within (suc m) same k from to =
+        elim (cases_lt k ((b + m) * old.shard_len_64)) [
+          | inl low ↦ within m (λ i r hi hr. same i r (omega arith) hr) k from low
+          | inr high ↦
+              let r : ℕ = k - (b + m) * old.shard_len_64 in
+              let is : (b + m) * old.shard_len_64 + r ≡ k = omega arith in
+              subst (λ (p : ℕ). chunk new.chunks.now p ≡ chunk old.chunks.now p) is (same m r (omega arith) (omega arith))
+        ]
+
+pub shape_then : (old mid new : ShardsRefMut) → SameShape old mid → SameShape mid new → SameShape old new
+shape_then old mid new p q = record { name = q.name ∙ p.name; count = q.count ∙ p.count; len_64 = q.len_64 ∙ p.len_64; length = q.length ∙ p.length }

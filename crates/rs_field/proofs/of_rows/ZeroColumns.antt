@@ -1,0 +1,107 @@
+-- A row is zero in each column of its shards exactly where the bytes of its whole chunks and of both halves of its tail are.
+use Rattle.std.proofs.Common.{◌≡◌, ℕ, ◌+◌, ◌-◌, ◌*◌, ◌/◌, ◌%◌, ◌<◌, ◌≤◌, List, [], length, get_or, take, drop, ap, ap₂, sym, subst, ◌∙◌, arith, inl, inr}
+use Rattle.std.specs.Prelude.{slice_index, EachIndex}
+use Rattle.std.proofs.lemmas.Bool.{cases_lt}
+use Rattle.std.proofs.lemmas.List.{get_or-take, get_or-drop, length-take-le, length-drop}
+use Rattle.std.specs.List.{flat_map}
+use Rattle.rs_field.specs.rows.Rows.{Chunks, chunk, symbol}
+use Rattle.rs_field.specs.rows.Layout.{row_len, HasZeroColumns}
+use Rattle.rs_field.proofs.of_rows.LayoutLemmas.{get-flat}
+
+-- a row for shards of this size, and the bytes of its chunks one after another
+pub record IsRow (size : ℕ) (row : Chunks) (bytes : List ℕ) : Type 0 where
+  pub length_is : length row ≡ row_len size
+  pub sized : (i : ℕ) → i < length row → length (get_or row i []) ≡ 64
+  pub flat : bytes ≡ flat_map (λ x. x) row
+  pub count : length bytes ≡ length row * 64
+
+-- where the tail begins
+abbrev tail : ℕ → ℕ
+tail size = size / 64 * 64
+
+-- half the bytes of the tail
+abbrev half : ℕ → ℕ
+half size = size % 64 / 2
+
+-- the n bytes from a on are zero
+abbrev pub ZeroFrom : List ℕ → ℕ → ℕ → Type 0
+ZeroFrom bytes a n = (i : ℕ) → i < n → slice_index bytes (a + i) ≡ 0
+
+abbrev pub AreZero : List ℕ → Type 0
+AreZero bytes = EachIndex bytes (λ i. slice_index bytes i ≡ 0)
+
+part-at : (bytes : List ℕ) (a n i : ℕ) → i < n → slice_index (take n (drop a bytes)) i ≡ slice_index bytes (a + i)
+part-at bytes a n i h = get_or-take n (drop a bytes) i 0 h ∙ get_or-drop a bytes i 0
+
+part-length : (bytes : List ℕ) (a n : ℕ) → a + n ≤ length bytes → length (take n (drop a bytes)) ≡ n
+part-length bytes a n within = let left = length-drop a bytes in length-take-le n (drop a bytes) (omega arith)
+
+pub zero-from : (bytes : List ℕ) (a n : ℕ) → a + n ≤ length bytes → AreZero (take n (drop a bytes)) → ZeroFrom bytes a n
+zero-from bytes a n within zeros i h = sym (part-at bytes a n i h) ∙ zeros i (subst (λ m. i < m) (sym (part-length bytes a n within)) h)
+
+pub zero-part : (bytes : List ℕ) (a n : ℕ) → a + n ≤ length bytes → ZeroFrom bytes a n → AreZero (take n (drop a bytes))
+zero-part bytes a n within zeros i h =
+    let lt : i < n = subst (λ m. i < m) (part-length bytes a n within) h in part-at bytes a n i lt ∙ zeros i lt
+
+byte-of : (size : ℕ) (row : Chunks) (bytes : List ℕ) → IsRow size row bytes → (q b : ℕ) → b < 64 → q < row_len size
+    → slice_index (chunk row q) b ≡ slice_index bytes (q * 64 + b)
+byte-of size row bytes is q b low within =
+    let e : (q * 64 + b) / 64 ≡ q = omega arith in
+    let r : (q * 64 + b) % 64 ≡ b = omega arith in
+    let len = is.length_is in
+    sym
+    (ap (λ s. slice_index s (q * 64 + b)) is.flat ∙ get-flat row is.sized (q * 64 + b) (omega arith)
+    ∙ ap₂ (λ k n. slice_index (chunk row k) n) e r)
+
+-- a symbol by its two bytes
+symbol-bytes : (size : ℕ) (row : Chunks) (bytes : List ℕ) → IsRow size row bytes → (q i : ℕ) → i < 32 → q < row_len size
+    → symbol (chunk row q) i ≡ slice_index bytes (q * 64 + i) + 256 * slice_index bytes (q * 64 + (i + 32))
+symbol-bytes size row bytes is q i low within =
+    ap₂ (λ u v. u + 256 * v) (byte-of size row bytes is q i (omega arith) within) (byte-of size row bytes is q (i + 32) (omega arith) within)
+
+pub zero_columns : (size : ℕ) (row : Chunks) (bytes : List ℕ) → IsRow size row bytes
+    → ZeroFrom bytes 0 (tail size + half size) → ZeroFrom bytes (tail size + 32) (half size) → HasZeroColumns size (λ k. chunk row k)
+zero_columns size row bytes is first second j h =
+    symbol-bytes size row bytes is (j / 32) (j % 32) (omega arith) (omega arith)
+    ∙ ap₂ (λ u v. u + 256 * v) (before (j / 32 * 64 + j % 32) (omega arith)) high
+  where
+    before : (b : ℕ) → b < tail size + half size → slice_index bytes b ≡ 0
+    before b g = let at : b ≡ 0 + b = omega arith in ap (slice_index bytes) at ∙ first b g
+
+    high : slice_index bytes (j / 32 * 64 + (j % 32 + 32)) ≡ 0
+    high =
+        elim (cases_lt (j / 32) (size / 64)) [
+          | inl whole ↦ before (j / 32 * 64 + (j % 32 + 32)) (omega arith)
+          | inr last ↦
+              let at : j / 32 * 64 + (j % 32 + 32) ≡ size / 64 * 64 + 32 + j % 32 = omega arith in
+              ap (slice_index bytes) at ∙ second (j % 32) (omega arith)
+        ]
+
+-- both bytes of a column that is zero
+zero-bytes : (size : ℕ) (row : Chunks) (bytes : List ℕ) → IsRow size row bytes → HasZeroColumns size (λ k. chunk row k)
+    → (q i : ℕ) → i < 32 → q * 32 + i < size / 2 → (slice_index bytes (q * 64 + i) ≡ 0) × (slice_index bytes (q * 64 + (i + 32)) ≡ 0)
+zero-bytes size row bytes is zeros q i low within =
+    let k : (q * 32 + i) / 32 ≡ q = omega arith in
+    let s : (q * 32 + i) % 32 ≡ i = omega arith in
+    let word : symbol (chunk row q) i ≡ 0 = sym (ap₂ (λ n m. symbol (chunk row n) m) k s) ∙ zeros (q * 32 + i) within in
+    let sum : slice_index bytes (q * 64 + i) + 256 * slice_index bytes (q * 64 + (i + 32)) ≡ 0
+    = sym (symbol-bytes size row bytes is q i low (omega arith)) ∙ word in
+    (omega arith, omega arith)
+
+pub zero-first : (size : ℕ) (row : Chunks) (bytes : List ℕ) → IsRow size row bytes → HasZeroColumns size (λ k. chunk row k)
+    → ZeroFrom bytes 0 (tail size + half size)
+zero-first size row bytes is zeros b h =
+    elim (cases_lt (b % 64) 32) [
+      | inl low ↦
+          let at : 0 + b ≡ b / 64 * 64 + b % 64 = omega arith in
+          ap (slice_index bytes) at ∙ (zero-bytes size row bytes is zeros (b / 64) (b % 64) low (omega arith)).0
+      | inr high ↦
+          let at : 0 + b ≡ b / 64 * 64 + (b % 64 - 32 + 32) = omega arith in
+          ap (slice_index bytes) at ∙ (zero-bytes size row bytes is zeros (b / 64) (b % 64 - 32) (omega arith) (omega arith)).1
+    ]
+
+pub zero-second : (size : ℕ) (row : Chunks) (bytes : List ℕ) → IsRow size row bytes → HasZeroColumns size (λ k. chunk row k)
+    → ZeroFrom bytes (tail size + 32) (half size)
+zero-second size row bytes is zeros b h =
+    let at : size / 64 * 64 + 32 + b ≡ size / 64 * 64 + (b + 32) = omega arith in
+    ap (slice_index bytes) at ∙ (zero-bytes size row bytes is zeros (size / 64) b (omega arith) (omega arith)).1

@@ -1,0 +1,102 @@
+-- Whether some polynomial takes the words given, by the rows after the backward transform: one column.
+use Rattle.std.proofs.Common.{◌≡◌, ℕ, zero, suc, ◌+◌, ◌^◌, ◌<◌, ◌≤◌, ◌⊎◌, ◌≢◌, List, [], ◌∷◌, length, sym, ap, ◌∙◌, arith}
+use Rattle.std.proofs.lemmas.Bool.{cases_eq}
+use Rattle.rs_field.specs.words.Field.{product, power}
+use Rattle.rs_field.specs.words.Polynomial.{AreWords, value}
+use Rattle.rs_field.specs.words.Transform.{forward}
+use Rattle.rs_field.specs.words.Locator.{log_sum}
+use Rattle.rs_field.proofs.of_words.Product.{zero_product}
+use Rattle.rs_field.proofs.of_words.Total.{product-comm}
+use Rattle.rs_field.proofs.of_words.Inverse.{product_cancel}
+use Rattle.rs_field.proofs.of_words.Power.{power_lt, power_pos}
+use Rattle.rs_field.proofs.of_words.Roots.{WordsOneByOne, words_from, value_lt}
+use Rattle.rs_field.proofs.of_words.Factors.{times, words_times}
+use Rattle.rs_field.proofs.of_words.LocatorProduct.{marked, marked-more, marked-same, AreMarks, locator_value, locator_root, length-marked_times}
+use Rattle.rs_field.proofs.of_words.Division.{AreFalling, AreRoots, divided_by}
+use Rattle.rs_field.proofs.of_words.Coefficients.{forward-fewer, polynomial_of_terms, no_terms_past}
+use Rattle.std.proofs.lemmas.Grind.{common_steps}
+
+-- the located words: nothing at a marked point, elsewhere the word given there times the locator's power; at a known zero the word is 0
+pub record AreLocated (n : ℕ) (marks words f : ℕ → ℕ) : Type 0 where
+  pub erased : (x : ℕ) → x < n → marks x ≡ 1 → f x ≡ 0
+  pub given : (x : ℕ) → x < n → marks x ≡ 0 → f x ≡ product (words x) (power (log_sum n marks x))
+
+-- a polynomial of b coefficients takes the word given at each point that is not marked
+pub record Takes (n b : ℕ) (marks words : ℕ → ℕ) (q : List ℕ) : Type 0 where
+  pub degree : length q ≡ b
+  pub coefficients : WordsOneByOne q
+  pub given : (x : ℕ) → x < n → marks x ≡ 0 → value q x ≡ words x
+
+-- rows located one at a time: nothing at a marked point, nothing at a known zero, a given word times the locator's power
+pub are_located : (n : ℕ) (marks words f : ℕ → ℕ) → ((x : ℕ) → x < n → marks x ≡ 1 → f x ≡ 0)
+    → ((x : ℕ) → x < n → marks x ≡ 0 → ((words x ≡ 0) × (f x ≡ 0)) ⊎ (f x ≡ product (words x) (power (log_sum n marks x)))) → AreLocated n marks words f
+are_located n marks words f erased rest = grind (arith, common_steps, zero_product)
+
+-- ---- the marked points as roots
+
+falling_more : (m n : ℕ) (r : List ℕ) → m ≤ n → AreFalling m r → AreFalling n r
+falling_more m n [] le h = tt
+falling_more m n (a ∷ r) le h = (omega (arith, h.0), h.1)
+
+pub falling_marked : (n : ℕ) (marks : ℕ → ℕ) → AreMarks n marks → AreFalling n (marked n marks)
+unfolding marked
+falling_marked zero marks m = tt
+falling_marked (suc n) marks m =
+    grind (arith, common_steps, marked-more, marked-same, falling_more, cases_eq, falling_marked n marks (record { mark = λ y hy. m.mark y (omega arith) }))
+
+pub roots_marked : (n : ℕ) (marks : ℕ → ℕ) (p : List ℕ) → AreMarks n marks → ((x : ℕ) → x < n → marks x ≡ 1 → value p x ≡ 0) → AreRoots p (marked n marks)
+unfolding marked
+roots_marked zero marks p m at = tt
+roots_marked (suc n) marks p m at =
+    let below = roots_marked n marks p (record { mark = λ y hy. m.mark y (omega arith) }) (λ x hx. at x (omega arith)) in
+    grind (arith, common_steps, cases_eq, marked-more, marked-same, below)
+
+-- ---- the located polynomial
+
+not_both : (marks : ℕ → ℕ) (x y : ℕ) → marks x ≡ 0 → marks y ≡ 1 → y ≢ x
+not_both marks x y none one e = let same : marks y ≡ marks x = ap marks e in omega arith
+
+-- a polynomial that takes the words given has the located words as values, once a root is put in at each marked point
+pub located_values : (n b : ℕ) (marks words f : ℕ → ℕ) (q : List ℕ) → n ≤ 2 ^ 16 → AreMarks n marks → AreLocated n marks words f → Takes n b marks words q
+    → (x : ℕ) → x < n → f x ≡ value (times (marked n marks) q) x
+located_values n b marks words f q hn m l h x hx = grind (arith, common_steps, cases_eq, locator_root, product-comm, locator_value, not_both)
+
+-- ---- the check
+
+-- where some polynomial takes the words given, the rows past the marked points and its coefficients are zero
+pub zero_rows : (n b t : ℕ) (marks words f F : ℕ → ℕ) → n ≤ 2 ^ 16 → AreMarks n marks → length (marked n marks) + b + t ≡ n → AreLocated n marks words f
+    → ((x : ℕ) → x < n → F x < 2 ^ 16) → ((x : ℕ) → x < n → forward n 0 F x ≡ f x)
+    → (q : List ℕ) × Takes n b marks words q → (i : ℕ) → n ≤ i + t → i < n → F i ≡ 0
+zero_rows n b t marks words f F hn m count l word at (q, h) i above below =
+    let degree : length q ≡ b = h.degree in
+    let k : ℕ = length (marked n marks) + b in
+    let size : length (times (marked n marks) q) ≡ length (marked n marks) + b = length-marked_times (marked n marks) q ∙ omega arith in
+    no_terms_past (length (marked n marks) + b) t F (times (marked n marks) q) (omega arith) (λ x hx. word x (omega arith)) size (words_times (marked n marks) q h.coefficients)
+    (λ x hx. ap (λ k. forward k 0 F x) count ∙ at x (omega arith) ∙ located_values n b marks words f q hn m l h x (omega arith)) i (omega arith) (omega arith)
+
+-- a polynomial that gives the located words with a root at each marked point put in takes the words given
+divided_takes : (n b : ℕ) (marks words f : ℕ → ℕ) (h : List ℕ) → n ≤ 2 ^ 16 → AreMarks n marks → AreLocated n marks words f
+    → ((x : ℕ) → x < n → marks x ≡ 0 → words x < 2 ^ 16) → ((x : ℕ) → x < n → value h x ≡ f x)
+    → (q : List ℕ) × (length q ≡ b) × WordsOneByOne q × ((x : ℕ) → value h x ≡ value (times (marked n marks) q) x) → (q : List ℕ) × Takes n b marks words q
+divided_takes n b marks words f h hn m l given same (q, size, are_words, at) =
+    grind (arith, common_steps, product_cancel, power_pos, power_lt, value_lt, product-comm, locator_value, not_both)
+
+-- as many coefficients as the marked points and those of the polynomial wanted, with the located words as values
+few_coefficients : (n k t : ℕ) (f F : ℕ → ℕ) → n ≤ 2 ^ 16 → k + t ≡ n → ((x : ℕ) → x < n → forward n 0 F x ≡ f x)
+    → ((i : ℕ) → n ≤ i + t → i < n → F i ≡ 0) → (h : List ℕ) × (length h ≡ k) × WordsOneByOne h × ((x : ℕ) → x < n → value h x ≡ f x)
+few_coefficients n k t f F hn count at none = with_values (polynomial_of_terms k F (omega arith))
+  where
+    with_values : (h : List ℕ) × (length h ≡ k) × AreWords h × ((x : ℕ) → value h x ≡ forward k 0 F x) → (h : List ℕ) × (length h ≡ k) × WordsOneByOne h × ((x : ℕ) → x < n → value h x ≡ f x)
+    with_values (h, size, words, is) =
+        (h, size, words_from h words, λ x hx. is x ∙ sym (forward-fewer k t F x (λ i a. none (k + i) (omega arith) (omega arith))) ∙ ap (λ j. forward j 0 F x) count ∙ at x hx)
+
+-- where these rows are zero, some polynomial takes the words given
+pub taken_from_zero_rows : (n b t : ℕ) (marks words f F : ℕ → ℕ) → n ≤ 2 ^ 16 → AreMarks n marks → length (marked n marks) + b + t ≡ n → AreLocated n marks words f
+    → ((x : ℕ) → x < n → marks x ≡ 0 → words x < 2 ^ 16) → ((x : ℕ) → x < n → forward n 0 F x ≡ f x)
+    → ((i : ℕ) → n ≤ i + t → i < n → F i ≡ 0) → (q : List ℕ) × Takes n b marks words q
+taken_from_zero_rows n b t marks words f F hn m count l given at none = by_division (few_coefficients n (length (marked n marks) + b) t f F hn count at none)
+  where
+    by_division : (h : List ℕ) × (length h ≡ length (marked n marks) + b) × WordsOneByOne h × ((x : ℕ) → x < n → value h x ≡ f x) → (q : List ℕ) × Takes n b marks words q
+    by_division (h, size, are_words, same) =
+        divided_takes n b marks words f h hn m l given same
+        (divided_by n (marked n marks) h b hn (falling_marked n marks m) size are_words (roots_marked n marks h m (λ x hx one. same x hx ∙ l.erased x hx one)))

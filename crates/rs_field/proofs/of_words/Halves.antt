@@ -1,0 +1,149 @@
+-- How a transform goes by halves: the sizes, the factor in the table, and the row steps.
+use Rattle.std.proofs.Common.{◌≡◌, ℕ, zero, suc, ◌+◌, ◌-◌, ◌*◌, ◌/◌, ◌%◌, ◌^◌, ◌<◌, ◌≤◌, ◌≢◌, Bool, false, cond, eqb, List, get_or, bit_xor, refl, sym, ap, ap₂, ◌∙◌, inl, inr, arith, pow-suc, pow_mono, ne_eqb, zero-mul}
+use Rattle.std.specs.Prelude.{nat_le}
+use Rattle.std.proofs.Math.Nat.{mul-mod_left}
+use Rattle.std.specs.Int.Bits.{xor_assoc, xor_self, xor_zero_r}
+use Rattle.std.proofs.lemmas.Bool.{cases_eq, cases_lt}
+use Rattle.std.proofs.lemmas.Nat.{pow_pos, pow_below, div-add-mod'}
+use Rattle.rs_field.specs.words.Field.{product, power, log}
+use Rattle.rs_field.specs.words.Subspace.{subspace}
+use Rattle.rs_field.specs.words.Tables.{IsSkew, log_or_mark, scaled}
+use Rattle.rs_field.specs.words.StepBounds.{log2, transform_steps}
+use Rattle.rs_field.proofs.of_words.Search.{first_below-is}
+use Rattle.rs_field.proofs.of_words.Product.{product_zero}
+use Rattle.rs_field.proofs.of_words.Power.{log_lt, power-log}
+use Rattle.rs_field.proofs.of_words.Subspace.{product_below_lt}
+
+-- half of a power of two that is above one
+pub half_power : (size : ℕ) → 1 < size → (d : ℕ) × (size ≡ 2 ^ d) → (e : ℕ) × (size ≡ 2 ^ suc e) × (size / 2 ≡ 2 ^ e)
+half_power size h (zero, is) = absurd (let no : ⊥ = omega arith in no)
+half_power size h (suc e, is) = (e, is, let p = pow-suc 2 e in omega arith)
+
+-- a quarter of one that is above two
+pub quarter_power : (size : ℕ) → 2 < size → (d : ℕ) × (size ≡ 2 ^ d) → (e : ℕ) × (size ≡ 2 ^ suc (suc e)) × (size / 4 ≡ 2 ^ e) × (size ≡ 4 * (size / 4))
+quarter_power size h (zero, is) = absurd (let no : ⊥ = omega arith in no)
+quarter_power size h (suc zero, is) = absurd (let no : ⊥ = omega arith in no)
+quarter_power size h (suc (suc e), is) =
+    let p = pow-suc 2 e in
+    let q = pow-suc 2 (suc e) in
+    (e, is, omega arith, omega arith)
+
+pub two_halves : (size : ℕ) → 1 < size → (d : ℕ) × (size ≡ 2 ^ d) → size ≡ size / 2 + size / 2
+two_halves size h power =
+    let p = half_power size h power in
+    let s = pow-suc 2 p.0 in
+    omega (arith, p.1, p.2)
+
+-- a transform has no more points than there are words
+pub few_halves : (size e shift : ℕ) → size ≡ 2 ^ suc e → shift + size ≤ 65536 → e < 16
+few_halves size e shift is fits =
+    elim (cases_lt e 16) [
+      | inl few ↦ few
+      | inr many ↦ let more : 17 ≤ suc e = omega arith in let big : 2 ^ 17 ≤ 2 ^ suc e = pow_mono more in absurd (let no : ⊥ = omega arith in no)
+    ]
+
+-- a multiple of the size is one of its half, and so is the point of the second half
+pub shift_half : (size e shift : ℕ) → size ≡ 2 ^ suc e → shift % size ≡ 0 → (shift % 2 ^ e ≡ 0) × ((shift + 2 ^ e) % 2 ^ e ≡ 0)
+shift_half size e shift is whole =
+    let u : ℕ = shift / size in
+    let p : size ≡ 2 * 2 ^ e = let s = pow-suc 2 e in omega arith in
+    let parts : u * size + shift % size ≡ shift = div-add-mod' shift size in
+    let made : shift ≡ u * 2 * 2 ^ e = regroup u size (2 ^ e) shift parts whole p in
+    (multiple (u * 2) (2 ^ e) shift made (pow_pos e), multiple (u * 2 + 1) (2 ^ e) (shift + 2 ^ e) (next (u * 2) (2 ^ e) shift made) (pow_pos e))
+  where
+    regroup : (u size n shift : ℕ) → u * size + shift % size ≡ shift → shift % size ≡ 0 → size ≡ 2 * n → shift ≡ u * 2 * n
+    regroup u size n shift parts whole p = omega (arith, ap (λ v. u * v) p)
+
+    next : (u n shift : ℕ) → shift ≡ u * n → shift + n ≡ (u + 1) * n
+    next u n shift e = omega arith
+
+    multiple : (u n x : ℕ) → x ≡ u * n → 0 < n → x % n ≡ 0
+    multiple u n x e pos = ap (λ v. v % n) e ∙ mul-mod_left u n
+
+pub mark_zero : log_or_mark 0 ≡ 65535
+unfolding log_or_mark
+mark_zero = refl
+
+pub mark_word : (z : ℕ) → eqb z 0 ≡ false → log_or_mark z ≡ log z
+unfolding log_or_mark
+mark_word z e = ap (λ (b : Bool). cond b 65535 (log z)) e
+
+-- what the entry of a factor stands for
+pub scaled_by : (c w : ℕ) → c < 2 ^ 16 → scaled (log_or_mark c) w ≡ product w c
+scaled_by c w hc =
+    elim (cases_eq c 0) [
+      | inl e ↦ ap (λ m. scaled (log_or_mark m) w) e ∙ ap (λ m. scaled m w) mark_zero ∙ sym (ap (product w) e ∙ product_zero w)
+      | inr apart ↦
+          let pos : 0 < c = omega arith in
+          let small : log c < 65535 = log_lt c pos hc in
+          let differs : log c ≢ 65535 = λ e. let no : ⊥ = omega arith in no in
+          ap (λ m. scaled m w) (mark_word c (ne_eqb c 0 apart))
+          ∙ ap (λ (b : Bool). cond b 0 (product w (power (log c)))) (ne_eqb (log c) 65535 differs)
+          ∙ ap (product w) (power-log c pos hc)
+    ]
+
+pub subspace_lt : (d x : ℕ) → subspace d x < 2 ^ 16
+unfolding subspace
+subspace_lt d x = product_below_lt (2 ^ d) (λ y. bit_xor x y)
+
+-- the table's entry for the butterflies between the halves of a block
+pub table_factor : (skew : List ℕ) (e half shift w : ℕ) → IsSkew skew → half ≡ 2 ^ e → shift % 2 ^ suc e ≡ 0 → shift + 2 ^ suc e ≤ 65536
+    → scaled (get_or skew (shift + half - 1) 0) w ≡ product w (subspace e shift)
+table_factor skew e half shift w table is whole fits =
+    let u : ℕ = shift / 2 ^ suc e in
+    let p : 2 ^ suc e ≡ 2 ^ e * 2 = pow-suc 2 e in
+    let pos : 0 < 2 ^ e = pow_pos e in
+    let parts : u * 2 ^ suc e + shift % 2 ^ suc e ≡ shift = div-add-mod' shift (2 ^ suc e) in
+    let odd : shift + 2 ^ e ≡ (2 * u + 1) * 2 ^ e = regroup u (2 ^ suc e) (2 ^ e) shift parts whole p in
+    let back : shift + 2 ^ e - 2 ^ e ≡ shift = omega arith in
+    ap (λ v. scaled (get_or skew (shift + v - 1) 0) w) is
+    ∙ ap (λ m. scaled m w) (table.skew_entry e u (shift + 2 ^ e) odd (omega arith) ∙ ap (λ v. log_or_mark (subspace e v)) back)
+    ∙ scaled_by (subspace e shift) w (subspace_lt e shift)
+  where
+    regroup : (u m n shift : ℕ) → u * m + shift % m ≡ shift → shift % m ≡ 0 → m ≡ n * 2 → shift + n ≡ (2 * u + 1) * n
+    regroup u m n shift parts whole p = omega (arith, ap (λ v. u * v) p)
+
+pub xor_undo : (a b : ℕ) → bit_xor (bit_xor a b) b ≡ a
+xor_undo a b = xor_assoc a b b ∙ ap (bit_xor a) (xor_self b) ∙ xor_zero_r a
+
+-- ---- row steps
+
+log2-power : (e : ℕ) → e < 64 → log2 (2 ^ e) ≡ e
+unfolding log2
+log2-power e he =
+    first_below-is 64 (λ d. nat_le (2 ^ e) (2 ^ d)) e he (grind arith) (λ j h. let small : 2 ^ j < 2 ^ e = pow_below j e h in grind arith)
+
+-- the butterflies between the halves and the steps of both halves are those of the whole
+pub steps_half : (size e half : ℕ) → e < 16 → size ≡ 2 ^ suc e → half ≡ 2 ^ e → half + 2 * transform_steps half ≡ transform_steps size
+unfolding transform_steps
+steps_half size e half he is h =
+    let p : 2 ^ suc e ≡ 2 ^ e * 2 = pow-suc 2 e in
+    let whole : size / 2 ≡ half = omega arith in
+    let high : log2 size ≡ suc e = ap log2 is ∙ log2-power (suc e) (omega arith) in
+    let low : log2 half ≡ e = ap log2 h ∙ log2-power e (omega arith) in
+    sum half (half / 2) e (size / 2) (log2 size) (log2 half) whole high low (twice half e h)
+  where
+    twice : (half e : ℕ) → half ≡ 2 ^ e → half / 2 * 2 * e ≡ half * e
+    twice half zero is = omega arith
+    twice half (suc e) is = let p = pow-suc 2 e in ap (λ n. n * suc e) (let even : half / 2 * 2 ≡ half = omega arith in even)
+
+    sum : (half quarter e n a b : ℕ) → n ≡ half → a ≡ suc e → b ≡ e → quarter * 2 * e ≡ half * e → half + 2 * (quarter * b) ≡ n * a
+    sum half quarter e n a b i j k t =
+        let l : 2 * (quarter * b) ≡ 2 * (quarter * e) = ap (λ v. 2 * (quarter * v)) k in
+        let r : n * a ≡ half * suc e = ap₂ (λ v w. v * w) i j in
+        let m : half * suc e ≡ half * e + half = omega arith in
+        omega arith
+
+-- and two layers between the quarters and the steps of all four
+pub steps_quarters : (size e quarter : ℕ) → size ≤ 65536 → size ≡ 2 ^ suc (suc e) → quarter ≡ 2 ^ e → 4 * quarter + 4 * transform_steps quarter ≡ transform_steps size
+steps_quarters size e quarter small is q =
+    let p = pow-suc 2 e in
+    let few = few_halves size (suc e) 0 is (omega arith) in
+    let outer = steps_half size (suc e) (quarter + quarter) few is (omega arith) in
+    let inner = steps_half (quarter + quarter) e quarter (omega arith) (omega arith) q in
+    omega arith
+
+-- one row has no step
+pub no_steps : (size : ℕ) → size ≤ 1 → transform_steps size ≡ 0
+unfolding transform_steps
+no_steps size few = ap (λ n. n * log2 size) (let none : size / 2 ≡ 0 = omega arith in none) ∙ zero-mul (log2 size)

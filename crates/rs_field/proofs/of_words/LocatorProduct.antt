@@ -1,0 +1,158 @@
+-- The locator as a polynomial: what its logarithms at a point stand for.
+use Rattle.std.proofs.Common.{◌≡◌, ℕ, zero, suc, ◌+◌, ◌-◌, ◌%◌, ◌^◌, ◌<◌, ◌≤◌, ◌≢◌, ◌⊎◌, Bool, cond, eqb, List, [], ◌∷◌, length, bit_xor, sym, ap, ap₂, ◌∙◌, inl, inr, arith, add-zero, add-suc, ne_eqb, eq-eqb, pow_mono}
+use Rattle.std.specs.Int.Bits.{xor_self, xor_zero_l, xor_zero_r, xor_lt}
+use Rattle.std.proofs.lemmas.Bool.{cases_eq}
+use Rattle.rs_field.specs.words.Field.{product, power, log}
+use Rattle.rs_field.specs.words.Polynomial.{value, derivative_value}
+use Rattle.rs_field.specs.words.Locator.{log_sum}
+use Rattle.rs_field.proofs.of_words.Product.{product_zero, zero_product, product_one, one_product}
+use Rattle.rs_field.proofs.of_words.Total.{product-comm, product-assoc}
+use Rattle.rs_field.proofs.of_words.Power.{power-add, power-mod, power_zero, power-log, power_turn}
+use Rattle.rs_field.proofs.of_words.Roots.{WordsOneByOne, value_lt}
+use Rattle.rs_field.proofs.of_words.Factors.{times, value_with_root, length-with_root}
+use Rattle.rs_field.proofs.of_words.Derivative.{derivative_with_root}
+use Rattle.rs_field.proofs.of_words.LocatorLemmas.{log_sum-zero, log_sum-itself, log_sum-marked, log_sum-unmarked, difference_pos}
+use Rattle.std.proofs.lemmas.Grind.{common_steps}
+
+-- the marked points below n, the last one first
+unfoldable pub marked : ℕ → (ℕ → ℕ) → List ℕ
+marked zero e = []
+marked (suc n) e = cond (eqb (e n) 1) (n ∷ marked n e) (marked n e)
+
+pub marked-more : (n : ℕ) (e : ℕ → ℕ) → e n ≡ 1 → marked (suc n) e ≡ n ∷ marked n e
+unfolding marked
+marked-more n e one = ap (λ (b : Bool). cond b (n ∷ marked n e) (marked n e)) (eq-eqb (e n) 1 one)
+
+pub marked-same : (n : ℕ) (e : ℕ → ℕ) → e n ≡ 0 → marked (suc n) e ≡ marked n e
+unfolding marked
+marked-same n e none =
+    ap (λ (b : Bool). cond b (n ∷ marked n e) (marked n e)) (ne_eqb (e n) 1 (λ (one : e n ≡ 1). let no : ⊥ = omega arith in no))
+
+-- each of the first n points is marked or not
+pub record AreMarks (n : ℕ) (e : ℕ → ℕ) : Type 0 where
+  pub mark : (y : ℕ) → y < n → e y ≤ 1
+
+fewer : (n : ℕ) (e : ℕ → ℕ) → AreMarks (suc n) e → AreMarks n e
+fewer n e h = record { mark = λ y hy. h.mark y (omega arith) }
+
+mark_cases : (n : ℕ) (e : ℕ → ℕ) → AreMarks (suc n) e → (e n ≡ 1) ⊎ (e n ≡ 0)
+mark_cases n e h = grind (arith, common_steps)
+
+-- an unmarked point adds nothing
+kept : (n : ℕ) (e : ℕ → ℕ) (x : ℕ) → e n ≡ 0 → log_sum (suc n) e x ≡ log_sum n e x
+kept n e x none = elim (cases_eq n x) [ inl same ↦ log_sum-itself n e x same | inr differs ↦ log_sum-unmarked n e x none differs ]
+
+-- a marked point other than x multiplies by the difference from it
+grown : (n : ℕ) (e : ℕ → ℕ) (x : ℕ) → x < 2 ^ 16 → n < 2 ^ 16 → e n ≡ 1 → n ≢ x
+    → power (log_sum (suc n) e x) ≡ product (power (log_sum n e x)) (bit_xor x n)
+grown n e x hx hn one differs =
+    ap power (log_sum-marked n e x one differs) ∙ power-add (log_sum n e x) (log (bit_xor x n))
+    ∙ ap (product (power (log_sum n e x))) (power-log (bit_xor x n) (difference_pos x n differs) (xor_lt 16 x n hx hn))
+
+moved_in : (s l w : ℕ) → product s (product l w) ≡ product (product l s) w
+moved_in s l w = sym (product-assoc s l w) ∙ ap (λ k. product k w) (product-comm s l)
+
+-- where x is not marked: the value of the polynomial with a root at each marked point
+pub locator_value : (n : ℕ) (e : ℕ → ℕ) (p : List ℕ) (x : ℕ) → n ≤ 2 ^ 16 → x < 2 ^ 16 → WordsOneByOne p → AreMarks n e
+    → ((y : ℕ) → y < n → e y ≡ 1 → y ≢ x) → value (times (marked n e) p) x ≡ product (power (log_sum n e x)) (value p x)
+unfolding marked times
+locator_value zero e p x hn hx w m apart =
+    sym (ap (λ k. product k (value p x)) (ap power (log_sum-zero e x) ∙ power_zero) ∙ one_product (value p x) (value_lt p x w))
+locator_value (suc n) e p x hn hx w m apart =
+    let ih : value (times (marked n e) p) x ≡ product (power (log_sum n e x)) (value p x) =
+    locator_value n e p x (omega arith) hx w (fewer n e m) (λ y hy. apart y (omega arith)) in
+    elim (mark_cases n e m) [
+      | inl one ↦
+          ap (λ (r : List ℕ). value (times r p) x) (marked-more n e one) ∙ value_with_root n (times (marked n e) p) x
+          ∙ ap (product (bit_xor x n)) ih ∙ moved_in (bit_xor x n) (power (log_sum n e x)) (value p x)
+          ∙ ap (λ k. product k (value p x)) (sym (grown n e x hx (omega arith) one (apart n (omega arith) one)))
+      | inr none ↦
+          ap (λ (r : List ℕ). value (times r p) x) (marked-same n e none) ∙ ih ∙ ap (λ k. product (power k) (value p x)) (sym (kept n e x none))
+    ]
+
+below : (x n : ℕ) → x < suc n → x ≢ n → x < n
+below x n h differs = omega arith
+
+-- at a marked point it is zero
+pub locator_root : (n : ℕ) (e : ℕ → ℕ) (p : List ℕ) (x : ℕ) → AreMarks n e → x < n → e x ≡ 1 → value (times (marked n e) p) x ≡ 0
+unfolding marked times
+locator_root zero e p x m hx one = absurd (let no : ⊥ = omega arith in no)
+locator_root (suc n) e p x m hx one =
+    elim (mark_cases n e m) [
+      | inl last ↦
+          ap (λ (r : List ℕ). value (times r p) x) (marked-more n e last) ∙ value_with_root n (times (marked n e) p) x
+          ∙ elim (cases_eq x n) [
+            | inl same ↦ ap (λ k. product k (value (times (marked n e) p) x)) (ap (bit_xor x) (sym same) ∙ xor_self x) ∙ zero_product (value (times (marked n e) p) x)
+            | inr differs ↦ ap (product (bit_xor x n)) (locator_root n e p x (fewer n e m) (omega arith) one) ∙ product_zero (bit_xor x n)
+          ]
+      | inr none ↦
+          ap (λ (r : List ℕ). value (times r p) x) (marked-same n e none)
+          ∙ locator_root n e p x (fewer n e m) (below x n hx (λ (same : x ≡ n). let differ : e x ≡ e n = ap e same in let no : ⊥ = omega arith in no)) one
+    ]
+
+-- where x is marked: the derivative there of that polynomial
+pub locator_derivative : (n : ℕ) (e : ℕ → ℕ) (p : List ℕ) (x : ℕ) → n ≤ 2 ^ 16 → WordsOneByOne p → AreMarks n e → x < n → e x ≡ 1
+    → derivative_value (times (marked n e) p) x ≡ product (power (log_sum n e x)) (value p x)
+unfolding marked times
+locator_derivative zero e p x hn w m hx one = absurd (let no : ⊥ = omega arith in no)
+locator_derivative (suc n) e p x hn w m hx one =
+    let rest : List ℕ = times (marked n e) p in
+    let word : x < 2 ^ 16 = omega arith in
+    elim (mark_cases n e m) [
+      | inl last ↦
+          ap (λ (r : List ℕ). derivative_value (times r p) x) (marked-more n e last)
+          ∙ derivative_with_root n (times (marked n e) p) x
+          ∙ elim (cases_eq x n) [
+            | inl same ↦
+                ap (λ k. bit_xor (value (times (marked n e) p) x) k)
+                (ap (λ k. product k (derivative_value (times (marked n e) p) x)) (ap (bit_xor x) (sym same) ∙ xor_self x) ∙ zero_product (derivative_value (times (marked n e) p) x))
+                ∙ xor_zero_r (value (times (marked n e) p) x)
+                ∙ locator_value n e p x (omega arith) word w (fewer n e m) (λ y hy of_y. λ (at : y ≡ x). let no : ⊥ = omega arith in no)
+                ∙ ap (λ k. product (power k) (value p x)) (sym (log_sum-itself n e x (sym same)))
+            | inr differs ↦
+                ap₂ bit_xor (locator_root n e p x (fewer n e m) (omega arith) one) (ap (product (bit_xor x n)) (locator_derivative n e p x (omega arith) w (fewer n e m) (omega arith) one))
+                ∙ xor_zero_l (product (bit_xor x n) (product (power (log_sum n e x)) (value p x)))
+                ∙ moved_in (bit_xor x n) (power (log_sum n e x)) (value p x)
+                ∙ ap (λ k. product k (value p x)) (sym (grown n e x word (omega arith) last (λ (at : n ≡ x). differs (sym at))))
+          ]
+      | inr none ↦
+          ap (λ (r : List ℕ). derivative_value (times r p) x) (marked-same n e none)
+          ∙ locator_derivative n e p x (omega arith) w (fewer n e m) (below x n hx (λ (same : x ≡ n). let differ : e x ≡ e n = ap e same in let no : ⊥ = omega arith in no)) one
+          ∙ ap (λ k. product (power k) (value p x)) (sym (kept n e x none))
+    ]
+
+pub length-marked_times : (r p : List ℕ) → length (times r p) ≡ length r + length p
+unfolding times
+length-marked_times [] p = omega arith
+length-marked_times (a ∷ r) p = let e : length (times r p) ≡ length r + length p = length-marked_times r p in length-with_root a (times r p) ∙ omega arith
+
+-- ---- points from 2 ^ d on
+
+-- unmarked ones add nothing
+pub unmarked_past : (m n : ℕ) (e : ℕ → ℕ) (x : ℕ) → ((y : ℕ) → m ≤ y → y < m + n → e y ≡ 0) → log_sum (m + n) e x ≡ log_sum m e x
+unmarked_past m zero e x none = ap (λ k. log_sum k e x) (add-zero m)
+unmarked_past m (suc n) e x none =
+    ap (λ k. log_sum k e x) (add-suc m n) ∙ kept (m + n) e x (none (m + n) (omega arith) (omega arith))
+    ∙ unmarked_past m n e x (λ y a b. none y a (omega arith))
+
+-- and so to the sum over all points
+pub none_marked_past : (d : ℕ) (e : ℕ → ℕ) (x : ℕ) → d ≤ 16 → ((y : ℕ) → 2 ^ d ≤ y → y < 65536 → e y ≡ 0)
+    → log_sum 65536 e x ≡ log_sum (2 ^ d) e x
+none_marked_past d e x hd none =
+    let room : 2 ^ d ≤ 2 ^ 16 = pow_mono hd in
+    let whole : 2 ^ d + (65536 - 2 ^ d) ≡ 65536 = omega arith in
+    ap (λ k. log_sum k e x) (sym whole) ∙ unmarked_past (2 ^ d) (65536 - 2 ^ d) e x (λ y a b. none y a (omega arith))
+
+-- ---- residues
+
+-- equal residues are the logarithms of one word
+pub same_residue : (l s : ℕ) → l % 65535 ≡ s % 65535 → power l ≡ power s
+same_residue l s e = sym (power-mod l) ∙ ap power e ∙ power-mod s
+
+-- 65535 less a logarithm undoes it
+pub residue_undone : (l w : ℕ) → l ≤ 65535 → w < 2 ^ 16 → product (product w (power l)) (power (65535 - l)) ≡ w
+residue_undone l w hl hw =
+    let whole : l + (65535 - l) ≡ 65535 = omega arith in
+    product-assoc w (power l) (power (65535 - l))
+    ∙ ap (product w) (sym (power-add l (65535 - l)) ∙ ap power whole ∙ power_turn)
+    ∙ product_one w hw

@@ -1,0 +1,239 @@
+-- The powers of the generator: each nonzero word is one of 65535.
+use Rattle.std.proofs.Common.{◌≡◌, ℕ, zero, suc, ◌+◌, ◌-◌, ◌*◌, ◌/◌, ◌%◌, ◌^◌, ◌<◌, ◌≢◌, Bool, true, false, ◌&&◌, ◌||◌, eqb, refl, sym, ap, ap₂, ◌∙◌, subst, arith, inl, inr, add-suc, add-zero, mul-zero, mul-suc, one-mul, mul_assoc, add-one, add-mul, mul_right_comm, true≢false, lit<, mod-lt, eqb-true, ne_eqb, eq-eqb}
+use Rattle.std.proofs.Math.Nat.{mod-add-div}
+use Rattle.std.proofs.lemmas.Nat.{shr_below, mul-mod_first}
+use Rattle.std.proofs.lemmas.Bool.{cases_eq, cases_order, and_parts}
+use Rattle.rs_field.specs.words.Field.{combine, cantor_basis, bits, monomials, from_bits, carryless, reduce, product, raised, power, generator, log}
+use Rattle.rs_field.specs.words.Search.{first_below}
+use Rattle.rs_field.proofs.of_words.Search.{first_below-passes, first_below_most}
+use Rattle.rs_field.proofs.of_words.Linear.{passes_below, from_passes_below}
+use Rattle.rs_field.proofs.of_words.Product.{product_lt, product_comm, product_assoc, product_one, one_product}
+use Rattle.rs_field.proofs.of_words.Onto.{onto}
+use Rattle.rs_field.proofs.of_words.Inverse.{product_cancel, product_pos}
+use Rattle.std.proofs.lemmas.Grind.{common_steps}
+
+pub raised_lt : (x n : ℕ) → raised x n < 2 ^ 16
+unfolding raised
+raised_lt x zero = omega arith
+raised_lt x (suc n) = product_lt _ x
+
+pub raised-add : (x m n : ℕ) → x < 2 ^ 16 → raised x (m + n) ≡ product (raised x m) (raised x n)
+unfolding raised
+raised-add x m zero hx = ap (raised x) (add-zero m) ∙ sym (product_one (raised x m) (raised_lt x m))
+raised-add x m (suc n) hx =
+    ap (raised x) (add-suc m n) ∙ ap (λ v. product v x) (raised-add x m n hx) ∙ product_assoc (raised x m) (raised x n) x (raised_lt x m) (raised_lt x n) hx
+
+pub raised-mul : (x m n : ℕ) → x < 2 ^ 16 → raised (raised x m) n ≡ raised x (m * n)
+unfolding raised
+raised-mul x m zero hx = ap (raised x) (sym (mul-zero m))
+raised-mul x m (suc n) hx =
+    ap (λ v. product v (raised x m)) (raised-mul x m n hx) ∙ sym (raised-add x (m * n) m hx) ∙ ap (raised x) (sym (mul-suc m n))
+
+pub one_raised : (n : ℕ) → raised 1 n ≡ 1
+unfolding raised
+one_raised zero = refl
+one_raised (suc n) = ap (λ v. product v 1) (one_raised n) ∙ product_one 1 (omega arith)
+
+raised_none : (x : ℕ) → raised x 0 ≡ 1
+unfolding raised
+raised_none x = refl
+
+raised_two : (x : ℕ) → x < 2 ^ 16 → raised x 2 ≡ product x x
+unfolding raised
+raised_two x hx = ap (λ v. product v x) (one_product x hx)
+
+-- by repeated squaring, for n of k bits
+unfoldable fast : ℕ → ℕ → ℕ → ℕ
+fast zero x n = 1
+fast (suc k) x n = product (raised x (n % 2)) (fast k (product x x) (n / 2))
+
+fast_is : (k x n : ℕ) → x < 2 ^ 16 → n < 2 ^ k → fast k x n ≡ raised x n
+unfolding fast
+fast_is zero x n hx hn = let z : 0 ≡ n = omega arith in sym (raised_none x) ∙ ap (raised x) z
+fast_is (suc k) x n hx hn =
+    let half : n / 2 < 2 ^ k = shr_below n k 1 (subst (λ (j : ℕ). n < 2 ^ j) (sym (add-one k)) hn) in
+    let whole : n % 2 + 2 * (n / 2) ≡ n = omega arith in
+    ap (product (raised x (n % 2))) (fast_is k (product x x) (n / 2) (product_lt x x) half ∙ ap (λ v. raised v (n / 2)) (sym (raised_two x hx)) ∙ raised-mul x 2 (n / 2) hx)
+    ∙ sym (raised-add x (n % 2) (2 * (n / 2)) hx) ∙ ap (raised x) whole
+
+pub generator_lt : generator < 2 ^ 16
+unfolding generator
+generator_lt = omega arith
+
+expand : (p q t : ℕ) → (1 + p * t) * q ≡ q + (p * q) * t
+expand p q t = add-mul 1 (p * t) q ∙ ap₂ (λ (a b : ℕ). a + b) (one-mul q) (mul_right_comm p t q)
+
+generator_pos : 0 < generator
+unfolding generator
+generator_pos = omega arith
+
+check_turn : fast 16 generator 65535 ≡ 1
+unfolding fast raised generator combine bits from_bits cantor_basis monomials carryless reduce product
+check_turn = refl
+
+check_without_three : eqb (fast 16 generator 21845) 1 ≡ false
+unfolding fast raised generator combine bits from_bits cantor_basis monomials carryless reduce product
+check_without_three = refl
+
+check_without_five : eqb (fast 16 generator 13107) 1 ≡ false
+unfolding fast raised generator combine bits from_bits cantor_basis monomials carryless reduce product
+check_without_five = refl
+
+check_without_seventeen : eqb (fast 16 generator 3855) 1 ≡ false
+unfolding fast raised generator combine bits from_bits cantor_basis monomials carryless reduce product
+check_without_seventeen = refl
+
+check_without_largest : eqb (fast 16 generator 255) 1 ≡ false
+unfolding fast raised generator combine bits from_bits cantor_basis monomials carryless reduce product
+check_without_largest = refl
+
+power_is : (n : ℕ) → n < 2 ^ 16 → fast 16 generator n ≡ power n
+unfolding power
+power_is n hn = fast_is 16 generator n generator_lt hn
+
+pub power_turn : power 65535 ≡ 1
+power_turn = sym (power_is 65535 (lit< tt)) ∙ check_turn
+
+not_one : (n : ℕ) → n < 2 ^ 16 → eqb (fast 16 generator n) 1 ≡ false → power n ≢ 1
+not_one n hn test e = grind (arith, common_steps, power_is, true≢false)
+
+-- ---- a power that is 1 has an exponent that 3, 5, 17 and 257 divide
+
+-- each r that p does not divide has an inverse modulo p, as Fermat says
+unfoldable has_inverses : ℕ → Bool
+has_inverses p = passes_below p (λ r. eqb r 0 || eqb (r * r ^ (p - 2) % p) 1)
+
+check_inverses : (has_inverses 3 && has_inverses 5 && has_inverses 17 && has_inverses 257) ≡ true
+unfolding has_inverses passes_below
+check_inverses = refl
+
+-- if power k is 1 and p does not divide k, then power q is 1, where p * q is 65535
+unit_from : (p q k m t : ℕ) → p * q ≡ 65535 → k * m ≡ 1 + p * t → power k ≡ 1 → power q ≡ 1
+unfolding power
+unit_from p q k m t whole bezout one =
+    let exponent : k * (m * q) ≡ q + 65535 * t =
+    sym (mul_assoc k m q) ∙ ap (λ v. v * q) bezout ∙ expand p q t ∙ ap (λ v. q + v * t) whole in
+    let left : raised generator (k * (m * q)) ≡ 1 = sym (raised-mul generator k (m * q) generator_lt) ∙ ap (λ v. raised v (m * q)) one ∙ one_raised (m * q) in
+    let right : raised generator (q + 65535 * t) ≡ raised generator q =
+    raised-add generator q (65535 * t) generator_lt
+    ∙ ap (product (raised generator q)) (sym (raised-mul generator 65535 t generator_lt) ∙ ap (λ v. raised v t) power_turn ∙ one_raised t)
+    ∙ product_one (raised generator q) (raised_lt generator q) in
+    sym right ∙ ap (raised generator) (sym exponent) ∙ left
+
+or_right : (a b : Bool) → a ≡ false → (a || b) ≡ true → b ≡ true
+or_right true b e h = cc
+or_right false b e h = h
+
+dividend : (n p : ℕ) → n % p ≡ 1 → n ≡ 1 + p * (n / p)
+dividend n p e = sym (mod-add-div n p) ∙ ap (λ v. v + p * (n / p)) e
+
+inverse_of : (p r : ℕ) → has_inverses p ≡ true → r < p → r ≢ 0 → r * r ^ (p - 2) % p ≡ 1
+unfolding has_inverses
+inverse_of p r h hr apart =
+    eqb-true (r * r ^ (p - 2) % p) 1
+    (or_right (eqb r 0) (eqb (r * r ^ (p - 2) % p) 1) (ne_eqb r 0 apart)
+    (from_passes_below p (λ r. eqb r 0 || eqb (r * r ^ (p - 2) % p) 1) h r hr))
+
+divided : (p q k : ℕ) → p * q ≡ 65535 → 0 < p → has_inverses p ≡ true → power q ≢ 1 → power k ≡ 1 → k % p ≡ 0
+divided p q k whole pos h apart one =
+    elim (cases_eq (k % p) 0) [
+      | inl e ↦ e
+      | inr nonzero ↦
+          let m : ℕ = (k % p) ^ (p - 2) in
+          let unit : k * m % p ≡ 1 = sym (mul-mod_first k m p) ∙ inverse_of p (k % p) h (mod-lt k pos) nonzero in
+          absurd (apart (unit_from p q k m (k * m / p) whole (dividend (k * m) p unit) one))
+    ]
+
+-- below 65535 only 0 is divided by 3, 5, 17 and 257
+all_four : (k : ℕ) → k < 65535 → k % 3 ≡ 0 → k % 5 ≡ 0 → k % 17 ≡ 0 → k % 257 ≡ 0 → k ≡ 0
+all_four k h a b c d = omega arith
+
+pub order : (k : ℕ) → k < 65535 → power k ≡ 1 → k ≡ 0
+order k hk one =
+    let i1 : has_inverses 257 ≡ true = (and_parts _ _ check_inverses).1 in
+    let i2 : (has_inverses 3 && has_inverses 5 && has_inverses 17) ≡ true = (and_parts _ _ check_inverses).0 in
+    let i3 : (has_inverses 3 && has_inverses 5) ≡ true = (and_parts _ _ i2).0 in
+    all_four k hk
+    (divided 3 21845 k refl (lit< tt) (and_parts _ _ i3).0 (not_one 21845 (lit< tt) check_without_three) one)
+    (divided 5 13107 k refl (lit< tt) (and_parts _ _ i3).1 (not_one 13107 (lit< tt) check_without_five) one)
+    (divided 17 3855 k refl (lit< tt) (and_parts _ _ i2).1 (not_one 3855 (lit< tt) check_without_seventeen) one)
+    (divided 257 255 k refl (lit< tt) i1 (not_one 255 (lit< tt) check_without_largest) one)
+
+pub power_lt : (n : ℕ) → power n < 2 ^ 16
+unfolding power
+power_lt n = raised_lt generator n
+
+pub power-add : (m n : ℕ) → power (m + n) ≡ product (power m) (power n)
+unfolding power
+power-add m n = raised-add generator m n generator_lt
+
+pub power_zero : power 0 ≡ 1
+unfolding power raised
+power_zero = refl
+
+pub power-suc : (n : ℕ) → power (suc n) ≡ product (power n) generator
+unfolding power raised
+power-suc n = refl
+
+pub power_pos : (n : ℕ) → 0 < power n
+unfolding power raised
+power_pos zero = lit< tt
+power_pos (suc n) = product_pos (power n) generator (power_pos n) generator_pos (power_lt n) generator_lt
+
+-- two powers below 65535 differ
+power_apart : (i j : ℕ) → i < j → j < 65535 → power i ≡ power j → ⊥
+power_apart i j hij hj e =
+    let gap : i + (j - i) ≡ j = omega arith in
+    let same : product 1 (power i) ≡ product (power (j - i)) (power i) =
+    one_product (power i) (power_lt i) ∙ e ∙ ap power (sym gap) ∙ power-add i (j - i) ∙ product_comm (power i) (power (j - i)) (power_lt i) (power_lt (j - i)) in
+    let one : 1 ≡ power (j - i) = product_cancel (power i) 1 (power (j - i)) (power_pos i) (power_lt i) (lit< tt) (power_lt (j - i)) same in
+    let none : j - i ≡ 0 = order (j - i) (omega arith) (sym one) in
+    omega arith
+
+pub power_injective : (i j : ℕ) → i < 65535 → j < 65535 → power i ≡ power j → i ≡ j
+power_injective i j hi hj e = grind (arith, common_steps, cases_order, power_apart)
+
+-- each nonzero word is a power
+pub power_onto : (z : ℕ) → 0 < z → z < 2 ^ 16 → (n : ℕ) × (n < 65535) × (power n ≡ z)
+power_onto z pos hz =
+    found z pos (onto 65535 (λ n. power n - 1) within once (z - 1) (omega arith))
+  where
+    within : (i : ℕ) → i < 65535 → power i - 1 < 65535
+    within i hi = omega (arith, power_pos i, power_lt i)
+
+    once : (i j : ℕ) → i < 65535 → j < 65535 → power i - 1 ≡ power j - 1 → i ≡ j
+    once i j hi hj e = power_injective i j hi hj (omega (arith, power_pos i, power_pos j))
+
+    found : (z : ℕ) → 0 < z → (n : ℕ) × (n < 65535) × (power n - 1 ≡ z - 1) → (n : ℕ) × (n < 65535) × (power n ≡ z)
+    found z pos (n, hn, e) = (n, hn, omega (arith, power_pos n))
+
+-- ---- logarithms
+
+log_found : (z : ℕ) → 0 < z → z < 2 ^ 16 → (log z < 65535) × (eqb (power (log z)) z ≡ true)
+unfolding log
+log_found z pos hz = from_place z (power_onto z pos hz)
+  where
+    from_place : (z : ℕ) → (n : ℕ) × (n < 65535) × (power n ≡ z)
+        → (first_below 65535 (λ n. eqb (power n) z) < 65535) × (eqb (power (first_below 65535 (λ n. eqb (power n) z))) z ≡ true)
+    from_place z (n, hn, e) =
+        let most = first_below_most 65535 (λ n. eqb (power n) z) n hn (eq-eqb (power n) z e) in
+        let found : first_below 65535 (λ n. eqb (power n) z) < 65535 = omega arith in
+        (found, first_below-passes 65535 (λ n. eqb (power n) z) found)
+
+pub log_lt : (z : ℕ) → 0 < z → z < 2 ^ 16 → log z < 65535
+log_lt z pos hz = (log_found z pos hz).0
+
+pub power-log : (z : ℕ) → 0 < z → z < 2 ^ 16 → power (log z) ≡ z
+power-log z pos hz = eqb-true (power (log z)) z ((log_found z pos hz).1)
+
+turns : (t : ℕ) → power (65535 * t) ≡ 1
+unfolding power
+turns t = sym (raised-mul generator 65535 t generator_lt) ∙ ap (λ v. raised v t) power_turn ∙ one_raised t
+
+-- an exponent may be taken modulo 65535
+pub power-mod : (n : ℕ) → power (n % 65535) ≡ power n
+power-mod n = grind (arith, common_steps, product_one, power_lt, turns, power-add, mod-add-div)
+
+-- the product by a sum of logarithms
+pub product-log : (x n : ℕ) → 0 < x → x < 2 ^ 16 → power (log x + n) ≡ product x (power n)
+product-log x n pos hx = power-add (log x) n ∙ ap (λ v. product v (power n)) (power-log x pos hx)

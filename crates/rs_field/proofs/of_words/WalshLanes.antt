@@ -1,0 +1,138 @@
+-- Larger lanes of two vectors, and layers of sums and differences in 16 lanes.
+use Rattle.std.proofs.Common.{◌≡◌, ℕ, zero, suc, ◌+◌, ◌-◌, ◌*◌, ◌/◌, ◌%◌, ◌<◌, ◌≤◌, ◌^◌, Bool, true, false, ◌&&◌, cond, List, [], ◌∷◌, ◌++◌, map, length, get_or, max, refl, ap, ap₂, ◌∙◌, arith, w16, Fits}
+use Rattle.std.specs.Prelude.{◌==◌, if◌then◌else◌, nat_eq, nat_lt}
+use Rattle.std.specs.Simd.Lanes.{Each1}
+use Rattle.std.proofs.Math.Dec.{ltb}
+use Rattle.std.proofs.lemmas.Simd.{tops_compared, get_or-sel_l, length-sel_l, get_or-zip2, length-zip2}
+use Rattle.std.proofs.lemmas.List.{get_or-map, get_or_append_left}
+use Rattle.std.proofs.lemmas.Bool.{and_parts, eqb-true, ltb-true}
+use Rattle.rs_field.specs.words.Walsh.{IsWalsh, IsLayer}
+use Rattle.rs_field.proofs.of_words.Linear.{passes_below, from_passes_below}
+use Rattle.rs_field.proofs.of_words.Halving.{walsh-halves, walsh-same, walsh-one}
+use lib.Lanes.{zip2, sel_l, top}
+use Rattle.std.proofs.lemmas.Grind.{common_steps}
+
+-- ---- the larger one of two lanes
+
+larger_chosen : (a b : ℕ) → cond (ltb a b) b a ≡ max a b
+larger_chosen a b = grind (arith, common_steps)
+
+compared : (xs ys : List ℕ) → sel_l (map (top 15) (zip2 (λ a b. cond (ltb a b) 65535 0) xs ys)) ys xs ≡ sel_l (zip2 ltb xs ys) ys xs
+compared xs ys = ap (λ ms. sel_l ms ys xs) (tops_compared w16 ltb xs ys)
+
+-- what `simd_max` leaves
+pub larger_lane : (xs ys : List ℕ) (i : ℕ) → length xs ≡ 16 → length ys ≡ 16 → i < 16
+    → get_or (sel_l (map (top 15) (zip2 (λ a b. cond (ltb a b) 65535 0) xs ys)) ys xs) i 0 ≡ max (get_or xs i 0) (get_or ys i 0)
+larger_lane xs ys i hx hy h =
+    let long = length-zip2 ltb xs ys (omega arith) in
+    ap (λ l. get_or l i 0) (compared xs ys)
+    ∙ get_or-sel_l (zip2 ltb xs ys) ys xs i 0 (omega arith) (omega arith) (omega arith)
+    ∙ ap (λ m. cond m (get_or ys i 0) (get_or xs i 0)) (get_or-zip2 ltb xs ys i 0 0 false (omega arith) (omega arith))
+    ∙ larger_chosen (get_or xs i 0) (get_or ys i 0)
+
+pub length-larger : (xs ys : List ℕ) → length xs ≡ 16 → length ys ≡ 16
+    → length (sel_l (map (top 15) (zip2 (λ a b. cond (ltb a b) 65535 0) xs ys)) ys xs) ≡ 16
+length-larger xs ys hx hy =
+    let long = length-zip2 ltb xs ys (omega arith) in
+    ap length (compared xs ys) ∙ length-sel_l (zip2 ltb xs ys) ys xs (omega arith) (omega arith) ∙ omega arith
+
+-- ---- lanes that are words
+
+pub lane_below : (v : List ℕ) (i : ℕ) → Each1 (Fits w16) v → get_or v i 0 < 65536
+lane_below [] i h = omega arith
+lane_below (x ∷ v) zero h = h.0.fits
+lane_below (x ∷ v) (suc i) h = lane_below v i h.1
+
+-- the sums of lanes m and k, which a swizzle and a shuffle brought together
+summed : (v w : List ℕ) (r m k : ℕ) → length v ≡ 16 → m < 16 → k < 16
+    → r % 65535 ≡ (get_or (v ++ v) m 0 + get_or (v ++ w) k 0) % 65535 → r % 65535 ≡ (get_or v m 0 + get_or v k 0) % 65535
+summed v w r m k size hm hk e =
+    e ∙ ap₂ (λ a b. (a + b) % 65535) (get_or_append_left v v 0 m (omega arith)) (get_or_append_left v w 0 k (omega arith))
+
+-- a complement is the negative
+pub complement : (v : List ℕ) (k a : ℕ) → length v ≡ 16 → Each1 (Fits w16) v → k < 16
+    → (a + get_or (map (λ n. 65535 - n) v) k 0) % 65535 ≡ (a + 65534 * get_or v k 0) % 65535
+complement v k a size fits h = grind (arith, common_steps)
+
+-- the same where lane k is complemented
+subtracted : (v : List ℕ) (r m k : ℕ) → length v ≡ 16 → Each1 (Fits w16) v → m < 16 → k < 16
+    → r % 65535 ≡ (get_or (v ++ v) m 0 + get_or (v ++ map (λ n. 65535 - n) v) (16 + k) 0) % 65535 → r % 65535 ≡ (get_or v m 0 + 65534 * get_or v k 0) % 65535
+subtracted v r m k size fits hm hk e = grind (arith, common_steps)
+
+-- of lane k lanes m and n of the two vectors are those that a layer at distance d joins
+abbrev joins : ℕ → ℕ → ℕ → ℕ → Bool → Bool
+joins d k m n even = cond even (nat_eq m (k + d) && (nat_eq n k && nat_lt m 16)) (nat_eq m (k - d) && nat_eq n (16 + k))
+
+joined : (v : List ℕ) (r d k m n : ℕ) (even : Bool) → length v ≡ 16 → Each1 (Fits w16) v → k < 16 → joins d k m n even ≡ true
+    → r % 65535 ≡ (get_or (v ++ v) m 0 + get_or (v ++ map (λ x. 65535 - x) v) n 0) % 65535
+    → r % 65535 ≡ cond even (get_or v (k + d) 0 + get_or v k 0) (get_or v (k - d) 0 + 65534 * get_or v k 0) % 65535
+joined v r d k m n true size fits h test e =
+    let first : (nat_eq m (k + d) ≡ true) × _ = and_parts _ _ test in
+    let second : (nat_eq n k ≡ true) × (nat_lt m 16 ≡ true) = and_parts _ _ first.1 in
+    let below = ltb-true m 16 second.1 in
+    summed v (map (λ x. 65535 - x) v) r (k + d) k size (omega (arith, eqb-true m (k + d) first.0)) h
+    (rw (eqb-true m (k + d) first.0, eqb-true n k second.0) at e)
+joined v r d k m n false size fits h test e =
+    let both : (nat_eq m (k - d) ≡ true) × (nat_eq n (16 + k) ≡ true) = and_parts _ _ test in
+    subtracted v r (k - d) k size fits (omega arith) h (rw (eqb-true m (k - d) both.0, eqb-true n (16 + k) both.1) at e)
+
+-- lanes ms of a vector twice, and lanes ns of it and of its complement, joined at each lane
+pub layer_joined : (d : ℕ) (v new ms ns : List ℕ) → length v ≡ 16 → Each1 (Fits w16) v → length ms ≡ 16 → length ns ≡ 16
+    → passes_below 16 (λ k. joins d k (get_or ms k 0) (get_or ns k 0) (k / d % 2 == 0)) ≡ true
+    → ((k : ℕ) → k < 16 → get_or new k 0 % 65535
+    ≡ (get_or (map (λ m. get_or (v ++ v) m 0) ms) k 0 + get_or (map (λ n. get_or (v ++ map (λ x. 65535 - x) v) n 0) ns) k 0) % 65535)
+    → IsLayer d v new
+layer_joined d v new ms ns size fits hm hn test e k h =
+    joined v (get_or new k 0) d k (get_or ms k 0) (get_or ns k 0) (k / d % 2 == 0) size fits h
+    (from_passes_below 16 (λ k. joins d k (get_or ms k 0) (get_or ns k 0) (k / d % 2 == 0)) test k h)
+    (e k h ∙ ap₂ (λ x y. (x + y) % 65535) (get_or-map (λ m. get_or (v ++ v) m 0) ms k 0 0 (omega arith))
+    (get_or-map (λ n. get_or (v ++ map (λ x. 65535 - x) v) n 0) ns k 0 0 (omega arith)))
+
+-- ---- four layers
+
+abbrev by_parity : ℕ → ℕ → ℕ → ℕ
+by_parity b even odd = (if b == 0 then even else odd) % 65535
+
+-- a layer joins the transforms of two halves of n lanes
+stage : (e n half a : ℕ) (f g new : List ℕ) → n ≡ 2 ^ suc e → half ≡ 2 ^ e → a + (half + half) ≤ 16
+    → ((i : ℕ) → i < half → (a + i) / half % 2 ≡ 0) → ((i : ℕ) → i < half → (a + (half + i)) / half % 2 ≡ 1) → IsLayer half g new
+    → IsWalsh half (λ y. get_or f (a + y) 0) (λ w. get_or g (a + w) 0)
+    → IsWalsh half (λ y. get_or f (a + half + y) 0) (λ w. get_or g (a + half + w) 0)
+    → IsWalsh n (λ y. get_or f (a + y) 0) (λ w. get_or new (a + w) 0)
+stage e n half a f g new is h room first second layer low high =
+    walsh-halves e n half (λ y. get_or f (a + y) 0) (λ w. get_or g (a + w) 0) (λ w. get_or g (a + half + w) 0) (λ w. get_or new (a + w) 0) is h low
+    (walsh-same half (λ y. get_or f (a + half + y) 0) (λ y. get_or f (a + (half + y)) 0) (λ w. get_or g (a + half + w) 0) (λ y hy. ap (λ k. get_or f k 0) (omega arith)) high)
+    (record {
+      sums = λ i hi.
+          let there : a + i + half ≡ a + half + i = omega arith in
+          let turned : get_or g (a + half + i) 0 + get_or g (a + i) 0 ≡ get_or g (a + i) 0 + get_or g (a + half + i) 0 = omega arith in
+          layer (a + i) (omega arith)
+          ∙ ap (λ b. by_parity b (get_or g (a + i + half) 0 + get_or g (a + i) 0) (get_or g (a + i - half) 0 + 65534 * get_or g (a + i) 0)) (first i hi)
+          ∙ ap (λ k. (get_or g k 0 + get_or g (a + i) 0) % 65535) there ∙ ap (λ v. v % 65535) turned;
+      differences = λ i hi.
+          let back : a + (half + i) - half ≡ a + i = omega arith in
+          let there : a + (half + i) ≡ a + half + i = omega arith in
+          layer (a + (half + i)) (omega arith)
+          ∙ ap (λ b. by_parity b (get_or g (a + (half + i) + half) 0 + get_or g (a + (half + i)) 0) (get_or g (a + (half + i) - half) 0 + 65534 * get_or g (a + (half + i)) 0)) (second i hi)
+          ∙ ap₂ (λ k m. (get_or g k 0 + 65534 * get_or g m 0) % 65535) back there;
+    })
+
+-- four layers make the transform
+pub four_layers : (f g1 g2 g3 g4 : List ℕ) → IsLayer 1 f g1 → IsLayer 2 g1 g2 → IsLayer 4 g2 g3 → IsLayer 8 g3 g4
+    → IsWalsh 16 (λ y. get_or f y 0) (λ w. get_or g4 w 0)
+four_layers f g1 g2 g3 g4 l1 l2 l4 l8 =
+    walsh-same 16 (λ y. get_or f (0 + y) 0) (λ y. get_or f y 0) (λ w. get_or g4 w 0)
+    (λ y hy. let z : 0 + y ≡ y = omega arith in ap (λ k. get_or f k 0) z)
+    (λ w hw. let z : w ≡ 0 + w = omega arith in ap (λ k. get_or g4 k 0 % 65535) z ∙ whole w hw)
+  where
+    two : (a : ℕ) → a + 2 ≤ 16 → a % 2 ≡ 0 → IsWalsh 2 (λ y. get_or f (a + y) 0) (λ w. get_or g1 (a + w) 0)
+    two a le even = stage 0 2 1 a f f g1 refl refl le (λ i h. omega arith) (λ i h. omega arith) l1 (walsh-one 1 (λ y. get_or f (a + y) 0) refl) (walsh-one 1 (λ y. get_or f (a + 1 + y) 0) refl)
+
+    four : (a : ℕ) → a + 4 ≤ 16 → a % 4 ≡ 0 → IsWalsh 4 (λ y. get_or f (a + y) 0) (λ w. get_or g2 (a + w) 0)
+    four a le even = stage 1 4 2 a f g1 g2 refl refl le (λ i h. omega arith) (λ i h. omega arith) l2 (two a (omega arith) (omega arith)) (two (a + 2) (omega arith) (omega arith))
+
+    eight : (a : ℕ) → a + 8 ≤ 16 → a % 8 ≡ 0 → IsWalsh 8 (λ y. get_or f (a + y) 0) (λ w. get_or g3 (a + w) 0)
+    eight a le even = stage 2 8 4 a f g2 g3 refl refl le (λ i h. omega arith) (λ i h. omega arith) l4 (four a (omega arith) (omega arith)) (four (a + 4) (omega arith) (omega arith))
+
+    whole : IsWalsh 16 (λ y. get_or f (0 + y) 0) (λ w. get_or g4 (0 + w) 0)
+    whole = stage 3 16 8 0 f g3 g4 refl refl (omega arith) (λ i h. omega arith) (λ i h. omega arith) l8 (eight 0 (omega arith) (omega arith)) (eight (0 + 8) (omega arith) (omega arith))

@@ -1,0 +1,168 @@
+-- The layers and the transforms of the parts that they leave make the whole.
+use Rattle.std.proofs.Common.{◌≡◌, ℕ, ◌+◌, ◌-◌, ◌*◌, ◌/◌, ◌<◌, ◌≤◌, arith, subst, sym, refl}
+use Rattle.rs_field.specs.rows.View.{word}
+use Rattle.rs_field.specs.rows.Layers.{rows_of_part, layer_steps}
+use Rattle.rs_field.specs.words.StepBounds.{transform_steps}
+use Rattle.rs_field.specs.rows.MarkedRows.{is_used, HasMarks}
+use Rattle.rs_field.specs.rows.Directions.{AreTransformed}
+use Rattle.rs_field.proofs.of_words.Counting.{counts_none, counts_rows}
+use Rattle.rs_field.proofs.of_rows.Recursion.{fits_kept}
+use Rattle.rs_field.proofs.of_rows.Parts.{part_begins, part_found, part_within, parts_number, parts_whole}
+use Rattle.rs_field.proofs.of_rows.PartLoops.{parts_begun, parts_next, forward_whole, backward_whole, none_used, one_used, counts_next, counts_of_parts, counts_of_whole, zeros_of_part, part_before}
+use Rattle.rs_field.proofs.rows.transform.+transform.Goals as goal
+
+pub transform-returns-then-are_none-clause-values : goal.transform-returns-then-are_none-clause-values
+transform-returns-then-are_none-clause-values g t c k s hk hs =
+    let block = c.args.block in
+    none_used c.args.direction c.args.used c.args.rows.now k s block.pos block.size block.skew_delta hk hs (c.are_none.ensures.none c.if-are_none.true) c.requires.zeros
+
+pub transform-transform_parts-requires : goal.transform-transform_parts-requires
+transform-transform_parts-requires g t c κs within =
+    let shape = c.layers.ensures.shape in
+    let count = shape.count in
+    let open_rows : 0 ≤ c.args.block.size = omega arith in (
+      omega arith,
+      (within, (fits_kept c.args.rows.now c.layers.new.rows shape c.requires.fits, (omega arith, (c.requires.marks, (omega arith, rw c.in-Forward.is open_rows))))),
+    )
+
+pub transform-transform_parts-requires-in-Backward : goal.transform-transform_parts-requires-in-Backward
+transform-transform_parts-requires-in-Backward g t c κs within =
+    (omega arith, (within, (c.requires.fits, (omega arith, (c.requires.marks, (c.requires.within, c.requires.zeros))))))
+
+pub transform-returns-then-block-lt2-clause-values : goal.transform-returns-then-block-lt2-clause-values
+transform-returns-then-block-lt2-clause-values g t c k s hk hs =
+    let block = c.args.block in
+    one_used c.args.direction (is_used c.args.used) block.size block.skew_delta (λ q. word c.args.rows.now k s (block.pos + q)) c.if-block-lt2.true
+    (λ some. c.row_symbols_are_words.ensures k s (block.pos + 0) hk hs (omega arith))
+
+pub transform-returns-then-block-le4-clause-values : goal.transform-returns-then-block-le4-clause-values
+transform-returns-then-block-le4-clause-values g t c k s hk hs = c.transform_few.ensures.values k s hk hs (is_used c.args.used)
+
+pub transform-returns-in-Forward-clause-values : goal.transform-returns-in-Forward-clause-values
+transform-returns-in-Forward-clause-values g t c k s hk hs =
+    let block = c.args.block in
+    let large : 1 < block.size = omega arith in
+    let len = c.layers.ensures.shape.len_64 in
+    let layers = c.layers.ensures.parts k s hk hs in
+    rw c.in-Forward.is (forward_whole block.size (rows_of_part block.size) block.skew_delta (is_used c.args.used) (λ q. word c.args.rows.now k s (block.pos + q))
+    (λ q. word c.layers.new.rows k s (block.pos + q)) (λ q. word c.transform_parts.new.rows k s (block.pos + q)) (part_found block _ refl large)
+    (rw c.in-Forward.is at layers)
+    (λ m hm. let parts = c.transform_parts.ensures.parts k s m (omega (arith, len)) hs hm in rw c.in-Forward.is at parts))
+
+pub transform-returns-in-Forward-clause-counts : goal.transform-returns-in-Forward-clause-counts
+transform-returns-in-Forward-clause-counts g t c =
+    let block = c.args.block in
+    let large : 1 < block.size = omega arith in
+    let few = (part_found block _ refl large).steps in
+    let size = block.size in
+    counts_of_whole size (layer_steps size) (transform_steps size - layer_steps size) c.args.steps.now c.layers.new.steps c.transform_parts.new.steps (omega (arith, few))
+    (counts_rows (layer_steps block.size) c.args.steps.now c.layers.new.steps c.layers.ensures.counts) c.transform_parts.ensures.counts
+
+pub transform-returns-in-Backward-clause-values : goal.transform-returns-in-Backward-clause-values
+transform-returns-in-Backward-clause-values g t c k s hk hs =
+    let block = c.args.block in
+    let large : 1 < block.size = omega arith in
+    let len = c.transform_parts-in-Backward.ensures.shape.len_64 in
+    let layers = c.layers-in-Backward.ensures.parts k s (omega (arith, len)) hs in
+    rw c.in-Backward.is (backward_whole block.size (rows_of_part block.size) block.skew_delta (is_used c.args.used) (λ q. word c.args.rows.now k s (block.pos + q))
+    (λ q. word c.transform_parts-in-Backward.new.rows k s (block.pos + q)) (λ q. word c.layers-in-Backward.new.rows k s (block.pos + q)) (part_found block _ refl large)
+    (rw c.in-Backward.is at layers)
+    (λ m hm. let parts = c.transform_parts-in-Backward.ensures.parts k s m hk hs hm in rw c.in-Backward.is at parts))
+
+pub transform-returns-in-Backward-clause-counts : goal.transform-returns-in-Backward-clause-counts
+transform-returns-in-Backward-clause-counts g t c =
+    let block = c.args.block in
+    let large : 1 < block.size = omega arith in
+    let few = (part_found block _ refl large).steps in
+    let mid = c.transform_parts-in-Backward.new.steps in
+    let size = block.size in
+    counts_of_whole size (transform_steps size - layer_steps size) (layer_steps size) c.args.steps.now mid c.layers-in-Backward.new.steps (omega (arith, few))
+    c.transform_parts-in-Backward.ensures.counts (counts_rows (layer_steps block.size) mid c.layers-in-Backward.new.steps c.layers-in-Backward.ensures.counts)
+
+pub transform_parts-nonzero_div-j-end : goal.transform_parts-nonzero_div-j-end
+transform_parts-nonzero_div-j-end g t c = let part = part_found c.args.block c.part_rows-part.result c.part_rows-part.ensures c.requires.large in part.positive
+
+pub transform_parts-loop-j-init : goal.transform_parts-loop-j-init
+transform_parts-loop-j-init g t c =
+    let block = c.args.block in
+    record {
+      done = parts_begun c.args.direction (is_used c.args.used) block.size c.part_rows-part.result block.skew_delta block.pos c.args.rows.now;
+      counts = counts_none (0 * transform_steps c.part_rows-part.result) 0 0 c.args.steps.now;
+    }
+
+pub transform_parts-transform-requires : goal.transform_parts-transform-requires
+transform_parts-transform-requires g t c κs within =
+    let block = c.args.block in
+    let n = c.part_rows-part.result in
+    let start = c.loop-j.j * n in
+    let part = part_found block n c.part_rows-part.ensures c.requires.large in
+    let done = c.loop-j.invariant.done in
+    let smaller = part.smaller in
+    let begins = part_begins block.size n c.loop-j.j part c.loop-j-test.true in
+    let inside = part_within block.size n c.loop-j.j part begins in
+    let shape = done.shape in
+    let count = shape.count in
+    let rows = c.part.ensures.rows in
+    let size = c.part.ensures.size in (
+      omega arith,
+      (
+        within,
+        (
+          fits_kept c.args.rows.now c.loop-j.rows shape c.requires.fits,
+          (
+            subst (HasMarks c.part-in-loop-j.result) (sym size) c.part-in-loop-j.ensures.marks,
+            (
+              omega arith,
+              rw (rows, size) (zeros_of_part c.args.direction c.args.used c.part-in-loop-j.result c.args.rows.now c.loop-j.rows block.pos block.size start n
+                  inside shape.len_64 (λ k i hk from to. done.rest k i hk from to) c.part-in-loop-j.ensures.used c.requires.zeros),
+            ),
+          ),
+        ),
+      ),
+    )
+
+pub transform_parts-loop-j-preserved : goal.transform_parts-loop-j-preserved
+transform_parts-loop-j-preserved g t c =
+    let block = c.args.block in
+    let n = c.part_rows-part.result in
+    let j = c.loop-j.j in
+    let part = part_found block n c.part_rows-part.ensures c.requires.large in
+    let begins = part_begins block.size n j part c.loop-j-test.true in
+    let rows = c.part.ensures.rows in
+    let size = c.part.ensures.size in
+    let shift = c.part.ensures.shift in
+    record {
+      done =
+          parts_next c.args.direction (is_used c.args.used) (is_used c.part-in-loop-j.result) block.size n block.skew_delta block.pos j c.args.rows.now c.loop-j.rows c.transform.new.rows
+          part begins c.loop-j.invariant.done c.transform.ensures.shape (rw (rows, size) at c.transform.ensures.others) c.part-in-loop-j.ensures.used
+          (rw (rows, size, shift) at c.transform.ensures.values);
+      counts = counts_next (transform_steps n) j c.args.steps.now c.loop-j.steps c.transform.new.steps c.loop-j.invariant.counts (rw size at c.transform.ensures.counts);
+    }
+
+pub transform_parts-returns-clause-shape : goal.transform_parts-returns-clause-shape
+transform_parts-returns-clause-shape g t c = c.loop-j.invariant.done.shape
+
+pub transform_parts-returns-clause-others : goal.transform_parts-returns-clause-others
+transform_parts-returns-clause-others g t c = c.loop-j.invariant.done.others
+
+pub transform_parts-returns-clause-parts : goal.transform_parts-returns-clause-parts
+transform_parts-returns-clause-parts g t c =
+    λ k s m hk hs hm.
+    let block = c.args.block in
+    let n = c.part_rows-part.result in
+    let is = c.part_rows-part.ensures in
+    let part = part_found block n is c.requires.large in
+    let last : c.loop-j.j ≡ block.size / n = let end = c.loop-j.auto.j-end in let past = c.loop-j-test.false in omega arith in
+    let all = parts_whole block.size n c.loop-j.j part last in
+    let within : m * n < block.size = subst (λ (v : ℕ). m * v < block.size) (sym is) hm in
+    subst (λ (v : ℕ). AreTransformed c.args.direction (λ i. is_used c.args.used (m * v + i)) v (block.skew_delta + m * v)
+    (λ q. word c.args.rows.now k s (block.pos + (m * v + q))) (λ q. word c.loop-j.rows k s (block.pos + (m * v + q)))) is
+    (c.loop-j.invariant.done.values k s m hk hs (part_before block.size n m c.loop-j.j all within))
+
+pub transform_parts-returns-clause-counts : goal.transform_parts-returns-clause-counts
+transform_parts-returns-clause-counts g t c =
+    let block = c.args.block in
+    let n = c.part_rows-part.result in
+    let part = part_found block n c.part_rows-part.ensures c.requires.large in
+    let end = c.loop-j.auto.j-end in
+    counts_of_parts block.size n c.loop-j.j c.args.steps.now c.loop-j.steps part (omega (arith, parts_number block.size n part, end)) c.loop-j.invariant.counts

@@ -1,0 +1,31 @@
+use Rattle.std.proofs.Common.{◌≡◌, ◌∙◌, ℕ, ◌*◌, ◌/◌, ◌^◌, length, get_or, sym, subst, arith}
+use Rattle.rs_field.specs.words.StepBounds.{CountsProducts, WalshCounts}
+use Rattle.rs_field.specs.words.Locator.{IsLocatorBelow}
+use Rattle.rs_field.specs.words.Walsh.{IsWalsh, log_or_zero}
+use Rattle.rs_field.proofs.of_words.Halving.{walsh-at}
+use Rattle.rs_field.proofs.of_words.Convolution.{few_bits, locator-made, locator-counts}
+use Rattle.rs_field.proofs.words.locating.locate_marked.Goals as goal
+
+pub fwht-requires-2-clause-power : goal.fwht-requires-2-clause-power
+fwht-requires-2-clause-power c = (c.requires.power.0, c.products.auto.entries ∙ c.fwht.auto.data ∙ c.requires.power.1)
+
+pub returns-clause-values : goal.returns-clause-values
+returns-clause-values c =
+    let d : ℕ = c.requires.power.0 in
+    let size : length c.args.entries.now ≡ 2 ^ d = c.requires.power.1 in
+    let second : length c.products.new.entries ≡ 2 ^ d = c.products.auto.entries ∙ c.fwht.auto.data ∙ size in
+    subst (λ (n : ℕ). IsLocatorBelow n (λ y. get_or c.args.entries.now y 0) (λ x. get_or c.fwht-2.new.data x 0)) (sym size)
+    (locator-made d (λ y. get_or c.args.entries.now y 0) (λ w. get_or c.fwht.new.data w 0) (λ w. get_or c.products.new.entries w 0)
+    (λ x. get_or c.fwht-2.new.data x 0) (λ w. get_or c.args.log_walsh.now w 0) (few_bits d (omega (arith, size, c.requires.few)))
+    (walsh-at (length c.args.entries.now) (2 ^ d) (λ y. get_or c.args.entries.now y 0) (λ w. get_or c.fwht.new.data w 0) size c.fwht.ensures.values)
+    (subst (λ (n : ℕ). IsWalsh n (λ z. 65536 / n * log_or_zero z) (λ w. get_or c.args.log_walsh.now w 0)) size c.requires.table.below_entry)
+    (λ w hw. c.products.ensures.products w (omega arith))
+    (walsh-at (length c.products.new.entries) (2 ^ d) (λ y. get_or c.products.new.entries y 0) (λ w. get_or c.fwht-2.new.data w 0) second c.fwht-2.ensures.values))
+
+pub returns-clause-counts : goal.returns-clause-counts
+returns-clause-counts c =
+    let first : length c.fwht.new.data ≡ length c.args.entries.now = c.fwht.auto.data in
+    let second : length c.products.new.entries ≡ length c.args.entries.now = c.products.auto.entries ∙ first in
+    locator-counts (length c.args.entries.now) c.args.steps.now c.fwht.new.steps c.products.new.steps c.fwht-2.new.steps c.fwht.ensures.counts
+    (subst (λ (n : ℕ). CountsProducts n c.fwht.new.steps c.products.new.steps) first c.products.ensures.counts)
+    (subst (λ (n : ℕ). WalshCounts n c.products.new.steps c.fwht-2.new.steps) second c.fwht-2.ensures.counts)

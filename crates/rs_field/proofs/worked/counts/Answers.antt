@@ -1,8 +1,0 @@
-use Rattle.std.proofs.Common.{rules}
-use Rattle.rs_field.specs.Counts.{supports, is_low, next_power}
-use Rattle.rs_field.specs.Search.{first_below}
-use Rattle.rs_field.proofs.worked.counts.Goals as goal
-
-pub returns : goal.returns
-unfolding supports is_low next_power first_below
-returns c = search rules

@@ -1,8 +1,0 @@
-use Rattle.std.proofs.Common.{rules}
-use Rattle.rs_field.specs.Field.{product, combine, bits, from_bits, cantor_basis, monomials, carryless, reduce}
-use Rattle.rs_field.specs.Column.{column}
-use Rattle.rs_field.proofs.worked.words.Goals as goal
-
-pub returns : goal.returns
-unfolding product combine bits from_bits cantor_basis monomials carryless reduce column
-returns c = search rules

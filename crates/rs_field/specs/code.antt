@@ -1,0 +1,16 @@
+-- The code: counts, placement, states, refusals and what each call answers. It rests on `words`.
+pub mod Column
+pub mod Counts
+pub mod Placement
+pub mod Outcome
+pub mod Texts
+pub mod Configuration
+pub mod Code
+pub mod Given
+pub mod Encoder
+pub mod Decoder
+pub mod OneCall
+pub mod Bounds
+pub mod CodeLaws
+pub mod CountLaws
+pub mod RoundTrip

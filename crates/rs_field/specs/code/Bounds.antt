@@ -1,0 +1,31 @@
+-- How many steps an encode and a decode may count.
+use Rattle.std.specs.Prelude.{ℕ, ◌+◌, ◌*◌, ◌/◌}
+use Rattle.rs_field.specs.declared.words.steps.Steps.{Steps}
+use Rattle.rs_field.specs.code.Counts.{Rate}
+use Rattle.rs_field.specs.code.Placement.{block_rows, encoder_rows, decoder_rows}
+pub use Rattle.rs_field.specs.words.StepBounds.{CountsUpTo, CountsRows, CountsPairs, CountsProducts, WalshCounts, LocatorCountsBelow, LocatorCounts, TransformCounts, RowProductCounts}
+unfoldable pub use Rattle.rs_field.specs.words.StepBounds.{log2, transform_steps}
+
+-- the row steps of an encode with c blocks of m rows: a transform for each block and one more, and two steps for each row
+unfoldable pub encode_steps : ℕ → ℕ → ℕ
+encode_steps c m = (c + 1) * transform_steps m + 2 * c * m
+
+-- the row steps of an encode at these counts
+abbrev pub encode_steps_at : Rate → ℕ → ℕ → ℕ
+encode_steps_at rate k r = encode_steps (encoder_rows rate k r / block_rows rate k r) (block_rows rate k r)
+
+-- the row steps of a decode with w rows: three transforms, and four steps for each row, where testing a row for zero counts as one
+unfoldable pub decode_steps : ℕ → ℕ
+decode_steps w = 3 * w / 2 * log2 w + 4 * w
+
+-- the row steps of a decode at these counts
+abbrev pub decode_steps_at : Rate → ℕ → ℕ → ℕ
+decode_steps_at rate k r = decode_steps (decoder_rows rate k r)
+
+-- what an encode at these counts may count
+abbrev pub EncodeCountsAt : Rate → ℕ → ℕ → Steps → Steps → Type 0
+EncodeCountsAt rate k r old new = CountsUpTo (encode_steps_at rate k r) 0 0 old new
+
+-- what a decode at these counts may count
+abbrev pub DecodeCountsAt : Rate → ℕ → ℕ → Steps → Steps → Type 0
+DecodeCountsAt rate k r old new = CountsUpTo (decode_steps_at rate k r) 1048576 65536 old new

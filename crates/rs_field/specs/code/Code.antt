@@ -1,0 +1,36 @@
+-- The code: recovery shards are values of the polynomial through the originals.
+use Rattle.std.specs.Prelude.{◌≡◌, ℕ, ◌+◌, ◌/◌, ◌%◌, ◌<◌, ◌≤◌, List, length, slice_index}
+use Rattle.rs_field.specs.words.Polynomial.{AreWords, value}
+use Rattle.rs_field.specs.code.Column.{Shard, AreShards, columns}
+use Rattle.rs_field.specs.code.Counts.{Rate}
+use Rattle.rs_field.specs.code.Placement.{placement}
+use Rattle.rs_field.specs.code.Configuration.{Configuration}
+
+-- a polynomial within the degree bound takes the k words at the originals' points, and zero at the zero points
+pub record Codes (rate : Rate) (k r : ℕ) (words polynomial : List ℕ) : Type 0 where
+  pub degree : length polynomial ≡ (placement rate k r).degree_bound
+  pub coefficients : AreWords polynomial
+  pub originals : (j : ℕ) → j < k → value polynomial ((placement rate k r).originals_from + j) ≡ slice_index words j
+  pub zeros : (x : ℕ) → (placement rate k r).zeros_from ≤ x → x < (placement rate k r).zeros_to → value polynomial x ≡ 0
+
+-- the values at the recovery points of a polynomial that codes the originals' words
+abbrev pub AreRecoveryWords : Rate → ℕ → ℕ → List ℕ → List ℕ → Type 0
+AreRecoveryWords rate k r words recovery =
+    (polynomial : List ℕ) × Codes rate k r words polynomial
+    × ((i : ℕ) → i < r → slice_index recovery i ≡ value polynomial ((placement rate k r).recovery_from + i))
+
+-- the shards are a message's recovery shards: of its size, and right in each column
+pub record AreRecovery (c : Configuration) (message recovery : List Shard) : Type 0 where
+  pub shards : AreShards c.recovery_count c.shard_bytes recovery
+  pub words : (j : ℕ) → j < c.shard_bytes / 2 → AreRecoveryWords c.rate c.original_count c.recovery_count (columns j message) (columns j recovery)
+
+-- two polynomials that code the same words are equal
+abbrev pub HasOnePolynomial : Type 0
+HasOnePolynomial =
+    (rate : Rate) (k r : ℕ) (words one other : List ℕ) → k ≤ 65536 → Codes rate k r words one → Codes rate k r words other → one ≡ other
+
+-- two lists of recovery shards of one message are equal
+abbrev pub HasOneRecovery : Type 0
+HasOneRecovery =
+    (c : Configuration) (message one other : List Shard) → c.original_count ≤ 65536 → c.shard_bytes % 2 ≡ 0
+    → AreRecovery c message one → AreRecovery c message other → one ≡ other

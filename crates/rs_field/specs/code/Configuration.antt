@@ -1,0 +1,40 @@
+-- What an encoder or a decoder is set up for.
+use Rattle.std.specs.Prelude.{ℕ, ◌+◌, ◌*◌, ◌/◌, ◌%◌, ◌^◌, ◌≡◌, ◌⊎◌, not, ◌||◌, ◌==◌, nat_le, if◌then◌else◌, Result, Ok, Err, IsOk, ◌≤◌}
+use Rattle.rs_field.specs.declared.code.error.Error.{Error}
+use Rattle.rs_field.specs.declared.code.error.Error.TheVariants.{UnsupportedShardCount, InvalidShardSize, OutOfMemory}
+use Rattle.rs_field.specs.code.Counts.{Rate, supports}
+use Rattle.rs_field.specs.code.Outcome.{result_and_then}
+
+-- a rate, the counts and the size of a shard
+pub record Configuration : Type 0 where
+  pub rate : Rate
+  pub original_count : ℕ
+  pub recovery_count : ℕ
+  pub shard_bytes : ℕ
+
+-- a rate, k originals, r recovery shards and a size
+abbrev pub configuration : Rate → ℕ → ℕ → ℕ → Configuration
+configuration rate k r size = record { rate = rate; original_count = k; recovery_count = r; shard_bytes = size }
+
+-- the first refusal of a configuration: its counts, then its size
+abbrev pub validated : Configuration → Result (Unit {0}) Error
+validated c =
+    if not (supports c.rate c.original_count c.recovery_count) then Err (UnsupportedShardCount c.original_count c.recovery_count)
+    else if c.shard_bytes == 0 || c.shard_bytes % 2 == 1 then Err (InvalidShardSize c.shard_bytes)
+    else Ok tt
+
+-- the bytes of this many rows of whole chunks
+abbrev pub space : ℕ → ℕ → ℕ
+space rows size = rows * ((size + 63) / 64) * 64
+
+-- what setting up with this many rows answers while memory is found; a space above `usize::MAX` bytes is never found
+abbrev pub started : ℕ → Configuration → Result (Unit {0}) Error
+started rows c = result_and_then (λ _. if nat_le (2 ^ 64) (space rows c.shard_bytes) then Err OutOfMemory else Ok tt) (validated c)
+
+-- a result is the wanted one, or out of memory in place of a success
+abbrev pub UpToMemory : {T : Type 0} → Result T Error → Result T Error → Type 0
+UpToMemory wanted result = (result ≡ wanted) ⊎ (IsOk wanted × (result ≡ Err OutOfMemory))
+
+-- the same counts and no larger size: what is set up already has room for it
+abbrev pub FitsWithin : Configuration → Configuration → Type 0
+FitsWithin own c = (c.original_count ≡ own.original_count) × (c.recovery_count ≡ own.recovery_count) × (c.shard_bytes ≤ own.shard_bytes)

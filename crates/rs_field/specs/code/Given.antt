@@ -1,0 +1,61 @@
+-- Shards given by index, and the messages that they agree with.
+use Rattle.std.specs.Prelude.{◌≡◌, ℕ, zero, suc, ◌+◌, ◌≤◌, ◌==◌, List, [], ◌∷◌, ◌++◌, Option, Some, None, is_some, if◌then◌else◌}
+use Rattle.rs_field.specs.code.Column.{Shard, IsShard, AreShards, shard_at}
+use Rattle.rs_field.specs.code.Configuration.{Configuration}
+use Rattle.rs_field.specs.code.Code.{AreRecovery}
+
+-- a map from index to shard
+abbrev pub Shards : Type 0
+Shards = ℕ → Option Shard
+
+-- the map with no shard
+abbrev pub nothing : Shards
+nothing i = None
+
+-- the map with a shard entered at an index
+unfoldable pub entered : Shards → ℕ → Shard → Shards
+entered given index shard i = if i == index then Some shard else given i
+
+-- every shard that is given is of the size, and its index is below the count
+pub record AreWithin (count size : ℕ) (given : Shards) : Type 0 where
+  pub none_past : (i : ℕ) → count ≤ i → given i ≡ None
+  pub sized : (i : ℕ) (shard : Shard) → given i ≡ Some shard → IsShard size shard
+
+-- how many of the indexes below n have a shard
+unfoldable pub count_below : ℕ → Shards → ℕ
+count_below zero given = 0
+count_below (suc n) given = count_below n given + (if is_some (given n) then 1 else 0)
+
+-- the shard of an entry with this index, if it has one
+abbrev pub listed_one : ℕ → Option Shard → List (ℕ × Shard)
+listed_one i None = []
+listed_one i (Some shard) = (i, shard) ∷ []
+
+-- the shards of a map at the n indexes from one on, with their indexes, in order of index
+unfoldable pub listed_from : ℕ → ℕ → Shards → List (ℕ × Shard)
+listed_from from zero given = []
+listed_from from (suc n) given = listed_one from (given from) ++ listed_from (suc from) n given
+
+-- the shards of a map at the indexes below n, with their indexes, in order of index
+abbrev pub listed : ℕ → Shards → List (ℕ × Shard)
+listed n given = listed_from 0 n given
+
+-- a list has all the shards of a map, with their indexes, in order of index
+pub record Lists (given : Shards) (items : List (ℕ × Shard)) : Type 0 where
+  pub count : ℕ
+  pub none_past : (i : ℕ) → count ≤ i → given i ≡ None
+  pub in_order : items ≡ listed count given
+
+-- each given shard is the one that stands at its index in the list
+abbrev pub AreAmong : Shards → List Shard → Type 0
+AreAmong given shards = (i : ℕ) (shard : Shard) → given i ≡ Some shard → shard_at shards i ≡ shard
+
+-- a message agrees with given shards: the originals are its own, the others are among its recovery shards
+pub record Agrees (c : Configuration) (originals recovery : Shards) (message : List Shard) : Type 0 where
+  pub shards : AreShards c.original_count c.shard_bytes message
+  pub own : AreAmong originals message
+  pub coded : (all : List Shard) × AreRecovery c message all × AreAmong recovery all
+
+-- some message agrees with the given shards
+abbrev pub Consistent : Configuration → Shards → Shards → Type 0
+Consistent c originals recovery = (message : List Shard) × Agrees c originals recovery message

@@ -1,0 +1,132 @@
+-- What the one-call functions answer to lists of shards.
+use Rattle.std.specs.Prelude.{◌≡◌, ℕ, List, [], ◌∷◌, ◌⊎◌, length, map, nat_le, nat_lt, nat_eq, if◌then◌else◌, Option, Result, Ok, Err, IsOk, MatchResult}
+use Rattle.std.specs.BTreeMap.{BTreeMap, get}
+use Rattle.std.specs.Borrow.{Bor}
+use Rattle.std.specs.Iterator.{AlwaysYields}
+use Rattle.std.specs.List.{list_any}
+use Rattle.std.specs.Option.{option_map}
+use Rattle.std.specs.Ordering.{nat_cmp}
+use Rattle.std.specs.Result.{result_map_both}
+use Rattle.std.specs.declared.vec.Vec.{Vec}
+use Rattle.rs_field.specs.declared.code.error.Error.{Error}
+use Rattle.rs_field.specs.declared.code.error.Error.TheVariants.{UnsupportedShardCount, TooFewOriginalShards, InvalidOriginalShardIndex, DuplicateOriginalShardIndex, NotEnoughShards, OutOfMemory}
+use Rattle.rs_field.specs.code.Column.{Shard}
+use Rattle.rs_field.specs.code.Counts.{default_rate, supports}
+use Rattle.rs_field.specs.code.Placement.{encoder_rows, decoder_rows}
+use Rattle.rs_field.specs.code.Outcome.{result_and_then}
+use Rattle.rs_field.specs.code.Configuration.{Configuration, configuration, validated, started}
+use Rattle.rs_field.specs.code.Given.{Shards, nothing}
+use Rattle.rs_field.specs.code.Encoder.{EncoderState, fresh_encoder, with_shard, EncodeAnswers}
+use Rattle.rs_field.specs.code.Decoder.{DecoderState, fresh_decoder, with_original, with_recovery, DecodeAnswers}
+
+-- shards with their indexes
+abbrev pub Items : Type 0
+Items = List (ℕ × Shard)
+
+-- the default rate at these counts and this size
+abbrev pub default_of : ℕ → ℕ → ℕ → Configuration
+default_of k r size = configuration default_rate k r size
+
+-- nothing, or the refusal of these counts
+abbrev pub counted : ℕ → ℕ → Result (Unit {0}) Error
+counted k r = if supports default_rate k r then Ok tt else Err (UnsupportedShardCount k r)
+
+-- the outcome of a step for each item in order, the first refused one deciding
+abbrev pub one_by_one : {S T : Type 0} → (S → T → Result S Error) → S → List T → Result S Error
+one_by_one step s [] = Ok s
+one_by_one step s (item ∷ items) = result_and_then (λ next. one_by_one step next items) (step s item)
+
+-- the outcome of adding shards in order
+abbrev pub with_shards : EncoderState → List Shard → Result EncoderState Error
+with_shards s shards = one_by_one with_shard s shards
+
+-- the outcome of adding originals in order
+abbrev pub with_originals : DecoderState → Items → Result DecoderState Error
+with_originals s items = one_by_one (λ now item. with_original now item.0 item.1) s items
+
+-- the outcome of adding recovery shards in order
+abbrev pub with_recoveries : DecoderState → Items → Result DecoderState Error
+with_recoveries s items = one_by_one (λ now item. with_recovery now item.0 item.1) s items
+
+-- the outcome of adding originals in order, and then recovery shards in order
+abbrev pub with_both : DecoderState → Items → Items → Result DecoderState Error
+with_both s originals recoveries = result_and_then (λ now. with_recoveries now recoveries) (with_originals s originals)
+
+-- the refusals of `encode` that come before any want of memory: the counts, no shard at all, the first shard's size
+abbrev pub encode_opening : ℕ → ℕ → List Shard → Result (Unit {0}) Error
+encode_opening k r [] = result_and_then (λ _. Err (TooFewOriginalShards k 0)) (counted k r)
+encode_opening k r (shard ∷ _) = validated (default_of k r (length shard))
+
+-- the encoder that the shards lead to, or the refusal
+abbrev pub encoding : ℕ → ℕ → List Shard → Result EncoderState Error
+encoding k r [] = result_and_then (λ _. Err (TooFewOriginalShards k 0)) (counted k r)
+encoding k r (shard ∷ shards) =
+    let c = default_of k r (length shard) in
+    result_and_then (λ _. with_shards (fresh_encoder c) (shard ∷ shards)) (started (encoder_rows default_rate k r) c)
+
+-- a result is out of memory, where nothing was refused before memory was wanted
+abbrev pub LacksMemory : {T : Type 0} → Result (Unit {0}) Error → Result T Error → Type 0
+LacksMemory opening result = IsOk opening × (result ≡ Err OutOfMemory)
+
+-- what one-call `encode` answers
+abbrev pub OneEncodeAnswers : ℕ → ℕ → List Shard → Result (List Shard) Error → Type 0
+OneEncodeAnswers k r shards result =
+    MatchResult (encoding k r shards) (λ s. EncodeAnswers s result) (λ e. result ≡ Err e)
+    ⊎ LacksMemory (encode_opening k r shards) result
+
+-- the outcome of noting an original's index with those that came before it: it is to be below k, and not among them
+abbrev pub noted : ℕ → List ℕ → ℕ → Result (List ℕ) Error
+noted k came index =
+    if nat_le k index then Err (InvalidOriginalShardIndex k index)
+    else if list_any (nat_eq index) came then Err (DuplicateOriginalShardIndex index)
+    else Ok (index ∷ came)
+
+-- whether all k originals came, where no recovery shard did: each index is noted in order, and they are to be k
+abbrev pub all_came : ℕ → Items → Result (Unit {0}) Error
+all_came k originals =
+    result_and_then (λ came. if nat_lt (length came) k then Err (NotEnoughShards k (length came) 0) else Ok tt)
+    (one_by_one (λ came item. noted k came item.0) [] originals)
+
+-- the refusals of `decode` that come before any want of memory: the counts, the first recovery shard's size
+abbrev pub decode_opening : ℕ → ℕ → Items → Result (Unit {0}) Error
+decode_opening k r [] = counted k r
+decode_opening k r (item ∷ _) = validated (default_of k r (length item.1))
+
+-- the decoder that the originals and then the recovery shards lead to, or the refusal
+abbrev pub decoding : ℕ → ℕ → Items → ℕ × Shard → Items → Result DecoderState Error
+decoding k r originals first rest =
+    let c = default_of k r (length first.1) in
+    result_and_then (λ _. with_both (fresh_decoder c) originals (first ∷ rest)) (started (decoder_rows default_rate k r) c)
+
+-- what one-call `decode` answers while memory is found
+abbrev pub OneDecodes : ℕ → ℕ → Items → Items → Result Shards Error → Type 0
+OneDecodes k r originals [] result =
+    MatchResult (result_and_then (λ _. all_came k originals) (counted k r))
+    (λ _. result ≡ Ok nothing) (λ e. result ≡ Err e)
+OneDecodes k r originals (first ∷ rest) result =
+    MatchResult (decoding k r originals first rest) (λ s. DecodeAnswers s result) (λ e. result ≡ Err e)
+
+-- what one-call `decode` answers
+abbrev pub OneDecodeAnswers : ℕ → ℕ → Items → Items → Result Shards Error → Type 0
+OneDecodeAnswers k r originals recovery result =
+    OneDecodes k r originals recovery result ⊎ LacksMemory (decode_opening k r recovery) result
+
+-- each run of the iterator lends these shards, and then ends
+abbrev pub Lends : {I : Type 0} → (I → Option (Bor Shard) → I → Type 0) → I → List Shard → Type 0
+Lends steps iterator shards = AlwaysYields steps (λ shard. shard.now) iterator shards
+
+-- each run of the iterator lends these shards with their indexes, and then ends
+abbrev pub LendsItems : {I : Type 0} → (I → Option (ℕ × Bor Shard) → I → Type 0) → I → Items → Type 0
+LendsItems steps iterator items = AlwaysYields steps (λ item. (item.0, item.1.now)) iterator items
+
+-- the vectors of a result as shards, or the refusal
+abbrev pub collected : {Y Z : Type 0} → Result (Vec (Vec ℕ Y) Z) Error → Result (List Shard) Error
+collected result = result_map_both (λ vectors. map (λ v. v.items) vectors.items) (λ e. e) result
+
+-- the vectors of a map as shards, by their index
+abbrev pub shards_in : {Y : Type 0} → BTreeMap ℕ (Vec ℕ Y) → Shards
+shards_in vectors = λ i. option_map (λ v. v.items) (get nat_cmp vectors i)
+
+-- the vectors of a result as shards by their index, or the refusal
+abbrev pub collected_map : {Y : Type 0} → Result (BTreeMap ℕ (Vec ℕ Y)) Error → Result Shards Error
+collected_map result = result_map_both shards_in (λ e. e) result

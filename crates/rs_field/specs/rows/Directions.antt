@@ -1,0 +1,50 @@
+-- What butterflies and layers of them do in each direction of a transform.
+use Rattle.std.specs.Prelude.{◌≡◌, ℕ, ◌+◌, ◌-◌, ◌*◌, ◌<◌, ◌≤◌, Bool, true}
+use Rattle.rs_field.specs.declared.rows.layers.Direction.{Direction}
+use Rattle.rs_field.specs.declared.rows.marked_rows.UsedRows.{UsedRows}
+use Rattle.rs_field.specs.declared.rows.shards.ShardsRefMut.{ShardsRefMut}
+use Rattle.rs_field.specs.words.Transform.{forward, IsBackward}
+use Rattle.rs_field.specs.rows.MarkedRows.{UnusedAreZero}
+use Rattle.rs_field.specs.declared.rows.block.Block.{Block}
+use Rattle.rs_field.specs.declared.words.steps.Steps.{Steps}
+use Rattle.rs_field.specs.rows.Layers.{ArePartsOf, rows_of_part, layer_steps}
+use Rattle.rs_field.specs.rows.View.{word}
+use Rattle.rs_field.specs.words.StepBounds.{CountsUpTo, transform_steps}
+use Rattle.rs_field.specs.rows.Pairs.{OnTwoChunks, IsForwardStep, IsBackwardStep}
+use Rattle.rs_field.specs.rows.TwoLayers.{OnFourChunks, IsForwardTwoLayers, IsBackwardTwoLayers}
+
+-- a butterfly on each symbol of two chunks, by the factor of a logarithm
+abbrev pub IsButterfly : Direction → ℕ → OnTwoChunks
+IsButterfly Direction.Forward log_m = IsForwardStep log_m
+IsButterfly Direction.Backward log_m = IsBackwardStep log_m
+
+-- two layers of butterflies on each symbol of four chunks
+abbrev pub AreTwoLayers : Direction → ℕ → ℕ → ℕ → OnFourChunks
+AreTwoLayers Direction.Forward log_m02 log_m01 log_m23 = IsForwardTwoLayers log_m02 log_m01 log_m23
+AreTwoLayers Direction.Backward log_m02 log_m01 log_m23 = IsBackwardTwoLayers log_m02 log_m01 log_m23
+
+-- forward layers leave the parts of the old words, and backward ones make the new words of their parts
+abbrev pub AreLayers : Direction → ℕ → ℕ → ℕ → (ℕ → ℕ) → (ℕ → ℕ) → Type 0
+AreLayers Direction.Forward size n shift old new = ArePartsOf size n shift old new
+AreLayers Direction.Backward size n shift old new = ArePartsOf size n shift new old
+
+-- the new words are the transform of the old ones; of a forward one only the used words are told
+abbrev pub AreTransformed : Direction → (ℕ → Bool) → ℕ → ℕ → (ℕ → ℕ) → (ℕ → ℕ) → Type 0
+AreTransformed Direction.Forward used size shift old new = (i : ℕ) → i < size → used i ≡ true → new i ≡ forward size shift old i
+AreTransformed Direction.Backward used size shift old new = IsBackward size shift old new
+
+-- of the rows from row pos on, as many as size, those that aren't used are zero bytes where the transform is a backward one
+abbrev pub UnusedAreZeroBackward : Direction → UsedRows → ℕ → ℕ → ShardsRefMut → Type 0
+UnusedAreZeroBackward Direction.Forward used pos size rows = 0 ≤ size
+UnusedAreZeroBackward Direction.Backward used pos size rows = UnusedAreZero used pos size rows
+
+-- and of each part of a block that its layers leave
+abbrev pub ArePartsTransformed : Direction → (ℕ → Bool) → Block → ShardsRefMut → ShardsRefMut → Type 0
+ArePartsTransformed direction used block old new =
+    let n = rows_of_part block.size in (k s m : ℕ) → k < old.shard_len_64 → s < 32 → m * n < block.size
+    → AreTransformed direction (λ i. used (m * n + i)) n (block.skew_delta + m * n)
+    (λ q. word old k s (block.pos + (m * n + q))) (λ q. word new k s (block.pos + (m * n + q)))
+
+-- what these may count: what is left of the whole
+abbrev pub PartCounts : ℕ → Steps → Steps → Type 0
+PartCounts size old new = CountsUpTo (transform_steps size - layer_steps size) 0 0 old new

@@ -1,0 +1,78 @@
+-- What a caller may rely on of rows that are lent: where what is written to them stands afterwards.
+use Rattle.std.specs.Prelude.{ℕ, ◌+◌, ◌-◌, ◌*◌, ◌++◌, [], take, drop}
+use Rattle.std.specs.Borrow.{Lends, LendsBoth, MutBor, RattleType, Fml, fsep, u8, Array}
+use base.Fml.{fall, fres, fwand}
+use denote.MutBor.{at_last}
+use mir.Syntax.{named}
+use Rattle.rs_field.specs.rows.Rows.{Chunks}
+use Rattle.rs_field.specs.declared.rows.shards.ShardsRefMut.{ShardsRefMut}
+use Rattle.rs_field.specs.contracts.rows.shards.ShardsRefMut.{the_row}
+
+-- the list with other chunks in the place of the n chunks from a on
+abbrev pub with_part : Chunks → ℕ → ℕ → Chunks → Chunks
+with_part chunks a n part = take a chunks ++ (part ++ drop n (drop a chunks))
+
+-- the chunks from a to b - 1
+abbrev pub between : ℕ → ℕ → Chunks → Chunks
+between a b chunks = take (b - a) (drop a chunks)
+
+-- the list with other chunks in the places of the n chunks from a on and of the m chunks from b on
+abbrev pub with_two : Chunks → ℕ → ℕ → ℕ → ℕ → Chunks → Chunks → Chunks
+with_two chunks a n b m first second = take a chunks ++ (first ++ (between (a + n) b chunks ++ (second ++ drop (b + m) chunks)))
+
+-- the same with the n chunks from each of four places on
+abbrev pub with_four : Chunks → ℕ → ℕ → ℕ → ℕ → ℕ → Chunks → Chunks → Chunks → Chunks → Chunks
+with_four chunks a b c d n first second third fourth =
+    take a chunks ++ (first ++ (between (a + n) b chunks ++ (second ++ (between (b + n) c chunks
+    ++ (third ++ (between (c + n) d chunks ++ (fourth ++ drop (d + n) chunks)))))))
+
+-- the rows, over other chunks in the same place
+abbrev pub with_chunks : ShardsRefMut → Chunks → ShardsRefMut
+with_chunks rows chunks = record rows { chunks = at_last rows.chunks chunks }
+
+-- all chunks are lent: the rows end over the last value written
+abbrev pub LendsAll : MutBor ShardsRefMut → MutBor Chunks → Fml
+LendsAll rows lent = Lends (the_row (record { mir = named 1; lft = [] })) (Array (Array u8 64) 0) rows lent (with_chunks rows.now)
+
+-- the n chunks from a on are lent: the last value written stands in their place, and all else is as it was
+abbrev pub LendsPart : MutBor ShardsRefMut → ℕ → ℕ → MutBor Chunks → Fml
+LendsPart rows a n lent =
+    Lends (the_row (record { mir = named 1; lft = [] })) (Array (Array u8 64) 0) rows lent
+    (λ part. with_chunks rows.now (with_part rows.now.chunks.now a n part))
+
+-- row i is lent
+abbrev pub LendsRow : MutBor ShardsRefMut → ℕ → MutBor Chunks → Fml
+LendsRow rows i lent = LendsPart rows (i * rows.now.shard_len_64) rows.now.shard_len_64 lent
+
+-- the n chunks from a on and the m chunks from b on are lent: what is written to each stands in its place, and all else is as it was
+abbrev pub LendsTwoParts : MutBor ShardsRefMut → ℕ → ℕ → ℕ → ℕ → MutBor Chunks × MutBor Chunks → Fml
+LendsTwoParts rows a n b m lent =
+    LendsBoth (the_row (record { mir = named 1; lft = [] })) (Array (Array u8 64) 0) (Array (Array u8 64) 0) rows lent
+    (λ first second. with_chunks rows.now (with_two rows.now.chunks.now a n b m first second))
+
+-- rows i and j are lent
+abbrev pub LendsTwoRows : MutBor ShardsRefMut → ℕ → ℕ → MutBor Chunks × MutBor Chunks → Fml
+LendsTwoRows rows i j lent = let n = rows.now.shard_len_64 in LendsTwoParts rows (i * n) n (j * n) n lent
+
+-- the rows before row mid are lent as a list of their own, and so are those from row mid on: what becomes of the chunks of each stands in its place
+abbrev pub LendsHalves : MutBor ShardsRefMut → ℕ → ShardsRefMut × ShardsRefMut → Fml
+LendsHalves rows mid lent =
+    let n = rows.now.shard_len_64 in LendsTwoParts rows 0 (mid * n) (mid * n) ((rows.now.shard_count - mid) * n) (lent.0.chunks, lent.1.chunks)
+
+-- s ends as F v w x y, where these are the last values behind the four parts of r: `LendsBoth` for four
+abbrev pub LendsFour : (R T : RattleType) → MutBor R.Denot → MutBor T.Denot × MutBor T.Denot × MutBor T.Denot × MutBor T.Denot
+    → (T.Denot → T.Denot → T.Denot → T.Denot → R.Denot) → Fml
+LendsFour R T s r F =
+    let ends = λ (x : MutBor T.Denot) (last : T.Denot). fres x.ghost_name (T.coded.code last) in
+    fall (T.Denot × T.Denot × T.Denot × T.Denot) (λ v.
+    fwand (fsep (fsep (ends r.0 v.0) (ends r.1 v.1)) (fsep (ends r.2 v.2) (ends r.3 v.3))) (fres s.ghost_name (R.coded.code (F v.0 v.1 v.2 v.3))))
+
+-- the n chunks from each of four places on are lent, in the same way
+abbrev pub LendsFourParts : MutBor ShardsRefMut → ℕ → ℕ → ℕ → ℕ → ℕ → MutBor Chunks × MutBor Chunks × MutBor Chunks × MutBor Chunks → Fml
+LendsFourParts rows a b c d n lent =
+    LendsFour (the_row (record { mir = named 1; lft = [] })) (Array (Array u8 64) 0) rows lent
+    (λ first second third fourth. with_chunks rows.now (with_four rows.now.chunks.now a b c d n first second third fourth))
+
+-- rows i, j, k and l are lent
+abbrev pub LendsFourRows : MutBor ShardsRefMut → ℕ → ℕ → ℕ → ℕ → MutBor Chunks × MutBor Chunks × MutBor Chunks × MutBor Chunks → Fml
+LendsFourRows rows i j k l lent = let n = rows.now.shard_len_64 in LendsFourParts rows (i * n) (j * n) (k * n) (l * n) n lent

@@ -1,0 +1,29 @@
+-- Rows that are marked by a list of marks, and rows that are used.
+use Rattle.std.specs.Prelude.{◌≡◌, ℕ, ◌+◌, ◌<◌, ◌≤◌, Bool, false, List, length, nat_lt, replicate, slice_index_or}
+use Rattle.rs_field.specs.rows.View.{cell}
+use Rattle.rs_field.specs.declared.rows.marked_rows.UsedRows.{UsedRows}
+use Rattle.rs_field.specs.declared.rows.shards.ShardsRefMut.{ShardsRefMut}
+
+-- whether row i is marked; past the marks no row is
+abbrev pub is_marked : List Bool → ℕ → Bool
+is_marked marks i = slice_index_or marks i false
+
+-- of as many rows as there are marks, from row pos on, those that aren't marked are zero bytes
+abbrev pub OthersAreZero : List Bool → ℕ → ShardsRefMut → Type 0
+OthersAreZero marks pos rows =
+    (i k : ℕ) → k < rows.shard_len_64 → i < length marks → is_marked marks i ≡ false → cell rows k (pos + i) ≡ replicate 64 0
+
+-- whether row i is used: it is one of the first ones, or marked
+abbrev pub is_used : UsedRows → ℕ → Bool
+is_used (UsedRows.First count) i = nat_lt i count
+is_used (UsedRows.Marked marks) i = is_marked marks.now i
+
+-- there is a mark for each of so many rows, if there are marks
+abbrev pub HasMarks : UsedRows → ℕ → Type 0
+HasMarks (UsedRows.First count) size = 0 ≤ size
+HasMarks (UsedRows.Marked marks) size = size ≤ length marks.now
+
+-- of the rows from row pos on, as many as size, those that aren't used are zero bytes
+abbrev pub UnusedAreZero : UsedRows → ℕ → ℕ → ShardsRefMut → Type 0
+UnusedAreZero used pos size rows =
+    (i k : ℕ) → k < rows.shard_len_64 → i < size → is_used used i ≡ false → cell rows k (pos + i) ≡ replicate 64 0

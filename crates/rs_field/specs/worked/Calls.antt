@@ -1,0 +1,82 @@
+-- Worked examples of the calls: which refusal comes first, and what a call leaves.
+use Rattle.std.specs.Prelude.{◌≡◌, ℕ, List, [], ◌∷◌, replicate, Result, Ok, Err}
+use Rattle.rs_field.specs.declared.code.error.Error.{Error}
+use Rattle.rs_field.specs.declared.code.error.Error.TheVariants.{DifferentShardSize, DuplicateOriginalShardIndex, DuplicateRecoveryShardIndex, InvalidOriginalShardIndex, InvalidRecoveryShardIndex, InvalidShardSize, NotEnoughShards, OutOfMemory, TooFewOriginalShards, TooManyOriginalShards, UnsupportedShardCount}
+use Rattle.rs_field.specs.code.Column.{Shard}
+use Rattle.rs_field.specs.code.Outcome.{result_and_then, answer_of, state_after}
+use Rattle.rs_field.specs.code.Configuration.{validated, UpToMemory}
+use Rattle.rs_field.specs.code.Given.{Shards, nothing, entered}
+use Rattle.rs_field.specs.code.Encoder.{EncoderState, fresh_encoder, with_shard, message_of, after_encode}
+use Rattle.rs_field.specs.code.Decoder.{fresh_decoder, with_original, with_recovery, enough_given, after_decode}
+use Rattle.rs_field.specs.code.OneCall.{default_of, encoding, decoding, OneEncodeAnswers, OneDecodes, OneDecodeAnswers}
+use Rattle.rs_field.specs.worked.Codes.{two_given, surplus_given}
+
+-- a shard of n zero bytes
+abbrev pub zeros : ℕ → Shard
+zeros n = replicate n 0
+
+-- one-call `encode`: counts, then no shard, then the first one's size, then too many, then another size, then too few
+abbrev pub EncodeOrder : Type 0
+EncodeOrder =
+    (encoding 0 1 [] ≡ Err (UnsupportedShardCount 0 1)) × (encoding 0 1 (zeros 3 ∷ []) ≡ Err (UnsupportedShardCount 0 1))
+    × (encoding 1 1 [] ≡ Err (TooFewOriginalShards 1 0)) × (encoding 1 1 (zeros 3 ∷ zeros 2 ∷ []) ≡ Err (InvalidShardSize 3))
+    × (encoding 1 1 (zeros 64 ∷ zeros 128 ∷ []) ≡ Err (TooManyOriginalShards 1))
+    × (encoding 2 1 (zeros 64 ∷ zeros 128 ∷ []) ≡ Err (DifferentShardSize 64 128))
+    × (result_and_then message_of (encoding 2 1 (zeros 64 ∷ [])) ≡ Err (TooFewOriginalShards 2 1))
+
+-- one-call `decode` with recovery shards: the first one's size, then the originals, then the recovery shards, then too few
+abbrev pub DecodeOrder : Type 0
+DecodeOrder =
+    (decoding 1 1 ((0, zeros 64) ∷ []) (0, []) [] ≡ Err (InvalidShardSize 0)) × (decoding 0 1 [] (0, []) [] ≡ Err (UnsupportedShardCount 0 1))
+    × (decoding 1 1 ((0, zeros 64) ∷ []) (1, zeros 64) [] ≡ Err (InvalidRecoveryShardIndex 1 1))
+    × (decoding 2 1 ((0, zeros 64) ∷ (0, zeros 128) ∷ []) (0, zeros 64) [] ≡ Err (DuplicateOriginalShardIndex 0))
+    × (decoding 2 1 ((0, zeros 64) ∷ (1, zeros 128) ∷ []) (5, zeros 64) [] ≡ Err (DifferentShardSize 64 128))
+    × (decoding 2 1 ((2, zeros 128) ∷ []) (0, zeros 64) [] ≡ Err (InvalidOriginalShardIndex 2 2))
+    × (decoding 2 2 [] (1, zeros 64) ((1, zeros 128) ∷ []) ≡ Err (DuplicateRecoveryShardIndex 1))
+    × (result_and_then enough_given (decoding 2 1 [] (0, zeros 64) []) ≡ Err (NotEnoughShards 2 0 1))
+
+-- one-call `decode` with no recovery shard: each original's index, whether it came before, then the count
+abbrev pub NoRecoveryOrder : Type 0
+NoRecoveryOrder =
+    (result : Result Shards Error)
+    → (OneDecodes 2 1 ((0, zeros 64) ∷ (0, zeros 64) ∷ []) [] result → result ≡ Err (DuplicateOriginalShardIndex 0))
+    × (OneDecodes 1 1 ((5, zeros 64) ∷ []) [] result → result ≡ Err (InvalidOriginalShardIndex 1 5))
+    × (OneDecodes 1 1 [] [] result → result ≡ Err (NotEnoughShards 1 0 0))
+    × (OneDecodes 1 1 ((0, zeros 64) ∷ []) [] result → result ≡ Ok nothing)
+
+-- an encoder of two originals and three recovery shards that was given these shards
+abbrev pub encoder_with : List Shard → EncoderState
+encoder_with given = record { configuration = default_of 2 3 2; given = given }
+
+-- a refused step leaves the encoder as it was, an added shard comes last, and `encode` leaves nothing given
+abbrev pub EncoderRound : Type 0
+EncoderRound =
+    (validated (default_of 2 3 3) ≡ Err (InvalidShardSize 3))
+    × (state_after (encoder_with (zeros 2 ∷ [])) (with_shard (encoder_with (zeros 2 ∷ [])) []) ≡ encoder_with (zeros 2 ∷ []))
+    × (with_shard (encoder_with (zeros 2 ∷ [])) (1 ∷ 0 ∷ []) ≡ Ok (encoder_with (zeros 2 ∷ (1 ∷ 0 ∷ []) ∷ [])))
+    × (message_of (encoder_with (zeros 2 ∷ (1 ∷ 0 ∷ []) ∷ [])) ≡ Ok (zeros 2 ∷ (1 ∷ 0 ∷ []) ∷ []))
+    × (after_encode (encoder_with (zeros 2 ∷ (1 ∷ 0 ∷ []) ∷ [])) ≡ fresh_encoder (default_of 2 3 2))
+    × (message_of (fresh_encoder (default_of 2 3 2)) ≡ Err (TooFewOriginalShards 2 0))
+
+-- two recovery shards are enough for two originals, one isn't, and `decode` leaves nothing given, also where no message agrees
+abbrev pub DecoderRound : Type 0
+DecoderRound =
+    (enough_given (record { configuration = default_of 2 3 2; originals = nothing; recovery = entered nothing 2 (zeros 2) }) ≡ Err (NotEnoughShards 2 0 1))
+    × (enough_given two_given ≡ Ok tt) × (after_decode two_given ≡ fresh_decoder (default_of 2 3 2))
+    × (after_decode (surplus_given (7 ∷ 8 ∷ [])) ≡ fresh_decoder (default_of 1 2 2))
+    × (enough_given (fresh_decoder (default_of 2 3 2)) ≡ Err (NotEnoughShards 2 0 0))
+
+-- the largest index is refused as any other
+abbrev pub LargestIndex : Type 0
+LargestIndex =
+    (answer_of (with_original (fresh_decoder (default_of 1 1 2)) 18446744073709551615 (zeros 2)) ≡ Err (InvalidOriginalShardIndex 1 18446744073709551615))
+    × (answer_of (with_recovery (fresh_decoder (default_of 1 1 2)) 18446744073709551615 (zeros 2)) ≡ Err (InvalidRecoveryShardIndex 1 18446744073709551615))
+
+-- a want of memory stands in the place of a success, or of a later refusal of a one-call function, but never of a first refusal
+abbrev pub MemoryOrder : Type 0
+MemoryOrder =
+    (UpToMemory (validated (default_of 2 3 3)) (Err OutOfMemory) → ⊥) × UpToMemory (validated (default_of 2 3 2)) (Err OutOfMemory)
+    × (OneEncodeAnswers 0 1 [] (Err OutOfMemory) → ⊥) × (OneEncodeAnswers 1 1 [] (Err OutOfMemory) → ⊥)
+    × (OneEncodeAnswers 1 1 (zeros 3 ∷ []) (Err OutOfMemory) → ⊥) × OneEncodeAnswers 1 1 (zeros 64 ∷ zeros 128 ∷ []) (Err OutOfMemory)
+    × (OneDecodeAnswers 0 1 [] [] (Err OutOfMemory) → ⊥) × (OneDecodeAnswers 1 1 ((0, zeros 64) ∷ []) ((0, []) ∷ []) (Err OutOfMemory) → ⊥)
+    × OneDecodeAnswers 1 1 ((5, zeros 64) ∷ []) [] (Err OutOfMemory)

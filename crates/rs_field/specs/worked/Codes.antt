@@ -1,0 +1,125 @@
+-- Worked examples of the code: messages with their recovery shards, and given shards with the messages that agree.
+use Rattle.std.specs.Prelude.{◌≡◌, ℕ, ◌+◌, ◌*◌, ◌++◌, List, [], ◌∷◌, map, length, replicate, Ok, Err}
+use Rattle.rs_field.specs.declared.code.error.Error.TheVariants.{InconsistentShards}
+use Rattle.rs_field.specs.code.Column.{Shard, columns}
+use Rattle.rs_field.specs.code.Counts.{Rate, default_rate}
+use Rattle.rs_field.specs.code.Configuration.{configuration}
+use Rattle.rs_field.specs.code.Code.{Codes, AreRecovery}
+use Rattle.rs_field.specs.code.CodeLaws.{xor_shards}
+use Rattle.rs_field.specs.code.Given.{nothing, entered}
+use Rattle.rs_field.specs.code.Decoder.{DecoderState, IsAgreeing, Restored, DecodeAnswers}
+
+-- shards of two bytes, of which the second is zero
+abbrev pub low_bytes : List ℕ → List Shard
+low_bytes bytes = map (λ b. b ∷ 0 ∷ []) bytes
+
+-- a message of shards of two bytes has these recovery shards, and a polynomial codes its only column
+abbrev pub Recovers : Rate → List Shard → List ℕ → List Shard → Type 0
+Recovers rate message polynomial recovery =
+    Codes rate (length message) (length recovery) (columns 0 message) polynomial
+    × AreRecovery (configuration rate (length message) (length recovery) 2) message recovery
+
+-- one original is a constant polynomial: each recovery shard is its copy
+abbrev pub ConstantRow : Rate → Type 0
+ConstantRow rate = Recovers rate ((7 ∷ 9 ∷ []) ∷ []) ((7 + 256 * 9) ∷ []) ((7 ∷ 9 ∷ []) ∷ (7 ∷ 9 ∷ []) ∷ (7 ∷ 9 ∷ []) ∷ [])
+
+-- 0, 1 at the points 0, 1 are the polynomial x: its values at 2, 3, 4
+abbrev pub LineRow : Rate → Type 0
+LineRow rate = Recovers rate (low_bytes (0 ∷ 1 ∷ [])) (0 ∷ 1 ∷ []) (low_bytes (2 ∷ 3 ∷ 4 ∷ []))
+
+-- 1, 1 are a constant; their XOR with the line's 0, 1 is 1, 0, the polynomial 1 + x, whose recovery shards are the XOR of both
+abbrev pub LinearRow : Rate → Type 0
+LinearRow rate =
+    Recovers rate (low_bytes (1 ∷ 1 ∷ [])) (1 ∷ 0 ∷ []) (low_bytes (1 ∷ 1 ∷ 1 ∷ []))
+    × (xor_shards (low_bytes (1 ∷ 1 ∷ [])) (low_bytes (0 ∷ 1 ∷ [])) ≡ low_bytes (1 ∷ 0 ∷ []))
+    × Recovers rate (low_bytes (1 ∷ 0 ∷ [])) (1 ∷ 1 ∷ []) (low_bytes (3 ∷ 2 ∷ 5 ∷ []))
+    × (xor_shards (low_bytes (1 ∷ 1 ∷ 1 ∷ [])) (low_bytes (2 ∷ 3 ∷ 4 ∷ [])) ≡ low_bytes (3 ∷ 2 ∷ 5 ∷ []))
+
+-- the line at two points
+abbrev pub ShortLineRow : Rate → Type 0
+ShortLineRow rate = Recovers rate (low_bytes (0 ∷ 1 ∷ [])) (0 ∷ 1 ∷ []) (low_bytes (2 ∷ 3 ∷ []))
+
+-- 0, 0, 2, 3 at the points 0 to 3 are the polynomial x * x * x + x * x: its values at 4 to 7
+abbrev pub CubicRow : Rate → Type 0
+CubicRow rate = Recovers rate (low_bytes (0 ∷ 0 ∷ 2 ∷ 3 ∷ [])) (0 ∷ 0 ∷ 1 ∷ 1 ∷ []) (low_bytes (11 ∷ 9 ∷ 14 ∷ 13 ∷ []))
+
+-- 0, 0, 1 at the points 0 to 2, and a zero at the point 3: the recovery shards stand at 4 to 8
+abbrev pub PaddedRow : Rate → Type 0
+PaddedRow rate = Recovers rate (low_bytes (0 ∷ 0 ∷ 1 ∷ [])) (0 ∷ 3 ∷ 2 ∷ 1 ∷ []) (low_bytes (10 ∷ 8 ∷ 12 ∷ 15 ∷ 8 ∷ []))
+
+-- rows of the low rate, and of the default rate where k's power is the smaller
+abbrev pub LowRows : Rate → Type 0
+LowRows rate = ConstantRow rate × LineRow rate × LinearRow rate × PaddedRow rate
+
+-- four bytes are two words: bytes 1 and 3 are the second one
+abbrev pub TailRow : Type 0
+TailRow =
+    AreRecovery (configuration default_rate 2 3 4) ((0 ∷ 0 ∷ 0 ∷ 0 ∷ []) ∷ (0 ∷ 1 ∷ 0 ∷ 0 ∷ []) ∷ [])
+    ((0 ∷ 2 ∷ 0 ∷ 0 ∷ []) ∷ (0 ∷ 3 ∷ 0 ∷ 0 ∷ []) ∷ (0 ∷ 4 ∷ 0 ∷ 0 ∷ []) ∷ [])
+
+-- shards of 66 bytes, zero but for byte 64
+abbrev pub last_words : List ℕ → List Shard
+last_words bytes = map (λ b. replicate 64 0 ++ b ∷ 0 ∷ []) bytes
+
+-- a chunk is followed by a tail of one word
+abbrev pub ChunkAndTailRow : Type 0
+ChunkAndTailRow = AreRecovery (configuration default_rate 2 3 66) (last_words (0 ∷ 1 ∷ [])) (last_words (2 ∷ 3 ∷ 4 ∷ []))
+
+-- with one recovery shard at the high rate it is the sum of all
+abbrev pub SumRow : Rate → Type 0
+SumRow rate = AreRecovery (configuration rate 3 1 2) ((1 ∷ 2 ∷ []) ∷ (4 ∷ 8 ∷ []) ∷ (16 ∷ 32 ∷ []) ∷ []) ((21 ∷ 42 ∷ []) ∷ [])
+
+-- at the high rate 0, 1 stand at the points 2, 3 and their recovery words at 0, 1
+abbrev pub HighLineRow : Rate → Type 0
+HighLineRow rate = AreRecovery (configuration rate 2 2 2) (low_bytes (0 ∷ 1 ∷ [])) (low_bytes (2 ∷ 3 ∷ []))
+
+-- at the high rate 0, 0, 2, 3 stand at the points 4 to 7 and their recovery words at 0 to 3
+abbrev pub HighCubicRow : Rate → Type 0
+HighCubicRow rate = AreRecovery (configuration rate 4 4 2) (low_bytes (0 ∷ 0 ∷ 2 ∷ 3 ∷ [])) (low_bytes (11 ∷ 9 ∷ 14 ∷ 13 ∷ []))
+
+-- at the high rate 2, 0, 4 stand at the points 2 to 4, with zeros from 5 on, and their recovery words at 0, 1
+abbrev pub HighPaddedRow : Rate → Type 0
+HighPaddedRow rate = AreRecovery (configuration rate 3 2 2) (low_bytes (2 ∷ 0 ∷ 4 ∷ [])) (low_bytes (3 ∷ 5 ∷ []))
+
+-- rows of the high rate, and of the default rate elsewhere
+abbrev pub HighRows : Rate → Type 0
+HighRows rate = SumRow rate × HighLineRow rate × HighCubicRow rate × HighPaddedRow rate
+
+-- a decoder of two originals and three recovery shards that was given the first two recovery shards
+abbrev pub two_given : DecoderState
+two_given = record {
+  configuration = configuration default_rate 2 3 2;
+  originals = nothing;
+  recovery = entered (entered nothing 0 (2 ∷ 0 ∷ [])) 1 (3 ∷ 0 ∷ []);
+}
+
+-- one message agrees with the two recovery shards, no other does, and it is restored
+abbrev pub RestoredRow : Type 0
+RestoredRow =
+    IsAgreeing two_given (low_bytes (0 ∷ 1 ∷ []))
+    × ((message : List Shard) → IsAgreeing two_given message → message ≡ low_bytes (0 ∷ 1 ∷ []))
+    × Restored two_given (entered (entered nothing 0 (0 ∷ 0 ∷ [])) 1 (1 ∷ 0 ∷ []))
+
+-- two originals and two recovery shards, given out of order, agree with a message of four shards
+abbrev pub MixtureRow : Type 0
+MixtureRow =
+    IsAgreeing
+    (record {
+      configuration = configuration default_rate 4 4 2;
+      originals = entered (entered nothing 3 (3 ∷ 0 ∷ [])) 1 (0 ∷ 0 ∷ []);
+      recovery = entered (entered nothing 2 (14 ∷ 0 ∷ [])) 0 (11 ∷ 0 ∷ []);
+    })
+    (low_bytes (0 ∷ 0 ∷ 2 ∷ 3 ∷ []))
+
+-- a decoder of one original and two recovery shards that was given the original and one recovery shard
+abbrev pub surplus_given : Shard → DecoderState
+surplus_given recovery = record {
+  configuration = configuration default_rate 1 2 2;
+  originals = entered nothing 0 (7 ∷ 9 ∷ []);
+  recovery = entered nothing 0 recovery;
+}
+
+-- with a copy of the original nothing is missing, and with another shard no message agrees
+abbrev pub SurplusRow : Type 0
+SurplusRow =
+    DecodeAnswers (surplus_given (7 ∷ 9 ∷ [])) (Ok nothing) × DecodeAnswers (surplus_given (7 ∷ 8 ∷ [])) (Err (InconsistentShards 1 1))

@@ -1,0 +1,71 @@
+//! Worked examples: what the definitions say at small numbers, as contracts of functions that do nothing.
+ghost use Rattle.rs_field.specs.code.Counts.{low_rate, high_rate, default_rate};
+ghost use Rattle.rs_field.specs.worked.Numbers.{Products, ColumnsOfShards, Powers, Supported, Unsupported, OfOneRate, Choices};
+ghost use Rattle.rs_field.specs.worked.Numbers.{Validated, Spaces, BlockRows, EncoderRows, DecoderRows, TransformOfTwo, StepBounds};
+ghost use Rattle.rs_field.specs.worked.Codes.{LowRows, HighRows, ShortLineRow, CubicRow, TailRow, ChunkAndTailRow, RestoredRow, MixtureRow, SurplusRow};
+ghost use Rattle.rs_field.specs.worked.Calls.{EncodeOrder, DecodeOrder, NoRecoveryOrder, EncoderRound, DecoderRound, LargestIndex, MemoryOrder};
+
+/// Products of words, and columns of shards with and without a tail.
+pub fn words()
+    ensures products { Products }
+    ensures columns { ColumnsOfShards }
+{}
+
+/// Which counts each rate supports, which rate the default rate is, and what is refused of a configuration.
+pub fn counts()
+    ensures powers { Powers }
+    ensures supported { Supported }
+    ensures unsupported { Unsupported }
+    ensures of_one_rate { OfOneRate }
+    ensures choices { Choices }
+    ensures validated { Validated }
+{}
+
+/// How many rows encoders and decoders have, and which spaces are too large.
+pub fn spaces()
+    ensures blocks { BlockRows }
+    ensures encoders { EncoderRows }
+    ensures decoders { DecoderRows }
+    ensures spaces { Spaces }
+{}
+
+/// How many steps calls may count.
+pub fn bounds()
+    ensures { StepBounds }
+{}
+
+/// A transform of two words.
+pub fn transforms()
+    ensures { TransformOfTwo }
+{}
+
+/// Recovery shards, with the polynomials that code their messages: at the low rate, at the high rate, and at the default
+/// rate, where k's power is the smaller those of the low rate, else those of the high.
+pub fn codes()
+    ensures low { LowRows low_rate }
+    ensures short_line { ShortLineRow low_rate }
+    ensures cubic { CubicRow low_rate }
+    ensures high { HighRows high_rate }
+    ensures default_low { LowRows default_rate }
+    ensures tail { TailRow }
+    ensures chunk_and_tail { ChunkAndTailRow }
+    ensures default_high { HighRows default_rate }
+{}
+
+/// Which messages agree with given shards.
+pub fn agreement()
+    ensures restored { RestoredRow }
+    ensures mixture { MixtureRow }
+    ensures surplus { SurplusRow }
+{}
+
+/// Which refusal comes first, and what a call leaves.
+pub fn refusals()
+    ensures encode { EncodeOrder }
+    ensures decode { DecodeOrder }
+    ensures no_recovery { NoRecoveryOrder }
+    ensures encoder { EncoderRound }
+    ensures decoder { DecoderRound }
+    ensures index { LargestIndex }
+    ensures memory { MemoryOrder }
+{}

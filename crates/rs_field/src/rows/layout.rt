@@ -1,0 +1,173 @@
+//! How a shard lies in a row of chunks of 64 bytes.
+//!
+//! Symbol s of a chunk has its low byte at byte s and its high byte at byte s + 32. Whole chunks of a shard lie as they
+//! are. A tail of L bytes lies in the last chunk: its first half from byte 0 on, its second half from byte 32 on. The
+//! other bytes of the last chunk are open.
+ghost use Rattle.std.specs.Prelude.{◌≡◌, ℕ, ◌+◌, ◌*◌, ◌%◌, ◌<◌, ◌≤◌, ◌↔◌, ◌⊎◌, length, slice_index, IsTrue, EachIndex};
+ghost use Rattle.rs_field.specs.rows.Layout.{row_len as chunks_for, laid_out, in_order, HasZeroColumns};
+ghost use Rattle.rs_field.specs.rows.Rows.{chunk};
+
+use std::simd::prelude::*;
+
+/// How many chunks a row of shards of this size has.
+pub fn row_len(shard_bytes: usize) -> usize
+    ensures { result ≡ chunks_for shard_bytes }
+{
+    shard_bytes.div_ceil(64)
+}
+
+/// Lays a shard into its row.
+pub fn insert(row: &mut [[u8; 64]], shard: &[u8])
+    requires room { length row.old ≡ chunks_for (length shard.now) }
+    requires even { length shard.now % 2 ≡ 0 }
+    ensures { laid_out (length shard.now) (λ k. chunk row.new k) ≡ shard.now }
+{
+    let whole = shard.len() / 64;
+    put_whole(row, shard, whole);
+    let half = shard.len() % 64 / 2;
+    if half > 0 {
+        put_tail(&mut row[whole], &shard[whole * 64..], half);
+    }
+}
+
+// The first chunks of a shard lie as they are.
+fn put_whole(row: &mut [[u8; 64]], shard: &[u8], whole: usize)
+    requires room { whole ≤ length row.old }
+    requires within { whole * 64 ≤ length shard.now }
+    ensures { (k b : ℕ) → k < whole → b < 64 → slice_index (chunk row.new k) b ≡ slice_index shard.now (k * 64 + b) }
+{
+    row[..whole].copy_from_slice(shard[..whole * 64].as_chunks().0);
+}
+
+// The halves of a tail lie from byte 0 and from byte 32 on. It isn't inlined: a loop over shards would work out beforehand
+// what it needs, also where no shard has a tail.
+#[inline(never)]
+fn put_tail(chunk: &mut [u8; 64], tail: &[u8], half: usize)
+    requires half { half ≤ 32 }
+    requires length { length tail.now ≡ 2 * half }
+    ensures low { (b : ℕ) → b < half → slice_index «chunk».new b ≡ slice_index tail.now b }
+    ensures high { (b : ℕ) → b < half → slice_index «chunk».new (32 + b) ≡ slice_index tail.now (half + b) }
+{
+    if half < 16 {
+        put_short_tail(chunk, tail, half);
+    } else {
+        put_long_tail(chunk, tail, half);
+    }
+}
+
+// By two copies of `half` bytes.
+fn put_short_tail(chunk: &mut [u8; 64], tail: &[u8], half: usize)
+    requires half { half ≤ 32 }
+    requires length { length tail.now ≡ 2 * half }
+    ensures low { (b : ℕ) → b < half → slice_index «chunk».new b ≡ slice_index tail.now b }
+    ensures high { (b : ℕ) → b < half → slice_index «chunk».new (32 + b) ≡ slice_index tail.now (half + b) }
+{
+    put_bytes(chunk, 0, &tail[..half]);
+    put_bytes(chunk, 32, &tail[half..]);
+}
+
+// By two moves of 32 bytes, which cost less than two of a length that is known only here: the last bytes of the tail end
+// where its second half is to end, and its first bytes end before that begins.
+fn put_long_tail(chunk: &mut [u8; 64], tail: &[u8], half: usize)
+    requires half { half ≤ 32 }
+    requires long { 16 ≤ half }
+    requires length { length tail.now ≡ 2 * half }
+    ensures low { (b : ℕ) → b < half → slice_index «chunk».new b ≡ slice_index tail.now b }
+    ensures high { (b : ℕ) → b < half → slice_index «chunk».new (32 + b) ≡ slice_index tail.now (half + b) }
+{
+    let first = load_32(&tail[..32]);
+    let last = load_32(&tail[2 * half - 32..]);
+    put_32(chunk, half, last);
+    put_32(chunk, 0, first);
+}
+
+// 32 bytes as a vector.
+#[inline(always)]
+fn load_32(bytes: &[u8]) -> u8x32
+    requires { length bytes.now ≡ 32 }
+    ensures { result ≡ bytes.now }
+{
+    u8x32::from_slice(bytes)
+}
+
+// These places hold the bytes of a vector.
+#[inline(always)]
+fn store_32(v: u8x32, places: &mut [u8])
+    requires { length places.old ≡ 32 }
+    ensures { places.new ≡ v }
+{
+    v.copy_to_slice(places);
+}
+
+// The bytes of a vector stand from byte `start` on.
+#[inline(always)]
+fn put_32(chunk: &mut [u8; 64], start: usize, v: u8x32)
+    requires { start ≤ 32 }
+    ensures here { (b : ℕ) → b < 32 → slice_index «chunk».new (start + b) ≡ slice_index v b }
+    ensures others { (b : ℕ) → (b < start) ⊎ (start + 32 ≤ b) → slice_index «chunk».new b ≡ slice_index «chunk».old b }
+{
+    store_32(v, &mut chunk[start..start + 32]);
+}
+
+// These bytes stand from byte `start` on.
+fn put_bytes(chunk: &mut [u8; 64], start: usize, bytes: &[u8])
+    requires { start + length bytes.now ≤ 64 }
+    ensures here { (b : ℕ) → b < length bytes.now → slice_index «chunk».new (start + b) ≡ slice_index bytes.now b }
+    ensures before { (b : ℕ) → b < start → slice_index «chunk».new b ≡ slice_index «chunk».old b }
+{
+    chunk[start..start + bytes.len()].copy_from_slice(bytes);
+}
+
+/// Moves the second half of a row's tail to the end of its first half, so that the shard lies in the row's first bytes.
+pub fn undo_last_chunk_encoding(row: &mut [[u8; 64]], shard_bytes: usize)
+    requires room { length row.old ≡ chunks_for shard_bytes }
+    requires even { shard_bytes % 2 ≡ 0 }
+    ensures { in_order shard_bytes (λ k. chunk row.new k) ≡ laid_out shard_bytes (λ k. chunk row.old k) }
+{
+    let half = shard_bytes % 64 / 2;
+    if half > 0 {
+        join_tail(&mut row[shard_bytes / 64], half);
+    }
+}
+
+// The bytes from byte 32 on move to the end of the first half: all 32 of them, since what follows the shard is open.
+fn join_tail(chunk: &mut [u8; 64], half: usize)
+    requires { half ≤ 32 }
+    ensures low { (b : ℕ) → b < half → slice_index «chunk».new b ≡ slice_index «chunk».old b }
+    ensures high { (b : ℕ) → b < half → slice_index «chunk».new (half + b) ≡ slice_index «chunk».old (32 + b) }
+{
+    let high = load_32(&chunk[32..]);
+    put_32(chunk, half, high);
+}
+
+/// The shard that lies in the first bytes of a row.
+pub fn shard_of(row: &[[u8; 64]], shard_bytes: usize) -> &[u8]
+    requires { length row.now ≡ chunks_for shard_bytes }
+    ensures { result.now ≡ in_order shard_bytes (λ k. chunk row.now k) }
+{
+    let bytes = row.as_flattened();
+    &bytes[..shard_bytes]
+}
+
+/// Whether a row is zero in each column that shards of this size have. The open bytes of the last chunk don't count.
+/// The row has as many chunks as such shards need.
+pub fn is_zero_row(row: &[[u8; 64]], shard_bytes: usize) -> bool
+    requires { length row.now ≡ chunks_for shard_bytes }
+    ensures { IsTrue result ↔ HasZeroColumns shard_bytes (λ k. chunk row.now k) }
+{
+    let bytes = row.as_flattened();
+    let tail = shard_bytes / 64 * 64;
+    let half = shard_bytes % 64 / 2;
+    are_zero(&bytes[..tail + half]) && (half == 0 || are_zero(&bytes[tail + 32..tail + 32 + half]))
+}
+
+// No way out before the last byte: so many bytes are taken at a time.
+fn are_zero(bytes: &[u8]) -> bool
+    ensures { IsTrue result ↔ EachIndex bytes.now (λ b. slice_index bytes.now b ≡ 0) }
+{
+    let mut bits = 0;
+    for byte in bytes {
+        bits |= *byte;
+    }
+    bits == 0
+}

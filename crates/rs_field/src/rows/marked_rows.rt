@@ -1,0 +1,67 @@
+//! Rows that are marked: those of a transform that are wanted, or that hold anything.
+ghost use Rattle.std.specs.Prelude.{◌≡◌, ℕ, ◌+◌, ◌-◌, ◌^◌, ◌<◌, ◌≤◌, true, false, length};
+ghost use Rattle.rs_field.specs.rows.MarkedRows.{is_marked, is_used, HasMarks};
+
+/// The rows of a block that are of use: of a forward transform those that are wanted, of a backward one those that may
+/// hold anything but zeros.
+#[derive(Clone, Copy)]
+pub enum UsedRows<'a> {
+    /// The first ones, so many.
+    First(usize),
+    /// Those that are marked.
+    Marked(&'a [bool]),
+}
+
+impl<'a> UsedRows<'a> {
+    /// Whether no row is used. Of marks it reads those up to the first used row.
+    pub fn are_none(self) -> bool
+        ensures none { result ≡ true → (i : ℕ) → is_used self.entry i ≡ false }
+        ensures some { result ≡ false → (i : ℕ) × (is_used self.entry i ≡ true) }
+    {
+        match self {
+            UsedRows::First(count) => count == 0,
+            UsedRows::Marked(marks) => !any_marked(marks),
+        }
+    }
+
+    /// Those among the `rows` rows from row `start` on. There are marks for all of these, if there are marks.
+    pub fn part(self, start: usize, rows: usize) -> UsedRows<'a>
+        requires end { start + rows < 2 ^ 64 }
+        requires marks { HasMarks self (start + rows) }
+        ensures marks { HasMarks result rows }
+        ensures used { (i : ℕ) → i < rows → is_used result i ≡ is_used self.entry (start + i) }
+    {
+        match self {
+            UsedRows::First(count) => UsedRows::First(count.saturating_sub(start)),
+            UsedRows::Marked(marks) => UsedRows::Marked(&marks[start..start + rows]),
+        }
+    }
+}
+
+// Whether any row is marked.
+fn any_marked(marks: &[bool]) -> bool
+    ensures none { result ≡ false → (i : ℕ) → is_marked marks.now i ≡ false }
+    ensures some { result ≡ true → (i : ℕ) × (is_marked marks.now i ≡ true) }
+{
+    for i in 0..marks.len() {
+        if marks[i] {
+            return true;
+        }
+    }
+    false
+}
+
+/// The number of the rows up to the last marked one.
+pub fn marked_end(marks: &[bool]) -> usize
+    ensures within { result ≤ length marks.now }
+    ensures past { (i : ℕ) → result ≤ i → is_marked marks.now i ≡ false }
+    ensures last { 0 < result → is_marked marks.now (result - 1) ≡ true }
+{
+    let mut end = 0;
+    for i in 0..marks.len() {
+        if marks[i] {
+            end = i + 1;
+        }
+    }
+    end
+}

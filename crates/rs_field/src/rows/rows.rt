@@ -1,0 +1,91 @@
+//! Row functions that count their steps: clearing, copying and products.
+ghost use Rattle.std.specs.Prelude.{◌≡◌, ℕ, ◌+◌, ◌-◌, ◌<◌, ◌≤◌, length};
+ghost use Rattle.rs_field.specs.words.Field.{product, power};
+ghost use Rattle.rs_field.specs.rows.Rows.{chunk, symbol, SameOutside};
+ghost use Rattle.rs_field.specs.rows.View.{cell, word, Fits, SameShape, SameRowsOutside, AreZero};
+ghost use Rattle.rs_field.specs.words.StepBounds.{CountsRows, RowProductCounts};
+
+use super::ShardsRefMut;
+use crate::engine::Engine;
+use crate::words::{GfElement, Steps};
+
+/// Rows `start` to `end - 1` become zero bytes; a row step each.
+pub fn clear_rows(steps: &mut Steps, data: &mut ShardsRefMut<'_>, start: usize, end: usize)
+    requires fits { Fits «data».old }
+    requires ordered { start ≤ end }
+    requires within { end ≤ «data».old.shard_count }
+    ensures shape { SameShape «data».old «data».new }
+    ensures zeros { AreZero start end «data».new }
+    ensures others { SameRowsOutside start end «data».old «data».new }
+    ensures counts { CountsRows (end - start) steps.old steps.new }
+{
+    steps.row_steps(end - start);
+    data.zero(start..end);
+}
+
+/// Rows `to` to `to + count - 1` become those from `from` on; a row step each.
+pub fn copy_rows(
+    steps: &mut Steps,
+    data: &mut ShardsRefMut<'_>,
+    from: usize,
+    to: usize,
+    count: usize,
+)
+    requires fits { Fits «data».old }
+    requires apart { from + count ≤ to }
+    requires within { to + count ≤ «data».old.shard_count }
+    ensures shape { SameShape «data».old «data».new }
+    ensures copied { (i k : ℕ) → k < «data».old.shard_len_64 → i < count → cell «data».new k (to + i) ≡ cell «data».old k (from + i) }
+    ensures others { SameRowsOutside to (to + count) «data».old «data».new }
+    ensures counts { CountsRows count steps.old steps.new }
+{
+    steps.row_steps(count);
+    let len = data.shard_len_64;
+    copy_part(data.chunks, from * len, to * len, count * len);
+}
+
+// The n chunks from `to` on become those from `from` on.
+fn copy_part(chunks: &mut [[u8; 64]], from: usize, to: usize, n: usize)
+    requires from_in { from + n ≤ length chunks.old }
+    requires to_in { to + n ≤ length chunks.old }
+    ensures copied { (k : ℕ) → k < n → chunk chunks.new (to + k) ≡ chunk chunks.old (from + k) }
+    ensures others { SameOutside to (to + n) chunks.old chunks.new }
+{
+    chunks.copy_within(from..from + n, to);
+}
+
+/// Multiplies row `index` by the generator to the power `log_m`, by the engine; 65535 is the factor one.
+pub fn mul_row<E: Engine>(
+    engine: &E,
+    steps: &mut Steps,
+    data: &mut ShardsRefMut<'_>,
+    index: usize,
+    log_m: GfElement,
+)
+    requires fits { Fits «data».old }
+    requires within { index < «data».old.shard_count }
+    ensures shape { SameShape «data».old «data».new }
+    ensures products { (k s : ℕ) → k < «data».old.shard_len_64 → s < 32 → word «data».new k s index ≡ product (word «data».old k s index) (power log_m) }
+    ensures others { SameRowsOutside index (index + 1) «data».old «data».new }
+    ensures counts { RowProductCounts steps.old steps.new }
+{
+    let len = data.shard_len_64;
+    mul_part(engine, steps, data.chunks, index * len, len, log_m);
+}
+
+// Multiplies the n chunks from a on.
+fn mul_part<E: Engine>(
+    engine: &E,
+    steps: &mut Steps,
+    chunks: &mut [[u8; 64]],
+    a: usize,
+    n: usize,
+    log_m: GfElement,
+)
+    requires { a + n ≤ length chunks.old }
+    ensures products { (k s : ℕ) → k < n → s < 32 → symbol (chunk chunks.new (a + k)) s ≡ product (symbol (chunk chunks.old (a + k)) s) (power log_m) }
+    ensures others { SameOutside a (a + n) chunks.old chunks.new }
+    ensures counts { RowProductCounts steps.old steps.new }
+{
+    engine.mul(steps, &mut chunks[a..a + n], log_m);
+}

@@ -1,0 +1,256 @@
+//! Rows of chunks of 64 bytes, lent from one slice.
+ghost use Rattle.std.specs.Prelude.{◌≡◌, ℕ, ◌+◌, ◌-◌, ◌*◌, ◌<◌, ◌≤◌, ◌↔◌, length, take, drop, replicate, IsTrue};
+ghost use Rattle.std.specs.Borrow.{sem};
+ghost use Rattle.rs_field.specs.rows.Rows.{chunk, SameOutside};
+ghost use Rattle.rs_field.specs.rows.View.{row_at, Fits, SameShape, SameRowsOutside, AreZero, HasRows, IsListOf};
+ghost use Rattle.rs_field.specs.rows.Lending.{LendsAll, LendsPart, LendsRow, LendsTwoParts, LendsTwoRows, LendsFourParts, LendsFourRows, LendsHalves};
+
+use std::cell::UnsafeCell;
+use std::ops::Range;
+
+/// A list of rows of equal length, each a list of chunks of 64 bytes, over one lent slice.
+#[derive(Drop)]
+pub struct ShardsRefMut<'a> {
+    pub(crate) shard_count: usize,
+    pub(crate) shard_len_64: usize,
+    pub(crate) chunks: &'a mut [[u8; 64]],
+    // It takes no bytes. With it the checker reads from a row's loan what becomes of the list.
+    marker: UnsafeCell<()>,
+}
+
+impl<'a> ShardsRefMut<'a> {
+    /// The first `shard_count * shard_len_64` chunks of `data` as rows of `shard_len_64` chunks. Further data stays
+    /// as it is.
+    pub fn new(
+        shard_count: usize,
+        shard_len_64: usize,
+        data: &'a mut [[u8; 64]],
+    ) -> ShardsRefMut<'a>
+        requires { shard_count * shard_len_64 ≤ length «data».old }
+        ensures name { result.chunks.ghost_name ≡ «data».entry.ghost_name }
+        ensures chunks { result.chunks.now ≡ «data».old }
+        ensures count { result.shard_count ≡ shard_count }
+        ensures len_64 { result.shard_len_64 ≡ shard_len_64 }
+    {
+        ShardsRefMut {
+            shard_count,
+            shard_len_64,
+            chunks: data,
+            marker: UnsafeCell::new(()),
+        }
+    }
+
+    /// How many rows there are.
+    pub fn len(&self) -> usize
+        ensures { result ≡ self.now.shard_count }
+    {
+        self.shard_count
+    }
+
+    /// Whether there is no row.
+    pub fn is_empty(&self) -> bool
+        ensures { IsTrue result ↔ (self.now.shard_count ≡ 0) }
+    {
+        self.len() == 0
+    }
+
+    /// Rows `pos` and `pos + dist`, to be written: what is written to each stands in the list afterwards, and every
+    /// other row is unchanged. `dist` is not 0, and both rows are in the list.
+    pub fn dist2_mut(&mut self, pos: usize, dist: usize) -> (&mut [[u8; 64]], &mut [[u8; 64]])
+        requires fits { Fits self.old }
+        requires apart { 0 < dist }
+        requires within { pos + dist < self.old.shard_count }
+        ensures* lends { sem 𝓛 (LendsTwoRows self.entry pos (pos + dist) result) }
+        ensures first { result.0.now ≡ row_at self.old pos }
+        ensures second { result.1.now ≡ row_at self.old (pos + dist) }
+    {
+        let len = self.shard_len_64;
+        let a = pos * len;
+        let b = (pos + dist) * len;
+        self.two_parts(a, len, b, len)
+    }
+
+    /// Rows `pos`, `pos + dist`, `pos + 2 * dist` and `pos + 3 * dist`, to be written: what is written to each stands
+    /// in the list afterwards, and every other row is unchanged. `dist` is not 0, and the four rows are in the list.
+    pub fn dist4_mut(
+        &mut self,
+        pos: usize,
+        dist: usize,
+    ) -> (
+        &mut [[u8; 64]],
+        &mut [[u8; 64]],
+        &mut [[u8; 64]],
+        &mut [[u8; 64]],
+    )
+        requires fits { Fits self.old }
+        requires apart { 0 < dist }
+        requires within { pos + 3 * dist < self.old.shard_count }
+        ensures* lends { sem 𝓛 (LendsFourRows self.entry pos (pos + dist) (pos + 2 * dist) (pos + 3 * dist) result) }
+        ensures first { result.0.now ≡ row_at self.old pos }
+        ensures second { result.1.now ≡ row_at self.old (pos + dist) }
+        ensures third { result.2.now ≡ row_at self.old (pos + 2 * dist) }
+        ensures fourth { result.3.now ≡ row_at self.old (pos + 3 * dist) }
+    {
+        let len = self.shard_len_64;
+        let first = pos * len;
+        let second = (pos + dist) * len;
+        let third = (pos + 2 * dist) * len;
+        let fourth = (pos + 3 * dist) * len;
+        self.four_parts(first, second, third, fourth, len)
+    }
+
+    /// The rows before `mid`, and those from `mid` on, as two lists: what becomes of each stands in this list
+    /// afterwards, and all that lies past the rows is unchanged. `mid` is at most the number of rows.
+    pub fn split_at_mut(&mut self, mid: usize) -> (ShardsRefMut<'_>, ShardsRefMut<'_>)
+        requires fits { Fits self.old }
+        requires within { mid ≤ self.old.shard_count }
+        ensures* lends { sem 𝓛 (LendsHalves self.entry mid result) }
+        ensures first { HasRows self.old 0 mid result.0 }
+        ensures second { HasRows self.old mid (self.old.shard_count - mid) result.1 }
+    {
+        let len = self.shard_len_64;
+        let rest = self.shard_count - mid;
+        let a = mid * len;
+        two_lists(self.two_parts(0, a, a, rest * len), mid, rest, len)
+    }
+
+    /// The rows of the range become zero bytes. It ends no earlier than it starts, and at most at the number of rows.
+    pub fn zero(&mut self, range: Range<usize>)
+        requires fits { Fits self.old }
+        requires ordered { range.start ≤ range.end }
+        requires within { range.end ≤ self.old.shard_count }
+        ensures shape { SameShape self.old self.new }
+        ensures zeros { AreZero range.start range.end self.new }
+        ensures others { SameRowsOutside range.start range.end self.old self.new }
+    {
+        let len = self.shard_len_64;
+        zero_part(self.chunks, range.start * len, range.end * len);
+    }
+
+    /// Row `index`, which is in the list.
+    pub fn row(&self, index: usize) -> &[[u8; 64]]
+        requires fits { Fits self.now }
+        requires within { index < self.now.shard_count }
+        ensures { result.now ≡ row_at self.now index }
+    {
+        let start = index * self.shard_len_64;
+        &self.chunks[start..start + self.shard_len_64]
+    }
+
+    /// Row `index`, to be written: what is written stands in the list afterwards, and every other row is unchanged.
+    /// The row is in the list.
+    pub fn row_mut(&mut self, index: usize) -> &mut [[u8; 64]]
+        requires fits { Fits self.old }
+        requires within { index < self.old.shard_count }
+        ensures* lends { sem 𝓛 (LendsRow self.entry index result) }
+        ensures now { result.now ≡ row_at self.old index }
+    {
+        let len = self.shard_len_64;
+        self.part(index * len, len)
+    }
+
+    // All chunks, as their own loan.
+    fn all(&mut self) -> &mut [[u8; 64]]
+        ensures* lends { sem 𝓛 (LendsAll self.entry result) }
+        ensures now { result.now ≡ self.old.chunks.now }
+    {
+        &mut *self.chunks
+    }
+
+    // The n chunks from a on, by the list's pointer: the checker doesn't follow a loan through `split_at_mut`.
+    fn part(&mut self, a: usize, n: usize) -> &mut [[u8; 64]]
+        requires { a + n ≤ length self.old.chunks.now }
+        ensures* lends { sem 𝓛 (LendsPart self.entry a n result) }
+        ensures now { result.now ≡ take n (drop a self.old.chunks.now) }
+    {
+        let all = self.all();
+        let p = all.as_mut_ptr();
+        unsafe { std::slice::from_raw_parts_mut(p.add(a), n) }
+    }
+
+    // The n chunks from a on, and the m chunks from b on.
+    fn two_parts(
+        &mut self,
+        a: usize,
+        n: usize,
+        b: usize,
+        m: usize,
+    ) -> (&mut [[u8; 64]], &mut [[u8; 64]])
+        requires apart { a + n ≤ b }
+        requires within { b + m ≤ length self.old.chunks.now }
+        ensures* lends { sem 𝓛 (LendsTwoParts self.entry a n b m result) }
+        ensures value { (result.0.now ≡ take n (drop a self.old.chunks.now)) × (result.1.now ≡ take m (drop b self.old.chunks.now)) }
+    {
+        let all = self.all();
+        let p = all.as_mut_ptr();
+        unsafe {
+            (
+                std::slice::from_raw_parts_mut(p.add(a), n),
+                std::slice::from_raw_parts_mut(p.add(b), m),
+            )
+        }
+    }
+
+    // The n chunks from each of four places on.
+    fn four_parts(
+        &mut self,
+        a: usize,
+        b: usize,
+        c: usize,
+        d: usize,
+        n: usize,
+    ) -> (
+        &mut [[u8; 64]],
+        &mut [[u8; 64]],
+        &mut [[u8; 64]],
+        &mut [[u8; 64]],
+    )
+        requires apart { (a + n ≤ b) × (b + n ≤ c) × (c + n ≤ d) }
+        requires within { d + n ≤ length self.old.chunks.now }
+        ensures* lends { sem 𝓛 (LendsFourParts self.entry a b c d n result) }
+        ensures value { let part = λ (start : ℕ). take n (drop start self.old.chunks.now) in
+            (result.0.now ≡ part a) × (result.1.now ≡ part b) × (result.2.now ≡ part c) × (result.3.now ≡ part d) }
+    {
+        let all = self.all();
+        let p = all.as_mut_ptr();
+        unsafe {
+            (
+                std::slice::from_raw_parts_mut(p.add(a), n),
+                std::slice::from_raw_parts_mut(p.add(b), n),
+                std::slice::from_raw_parts_mut(p.add(c), n),
+                std::slice::from_raw_parts_mut(p.add(d), n),
+            )
+        }
+    }
+}
+
+// The chunks of each part, as rows.
+fn two_lists<'a>(
+    parts: (&'a mut [[u8; 64]], &'a mut [[u8; 64]]),
+    count: usize,
+    rest: usize,
+    len: usize,
+) -> (ShardsRefMut<'a>, ShardsRefMut<'a>)
+    requires first { count * len ≤ length parts.0.now }
+    requires second { rest * len ≤ length parts.1.now }
+    ensures first { IsListOf result.0 parts.entry.0 count len }
+    ensures second { IsListOf result.1 parts.entry.1 rest len }
+{
+    let (first, second) = parts;
+    (
+        ShardsRefMut::new(count, len, first),
+        ShardsRefMut::new(rest, len, second),
+    )
+}
+
+// The chunks from start to end - 1 become zero bytes.
+fn zero_part(chunks: &mut [[u8; 64]], start: usize, end: usize)
+    requires ordered { start ≤ end }
+    requires within { end ≤ length chunks.old }
+    ensures zeros { (k : ℕ) → start ≤ k → k < end → chunk chunks.new k ≡ replicate 64 0 }
+    ensures others { SameOutside start end chunks.old chunks.new }
+{
+    for i in start..end {
+        chunks[i] = [0; 64];
+    }
+}

@@ -1,0 +1,148 @@
+//! The transforms that engines share: one passage over blocks, cosets and unused rows, around layers of butterflies.
+//!
+//! The method is that of Lin, Chung and Han in the form of Leopard-RS. A transform is two layers of butterflies between the
+//! quarters of its rows and a transform of each quarter, or, of 2, 8 and 32 rows, one layer between the halves and a
+//! transform of each half. So the recursion goes depth first, and a block that fits the cache stays in it.
+ghost use Rattle.std.specs.Prelude.{◌≡◌, ℕ, ◌+◌, ◌%◌, ◌^◌, ◌<◌, ◌≤◌, Bool, length, slice_index};
+ghost use Rattle.rs_field.specs.rows.Directions.{AreTransformed, ArePartsTransformed, UnusedAreZeroBackward, PartCounts};
+ghost use Rattle.rs_field.specs.rows.Rows.{chunk, symbol};
+ghost use Rattle.rs_field.specs.rows.View.{word, Fits, SameShape, SameRowsOutside};
+ghost use Rattle.rs_field.specs.rows.MarkedRows.{is_used, HasMarks};
+ghost use Rattle.rs_field.specs.words.StepBounds.{TransformCounts};
+ghost use Rattle.rs_field.specs.words.Inverse.{TransformsAreInverse};
+
+use super::ShardsRefMut;
+use super::block::Block;
+use super::kernel::Kernel;
+use super::layers::{Direction, layers};
+use super::marked_rows::UsedRows;
+use crate::words::Steps;
+
+/// A symbol is a word, as its bytes are bytes. This and the two functions below do nothing when they run: they tell the
+/// checker so where nothing else does.
+pub fn row_symbols_are_words(rows: &ShardsRefMut<'_>)
+    requires { Fits rows.now }
+    ensures { (k s i : ℕ) → k < rows.now.shard_len_64 → s < 32 → i < rows.now.shard_count → word rows.now k s i < 65536 }
+{
+    symbols_are_words(rows.chunks);
+}
+
+fn symbols_are_words(chunks: &[[u8; 64]])
+    ensures { (k s : ℕ) → k < length chunks.now → s < 32 → symbol (chunk chunks.now k) s < 65536 }
+{
+    bytes_are_small(chunks.as_flattened());
+}
+
+fn bytes_are_small(bytes: &[u8])
+    ensures { (j : ℕ) → slice_index bytes.now j < 256 }
+{}
+
+// The transform of two or four rows: the layers leave parts of one row, and there is no more to do.
+fn transform_few<K: Kernel>(
+    direction: Direction,
+    kernel: &K,
+    steps: &mut Steps,
+    rows: &mut ShardsRefMut<'_>,
+    block: Block,
+)
+    requires fits { Fits rows.old }
+    requires large { 1 < block.size }
+    requires few { block.size ≤ 4 }
+    requires within { block.pos + block.size ≤ rows.old.shard_count }
+    ensures shape { SameShape rows.old rows.new }
+    ensures others { SameRowsOutside block.pos (block.pos + block.size) rows.old rows.new }
+    ensures values { (k s : ℕ) → k < rows.old.shard_len_64 → s < 32 → (used : ℕ → Bool)
+        → AreTransformed direction used block.size block.skew_delta (λ q. word rows.old k s (block.pos + q)) (λ q. word rows.new k s (block.pos + q)) }
+    ensures counts { TransformCounts block.size steps.old steps.new }
+{
+    row_symbols_are_words(rows);
+    layers(direction, kernel, steps, rows, block);
+    row_symbols_are_words(rows);
+}
+
+/// The transform of a block in a direction, by an engine's butterflies. At most `size / 2` of them are counted for each
+/// layer, and rows outside are unchanged.
+///
+/// Forward, row i of it, where it is used, becomes the sum over q of the old row q times the basis polynomial q at the
+/// point `skew_delta + i`; the rows that aren't used are open. Backward, the rows become those whose forward transform they
+/// were; those that aren't used are zero when the call begins.
+#[cycle(transform)]
+pub(crate) fn transform<K: Kernel>(
+    direction: Direction,
+    kernel: &K,
+    steps: &mut Steps,
+    rows: &mut ShardsRefMut<'_>,
+    block: Block,
+    used: UsedRows<'_>,
+)
+    requires fits { Fits rows.old }
+    requires marks { HasMarks used block.size }
+    requires within { block.pos + block.size ≤ rows.old.shard_count }
+    requires zeros { UnusedAreZeroBackward direction used block.pos block.size rows.old }
+    ensures shape { SameShape rows.old rows.new }
+    ensures others { SameRowsOutside block.pos (block.pos + block.size) rows.old rows.new }
+    ensures values { (k s : ℕ) → k < rows.old.shard_len_64 → s < 32
+        → AreTransformed direction (is_used used.entry) block.size block.skew_delta
+        (λ q. word rows.old k s (block.pos + q)) (λ q. word rows.new k s (block.pos + q)) }
+    ensures counts { TransformCounts block.size steps.old steps.new }
+{
+    if used.are_none() {
+        return;
+    }
+    if block.size < 2 {
+        row_symbols_are_words(rows);
+    } else if block.size <= 4 {
+        transform_few(direction, kernel, steps, rows, block);
+    } else {
+        match direction {
+            Direction::Forward => {
+                layers(direction, kernel, steps, rows, block);
+                transform_parts(direction, kernel, steps, rows, block, used);
+            }
+            Direction::Backward => {
+                transform_parts(direction, kernel, steps, rows, block, used);
+                layers(direction, kernel, steps, rows, block);
+            }
+        }
+    }
+}
+
+// The transforms of the parts that the layers of a block leave. Inlined: short rows take little longer than a call.
+#[inline(always)]
+#[cycle(transform)]
+fn transform_parts<K: Kernel>(
+    direction: Direction,
+    kernel: &K,
+    steps: &mut Steps,
+    rows: &mut ShardsRefMut<'_>,
+    block: Block,
+    used: UsedRows<'_>,
+)
+    requires fits { Fits rows.old }
+    requires large { 1 < block.size }
+    requires marks { HasMarks used block.size }
+    requires within { block.pos + block.size ≤ rows.old.shard_count }
+    requires zeros { UnusedAreZeroBackward direction used block.pos block.size rows.old }
+    ensures shape { SameShape rows.old rows.new }
+    ensures others { SameRowsOutside block.pos (block.pos + block.size) rows.old rows.new }
+    ensures parts { ArePartsTransformed direction (is_used used.entry) block rows.old rows.new }
+    ensures counts { PartCounts block.size steps.old steps.new }
+{
+    let part = block.part_rows();
+    for j in 0..block.size / part {
+        transform(
+            direction,
+            kernel,
+            steps,
+            rows,
+            block.part(j, part),
+            used.part(j * part, part),
+        );
+    }
+}
+
+/// The forward and the backward transform at one shift undo each other: where rows are those whose forward transform
+/// some rows were, their forward transform gives those back, and the other way round.
+pub fn transform_laws()
+    ensures { TransformsAreInverse }
+{}

@@ -1,0 +1,33 @@
+//! Words: constants of the field, tables, the locator, the count of steps. Of the rest it uses the refusal for want of memory alone.
+mod fwht;
+pub mod lent_tables;
+pub mod locating;
+mod mul128;
+mod mul16;
+mod powers;
+mod steps;
+pub mod tables;
+mod walsh_lanes;
+
+pub use steps::Steps;
+
+/// An element of the field: a word of 16 coordinates.
+pub type GfElement = u16;
+
+/// The coordinates of an element.
+pub const GF_BITS: usize = 16;
+
+/// The elements of the field.
+pub const GF_ORDER: usize = 65536;
+
+/// The nonzero elements of the field, and the modulus of their logarithms.
+pub const GF_MODULUS: GfElement = 65535;
+
+/// The polynomial that products of bits are reduced by.
+pub const GF_POLYNOMIAL: usize = 0x1002D;
+
+/// What the words 1, 2, 4, .., 0x8000 stand for, each as the word of its bits.
+pub const CANTOR_BASIS: [GfElement; GF_BITS] = [
+    0x0001, 0xACCA, 0x3C0E, 0x163E, 0xC582, 0xED2E, 0x914C, 0x4012, 0x6C98, 0x10D8, 0x6A72, 0xB900,
+    0xFDB8, 0xFB34, 0xFF38, 0x991E,
+];

@@ -1,0 +1,150 @@
+//! The Walsh-Hadamard transform modulo 65535.
+ghost use Rattle.std.specs.Prelude.{◌≡◌, ℕ, ◌+◌, ◌*◌, ◌%◌, ◌^◌, ◌<◌, ◌≤◌, length, slice_index};
+ghost use Rattle.rs_field.specs.words.Walsh.{IsWalsh, IsFourSums};
+ghost use Rattle.rs_field.specs.words.StepBounds.{CountsPairs, WalshCounts};
+
+use super::walsh_lanes::walsh_64;
+use super::{GfElement, Steps};
+
+// The sum modulo 65535, as `add_mod`: the larger of the sum without its carry, which is right up to 65535, and of the
+// sum less 65535, which is 0 up to there and right above. So a loop over entries becomes vector code without a choice.
+#[inline(always)]
+pub(crate) fn lane_sum(x: GfElement, y: GfElement) -> GfElement
+    ensures { result % 65535 ≡ (x + y) % 65535 }
+{
+    x.wrapping_add(y).max(x.saturating_sub(!y))
+}
+
+// The residue modulo 65535, where 0 and 65535 both stand for zero.
+#[inline(always)]
+pub(crate) fn residue(n: u32) -> GfElement
+    ensures { result % 65535 ≡ n % 65535 }
+{
+    lane_sum((n & 0xFFFF) as u16, (n >> 16) as u16)
+}
+
+// The difference modulo 65535, where 0 and 65535 both stand for zero; 65534 is minus one.
+#[inline(always)]
+fn sub_mod(x: GfElement, y: GfElement) -> GfElement
+    ensures { result % 65535 ≡ (x + 65534 * y) % 65535 }
+{
+    lane_sum(x, !y)
+}
+
+// The sum and the difference modulo 65535.
+#[inline(always)]
+fn pair_sum(steps: &mut Steps, x: GfElement, y: GfElement) -> (GfElement, GfElement)
+    ensures sum { result.0 % 65535 ≡ (x + y) % 65535 }
+    ensures difference { result.1 % 65535 ≡ (x + 65534 * y) % 65535 }
+    ensures counts { CountsPairs 1 steps.old steps.new }
+{
+    steps.pair_sum();
+    (lane_sum(x, y), sub_mod(x, y))
+}
+
+// Two layers: sums and differences of entries 0 and 1 and of entries 2 and 3, and then of what became of 0 and 2 and of
+// 1 and 3.
+#[inline(always)]
+fn four_sums(steps: &mut Steps, entries: [GfElement; 4]) -> [GfElement; 4]
+    ensures values { IsFourSums (slice_index entries 0) (slice_index entries 1) (slice_index entries 2) (slice_index entries 3)
+        (slice_index result 0) (slice_index result 1) (slice_index result 2) (slice_index result 3) }
+    ensures counts { CountsPairs 4 steps.old steps.new }
+{
+    let [a, b, c, d] = entries;
+    let (low_sum, low_difference) = pair_sum(steps, a, b);
+    let (high_sum, high_difference) = pair_sum(steps, c, d);
+    let (first, third) = pair_sum(steps, low_sum, high_sum);
+    let (second, fourth) = pair_sum(steps, low_difference, high_difference);
+    [first, second, third, fourth]
+}
+
+// The same for four quarters, entry by entry: one load and one store of each, where layer by layer there are two.
+#[inline(always)]
+fn quarter_sums(
+    steps: &mut Steps,
+    x0: &mut [GfElement],
+    x1: &mut [GfElement],
+    x2: &mut [GfElement],
+    x3: &mut [GfElement],
+)
+    requires one { length x0.old ≡ length x1.old }
+    requires two { length x0.old ≡ length x2.old }
+    requires three { length x0.old ≡ length x3.old }
+    ensures sums { (i : ℕ) → i < length x0.old
+        → IsFourSums (slice_index x0.old i) (slice_index x1.old i) (slice_index x2.old i) (slice_index x3.old i)
+        (slice_index x0.new i) (slice_index x1.new i) (slice_index x2.new i) (slice_index x3.new i) }
+    ensures counts { CountsPairs (4 * length x0.old) steps.old steps.new }
+{
+    for i in 0..x0.len() {
+        [x0[i], x1[i], x2[i], x3[i]] = four_sums(steps, [x0[i], x1[i], x2[i], x3[i]]);
+    }
+}
+
+// One layer, entry by entry: the sums of two halves, and their differences.
+#[inline(always)]
+fn half_sums(steps: &mut Steps, x0: &mut [GfElement], x1: &mut [GfElement])
+    requires { length x0.old ≡ length x1.old }
+    ensures sums { (i : ℕ) → i < length x0.old → slice_index x0.new i % 65535 ≡ (slice_index x0.old i + slice_index x1.old i) % 65535 }
+    ensures differences { (i : ℕ) → i < length x0.old
+        → slice_index x1.new i % 65535 ≡ (slice_index x0.old i + 65534 * slice_index x1.old i) % 65535 }
+    ensures counts { CountsPairs (length x0.old) steps.old steps.new }
+{
+    for i in 0..x0.len() {
+        (x0[i], x1[i]) = pair_sum(steps, x0[i], x1[i]);
+    }
+}
+
+// The transform of 128 entries, of which both halves are done in lanes: so are the quarters of 512 entries, and so on.
+fn walsh_128(steps: &mut Steps, data: &mut [GfElement])
+    requires { length «data».old ≡ 128 }
+    ensures values { IsWalsh 128 (λ y. slice_index «data».old y) (λ w. slice_index «data».new w) }
+    ensures counts { CountsPairs 448 steps.old steps.new }
+{
+    let (low, high) = data.split_at_mut(64);
+    walsh_64(steps, low);
+    walsh_64(steps, high);
+    half_sums(steps, low, high);
+}
+
+/// The Walsh-Hadamard transform modulo 65535: entry w becomes the sum of all entries y, with a minus sign where w and
+/// y have an odd number of set bits in common.
+///
+/// There are a power of two of entries, at most 65536, and those from `truncated` on are 0. Of a new entry the residue
+/// alone is fixed: 0 and 65535 both stand for zero. At most half the number of entries times its logarithm pair sums
+/// are counted. The transform is that of Leopard-RS, two layers at a time, quarter by quarter.
+pub fn fwht(steps: &mut Steps, data: &mut [GfElement], truncated: usize)
+    requires power { (d : ℕ) × (length «data».old ≡ 2 ^ d) }
+    requires size { length «data».old ≤ 65536 }
+    requires tail { (y : ℕ) → truncated ≤ y → y < length «data».old → slice_index «data».old y ≡ 0 }
+    ensures values { IsWalsh (length «data».old) (λ y. slice_index «data».old y) (λ w. slice_index «data».new w) }
+    ensures counts { WalshCounts (length «data».old) steps.old steps.new }
+{
+    let n = data.len();
+    if n == 64 {
+        walsh_64(steps, data);
+    } else if n == 128 {
+        walsh_128(steps, data);
+    } else if n == 2 {
+        let (sum, difference) = pair_sum(steps, data[0], data[1]);
+        data[0] = sum;
+        data[1] = difference;
+    } else if n > 2 && truncated > 0 {
+        let quarter = n / 4;
+        let (low, high) = data.split_at_mut(n / 2);
+        let (x0, x1) = low.split_at_mut(quarter);
+        let (x2, x3) = high.split_at_mut(quarter);
+        fwht(steps, x0, truncated);
+        if truncated <= quarter {
+            // The other quarters are all zero and need no transform: all sums and all differences are the first one's
+            // entries.
+            x1.copy_from_slice(x0);
+            x2.copy_from_slice(x0);
+            x3.copy_from_slice(x0);
+        } else {
+            fwht(steps, x1, truncated - quarter);
+            fwht(steps, x2, truncated.saturating_sub(2 * quarter));
+            fwht(steps, x3, truncated.saturating_sub(3 * quarter));
+            quarter_sums(steps, x0, x1, x2, x3);
+        }
+    }
+}

@@ -1,0 +1,37 @@
+//! The tables that transforms and locators read, lent by whoever holds them.
+ghost use Rattle.std.specs.Prelude.{◌≡◌, ◌^◌, ◌≤◌, ℕ};
+ghost use Rattle.rs_field.specs.words.Tables.{IsLogWalsh, IsLogWalshBelow, AreLogWalshes, IsSkew};
+
+use super::tables::{LogWalsh, Skew};
+use super::{GF_ORDER, GfElement};
+
+/// The tables that transforms and locators read, lent.
+#[derive(Clone, Copy)]
+pub struct LentTables<'t> {
+    /// The factors of the butterflies.
+    pub skew: Skew<'t>,
+    /// The transforms of the logarithms of the words below each power of two, one behind the other.
+    pub log_walsh: &'t [GfElement],
+    pub ghost skew_entries: { IsSkew skew.now },
+    pub ghost log_walsh_entries: { AreLogWalshes log_walsh.now },
+}
+
+impl<'t> LentTables<'t> {
+    /// The transform of all 65536 logarithms.
+    #[inline(always)]
+    pub fn log_walsh(self) -> LogWalsh<'t>
+        ensures { IsLogWalsh result.now }
+    {
+        self.log_walsh_below(GF_ORDER)
+    }
+
+    /// The transform of the logarithms of the words below `points`, each times 65536 / `points`.
+    #[inline(always)]
+    pub fn log_walsh_below(self, points: usize) -> LogWalsh<'t>
+        requires power { (d : ℕ) × (points ≡ 2 ^ d) }
+        requires few { points ≤ 65536 }
+        ensures { IsLogWalshBelow points result.now }
+    {
+        &self.log_walsh[points - 1..2 * points - 1]
+    }
+}

@@ -1,0 +1,91 @@
+//! The locator of marked points, at all points or at the first ones.
+ghost use Rattle.std.specs.Prelude.{◌≡◌, ℕ, ◌*◌, ◌%◌, ◌^◌, ◌<◌, ◌≤◌, length, slice_index};
+ghost use Rattle.rs_field.specs.words.StepBounds.{CountsProducts, LocatorCounts, LocatorCountsBelow};
+ghost use Rattle.rs_field.specs.words.Locator.{IsLocator, IsLocatorBelow};
+ghost use Rattle.rs_field.specs.words.Tables.{IsLogWalsh, IsLogWalshBelow};
+
+use super::fwht::{fwht, residue};
+use super::tables::LogWalsh;
+use super::{GfElement, Steps};
+
+// The product modulo 65535, where 0 and 65535 both stand for zero.
+#[inline(always)]
+fn product_step(steps: &mut Steps, x: GfElement, y: GfElement) -> GfElement
+    ensures product { result % 65535 ≡ x * y % 65535 }
+    ensures counts { CountsProducts 1 steps.old steps.new }
+{
+    steps.product();
+    residue(u32::from(x) * u32::from(y))
+}
+
+// Each entry becomes its product with the factor at the same place.
+fn products(steps: &mut Steps, entries: &mut [GfElement], factors: &[GfElement])
+    requires { length entries.old ≡ length factors.now }
+    ensures products { (i : ℕ) → i < length entries.old → slice_index entries.new i % 65535 ≡ slice_index entries.old i * slice_index factors.now i % 65535 }
+    ensures counts { CountsProducts (length entries.old) steps.old steps.new }
+{
+    for i in 0..entries.len() {
+        entries[i] = product_step(steps, entries[i], factors[i]);
+    }
+}
+
+/// The locator of the marked points, at all points at once: entry x becomes, modulo 65535, the sum over all points y
+/// other than x of entry y times the logarithm of `x XOR y`.
+///
+/// There are 65536 entries, and those from `truncated_size` on are 0; `log_walsh` is the table of `get_log_walsh`. Of a
+/// new entry the residue alone is fixed: 0 and 65535 both stand for zero. Where the old entries are 0 or 1, the new one
+/// is the logarithm of the locator's value at a point whose entry was 0, and of its derivative's where that was 1. The
+/// method is that of Lin, Chung and Han in the form of Leopard-RS: two Walsh-Hadamard transforms and the products
+/// between them. No row step is counted, and at most 1048576 pair sums and 65536 products.
+pub fn eval_poly(
+    steps: &mut Steps,
+    erasures: &mut [GfElement],
+    truncated_size: usize,
+    log_walsh: LogWalsh<'_>,
+)
+    requires size { length erasures.old ≡ 65536 }
+    requires tail { (y : ℕ) → truncated_size ≤ y → y < 65536 → slice_index erasures.old y ≡ 0 }
+    requires table { IsLogWalsh log_walsh.now }
+    ensures values { IsLocator (λ y. slice_index erasures.old y) (λ x. slice_index erasures.new x) }
+    ensures counts { LocatorCounts steps.old steps.new }
+{
+    locate_marked(steps, erasures, truncated_size, log_walsh);
+}
+
+/// The locator of the marked points among the first ones, as many as there are entries, at these points: entry x becomes,
+/// modulo 65535, the sum over these points y other than x of entry y times the logarithm of `x XOR y`.
+///
+/// There are a power of two of entries, n, at most 65536; `log_walsh` is the table of `get_log_walsh_below` for n. Where
+/// no point past them is marked the new entries are, modulo 65535, those that `eval_poly` gives at these points. Of a new
+/// entry the residue alone is fixed: 0 and 65535 both stand for zero. No row step is counted, and at most n * log2 n pair
+/// sums and n products.
+pub fn locate(steps: &mut Steps, entries: &mut [GfElement], log_walsh: LogWalsh<'_>)
+    requires power { (d : ℕ) × (length entries.old ≡ 2 ^ d) }
+    requires few { length entries.old ≤ 65536 }
+    requires table { IsLogWalshBelow (length entries.old) log_walsh.now }
+    ensures values { IsLocatorBelow (length entries.old) (λ y. slice_index entries.old y) (λ x. slice_index entries.new x) }
+    ensures counts { LocatorCountsBelow (length entries.old) steps.old steps.new }
+{
+    let count = entries.len();
+    locate_marked(steps, entries, count, log_walsh);
+}
+
+// The locator of points of which none is marked from `truncated_size` on.
+fn locate_marked(
+    steps: &mut Steps,
+    entries: &mut [GfElement],
+    truncated_size: usize,
+    log_walsh: LogWalsh<'_>,
+)
+    requires power { (d : ℕ) × (length entries.old ≡ 2 ^ d) }
+    requires few { length entries.old ≤ 65536 }
+    requires tail { (y : ℕ) → truncated_size ≤ y → y < length entries.old → slice_index entries.old y ≡ 0 }
+    requires table { IsLogWalshBelow (length entries.old) log_walsh.now }
+    ensures values { IsLocatorBelow (length entries.old) (λ y. slice_index entries.old y) (λ x. slice_index entries.new x) }
+    ensures counts { LocatorCountsBelow (length entries.old) steps.old steps.new }
+{
+    let count = entries.len();
+    fwht(steps, entries, truncated_size);
+    products(steps, entries, log_walsh);
+    fwht(steps, entries, count);
+}

@@ -1,0 +1,78 @@
+//! The table of products as words, from the powers and logarithms.
+ghost use Rattle.std.specs.Prelude.{◌≡◌, ℕ, ◌*◌, ◌^◌, ◌≤◌, IfOk};
+ghost use Rattle.rs_field.specs.words.Field.{product, power};
+ghost use Rattle.rs_field.specs.words.Tables.{IsExpLog};
+ghost use Rattle.rs_field.specs.words.Products.{IsNibbleRow, IsNibbles, IsMul16};
+
+use super::tables::{self, ExpLog};
+use super::{GF_ORDER, GfElement};
+use std::alloc::{AllocError, Global};
+
+// The sixteen sums of four products: entry i is that of the products at the set bits of i.
+#[inline(always)]
+fn sums(a: GfElement, b: GfElement, c: GfElement, d: GfElement) -> [GfElement; 16]
+    ensures { (n f : ℕ) → a ≡ product (1 * 16 ^ n) f → b ≡ product (2 * 16 ^ n) f
+        → c ≡ product (4 * 16 ^ n) f → d ≡ product (8 * 16 ^ n) f → IsNibbleRow n f result }
+{
+    let ab = a ^ b;
+    let cd = c ^ d;
+    [
+        0,
+        a,
+        b,
+        ab,
+        c,
+        a ^ c,
+        b ^ c,
+        ab ^ c,
+        d,
+        a ^ d,
+        b ^ d,
+        ab ^ d,
+        cd,
+        a ^ cd,
+        b ^ cd,
+        ab ^ cd,
+    ]
+}
+
+// The products of the words 0 to 15, each times `place`: four by the tables, the others as sums.
+#[inline(always)]
+fn nibble_row(place: GfElement, log_m: GfElement, t: &ExpLog) -> [GfElement; 16]
+    requires tables { IsExpLog t.now.exp.items t.now.log.items }
+    requires place { place ≤ 4096 }
+    ensures { (n : ℕ) → place ≡ 16 ^ n → IsNibbleRow n (power log_m) result }
+{
+    sums(
+        tables::mul(place, log_m, &t.exp, &t.log),
+        tables::mul(2 * place, log_m, &t.exp, &t.log),
+        tables::mul(4 * place, log_m, &t.exp, &t.log),
+        tables::mul(8 * place, log_m, &t.exp, &t.log),
+    )
+}
+
+// The products with the generator to the power `log_m`.
+#[inline(always)]
+fn nibbles_of(log_m: GfElement, t: &ExpLog) -> [[GfElement; 16]; 4]
+    requires { IsExpLog t.now.exp.items t.now.log.items }
+    ensures { IsNibbles (power log_m) result }
+{
+    [
+        nibble_row(1, log_m, t),
+        nibble_row(16, log_m, t),
+        nibble_row(256, log_m, t),
+        nibble_row(4096, log_m, t),
+    ]
+}
+
+/// The table of products, each entry from sixteen products.
+pub fn mul16_table(alloc: Global, t: &ExpLog) -> Result<Vec<[[GfElement; 16]; 4]>, AllocError>
+    requires { IsExpLog t.now.exp.items t.now.log.items }
+    ensures { IfOk result (λ v. IsMul16 v.items) }
+{
+    let mut table = Vec::with_capacity(alloc, GF_ORDER)?;
+    for m in 0..GF_ORDER {
+        table.push(nibbles_of(m as u16, t))?;
+    }
+    Ok(table)
+}

@@ -1,0 +1,245 @@
+//! The tables of the field, made at run time and lent.
+ghost use Rattle.std.specs.Prelude.{◌≡◌, ◌+◌, ◌-◌, ◌*◌, ◌/◌, ◌%◌, ◌^◌, ◌<◌, ◌≤◌, length, slice_index, vec_len, IfOk, IfErr, OnOk, ℕ};
+ghost use Rattle.rs_field.specs.words.Field.{product, power};
+ghost use Rattle.rs_field.specs.words.Tables.{IsExpLog, IsLog, IsLogWalsh, IsLogWalshBelow, AreLogWalshes, IsSkew};
+ghost use Rattle.rs_field.specs.words.Products.{IsMul16, IsMul128};
+ghost use Rattle.rs_field.specs.words.Walsh.{IsWalsh, log_or_zero};
+
+use super::fwht::{fwht, residue};
+use super::lent_tables::LentTables;
+use super::{GF_BITS, GF_MODULUS, GF_ORDER, GfElement, Steps, mul16, mul128, powers};
+use crate::code::error::Error;
+use std::alloc::{AllocError, Global};
+
+/// A lent table of 65536 powers of the generator.
+pub type Exp<'a> = &'a [GfElement];
+
+/// A lent table of 65536 logarithms, of which that of 0 reads 65535.
+pub type Log<'a> = &'a [GfElement];
+
+/// A lent table of the 65535 factors of butterflies, by their logarithms; 65535 marks the factor zero.
+pub type Skew<'a> = &'a [GfElement];
+
+/// A lent table of a power of two of entries, n: the Walsh-Hadamard transform of the logarithms of the words below n, where
+/// that of 0 counts as 0, each times 65536 / n.
+///
+/// Its entries are residues modulo 65535: 0 and 65535 both stand for zero.
+pub type LogWalsh<'a> = &'a [GfElement];
+
+/// A lent table of 65536 entries. Entry m has the products of the generator to the power m: word i of row n is that of
+/// the word `i << 4n`.
+pub type Mul16<'a> = &'a [[[GfElement; 16]; 4]];
+
+/// A lent table of 65536 entries. Entry m has the products of the generator to the power m, by bytes.
+pub type Mul128<'a> = &'a [Multiply128lutT];
+
+/// The products of the words 0 to 15, shifted by no, one, two and three nibbles, with one factor.
+#[derive(Clone, Debug, Drop)]
+pub struct Multiply128lutT {
+    /// Byte i of number n, the lowest first, is the low byte of the product of `i << 4n`.
+    pub lo: [u128; 4],
+    /// Byte i of number n, the lowest first, is the high byte of the product of `i << 4n`.
+    pub hi: [u128; 4],
+}
+
+/// The tables of powers and logarithms.
+#[derive(Drop)]
+pub struct ExpLog {
+    /// Entry n is the generator to the power n, for n up to 65535.
+    pub exp: Vec<GfElement>,
+    /// Entry z is the logarithm of z, for z up to 65535; entry 0 is 65535.
+    pub log: Vec<GfElement>,
+}
+
+/// All tables, made once and lent to engines.
+#[derive(Drop)]
+pub struct Tables {
+    exp_log: ExpLog,
+    skew: Vec<GfElement>,
+    log_walsh: Vec<GfElement>,
+    mul16: Vec<[[GfElement; 16]; 4]>,
+    mul128: Vec<Multiply128lutT>,
+    pub ghost exp_log_entries: { IsExpLog exp_log.exp.items exp_log.log.items },
+    pub ghost skew_entries: { IsSkew skew.items },
+    pub ghost log_walsh_entries: { AreLogWalshes log_walsh.items },
+    pub ghost mul16_entries: { IsMul16 mul16.items },
+    pub ghost mul128_entries: { IsMul128 mul128.items },
+}
+
+impl Tables {
+    /// Makes all tables, or answers `OutOfMemory`.
+    pub fn new(alloc: Global) -> Result<Tables, Error>
+        ensures { IfErr result (λ e. e ≡ Error.OutOfMemory) }
+    {
+        let exp_log = powers::exp_log_table(alloc)?;
+        let skew = skew_table(alloc, &exp_log)?;
+        let log_walsh = log_walsh_table(alloc, &exp_log.log)?;
+        let mul16 = mul16::mul16_table(alloc, &exp_log)?;
+        let mul128 = mul128::mul128_table(alloc, &mul16)?;
+        Ok(Tables {
+            exp_log,
+            skew,
+            log_walsh,
+            mul16,
+            mul128,
+        })
+    }
+
+    /// What transforms and locators read of the tables.
+    #[inline(always)]
+    pub fn lent(&self) -> LentTables<'_> {
+        LentTables {
+            skew: self.skew.as_slice(),
+            log_walsh: self.log_walsh.as_slice(),
+        }
+    }
+}
+
+/// The powers of the generator and the logarithms.
+pub fn get_exp_log(tables: &Tables) -> &ExpLog
+    ensures { IsExpLog result.now.exp.items result.now.log.items }
+{
+    &tables.exp_log
+}
+
+/// The factors of the butterflies.
+pub fn get_skew(tables: &Tables) -> Skew<'_>
+    ensures { IsSkew result.now }
+{
+    tables.skew.as_slice()
+}
+
+/// The transform of all 65536 logarithms, of which locators of all points are made.
+pub fn get_log_walsh(tables: &Tables) -> LogWalsh<'_>
+    ensures { IsLogWalsh result.now }
+{
+    tables.lent().log_walsh()
+}
+
+/// The transform of the logarithms of the words below `points`, each times 65536 / `points`, of which locators of so many
+/// points are made. `points` is a power of two, at most 65536.
+pub fn get_log_walsh_below(tables: &Tables, points: usize) -> LogWalsh<'_>
+    requires power { (d : ℕ) × (points ≡ 2 ^ d) }
+    requires few { points ≤ 65536 }
+    ensures { IsLogWalshBelow points result.now }
+{
+    tables.lent().log_walsh_below(points)
+}
+
+/// The products with each power of the generator, as words.
+pub fn get_mul16(tables: &Tables) -> Mul16<'_>
+    ensures { IsMul16 result.now }
+{
+    tables.mul16.as_slice()
+}
+
+/// The products with each power of the generator, by bytes.
+pub fn get_mul128(tables: &Tables) -> Mul128<'_>
+    ensures { IsMul128 result.now }
+{
+    tables.mul128.as_slice()
+}
+
+/// `x` times the generator to the power `log_m`; 65535 is the factor one. The tables are those of an `ExpLog`.
+pub fn mul(x: GfElement, log_m: GfElement, exp: Exp<'_>, log: Log<'_>) -> GfElement
+    requires { IsExpLog exp.now log.now }
+    ensures { result ≡ product x (power log_m) }
+{
+    if x == 0 {
+        0
+    } else {
+        exp[add_mod(log[x as usize], log_m) as usize]
+    }
+}
+
+/// The sum modulo 65535, where 0 and 65535 both stand for zero.
+#[inline(always)]
+pub fn add_mod(x: GfElement, y: GfElement) -> GfElement
+    ensures { result % 65535 ≡ (x + y) % 65535 }
+{
+    let sum = x.wrapping_add(y);
+    if sum < x { sum + 1 } else { sum }
+}
+
+// The even number 2u, for j an odd number 2u + 1 times a power of two.
+fn skew_word(j: GfElement) -> GfElement
+    requires { 0 < j }
+    ensures { (d : ℕ) → (u : ℕ) → j ≡ (2 * u + 1) * 2 ^ d → result ≡ 2 * u }
+{
+    let mut odd = j;
+    while odd % 2 == 0 {
+        odd /= 2;
+    }
+    odd - 1
+}
+
+// In these coordinates a subspace polynomial of degree 2 ^ d shifts its argument by d places, so each entry is one
+// look-up: at j - 2 ^ d the value is the odd part of j, less one.
+fn skew_table(alloc: Global, exp_log: &ExpLog) -> Result<Vec<GfElement>, AllocError>
+    requires { IsExpLog exp_log.now.exp.items exp_log.now.log.items }
+    ensures { IfOk result (λ v. IsSkew v.items) }
+{
+    let mut table = Vec::with_capacity(alloc, GF_ORDER - 1)?;
+    for i in 0..GF_MODULUS {
+        let word = skew_word(i + 1);
+        table.push(exp_log.log[word as usize])?;
+    }
+    Ok(table)
+}
+
+// The transforms of the logarithms of the words below each power of two, one behind the other; nothing is counted for them.
+fn log_walsh_table(alloc: Global, log: Log<'_>) -> Result<Vec<GfElement>, AllocError>
+    requires { IsLog log.now }
+    ensures { IfOk result (λ v. AreLogWalshes v.items) }
+{
+    let mut table = Vec::with_capacity(alloc, 2 * GF_ORDER - 1)?;
+    for places in 0..GF_BITS + 1 {
+        push_log_walsh(&mut table, log, 1 << places)?;
+    }
+    Ok(table)
+}
+
+// Puts the transform of the logarithms of the words below `points` behind those of fewer words.
+fn push_log_walsh(table: &mut Vec<GfElement>, log: Log<'_>, points: usize) -> Result<(), AllocError>
+    requires log { IsLog log.now }
+    requires power { (d : ℕ) × (points ≡ 2 ^ d) }
+    requires few { points ≤ 65536 }
+    requires room { vec_len table.old + points < 2 ^ 32 }
+    ensures length { OnOk result (vec_len table.new ≡ vec_len table.old + points) }
+    ensures before { OnOk result ((i : ℕ) → i < vec_len table.old → slice_index table.new.items i ≡ slice_index table.old.items i) }
+    ensures entries { OnOk result (IsWalsh points (λ z. 65536 / points * log_or_zero z) (λ w. slice_index table.new.items (vec_len table.old + w))) }
+{
+    let from = table.len();
+    push_logs(table, log, points)?;
+    let (_, last) = table.split_at_mut(from);
+    fwht(&mut Steps::new(), last, points);
+    Ok(())
+}
+
+// Puts the logarithms of the words below `points` behind the table's entries, each times 65536 / points: the two transforms
+// of a locator multiply by `points`, and 65536 is one modulo 65535.
+fn push_logs(table: &mut Vec<GfElement>, log: Log<'_>, points: usize) -> Result<(), AllocError>
+    requires log { IsLog log.now }
+    requires some { 0 < points }
+    requires few { points ≤ 65536 }
+    requires room { vec_len table.old + points < 2 ^ 32 }
+    ensures length { OnOk result (vec_len table.new ≡ vec_len table.old + points) }
+    ensures before { OnOk result ((i : ℕ) → i < vec_len table.old → slice_index table.new.items i ≡ slice_index table.old.items i) }
+    ensures entries { OnOk result ((z : ℕ) → z < points
+        → slice_index table.new.items (vec_len table.old + z) % 65535 ≡ 65536 / points * log_or_zero z % 65535) }
+{
+    let factor = (GF_ORDER / points) as u32;
+    for z in 0..points {
+        table.push(residue(factor * u32::from(log_at(log, z))))?;
+    }
+    Ok(())
+}
+
+// The logarithm of a word, and 0 at the word 0.
+fn log_at(log: Log<'_>, z: usize) -> GfElement
+    requires log { IsLog log.now }
+    requires word { z < 65536 }
+    ensures { result ≡ log_or_zero z }
+{
+    if z == 0 { 0 } else { log[z] }
+}

@@ -1,0 +1,159 @@
+//! The Walsh-Hadamard transform of 64 entries modulo 65535, in the lanes of four vectors.
+ghost use Rattle.std.specs.Prelude.{◌≡◌, ℕ, ◌+◌, ◌-◌, ◌*◌, ◌%◌, ◌<◌, max, length, slice_index};
+ghost use Rattle.rs_field.specs.words.Walsh.{IsWalsh, IsLayer, IsFourSums};
+ghost use Rattle.rs_field.specs.words.StepBounds.{CountsPairs};
+
+use super::{GfElement, Steps};
+use std::simd::prelude::*;
+
+// The larger lanes.
+#[inline(always)]
+fn larger(x: u16x16, y: u16x16) -> u16x16
+    ensures { (i : ℕ) → i < 16 → slice_index result i ≡ max (slice_index x i) (slice_index y i) }
+{
+    x.simd_max(y)
+}
+
+// The differences, and 0 where y is larger.
+#[inline(always)]
+fn excess(x: u16x16, y: u16x16) -> u16x16
+    ensures { (i : ℕ) → i < 16 → slice_index result i ≡ slice_index x i - slice_index y i }
+{
+    x.saturating_sub(y)
+}
+
+// The sums modulo 65535, as `lane_sum` makes them.
+#[inline(always)]
+fn sums(x: u16x16, y: u16x16) -> u16x16
+    ensures { (i : ℕ) → i < 16 → slice_index result i % 65535 ≡ (slice_index x i + slice_index y i) % 65535 }
+{
+    larger(x + y, excess(x, !y))
+}
+
+// The differences modulo 65535: a complement is the negative.
+#[inline(always)]
+fn differences(x: u16x16, y: u16x16) -> u16x16
+    ensures { (i : ℕ) → i < 16 → slice_index result i % 65535 ≡ (slice_index x i + 65534 * slice_index y i) % 65535 }
+{
+    sums(x, !y)
+}
+
+// Sums and differences of lanes at distance 1. In lanes 1, 3, .. the complement makes the difference.
+#[inline(always)]
+fn layer_1(v: u16x16) -> u16x16
+    ensures { IsLayer 1 v result }
+{
+    sums(
+        v.swizzle([1, 0, 3, 2, 5, 4, 7, 6, 9, 8, 11, 10, 13, 12, 15, 14]),
+        v.shuffle(
+            !v,
+            [0, 17, 2, 19, 4, 21, 6, 23, 8, 25, 10, 27, 12, 29, 14, 31],
+        ),
+    )
+}
+
+// The same at distance 2.
+#[inline(always)]
+fn layer_2(v: u16x16) -> u16x16
+    ensures { IsLayer 2 v result }
+{
+    sums(
+        v.swizzle([2, 3, 0, 1, 6, 7, 4, 5, 10, 11, 8, 9, 14, 15, 12, 13]),
+        v.shuffle(
+            !v,
+            [0, 1, 18, 19, 4, 5, 22, 23, 8, 9, 26, 27, 12, 13, 30, 31],
+        ),
+    )
+}
+
+// The same at distance 4.
+#[inline(always)]
+fn layer_4(v: u16x16) -> u16x16
+    ensures { IsLayer 4 v result }
+{
+    sums(
+        v.swizzle([4, 5, 6, 7, 0, 1, 2, 3, 12, 13, 14, 15, 8, 9, 10, 11]),
+        v.shuffle(
+            !v,
+            [0, 1, 2, 3, 20, 21, 22, 23, 8, 9, 10, 11, 28, 29, 30, 31],
+        ),
+    )
+}
+
+// The same at distance 8.
+#[inline(always)]
+fn layer_8(v: u16x16) -> u16x16
+    ensures { IsLayer 8 v result }
+{
+    sums(
+        v.swizzle([8, 9, 10, 11, 12, 13, 14, 15, 0, 1, 2, 3, 4, 5, 6, 7]),
+        v.shuffle(!v, [0, 1, 2, 3, 4, 5, 6, 7, 24, 25, 26, 27, 28, 29, 30, 31]),
+    )
+}
+
+// The transform of the lanes.
+#[inline(always)]
+fn walsh_16(v: u16x16) -> u16x16
+    ensures { IsWalsh 16 (λ y. slice_index v y) (λ w. slice_index result w) }
+{
+    layer_8(layer_4(layer_2(layer_1(v))))
+}
+
+// Two layers of four vectors: sums and differences of 0 and 1 and of 2 and 3, and then of what became of 0 and 2 and of
+// 1 and 3.
+#[inline(always)]
+fn vector_sums(x0: u16x16, x1: u16x16, x2: u16x16, x3: u16x16) -> (u16x16, u16x16, u16x16, u16x16)
+    ensures { (i : ℕ) → i < 16 → IsFourSums (slice_index x0 i) (slice_index x1 i) (slice_index x2 i) (slice_index x3 i)
+        (slice_index result.0 i) (slice_index result.1 i) (slice_index result.2 i) (slice_index result.3 i) }
+{
+    let low_sum = sums(x0, x1);
+    let low_difference = differences(x0, x1);
+    let high_sum = sums(x2, x3);
+    let high_difference = differences(x2, x3);
+    (
+        sums(low_sum, high_sum),
+        sums(low_difference, high_difference),
+        differences(low_sum, high_sum),
+        differences(low_difference, high_difference),
+    )
+}
+
+// The entries as a vector.
+#[inline(always)]
+fn load(data: &[GfElement]) -> u16x16
+    requires { length «data».now ≡ 16 }
+    ensures { (i : ℕ) → i < 16 → slice_index result i ≡ slice_index «data».now i }
+{
+    u16x16::from_slice(data)
+}
+
+// Makes a vector's lanes the entries.
+#[inline(always)]
+fn store(v: u16x16, data: &mut [GfElement])
+    requires { length «data».old ≡ 16 }
+    ensures { (i : ℕ) → i < 16 → slice_index «data».new i ≡ slice_index v i }
+{
+    v.copy_to_slice(data);
+}
+
+/// The transform of 64 entries.
+#[inline(always)]
+pub(crate) fn walsh_64(steps: &mut Steps, data: &mut [GfElement])
+    requires { length «data».old ≡ 64 }
+    ensures values { IsWalsh 64 (λ y. slice_index «data».old y) (λ w. slice_index «data».new w) }
+    ensures counts { CountsPairs 192 steps.old steps.new }
+{
+    steps.pair_sums(192);
+    let (low, high) = data.split_at_mut(32);
+    let (x0, x1) = low.split_at_mut(16);
+    let (x2, x3) = high.split_at_mut(16);
+    let v0 = walsh_16(load(x0));
+    let v1 = walsh_16(load(x1));
+    let v2 = walsh_16(load(x2));
+    let v3 = walsh_16(load(x3));
+    let (y0, y1, y2, y3) = vector_sums(v0, v1, v2, v3);
+    store(y0, x0);
+    store(y1, x1);
+    store(y2, x2);
+    store(y3, x3);
+}
