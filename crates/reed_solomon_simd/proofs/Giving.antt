@@ -144,3 +144,47 @@ pub reaches-then : {S : Type 0} (outcome : Result S Error) (f : S → Result S E
     → Reaches outcome (Ok tt) (λ s. now ≡ s) → Reaches (f now) result P → Reaches (result_and_then f outcome) result P
 reaches-then {S = S} (Ok s) f P now result led further = subst (λ (t : S). Reaches (f t) result P) led.1 further
 reaches-then {S = S} (Err e) f P now result led further = cc
+
+-- a call that answered a success led to its state
+pub reached-ok : {S : Type 0} (outcome : Result S Error) (now : S) → Reaches outcome (Ok tt) (λ s. now ≡ s) → outcome ≡ Ok now
+reached-ok (Ok s) now reached = ap Ok (sym reached.1)
+reached-ok (Err e) now reached = absurd (let no : ⊥ = cc in no)
+
+-- and one that answered a refusal was refused so
+pub reached-err : {S : Type 0} (outcome : Result S Error) (P : S → Type 0) (e : Error) → Reaches outcome (Err e) P → outcome ≡ Err e
+reached-err (Ok s) P e reached = absurd (let h = reached.0 in let no : ⊥ = cc in no)
+reached-err (Err f) P e reached = let same : f ≡ e = cc in ap Err same
+
+module _ {S T : Type 0} (step : S → T → Result S Error) where
+  -- a step that is taken leads to where the others do
+  pub steps-ok : (s t : S) (x : T) (xs : List T) (o : Result S Error) → step s x ≡ Ok t → one_by_one step t xs ≡ o → one_by_one step s (x ∷ xs) ≡ o
+  steps-ok s t x xs o taken led = ap (result_and_then (λ next. one_by_one step next xs)) taken ∙ led
+
+  -- a step that is refused decides
+  pub steps-err : (s : S) (x : T) (xs : List T) (e : Error) → step s x ≡ Err e → one_by_one step s (x ∷ xs) ≡ Err e
+  steps-err s x xs e refused = ap (result_and_then (λ next. one_by_one step next xs)) refused
+
+-- what holds of all lists that begin with what calls gave holds of those that each run gives
+pub always-run : {I A T : Type 0} {steps : I → Option A → I → Type 0} {view : A → T} {iterator : I} {P : List T → Type 0}
+    → (calls : Calls steps iterator) × ((list : List T) → Begins view calls list → P list) → (list : List T) → AlwaysYields steps view iterator list → P list
+always-run {steps = steps} {view} {iterator} run list yields = run.1 list (begins-always steps view iterator run.0 list yields)
+
+-- the same of the lists of two iterators
+module _ {I J A B T U : Type 0} {own : I → Option A → I → Type 0} {steps : J → Option B → J → Type 0} (see : A → T) (view : B → U) (P : List T → List U → Type 0) {start : I} where
+  -- where no item came from the second
+  pub ended-both : (iterator after : J) → steps iterator None after → (calls : Calls own start) × ((list : List T) → Begins see calls list → P list [])
+      → (calls : Calls own start) × (further : Calls steps iterator) × ((list : List T) (more : List U) → Begins see calls list → Begins view further more → P list more)
+  ended-both iterator after gives run =
+      (run.0, ended-calls iterator after gives, λ list more begins ends. ended-run steps view (P list) iterator after gives (run.1 list begins) more ends)
+
+  -- where one came, and then others
+  pub first-both : {iterator after : J} {item : B} → steps iterator (Some item) after
+      → (calls : Calls own start) × (further : Calls steps after) × ((list : List T) (others : List U) → Begins see calls list → Begins view further others → P list (view item ∷ others))
+      → (calls : Calls own start) × (further : Calls steps iterator) × ((list : List T) (more : List U) → Begins see calls list → Begins view further more → P list more)
+  first-both {iterator} {after} {item} gives run =
+      (run.0, more-calls iterator after item gives run.1, λ list more begins. more-run steps view (P list) iterator after item gives run.1 (λ others. run.2 list others begins) more)
+
+  -- where each run gives two lists
+  pub always-both : {iterator : J} → (calls : Calls own start) × (further : Calls steps iterator) × ((list : List T) (more : List U) → Begins see calls list → Begins view further more → P list more)
+      → (list : List T) (more : List U) → AlwaysYields own see start list → AlwaysYields steps view iterator more → P list more
+  always-both {iterator} run list more yields further = run.2 list more (begins-always own see start run.0 list yields) (begins-always steps view iterator run.1 more further)

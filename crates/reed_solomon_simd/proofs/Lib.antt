@@ -5,8 +5,7 @@ pub mod ObjectLaws
 pub mod Giving
 pub mod Noting
 pub mod Collecting
-pub mod OneDecode
-pub mod OneEncode
+pub mod OneCall
 pub mod CallerLemmas
 pub mod ObjectRoundTrip
 pub use Rattle.rs_field.proofs.of_code.Given

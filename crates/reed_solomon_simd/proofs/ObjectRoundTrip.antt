@@ -18,6 +18,7 @@ use Rattle.rs_field.specs.code.OneCall.{Items, with_shards, with_originals, with
 use Rattle.rs_field.specs.code.Outcome.{result_and_then}
 use Rattle.rs_field.specs.code.RoundTrip.{GivesBack}
 use Rattle.reed_solomon_simd.specs.Giving.{Reaches}
+use Rattle.reed_solomon_simd.proofs.Giving.{reached-err}
 use Rattle.rs_field.proofs.of_code.Left.{kept_of, kept-left, just-lost, enough-left}
 use Rattle.rs_field.proofs.of_code.OneRoundTrip.{encoded_all, all_taken, taken_gives_back}
 
@@ -47,16 +48,6 @@ copies-lost shards lost received out result items back copies =
     subst (λ (given : Shards). IfOk result (λ v. Lists given (items v))) (fun_ext (just-lost shards lost (Ok out) back.restored)) copies
 
 -- ---- what isn't refused
-
--- a call that answered a success led to its state
-pub reached-ok : {S : Type 0} (outcome : Result S Error) (now : S) → Reaches outcome (Ok tt) (λ s. now ≡ s) → outcome ≡ Ok now
-reached-ok (Ok s) now reached = ap Ok (sym reached.1)
-reached-ok (Err e) now reached = absurd (let no : ⊥ = cc in no)
-
--- and one that answered a refusal was refused so
-pub reached-err : {S : Type 0} (outcome : Result S Error) (P : S → Type 0) (e : Error) → Reaches outcome (Err e) P → outcome ≡ Err e
-reached-err (Ok s) P e reached = absurd (let h = reached.0 in let no : ⊥ = cc in no)
-reached-err (Err f) P e reached = let same : f ≡ e = cc in ap Err same
 
 -- an encoder takes shards of its size, as many as there is room for
 takes-all : (shards : List Shard) (s : EncoderState) → length s.given + length shards ≤ s.configuration.original_count → AllByRecursion (λ x. length x ≡ s.configuration.shard_bytes) shards

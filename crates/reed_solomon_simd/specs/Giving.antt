@@ -1,7 +1,12 @@
 -- What calls that give shards one after another lead to.
-use Rattle.std.specs.Prelude.{◌≡◌, ℕ, Bool, false, List, length, count_by, nat_eq, slice_index_or, Result, Ok, Err, MatchResult}
+use Rattle.std.specs.Prelude.{◌≡◌, ◌⊎◌, ℕ, Bool, false, List, [], ◌∷◌, length, count_by, nat_eq, slice_index_or, Option, Some, None, Result, Ok, Err, MatchResult}
 use Rattle.std.specs.List.{list_any}
 use Rattle.rs_field.specs.declared.code.error.Error.{Error}
+use Rattle.rs_field.specs.code.Column.{Shard}
+use Rattle.rs_field.specs.code.Decoder.{DecoderState}
+use Rattle.rs_field.specs.code.Encoder.{EncoderState}
+use Rattle.rs_field.specs.code.OneCall.{Items, LacksMemory, counted, all_came, encode_opening, encoding, decode_opening, decoding}
+use Rattle.rs_field.specs.code.Outcome.{result_and_then}
 
 -- a call answered as the outcome says: a success, with such a state as the outcome names, or the refusal
 abbrev pub Reaches : {S : Type 0} → Result S Error → Result (Unit {0}) Error → (S → Type 0) → Type 0
@@ -11,3 +16,16 @@ Reaches outcome result P = MatchResult outcome (λ s. (result ≡ Ok tt) × P s)
 pub record AreNoted (indexes : List ℕ) (came : List Bool) : Type 0 where
   pub places : (i : ℕ) → slice_index_or came i false ≡ list_any (nat_eq i) indexes
   pub number : count_by (λ noted. noted) came ≡ length indexes
+
+-- the encoder that shards lead to, or their refusal; or out of memory, where nothing was refused before memory was wanted
+abbrev pub IsEncoding : ℕ → ℕ → List Shard → Result EncoderState Error → Type 0
+IsEncoding k r shards result = (result ≡ encoding k r shards) ⊎ LacksMemory (encode_opening k r shards) result
+
+-- the decoder that originals and recovery shards lead to, none where no recovery shard came and all originals did, or their refusal
+abbrev pub decoding_any : ℕ → ℕ → Items → Items → Result (Option DecoderState) Error
+decoding_any k r originals [] = result_and_then (λ _. Ok None) (result_and_then (λ _. all_came k originals) (counted k r))
+decoding_any k r originals (first ∷ rest) = result_and_then (λ s. Ok (Some s)) (decoding k r originals first rest)
+
+-- it, or out of memory, where nothing was refused before memory was wanted
+abbrev pub IsDecoding : ℕ → ℕ → Items → Items → Result (Option DecoderState) Error → Type 0
+IsDecoding k r originals recovery result = (result ≡ decoding_any k r originals recovery) ⊎ LacksMemory (decode_opening k r recovery) result

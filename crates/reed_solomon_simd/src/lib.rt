@@ -3,6 +3,8 @@
 //! A message of `original_count` shards of one size is coded into `recovery_count` recovery shards.
 #![tactic(auto)]
 
+mod all_came;
+pub mod coders;
 mod decoder;
 mod encoder;
 mod one_call;

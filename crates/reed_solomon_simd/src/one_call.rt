@@ -1,19 +1,17 @@
 //! Encoding and decoding in one call, over iterators of shards.
-ghost use Rattle.std.specs.Prelude.{◌≡◌, ◌∷◌, ◌⊎◌, if◌then◌else◌, ℕ, nat_le, true, false, List, length, count_by};
-ghost use Rattle.std.specs.Prelude.{slice_index_or, slice_set, Ok, Err, IfOk, IfErr, OnOk, MatchResult};
+ghost use Rattle.std.specs.Prelude.{◌≡◌, List, Err, IfOk, IfErr, MatchResult};
 ghost use Rattle.std.specs.Iterator.{IsFinite};
 ghost use Rattle.rs_field.specs.code.Column.{Shard};
-ghost use Rattle.rs_field.specs.code.OneCall.{Items, Lends, LendsItems, collected, collected_map, OneEncodeAnswers, OneDecodeAnswers};
+ghost use Rattle.rs_field.specs.code.OneCall.{Items, Lends, LendsItems, counted, collected, collected_map, OneEncodeAnswers, OneDecodeAnswers};
 ghost use Rattle.rs_field.specs.code.RoundTrip.{AreCoded};
-ghost use Rattle.rs_field.specs.code.OneCall.{counted, one_by_one, noted, all_came, with_shards, with_originals, with_recoveries, with_both};
 ghost use Rattle.rs_rate.specs.ResultView.{recovery_shards, restored_originals};
 ghost use Rattle.reed_solomon_simd.specs.Calls.{Calls, BeginsWith, BeginsWithItems};
-ghost use Rattle.reed_solomon_simd.specs.Giving.{Reaches, AreNoted};
 
+use crate::coders::{given_decoder, given_encoder};
 use rs_engines::engine_default::DefaultEngine;
-use rs_field::engine::{Engine, Steps};
+use rs_field::engine::Steps;
 use rs_field::error::Error;
-use rs_rate::rate::{DefaultRateDecoder, DefaultRateEncoder, RateDecoder, RateEncoder};
+use rs_rate::rate::{RateDecoder, RateEncoder};
 use rs_rate::{DecoderResult, EncoderResult};
 use std::alloc::Global;
 use std::collections::BTreeMap;
@@ -35,7 +33,7 @@ pub fn encode<'a, I: Iterator<Item = &'a [u8]> + Drop>(
     alloc: Global,
     original_count: usize,
     recovery_count: usize,
-    mut original: I,
+    original: I,
     engine: DefaultEngine<'_>,
 ) -> Result<Vec<Vec<u8>>, Error>
     requires can { I.can_next original }
@@ -48,23 +46,7 @@ pub fn encode<'a, I: Iterator<Item = &'a [u8]> + Drop>(
     ensures coded { (items : List Shard) → Lends I.next_gives original items
         → IfOk (collected result) (AreCoded original_count recovery_count items) }
 {
-    check_counts(original_count, recovery_count)?;
-    let Some(first) = original.next() else {
-        return Err(Error::TooFewOriginalShards {
-            original_count,
-            original_received_count: 0,
-        });
-    };
-    let mut encoder = DefaultRateEncoder::new(
-        alloc,
-        original_count,
-        recovery_count,
-        first.len(),
-        engine,
-        None,
-    )?;
-    encoder.add_original_shard(first)?;
-    give_shards(&mut encoder, original)?;
+    let mut encoder = given_encoder(alloc, original_count, recovery_count, original, engine)?;
     let mut steps = Steps::new();
     let result = encoder.encode(&mut steps)?;
     collect_recovery(alloc, &result)
@@ -92,7 +74,7 @@ pub fn decode<'a, O, R>(
     original_count: usize,
     recovery_count: usize,
     original: O,
-    mut recovery: R,
+    recovery: R,
     engine: DefaultEngine<'_>,
 ) -> Result<BTreeMap<usize, Vec<u8>>, Error>
 where
@@ -108,177 +90,20 @@ where
     ensures answer { (originals recoveries : Items) → LendsItems O.next_gives original originals
         → LendsItems R.next_gives recovery recoveries → OneDecodeAnswers original_count recovery_count originals recoveries (collected_map result) }
 {
-    check_counts(original_count, recovery_count)?;
-    let Some((first_index, first_shard)) = recovery.next() else {
-        check_all_came(alloc, original_count, original)?;
-        return Ok(BTreeMap::new(alloc));
-    };
-    let mut decoder = DefaultRateDecoder::new(
+    let Some(mut decoder) = given_decoder(
         alloc,
         original_count,
         recovery_count,
-        first_shard.len(),
+        original,
+        recovery,
         engine,
-        None,
-    )?;
-    give_both(&mut decoder, original, first_index, first_shard, recovery)?;
+    )?
+    else {
+        return Ok(BTreeMap::new(alloc));
+    };
     let mut steps = Steps::new();
     let result = decoder.decode(&mut steps)?;
     collect_originals(alloc, &result)
-}
-
-// `UnsupportedShardCount` where the default rate doesn't support the counts.
-fn check_counts(original_count: usize, recovery_count: usize) -> Result<(), Error>
-    ensures { result ≡ counted original_count recovery_count }
-{
-    if DefaultRateEncoder::<DefaultEngine<'_>>::supports(original_count, recovery_count) {
-        Ok(())
-    } else {
-        Err(Error::UnsupportedShardCount {
-            original_count,
-            recovery_count,
-        })
-    }
-}
-
-// Gives an encoder shards in order; the first refused one decides.
-fn give_shards<'a, E: Engine, X: RateEncoder<E>, I: Iterator<Item = &'a [u8]> + Drop>(
-    encoder: &mut X,
-    shards: I,
-) -> Result<(), Error>
-    requires can { I.can_next shards }
-    requires ends { IsFinite (I.remaining shards) }
-    ensures { (calls : Calls I.next_gives shards) × ((items : List Shard) → BeginsWith items calls
-        → Reaches (with_shards (X.state encoder.old) items) result (λ s. X.state encoder.new ≡ s)) }
-{
-    for shard in shards {
-        encoder.add_original_shard(shard)?;
-    }
-    Ok(())
-}
-
-// Gives a decoder originals in order, and then recovery shards in order, of which the first was taken already.
-fn give_both<'a, E: Engine, X: RateDecoder<E>, O, R>(
-    decoder: &mut X,
-    originals: O,
-    first_index: usize,
-    first_shard: &'a [u8],
-    recovery: R,
-) -> Result<(), Error>
-where
-    O: Iterator<Item = (usize, &'a [u8])> + Drop,
-    R: Iterator<Item = (usize, &'a [u8])> + Drop,
-    requires can { O.can_next originals }
-    requires ends { IsFinite (O.remaining originals) }
-    requires can_recovery { R.can_next recovery }
-    requires recovery_ends { IsFinite (R.remaining recovery) }
-    ensures { (calls : Calls O.next_gives originals) × (further : Calls R.next_gives recovery)
-        × ((before after : Items) → BeginsWithItems before calls → BeginsWithItems after further
-        → Reaches (with_both (X.state decoder.old) before ((first_index, first_shard.now) ∷ after)) result (λ s. X.state decoder.new ≡ s)) }
-{
-    give_originals(decoder, originals)?;
-    decoder.add_recovery_shard(first_index, first_shard)?;
-    give_recovery(decoder, recovery)
-}
-
-// Gives a decoder originals in order; the first refused one decides.
-fn give_originals<'a, E: Engine, X: RateDecoder<E>, I: Iterator<Item = (usize, &'a [u8])> + Drop>(
-    decoder: &mut X,
-    originals: I,
-) -> Result<(), Error>
-    requires can { I.can_next originals }
-    requires ends { IsFinite (I.remaining originals) }
-    ensures { (calls : Calls I.next_gives originals) × ((items : Items) → BeginsWithItems items calls
-        → Reaches (with_originals (X.state decoder.old) items) result (λ s. X.state decoder.new ≡ s)) }
-{
-    for (index, shard) in originals {
-        decoder.add_original_shard(index, shard)?;
-    }
-    Ok(())
-}
-
-// Gives a decoder recovery shards in order; the first refused one decides.
-fn give_recovery<'a, E: Engine, X: RateDecoder<E>, I: Iterator<Item = (usize, &'a [u8])> + Drop>(
-    decoder: &mut X,
-    recovery: I,
-) -> Result<(), Error>
-    requires can { I.can_next recovery }
-    requires ends { IsFinite (I.remaining recovery) }
-    ensures { (calls : Calls I.next_gives recovery) × ((items : Items) → BeginsWithItems items calls
-        → Reaches (with_recoveries (X.state decoder.old) items) result (λ s. X.state decoder.new ≡ s)) }
-{
-    for (index, shard) in recovery {
-        decoder.add_recovery_shard(index, shard)?;
-    }
-    Ok(())
-}
-
-// Whether all originals came, where no recovery shard did.
-fn check_all_came<'a, I: Iterator<Item = (usize, &'a [u8])> + Drop>(
-    alloc: Global,
-    original_count: usize,
-    originals: I,
-) -> Result<(), Error>
-    requires can { I.can_next originals }
-    requires ends { IsFinite (I.remaining originals) }
-    ensures { (calls : Calls I.next_gives originals) × ((items : Items) → BeginsWithItems items calls
-        → (result ≡ all_came original_count items) ⊎ (result ≡ Err Error.OutOfMemory)) }
-{
-    let mut came = vec![in alloc; false; original_count]?;
-    note_all(&mut came, originals)?;
-    let original_received_count = count_noted(&came);
-    if original_received_count < original_count {
-        return Err(Error::NotEnoughShards {
-            original_count,
-            original_received_count,
-            recovery_received_count: 0,
-        });
-    }
-    Ok(())
-}
-
-// Notes the indexes of originals in order; the first refused one decides.
-fn note_all<'a, I: Iterator<Item = (usize, &'a [u8])> + Drop>(
-    came: &mut [bool],
-    originals: I,
-) -> Result<(), Error>
-    requires can { I.can_next originals }
-    requires ends { IsFinite (I.remaining originals) }
-    ensures { (indexes : List ℕ) → AreNoted indexes came.old → (calls : Calls I.next_gives originals) × ((items : Items) → BeginsWithItems items calls
-        → Reaches (one_by_one (λ so_far item. noted (length came.old) so_far item.0) indexes items)
-        result (λ all. AreNoted all came.new)) }
-{
-    for (index, _) in originals {
-        note(came, index)?;
-    }
-    Ok(())
-}
-
-// Notes that the original of this index came: the index is to be within the places, and new.
-fn note(came: &mut [bool], index: usize) -> Result<(), Error>
-    ensures answer { result ≡ (if nat_le (length came.old) index
-        then Err (Error.InvalidOriginalShardIndex (length came.old) index)
-        else if slice_index_or came.old index false then Err (Error.DuplicateOriginalShardIndex index) else Ok tt) }
-    ensures noted { OnOk result (came.new ≡ slice_set came.old index true) }
-{
-    if index >= came.len() {
-        return Err(Error::InvalidOriginalShardIndex {
-            original_count: came.len(),
-            index,
-        });
-    }
-    if came[index] {
-        return Err(Error::DuplicateOriginalShardIndex { index });
-    }
-    came[index] = true;
-    Ok(())
-}
-
-// How many indexes were noted.
-fn count_noted(came: &[bool]) -> usize
-    ensures { result ≡ count_by (λ noted. noted) came.now }
-{
-    came.iter().filter(|noted| **noted).count()
 }
 
 // The recovery shards of a result, as vectors.

@@ -1,17 +1,10 @@
 -- What is printed, and what is told in its place.
-use Rattle.std.proofs.Common.{◌≡◌, ℕ, Bool, true, false, cond, List, [], ◌∷◌, map, Some, Result, Ok, Err, inl, inr, refl, sym, ◌∙◌, ap, ap₂, subst, arith}
-use Rattle.std.specs.Prelude.{nat_eq, MatchResult}
-use Rattle.std.specs.BTreeMap.{BTreeMap, IsOrdered}
-use Rattle.std.specs.List.Sorted.{IsStrictlySortedBy}
-use Rattle.std.specs.Map.{lookup}
-use Rattle.std.specs.Option.{option_map}
-use Rattle.std.specs.Ordering.{nat_cmp, is_eq}
+use Rattle.std.proofs.Common.{◌≡◌, ℕ, Bool, true, false, cond, List, [], ◌∷◌, Result, Ok, Err, inl, inr, refl, arith}
+use Rattle.std.specs.Prelude.{MatchResult}
 use Rattle.std.specs.declared.string.String.{String}
 use Rattle.std.specs.declared.vec.Vec.{Vec}
-use Rattle.std.proofs.lemmas.Bool.Decides.{nat_tests}
-use Rattle.std.proofs.lemmas.Map.Made.{keys_of-map_values, lookup-map_values}
 use Rattle.reed_solomon_simd.specs.Counts.{default_rate, supports}
-use Rattle.reed_solomon_simd.specs.OneCall.{Items, counted, shards_in, OneEncodeAnswers, OneDecodeAnswers}
+use Rattle.reed_solomon_simd.specs.OneCall.{Items, counted, OneEncodeAnswers, OneDecodeAnswers}
 use Rattle.reed_solomon_simd.specs.declared.Error.{Error}
 use Rattle.reed_solomon_simd.specs.declared.Error.TheVariants.{UnsupportedShardCount, OutOfMemory}
 use Rattle.reed_solomon_simd.specs.Column.{Shard}
@@ -19,24 +12,8 @@ use Rattle.reed_solomon_simd.specs.Given.{Shards, Lists}
 use Rattle.rs.specs.declared.fault.Fault.{Fault}
 use Rattle.rs.specs.declared.fault.Fault.TheVariants.{Usage, Refused}
 use Rattle.rs.specs.CommandLine.{GivenItems, Task, Coded, Restored}
-use Rattle.rs.specs.Printed.{ListsShards, lines_of, concatenated, CodesLines, RestoresLines, Answers, OrLacksMemory, Refuses, HasFault}
+use Rattle.rs.specs.Printed.{lines_of, indexed_lines_of, concatenated, CodesLines, RestoresLines, Answers, OrLacksMemory, Refuses, HasFault}
 use Rattle.rs.specs.Told.{status_of, IsToldAs}
-use Rattle.rs.proofs.ListedLemmas.{lists-sorted}
-
-compared_equal : (x y : ℕ) → is_eq (nat_cmp x y) ≡ nat_eq x y
-compared_equal x y = grind (arith, nat_tests)
-
-lookup-same : {X : Type 0} (test other : ℕ → Bool) → ((k : ℕ) → test k ≡ other k) → (entries : List (ℕ × X)) → lookup test entries ≡ lookup other entries
-lookup-same test other same [] = refl
-lookup-same test other same (entry ∷ entries) = ap₂ (λ found later. cond found (Some entry.1) later) (same entry.0) (lookup-same test other same entries)
-
--- the entries of an ordered map list its shards
-pub entries_in_order : {Y : Type 0} (vectors : BTreeMap ℕ (Vec ℕ Y)) → IsOrdered nat_cmp vectors → Lists (shards_in vectors) (map (λ e. (e.0, e.1.items)) vectors.entries)
-entries_in_order vectors ordered =
-    lists-sorted (shards_in vectors) (map (λ e. (e.0, e.1.items)) vectors.entries)
-    (subst (IsStrictlySortedBy nat_cmp) (sym (keys_of-map_values (λ v. v.items) vectors.entries)) ordered)
-    (λ i. ap (option_map (λ v. v.items)) (lookup-same (λ k. is_eq (nat_cmp i k)) (nat_eq i) (compared_equal i) vectors.entries)
-    ∙ sym (lookup-map_values (λ v. v.items) (nat_eq i) vectors.entries))
 
 -- the lines of recovery shards, or want of memory
 pub codes-lines : {Y Z : Type 0} (k r : ℕ) (shards recovery : List Shard) (result : Result (Vec (String Y) Z) Error) → OneEncodeAnswers k r shards (Ok recovery)
@@ -45,11 +22,11 @@ codes-lines k r shards recovery (Ok texts) answered lines = (recovery, answered,
 codes-lines k r shards recovery (Err e) answered lacking = inr lacking
 
 -- the lines of restored originals, or want of memory
-pub restores-lines : {Y Z : Type 0} (k r : ℕ) (given : GivenItems) (restored : Shards) (result : Result (Vec (String Y) Z) Error)
-    → OneDecodeAnswers k r given.originals given.recovery (Ok restored)
-    → MatchResult result (λ texts. ListsShards restored (concatenated texts)) (λ e. e ≡ OutOfMemory) → OrLacksMemory (RestoresLines k r given) result
-restores-lines k r given restored (Ok texts) answered lines = (restored, answered, lines)
-restores-lines k r given restored (Err e) answered lacking = inr lacking
+pub restores-lines : {Y Z : Type 0} (k r : ℕ) (given : GivenItems) (restored : Shards) (items : Items) (result : Result (Vec (String Y) Z) Error)
+    → OneDecodeAnswers k r given.originals given.recovery (Ok restored) → Lists restored items
+    → MatchResult result (λ texts. concatenated texts ≡ indexed_lines_of items) (λ e. e ≡ OutOfMemory) → OrLacksMemory (RestoresLines k r given) result
+restores-lines k r given restored items (Ok texts) answered listed lines = (restored, answered, (items, listed, lines))
+restores-lines k r given restored items (Err e) answered listed lacking = inr lacking
 
 -- what is told of counts, by whether they are supported
 abbrev counted_by : ℕ → ℕ → Bool → Result (Unit {0}) Error

@@ -2,11 +2,10 @@
 ghost use Rattle.std.specs.Prelude.{◌≡◌, ◌≤◌, ℕ, List, ◌⊎◌, None, Err, map, take, MatchResult};
 ghost use Rattle.std.specs.Io.KnownBytes.{Appends};
 ghost use Rattle.std.specs.String.{string_bytes};
-ghost use Rattle.reed_solomon_simd.specs.OneCall.{counted, shards_in};
 ghost use Rattle.reed_solomon_simd.specs.Kind.{kind_of};
 ghost use Rattle.rs.specs.CommandLine.{request_of};
 ghost use Rattle.rs.specs.Reading.{as_given, as_request};
-ghost use Rattle.rs.specs.Printed.{lines_of, concatenated, ListsShards, CodesLines, RestoresLines, IsAnswered, OrLacksMemory, Prints, Refuses, HasFault};
+ghost use Rattle.rs.specs.Printed.{lines_of, indexed_lines_of, concatenated, CodesLines, RestoresLines, IsAnswered, OrLacksMemory, Prints, Refuses, HasFault};
 ghost use Rattle.rs.specs.Told.{message_of, AppendsFront, CutShort};
 ghost use Rattle.rs.specs.declared.fault.Fault.TheVariants.{Usage, Refused};
 
@@ -14,32 +13,33 @@ use crate::command::{Command, Counts, Given, Task, read_command};
 use crate::fault::Fault;
 use crate::hexadecimal::line;
 use crate::writing::write_texts;
-use reed_solomon_simd::engine::DefaultEngine;
+use reed_solomon_simd::coders::{check_counts, given_decoder, given_encoder};
 use reed_solomon_simd::engine::tables::Tables;
-use reed_solomon_simd::{Error, ReedSolomonEncoder, decode_slice, encode_slice};
+use reed_solomon_simd::engine::{DefaultEngine, Steps};
+use reed_solomon_simd::rate::{RateDecoder, RateEncoder};
+use reed_solomon_simd::{Error, Recovery, RestoredOriginal};
 use std::alloc::Global;
-use std::collections::BTreeMap;
 use std::io::Write;
 
-// A line for each shard.
-fn lines(alloc: Global, shards: &[Vec<u8>]) -> Result<Vec<String>, Error>
-    ensures { MatchResult result (λ texts. concatenated texts ≡ lines_of (map (λ v. v.items) shards.now)) (λ e. e ≡ Error.OutOfMemory) }
+// A line for each recovery shard.
+fn lines(alloc: Global, shards: Recovery<'_>) -> Result<Vec<String>, Error>
+    ensures { MatchResult result (λ texts. concatenated texts ≡ lines_of shards.entry) (λ e. e ≡ Error.OutOfMemory) }
 {
     let mut texts = Vec::new(alloc);
     for shard in shards {
-        texts.push(line(alloc, shard.as_slice())?)?;
+        texts.push(line(alloc, shard)?)?;
     }
     Ok(texts)
 }
 
-// A line for each shard of a map, behind its index.
-fn indexed_lines(alloc: Global, shards: &BTreeMap<usize, Vec<u8>>) -> Result<Vec<String>, Error>
-    ensures { MatchResult result (λ texts. ListsShards (shards_in shards.now) (concatenated texts)) (λ e. e ≡ Error.OutOfMemory) }
+// A line for each restored original, behind its index.
+fn indexed_lines(alloc: Global, shards: RestoredOriginal<'_>) -> Result<Vec<String>, Error>
+    ensures { MatchResult result (λ texts. concatenated texts ≡ indexed_lines_of shards.entry) (λ e. e ≡ Error.OutOfMemory) }
 {
     let mut texts = Vec::new(alloc);
     for (index, shard) in shards {
         texts.push(format!(in alloc; "{index} ")?)?;
-        texts.push(line(alloc, shard.as_slice())?)?;
+        texts.push(line(alloc, shard)?)?;
     }
     Ok(texts)
 }
@@ -53,8 +53,10 @@ fn coded_lines(
 ) -> Result<Vec<String>, Error>
     ensures { OrLacksMemory (CodesLines counts.original counts.recovery (map (λ v. v.items) original.now)) result }
 {
-    let recovery = encode_slice(alloc, counts.original, counts.recovery, original, engine)?;
-    lines(alloc, recovery.as_slice())
+    let shards = original.iter().map(|shard| shard.as_slice());
+    let mut encoder = given_encoder(alloc, counts.original, counts.recovery, shards, engine)?;
+    let coded = encoder.encode(&mut Steps::new())?;
+    lines(alloc, coded.recovery_iter())
 }
 
 // The lines of the originals that are restored from the given shards.
@@ -66,15 +68,20 @@ fn restored_lines(
 ) -> Result<Vec<String>, Error>
     ensures { OrLacksMemory (RestoresLines counts.original counts.recovery (as_given given.now)) result }
 {
-    let restored = decode_slice(
-        alloc,
-        counts.original,
-        counts.recovery,
-        given.original.as_slice(),
-        given.recovery.as_slice(),
-        engine,
-    )?;
-    indexed_lines(alloc, &restored)
+    let (k, r) = (counts.original, counts.recovery);
+    let original = given
+        .original
+        .iter()
+        .map(|item| (item.0, item.1.as_slice()));
+    let recovery = given
+        .recovery
+        .iter()
+        .map(|item| (item.0, item.1.as_slice()));
+    let Some(mut decoder) = given_decoder(alloc, k, r, original, recovery, engine)? else {
+        return Ok(Vec::new(alloc));
+    };
+    let restored = decoder.decode(&mut Steps::new())?;
+    indexed_lines(alloc, restored.restored_original_iter())
 }
 
 // The lines that answer a command, made by the engine that it asks for.
@@ -92,20 +99,6 @@ fn lines_for(
     }
 }
 
-// `UnsupportedShardCount` where the counts aren't supported.
-fn check_counts(counts: Counts) -> Result<(), Error>
-    ensures { result ≡ counted counts.original counts.recovery }
-{
-    if ReedSolomonEncoder::supports(counts.original, counts.recovery) {
-        Ok(())
-    } else {
-        Err(Error::UnsupportedShardCount {
-            original_count: counts.original,
-            recovery_count: counts.recovery,
-        })
-    }
-}
-
 // The lines that the words ask for. Tables are made for counts that are supported.
 fn answer(alloc: Global, words: &[String]) -> Result<Vec<String>, Fault>
     ensures begun { request_of (take 4 (map string_bytes words.now)) ≡ None → result ≡ Err Usage }
@@ -113,7 +106,7 @@ fn answer(alloc: Global, words: &[String]) -> Result<Vec<String>, Fault>
         (λ fault. HasFault (map string_bytes words.now) fault) }
 {
     let command = read_command(alloc, words)?;
-    check_counts(command.counts)?;
+    check_counts(command.counts.original, command.counts.recovery)?;
     let tables = Tables::new(alloc)?;
     let engine = DefaultEngine::new(&tables, command.engine);
     Ok(lines_for(alloc, &command, engine)?)

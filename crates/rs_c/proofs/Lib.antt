@@ -4,4 +4,3 @@ mod EncodeLemmas
 mod LayoutLemmas
 mod MarkedLemmas
 mod RoomLemmas
-mod Steps

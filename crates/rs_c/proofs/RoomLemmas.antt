@@ -125,7 +125,3 @@ lists-same given one other first second = elim (cases_lt first.count second.coun
     longer : (n m : ℕ) → n ≤ m → ((i : ℕ) → n ≤ i → given i ≡ None) → listed m given ≡ listed n given
     longer n m h none =
         ap (λ (l : ℕ). listed_from 0 l given) (let e : m ≡ n + (m - n) = omega (arith, h) in e) ∙ listed-longer n (m - n) 0 given (λ i past. none i (omega (arith, past)))
-
--- the map with no shard lists none
-pub lists-none : Lists nothing []
-lists-none = record { count = 0; none_past = λ i h. refl; in_order = sym (listed_from-zero 0 nothing) }

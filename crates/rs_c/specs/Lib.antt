@@ -3,6 +3,5 @@ pub mod Faults
 pub mod Buffers
 pub mod Answers
 pub mod Arrays
-pub mod Given
 pub mod FaultTexts
 pub mod Texts

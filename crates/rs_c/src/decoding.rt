@@ -1,28 +1,20 @@
 //! Decoding, of shards in buffers and of shards anywhere.
-ghost use Rattle.std.specs.Prelude.{◌≡◌, ◌≢◌, ◌*◌, ◌==◌, not, length, count_by, Result, Ok, Err, IfOk, IfErr};
-ghost use Rattle.rs_field.specs.declared.code.error.Error.{Error as ErrorOf};
-ghost use Rattle.rs_field.specs.code.Given.{Shards};
-ghost use Rattle.rs_field.specs.code.Counts.{default_rate};
-ghost use Rattle.rs_field.specs.code.Decoder.{DecodeAnswers};
-ghost use Rattle.rs_field.specs.code.OneCall.{default_of, with_originals, with_recoveries, OneDecodeAnswers};
-ghost use Rattle.rs_rate.specs.DecoderView.{decoder_state};
+ghost use Rattle.std.specs.Prelude.{◌≡◌, ◌*◌, ◌==◌, not, length, count_by};
 ghost use Rattle.rs_rate.specs.ResultView.{restored_originals};
-ghost use Rattle.reed_solomon_simd.specs.Giving.{Reaches};
 ghost use Rattle.rs_c.specs.Buffers.{with_restored, AreSized};
 ghost use Rattle.rs_c.specs.Answers.{DecodesBuffer, WantsNoMemory, all_or_refused};
 ghost use Rattle.rs_c.specs.Arrays.{items_of, DecodesArrays, KeepsRooms, bytes_in};
-ghost use Rattle.rs_c.specs.Given.{BeginsItemSized};
 
-use crate::buffers::{check_counts, check_length};
+use crate::buffers::check_length;
 use crate::engine::Borrowing;
 use crate::fault::Fault;
-use crate::layouts::{Listed, Marked, Received, RsShard};
-use crate::noting::check_all_listed;
+use crate::layouts::{Marked, RsShard};
 use crate::rooms::{check_number, check_rooms, fill_rooms};
-use rs_field::engine::{Engine, Steps};
+use reed_solomon_simd::coders::{check_counts, given_decoder};
+use rs_field::engine::Steps;
 use rs_field::error::Error;
 use rs_rate::DecoderResult;
-use rs_rate::rate::{DefaultRateDecoder, RateDecoder};
+use rs_rate::rate::RateDecoder;
 use std::alloc::Global;
 
 /// Writes the originals whose mark is 0 to their places.
@@ -47,15 +39,19 @@ pub fn decode_buffer(
     if count_marked(recovery_marks) == 0 {
         return Ok(check_all_marked(original_marks)?);
     }
-    let mut decoder = given_decoder(
+    let own = Marked::new(original_marks, shard_bytes, originals);
+    let other = Marked::new(recovery_marks, shard_bytes, recovery);
+    let Some(mut decoder) = given_decoder(
         alloc,
-        engine,
         original_count,
         recovery_count,
-        shard_bytes,
-        &Marked::new(original_marks, shard_bytes, originals),
-        &Marked::new(recovery_marks, shard_bytes, recovery),
-    )?;
+        own,
+        other,
+        engine,
+    )?
+    else {
+        return Ok(());
+    };
     let result = decoder.decode(&mut Steps::new())?;
     write_restored(&result, original_count, shard_bytes, originals);
     Ok(())
@@ -75,20 +71,19 @@ pub fn decode_arrays(
         (bytes_in restored.old) (bytes_in restored.new) result }
     ensures kept { KeepsRooms restored.old restored.new }
 {
-    if recovery.is_empty() {
-        check_counts(original_count, recovery_count)?;
-        check_all_listed(alloc, original_count, originals)?;
-        return check_number(0, restored.len());
-    }
-    let mut decoder = given_decoder(
+    let own = originals.iter().map(|shard| (shard.index, shard.bytes));
+    let other = recovery.iter().map(|shard| (shard.index, shard.bytes));
+    let Some(mut decoder) = given_decoder(
         alloc,
-        engine,
         original_count,
         recovery_count,
-        recovery[0].bytes.len(),
-        &Listed { shards: originals },
-        &Listed { shards: recovery },
-    )?;
+        own,
+        other,
+        engine,
+    )?
+    else {
+        return check_number(0, restored.len());
+    };
     let result = decoder.decode(&mut Steps::new())?;
     check_rooms(result.restored_original_iter(), restored)?;
     fill_rooms(result.restored_original_iter(), restored);
@@ -113,65 +108,6 @@ fn check_all_marked(marks: &[u8]) -> Result<(), Error>
             original_received_count,
             recovery_received_count: 0,
         });
-    }
-    Ok(())
-}
-
-// A decoder that was given originals and recovery shards, of which the first has this size.
-fn given_decoder<'t, O: Received, R: Received>(
-    alloc: Global,
-    engine: Borrowing<'t>,
-    original_count: usize,
-    recovery_count: usize,
-    size: usize,
-    originals: &O,
-    recovery: &R,
-) -> Result<DefaultRateDecoder<Borrowing<'t>>, Error>
-    requires { BeginsItemSized size (R.from_place recovery.now 0) }
-    ensures refused { IfErr result (λ e. OneDecodeAnswers original_count recovery_count (O.from_place originals.now 0) (R.from_place recovery.now 0) (Err e)) }
-    ensures configured { IfOk result (λ x. (decoder_state default_rate x.rows).configuration ≡ default_of original_count recovery_count size) }
-    ensures answers { IfOk result (λ x. (decoded : Result Shards ErrorOf) → DecodeAnswers (decoder_state default_rate x.rows) decoded
-        → OneDecodeAnswers original_count recovery_count (O.from_place originals.now 0) (R.from_place recovery.now 0) decoded) }
-{
-    let mut decoder = DefaultRateDecoder::new(
-        alloc,
-        original_count,
-        recovery_count,
-        size,
-        engine,
-        None,
-    )?;
-    give_originals(&mut decoder, originals)?;
-    give_recovery(&mut decoder, recovery)?;
-    Ok(decoder)
-}
-
-// Gives a decoder originals; the first refused one decides.
-fn give_originals<E: Engine, X: RateDecoder<E>, O: Received>(
-    decoder: &mut X,
-    originals: &O,
-) -> Result<(), Error>
-    ensures { Reaches (with_originals (X.state decoder.old) (O.from_place originals.now 0)) result (λ s. X.state decoder.new ≡ s) }
-{
-    for place in 0..originals.places() {
-        if let Some((index, shard)) = originals.at(place) {
-            decoder.add_original_shard(index, shard)?;
-        }
-    }
-    Ok(())
-}
-
-// Gives a decoder recovery shards; the first refused one decides.
-fn give_recovery<E: Engine, X: RateDecoder<E>, R: Received>(
-    decoder: &mut X,
-    recovery: &R,
-) -> Result<(), Error>
-    ensures { Reaches (with_recoveries (X.state decoder.old) (R.from_place recovery.now 0)) result (λ s. X.state decoder.new ≡ s) }
-{
-    for place in 0..recovery.places() {
-        if let Some((index, shard)) = recovery.at(place) {
-            decoder.add_recovery_shard(index, shard)?;
-        }
     }
     Ok(())
 }

@@ -1,123 +1,132 @@
 //! How shards lie in memory: one behind the other in a buffer, or anywhere, as an array tells.
-ghost use Rattle.std.specs.Prelude.{◌≡◌, ◌+◌, ◌*◌, ◌<◌, ◌≤◌, [], ◌∷◌, length, drop, map, MatchOption};
-ghost use Rattle.rs_field.specs.code.Column.{shard_at};
+ghost use Rattle.std.specs.Prelude.{◌≡◌, ◌≢◌, ℕ, ◌*◌, ◌<◌, ◌≤◌, List, length, drop, slice_index};
+ghost use Rattle.std.specs.Iterator.{YieldsFirstRef, YieldsFirstBy, item_count};
 ghost use Rattle.rs_c.specs.Buffers.{cut, marked};
-ghost use Rattle.rs_c.specs.Arrays.{items_of};
 
-/// Originals in order of index, which an encoder is given.
-pub trait Originals {
-    ghost use Rattle.std.specs.Prelude.{◌≡◌, ◌<◌, List, length};
-    ghost use Rattle.rs_field.specs.code.Column.{Shard, shard_at};
+use std::marker::Model;
 
-    ghost shards: { Self → List Shard };
-
-    /// How many there are.
-    fn count(&self) -> usize
-        ensures { result ≡ length (shards self.now) };
-
-    /// The one of this index.
-    fn shard(&self, index: usize) -> &[u8]
-        requires { index < length (shards self.now) }
-        ensures { result.now ≡ shard_at (shards self.now) index };
-}
-
-/// Shards with their indexes, which a decoder is given. A place may have none.
-pub trait Received {
-    ghost use Rattle.std.specs.Prelude.{◌≡◌, ◌+◌, ◌<◌, ℕ, [], ◌∷◌, MatchOption};
-    ghost use Rattle.rs_field.specs.code.OneCall.{Items};
-
-    ghost place_count: { Self → ℕ };
-
-    /// What comes from a place on.
-    ghost from_place: { Self → ℕ → Items };
-
-    /// How many places there are; behind the last nothing comes.
-    fn places(&self) -> usize
-        ensures count { result ≡ place_count self.now }
-        ensures last { from_place self.now result ≡ [] };
-
-    /// The shard at this place, if it has one.
-    fn at(&self, place: usize) -> Option<(usize, &[u8])>
-        requires { place < place_count self.now }
-        ensures { MatchOption result (from_place self.now place ≡ from_place self.now (place + 1))
-            (λ item. from_place self.now place ≡ (item.0, item.1.now) ∷ from_place self.now (place + 1)) };
-}
-
-/// The shards of a buffer, one behind the other.
-#[derive(Clone, Copy)]
+/// The shards of a buffer that are still to come, one behind the other.
+#[derive(Drop)]
 pub struct Joined<'a> {
-    pub bytes: &'a [u8],
-    pub count: usize,
-    pub size: usize,
-    ghost fits: { length bytes.now ≡ count * size },
+    bytes: &'a [u8],
+    size: usize,
+    left: usize,
 }
 
-impl Originals for Joined<'_> {
-    ghost shards = { λ s. cut s.count s.size s.bytes.now };
+impl<'a> Model for Joined<'a> {
+    ghost use Rattle.std.specs.Prelude.{◌≡◌, ◌*◌, List, length};
+    ghost use Rattle.rs_field.specs.code.Column.{Shard};
+    ghost use Rattle.rs_c.specs.Buffers.{cut};
 
-    fn count(&self) -> usize {
-        self.count
-    }
+    ghost Value = { List Shard };
 
-    fn shard(&self, index: usize) -> &[u8] {
-        let start = index * self.size;
-        &self.bytes[start..start + self.size]
-    }
+    ghost view = { λ x. cut x.left x.size x.bytes.now };
+
+    ghost invariant = { λ x. length x.bytes.now ≡ x.left * x.size };
 }
 
-/// Shards that lie anywhere.
-#[derive(Clone, Copy)]
-pub struct Anywhere<'a> {
-    pub shards: &'a [&'a [u8]],
-}
-
-impl Originals for Anywhere<'_> {
-    ghost shards = { λ s. map (λ shard. shard.now) s.shards.now };
-
-    fn count(&self) -> usize {
-        self.shards.len()
-    }
-
-    fn shard(&self, index: usize) -> &[u8] {
-        self.shards[index]
+impl<'a> Joined<'a> {
+    /// So many shards of this size.
+    pub fn new(count: usize, size: usize, bytes: &'a [u8]) -> Joined<'a>
+        requires { length bytes.now ≡ count * size }
+        ensures { result ≡ cut count size bytes.now }
+    {
+        Joined {
+            bytes,
+            size,
+            left: count,
+        }
     }
 }
 
-/// The shards of a buffer whose marks aren't 0.
-#[derive(Clone, Copy)]
+impl<'a> Iterator for Joined<'a> {
+    type Item = &'a [u8];
+
+    ghost next_gives = { YieldsFirstRef (λ shards. shards) };
+
+    ghost remaining = { item_count (λ shards. shards) };
+
+    fn next(&mut self) -> Option<&'a [u8]> {
+        if self.left == 0 {
+            return None;
+        }
+        let (shard, bytes) = self.bytes.split_at(self.size);
+        self.bytes = bytes;
+        self.left -= 1;
+        Some(shard)
+    }
+}
+
+/// The shards of a buffer whose marks aren't 0, and that are still to come, with their indexes.
+#[derive(Drop)]
 pub struct Marked<'a> {
-    pub marks: &'a [u8],
-    pub bytes: &'a [u8],
-    pub size: usize,
-    ghost fits: { length bytes.now ≡ length marks.now * size },
+    marks: &'a [u8],
+    bytes: &'a [u8],
+    size: usize,
+    place: usize,
+}
+
+impl<'a> Model for Marked<'a> {
+    ghost use Rattle.std.specs.Prelude.{◌≡◌, ◌*◌, ◌≤◌, drop, length};
+    ghost use Rattle.rs_field.specs.code.OneCall.{Items};
+    ghost use Rattle.rs_c.specs.Buffers.{marked};
+
+    ghost Value = { Items };
+
+    ghost view = { λ x. marked x.place x.size (drop x.place x.marks.now) (drop (x.place * x.size) x.bytes.now) };
+
+    ghost invariant = { λ x. (x.place ≤ length x.marks.now) × (length x.bytes.now ≡ length x.marks.now * x.size) };
 }
 
 impl<'a> Marked<'a> {
     /// The shards of these marks, one of each size behind the other.
     pub fn new(marks: &'a [u8], size: usize, bytes: &'a [u8]) -> Marked<'a>
         requires { length bytes.now ≡ length marks.now * size }
-        ensures { (result.marks ≡ marks.entry) × (result.size ≡ size) × (result.bytes ≡ bytes.entry) }
+        ensures { result ≡ marked 0 size marks.now bytes.now }
     {
-        Marked { marks, bytes, size }
+        Marked {
+            marks,
+            bytes,
+            size,
+            place: 0,
+        }
     }
 }
 
-impl Received for Marked<'_> {
-    ghost place_count = { λ s. length s.marks.now };
+impl<'a> Iterator for Marked<'a> {
+    type Item = (usize, &'a [u8]);
 
-    ghost from_place = { λ s place. marked place s.size (drop place s.marks.now) (drop (place * s.size) s.bytes.now) };
+    ghost next_gives = { YieldsFirstBy (λ item. (item.0, item.1.now)) (λ items. items) };
 
-    fn places(&self) -> usize {
-        self.marks.len()
-    }
+    ghost remaining = { item_count (λ items. items) };
 
-    fn at(&self, place: usize) -> Option<(usize, &[u8])> {
-        if self.marks[place] == 0 {
+    fn next(&mut self) -> Option<(usize, &'a [u8])> {
+        let bytes = self.bytes;
+        let place = first_marked(self.marks, self.place);
+        if place == self.marks.len() {
+            self.place = place;
             return None;
         }
+        self.place = place + 1;
         let start = place * self.size;
-        Some((place, &self.bytes[start..start + self.size]))
+        Some((place, &bytes[start..start + self.size]))
     }
+}
+
+// The first place from this one on whose mark isn't 0, or how many marks there are.
+fn first_marked(marks: &[u8], from: usize) -> usize
+    requires { from ≤ length marks.now }
+    ensures within { result ≤ length marks.now }
+    ensures there { result < length marks.now → slice_index marks.now result ≢ 0 }
+    ensures left { (size : ℕ) (bytes : List ℕ) → marked from size (drop from marks.now) (drop (from * size) bytes)
+        ≡ marked result size (drop result marks.now) (drop (result * size) bytes) }
+{
+    for place in from..marks.len() {
+        if marks[place] != 0 {
+            return place;
+        }
+    }
+    marks.len()
 }
 
 /// A shard that lies anywhere, with its index.
@@ -126,25 +135,4 @@ impl Received for Marked<'_> {
 pub struct RsShard<'a> {
     pub index: usize,
     pub bytes: &'a [u8],
-}
-
-/// Shards that lie anywhere, with their indexes.
-#[derive(Clone, Copy)]
-pub struct Listed<'a> {
-    pub shards: &'a [RsShard<'a>],
-}
-
-impl Received for Listed<'_> {
-    ghost place_count = { λ s. length s.shards.now };
-
-    ghost from_place = { λ s place. drop place (items_of s.shards.now) };
-
-    fn places(&self) -> usize {
-        self.shards.len()
-    }
-
-    fn at(&self, place: usize) -> Option<(usize, &[u8])> {
-        let shard = self.shards[place];
-        Some((shard.index, shard.bytes))
-    }
 }

@@ -5,7 +5,8 @@ use Rattle.std.proofs.lemmas.List.Elements.{All-map}
 use Rattle.reed_solomon_simd.specs.ResultView.{recovery_shards, restored_originals}
 use Rattle.reed_solomon_simd.specs.declared.Error.TheVariants.{OutOfMemory}
 use Rattle.reed_solomon_simd.proofs.Left.{kept_of}
-use Rattle.reed_solomon_simd.proofs.ObjectRoundTrip.{reached-ok, codes-given, gives-back, copies-lost, gives-all, encodes, gives-kept, gives-received, restores}
+use Rattle.reed_solomon_simd.proofs.Giving.{reached-ok}
+use Rattle.reed_solomon_simd.proofs.ObjectRoundTrip.{codes-given, gives-back, copies-lost, gives-all, encodes, gives-kept, gives-received, restores}
 use Rattle.rs_callers.specs.Losing.{left_below}
 use Rattle.rs_callers.proofs.LeftCount.{left-count}
 use Rattle.rs_callers.proofs.rate_round_trip.round_trip_at_a_rate.Goals as goal

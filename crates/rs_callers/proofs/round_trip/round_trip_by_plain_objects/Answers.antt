@@ -9,7 +9,8 @@ use Rattle.reed_solomon_simd.specs.ResultView.{recovery_shards, restored_origina
 use Rattle.reed_solomon_simd.specs.declared.Error.TheVariants.{OutOfMemory}
 use Rattle.reed_solomon_simd.proofs.Left.{kept_of}
 use Rattle.reed_solomon_simd.proofs.ObjectLaws.{valid-encoder}
-use Rattle.reed_solomon_simd.proofs.ObjectRoundTrip.{reached-ok, codes-given, gives-back, copies-lost, gives-all, encodes, gives-kept, gives-received, restores}
+use Rattle.reed_solomon_simd.proofs.Giving.{reached-ok}
+use Rattle.reed_solomon_simd.proofs.ObjectRoundTrip.{codes-given, gives-back, copies-lost, gives-all, encodes, gives-kept, gives-received, restores}
 use Rattle.rs_callers.specs.Losing.{left_below}
 use Rattle.rs_callers.proofs.LeftCount.{left-count}
 use Rattle.rs_callers.proofs.round_trip.round_trip_by_plain_objects.Goals as goal

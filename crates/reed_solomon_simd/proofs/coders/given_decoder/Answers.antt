@@ -1,0 +1,46 @@
+use Rattle.std.proofs.Common.{rules, Ok, Err}
+use Rattle.reed_solomon_simd.proofs.Giving.{no-calls, ended-both, first-both, reached-ok, reached-err}
+use Rattle.reed_solomon_simd.proofs.OneCall.{decoding-none, decoding-unset, decoding-given}
+use Rattle.reed_solomon_simd.proofs.coders.given_decoder.Goals as goal
+
+pub returns-in_err-check_counts-clause-run : goal.returns-in_err-check_counts-clause-run
+returns-in_err-check_counts-clause-run g c = (no-calls c.args.original, no-calls c.args.recovery, λ originals recoveries begins further. search rules)
+
+pub returns-in_err-check_all_came-clause-run : goal.returns-in_err-check_all_came-clause-run
+returns-in_err-check_all_came-clause-run g c =
+    ended-both (λ item. (item.0, item.1.now)) (λ item. (item.0, item.1.now)) _ c.args.recovery c.next.new.self c.in_default.ensures.steps
+    (c.in_err-check_all_came.ensures.0, λ originals begins. let led = decoding-none c.args.original_count c.args.recovery_count originals (Err c.in_err-check_all_came.field-0.0) c.in_ok-check_counts.ensures (c.in_err-check_all_came.ensures.1 originals begins) in search rules)
+
+pub returns-in_default-clause-run : goal.returns-in_default-clause-run
+returns-in_default-clause-run g c =
+    ended-both (λ item. (item.0, item.1.now)) (λ item. (item.0, item.1.now)) _ c.args.recovery c.next.new.self c.in_default.ensures.steps
+    (c.in_ok-check_all_came.ensures.0, λ originals begins. decoding-none c.args.original_count c.args.recovery_count originals (Ok tt) c.in_ok-check_counts.ensures (c.in_ok-check_all_came.ensures.1 originals begins))
+
+pub returns-in_err-decoder-clause-run : goal.returns-in_err-decoder-clause-run
+returns-in_err-decoder-clause-run g c =
+    first-both (λ item. (item.0, item.1.now)) (λ item. (item.0, item.1.now)) _ {item = (c.in-Some.first_index, c.in-Some.first_shard)} c.in-Some.ensures.steps (
+      no-calls c.args.original,
+      no-calls c.next.new.self,
+      λ originals others begins further.
+          let led = decoding-unset c.args.original_count c.args.recovery_count originals (c.in-Some.first_index, c.in-Some.first_shard.now) others _ c.in_err-decoder.ensures.answer in search rules,
+    )
+
+pub returns-in_err-give_both-clause-run : goal.returns-in_err-give_both-clause-run
+returns-in_err-give_both-clause-run g c =
+    first-both (λ item. (item.0, item.1.now)) (λ item. (item.0, item.1.now)) _ {item = (c.in-Some.first_index, c.in-Some.first_shard)} c.in-Some.ensures.steps (
+      c.in_err-give_both.ensures.0,
+      c.in_err-give_both.ensures.1,
+      λ originals others begins further.
+          let led = decoding-given c.args.original_count c.args.recovery_count originals (c.in-Some.first_index, c.in-Some.first_shard.now) others _ c.in_ok-decoder.ensures.answer c.in_ok-decoder.ensures.made.0 _
+          (reached-err _ _ _ (c.in_err-give_both.ensures.2 originals others begins further)) in search rules,
+    )
+
+pub returns-clause-run : goal.returns-clause-run
+returns-clause-run g c =
+    first-both (λ item. (item.0, item.1.now)) (λ item. (item.0, item.1.now)) _ {item = (c.in-Some.first_index, c.in-Some.first_shard)} c.in-Some.ensures.steps (
+      c.in_ok-give_both.ensures.0,
+      c.in_ok-give_both.ensures.1,
+      λ originals others begins further.
+          decoding-given c.args.original_count c.args.recovery_count originals (c.in-Some.first_index, c.in-Some.first_shard.now) others _ c.in_ok-decoder.ensures.answer c.in_ok-decoder.ensures.made.0 _
+          (reached-ok _ _ (c.in_ok-give_both.ensures.2 originals others begins further)),
+    )

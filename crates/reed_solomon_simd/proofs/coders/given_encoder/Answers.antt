@@ -1,0 +1,50 @@
+use Rattle.std.proofs.Common.{rules, Ok, Err}
+use Rattle.rs_field.specs.code.Encoder.{with_shard}
+use Rattle.rs_field.proofs.of_code.SupportedCounts.{default_fits}
+use Rattle.reed_solomon_simd.proofs.Giving.{no-calls, ended-calls, ended-run, first-then, outcome-ok, outcome-err, reached-ok, reached-err, steps-ok, steps-err}
+use Rattle.reed_solomon_simd.proofs.OneCall.{encoding-unset, encoding-given}
+use Rattle.reed_solomon_simd.proofs.coders.given_encoder.Goals as goal
+
+pub returns-in_err-check_counts-clause-run : goal.returns-in_err-check_counts-clause-run
+returns-in_err-check_counts-clause-run g c = (no-calls c.args.original, λ items begins. search rules)
+
+pub returns-in_default-clause-run : goal.returns-in_default-clause-run
+returns-in_default-clause-run g c = (
+  ended-calls c.args.original c.next.new.self c.in_default.ensures.steps,
+  ended-run g.I.Iterator.next_gives (λ shard. shard.now) _ c.args.original c.next.new.self c.in_default.ensures.steps (search rules),
+)
+
+pub returns-in_err-encoder-clause-run : goal.returns-in_err-encoder-clause-run
+returns-in_err-encoder-clause-run g c =
+    first-then g.I.Iterator.next_gives (λ shard. shard.now) _ c.in-Some.ensures.steps (
+      no-calls c.next.new.self,
+      λ others begins.
+          let led = encoding-unset c.args.original_count c.args.recovery_count c.in-Some.first.now others _ c.in_err-encoder.ensures.answer in search rules,
+    )
+
+pub returns-in_err-add_original_shard-clause-run : goal.returns-in_err-add_original_shard-clause-run
+returns-in_err-add_original_shard-clause-run g c =
+    first-then g.I.Iterator.next_gives (λ shard. shard.now) _ c.in-Some.ensures.steps (
+      no-calls c.next.new.self,
+      λ others begins.
+          let led = encoding-given c.args.original_count c.args.recovery_count c.in-Some.first.now others _ c.in_ok-encoder.ensures.answer c.in_ok-encoder.ensures.made.0 _
+          (steps-err with_shard _ c.in-Some.first.now others _ (outcome-err _ _ c.in_err-add_original_shard.ensures.answer)) in search rules,
+    )
+
+pub returns-in_err-give_shards-clause-run : goal.returns-in_err-give_shards-clause-run
+returns-in_err-give_shards-clause-run g c =
+    first-then g.I.Iterator.next_gives (λ shard. shard.now) _ c.in-Some.ensures.steps (
+      c.in_err-give_shards.ensures.0,
+      λ others begins.
+          let led = encoding-given c.args.original_count c.args.recovery_count c.in-Some.first.now others _ c.in_ok-encoder.ensures.answer c.in_ok-encoder.ensures.made.0 _
+          (steps-ok with_shard _ _ c.in-Some.first.now others _ (outcome-ok _ _ _ c.in_ok-add_original_shard.ensures.answer c.in_ok-add_original_shard.ensures.left) (reached-err _ _ _ (c.in_err-give_shards.ensures.1 others begins))) in search rules,
+    )
+
+pub returns-clause-run : goal.returns-clause-run
+returns-clause-run g c =
+    first-then g.I.Iterator.next_gives (λ shard. shard.now) _ c.in-Some.ensures.steps (
+      c.in_ok-give_shards.ensures.0,
+      λ others begins.
+          encoding-given c.args.original_count c.args.recovery_count c.in-Some.first.now others _ c.in_ok-encoder.ensures.answer c.in_ok-encoder.ensures.made.0 _
+          (steps-ok with_shard _ _ c.in-Some.first.now others _ (outcome-ok _ _ _ c.in_ok-add_original_shard.ensures.answer c.in_ok-add_original_shard.ensures.left) (reached-ok _ _ (c.in_ok-give_shards.ensures.1 others begins))),
+    )

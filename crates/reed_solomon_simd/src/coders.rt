@@ -1,0 +1,196 @@
+//! Encoders and decoders of the default rate with the shards of a message given to them, as one call gives them.
+ghost use Rattle.std.specs.Prelude.{◌≡◌, ◌∷◌, ℕ, List, Err, IfErr};
+ghost use Rattle.std.specs.Iterator.{IsFinite};
+ghost use Rattle.std.specs.Option.{option_map};
+ghost use Rattle.std.specs.Result.{result_map_both};
+ghost use Rattle.rs_field.specs.code.Column.{Shard};
+ghost use Rattle.rs_field.specs.code.Counts.{default_rate};
+ghost use Rattle.rs_field.specs.code.OneCall.{Items, Lends, LendsItems, counted, with_shards, with_originals, with_recoveries, with_both};
+ghost use Rattle.rs_rate.specs.EncoderView.{encoder_state};
+ghost use Rattle.rs_rate.specs.DecoderView.{decoder_state};
+ghost use Rattle.reed_solomon_simd.specs.Calls.{Calls, BeginsWith, BeginsWithItems};
+ghost use Rattle.reed_solomon_simd.specs.Giving.{Reaches, IsEncoding, IsDecoding};
+
+use crate::all_came::check_all_came;
+use rs_engines::engine_default::DefaultEngine;
+use rs_field::engine::Engine;
+use rs_field::error::Error;
+use rs_rate::rate::{DefaultRateDecoder, DefaultRateEncoder, RateDecoder, RateEncoder};
+use std::alloc::Global;
+
+/// An encoder that was given the originals. Refused as `encode` is up to the last of them.
+///
+/// ```
+/// // quoted: crates/rs/src/program.rt
+/// let shards = original.iter().map(|shard| shard.as_slice());
+/// let mut encoder = given_encoder(alloc, counts.original, counts.recovery, shards, engine)?;
+/// ```
+pub fn given_encoder<'a, E: Engine, I: Iterator<Item = &'a [u8]> + Drop>(
+    alloc: Global,
+    original_count: usize,
+    recovery_count: usize,
+    mut original: I,
+    engine: E,
+) -> Result<DefaultRateEncoder<E>, Error>
+    requires can { I.can_next original }
+    requires ends { IsFinite (I.remaining original) }
+    ensures counts { IfErr (counted original_count recovery_count) (λ e. result ≡ Err e) }
+    ensures run { (calls : Calls I.next_gives original) × ((items : List Shard) → BeginsWith items calls
+        → IsEncoding original_count recovery_count items (result_map_both (λ x. encoder_state default_rate x.rows) (λ e. e) result)) }
+{
+    check_counts(original_count, recovery_count)?;
+    let Some(first) = original.next() else {
+        return Err(Error::TooFewOriginalShards {
+            original_count,
+            original_received_count: 0,
+        });
+    };
+    let mut encoder = DefaultRateEncoder::new(
+        alloc,
+        original_count,
+        recovery_count,
+        first.len(),
+        engine,
+        None,
+    )?;
+    encoder.add_original_shard(first)?;
+    give_shards(&mut encoder, original)?;
+    Ok(encoder)
+}
+
+/// A decoder that was given the originals and the recovery shards; None where no recovery shard came and all originals did.
+/// Refused as `decode` is up to the last of them.
+///
+/// ```
+/// // quoted: crates/rs/src/program.rt
+/// let Some(mut decoder) = given_decoder(alloc, k, r, original, recovery, engine)? else {
+///     return Ok(Vec::new(alloc));
+/// };
+/// ```
+pub fn given_decoder<'a, E: Engine, O, R>(
+    alloc: Global,
+    original_count: usize,
+    recovery_count: usize,
+    original: O,
+    mut recovery: R,
+    engine: E,
+) -> Result<Option<DefaultRateDecoder<E>>, Error>
+where
+    O: Iterator<Item = (usize, &'a [u8])> + Drop,
+    R: Iterator<Item = (usize, &'a [u8])> + Drop,
+    requires can { O.can_next original }
+    requires ends { IsFinite (O.remaining original) }
+    requires can_recovery { R.can_next recovery }
+    requires recovery_ends { IsFinite (R.remaining recovery) }
+    ensures counts { IfErr (counted original_count recovery_count) (λ e. result ≡ Err e) }
+    ensures run { (calls : Calls O.next_gives original) × (further : Calls R.next_gives recovery) × ((originals recoveries : Items)
+        → BeginsWithItems originals calls → BeginsWithItems recoveries further → IsDecoding original_count recovery_count originals recoveries
+        (result_map_both (λ o. option_map (λ x. decoder_state default_rate x.rows) o) (λ e. e) result)) }
+{
+    check_counts(original_count, recovery_count)?;
+    let Some((first_index, first_shard)) = recovery.next() else {
+        check_all_came(alloc, original_count, original)?;
+        return Ok(None);
+    };
+    let mut decoder = DefaultRateDecoder::new(
+        alloc,
+        original_count,
+        recovery_count,
+        first_shard.len(),
+        engine,
+        None,
+    )?;
+    give_both(&mut decoder, original, first_index, first_shard, recovery)?;
+    Ok(Some(decoder))
+}
+
+/// `UnsupportedShardCount` where the default rate doesn't support the counts.
+///
+/// ```
+/// // quoted: crates/rs/src/program.rt
+/// check_counts(command.counts.original, command.counts.recovery)?;
+/// ```
+pub fn check_counts(original_count: usize, recovery_count: usize) -> Result<(), Error>
+    ensures { result ≡ counted original_count recovery_count }
+{
+    if DefaultRateEncoder::<DefaultEngine<'_>>::supports(original_count, recovery_count) {
+        Ok(())
+    } else {
+        Err(Error::UnsupportedShardCount {
+            original_count,
+            recovery_count,
+        })
+    }
+}
+
+// Gives an encoder shards in order; the first refused one decides.
+fn give_shards<'a, E: Engine, X: RateEncoder<E>, I: Iterator<Item = &'a [u8]> + Drop>(
+    encoder: &mut X,
+    shards: I,
+) -> Result<(), Error>
+    requires can { I.can_next shards }
+    requires ends { IsFinite (I.remaining shards) }
+    ensures { (calls : Calls I.next_gives shards) × ((items : List Shard) → BeginsWith items calls
+        → Reaches (with_shards (X.state encoder.old) items) result (λ s. X.state encoder.new ≡ s)) }
+{
+    for shard in shards {
+        encoder.add_original_shard(shard)?;
+    }
+    Ok(())
+}
+
+// Gives a decoder originals in order, and then recovery shards in order, of which the first was taken already.
+fn give_both<'a, E: Engine, X: RateDecoder<E>, O, R>(
+    decoder: &mut X,
+    originals: O,
+    first_index: usize,
+    first_shard: &'a [u8],
+    recovery: R,
+) -> Result<(), Error>
+where
+    O: Iterator<Item = (usize, &'a [u8])> + Drop,
+    R: Iterator<Item = (usize, &'a [u8])> + Drop,
+    requires can { O.can_next originals }
+    requires ends { IsFinite (O.remaining originals) }
+    requires can_recovery { R.can_next recovery }
+    requires recovery_ends { IsFinite (R.remaining recovery) }
+    ensures { (calls : Calls O.next_gives originals) × (further : Calls R.next_gives recovery)
+        × ((before after : Items) → BeginsWithItems before calls → BeginsWithItems after further
+        → Reaches (with_both (X.state decoder.old) before ((first_index, first_shard.now) ∷ after)) result (λ s. X.state decoder.new ≡ s)) }
+{
+    give_originals(decoder, originals)?;
+    decoder.add_recovery_shard(first_index, first_shard)?;
+    give_recovery(decoder, recovery)
+}
+
+// Gives a decoder originals in order; the first refused one decides.
+fn give_originals<'a, E: Engine, X: RateDecoder<E>, I: Iterator<Item = (usize, &'a [u8])> + Drop>(
+    decoder: &mut X,
+    originals: I,
+) -> Result<(), Error>
+    requires can { I.can_next originals }
+    requires ends { IsFinite (I.remaining originals) }
+    ensures { (calls : Calls I.next_gives originals) × ((items : Items) → BeginsWithItems items calls
+        → Reaches (with_originals (X.state decoder.old) items) result (λ s. X.state decoder.new ≡ s)) }
+{
+    for (index, shard) in originals {
+        decoder.add_original_shard(index, shard)?;
+    }
+    Ok(())
+}
+
+// Gives a decoder recovery shards in order; the first refused one decides.
+fn give_recovery<'a, E: Engine, X: RateDecoder<E>, I: Iterator<Item = (usize, &'a [u8])> + Drop>(
+    decoder: &mut X,
+    recovery: I,
+) -> Result<(), Error>
+    requires can { I.can_next recovery }
+    requires ends { IsFinite (I.remaining recovery) }
+    ensures { (calls : Calls I.next_gives recovery) × ((items : Items) → BeginsWithItems items calls
+        → Reaches (with_recoveries (X.state decoder.old) items) result (λ s. X.state decoder.new ≡ s)) }
+{
+    for (index, shard) in recovery {
+        decoder.add_recovery_shard(index, shard)?;
+    }
+    Ok(())
+}
