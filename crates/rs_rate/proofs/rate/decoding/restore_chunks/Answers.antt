@@ -1,4 +1,4 @@
-use Rattle.std.proofs.Common.{◌≡◌, ℕ, ◌+◌, true, rules, ap, sym, ◌∙◌, true≢false}
+use Rattle.std.proofs.Common.{◌≡◌, ℕ, ◌+◌, rules, ap, sym, ◌∙◌, true≢false}
 use Rattle.std.specs.Prelude.{not}
 use Rattle.rs_field.specs.code.Column.{column}
 use Rattle.rs_field.specs.rows.Layout.{row_len}

@@ -102,9 +102,3 @@ invariant_of-self c =
           c.if-shard-self.false c.enter.ensures.shard c.enter.ensures.here c.enter.ensures.others
           (λ apart. w.shards p (sym (c.enter.ensures.other_marks p apart) ∙ given));
     }
-
-pub row-row-requires : goal.row-row-requires
-row-row-requires c =
-    let w = c.args.self.now in
-    let below = side-within w c.args.side in
-    omega (arith, c.if-index-count.false, c.count.ensures, below, w.laid.few)

@@ -12,19 +12,6 @@ use Rattle.rs_rate.proofs.ConfiguredLemmas.{decoder_shape-is, decoder-chunks, de
 use Rattle.rs_rate.proofs.StateLemmas.{started-by, if_some-map}
 use Rattle.rs_rate.proofs.rate.decoders.DecoderRateDecoder.new.Goals as goal
 
-pub returns-in_err-rows-clause-answer : goal.returns-in_err-rows-clause-answer
-returns-in_err-rows-clause-answer g c =
-    let rate = g.C.Code.rate in
-    let k = c.args.original_count in
-    let r = c.args.recovery_count in
-    let size = c.args.shard_bytes in
-    let shape = decoder_shape-is rate k r size c.in_ok-configuration.configuration c.decoder_shape.result c.in_ok-configuration.ensures.1 c.decoder_shape.ensures.shape in
-    let chunks = decoder-chunks rate k r size c.decoder_shape.result shape in
-    let set_up = started-by (decoder_rows rate k r) (configuration rate k r size) (shape_chunks c.decoder_shape.result) c.in_ok-configuration.ensures.0 chunks.1 in
-    let p = err_from_is_err_and c.from_residual-in_err-rows.result c.from_residual-in_err-rows.ensures.1 in
-    rw (p.1, p.2) (subst (UpToMemory (started (decoder_rows rate k r) (configuration rate k r size))) (ap answer_of c.in_err-rows.was)
-    (subst (λ (a : Result (Unit {0}) Error). UpToMemory a (answer_of c.new.result)) (sym set_up) c.new.ensures.answer))
-
 pub returns-in_err-rows-clause-roomy : goal.returns-in_err-rows-clause-roomy
 returns-in_err-rows-clause-roomy g c =
     let rate = g.C.Code.rate in
