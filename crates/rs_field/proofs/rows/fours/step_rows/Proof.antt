@@ -1,44 +1,19 @@
-use mathlib.Core.Path.{◌≡◌, refl, sym, ap, ◌∙◌}
-use Prim.Native.Nat.{ℕ, ◌+◌, ◌*◌, ◌<◌, ◌≤◌}
-use native.Mathlib.Omega.{arith}
-use mathlib.Core.List.{List, [], ◌∷◌, ◌++◌}
-use lib.ListN.{length}
-use mir.MapTy.{inst_fn}
-use mir.Syntax.{named, w64, a_type, dcons, dnil, Args}
-use mir.Val.{Val, vunit, vstruct, vcons, vnil, of_list}
-use base.Logic.{id⊢, emp, wand, apply∗}
-use base.Fraction.{full_share}
+use Rattle.rs_field.proofs.Walking.{◌≡◌, refl, sym, ap, ◌∙◌, ℕ, ◌+◌, ◌*◌, ◌<◌, ◌≤◌, arith, List, [], ◌∷◌, ◌++◌, length, named, w64, a_type, dcons, dnil, Args, Val}
+use Rattle.rs_field.proofs.Walking.{vunit, vstruct, vcons, vnil, of_list, id⊢, emp, wand, apply∗, full_share, Lft, GName, ftrue, flft, fdead, fres, fact, fact_i, tables}
+use Rattle.rs_field.proofs.Walking.{proved, ‵, ◌⊛◌, raw, some, later, ◌$◌, ◌∵◌, !, qed, move, keep, drop, split, split3, join, fsplit, fjoin, feq_l, feq_i, use0, use1}
+use Rattle.rs_field.proofs.Walking.{use2, use3, await, pick, suffices, done, rewrite, stop, addr, of_opd, unit_lit, returns, enter, no_more, and_then, alloc_all}
+use Rattle.rs_field.proofs.Walking.{pass_all, free_all, look_at, get, through, sets, lands_as, usize, u8, unit, RefOf, yes, Is, shows, uint_vals, uint_Tells, uint_Makes}
+use Rattle.rs_field.proofs.Walking.{RattleType, owns, Valss, MutBor, MutRef, ShrRef, mut_vals, mut_Tells, shr_vals, shr_Tells, Slot, plain, named_lft, Array, MutSlice}
+use Rattle.rs_field.proofs.Walking.{Room, slice_val, nothing, heard, only, peeks, owned, row, tuple_type, calls_at, lasts, triple_of, framed, Stays, stay_dropped}
+use Rattle.rs_field.proofs.Walking.{stay_ref, walk_of, ends_at, Goes-dropped, Goes-ref}
 use base.Share
-use base.Fml.{Lft, GName, ftrue, flft, fdead, fres}
+use mir.MapTy.{inst_fn}
 use base.Stored.{Gv}
 use contract.BorrowLft.{◌⊑◌, meet_⊑_left, meet_⊑_right}
-use contract.Monad.{fact, fact_i}
-use contract.Running.{tables}
-use Rattle.std.proofs.raw_atomic.Walks.{proved}
-use types.Kit.{‵, ◌⊛◌, raw, some, later, ◌$◌, ◌∵◌, !, qed, move, keep, drop, split, split3, join, fsplit, fjoin, feq_l, feq_i, use0, use1, use2, use3, await, pick, suffices, done, rewrite}
 use types.Tokens.{lft_new, lft_end}
-use types.Run.{stop, addr, of_opd, unit_lit, returns, enter, no_more, and_then}
-use types.ByLocal.{alloc_all, pass_all, free_all, look_at, get, through, sets, lands_as}
-use denote.Builtin.{usize, u8, unit, RefOf}
-use denote.Exit.{yes}
 use denote.FollowSlice.{finally-res}
-use denote.Laws.{Is, shows}
 use denote.Lend.{lends_again, comes_back, LentAgain}
 use denote.Param.{bounded}
-use denote.Plain.{uint_vals, uint_Tells, uint_Makes}
-use denote.RattleType.{RattleType, owns, Valss}
-use denote.Ref.{MutBor, MutRef, ShrRef, mut_vals, mut_Tells, shr_vals, shr_Tells}
-use denote.Signature.{Slot, plain, named_lft}
-use denote.Array.{Array}
-use denote.Slice.{MutSlice, Room, slice_val}
-use denote.Steps.{nothing, heard, only, peeks, owned}
-use denote.Struct.Declared.{row}
-use denote.Struct.Tuple.{tuple_type}
-use denote.Triple.Call.{calls_at}
-use denote.Triple.Clauses.{lasts}
-use denote.Triple.Spec.{triple_of}
-use denote.Triple.Table.{framed}
-use denote.Triple.Walked.{Stays, stay_dropped, stay_ref, walk_of, ends_at, Goes-dropped, Goes-ref}
 use Rattle.rs_field.proofs.of_rows.FourRuns.{followed₄}
 use Rattle.rs_field.proofs.of_rows.LentRows.{part-long, ends}
 use Rattle.rs_field.proofs.of_rows.LentFourRows.{four-shape, step-of-four, others-of-four}
