@@ -1,5 +1,5 @@
 -- The derivative step by halves: of the polynomial with given coefficients in the subspace basis, for one symbol of the rows.
-use Rattle.std.proofs.Common.{◌≡◌, ℕ, suc, ◌+◌, ◌*◌, ◌/◌, ◌^◌, ◌<◌, ◌≤◌, List, [], ◌∷◌, length, bit_xor, refl, sym, ap, ap₂, ◌∙◌, subst, arith, add_assoc, zero-add, pow-suc, pow_mono}
+use Rattle.std.proofs.Common.{rules, ◌≡◌, ℕ, suc, ◌+◌, ◌*◌, ◌/◌, ◌^◌, ◌<◌, ◌≤◌, List, [], ◌∷◌, length, bit_xor, refl, sym, ap, ap₂, ◌∙◌, subst, arith, add_assoc, zero-add, pow-suc, pow_mono}
 use Rattle.std.specs.Int.Bits.{xor_comm, xor_zero_r}
 use Rattle.rs_field.specs.words.Field.{product}
 use Rattle.rs_field.specs.words.Polynomial.{value, derivative_value}
@@ -43,10 +43,7 @@ joined e low high = add (times (points 0 (2 ^ e)) high) low
 
 length-joined : (e : ℕ) (p q : List ℕ) → length p ≡ 2 ^ e → length q ≡ 2 ^ e → length (joined e p q) ≡ 2 ^ suc e
 unfolding joined
-length-joined e p q size_p size_q =
-    let size : length (times (points 0 (2 ^ e)) q) ≡ 2 ^ e + length q = length-times 0 (2 ^ e) q in
-    let double : 2 ^ suc e ≡ 2 ^ e * 2 = pow-suc 2 e in
-    length-add (times (points 0 (2 ^ e)) q) p (omega arith) ∙ omega arith
+length-joined e p q size_p size_q = search (rules, length-times, pow-suc, length-add)
 
 words_joined : (e : ℕ) (p q : List ℕ) → WordsOneByOne p → WordsOneByOne q → WordsOneByOne (joined e p q)
 unfolding joined

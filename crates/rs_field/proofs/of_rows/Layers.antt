@@ -1,5 +1,5 @@
 -- One layer of butterflies between the halves of a block, and two layers between its quarters, for one symbol of the rows.
-use Rattle.std.proofs.Common.{◌≡◌, ℕ, suc, ◌+◌, ◌-◌, ◌*◌, ◌%◌, ◌^◌, ◌<◌, ◌≤◌, cond, nat_lt, List, get_or, bit_xor, sym, ap, ap₂, ◌∙◌, subst, inl, inr, arith}
+use Rattle.std.proofs.Common.{rules, ◌≡◌, ℕ, suc, ◌+◌, ◌-◌, ◌*◌, ◌%◌, ◌^◌, ◌<◌, ◌≤◌, cond, nat_lt, List, get_or, bit_xor, sym, ap, ap₂, ◌∙◌, subst, inl, inr, arith}
 use Rattle.std.proofs.Math.Nat.{mul-le-mul_right}
 use Rattle.std.proofs.lemmas.Bool.{cases_lt}
 use Rattle.rs_field.specs.words.Field.{product}
@@ -82,8 +82,7 @@ layer_high skew n shift i f g b hi l =
 -- a part by another name of the place where it begins
 as_part : (size n shift start i to at : ℕ) (f g h : ℕ → ℕ) → shift + start ≡ to → start + i ≡ at → ((q : ℕ) → g (start + q) ≡ h q)
     → forward n to h i ≡ forward size shift f at → forward n (shift + start) (λ q. g (start + q)) i ≡ forward size shift f (start + i)
-as_part size n shift start i to at f g h e place same r =
-    forward-same n (shift + start) (λ q. g (start + q)) h i (λ q hq. same q) ∙ ap (λ t. forward n t h i) e ∙ r ∙ ap (forward size shift f) (sym place)
+as_part size n shift start i to at f g h e place same r = search (rules, forward-same)
 
 -- one layer leaves two parts
 pub one_layer : (skew : List ℕ) (n shift : ℕ) (f g : ℕ → ℕ) → IsBlock skew (n + n) shift → IsLayer skew n shift f g → ArePartsOf (n + n) n shift f g
@@ -215,22 +214,13 @@ backward_undone m02 m01 m23 x0 x1 x2 x3 y0 y1 y2 y3 (e0, e1, e2, e3) = grind (ar
 
 -- a forward butterfly undoes a backward one
 pub pair_undone : (log_m x y x' y' : ℕ) → IsBackwardTwo log_m x y x' y' → IsForwardTwo log_m x' y' x y
-pair_undone log_m x y x' y' (first, second) =
-    grind (arith, common_steps, xor_undo)
+pair_undone log_m x y x' y' (first, second) = search (rules, xor_undo)
 
 -- the one layer of rows by halves
 pub half_rows : (skew : List ℕ) (n shift pos : ℕ) (f g : ℕ → ℕ) → IsBlock skew (n + n) shift
     → ((q : ℕ) → q < n → IsForwardTwo (factor skew n shift) (f (pos + q)) (f (pos + n + q)) (g (pos + q)) (g (pos + n + q)))
     → ArePartsOf (n + n) n shift (λ q. f (pos + q)) (λ q. g (pos + q))
-half_rows skew n shift pos f g b pair =
-    one_layer skew n shift (λ q. f (pos + q)) (λ q. g (pos + q)) b
-    (record {
-      first = λ q hq. (pair q hq).0 ∙ ap (λ p. bit_xor (f (pos + q)) (scaled (factor skew n shift) (f p))) (on q);
-      second = λ q hq. ap g (sym (on q)) ∙ (pair q hq).1 ∙ ap (λ p. bit_xor (f p) (g (pos + q))) (on q);
-    })
-  where
-    on : (q : ℕ) → pos + n + q ≡ pos + (n + q)
-    on q = omega arith
+half_rows skew n shift pos f g b pair = search (rules, one_layer)
 
 -- forward butterflies of four words in four rows
 abbrev pub FourRows : ℕ → ℕ → ℕ → (ℕ → ℕ) → (ℕ → ℕ) → ℕ → ℕ → ℕ → ℕ → Type 0

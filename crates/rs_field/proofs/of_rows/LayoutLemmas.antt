@@ -1,5 +1,5 @@
 -- Where the bytes of a shard lie in a row, and that its columns are the symbols of the row's chunks.
-use Rattle.std.proofs.Common.{◌≡◌, ℕ, zero, suc, ◌+◌, ◌-◌, ◌*◌, ◌/◌, ◌%◌, ◌<◌, ◌≤◌, List, [], ◌∷◌, ◌++◌, length, get_or, min, take, drop, All, sym, ap, ap₂, ◌∙◌, refl, subst, arith, inl, inr, add-one, length-append}
+use Rattle.std.proofs.Common.{rules, ◌≡◌, ℕ, zero, suc, ◌+◌, ◌-◌, ◌*◌, ◌/◌, ◌%◌, ◌<◌, ◌≤◌, List, [], ◌∷◌, ◌++◌, length, get_or, min, take, drop, All, sym, ap, ap₂, ◌∙◌, refl, subst, arith, inl, inr, add-one, length-append}
 use Rattle.std.specs.Prelude.{slice_index}
 use Rattle.std.proofs.Math.Nat.{min-eq_left, min-eq_right}
 use Rattle.std.proofs.Math.Seq.{get_or-append_seam}
@@ -112,19 +112,7 @@ shard-in_order size chunks small = grind (arith, common_steps, length-in_order, 
 -- word i of chunk q: its low byte and its high byte
 word-laid_out : (size q i half : ℕ) (chunks : ℕ → List ℕ) → min 64 (size - q * 64) / 2 ≡ half → i < half → half ≤ 32 → q * 64 + 2 * half ≤ size
     → slice_index (laid_out size chunks) (q * 64 + i) + 256 * slice_index (laid_out size chunks) (q * 64 + i + half) ≡ symbol (chunks q) i
-word-laid_out size q i half chunks e low most fits =
-    let ql : (q * 64 + i) / 64 ≡ q = omega arith in
-    let rl : (q * 64 + i) % 64 ≡ i = omega arith in
-    let qh : (q * 64 + i + half) / 64 ≡ q = omega arith in
-    let rh : (q * 64 + i + half) % 64 ≡ i + half = omega arith in
-    let el : min 64 (size - (q * 64 + i) / 64 * 64) / 2 ≡ half = ap (λ n. min 64 (size - n * 64) / 2) ql ∙ e in
-    let eh : min 64 (size - (q * 64 + i + half) / 64 * 64) / 2 ≡ half = ap (λ n. min 64 (size - n * 64) / 2) qh ∙ e in
-    let pl : byte_offset size (q * 64 + i) ≡ i = byte_offset-low size (q * 64 + i) half el (subst (λ n. n < half) (sym rl) low) ∙ rl in
-    let ph : byte_offset size (q * 64 + i + half) ≡ i + 32
-    = byte_offset-high size (q * 64 + i + half) half eh (omega arith) ∙ ap (λ n. n - half + 32) rh ∙ (let r : i + half - half + 32 ≡ i + 32 = omega arith in r) in
-    ap₂ (λ u v. u + 256 * v)
-    (get-laid_out size (q * 64 + i) chunks (omega arith) ∙ ap₂ (λ k n. slice_index (chunks k) n) ql pl)
-    (get-laid_out size (q * 64 + i + half) chunks (omega arith) ∙ ap₂ (λ k n. slice_index (chunks k) n) qh ph)
+word-laid_out size q i half chunks e low most fits = search (rules, byte_offset-low, byte_offset-high, get-laid_out)
 
 -- a column of the shard is the symbol of a chunk
 pub column-laid_out : (size j : ℕ) (chunks : ℕ → List ℕ) → size % 2 ≡ 0 → j < size / 2

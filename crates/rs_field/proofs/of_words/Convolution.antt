@@ -1,5 +1,5 @@
 -- The locator by two Walsh-Hadamard transforms, of any power of two of entries.
-use Rattle.std.proofs.Common.{◌≡◌, ℕ, zero, suc, ◌+◌, ◌-◌, ◌*◌, ◌/◌, ◌%◌, ◌^◌, ◌<◌, ◌≤◌, ◌≢◌, Bool, true, leb-true, cond, eqb, bit_xor, refl, sym, ap, ap₂, ◌∙◌, subst, arith, inl, inr, pow-suc, pow_mono, ne_eqb, eq-eqb}
+use Rattle.std.proofs.Common.{rules, ◌≡◌, ℕ, zero, suc, ◌+◌, ◌-◌, ◌*◌, ◌/◌, ◌%◌, ◌^◌, ◌<◌, ◌≤◌, ◌≢◌, true, leb-true, cond, eqb, bit_xor, refl, sym, ap, ap₂, ◌∙◌, subst, arith, inl, inr, pow-suc, pow_mono, ne_eqb, eq-eqb}
 use Rattle.std.specs.Prelude.{nat_le}
 use Rattle.std.specs.Int.Bits.{xor_self, xor_lt}
 use Rattle.std.proofs.Math.Nat.{mul-le-mul_right}
@@ -48,9 +48,7 @@ signs_elsewhere (suc e) u some hu =
 
 -- the signs at two points, multiplied, are those at their XOR
 signs_meet : (n u z : ℕ) → n ≤ 65536 → total n (λ w. sign w u * sign w z) % 65535 ≡ signed_sum n (λ y. 1) (bit_xor u z) % 65535
-signs_meet n u z few =
-    total-near n (λ w. sign w u * sign w z) (λ w. sign (bit_xor u z) w * 1)
-    (λ w hw. sign-xor w u z (omega arith) ∙ ap (λ v. v % 65535) (sign-comm w (bit_xor u z) ∙ (let r : sign (bit_xor u z) w ≡ sign (bit_xor u z) w * 1 = omega arith in r)))
+signs_meet n u z few = search (rules, total-near, sign-xor, sign-comm)
 
 -- ---- the transform of a transform
 
@@ -135,20 +133,7 @@ log_or_zero-is z = refl
 -- the term of the point itself is zero
 log_sum-is : (n : ℕ) (e : ℕ → ℕ) (x : ℕ) → log_sum n e x ≡ total n (λ y. e y * log_or_zero (bit_xor x y))
 log_sum-is zero e x = log_sum-zero e x ∙ sym (total-zero (λ y. e y * log_or_zero (bit_xor x y)))
-log_sum-is (suc n) e x =
-    log_sum-suc n e x ∙ ap₂ (λ a b. a + b) (log_sum-is n e x) term ∙ sym (total-suc n (λ y. e y * log_or_zero (bit_xor x y)))
-  where
-    term : cond (eqb x n) 0 (e n * log (bit_xor x n)) ≡ e n * log_or_zero (bit_xor x n)
-    term = elim (cases_eq x n) [
-      | inl same ↦
-          let none : bit_xor x n ≡ 0 = ap (λ v. bit_xor x v) (sym same) ∙ xor_self x in
-          ap (λ (b : Bool). cond b 0 (e n * log (bit_xor x n))) (eq-eqb x n same)
-          ∙ sym (ap (λ v. e n * v) (log_or_zero-is (bit_xor x n) ∙ ap (λ (b : Bool). cond b 0 (log (bit_xor x n))) (eq-eqb (bit_xor x n) 0 none)) ∙ (let r : e n * 0 ≡ 0 = omega arith in r))
-      | inr differs ↦
-          let some : bit_xor x n ≢ 0 = λ none. differs (same_from_xor x n none) in
-          ap (λ (b : Bool). cond b 0 (e n * log (bit_xor x n))) (ne_eqb x n differs)
-          ∙ sym (ap (λ v. e n * v) (log_or_zero-is (bit_xor x n) ∙ ap (λ (b : Bool). cond b 0 (log (bit_xor x n))) (ne_eqb (bit_xor x n) 0 some)))
-    ]
+log_sum-is (suc n) e x = search (rules, log_sum-suc, total-suc, cases_eq, xor_self, eq-eqb, log_or_zero-is, same_from_xor, ne_eqb, log_sum-is n e x)
 
 -- the transforms of 2 ^ d entries leave the factor 2 ^ d, and their table has 65536 / 2 ^ d: the product is 65536, which is one
 one_turn : (d v : ℕ) → d ≤ 16 → 65536 / 2 ^ d * v * 2 ^ d % 65535 ≡ v % 65535

@@ -1,5 +1,5 @@
 -- The derivative of polynomials: of sums, of multiples, and of products of factors x + a; that of a subspace polynomial is one.
-use Rattle.std.proofs.Common.{◌≡◌, ℕ, zero, suc, ◌+◌, ◌/◌, ◌^◌, ◌<◌, ◌≤◌, List, [], ◌∷◌, bit_xor, refl, sym, ap, ap₂, ◌∙◌, subst, arith, add-zero, add-suc, zero-add, pow-suc, one-mul, pow_mono}
+use Rattle.std.proofs.Common.{rules, ◌≡◌, ℕ, zero, suc, ◌+◌, ◌/◌, ◌^◌, ◌<◌, ◌≤◌, List, [], ◌∷◌, bit_xor, refl, sym, ap, ap₂, ◌∙◌, subst, arith, add-zero, add-suc, zero-add, pow-suc, one-mul, pow_mono}
 use Rattle.std.specs.Int.Bits.{xor_comm, xor_assoc, xor_self, xor_zero_r, xor_lt, xor_shr, xor_shifted}
 use Rattle.std.proofs.lemmas.Nat.{pow_pos, pow_below, shl-shr}
 use Rattle.rs_field.specs.words.Field.{product}
@@ -167,10 +167,7 @@ factors_lower e x he hx = factors_subspace e x ∙ subspace_shift e x he hx
 
 -- each subspace polynomial has derivative one
 slope_subspace : (e x : ℕ) → e ≤ 16 → x < 2 ^ 16 → slope 0 (2 ^ e) x ≡ 1
-slope_subspace zero x he hx =
-    slope-suc 0 0 x
-    ∙ ap₂ bit_xor (factors_is 0 0 x ∙ product_below-zero (λ i. bit_xor x (0 + i)))
-    (ap (product (bit_xor x (0 + 0))) (slope-zero 0 x) ∙ product_zero (bit_xor x (0 + 0)))
+slope_subspace zero x he hx = search (rules, slope-suc, factors_is, product_below-zero, slope-zero, product_zero)
 slope_subspace (suc e) x he hx =
     let n : ℕ = 2 ^ e in
     let bit : 2 ^ e < 2 ^ 16 = pow_below e 16 he in
@@ -192,8 +189,4 @@ slope_subspace (suc e) x he hx =
 -- a polynomial times the subspace polynomial e: of the two terms of the product rule the second is the polynomial itself
 pub derivative-subspace : (e : ℕ) (p : List ℕ) → e < 16 → WordsOneByOne p → (x : ℕ) → x < 2 ^ 16
     → derivative_value (times (points 0 (2 ^ e)) p) x ≡ bit_xor (product (subspace e x) (derivative_value p x)) (value p x)
-derivative-subspace e p he w x hx =
-    let bit : 2 ^ e < 2 ^ 16 = pow_below e 16 he in
-    derivative-times 0 (2 ^ e) p w x hx (omega arith)
-    ∙ ap₂ bit_xor (ap (λ k. product k (derivative_value p x)) (factors_subspace e x))
-    (ap (λ k. product k (value p x)) (slope_subspace e x (omega arith) hx) ∙ one_product (value p x) (value_lt p x w))
+derivative-subspace e p he w x hx = search (rules, pow_below, derivative-times, factors_subspace, slope_subspace, one_product, value_lt)

@@ -1,10 +1,10 @@
 -- A Walsh-Hadamard transform from those of its halves, and from those of its quarters.
-use Rattle.std.proofs.Common.{◌≡◌, ℕ, suc, cond, ◌+◌, ◌-◌, ◌*◌, ◌/◌, ◌%◌, ◌^◌, ◌<◌, ◌≤◌, List, ◌++◌, length, take, drop, get_or, set, get_or-set_same, get_or-set_other, refl, sym, ap, ap₂, ◌∙◌, subst, arith, inl, inr, pow-suc}
+use Rattle.std.proofs.Common.{rules, ◌≡◌, ℕ, suc, cond, ◌+◌, ◌-◌, ◌*◌, ◌/◌, ◌%◌, ◌^◌, ◌<◌, ◌≤◌, List, ◌++◌, length, take, drop, get_or, set, get_or-set_same, get_or-set_other, refl, sym, ap, ap₂, ◌∙◌, subst, arith, inl, inr, pow-suc}
 use Rattle.std.proofs.lemmas.Bool.{cases_lt, lt-ltb, le-ltb}
 use Rattle.std.proofs.Math.Dec.{ltb}
 use Rattle.std.proofs.lemmas.List.{get_or-take, get_or-drop, get_or_append_left, get_or-append-add, length-append, length-set}
 use Rattle.rs_field.specs.words.Search.{first_below}
-use Rattle.rs_field.specs.words.StepBounds.{CountsUpTo, CountsPairs, WalshCounts, log2, transform_steps}
+use Rattle.rs_field.specs.words.StepBounds.{CountsPairs, WalshCounts, log2, transform_steps}
 use Rattle.rs_field.specs.declared.words.steps.Steps.{Steps}
 use Rattle.rs_field.proofs.of_words.Halves.{quarter_power, steps_quarters}
 use Rattle.rs_field.specs.words.Walsh.{total, sign, signed_sum, IsWalsh, IsFourSums}
@@ -16,10 +16,7 @@ use Rattle.std.proofs.lemmas.Grind.{common_steps}
 -- an entry of the first half
 pub sum_lower : (e w : ℕ) (f : ℕ → ℕ) → w < 2 ^ e
     → signed_sum (2 ^ e + 2 ^ e) f w ≡ signed_sum (2 ^ e) f w + signed_sum (2 ^ e) (λ y. f (2 ^ e + y)) w
-sum_lower e w f hw =
-    total-split (2 ^ e) (2 ^ e) (λ y. sign w y * f y)
-    ∙ ap (λ v. signed_sum (2 ^ e) f w + v)
-    (total-same (2 ^ e) (λ y. sign w (2 ^ e + y) * f (2 ^ e + y)) (λ y. sign w y * f (2 ^ e + y)) (λ y hy. ap (λ v. v * f (2 ^ e + y)) (sign-right e w y hw hy)))
+sum_lower e w f hw = grind (arith, common_steps, total-split, total-same, sign-right)
 
 -- and of the second
 pub sum_upper : (e w : ℕ) (f : ℕ → ℕ) → w < 2 ^ e
@@ -36,18 +33,10 @@ sum_upper e w f hw =
 
 -- the transform of one entry, and of zeros
 pub walsh-one : (n : ℕ) (f : ℕ → ℕ) → n ≡ 1 → IsWalsh n f f
-walsh-one n f one w hw =
-    let first : w ≡ 0 = omega arith in
-    ap (λ v. v % 65535)
-    (ap f first
-    ∙ sym (ap₂ (λ m v. signed_sum m f v) one first ∙ total-suc 0 (λ y. sign 0 y * f y) ∙ ap₂ (λ a b. a + b * f 0) (total-zero (λ y. sign 0 y * f y)) (sign-zero 0)
-    ∙ (let r : 0 + 1 * f 0 ≡ f 0 = omega arith in r)))
+walsh-one n f one w hw = grind (arith, common_steps, total-suc, total-zero, sign-zero)
 
 pub walsh-none : (n : ℕ) (f : ℕ → ℕ) → ((y : ℕ) → y < n → f y ≡ 0) → IsWalsh n f f
-walsh-none n f none w hw =
-    ap (λ v. v % 65535)
-    (none w hw
-    ∙ sym (total-none n (λ y. sign w y * f y) (λ y hy. ap (λ v. sign w y * v) (none y hy) ∙ (let r : sign w y * 0 ≡ 0 = omega arith in r))))
+walsh-none n f none w hw = grind (arith, common_steps, total-none)
 
 -- what a step makes of the transforms of both halves
 pub record IsStep (half : ℕ) (low high new : ℕ → ℕ) : Type 0 where
@@ -81,8 +70,7 @@ walsh-halves e n half old low high new is h a b s w hw =
 -- ---- equal residues, values, sizes
 
 pub walsh-near : (n : ℕ) (f g h : ℕ → ℕ) → ((y : ℕ) → y < n → f y % 65535 ≡ g y % 65535) → IsWalsh n f h → IsWalsh n g h
-walsh-near n f g h near is w hw =
-    is w hw ∙ total-near n (λ y. sign w y * f y) (λ y. sign w y * g y) (λ y hy. mul_near (sign w y) (f y) (sign w y) (g y) refl (near y hy))
+walsh-near n f g h near is w hw = search (rules, total-near, mul_near)
 
 pub walsh-same : (n : ℕ) (f g h : ℕ → ℕ) → ((y : ℕ) → y < n → f y ≡ g y) → IsWalsh n f h → IsWalsh n g h
 walsh-same n f g h same is = walsh-near n f g h (λ y hy. ap (λ v. v % 65535) (same y hy)) is
@@ -253,18 +241,11 @@ walsh-pair old sum difference two is_sum is_difference =
 
 pub walsh-counts : (e n q : ℕ) (a b c d f g : Steps) → n ≤ 65536 → n ≡ 2 ^ suc (suc e) → q ≡ 2 ^ e
     → WalshCounts q a b → WalshCounts q b c → WalshCounts q c d → WalshCounts q d f → CountsPairs (4 * q) f g → WalshCounts n a g
-walsh-counts e n q a b c d f g small is h first second third fourth (x, y, z) =
-    of_parts (transform_steps q) (transform_steps n) (omega (arith, steps_quarters n e q small is h)) first second third fourth x y z
-  where
-    of_parts : (t u : ℕ) → 4 * q + 4 * t ≤ u → CountsUpTo 0 t 0 a b → CountsUpTo 0 t 0 b c → CountsUpTo 0 t 0 c d → CountsUpTo 0 t 0 d f
-        → g.row_steps ≡ f.row_steps → g.pair_sums ≡ f.pair_sums + 4 * q → g.products ≡ f.products → CountsUpTo 0 u 0 a g
-    of_parts t u le first second third fourth x y z = counted 0 u 0 a g (omega arith, omega arith) (omega arith, omega arith) (omega arith, omega arith)
+walsh-counts e n q a b c d f g small is h first second third fourth (x, y, z) = omega (arith, steps_quarters n e q small is h)
 
 -- one quarter alone counts no more than the whole
 pub walsh-quarter-counts : (e n q : ℕ) (a b : Steps) → n ≤ 65536 → n ≡ 2 ^ suc (suc e) → q ≡ 2 ^ e → WalshCounts q a b → WalshCounts n a b
-walsh-quarter-counts e n q a b small is h p =
-    let whole : 4 * q + 4 * transform_steps q ≡ transform_steps n = steps_quarters n e q small is h in
-    counted 0 (transform_steps n) 0 a b (omega arith, omega arith) (omega arith, omega arith) (omega arith, omega arith)
+walsh-quarter-counts e n q a b small is h p = omega (arith, steps_quarters n e q small is h)
 
 -- a transform that counts all pair sums of its layers
 exact-counts : (n m : ℕ) (a b : Steps) → transform_steps n ≡ m → CountsPairs m a b → WalshCounts n a b
