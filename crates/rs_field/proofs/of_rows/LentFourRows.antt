@@ -1,5 +1,6 @@
 -- What stands where in a list of which four rows were replaced.
-use Rattle.std.proofs.Common.{◌≡◌, ℕ, ◌+◌, ◌-◌, ◌*◌, ◌<◌, ◌≤◌, ◌⊎◌, [], ◌++◌, length, take, drop, ap, sym, subst, ◌∙◌, refl, arith, inl, inr, length-append}
+use Rattle.std.proofs.lemmas.Grind.{common_steps}
+use Rattle.std.proofs.Common.{◌≡◌, ℕ, ◌+◌, ◌-◌, ◌*◌, ◌<◌, ◌≤◌, ◌⊎◌, [], ◌++◌, length, drop, ap, sym, subst, ◌∙◌, arith, inl, inr, length-append}
 use Rattle.std.proofs.lemmas.List.{get_or-take, get_or-drop, length-take-le}
 use Rattle.rs_field.specs.rows.Rows.{Chunks, chunk}
 use Rattle.rs_field.specs.rows.View.{SameShape, cell, row_at}
@@ -86,14 +87,7 @@ module _ (h : ShardsRefMut) (pos dist : ℕ) (first second third fourth : Chunks
   at₄ c h₄ = at₃ c (omega (arith, h₄, km)) ∙ past-gap ch third from₄ k n m l₃ km in₄ c h₄
 
   pub four-shape : SameShape h four_written
-  four-shape =
-      let a = length-append (take i ch) from₁ in
-      let b = length-take-le i ch in₁ in
-      let c = length-gap ch first from₂ i n j l₁ ij in₂ in
-      let d = length-gap ch second from₃ j n k l₂ jk in₃ in
-      let e = length-gap ch third from₄ k n m l₃ km in₄ in
-      let f = length-last ch fourth m n l₄ last in
-      record { name = refl; count = refl; len_64 = refl; length = omega (arith, a, b, c, d, e, f, ij, jk, km, last) }
+  four-shape = grind (arith, common_steps, length-append, length-take-le, in₁, length-gap, ij, in₂, jk, in₃, km, in₄, length-last, last)
 
   pub first-of-four : (c : ℕ) → c < n → cell four_written c pos ≡ chunk first c
   first-of-four c low =
