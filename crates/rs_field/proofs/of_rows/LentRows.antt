@@ -1,5 +1,5 @@
 -- What stands where in a list whose rows were replaced.
-use Rattle.std.proofs.Common.{◌≡◌, ℕ, ◌+◌, ◌-◌, ◌*◌, ◌<◌, ◌≤◌, ◌⊎◌, List, [], ◌++◌, length, take, drop, sym, ap, ◌∙◌, refl, subst, arith, inl, inr, length-append}
+use Rattle.std.proofs.Common.{◌≡◌, ℕ, ◌+◌, ◌-◌, ◌*◌, ◌<◌, ◌≤◌, ◌⊎◌, List, [], ◌++◌, length, take, drop, sym, ap, ◌∙◌, subst, arith, length-append}
 use Rattle.std.proofs.Math.Nat.{mul-le-mul_right}
 use Rattle.std.proofs.lemmas.List.{get_or_append_left, get_or-append_right, get_or-take, get_or-drop, length-take-le, length-drop}
 use Rattle.rs_field.specs.rows.Rows.{Chunks, chunk}
@@ -93,28 +93,13 @@ module _ (h : ShardsRefMut) (pos dist : ℕ) (first second : Chunks) (fits : h.s
   inner = omega (arith, last)
 
   pub two-shape : SameShape h two_written
-  two-shape =
-      let a = length-append (take i ch) from₁ in
-      let b = length-take-le i ch front in
-      let c = length-gap ch first from₂ i n j l₁ apart inner in
-      let d = length-last ch second j n l₂ last in
-      record { name = refl; count = refl; len_64 = refl; length = omega (arith, a, b, c, d, apart, last) }
+  two-shape = grind (arith, common_steps, length-append, length-take-le, front, length-gap, apart, inner, length-last, last)
 
   pub first-of-two : (k : ℕ) → k < n → cell two_written k pos ≡ chunk first k
-  first-of-two k low =
-      cell-is h _ pos k (chunk first k)
-      (past-front ch from₁ i (i + k) front (omega arith) ∙ in-part ch first (between (i + n) j ch ++ from₂) i n j l₁ apart inner k low)
+  first-of-two k low = grind (arith, common_steps, cell-is, past-front, front, in-part, between, apart, inner)
 
   pub second-of-two : (k : ℕ) → k < n → cell two_written k (pos + dist) ≡ chunk second k
-  second-of-two k low =
-      cell-is h _ (pos + dist) k (chunk second k)
-      (past-front ch from₁ i (j + k) front (omega (arith, apart)) ∙ past-gap ch first from₂ i n j l₁ apart inner (j + k) (omega arith)
-      ∙ in-part ch second (drop (j + n) ch) j n (j + n) l₂ (omega arith) last k low)
+  second-of-two k low = grind (arith, common_steps, cell-is, past-front, front, apart, past-gap, inner, in-part, last)
 
   pub others-of-two : (c : ℕ) → (c < i) ⊎ (i + n ≤ c) → (c < j) ⊎ (j + n ≤ c) → chunk two_written.chunks.now c ≡ chunk ch c
-  others-of-two c (inl low) side₂ = from-front ch from₁ i c front low
-  others-of-two c (inr high) (inl low) =
-      past-front ch from₁ i c front (omega (arith, high)) ∙ in-gap ch first from₂ i n j l₁ apart inner c high low
-  others-of-two c (inr high) (inr end) =
-      past-front ch from₁ i c front (omega (arith, high)) ∙ past-gap ch first from₂ i n j l₁ apart inner c (omega (arith, end))
-      ∙ past-last ch second j n l₂ last c end
+  others-of-two c h1 h2 = grind (arith, common_steps, from-front, front, past-front, in-gap, apart, inner, past-gap, past-last, last)

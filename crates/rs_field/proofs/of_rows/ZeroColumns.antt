@@ -1,4 +1,5 @@
 -- A row is zero in each column of its shards exactly where the bytes of its whole chunks and of both halves of its tail are.
+use Rattle.std.proofs.lemmas.Grind.{common_steps}
 use Rattle.std.proofs.Common.{◌≡◌, ℕ, ◌+◌, ◌-◌, ◌*◌, ◌/◌, ◌%◌, ◌<◌, ◌≤◌, List, [], length, get_or, take, drop, ap, ap₂, sym, subst, ◌∙◌, arith, inl, inr}
 use Rattle.std.specs.Prelude.{slice_index, EachIndex}
 use Rattle.std.proofs.lemmas.Bool.{cases_lt}
@@ -45,13 +46,7 @@ zero-part bytes a n within zeros i h =
 
 byte-of : (size : ℕ) (row : Chunks) (bytes : List ℕ) → IsRow size row bytes → (q b : ℕ) → b < 64 → q < row_len size
     → slice_index (chunk row q) b ≡ slice_index bytes (q * 64 + b)
-byte-of size row bytes is q b low within =
-    let e : (q * 64 + b) / 64 ≡ q = omega arith in
-    let r : (q * 64 + b) % 64 ≡ b = omega arith in
-    let len = is.length_is in
-    sym
-    (ap (λ s. slice_index s (q * 64 + b)) is.flat ∙ get-flat row is.sized (q * 64 + b) (omega arith)
-    ∙ ap₂ (λ k n. slice_index (chunk row k) n) e r)
+byte-of size row bytes is q b low within = grind (arith, common_steps, get-flat)
 
 -- a symbol by its two bytes
 symbol-bytes : (size : ℕ) (row : Chunks) (bytes : List ℕ) → IsRow size row bytes → (q i : ℕ) → i < 32 → q < row_len size

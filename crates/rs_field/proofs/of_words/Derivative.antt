@@ -93,11 +93,7 @@ rule s f g p d hs hf hg hp hd =
 derivative-times : (a n : ℕ) (p : List ℕ) → WordsOneByOne p → (x : ℕ) → x < 2 ^ 16 → a + n ≤ 2 ^ 16
     → derivative_value (times (points a n) p) x ≡ bit_xor (product (factors a n x) (derivative_value p x)) (product (slope a n x) (value p x))
 unfolding times points
-derivative-times a zero p w x hx hn =
-    sym (ap₂ bit_xor
-    (ap (λ z. product z (derivative_value p x)) (factors_is a 0 x ∙ product_below-zero (λ i. bit_xor x (a + i))) ∙ one_product (derivative_value p x) (derivative_lt p x w))
-    (ap (λ z. product z (value p x)) (slope-zero a x) ∙ product-comm 0 (value p x) ∙ product_zero (value p x))
-    ∙ xor_zero_r (derivative_value p x))
+derivative-times a zero p w x hx hn = grind (arith, common_steps, factors_is, product_below-zero, one_product, derivative_lt, slope-zero, product-comm, product_zero)
 derivative-times a (suc n) p w x hx hn =
     let s : ℕ = bit_xor x (a + n) in
     let s_lt : bit_xor x (a + n) < 2 ^ 16 = xor_lt 16 x (a + n) hx (omega arith) in
@@ -125,12 +121,7 @@ sum_rule s f g d e hs hf hg hd he =
 
 slope-add : (m n x : ℕ) → x < 2 ^ 16 → m + n ≤ 2 ^ 16
     → slope 0 (m + n) x ≡ bit_xor (product (slope 0 m x) (factors m n x)) (product (factors 0 m x) (slope m n x))
-slope-add m zero x hx h =
-    ap (λ k. slope 0 k x) (add-zero m)
-    ∙ sym (ap₂ bit_xor
-    (ap (product (slope 0 m x)) (factors_is m 0 x ∙ product_below-zero (λ i. bit_xor x (m + i))) ∙ product_one (slope 0 m x) (slope_lt 0 m x))
-    (ap (product (factors 0 m x)) (slope-zero m x) ∙ product_zero (factors 0 m x))
-    ∙ xor_zero_r (slope 0 m x))
+slope-add m zero x hx h = grind (arith, common_steps, slope, add-zero, factors_is, product_below-zero, product_one, slope_lt, factors, slope-zero, product_zero)
 slope-add m (suc n) x hx h =
     let less : m + n ≤ 2 ^ 16 = omega arith in
     let s_lt : bit_xor x (m + n) < 2 ^ 16 = xor_lt 16 x (m + n) hx (omega arith) in

@@ -1,5 +1,6 @@
 -- How a transform goes by halves: the sizes, the factor in the table, and the row steps.
-use Rattle.std.proofs.Common.{◌≡◌, ℕ, zero, suc, ◌+◌, ◌-◌, ◌*◌, ◌/◌, ◌%◌, ◌^◌, ◌<◌, ◌≤◌, ◌≢◌, Bool, false, cond, eqb, List, get_or, bit_xor, refl, sym, ap, ap₂, ◌∙◌, inl, inr, arith, pow-suc, pow_mono, ne_eqb, zero-mul}
+use Rattle.std.proofs.lemmas.Grind.{common_steps}
+use Rattle.std.proofs.Common.{◌≡◌, ℕ, zero, suc, ◌+◌, ◌-◌, ◌*◌, ◌/◌, ◌%◌, ◌^◌, ◌<◌, ◌≤◌, Bool, false, cond, eqb, List, get_or, bit_xor, refl, ap, ap₂, ◌∙◌, inl, inr, arith, pow-suc, pow_mono, ne_eqb, zero-mul}
 use Rattle.std.specs.Prelude.{nat_le}
 use Rattle.std.proofs.Math.Nat.{mul-mod_left}
 use Rattle.std.specs.Int.Bits.{xor_assoc, xor_self, xor_zero_r}
@@ -23,16 +24,10 @@ half_power size h (suc e, is) = (e, is, let p = pow-suc 2 e in omega arith)
 pub quarter_power : (size : ℕ) → 2 < size → (d : ℕ) × (size ≡ 2 ^ d) → (e : ℕ) × (size ≡ 2 ^ suc (suc e)) × (size / 4 ≡ 2 ^ e) × (size ≡ 4 * (size / 4))
 quarter_power size h (zero, is) = absurd (let no : ⊥ = omega arith in no)
 quarter_power size h (suc zero, is) = absurd (let no : ⊥ = omega arith in no)
-quarter_power size h (suc (suc e), is) =
-    let p = pow-suc 2 e in
-    let q = pow-suc 2 (suc e) in
-    (e, is, omega arith, omega arith)
+quarter_power size h (suc (suc e), is) = grind (arith, common_steps, pow-suc)
 
 pub two_halves : (size : ℕ) → 1 < size → (d : ℕ) × (size ≡ 2 ^ d) → size ≡ size / 2 + size / 2
-two_halves size h power =
-    let p = half_power size h power in
-    let s = pow-suc 2 p.0 in
-    omega (arith, p.1, p.2)
+two_halves size h power = omega (arith, half_power size h power)
 
 -- a transform has no more points than there are words
 pub few_halves : (size e shift : ℕ) → size ≡ 2 ^ suc e → shift + size ≤ 65536 → e < 16
@@ -70,17 +65,7 @@ mark_word z e = ap (λ (b : Bool). cond b 65535 (log z)) e
 
 -- what the entry of a factor stands for
 pub scaled_by : (c w : ℕ) → c < 2 ^ 16 → scaled (log_or_mark c) w ≡ product w c
-scaled_by c w hc =
-    elim (cases_eq c 0) [
-      | inl e ↦ ap (λ m. scaled (log_or_mark m) w) e ∙ ap (λ m. scaled m w) mark_zero ∙ sym (ap (product w) e ∙ product_zero w)
-      | inr apart ↦
-          let pos : 0 < c = omega arith in
-          let small : log c < 65535 = log_lt c pos hc in
-          let differs : log c ≢ 65535 = λ e. let no : ⊥ = omega arith in no in
-          ap (λ m. scaled m w) (mark_word c (ne_eqb c 0 apart))
-          ∙ ap (λ (b : Bool). cond b 0 (product w (power (log c)))) (ne_eqb (log c) 65535 differs)
-          ∙ ap (product w) (power-log c pos hc)
-    ]
+scaled_by c w hc = grind (arith, common_steps, cases_eq, mark_zero, product_zero, log_lt, mark_word, ne_eqb, power-log)
 
 pub subspace_lt : (d x : ℕ) → subspace d x < 2 ^ 16
 unfolding subspace

@@ -53,9 +53,7 @@ digit_times (suc (suc d)) n h = absurd (omega arith)
 pub agree_below : (w : ℕ) (f g : ℕ → ℕ) → IsAdditive w f → IsAdditive w g
     → ((i : ℕ) → i < w → f (2 ^ i) ≡ g (2 ^ i))
     → (n : ℕ) → n ≤ w → (x : ℕ) → x < 2 ^ n → f x ≡ g x
-agree_below w f g hf hg same zero hn x hx =
-    let e : x ≡ 0 = omega arith in
-    ap f e ∙ additive_zero w f hf ∙ sym (additive_zero w g hg) ∙ ap g (sym e)
+agree_below w f g hf hg same zero hn x hx = grind (arith, common_steps, additive_zero)
 agree_below w f g hf hg same (suc n) hn x hx =
     let low : x % 2 ^ n < 2 ^ n = mod-lt x (pow_pos n) in
     let double : 2 ^ suc n ≡ 2 ^ n * 2 = pow-suc 2 n in

@@ -1,4 +1,5 @@
 -- The locator as a product.
+use Rattle.std.proofs.lemmas.Grind.{common_steps}
 use Rattle.std.proofs.Common.{◌≡◌, ℕ, zero, suc, ◌*◌, ◌^◌, ◌<◌, ◌≤◌, ◌≢◌, cond, bit_xor, sym, ap, ap₂, ◌∙◌, inl, inr, arith}
 use Rattle.std.specs.Prelude.{if◌then◌else◌, ◌==◌}
 use Rattle.std.specs.Int.Bits.{xor_lt}
@@ -20,11 +21,7 @@ power-mul_log z k pos lt =
 
 -- two points have a sum that is not zero
 sum_pos : (x y : ℕ) → x ≢ y → 0 < bit_xor x y
-sum_pos x y apart =
-    elim (cases_eq (bit_xor x y) 0) [
-      | inl none ↦ absurd (apart (same_from_xor x y none))
-      | inr some ↦ omega arith
-    ]
+sum_pos x y apart = grind (arith, common_steps, cases_eq, same_from_xor)
 
 -- the generator to the power of a locator's sum is the product of its factors
 pub power-log_sum : (n : ℕ) (e : ℕ → ℕ) (x : ℕ) → n ≤ 65536 → x < 65536

@@ -1,4 +1,5 @@
 -- The bytes of a number that is a sum of bytes at their places.
+use Rattle.std.proofs.lemmas.Grind.{common_steps}
 use Rattle.std.proofs.Common.{bit_xor, ap₂, zero-mul, one-mul, ◌≡◌, ℕ, zero, suc, ◌+◌, ◌*◌, ◌/◌, ◌%◌, ◌^◌, ◌<◌, ◌≤◌, ◌-◌, sym, ap, ◌∙◌, arith, inl, inr, pow-suc, pow-add, mod-lt, mul_comm, mul-suc, mul-zero, mul_assoc, mul-le-mul_right}
 use Rattle.std.specs.Int.{sum_through, byte_worth}
 use Rattle.std.proofs.lemmas.Nat.{div-mul-add}
@@ -31,11 +32,7 @@ bytes_pos zero = omega arith
 bytes_pos (suc i) = let before = bytes_pos i in let next = pow-suc 256 i in omega arith
 
 byte_of_packed : (g : ℕ → ℕ) → ((i : ℕ) → g i < 256) → (k i : ℕ) → i ≤ k → packed g k / 256 ^ i % 256 ≡ g i
-byte_of_packed g small zero i h =
-    let e : i ≡ 0 = omega arith in
-    let s = small 0 in
-    let one : packed g 0 / 1 % 256 ≡ g 0 = omega arith in
-    ap (λ i. packed g 0 / 256 ^ i % 256) e ∙ one ∙ ap g (sym e)
+byte_of_packed g small zero i h = grind (arith, common_steps)
 byte_of_packed g small (suc k) i h =
     elim (cases_eq i (suc k)) [
       | inl e ↦
@@ -59,12 +56,7 @@ byte_of_packed g small (suc k) i h =
     ]
 
 byte_xor : (x y i : ℕ) → bit_xor x y / 256 ^ i % 256 ≡ bit_xor (x / 256 ^ i % 256) (y / 256 ^ i % 256)
-byte_xor x y i =
-    let e : 256 ^ i ≡ 2 ^ (8 * i) = sym (power_of 8 i) in
-    ap (λ p. bit_xor x y / p % 256) e
-    ∙ ap (λ n. n % 256) (xor_shr x y (8 * i))
-    ∙ xor_mod (x / 2 ^ (8 * i)) (y / 2 ^ (8 * i)) 8
-    ∙ ap (λ p. bit_xor (x / p % 256) (y / p % 256)) (sym e)
+byte_xor x y i = cc (power_of 8 i, xor_shr x y (8 * i), xor_mod (x / 2 ^ (8 * i)) (y / 2 ^ (8 * i)) 8)
 
 low_half : (low high i : ℕ) → i < 8 → (low + 2 ^ 64 * high) / 256 ^ i % 256 ≡ low / 256 ^ i % 256
 low_half low high i h =
@@ -87,9 +79,7 @@ high_half low high j h =
     ∙ ap (λ n. n / 256 ^ j % 256) (let e : (low + 2 ^ 64 * high) / 2 ^ 64 ≡ high = omega arith in e)
 
 digit_lt : (d a : ℕ) → d < 2 → a < 256 → d * a < 256
-digit_lt zero a h ha = omega (arith, zero-mul a)
-digit_lt (suc zero) a h ha = omega (arith, one-mul a)
-digit_lt (suc (suc d)) a h ha = absurd (omega arith)
+digit_lt d a h1 h2 = grind (arith, common_steps, zero-mul, one-mul)
 
 -- byte i of a number that has a in the bytes whose place has bit b
 byte_of_places : (b a x : ℕ) → a < 256 → x ≡ packed (λ (i : ℕ). i / 2 ^ b % 2 * a) 7 → (i : ℕ) → i < 8 → x / 256 ^ i % 256 ≡ i / 2 ^ b % 2 * a

@@ -22,9 +22,7 @@ carryless_xor_left (suc n) a c b =
     ∙ xor_swap (a % 2 * b) (c % 2 * b) (carryless n (a / 2) (b * 2)) (carryless n (c / 2) (b * 2))
 
 digit_times_lt : (d b m : ℕ) → d < 2 → b < m → d * b < m
-digit_times_lt zero b m h hb = omega (arith, zero-mul b)
-digit_times_lt (suc zero) b m h hb = omega (arith, one-mul b)
-digit_times_lt (suc (suc d)) b m h hb = absurd (omega arith)
+digit_times_lt d b m h1 h2 = grind (arith, common_steps, zero-mul, one-mul)
 
 -- a digit times a XOR
 digit_times_xor : (d a b : ℕ) → d < 2 → d * bit_xor a b ≡ bit_xor (d * a) (d * b)

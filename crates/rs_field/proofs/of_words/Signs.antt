@@ -67,12 +67,7 @@ sign-zero w =
 
 -- modulo two, the bits shared with a XOR are those shared with either
 shared-xor : (n w x y : ℕ) → w < 2 ^ n → shared w (bit_xor x y) % 2 ≡ (shared w x + shared w y) % 2
-shared-xor zero w x y hw =
-    let first : w ≡ 0 = omega arith in
-    let a = shared_none w (bit_xor x y) first in
-    let b = shared_none w x first in
-    let c = shared_none w y first in
-    omega arith
+shared-xor zero w x y hw = grind (arith, common_steps, shared_none)
 shared-xor (suc n) w x y hw =
     let p = pow-suc 2 n in
     let a = shared-step w (bit_xor x y) ∙ ap (λ v. min (w % 2) (bit_xor x y % 2) + shared (w / 2) v) (xor_shr x y 1) in
@@ -89,13 +84,7 @@ shared-xor (suc n) w x y hw =
     put (suc (suc i)) j k l s t u a b c hi hj hk hl ha hb hc hs = absurd (let no : ⊥ = omega arith in no)
 
 sign_product : (p q : ℕ) → p < 2 → q < 2 → sign_at p * sign_at q % 65535 ≡ sign_at ((p + q) % 2) % 65535
-sign_product zero zero hp hq = refl
-sign_product zero (suc zero) hp hq = refl
-sign_product (suc zero) zero hp hq = refl
-sign_product (suc zero) (suc zero) hp hq = refl
-sign_product (suc (suc p)) q hp hq = absurd (let no : ⊥ = omega arith in no)
-sign_product zero (suc (suc q)) hp hq = absurd (let no : ⊥ = omega arith in no)
-sign_product (suc zero) (suc (suc q)) hp hq = absurd (let no : ⊥ = omega arith in no)
+sign_product p q h1 h2 = grind (arith, common_steps)
 
 pub sign-xor : (w x y : ℕ) → w < 2 ^ 16 → sign w x * sign w y % 65535 ≡ sign w (bit_xor x y) % 65535
 sign-xor w x y hw =

@@ -1,7 +1,7 @@
 -- Products over the words below a power of two.
-use Rattle.std.proofs.Common.{◌≡◌, ℕ, zero, suc, ◌+◌, ◌-◌, ◌*◌, ◌/◌, ◌^◌, ◌<◌, ◌≤◌, bit_xor, refl, sym, ap, ap₂, ◌∙◌, subst, arith, add-zero, zero-add, add-suc, pow_mono, lt_of_le_of_lt, div-one, zero-mul, one-mul, suc-mul, add_assoc, add-one, pow-add, sub-add_cancel, add-sub_cancel, mul-lt-mul_of_pos_right}
+use Rattle.std.proofs.Common.{◌≡◌, ℕ, zero, suc, ◌+◌, ◌-◌, ◌*◌, ◌/◌, ◌^◌, ◌<◌, ◌≤◌, bit_xor, refl, sym, ap, ap₂, ◌∙◌, subst, arith, add-zero, zero-add, add-suc, pow_mono, lt_of_le_of_lt, zero-mul, one-mul, suc-mul, add_assoc, add-one, pow-add, sub-add_cancel, add-sub_cancel, mul-lt-mul_of_pos_right}
 use Rattle.std.proofs.Math.Nat.{div-eq_of_lt, two-pow-succ}
-use Rattle.std.specs.Int.Bits.{xor_assoc, xor_zero_r, xor_shr, xor_lt, xor_shifted}
+use Rattle.std.specs.Int.Bits.{xor_assoc, xor_shr, xor_lt, xor_shifted}
 use Rattle.std.proofs.lemmas.Nat.{pow_pos, shr-shr, shl-shr, shr_le}
 use Rattle.rs_field.specs.words.Field.{product}
 use Rattle.rs_field.specs.words.Subspace.{product_below, subspace}
@@ -58,9 +58,7 @@ top_bit d y h =
 
 -- s_d(x) is x shifted right by d places
 pub subspace_shift : (d x : ℕ) → d ≤ 16 → x < 2 ^ 16 → subspace d x ≡ x / 2 ^ d
-subspace_shift zero x hd hx =
-    subspace_is 0 x ∙ product_below-suc 0 (λ y. bit_xor x y) ∙ ap (λ v. product v (bit_xor x 0)) (product_below-zero (λ y. bit_xor x y))
-    ∙ one_product (bit_xor x 0) (subst (λ (v : ℕ). v < 2 ^ 16) (sym (xor_zero_r x)) hx) ∙ xor_zero_r x ∙ sym (div-one x)
+subspace_shift zero x hd hx = grind (arith, common_steps, subspace_is, product_below-suc, product_below-zero, one_product)
 subspace_shift (suc d) x hd hx =
     let less : d ≤ 16 = omega arith in
     let half : 2 ^ suc d ≤ 2 ^ 16 = pow_mono hd in

@@ -1,4 +1,5 @@
 -- The sixteen products of a nibble, from those of 1, 2, 4 and 8.
+use Rattle.std.proofs.lemmas.Grind.{common_steps}
 use Rattle.std.proofs.Common.{bit_and, ◌/◌, ◌%◌, ◌≡◌, ℕ, zero, suc, ◌*◌, ◌^◌, ◌<◌, List, [], ◌∷◌, get_or, bit_xor, sym, ap, ap₂, ◌∙◌, arith, zero-mul, one-mul}
 use Rattle.std.specs.Int.Bits.{xor_mod, xor_shr, xor_zero_r}
 use Rattle.std.proofs.lemmas.Nat.{and_mask}
@@ -70,9 +71,7 @@ digit_additive : (w k c : ℕ) → IsAdditive w (λ i. i / 2 ^ k % 2 * c)
 digit_additive w k c = record { xor = λ a b ha hb. ap (λ i. i % 2 * c) (xor_shr a b k) ∙ lowest_xor (a / 2 ^ k) (b / 2 ^ k) c }
 
 sum_additive : (w : ℕ) (f g : ℕ → ℕ) → IsAdditive w f → IsAdditive w g → IsAdditive w (λ i. bit_xor (f i) (g i))
-sum_additive w f g hf hg = record {
-  xor = λ a b ha hb. ap₂ bit_xor (hf.xor a b ha hb) (hg.xor a b ha hb) ∙ xor_swap (f a) (f b) (g a) (g b);
-}
+sum_additive w f g hf hg = grind (arith, common_steps, xor_swap)
 
 -- the sum of a, b, c and d at the set bits of i
 abbrev at_bits : ℕ → ℕ → ℕ → ℕ → ℕ → ℕ

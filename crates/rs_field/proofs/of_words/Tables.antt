@@ -1,5 +1,5 @@
 -- What the loops over the tables rest on.
-use Rattle.std.proofs.Common.{◌≡◌, ℕ, suc, ◌+◌, ◌*◌, ◌/◌, ◌%◌, ◌^◌, ◌<◌, List, [], ◌∷◌, true, length, get_or, drop, set, bit_xor, eqb, refl, sym, ap, ◌∙◌, arith, drop-cons, add-one, zero-mul, one-mul, ◌≤◌, inl, inr}
+use Rattle.std.proofs.Common.{◌≡◌, ℕ, ◌+◌, ◌*◌, ◌/◌, ◌%◌, ◌^◌, ◌<◌, List, [], ◌∷◌, true, length, get_or, drop, set, bit_xor, eqb, refl, sym, ap, ◌∙◌, arith, add-one, zero-mul, one-mul, ◌≤◌, inl, inr}
 use Rattle.std.proofs.Math.ListN.{drop_of_length-le}
 use Rattle.std.proofs.lemmas.List.{get_or-set_same, get_or-set_other, length-set}
 use Rattle.std.proofs.lemmas.Bool.{cases_eq}
@@ -17,18 +17,12 @@ combine-cons b bs x = refl
 
 one_more : (items : List ℕ) (i out rest : ℕ) → i < length items
     → bit_xor out (combine (drop i items) rest) ≡ bit_xor (bit_xor out (rest % 2 * get_or items i 0)) (combine (drop (i + 1) items) (rest / 2))
-one_more items i out rest h =
-    ap (λ s. bit_xor out (combine s rest)) (drop-cons items i 0 h)
-    ∙ ap (bit_xor out) (combine-cons (get_or items i 0) (drop (suc i) items) rest)
-    ∙ ap (λ k. bit_xor out (bit_xor (rest % 2 * get_or items i 0) (combine (drop k items) (rest / 2)))) (sym (add-one i))
-    ∙ sym (xor_assoc out (rest % 2 * get_or items i 0) (combine (drop (i + 1) items) (rest / 2)))
+one_more items i out rest h = grind (arith, common_steps, combine-cons, xor_assoc)
 
 -- where the lowest bit is set
 pub take_entry : (items : List ℕ) (i out rest : ℕ) → i < length items → rest % 2 ≡ 1
     → bit_xor (bit_xor out (get_or items i 0)) (combine (drop (i + 1) items) (rest / 2)) ≡ bit_xor out (combine (drop i items) rest)
-take_entry items i out rest h e =
-    ap (λ v. bit_xor (bit_xor out v) (combine (drop (i + 1) items) (rest / 2))) (sym (one-mul (get_or items i 0)) ∙ ap (λ d. d * get_or items i 0) (sym e))
-    ∙ sym (one_more items i out rest h)
+take_entry items i out rest h e = grind (arith, common_steps, one-mul, one_more)
 
 -- where it is not
 pub leave_entry : (items : List ℕ) (i out rest : ℕ) → i < length items → rest % 2 ≡ 0
@@ -67,13 +61,7 @@ exp_more xs n z size hn at sofar k hk = grind (arith, common_steps)
 
 pub log_more : (xs : List ℕ) (n z : ℕ) → length xs ≡ 65536 → n < 65535 → z ≡ power n → z < 65536
     → ((k : ℕ) → k < n → get_or xs (power k) 0 ≡ k) → (k : ℕ) → k < n + 1 → get_or (set xs z n) (power k) 0 ≡ k
-log_more xs n z size hn at hz sofar k hk =
-    elim (cases_eq k n) [
-      | inl e ↦ ap (λ j. get_or (set xs z n) j 0) (ap power e ∙ sym at) ∙ get_or-set_same xs z n 0 (omega arith) ∙ sym e
-      | inr apart ↦
-          let less : k < 65535 = omega arith in
-          get_or-set_other xs z (power k) n 0 (λ s. apart (power_injective k n less hn (s ∙ at))) ∙ sofar k (omega arith)
-    ]
+log_more xs n z size hn at hz sofar k hk = grind (arith, common_steps, cases_eq, get_or-set_same, get_or-set_other, power_injective)
 
 pub log_zero_more : (xs : List ℕ) (n z : ℕ) → z ≡ power n → get_or xs 0 0 ≡ 65535 → get_or (set xs z n) 0 0 ≡ 65535
 log_zero_more xs n z at h = get_or-set_other xs z 0 n 0 (λ e. absurd (omega (arith, power_pos n, at))) ∙ h

@@ -1,7 +1,7 @@
 -- Many blocks of points at once: the last coefficients of the whole are the sum of the blocks' own.
 use Rattle.std.proofs.Common.{◌≡◌, ℕ, zero, suc, ◌+◌, ◌-◌, ◌*◌, ◌%◌, ◌^◌, ◌<◌, ◌≤◌, Bool, cond, bit_xor, refl, sym, ap, ap₂, ◌∙◌, subst, inl, inr, arith, add-zero, add-suc, add_assoc, pow-suc, pow-add, pow_mono}
 use Rattle.std.specs.Prelude.{nat_lt}
-use Rattle.std.specs.Int.Bits.{xor_comm, xor_zero_l}
+use Rattle.std.specs.Int.Bits.{xor_comm}
 use Rattle.std.proofs.Math.Nat.{mul-le-mul_right}
 use Rattle.std.proofs.lemmas.Bool.{cases_lt, lt-ltb}
 use Rattle.rs_field.specs.words.Field.{product}
@@ -50,11 +50,7 @@ second_start d n u = let p : 2 ^ (d + n) ≡ 2 ^ d * 2 ^ n = pow-add 2 d n in om
 pub values-joined : (d n u : ℕ) (g : ℕ → ℕ → ℕ) (j i : ℕ) → (u * 2 ^ d) % 2 ^ (d + n) ≡ 0 → u * 2 ^ d + 2 ^ (d + n) ≤ 65536 → j < 2 ^ n → i < 2 ^ d
     → forward (2 ^ (d + n)) (u * 2 ^ d) (joined_blocks d n u g) (j * 2 ^ d + i) ≡ forward (2 ^ d) ((u + j) * 2 ^ d) (g (u + j)) i
 unfolding joined_blocks
-values-joined d zero u g j i whole fits hj hi =
-    let first : j ≡ 0 = omega arith in
-    let here : u + j ≡ u = omega arith in
-    let at : j * 2 ^ d + i ≡ i = ap (λ v. v * 2 ^ d + i) first ∙ omega arith in
-    ap₂ (λ e p. forward (2 ^ e) (u * 2 ^ d) (g u) p) (add-zero d) at ∙ ap (λ v. forward (2 ^ d) (v * 2 ^ d) (g v) i) (sym here)
+values-joined d zero u g j i whole fits hj hi = grind (arith, common_steps, add-zero)
 values-joined d (suc n) u g j i whole fits hj hi =
     let size : 2 ^ (d + suc n) ≡ 2 ^ suc (d + n) = power_suc d n in
     let aligned : (u * 2 ^ d) % 2 ^ suc (d + n) ≡ 0 = subst (λ (m : ℕ). (u * 2 ^ d) % m ≡ 0) size whole in
@@ -102,11 +98,7 @@ values-joined d (suc n) u g j i whole fits hj hi =
 pub last-joined : (d n u : ℕ) (g : ℕ → ℕ → ℕ) (before q : ℕ) → before + 2 ^ d ≡ 2 ^ (d + n)
     → joined_blocks d n u g (before + q) ≡ sum_below (2 ^ n) (λ j. g (u + j) q)
 unfolding joined_blocks
-last-joined d zero u g before q is =
-    let same : 2 ^ (d + 0) ≡ 2 ^ d = ap (λ e. 2 ^ e) (add-zero d) in
-    let none : before + q ≡ q = omega arith in
-    ap (g u) none
-    ∙ sym (sum_below-suc 0 (λ j. g (u + j) q) ∙ ap₂ bit_xor (sum_below-zero 0 (λ j. g (u + j) q) (λ j h. let no : ⊥ = omega arith in absurd no)) (ap (λ v. g v q) (add-zero u)) ∙ xor_zero_l (g u q))
+last-joined d zero u g before q is = grind (arith, common_steps, add-zero, sum_below-suc, sum_below-zero)
 last-joined d (suc n) u g before q is =
     let size : 2 ^ (d + suc n) ≡ 2 ^ suc (d + n) = power_suc d n in
     let twice : 2 ^ suc (d + n) ≡ 2 ^ (d + n) * 2 = pow-suc 2 (d + n) in

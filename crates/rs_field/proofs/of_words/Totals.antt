@@ -22,9 +22,7 @@ pub add_near : (a b c d : ℕ) → a % 65535 ≡ c % 65535 → b % 65535 ≡ d %
 add_near a b c d p q = omega arith
 
 pub mul_near : (a b c d : ℕ) → a % 65535 ≡ c % 65535 → b % 65535 ≡ d % 65535 → a * b % 65535 ≡ c * d % 65535
-mul_near a b c d p q =
-    sym (mul-mod_first a b 65535) ∙ ap (λ v. v * b % 65535) p ∙ mul-mod_first c b 65535
-    ∙ sym (mul-mod_second c b 65535) ∙ ap (λ v. c * v % 65535) q ∙ mul-mod_second c d 65535
+mul_near a b c d p q = cc (mul-mod_first a b 65535, mul-mod_first c b 65535, mul-mod_second c b 65535, mul-mod_second c d 65535)
 
 pub total-near : (n : ℕ) (g h : ℕ → ℕ) → ((y : ℕ) → y < n → g y % 65535 ≡ h y % 65535) → total n g % 65535 ≡ total n h % 65535
 total-near zero g h near = ap (λ v. v % 65535) (total-zero g ∙ sym (total-zero h))
@@ -53,12 +51,7 @@ total-scale (suc n) c g =
 
 pub total-plus : (n : ℕ) (g h : ℕ → ℕ) → total n (λ y. g y + h y) ≡ total n g + total n h
 total-plus zero g h = total-zero (λ y. g y + h y) ∙ sym (ap₂ (λ a b. a + b) (total-zero g) (total-zero h))
-total-plus (suc n) g h =
-    let s = total-suc n (λ y. g y + h y) in
-    let more = total-plus n g h in
-    let a = total-suc n g in
-    let b = total-suc n h in
-    omega arith
+total-plus (suc n) g h = omega (arith, total-suc n (λ y. g y + h y), total-plus n g h, total-suc n g, total-suc n h)
 
 -- a sum of sums in the other order
 pub total-swap : (n m : ℕ) (g : ℕ → ℕ → ℕ) → total n (λ x. total m (λ y. g x y)) ≡ total m (λ y. total n (λ x. g x y))

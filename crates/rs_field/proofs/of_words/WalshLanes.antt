@@ -23,18 +23,11 @@ compared xs ys = ap (λ ms. sel_l ms ys xs) (tops_compared w16 ltb xs ys)
 -- what `simd_max` leaves
 pub larger_lane : (xs ys : List ℕ) (i : ℕ) → length xs ≡ 16 → length ys ≡ 16 → i < 16
     → get_or (sel_l (map (top 15) (zip2 (λ a b. cond (ltb a b) 65535 0) xs ys)) ys xs) i 0 ≡ max (get_or xs i 0) (get_or ys i 0)
-larger_lane xs ys i hx hy h =
-    let long = length-zip2 ltb xs ys (omega arith) in
-    ap (λ l. get_or l i 0) (compared xs ys)
-    ∙ get_or-sel_l (zip2 ltb xs ys) ys xs i 0 (omega arith) (omega arith) (omega arith)
-    ∙ ap (λ m. cond m (get_or ys i 0) (get_or xs i 0)) (get_or-zip2 ltb xs ys i 0 0 false (omega arith) (omega arith))
-    ∙ larger_chosen (get_or xs i 0) (get_or ys i 0)
+larger_lane xs ys i hx hy h = grind (arith, common_steps, length-zip2, compared, get_or-sel_l, get_or-zip2, larger_chosen)
 
 pub length-larger : (xs ys : List ℕ) → length xs ≡ 16 → length ys ≡ 16
     → length (sel_l (map (top 15) (zip2 (λ a b. cond (ltb a b) 65535 0) xs ys)) ys xs) ≡ 16
-length-larger xs ys hx hy =
-    let long = length-zip2 ltb xs ys (omega arith) in
-    ap length (compared xs ys) ∙ length-sel_l (zip2 ltb xs ys) ys xs (omega arith) (omega arith) ∙ omega arith
+length-larger xs ys hx hy = grind (arith, common_steps, length-zip2, compared, length-sel_l)
 
 -- ---- lanes that are words
 
@@ -66,15 +59,8 @@ joins d k m n even = cond even (nat_eq m (k + d) && (nat_eq n k && nat_lt m 16))
 joined : (v : List ℕ) (r d k m n : ℕ) (even : Bool) → length v ≡ 16 → Each1 (Fits w16) v → k < 16 → joins d k m n even ≡ true
     → r % 65535 ≡ (get_or (v ++ v) m 0 + get_or (v ++ map (λ x. 65535 - x) v) n 0) % 65535
     → r % 65535 ≡ cond even (get_or v (k + d) 0 + get_or v k 0) (get_or v (k - d) 0 + 65534 * get_or v k 0) % 65535
-joined v r d k m n true size fits h test e =
-    let first : (nat_eq m (k + d) ≡ true) × _ = and_parts _ _ test in
-    let second : (nat_eq n k ≡ true) × (nat_lt m 16 ≡ true) = and_parts _ _ first.1 in
-    let below = ltb-true m 16 second.1 in
-    summed v (map (λ x. 65535 - x) v) r (k + d) k size (omega (arith, eqb-true m (k + d) first.0)) h
-    (rw (eqb-true m (k + d) first.0, eqb-true n k second.0) at e)
-joined v r d k m n false size fits h test e =
-    let both : (nat_eq m (k - d) ≡ true) × (nat_eq n (16 + k) ≡ true) = and_parts _ _ test in
-    subtracted v r (k - d) k size fits (omega arith) h (rw (eqb-true m (k - d) both.0, eqb-true n (16 + k) both.1) at e)
+joined v r d k m n true size fits h test e = grind (arith, common_steps, and_parts, ltb-true, summed, eqb-true)
+joined v r d k m n false size fits h test e = grind (arith, common_steps, and_parts, subtracted, eqb-true)
 
 -- lanes ms of a vector twice, and lanes ns of it and of its complement, joined at each lane
 pub layer_joined : (d : ℕ) (v new ms ns : List ℕ) → length v ≡ 16 → Each1 (Fits w16) v → length ms ≡ 16 → length ns ≡ 16
