@@ -1,5 +1,5 @@
 //! Callers that know lent rows by their contracts alone: what is written to them stands in the list afterwards.
-ghost use Rattle.std.specs.Prelude.{◌≡◌, ℕ, ◌+◌, ◌<◌, [], ◌∷◌, length};
+ghost use Rattle.std.specs.Prelude.{◌≡◌, ℕ, ◌+◌, ◌*◌, ◌<◌, [], ◌∷◌, length};
 ghost use Rattle.reed_solomon_simd.specs.Rows.{chunk};
 ghost use Rattle.reed_solomon_simd.specs.View.{Fits, SameShape, cell};
 ghost use Rattle.rs_callers.specs.RowsBut.{SameRowsBut, HasFirstRow};
