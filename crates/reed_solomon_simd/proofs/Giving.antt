@@ -1,6 +1,7 @@
 -- Following an iterator whose items are taken one after another.
 use Rattle.std.proofs.Common.{◌≡◌, true, false, List, [], ◌∷◌, ◌++◌, map, Option, Some, None, Result, Ok, Err, refl, sym, ap, subst, ◌∙◌, true≢false}
-use Rattle.std.specs.Iterator.{AlwaysYields, Yields}
+use Rattle.std.specs.Iterator.{AlwaysYields, Yields, YieldsFirstBy}
+use Rattle.std.proofs.lemmas.Iterator.{YieldsList}
 use Rattle.rs_field.specs.declared.code.error.Error.{Error}
 use Rattle.rs_field.specs.code.Outcome.{result_and_then, answer_of, state_after}
 use Rattle.rs_field.specs.code.OneCall.{one_by_one}
@@ -139,12 +140,6 @@ module _ {I A S T : Type 0} {steps : I → Option A → I → Type 0} {view : A 
         (ap (one_by_one step first) (begins.1 ∙ ap (λ more. map view leads.taken ++ more) (begins.2 refl)) ∙ leads.led []) holds,
   )
 
--- a success leads on to what comes after it
-pub reaches-then : {S : Type 0} (outcome : Result S Error) (f : S → Result S Error) (P : S → Type 0) (now : S) (result : Result (Unit {0}) Error)
-    → Reaches outcome (Ok tt) (λ s. now ≡ s) → Reaches (f now) result P → Reaches (result_and_then f outcome) result P
-reaches-then {S = S} (Ok s) f P now result led further = subst (λ (t : S). Reaches (f t) result P) led.1 further
-reaches-then {S = S} (Err e) f P now result led further = cc
-
 -- a call that answered a success led to its state
 pub reached-ok : {S : Type 0} (outcome : Result S Error) (now : S) → Reaches outcome (Ok tt) (λ s. now ≡ s) → outcome ≡ Ok now
 reached-ok (Ok s) now reached = ap Ok (sym reached.1)
@@ -188,3 +183,14 @@ module _ {I J A B T U : Type 0} {own : I → Option A → I → Type 0} {steps :
   pub always-both : {iterator : J} → (calls : Calls own start) × (further : Calls steps iterator) × ((list : List T) (more : List U) → Begins see calls list → Begins view further more → P list more)
       → (list : List T) (more : List U) → AlwaysYields own see start list → AlwaysYields steps view iterator more → P list more
   always-both {iterator} run list more yields further = run.2 list more (begins-always own see start run.0 list yields) (begins-always steps view iterator run.1 more further)
+
+-- an iterator that stands for the list of what is left lends that list
+pub lends-left : {A B : Type 0} (view : A → B) (own list : List B) → own ≡ list → AlwaysYields (YieldsFirstBy view (λ (left : List B). left)) view own list
+lends-left view own [] is = λ item after gives. let no : ⊥ = cc in no
+lends-left view own (x ∷ xs) is = (
+  λ after gives. let none = gives.0 in let no : ⊥ = cc in no,
+  λ item after gives. (let same : view item ≡ x = cc in same, lends-left view after xs (let rest : after ≡ xs = cc in rest)),
+)
+
+pub lends-list : {A B : Type 0} (view : A → B) (own list : List B) → own ≡ list → YieldsList (YieldsFirstBy view (λ (left : List B). left)) view own list
+lends-list view own list is = record { runs = lends-left view own list is }

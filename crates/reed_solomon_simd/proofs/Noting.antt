@@ -28,7 +28,7 @@ tested count index outside taken =
     if outside then Err (InvalidOriginalShardIndex count index) else if taken then Err (DuplicateOriginalShardIndex index) else Ok tt
 
 -- the outcome of noting it among the indexes, by the tests of its range and of whether it stands there
-abbrev noted_by : ℕ → List ℕ → ℕ → Bool → Bool → Result (List ℕ) Error
+abbrev pub noted_by : ℕ → List ℕ → ℕ → Bool → Bool → Result (List ℕ) Error
 noted_by count indexes index outside taken =
     if outside then Err (InvalidOriginalShardIndex count index)
     else if taken then Err (DuplicateOriginalShardIndex index)

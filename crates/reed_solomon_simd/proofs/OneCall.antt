@@ -1,11 +1,11 @@
 -- From coders that were given shards to what one call answers.
-use Rattle.std.proofs.Common.{◌≡◌, ℕ, List, [], ◌∷◌, length, Option, Some, None, Result, Ok, Err, IsOk, IfOk, MatchResult, inl, inr, refl, sym, ap, subst, ◌⊎◌, ◌∙◌, arith}
+use Rattle.std.proofs.Common.{◌≡◌, ℕ, Bool, true, false, if◌then◌else◌, List, [], ◌∷◌, length, Option, Some, None, Result, Ok, Err, IsOk, IfOk, MatchResult, inl, inr, refl, sym, ap, subst, ◌⊎◌, ◌∙◌, arith}
 use Rattle.std.proofs.lemmas.Grind.{common_steps}
 use Rattle.rs_field.specs.declared.code.error.Error.{Error}
-use Rattle.rs_field.specs.declared.code.error.Error.TheVariants.{OutOfMemory}
+use Rattle.rs_field.specs.declared.code.error.Error.TheVariants.{OutOfMemory, UnsupportedShardCount}
 use Rattle.rs_field.specs.code.Column.{Shard}
 use Rattle.rs_field.specs.code.Configuration.{Configuration, validated, started, UpToMemory}
-use Rattle.rs_field.specs.code.Counts.{default_rate}
+use Rattle.rs_field.specs.code.Counts.{default_rate, supports}
 use Rattle.rs_field.specs.code.Decoder.{DecoderState, fresh_decoder, with_original, with_recovery, DecodeAnswers}
 use Rattle.rs_field.specs.code.Encoder.{EncoderState, IsEncoder, fresh_encoder, EncodeAnswers}
 use Rattle.rs_field.specs.code.Given.{Shards, nothing, Lists}
@@ -56,6 +56,16 @@ leads-off : {S T : Type 0} (A : S → Result T Error → Type 0) (o : Result S E
 leads-off {T = T} A o e is = subst (λ o. MatchResult o (λ s. A s (Err e)) (λ f. ◌≡◌ {A = Result T Error} (Err e) (Err f))) (sym is) refl
 
 -- ---- encoders
+
+-- what is told of counts, by whether they are supported
+uncounted : (k r : ℕ) (e : Error) (supported : Bool) → ◌≡◌ {A = Result (Unit {0}) Error} (Err e) (if supported then Ok tt else Err (UnsupportedShardCount k r)) → (supported ≡ false) × (e ≡ UnsupportedShardCount k r)
+uncounted k r e true told = cc
+uncounted k r e false told = (refl, cc)
+
+-- counts that aren't supported are refused, whatever comes
+pub encoding-uncounted : (k r : ℕ) (shards : List Shard) (e : Error) → Err e ≡ counted k r → IsEncoding k r shards (Err e)
+encoding-uncounted k r [] e told = let refused = uncounted k r e (supports default_rate k r) told in rw (refused.0, refused.1) (inl refl)
+encoding-uncounted k r (x ∷ xs) e told = let refused = uncounted k r e (supports default_rate k r) told in rw (refused.0, refused.1) (inl refl)
 
 module _ (k r : ℕ) (first : Shard) (rest : List Shard) where
   -- an encoder that isn't set up decides
@@ -123,6 +133,18 @@ kept-original s t item is = grind (arith, common_steps)
 
 kept-recovery : (s t : DecoderState) (item : ℕ × Shard) → with_recovery s item.0 item.1 ≡ Ok t → t.configuration ≡ s.configuration
 kept-recovery s t item is = grind (arith, common_steps)
+
+-- originals that were taken lead to where the recovery shards do
+pub both-ok : (s now : DecoderState) (originals recovery : Items) (o : Result DecoderState Error) → with_originals s originals ≡ Ok now → with_recoveries now recovery ≡ o → with_both s originals recovery ≡ o
+both-ok s now originals recovery o taken led = ap (result_and_then (λ t. with_recoveries t recovery)) taken ∙ led
+
+-- and one that was refused decides
+pub both-err : (s : DecoderState) (originals recovery : Items) (e : Error) → with_originals s originals ≡ Err e → with_both s originals recovery ≡ Err e
+both-err s originals recovery e refused = ap (result_and_then (λ t. with_recoveries t recovery)) refused
+
+pub decoding-uncounted : (k r : ℕ) (originals recovery : Items) (e : Error) → Err e ≡ counted k r → IsDecoding k r originals recovery (Err e)
+decoding-uncounted k r originals [] e told = let refused = uncounted k r e (supports default_rate k r) told in rw (refused.0, refused.1) (inl refl)
+decoding-uncounted k r originals (x ∷ xs) e told = let refused = uncounted k r e (supports default_rate k r) told in rw (refused.0, refused.1) (inl refl)
 
 -- where no recovery shard came: whether all originals did, or memory lacked for their indexes
 pub decoding-none : (k r : ℕ) (originals : Items) (o : Result (Unit {0}) Error) → Ok tt ≡ counted k r → (o ≡ all_came k originals) ⊎ (o ≡ Err OutOfMemory)

@@ -1,11 +1,11 @@
 //! Encoders and decoders of the default rate with the shards of a message given to them, as one call gives them.
-ghost use Rattle.std.specs.Prelude.{◌≡◌, ◌∷◌, ℕ, List, Err, IfErr};
+ghost use Rattle.std.specs.Prelude.{◌≡◌, List, Err, IfErr};
 ghost use Rattle.std.specs.Iterator.{IsFinite};
 ghost use Rattle.std.specs.Option.{option_map};
 ghost use Rattle.std.specs.Result.{result_map_both};
 ghost use Rattle.rs_field.specs.code.Column.{Shard};
 ghost use Rattle.rs_field.specs.code.Counts.{default_rate};
-ghost use Rattle.rs_field.specs.code.OneCall.{Items, Lends, LendsItems, counted, with_shards, with_originals, with_recoveries, with_both};
+ghost use Rattle.rs_field.specs.code.OneCall.{Items, counted, with_shards, with_originals, with_recoveries};
 ghost use Rattle.rs_rate.specs.EncoderView.{encoder_state};
 ghost use Rattle.rs_rate.specs.DecoderView.{decoder_state};
 ghost use Rattle.reed_solomon_simd.specs.Calls.{Calls, BeginsWith, BeginsWithItems};
@@ -45,11 +45,12 @@ pub fn given_encoder<'a, E: Engine, I: Iterator<Item = &'a [u8]> + Drop>(
             original_received_count: 0,
         });
     };
+    let size = first.len();
     let mut encoder = DefaultRateEncoder::new(
         alloc,
         original_count,
         recovery_count,
-        first.len(),
+        size,
         engine,
         None,
     )?;
@@ -92,15 +93,18 @@ where
         check_all_came(alloc, original_count, original)?;
         return Ok(None);
     };
+    let size = first_shard.len();
     let mut decoder = DefaultRateDecoder::new(
         alloc,
         original_count,
         recovery_count,
-        first_shard.len(),
+        size,
         engine,
         None,
     )?;
-    give_both(&mut decoder, original, first_index, first_shard, recovery)?;
+    give_originals(&mut decoder, original)?;
+    decoder.add_recovery_shard(first_index, first_shard)?;
+    give_recovery(&mut decoder, recovery)?;
     Ok(Some(decoder))
 }
 
@@ -123,8 +127,14 @@ pub fn check_counts(original_count: usize, recovery_count: usize) -> Result<(), 
     }
 }
 
-// Gives an encoder shards in order; the first refused one decides.
-fn give_shards<'a, E: Engine, X: RateEncoder<E>, I: Iterator<Item = &'a [u8]> + Drop>(
+/// Gives an encoder shards in order; the first refused one decides.
+///
+/// ```
+/// // quoted: crates/rs_callers/src/rate_round_trip.rt
+/// let shards = originals.iter().map(|original| original.as_slice());
+/// give_shards(encoder, shards)
+/// ```
+pub fn give_shards<'a, E: Engine, X: RateEncoder<E>, I: Iterator<Item = &'a [u8]> + Drop>(
     encoder: &mut X,
     shards: I,
 ) -> Result<(), Error>
@@ -139,35 +149,23 @@ fn give_shards<'a, E: Engine, X: RateEncoder<E>, I: Iterator<Item = &'a [u8]> + 
     Ok(())
 }
 
-// Gives a decoder originals in order, and then recovery shards in order, of which the first was taken already.
-fn give_both<'a, E: Engine, X: RateDecoder<E>, O, R>(
-    decoder: &mut X,
-    originals: O,
-    first_index: usize,
-    first_shard: &'a [u8],
-    recovery: R,
-) -> Result<(), Error>
-where
-    O: Iterator<Item = (usize, &'a [u8])> + Drop,
-    R: Iterator<Item = (usize, &'a [u8])> + Drop,
-    requires can { O.can_next originals }
-    requires ends { IsFinite (O.remaining originals) }
-    requires can_recovery { R.can_next recovery }
-    requires recovery_ends { IsFinite (R.remaining recovery) }
-    ensures { (calls : Calls O.next_gives originals) × (further : Calls R.next_gives recovery)
-        × ((before after : Items) → BeginsWithItems before calls → BeginsWithItems after further
-        → Reaches (with_both (X.state decoder.old) before ((first_index, first_shard.now) ∷ after)) result (λ s. X.state decoder.new ≡ s)) }
-{
-    give_originals(decoder, originals)?;
-    decoder.add_recovery_shard(first_index, first_shard)?;
-    give_recovery(decoder, recovery)
-}
-
-// Gives a decoder originals in order; the first refused one decides.
-fn give_originals<'a, E: Engine, X: RateDecoder<E>, I: Iterator<Item = (usize, &'a [u8])> + Drop>(
-    decoder: &mut X,
-    originals: I,
-) -> Result<(), Error>
+/// Gives a decoder originals in order; the first refused one decides.
+///
+/// ```
+/// // quoted: crates/rs_callers/src/rate_round_trip.rt
+/// let kept = originals
+///     .iter()
+///     .map(|original| original.as_slice())
+///     .enumerate()
+///     .filter(|item| !lost.contains(&item.0));
+/// give_originals(decoder, kept)
+/// ```
+pub fn give_originals<
+    'a,
+    E: Engine,
+    X: RateDecoder<E>,
+    I: Iterator<Item = (usize, &'a [u8])> + Drop,
+>(decoder: &mut X, originals: I) -> Result<(), Error>
     requires can { I.can_next originals }
     requires ends { IsFinite (I.remaining originals) }
     ensures { (calls : Calls I.next_gives originals) × ((items : Items) → BeginsWithItems items calls
@@ -179,11 +177,22 @@ fn give_originals<'a, E: Engine, X: RateDecoder<E>, I: Iterator<Item = (usize, &
     Ok(())
 }
 
-// Gives a decoder recovery shards in order; the first refused one decides.
-fn give_recovery<'a, E: Engine, X: RateDecoder<E>, I: Iterator<Item = (usize, &'a [u8])> + Drop>(
-    decoder: &mut X,
-    recovery: I,
-) -> Result<(), Error>
+/// Gives a decoder recovery shards in order; the first refused one decides.
+///
+/// ```
+/// // quoted: crates/rs_callers/src/rate_round_trip.rt
+/// let received = recovery
+///     .recovery_iter()
+///     .enumerate()
+///     .filter(|item| !lost.contains(&item.0));
+/// give_recovery(decoder, received)
+/// ```
+pub fn give_recovery<
+    'a,
+    E: Engine,
+    X: RateDecoder<E>,
+    I: Iterator<Item = (usize, &'a [u8])> + Drop,
+>(decoder: &mut X, recovery: I) -> Result<(), Error>
     requires can { I.can_next recovery }
     requires ends { IsFinite (I.remaining recovery) }
     ensures { (calls : Calls I.next_gives recovery) × ((items : Items) → BeginsWithItems items calls

@@ -9,6 +9,7 @@ use Rattle.reed_solomon_simd.specs.declared.Error.{Error}
 use Rattle.reed_solomon_simd.specs.declared.Error.TheVariants.{UnsupportedShardCount, OutOfMemory}
 use Rattle.reed_solomon_simd.specs.Column.{Shard}
 use Rattle.reed_solomon_simd.specs.Given.{Shards, Lists}
+use Rattle.reed_solomon_simd.proofs.OneCall.{encoding-uncounted, encoding-refused, decoding-uncounted, decoding-refused}
 use Rattle.rs.specs.declared.fault.Fault.{Fault}
 use Rattle.rs.specs.declared.fault.Fault.TheVariants.{Usage, Refused}
 use Rattle.rs.specs.CommandLine.{GivenItems, Task, Coded, Restored}
@@ -28,23 +29,10 @@ pub restores-lines : {Y Z : Type 0} (k r : ℕ) (given : GivenItems) (restored :
 restores-lines k r given restored items (Ok texts) answered listed lines = (restored, answered, (items, listed, lines))
 restores-lines k r given restored items (Err e) answered listed lacking = inr lacking
 
--- what is told of counts, by whether they are supported
-abbrev counted_by : ℕ → ℕ → Bool → Result (Unit {0}) Error
-counted_by k r supported = cond supported (Ok tt) (Err (UnsupportedShardCount k r))
-
-unsupported_by : (k r : ℕ) (e : Error) (supported : Bool) → Err e ≡ counted_by k r supported → (supported ≡ false) × (e ≡ UnsupportedShardCount k r)
-unsupported_by k r e true told = cc
-unsupported_by k r e false told = (refl, cc)
-
 -- whatever is asked, counts that aren't supported are refused
 pub unsupported : (k r : ℕ) (task : Task) (e : Error) → Err e ≡ counted k r → Answers k r task (Err e)
-unsupported k r (Coded []) e told = let refused = unsupported_by k r e (supports default_rate k r) told in rw (refused.0, refused.1) (inl refl)
-unsupported k r (Coded (shard ∷ shards)) e told = let refused = unsupported_by k r e (supports default_rate k r) told in rw (refused.0, refused.1) (inl refl)
-unsupported k r (Restored given) e told = by_recovery given.recovery
-  where
-    by_recovery : (recovery : Items) → OneDecodeAnswers k r given.originals recovery (Err e)
-    by_recovery [] = let refused = unsupported_by k r e (supports default_rate k r) told in rw (refused.0, refused.1) (inl refl)
-    by_recovery (first ∷ rest) = let refused = unsupported_by k r e (supports default_rate k r) told in rw (refused.0, refused.1) (inl refl)
+unsupported k r (Coded shards) e told = encoding-refused k r shards e (encoding-uncounted k r shards e told)
+unsupported k r (Restored given) e told = decoding-refused k r given.originals given.recovery e (decoding-uncounted k r given.originals given.recovery e told)
 
 -- with status 1 what is told of an answer is a refusal of the words
 pub refusal-told : (words : List (List ℕ)) (fault told : Fault) → status_of fault ≡ 1 → HasFault words fault → IsToldAs fault told

@@ -1,6 +1,5 @@
 mod BufferLemmas
 mod DecodeLemmas
 mod EncodeLemmas
-mod LayoutLemmas
 mod MarkedLemmas
 mod RoomLemmas

@@ -4,9 +4,9 @@ use Rattle.std.proofs.lemmas.Bool.{ne_eqb, lt-leb}
 use Rattle.std.proofs.lemmas.List.Recursion.{is_count_by}
 use Rattle.std.specs.List.{count_by, list_any}
 use Rattle.rs_field.specs.declared.code.error.Error.{Error}
-use Rattle.rs_field.specs.declared.code.error.Error.TheVariants.{InvalidOriginalShardIndex, DuplicateOriginalShardIndex}
 use Rattle.rs_field.specs.code.Outcome.{result_and_then}
 use Rattle.rs_field.specs.code.OneCall.{Items, one_by_one, noted, all_came}
+use Rattle.reed_solomon_simd.proofs.Noting.{noted_by}
 use Rattle.rs_c.specs.Answers.{all_or_refused}
 use Rattle.rs_c.specs.Buffers.{marked}
 
@@ -22,13 +22,6 @@ count-present marks = is_count_by present (λ mark. not (mark == 0)) refl (λ ma
 -- no index from i on is among those that came
 abbrev IsBelow : ℕ → List ℕ → Type 0
 IsBelow i came = (j : ℕ) → i ≤ j → list_any (nat_eq j) came ≡ false
-
--- the outcome of noting an index, by the tests of its range and of whether it stands there
-abbrev noted_by : ℕ → List ℕ → ℕ → Bool → Bool → Result (List ℕ) Error
-noted_by k came i outside taken =
-    if outside then Err (InvalidOriginalShardIndex k i)
-    else if taken then Err (DuplicateOriginalShardIndex i)
-    else Ok (i ∷ came)
 
 -- an index that is in range and new is noted
 noted-next : (k i : ℕ) (came : List ℕ) → i < k → IsBelow i came → noted k came i ≡ Ok (i ∷ came)

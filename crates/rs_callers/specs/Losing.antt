@@ -5,13 +5,17 @@ use Rattle.reed_solomon_simd.specs.Column.{Shard, shard_at}
 use Rattle.reed_solomon_simd.specs.Given.{Shards}
 use Rattle.reed_solomon_simd.specs.OneCall.{Items}
 
+-- an index is among those lost
+abbrev pub is_lost : List ℕ → ℕ → Bool
+is_lost lost i = list_any (λ index. nat_eq index i) lost
+
 -- a list's shards at exactly the indexes that are among those lost
 abbrev pub lost_at : List Shard → List ℕ → Shards
-lost_at shards lost i = if nat_lt i (length shards) && list_any (λ index. nat_eq index i) lost then Some (shard_at shards i) else None
+lost_at shards lost i = if nat_lt i (length shards) && is_lost lost i then Some (shard_at shards i) else None
 
 -- a shard with its index isn't lost
 abbrev pub is_left : List ℕ → ℕ × Shard → Bool
-is_left lost item = not (list_any (λ index. nat_eq index item.0) lost)
+is_left lost item = not (is_lost lost item.0)
 
 -- the shards that aren't lost, with their indexes, in order
 abbrev pub left_of : List Shard → List ℕ → Items
@@ -20,7 +24,7 @@ left_of shards lost = filter (is_left lost) (enumerate_from 0 shards)
 -- how many of the n indexes from one on aren't lost
 abbrev pub left_from : ℕ → ℕ → List ℕ → ℕ
 left_from from zero lost = 0
-left_from from (suc n) lost = (if list_any (λ index. nat_eq index from) lost then 0 else 1) + left_from (from + 1) n lost
+left_from from (suc n) lost = (if is_lost lost from then 0 else 1) + left_from (from + 1) n lost
 
 -- how many of the indexes below n aren't lost
 abbrev pub left_below : ℕ → List ℕ → ℕ

@@ -8,6 +8,7 @@ ghost use Rattle.reed_solomon_simd.specs.ResultView.{recovery_shards};
 ghost use Rattle.rs_callers.specs.Losing.{lost_at, left_of, left_below};
 
 use crate::walking::restored_copies;
+use reed_solomon_simd::coders::{give_originals, give_recovery, give_shards};
 use reed_solomon_simd::engine::{Engine, Steps};
 use reed_solomon_simd::rate::{Rate, RateDecoder, RateEncoder};
 use reed_solomon_simd::{EncoderResult, Error};
@@ -52,10 +53,8 @@ fn give_all<E: Engine, X: RateEncoder<E>>(
 ) -> Result<(), Error>
     ensures { Reaches (with_shards (X.state encoder.old) (map (λ shard. shard.items) originals.now)) result (λ s. X.state encoder.new ≡ s) }
 {
-    for original in originals {
-        encoder.add_original_shard(original)?;
-    }
-    Ok(())
+    let shards = originals.iter().map(|original| original.as_slice());
+    give_shards(encoder, shards)
 }
 
 // Gives a decoder the originals that aren't lost.
@@ -66,13 +65,12 @@ fn give_kept<E: Engine, X: RateDecoder<E>>(
 ) -> Result<(), Error>
     ensures { Reaches (with_originals (X.state decoder.old) (left_of (map (λ shard. shard.items) originals.now) lost.now)) result (λ s. X.state decoder.new ≡ s) }
 {
-    for (index, original) in originals.iter().enumerate() {
-        if lost.contains(&index) {
-            continue;
-        }
-        decoder.add_original_shard(index, original)?;
-    }
-    Ok(())
+    let kept = originals
+        .iter()
+        .map(|original| original.as_slice())
+        .enumerate()
+        .filter(|item| !lost.contains(&item.0));
+    give_originals(decoder, kept)
 }
 
 // Gives a decoder the recovery shards that aren't lost.
@@ -83,11 +81,9 @@ fn give_received<E: Engine, X: RateDecoder<E>>(
 ) -> Result<(), Error>
     ensures { Reaches (with_recoveries (X.state decoder.old) (left_of (recovery_shards recovery.now) lost.now)) result (λ s. X.state decoder.new ≡ s) }
 {
-    for (index, shard) in recovery.recovery_iter().enumerate() {
-        if lost.contains(&index) {
-            continue;
-        }
-        decoder.add_recovery_shard(index, shard)?;
-    }
-    Ok(())
+    let received = recovery
+        .recovery_iter()
+        .enumerate()
+        .filter(|item| !lost.contains(&item.0));
+    give_recovery(decoder, received)
 }

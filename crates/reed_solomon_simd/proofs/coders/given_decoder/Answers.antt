@@ -1,6 +1,9 @@
-use Rattle.std.proofs.Common.{rules, Ok, Err}
-use Rattle.reed_solomon_simd.proofs.Giving.{no-calls, ended-both, first-both, reached-ok, reached-err}
-use Rattle.reed_solomon_simd.proofs.OneCall.{decoding-none, decoding-unset, decoding-given}
+use Rattle.std.proofs.Common.{rules, ◌∷◌, Ok, Err}
+use Rattle.rs_field.specs.code.Counts.{default_rate}
+use Rattle.rs_field.specs.code.Decoder.{with_recovery}
+use Rattle.rs_rate.specs.DecoderView.{decoder_state}
+use Rattle.reed_solomon_simd.proofs.Giving.{no-calls, ended-both, first-both, outcome-ok, outcome-err, reached-ok, reached-err, steps-ok, steps-err}
+use Rattle.reed_solomon_simd.proofs.OneCall.{decoding-none, decoding-unset, decoding-given, both-ok, both-err}
 use Rattle.reed_solomon_simd.proofs.coders.given_decoder.Goals as goal
 
 pub returns-in_err-check_counts-clause-run : goal.returns-in_err-check_counts-clause-run
@@ -25,22 +28,42 @@ returns-in_err-decoder-clause-run g c =
           let led = decoding-unset c.args.original_count c.args.recovery_count originals (c.in-Some.first_index, c.in-Some.first_shard.now) others _ c.in_err-decoder.ensures.answer in search rules,
     )
 
-pub returns-in_err-give_both-clause-run : goal.returns-in_err-give_both-clause-run
-returns-in_err-give_both-clause-run g c =
+pub returns-in_err-give_originals-clause-run : goal.returns-in_err-give_originals-clause-run
+returns-in_err-give_originals-clause-run g c =
     first-both (λ item. (item.0, item.1.now)) (λ item. (item.0, item.1.now)) _ {item = (c.in-Some.first_index, c.in-Some.first_shard)} c.in-Some.ensures.steps (
-      c.in_err-give_both.ensures.0,
-      c.in_err-give_both.ensures.1,
+      c.in_err-give_originals.ensures.0,
+      no-calls c.next.new.self,
       λ originals others begins further.
           let led = decoding-given c.args.original_count c.args.recovery_count originals (c.in-Some.first_index, c.in-Some.first_shard.now) others _ c.in_ok-decoder.ensures.answer c.in_ok-decoder.ensures.made.0 _
-          (reached-err _ _ _ (c.in_err-give_both.ensures.2 originals others begins further)) in search rules,
+          (both-err (decoder_state default_rate c.in_ok-decoder.decoder.rows) originals ((c.in-Some.first_index, c.in-Some.first_shard.now) ∷ others) _ (reached-err _ _ _ (c.in_err-give_originals.ensures.1 originals begins))) in search rules,
+    )
+
+pub returns-in_err-add_recovery_shard-clause-run : goal.returns-in_err-add_recovery_shard-clause-run
+returns-in_err-add_recovery_shard-clause-run g c =
+    first-both (λ item. (item.0, item.1.now)) (λ item. (item.0, item.1.now)) _ {item = (c.in-Some.first_index, c.in-Some.first_shard)} c.in-Some.ensures.steps (
+      c.in_ok-give_originals.ensures.0,
+      no-calls c.next.new.self,
+      λ originals others begins further.
+          let led = decoding-given c.args.original_count c.args.recovery_count originals (c.in-Some.first_index, c.in-Some.first_shard.now) others _ c.in_ok-decoder.ensures.answer c.in_ok-decoder.ensures.made.0 _
+          (both-ok (decoder_state default_rate c.in_ok-decoder.decoder.rows) (decoder_state default_rate c.give_originals.new.decoder.rows) originals ((c.in-Some.first_index, c.in-Some.first_shard.now) ∷ others) _ (reached-ok _ _ (c.in_ok-give_originals.ensures.1 originals begins)) (steps-err (λ now item. with_recovery now item.0 item.1) (decoder_state default_rate c.give_originals.new.decoder.rows) (c.in-Some.first_index, c.in-Some.first_shard.now) others _ (outcome-err (with_recovery (decoder_state default_rate c.give_originals.new.decoder.rows) c.in-Some.first_index c.in-Some.first_shard.now) _ c.in_err-add_recovery_shard.ensures.answer))) in search rules,
+    )
+
+pub returns-in_err-give_recovery-clause-run : goal.returns-in_err-give_recovery-clause-run
+returns-in_err-give_recovery-clause-run g c =
+    first-both (λ item. (item.0, item.1.now)) (λ item. (item.0, item.1.now)) _ {item = (c.in-Some.first_index, c.in-Some.first_shard)} c.in-Some.ensures.steps (
+      c.in_ok-give_originals.ensures.0,
+      c.in_err-give_recovery.ensures.0,
+      λ originals others begins further.
+          let led = decoding-given c.args.original_count c.args.recovery_count originals (c.in-Some.first_index, c.in-Some.first_shard.now) others _ c.in_ok-decoder.ensures.answer c.in_ok-decoder.ensures.made.0 _
+          (both-ok (decoder_state default_rate c.in_ok-decoder.decoder.rows) (decoder_state default_rate c.give_originals.new.decoder.rows) originals ((c.in-Some.first_index, c.in-Some.first_shard.now) ∷ others) _ (reached-ok _ _ (c.in_ok-give_originals.ensures.1 originals begins)) (steps-ok (λ now item. with_recovery now item.0 item.1) (decoder_state default_rate c.give_originals.new.decoder.rows) (decoder_state default_rate c.add_recovery_shard.new.self.rows) (c.in-Some.first_index, c.in-Some.first_shard.now) others _ (outcome-ok (decoder_state default_rate c.give_originals.new.decoder.rows) (decoder_state default_rate c.add_recovery_shard.new.self.rows) (with_recovery (decoder_state default_rate c.give_originals.new.decoder.rows) c.in-Some.first_index c.in-Some.first_shard.now) c.in_ok-add_recovery_shard.ensures.answer c.in_ok-add_recovery_shard.ensures.left) (reached-err _ _ _ (c.in_err-give_recovery.ensures.1 others further)))) in search rules,
     )
 
 pub returns-clause-run : goal.returns-clause-run
 returns-clause-run g c =
     first-both (λ item. (item.0, item.1.now)) (λ item. (item.0, item.1.now)) _ {item = (c.in-Some.first_index, c.in-Some.first_shard)} c.in-Some.ensures.steps (
-      c.in_ok-give_both.ensures.0,
-      c.in_ok-give_both.ensures.1,
+      c.in_ok-give_originals.ensures.0,
+      c.in_ok-give_recovery.ensures.0,
       λ originals others begins further.
           decoding-given c.args.original_count c.args.recovery_count originals (c.in-Some.first_index, c.in-Some.first_shard.now) others _ c.in_ok-decoder.ensures.answer c.in_ok-decoder.ensures.made.0 _
-          (reached-ok _ _ (c.in_ok-give_both.ensures.2 originals others begins further)),
+          (both-ok (decoder_state default_rate c.in_ok-decoder.decoder.rows) (decoder_state default_rate c.give_originals.new.decoder.rows) originals ((c.in-Some.first_index, c.in-Some.first_shard.now) ∷ others) _ (reached-ok _ _ (c.in_ok-give_originals.ensures.1 originals begins)) (steps-ok (λ now item. with_recovery now item.0 item.1) (decoder_state default_rate c.give_originals.new.decoder.rows) (decoder_state default_rate c.add_recovery_shard.new.self.rows) (c.in-Some.first_index, c.in-Some.first_shard.now) others _ (outcome-ok (decoder_state default_rate c.give_originals.new.decoder.rows) (decoder_state default_rate c.add_recovery_shard.new.self.rows) (with_recovery (decoder_state default_rate c.give_originals.new.decoder.rows) c.in-Some.first_index c.in-Some.first_shard.now) c.in_ok-add_recovery_shard.ensures.answer c.in_ok-add_recovery_shard.ensures.left) (reached-ok _ _ (c.in_ok-give_recovery.ensures.1 others further)))),
     )

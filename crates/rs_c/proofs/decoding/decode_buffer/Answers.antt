@@ -3,13 +3,12 @@ use Rattle.std.specs.List.{count_by}
 use Rattle.std.proofs.lemmas.List.{length-take-le, length-drop}
 use Rattle.rs_field.specs.code.Given.{nothing}
 use Rattle.rs_rate.specs.ResultView.{restored_originals}
-use Rattle.reed_solomon_simd.proofs.Giving.{always-both}
+use Rattle.reed_solomon_simd.proofs.Giving.{always-both, lends-left}
 use Rattle.reed_solomon_simd.proofs.OneCall.{decoding-refused, decoding-nothing, decoding-answers}
 use Rattle.rs_c.specs.Answers.{all_or_refused}
 use Rattle.rs_c.specs.Buffers.{marked}
 use Rattle.rs_c.proofs.EncodeLemmas.{fits-length, counted-fits}
 use Rattle.rs_c.proofs.DecodeLemmas.{restored-sized, decodes-unmarked, with-nothing, decodes}
-use Rattle.rs_c.proofs.LayoutLemmas.{lends-left}
 use Rattle.rs_c.proofs.decoding.decode_buffer.Goals as goal
 
 pub overflow_add-original_count : goal.overflow_add-original_count
@@ -17,12 +16,8 @@ overflow_add-original_count c = let fits = counted-fits c.args.original_count c.
 
 pub returns-in_err-check_all_marked-clause-answer : goal.returns-in_err-check_all_marked-clause-answer
 returns-in_err-check_all_marked-clause-answer c =
-    let k = c.args.original_count in
-    let r = c.args.recovery_count in
-    let size = c.args.shard_bytes in
-    let marks = c.args.marks.now in
-    let old = c.args.originals.now in
-    let recovery = c.args.recovery.now in
+    let k = c.args.original_count in let r = c.args.recovery_count in let size = c.args.shard_bytes in
+    let marks = c.args.marks.now in let old = c.args.originals.now in let recovery = c.args.recovery.now in
     let front : c.split_at.result.0.now ≡ take k marks = search rules in
     let back : c.split_at.result.1.now ≡ drop k marks = search rules in
     let e = c.in_err-check_all_marked.field-0.0 in
@@ -34,12 +29,8 @@ returns-in_err-check_all_marked-clause-answer c =
 
 pub returns-then-count_marked-eq0-clause-answer : goal.returns-then-count_marked-eq0-clause-answer
 returns-then-count_marked-eq0-clause-answer c =
-    let k = c.args.original_count in
-    let r = c.args.recovery_count in
-    let size = c.args.shard_bytes in
-    let marks = c.args.marks.now in
-    let old = c.args.originals.now in
-    let recovery = c.args.recovery.now in
+    let k = c.args.original_count in let r = c.args.recovery_count in let size = c.args.shard_bytes in
+    let marks = c.args.marks.now in let old = c.args.originals.now in let recovery = c.args.recovery.now in
     let front : c.split_at.result.0.now ≡ take k marks = search rules in
     let back : c.split_at.result.1.now ≡ drop k marks = search rules in
     let many : length marks ≡ (k + r) * 1 = fits-length (k + r) 1 (length marks) c.in_ok-check_length-3.ensures in
@@ -50,12 +41,8 @@ returns-then-count_marked-eq0-clause-answer c =
 
 pub returns-in_err-decoder-clause-answer : goal.returns-in_err-decoder-clause-answer
 returns-in_err-decoder-clause-answer c =
-    let k = c.args.original_count in
-    let r = c.args.recovery_count in
-    let size = c.args.shard_bytes in
-    let marks = c.args.marks.now in
-    let old = c.args.originals.now in
-    let recovery = c.args.recovery.now in
+    let k = c.args.original_count in let r = c.args.recovery_count in let size = c.args.shard_bytes in
+    let marks = c.args.marks.now in let old = c.args.originals.now in let recovery = c.args.recovery.now in
     let front : c.split_at.result.0.now ≡ take k marks = search rules in
     let back : c.split_at.result.1.now ≡ drop k marks = search rules in
     let led = always-both (λ item. (item.0, item.1.now)) (λ item. (item.0, item.1.now)) _ c.in_err-decoder.ensures.run (marked 0 size (take k marks) old) (marked 0 size (drop k marks) recovery)
@@ -66,12 +53,8 @@ returns-in_err-decoder-clause-answer c =
 
 pub returns-in_default-clause-answer : goal.returns-in_default-clause-answer
 returns-in_default-clause-answer c =
-    let k = c.args.original_count in
-    let r = c.args.recovery_count in
-    let size = c.args.shard_bytes in
-    let marks = c.args.marks.now in
-    let old = c.args.originals.now in
-    let recovery = c.args.recovery.now in
+    let k = c.args.original_count in let r = c.args.recovery_count in let size = c.args.shard_bytes in
+    let marks = c.args.marks.now in let old = c.args.originals.now in let recovery = c.args.recovery.now in
     let front : c.split_at.result.0.now ≡ take k marks = search rules in
     let back : c.split_at.result.1.now ≡ drop k marks = search rules in
     let led = always-both (λ item. (item.0, item.1.now)) (λ item. (item.0, item.1.now)) _ (rw c.in_default.is at c.in_ok-decoder.ensures.run) (marked 0 size (take k marks) old) (marked 0 size (drop k marks) recovery)
@@ -81,12 +64,8 @@ returns-in_default-clause-answer c =
 
 pub returns-in_err-result-clause-answer : goal.returns-in_err-result-clause-answer
 returns-in_err-result-clause-answer c =
-    let k = c.args.original_count in
-    let r = c.args.recovery_count in
-    let size = c.args.shard_bytes in
-    let marks = c.args.marks.now in
-    let old = c.args.originals.now in
-    let recovery = c.args.recovery.now in
+    let k = c.args.original_count in let r = c.args.recovery_count in let size = c.args.shard_bytes in
+    let marks = c.args.marks.now in let old = c.args.originals.now in let recovery = c.args.recovery.now in
     let front : c.split_at.result.0.now ≡ take k marks = search rules in
     let back : c.split_at.result.1.now ≡ drop k marks = search rules in
     let led = always-both (λ item. (item.0, item.1.now)) (λ item. (item.0, item.1.now)) _ (rw c.in-Some.is at c.in_ok-decoder.ensures.run) (marked 0 size (take k marks) old) (marked 0 size (drop k marks) recovery)
@@ -97,12 +76,8 @@ returns-in_err-result-clause-answer c =
 
 pub write_restored-requires-clause-sized : goal.write_restored-requires-clause-sized
 write_restored-requires-clause-sized c =
-    let k = c.args.original_count in
-    let r = c.args.recovery_count in
-    let size = c.args.shard_bytes in
-    let marks = c.args.marks.now in
-    let old = c.args.originals.now in
-    let recovery = c.args.recovery.now in
+    let k = c.args.original_count in let r = c.args.recovery_count in let size = c.args.shard_bytes in
+    let marks = c.args.marks.now in let old = c.args.originals.now in let recovery = c.args.recovery.now in
     let front : c.split_at.result.0.now ≡ take k marks = search rules in
     let back : c.split_at.result.1.now ≡ drop k marks = search rules in
     let led = always-both (λ item. (item.0, item.1.now)) (λ item. (item.0, item.1.now)) _ (rw c.in-Some.is at c.in_ok-decoder.ensures.run) (marked 0 size (take k marks) old) (marked 0 size (drop k marks) recovery)
@@ -114,12 +89,8 @@ write_restored-requires-clause-sized c =
 
 pub returns-clause-answer : goal.returns-clause-answer
 returns-clause-answer c =
-    let k = c.args.original_count in
-    let r = c.args.recovery_count in
-    let size = c.args.shard_bytes in
-    let marks = c.args.marks.now in
-    let old = c.args.originals.now in
-    let recovery = c.args.recovery.now in
+    let k = c.args.original_count in let r = c.args.recovery_count in let size = c.args.shard_bytes in
+    let marks = c.args.marks.now in let old = c.args.originals.now in let recovery = c.args.recovery.now in
     let front : c.split_at.result.0.now ≡ take k marks = search rules in
     let back : c.split_at.result.1.now ≡ drop k marks = search rules in
     let led = always-both (λ item. (item.0, item.1.now)) (λ item. (item.0, item.1.now)) _ (rw c.in-Some.is at c.in_ok-decoder.ensures.run) (marked 0 size (take k marks) old) (marked 0 size (drop k marks) recovery)

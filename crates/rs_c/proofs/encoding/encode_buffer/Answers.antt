@@ -2,17 +2,15 @@ use Rattle.std.proofs.Common.{rules, length, Ok, Err, sym, ◌∙◌, refl}
 use Rattle.rs_field.specs.code.Counts.{default_rate}
 use Rattle.rs_rate.specs.ObjectLaws.{is_encoder}
 use Rattle.rs_rate.specs.ResultView.{recovery_shards}
-use Rattle.reed_solomon_simd.proofs.Giving.{always-run}
+use Rattle.reed_solomon_simd.proofs.Giving.{always-run, lends-left}
 use Rattle.reed_solomon_simd.proofs.OneCall.{encoding-refused, encoding-answers, encoding-coded}
 use Rattle.rs_c.specs.Buffers.{cut}
 use Rattle.rs_c.proofs.EncodeLemmas.{fits-length, recovery-length, encodes}
-use Rattle.rs_c.proofs.LayoutLemmas.{lends-left}
 use Rattle.rs_c.proofs.encoding.encode_buffer.Goals as goal
 
 pub returns-in_err-encoder : goal.returns-in_err-encoder
 returns-in_err-encoder c =
-    let k = c.args.original_count in
-    let r = c.args.recovery_count in
+    let k = c.args.original_count in let r = c.args.recovery_count in
     let shards = cut k c.args.shard_bytes c.args.originals.now in
     let e = c.in_err-encoder.field-0.0 in
     encodes k r c.args.shard_bytes c.args.originals.now c.args.recovery.now _ _ (Err e) c.in_ok-check_counts.ensures c.in_ok-check_length.ensures c.in_ok-check_length-2.ensures
@@ -20,8 +18,7 @@ returns-in_err-encoder c =
 
 pub returns-in_err-result : goal.returns-in_err-result
 returns-in_err-result c =
-    let k = c.args.original_count in
-    let r = c.args.recovery_count in
+    let k = c.args.original_count in let r = c.args.recovery_count in
     let shards = cut k c.args.shard_bytes c.args.originals.now in
     let e = c.in_err-result.field-0.0 in
     let led = always-run c.in_ok-encoder.ensures.run shards (lends-left (λ shard. shard.now) _ shards c.new-shards.ensures) in
@@ -30,9 +27,7 @@ returns-in_err-result c =
 
 pub write_recovery-requires : goal.write_recovery-requires
 write_recovery-requires c =
-    let k = c.args.original_count in
-    let r = c.args.recovery_count in
-    let size = c.args.shard_bytes in
+    let k = c.args.original_count in let r = c.args.recovery_count in let size = c.args.shard_bytes in
     let shards = cut k size c.args.originals.now in
     let object = c.in_ok-encoder.encoder in
     let recovery = recovery_shards c.in_ok-result.result in
@@ -43,8 +38,7 @@ write_recovery-requires c =
 
 pub returns : goal.returns
 returns c =
-    let k = c.args.original_count in
-    let r = c.args.recovery_count in
+    let k = c.args.original_count in let r = c.args.recovery_count in
     let shards = cut k c.args.shard_bytes c.args.originals.now in
     let recovery = recovery_shards c.in_ok-result.result in
     let led = always-run c.in_ok-encoder.ensures.run shards (lends-left (λ shard. shard.now) _ shards c.new-shards.ensures) in

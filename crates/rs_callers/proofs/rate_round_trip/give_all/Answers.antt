@@ -1,18 +1,9 @@
-use Rattle.std.proofs.Common.{◌+◌, ◌∙◌, sym, ap, get_or}
-use Rattle.reed_solomon_simd.specs.Encoder.{with_shard}
-use Rattle.reed_solomon_simd.specs.OneCall.{with_shards}
-use Rattle.reed_solomon_simd.proofs.Giving.{outcome-ok}
-use Rattle.rs_callers.proofs.Stepping.{shards_from, shards_from-next, taken-next}
+use Rattle.std.proofs.Common.{rules}
+use Rattle.std.proofs.lemmas.Iterator.{YieldsList-from_slice, YieldsList-from_map_by}
+use Rattle.reed_solomon_simd.proofs.Giving.{always-run}
 use Rattle.rs_callers.proofs.rate_round_trip.give_all.Goals as goal
 
-pub loop-original-preserved : goal.loop-original-preserved
-loop-original-preserved g c =
-    let s = g.X.RateEncoder.state c.loop-original.encoder in
-    let next = g.X.RateEncoder.state c.add_original_shard.new.self in
-    let i = c.loop-original.original-index in
-    let item = c.original-item.result in
-    let same = c.deref.ensures.value ∙ ap (λ v. v.items) c.original-item.is in
-    let taken = ap (with_shard s) (sym same) ∙ outcome-ok s next (with_shard s c.deref.result.now) c.in_ok-add_original_shard.ensures.answer c.add_original_shard.ensures.left in
-    c.loop-original.invariant
-    ∙ ap (with_shards s) (shards_from-next i c.args.originals.now item c.loop-original-test.true)
-    ∙ taken-next with_shard s next (get_or c.args.originals.now i item).items (shards_from (i + 1) c.args.originals.now) taken
+pub returns : goal.returns
+returns g c =
+    let shards = YieldsList-from_map_by _ (λ shard. shard.now) (λ vector. vector.items) (YieldsList-from_slice c.args.originals.now cc) c.map-shards.ensures.closure (λ x r q k. search rules) in
+    always-run c.give_shards.ensures _ shards.runs

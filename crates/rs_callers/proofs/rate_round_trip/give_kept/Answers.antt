@@ -1,31 +1,13 @@
-use Rattle.std.proofs.Common.{◌+◌, ◌∙◌, refl, sym, ap, not, get_or}
-use Rattle.reed_solomon_simd.specs.Decoder.{with_original}
-use Rattle.reed_solomon_simd.proofs.Giving.{outcome-ok}
+use Rattle.std.proofs.Common.{rules}
+use Rattle.std.proofs.lemmas.Iterator.{YieldsList-from_slice, YieldsList-from_map_by}
+use Rattle.reed_solomon_simd.proofs.Giving.{always-run}
 use Rattle.rs_callers.specs.Losing.{is_left}
-use Rattle.rs_callers.proofs.Stepping.{shards_from, shards_from-next, kept-next, lost-next}
+use Rattle.rs_callers.proofs.Chains.{numbered, filtered}
 use Rattle.rs_callers.proofs.rate_round_trip.give_kept.Goals as goal
 
-pub loop-index-preserved-then-contains : goal.loop-index-preserved-then-contains
-loop-index-preserved-then-contains g c =
-    let s = g.X.RateDecoder.state c.loop-index.decoder in
-    let i = c.loop-index.index-counter in
-    let originals = c.args.originals.now in
-    let item = c.index-originals-index.result in
-    c.loop-index.invariant
-    ∙ lost-next (λ now one. with_original now one.0 one.1) (is_left c.args.lost.now) s i (i + 1) i (get_or originals i item).items (shards_from i originals) (shards_from (i + 1) originals)
-    (shards_from-next i originals item c.loop-index-test.true) refl refl (ap not (sym c.contains.ensures.value ∙ c.if-contains.true))
-
-pub loop-index-preserved : goal.loop-index-preserved
-loop-index-preserved g c =
-    let s = g.X.RateDecoder.state c.loop-index.decoder in
-    let next = g.X.RateDecoder.state c.add_original_shard.new.self in
-    let i = c.loop-index.index-counter in
-    let originals = c.args.originals.now in
-    let item = c.index-originals-index.result in
-    let same = c.deref.ensures.value ∙ ap (λ v. v.items) c.index-originals-index.is in
-    let taken =
-    ap (with_original s i) (sym same) ∙ outcome-ok s next (with_original s i c.deref.result.now) c.in_ok-add_original_shard.ensures.answer c.add_original_shard.ensures.left
-    in
-    c.loop-index.invariant
-    ∙ kept-next (λ now one. with_original now one.0 one.1) (is_left c.args.lost.now) s next i (i + 1) i (get_or originals i item).items (shards_from i originals) (shards_from (i + 1) originals)
-    (shards_from-next i originals item c.loop-index-test.true) refl refl (ap not (sym c.contains.ensures.value ∙ c.if-contains.false)) taken
+pub returns : goal.returns
+returns g c =
+    let shards = YieldsList-from_map_by _ (λ shard. shard.now) (λ vector. vector.items) (YieldsList-from_slice c.args.originals.now cc) c.map.ensures.closure (λ x r q k. search rules) in
+    let kept = filtered c.filter-kept.result _ (is_left c.args.lost.now) _ (numbered c.enumerate.result shards c.enumerate.ensures.source c.enumerate.ensures.count)
+    c.filter-kept.ensures.source c.filter-kept.ensures.closure (λ x b q k. search rules) in
+    always-run c.give_originals.ensures _ kept.runs

@@ -1,44 +1,13 @@
-use Rattle.std.proofs.Common.{rules, ◌≡◌, ◌∙◌, sym, ap, not, Err}
-use Rattle.std.specs.Iterator.Adapters.{enumerate_source, enumerate_count}
-use Rattle.reed_solomon_simd.specs.Decoder.{with_recovery}
-use Rattle.reed_solomon_simd.proofs.Giving.{outcome-ok, outcome-err, reaches-err}
+use Rattle.std.proofs.Common.{rules}
+use Rattle.reed_solomon_simd.proofs.Giving.{always-run, lends-list}
+use Rattle.reed_solomon_simd.specs.ResultView.{recovery_shards}
 use Rattle.rs_callers.specs.Losing.{is_left}
-use Rattle.rs_callers.proofs.Stepping.{kept-next, kept-refused, lost-next}
+use Rattle.rs_callers.proofs.Chains.{numbered, filtered}
 use Rattle.rs_callers.proofs.rate_round_trip.give_received.Goals as goal
 
-pub loop-index-preserved-then-contains : goal.loop-index-preserved-then-contains
-loop-index-preserved-then-contains g c =
-    let now = c.loop-index.index-iterator in
-    let after = c.next.new.self in
-    let came = c.in-Some.ensures.steps in
-    c.loop-index.invariant
-    ∙ lost-next (λ s one. with_recovery s one.0 one.1) (is_left c.args.lost.now) (g.X.RateDecoder.state c.loop-index.decoder) (enumerate_count now) (enumerate_count after) c.in-Some.index c.in-Some.shard.now
-    (enumerate_source now) (enumerate_source after) came.0 came.1 came.2 (ap not (sym c.contains.ensures.value ∙ c.if-contains.true))
-
-pub loop-index-preserved : goal.loop-index-preserved
-loop-index-preserved g c =
-    let s = g.X.RateDecoder.state c.loop-index.decoder in
-    let next = g.X.RateDecoder.state c.add_recovery_shard.new.self in
-    let now = c.loop-index.index-iterator in
-    let after = c.next.new.self in
-    let came = c.in-Some.ensures.steps in
-    let taken = outcome-ok s next (with_recovery s c.in-Some.index c.in-Some.shard.now) c.in_ok-add_recovery_shard.ensures.answer c.add_recovery_shard.ensures.left in
-    c.loop-index.invariant
-    ∙ kept-next (λ t one. with_recovery t one.0 one.1) (is_left c.args.lost.now) s next (enumerate_count now) (enumerate_count after) c.in-Some.index c.in-Some.shard.now
-    (enumerate_source now) (enumerate_source after) came.0 came.1 came.2 (ap not (sym c.contains.ensures.value ∙ c.if-contains.false)) taken
-
-pub returns-in_err-add_recovery_shard : goal.returns-in_err-add_recovery_shard
-returns-in_err-add_recovery_shard g c =
-    let s = g.X.RateDecoder.state c.loop-index.decoder in
-    let now = c.loop-index.index-iterator in
-    let came = c.in-Some.ensures.steps in
-    let e = c.in_err-add_recovery_shard.field-0.0 in
-    let told : c.from_residual.result ≡ Err e = search rules in
-    let refused = outcome-err (with_recovery s c.in-Some.index c.in-Some.shard.now) e c.in_err-add_recovery_shard.ensures.answer in
-    reaches-err _ (λ t. (g.X.RateDecoder.state c.add_recovery_shard.new.self) ≡ t) c.from_residual.result e
-    (
-    c.loop-index.invariant
-    ∙ kept-refused (λ t one. with_recovery t one.0 one.1) (is_left c.args.lost.now) s (enumerate_count now) c.in-Some.index c.in-Some.shard.now (enumerate_source now) (enumerate_source c.next.new.self)
-    e came.0 came.1 (ap not (sym c.contains.ensures.value ∙ c.if-contains.false)) refused
-    )
-    told
+pub returns : goal.returns
+returns g c =
+    let shards = lends-list (λ shard. shard.now) _ (recovery_shards c.args.recovery.now) c.recovery_iter.ensures.shards in
+    let received = filtered c.filter-received.result _ (is_left c.args.lost.now) _ (numbered c.enumerate.result shards c.enumerate.ensures.source c.enumerate.ensures.count)
+    c.filter-received.ensures.source c.filter-received.ensures.closure (λ x b q k. search rules) in
+    always-run c.give_recovery.ensures _ received.runs

@@ -1,5 +1,4 @@
-use Rattle.std.proofs.Common.{rules, ◌≡◌, ◌∙◌, ℕ, Bool, Ok, Err, map, nat_eq, length, ap, arith}
-use Rattle.std.specs.List.{list_any}
+use Rattle.std.proofs.Common.{rules, ◌≡◌, ◌∙◌, Ok, Err, map, length, ap, arith}
 use Rattle.std.proofs.lemmas.List.{length-map}
 use Rattle.std.proofs.lemmas.List.Elements.{All-map}
 use Rattle.reed_solomon_simd.specs.ResultView.{recovery_shards, restored_originals}
@@ -7,7 +6,7 @@ use Rattle.reed_solomon_simd.specs.declared.Error.TheVariants.{OutOfMemory}
 use Rattle.reed_solomon_simd.proofs.Left.{kept_of}
 use Rattle.reed_solomon_simd.proofs.Giving.{reached-ok}
 use Rattle.reed_solomon_simd.proofs.ObjectRoundTrip.{codes-given, gives-back, copies-lost, gives-all, encodes, gives-kept, gives-received, restores}
-use Rattle.rs_callers.specs.Losing.{left_below}
+use Rattle.rs_callers.specs.Losing.{is_lost, left_below}
 use Rattle.rs_callers.proofs.LeftCount.{left-count}
 use Rattle.rs_callers.proofs.rate_round_trip.round_trip_at_a_rate.Goals as goal
 
@@ -27,30 +26,24 @@ returns-in_err-recovery-clause-enough g c valid sized many =
 
 pub returns-in_err-give_kept-clause-enough : goal.returns-in_err-give_kept-clause-enough
 returns-in_err-give_kept-clause-enough g c valid sized many =
-    let originals = map (λ vector. vector.items) c.args.originals.now in
-    let recovery = recovery_shards c.in_ok-recovery.recovery in
-    let lost : ℕ → Bool = λ i. list_any (λ index. nat_eq index i) c.args.lost.now in
-    let recovery_lost : ℕ → Bool = λ i. list_any (λ index. nat_eq index i) c.args.recovery_lost.now in
+    let originals = map (λ vector. vector.items) c.args.originals.now in let recovery = recovery_shards c.in_ok-recovery.recovery in
+    let lost = is_lost c.args.lost.now in let recovery_lost = is_lost c.args.recovery_lost.now in
     let all = codes-given _ _ originals recovery (g.R.RateEncoder.RateEncoder.state c.in_ok-encoder.encoder) (g.R.RateEncoder.RateEncoder.state c.give_all.new.encoder) c.in_ok-encoder.ensures.made.0 (reached-ok _ (g.R.RateEncoder.RateEncoder.state c.give_all.new.encoder) c.in_ok-give_all.ensures)
     (g.met.R.RateEncoder.RateEncoder.valid c.give_all.new.encoder) c.in_ok-recovery.ensures.answer in
     absurd (gives-kept _ originals recovery lost recovery_lost (g.R.RateDecoder.RateDecoder.state c.in_ok-decoder.decoder) c.in_ok-decoder.ensures.made.0 all _ _ c.in_err-give_kept.ensures)
 
 pub returns-in_err-give_received-clause-enough : goal.returns-in_err-give_received-clause-enough
 returns-in_err-give_received-clause-enough g c valid sized many =
-    let originals = map (λ vector. vector.items) c.args.originals.now in
-    let recovery = recovery_shards c.in_ok-recovery.recovery in
-    let lost : ℕ → Bool = λ i. list_any (λ index. nat_eq index i) c.args.lost.now in
-    let recovery_lost : ℕ → Bool = λ i. list_any (λ index. nat_eq index i) c.args.recovery_lost.now in
+    let originals = map (λ vector. vector.items) c.args.originals.now in let recovery = recovery_shards c.in_ok-recovery.recovery in
+    let lost = is_lost c.args.lost.now in let recovery_lost = is_lost c.args.recovery_lost.now in
     let all = codes-given _ _ originals recovery (g.R.RateEncoder.RateEncoder.state c.in_ok-encoder.encoder) (g.R.RateEncoder.RateEncoder.state c.give_all.new.encoder) c.in_ok-encoder.ensures.made.0 (reached-ok _ (g.R.RateEncoder.RateEncoder.state c.give_all.new.encoder) c.in_ok-give_all.ensures)
     (g.met.R.RateEncoder.RateEncoder.valid c.give_all.new.encoder) c.in_ok-recovery.ensures.answer in
     absurd (gives-received _ originals recovery lost recovery_lost (g.R.RateDecoder.RateDecoder.state c.in_ok-decoder.decoder) c.in_ok-decoder.ensures.made.0 all (g.R.RateDecoder.RateDecoder.state c.give_kept.new.decoder) _ _ (reached-ok _ (g.R.RateDecoder.RateDecoder.state c.give_kept.new.decoder) c.in_ok-give_kept.ensures) c.in_err-give_received.ensures)
 
 pub returns-in_err-restored-clause-enough : goal.returns-in_err-restored-clause-enough
 returns-in_err-restored-clause-enough g c valid sized many =
-    let originals = map (λ vector. vector.items) c.args.originals.now in
-    let recovery = recovery_shards c.in_ok-recovery.recovery in
-    let lost : ℕ → Bool = λ i. list_any (λ index. nat_eq index i) c.args.lost.now in
-    let recovery_lost : ℕ → Bool = λ i. list_any (λ index. nat_eq index i) c.args.recovery_lost.now in
+    let originals = map (λ vector. vector.items) c.args.originals.now in let recovery = recovery_shards c.in_ok-recovery.recovery in
+    let lost = is_lost c.args.lost.now in let recovery_lost = is_lost c.args.recovery_lost.now in
     let all = codes-given _ _ originals recovery (g.R.RateEncoder.RateEncoder.state c.in_ok-encoder.encoder) (g.R.RateEncoder.RateEncoder.state c.give_all.new.encoder) c.in_ok-encoder.ensures.made.0 (reached-ok _ (g.R.RateEncoder.RateEncoder.state c.give_all.new.encoder) c.in_ok-give_all.ensures)
     (g.met.R.RateEncoder.RateEncoder.valid c.give_all.new.encoder) c.in_ok-recovery.ensures.answer in
     let back = gives-back _ originals recovery lost recovery_lost (g.R.RateDecoder.RateDecoder.state c.in_ok-decoder.decoder) (g.R.RateDecoder.RateDecoder.state c.give_kept.new.decoder) (g.R.RateDecoder.RateDecoder.state c.give_received.new.decoder) (Err c.in_err-restored.field-0.0) all
@@ -63,11 +56,9 @@ returns-in_err-restored-clause-enough g c valid sized many =
 
 pub returns-clause-restored : goal.returns-clause-restored
 returns-clause-restored g c =
-    let originals = map (λ vector. vector.items) c.args.originals.now in
-    let recovery = recovery_shards c.in_ok-recovery.recovery in
+    let originals = map (λ vector. vector.items) c.args.originals.now in let recovery = recovery_shards c.in_ok-recovery.recovery in
     let out = restored_originals c.in_ok-restored.restored in
-    let lost : ℕ → Bool = λ i. list_any (λ index. nat_eq index i) c.args.lost.now in
-    let recovery_lost : ℕ → Bool = λ i. list_any (λ index. nat_eq index i) c.args.recovery_lost.now in
+    let lost = is_lost c.args.lost.now in let recovery_lost = is_lost c.args.recovery_lost.now in
     let all = codes-given _ _ originals recovery (g.R.RateEncoder.RateEncoder.state c.in_ok-encoder.encoder) (g.R.RateEncoder.RateEncoder.state c.give_all.new.encoder) c.in_ok-encoder.ensures.made.0 (reached-ok _ (g.R.RateEncoder.RateEncoder.state c.give_all.new.encoder) c.in_ok-give_all.ensures)
     (g.met.R.RateEncoder.RateEncoder.valid c.give_all.new.encoder) c.in_ok-recovery.ensures.answer in
     let back = gives-back _ originals recovery lost recovery_lost (g.R.RateDecoder.RateDecoder.state c.in_ok-decoder.decoder) (g.R.RateDecoder.RateDecoder.state c.give_kept.new.decoder) (g.R.RateDecoder.RateDecoder.state c.give_received.new.decoder) (Ok out) all

@@ -1,5 +1,4 @@
-use Rattle.std.proofs.Common.{rules, ◌≡◌, ◌∙◌, ℕ, Bool, Err, map, not, nat_eq, length, ap, arith}
-use Rattle.std.specs.List.{list_any}
+use Rattle.std.proofs.Common.{rules, ◌≡◌, ◌∙◌, Err, map, not, length, ap, arith}
 use Rattle.std.proofs.lemmas.List.{length-map}
 use Rattle.std.proofs.lemmas.List.Elements.{All-map}
 use Rattle.std.proofs.lemmas.Iterator.{YieldsList-from_slice, YieldsList-from_map_by}
@@ -8,7 +7,7 @@ use Rattle.reed_solomon_simd.specs.OneCall.{collected_map}
 use Rattle.reed_solomon_simd.proofs.CallerLemmas.{collected-holds, collected-refused}
 use Rattle.reed_solomon_simd.proofs.Left.{kept_of, kept-left, just-lost, enough-left}
 use Rattle.reed_solomon_simd.proofs.OneRoundTrip.{encodes_in_one_call, restores_in_one_call}
-use Rattle.rs_callers.specs.Losing.{left_below}
+use Rattle.rs_callers.specs.Losing.{is_lost, left_below}
 use Rattle.rs_callers.proofs.Chains.{numbered, filtered}
 use Rattle.rs_callers.proofs.LeftCount.{left-count}
 use Rattle.rs_callers.proofs.round_trip.round_trip_in_one_call.Goals as goal
@@ -26,10 +25,8 @@ returns-in_err-recovery-clause-enough c size valid sized many =
 
 pub returns : goal.returns
 returns c =
-    let originals = map (λ vector. vector.items) c.args.originals.now in
-    let recovery = map (λ vector. vector.items) c.in_ok-recovery.recovery.items in
-    let lost : ℕ → Bool = λ i. list_any (λ index. nat_eq index i) c.args.lost.now in
-    let recovery_lost : ℕ → Bool = λ i. list_any (λ index. nat_eq index i) c.args.recovery_lost.now in
+    let originals = map (λ vector. vector.items) c.args.originals.now in let recovery = map (λ vector. vector.items) c.in_ok-recovery.recovery.items in
+    let lost = is_lost c.args.lost.now in let recovery_lost = is_lost c.args.recovery_lost.now in
     let was = c.in_ok-recovery.ensures.coded originals
     (YieldsList-from_map_by _ (λ shard. shard.now) (λ vector. vector.items) (YieldsList-from_slice c.args.originals.now cc) c.map-shards.ensures.closure (λ x r q k. search rules)).runs in
     let answer = c.decode.ensures.answer (kept_of originals lost) (kept_of recovery recovery_lost)

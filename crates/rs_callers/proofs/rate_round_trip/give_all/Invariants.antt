@@ -1,8 +1,0 @@
-use Rattle.std.proofs.Common.{◌≡◌}
-use Rattle.reed_solomon_simd.specs.OneCall.{with_shards}
-use Rattle.rs_callers.proofs.Stepping.{shards_from}
-use Rattle.rs_callers.proofs.rate_round_trip.give_all.Given as goal
-
--- all originals lead to where those still to come lead from here
-abbrev pub invariant-loop-original : goal.invariant-loop-original
-invariant-loop-original g l = with_shards (g.X.RateEncoder.state l.initial.encoder) (shards_from 0 l.originals) ≡ with_shards (g.X.RateEncoder.state l.encoder) (shards_from l.original-index l.originals)
