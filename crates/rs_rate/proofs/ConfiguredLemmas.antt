@@ -5,7 +5,7 @@ use Rattle.std.proofs.lemmas.Nat.{pow_pos}
 use Rattle.rs_field.specs.declared.code.error.Error.{Error}
 use Rattle.rs_field.specs.code.Configuration.{configuration, validated}
 use Rattle.rs_field.specs.code.Counts.{Rate, next_power, supports, is_low, low_rate, high_rate}
-use Rattle.rs_field.specs.code.Placement.{block_rows, encoder_rows, rounded_up}
+use Rattle.rs_field.specs.code.Placement.{block_rows, encoder_rows, decoder_rows, rounded_up}
 use Rattle.rs_field.proofs.of_code.NextPower.{next_power-small, power_is_own}
 use Rattle.rs_field.proofs.of_code.SupportedCounts.{low_fits, high_fits}
 use Rattle.rs_rate.specs.declared.rate.configuration.Configuration.{Configuration}
@@ -13,8 +13,9 @@ use Rattle.rs_rate.specs.declared.rate.decoder_work.Frame.{Frame}
 use Rattle.rs_rate.specs.declared.rate.encoder_work.EncoderShape.{EncoderShape}
 use Rattle.rs_rate.specs.declared.rate.decoder_work.DecoderShape.{DecoderShape}
 use Rattle.rs_rate.specs.Configured.{configured, low_or_high, frame_of, shape_of_encoder, shape_of_decoder, IsConfigured}
-use Rattle.rs_rate.specs.DecoderView.{configuration_of as decoder_configuration, decoder_shape}
-use Rattle.rs_rate.specs.EncoderView.{configuration_of, encoder_shape}
+use Rattle.rs_rate.specs.DecoderView.{configuration_of as decoder_configuration, decoder_shape, shape_chunks as decoder_shape_chunks}
+use Rattle.rs_rate.specs.EncoderView.{configuration_of, encoder_shape, shape_chunks}
+use Rattle.rs_rate.specs.ShardRows.{chunk_count}
 use Rattle.rs_rate.specs.Shapes.{EncoderCanBeLaid, DecoderCanBeLaid}
 use Rattle.rs_rate.proofs.DecoderRows.{low_frame-is}
 use Rattle.rs_rate.proofs.HighCounts.{high_rows, high_small, low_rows-fit, high_rows-fit}
@@ -104,6 +105,16 @@ pub decoder_shape-is : (rate : Rate) (k r size : ℕ) (c : Configuration) (shape
 decoder_shape-is rate k r size c shape is laid =
     laid ∙ ap shape_of_decoder is ∙ ap (λ (f : Frame). let own : DecoderShape = record { configuration = configured rate k r size; frame = f } in own)
     (frame_alike (low_or_high (is_low rate k r)) rate k r (chooses_alike rate k r))
+
+-- so it has so many rows and chunks
+pub encoder-chunks : (rate : Rate) (k r size : ℕ) (shape : EncoderShape) → shape ≡ encoder_shape rate k r size → shape_chunks shape ≡ chunk_count (encoder_rows rate k r) size
+unfolding encoder_shape
+encoder-chunks rate k r size shape is = ap shape_chunks is
+
+pub decoder-chunks : (rate : Rate) (k r size : ℕ) (shape : DecoderShape) → shape ≡ decoder_shape rate k r size
+    → (shape.frame.row_count ≡ decoder_rows rate k r) × (decoder_shape_chunks shape ≡ chunk_count (decoder_rows rate k r) size)
+unfolding frame_of
+decoder-chunks rate k r size shape is = (ap (λ s. s.frame.row_count) is, ap decoder_shape_chunks is)
 
 -- such a shape is valid, and what the rate tells of its own numbers
 abbrev pub EncoderIsOf : Rate → EncoderShape → Type 0

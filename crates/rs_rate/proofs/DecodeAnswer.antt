@@ -9,7 +9,7 @@ use Rattle.rs_field.specs.code.Counts.{Rate, supports}
 use Rattle.rs_field.specs.code.Placement.{placement, decoder_rows}
 use Rattle.rs_field.specs.code.Configuration.{configuration, validated}
 use Rattle.rs_field.specs.code.Decoder.{DecoderState, originals_given, recovery_given, IsConsistent, missing_of, Restored, NoneAgrees}
-use Rattle.rs_field.specs.code.Given.{Shards, count_below, Agrees, Consistent}
+use Rattle.rs_field.specs.code.Given.{count_below, Agrees, Consistent}
 use Rattle.rs_field.specs.rows.Layout.{row_len, up_to}
 use Rattle.rs_field.specs.words.Locator.{IsLocatorBelow, log_sum}
 use Rattle.rs_field.specs.rows.Rows.{Chunks}
@@ -24,28 +24,16 @@ use Rattle.rs_field.proofs.of_code.RateFrames.{HasFrame, has_frame}
 use Rattle.rs_field.proofs.of_code.Agreement.{AreColumns, consistent_exactly, restored_column, one_message}
 use Rattle.rs_field.proofs.of_words.LocatorProduct.{same_residue}
 use Rattle.rs_rate.specs.declared.rate.decoder_work.DecoderShape.{DecoderShape}
-use Rattle.rs_rate.specs.DecoderView.{configuration_of, decoder_shape}
+use Rattle.rs_rate.specs.DecoderView.{configuration_of, decoder_shape, restored_over, state_over}
 use Rattle.rs_rate.specs.Configured.{frame_of}
 use Rattle.rs_rate.specs.Decoding.{IsLocatorOf, RestoresShards, located}
-use Rattle.rs_rate.specs.Marks.{erased, given_row_count, given_shards, restored_shards, ArePlaced}
+use Rattle.rs_rate.specs.Marks.{erased, given_row_count, given_shards, ArePlaced}
 use Rattle.rs_rate.specs.ObjectLaws.{all-up_to}
 use Rattle.rs_rate.specs.ShardRows.{word_in, shard_laid_out, shard_in_order}
 use Rattle.rs_rate.proofs.DecoderLemmas.{all_given, none_given, count-given, given-marked, restored-out, restored-marked}
 use Rattle.rs_rate.proofs.DecodedColumns.{words_given, given_some, are_columns}
 use Rattle.rs_rate.proofs.StateLemmas.{valid-supported}
 use Rattle.rs_rate.proofs.Erased.{erased-row}
-
--- the state that marked rows of a shape stand for
-abbrev pub state_over : Rate → DecoderShape → List Bool → Chunks → DecoderState
-state_over rate s marks chunks = record {
-  configuration = configuration_of rate s;
-  originals = given_shards marks chunks s.configuration.shard_bytes s.frame.originals_from s.configuration.original_count;
-  recovery = given_shards marks chunks s.configuration.shard_bytes s.frame.recovery_from s.configuration.recovery_count;
-}
-
--- the originals that lie in rows marked as restored
-abbrev pub restored_over : DecoderShape → List Bool → Chunks → Shards
-restored_over s marks chunks = restored_shards marks chunks s.configuration.shard_bytes s.frame.originals_from s.configuration.original_count
 
 -- what a decode makes of the rows of a shape: shards of k + surplus marked rows, and the same rows afterwards
 pub record IsDecoded (s : DecoderShape) (marks new : List Bool) (locator : List ℕ) (surplus : ℕ) (before after : Chunks) (agrees : Bool) : Type 0 where

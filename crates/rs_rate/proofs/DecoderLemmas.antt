@@ -1,5 +1,5 @@
 -- The shards that a decoder's rows stand for.
-use Rattle.std.proofs.Common.{◌≡◌, ◌≢◌, ℕ, zero, suc, ◌+◌, ◌<◌, ◌≤◌, List, Bool, true, false, cond, refl, sym, ap, ap₂, ◌∙◌, arith, inl, inr, length, vec_len, ◌^◌}
+use Rattle.std.proofs.Common.{◌≡◌, ◌≢◌, ℕ, zero, suc, ◌+◌, ◌<◌, ◌≤◌, List, Bool, true, false, cond, refl, sym, ap, ap₂, ◌∙◌, arith, inl, inr, ◌^◌}
 use Rattle.std.specs.Prelude.{Some, None, is_some, nat_eq}
 use Rattle.std.proofs.lemmas.Bool.{cases_lt, cases_eq, lt-ltb, le-ltb, eq-eqb, ne_eqb}
 use mathlib.Core.Path.{fun_ext}
@@ -13,26 +13,12 @@ use Rattle.rs_field.proofs.of_code.Given.{count_below-suc, count_below-zero}
 use Rattle.rs_field.proofs.of_code.NextPower.{own_is_power}
 use Rattle.rs_rate.specs.Shapes.{DecoderCanBeLaid}
 use Rattle.rs_rate.specs.declared.rate.decoder_work.DecoderShape.{DecoderShape}
-use Rattle.rs_rate.specs.DecoderView.{configuration_of}
+use Rattle.rs_rate.specs.DecoderView.{configuration_of, state_over}
 use Rattle.rs_rate.specs.declared.rate.marks.Marks.{Marks}
 use Rattle.rs_rate.specs.declared.rate.marks.MarkedShards.{MarkedShards}
 use Rattle.rs_rate.specs.declared.rate.marks.MarkedShards.TheVariants.{Given, Restored}
-use Rattle.rs_rate.specs.Marks.{if_given, if_restored, given_marks, restored_marks, given_row_count, given_shards, restored_shards}
+use Rattle.rs_rate.specs.Marks.{if_given, given_marks, given_row_count, given_shards, restored_shards}
 use Rattle.rs_rate.specs.ShardRows.{shard_laid_out, shard_in_order}
-
--- where marks tell of given shards they are all of them, where they tell of restored ones no row holds a given one
-told_given : (marks : Marks) → marks.shards ≡ Given → given_marks marks ≡ marks.rows.items
-told_given marks told = ap (λ t. if_given t marks.rows.items) told
-
-told_restored : (marks : Marks) → marks.shards ≡ Restored → restored_marks marks ≡ marks.rows.items
-told_restored marks told = ap (λ t. if_restored t marks.rows.items) told
-
--- and as many as rows are marked
-pub given_length : (marks : Marks) (given : List Bool) → given ≡ given_marks marks → marks.shards ≡ Given → length given ≡ vec_len marks.rows
-given_length marks given is told = let all = ap (λ (xs : List Bool). length xs) (is ∙ told_given marks told) in omega (arith, all)
-
-pub restored_length : (marks : Marks) (restored : List Bool) → restored ≡ restored_marks marks → marks.shards ≡ Restored → length restored ≡ vec_len marks.rows
-restored_length marks restored is told = let all = ap (λ (xs : List Bool). length xs) (is ∙ told_restored marks told) in omega (arith, all)
 
 -- the rows of a shape that can be laid are a power of two
 pub rows_power : (s : DecoderShape) → DecoderCanBeLaid s → (d : ℕ) × (s.frame.row_count ≡ 2 ^ d)
@@ -233,13 +219,7 @@ restored-marked marks chunks size from n i b inside mark =
 
 -- a decoder in whose rows no shard is marked as given is a fresh one
 pub nothing-given : (rate : Rate) (s : DecoderShape) (marks : List Bool) (chunks : Chunks) → ((p : ℕ) → is_marked marks p ≡ false)
-    → ◌≡◌ {A = DecoderState}
-    (record {
-      configuration = configuration_of rate s;
-      originals = given_shards marks chunks s.configuration.shard_bytes s.frame.originals_from s.configuration.original_count;
-      recovery = given_shards marks chunks s.configuration.shard_bytes s.frame.recovery_from s.configuration.recovery_count;
-    })
-    (fresh_decoder (configuration_of rate s))
+    → state_over rate s marks chunks ≡ fresh_decoder (configuration_of rate s)
 nothing-given rate s marks chunks empty =
     ap₂ (λ (o r : Shards). let state : DecoderState = record { configuration = configuration_of rate s; originals = o; recovery = r } in state)
     (given-nothing marks chunks s.configuration.shard_bytes s.frame.originals_from s.configuration.original_count (λ i inside. empty (s.frame.originals_from + i)))

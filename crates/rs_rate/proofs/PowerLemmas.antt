@@ -1,11 +1,10 @@
 -- Powers of two, and counts that a rate supports.
-use Rattle.std.proofs.Common.{◌≡◌, ℕ, ◌+◌, ◌-◌, ◌*◌, ◌/◌, ◌%◌, ◌^◌, ◌<◌, ◌≤◌, true, false, refl, sym, ap, ◌∙◌, arith, inl, inr}
+use Rattle.std.proofs.Common.{◌≡◌, ℕ, ◌+◌, ◌-◌, ◌*◌, ◌/◌, ◌%◌, ◌^◌, ◌<◌, ◌≤◌, true, refl, sym, ap, ◌∙◌, arith, inl, inr}
 use Rattle.std.specs.Prelude.{nat_le, nat_lt, ◌&&◌}
-use Rattle.std.proofs.lemmas.Bool.{cases_lt, le-leb, lt-leb, lt-ltb}
+use Rattle.std.proofs.lemmas.Bool.{cases_lt, le-leb, lt-ltb}
 use Rattle.std.proofs.lemmas.Nat.{pow_pos, pow-add, div-add-mod'}
 use Rattle.std.proofs.Math.Nat.{div-eq_of_lt-le, mod-eq_of_lt, mul-le-mul_right}
 use Rattle.std.specs.Int.{next_multiple_of}
-use Rattle.std.proofs.Math.Bool.{and-false}
 use Rattle.rs_field.proofs.of_code.NextPower.{next_power-small, next_power-large}
 use Rattle.rs_field.specs.code.Counts.{next_power, supports, is_low, low_rate}
 use Rattle.rs_field.specs.code.Placement.{rounded_up, encoder_rows}

@@ -9,8 +9,6 @@ use Rattle.rs_field.specs.code.Configuration.{configuration}
 use Rattle.rs_field.specs.code.Code.{Codes, AreRecovery, AreRecoveryWords}
 use Rattle.rs_field.proofs.of_code.SupportedCounts.{default_fits, high_powers, low_powers}
 use Rattle.rs_rate.specs.declared.rate.decoder_work.Frame.{Frame}
-use Rattle.rs_rate.specs.EncoderView.{encoder_shape, shape_chunks}
-use Rattle.rs_rate.specs.ShardRows.{chunk_count}
 use Rattle.rs_rate.specs.Configured.{frame_of}
 use Rattle.rs_rate.proofs.PowerLemmas.{low_supported}
 use Rattle.rs_rate.proofs.HighCounts.{high_turned}
@@ -20,11 +18,6 @@ pub high_frame-is : (k r : ℕ) → frame_of high_rate k r
     ≡ record { row_count = next_power (next_power r + k); originals_from = next_power r; recovery_from = 0; zeros_from = next_power r + k; zeros_to = 65536 }
 unfolding frame_of placement high_placement is_low decoder_rows
 high_frame-is k r = refl
-
--- the chunks of an encoder of any rate
-pub shape-chunks : (rate : Rate) (k r size : ℕ) → shape_chunks (encoder_shape rate k r size) ≡ chunk_count (encoder_rows rate k r) size
-unfolding encoder_shape
-shape-chunks rate k r size = refl
 
 -- the choice of the low and of the high rate
 pub low_is : (k r : ℕ) → is_low low_rate k r ≡ true

@@ -1,24 +1,35 @@
 -- The rows of a decode over chunks: their words, their tails, and the locator's entries.
-use Rattle.std.proofs.Common.{true, ◌≡◌, ◌≢◌, ℕ, ◌%◌, ◌<◌, List, Bool, ap, ◌∙◌, subst}
+use Rattle.std.proofs.Common.{true, ◌≡◌, ◌≢◌, ℕ, ◌%◌, ◌<◌, List, Bool, ap, ap₂, ◌∙◌, subst, ◌+◌, ◌*◌}
 use mathlib.Core.Path.{fun_ext}
 use Rattle.rs_field.specs.words.StepBounds.{CountsUpTo}
 use Rattle.rs_field.specs.rows.Layout.{row_len}
 use Rattle.rs_field.specs.words.Locator.{IsLocatorBelow}
-use Rattle.rs_field.specs.rows.Rows.{Chunks}
+use Rattle.rs_field.specs.rows.Rows.{Chunks, chunk, symbol}
+use Rattle.rs_field.specs.rows.View.{cell, word}
+use Rattle.rs_field.specs.declared.rows.shards.ShardsRefMut.{ShardsRefMut}
 use Rattle.rs_field.specs.declared.words.steps.Steps.{Steps}
 use Rattle.rs_field.specs.rows.MarkedRows.{is_marked}
 use Rattle.rs_field.proofs.of_words.LocatorLemmas.{log_sum-same}
 use Rattle.rs_rate.specs.declared.rate.decoder_work.DecoderShape.{DecoderShape}
 use Rattle.rs_rate.specs.Decoding.{RestoresWords}
-use Rattle.rs_rate.specs.ShardRows.{row_chunk, shard_laid_out, shard_in_order}
+use Rattle.rs_rate.specs.ShardRows.{word_in, row_chunk, shard_laid_out, shard_in_order}
 
 -- the same of words that are read in another way
-pub restores_alike : (shape : DecoderShape) (marks : List Bool) (locator : List ℕ) (surplus : ℕ) (old new old_too new_too : ℕ → ℕ → ℕ → ℕ) (agrees : Bool)
+restores_alike : (shape : DecoderShape) (marks : List Bool) (locator : List ℕ) (surplus : ℕ) (old new old_too new_too : ℕ → ℕ → ℕ → ℕ) (agrees : Bool)
     → ((k s i : ℕ) → old k s i ≡ old_too k s i) → ((k s i : ℕ) → new k s i ≡ new_too k s i)
     → RestoresWords shape marks locator surplus old new agrees → RestoresWords shape marks locator surplus old_too new_too agrees
 restores_alike shape marks locator surplus old new old_too new_too agrees same_old same_new r =
     subst (λ (f : ℕ → ℕ → ℕ → ℕ). RestoresWords shape marks locator surplus f new_too agrees) (fun_ext (λ k. fun_ext (λ s. fun_ext (λ i. same_old k s i))))
     (subst (λ (f : ℕ → ℕ → ℕ → ℕ). RestoresWords shape marks locator surplus old f agrees) (fun_ext (λ k. fun_ext (λ s. fun_ext (λ i. same_new k s i)))) r)
+
+pub restores_read : (shape : DecoderShape) (marks : List Bool) (locator : List ℕ) (surplus n : ℕ) (before after : Chunks) (old new : ShardsRefMut) (agrees : Bool)
+    → old.shard_len_64 ≡ n → new.shard_len_64 ≡ n → old.chunks.now ≡ before → new.chunks.now ≡ after
+    → RestoresWords shape marks locator surplus (word old) (word new) agrees → RestoresWords shape marks locator surplus (word_in before n) (word_in after n) agrees
+unfolding cell
+restores_read shape marks locator surplus n before after old new agrees len len_too was is restored =
+    restores_alike shape marks locator surplus (word old) (word new) (word_in before n) (word_in after n) agrees
+    (λ k s i. ap₂ (λ (m : ℕ) (xs : Chunks). symbol (chunk xs (i * m + k)) s) len was)
+    (λ k s i. ap₂ (λ (m : ℕ) (xs : Chunks). symbol (chunk xs (i * m + k)) s) len_too is) restored
 
 -- the tail of one row was moved where it is restored, in one row step at most, and no other row was changed
 pub record TailMoved (marks : List Bool) (size p : ℕ) (old new : Chunks) (before after : Steps) : Type 0 where

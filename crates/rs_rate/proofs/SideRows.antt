@@ -11,11 +11,10 @@ use Rattle.rs_field.specs.rows.Rows.{Chunks}
 use Rattle.rs_rate.specs.declared.rate.decoder_work.DecoderRows.{DecoderRows}
 use Rattle.rs_rate.specs.declared.rate.side.Side.{Side}
 use Rattle.rs_rate.specs.declared.rate.side.Side.TheVariants.{Original, Recovery}
-use Rattle.rs_rate.specs.DecoderView.{configuration_of, decoder_state}
+use Rattle.rs_rate.specs.DecoderView.{configuration_of, decoder_state, state_over}
 use Rattle.rs_rate.specs.Marks.{given_marks, given_row_count, given_shards}
 use Rattle.rs_rate.specs.ShardRows.{shard_laid_out}
-use Rattle.rs_rate.specs.Sides.{side_count, side_from, side_originals, side_recovery, repeat_refused, with_given}
-use Rattle.rs_rate.proofs.DecodeAnswer.{state_over}
+use Rattle.rs_rate.specs.Sides.{side_count, side_from, side_row, side_originals, side_recovery, repeat_refused, with_given}
 use Rattle.rs_rate.proofs.DecoderLemmas.{given-marked, given-kept, given-entered, given_row_count-kept, given_row_count-more}
 
 -- the other side
@@ -29,7 +28,7 @@ side-within w Original = w.laid.original_rows
 side-within w Recovery = w.laid.recovery_rows
 
 -- an index of a side tells whether its row is marked
-given-at : (rate : Rate) (w : DecoderRows) (side : Side) (index row : ℕ) (given : Bool) → row ≡ side_from side w.shape + index → index < side_count side w.shape
+given-at : (rate : Rate) (w : DecoderRows) (side : Side) (index row : ℕ) (given : Bool) → row ≡ side_row side w.shape index → index < side_count side w.shape
     → is_marked (given_marks w.memory.marks) row ≡ given
     → is_some (given_shards (given_marks w.memory.marks) w.memory.chunks.items w.shape.configuration.shard_bytes (side_from side w.shape) (side_count side w.shape) index) ≡ given
 given-at rate w side index row given at inside is =
@@ -37,14 +36,14 @@ given-at rate w side index row given at inside is =
     ∙ ap (λ (p : ℕ). is_marked (given_marks w.memory.marks) p) (sym at) ∙ is
 
 -- the refusals
-pub add-repeated : (rate : Rate) (w : DecoderRows) (side : Side) (index row : ℕ) (shard : Shard) → row ≡ side_from side w.shape + index → index < side_count side w.shape
+pub add-repeated : (rate : Rate) (w : DecoderRows) (side : Side) (index row : ℕ) (shard : Shard) → row ≡ side_row side w.shape index → index < side_count side w.shape
     → is_marked (given_marks w.memory.marks) row ≡ true → with_given side (decoder_state rate w) index shard ≡ Err (repeat_refused side index)
 add-repeated rate w Original index row shard at inside given =
     rw (lt-leb w.shape.configuration.original_count index inside, given-at rate w Original index row true at inside given) refl
 add-repeated rate w Recovery index row shard at inside given =
     rw (lt-leb w.shape.configuration.recovery_count index inside, given-at rate w Recovery index row true at inside given) refl
 
-pub add-sized : (rate : Rate) (w : DecoderRows) (side : Side) (index row : ℕ) (shard : Shard) → row ≡ side_from side w.shape + index → index < side_count side w.shape
+pub add-sized : (rate : Rate) (w : DecoderRows) (side : Side) (index row : ℕ) (shard : Shard) → row ≡ side_row side w.shape index → index < side_count side w.shape
     → is_marked (given_marks w.memory.marks) row ≡ false → length shard ≢ w.shape.configuration.shard_bytes
     → with_given side (decoder_state rate w) index shard ≡ Err (DifferentShardSize w.shape.configuration.shard_bytes (length shard))
 add-sized rate w Original index row shard at inside free other =
@@ -54,7 +53,7 @@ add-sized rate w Recovery index row shard at inside free other =
 
 -- a shard of the size was entered in a free row of a side, and no other row was changed
 pub record RowEntered (w : DecoderRows) (side : Side) (index row : ℕ) (shard : Shard) (marks : List Bool) (chunks : Chunks) : Type 0 where
-  pub at : row ≡ side_from side w.shape + index
+  pub at : row ≡ side_row side w.shape index
   pub inside : index < side_count side w.shape
   pub free : is_marked (given_marks w.memory.marks) row ≡ false
   pub size : length shard ≡ w.shape.configuration.shard_bytes
@@ -63,28 +62,28 @@ pub record RowEntered (w : DecoderRows) (side : Side) (index row : ℕ) (shard :
   pub other_marks : (p : ℕ) → p ≢ row → is_marked marks p ≡ is_marked (given_marks w.memory.marks) p
   pub others : (p : ℕ) → p ≢ row → shard_laid_out chunks w.shape.configuration.shard_bytes p ≡ shard_laid_out w.memory.chunks.items w.shape.configuration.shard_bytes p
 
-pub row_entered : (w : DecoderRows) (side : Side) (index first count : ℕ) (shard : Shard) (marks : List Bool) (chunks : Chunks) → first ≡ side_from side w.shape → count ≡ side_count side w.shape
-    → index < count → is_marked (given_marks w.memory.marks) (first + index) ≡ false → length shard ≡ w.shape.configuration.shard_bytes
-    → is_marked marks (first + index) ≡ true → shard_laid_out chunks (length shard) (first + index) ≡ shard
-    → ((p : ℕ) → p ≢ first + index → is_marked marks p ≡ is_marked (given_marks w.memory.marks) p)
-    → ((p : ℕ) → p ≢ first + index → shard_laid_out chunks (length shard) p ≡ shard_laid_out w.memory.chunks.items (length shard) p)
-    → RowEntered w side index (first + index) shard marks chunks
-row_entered w side index first count shard marks chunks first_is count_is inside free size marked here other_marks others = record {
-  at = ap (λ (n : ℕ). n + index) first_is;
+pub row_entered : (w : DecoderRows) (side : Side) (index row count : ℕ) (shard : Shard) (marks : List Bool) (chunks : Chunks) → row ≡ side_row side w.shape index → count ≡ side_count side w.shape
+    → index < count → is_marked (given_marks w.memory.marks) row ≡ false → length shard ≡ w.shape.configuration.shard_bytes
+    → is_marked marks row ≡ true → shard_laid_out chunks (length shard) row ≡ shard
+    → ((p : ℕ) → p ≢ row → is_marked marks p ≡ is_marked (given_marks w.memory.marks) p)
+    → ((p : ℕ) → p ≢ row → shard_laid_out chunks (length shard) p ≡ shard_laid_out w.memory.chunks.items (length shard) p)
+    → RowEntered w side index row shard marks chunks
+row_entered w side index row count shard marks chunks at count_is inside free size marked here other_marks others = record {
+  at = at;
   inside = omega (arith, inside, count_is);
   free = free;
   size = size;
   marked = marked;
-  here = subst (λ (n : ℕ). shard_laid_out chunks n (first + index) ≡ shard) size here;
+  here = subst (λ (n : ℕ). shard_laid_out chunks n row ≡ shard) size here;
   other_marks = other_marks;
-  others = subst (λ (n : ℕ). (p : ℕ) → p ≢ first + index → shard_laid_out chunks n p ≡ shard_laid_out w.memory.chunks.items n p) size others;
+  others = subst (λ (n : ℕ). (p : ℕ) → p ≢ row → shard_laid_out chunks n p ≡ shard_laid_out w.memory.chunks.items n p) size others;
 }
 
 -- another index of the side has another row, and so has each of the other side
 own-apart : (from index i row : ℕ) → row ≡ from + index → i ≢ index → from + i ≢ row
 own-apart from index i row at apart = omega (arith, at, apart)
 
-other-apart : (w : DecoderRows) (side : Side) (index i row : ℕ) → row ≡ side_from side w.shape + index → index < side_count side w.shape → i < side_count (other side) w.shape
+other-apart : (w : DecoderRows) (side : Side) (index i row : ℕ) → row ≡ side_row side w.shape index → index < side_count side w.shape → i < side_count (other side) w.shape
     → side_from (other side) w.shape + i ≢ row
 other-apart w Original index i row at inside within same = w.laid.apart index i inside within (sym (same ∙ at))
 other-apart w Recovery index i row at inside within same = w.laid.apart i index within inside (same ∙ at)
@@ -144,7 +143,7 @@ add-counted w Recovery index row shard marks chunks e =
     (omega (arith, same, w.originals_counted), omega (arith, more, w.recovery_counted))
 
 -- a row outside both sides is none of theirs
-pub outside-apart : (w : DecoderRows) (side : Side) (index row p : ℕ) → row ≡ side_from side w.shape + index → index < side_count side w.shape
+pub outside-apart : (w : DecoderRows) (side : Side) (index row p : ℕ) → row ≡ side_row side w.shape index → index < side_count side w.shape
     → (p < w.shape.frame.originals_from) ⊎ (w.shape.frame.originals_from + w.shape.configuration.original_count ≤ p)
     → (p < w.shape.frame.recovery_from) ⊎ (w.shape.frame.recovery_from + w.shape.configuration.recovery_count ≤ p) → p ≢ row
 outside-apart w Original index row p at inside not_own not_coded same =

@@ -1,20 +1,20 @@
 -- Steps of an encoder's state, and what setting up answers.
-use Rattle.std.proofs.Common.{◌≡◌, ℕ, ◌<◌, ◌≤◌, ◌*◌, ◌^◌, ◌%◌, ◌++◌, ◌∷◌, [], length, refl, sym, ap, ap₂, ◌∙◌, subst, inl, inr, Bool, true, false, cond, arith}
-use Rattle.std.specs.Prelude.{nat_le, Result, Ok, Err, IsOk, OnOk, OnErr, IfOk, IfErr, not, ◌||◌, ◌==◌, Option, Some, None, IfSome, List, nat_lt, is_ok, IsOkAnd, MatchResult}
-use Rattle.std.proofs.lemmas.Bool.{lt-leb, le-leb, eq-eqb, cases_lt, eqb-false, ltb-false}
+use Rattle.std.proofs.Common.{◌≡◌, ℕ, ◌<◌, ◌≤◌, ◌*◌, ◌^◌, ◌%◌, ◌++◌, ◌∷◌, [], length, refl, sym, ap, ap₂, ◌∙◌, subst, Bool, true, false, cond}
+use Rattle.std.specs.Prelude.{nat_le, Result, Ok, Err, OnOk, OnErr, not, ◌||◌, ◌==◌, Option, Some, None, IfSome, List, nat_lt, is_ok, IsOkAnd, MatchResult}
+use Rattle.std.proofs.lemmas.Bool.{lt-leb, eq-eqb, ltb-false}
 use Rattle.rs_field.specs.declared.code.error.Error.{Error}
 use Rattle.rs_field.specs.declared.code.error.Error.TheVariants.{OutOfMemory, UnsupportedShardCount, InvalidShardSize, TooFewOriginalShards}
 use Rattle.rs_field.specs.code.Column.{Shard}
 use Rattle.rs_field.specs.code.Counts.{Rate, supports}
 use Rattle.rs_field.specs.code.Outcome.{answer_of, state_after, result_and_then}
-use Rattle.rs_field.specs.code.Configuration.{Configuration, validated, space, started, UpToMemory}
+use Rattle.rs_field.specs.code.Configuration.{Configuration, validated, space, started}
 use Rattle.rs_field.specs.code.Encoder.{EncoderState, fresh_encoder, with_shard, message_of, EncodeAnswers, after_encode}
 use Rattle.rs_field.specs.code.Code.{AreRecovery}
 use Rattle.rs_field.specs.rows.Layout.{up_to}
 use Rattle.rs_rate.specs.declared.rate.encoder_work.EncoderRows.{EncoderRows}
 use Rattle.rs_rate.specs.declared.rate.encoder_work.EncoderShape.{EncoderShape}
 use Rattle.rs_rate.specs.EncoderView.{configuration_of, encoder_state}
-use Rattle.rs_rate.specs.ShardRows.{chunk_count, shard_laid_out}
+use Rattle.rs_rate.specs.ShardRows.{asked, chunk_count, shard_laid_out}
 
 -- a shard of the size is added where there is room
 pub with_shard-added : (s : EncoderState) (shard : Shard) → length s.given < s.configuration.original_count → length shard ≡ s.configuration.shard_bytes
@@ -22,37 +22,17 @@ pub with_shard-added : (s : EncoderState) (shard : Shard) → length s.given < s
 with_shard-added s shard room same =
     rw (lt-leb s.configuration.original_count (length s.given) room, eq-eqb (length shard) s.configuration.shard_bytes same) refl
 
--- what setting up answers for a valid configuration, by its space
-started-valid : (rows : ℕ) (c : Configuration) → validated c ≡ Ok tt
-    → started rows c ≡ cond (nat_le (2 ^ 64) (chunk_count rows c.shard_bytes * 64)) (Err OutOfMemory) (Ok tt)
+-- what setting up a valid configuration answers is what asking for memory for its chunks does
+pub started-by : (rows : ℕ) (c : Configuration) (chunks : ℕ) → validated c ≡ Ok tt → chunks ≡ chunk_count rows c.shard_bytes → started rows c ≡ asked chunks
 unfolding chunk_count
-started-valid rows c valid =
-    ap (result_and_then (λ _. cond (nat_le (2 ^ 64) (space rows c.shard_bytes)) (Err OutOfMemory) (Ok tt))) valid
+started-by rows c chunks valid is =
+    ap (result_and_then (λ _. cond (nat_le (2 ^ 64) (space rows c.shard_bytes)) (Err OutOfMemory) (Ok tt))) valid ∙ ap asked (sym is)
 
--- a valid configuration whose space is a `usize` is set up
-pub started-roomy : (rows : ℕ) (c : Configuration) → validated c ≡ Ok tt → chunk_count rows c.shard_bytes * 64 < 2 ^ 64 → started rows c ≡ Ok tt
-started-roomy rows c valid fits =
-    started-valid rows c valid ∙ ap (λ (b : Bool). cond b (Err OutOfMemory) (Ok tt)) (lt-leb (2 ^ 64) (chunk_count rows c.shard_bytes * 64) fits)
-
--- and one whose space is no `usize` lacks memory
-pub started-large : (rows : ℕ) (c : Configuration) → validated c ≡ Ok tt → 2 ^ 64 ≤ chunk_count rows c.shard_bytes * 64 → started rows c ≡ Err OutOfMemory
-started-large rows c valid large =
-    started-valid rows c valid ∙ ap (λ (b : Bool). cond b (Err OutOfMemory) (Ok tt)) (le-leb (2 ^ 64) (chunk_count rows c.shard_bytes * 64) large)
-
--- success, where the space is a `usize`
-pub answers-made : (rows : ℕ) (c : Configuration) → validated c ≡ Ok tt → chunk_count rows c.shard_bytes * 64 < 2 ^ 64 → UpToMemory (started rows c) (Ok tt)
-answers-made rows c valid fits = inl (sym (started-roomy rows c valid fits))
-
--- want of memory, for any valid configuration
-pub answers-short : (rows : ℕ) (c : Configuration) (e : Error) → validated c ≡ Ok tt → e ≡ OutOfMemory → UpToMemory (started rows c) (Err e)
-answers-short rows c e valid short =
-    elim (cases_lt (chunk_count rows c.shard_bytes * 64) (2 ^ 64)) [
-      | inl fits ↦ inr (subst (λ (r : Result (Unit {0}) Error). IsOk r) (sym (started-roomy rows c valid fits)) is_made, ap Err short)
-      | inr large ↦ inl (ap Err short ∙ sym (started-large rows c valid large))
-    ]
-  where
-    is_made : IsOk {E = Error} (Ok (let made : Unit {0} = tt in made))
-    is_made = refl
+-- which is no want of memory where they are a `usize` in bytes
+pub asked-made : (chunks : ℕ) (result : Result (Unit {0}) Error) → chunks * 64 < 2 ^ 64 → result ≡ asked chunks → result ≡ Err OutOfMemory → ⊥
+asked-made chunks result fits is short =
+    let made : asked chunks ≡ Ok tt = ap (λ (b : Bool). cond b (Err OutOfMemory) (Ok tt)) (lt-leb (2 ^ 64) (chunks * 64) fits) in
+    let no = sym short ∙ is ∙ made in cc
 
 -- what holds at each rate after a success, or after a refusal, holds at one
 pub on_ok-at : {S : Type 0} (rate : Rate) (result : Result S Error) (P : Rate → Type 0) → OnOk result ((each : Rate) → P each) → OnOk result (P rate)
@@ -62,12 +42,6 @@ on_ok-at rate (Err e) P h = tt
 pub on_err-at : {S : Type 0} (rate : Rate) (result : Result S Error) (P : Rate → Type 0) → OnErr result ((each : Rate) → P each) → OnErr result (P rate)
 on_err-at rate (Ok x) P h = tt
 on_err-at rate (Err e) P h = h rate
-
--- what the growth of rows may answer, for a valid configuration
-pub answers-grown : (rows : ℕ) (c : Configuration) (result : Result (Unit {0}) Error) → validated c ≡ Ok tt
-    → IfErr result (λ e. e ≡ OutOfMemory) → IfOk result (λ _. chunk_count rows c.shard_bytes * 64 < 2 ^ 64) → UpToMemory (started rows c) result
-answers-grown rows c (Ok tt) valid short fits = answers-made rows c valid fits
-answers-grown rows c (Err e) valid short fits = answers-short rows c e valid short
 
 -- the refusals of a configuration, by the tests of its counts and of its size
 abbrev tested : Configuration → Bool → Bool → Bool → Result (Unit {0}) Error
@@ -81,11 +55,6 @@ valid-supported c valid = by_support (supports c.rate c.original_count c.recover
     by_support : (b : Bool) → tested c b (c.shard_bytes == 0) (c.shard_bytes % 2 == 1) ≡ Ok tt → b ≡ true
     by_support true h = refl
     by_support false h = absurd (let no : ⊥ = cc in no)
-
--- what holds of every value holds of one that may be there
-pub if_some-every : {S : Type 0} (o : Option S) (P : S → Type 0) → ((x : S) → P x) → IfSome o P
-if_some-every None P every = tt
-if_some-every (Some x) P every = every x
 
 -- an encoder that lacks originals keeps its state
 pub after_encode-refused : (s : EncoderState) (e : Error) → Err e ≡ answer_of (message_of s) → s ≡ after_encode s
@@ -134,30 +103,6 @@ encode_answers-made s recovery made right =
 pub if_some-map : {S : Type 0} (o : Option S) (P Q : S → Type 0) → ((x : S) → P x → Q x) → IfSome o P → IfSome o Q
 if_some-map None P Q follows h = tt
 if_some-map (Some x) P Q follows h = follows x h
-
--- a want of memory where there was room for rows of a `usize` in bytes: there is no such size
-pub started-short : {S : Type 0} (rows : ℕ) (c : Configuration) (result : Result S Error) (e : Error) → result ≡ Err e → validated c ≡ Ok tt
-    → IfErr result (λ f. f ≡ OutOfMemory) → (chunk_count rows c.shard_bytes * 64 < 2 ^ 64 → IsOk result) → Err e ≡ started rows c
-started-short {S} rows c result e is valid short enough =
-    elim (cases_lt (chunk_count rows c.shard_bytes * 64) (2 ^ 64)) [
-      | inl fits ↦ absurd (not_made result is (enough fits))
-      | inr large ↦ ap Err (subst (λ (r : Result S Error). IfErr r (λ f. f ≡ OutOfMemory)) is short) ∙ sym (started-large rows c valid large)
-    ]
-  where
-    not_made : (r : Result S Error) → r ≡ Err e → IsOk r → ⊥
-    not_made (Ok x) same made = cc
-    not_made (Err f) same made = cc
-
--- where rows have room, what their growth answers is what setting up answers
-pub grown-roomy : (rows : ℕ) (c : Configuration) (result : Result (Unit {0}) Error) → validated c ≡ Ok tt → IfErr result (λ e. e ≡ OutOfMemory)
-    → IfOk result (λ _. chunk_count rows c.shard_bytes * 64 < 2 ^ 64) → (chunk_count rows c.shard_bytes * 64 < 2 ^ 64 → IsOk result) → result ≡ started rows c
-grown-roomy rows c (Ok tt) valid short fits enough = sym (started-roomy rows c valid fits)
-grown-roomy rows c (Err e) valid short fits enough = started-short {S = Unit {0}} rows c (Err e) e refl valid short enough
-
--- a success is no want of memory
-pub made-not_short : (result : Result (Unit {0}) Error) → IsOk result → result ≡ Err OutOfMemory → ⊥
-made-not_short (Ok x) made is = cc
-made-not_short (Err e) made is = cc
 
 -- an encoder over rows of a shape with nothing given is a fresh one
 pub encoder_state-fresh : (rate : Rate) (rows : EncoderRows) (shape : EncoderShape) → rows.shape ≡ shape → rows.originals_given ≡ 0

@@ -1,11 +1,12 @@
 -- What a decoder's rows and working space stand for.
-use Rattle.std.specs.Prelude.{◌-◌, ◌≤◌, ℕ, List, Option, Some, None}
+use Rattle.std.specs.Prelude.{◌-◌, ◌≤◌, ℕ, Bool, List, Option, Some, None}
 use Rattle.std.specs.Vec.{vec_capacity}
 use Rattle.rs_field.specs.code.Column.{Shard}
 use Rattle.rs_field.specs.code.Counts.{Rate}
 use Rattle.rs_field.specs.code.Configuration.{Configuration, configuration}
 use Rattle.rs_field.specs.code.Given.{Shards, listed_from}
 use Rattle.rs_field.specs.code.Decoder.{DecoderState}
+use Rattle.rs_field.specs.rows.Rows.{Chunks}
 use Rattle.rs_rate.specs.declared.rate.decoder_work.DecoderShape.{DecoderShape}
 use Rattle.rs_rate.specs.declared.rate.decoder_work.DecoderRows.{DecoderRows}
 use Rattle.rs_rate.specs.declared.rate.decoder_work.DecoderMemory.{DecoderMemory}
@@ -18,20 +19,26 @@ use Rattle.rs_rate.specs.Marks.{given_marks, restored_marks, given_shards, resto
 abbrev pub configuration_of : Rate → DecoderShape → Configuration
 configuration_of rate shape = configuration rate shape.configuration.original_count shape.configuration.recovery_count shape.configuration.shard_bytes
 
--- the state of a decoder of this rate over the rows
-abbrev pub decoder_state : Rate → DecoderRows → DecoderState
-decoder_state rate rows =
-    let s = rows.shape in
+-- the state that the rows of a shape stand for at this rate, by the marks of given shards
+abbrev pub state_over : Rate → DecoderShape → List Bool → Chunks → DecoderState
+state_over rate s marks chunks =
     record {
       configuration = configuration_of rate s;
-      originals = given_shards (given_marks rows.memory.marks) rows.memory.chunks.items s.configuration.shard_bytes s.frame.originals_from s.configuration.original_count;
-      recovery = given_shards (given_marks rows.memory.marks) rows.memory.chunks.items s.configuration.shard_bytes s.frame.recovery_from s.configuration.recovery_count;
+      originals = given_shards marks chunks s.configuration.shard_bytes s.frame.originals_from s.configuration.original_count;
+      recovery = given_shards marks chunks s.configuration.shard_bytes s.frame.recovery_from s.configuration.recovery_count;
     }
 
--- the originals that lie restored in the rows after a round
+-- the state of a decoder of this rate over the rows
+abbrev pub decoder_state : Rate → DecoderRows → DecoderState
+decoder_state rate rows = state_over rate rows.shape (given_marks rows.memory.marks) rows.memory.chunks.items
+
+-- the originals that lie restored in the rows of a shape, by the marks of restored shards
+abbrev pub restored_over : DecoderShape → List Bool → Chunks → Shards
+restored_over s marks chunks = restored_shards marks chunks s.configuration.shard_bytes s.frame.originals_from s.configuration.original_count
+
+-- the originals that lie restored in a decoder's rows after a round
 abbrev pub restored_of : DecoderRows → Shards
-restored_of rows =
-    restored_shards (restored_marks rows.memory.marks) rows.memory.chunks.items rows.shape.configuration.shard_bytes rows.shape.frame.originals_from rows.shape.configuration.original_count
+restored_of rows = restored_over rows.shape (restored_marks rows.memory.marks) rows.memory.chunks.items
 
 -- the originals that lie restored in the rows from an index on, with their indexes, in order of index
 abbrev pub restored_from : DecoderRows → ℕ → List (ℕ × Shard)
@@ -40,6 +47,10 @@ restored_from rows index = listed_from index (rows.shape.configuration.original_
 -- what a decoder of this rate is set up for at these counts and this size
 abbrev pub decoder_shape : Rate → ℕ → ℕ → ℕ → DecoderShape
 decoder_shape rate k r size = record { configuration = configured rate k r size; frame = frame_of rate k r }
+
+-- the chunks of a shape's rows
+abbrev pub shape_chunks : DecoderShape → ℕ
+shape_chunks shape = chunk_count shape.frame.row_count shape.configuration.shard_bytes
 
 -- the room that a working space has: for chunks, for the marks of rows, and for the locator's entries at the rows
 pub record DecoderRoom : Type 0 where

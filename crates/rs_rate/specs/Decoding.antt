@@ -23,11 +23,11 @@ pub record IsLocatorOf (frame : Frame) (marks : List Bool) (locator : List ℕ) 
   pub are_words : (x : ℕ) → slice_index locator x < 65536
   pub values : IsLocatorBelow frame.row_count (erased frame.zeros_from frame.zeros_to marks) (λ x. slice_index locator x)
 
--- what a round begins with: as many marks as rows, which tell of given shards where there is something to do; so many originals missing, and no more surplus shards than rows
+-- what a round begins with: a shape that can be laid, as many marks as rows, which tell of given shards; so many originals missing, and no more surplus shards than rows
 pub record CanBeRestored (round : Round) (marks : Marks) : Type 0 where
   pub laid : DecoderCanBeLaid round.shape
   pub marked : vec_len marks.rows ≡ round.shape.frame.row_count
-  pub shards : 0 < round.missing + round.surplus → marks.shards ≡ Given
+  pub shards : marks.shards ≡ Given
   pub counted : given_row_count (given_marks marks) round.shape.frame.originals_from round.shape.configuration.original_count + round.missing ≡ round.shape.configuration.original_count
   pub few_surplus : round.surplus ≤ round.shape.frame.row_count
 
@@ -40,12 +40,12 @@ restore_steps shape surplus =
 unfoldable pub located : List Bool → List ℕ → (ℕ → ℕ) → ℕ → ℕ
 located marks locator words p = if is_marked marks p then product (words p) (power (slice_index locator p)) else 0
 
--- each of the n rows from one on that holds no given shard has the value of the polynomial plus its derivative, times the locator's inverse power
-abbrev pub AreRevealed : ℕ → ℕ → ℕ → List Bool → List ℕ → (ℕ → ℕ) → (ℕ → ℕ) → Type 0
-AreRevealed rows from n marks locator coefficients new =
-    (i : ℕ) → i < n → is_marked marks (from + i) ≡ false
-    → (added : ℕ → ℕ) × IsDerivativeAdded rows coefficients added
-    × (new (from + i) ≡ product (forward rows 0 added (from + i)) (power (65535 - slice_index locator (from + i))))
+-- the row of each original that wasn't given has the value of the polynomial plus its derivative, times the locator's inverse power
+abbrev pub AreRevealed : DecoderShape → List Bool → List ℕ → (ℕ → ℕ) → (ℕ → ℕ) → Type 0
+AreRevealed shape marks locator coefficients new =
+    (i : ℕ) → i < shape.configuration.original_count → let p = original_row shape i in is_marked marks p ≡ false
+    → (added : ℕ → ℕ) × IsDerivativeAdded shape.frame.row_count coefficients added
+    × (new p ≡ product (forward shape.frame.row_count 0 added p) (power (65535 - slice_index locator p)))
 
 -- in each column (symbol s of chunk k): the located words are values of a polynomial; whether its last coefficients are zero is answered, and if so the missing words are revealed
 pub record RestoresWords (shape : DecoderShape) (marks : List Bool) (locator : List ℕ) (surplus : ℕ) (old new : ℕ → ℕ → ℕ → ℕ) (agrees : Bool) : Type 0 where
@@ -54,7 +54,7 @@ pub record RestoresWords (shape : DecoderShape) (marks : List Bool) (locator : L
   pub are_coefficients : (k s : ℕ) → k < row_len shape.configuration.shard_bytes → s < 32 → IsBackward shape.frame.row_count 0 (located marks locator (old k s)) (coefficients k s)
   pub checked : ((i j : ℕ) → shape.frame.row_count ≤ i + surplus → i < shape.frame.row_count → j < shape.configuration.shard_bytes / 2 → coefficients (j / 32) (j % 32) i ≡ 0) ↔ (agrees ≡ true)
   pub revealed : agrees ≡ true → (k s : ℕ) → k < row_len shape.configuration.shard_bytes → s < 32
-      → AreRevealed shape.frame.row_count shape.frame.originals_from shape.configuration.original_count marks locator (coefficients k s) (new k s)
+      → AreRevealed shape marks locator (coefficients k s) (new k s)
 
 -- over chunks: the words of the rows become restored ones, and the rows of the missing originals hold shards with these as columns
 pub record RestoresShards (shape : DecoderShape) (marks : List Bool) (locator : List ℕ) (surplus : ℕ) (old new : Chunks) (agrees : Bool) : Type 0 where

@@ -1,5 +1,7 @@
 -- Rows of chunks, and the shards in them.
-use Rattle.std.specs.Prelude.{ℕ, ◌+◌, ◌*◌, List}
+use Rattle.std.specs.Prelude.{ℕ, ◌+◌, ◌*◌, ◌^◌, List, nat_le, if◌then◌else◌, Result, Ok, Err}
+use Rattle.rs_field.specs.declared.code.error.Error.{Error}
+use Rattle.rs_field.specs.declared.code.error.Error.TheVariants.{OutOfMemory}
 use Rattle.rs_field.specs.code.Column.{Shard}
 use Rattle.rs_field.specs.rows.Rows.{Chunks, chunk, symbol}
 use Rattle.rs_field.specs.rows.Layout.{row_len, laid_out, in_order}
@@ -7,6 +9,10 @@ use Rattle.rs_field.specs.rows.Layout.{row_len, laid_out, in_order}
 -- the chunks of so many rows for shards of this size
 unfoldable pub chunk_count : ℕ → ℕ → ℕ
 chunk_count rows size = rows * row_len size
+
+-- what asking for memory for so many chunks answers while memory is found; a space above `usize::MAX` bytes is never found
+abbrev pub asked : ℕ → Result (Unit {0}) Error
+asked chunks = if nat_le (2 ^ 64) (chunks * 64) then Err OutOfMemory else Ok tt
 
 -- chunk k of row i, in rows for shards of this size
 unfoldable pub row_chunk : Chunks → ℕ → ℕ → ℕ → List ℕ

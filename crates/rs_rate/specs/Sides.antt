@@ -1,5 +1,5 @@
 -- The two sides of a message, from which a decoder is given shards.
-use Rattle.std.specs.Prelude.{ℕ, Result}
+use Rattle.std.specs.Prelude.{ℕ, ◌+◌, Result}
 use Rattle.rs_field.specs.declared.code.error.Error.{Error}
 use Rattle.rs_field.specs.declared.code.error.Error.TheVariants.{InvalidOriginalShardIndex, InvalidRecoveryShardIndex, DuplicateOriginalShardIndex, DuplicateRecoveryShardIndex}
 use Rattle.rs_field.specs.code.Column.{Shard}
@@ -17,6 +17,10 @@ side_count Recovery s = s.configuration.recovery_count
 abbrev pub side_from : Side → DecoderShape → ℕ
 side_from Original s = s.frame.originals_from
 side_from Recovery s = s.frame.recovery_from
+
+-- the row of a shard of it
+abbrev pub side_row : Side → DecoderShape → ℕ → ℕ
+side_row side s index = side_from side s + index
 
 -- how many originals one of its shards is
 abbrev pub side_originals : Side → ℕ

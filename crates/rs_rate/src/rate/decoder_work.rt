@@ -5,10 +5,11 @@ ghost use Rattle.std.specs.Vec.{vec_capacity};
 ghost use Rattle.rs_field.specs.code.Column.{IsShard};
 ghost use Rattle.rs_field.specs.code.Counts.{Rate};
 ghost use Rattle.rs_field.specs.code.Outcome.{answer_of, state_after};
+ghost use Rattle.rs_field.specs.code.Configuration.{UpToMemory};
 ghost use Rattle.rs_field.specs.code.Decoder.{fresh_decoder, with_original, with_recovery, enough_given};
 ghost use Rattle.rs_field.specs.rows.MarkedRows.{is_marked};
 ghost use Rattle.rs_rate.specs.Shapes.{DecoderCanBeLaid, original_row};
-ghost use Rattle.rs_rate.specs.ShardRows.{chunk_count as chunk_count_of, shard_laid_out};
+ghost use Rattle.rs_rate.specs.ShardRows.{asked, chunk_count as chunk_count_of, shard_laid_out};
 ghost use Rattle.rs_rate.specs.Marks.{given_marks, given_row_count, ArePlaced};
 ghost use Rattle.rs_rate.specs.Sides.{with_given};
 
@@ -70,8 +71,10 @@ pub struct DecoderRows {
     pub ghost own_entries: { shape.frame.row_count ≤ vec_capacity memory.erasures },
     pub ghost originals_counted: { originals_given ≡ given_row_count (given_marks memory.marks) shape.frame.originals_from shape.configuration.original_count },
     pub ghost recovery_counted: { recovery_given ≡ given_row_count (given_marks memory.marks) shape.frame.recovery_from shape.configuration.recovery_count },
-    pub ghost placed: { ArePlaced shape.frame.originals_from shape.configuration.original_count shape.frame.recovery_from shape.configuration.recovery_count (given_marks memory.marks) },
-    pub ghost shards: { (p : ℕ) → is_marked (given_marks memory.marks) p ≡ true → IsShard shape.configuration.shard_bytes (shard_laid_out memory.chunks.items shape.configuration.shard_bytes p) },
+    pub ghost placed: { ArePlaced shape.frame.originals_from shape.configuration.original_count shape.frame.recovery_from shape.configuration.recovery_count
+        (given_marks memory.marks) },
+    pub ghost shards: { (p : ℕ) → is_marked (given_marks memory.marks) p ≡ true
+        → IsShard shape.configuration.shard_bytes (shard_laid_out memory.chunks.items shape.configuration.shard_bytes p) },
 }
 
 impl DecoderShape {
@@ -181,7 +184,7 @@ impl DecoderMemory {
 }
 
 impl DecoderRows {
-    ghost use Rattle.rs_rate.specs.DecoderView.{HasRoom, Grows, configuration_of, decoder_state, memory_room, work_room, restored_of, restored_from};
+    ghost use Rattle.rs_rate.specs.DecoderView.{HasRoom, Grows, configuration_of, decoder_state, memory_room, shape_chunks, work_room, restored_of, restored_from};
     ghost use Rattle.rs_rate.specs.Decoding.{CanBeRestored};
 
     // Rows with nothing given, in the memory of `work` where one is passed. Inlined, so that clearing is a `memset`.
@@ -194,11 +197,10 @@ impl DecoderRows {
         requires { DecoderCanBeLaid shape }
         ensures shape { IfOk result (λ x. x.shape ≡ shape) }
         ensures state { IfOk result (λ x. (rate : Rate) → decoder_state rate x ≡ fresh_decoder (configuration_of rate shape)) }
-        ensures memory { IfErr result (λ e. e ≡ Error.OutOfMemory) }
-        ensures fits { IfOk result (λ _. chunk_count_of shape.frame.row_count shape.configuration.shard_bytes * 64 < 2 ^ 64) }
+        ensures answer { UpToMemory (asked (shape_chunks shape)) (answer_of result) }
         ensures grown { IfOk result (λ x. IfSome work (λ w. Grows (work_room w) (memory_room x.memory))) }
-        ensures enough { IfSome work (λ w. chunk_count_of shape.frame.row_count shape.configuration.shard_bytes * 64 < 2 ^ 64
-            → HasRoom (work_room w) shape.frame.row_count shape.configuration.shard_bytes → IsOk result) }
+        ensures roomy { IfSome work (λ w. HasRoom (work_room w) shape.frame.row_count shape.configuration.shard_bytes
+            → answer_of result ≡ asked (shape_chunks shape)) }
     {
         let chunks = chunk_count(shape.frame.row_count, shape.configuration.shard_bytes)?;
         let mut memory = DecoderMemory::of(alloc, work);
@@ -220,11 +222,9 @@ impl DecoderRows {
         ensures err { OnErr result ((rate : Rate) → decoder_state rate self.new ≡ decoder_state rate self.old) }
         ensures shape { OnOk result (self.new.shape ≡ shape) }
         ensures same_shape { OnErr result (self.new.shape ≡ self.old.shape) }
-        ensures memory { IfErr result (λ e. e ≡ Error.OutOfMemory) }
-        ensures fits { IfOk result (λ _. chunk_count_of shape.frame.row_count shape.configuration.shard_bytes * 64 < 2 ^ 64) }
+        ensures answer { UpToMemory (asked (shape_chunks shape)) result }
         ensures grown { Grows (memory_room self.old.memory) (memory_room self.new.memory) }
-        ensures enough { chunk_count_of shape.frame.row_count shape.configuration.shard_bytes * 64 < 2 ^ 64
-            → HasRoom (memory_room self.old.memory) shape.frame.row_count shape.configuration.shard_bytes → IsOk result }
+        ensures roomy { HasRoom (memory_room self.old.memory) shape.frame.row_count shape.configuration.shard_bytes → result ≡ asked (shape_chunks shape) }
     {
         let chunks = chunk_count(shape.frame.row_count, shape.configuration.shard_bytes)?;
         self.memory.make_room(chunks, shape.frame.row_count)?;
@@ -274,7 +274,7 @@ impl DecoderRows {
         if index >= side.count(self.shape) {
             return Err(side.index_refused(self.shape, index));
         }
-        let row = side.first_row(self.shape) + index;
+        let row = side.row(self.shape, index);
         if self.memory.marks.is_given(row) {
             return Err(side.repeat_refused(index));
         }

@@ -7,16 +7,15 @@ ghost use Rattle.rs_field.specs.code.Bounds.{decode_steps};
 ghost use Rattle.rs_field.specs.code.Configuration.{validated};
 ghost use Rattle.rs_field.specs.code.Counts.{Rate};
 ghost use Rattle.rs_field.specs.code.Decoder.{fresh_decoder, Restored, NoneAgrees};
-ghost use Rattle.rs_field.specs.rows.Layout.{row_len as chunks_for};
 ghost use Rattle.rs_field.specs.rows.MarkedRows.{is_marked};
 ghost use Rattle.rs_rate.specs.DecoderView.{configuration_of, decoder_shape, decoder_state, memory_room, restored_of, restored_from};
-ghost use Rattle.rs_rate.specs.Decoding.{restore_steps, CanBeRestored, IsLocatorOf, RestoresWords, RestoresShards};
+ghost use Rattle.rs_rate.specs.Decoding.{CanBeRestored, IsLocatorOf, RestoresShards};
 ghost use Rattle.rs_rate.specs.Marks.{erased, given_marks, restored_marks, WantsMissing};
 ghost use Rattle.rs_rate.specs.Shapes.{DecoderCanBeLaid, original_row};
-ghost use Rattle.rs_rate.specs.ShardRows.{chunk_count, word_in, shard_laid_out, shard_in_order};
+ghost use Rattle.rs_rate.specs.ShardRows.{chunk_count, shard_laid_out, shard_in_order};
 
 use crate::rate::decoder_work::{DecoderMemory, DecoderRows, DecoderShape, Frame};
-use crate::rate::marks::{MarkedShards, Marks};
+use crate::rate::marks::Marks;
 use crate::rate::restoring::{Round, restore_rows};
 use crate::rate::shard_rows::{in_order_are_bytes, move_tail};
 use rs_field::engine::layout::row_len;
@@ -141,6 +140,7 @@ fn erased_at(given: &[bool], frame: Frame, row: usize) -> GfElement
 }
 
 // Restores the missing originals over all chunks where some message agrees, with their tails moved.
+#[tactic(auto, unfolding(crate::specs::ShardRows::chunk_count))]
 fn restore_chunks<E: Engine>(
     engine: &E,
     steps: &mut Steps,
@@ -151,40 +151,18 @@ fn restore_chunks<E: Engine>(
 ) -> bool
     requires whole { chunk_count round.shape.frame.row_count round.shape.configuration.shard_bytes ≤ length chunks.old }
     requires facts { CanBeRestored round marks.old }
-    requires given { marks.old.shards ≡ MarkedShards.Given }
     requires located { length locator.now ≡ round.shape.frame.row_count }
     ensures marks { WantsMissing round.shape.frame.originals_from round.shape.configuration.original_count marks.old marks.new }
     ensures shards { RestoresShards round.shape (given_marks marks.old) locator.now round.surplus chunks.old chunks.new result }
     ensures counts { CountsUpTo (3 * transform_steps round.shape.frame.row_count + 4 * round.shape.frame.row_count) 0 0 steps.old steps.new }
 {
-    let agrees = restore_words(engine, steps, chunks, marks, locator, round);
+    let len = row_len(round.shape.configuration.shard_bytes);
+    let mut rows = ShardsRefMut::new(round.shape.frame.row_count, len, chunks);
+    let agrees = restore_rows(engine, steps, &mut rows, marks, locator, round);
     if agrees {
         move_restored_tails(steps, chunks, marks, round.shape);
     }
     agrees
-}
-
-// Restores the words of the missing originals over all chunks where some message agrees, and answers whether one does.
-fn restore_words<E: Engine>(
-    engine: &E,
-    steps: &mut Steps,
-    chunks: &mut [[u8; 64]],
-    marks: &mut Marks,
-    locator: &[GfElement],
-    round: Round,
-) -> bool
-    requires whole { round.shape.frame.row_count * chunks_for round.shape.configuration.shard_bytes ≤ length chunks.old }
-    requires facts { CanBeRestored round marks.old }
-    requires given { marks.old.shards ≡ MarkedShards.Given }
-    requires located { length locator.now ≡ round.shape.frame.row_count }
-    ensures marks { WantsMissing round.shape.frame.originals_from round.shape.configuration.original_count marks.old marks.new }
-    ensures words { RestoresWords round.shape (given_marks marks.old) locator.now round.surplus
-        (word_in chunks.old (chunks_for round.shape.configuration.shard_bytes)) (word_in chunks.new (chunks_for round.shape.configuration.shard_bytes)) result }
-    ensures counts { CountsUpTo (restore_steps round.shape round.surplus) 0 0 steps.old steps.new }
-{
-    let len = row_len(round.shape.configuration.shard_bytes);
-    let mut rows = ShardsRefMut::new(round.shape.frame.row_count, len, chunks);
-    restore_rows(engine, steps, &mut rows, marks, locator, round)
 }
 
 // Moves the tails of the restored originals; a row step each.

@@ -1,12 +1,13 @@
 //! The working space of an encoder: the memory that is handed on, and an encoder's rows in it.
-ghost use Rattle.std.specs.Prelude.{◌≡◌, ℕ, ◌*◌, ◌%◌, ◌^◌, ◌<◌, ◌≤◌, vec_len, IfOk, OnOk, OnErr, IsOk, IfErr, IfSome, MatchOption};
+ghost use Rattle.std.specs.Prelude.{◌≡◌, ℕ, ◌*◌, ◌%◌, ◌^◌, ◌<◌, ◌≤◌, vec_len, IfOk, OnOk, OnErr, IfSome, MatchOption};
 ghost use Rattle.std.specs.Vec.{vec_capacity};
 ghost use Rattle.rs_field.specs.code.Column.{IsShard};
 ghost use Rattle.rs_field.specs.code.Counts.{Rate};
 ghost use Rattle.rs_field.specs.code.Outcome.{answer_of, state_after};
+ghost use Rattle.rs_field.specs.code.Configuration.{UpToMemory};
 ghost use Rattle.rs_field.specs.code.Encoder.{with_shard, message_of};
 ghost use Rattle.rs_rate.specs.Shapes.{EncoderCanBeLaid};
-ghost use Rattle.rs_rate.specs.ShardRows.{chunk_count as chunk_count_of, shard_laid_out, shard_in_order};
+ghost use Rattle.rs_rate.specs.ShardRows.{asked, chunk_count as chunk_count_of, shard_laid_out, shard_in_order};
 
 use crate::rate::configuration::Configuration;
 use crate::rate::memory::{make_room, set_chunks, vec_of};
@@ -73,10 +74,9 @@ impl EncoderRows {
     ) -> Result<EncoderRows, Error>
         requires { EncoderCanBeLaid shape }
         ensures made { IfOk result (λ x. (x.shape ≡ shape) × (x.originals_given ≡ 0)) }
-        ensures memory { IfErr result (λ e. e ≡ Error.OutOfMemory) }
-        ensures fits { IfOk result (λ _. shape_chunks shape * 64 < 2 ^ 64) }
+        ensures answer { UpToMemory (asked (shape_chunks shape)) (answer_of result) }
         ensures grown { IfOk result (λ x. IfSome work (λ w. work_room w ≤ vec_capacity x.chunks)) }
-        ensures enough { IfSome work (λ w. shape_chunks shape * 64 < 2 ^ 64 → shape_chunks shape ≤ work_room w → IsOk result) }
+        ensures roomy { IfSome work (λ w. shape_chunks shape ≤ work_room w → answer_of result ≡ asked (shape_chunks shape)) }
     {
         let count = chunk_count(shape.row_count, shape.configuration.shard_bytes)?;
         let mut chunks = match work {
@@ -97,10 +97,9 @@ impl EncoderRows {
         requires { EncoderCanBeLaid shape }
         ensures ok { OnOk result ((self.new.shape ≡ shape) × (self.new.originals_given ≡ 0)) }
         ensures err { OnErr result ((self.new.shape ≡ self.old.shape) × (self.new.originals_given ≡ self.old.originals_given) × (self.new.chunks.items ≡ self.old.chunks.items)) }
-        ensures memory { IfErr result (λ e. e ≡ Error.OutOfMemory) }
-        ensures fits { IfOk result (λ _. shape_chunks shape * 64 < 2 ^ 64) }
+        ensures answer { UpToMemory (asked (shape_chunks shape)) result }
         ensures grown { vec_capacity self.old.chunks ≤ vec_capacity self.new.chunks }
-        ensures enough { shape_chunks shape * 64 < 2 ^ 64 → shape_chunks shape ≤ vec_capacity self.old.chunks → IsOk result }
+        ensures roomy { shape_chunks shape ≤ vec_capacity self.old.chunks → result ≡ asked (shape_chunks shape) }
     {
         let count = chunk_count(shape.row_count, shape.configuration.shard_bytes)?;
         make_room(&mut self.chunks, count)?;

@@ -83,7 +83,8 @@ impl Marks {
     // The marks of given shards, where the marks tell of these.
     pub(crate) fn given(&self) -> &[bool]
         requires { self.now.shards ≡ MarkedShards.Given }
-        ensures { result.now ≡ given_marks self.now }
+        ensures marks { result.now ≡ given_marks self.now }
+        ensures length { length result.now ≡ vec_len self.now.rows }
     {
         self.rows.as_slice()
     }
@@ -91,7 +92,8 @@ impl Marks {
     // The marks of restored shards, where the marks tell of these.
     pub(crate) fn restored(&self) -> &[bool]
         requires { self.now.shards ≡ MarkedShards.Restored }
-        ensures { result.now ≡ restored_marks self.now }
+        ensures marks { result.now ≡ restored_marks self.now }
+        ensures length { length result.now ≡ vec_len self.now.rows }
     {
         self.rows.as_slice()
     }

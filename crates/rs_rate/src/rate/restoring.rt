@@ -16,7 +16,7 @@ ghost use Rattle.rs_rate.specs.Marks.{given_marks, restored_marks, WantsMissing}
 ghost use Rattle.rs_rate.specs.Shapes.{DecoderCanBeLaid, original_row};
 
 use crate::rate::decoder_work::DecoderShape;
-use crate::rate::marks::{MarkedShards, Marks};
+use crate::rate::marks::Marks;
 use rs_field::engine::derivative::formal_derivative;
 use rs_field::engine::layout::is_zero_row;
 use rs_field::engine::rows::{clear_rows, mul_row};
@@ -46,7 +46,6 @@ pub(crate) fn restore_rows<E: Engine>(
     requires count { rows.old.shard_count ≡ round.shape.frame.row_count }
     requires len { rows.old.shard_len_64 ≡ chunks_for round.shape.configuration.shard_bytes }
     requires facts { CanBeRestored round marks.old }
-    requires given { marks.old.shards ≡ MarkedShards.Given }
     requires located { length locator.now ≡ round.shape.frame.row_count }
     ensures shape { SameShape rows.old rows.new }
     ensures marks { WantsMissing round.shape.frame.originals_from round.shape.configuration.original_count marks.old marks.new }

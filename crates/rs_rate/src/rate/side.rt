@@ -1,6 +1,6 @@
 //! The two sides of a message, from which a decoder is given shards.
-ghost use Rattle.std.specs.Prelude.{◌≡◌};
-ghost use Rattle.rs_rate.specs.Sides.{side_count, side_from, side_originals, side_recovery, index_refused, repeat_refused};
+ghost use Rattle.std.specs.Prelude.{◌≡◌, ◌^◌, ◌<◌};
+ghost use Rattle.rs_rate.specs.Sides.{side_count, side_row, side_originals, side_recovery, index_refused, repeat_refused};
 
 use crate::rate::decoder_work::DecoderShape;
 use rs_field::error::Error;
@@ -23,13 +23,14 @@ impl Side {
         }
     }
 
-    // The row of its first shard.
-    pub(crate) fn first_row(self, shape: DecoderShape) -> usize
-        ensures { result ≡ side_from self shape }
+    // The row of a shard of it.
+    pub(crate) fn row(self, shape: DecoderShape, index: usize) -> usize
+        requires { side_row self shape index < 2 ^ 64 }
+        ensures { result ≡ side_row self shape index }
     {
         match self {
-            Side::Original => shape.frame.originals_from,
-            Side::Recovery => shape.frame.recovery_from,
+            Side::Original => shape.original_row(index),
+            Side::Recovery => shape.frame.recovery_from + index,
         }
     }
 

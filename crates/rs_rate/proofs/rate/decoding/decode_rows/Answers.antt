@@ -1,37 +1,19 @@
 use Rattle.std.proofs.Common.{◌≡◌, ◌+◌, ◌-◌, ◌<◌, ℕ, List, true, false, sym, ap, ◌∙◌, subst, arith, inl, inr}
 use Rattle.std.proofs.Math.Nat.{sub-zero}
-use Rattle.std.specs.Prelude.{Ok, Err, length, ◌⊎◌}
+use Rattle.std.specs.Prelude.{Ok, Err, ◌⊎◌}
 use Rattle.std.proofs.lemmas.Bool.{cases_eq}
 use Rattle.rs_field.specs.declared.code.error.Error.TheVariants.{InconsistentShards}
-use Rattle.rs_field.specs.words.StepBounds.{CountsUpTo}
-use Rattle.rs_field.specs.code.Bounds.{decode_steps}
 use Rattle.rs_field.specs.code.Column.{IsShard}
 use Rattle.rs_field.specs.rows.Rows.{Chunks}
 use Rattle.rs_rate.specs.declared.rate.decoder_work.DecoderShape.{DecoderShape}
 use Rattle.rs_rate.specs.Decoding.{IsLocatorOf, RestoresShards}
 use Rattle.rs_rate.specs.Marks.{given_marks, restored_marks, WantsMissing}
-use Rattle.rs_rate.specs.ShardRows.{chunk_count, shard_in_order}
+use Rattle.rs_rate.specs.ShardRows.{shard_in_order}
 use Rattle.rs_rate.proofs.DecodeAnswer.{AnswersOver, decode_answers, complete_answers, told_answer}
 use Rattle.rs_rate.proofs.DecoderLemmas.{given_row_count-most, given_row_count-nothing, none_told, nothing-given}
 use Rattle.rs_rate.proofs.ResultLemmas.{length-restored}
 use Rattle.rs_rate.proofs.rate.decoding.decode_rows.Goals as goal
 use Rattle.rs_rate.proofs.rate.decoding.decode_rows.Goals.{then-agrees, else-agrees}
-
-pub restore-agrees-requires-clause-whole : goal.restore-agrees-requires-clause-whole
-restore-agrees-requires-clause-whole g c =
-    let count = ap (λ (s : DecoderShape). chunk_count s.frame.row_count s.configuration.shard_bytes) c.round-round.ensures.shape in
-    omega (arith, count, c.args.rows.now.whole)
-
-pub restore-agrees-requires-clause-entries : goal.restore-agrees-requires-clause-entries
-restore-agrees-requires-clause-entries g c =
-    let count = ap (λ (s : DecoderShape). s.frame.row_count) c.round-round.ensures.shape in
-    omega (arith, count, c.args.rows.now.entries)
-
-pub in_order_are_bytes-requires : goal.in_order_are_bytes-requires
-in_order_are_bytes-requires g c =
-    let count = ap (λ (s : DecoderShape). chunk_count s.frame.row_count s.configuration.shard_bytes) c.round-round.ensures.shape in
-    let slice = ap length c.as_slice.ensures.value in
-    omega (arith, count, slice, c.args.rows.now.whole, c.restore-agrees.ensures.length)
 
 pub invariant_of-rows : goal.invariant_of-rows
 invariant_of-rows g c =
@@ -125,7 +107,3 @@ returns-clause-counted g c =
       | then-agrees w ↦ let is : c.if-agrees.answer ≡ Ok c.round-round.result.missing = w.answer-is in rw (is, sub-zero) (omega (arith, counted, old.originals_counted, c.round-round.ensures.missing))
       | else-agrees w ↦ rw w.answer-is tt
     ]
-
-pub returns-clause-counts : goal.returns-clause-counts
-returns-clause-counts g c =
-    subst (λ (s : DecoderShape). CountsUpTo (decode_steps s.frame.row_count) 1048576 65536 c.args.steps.now c.restore-agrees.new.steps) c.round-round.ensures.shape c.restore-agrees.ensures.counts

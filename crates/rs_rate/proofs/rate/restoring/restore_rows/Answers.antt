@@ -6,14 +6,14 @@ use Rattle.rs_field.specs.words.Derivative.{IsDerivativeAdded}
 use Rattle.rs_field.specs.rows.View.{word}
 use Rattle.rs_rate.specs.Decoding.{located}
 use Rattle.rs_rate.specs.Marks.{given_marks}
-use Rattle.rs_rate.proofs.DecoderLemmas.{all_given, given_length, restored_length, rows_power}
+use Rattle.rs_rate.proofs.DecoderLemmas.{all_given, rows_power}
 use Rattle.rs_rate.proofs.RestoringRows.{from_row_zero, checked_rows}
 use Rattle.rs_rate.proofs.rate.restoring.restore_rows.Goals as goal
 
 pub ifft_given-requires-clause-power : goal.ifft_given-requires-clause-power
 ifft_given-requires-clause-power g c =
     let p = rows_power c.args.round.shape c.requires.facts.laid in
-    (p.0, given_length c.args.marks.now c.given-given.result.now c.given-given.ensures c.requires.given ∙ c.requires.facts.marked ∙ p.1)
+    (p.0, c.given-given.ensures.length ∙ c.requires.facts.marked ∙ p.1)
 
 pub formal_derivative-requires-clause-power : goal.formal_derivative-requires-clause-power
 formal_derivative-requires-clause-power g c =
@@ -24,7 +24,7 @@ pub fft_wanted-requires-clause-power : goal.fft_wanted-requires-clause-power
 fft_wanted-requires-clause-power g c =
     let p = rows_power c.args.round.shape c.requires.facts.laid in
     let missing = c.want_missing.ensures in
-    (p.0, restored_length c.want_missing.new.self c.restored.result.now c.restored.ensures missing.shards ∙ missing.length ∙ c.requires.facts.marked ∙ p.1)
+    (p.0, c.restored.ensures.length ∙ missing.length ∙ c.requires.facts.marked ∙ p.1)
 
 pub returns-then-not-are_zero-clause-words : goal.returns-then-not-are_zero-clause-words
 returns-then-not-are_zero-clause-words g c =
@@ -36,8 +36,8 @@ returns-then-not-are_zero-clause-words g c =
     let located_shape = c.locate_rows.ensures.shape in
     let shape = c.ifft_given.ensures.shape in
     let rows = s.frame.row_count in
-    let told : c.given-given.result.now ≡ given_marks c.args.marks.now = c.given-given.ensures in
-    let size = given_length c.args.marks.now c.given-given.result.now told c.requires.given ∙ c.requires.facts.marked in
+    let told : c.given-given.result.now ≡ given_marks c.args.marks.now = c.given-given.ensures.marks in
+    let size = c.given-given.ensures.length ∙ c.requires.facts.marked in
     record {
       coefficients = word passed;
       are_words = λ k t i hk ht hi. c.row_symbols_are_words.ensures k t i (omega (arith, hk, shape.len_64, located_shape.len_64, c.requires.len)) ht (omega (arith, hi, shape.count, located_shape.count, c.requires.count));
@@ -64,10 +64,10 @@ returns-then-round-gt0-clause-words g c =
     let added_shape = c.formal_derivative.ensures.shape in
     let valued_shape = c.fft_wanted.ensures.shape in
     let rows = s.frame.row_count in
-    let told : c.given-given.result.now ≡ given_marks c.args.marks.now = c.given-given.ensures in
-    let size = given_length c.args.marks.now c.given-given.result.now told c.requires.given ∙ c.requires.facts.marked in
+    let told : c.given-given.result.now ≡ given_marks c.args.marks.now = c.given-given.ensures.marks in
+    let size = c.given-given.ensures.length ∙ c.requires.facts.marked in
     let missing = c.want_missing.ensures in
-    let wanted_size = restored_length c.want_missing.new.self c.restored.result.now c.restored.ensures missing.shards ∙ missing.length ∙ c.requires.facts.marked in
+    let wanted_size = c.restored.ensures.length ∙ missing.length ∙ c.requires.facts.marked in
     record {
       coefficients = word passed;
       are_words = λ k t i hk ht hi. c.row_symbols_are_words.ensures k t i (omega (arith, hk, shape.len_64, located_shape.len_64, c.requires.len)) ht (omega (arith, hi, shape.count, located_shape.count, c.requires.count));
@@ -85,7 +85,7 @@ returns-then-round-gt0-clause-words g c =
             ∙ ap (λ w. product w (power (65535 - slice_index locator (from + i))))
             (from_row_zero _ rows (from + i) (word valued k t) (word added k t) wanted_size
             (c.fft_wanted.ensures.values k t (from + i) (omega (arith, hk, added_shape.len_64, shape.len_64, located_shape.len_64, c.requires.len)) ht
-            (ap (λ (xs : List Bool). is_marked xs (from + i)) c.restored.ensures ∙ missing.missing i hi ∙ ap not none))),
+            (ap (λ (xs : List Bool). is_marked xs (from + i)) c.restored.ensures.marks ∙ missing.missing i hi ∙ ap not none))),
       );
     }
 
@@ -98,8 +98,8 @@ returns-else-round-gt0-clause-words g c =
     let located_shape = c.locate_rows.ensures.shape in
     let shape = c.ifft_given.ensures.shape in
     let rows = s.frame.row_count in
-    let told : c.given-given.result.now ≡ given_marks c.args.marks.now = c.given-given.ensures in
-    let size = given_length c.args.marks.now c.given-given.result.now told c.requires.given ∙ c.requires.facts.marked in
+    let told : c.given-given.result.now ≡ given_marks c.args.marks.now = c.given-given.ensures.marks in
+    let size = c.given-given.ensures.length ∙ c.requires.facts.marked in
     record {
       coefficients = word passed;
       are_words = λ k t i hk ht hi. c.row_symbols_are_words.ensures k t i (omega (arith, hk, shape.len_64, located_shape.len_64, c.requires.len)) ht (omega (arith, hi, shape.count, located_shape.count, c.requires.count));

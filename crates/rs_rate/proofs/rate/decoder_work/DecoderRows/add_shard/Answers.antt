@@ -1,9 +1,8 @@
-use Rattle.std.proofs.Common.{◌≡◌, ℕ, ◌+◌, length, sym, ap, ◌∙◌, arith}
+use Rattle.std.proofs.Common.{◌+◌, length, sym, ap, ◌∙◌, arith}
 use Rattle.std.specs.Prelude.{Err}
 use Rattle.rs_field.specs.code.Outcome.{answer_of, state_after}
 use Rattle.rs_rate.specs.ShardRows.{chunk_count}
 use Rattle.rs_rate.specs.DecoderView.{decoder_state}
-use Rattle.rs_rate.specs.Sides.{side_from}
 use Rattle.rs_rate.proofs.ShardRowsLemmas.{chunk_count-within, shard-entered}
 use Rattle.rs_rate.proofs.DecoderLemmas.{given_row_count-most}
 use Rattle.rs_rate.proofs.SideRows.{row_entered, side-within, add-repeated, add-sized, add-entered, add-counted, outside-apart}
@@ -13,40 +12,37 @@ use Rattle.rs_rate.proofs.rate.decoder_work.DecoderRows.add_shard.Goals as goal
 pub returns-then-is_given-clause-answer : goal.returns-then-is_given-clause-answer
 returns-then-is_given-clause-answer c = λ rate.
     let w = c.args.self.now in
-    let row = c.first_row.result + c.args.index in
-    let at : row ≡ side_from c.args.side c.args.self.now.shape + c.args.index = ap (λ (n : ℕ). n + c.args.index) c.first_row.ensures in
-    ap Err c.repeat_refused.ensures ∙ sym (ap answer_of (add-repeated rate w c.args.side c.args.index row c.args.shard.now at (omega (arith, c.if-index-count.false, c.count.ensures)) (sym c.is_given.ensures ∙ c.if-is_given.true)))
+    let row = c.row-row.result in
+    ap Err c.repeat_refused.ensures ∙ sym (ap answer_of (add-repeated rate w c.args.side c.args.index row c.args.shard.now c.row-row.ensures (omega (arith, c.if-index-count.false, c.count.ensures)) (sym c.is_given.ensures ∙ c.if-is_given.true)))
 
 pub returns-then-is_given-clause-left : goal.returns-then-is_given-clause-left
 returns-then-is_given-clause-left c = λ rate.
     let w = c.args.self.now in
-    let row = c.first_row.result + c.args.index in
-    let at : row ≡ side_from c.args.side c.args.self.now.shape + c.args.index = ap (λ (n : ℕ). n + c.args.index) c.first_row.ensures in
-    sym (ap (state_after (decoder_state rate w)) (add-repeated rate w c.args.side c.args.index row c.args.shard.now at (omega (arith, c.if-index-count.false, c.count.ensures)) (sym c.is_given.ensures ∙ c.if-is_given.true)))
+    let row = c.row-row.result in
+    sym (ap (state_after (decoder_state rate w)) (add-repeated rate w c.args.side c.args.index row c.args.shard.now c.row-row.ensures (omega (arith, c.if-index-count.false, c.count.ensures)) (sym c.is_given.ensures ∙ c.if-is_given.true)))
 
 pub returns-then-shard-self-clause-answer : goal.returns-then-shard-self-clause-answer
 returns-then-shard-self-clause-answer c = λ rate.
     let w = c.args.self.now in
-    let row = c.first_row.result + c.args.index in
-    let at : row ≡ side_from c.args.side c.args.self.now.shape + c.args.index = ap (λ (n : ℕ). n + c.args.index) c.first_row.ensures in
-    sym (ap answer_of (add-sized rate w c.args.side c.args.index row c.args.shard.now at (omega (arith, c.if-index-count.false, c.count.ensures)) (sym c.is_given.ensures ∙ c.if-is_given.false) c.if-shard-self.true))
+    let row = c.row-row.result in
+    sym (ap answer_of (add-sized rate w c.args.side c.args.index row c.args.shard.now c.row-row.ensures (omega (arith, c.if-index-count.false, c.count.ensures)) (sym c.is_given.ensures ∙ c.if-is_given.false) c.if-shard-self.true))
 
 pub enter-requires-clause-room : goal.enter-requires-clause-room
 enter-requires-clause-room c =
     let w = c.args.self.now in
-    let row = c.first_row.result + c.args.index in
+    let row = c.row-row.result in
     let size = ap (λ n. chunk_count (row + 1) n) c.if-shard-self.false in
     let below = side-within w c.args.side in
-    let within = chunk_count-within row w.shape.frame.row_count w.shape.configuration.shard_bytes (length w.memory.chunks.items) (omega (arith, c.if-index-count.false, c.count.ensures, c.first_row.ensures, below)) (omega (arith, w.whole)) in
+    let within = chunk_count-within row w.shape.frame.row_count w.shape.configuration.shard_bytes (length w.memory.chunks.items) (omega (arith, c.if-index-count.false, c.count.ensures, c.row-row.ensures, below)) (omega (arith, w.whole)) in
     omega (arith, size, within, w.whole)
 
 pub overflow_add-self : goal.overflow_add-self
 overflow_add-self c =
     let w = c.args.self.now in
     let e =
-    row_entered w c.args.side c.args.index c.first_row.result c.count.result c.args.shard.now (given_marks c.enter.new.self.marks) c.enter.new.self.chunks.items c.first_row.ensures c.count.ensures
+    row_entered w c.args.side c.args.index c.row-row.result c.count.result c.args.shard.now (given_marks c.enter.new.self.marks) c.enter.new.self.chunks.items c.row-row.ensures c.count.ensures
     c.if-index-count.false (sym c.is_given.ensures ∙ c.if-is_given.false) c.if-shard-self.false c.enter.ensures.mark c.enter.ensures.here c.enter.ensures.other_marks c.enter.ensures.others in
-    let counted = (add-counted w c.args.side c.args.index (c.first_row.result + c.args.index) c.args.shard.now (given_marks c.enter.new.self.marks) c.enter.new.self.chunks.items e).0 in
+    let counted = (add-counted w c.args.side c.args.index c.row-row.result c.args.shard.now (given_marks c.enter.new.self.marks) c.enter.new.self.chunks.items e).0 in
     let most = given_row_count-most (given_marks c.enter.new.self.marks) w.shape.frame.originals_from w.shape.configuration.original_count in
     omega (arith, counted, most, c.originals.ensures, w.laid.original_rows, w.laid.few)
 
@@ -54,9 +50,9 @@ pub overflow_add-self-2 : goal.overflow_add-self-2
 overflow_add-self-2 c =
     let w = c.args.self.now in
     let e =
-    row_entered w c.args.side c.args.index c.first_row.result c.count.result c.args.shard.now (given_marks c.enter.new.self.marks) c.enter.new.self.chunks.items c.first_row.ensures c.count.ensures
+    row_entered w c.args.side c.args.index c.row-row.result c.count.result c.args.shard.now (given_marks c.enter.new.self.marks) c.enter.new.self.chunks.items c.row-row.ensures c.count.ensures
     c.if-index-count.false (sym c.is_given.ensures ∙ c.if-is_given.false) c.if-shard-self.false c.enter.ensures.mark c.enter.ensures.here c.enter.ensures.other_marks c.enter.ensures.others in
-    let counted = (add-counted w c.args.side c.args.index (c.first_row.result + c.args.index) c.args.shard.now (given_marks c.enter.new.self.marks) c.enter.new.self.chunks.items e).1 in
+    let counted = (add-counted w c.args.side c.args.index c.row-row.result c.args.shard.now (given_marks c.enter.new.self.marks) c.enter.new.self.chunks.items e).1 in
     let most = given_row_count-most (given_marks c.enter.new.self.marks) w.shape.frame.recovery_from w.shape.configuration.recovery_count in
     omega (arith, counted, most, c.recovery.ensures, w.laid.recovery_rows, w.laid.few)
 
@@ -64,30 +60,30 @@ pub returns-clause-answer : goal.returns-clause-answer
 returns-clause-answer c = λ rate.
     let w = c.args.self.now in
     let e =
-    row_entered w c.args.side c.args.index c.first_row.result c.count.result c.args.shard.now (given_marks c.enter.new.self.marks) c.enter.new.self.chunks.items c.first_row.ensures c.count.ensures
+    row_entered w c.args.side c.args.index c.row-row.result c.count.result c.args.shard.now (given_marks c.enter.new.self.marks) c.enter.new.self.chunks.items c.row-row.ensures c.count.ensures
     c.if-index-count.false (sym c.is_given.ensures ∙ c.if-is_given.false) c.if-shard-self.false c.enter.ensures.mark c.enter.ensures.here c.enter.ensures.other_marks c.enter.ensures.others in
-    sym (ap answer_of (add-entered rate w c.args.side c.args.index (c.first_row.result + c.args.index) c.args.shard.now (given_marks c.enter.new.self.marks) c.enter.new.self.chunks.items e))
+    sym (ap answer_of (add-entered rate w c.args.side c.args.index c.row-row.result c.args.shard.now (given_marks c.enter.new.self.marks) c.enter.new.self.chunks.items e))
 
 pub returns-clause-left : goal.returns-clause-left
 returns-clause-left c = λ rate.
     let w = c.args.self.now in
     let e =
-    row_entered w c.args.side c.args.index c.first_row.result c.count.result c.args.shard.now (given_marks c.enter.new.self.marks) c.enter.new.self.chunks.items c.first_row.ensures c.count.ensures
+    row_entered w c.args.side c.args.index c.row-row.result c.count.result c.args.shard.now (given_marks c.enter.new.self.marks) c.enter.new.self.chunks.items c.row-row.ensures c.count.ensures
     c.if-index-count.false (sym c.is_given.ensures ∙ c.if-is_given.false) c.if-shard-self.false c.enter.ensures.mark c.enter.ensures.here c.enter.ensures.other_marks c.enter.ensures.others in
-    sym (ap (state_after (decoder_state rate w)) (add-entered rate w c.args.side c.args.index (c.first_row.result + c.args.index) c.args.shard.now (given_marks c.enter.new.self.marks) c.enter.new.self.chunks.items e))
+    sym (ap (state_after (decoder_state rate w)) (add-entered rate w c.args.side c.args.index c.row-row.result c.args.shard.now (given_marks c.enter.new.self.marks) c.enter.new.self.chunks.items e))
 
 pub invariant_of-self : goal.invariant_of-self
 invariant_of-self c =
     let w = c.args.self.now in
-    let row = c.first_row.result + c.args.index in
+    let row = c.row-row.result in
     let lengths = c.enter.ensures.lengths in
     let chunks = ap (λ r. r.chunks) c.enter.ensures.grown in
     let rows = ap (λ r. r.rows) c.enter.ensures.grown in
     let entry_room = ap (λ r. r.entries) c.enter.ensures.grown in
     let e =
-    row_entered w c.args.side c.args.index c.first_row.result c.count.result c.args.shard.now (given_marks c.enter.new.self.marks) c.enter.new.self.chunks.items c.first_row.ensures c.count.ensures
+    row_entered w c.args.side c.args.index c.row-row.result c.count.result c.args.shard.now (given_marks c.enter.new.self.marks) c.enter.new.self.chunks.items c.row-row.ensures c.count.ensures
     c.if-index-count.false (sym c.is_given.ensures ∙ c.if-is_given.false) c.if-shard-self.false c.enter.ensures.mark c.enter.ensures.here c.enter.ensures.other_marks c.enter.ensures.others in
-    let counted = add-counted w c.args.side c.args.index (c.first_row.result + c.args.index) c.args.shard.now (given_marks c.enter.new.self.marks) c.enter.new.self.chunks.items e in
+    let counted = add-counted w c.args.side c.args.index c.row-row.result c.args.shard.now (given_marks c.enter.new.self.marks) c.enter.new.self.chunks.items e in
     record {
       laid = w.laid;
       whole = omega (arith, w.whole, lengths.0);

@@ -1,5 +1,7 @@
 use Rattle.std.proofs.Common.{arith}
+use Rattle.rs_rate.specs.Configured.{low_or_high}
 use Rattle.rs_rate.specs.Marks.{given_marks}
+use Rattle.rs_rate.proofs.ChoiceLemmas.{supported-in_field}
 use Rattle.rs_rate.proofs.DecoderLemmas.{given_row_count-most, given_if_some}
 use Rattle.rs_rate.proofs.rate.decoder_work.DecoderRows.round.Goals as goal
 
@@ -27,10 +29,12 @@ returns-clause-facts c =
     let w = c.args.self.now in
     let most = given_row_count-most (given_marks w.memory.marks) w.shape.frame.originals_from w.shape.configuration.original_count in
     let most_too = given_row_count-most (given_marks w.memory.marks) w.shape.frame.recovery_from w.shape.configuration.recovery_count in
+    let own = w.shape.configuration in
+    let some = (supported-in_field (low_or_high own.is_low) own.original_count own.recovery_count w.laid.configured.supported).0 in
     record {
       laid = w.laid;
       marked = w.marked;
-      shards = λ some. given_if_some w.memory.marks w.shape.frame.originals_from w.shape.configuration.original_count w.shape.frame.recovery_from w.shape.configuration.recovery_count
+      shards = given_if_some w.memory.marks w.shape.frame.originals_from w.shape.configuration.original_count w.shape.frame.recovery_from w.shape.configuration.recovery_count
           (omega (arith, some, c.requires, most, w.originals_counted, w.recovery_counted));
       counted = omega (arith, most, w.originals_counted);
       few_surplus = omega (arith, most, most_too, w.originals_counted, w.recovery_counted, w.laid.recovery_rows);

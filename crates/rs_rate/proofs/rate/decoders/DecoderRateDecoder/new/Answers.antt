@@ -1,71 +1,68 @@
-use Rattle.std.proofs.Common.{◌≡◌, ◌<◌, ◌*◌, ◌^◌, refl, sym, ap, ap₂, ◌∙◌, arith}
-use Rattle.std.specs.Prelude.{Ok, IsOk}
+use Rattle.std.proofs.Common.{◌≡◌, refl, sym, ap, ◌∙◌, subst, arith}
+use Rattle.std.specs.Prelude.{Result, Ok}
 use Rattle.std.proofs.lemmas.Result.{err_from_is_err_and}
-use Rattle.rs_field.specs.code.Configuration.{configuration, started}
+use Rattle.rs_field.specs.declared.code.error.Error.{Error}
+use Rattle.rs_field.specs.code.Configuration.{configuration, started, UpToMemory}
 use Rattle.rs_field.specs.code.Decoder.{fresh_decoder}
 use Rattle.rs_field.specs.code.Outcome.{answer_of}
 use Rattle.rs_field.specs.code.Placement.{decoder_rows}
-use Rattle.rs_rate.specs.DecoderView.{HasRoom, configuration_of, work_room}
-use Rattle.rs_rate.specs.ShardRows.{chunk_count}
-use Rattle.rs_rate.proofs.ConfiguredLemmas.{decoder_shape-is, decoder_is_of}
-use Rattle.rs_rate.proofs.DecoderRows.{frame-rows}
-use Rattle.rs_rate.proofs.StateLemmas.{answers-made, started-roomy, started-short, if_some-every, if_some-map}
+use Rattle.rs_rate.specs.DecoderView.{HasRoom, configuration_of, shape_chunks, work_room}
+use Rattle.rs_rate.specs.ShardRows.{asked}
+use Rattle.rs_rate.proofs.ConfiguredLemmas.{decoder_shape-is, decoder-chunks, decoder_is_of}
+use Rattle.rs_rate.proofs.StateLemmas.{started-by, if_some-map}
 use Rattle.rs_rate.proofs.rate.decoders.DecoderRateDecoder.new.Goals as goal
 
 pub returns-in_err-rows-clause-roomy : goal.returns-in_err-rows-clause-roomy
 returns-in_err-rows-clause-roomy g c =
     let rate = g.C.Code.rate in
+    let k = c.args.original_count in
+    let r = c.args.recovery_count in
     let size = c.args.shard_bytes in
-    let rows = decoder_rows rate c.args.original_count c.args.recovery_count in
-    let set_up = configuration rate c.args.original_count c.args.recovery_count size in
-    let shape = decoder_shape-is rate c.args.original_count c.args.recovery_count size c.in_ok-configuration.configuration c.decoder_shape.result c.in_ok-configuration.ensures.1 c.decoder_shape.ensures.shape in
-    let count = ap (λ s. s.frame.row_count) shape ∙ frame-rows rate c.args.original_count c.args.recovery_count in
-    let bytes = ap (λ s. s.configuration.shard_bytes) shape in
-    let chunks = ap₂ chunk_count count bytes in
-    let s = c.decoder_shape.result in
+    let shape = decoder_shape-is rate k r size c.in_ok-configuration.configuration c.decoder_shape.result c.in_ok-configuration.ensures.1 c.decoder_shape.ensures.shape in
+    let chunks = decoder-chunks rate k r size c.decoder_shape.result shape in
+    let set_up = started-by (decoder_rows rate k r) (configuration rate k r size) (shape_chunks c.decoder_shape.result) c.in_ok-configuration.ensures.0 chunks.1 in
     let p = err_from_is_err_and c.from_residual-in_err-rows.result c.from_residual-in_err-rows.ensures.1 in
-    if_some-map c.args.work
-    (λ w. chunk_count s.frame.row_count s.configuration.shard_bytes * 64 < 2 ^ 64 → HasRoom (work_room w) s.frame.row_count s.configuration.shard_bytes → IsOk c.new.result)
-    (λ w. HasRoom (work_room w) rows size → answer_of c.from_residual-in_err-rows.result ≡ started rows set_up)
-    (λ w enough room.
-    rw (p.1, p.2) (started-short rows set_up c.new.result c.in_err-rows.field-0.0 c.in_err-rows.was c.in_ok-configuration.ensures.0 c.new.ensures.memory
-    (λ fits. enough (omega (arith, chunks, fits)) (record { chunks = omega (arith, chunks, room.chunks); rows = omega (arith, count, room.rows); entries = omega (arith, count, room.entries) }))))
-    c.new.ensures.enough
+    if_some-map c.args.work (λ w. HasRoom (work_room w) c.decoder_shape.result.frame.row_count c.decoder_shape.result.configuration.shard_bytes → answer_of c.new.result ≡ asked (shape_chunks c.decoder_shape.result))
+    (λ w. HasRoom (work_room w) (decoder_rows rate k r) size → answer_of c.from_residual-in_err-rows.result ≡ started (decoder_rows rate k r) (configuration rate k r size))
+    (λ w known room. rw (p.1, p.2) (sym (ap answer_of c.in_err-rows.was) ∙ known (record { chunks = omega (arith, chunks.1, room.chunks); rows = omega (arith, chunks.0, room.rows); entries = omega (arith, chunks.0, room.entries) }) ∙ sym set_up)) c.new.ensures.roomy
 
 pub returns-clause-answer : goal.returns-clause-answer
 returns-clause-answer g c =
     let rate = g.C.Code.rate in
+    let k = c.args.original_count in
+    let r = c.args.recovery_count in
     let size = c.args.shard_bytes in
-    let rows = decoder_rows rate c.args.original_count c.args.recovery_count in
-    let set_up = configuration rate c.args.original_count c.args.recovery_count size in
-    let shape = decoder_shape-is rate c.args.original_count c.args.recovery_count size c.in_ok-configuration.configuration c.decoder_shape.result c.in_ok-configuration.ensures.1 c.decoder_shape.ensures.shape in
-    let count = ap (λ s. s.frame.row_count) shape ∙ frame-rows rate c.args.original_count c.args.recovery_count in
-    let bytes = ap (λ s. s.configuration.shard_bytes) shape in
-    let chunks = ap₂ chunk_count count bytes in
-    answers-made rows set_up c.in_ok-configuration.ensures.0 (omega (arith, chunks, c.in_ok-rows.ensures.fits))
+    let shape = decoder_shape-is rate k r size c.in_ok-configuration.configuration c.decoder_shape.result c.in_ok-configuration.ensures.1 c.decoder_shape.ensures.shape in
+    let chunks = decoder-chunks rate k r size c.decoder_shape.result shape in
+    let set_up = started-by (decoder_rows rate k r) (configuration rate k r size) (shape_chunks c.decoder_shape.result) c.in_ok-configuration.ensures.0 chunks.1 in
+    subst (UpToMemory (started (decoder_rows rate k r) (configuration rate k r size))) (ap answer_of c.in_ok-rows.was)
+    (subst (λ (a : Result (Unit {0}) Error). UpToMemory a (answer_of c.new.result)) (sym set_up) c.new.ensures.answer)
 
 pub returns-clause-roomy : goal.returns-clause-roomy
 returns-clause-roomy g c =
     let rate = g.C.Code.rate in
+    let k = c.args.original_count in
+    let r = c.args.recovery_count in
     let size = c.args.shard_bytes in
-    let rows = decoder_rows rate c.args.original_count c.args.recovery_count in
-    let set_up = configuration rate c.args.original_count c.args.recovery_count size in
-    let shape = decoder_shape-is rate c.args.original_count c.args.recovery_count size c.in_ok-configuration.configuration c.decoder_shape.result c.in_ok-configuration.ensures.1 c.decoder_shape.ensures.shape in
-    let count = ap (λ s. s.frame.row_count) shape ∙ frame-rows rate c.args.original_count c.args.recovery_count in
-    let bytes = ap (λ s. s.configuration.shard_bytes) shape in
-    let chunks = ap₂ chunk_count count bytes in
-    let made = started-roomy rows set_up c.in_ok-configuration.ensures.0 (omega (arith, chunks, c.in_ok-rows.ensures.fits)) in
-    if_some-every c.args.work (λ w. HasRoom (work_room w) rows size → Ok tt ≡ started rows set_up) (λ w room. sym made)
-
-pub returns-clause-made : goal.returns-clause-made
-returns-clause-made g c =
-    let rate = g.C.Code.rate in
-    (c.in_ok-rows.ensures.state rate ∙ ap (λ s. fresh_decoder (configuration_of rate s)) (decoder_shape-is rate c.args.original_count c.args.recovery_count c.args.shard_bytes c.in_ok-configuration.configuration c.decoder_shape.result c.in_ok-configuration.ensures.1 c.decoder_shape.ensures.shape), refl)
+    let shape = decoder_shape-is rate k r size c.in_ok-configuration.configuration c.decoder_shape.result c.in_ok-configuration.ensures.1 c.decoder_shape.ensures.shape in
+    let chunks = decoder-chunks rate k r size c.decoder_shape.result shape in
+    let set_up = started-by (decoder_rows rate k r) (configuration rate k r size) (shape_chunks c.decoder_shape.result) c.in_ok-configuration.ensures.0 chunks.1 in
+    if_some-map c.args.work (λ w. HasRoom (work_room w) c.decoder_shape.result.frame.row_count c.decoder_shape.result.configuration.shard_bytes → answer_of c.new.result ≡ asked (shape_chunks c.decoder_shape.result))
+    (λ w. HasRoom (work_room w) (decoder_rows rate k r) size → Ok tt ≡ started (decoder_rows rate k r) (configuration rate k r size))
+    (λ w known room. sym (ap answer_of c.in_ok-rows.was) ∙ known (record { chunks = omega (arith, chunks.1, room.chunks); rows = omega (arith, chunks.0, room.rows); entries = omega (arith, chunks.0, room.entries) }) ∙ sym set_up) c.new.ensures.roomy
 
 pub invariant_of-result : goal.invariant_of-result
 invariant_of-result g c =
     let rate = g.C.Code.rate in
+    let k = c.args.original_count in
+    let r = c.args.recovery_count in
     let size = c.args.shard_bytes in
-    let is = decoder_is_of rate c.args.original_count c.args.recovery_count size c.in_ok-rows.rows.shape c.in_ok-configuration.ensures.0
-    (c.in_ok-rows.ensures.shape ∙ decoder_shape-is rate c.args.original_count c.args.recovery_count size c.in_ok-configuration.configuration c.decoder_shape.result c.in_ok-configuration.ensures.1 c.decoder_shape.ensures.shape) in
+    let shape = decoder_shape-is rate k r size c.in_ok-configuration.configuration c.decoder_shape.result c.in_ok-configuration.ensures.1 c.decoder_shape.ensures.shape in
+    let is = decoder_is_of rate k r size c.in_ok-rows.rows.shape c.in_ok-configuration.ensures.0 (c.in_ok-rows.ensures.shape ∙ shape) in
     record { valid = is.0; shaped = is.1 }
+
+pub returns-clause-made : goal.returns-clause-made
+returns-clause-made g c =
+    let rate = g.C.Code.rate in
+    let shape = decoder_shape-is rate c.args.original_count c.args.recovery_count c.args.shard_bytes c.in_ok-configuration.configuration c.decoder_shape.result c.in_ok-configuration.ensures.1 c.decoder_shape.ensures.shape in
+    (c.in_ok-rows.ensures.state rate ∙ ap (λ s. fresh_decoder (configuration_of rate s)) shape, refl)

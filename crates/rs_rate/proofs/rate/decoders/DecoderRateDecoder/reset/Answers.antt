@@ -1,65 +1,59 @@
-use Rattle.std.proofs.Common.{◌≡◌, ◌<◌, ◌*◌, ◌^◌, ℕ, sym, ap, ap₂, ◌∙◌, arith, subst}
-use Rattle.std.specs.Prelude.{IfOk, OnOk}
-use Rattle.rs_field.specs.code.Configuration.{configuration}
+use Rattle.std.proofs.Common.{ℕ, ◌≡◌, ◌∙◌, sym, ap, ap₂, arith, subst}
+use Rattle.std.specs.Prelude.{Result, OnOk}
+use Rattle.rs_field.specs.declared.code.error.Error.{Error}
+use Rattle.rs_field.specs.code.Configuration.{configuration, UpToMemory}
 use Rattle.rs_field.specs.code.Counts.{Rate}
 use Rattle.rs_field.specs.code.Decoder.{fresh_decoder}
 use Rattle.rs_field.specs.code.Placement.{decoder_rows}
-use Rattle.rs_rate.specs.declared.rate.decoder_work.DecoderShape.{DecoderShape}
-use Rattle.rs_rate.specs.DecoderView.{configuration_of, decoder_state}
+use Rattle.rs_rate.specs.DecoderView.{configuration_of, decoder_state, shape_chunks}
 use Rattle.rs_rate.specs.ObjectLaws.{has_own_decoder_room}
 use Rattle.rs_rate.specs.ShardRows.{chunk_count}
+use Rattle.rs_rate.specs.declared.rate.decoder_work.DecoderShape.{DecoderShape}
+use Rattle.rs_rate.proofs.ConfiguredLemmas.{decoder_shape-is, decoder-chunks, decoder_is_of, either_way, DecoderIsOf}
 use Rattle.rs_rate.proofs.ShardRowsLemmas.{chunk_count-size}
-use Rattle.rs_rate.proofs.ConfiguredLemmas.{decoder_shape-is, decoder_is_of, either_way, DecoderIsOf}
-use Rattle.rs_rate.proofs.DecoderRows.{frame-rows}
-use Rattle.rs_rate.proofs.StateLemmas.{answers-grown, grown-roomy, made-not_short, on_ok-at, on_err-at}
+use Rattle.rs_rate.proofs.StateLemmas.{started-by, asked-made, on_ok-at, on_err-at}
 use Rattle.rs_rate.proofs.rate.decoders.DecoderRateDecoder.reset.Goals as goal
 
 pub returns-clause-answer : goal.returns-clause-answer
 returns-clause-answer g c =
     let rate = g.C.Code.rate in
+    let k = c.args.original_count in
+    let r = c.args.recovery_count in
     let size = c.args.shard_bytes in
-    let rows = decoder_rows rate c.args.original_count c.args.recovery_count in
-    let set_up = configuration rate c.args.original_count c.args.recovery_count size in
-    let shape = decoder_shape-is rate c.args.original_count c.args.recovery_count size c.in_ok-configuration.configuration c.decoder_shape.result c.in_ok-configuration.ensures.1 c.decoder_shape.ensures.shape in
-    let count = ap (λ s. s.frame.row_count) shape ∙ frame-rows rate c.args.original_count c.args.recovery_count in
-    let bytes = ap (λ s. s.configuration.shard_bytes) shape in
-    let chunks = ap₂ chunk_count count bytes in
-    answers-grown rows set_up c.reset.result c.in_ok-configuration.ensures.0 c.reset.ensures.memory
-    (subst (λ (n : ℕ). IfOk c.reset.result (λ _. n * 64 < 2 ^ 64)) chunks c.reset.ensures.fits)
+    let shape = decoder_shape-is rate k r size c.in_ok-configuration.configuration c.decoder_shape.result c.in_ok-configuration.ensures.1 c.decoder_shape.ensures.shape in
+    let chunks = decoder-chunks rate k r size c.decoder_shape.result shape in
+    let set_up = started-by (decoder_rows rate k r) (configuration rate k r size) (shape_chunks c.decoder_shape.result) c.in_ok-configuration.ensures.0 chunks.1 in
+    subst (λ (a : Result (Unit {0}) Error). UpToMemory a c.reset.result) (sym set_up) c.reset.ensures.answer
 
 pub returns-clause-roomy : goal.returns-clause-roomy
 returns-clause-roomy g c = λ room.
     let rate = g.C.Code.rate in
+    let k = c.args.original_count in
+    let r = c.args.recovery_count in
     let size = c.args.shard_bytes in
-    let rows = decoder_rows rate c.args.original_count c.args.recovery_count in
-    let set_up = configuration rate c.args.original_count c.args.recovery_count size in
-    let shape = decoder_shape-is rate c.args.original_count c.args.recovery_count size c.in_ok-configuration.configuration c.decoder_shape.result c.in_ok-configuration.ensures.1 c.decoder_shape.ensures.shape in
-    let count = ap (λ s. s.frame.row_count) shape ∙ frame-rows rate c.args.original_count c.args.recovery_count in
-    let bytes = ap (λ s. s.configuration.shard_bytes) shape in
-    let chunks = ap₂ chunk_count count bytes in
-    grown-roomy rows set_up c.reset.result c.in_ok-configuration.ensures.0 c.reset.ensures.memory
-    (subst (λ (n : ℕ). IfOk c.reset.result (λ _. n * 64 < 2 ^ 64)) chunks c.reset.ensures.fits)
-    (λ fits. c.reset.ensures.enough (omega (arith, chunks, fits)) (record { chunks = omega (arith, chunks, room.chunks); rows = omega (arith, count, room.rows); entries = omega (arith, count, room.entries) }))
+    let shape = decoder_shape-is rate k r size c.in_ok-configuration.configuration c.decoder_shape.result c.in_ok-configuration.ensures.1 c.decoder_shape.ensures.shape in
+    let chunks = decoder-chunks rate k r size c.decoder_shape.result shape in
+    let set_up = started-by (decoder_rows rate k r) (configuration rate k r size) (shape_chunks c.decoder_shape.result) c.in_ok-configuration.ensures.0 chunks.1 in
+    c.reset.ensures.roomy (record { chunks = omega (arith, chunks.1, room.chunks); rows = omega (arith, chunks.0, room.rows); entries = omega (arith, chunks.0, room.entries) }) ∙ sym set_up
 
 pub returns-clause-own : goal.returns-clause-own
 returns-clause-own g c = λ within.
     let rate = g.C.Code.rate in
+    let k = c.args.original_count in
+    let r = c.args.recovery_count in
     let size = c.args.shard_bytes in
-    let rows = decoder_rows rate c.args.original_count c.args.recovery_count in
-    let set_up = configuration rate c.args.original_count c.args.recovery_count size in
-    let shape = decoder_shape-is rate c.args.original_count c.args.recovery_count size c.in_ok-configuration.configuration c.decoder_shape.result c.in_ok-configuration.ensures.1 c.decoder_shape.ensures.shape in
-    let count = ap (λ s. s.frame.row_count) shape ∙ frame-rows rate c.args.original_count c.args.recovery_count in
-    let bytes = ap (λ s. s.configuration.shard_bytes) shape in
-    let chunks = ap₂ chunk_count count bytes in
+    let shape = decoder_shape-is rate k r size c.in_ok-configuration.configuration c.decoder_shape.result c.in_ok-configuration.ensures.1 c.decoder_shape.ensures.shape in
+    let chunks = decoder-chunks rate k r size c.decoder_shape.result shape in
     let own = c.args.self.now.rows in
+    let set_up = own.shape.configuration in
     let own_room = has_own_decoder_room rate own c.args.self.now.shaped in
-    let same_rows = ap₂ (λ (k r : ℕ). decoder_rows rate k r) within.0 within.1 in
-    let same = ap (λ n. chunk_count n size) same_rows in
-    let less = chunk_count-size (decoder_rows rate own.shape.configuration.original_count own.shape.configuration.recovery_count) size own.shape.configuration.shard_bytes within.2 in
-    let own_count = ap (λ s. s.frame.row_count) c.args.self.now.shaped ∙ frame-rows rate own.shape.configuration.original_count own.shape.configuration.recovery_count in
-    let sized = ap (λ n. chunk_count n own.shape.configuration.shard_bytes) own_count in
-    made-not_short c.reset.result (c.reset.ensures.enough (omega (arith, chunks, same, less, sized, own.sized))
-    (record { chunks = omega (arith, chunks, same, less, own_room.chunks); rows = omega (arith, count, same_rows, own_room.rows); entries = omega (arith, count, same_rows, own_room.entries) }))
+    let same_rows = ap₂ (decoder_rows rate) within.0 within.1 in
+    let same = ap (λ (n : ℕ). chunk_count n size) same_rows in
+    let less = chunk_count-size (decoder_rows rate set_up.original_count set_up.recovery_count) size set_up.shard_bytes within.2 in
+    let sized = decoder-chunks rate set_up.original_count set_up.recovery_count set_up.shard_bytes own.shape c.args.self.now.shaped in
+    asked-made (shape_chunks c.decoder_shape.result) c.reset.result (omega (arith, chunks.1, same, less, sized.1, own.sized))
+    (c.reset.ensures.roomy
+    (record { chunks = omega (arith, chunks.1, same, less, own_room.chunks); rows = omega (arith, chunks.0, same_rows, own_room.rows); entries = omega (arith, chunks.0, same_rows, own_room.entries) }))
 
 pub returns-clause-ok : goal.returns-clause-ok
 returns-clause-ok g c =
