@@ -3,7 +3,7 @@
 //! The method is that of Lin, Chung and Han in the form of Leopard-RS. A transform is two layers of butterflies between the
 //! quarters of its rows and a transform of each quarter, or, of 2, 8 and 32 rows, one layer between the halves and a
 //! transform of each half. So the recursion goes depth first, and a block that fits the cache stays in it.
-ghost use Rattle.std.specs.Prelude.{ℕ, ◌+◌, ◌<◌, ◌≤◌, Bool};
+ghost use Rattle.std.specs.Prelude.{ℕ, ◌+◌, ◌<◌, ◌≤◌};
 ghost use Rattle.rs_field.specs.rows.Directions.{AreTransformed, ArePartsTransformed, UnusedAreZeroBackward, PartCounts};
 ghost use Rattle.rs_field.specs.rows.View.{word, Fits, SameShape, SameRowsOutside};
 ghost use Rattle.rs_field.specs.rows.MarkedRows.{is_used, HasMarks};
