@@ -1,13 +1,10 @@
 -- A loop over four ranges of rows, one after the other: row i of each.
 use Rattle.std.proofs.Common.{◌≡◌, ℕ, ◌+◌, ◌*◌, ◌<◌, ◌≤◌, ◌⊎◌, ◌≢◌, inl, inr, arith, ◌∙◌, subst, sym}
 use Rattle.std.proofs.Math.Nat.{mul-le-mul_right}
-use Rattle.std.proofs.lemmas.Bool.{cases_lt}
-use Rattle.rs_field.specs.rows.Rows.{chunk}
-use Rattle.rs_field.specs.rows.View.{cell, SameShape, SameRowsOutside, SameRowsOutsideFour}
-use Rattle.rs_field.specs.rows.TwoLayers.{OnFourChunks}
+use Rattle.std.proofs.lemmas.{Bool.cases_lt, Grind.common_steps}
+use Rattle.rs_field.specs.rows.{Rows.chunk, View.cell, View.SameShape, View.SameRowsOutside, View.SameRowsOutsideFour, TwoLayers.OnFourChunks}
 use Rattle.rs_field.specs.declared.rows.shards.ShardsRefMut.{ShardsRefMut}
 use Rattle.rs_field.proofs.of_rows.RowOffsets.{offset_apart, row_ends, shape_then}
-use Rattle.std.proofs.lemmas.Grind.{common_steps}
 
 -- a relation between chunk k of four old rows and of four new ones
 abbrev pub on_rows : OnFourChunks → ShardsRefMut → ShardsRefMut → ℕ → ℕ → ℕ → ℕ → ℕ → Type 0

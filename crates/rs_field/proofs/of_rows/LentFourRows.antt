@@ -1,11 +1,8 @@
 -- What stands where in a list of which four rows were replaced.
-use Rattle.std.proofs.lemmas.Grind.{common_steps}
+use Rattle.std.proofs.lemmas.{Grind.common_steps, List.get_or-take, List.get_or-drop, List.length-take-le}
 use Rattle.std.proofs.Common.{◌≡◌, ℕ, ◌+◌, ◌-◌, ◌*◌, ◌<◌, ◌≤◌, ◌⊎◌, [], ◌++◌, length, drop, ap, sym, subst, ◌∙◌, arith, inl, inr, length-append}
-use Rattle.std.proofs.lemmas.List.{get_or-take, get_or-drop, length-take-le}
-use Rattle.rs_field.specs.rows.Rows.{Chunks, chunk}
-use Rattle.rs_field.specs.rows.View.{SameShape, cell, row_at}
-use Rattle.rs_field.specs.rows.TwoLayers.{OnFourChunks}
-use Rattle.rs_field.specs.rows.Lending.{between, with_chunks, with_four}
+use Rattle.rs_field.specs.rows.{Rows.Chunks, Rows.chunk, View.SameShape, View.cell, View.row_at, TwoLayers.OnFourChunks, Lending.between, Lending.with_chunks}
+use Rattle.rs_field.specs.rows.{Lending.with_four}
 use Rattle.rs_field.specs.declared.rows.shards.ShardsRefMut.{ShardsRefMut}
 use Rattle.rs_field.proofs.of_rows.LentRows.{part-long, from-front, past-front, in-part, in-gap, past-gap, length-gap, past-last, length-last, cell-is, ends}
 

@@ -2,8 +2,7 @@
 use Rattle.std.proofs.Common.{◌≡◌, ℕ, zero, suc, ◌+◌, ◌-◌, ◌*◌, ◌<◌, ◌≤◌, ◌⊎◌, ◌≢◌, inl, inr, arith, ap, ◌∙◌, subst, sym}
 use Rattle.std.proofs.Math.Nat.{mul-le-mul_right}
 use Rattle.std.proofs.lemmas.Bool.{cases_lt}
-use Rattle.rs_field.specs.rows.Rows.{chunk, SameOutside}
-use Rattle.rs_field.specs.rows.View.{cell, SameShape, SameRowsOutside, SameRowsOutsideTwo}
+use Rattle.rs_field.specs.rows.{Rows.chunk, Rows.SameOutside, View.cell, View.SameShape, View.SameRowsOutside, View.SameRowsOutsideTwo}
 use Rattle.rs_field.specs.declared.rows.shards.ShardsRefMut.{ShardsRefMut}
 
 pub row_ends : (i m n : ℕ) → i < m → i * n + n ≤ m * n

@@ -14,12 +14,9 @@ use types.Tokens.{lft_new, lft_end}
 use denote.FollowSlice.{finally-res}
 use denote.Lend.{lends_again, comes_back, LentAgain}
 use denote.Param.{bounded}
-use Rattle.rs_field.proofs.of_rows.FourRuns.{followed₄}
-use Rattle.rs_field.proofs.of_rows.LentRows.{part-long, ends}
-use Rattle.rs_field.proofs.of_rows.LentFourRows.{four-shape, step-of-four, others-of-four}
-use Rattle.rs_field.specs.rows.Rows.{Chunks, chunk}
-use Rattle.rs_field.specs.rows.View.{SameShape, SameRowsOutsideFour, cell, row_at}
-use Rattle.rs_field.specs.rows.Lending.{LendsFourRows, with_chunks, with_four}
+use Rattle.rs_field.proofs.of_rows.{FourRuns.followed₄, LentRows.part-long, LentRows.ends, LentFourRows.four-shape, LentFourRows.step-of-four, LentFourRows.others-of-four}
+use Rattle.rs_field.specs.rows.{Rows.Chunks, Rows.chunk, View.SameShape, View.SameRowsOutsideFour, View.cell, View.row_at, Lending.LendsFourRows, Lending.with_chunks}
+use Rattle.rs_field.specs.rows.{Lending.with_four}
 use Rattle.rs_field.specs.declared.rows.shards.ShardsRefMut.{ShardsRefMut}
 use Rattle.rs_field.specs.contracts.rows.shards.ShardsRefMut.{the_row}
 use Rattle.rs_field.specs.contracts.rows.fours.step_rows as f

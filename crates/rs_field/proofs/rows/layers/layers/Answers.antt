@@ -1,10 +1,8 @@
 use Rattle.std.proofs.Common.{ℕ, ◌+◌, ◌*◌, ◌/◌, ◌≤◌, ◌∙◌, subst, sym, inl, inr, arith}
 use Rattle.std.proofs.Math.Nat.{mul-le-mul_right}
-use Rattle.rs_field.specs.rows.Directions.{AreLayers}
-use Rattle.rs_field.specs.rows.View.{word}
-use Rattle.rs_field.proofs.of_rows.Directions.{layer_of_halves, layers_of_four}
-use Rattle.rs_field.proofs.of_rows.Layers.{IsBlock}
-use Rattle.rs_field.proofs.of_rows.Parts.{block_halves, block_power, block_quarters, part_of_halved, part_of_more, steps_of_halved, steps_of_more}
+use Rattle.rs_field.specs.rows.{Directions.AreLayers, View.word}
+use Rattle.rs_field.proofs.of_rows.{Directions.layer_of_halves, Directions.layers_of_four, Layers.IsBlock, Parts.block_halves, Parts.block_power, Parts.block_quarters}
+use Rattle.rs_field.proofs.of_rows.{Parts.part_of_halved, Parts.part_of_more, Parts.steps_of_halved, Parts.steps_of_more}
 use Rattle.rs_field.proofs.rows.layers.layers.Goals as goal
 
 pub overflow_sub-logs : goal.overflow_sub-logs

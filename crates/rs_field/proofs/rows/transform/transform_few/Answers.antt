@@ -1,8 +1,6 @@
 use Rattle.std.proofs.Common.{ℕ, ◌+◌, arith}
 use Rattle.rs_field.specs.rows.View.{word}
-use Rattle.rs_field.proofs.of_rows.Directions.{layers_of_few}
-use Rattle.rs_field.proofs.of_rows.Parts.{block_power}
-use Rattle.rs_field.proofs.of_rows.PartLoops.{counts_of_layers}
+use Rattle.rs_field.proofs.of_rows.{Directions.layers_of_few, Parts.block_power, PartLoops.counts_of_layers}
 use Rattle.rs_field.proofs.rows.transform.transform_few.Goals as goal
 
 pub returns-clause-values : goal.returns-clause-values
