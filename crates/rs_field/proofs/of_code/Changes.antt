@@ -1,19 +1,10 @@
 -- Changed shards are noticed: no message agrees with k shards of a codeword and others that are changed.
-use Rattle.std.proofs.Common.{rules, ◌≡◌, ℕ, zero, suc, ◌+◌, ◌%◌, ◌<◌, ◌≤◌, Bool, true, cond, List, [], sym, ap, ◌∙◌, arith, subst}
-use Rattle.std.specs.Prelude.{Option, Some, None, unwrap_or, bytes_eq}
-use Rattle.std.proofs.lemmas.Option.{none-some}
-use Rattle.std.proofs.lemmas.Slice.Eq.{bytes_eq-Decides}
-use Rattle.rs_field.specs.code.Column.{Shard, AreShards, shard_at}
-use Rattle.rs_field.specs.code.Counts.{supports}
-use Rattle.rs_field.specs.code.Configuration.{Configuration}
-use Rattle.rs_field.specs.code.Code.{AreRecovery}
-use Rattle.rs_field.specs.code.Given.{Shards, count_below, AreAmong, Agrees, Consistent}
-use Rattle.rs_field.specs.code.CodeLaws.{changed}
-use Rattle.rs_field.proofs.of_code.Given.{count_below-zero, count_below-suc}
-use Rattle.rs_field.proofs.of_code.Unique.{recovery_unique}
-use Rattle.rs_field.proofs.of_code.RateFrames.{few_originals}
-use Rattle.rs_field.proofs.of_code.Agreement.{one_message}
-use Rattle.std.proofs.lemmas.Grind.{common_steps}
+use Rattle.std.proofs.Common.{rules, ◌≡◌, ℕ, zero, suc, ◌+◌, ◌%◌, ◌<◌, ◌≤◌, true, cond, List, [], sym, ap, ◌∙◌, arith, subst}
+use Rattle.std.specs.Prelude.{Some, None, unwrap_or, bytes_eq}
+use Rattle.std.proofs.lemmas.{Option.none-some, Slice.Eq.bytes_eq-Decides, Grind.common_steps}
+use Rattle.rs_field.specs.code.{Column.Shard, Column.AreShards, Column.shard_at, Counts.supports, Configuration.Configuration, Code.AreRecovery, Given.Shards}
+use Rattle.rs_field.specs.code.{Given.count_below, Given.AreAmong, Given.Agrees, Given.Consistent, CodeLaws.changed}
+use Rattle.rs_field.proofs.of_code.{Given.count_below-zero, Given.count_below-suc, Unique.recovery_unique, RateFrames.few_originals, Agreement.one_message}
 
 -- those of the given shards that are the list's
 kept : Shards → List Shard → Shards
@@ -30,14 +21,11 @@ kept_given : (given : Shards) (shards : List Shard) (i : ℕ) (shard : Shard) �
 unfolding kept
 kept_given given shards i shard e = grind (arith, common_steps, bytes_eq-Decides, none-some)
 
-either_none : (b : Bool) → ◌≡◌ {A = Option Shard} (cond b None None) None
-either_none b = search rules
-
 -- where all given shards are the list's, none is changed
 none_changed : (n : ℕ) (given : Shards) (shards : List Shard) → AreAmong given shards → count_below n (changed given shards) ≡ 0
 unfolding changed
 none_changed zero given shards are = count_below-zero (changed given shards)
-none_changed (suc n) given shards are = search (rules, count_below-suc, either_none, bytes_eq-Decides, none_changed n given shards are)
+none_changed (suc n) given shards are = search (rules, count_below-suc, bytes_eq-Decides, none_changed n given shards are)
 
 -- with at least one shard changed and k that are not, no message agrees
 pub changes_noticed : (c : Configuration) (message all : List Shard) (originals recovery : Shards)

@@ -2,20 +2,12 @@
 use Rattle.std.proofs.Common.{◌≡◌, ℕ, ◌+◌, ◌-◌, ◌/◌, ◌^◌, ◌<◌, ◌≤◌, List, [], ◌∷◌, Bool, true, false, ◌&&◌, cond, length, sym, ap, ◌∙◌, arith, pow_mono}
 use Rattle.std.specs.Prelude.{All, not, slice_index, slice_index_or, nat_eq, nat_lt, nat_le}
 use Rattle.std.specs.List.{list_all}
-use Rattle.std.proofs.lemmas.Bool.{and_parts, not-true, eqb-true, ltb-true, leb-true}
-use Rattle.std.proofs.lemmas.List.Elements.{All-nil, All-cons}
+use Rattle.std.proofs.lemmas.{Bool.and_parts, Bool.not-true, Bool.eqb-true, Bool.ltb-true, Bool.leb-true, List.Elements.All-nil, List.Elements.All-cons, Grind.common_steps}
 use Rattle.rs_field.specs.words.Polynomial.{value}
-use Rattle.rs_field.specs.code.Column.{Shard, AreShards, columns}
-use Rattle.rs_field.specs.code.Counts.{Rate, next_power, is_low}
-use Rattle.rs_field.specs.code.Placement.{Placement, placement, low_placement, high_placement}
-use Rattle.rs_field.specs.code.Configuration.{Configuration}
-use Rattle.rs_field.specs.code.Code.{Codes, AreRecoveryWords, AreRecovery}
-use Rattle.rs_field.proofs.of_words.Linear.{passes_below, from_passes_below}
-use Rattle.rs_field.proofs.of_words.Roots.{words_from}
-use Rattle.rs_field.proofs.of_words.Factors.{times, points}
-use Rattle.rs_field.proofs.of_words.ZerosPast.{value-inside}
+use Rattle.rs_field.specs.code.{Column.Shard, Column.AreShards, Column.columns, Counts.Rate, Counts.next_power, Counts.is_low, Placement.Placement, Placement.placement}
+use Rattle.rs_field.specs.code.{Placement.low_placement, Placement.high_placement, Configuration.Configuration, Code.Codes, Code.AreRecoveryWords, Code.AreRecovery}
+use Rattle.rs_field.proofs.of_words.{Linear.passes_below, Linear.from_passes_below, Roots.words_from, Factors.times, Factors.points, ZerosPast.value-inside}
 use Rattle.rs_field.proofs.of_code.HighCodes.{high_codes}
-use Rattle.std.proofs.lemmas.Grind.{common_steps}
 
 -- each element passes, so each has the property
 all_from : {A : Type 0} (p : A → Bool) (P : A → Type 0) → ((x : A) → p x ≡ true → P x) → (xs : List A) → list_all p xs ≡ true → All P xs
@@ -127,7 +119,6 @@ recovers_high d c message recovery polynomials =
     lie_below d c.rate c.original_count c.recovery_count && (are_shards c.recovery_count c.shard_bytes recovery
     && passes_below (c.shard_bytes / 2) (λ j. joins d c.original_count c.recovery_count (next_power c.recovery_count) (columns j message) (columns j recovery) (slice_index_or polynomials j [])))
 
--- what is not true is false
 -- what passes `joins` is a code with its recovery words, once it is made zero at the points from 2 ^ d on
 words_high : (d : ℕ) (rate : Rate) (k r : ℕ) (words recovery P : List ℕ) → lie_below d rate k r ≡ true → joins d k r (next_power r) words recovery P ≡ true → AreRecoveryWords rate k r words recovery
 unfolding high_placement

@@ -2,17 +2,10 @@
 use Rattle.std.proofs.Common.{rules, ◌≡◌, ℕ, ◌+◌, ◌<◌, List, [], length, min, bit_xor, sym, ap, ap₂, ◌∙◌, subst, arith}
 use Rattle.std.specs.Prelude.{slice_index, slice_index_or, zip}
 use Rattle.std.specs.Int.Bits.{xor_lt}
-use Rattle.std.proofs.lemmas.Bool.{cases_lt}
-use Rattle.std.proofs.lemmas.List.{get_or-map, length-map, get_or_past}
-use Rattle.std.proofs.lemmas.Slice.Zip.{get_or-zip, length-zip}
-use Rattle.rs_field.specs.code.Column.{Shard, IsShard, AreShards, shard_at, column, columns}
-use Rattle.rs_field.specs.code.Counts.{Rate}
-use Rattle.rs_field.specs.code.Placement.{placement}
-use Rattle.rs_field.specs.code.Configuration.{Configuration}
-use Rattle.rs_field.specs.code.Code.{Codes, AreRecoveryWords, AreRecovery}
-use Rattle.rs_field.specs.code.CodeLaws.{xor_bytes, xor_shards}
-use Rattle.rs_field.proofs.of_words.Roots.{words_from}
-use Rattle.rs_field.proofs.of_words.Factors.{add, value_add, length-add, words_add, all_words}
+use Rattle.std.proofs.lemmas.{Bool.cases_lt, List.get_or-map, List.length-map, List.get_or_past, Slice.Zip.get_or-zip, Slice.Zip.length-zip}
+use Rattle.rs_field.specs.code.{Column.Shard, Column.IsShard, Column.AreShards, Column.shard_at, Column.column, Column.columns, Counts.Rate, Placement.placement}
+use Rattle.rs_field.specs.code.{Configuration.Configuration, Code.Codes, Code.AreRecoveryWords, Code.AreRecovery, CodeLaws.xor_bytes, CodeLaws.xor_shards}
+use Rattle.rs_field.proofs.of_words.{Roots.words_from, Factors.add, Factors.value_add, Factors.length-add, Factors.words_add, Factors.all_words}
 use Rattle.rs_field.proofs.of_code.Columns.{byte_lt, columns-at, shard_in}
 use Rattle.rs_field.proofs.of_rows.Symbols.{sum_of_bytes}
 
@@ -49,10 +42,6 @@ byte-xor size s t i d hs ht inside =
     get_or-map (λ pair. bit_xor pair.0 pair.1) (zip s t) i (0, 0) d (omega arith)
     ∙ ap (λ (pair : ℕ × ℕ). bit_xor pair.0 pair.1) (get_or-zip s t i (0, 0) (omega arith) (omega arith))
 
--- also past their end
-any_byte-xor : (size : ℕ) (s t : Shard) (i : ℕ) → length s ≡ size → length t ≡ size → slice_index (xor_bytes s t) i ≡ bit_xor (slice_index s i) (slice_index t i)
-any_byte-xor size s t i hs ht = search (rules, cases_lt, byte-xor, get_or_past, length-xor_bytes)
-
 shard-xor : (size : ℕ) (s t : Shard) → IsShard size s → IsShard size t → IsShard size (xor_bytes s t)
 shard-xor size s t hs ht =
     let same : length (xor_bytes s t) ≡ size = length-xor_bytes size s t hs.length_is ht.length_is in
@@ -63,11 +52,6 @@ shard-xor size s t hs ht =
           (xor_lt 8 (slice_index s i) (slice_index t i) (byte_lt size s hs i) (byte_lt size t ht i));
     }
 
--- and so of its columns
-column-xor : (size j : ℕ) (s t : Shard) → IsShard size s → IsShard size t → column j (xor_bytes s t) ≡ bit_xor (column j s) (column j t)
-unfolding column
-column-xor size j s t hs ht = search (rules, any_byte-xor, length-xor_bytes, sum_of_bytes, byte_lt)
-
 -- shard i of the XOR of two lists of as many shards
 shard_at-xor : (count i : ℕ) (a b : List Shard) (d : Shard) → length a ≡ count → length b ≡ count → i < count
     → slice_index_or (xor_shards a b) i d ≡ xor_bytes (shard_at a i) (shard_at b i)
@@ -77,15 +61,13 @@ shard_at-xor count i a b d ha hb h =
     get_or-map (λ pair. xor_bytes pair.0 pair.1) (zip a b) i ([], []) d (omega arith)
     ∙ ap (λ (pair : Shard × Shard). xor_bytes pair.0 pair.1) (get_or-zip a b i ([], []) (omega arith) (omega arith))
 
-length-xor_shards : (count : ℕ) (a b : List Shard) → length a ≡ count → length b ≡ count → length (xor_shards a b) ≡ count
-unfolding xor_shards
-length-xor_shards count a b ha hb = search (rules, length-map, length-zip)
-
 shards-xor : (count size : ℕ) (a b : List Shard) → AreShards count size a → AreShards count size b → AreShards count size (xor_shards a b)
-shards-xor count size a b ha hb = search (rules, length-xor_shards, shard_at-xor, shard-xor, shard_in)
+unfolding xor_shards
+shards-xor count size a b ha hb = search (rules, length-map, length-zip, shard_at-xor, shard-xor, shard_in)
 
 columns-xor : (count size j : ℕ) (a b : List Shard) → AreShards count size a → AreShards count size b → AreSums count (columns j a) (columns j b) (columns j (xor_shards a b))
-columns-xor count size j a b ha hb i below = search (rules, columns-at, shard_at-xor, column-xor, shard_in)
+unfolding column
+columns-xor count size j a b ha hb i below = search (rules, columns-at, shard_at-xor, cases_lt, byte-xor, get_or_past, length-xor_bytes, sum_of_bytes, byte_lt, shard_in)
 
 -- the XOR of the recovery shards of two messages are the recovery shards of their XOR
 pub recovery-xor : (c : Configuration) (one other one_recovery other_recovery : List Shard)

@@ -1,8 +1,7 @@
 -- The shards of a map, listed with their indexes.
-use Rattle.std.proofs.Common.{rules, ◌≡◌, ℕ, zero, suc, ◌+◌, ◌-◌, ◌<◌, ◌≤◌, [], ◌∷◌, ◌++◌, length, cond, refl, sym, ap, ap₂, ◌∙◌, arith, length-append, append_assoc, append-nil, add-zero}
-use Rattle.std.specs.Prelude.{Option, Some, None, is_some}
-use Rattle.rs_field.specs.code.Column.{Shard}
-use Rattle.rs_field.specs.code.Given.{Shards, listed_one, listed_from, listed, count_below}
+use Rattle.std.proofs.Common.{rules, ◌≡◌, ℕ, zero, suc, ◌+◌, ◌-◌, ◌<◌, ◌≤◌, [], ◌∷◌, ◌++◌, length, refl, sym, ap, ap₂, ◌∙◌, arith, length-append, append_assoc, append-nil, add-zero}
+use Rattle.std.specs.Prelude.{Some, None}
+use Rattle.rs_field.specs.code.{Column.Shard, Given.Shards, Given.listed_one, Given.listed_from, Given.listed, Given.count_below}
 use Rattle.rs_field.proofs.of_code.Given.{count_below-zero, count_below-suc}
 
 pub listed_from-zero : (from : ℕ) (given : Shards) → listed_from from 0 given ≡ []
@@ -37,10 +36,7 @@ listed_from-more : (from n : ℕ) (given : Shards) → listed_from from (suc n) 
 listed_from-more from zero given = search (rules, listed_from-suc, listed_from-zero, append-nil, add-zero)
 listed_from-more from (suc n) given = search (rules, listed_from-suc, append_assoc, listed_from-more (suc from) n given)
 
-length-one : (i : ℕ) (o : Option Shard) → length (listed_one i o) ≡ cond (is_some o) 1 0
-length-one i o = search rules
-
 -- as many shards are listed as indexes have one
 pub length-listed : (n : ℕ) (given : Shards) → length (listed n given) ≡ count_below n given
 length-listed zero given = ap length (listed_from-zero 0 given) ∙ sym (count_below-zero given)
-length-listed (suc n) given = search (rules, listed_from-more, length-append, length-one, count_below-suc, length-listed n given)
+length-listed (suc n) given = search (rules, listed_from-more, length-append, count_below-suc, length-listed n given)

@@ -1,19 +1,13 @@
 -- Shards with given words as columns, so every message has recovery shards.
-use Rattle.std.proofs.Common.{◌≡◌, ℕ, ◌+◌, ◌-◌, ◌*◌, ◌/◌, ◌%◌, ◌<◌, Bool, true, cond, List, [], length, sym, ap, ◌∙◌, subst, arith}
+use Rattle.std.proofs.Common.{rules, ◌≡◌, ℕ, ◌+◌, ◌-◌, ◌*◌, ◌/◌, ◌%◌, ◌<◌, Bool, true, cond, List, [], length, sym, ap, ◌∙◌, subst, arith}
 use Rattle.std.specs.Prelude.{slice_index, nat_lt}
-use Rattle.std.proofs.lemmas.Bool.{cases_lt, lt-ltb}
-use Rattle.std.proofs.lemmas.List.{get_or_past}
-use Rattle.rs_field.specs.code.Column.{Shard, IsShard, AreShards, column, columns}
-use Rattle.rs_field.specs.rows.Rows.{symbol}
-use Rattle.rs_field.specs.rows.Layout.{up_to, laid_out}
-use Rattle.rs_field.specs.code.Counts.{Rate, supports}
-use Rattle.rs_field.specs.code.Configuration.{Configuration}
-use Rattle.rs_field.specs.code.Code.{AreRecoveryWords, AreRecovery}
+use Rattle.std.proofs.lemmas.{Bool.cases_lt, Bool.lt-ltb, List.get_or_past, Grind.common_steps}
+use Rattle.rs_field.specs.code.{Column.Shard, Column.IsShard, Column.AreShards, Column.column, Column.columns, Counts.Rate, Counts.supports, Configuration.Configuration}
+use Rattle.rs_field.specs.code.{Code.AreRecoveryWords, Code.AreRecovery}
+use Rattle.rs_field.specs.rows.{Layout.up_to, Layout.laid_out}
 use Rattle.rs_field.proofs.of_words.Roots.{value_lt, words_from}
-use Rattle.rs_field.proofs.of_code.Columns.{columns-at, columns_lt}
+use Rattle.rs_field.proofs.of_code.{Columns.columns-at, Columns.columns_lt, CodedWords.recovered}
 use Rattle.rs_field.proofs.of_rows.LayoutLemmas.{length-up_to, get-up_to, shard-laid_out, column-laid_out}
-use Rattle.rs_field.proofs.of_code.CodedWords.{recovered}
-use Rattle.std.proofs.lemmas.Grind.{common_steps}
 
 -- byte b of chunk q of a row with these words: the low bytes first, then the high ones
 byte_of : (ℕ → ℕ) → ℕ → ℕ → ℕ
@@ -22,10 +16,6 @@ byte_of w q b = cond (nat_lt b 32) (w (q * 32 + b) % 256) (w (q * 32 + (b - 32))
 low_byte : (w : ℕ → ℕ) (q b : ℕ) → b < 32 → byte_of w q b ≡ w (q * 32 + b) % 256
 unfolding byte_of
 low_byte w q b h = ap (λ (c : Bool). cond c (w (q * 32 + b) % 256) (w (q * 32 + (b - 32)) / 256)) (lt-ltb b 32 h)
-
-high_byte : (w : ℕ → ℕ) (q b : ℕ) → b < 32 → byte_of w q (b + 32) ≡ w (q * 32 + b) / 256
-unfolding byte_of
-high_byte w q b h = grind (arith, common_steps)
 
 byte_lt : (w : ℕ → ℕ) → ((j : ℕ) → w j < 65536) → (q b : ℕ) → byte_of w q b < 256
 unfolding byte_of
@@ -38,9 +28,6 @@ chunk_of-at : (w : ℕ → ℕ) (q b : ℕ) → b < 64 → slice_index (chunk_of
 unfolding chunk_of
 chunk_of-at w q b h = get-up_to 64 (byte_of w q) b 0 h
 
-symbol-chunk_of : (w : ℕ → ℕ) (q i : ℕ) → i < 32 → symbol (chunk_of w q) i ≡ w (q * 32 + i)
-symbol-chunk_of w q i h = grind (arith, common_steps, chunk_of-at, low_byte, high_byte)
-
 -- the shard of a size with these words as columns
 shard_of : ℕ → (ℕ → ℕ) → Shard
 shard_of size w = laid_out size (chunk_of w)
@@ -50,8 +37,8 @@ unfolding shard_of
 is_shard_of size w words = shard-laid_out size (chunk_of w) (λ k b hk hb. subst (λ n. n < 256) (sym (chunk_of-at w k b hb)) (byte_lt w words k b))
 
 column-shard_of : (size j : ℕ) (w : ℕ → ℕ) → size % 2 ≡ 0 → j < size / 2 → column j (shard_of size w) ≡ w j
-unfolding shard_of
-column-shard_of size j w even h = grind (arith, common_steps, column-laid_out, chunk_of, symbol-chunk_of)
+unfolding shard_of byte_of
+column-shard_of size j w even h = search (rules, column-laid_out, chunk_of, chunk_of-at, low_byte)
 
 -- n shards of an even size with given words, word j of shard i, as columns
 pub shards_of : (n size : ℕ) (w : ℕ → ℕ → ℕ) → size % 2 ≡ 0 → ((i j : ℕ) → w i j < 65536)

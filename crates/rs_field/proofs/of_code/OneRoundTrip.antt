@@ -2,27 +2,21 @@
 use Rattle.std.proofs.Common.{rules, ◌≡◌, ℕ, ◌+◌, ◌<◌, ◌≤◌, ◌++◌, ◌∷◌, ◌^◌, [], Bool, true, false, cond, not, ◌&&◌, List, length, refl, sym, ap, ap₂, subst, ◌∙◌, inl, inr, arith, append_assoc, append-nil, length-append, All, nat_eq, add-zero, zero-add}
 use Rattle.std.specs.Prelude.{Result, Ok, Err, Some, None, IfOk, IfErr, IsOkAnd, MatchResult, nat_le, nat_lt}
 use Rattle.std.specs.List.{AllByRecursion, IsDistinct, list_any}
-use Rattle.std.proofs.lemmas.Bool.{lt-leb, eqb-false, eq-eqb, ne_eqb, ltb-true, or_from}
-use Rattle.std.proofs.lemmas.List.Elements.{All-nil, All-cons, recursion_from_All}
-use Rattle.std.proofs.lemmas.Map.Keys.{IsDistinct-head, IsDistinct-tail}
+use Rattle.std.proofs.lemmas.{Bool.lt-leb, Bool.eqb-false, Bool.eq-eqb, Bool.ne_eqb, Bool.ltb-true, Bool.or_from, List.Elements.All-nil, List.Elements.All-cons}
+use Rattle.std.proofs.lemmas.{List.Elements.recursion_from_All, Map.Keys.IsDistinct-head, Map.Keys.IsDistinct-tail, Grind.common_steps}
 use Rattle.rs_field.specs.declared.code.error.Error.{Error}
 use Rattle.rs_field.specs.declared.code.error.Error.TheVariants.{UnsupportedShardCount, TooFewOriginalShards, NotEnoughShards, OutOfMemory}
-use Rattle.rs_field.specs.code.Column.{Shard, IsShard, AreShards, shard_at}
-use Rattle.rs_field.specs.code.Counts.{Rate, default_rate, supports}
-use Rattle.rs_field.specs.code.Placement.{encoder_rows, decoder_rows}
-use Rattle.rs_field.specs.code.Outcome.{result_and_then}
-use Rattle.rs_field.specs.code.Configuration.{Configuration, validated, space, started}
-use Rattle.rs_field.specs.code.Code.{AreRecovery}
-use Rattle.rs_field.specs.code.Given.{Shards, nothing, entered, count_below, AreAmong}
-use Rattle.rs_field.specs.code.Encoder.{EncoderState, IsEncoder, fresh_encoder, with_shard, EncodeAnswers}
-use Rattle.rs_field.specs.code.Decoder.{DecoderState, fresh_decoder, with_original, with_recovery, missing_of, DecodeAnswers}
-use Rattle.rs_field.specs.code.OneCall.{Items, default_of, counted, one_by_one, with_shards, with_originals, with_recoveries, with_both, encoding, noted, all_came, OneEncodeAnswers, OneDecodes, OneDecodeAnswers}
-use Rattle.rs_field.specs.code.RoundTrip.{AreCoded, AreLeft, enough_left, lost_of, GivesBack, OneBringsBack}
-use Rattle.rs_field.proofs.of_code.Given.{nothing_among}
-use Rattle.rs_field.proofs.of_code.Entries.{entered_all, count-nothing, AreFree, indexes, free-next, count-entered_all, among-entered_all, some-entered_all, all_some}
-use Rattle.rs_field.proofs.of_code.RoundTrip.{answered, restores_lost}
-use Rattle.rs_field.proofs.of_code.SupportedCounts.{default_fits}
-use Rattle.std.proofs.lemmas.Grind.{common_steps}
+use Rattle.rs_field.specs.code.{Column.Shard, Column.IsShard, Column.AreShards, Column.shard_at, Counts.Rate, Counts.default_rate, Counts.supports, Placement.encoder_rows}
+use Rattle.rs_field.specs.code.{Placement.decoder_rows, Outcome.result_and_then, Configuration.Configuration, Configuration.validated, Configuration.space}
+use Rattle.rs_field.specs.code.{Configuration.started, Code.AreRecovery, Given.Shards, Given.nothing, Given.entered, Given.count_below, Encoder.EncoderState}
+use Rattle.rs_field.specs.code.{Encoder.IsEncoder, Encoder.fresh_encoder, Encoder.with_shard, Encoder.EncodeAnswers, Decoder.DecoderState, Decoder.fresh_decoder}
+use Rattle.rs_field.specs.code.{Decoder.with_original, Decoder.with_recovery, Decoder.missing_of, Decoder.DecodeAnswers, OneCall.Items, OneCall.default_of, OneCall.counted}
+use Rattle.rs_field.specs.code.{OneCall.one_by_one, OneCall.with_shards, OneCall.with_originals, OneCall.with_recoveries, OneCall.with_both, OneCall.encoding, OneCall.noted}
+use Rattle.rs_field.specs.code.{OneCall.all_came, OneCall.OneEncodeAnswers, OneCall.OneDecodes, OneCall.OneDecodeAnswers, RoundTrip.AreCoded, RoundTrip.AreLeft}
+use Rattle.rs_field.specs.code.{RoundTrip.enough_left, RoundTrip.lost_of, RoundTrip.GivesBack, RoundTrip.OneBringsBack}
+use Rattle.rs_field.proofs.of_code.{Given.nothing_among, Entries.entered_all, Entries.count-nothing, Entries.AreFree, Entries.indexes, Entries.free-next}
+use Rattle.rs_field.proofs.of_code.{Entries.count-entered_all, Entries.among-entered_all, Entries.some-entered_all, Entries.all_some, RoundTrip.answered}
+use Rattle.rs_field.proofs.of_code.{RoundTrip.restores_lost, SupportedCounts.default_fits}
 
 -- a step after a success was reached by that success
 then_ok : {S T : Type 0} (f : S → Result T Error) (o : Result S Error) (t : T) → result_and_then f o ≡ Ok t → (s : S) × (o ≡ Ok s) × (f s ≡ Ok t)
@@ -113,10 +107,6 @@ all_given (x ∷ xs) s room sized =
     ∙ all_given xs (record s { given = s.given ++ x ∷ [] }) (omega arith) sized.1
     ∙ ap (λ given. Ok (record s { given = given })) (append_assoc s.given (x ∷ []) xs)
 
--- an encoder that has all its originals is not refused
-encoded_whole : (s : EncoderState) (result : Result (List Shard) Error) → s.configuration.original_count ≤ length s.given → EncodeAnswers s result → IfErr result (λ e. e ≡ OutOfMemory)
-encoded_whole s result many answers = grind (arith, common_steps)
-
 module _ (k r size : ℕ) (shards : List Shard) (result : Result (List Shard) Error) (valid : validated (default_of k r size) ≡ Ok tt) (count : length shards ≡ k)
     (sized : All (λ shard. length shard ≡ size) shards) where
   -- what is answered by what setting up an encoder answered
@@ -124,7 +114,7 @@ module _ (k r size : ℕ) (shards : List Shard) (result : Result (List Shard) Er
   Set set = MatchResult (result_and_then (λ _. with_shards (fresh_encoder (default_of k r size)) shards) set) (λ s. EncodeAnswers s result) (λ e. result ≡ Err e)
 
   whole_by_start : Set (started (encoder_rows default_rate k r) (default_of k r size)) → IfErr result (λ e. e ≡ OutOfMemory)
-  whole_by_start answers = search (rules, all_given, recursion_from_All, encoded_whole)
+  whole_by_start answers = search (rules, all_given, recursion_from_All)
 
 pub encodes_in_one_call : (k r size : ℕ) (originals : List Shard) (result : Result (List Shard) Error) → validated (default_of k r size) ≡ Ok tt
     → length originals ≡ k → All (λ shard. length shard ≡ size) originals → OneEncodeAnswers k r originals result → IfErr result (λ e. e ≡ OutOfMemory)
@@ -200,27 +190,10 @@ all_free : (items : Items) → AreFree nothing items
 all_free [] = tt
 all_free (item ∷ items) = (refl, all_free items)
 
--- what is left of shards of one size is taken
-fitting : (count size : ℕ) (shards : List Shard) (items : Items) → length shards ≡ count → All (λ shard. length shard ≡ size) shards → AreLeft shards items → AreFitting count size items
-fitting count size shards items long sized left = search (rules, recursion_from_All)
-
-within : (count : ℕ) (shards : List Shard) (items : Items) → length shards ≡ count → AreLeft shards items → AllByRecursion (λ item. item.0 < count) items
-within count shards items long left = search (rules, recursion_from_All)
-
--- the map of what is left has shards of the list alone, as many as there are items
-left_among : (shards : List Shard) (items : Items) → AreLeft shards items → AreAmong (entered_all nothing items) shards
-left_among shards items left = search (rules, among-entered_all, recursion_from_All, nothing_among)
-
 left_count : (count : ℕ) (shards : List Shard) (items : Items) → length shards ≡ count → AreLeft shards items → count_below count (entered_all nothing items) ≡ length items
-left_count count shards items long left = search (rules, count-entered_all, within, all_free, count-nothing, zero-add)
+left_count count shards items long left = search (rules, count-entered_all, recursion_from_All, all_free, count-nothing, zero-add)
 
 -- ---- what comes back
-
--- what was kept and what is lost are at the same indexes in both views
-lost_same : (s : DecoderState) (originals : List Shard) (kept : Items) (i : ℕ) → length originals ≡ s.configuration.original_count → s.originals ≡ entered_all nothing kept
-    → missing_of s originals i ≡ lost_of originals kept i
-unfolding missing_of lost_of
-lost_same s originals kept i long is = search (rules, some-entered_all)
 
 -- an index that was noted is not one of the others
 absent_next : (k : ℕ) (came : List ℕ) (items : Items) → AllByRecursion (λ i. nat_eq k i ≡ false) (indexes items) → AllByRecursion (λ item. list_any (nat_eq item.0) came ≡ false) items
@@ -250,9 +223,6 @@ came_left k items below once =
     ap (result_and_then (λ came. cond (nat_lt (length came) k) (Err (NotEnoughShards k (length came) 0)) (Ok tt))) all.1
     ∙ ap₂ (λ a b. cond (nat_lt a k) (Err (NotEnoughShards k b 0)) (Ok tt)) (count ∙ sym (add-zero (length items))) count
 
-all_left : (k n : ℕ) (kept : Items) → enough_left k kept [] ≡ Ok tt → n ≡ k → n ≤ length kept
-all_left k n kept enough same = grind (arith, common_steps)
-
 -- where all originals are left, none is lost
 none_lost : (originals : List Shard) (kept : Items) → AreLeft originals kept → length originals ≤ length kept → (i : ℕ) → lost_of originals kept i ≡ None
 unfolding lost_of
@@ -270,13 +240,6 @@ none_lost originals kept left many i = by_test (nat_lt i (length originals)) ref
 abbrev pub left_with : Configuration → Items → Items → DecoderState
 left_with c kept received = record { configuration = c; originals = entered_all nothing kept; recovery = entered_all nothing received }
 
--- whether k shards are there, by the numbers of originals and of recovery shards
-abbrev by_numbers : ℕ → ℕ → ℕ → Result (Unit {0}) Error
-by_numbers k originals recovery = cond (nat_lt (originals + recovery) k) (Err (NotEnoughShards k originals recovery)) (Ok tt)
-
-if_ok-map : (result : Result Shards Error) (P Q : Shards → Type 0) → ((out : Shards) → P out → Q out) → IfOk result P → IfOk result Q
-if_ok-map result P Q h1 h2 = search rules
-
 if_ok-refused : (result : Result Shards Error) (e : Error) (P : Shards → Type 0) → result ≡ Err e → IfOk result P
 if_ok-refused result e P is = subst (λ (r : Result Shards Error). IfOk r P) (sym is) tt
 
@@ -284,11 +247,12 @@ module _ (c : Configuration) (message recovery : List Shard) (kept received : It
     (left : AreLeft message kept) (got : AreLeft recovery received) where
   -- a decoder takes all that is left
   pub all_taken : with_both (fresh_decoder c) kept received ≡ Ok (left_with c kept received)
-  all_taken = search (rules, originals_taken, fitting, all_free, recoveries_taken)
+  all_taken = search (rules, originals_taken, recursion_from_All, all_free, recoveries_taken)
 
   -- and gives back what is lost
   pub gives_back : (result : Result Shards Error) → DecodeAnswers (left_with c kept received) result → GivesBack message kept received result
-  gives_back result answers = search (rules, restores_lost, left_among, left_count, if_ok-map, lost_same)
+  unfolding missing_of lost_of
+  gives_back result answers = search (rules, restores_lost, among-entered_all, recursion_from_All, nothing_among, left_count, some-entered_all)
 
   pub restores_left : IsOkAnd (with_both (fresh_decoder c) kept received) (λ s. (result : Result Shards Error) → DecodeAnswers s result → GivesBack message kept received result)
   restores_left = search (rules, all_taken, gives_back)
@@ -324,7 +288,7 @@ module _ (k r : ℕ) (originals recovery : List Shard) (kept : Items) (was : Are
 
   -- where no recovery shard is left
   by_indexes : (result : Result Shards Error) → OneDecodes k r kept [] result → OneBringsBack originals kept [] result
-  by_indexes result answers = search (rules, counted_valid, came_left, within, none_lost, all_left, if_ok-refused)
+  by_indexes result answers = search (rules, counted_valid, came_left, recursion_from_All, none_lost, if_ok-refused)
 
   by_answer : (received : Items) (result : Result Shards Error) → AreLeft recovery received → OneDecodeAnswers k r kept received result → OneBringsBack originals kept received result
   by_answer received result got (inr lacks) = record { answer = inr lacks.1; restored = if_ok-refused result OutOfMemory _ lacks.1 }

@@ -2,9 +2,8 @@
 use Rattle.std.proofs.Common.{rules, ◌≡◌, ℕ, ◌+◌, ◌-◌, ◌^◌, ◌≤◌, Bool, true, false, cond, min, max, refl, sym, ap, ◌∙◌, arith, inl, inr, pow_mono, subst}
 use Rattle.rs_field.specs.code.Counts.{Rate, low_rate, high_rate, default_rate, next_power, supports, is_low}
 use Rattle.rs_field.specs.code.Placement.{low_placement, high_placement, placement, decoder_rows}
-use Rattle.rs_field.proofs.of_code.NextPower.{next_power-small, next_power-above}
-use Rattle.rs_field.proofs.of_code.SupportedCounts.{low_fits, high_fits, default_fits, low_powers, high_powers}
-use Rattle.rs_field.proofs.of_code.Frame.{IsFrame}
+use Rattle.rs_field.proofs.of_code.{NextPower.next_power-small, NextPower.next_power-above, SupportedCounts.low_fits, SupportedCounts.high_fits, SupportedCounts.default_fits}
+use Rattle.rs_field.proofs.of_code.{SupportedCounts.low_powers, SupportedCounts.high_powers, Frame.IsFrame}
 
 pub low_frame : (k r : ℕ) → next_power k + r ≤ 65536 → k ≤ next_power k
     → (e : ℕ) × (next_power (next_power k + r) ≡ 2 ^ e) × IsFrame (low_placement k) k r e (next_power k) (next_power k)
@@ -79,18 +78,11 @@ frame_by rate k r low high = by_rate (is_low rate k r) refl
           frame = subst (λ (b : Bool). IsFrame (cond b (low_placement k) (high_placement k r)) k r f.0 (2 ^ f.0 - next_power r) (2 ^ f.0)) (sym e) f.2;
         }
 
-low_chosen : (k r : ℕ) → is_low low_rate k r ≡ true
-unfolding is_low
-low_chosen k r = refl
-
-high_chosen : (k r : ℕ) → is_low high_rate k r ≡ false
-unfolding is_low
-high_chosen k r = refl
-
 -- at supported counts the rate has a frame
 pub has_frame : (rate : Rate) (k r : ℕ) → supports rate k r ≡ true → HasFrame rate k r
-has_frame low_rate k r is = search (rules, frame_by, low_fits, low_chosen)
-has_frame high_rate k r is = search (rules, frame_by, high_chosen, high_fits)
+unfolding is_low
+has_frame low_rate k r is = search (rules, frame_by, low_fits)
+has_frame high_rate k r is = search (rules, frame_by, high_fits)
 has_frame default_rate k r is =
     let fit : min (next_power k) (next_power r) + max k r ≤ 65536 = (default_fits k r is).2 in
     frame_by default_rate k r

@@ -7,8 +7,7 @@ use Rattle.rs_field.proofs.Walking.{lands_as, usize, u8, yes, no, Is, shows, cel
 use Rattle.rs_field.proofs.Walking.{flat, MutBor, MutRef, mut_vals, mut_Tells, plain, named_lft, Array, MutSlice, Room, slice_val, nothing, heard}
 use Rattle.rs_field.proofs.Walking.{only, opens, closes, peeks, owned, row, fields, tuple_type, calls_at, lasts, triple_of, framed, Stays}
 use Rattle.rs_field.proofs.Walking.{stay_dropped, walk_of, ends_at, Goes-dropped, Goes-spent_ref}
-use Rattle.rs_field.specs.rows.Rows.{Chunks}
-use Rattle.rs_field.specs.rows.Lending.{LendsFourParts}
+use Rattle.rs_field.specs.rows.{Rows.Chunks, Lending.LendsFourParts}
 use Rattle.rs_field.specs.declared.rows.shards.ShardsRefMut.{ShardsRefMut}
 use Rattle.rs_field.specs.contracts.rows.shards.ShardsRefMut.{the_row, the_type}
 use Rattle.rs_field.specs.contracts.rows.shards.ShardsRefMut.dist4_mut as f

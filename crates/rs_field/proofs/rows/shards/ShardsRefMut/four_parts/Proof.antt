@@ -10,8 +10,7 @@ use Rattle.rs_field.proofs.Walking.{Stays, stay_dropped, walk_of, ends_at, Goes-
 use Rattle.rs_field.proofs.Walking.{within, tuple_type, shape}
 use lib.ListN.{length-append}
 use Rattle.rs_field.proofs.of_rows.FourRuns.{four_lent, lends_four, four_of}
-use Rattle.rs_field.specs.rows.Rows.{Chunks}
-use Rattle.rs_field.specs.rows.Lending.{with_chunks, between, with_four, LendsAll, LendsFour}
+use Rattle.rs_field.specs.rows.{Rows.Chunks, Lending.with_chunks, Lending.between, Lending.with_four, Lending.LendsAll, Lending.LendsFour}
 use Rattle.rs_field.specs.contracts.rows.shards.ShardsRefMut.{the_row}
 use Rattle.rs_field.proofs.rows.shards.ShardsRefMut.all.Met.{met}
 use Rattle.rs_field.specs.contracts.rows.shards.ShardsRefMut.four_parts as f

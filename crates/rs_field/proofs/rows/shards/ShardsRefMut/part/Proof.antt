@@ -9,8 +9,7 @@ use Rattle.rs_field.proofs.Walking.{nothing, heard, only, calls_at, lasts, tripl
 use Rattle.rs_field.proofs.Walking.{Goes-dropped, Goes-spent_ref, at, at_mul, length-take-le}
 use denote.Follow.{follows, follows_then}
 use Rattle.rs_field.proofs.of_rows.Runs.{run_lent, lends_run}
-use Rattle.rs_field.specs.rows.Rows.{Chunks}
-use Rattle.rs_field.specs.rows.Lending.{with_chunks, LendsAll}
+use Rattle.rs_field.specs.rows.{Rows.Chunks, Lending.with_chunks, Lending.LendsAll}
 use Rattle.rs_field.specs.contracts.rows.shards.ShardsRefMut.{the_row}
 use Rattle.rs_field.specs.contracts.rows.shards.ShardsRefMut.part as f
 use Rattle.rs_field.proofs.rows.shards.ShardsRefMut.part.Statement.{statement}

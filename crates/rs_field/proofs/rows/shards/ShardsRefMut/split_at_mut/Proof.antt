@@ -10,9 +10,7 @@ use Rattle.rs_field.proofs.Walking.{triple_of, framed, Stays, stay_dropped, walk
 use base.Fml.{GName}
 use Rattle.std.proofs.Common.{lit<}
 use denote.Struct.Tuple.{tuple_laws}
-use Rattle.rs_field.specs.rows.Rows.{Chunks}
-use Rattle.rs_field.specs.rows.View.{HasRows, IsListOf}
-use Rattle.rs_field.specs.rows.Lending.{LendsTwoParts, with_chunks, with_two}
+use Rattle.rs_field.specs.rows.{Rows.Chunks, View.HasRows, View.IsListOf, Lending.LendsTwoParts, Lending.with_chunks, Lending.with_two}
 use Rattle.rs_field.specs.declared.rows.shards.ShardsRefMut.{ShardsRefMut}
 use Rattle.rs_field.specs.contracts.rows.shards.ShardsRefMut.{the_row, the_type}
 use Rattle.rs_field.proofs.rows.shards.ShardsRefMut.TheLaws.{the_row_laws}

@@ -10,8 +10,7 @@ use Rattle.rs_field.proofs.Walking.{framed, says, Stays, stay_dropped, walk_of, 
 use Rattle.rs_field.proofs.Walking.{drop-drop, within, tuple_type, shape}
 use denote.Follow.{both_by}
 use Rattle.rs_field.proofs.of_rows.Runs.{both_then, runs_lent, lends_runs}
-use Rattle.rs_field.specs.rows.Rows.{Chunks}
-use Rattle.rs_field.specs.rows.Lending.{with_chunks, with_two, LendsAll}
+use Rattle.rs_field.specs.rows.{Rows.Chunks, Lending.with_chunks, Lending.with_two, Lending.LendsAll}
 use Rattle.rs_field.specs.contracts.rows.shards.ShardsRefMut.{the_row}
 use Rattle.rs_field.proofs.rows.shards.ShardsRefMut.all.Met.{met}
 use Rattle.rs_field.specs.contracts.rows.shards.ShardsRefMut.two_parts as f
