@@ -28,11 +28,15 @@ unfolding chunk_count
 started-by rows c chunks valid is =
     ap (result_and_then (λ _. cond (nat_le (2 ^ 64) (space rows c.shard_bytes)) (Err OutOfMemory) (Ok tt))) valid ∙ ap asked (sym is)
 
--- which is no want of memory where they are a `usize` in bytes
+-- which is a success where they are a `usize` in bytes, and no want of memory
+asked-fits : (chunks : ℕ) → chunks * 64 < 2 ^ 64 → asked chunks ≡ Ok tt
+asked-fits chunks fits = ap (λ (b : Bool). cond b (Err OutOfMemory) (Ok tt)) (lt-leb (2 ^ 64) (chunks * 64) fits)
+
+pub started-roomy : (rows : ℕ) (c : Configuration) → validated c ≡ Ok tt → chunk_count rows c.shard_bytes * 64 < 2 ^ 64 → started rows c ≡ Ok tt
+started-roomy rows c valid fits = started-by rows c (chunk_count rows c.shard_bytes) valid refl ∙ asked-fits (chunk_count rows c.shard_bytes) fits
+
 pub asked-made : (chunks : ℕ) (result : Result (Unit {0}) Error) → chunks * 64 < 2 ^ 64 → result ≡ asked chunks → result ≡ Err OutOfMemory → ⊥
-asked-made chunks result fits is short =
-    let made : asked chunks ≡ Ok tt = ap (λ (b : Bool). cond b (Err OutOfMemory) (Ok tt)) (lt-leb (2 ^ 64) (chunks * 64) fits) in
-    let no = sym short ∙ is ∙ made in cc
+asked-made chunks result fits is short = let no = sym short ∙ is ∙ asked-fits chunks fits in cc
 
 -- what holds at each rate after a success, or after a refusal, holds at one
 pub on_ok-at : {S : Type 0} (rate : Rate) (result : Result S Error) (P : Rate → Type 0) → OnOk result ((each : Rate) → P each) → OnOk result (P rate)
