@@ -4,10 +4,16 @@ use Rattle.std.specs.Prelude.{slice_index, Some, is_some}
 use Rattle.std.proofs.lemmas.Bool.{cases_eq}
 use Rattle.std.proofs.Math.Nat.{mod-eq_of_lt}
 use Rattle.rs_field.specs.words.Polynomial.{value}
-use Rattle.rs_field.specs.code.{Column.Shard, Column.IsShard, Column.AreShards, Column.shard_at, Column.column, Column.columns, Placement.Placement, Placement.placement}
-use Rattle.rs_field.specs.code.{Configuration.Configuration, Given.Shards, Given.Agrees, Given.Consistent, Code.Codes, Code.AreRecoveryWords}
+use Rattle.rs_field.specs.code.Column.{Shard, IsShard, AreShards, shard_at, column, columns}
+use Rattle.rs_field.specs.code.Placement.{Placement, placement}
+use Rattle.rs_field.specs.code.Configuration.{Configuration}
+use Rattle.rs_field.specs.code.Given.{Shards, Agrees, Consistent}
+use Rattle.rs_field.specs.code.Code.{Codes, AreRecoveryWords}
 use Rattle.rs_field.proofs.of_words.Roots.{value_lt, words_from}
-use Rattle.rs_field.proofs.of_code.{Given.some_of, Columns.columns-at, Columns.shard_from_columns, DecodedColumn.TakesGiven, MadeShards.shards_of}
+use Rattle.rs_field.proofs.of_code.Given.{some_of}
+use Rattle.rs_field.proofs.of_code.Columns.{columns-at, shard_from_columns}
+use Rattle.rs_field.proofs.of_code.DecodedColumn.{TakesGiven}
+use Rattle.rs_field.proofs.of_code.MadeShards.{shards_of}
 
 -- the given shards have indexes below a count and one size
 pub record AreSized (count size : ℕ) (given : Shards) : Type 0 where

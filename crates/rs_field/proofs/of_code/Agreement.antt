@@ -1,13 +1,22 @@
 -- A decode column by column: whether some message agrees, and what is restored.
 use Rattle.std.proofs.Common.{◌≡◌, ℕ, ◌+◌, ◌-◌, ◌/◌, ◌%◌, ◌^◌, ◌<◌, ◌≤◌, List, length, sym, ◌∙◌, arith}
 use Rattle.std.specs.Prelude.{◌↔◌, true, is_some}
-use Rattle.rs_field.specs.words.{Field.product, Field.power, Transform.forward, Locator.log_sum, Derivative.IsDerivativeAdded}
-use Rattle.rs_field.specs.code.{Counts.supports, Column.Shard, Column.shard_at, Column.column, Column.columns, Placement.placement, Configuration.Configuration, Given.Shards}
-use Rattle.rs_field.specs.code.{Given.count_below, Given.Agrees, Given.Consistent, Code.Codes, CodeLaws.ArePlaces}
-use Rattle.rs_field.proofs.of_code.{Columns.columns-at, Given.some_of, Places.fixed_by_places, Places.places_given, Places.by_place, Places.count-by_place}
-use Rattle.rs_field.proofs.of_code.{Places.codeword_given, DecodedColumn.TakesGiven, DecodedColumn.IsColumnOf, DecodedColumn.surplus_rows, DecodedColumn.some_message}
-use Rattle.rs_field.proofs.of_code.{DecodedColumn.restored_word, AgreeingMessages.AreSized, AgreeingMessages.HasWords, AgreeingMessages.IsTaken, AgreeingMessages.column_taken}
-use Rattle.rs_field.proofs.of_code.{AgreeingMessages.consistent}
+use Rattle.rs_field.specs.words.Field.{product, power}
+use Rattle.rs_field.specs.words.Transform.{forward}
+use Rattle.rs_field.specs.words.Locator.{log_sum}
+use Rattle.rs_field.specs.words.Derivative.{IsDerivativeAdded}
+use Rattle.rs_field.specs.code.Counts.{supports}
+use Rattle.rs_field.specs.code.Column.{Shard, shard_at, column, columns}
+use Rattle.rs_field.specs.code.Placement.{placement}
+use Rattle.rs_field.specs.code.Configuration.{Configuration}
+use Rattle.rs_field.specs.code.Given.{Shards, count_below, Agrees, Consistent}
+use Rattle.rs_field.specs.code.Code.{Codes}
+use Rattle.rs_field.specs.code.CodeLaws.{ArePlaces}
+use Rattle.rs_field.proofs.of_code.Columns.{columns-at}
+use Rattle.rs_field.proofs.of_code.Given.{some_of}
+use Rattle.rs_field.proofs.of_code.Places.{fixed_by_places, places_given, by_place, count-by_place, codeword_given}
+use Rattle.rs_field.proofs.of_code.DecodedColumn.{TakesGiven, IsColumnOf, surplus_rows, some_message, restored_word}
+use Rattle.rs_field.proofs.of_code.AgreeingMessages.{AreSized, HasWords, IsTaken, column_taken, consistent}
 
 -- The columns of a decode: shards given of one even size, in each column the words at their places, and the rows.
 pub record AreColumns (c : Configuration) (originals recovery : Shards) (e bound zeros_end : ℕ) (marks : ℕ → ℕ) (words located rows : ℕ → ℕ → ℕ) : Type 0 where

@@ -1,10 +1,19 @@
 -- Changed shards are noticed: no message agrees with k shards of a codeword and others that are changed.
 use Rattle.std.proofs.Common.{rules, ◌≡◌, ℕ, zero, suc, ◌+◌, ◌%◌, ◌<◌, ◌≤◌, true, cond, List, [], sym, ap, ◌∙◌, arith, subst}
 use Rattle.std.specs.Prelude.{Some, None, unwrap_or, bytes_eq}
-use Rattle.std.proofs.lemmas.{Option.none-some, Slice.Eq.bytes_eq-Decides, Grind.common_steps}
-use Rattle.rs_field.specs.code.{Column.Shard, Column.AreShards, Column.shard_at, Counts.supports, Configuration.Configuration, Code.AreRecovery, Given.Shards}
-use Rattle.rs_field.specs.code.{Given.count_below, Given.AreAmong, Given.Agrees, Given.Consistent, CodeLaws.changed}
-use Rattle.rs_field.proofs.of_code.{Given.count_below-zero, Given.count_below-suc, Unique.recovery_unique, RateFrames.few_originals, Agreement.one_message}
+use Rattle.std.proofs.lemmas.Option.{none-some}
+use Rattle.std.proofs.lemmas.Slice.Eq.{bytes_eq-Decides}
+use Rattle.std.proofs.lemmas.Grind.{common_steps}
+use Rattle.rs_field.specs.code.Column.{Shard, AreShards, shard_at}
+use Rattle.rs_field.specs.code.Counts.{supports}
+use Rattle.rs_field.specs.code.Configuration.{Configuration}
+use Rattle.rs_field.specs.code.Code.{AreRecovery}
+use Rattle.rs_field.specs.code.Given.{Shards, count_below, AreAmong, Agrees, Consistent}
+use Rattle.rs_field.specs.code.CodeLaws.{changed}
+use Rattle.rs_field.proofs.of_code.Given.{count_below-zero, count_below-suc}
+use Rattle.rs_field.proofs.of_code.Unique.{recovery_unique}
+use Rattle.rs_field.proofs.of_code.RateFrames.{few_originals}
+use Rattle.rs_field.proofs.of_code.Agreement.{one_message}
 
 -- those of the given shards that are the list's
 kept : Shards → List Shard → Shards

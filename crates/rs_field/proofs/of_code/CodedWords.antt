@@ -1,11 +1,16 @@
 -- Any k words are coded by a polynomial, so they have recovery words.
 use Rattle.std.proofs.Common.{rules, ◌≡◌, ℕ, zero, suc, ◌+◌, ◌-◌, ◌^◌, ◌<◌, ◌≤◌, Bool, true, cond, List, [], ◌∷◌, length, refl, ap, ◌∙◌, arith, pow_mono}
 use Rattle.std.specs.Prelude.{slice_index, nat_lt}
-use Rattle.std.proofs.lemmas.{Bool.cases_lt, Bool.lt-ltb, Bool.le-ltb, Grind.common_steps}
+use Rattle.std.proofs.lemmas.Bool.{cases_lt, lt-ltb, le-ltb}
+use Rattle.std.proofs.lemmas.Grind.{common_steps}
 use Rattle.rs_field.specs.words.Polynomial.{value}
-use Rattle.rs_field.specs.code.{Counts.Rate, Counts.supports, Placement.Placement, Placement.placement, Code.Codes, Code.AreRecoveryWords}
-use Rattle.rs_field.proofs.of_words.{Roots.value_lt, Roots.words_from, Interpolation.interpolated}
-use Rattle.rs_field.proofs.of_code.{Frame.IsFrame, Frame.CodesIn, Frame.unframed, RateFrames.has_frame}
+use Rattle.rs_field.specs.code.Counts.{Rate, supports}
+use Rattle.rs_field.specs.code.Placement.{Placement, placement}
+use Rattle.rs_field.specs.code.Code.{Codes, AreRecoveryWords}
+use Rattle.rs_field.proofs.of_words.Roots.{value_lt, words_from}
+use Rattle.rs_field.proofs.of_words.Interpolation.{interpolated}
+use Rattle.rs_field.proofs.of_code.Frame.{IsFrame, CodesIn, unframed}
+use Rattle.rs_field.proofs.of_code.RateFrames.{has_frame}
 
 -- the first k values, and zero from there on
 first : ℕ → (ℕ → ℕ) → ℕ → ℕ

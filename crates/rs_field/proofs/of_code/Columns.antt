@@ -2,7 +2,9 @@
 use Rattle.std.proofs.Common.{rules, ◌≡◌, ℕ, ◌+◌, ◌-◌, ◌*◌, ◌/◌, ◌%◌, ◌<◌, ◌≤◌, List, [], length, min, refl, sym, ap, ◌∙◌, subst, arith, inl, inr}
 use Rattle.std.specs.Prelude.{slice_index}
 use Rattle.std.proofs.Math.Nat.{min-eq_left, min-eq_right}
-use Rattle.std.proofs.lemmas.{Bool.cases_lt, List.ext_get_or, Grind.common_steps}
+use Rattle.std.proofs.lemmas.Bool.{cases_lt}
+use Rattle.std.proofs.lemmas.List.{ext_get_or}
+use Rattle.std.proofs.lemmas.Grind.{common_steps}
 use Rattle.std.proofs.Math.ListN.{get_or, get_or-map}
 use Rattle.rs_field.specs.code.Column.{Shard, IsShard, AreShards, shard_at, column, columns, chunk_words}
 

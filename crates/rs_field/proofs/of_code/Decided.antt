@@ -2,11 +2,19 @@
 use Rattle.std.proofs.Common.{◌≡◌, ℕ, ◌+◌, ◌-◌, ◌/◌, ◌^◌, ◌<◌, ◌≤◌, List, [], ◌∷◌, Bool, true, false, ◌&&◌, cond, length, sym, ap, ◌∙◌, arith, pow_mono}
 use Rattle.std.specs.Prelude.{All, not, slice_index, slice_index_or, nat_eq, nat_lt, nat_le}
 use Rattle.std.specs.List.{list_all}
-use Rattle.std.proofs.lemmas.{Bool.and_parts, Bool.not-true, Bool.eqb-true, Bool.ltb-true, Bool.leb-true, List.Elements.All-nil, List.Elements.All-cons, Grind.common_steps}
+use Rattle.std.proofs.lemmas.Bool.{and_parts, not-true, eqb-true, ltb-true, leb-true}
+use Rattle.std.proofs.lemmas.List.Elements.{All-nil, All-cons}
+use Rattle.std.proofs.lemmas.Grind.{common_steps}
 use Rattle.rs_field.specs.words.Polynomial.{value}
-use Rattle.rs_field.specs.code.{Column.Shard, Column.AreShards, Column.columns, Counts.Rate, Counts.next_power, Counts.is_low, Placement.Placement, Placement.placement}
-use Rattle.rs_field.specs.code.{Placement.low_placement, Placement.high_placement, Configuration.Configuration, Code.Codes, Code.AreRecoveryWords, Code.AreRecovery}
-use Rattle.rs_field.proofs.of_words.{Linear.passes_below, Linear.from_passes_below, Roots.words_from, Factors.times, Factors.points, ZerosPast.value-inside}
+use Rattle.rs_field.specs.code.Column.{Shard, AreShards, columns}
+use Rattle.rs_field.specs.code.Counts.{Rate, next_power, is_low}
+use Rattle.rs_field.specs.code.Placement.{Placement, placement, low_placement, high_placement}
+use Rattle.rs_field.specs.code.Configuration.{Configuration}
+use Rattle.rs_field.specs.code.Code.{Codes, AreRecoveryWords, AreRecovery}
+use Rattle.rs_field.proofs.of_words.Linear.{passes_below, from_passes_below}
+use Rattle.rs_field.proofs.of_words.Roots.{words_from}
+use Rattle.rs_field.proofs.of_words.Factors.{times, points}
+use Rattle.rs_field.proofs.of_words.ZerosPast.{value-inside}
 use Rattle.rs_field.proofs.of_code.HighCodes.{high_codes}
 
 -- each element passes, so each has the property

@@ -1,13 +1,25 @@
 -- One column of a decode at either rate: whether words given at some places of a code are those of a polynomial that codes.
 use Rattle.std.proofs.Common.{rules, ◌≡◌, ℕ, ◌+◌, ◌-◌, ◌^◌, ◌<◌, ◌≤◌, ◌⊎◌, Bool, true, cond, List, length, sym, ap, ◌∙◌, arith, inl, inr, pow_mono}
 use Rattle.std.specs.Prelude.{slice_index, is_some}
-use Rattle.std.proofs.lemmas.{Bool.cases_lt, Grind.common_steps}
-use Rattle.rs_field.specs.words.{Polynomial.value, Field.product, Field.power, Transform.forward, Locator.log_sum, Derivative.IsDerivativeAdded}
-use Rattle.rs_field.specs.code.{Counts.Rate, Placement.Placement, Placement.placement, Given.Shards, Given.count_below, Code.Codes}
-use Rattle.rs_field.proofs.of_words.{Roots.value_lt, Roots.words_from, LocatorProduct.marked, LocatorProduct.residue_undone, Total.product-comm, Restored.restored}
-use Rattle.rs_field.proofs.of_words.{ExactCheck.located_values, ExactCheck.AreLocated, ExactCheck.Takes, ExactCheck.zero_rows, ExactCheck.taken_from_zero_rows}
-use Rattle.rs_field.proofs.of_code.{Frame.IsFrame, Frame.CodesIn, Frame.framed, Frame.unframed, ErasedCount.AreErasures, ErasedCount.erased_count, CodedWords.values_of}
-use Rattle.rs_field.proofs.of_code.{CodedWords.values_of-at, CodedWords.length-values_of}
+use Rattle.std.proofs.lemmas.Bool.{cases_lt}
+use Rattle.std.proofs.lemmas.Grind.{common_steps}
+use Rattle.rs_field.specs.words.Polynomial.{value}
+use Rattle.rs_field.specs.words.Field.{product, power}
+use Rattle.rs_field.specs.words.Transform.{forward}
+use Rattle.rs_field.specs.words.Locator.{log_sum}
+use Rattle.rs_field.specs.words.Derivative.{IsDerivativeAdded}
+use Rattle.rs_field.specs.code.Counts.{Rate}
+use Rattle.rs_field.specs.code.Placement.{Placement, placement}
+use Rattle.rs_field.specs.code.Given.{Shards, count_below}
+use Rattle.rs_field.specs.code.Code.{Codes}
+use Rattle.rs_field.proofs.of_words.Roots.{value_lt, words_from}
+use Rattle.rs_field.proofs.of_words.LocatorProduct.{marked, residue_undone}
+use Rattle.rs_field.proofs.of_words.Total.{product-comm}
+use Rattle.rs_field.proofs.of_words.Restored.{restored}
+use Rattle.rs_field.proofs.of_words.ExactCheck.{located_values, AreLocated, Takes, zero_rows, taken_from_zero_rows}
+use Rattle.rs_field.proofs.of_code.Frame.{IsFrame, CodesIn, framed, unframed}
+use Rattle.rs_field.proofs.of_code.ErasedCount.{AreErasures, erased_count}
+use Rattle.rs_field.proofs.of_code.CodedWords.{values_of, values_of-at, length-values_of}
 
 -- a polynomial takes the words at the places of the shards given
 pub record TakesGiven (p : Placement) (k r : ℕ) (originals recovery : Shards) (words : ℕ → ℕ) (polynomial : List ℕ) : Type 0 where

@@ -3,8 +3,12 @@ use Rattle.std.proofs.Common.{rules, ◌≡◌, ℕ, zero, suc, ◌+◌, ◌<◌
 use Rattle.std.specs.Prelude.{None, is_some}
 use Rattle.std.specs.List.{AllByRecursion, IsDistinct, list_any}
 use Rattle.std.proofs.Math.Bool.{or_assoc}
-use Rattle.std.proofs.lemmas.{Bool.cases_eq, Bool.eqb-false, Map.Keys.IsDistinct-head, Map.Keys.IsDistinct-tail, Grind.common_steps}
-use Rattle.rs_field.specs.code.{Column.Shard, Column.shard_at, Given.Shards, Given.nothing, Given.entered, Given.count_below, Given.AreAmong, OneCall.Items}
+use Rattle.std.proofs.lemmas.Bool.{cases_eq, eqb-false}
+use Rattle.std.proofs.lemmas.Map.Keys.{IsDistinct-head, IsDistinct-tail}
+use Rattle.std.proofs.lemmas.Grind.{common_steps}
+use Rattle.rs_field.specs.code.Column.{Shard, shard_at}
+use Rattle.rs_field.specs.code.Given.{Shards, nothing, entered, count_below, AreAmong}
+use Rattle.rs_field.specs.code.OneCall.{Items}
 use Rattle.rs_field.proofs.of_code.Given.{entered_cases, entered_among, count_below-zero, count_below-suc, count_below-same}
 
 -- the map with all items entered, in order

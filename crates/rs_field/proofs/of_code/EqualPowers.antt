@@ -4,13 +4,20 @@ use Rattle.std.specs.Prelude.{slice_index, ◌↔◌, true}
 use Rattle.std.specs.Int.Bits.{xor_comm, xor_shifted}
 use Rattle.std.proofs.lemmas.Bool.{cases_lt}
 use Rattle.rs_field.specs.words.Polynomial.{value}
-use Rattle.rs_field.specs.code.{Counts.low_rate, Counts.high_rate, Counts.next_power, Counts.supports, Counts.is_low, Placement.placement, Placement.low_placement}
-use Rattle.rs_field.specs.code.{Placement.high_placement, Code.Codes, Code.AreRecoveryWords, Code.AreRecovery, Column.Shard, Configuration.configuration}
+use Rattle.rs_field.specs.code.Counts.{low_rate, high_rate, next_power, supports, is_low}
+use Rattle.rs_field.specs.code.Placement.{placement, low_placement, high_placement}
+use Rattle.rs_field.specs.code.Code.{Codes, AreRecoveryWords, AreRecovery}
+use Rattle.rs_field.specs.code.Column.{Shard}
+use Rattle.rs_field.specs.code.Configuration.{configuration}
 use Rattle.rs_field.proofs.of_words.Halves.{xor_undo}
 use Rattle.rs_field.proofs.of_words.Roots.{WordsOneByOne, value-nil, value-cons, value-one}
 use Rattle.rs_field.proofs.of_words.Factors.{add, with_root, value_add, value_with_root, length-add, length-with_root, words_add, words_with_root, all_words}
-use Rattle.rs_field.proofs.of_code.{Unique.codes_unique, NextPower.next_power-small, NextPower.next_power-least, NextPower.next_power-above, Frame.CodesIn, Frame.framed}
-use Rattle.rs_field.proofs.of_code.{SupportedCounts.high_fits, RateFrames.high_frame, CodedWords.recovered, CodedWords.coded_lt}
+use Rattle.rs_field.proofs.of_code.Unique.{codes_unique}
+use Rattle.rs_field.proofs.of_code.NextPower.{next_power-small, next_power-least, next_power-above}
+use Rattle.rs_field.proofs.of_code.Frame.{CodesIn, framed}
+use Rattle.rs_field.proofs.of_code.SupportedCounts.{high_fits}
+use Rattle.rs_field.proofs.of_code.RateFrames.{high_frame}
+use Rattle.rs_field.proofs.of_code.CodedWords.{recovered, coded_lt}
 
 -- ---- a polynomial with its argument moved by c
 

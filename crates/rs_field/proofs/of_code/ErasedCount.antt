@@ -1,11 +1,14 @@
 -- Erased points, given shards and known zeros are as many as the rows.
 use Rattle.std.proofs.Common.{rules, ◌≡◌, ℕ, zero, suc, ◌+◌, ◌-◌, ◌^◌, ◌<◌, ◌≤◌, ◌⊎◌, Bool, cond, length, refl, sym, ap, ◌∙◌, arith, inl, inr, add-zero, add-suc}
 use Rattle.std.specs.Prelude.{is_some}
-use Rattle.std.proofs.lemmas.{Bool.cases_eq, Grind.common_steps}
-use Rattle.rs_field.specs.code.{Given.Shards, Given.count_below, Placement.Placement}
+use Rattle.std.proofs.lemmas.Bool.{cases_eq}
+use Rattle.std.proofs.lemmas.Grind.{common_steps}
+use Rattle.rs_field.specs.code.Given.{Shards, count_below}
+use Rattle.rs_field.specs.code.Placement.{Placement}
 use Rattle.rs_field.specs.words.Walsh.{total}
 use Rattle.rs_field.proofs.of_words.Totals.{total-zero, total-suc}
-use Rattle.rs_field.proofs.of_code.{Given.count_below-zero, Given.count_below-suc, Frame.IsFrame}
+use Rattle.rs_field.proofs.of_code.Given.{count_below-zero, count_below-suc}
+use Rattle.rs_field.proofs.of_code.Frame.{IsFrame}
 use Rattle.rs_field.proofs.of_words.LocatorProduct.{marked, marked-more, marked-same, AreMarks}
 
 -- the marks of the n rows: each is marked but the known zeros and the places of shards given

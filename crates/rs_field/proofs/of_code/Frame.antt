@@ -3,8 +3,12 @@ use Rattle.std.proofs.Common.{◌≡◌, ℕ, ◌+◌, ◌-◌, ◌^◌, ◌<◌
 use Rattle.std.specs.Prelude.{slice_index}
 use Rattle.std.proofs.lemmas.Bool.{cases_lt}
 use Rattle.rs_field.specs.words.Polynomial.{value}
-use Rattle.rs_field.specs.code.{Counts.Rate, Placement.Placement, Placement.placement, Code.Codes}
-use Rattle.rs_field.proofs.of_words.{Roots.WordsOneByOne, Roots.words_from, Factors.all_words, ZerosPast.narrowed, ZerosPast.widened}
+use Rattle.rs_field.specs.code.Counts.{Rate}
+use Rattle.rs_field.specs.code.Placement.{Placement, placement}
+use Rattle.rs_field.specs.code.Code.{Codes}
+use Rattle.rs_field.proofs.of_words.Roots.{WordsOneByOne, words_from}
+use Rattle.rs_field.proofs.of_words.Factors.{all_words}
+use Rattle.rs_field.proofs.of_words.ZerosPast.{narrowed, widened}
 
 -- A placement of k originals and r recovery shards stands below 2 ^ e, with the known zeros up to `zeros_end` and
 -- polynomials of `bound` coefficients. It is the code's own, or the zeros from 2 ^ e on are divided out. The zeros come

@@ -1,8 +1,10 @@
 -- Maps from index to shard, one entry at a time.
 use Rattle.std.proofs.Common.{rules, ◌≡◌, ℕ, zero, suc, ◌+◌, ◌<◌, List, refl, sym, ap₂, ◌∙◌, ◌⊎◌, ◌≢◌, true, cond, arith}
 use Rattle.std.specs.Prelude.{Option, Some, is_some}
-use Rattle.std.proofs.lemmas.{Option.none-some, Grind.common_steps}
-use Rattle.rs_field.specs.code.{Column.Shard, Column.shard_at, Given.Shards, Given.nothing, Given.entered, Given.count_below, Given.AreAmong}
+use Rattle.std.proofs.lemmas.Option.{none-some}
+use Rattle.std.proofs.lemmas.Grind.{common_steps}
+use Rattle.rs_field.specs.code.Column.{Shard, shard_at}
+use Rattle.rs_field.specs.code.Given.{Shards, nothing, entered, count_below, AreAmong}
 
 -- an entry of a map with a shard entered is that shard, or an earlier entry
 pub entered_cases : (g : Shards) (k i : ℕ) (s : Shard) → ((i ≡ k) × (entered g k s i ≡ Some s)) ⊎ ((i ≢ k) × (entered g k s i ≡ g i))

@@ -3,9 +3,12 @@ use Rattle.std.proofs.Common.{rules, ◌≡◌, ℕ, ◌+◌, ◌-◌, ◌^◌, 
 use Rattle.std.specs.Prelude.{slice_index}
 use Rattle.std.proofs.lemmas.Bool.{cases_lt}
 use Rattle.rs_field.specs.words.Polynomial.{value}
-use Rattle.rs_field.specs.code.{Counts.Rate, Counts.next_power, Placement.placement, Placement.high_placement, Code.Codes}
-use Rattle.rs_field.proofs.of_words.{Roots.WordsOneByOne, Factors.points, Factors.times, Factors.length-times, Factors.words_times, Factors.all_words, ZerosPast.value-inside}
-use Rattle.rs_field.proofs.of_words.{ZerosPast.zero_outside}
+use Rattle.rs_field.specs.code.Counts.{Rate, next_power}
+use Rattle.rs_field.specs.code.Placement.{placement, high_placement}
+use Rattle.rs_field.specs.code.Code.{Codes}
+use Rattle.rs_field.proofs.of_words.Roots.{WordsOneByOne}
+use Rattle.rs_field.proofs.of_words.Factors.{points, times, length-times, words_times, all_words}
+use Rattle.rs_field.proofs.of_words.ZerosPast.{value-inside, zero_outside}
 
 -- where the originals of the high rate lie below 2 ^ d, a polynomial that codes them there codes them once it is made zero at the other points
 pub high_codes : (rate : Rate) (k r d : ℕ) (words p : List ℕ) → placement rate k r ≡ high_placement k r → d ≤ 16 → 2 ^ d ≤ 65536

@@ -1,9 +1,17 @@
 -- What is left of a list of shards, each with its index, where a test tells which are lost.
 use Rattle.std.proofs.Common.{rules, ◌≡◌, ℕ, ◌+◌, ◌<◌, ◌&&◌, Bool, true, false, cond, not, List, [], ◌∷◌, length, refl, sym, ap, subst, ◌∙◌, arith, nat_eq, nat_lt, Some, None, Result, IfOk, IfErr, ◌≤◌}
 use Rattle.std.specs.List.{AllByRecursion, IsDistinct, enumerate_from, filter, list_any}
-use Rattle.std.proofs.lemmas.{Bool.eqb-true, Bool.ne_eqb, Bool.eq-eqb, Bool.le-ltb, Bool.ltb-true, List.get_or_default, List.Elements.All-filter, List.Folds.list_any_at}
-use Rattle.std.proofs.lemmas.{List.FromFn.length-enumerate_from, List.FromFn.get_or-enumerate_from, Map.Made.IsDistinct-keys_filter, Map.Views.any-filter_same}
-use Rattle.rs_field.specs.code.{Column.Shard, Column.shard_at, Given.Shards, OneCall.Items, RoundTrip.AreLeft, RoundTrip.lost_of, RoundTrip.OneBringsBack}
+use Rattle.std.proofs.lemmas.Bool.{eqb-true, ne_eqb, eq-eqb, le-ltb, ltb-true}
+use Rattle.std.proofs.lemmas.List.{get_or_default}
+use Rattle.std.proofs.lemmas.List.Elements.{All-filter}
+use Rattle.std.proofs.lemmas.List.Folds.{list_any_at}
+use Rattle.std.proofs.lemmas.List.FromFn.{length-enumerate_from, get_or-enumerate_from}
+use Rattle.std.proofs.lemmas.Map.Made.{IsDistinct-keys_filter}
+use Rattle.std.proofs.lemmas.Map.Views.{any-filter_same}
+use Rattle.rs_field.specs.code.Column.{Shard, shard_at}
+use Rattle.rs_field.specs.code.Given.{Shards}
+use Rattle.rs_field.specs.code.OneCall.{Items}
+use Rattle.rs_field.specs.code.RoundTrip.{AreLeft, lost_of, OneBringsBack}
 use Rattle.rs_field.specs.declared.code.error.Error.{Error}
 use Rattle.rs_field.specs.declared.code.error.Error.TheVariants.{OutOfMemory}
 use Rattle.rs_field.proofs.of_code.Entries.{indexes}

@@ -2,10 +2,17 @@
 use Rattle.std.proofs.Common.{rules, ◌≡◌, ℕ, ◌+◌, ◌<◌, List, [], length, min, bit_xor, sym, ap, ap₂, ◌∙◌, subst, arith}
 use Rattle.std.specs.Prelude.{slice_index, slice_index_or, zip}
 use Rattle.std.specs.Int.Bits.{xor_lt}
-use Rattle.std.proofs.lemmas.{Bool.cases_lt, List.get_or-map, List.length-map, List.get_or_past, Slice.Zip.get_or-zip, Slice.Zip.length-zip}
-use Rattle.rs_field.specs.code.{Column.Shard, Column.IsShard, Column.AreShards, Column.shard_at, Column.column, Column.columns, Counts.Rate, Placement.placement}
-use Rattle.rs_field.specs.code.{Configuration.Configuration, Code.Codes, Code.AreRecoveryWords, Code.AreRecovery, CodeLaws.xor_bytes, CodeLaws.xor_shards}
-use Rattle.rs_field.proofs.of_words.{Roots.words_from, Factors.add, Factors.value_add, Factors.length-add, Factors.words_add, Factors.all_words}
+use Rattle.std.proofs.lemmas.Bool.{cases_lt}
+use Rattle.std.proofs.lemmas.List.{get_or-map, length-map, get_or_past}
+use Rattle.std.proofs.lemmas.Slice.Zip.{get_or-zip, length-zip}
+use Rattle.rs_field.specs.code.Column.{Shard, IsShard, AreShards, shard_at, column, columns}
+use Rattle.rs_field.specs.code.Counts.{Rate}
+use Rattle.rs_field.specs.code.Placement.{placement}
+use Rattle.rs_field.specs.code.Configuration.{Configuration}
+use Rattle.rs_field.specs.code.Code.{Codes, AreRecoveryWords, AreRecovery}
+use Rattle.rs_field.specs.code.CodeLaws.{xor_bytes, xor_shards}
+use Rattle.rs_field.proofs.of_words.Roots.{words_from}
+use Rattle.rs_field.proofs.of_words.Factors.{add, value_add, length-add, words_add, all_words}
 use Rattle.rs_field.proofs.of_code.Columns.{byte_lt, columns-at, shard_in}
 use Rattle.rs_field.proofs.of_rows.Symbols.{sum_of_bytes}
 

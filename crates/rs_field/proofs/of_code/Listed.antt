@@ -1,7 +1,8 @@
 -- The shards of a map, listed with their indexes.
 use Rattle.std.proofs.Common.{rules, ◌≡◌, ℕ, zero, suc, ◌+◌, ◌-◌, ◌<◌, ◌≤◌, [], ◌∷◌, ◌++◌, length, refl, sym, ap, ap₂, ◌∙◌, arith, length-append, append_assoc, append-nil, add-zero}
 use Rattle.std.specs.Prelude.{Some, None}
-use Rattle.rs_field.specs.code.{Column.Shard, Given.Shards, Given.listed_one, Given.listed_from, Given.listed, Given.count_below}
+use Rattle.rs_field.specs.code.Column.{Shard}
+use Rattle.rs_field.specs.code.Given.{Shards, listed_one, listed_from, listed, count_below}
 use Rattle.rs_field.proofs.of_code.Given.{count_below-zero, count_below-suc}
 
 pub listed_from-zero : (from : ℕ) (given : Shards) → listed_from from 0 given ≡ []

@@ -1,12 +1,17 @@
 -- Shards with given words as columns, so every message has recovery shards.
 use Rattle.std.proofs.Common.{rules, ◌≡◌, ℕ, ◌+◌, ◌-◌, ◌*◌, ◌/◌, ◌%◌, ◌<◌, Bool, true, cond, List, [], length, sym, ap, ◌∙◌, subst, arith}
 use Rattle.std.specs.Prelude.{slice_index, nat_lt}
-use Rattle.std.proofs.lemmas.{Bool.cases_lt, Bool.lt-ltb, List.get_or_past, Grind.common_steps}
-use Rattle.rs_field.specs.code.{Column.Shard, Column.IsShard, Column.AreShards, Column.column, Column.columns, Counts.Rate, Counts.supports, Configuration.Configuration}
-use Rattle.rs_field.specs.code.{Code.AreRecoveryWords, Code.AreRecovery}
-use Rattle.rs_field.specs.rows.{Layout.up_to, Layout.laid_out}
+use Rattle.std.proofs.lemmas.Bool.{cases_lt, lt-ltb}
+use Rattle.std.proofs.lemmas.List.{get_or_past}
+use Rattle.std.proofs.lemmas.Grind.{common_steps}
+use Rattle.rs_field.specs.code.Column.{Shard, IsShard, AreShards, column, columns}
+use Rattle.rs_field.specs.code.Counts.{Rate, supports}
+use Rattle.rs_field.specs.code.Configuration.{Configuration}
+use Rattle.rs_field.specs.code.Code.{AreRecoveryWords, AreRecovery}
+use Rattle.rs_field.specs.rows.Layout.{up_to, laid_out}
 use Rattle.rs_field.proofs.of_words.Roots.{value_lt, words_from}
-use Rattle.rs_field.proofs.of_code.{Columns.columns-at, Columns.columns_lt, CodedWords.recovered}
+use Rattle.rs_field.proofs.of_code.Columns.{columns-at, columns_lt}
+use Rattle.rs_field.proofs.of_code.CodedWords.{recovered}
 use Rattle.rs_field.proofs.of_rows.LayoutLemmas.{length-up_to, get-up_to, shard-laid_out, column-laid_out}
 
 -- byte b of chunk q of a row with these words: the low bytes first, then the high ones

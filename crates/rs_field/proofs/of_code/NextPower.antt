@@ -1,7 +1,8 @@
 -- The power of two that a count is rounded up to.
 use Rattle.std.proofs.Common.{◌≡◌, ℕ, zero, suc, ◌*◌, ◌/◌, ◌^◌, ◌<◌, ◌≤◌, max, refl, sym, ap, ◌∙◌, subst, arith, inl, inr, pow_mono, pow-suc}
 use Rattle.std.specs.Prelude.{nat_le}
-use Rattle.std.proofs.lemmas.{Bool.cases_lt, Bool.le-leb, Bool.lt-leb, Bool.leb-true, Nat.pow_pos}
+use Rattle.std.proofs.lemmas.Bool.{cases_lt, le-leb, lt-leb, leb-true}
+use Rattle.std.proofs.lemmas.Nat.{pow_pos}
 use Rattle.rs_field.specs.words.Search.{first_below}
 use Rattle.rs_field.specs.code.Counts.{next_power}
 use Rattle.rs_field.proofs.of_words.Search.{first_below-is, first_below-passes, first_below_most}

@@ -2,21 +2,27 @@
 use Rattle.std.proofs.Common.{rules, ◌≡◌, ℕ, ◌+◌, ◌<◌, ◌≤◌, ◌++◌, ◌∷◌, ◌^◌, [], Bool, true, false, cond, not, ◌&&◌, List, length, refl, sym, ap, ap₂, subst, ◌∙◌, inl, inr, arith, append_assoc, append-nil, length-append, All, nat_eq, add-zero, zero-add}
 use Rattle.std.specs.Prelude.{Result, Ok, Err, Some, None, IfOk, IfErr, IsOkAnd, MatchResult, nat_le, nat_lt}
 use Rattle.std.specs.List.{AllByRecursion, IsDistinct, list_any}
-use Rattle.std.proofs.lemmas.{Bool.lt-leb, Bool.eqb-false, Bool.eq-eqb, Bool.ne_eqb, Bool.ltb-true, Bool.or_from, List.Elements.All-nil, List.Elements.All-cons}
-use Rattle.std.proofs.lemmas.{List.Elements.recursion_from_All, Map.Keys.IsDistinct-head, Map.Keys.IsDistinct-tail, Grind.common_steps}
+use Rattle.std.proofs.lemmas.Bool.{lt-leb, eqb-false, eq-eqb, ne_eqb, ltb-true, or_from}
+use Rattle.std.proofs.lemmas.List.Elements.{All-nil, All-cons, recursion_from_All}
+use Rattle.std.proofs.lemmas.Map.Keys.{IsDistinct-head, IsDistinct-tail}
+use Rattle.std.proofs.lemmas.Grind.{common_steps}
 use Rattle.rs_field.specs.declared.code.error.Error.{Error}
 use Rattle.rs_field.specs.declared.code.error.Error.TheVariants.{UnsupportedShardCount, TooFewOriginalShards, NotEnoughShards, OutOfMemory}
-use Rattle.rs_field.specs.code.{Column.Shard, Column.IsShard, Column.AreShards, Column.shard_at, Counts.Rate, Counts.default_rate, Counts.supports, Placement.encoder_rows}
-use Rattle.rs_field.specs.code.{Placement.decoder_rows, Outcome.result_and_then, Configuration.Configuration, Configuration.validated, Configuration.space}
-use Rattle.rs_field.specs.code.{Configuration.started, Code.AreRecovery, Given.Shards, Given.nothing, Given.entered, Given.count_below, Encoder.EncoderState}
-use Rattle.rs_field.specs.code.{Encoder.IsEncoder, Encoder.fresh_encoder, Encoder.with_shard, Encoder.EncodeAnswers, Decoder.DecoderState, Decoder.fresh_decoder}
-use Rattle.rs_field.specs.code.{Decoder.with_original, Decoder.with_recovery, Decoder.missing_of, Decoder.DecodeAnswers, OneCall.Items, OneCall.default_of, OneCall.counted}
-use Rattle.rs_field.specs.code.{OneCall.one_by_one, OneCall.with_shards, OneCall.with_originals, OneCall.with_recoveries, OneCall.with_both, OneCall.encoding, OneCall.noted}
-use Rattle.rs_field.specs.code.{OneCall.all_came, OneCall.OneEncodeAnswers, OneCall.OneDecodes, OneCall.OneDecodeAnswers, RoundTrip.AreCoded, RoundTrip.AreLeft}
-use Rattle.rs_field.specs.code.{RoundTrip.enough_left, RoundTrip.lost_of, RoundTrip.GivesBack, RoundTrip.OneBringsBack}
-use Rattle.rs_field.proofs.of_code.{Given.nothing_among, Entries.entered_all, Entries.count-nothing, Entries.AreFree, Entries.indexes, Entries.free-next}
-use Rattle.rs_field.proofs.of_code.{Entries.count-entered_all, Entries.among-entered_all, Entries.some-entered_all, Entries.all_some, RoundTrip.answered}
-use Rattle.rs_field.proofs.of_code.{RoundTrip.restores_lost, SupportedCounts.default_fits}
+use Rattle.rs_field.specs.code.Column.{Shard, IsShard, AreShards, shard_at}
+use Rattle.rs_field.specs.code.Counts.{Rate, default_rate, supports}
+use Rattle.rs_field.specs.code.Placement.{encoder_rows, decoder_rows}
+use Rattle.rs_field.specs.code.Outcome.{result_and_then}
+use Rattle.rs_field.specs.code.Configuration.{Configuration, validated, space, started}
+use Rattle.rs_field.specs.code.Code.{AreRecovery}
+use Rattle.rs_field.specs.code.Given.{Shards, nothing, entered, count_below}
+use Rattle.rs_field.specs.code.Encoder.{EncoderState, IsEncoder, fresh_encoder, with_shard, EncodeAnswers}
+use Rattle.rs_field.specs.code.Decoder.{DecoderState, fresh_decoder, with_original, with_recovery, missing_of, DecodeAnswers}
+use Rattle.rs_field.specs.code.OneCall.{Items, default_of, counted, one_by_one, with_shards, with_originals, with_recoveries, with_both, encoding, noted, all_came, OneEncodeAnswers, OneDecodes, OneDecodeAnswers}
+use Rattle.rs_field.specs.code.RoundTrip.{AreCoded, AreLeft, enough_left, lost_of, GivesBack, OneBringsBack}
+use Rattle.rs_field.proofs.of_code.Given.{nothing_among}
+use Rattle.rs_field.proofs.of_code.Entries.{entered_all, count-nothing, AreFree, indexes, free-next, count-entered_all, among-entered_all, some-entered_all, all_some}
+use Rattle.rs_field.proofs.of_code.RoundTrip.{answered, restores_lost}
+use Rattle.rs_field.proofs.of_code.SupportedCounts.{default_fits}
 
 -- a step after a success was reached by that success
 then_ok : {S T : Type 0} (f : S → Result T Error) (o : Result S Error) (t : T) → result_and_then f o ≡ Ok t → (s : S) × (o ≡ Ok s) × (f s ≡ Ok t)

@@ -1,14 +1,23 @@
 -- Shards at k places of a codeword fix its message.
 use Rattle.std.proofs.Common.{rules, ◌≡◌, ℕ, zero, suc, ◌+◌, ◌-◌, ◌%◌, ◌<◌, ◌≤◌, ◌⊎◌, Bool, true, false, cond, List, ◌++◌, length, sym, ap, ◌∙◌, arith, inl, inr, pow_mono, refl, add-zero, add-suc}
 use Rattle.std.specs.Prelude.{slice_index, nat_lt, Option, Some, is_some}
-use Rattle.std.proofs.lemmas.{Bool.cases_lt, Bool.lt-ltb, Bool.le-ltb, List.get_or_append_left, List.get_or-append_right, List.length-map, List.map-append, Grind.common_steps}
+use Rattle.std.proofs.lemmas.Bool.{cases_lt, lt-ltb, le-ltb}
+use Rattle.std.proofs.lemmas.List.{get_or_append_left, get_or-append_right, length-map, map-append}
+use Rattle.std.proofs.lemmas.Grind.{common_steps}
 use Rattle.rs_field.specs.words.Polynomial.{value}
-use Rattle.rs_field.specs.code.{Column.Shard, Column.AreShards, Column.shard_at, Column.column, Column.columns, Counts.Rate, Counts.supports, Placement.Placement}
-use Rattle.rs_field.specs.code.{Placement.placement, Configuration.Configuration, Code.Codes, Code.AreRecoveryWords, Code.AreRecovery, Given.Shards, Given.count_below}
-use Rattle.rs_field.specs.code.{Given.Agrees, CodeLaws.ArePlaces}
-use Rattle.rs_field.proofs.of_words.{Roots.words_from, Values.same_from_values}
-use Rattle.rs_field.proofs.of_code.{Columns.columns-at, Columns.shards_from_columns, Given.count_below-zero, Given.count_below-suc, Given.count_below-same, Frame.IsFrame}
-use Rattle.rs_field.proofs.of_code.{RateFrames.HasFrame, RateFrames.has_frame}
+use Rattle.rs_field.specs.code.Column.{Shard, AreShards, shard_at, column, columns}
+use Rattle.rs_field.specs.code.Counts.{Rate, supports}
+use Rattle.rs_field.specs.code.Placement.{Placement, placement}
+use Rattle.rs_field.specs.code.Configuration.{Configuration}
+use Rattle.rs_field.specs.code.Code.{Codes, AreRecoveryWords, AreRecovery}
+use Rattle.rs_field.specs.code.Given.{Shards, count_below, Agrees}
+use Rattle.rs_field.specs.code.CodeLaws.{ArePlaces}
+use Rattle.rs_field.proofs.of_words.Roots.{words_from}
+use Rattle.rs_field.proofs.of_words.Values.{same_from_values}
+use Rattle.rs_field.proofs.of_code.Columns.{columns-at, shards_from_columns}
+use Rattle.rs_field.proofs.of_code.Given.{count_below-zero, count_below-suc, count_below-same}
+use Rattle.rs_field.proofs.of_code.Frame.{IsFrame}
+use Rattle.rs_field.proofs.of_code.RateFrames.{HasFrame, has_frame}
 
 -- a choice by whether a number is below another
 below_or : {A : Type 0} → ℕ → (ℕ → A) → (ℕ → A) → ℕ → A

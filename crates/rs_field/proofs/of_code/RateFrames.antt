@@ -2,8 +2,9 @@
 use Rattle.std.proofs.Common.{rules, ◌≡◌, ℕ, ◌+◌, ◌-◌, ◌^◌, ◌≤◌, Bool, true, false, cond, min, max, refl, sym, ap, ◌∙◌, arith, inl, inr, pow_mono, subst}
 use Rattle.rs_field.specs.code.Counts.{Rate, low_rate, high_rate, default_rate, next_power, supports, is_low}
 use Rattle.rs_field.specs.code.Placement.{low_placement, high_placement, placement, decoder_rows}
-use Rattle.rs_field.proofs.of_code.{NextPower.next_power-small, NextPower.next_power-above, SupportedCounts.low_fits, SupportedCounts.high_fits, SupportedCounts.default_fits}
-use Rattle.rs_field.proofs.of_code.{SupportedCounts.low_powers, SupportedCounts.high_powers, Frame.IsFrame}
+use Rattle.rs_field.proofs.of_code.NextPower.{next_power-small, next_power-above}
+use Rattle.rs_field.proofs.of_code.SupportedCounts.{low_fits, high_fits, default_fits, low_powers, high_powers}
+use Rattle.rs_field.proofs.of_code.Frame.{IsFrame}
 
 pub low_frame : (k r : ℕ) → next_power k + r ≤ 65536 → k ≤ next_power k
     → (e : ℕ) × (next_power (next_power k + r) ≡ 2 ^ e) × IsFrame (low_placement k) k r e (next_power k) (next_power k)

@@ -2,8 +2,13 @@
 use Rattle.std.proofs.Common.{rules, ◌≡◌, ◌≤◌, List, length, arith}
 use Rattle.std.specs.Prelude.{Result, Ok}
 use Rattle.rs_field.specs.declared.code.error.Error.{Error}
-use Rattle.rs_field.specs.code.{Column.Shard, Column.AreShards, Counts.Rate, Code.AreRecovery, Given.Shards, Given.AreAmong, Encoder.EncoderState, Encoder.IsEncoder}
-use Rattle.rs_field.specs.code.{Encoder.EncodeAnswers, Decoder.DecoderState, Decoder.IsAgreeing, Decoder.DecodeAnswers, RoundTrip.BringsBack}
+use Rattle.rs_field.specs.code.Column.{Shard, AreShards}
+use Rattle.rs_field.specs.code.Counts.{Rate}
+use Rattle.rs_field.specs.code.Code.{AreRecovery}
+use Rattle.rs_field.specs.code.Given.{Shards, AreAmong}
+use Rattle.rs_field.specs.code.Encoder.{EncoderState, IsEncoder, EncodeAnswers}
+use Rattle.rs_field.specs.code.Decoder.{DecoderState, IsAgreeing, DecodeAnswers}
+use Rattle.rs_field.specs.code.RoundTrip.{BringsBack}
 use Rattle.std.proofs.lemmas.Grind.{common_steps}
 
 -- what a decoder answers that some message agrees with

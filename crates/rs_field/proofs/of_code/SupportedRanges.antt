@@ -1,8 +1,11 @@
 -- The ranges of counts that the default rate supports.
 use Rattle.std.proofs.Common.{rules, ◌≡◌, ℕ, ◌+◌, ◌^◌, ◌<◌, ◌≤◌, ◌⊎◌, true, min, max, inl, inr, arith, pow_mono}
-use Rattle.std.proofs.lemmas.{Bool.cases_lt, Grind.common_steps}
-use Rattle.rs_field.specs.code.{Counts.default_rate, Counts.next_power, Counts.supports, CountLaws.AreBeside}
-use Rattle.rs_field.proofs.of_code.{NextPower.next_power-small, NextPower.next_power-least, SupportedCounts.default_fits}
+use Rattle.std.proofs.lemmas.Bool.{cases_lt}
+use Rattle.std.proofs.lemmas.Grind.{common_steps}
+use Rattle.rs_field.specs.code.Counts.{default_rate, next_power, supports}
+use Rattle.rs_field.specs.code.CountLaws.{AreBeside}
+use Rattle.rs_field.proofs.of_code.NextPower.{next_power-small, next_power-least}
+use Rattle.rs_field.proofs.of_code.SupportedCounts.{default_fits}
 
 -- a power of two below the field's order is at most half of it
 half_most : (n : ℕ) → 2 ^ n < 65536 → (n < 64) × (2 ^ n ≤ 32768)

@@ -1,13 +1,18 @@
 -- A message has one list of recovery shards at most, and a column one column of them.
 use Rattle.std.proofs.Common.{◌≡◌, ℕ, ◌+◌, ◌-◌, ◌/◌, ◌%◌, ◌^◌, ◌<◌, ◌≤◌, List, length, true, false, cond, refl, sym, ap, ◌∙◌, subst, arith, ◌⊎◌, inl, inr, pow_mono}
 use Rattle.std.specs.Prelude.{slice_index}
-use Rattle.std.proofs.lemmas.{Bool.cases_lt, List.ext_get_or, List.length-map}
+use Rattle.std.proofs.lemmas.Bool.{cases_lt}
+use Rattle.std.proofs.lemmas.List.{ext_get_or, length-map}
 use Rattle.rs_field.specs.words.Polynomial.{value}
-use Rattle.rs_field.specs.code.{Column.Shard, Column.column, Column.columns, Counts.Rate, Counts.next_power, Counts.is_low, Placement.Placement, Placement.placement}
-use Rattle.rs_field.specs.code.{Placement.low_placement, Placement.high_placement, Configuration.Configuration, Configuration.configuration, Code.Codes, Code.AreRecoveryWords}
-use Rattle.rs_field.specs.code.{Code.AreRecovery}
-use Rattle.rs_field.proofs.of_code.{NextPower.next_power-small, Columns.shards_from_columns}
-use Rattle.rs_field.proofs.of_words.{Roots.words_from, Values.same_from_values}
+use Rattle.rs_field.specs.code.Column.{Shard, column, columns}
+use Rattle.rs_field.specs.code.Counts.{Rate, next_power, is_low}
+use Rattle.rs_field.specs.code.Placement.{Placement, placement, low_placement, high_placement}
+use Rattle.rs_field.specs.code.Configuration.{Configuration, configuration}
+use Rattle.rs_field.specs.code.Code.{Codes, AreRecoveryWords, AreRecovery}
+use Rattle.rs_field.proofs.of_code.NextPower.{next_power-small}
+use Rattle.rs_field.proofs.of_code.Columns.{shards_from_columns}
+use Rattle.rs_field.proofs.of_words.Roots.{words_from}
+use Rattle.rs_field.proofs.of_words.Values.{same_from_values}
 
 -- each placement is that of the low rate or that of the high rate
 low_or_high : (rate : Rate) (k r : ℕ) → (placement rate k r ≡ low_placement k) ⊎ (placement rate k r ≡ high_placement k r)

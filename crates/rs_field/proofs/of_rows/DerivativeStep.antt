@@ -1,16 +1,24 @@
 -- The derivative step by halves: of the polynomial with given coefficients in the subspace basis, for one symbol of the rows.
 use Rattle.std.proofs.Common.{rules, ◌≡◌, ℕ, suc, ◌+◌, ◌*◌, ◌/◌, ◌^◌, ◌<◌, ◌≤◌, List, [], ◌∷◌, length, bit_xor, refl, sym, ap, ap₂, ◌∙◌, subst, arith, add_assoc, zero-add, pow-suc, pow_mono}
 use Rattle.std.specs.Int.Bits.{xor_comm, xor_zero_r}
-use Rattle.rs_field.specs.words.{Field.product, Polynomial.value, Polynomial.derivative_value, Subspace.subspace, Transform.forward, Derivative.IsInBasis}
-use Rattle.rs_field.specs.words.{Derivative.IsDerivativeAdded}
+use Rattle.rs_field.specs.words.Field.{product}
+use Rattle.rs_field.specs.words.Polynomial.{value, derivative_value}
+use Rattle.rs_field.specs.words.Subspace.{subspace}
+use Rattle.rs_field.specs.words.Transform.{forward}
+use Rattle.rs_field.specs.words.Derivative.{IsInBasis, IsDerivativeAdded}
 use Rattle.rs_field.specs.rows.View.{cell, word}
 use Rattle.rs_field.specs.declared.rows.shards.ShardsRefMut.{ShardsRefMut}
-use Rattle.rs_field.proofs.of_words.{Product.product_zero, Total.product-comm, Subspace.subspace_from_zero, Roots.WordsOneByOne, Roots.words_from, Roots.value_lt}
-use Rattle.rs_field.proofs.of_words.{Roots.value-nil, Values.same_from_values, Factors.add, Factors.times, Factors.points, Factors.value_add, Factors.value-times}
-use Rattle.rs_field.proofs.of_words.{Factors.length-add, Factors.length-times, Factors.words_add, Factors.words_times, Combination.forward-same, Combination.forward-xor}
-use Rattle.rs_field.proofs.of_words.{Combination.forward-half, Coefficients.polynomial_of_terms, Derivative.derivative_lt, Derivative.derivative-nil}
-use Rattle.rs_field.proofs.of_words.{Derivative.derivative-cons, Derivative.derivative_add, Derivative.derivative-subspace, Halves.half_power, Halves.few_halves}
-use Rattle.rs_field.proofs.of_words.{Halves.subspace_lt, RingSolver.plus, RingSolver.v, RingSolver.times as both, RingSolver.by_algebra}
+use Rattle.rs_field.proofs.of_words.Product.{product_zero}
+use Rattle.rs_field.proofs.of_words.Total.{product-comm}
+use Rattle.rs_field.proofs.of_words.Subspace.{subspace_from_zero}
+use Rattle.rs_field.proofs.of_words.Roots.{WordsOneByOne, words_from, value_lt, value-nil}
+use Rattle.rs_field.proofs.of_words.Values.{same_from_values}
+use Rattle.rs_field.proofs.of_words.Factors.{add, times, points, value_add, value-times, length-add, length-times, words_add, words_times}
+use Rattle.rs_field.proofs.of_words.Combination.{forward-same, forward-xor, forward-half}
+use Rattle.rs_field.proofs.of_words.Coefficients.{polynomial_of_terms}
+use Rattle.rs_field.proofs.of_words.Derivative.{derivative_lt, derivative-nil, derivative-cons, derivative_add, derivative-subspace}
+use Rattle.rs_field.proofs.of_words.Halves.{half_power, few_halves, subspace_lt}
+use Rattle.rs_field.proofs.of_words.RingSolver.{plus, v, times as both, by_algebra}
 use Rattle.rs_field.proofs.of_rows.Recursion.{word_same}
 
 -- there is one such polynomial

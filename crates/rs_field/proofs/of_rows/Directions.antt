@@ -2,8 +2,11 @@
 use Rattle.std.proofs.Common.{◌≡◌, ℕ, ◌+◌, ◌-◌, ◌*◌, ◌^◌, ◌<◌, ◌≤◌, Bool, List, get_or}
 use Rattle.rs_field.specs.declared.rows.layers.Direction.{Direction}
 use Rattle.rs_field.specs.declared.rows.shards.ShardsRefMut.{ShardsRefMut}
-use Rattle.rs_field.specs.rows.{Layers.rows_of_part, Directions.IsButterfly, Directions.AreTwoLayers, Directions.AreLayers, Directions.AreTransformed, View.cell, View.word}
-use Rattle.rs_field.proofs.of_rows.{Layers.IsBlock, Layers.backward_undone, Layers.four_rows, Layers.half_rows, Layers.pair_undone, PartLoops.single_rows}
+use Rattle.rs_field.specs.rows.Layers.{rows_of_part}
+use Rattle.rs_field.specs.rows.Directions.{IsButterfly, AreTwoLayers, AreLayers, AreTransformed}
+use Rattle.rs_field.specs.rows.View.{cell, word}
+use Rattle.rs_field.proofs.of_rows.Layers.{IsBlock, backward_undone, four_rows, half_rows, pair_undone}
+use Rattle.rs_field.proofs.of_rows.PartLoops.{single_rows}
 
 -- one layer of rows by halves
 pub layer_of_halves : (direction : Direction) (skew : List ℕ) (n shift pos k s : ℕ) (old new : ShardsRefMut) → IsBlock skew (n + n) shift → s < 32

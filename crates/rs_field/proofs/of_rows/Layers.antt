@@ -1,10 +1,15 @@
 -- One layer of butterflies between the halves of a block, and two layers between its quarters, for one symbol of the rows.
 use Rattle.std.proofs.Common.{rules, ◌≡◌, ℕ, suc, ◌+◌, ◌-◌, ◌*◌, ◌%◌, ◌^◌, ◌<◌, ◌≤◌, cond, nat_lt, List, get_or, bit_xor, sym, ap, ap₂, ◌∙◌, subst, inl, inr, arith}
 use Rattle.std.proofs.Math.Nat.{mul-le-mul_right}
-use Rattle.std.proofs.lemmas.{Bool.cases_lt, Grind.common_steps}
-use Rattle.rs_field.specs.words.{Field.product, Subspace.subspace, Transform.forward, Tables.IsSkew, Tables.scaled}
-use Rattle.rs_field.specs.rows.{Pairs.IsForwardTwo, Pairs.IsBackwardTwo, TwoLayers.forward_first, TwoLayers.forward_second, TwoLayers.backward_first, TwoLayers.backward_second}
-use Rattle.rs_field.specs.rows.{TwoLayers.IsForwardFour, TwoLayers.IsBackwardFour, Layers.ArePartsOf}
+use Rattle.std.proofs.lemmas.Bool.{cases_lt}
+use Rattle.std.proofs.lemmas.Grind.{common_steps}
+use Rattle.rs_field.specs.words.Field.{product}
+use Rattle.rs_field.specs.words.Subspace.{subspace}
+use Rattle.rs_field.specs.words.Transform.{forward}
+use Rattle.rs_field.specs.words.Tables.{IsSkew, scaled}
+use Rattle.rs_field.specs.rows.Pairs.{IsForwardTwo, IsBackwardTwo}
+use Rattle.rs_field.specs.rows.TwoLayers.{forward_first, forward_second, backward_first, backward_second, IsForwardFour, IsBackwardFour}
+use Rattle.rs_field.specs.rows.Layers.{ArePartsOf}
 use Rattle.rs_field.proofs.of_words.Combination.{forward-same, lower_half, upper_half}
 use Rattle.rs_field.proofs.of_words.Halves.{half_power, few_halves, shift_half, table_factor, xor_undo}
 

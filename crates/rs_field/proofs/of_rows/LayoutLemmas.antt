@@ -3,11 +3,13 @@ use Rattle.std.proofs.Common.{rules, ◌≡◌, ℕ, zero, suc, ◌+◌, ◌-◌
 use Rattle.std.specs.Prelude.{slice_index}
 use Rattle.std.proofs.Math.Nat.{min-eq_left, min-eq_right}
 use Rattle.std.proofs.Math.Seq.{get_or-append_seam}
-use Rattle.std.proofs.lemmas.{Bool.cases_lt, List.ext_get_or, List.get_or_append_left, List.get_or-append_right, List.get_or-take, List.get_or-drop, List.length-take-le}
-use Rattle.std.proofs.lemmas.{Grind.common_steps}
+use Rattle.std.proofs.lemmas.Bool.{cases_lt}
+use Rattle.std.proofs.lemmas.List.{ext_get_or, get_or_append_left, get_or-append_right, get_or-take, get_or-drop, length-take-le}
+use Rattle.std.proofs.lemmas.Grind.{common_steps}
 use Rattle.rs_field.specs.code.Column.{Shard, IsShard, column}
 use Rattle.std.specs.List.{flat_map}
-use Rattle.rs_field.specs.rows.{Rows.chunk, Rows.symbol, Layout.row_len, Layout.up_to, Layout.byte_offset, Layout.laid_out, Layout.in_order}
+use Rattle.rs_field.specs.rows.Rows.{chunk, symbol}
+use Rattle.rs_field.specs.rows.Layout.{row_len, up_to, byte_offset, laid_out, in_order}
 
 pub length-up_to : {A : Type 0} (n : ℕ) (f : ℕ → A) → length (up_to n f) ≡ n
 length-up_to zero f = refl

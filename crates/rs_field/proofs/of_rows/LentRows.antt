@@ -1,8 +1,11 @@
 -- What stands where in a list whose rows were replaced.
 use Rattle.std.proofs.Common.{◌≡◌, ℕ, ◌+◌, ◌-◌, ◌*◌, ◌<◌, ◌≤◌, ◌⊎◌, List, [], ◌++◌, length, take, drop, sym, ap, ◌∙◌, subst, arith, length-append}
 use Rattle.std.proofs.Math.Nat.{mul-le-mul_right}
-use Rattle.std.proofs.lemmas.{List.get_or_append_left, List.get_or-append_right, List.get_or-take, List.get_or-drop, List.length-take-le, List.length-drop, Grind.common_steps}
-use Rattle.rs_field.specs.rows.{Rows.Chunks, Rows.chunk, View.SameShape, View.cell, Lending.between, Lending.with_chunks, Lending.with_two}
+use Rattle.std.proofs.lemmas.List.{get_or_append_left, get_or-append_right, get_or-take, get_or-drop, length-take-le, length-drop}
+use Rattle.std.proofs.lemmas.Grind.{common_steps}
+use Rattle.rs_field.specs.rows.Rows.{Chunks, chunk}
+use Rattle.rs_field.specs.rows.View.{SameShape, cell}
+use Rattle.rs_field.specs.rows.Lending.{between, with_chunks, with_two}
 use Rattle.rs_field.specs.declared.rows.shards.ShardsRefMut.{ShardsRefMut}
 
 pub part-long : (ch : Chunks) (a n : ℕ) → a + n ≤ length ch → length (take n (drop a ch)) ≡ n

@@ -1,19 +1,26 @@
 -- Loops over the parts of a block, each of which transforms one part, for the rows and for the counts.
 use Rattle.std.proofs.Common.{◌≡◌, ℕ, ◌+◌, ◌*◌, ◌/◌, ◌%◌, ◌^◌, ◌<◌, ◌≤◌, ◌⊎◌, Bool, false, replicate, refl, sym, ap, ◌∙◌, inl, inr, arith, subst, mod-lt}
 use Rattle.std.proofs.Math.Nat.{mul-le-mul_right}
-use Rattle.std.proofs.lemmas.{Bool.cases_eq, Bool.cases_lt, Nat.div-add-mod', Grind.common_steps}
-use Rattle.rs_field.specs.words.{Transform.forward, StepBounds.CountsRows, StepBounds.CountsUpTo, StepBounds.TransformCounts, StepBounds.transform_steps}
-use Rattle.rs_field.specs.rows.{Layers.ArePartsOf, Layers.is_halved, Layers.rows_of_part, Layers.layer_steps, View.cell, View.word, View.SameShape, View.SameRowsOutside}
-use Rattle.rs_field.specs.rows.{MarkedRows.is_used, Directions.AreTransformed, Directions.UnusedAreZeroBackward, Directions.PartCounts}
+use Rattle.std.proofs.lemmas.Bool.{cases_eq, cases_lt}
+use Rattle.std.proofs.lemmas.Nat.{div-add-mod'}
+use Rattle.std.proofs.lemmas.Grind.{common_steps}
+use Rattle.rs_field.specs.words.Transform.{forward}
+use Rattle.rs_field.specs.words.StepBounds.{CountsRows, CountsUpTo, TransformCounts, transform_steps}
+use Rattle.rs_field.specs.rows.Layers.{ArePartsOf, is_halved, rows_of_part, layer_steps}
+use Rattle.rs_field.specs.rows.View.{cell, word, SameShape, SameRowsOutside}
+use Rattle.rs_field.specs.rows.MarkedRows.{is_used}
+use Rattle.rs_field.specs.rows.Directions.{AreTransformed, UnusedAreZeroBackward, PartCounts}
 use Rattle.rs_field.specs.declared.rows.layers.Direction.{Direction}
 use Rattle.rs_field.specs.declared.rows.block.Block.{Block}
 use Rattle.rs_field.specs.declared.rows.marked_rows.UsedRows.{UsedRows}
 use Rattle.rs_field.specs.declared.rows.shards.ShardsRefMut.{ShardsRefMut}
 use Rattle.rs_field.specs.declared.words.steps.Steps.{Steps}
-use Rattle.rs_field.proofs.of_words.{Combination.forward-one, Combination.forward-same, Counting.counts_rows, Counting.counts_then, Counting.counts_within}
-use Rattle.rs_field.proofs.of_words.{Halves.quarter_power}
-use Rattle.rs_field.proofs.of_rows.{Parts.IsPart, Parts.part_found, Parts.part_within, Recursion.one_row, Recursion.word_same, Recursion.zero_rows, RowOffsets.outside_both}
-use Rattle.rs_field.proofs.of_rows.{RowOffsets.outside_cell, RowOffsets.shape_then}
+use Rattle.rs_field.proofs.of_words.Combination.{forward-one, forward-same}
+use Rattle.rs_field.proofs.of_words.Counting.{counts_rows, counts_then, counts_within}
+use Rattle.rs_field.proofs.of_words.Halves.{quarter_power}
+use Rattle.rs_field.proofs.of_rows.Parts.{IsPart, part_found, part_within}
+use Rattle.rs_field.proofs.of_rows.Recursion.{one_row, word_same, zero_rows}
+use Rattle.rs_field.proofs.of_rows.RowOffsets.{outside_both, outside_cell, shape_then}
 
 -- words that are the same are transformed in the same way
 transformed_same : (direction : Direction) (used used' : ℕ → Bool) (n shift : ℕ) (f g f' g' : ℕ → ℕ) → ((q : ℕ) → q < n → f' q ≡ f q)

@@ -1,7 +1,9 @@
 -- The parts of a block that its first layers leave: their rows, their place among the points, and the row steps.
 use Rattle.std.proofs.Common.{◌≡◌, ℕ, ◌+◌, ◌*◌, ◌/◌, ◌%◌, ◌^◌, ◌<◌, ◌≤◌, ◌≢◌, Bool, true, false, cond, refl, sym, ap, ◌∙◌, subst, inl, inr, arith}
 use Rattle.std.proofs.Math.Nat.{mul-le-mul_right, add-mul-mod_self_right, mul-div_cancel, mul-mod_left}
-use Rattle.std.proofs.lemmas.{Bool.cases_Bool, Bool.cases_lt, Bool.true≢false, Nat.pow_pos, Nat.div-add-mod', Grind.common_steps}
+use Rattle.std.proofs.lemmas.Bool.{cases_Bool, cases_lt, true≢false}
+use Rattle.std.proofs.lemmas.Nat.{pow_pos, div-add-mod'}
+use Rattle.std.proofs.lemmas.Grind.{common_steps}
 use Rattle.rs_field.specs.rows.Layers.{is_halved, rows_of_part, layer_steps}
 use Rattle.rs_field.specs.words.StepBounds.{transform_steps}
 use Rattle.rs_field.proofs.of_words.Halves.{few_halves, half_power, quarter_power, steps_half, steps_quarters, two_halves}

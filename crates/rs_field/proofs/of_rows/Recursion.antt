@@ -1,7 +1,8 @@
 -- A transform of one row and of rows of zeros, and rows that are the same.
 use Rattle.std.proofs.Common.{◌≡◌, ℕ, ◌+◌, ◌<◌, List, replicate, sym, ap, ◌∙◌, arith}
 use Rattle.rs_field.specs.words.Transform.{forward}
-use Rattle.rs_field.specs.rows.{Rows.symbol, View.cell, View.word, View.Fits, View.SameShape}
+use Rattle.rs_field.specs.rows.Rows.{symbol}
+use Rattle.rs_field.specs.rows.View.{cell, word, Fits, SameShape}
 use Rattle.rs_field.specs.declared.rows.shards.ShardsRefMut.{ShardsRefMut}
 use Rattle.rs_field.proofs.of_rows.Symbols.{symbol-zero}
 use Rattle.rs_field.proofs.of_words.Combination.{forward-one, forward-zero}

@@ -1,7 +1,9 @@
 -- Symbols and the bytes that they are made of.
 use Rattle.std.proofs.Common.{◌≡◌, ℕ, ◌+◌, ◌*◌, ◌<◌, List, [], ◌∷◌, zero, suc, Fits, w8, length, get_or, take, replicate, arith, ap, ap₂, sym, subst, ◌∙◌, bit_xor}
 use Rattle.std.specs.Prelude.{flat_map}
-use Rattle.std.proofs.lemmas.{List.get_or-replicate, List.Concat.get_or-flat_map, Nat.xor_block}
+use Rattle.std.proofs.lemmas.List.{get_or-replicate}
+use Rattle.std.proofs.lemmas.List.Concat.{get_or-flat_map}
+use Rattle.std.proofs.lemmas.Nat.{xor_block}
 use Rattle.rs_field.specs.rows.Rows.{Chunks, chunk, symbol}
 use lib.Lanes.{Each1}
 

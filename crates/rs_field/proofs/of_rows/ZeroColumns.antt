@@ -1,9 +1,12 @@
 -- A row is zero in each column of its shards exactly where the bytes of its whole chunks and of both halves of its tail are.
-use Rattle.std.proofs.lemmas.{Grind.common_steps, Bool.cases_lt, List.get_or-take, List.get_or-drop, List.length-take-le, List.length-drop}
+use Rattle.std.proofs.lemmas.Grind.{common_steps}
+use Rattle.std.proofs.lemmas.Bool.{cases_lt}
+use Rattle.std.proofs.lemmas.List.{get_or-take, get_or-drop, length-take-le, length-drop}
 use Rattle.std.proofs.Common.{◌≡◌, ℕ, ◌+◌, ◌-◌, ◌*◌, ◌/◌, ◌%◌, ◌<◌, ◌≤◌, List, [], length, get_or, take, drop, ap, ap₂, sym, subst, ◌∙◌, arith, inl, inr}
 use Rattle.std.specs.Prelude.{slice_index, EachIndex}
 use Rattle.std.specs.List.{flat_map}
-use Rattle.rs_field.specs.rows.{Rows.Chunks, Rows.chunk, Rows.symbol, Layout.row_len, Layout.HasZeroColumns}
+use Rattle.rs_field.specs.rows.Rows.{Chunks, chunk, symbol}
+use Rattle.rs_field.specs.rows.Layout.{row_len, HasZeroColumns}
 use Rattle.rs_field.proofs.of_rows.LayoutLemmas.{get-flat}
 
 -- a row for shards of this size, and the bytes of its chunks one after another

@@ -2,14 +2,21 @@
 use Rattle.std.proofs.Common.{◌≡◌, ℕ, zero, suc, ◌+◌, ◌-◌, ◌*◌, ◌^◌, ◌<◌, ◌≤◌, List, [], ◌∷◌, length, bit_xor, refl, sym, ap, ap₂, ◌∙◌, arith, inl, inr, pow-suc, zero-add}
 use Rattle.std.specs.Prelude.{slice_index}
 use Rattle.std.specs.Int.Bits.{xor_comm, xor_zero_l, xor_zero_r}
-use Rattle.std.proofs.lemmas.{Bool.cases_lt, Bool.cases_eq, List.get_or_past, Grind.common_steps}
-use Rattle.rs_field.specs.words.{Field.product, Polynomial.AreWords, Polynomial.value, Subspace.subspace, Subspace.basis, Transform.forward}
-use Rattle.rs_field.proofs.of_words.{Product.product_zero, Product.zero_product, Product.product_one, Total.product-comm, Roots.WordsOneByOne, Roots.value-nil, Roots.value-one}
-use Rattle.rs_field.proofs.of_words.{Values.same_from_values, Subspace.subspace_from_zero, Factors.add, Factors.scale, Factors.with_root, Factors.points, Factors.times}
-use Rattle.rs_field.proofs.of_words.{Factors.value_add, Factors.value_scale, Factors.value-times, Factors.length-add, Factors.length-scale, Factors.length-times}
-use Rattle.rs_field.proofs.of_words.{Factors.words_add, Factors.words_scale, Factors.words_times, Factors.all_words, Combination.sum_below-suc, Combination.sum_below-zero}
-use Rattle.rs_field.proofs.of_words.{Combination.sum_below-add, Combination.basis-zero, Combination.basis-half, Combination.forward_is, Combination.forward-zero}
-use Rattle.rs_field.proofs.of_words.{Padding.padded, Padding.length-padded, Padding.words_padded, Padding.value-padded}
+use Rattle.std.proofs.lemmas.Bool.{cases_lt, cases_eq}
+use Rattle.std.proofs.lemmas.List.{get_or_past}
+use Rattle.std.proofs.lemmas.Grind.{common_steps}
+use Rattle.rs_field.specs.words.Field.{product}
+use Rattle.rs_field.specs.words.Polynomial.{AreWords, value}
+use Rattle.rs_field.specs.words.Subspace.{subspace, basis}
+use Rattle.rs_field.specs.words.Transform.{forward}
+use Rattle.rs_field.proofs.of_words.Product.{product_zero, zero_product, product_one}
+use Rattle.rs_field.proofs.of_words.Total.{product-comm}
+use Rattle.rs_field.proofs.of_words.Roots.{WordsOneByOne, value-nil, value-one}
+use Rattle.rs_field.proofs.of_words.Values.{same_from_values}
+use Rattle.rs_field.proofs.of_words.Subspace.{subspace_from_zero}
+use Rattle.rs_field.proofs.of_words.Factors.{add, scale, with_root, points, times, value_add, value_scale, value-times, length-add, length-scale, length-times, words_add, words_scale, words_times, all_words}
+use Rattle.rs_field.proofs.of_words.Combination.{sum_below-suc, sum_below-zero, sum_below-add, basis-zero, basis-half, forward_is, forward-zero}
+use Rattle.rs_field.proofs.of_words.Padding.{padded, length-padded, words_padded, value-padded}
 
 -- ---- entries, zero past the end
 

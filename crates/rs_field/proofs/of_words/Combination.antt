@@ -2,11 +2,16 @@
 use Rattle.std.proofs.Common.{◌≡◌, ℕ, zero, suc, ◌+◌, ◌-◌, ◌*◌, ◌/◌, ◌%◌, ◌^◌, ◌<◌, ◌≤◌, ◌≢◌, cond, eqb, bit_xor, refl, sym, ap, ap₂, ◌∙◌, inl, inr, arith, one-mul, add-zero, add-suc, add_assoc, pow-suc, pow-add, pow_mono}
 use Rattle.std.proofs.Math.Nat.{div-eq_of_lt, mul-add-div_right, zero-div, two-pow-succ}
 use Rattle.std.specs.Int.Bits.{xor_comm, xor_assoc, xor_zero_r, xor_lt, xor_shifted}
-use Rattle.std.proofs.lemmas.{Bool.cases_eq, Bool.cases_lt, Nat.pow_pos, Nat.div-mul-add, Nat.div-add-mod', Grind.common_steps}
-use Rattle.rs_field.specs.words.{Field.product, Subspace.product_below, Subspace.subspace, Subspace.basis, Transform.sum_below, Transform.forward}
-use Rattle.rs_field.proofs.of_words.{Linear.xor_swap, Product.product_lt, Product.product_one, Product.zero_product, Product.product_xor_left, Product.product_xor_right}
-use Rattle.rs_field.proofs.of_words.{Total.product-comm, Total.product-assoc, Total.product-right_comm, Subspace.product_below_lt, Subspace.product_below-same}
-use Rattle.rs_field.proofs.of_words.{Subspace.product_below-suc, Subspace.product_below-zero, Subspace.subspace_shift}
+use Rattle.std.proofs.lemmas.Bool.{cases_eq, cases_lt}
+use Rattle.std.proofs.lemmas.Nat.{pow_pos, div-mul-add, div-add-mod'}
+use Rattle.std.proofs.lemmas.Grind.{common_steps}
+use Rattle.rs_field.specs.words.Field.{product}
+use Rattle.rs_field.specs.words.Subspace.{product_below, subspace, basis}
+use Rattle.rs_field.specs.words.Transform.{sum_below, forward}
+use Rattle.rs_field.proofs.of_words.Linear.{xor_swap}
+use Rattle.rs_field.proofs.of_words.Product.{product_lt, product_one, zero_product, product_xor_left, product_xor_right}
+use Rattle.rs_field.proofs.of_words.Total.{product-comm, product-assoc, product-right_comm}
+use Rattle.rs_field.proofs.of_words.Subspace.{product_below_lt, product_below-same, product_below-suc, product_below-zero, subspace_shift}
 
 -- ---- sums
 

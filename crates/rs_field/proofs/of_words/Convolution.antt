@@ -3,14 +3,21 @@ use Rattle.std.proofs.Common.{rules, ◌≡◌, ℕ, zero, suc, ◌+◌, ◌-◌
 use Rattle.std.specs.Prelude.{nat_le}
 use Rattle.std.specs.Int.Bits.{xor_self, xor_lt}
 use Rattle.std.proofs.Math.Nat.{mul-le-mul_right}
-use Rattle.std.proofs.lemmas.{Nat.pow-add, Nat.shl-shr, Bool.cases_eq, Bool.cases_lt}
+use Rattle.std.proofs.lemmas.Nat.{pow-add, shl-shr}
+use Rattle.std.proofs.lemmas.Bool.{cases_eq, cases_lt}
 use Rattle.rs_field.specs.declared.words.steps.Steps.{Steps}
-use Rattle.rs_field.specs.words.{Search.first_below, StepBounds.CountsUpTo, StepBounds.CountsProducts, StepBounds.LocatorCounts, StepBounds.LocatorCountsBelow}
-use Rattle.rs_field.specs.words.{StepBounds.WalshCounts, StepBounds.log2, StepBounds.transform_steps, Field.log, Locator.log_sum, Locator.IsLocatorBelow, Walsh.total}
-use Rattle.rs_field.specs.words.{Walsh.sign, Walsh.signed_sum, Walsh.IsWalsh, Walsh.log_or_zero}
-use Rattle.rs_field.proofs.of_words.{Linear.passes_below, Linear.from_passes_below, Roots.same_from_xor, LocatorLemmas.log_sum-zero, LocatorLemmas.log_sum-suc}
-use Rattle.rs_field.proofs.of_words.{Totals.total-zero, Totals.total-suc, Totals.total-same, Totals.total-near, Totals.total-scale, Totals.total-swap, Totals.total-one}
-use Rattle.rs_field.proofs.of_words.{Totals.mul_near, Signs.sign-comm, Signs.sign-zero, Signs.sign-xor, Halving.sum_lower, Halving.sum_upper, Counting.counted}
+use Rattle.rs_field.specs.words.Search.{first_below}
+use Rattle.rs_field.specs.words.StepBounds.{CountsUpTo, CountsProducts, LocatorCounts, LocatorCountsBelow, WalshCounts, log2, transform_steps}
+use Rattle.rs_field.specs.words.Field.{log}
+use Rattle.rs_field.specs.words.Locator.{log_sum, IsLocatorBelow}
+use Rattle.rs_field.specs.words.Walsh.{total, sign, signed_sum, IsWalsh, log_or_zero}
+use Rattle.rs_field.proofs.of_words.Linear.{passes_below, from_passes_below}
+use Rattle.rs_field.proofs.of_words.Roots.{same_from_xor}
+use Rattle.rs_field.proofs.of_words.LocatorLemmas.{log_sum-zero, log_sum-suc}
+use Rattle.rs_field.proofs.of_words.Totals.{total-zero, total-suc, total-same, total-near, total-scale, total-swap, total-one, mul_near}
+use Rattle.rs_field.proofs.of_words.Signs.{sign-comm, sign-zero, sign-xor}
+use Rattle.rs_field.proofs.of_words.Halving.{sum_lower, sum_upper}
+use Rattle.rs_field.proofs.of_words.Counting.{counted}
 
 -- ---- a sum of signs
 

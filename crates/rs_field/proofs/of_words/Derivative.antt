@@ -1,13 +1,18 @@
 -- The derivative of polynomials: of sums, of multiples, and of products of factors x + a; that of a subspace polynomial is one.
 use Rattle.std.proofs.Common.{rules, ◌≡◌, ℕ, zero, suc, ◌+◌, ◌/◌, ◌^◌, ◌<◌, ◌≤◌, List, [], ◌∷◌, bit_xor, refl, sym, ap, ap₂, ◌∙◌, subst, arith, add-zero, add-suc, zero-add, pow-suc, one-mul, pow_mono}
 use Rattle.std.specs.Int.Bits.{xor_comm, xor_assoc, xor_self, xor_zero_r, xor_lt, xor_shr, xor_shifted}
-use Rattle.std.proofs.lemmas.{Nat.pow_pos, Nat.pow_below, Nat.shl-shr, Grind.common_steps}
-use Rattle.rs_field.specs.words.{Field.product, Polynomial.value, Polynomial.derivative_value, Subspace.product_below, Subspace.subspace}
-use Rattle.rs_field.proofs.of_words.{Linear.xor_swap, Product.product_lt, Product.product_zero, Product.product_one, Product.one_product, Product.product_xor_left}
-use Rattle.rs_field.proofs.of_words.{Product.product_xor_right, Total.product-comm, Total.product-left_comm, Roots.WordsOneByOne, Roots.value_lt, Subspace.product_below_lt}
-use Rattle.rs_field.proofs.of_words.{Subspace.product_below-same, Subspace.product_below-suc, Subspace.product_below-zero, Subspace.product_below-add, Subspace.subspace_shift}
-use Rattle.rs_field.proofs.of_words.{Factors.add, Factors.scale, Factors.with_root, Factors.points, Factors.times, Factors.value_add, Factors.value_scale, Factors.value-times}
-use Rattle.rs_field.proofs.of_words.{RingSolver.plus, RingSolver.v, RingSolver.times as both, RingSolver.by_algebra}
+use Rattle.std.proofs.lemmas.Nat.{pow_pos, pow_below, shl-shr}
+use Rattle.std.proofs.lemmas.Grind.{common_steps}
+use Rattle.rs_field.specs.words.Field.{product}
+use Rattle.rs_field.specs.words.Polynomial.{value, derivative_value}
+use Rattle.rs_field.specs.words.Subspace.{product_below, subspace}
+use Rattle.rs_field.proofs.of_words.Linear.{xor_swap}
+use Rattle.rs_field.proofs.of_words.Product.{product_lt, product_zero, product_one, one_product, product_xor_left, product_xor_right}
+use Rattle.rs_field.proofs.of_words.Total.{product-comm, product-left_comm}
+use Rattle.rs_field.proofs.of_words.Roots.{WordsOneByOne, value_lt}
+use Rattle.rs_field.proofs.of_words.Subspace.{product_below_lt, product_below-same, product_below-suc, product_below-zero, product_below-add, subspace_shift}
+use Rattle.rs_field.proofs.of_words.Factors.{add, scale, with_root, points, times, value_add, value_scale, value-times}
+use Rattle.rs_field.proofs.of_words.RingSolver.{plus, v, times as both, by_algebra}
 
 pub derivative-nil : (x : ℕ) → derivative_value [] x ≡ 0
 unfolding derivative_value

@@ -1,6 +1,7 @@
 -- A polynomial with roots at several words is the product of their factors with another polynomial.
 use Rattle.std.proofs.Common.{◌≡◌, ℕ, ◌+◌, ◌^◌, ◌<◌, ◌≤◌, List, [], ◌∷◌, length, refl, sym, ap, ◌∙◌, arith, bit_xor}
-use Rattle.rs_field.specs.words.{Field.product, Polynomial.value}
+use Rattle.rs_field.specs.words.Field.{product}
+use Rattle.rs_field.specs.words.Polynomial.{value}
 use Rattle.rs_field.proofs.of_words.Roots.{WordsOneByOne, steps, length-steps, words_steps, factor-root, next_root}
 use Rattle.rs_field.proofs.of_words.Factors.{times, value_with_root}
 use Rattle.std.proofs.lemmas.Grind.{common_steps}

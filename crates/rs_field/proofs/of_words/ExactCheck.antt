@@ -1,12 +1,20 @@
 -- Whether some polynomial takes the words given, by the rows after the backward transform: one column.
 use Rattle.std.proofs.Common.{◌≡◌, ℕ, zero, suc, ◌+◌, ◌^◌, ◌<◌, ◌≤◌, ◌⊎◌, ◌≢◌, List, [], ◌∷◌, length, sym, ap, ◌∙◌, arith}
-use Rattle.std.proofs.lemmas.{Bool.cases_eq, Grind.common_steps}
-use Rattle.rs_field.specs.words.{Field.product, Field.power, Polynomial.AreWords, Polynomial.value, Transform.forward, Locator.log_sum}
-use Rattle.rs_field.proofs.of_words.{Product.zero_product, Total.product-comm, Inverse.product_cancel, Power.power_lt, Power.power_pos, Roots.WordsOneByOne, Roots.words_from}
-use Rattle.rs_field.proofs.of_words.{Roots.value_lt, Factors.times, Factors.words_times, LocatorProduct.marked, LocatorProduct.marked-more, LocatorProduct.marked-same}
-use Rattle.rs_field.proofs.of_words.{LocatorProduct.AreMarks, LocatorProduct.locator_value, LocatorProduct.locator_root, LocatorProduct.length-marked_times}
-use Rattle.rs_field.proofs.of_words.{Division.AreFalling, Division.AreRoots, Division.divided_by, Coefficients.forward-fewer, Coefficients.polynomial_of_terms}
-use Rattle.rs_field.proofs.of_words.{Coefficients.no_terms_past}
+use Rattle.std.proofs.lemmas.Bool.{cases_eq}
+use Rattle.std.proofs.lemmas.Grind.{common_steps}
+use Rattle.rs_field.specs.words.Field.{product, power}
+use Rattle.rs_field.specs.words.Polynomial.{AreWords, value}
+use Rattle.rs_field.specs.words.Transform.{forward}
+use Rattle.rs_field.specs.words.Locator.{log_sum}
+use Rattle.rs_field.proofs.of_words.Product.{zero_product}
+use Rattle.rs_field.proofs.of_words.Total.{product-comm}
+use Rattle.rs_field.proofs.of_words.Inverse.{product_cancel}
+use Rattle.rs_field.proofs.of_words.Power.{power_lt, power_pos}
+use Rattle.rs_field.proofs.of_words.Roots.{WordsOneByOne, words_from, value_lt}
+use Rattle.rs_field.proofs.of_words.Factors.{times, words_times}
+use Rattle.rs_field.proofs.of_words.LocatorProduct.{marked, marked-more, marked-same, AreMarks, locator_value, locator_root, length-marked_times}
+use Rattle.rs_field.proofs.of_words.Division.{AreFalling, AreRoots, divided_by}
+use Rattle.rs_field.proofs.of_words.Coefficients.{forward-fewer, polynomial_of_terms, no_terms_past}
 
 -- the located words: nothing at a marked point, elsewhere the word given there times the locator's power; at a known zero the word is 0
 pub record AreLocated (n : ℕ) (marks words f : ℕ → ℕ) : Type 0 where

@@ -2,10 +2,14 @@
 use Rattle.std.proofs.Common.{◌≡◌, ℕ, zero, suc, ◌+◌, ◌<◌, ◌≤◌, List, [], ◌∷◌, length, bit_xor, refl, ap, sym, ◌∙◌, arith}
 use Rattle.std.specs.Prelude.{All}
 use Rattle.std.specs.Int.Bits.{xor_lt, xor_zero_r}
-use Rattle.rs_field.specs.words.{Field.product, Polynomial.value, Subspace.product_below}
-use Rattle.rs_field.proofs.of_words.{Linear.xor_swap, Product.product_lt, Product.product_zero, Product.one_product, Product.product_xor_left, Product.product_xor_right}
-use Rattle.rs_field.proofs.of_words.{Total.product-comm, Total.product-assoc, Total.product-left_comm, Roots.WordsOneByOne, Roots.value_lt, Subspace.product_below-suc}
-use Rattle.rs_field.proofs.of_words.{Subspace.product_below-zero}
+use Rattle.rs_field.specs.words.Field.{product}
+use Rattle.rs_field.specs.words.Polynomial.{value}
+use Rattle.rs_field.specs.words.Subspace.{product_below}
+use Rattle.rs_field.proofs.of_words.Linear.{xor_swap}
+use Rattle.rs_field.proofs.of_words.Product.{product_lt, product_zero, one_product, product_xor_left, product_xor_right}
+use Rattle.rs_field.proofs.of_words.Total.{product-comm, product-assoc, product-left_comm}
+use Rattle.rs_field.proofs.of_words.Roots.{WordsOneByOne, value_lt}
+use Rattle.rs_field.proofs.of_words.Subspace.{product_below-suc, product_below-zero}
 use Rattle.std.proofs.lemmas.Grind.{common_steps}
 
 -- the sum of two polynomials

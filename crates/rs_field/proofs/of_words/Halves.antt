@@ -1,12 +1,19 @@
 -- How a transform goes by halves: the sizes, the factor in the table, and the row steps.
-use Rattle.std.proofs.lemmas.{Grind.common_steps, Bool.cases_eq, Bool.cases_lt, Nat.pow_pos, Nat.pow_below, Nat.div-add-mod'}
+use Rattle.std.proofs.lemmas.Grind.{common_steps}
+use Rattle.std.proofs.lemmas.Bool.{cases_eq, cases_lt}
+use Rattle.std.proofs.lemmas.Nat.{pow_pos, pow_below, div-add-mod'}
 use Rattle.std.proofs.Common.{◌≡◌, ℕ, zero, suc, ◌+◌, ◌-◌, ◌*◌, ◌/◌, ◌%◌, ◌^◌, ◌<◌, ◌≤◌, Bool, false, cond, eqb, List, get_or, bit_xor, refl, ap, ap₂, ◌∙◌, inl, inr, arith, pow-suc, pow_mono, ne_eqb, zero-mul}
 use Rattle.std.specs.Prelude.{nat_le}
 use Rattle.std.proofs.Math.Nat.{mul-mod_left}
 use Rattle.std.specs.Int.Bits.{xor_assoc, xor_self, xor_zero_r}
-use Rattle.rs_field.specs.words.{Field.product, Field.power, Field.log, Subspace.subspace, Tables.IsSkew, Tables.log_or_mark, Tables.scaled, StepBounds.log2}
-use Rattle.rs_field.specs.words.{StepBounds.transform_steps}
-use Rattle.rs_field.proofs.of_words.{Search.first_below-is, Product.product_zero, Power.log_lt, Power.power-log, Subspace.product_below_lt}
+use Rattle.rs_field.specs.words.Field.{product, power, log}
+use Rattle.rs_field.specs.words.Subspace.{subspace}
+use Rattle.rs_field.specs.words.Tables.{IsSkew, log_or_mark, scaled}
+use Rattle.rs_field.specs.words.StepBounds.{log2, transform_steps}
+use Rattle.rs_field.proofs.of_words.Search.{first_below-is}
+use Rattle.rs_field.proofs.of_words.Product.{product_zero}
+use Rattle.rs_field.proofs.of_words.Power.{log_lt, power-log}
+use Rattle.rs_field.proofs.of_words.Subspace.{product_below_lt}
 
 -- half of a power of two that is above one
 pub half_power : (size : ℕ) → 1 < size → (d : ℕ) × (size ≡ 2 ^ d) → (e : ℕ) × (size ≡ 2 ^ suc e) × (size / 2 ≡ 2 ^ e)

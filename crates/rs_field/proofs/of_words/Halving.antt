@@ -1,14 +1,17 @@
 -- A Walsh-Hadamard transform from those of its halves, and from those of its quarters.
 use Rattle.std.proofs.Common.{rules, ◌≡◌, ℕ, suc, cond, ◌+◌, ◌-◌, ◌*◌, ◌/◌, ◌%◌, ◌^◌, ◌<◌, ◌≤◌, List, ◌++◌, length, take, drop, get_or, set, get_or-set_same, get_or-set_other, refl, sym, ap, ap₂, ◌∙◌, subst, arith, inl, inr, pow-suc}
-use Rattle.std.proofs.lemmas.{Bool.cases_lt, Bool.lt-ltb, Bool.le-ltb, List.get_or-take, List.get_or-drop, List.get_or_append_left, List.get_or-append-add, List.length-append}
-use Rattle.std.proofs.lemmas.{List.length-set, Grind.common_steps}
+use Rattle.std.proofs.lemmas.Bool.{cases_lt, lt-ltb, le-ltb}
+use Rattle.std.proofs.lemmas.List.{get_or-take, get_or-drop, get_or_append_left, get_or-append-add, length-append, length-set}
+use Rattle.std.proofs.lemmas.Grind.{common_steps}
 use Rattle.std.proofs.Math.Dec.{ltb}
-use Rattle.rs_field.specs.words.{Search.first_below, StepBounds.CountsPairs, StepBounds.WalshCounts, StepBounds.log2, StepBounds.transform_steps, Walsh.total, Walsh.sign}
-use Rattle.rs_field.specs.words.{Walsh.signed_sum, Walsh.IsWalsh, Walsh.IsFourSums}
+use Rattle.rs_field.specs.words.Search.{first_below}
+use Rattle.rs_field.specs.words.StepBounds.{CountsPairs, WalshCounts, log2, transform_steps}
+use Rattle.rs_field.specs.words.Walsh.{total, sign, signed_sum, IsWalsh, IsFourSums}
 use Rattle.rs_field.specs.declared.words.steps.Steps.{Steps}
-use Rattle.rs_field.proofs.of_words.{Halves.quarter_power, Halves.steps_quarters, Totals.total-zero, Totals.total-suc, Totals.total-same, Totals.total-near, Totals.total-none}
-use Rattle.rs_field.proofs.of_words.{Totals.total-split, Totals.total-scale, Totals.add_near, Totals.mul_near, Signs.sign-left, Signs.sign-right, Signs.sign-both}
-use Rattle.rs_field.proofs.of_words.{Signs.sign-zero, Counting.counted}
+use Rattle.rs_field.proofs.of_words.Halves.{quarter_power, steps_quarters}
+use Rattle.rs_field.proofs.of_words.Totals.{total-zero, total-suc, total-same, total-near, total-none, total-split, total-scale, add_near, mul_near}
+use Rattle.rs_field.proofs.of_words.Signs.{sign-left, sign-right, sign-both, sign-zero}
+use Rattle.rs_field.proofs.of_words.Counting.{counted}
 
 -- an entry of the first half
 pub sum_lower : (e w : ℕ) (f : ℕ → ℕ) → w < 2 ^ e

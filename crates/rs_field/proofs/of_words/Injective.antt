@@ -2,9 +2,13 @@
 use Rattle.std.proofs.Common.{◌≡◌, ℕ, zero, suc, ◌+◌, ◌-◌, ◌*◌, ◌%◌, ◌^◌, ◌<◌, ◌≤◌, bit_xor, refl, sym, ap, ap₂, ◌∙◌, inl, inr, arith, pow-suc}
 use Rattle.std.specs.Int.Bits.{xor_lt}
 use Rattle.std.proofs.lemmas.Bool.{cases_lt}
-use Rattle.rs_field.specs.words.{Field.product, Subspace.subspace, Transform.forward, Inverse.TransformsAreInverse}
-use Rattle.rs_field.proofs.of_words.{Product.product_lt, Combination.forward-one, Combination.lower_half, Combination.upper_half, Halves.few_halves, Halves.shift_half}
-use Rattle.rs_field.proofs.of_words.{Halves.xor_undo}
+use Rattle.rs_field.specs.words.Field.{product}
+use Rattle.rs_field.specs.words.Subspace.{subspace}
+use Rattle.rs_field.specs.words.Transform.{forward}
+use Rattle.rs_field.specs.words.Inverse.{TransformsAreInverse}
+use Rattle.rs_field.proofs.of_words.Product.{product_lt}
+use Rattle.rs_field.proofs.of_words.Combination.{forward-one, lower_half, upper_half}
+use Rattle.rs_field.proofs.of_words.Halves.{few_halves, shift_half, xor_undo}
 
 -- the first and the second rows after a butterfly
 low : ℕ → ℕ → (ℕ → ℕ) → ℕ → ℕ

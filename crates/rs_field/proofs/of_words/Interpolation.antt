@@ -1,13 +1,20 @@
 -- A polynomial of n coefficients with n given values at points one after another.
 use Rattle.std.proofs.Common.{◌≡◌, ℕ, zero, suc, ◌+◌, ◌^◌, ◌<◌, ◌≤◌, ◌≢◌, List, [], ◌∷◌, length, bit_xor, refl, ap, ◌∙◌, arith}
 use Rattle.std.specs.Int.Bits.{xor_zero_l, xor_lt}
-use Rattle.std.proofs.lemmas.{Bool.cases_eq, Grind.common_steps}
-use Rattle.rs_field.specs.words.{Field.product, Polynomial.value, Subspace.product_below}
-use Rattle.rs_field.proofs.of_words.{Product.product_zero, Product.product_one, Total.product-comm, Total.product-assoc, Inverse.inverse, Inverse.product_inverse}
-use Rattle.rs_field.proofs.of_words.{Inverse.product_pos, Halves.xor_undo, LocatorLemmas.difference_pos, Roots.WordsOneByOne, Roots.value_lt, Roots.value-one}
-use Rattle.rs_field.proofs.of_words.{Subspace.product_below_lt, Factors.add, Factors.scale, Factors.points, Factors.times, Factors.value_add, Factors.value_scale}
-use Rattle.rs_field.proofs.of_words.{Factors.value-times, Factors.length-add, Factors.length-scale, Factors.length-times, Factors.words_add, Factors.words_scale}
-use Rattle.rs_field.proofs.of_words.{ZerosPast.root_there}
+use Rattle.std.proofs.lemmas.Bool.{cases_eq}
+use Rattle.std.proofs.lemmas.Grind.{common_steps}
+use Rattle.rs_field.specs.words.Field.{product}
+use Rattle.rs_field.specs.words.Polynomial.{value}
+use Rattle.rs_field.specs.words.Subspace.{product_below}
+use Rattle.rs_field.proofs.of_words.Product.{product_zero, product_one}
+use Rattle.rs_field.proofs.of_words.Total.{product-comm, product-assoc}
+use Rattle.rs_field.proofs.of_words.Inverse.{inverse, product_inverse, product_pos}
+use Rattle.rs_field.proofs.of_words.Halves.{xor_undo}
+use Rattle.rs_field.proofs.of_words.LocatorLemmas.{difference_pos}
+use Rattle.rs_field.proofs.of_words.Roots.{WordsOneByOne, value_lt, value-one}
+use Rattle.rs_field.proofs.of_words.Subspace.{product_below_lt}
+use Rattle.rs_field.proofs.of_words.Factors.{add, scale, points, times, value_add, value_scale, value-times, length-add, length-scale, length-times, words_add, words_scale}
+use Rattle.rs_field.proofs.of_words.ZerosPast.{root_there}
 
 -- the differences of a point from others are no zero together
 differences_pos : (a n x : ℕ) → x < 2 ^ 16 → a + n ≤ 2 ^ 16 → ((i : ℕ) → i < n → a + i ≢ x) → 0 < product_below n (λ i. bit_xor x (a + i))

@@ -1,7 +1,8 @@
 -- Squares, and the inverses of nonzero words.
 use Rattle.std.proofs.Common.{◌≡◌, ℕ, zero, suc, ◌/◌, ◌^◌, ◌<◌, true, eqb, bit_xor, refl, sym, ap, ◌∙◌, arith, inl, inr}
 use Rattle.std.specs.Int.Bits.{xor_comm, xor_assoc, xor_self, xor_zero_r, xor_shr}
-use Rattle.std.proofs.lemmas.{Bool.cases_eq, Grind.common_steps}
+use Rattle.std.proofs.lemmas.Bool.{cases_eq}
+use Rattle.std.proofs.lemmas.Grind.{common_steps}
 use Rattle.rs_field.specs.words.Field.{combine, cantor_basis, bits, monomials, from_bits, carryless, reduce, product}
 use Rattle.rs_field.proofs.of_words.Linear.{xor_swap, IsAdditive, passes_below}
 use Rattle.rs_field.proofs.of_words.Product.{same_on_words, product_xor_left, product_xor_right, product_lt, product_comm, product_assoc, product_one, one_product, zero_product}

@@ -1,11 +1,16 @@
 -- The locator as a product.
-use Rattle.std.proofs.lemmas.{Grind.common_steps, Bool.cases_eq, Bool.Decides.eqb_tells}
+use Rattle.std.proofs.lemmas.Grind.{common_steps}
+use Rattle.std.proofs.lemmas.Bool.{cases_eq}
+use Rattle.std.proofs.lemmas.Bool.Decides.{eqb_tells}
 use Rattle.std.proofs.Common.{◌≡◌, ℕ, zero, suc, ◌*◌, ◌^◌, ◌<◌, ◌≤◌, ◌≢◌, cond, bit_xor, sym, ap, ap₂, ◌∙◌, inl, inr, arith}
 use Rattle.std.specs.Prelude.{if◌then◌else◌, ◌==◌}
 use Rattle.std.specs.Int.Bits.{xor_lt}
-use Rattle.rs_field.specs.words.{Field.product, Field.raised, Field.power, Field.log, Field.generator, Subspace.product_below, Locator.log_sum}
-use Rattle.rs_field.proofs.of_words.{Power.generator_lt, Power.raised-mul, Power.power-add, Power.power_zero, Power.power-log, Roots.same_from_xor, Subspace.product_below-suc}
-use Rattle.rs_field.proofs.of_words.{Subspace.product_below-zero}
+use Rattle.rs_field.specs.words.Field.{product, raised, power, log, generator}
+use Rattle.rs_field.specs.words.Subspace.{product_below}
+use Rattle.rs_field.specs.words.Locator.{log_sum}
+use Rattle.rs_field.proofs.of_words.Power.{generator_lt, raised-mul, power-add, power_zero, power-log}
+use Rattle.rs_field.proofs.of_words.Roots.{same_from_xor}
+use Rattle.rs_field.proofs.of_words.Subspace.{product_below-suc, product_below-zero}
 
 -- a multiple of a logarithm is the logarithm of a power
 power-mul_log : (z k : ℕ) → 0 < z → z < 2 ^ 16 → power (k * log z) ≡ raised z k

@@ -1,7 +1,9 @@
 -- The sum of logarithms that a locator is, point by point.
 use Rattle.std.proofs.Common.{◌≡◌, ℕ, zero, suc, ◌+◌, ◌*◌, ◌<◌, ◌≢◌, Bool, cond, eqb, bit_xor, refl, sym, ap, ◌∙◌, arith, add-zero, zero-mul, one-mul, ne_eqb, eq-eqb, inl, inr}
-use Rattle.std.proofs.lemmas.{Bool.cases_eq, Grind.common_steps}
-use Rattle.rs_field.specs.words.{Field.log, Locator.log_sum}
+use Rattle.std.proofs.lemmas.Bool.{cases_eq}
+use Rattle.std.proofs.lemmas.Grind.{common_steps}
+use Rattle.rs_field.specs.words.Field.{log}
+use Rattle.rs_field.specs.words.Locator.{log_sum}
 use Rattle.rs_field.proofs.of_words.Roots.{same_from_xor}
 
 pub log_sum-zero : (e : ℕ → ℕ) (x : ℕ) → log_sum 0 e x ≡ 0

@@ -1,12 +1,18 @@
 -- The locator as a polynomial: what its logarithms at a point stand for.
 use Rattle.std.proofs.Common.{◌≡◌, ℕ, zero, suc, ◌+◌, ◌-◌, ◌%◌, ◌^◌, ◌<◌, ◌≤◌, ◌≢◌, ◌⊎◌, Bool, cond, eqb, List, [], ◌∷◌, length, bit_xor, sym, ap, ap₂, ◌∙◌, inl, inr, arith, add-zero, add-suc, ne_eqb, eq-eqb, pow_mono}
 use Rattle.std.specs.Int.Bits.{xor_self, xor_zero_l, xor_zero_r, xor_lt}
-use Rattle.std.proofs.lemmas.{Bool.cases_eq, Grind.common_steps}
-use Rattle.rs_field.specs.words.{Field.product, Field.power, Field.log, Polynomial.value, Polynomial.derivative_value, Locator.log_sum}
-use Rattle.rs_field.proofs.of_words.{Product.product_zero, Product.zero_product, Product.product_one, Product.one_product, Total.product-comm, Total.product-assoc}
-use Rattle.rs_field.proofs.of_words.{Power.power-add, Power.power-mod, Power.power_zero, Power.power-log, Power.power_turn, Roots.WordsOneByOne, Roots.value_lt, Factors.times}
-use Rattle.rs_field.proofs.of_words.{Factors.value_with_root, Factors.length-with_root, Derivative.derivative_with_root, LocatorLemmas.log_sum-zero}
-use Rattle.rs_field.proofs.of_words.{LocatorLemmas.log_sum-itself, LocatorLemmas.log_sum-marked, LocatorLemmas.log_sum-unmarked, LocatorLemmas.difference_pos}
+use Rattle.std.proofs.lemmas.Bool.{cases_eq}
+use Rattle.std.proofs.lemmas.Grind.{common_steps}
+use Rattle.rs_field.specs.words.Field.{product, power, log}
+use Rattle.rs_field.specs.words.Polynomial.{value, derivative_value}
+use Rattle.rs_field.specs.words.Locator.{log_sum}
+use Rattle.rs_field.proofs.of_words.Product.{product_zero, zero_product, product_one, one_product}
+use Rattle.rs_field.proofs.of_words.Total.{product-comm, product-assoc}
+use Rattle.rs_field.proofs.of_words.Power.{power-add, power-mod, power_zero, power-log, power_turn}
+use Rattle.rs_field.proofs.of_words.Roots.{WordsOneByOne, value_lt}
+use Rattle.rs_field.proofs.of_words.Factors.{times, value_with_root, length-with_root}
+use Rattle.rs_field.proofs.of_words.Derivative.{derivative_with_root}
+use Rattle.rs_field.proofs.of_words.LocatorLemmas.{log_sum-zero, log_sum-itself, log_sum-marked, log_sum-unmarked, difference_pos}
 
 -- the marked points below n, the last one first
 unfoldable pub marked : ℕ → (ℕ → ℕ) → List ℕ

@@ -1,7 +1,12 @@
 -- The tables of transformed logarithms: one behind the other, and that of each size.
 use Rattle.std.proofs.Common.{◌≡◌, ℕ, ◌+◌, ◌-◌, ◌*◌, ◌/◌, ◌%◌, ◌^◌, ◌<◌, ◌≤◌, List, length, take, drop, get_or, cond, sym, ap, ◌∙◌, subst, arith, inl, inr, pow-suc, pow_mono, add-one, ne_eqb, eq-eqb}
-use Rattle.std.proofs.lemmas.{Bool.cases_eq, List.length-drop, List.length-take-le, List.get_or-take, List.get_or-drop, Nat.pow_pos, Grind.common_steps}
-use Rattle.rs_field.specs.words.{Field.log, Tables.IsLog, Tables.IsLogWalsh, Tables.IsLogWalshBelow, Tables.AreLogWalshes, Walsh.signed_sum, Walsh.IsWalsh, Walsh.log_or_zero}
+use Rattle.std.proofs.lemmas.Bool.{cases_eq}
+use Rattle.std.proofs.lemmas.List.{length-drop, length-take-le, get_or-take, get_or-drop}
+use Rattle.std.proofs.lemmas.Nat.{pow_pos}
+use Rattle.std.proofs.lemmas.Grind.{common_steps}
+use Rattle.rs_field.specs.words.Field.{log}
+use Rattle.rs_field.specs.words.Tables.{IsLog, IsLogWalsh, IsLogWalshBelow, AreLogWalshes}
+use Rattle.rs_field.specs.words.Walsh.{signed_sum, IsWalsh, log_or_zero}
 
 -- for all points the factor is one
 pub below-from_all : (n : ℕ) (table : List ℕ) → n ≡ 65536 → IsLogWalsh table → IsLogWalshBelow n table

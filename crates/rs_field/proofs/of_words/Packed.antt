@@ -1,5 +1,7 @@
 -- The bytes of a number that is a sum of bytes at their places.
-use Rattle.std.proofs.lemmas.{Grind.common_steps, Nat.div-mul-add, Bool.cases_eq, Bool.cases_lt}
+use Rattle.std.proofs.lemmas.Grind.{common_steps}
+use Rattle.std.proofs.lemmas.Nat.{div-mul-add}
+use Rattle.std.proofs.lemmas.Bool.{cases_eq, cases_lt}
 use Rattle.std.proofs.Common.{bit_xor, ap₂, zero-mul, one-mul, ◌≡◌, ℕ, zero, suc, ◌+◌, ◌*◌, ◌/◌, ◌%◌, ◌^◌, ◌<◌, ◌≤◌, ◌-◌, sym, ap, ◌∙◌, arith, inl, inr, pow-suc, pow-add, mod-lt, mul_comm, mul-suc, mul-zero, mul_assoc, mul-le-mul_right}
 use Rattle.std.specs.Int.{sum_through, byte_worth}
 use Rattle.std.proofs.Math.Nat.{add-mul-div_right, div-div-eq-div-mul}

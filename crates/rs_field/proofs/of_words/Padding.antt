@@ -2,8 +2,11 @@
 use Rattle.std.proofs.Common.{◌≡◌, ℕ, zero, suc, ◌+◌, List, [], ◌∷◌, ◌++◌, length, replicate, bit_xor, sym, ap, ap₂, ◌∙◌, arith, length-append}
 use Rattle.std.specs.Int.Bits.{xor_zero_l}
 use Rattle.std.proofs.lemmas.List.{length-replicate}
-use Rattle.rs_field.specs.words.{Field.product, Polynomial.value, Polynomial.derivative_value}
-use Rattle.rs_field.proofs.of_words.{Product.product_zero, Roots.WordsOneByOne, Roots.value-nil, Roots.value-cons, Derivative.derivative-nil, Derivative.derivative-cons}
+use Rattle.rs_field.specs.words.Field.{product}
+use Rattle.rs_field.specs.words.Polynomial.{value, derivative_value}
+use Rattle.rs_field.proofs.of_words.Product.{product_zero}
+use Rattle.rs_field.proofs.of_words.Roots.{WordsOneByOne, value-nil, value-cons}
+use Rattle.rs_field.proofs.of_words.Derivative.{derivative-nil, derivative-cons}
 
 -- a polynomial with n zero coefficients after its own
 unfoldable pub padded : ℕ → List ℕ → List ℕ

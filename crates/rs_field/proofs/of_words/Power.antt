@@ -1,12 +1,16 @@
 -- The powers of the generator: each nonzero word is one of 65535.
 use Rattle.std.proofs.Common.{◌≡◌, ℕ, zero, suc, ◌+◌, ◌-◌, ◌*◌, ◌/◌, ◌%◌, ◌^◌, ◌<◌, ◌≢◌, Bool, true, false, ◌&&◌, ◌||◌, eqb, refl, sym, ap, ap₂, ◌∙◌, subst, arith, inl, inr, add-suc, add-zero, mul-zero, mul-suc, one-mul, mul_assoc, add-one, add-mul, mul_right_comm, true≢false, lit<, mod-lt, eqb-true, ne_eqb, eq-eqb}
 use Rattle.std.proofs.Math.Nat.{mod-add-div}
-use Rattle.std.proofs.lemmas.{Nat.shr_below, Nat.mul-mod_first, Bool.cases_eq, Bool.cases_order, Bool.and_parts, Grind.common_steps}
+use Rattle.std.proofs.lemmas.Nat.{shr_below, mul-mod_first}
+use Rattle.std.proofs.lemmas.Bool.{cases_eq, cases_order, and_parts}
+use Rattle.std.proofs.lemmas.Grind.{common_steps}
 use Rattle.rs_field.specs.words.Field.{combine, cantor_basis, bits, monomials, from_bits, carryless, reduce, product, raised, power, generator, log}
 use Rattle.rs_field.specs.words.Search.{first_below}
-use Rattle.rs_field.proofs.of_words.{Search.first_below-passes, Search.first_below_most, Linear.passes_below, Linear.from_passes_below, Product.product_lt}
-use Rattle.rs_field.proofs.of_words.{Product.product_comm, Product.product_assoc, Product.product_one, Product.one_product, Onto.onto, Inverse.product_cancel}
-use Rattle.rs_field.proofs.of_words.{Inverse.product_pos}
+use Rattle.rs_field.proofs.of_words.Search.{first_below-passes, first_below_most}
+use Rattle.rs_field.proofs.of_words.Linear.{passes_below, from_passes_below}
+use Rattle.rs_field.proofs.of_words.Product.{product_lt, product_comm, product_assoc, product_one, one_product}
+use Rattle.rs_field.proofs.of_words.Onto.{onto}
+use Rattle.rs_field.proofs.of_words.Inverse.{product_cancel, product_pos}
 
 pub raised_lt : (x n : ℕ) → raised x n < 2 ^ 16
 unfolding raised

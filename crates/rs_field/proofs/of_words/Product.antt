@@ -1,7 +1,8 @@
 -- The laws of the product of words.
 use Rattle.std.proofs.Common.{◌≡◌, ℕ, zero, suc, ◌+◌, ◌*◌, ◌/◌, ◌%◌, ◌^◌, ◌<◌, List, [], ◌∷◌, Bool, true, ◌&&◌, eqb, bit_xor, refl, sym, ap, ap₂, ◌∙◌, arith, eqb-true, ltb, ltb-true, zero-mul, one-mul, mod-lt}
 use Rattle.std.specs.Int.Bits.{xor_shr, xor_lt}
-use Rattle.std.proofs.lemmas.{Bool.and_parts, Grind.common_steps}
+use Rattle.std.proofs.lemmas.Bool.{and_parts}
+use Rattle.std.proofs.lemmas.Grind.{common_steps}
 use Rattle.rs_field.specs.words.Field.{combine, cantor_basis, bits, monomials, from_bits, carryless, reduce, product}
 use Rattle.rs_field.proofs.of_words.Linear.{xor_swap, xor_times_pow, lowest_xor, combine_xor, IsAdditive, additive_zero, agree_below, passes_below, from_passes_below}
 

@@ -1,11 +1,17 @@
 -- What a decode restores: at a marked point, polynomial plus derivative is the locator's factor times the polynomial that was coded.
 use Rattle.std.proofs.Common.{◌≡◌, ℕ, ◌+◌, ◌-◌, ◌^◌, ◌<◌, ◌≤◌, List, length, bit_xor, sym, ap, ap₂, ◌∙◌, arith, pow_mono}
 use Rattle.std.specs.Int.Bits.{xor_zero_l}
-use Rattle.rs_field.specs.words.{Field.product, Field.power, Polynomial.value, Transform.forward, Locator.log_sum, Derivative.IsInBasis, Derivative.IsDerivativeAdded}
-use Rattle.rs_field.proofs.of_words.{Roots.WordsOneByOne, Roots.words_from, Values.same_from_values, Factors.times, Factors.words_times, Factors.all_words}
-use Rattle.rs_field.proofs.of_words.{Coefficients.polynomial_of_terms, Padding.padded, Padding.length-padded, Padding.words_padded, Padding.value-padded}
-use Rattle.rs_field.proofs.of_words.{Padding.derivative-padded, LocatorProduct.marked, LocatorProduct.AreMarks, LocatorProduct.locator_root, LocatorProduct.locator_derivative}
-use Rattle.rs_field.proofs.of_words.{LocatorProduct.length-marked_times}
+use Rattle.rs_field.specs.words.Field.{product, power}
+use Rattle.rs_field.specs.words.Polynomial.{value}
+use Rattle.rs_field.specs.words.Transform.{forward}
+use Rattle.rs_field.specs.words.Locator.{log_sum}
+use Rattle.rs_field.specs.words.Derivative.{IsInBasis, IsDerivativeAdded}
+use Rattle.rs_field.proofs.of_words.Roots.{WordsOneByOne, words_from}
+use Rattle.rs_field.proofs.of_words.Values.{same_from_values}
+use Rattle.rs_field.proofs.of_words.Factors.{times, words_times, all_words}
+use Rattle.rs_field.proofs.of_words.Coefficients.{polynomial_of_terms}
+use Rattle.rs_field.proofs.of_words.Padding.{padded, length-padded, words_padded, value-padded, derivative-padded}
+use Rattle.rs_field.proofs.of_words.LocatorProduct.{marked, AreMarks, locator_root, locator_derivative, length-marked_times}
 
 -- coefficients in the subspace basis that give the values of a polynomial at the first 2 ^ e points give them at every point
 pub in_basis : (e : ℕ) (f : ℕ → ℕ) (p : List ℕ) → e ≤ 16 → length p ≡ 2 ^ e → WordsOneByOne p

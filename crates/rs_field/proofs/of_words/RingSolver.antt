@@ -1,10 +1,13 @@
 -- Equations of sums and products of given words, by multiplying out and cancelling equal terms in pairs.
 use Rattle.std.proofs.Common.{◌≡◌, ℕ, zero, suc, ◌^◌, ◌<◌, List, [], ◌∷◌, ◌++◌, Bool, true, false, ◌&&◌, cond, eqb, leb, eqb-true, get_or, bit_xor, refl, sym, ap, ap₂, ◌∙◌, arith}
 use Rattle.std.specs.Int.Bits.{xor_comm, xor_assoc, xor_self, xor_zero_r}
-use Rattle.std.proofs.lemmas.{Bool.cases_Bool, Bool.and_parts, Nat.pow_pos, Grind.common_steps}
+use Rattle.std.proofs.lemmas.Bool.{cases_Bool, and_parts}
+use Rattle.std.proofs.lemmas.Nat.{pow_pos}
+use Rattle.std.proofs.lemmas.Grind.{common_steps}
 use Rattle.rs_field.specs.words.Field.{product}
-use Rattle.rs_field.proofs.of_words.{Product.product_lt, Product.product_xor_left, Product.product_xor_right, Product.product_zero, Product.zero_product, Product.product_one}
-use Rattle.rs_field.proofs.of_words.{Product.one_product, Total.product-assoc, Total.product-left_comm, Roots.WordsOneByOne, Roots.same_from_xor}
+use Rattle.rs_field.proofs.of_words.Product.{product_lt, product_xor_left, product_xor_right, product_zero, zero_product, product_one, one_product}
+use Rattle.rs_field.proofs.of_words.Total.{product-assoc, product-left_comm}
+use Rattle.rs_field.proofs.of_words.Roots.{WordsOneByOne, same_from_xor}
 
 pub data Expr : Type 0 where
   v : ℕ → Expr

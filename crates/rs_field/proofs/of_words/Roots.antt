@@ -2,10 +2,14 @@
 use Rattle.std.proofs.Common.{◌≡◌, ℕ, zero, suc, ◌^◌, ◌<◌, ◌≢◌, List, [], ◌∷◌, length, bit_xor, refl, sym, ap, ap₂, ◌∙◌, subst, arith, inl, inr}
 use Rattle.std.specs.Prelude.{All}
 use Rattle.std.specs.Int.Bits.{xor_comm, xor_assoc, xor_self, xor_zero_r, xor_lt}
-use Rattle.std.proofs.lemmas.{Bool.cases_eq, Nat.pow_pos, Grind.common_steps}
-use Rattle.rs_field.specs.words.{Field.product, Polynomial.value}
-use Rattle.rs_field.proofs.of_words.{Product.product_lt, Product.product_xor_left, Product.product_xor_right, Product.product_zero, Total.product-left_comm}
-use Rattle.rs_field.proofs.of_words.{Inverse.product_pos}
+use Rattle.std.proofs.lemmas.Bool.{cases_eq}
+use Rattle.std.proofs.lemmas.Nat.{pow_pos}
+use Rattle.std.proofs.lemmas.Grind.{common_steps}
+use Rattle.rs_field.specs.words.Field.{product}
+use Rattle.rs_field.specs.words.Polynomial.{value}
+use Rattle.rs_field.proofs.of_words.Product.{product_lt, product_xor_left, product_xor_right, product_zero}
+use Rattle.rs_field.proofs.of_words.Total.{product-left_comm}
+use Rattle.rs_field.proofs.of_words.Inverse.{product_pos}
 
 -- every coefficient is a word: `AreWords` one by one
 abbrev pub WordsOneByOne : List ℕ → Type 0

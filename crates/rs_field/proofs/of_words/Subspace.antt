@@ -2,9 +2,12 @@
 use Rattle.std.proofs.Common.{◌≡◌, ℕ, zero, suc, ◌+◌, ◌-◌, ◌*◌, ◌/◌, ◌^◌, ◌<◌, ◌≤◌, bit_xor, refl, sym, ap, ap₂, ◌∙◌, subst, arith, add-zero, zero-add, add-suc, pow_mono, lt_of_le_of_lt, zero-mul, one-mul, suc-mul, add_assoc, add-one, pow-add, sub-add_cancel, add-sub_cancel, mul-lt-mul_of_pos_right}
 use Rattle.std.proofs.Math.Nat.{div-eq_of_lt, two-pow-succ}
 use Rattle.std.specs.Int.Bits.{xor_assoc, xor_shr, xor_lt, xor_shifted}
-use Rattle.std.proofs.lemmas.{Nat.pow_pos, Nat.shr-shr, Nat.shl-shr, Nat.shr_le, Grind.common_steps}
-use Rattle.rs_field.specs.words.{Field.product, Subspace.product_below, Subspace.subspace}
-use Rattle.rs_field.proofs.of_words.{Product.product_lt, Product.product_assoc, Product.product_one, Product.one_product, Product.product_xor_right, Inverse.square_and_self}
+use Rattle.std.proofs.lemmas.Nat.{pow_pos, shr-shr, shl-shr, shr_le}
+use Rattle.std.proofs.lemmas.Grind.{common_steps}
+use Rattle.rs_field.specs.words.Field.{product}
+use Rattle.rs_field.specs.words.Subspace.{product_below, subspace}
+use Rattle.rs_field.proofs.of_words.Product.{product_lt, product_assoc, product_one, one_product, product_xor_right}
+use Rattle.rs_field.proofs.of_words.Inverse.{square_and_self}
 
 pub product_below_lt : (n : ℕ) (f : ℕ → ℕ) → product_below n f < 2 ^ 16
 unfolding product_below

@@ -1,10 +1,13 @@
 -- The sixteen products of a nibble, from those of 1, 2, 4 and 8.
-use Rattle.std.proofs.lemmas.{Grind.common_steps, Nat.and_mask}
+use Rattle.std.proofs.lemmas.Grind.{common_steps}
+use Rattle.std.proofs.lemmas.Nat.{and_mask}
 use Rattle.std.proofs.Common.{bit_and, ◌/◌, ◌%◌, ◌≡◌, ℕ, zero, suc, ◌*◌, ◌^◌, ◌<◌, List, [], ◌∷◌, get_or, bit_xor, sym, ap, ap₂, ◌∙◌, arith, zero-mul, one-mul}
 use Rattle.std.specs.Int.Bits.{xor_mod, xor_shr, xor_zero_r}
-use Rattle.rs_field.specs.words.{Field.product, Products.IsNibbleRow}
-use Rattle.rs_field.proofs.of_words.{Linear.IsAdditive, Linear.additive_zero, Linear.agree_below, Linear.lowest_xor, Linear.xor_swap, Linear.xor_times_pow}
-use Rattle.rs_field.proofs.of_words.{Product.product_xor_left, Packed.power_of}
+use Rattle.rs_field.specs.words.Field.{product}
+use Rattle.rs_field.specs.words.Products.{IsNibbleRow}
+use Rattle.rs_field.proofs.of_words.Linear.{IsAdditive, additive_zero, agree_below, lowest_xor, xor_swap, xor_times_pow}
+use Rattle.rs_field.proofs.of_words.Product.{product_xor_left}
+use Rattle.rs_field.proofs.of_words.Packed.{power_of}
 
 -- a product keeps the sum of words that are shifted by whole nibbles
 pub nibble_additive : (n f : ℕ) → IsAdditive 4 (λ i. product (i * 16 ^ n) f)

@@ -1,10 +1,13 @@
 -- What the loops over the tables rest on.
 use Rattle.std.proofs.Common.{◌≡◌, ℕ, ◌+◌, ◌*◌, ◌/◌, ◌%◌, ◌^◌, ◌<◌, List, [], ◌∷◌, true, length, get_or, drop, set, bit_xor, eqb, refl, sym, ap, ◌∙◌, arith, add-one, zero-mul, one-mul, ◌≤◌, inl, inr}
 use Rattle.std.proofs.Math.ListN.{drop_of_length-le}
-use Rattle.std.proofs.lemmas.{List.get_or-set_same, List.get_or-set_other, List.length-set, Bool.cases_eq, Grind.common_steps}
+use Rattle.std.proofs.lemmas.List.{get_or-set_same, get_or-set_other, length-set}
+use Rattle.std.proofs.lemmas.Bool.{cases_eq}
+use Rattle.std.proofs.lemmas.Grind.{common_steps}
 use Rattle.rs_field.specs.words.Tables.{IsExpLog}
-use Rattle.rs_field.proofs.of_words.{Power.power_injective, Power.power_pos, Power.power-suc, Power.power_turn, Power.power-log, Power.log_lt, Linear.combine_xor}
-use Rattle.rs_field.proofs.of_words.{Linear.passes_below, Product.same_on_words, Product.additive_left}
+use Rattle.rs_field.proofs.of_words.Power.{power_injective, power_pos, power-suc, power_turn, power-log, log_lt}
+use Rattle.rs_field.proofs.of_words.Linear.{combine_xor, passes_below}
+use Rattle.rs_field.proofs.of_words.Product.{same_on_words, additive_left}
 use Rattle.std.specs.Int.Bits.{xor_assoc, xor_zero_r}
 use Rattle.rs_field.specs.words.Field.{combine, product, power, log, generator, cantor_basis, bits, monomials, from_bits, carryless, reduce}
 

@@ -3,8 +3,11 @@ use Rattle.std.proofs.Common.{◌≡◌, ℕ, zero, suc, ◌+◌, ◌-◌, ◌*�
 use Rattle.std.specs.Prelude.{nat_lt}
 use Rattle.std.specs.Int.Bits.{xor_comm}
 use Rattle.std.proofs.Math.Nat.{mul-le-mul_right}
-use Rattle.std.proofs.lemmas.{Bool.cases_lt, Bool.lt-ltb, Grind.common_steps}
-use Rattle.rs_field.specs.words.{Field.product, Subspace.subspace, Transform.sum_below, Transform.forward}
+use Rattle.std.proofs.lemmas.Bool.{cases_lt, lt-ltb}
+use Rattle.std.proofs.lemmas.Grind.{common_steps}
+use Rattle.rs_field.specs.words.Field.{product}
+use Rattle.rs_field.specs.words.Subspace.{subspace}
+use Rattle.rs_field.specs.words.Transform.{sum_below, forward}
 use Rattle.rs_field.proofs.of_words.Combination.{sum_below-suc, sum_below-zero, sum_below-add, sum_below-same, lower_half, upper_half}
 use Rattle.rs_field.proofs.of_words.Halves.{shift_half, few_halves, xor_undo}
 

@@ -1,6 +1,7 @@
 -- Sums over the numbers below n.
 use Rattle.std.proofs.Common.{◌≡◌, ℕ, zero, suc, ◌+◌, ◌*◌, ◌%◌, ◌<◌, ◌≢◌, refl, sym, ap, ap₂, ◌∙◌, arith, inl, inr, add-zero}
-use Rattle.std.proofs.lemmas.{Bool.cases_eq, Nat.mul-mod_first, Nat.mul-mod_second}
+use Rattle.std.proofs.lemmas.Bool.{cases_eq}
+use Rattle.std.proofs.lemmas.Nat.{mul-mod_first, mul-mod_second}
 use Rattle.rs_field.specs.words.Walsh.{total}
 
 pub total-zero : (g : ℕ → ℕ) → total 0 g ≡ 0

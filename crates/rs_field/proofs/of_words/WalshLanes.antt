@@ -3,10 +3,13 @@ use Rattle.std.proofs.Common.{◌≡◌, ℕ, zero, suc, ◌+◌, ◌-◌, ◌*�
 use Rattle.std.specs.Prelude.{◌==◌, if◌then◌else◌, nat_eq, nat_lt}
 use Rattle.std.specs.Simd.Lanes.{Each1}
 use Rattle.std.proofs.Math.Dec.{ltb}
-use Rattle.std.proofs.lemmas.{Simd.tops_compared, Simd.get_or-sel_l, Simd.length-sel_l, Simd.get_or-zip2, Simd.length-zip2, List.get_or-map, List.get_or_append_left}
-use Rattle.std.proofs.lemmas.{Bool.and_parts, Bool.eqb-true, Bool.ltb-true, Grind.common_steps}
+use Rattle.std.proofs.lemmas.Simd.{tops_compared, get_or-sel_l, length-sel_l, get_or-zip2, length-zip2}
+use Rattle.std.proofs.lemmas.List.{get_or-map, get_or_append_left}
+use Rattle.std.proofs.lemmas.Bool.{and_parts, eqb-true, ltb-true}
+use Rattle.std.proofs.lemmas.Grind.{common_steps}
 use Rattle.rs_field.specs.words.Walsh.{IsWalsh, IsLayer}
-use Rattle.rs_field.proofs.of_words.{Linear.passes_below, Linear.from_passes_below, Halving.walsh-halves, Halving.walsh-same, Halving.walsh-one}
+use Rattle.rs_field.proofs.of_words.Linear.{passes_below, from_passes_below}
+use Rattle.rs_field.proofs.of_words.Halving.{walsh-halves, walsh-same, walsh-one}
 use lib.Lanes.{zip2, sel_l, top}
 
 -- ---- the larger one of two lanes

@@ -2,10 +2,13 @@
 use Rattle.std.proofs.Common.{◌≡◌, ℕ, zero, suc, ◌+◌, ◌-◌, ◌^◌, ◌<◌, ◌≤◌, List, length, bit_xor, sym, ap, ◌∙◌, arith, inl, inr, pow_mono, subst}
 use Rattle.std.specs.Int.Bits.{xor_self}
 use Rattle.std.proofs.lemmas.Bool.{cases_eq}
-use Rattle.rs_field.specs.words.{Field.product, Polynomial.value}
-use Rattle.rs_field.proofs.of_words.{Product.product_zero, Product.zero_product, Product.one_product, Roots.WordsOneByOne, Roots.value_lt, Subspace.outside, Factors.points}
-use Rattle.rs_field.proofs.of_words.{Factors.times, Factors.value_with_root, Factors.value-times, Factors.length-times, Factors.words_times, Division.AreFalling}
-use Rattle.rs_field.proofs.of_words.{Division.AreRoots, Division.divided_by}
+use Rattle.rs_field.specs.words.Field.{product}
+use Rattle.rs_field.specs.words.Polynomial.{value}
+use Rattle.rs_field.proofs.of_words.Product.{product_zero, zero_product, one_product}
+use Rattle.rs_field.proofs.of_words.Roots.{WordsOneByOne, value_lt}
+use Rattle.rs_field.proofs.of_words.Subspace.{outside}
+use Rattle.rs_field.proofs.of_words.Factors.{points, times, value_with_root, value-times, length-times, words_times}
+use Rattle.rs_field.proofs.of_words.Division.{AreFalling, AreRoots, divided_by}
 
 falling_points : (a n : ℕ) → AreFalling (a + n) (points a n)
 unfolding points

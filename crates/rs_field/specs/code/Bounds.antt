@@ -1,7 +1,8 @@
 -- How many steps an encode and a decode may count.
 use Rattle.std.specs.Prelude.{ℕ, ◌+◌, ◌*◌, ◌/◌}
 use Rattle.rs_field.specs.declared.words.steps.Steps.{Steps}
-use Rattle.rs_field.specs.code.{Counts.Rate, Placement.block_rows, Placement.encoder_rows, Placement.decoder_rows}
+use Rattle.rs_field.specs.code.Counts.{Rate}
+use Rattle.rs_field.specs.code.Placement.{block_rows, encoder_rows, decoder_rows}
 pub use Rattle.rs_field.specs.words.StepBounds.{CountsUpTo, CountsRows, CountsPairs, CountsProducts, WalshCounts, LocatorCountsBelow, LocatorCounts, TransformCounts, RowProductCounts}
 unfoldable pub use Rattle.rs_field.specs.words.StepBounds.{log2, transform_steps}
 

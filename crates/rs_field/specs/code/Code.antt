@@ -1,7 +1,10 @@
 -- The code: recovery shards are values of the polynomial through the originals.
 use Rattle.std.specs.Prelude.{◌≡◌, ℕ, ◌+◌, ◌/◌, ◌%◌, ◌<◌, ◌≤◌, List, length, slice_index}
 use Rattle.rs_field.specs.words.Polynomial.{AreWords, value}
-use Rattle.rs_field.specs.code.{Column.Shard, Column.AreShards, Column.columns, Counts.Rate, Placement.placement, Configuration.Configuration}
+use Rattle.rs_field.specs.code.Column.{Shard, AreShards, columns}
+use Rattle.rs_field.specs.code.Counts.{Rate}
+use Rattle.rs_field.specs.code.Placement.{placement}
+use Rattle.rs_field.specs.code.Configuration.{Configuration}
 
 -- a polynomial within the degree bound takes the k words at the originals' points, and zero at the zero points
 pub record Codes (rate : Rate) (k r : ℕ) (words polynomial : List ℕ) : Type 0 where

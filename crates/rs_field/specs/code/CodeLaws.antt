@@ -1,8 +1,11 @@
 -- Laws of the code: each message has recovery shards, XOR and columns pass through the coding, and k shards of a codeword fix it.
 use Rattle.std.specs.Prelude.{◌≡◌, ◌↔◌, ℕ, ◌+◌, ◌/◌, ◌%◌, ◌<◌, ◌≤◌, List, [], ◌++◌, map, zip, bit_xor, true, None, unwrap_or, bytes_eq, if◌then◌else◌}
-use Rattle.rs_field.specs.code.{Column.Shard, Column.AreShards, Column.shard_at, Column.columns, Counts.Rate, Counts.low_rate, Counts.high_rate, Counts.next_power}
-use Rattle.rs_field.specs.code.{Counts.supports, Configuration.Configuration, Configuration.configuration, Code.AreRecovery, Given.Shards, Given.count_below, Given.Consistent}
-use Rattle.rs_field.specs.code.{Decoder.DecoderState, Decoder.Restored}
+use Rattle.rs_field.specs.code.Column.{Shard, AreShards, shard_at, columns}
+use Rattle.rs_field.specs.code.Counts.{Rate, low_rate, high_rate, next_power, supports}
+use Rattle.rs_field.specs.code.Configuration.{Configuration, configuration}
+use Rattle.rs_field.specs.code.Code.{AreRecovery}
+use Rattle.rs_field.specs.code.Given.{Shards, count_below, Consistent}
+use Rattle.rs_field.specs.code.Decoder.{DecoderState, Restored}
 
 -- every message has recovery shards, at supported counts and an even size
 abbrev pub HasRecovery : Type 0

@@ -2,7 +2,8 @@
 use Rattle.std.specs.Prelude.{ℕ, ◌+◌, ◌*◌, ◌/◌, ◌%◌, ◌^◌, ◌≡◌, ◌⊎◌, not, ◌||◌, ◌==◌, nat_le, if◌then◌else◌, Result, Ok, Err, IsOk, ◌≤◌}
 use Rattle.rs_field.specs.declared.code.error.Error.{Error}
 use Rattle.rs_field.specs.declared.code.error.Error.TheVariants.{UnsupportedShardCount, InvalidShardSize, OutOfMemory}
-use Rattle.rs_field.specs.code.{Counts.Rate, Counts.supports, Outcome.result_and_then}
+use Rattle.rs_field.specs.code.Counts.{Rate, supports}
+use Rattle.rs_field.specs.code.Outcome.{result_and_then}
 
 -- a rate, the counts and the size of a shard
 pub record Configuration : Type 0 where

@@ -2,8 +2,11 @@
 use Rattle.std.specs.Prelude.{◌≡◌, ℕ, ◌+◌, ◌^◌, ◌<◌, ◌==◌, ◌&&◌, not, length, nat_le, nat_lt, if◌then◌else◌, List, Some, None, is_some, Result, Ok, Err, is_ok, MatchResult}
 use Rattle.rs_field.specs.declared.code.error.Error.{Error}
 use Rattle.rs_field.specs.declared.code.error.Error.TheVariants.{InvalidOriginalShardIndex, InvalidRecoveryShardIndex, DuplicateOriginalShardIndex, DuplicateRecoveryShardIndex, DifferentShardSize, NotEnoughShards, InconsistentShards}
-use Rattle.rs_field.specs.code.{Column.Shard, Column.shard_at, Counts.Rate, Configuration.Configuration, Configuration.validated, Configuration.space, Placement.decoder_rows}
-use Rattle.rs_field.specs.code.{Given.Shards, Given.AreWithin, Given.nothing, Given.entered, Given.count_below, Given.Agrees, Given.Consistent}
+use Rattle.rs_field.specs.code.Column.{Shard, shard_at}
+use Rattle.rs_field.specs.code.Counts.{Rate}
+use Rattle.rs_field.specs.code.Configuration.{Configuration, validated, space}
+use Rattle.rs_field.specs.code.Placement.{decoder_rows}
+use Rattle.rs_field.specs.code.Given.{Shards, AreWithin, nothing, entered, count_below, Agrees, Consistent}
 
 -- a configuration, and the shards given so far
 pub record DecoderState : Type 0 where

@@ -2,8 +2,11 @@
 use Rattle.std.specs.Prelude.{◌≡◌, ◌^◌, ◌<◌, ◌≤◌, All, List, [], ◌∷◌, ◌++◌, ◌==◌, not, length, nat_le, nat_lt, if◌then◌else◌, Result, Ok, Err, is_ok, IsOkAnd, MatchResult}
 use Rattle.rs_field.specs.declared.code.error.Error.{Error}
 use Rattle.rs_field.specs.declared.code.error.Error.TheVariants.{TooManyOriginalShards, TooFewOriginalShards, DifferentShardSize}
-use Rattle.rs_field.specs.code.{Column.Shard, Column.IsShard, Counts.Rate, Configuration.Configuration, Configuration.validated, Configuration.space, Placement.encoder_rows}
-use Rattle.rs_field.specs.code.{Code.AreRecovery}
+use Rattle.rs_field.specs.code.Column.{Shard, IsShard}
+use Rattle.rs_field.specs.code.Counts.{Rate}
+use Rattle.rs_field.specs.code.Configuration.{Configuration, validated, space}
+use Rattle.rs_field.specs.code.Placement.{encoder_rows}
+use Rattle.rs_field.specs.code.Code.{AreRecovery}
 
 -- a configuration, and the originals given so far
 pub record EncoderState : Type 0 where

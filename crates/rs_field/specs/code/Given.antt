@@ -1,6 +1,8 @@
 -- Shards given by index, and the messages that they agree with.
 use Rattle.std.specs.Prelude.{◌≡◌, ℕ, zero, suc, ◌+◌, ◌≤◌, ◌==◌, List, [], ◌∷◌, ◌++◌, Option, Some, None, is_some, if◌then◌else◌}
-use Rattle.rs_field.specs.code.{Column.Shard, Column.IsShard, Column.AreShards, Column.shard_at, Configuration.Configuration, Code.AreRecovery}
+use Rattle.rs_field.specs.code.Column.{Shard, IsShard, AreShards, shard_at}
+use Rattle.rs_field.specs.code.Configuration.{Configuration}
+use Rattle.rs_field.specs.code.Code.{AreRecovery}
 
 -- a map from index to shard
 abbrev pub Shards : Type 0

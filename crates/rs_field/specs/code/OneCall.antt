@@ -10,10 +10,14 @@ use Rattle.std.specs.Result.{result_map_both}
 use Rattle.std.specs.declared.vec.Vec.{Vec}
 use Rattle.rs_field.specs.declared.code.error.Error.{Error}
 use Rattle.rs_field.specs.declared.code.error.Error.TheVariants.{UnsupportedShardCount, TooFewOriginalShards, InvalidOriginalShardIndex, DuplicateOriginalShardIndex, NotEnoughShards, OutOfMemory}
-use Rattle.rs_field.specs.code.{Column.Shard, Counts.default_rate, Counts.supports, Placement.encoder_rows, Placement.decoder_rows, Outcome.result_and_then}
-use Rattle.rs_field.specs.code.{Configuration.Configuration, Configuration.configuration, Configuration.validated, Configuration.started, Given.Shards, Given.nothing}
-use Rattle.rs_field.specs.code.{Encoder.EncoderState, Encoder.fresh_encoder, Encoder.with_shard, Encoder.EncodeAnswers, Decoder.DecoderState, Decoder.fresh_decoder}
-use Rattle.rs_field.specs.code.{Decoder.with_original, Decoder.with_recovery, Decoder.DecodeAnswers}
+use Rattle.rs_field.specs.code.Column.{Shard}
+use Rattle.rs_field.specs.code.Counts.{default_rate, supports}
+use Rattle.rs_field.specs.code.Placement.{encoder_rows, decoder_rows}
+use Rattle.rs_field.specs.code.Outcome.{result_and_then}
+use Rattle.rs_field.specs.code.Configuration.{Configuration, configuration, validated, started}
+use Rattle.rs_field.specs.code.Given.{Shards, nothing}
+use Rattle.rs_field.specs.code.Encoder.{EncoderState, fresh_encoder, with_shard, EncodeAnswers}
+use Rattle.rs_field.specs.code.Decoder.{DecoderState, fresh_decoder, with_original, with_recovery, DecodeAnswers}
 
 -- shards with their indexes
 abbrev pub Items : Type 0

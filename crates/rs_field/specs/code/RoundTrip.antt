@@ -3,10 +3,15 @@ use Rattle.std.specs.Prelude.{◌≡◌, ℕ, ◌+◌, ◌<◌, ◌⊎◌, ◌&&
 use Rattle.std.specs.List.{IsDistinct, list_any}
 use Rattle.rs_field.specs.declared.code.error.Error.{Error}
 use Rattle.rs_field.specs.declared.code.error.Error.TheVariants.{NotEnoughShards, OutOfMemory}
-use Rattle.rs_field.specs.code.{Column.Shard, Column.AreShards, Column.shard_at, Counts.Rate, Outcome.answer_of, Configuration.Configuration, Configuration.validated}
-use Rattle.rs_field.specs.code.{Code.AreRecovery, Given.Shards, Given.AreAmong, Encoder.EncoderState, Encoder.IsEncoder, Encoder.EncodeAnswers, Decoder.DecoderState}
-use Rattle.rs_field.specs.code.{Decoder.fresh_decoder, Decoder.enough_given, Decoder.missing_of, Decoder.DecodeAnswers, OneCall.Items, OneCall.default_of, OneCall.with_both}
-use Rattle.rs_field.specs.code.{OneCall.OneEncodeAnswers, OneCall.OneDecodeAnswers}
+use Rattle.rs_field.specs.code.Column.{Shard, AreShards, shard_at}
+use Rattle.rs_field.specs.code.Counts.{Rate}
+use Rattle.rs_field.specs.code.Outcome.{answer_of}
+use Rattle.rs_field.specs.code.Configuration.{Configuration, validated}
+use Rattle.rs_field.specs.code.Code.{AreRecovery}
+use Rattle.rs_field.specs.code.Given.{Shards, AreAmong}
+use Rattle.rs_field.specs.code.Encoder.{EncoderState, IsEncoder, EncodeAnswers}
+use Rattle.rs_field.specs.code.Decoder.{DecoderState, fresh_decoder, enough_given, missing_of, DecodeAnswers}
+use Rattle.rs_field.specs.code.OneCall.{Items, default_of, with_both, OneEncodeAnswers, OneDecodeAnswers}
 
 -- ---- decoders, by what they were given
 

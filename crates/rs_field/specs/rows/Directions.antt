@@ -3,9 +3,13 @@ use Rattle.std.specs.Prelude.{◌≡◌, ℕ, ◌+◌, ◌-◌, ◌*◌, ◌<◌
 use Rattle.rs_field.specs.declared.rows.layers.Direction.{Direction}
 use Rattle.rs_field.specs.declared.rows.marked_rows.UsedRows.{UsedRows}
 use Rattle.rs_field.specs.declared.rows.shards.ShardsRefMut.{ShardsRefMut}
-use Rattle.rs_field.specs.words.{Transform.forward, Transform.IsBackward, StepBounds.CountsUpTo, StepBounds.transform_steps}
-use Rattle.rs_field.specs.rows.{MarkedRows.UnusedAreZero, Layers.ArePartsOf, Layers.rows_of_part, Layers.layer_steps, View.word, Pairs.OnTwoChunks, Pairs.IsForwardStep}
-use Rattle.rs_field.specs.rows.{Pairs.IsBackwardStep, TwoLayers.OnFourChunks, TwoLayers.IsForwardTwoLayers, TwoLayers.IsBackwardTwoLayers}
+use Rattle.rs_field.specs.words.Transform.{forward, IsBackward}
+use Rattle.rs_field.specs.words.StepBounds.{CountsUpTo, transform_steps}
+use Rattle.rs_field.specs.rows.MarkedRows.{UnusedAreZero}
+use Rattle.rs_field.specs.rows.Layers.{ArePartsOf, rows_of_part, layer_steps}
+use Rattle.rs_field.specs.rows.View.{word}
+use Rattle.rs_field.specs.rows.Pairs.{OnTwoChunks, IsForwardStep, IsBackwardStep}
+use Rattle.rs_field.specs.rows.TwoLayers.{OnFourChunks, IsForwardTwoLayers, IsBackwardTwoLayers}
 use Rattle.rs_field.specs.declared.rows.block.Block.{Block}
 use Rattle.rs_field.specs.declared.words.steps.Steps.{Steps}
 

@@ -1,6 +1,7 @@
 -- The derivative of a polynomial that is given in the subspace basis.
 use Rattle.std.specs.Prelude.{◌≡◌, ℕ, List, ◌<◌, length, bit_xor}
-use Rattle.rs_field.specs.words.{Polynomial.AreWords, Polynomial.value, Polynomial.derivative_value, Transform.forward}
+use Rattle.rs_field.specs.words.Polynomial.{AreWords, value, derivative_value}
+use Rattle.rs_field.specs.words.Transform.{forward}
 
 -- the n words f are the coefficients in the subspace basis of the polynomial p: both have the same value at each word
 abbrev pub IsInBasis : ℕ → (ℕ → ℕ) → List ℕ → Type 0

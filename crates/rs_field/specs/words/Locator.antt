@@ -1,6 +1,7 @@
 -- The locator of marked points, by its logarithms.
 use Rattle.std.specs.Prelude.{◌≡◌, ℕ, zero, suc, ◌+◌, ◌*◌, ◌%◌, ◌<◌, ◌≤◌, ◌==◌, if◌then◌else◌, bit_xor}
-use Rattle.rs_field.specs.words.{Field.raised, Field.power, Field.log, Subspace.product_below}
+use Rattle.rs_field.specs.words.Field.{raised, power, log}
+use Rattle.rs_field.specs.words.Subspace.{product_below}
 
 -- the sum of e y * log (x + y) over the points y below n other than x
 unfoldable pub log_sum : ℕ → (ℕ → ℕ) → ℕ → ℕ

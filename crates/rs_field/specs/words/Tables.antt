@@ -1,6 +1,8 @@
 -- What the tables hold.
 use Rattle.std.specs.Prelude.{ℕ, ◌≡◌, ◌+◌, ◌-◌, ◌*◌, ◌/◌, ◌^◌, ◌<◌, ◌≤◌, ◌==◌, if◌then◌else◌, List, length, slice_index}
-use Rattle.rs_field.specs.words.{Field.product, Field.power, Field.log, Subspace.subspace, Walsh.IsWalsh, Walsh.log_or_zero}
+use Rattle.rs_field.specs.words.Field.{product, power, log}
+use Rattle.rs_field.specs.words.Subspace.{subspace}
+use Rattle.rs_field.specs.words.Walsh.{IsWalsh, log_or_zero}
 
 -- the powers of the generator and the logarithms of the words; the logarithm of 0 reads 65535
 pub record IsExpLog (exp_table log_table : List ℕ) : Type 0 where

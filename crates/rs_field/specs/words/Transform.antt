@@ -1,6 +1,7 @@
 -- The transform between coefficients in the subspace basis and values.
 use Rattle.std.specs.Prelude.{◌≡◌, ℕ, zero, suc, ◌+◌, ◌<◌, bit_xor}
-use Rattle.rs_field.specs.words.{Field.product, Subspace.basis}
+use Rattle.rs_field.specs.words.Field.{product}
+use Rattle.rs_field.specs.words.Subspace.{basis}
 
 -- the sum of the values of f at the numbers below n
 unfoldable pub sum_below : ℕ → (ℕ → ℕ) → ℕ

@@ -2,10 +2,13 @@
 use Rattle.std.specs.Prelude.{◌≡◌, ℕ, List, [], ◌∷◌, replicate, Result, Ok, Err}
 use Rattle.rs_field.specs.declared.code.error.Error.{Error}
 use Rattle.rs_field.specs.declared.code.error.Error.TheVariants.{DifferentShardSize, DuplicateOriginalShardIndex, DuplicateRecoveryShardIndex, InvalidOriginalShardIndex, InvalidRecoveryShardIndex, InvalidShardSize, NotEnoughShards, OutOfMemory, TooFewOriginalShards, TooManyOriginalShards, UnsupportedShardCount}
-use Rattle.rs_field.specs.code.{Column.Shard, Outcome.result_and_then, Outcome.answer_of, Outcome.state_after, Configuration.validated, Configuration.UpToMemory, Given.Shards}
-use Rattle.rs_field.specs.code.{Given.nothing, Given.entered, Encoder.EncoderState, Encoder.fresh_encoder, Encoder.with_shard, Encoder.message_of, Encoder.after_encode}
-use Rattle.rs_field.specs.code.{Decoder.fresh_decoder, Decoder.with_original, Decoder.with_recovery, Decoder.enough_given, Decoder.after_decode, OneCall.default_of}
-use Rattle.rs_field.specs.code.{OneCall.encoding, OneCall.decoding, OneCall.OneEncodeAnswers, OneCall.OneDecodes, OneCall.OneDecodeAnswers}
+use Rattle.rs_field.specs.code.Column.{Shard}
+use Rattle.rs_field.specs.code.Outcome.{result_and_then, answer_of, state_after}
+use Rattle.rs_field.specs.code.Configuration.{validated, UpToMemory}
+use Rattle.rs_field.specs.code.Given.{Shards, nothing, entered}
+use Rattle.rs_field.specs.code.Encoder.{EncoderState, fresh_encoder, with_shard, message_of, after_encode}
+use Rattle.rs_field.specs.code.Decoder.{fresh_decoder, with_original, with_recovery, enough_given, after_decode}
+use Rattle.rs_field.specs.code.OneCall.{default_of, encoding, decoding, OneEncodeAnswers, OneDecodes, OneDecodeAnswers}
 use Rattle.rs_field.specs.worked.Codes.{two_given, surplus_given}
 
 -- a shard of n zero bytes

@@ -1,8 +1,13 @@
 -- Worked examples of the code: messages with their recovery shards, and given shards with the messages that agree.
 use Rattle.std.specs.Prelude.{◌≡◌, ℕ, ◌+◌, ◌*◌, ◌++◌, List, [], ◌∷◌, map, length, replicate, Ok, Err}
 use Rattle.rs_field.specs.declared.code.error.Error.TheVariants.{InconsistentShards}
-use Rattle.rs_field.specs.code.{Column.Shard, Column.columns, Counts.Rate, Counts.default_rate, Configuration.configuration, Code.Codes, Code.AreRecovery, CodeLaws.xor_shards}
-use Rattle.rs_field.specs.code.{Given.nothing, Given.entered, Decoder.DecoderState, Decoder.IsAgreeing, Decoder.Restored, Decoder.DecodeAnswers}
+use Rattle.rs_field.specs.code.Column.{Shard, columns}
+use Rattle.rs_field.specs.code.Counts.{Rate, default_rate}
+use Rattle.rs_field.specs.code.Configuration.{configuration}
+use Rattle.rs_field.specs.code.Code.{Codes, AreRecovery}
+use Rattle.rs_field.specs.code.CodeLaws.{xor_shards}
+use Rattle.rs_field.specs.code.Given.{nothing, entered}
+use Rattle.rs_field.specs.code.Decoder.{DecoderState, IsAgreeing, Restored, DecodeAnswers}
 
 -- shards of two bytes, of which the second is zero
 abbrev pub low_bytes : List ℕ → List Shard

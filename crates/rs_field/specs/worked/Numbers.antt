@@ -1,10 +1,14 @@
 -- Worked examples: what the definitions say of small numbers and short lists.
 use Rattle.std.specs.Prelude.{◌≡◌, ℕ, zero, suc, ◌+◌, ◌*◌, List, [], ◌∷◌, map, true, false, Ok, Err}
 use Rattle.rs_field.specs.declared.code.error.Error.TheVariants.{UnsupportedShardCount, InvalidShardSize, OutOfMemory}
-use Rattle.rs_field.specs.words.{Field.product, Transform.IsForward, Transform.IsBackward, StepBounds.transform_steps}
-use Rattle.rs_field.specs.code.{Column.column, Counts.low_rate, Counts.high_rate, Counts.default_rate, Counts.next_power, Counts.supports, Counts.is_low, Placement.block_rows}
-use Rattle.rs_field.specs.code.{Placement.encoder_rows, Placement.decoder_rows, Configuration.configuration, Configuration.validated, Configuration.started}
-use Rattle.rs_field.specs.code.{Bounds.encode_steps_at, Bounds.decode_steps_at}
+use Rattle.rs_field.specs.words.Field.{product}
+use Rattle.rs_field.specs.words.Transform.{IsForward, IsBackward}
+use Rattle.rs_field.specs.words.StepBounds.{transform_steps}
+use Rattle.rs_field.specs.code.Column.{column}
+use Rattle.rs_field.specs.code.Counts.{low_rate, high_rate, default_rate, next_power, supports, is_low}
+use Rattle.rs_field.specs.code.Placement.{block_rows, encoder_rows, decoder_rows}
+use Rattle.rs_field.specs.code.Configuration.{configuration, validated, started}
+use Rattle.rs_field.specs.code.Bounds.{encode_steps_at, decode_steps_at}
 
 -- products of small words
 abbrev pub Products : Type 0

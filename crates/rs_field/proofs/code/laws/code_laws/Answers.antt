@@ -1,4 +1,5 @@
-use Rattle.rs_field.proofs.of_code.{Columns.column-chunk, Columns.column-tail, Columns.shard_from_columns, Unique.codes_unique, Unique.recovery_unique}
+use Rattle.rs_field.proofs.of_code.Columns.{column-chunk, column-tail, shard_from_columns}
+use Rattle.rs_field.proofs.of_code.Unique.{codes_unique, recovery_unique}
 use Rattle.rs_field.proofs.code.laws.code_laws.Goals as goal
 
 pub returns : goal.returns

@@ -1,7 +1,10 @@
 use Rattle.std.proofs.Common.{sym, ap, ◌∙◌, List}
 use Rattle.std.proofs.Math.Path.{fun_ext}
-use Rattle.rs_field.specs.code.{Column.Shard, CodeLaws.HasOneRestoration, Decoder.missing_of}
-use Rattle.rs_field.proofs.of_code.{Changes.changes_noticed, Places.fixed_by_places}
+use Rattle.rs_field.specs.code.Column.{Shard}
+use Rattle.rs_field.specs.code.CodeLaws.{HasOneRestoration}
+use Rattle.rs_field.specs.code.Decoder.{missing_of}
+use Rattle.rs_field.proofs.of_code.Changes.{changes_noticed}
+use Rattle.rs_field.proofs.of_code.Places.{fixed_by_places}
 use Rattle.rs_field.proofs.code.laws.codeword_laws.Goals as goal
 
 -- both are the missing shards of the one message that agrees

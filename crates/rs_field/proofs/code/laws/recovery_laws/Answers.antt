@@ -1,4 +1,7 @@
-use Rattle.rs_field.proofs.of_code.{EqualPowers.one_code as one, Linearity.recovery-xor, MadeShards.has_recovery, Unique.columns_unique}
+use Rattle.rs_field.proofs.of_code.EqualPowers.{one_code as one}
+use Rattle.rs_field.proofs.of_code.Linearity.{recovery-xor}
+use Rattle.rs_field.proofs.of_code.MadeShards.{has_recovery}
+use Rattle.rs_field.proofs.of_code.Unique.{columns_unique}
 use Rattle.rs_field.proofs.code.laws.recovery_laws.Goals as goal
 
 pub returns : goal.returns

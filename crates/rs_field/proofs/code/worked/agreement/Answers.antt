@@ -3,16 +3,23 @@ use Rattle.std.proofs.Common.{◌≡◌, Bool, true, cond, inl, inr, ℕ, zero, 
 use Rattle.std.specs.Prelude.{Some, None, ◌&&◌, not, is_some, Ok, Err}
 use Rattle.std.proofs.lemmas.Bool.{le-ltb}
 use Rattle.rs_field.specs.declared.code.error.Error.TheVariants.{InconsistentShards}
-use Rattle.rs_field.specs.words.{Search.first_below, Field.product, Field.combine, Field.bits, Field.from_bits, Field.cantor_basis, Field.monomials, Field.carryless}
-use Rattle.rs_field.specs.words.{Field.reduce, Polynomial.value}
-use Rattle.rs_field.specs.code.{Column.Shard, Column.AreShards, Column.shard_at, Column.column, Counts.next_power, Counts.supports, Counts.is_low, Counts.default_rate}
-use Rattle.rs_field.specs.code.{Placement.placement, Placement.low_placement, Placement.high_placement, Configuration.configuration, Code.AreRecovery, CodeLaws.changed}
-use Rattle.rs_field.specs.code.{Given.Shards, Given.nothing, Given.entered, Given.count_below, Decoder.IsAgreeing, Decoder.IsConsistent, Decoder.missing_of, Decoder.Restored}
-use Rattle.rs_field.specs.code.{Decoder.DecodeAnswers}
+use Rattle.rs_field.specs.words.Search.{first_below}
+use Rattle.rs_field.specs.words.Field.{product, combine, bits, from_bits, cantor_basis, monomials, carryless, reduce}
+use Rattle.rs_field.specs.words.Polynomial.{value}
+use Rattle.rs_field.specs.code.Column.{Shard, AreShards, shard_at, column}
+use Rattle.rs_field.specs.code.Counts.{next_power, supports, is_low, default_rate}
+use Rattle.rs_field.specs.code.Placement.{placement, low_placement, high_placement}
+use Rattle.rs_field.specs.code.Configuration.{configuration}
+use Rattle.rs_field.specs.code.Code.{AreRecovery}
+use Rattle.rs_field.specs.code.CodeLaws.{changed}
+use Rattle.rs_field.specs.code.Given.{Shards, nothing, entered, count_below}
+use Rattle.rs_field.specs.code.Decoder.{IsAgreeing, IsConsistent, missing_of, Restored, DecodeAnswers}
 use Rattle.rs_field.specs.worked.Codes.{low_bytes, two_given, surplus_given, MixtureRow}
 use Rattle.rs_field.proofs.of_words.Linear.{passes_below}
-use Rattle.rs_field.proofs.of_code.{Agreement.one_message, Changes.changes_noticed, Given.entered_cases, Given.nothing_among, Given.entered_among, Decided.shards_from}
-use Rattle.rs_field.proofs.of_code.{Decided.recovery_from, Decided.recovery_from_high}
+use Rattle.rs_field.proofs.of_code.Agreement.{one_message}
+use Rattle.rs_field.proofs.of_code.Changes.{changes_noticed}
+use Rattle.rs_field.proofs.of_code.Given.{entered_cases, nothing_among, entered_among}
+use Rattle.rs_field.proofs.of_code.Decided.{shards_from, recovery_from, recovery_from_high}
 use Rattle.rs_field.proofs.code.worked.agreement.Goals as goal
 
 -- the message that is restored

@@ -1,7 +1,9 @@
 use Rattle.std.proofs.Common.{rules}
-use Rattle.rs_field.specs.words.{StepBounds.log2, StepBounds.transform_steps, Search.first_below}
-use Rattle.rs_field.specs.code.{Bounds.encode_steps, Bounds.decode_steps, Placement.block_rows, Placement.encoder_rows, Placement.decoder_rows, Counts.is_low}
-use Rattle.rs_field.specs.code.{Counts.next_power}
+use Rattle.rs_field.specs.words.StepBounds.{log2, transform_steps}
+use Rattle.rs_field.specs.words.Search.{first_below}
+use Rattle.rs_field.specs.code.Bounds.{encode_steps, decode_steps}
+use Rattle.rs_field.specs.code.Placement.{block_rows, encoder_rows, decoder_rows}
+use Rattle.rs_field.specs.code.Counts.{is_low, next_power}
 use Rattle.rs_field.proofs.code.worked.bounds.Goals as goal
 
 pub returns : goal.returns

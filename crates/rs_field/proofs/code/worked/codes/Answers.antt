@@ -1,10 +1,13 @@
 -- Each polynomial passes the tests that decide.
 use Rattle.std.proofs.Common.{[], ◌∷◌, ◌++◌, refl}
 use Rattle.std.specs.Prelude.{replicate}
-use Rattle.rs_field.specs.words.{Search.first_below, Field.product, Field.combine, Field.bits, Field.from_bits, Field.cantor_basis, Field.monomials, Field.carryless}
-use Rattle.rs_field.specs.words.{Field.reduce, Polynomial.value}
-use Rattle.rs_field.specs.code.{Column.column, Counts.next_power, Counts.is_low, Counts.low_rate, Counts.high_rate, Counts.default_rate, Placement.placement}
-use Rattle.rs_field.specs.code.{Placement.low_placement, Placement.high_placement, CodeLaws.xor_bytes, CodeLaws.xor_shards}
+use Rattle.rs_field.specs.words.Search.{first_below}
+use Rattle.rs_field.specs.words.Field.{product, combine, bits, from_bits, cantor_basis, monomials, carryless, reduce}
+use Rattle.rs_field.specs.words.Polynomial.{value}
+use Rattle.rs_field.specs.code.Column.{column}
+use Rattle.rs_field.specs.code.Counts.{next_power, is_low, low_rate, high_rate, default_rate}
+use Rattle.rs_field.specs.code.Placement.{placement, low_placement, high_placement}
+use Rattle.rs_field.specs.code.CodeLaws.{xor_bytes, xor_shards}
 use Rattle.rs_field.specs.worked.Codes.{LowRows, HighRows, ShortLineRow, CubicRow, TailRow, ChunkAndTailRow}
 use Rattle.rs_field.proofs.of_words.Linear.{passes_below}
 use Rattle.rs_field.proofs.of_code.Decided.{codes_from, recovery_from, recovery_from_high}

@@ -1,6 +1,8 @@
 use Rattle.std.proofs.Common.{inl, inr, refl}
 use Rattle.rs_field.specs.words.Search.{first_below}
-use Rattle.rs_field.specs.code.{Counts.next_power, Counts.supports, Counts.is_low, Placement.encoder_rows, Placement.decoder_rows, Given.entered, Given.count_below}
+use Rattle.rs_field.specs.code.Counts.{next_power, supports, is_low}
+use Rattle.rs_field.specs.code.Placement.{encoder_rows, decoder_rows}
+use Rattle.rs_field.specs.code.Given.{entered, count_below}
 use Rattle.rs_field.specs.worked.Calls.{EncodeOrder, DecodeOrder, NoRecoveryOrder, EncoderRound, DecoderRound, LargestIndex, MemoryOrder}
 use Rattle.rs_field.proofs.code.worked.refusals.Goals as goal
 

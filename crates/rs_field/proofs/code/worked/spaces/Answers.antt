@@ -1,5 +1,6 @@
 use Rattle.std.proofs.Common.{rules}
-use Rattle.rs_field.specs.code.{Placement.block_rows, Placement.encoder_rows, Placement.decoder_rows, Counts.supports, Counts.is_low, Counts.next_power}
+use Rattle.rs_field.specs.code.Placement.{block_rows, encoder_rows, decoder_rows}
+use Rattle.rs_field.specs.code.Counts.{supports, is_low, next_power}
 use Rattle.rs_field.specs.words.Search.{first_below}
 use Rattle.rs_field.proofs.code.worked.spaces.Goals as goal
 

@@ -1,7 +1,8 @@
 use Rattle.std.proofs.Common.{◌≡◌, ℕ, zero, suc, ◌+◌, ◌/◌, ◌%◌, ◌^◌, ◌<◌, cond, bit_xor, refl, sym, ap, ap₂, ◌∙◌, arith}
 use Rattle.std.specs.Prelude.{if◌then◌else◌, ◌==◌}
-use Rattle.rs_field.specs.words.{Field.product, Field.combine, Field.bits, Field.from_bits, Field.cantor_basis, Field.monomials, Field.carryless, Field.reduce}
-use Rattle.rs_field.specs.words.{Subspace.product_below, Subspace.subspace, Subspace.basis, Transform.sum_below, Transform.forward}
+use Rattle.rs_field.specs.words.Field.{product, combine, bits, from_bits, cantor_basis, monomials, carryless, reduce}
+use Rattle.rs_field.specs.words.Subspace.{product_below, subspace, basis}
+use Rattle.rs_field.specs.words.Transform.{sum_below, forward}
 use Rattle.rs_field.specs.worked.Numbers.{pair}
 use Rattle.rs_field.proofs.of_words.Subspace.{product_below-same, subspace_shift}
 use Rattle.rs_field.proofs.code.worked.transforms.Goals as goal

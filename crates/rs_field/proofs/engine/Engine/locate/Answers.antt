@@ -1,7 +1,9 @@
 use Rattle.std.proofs.Common.{◌≡◌, ℕ, ◌+◌, ◌-◌, ◌%◌, ◌^◌, ◌<◌, ◌≤◌, List, ◌++◌, length, drop, get_or, sym, ap, ◌∙◌, arith}
 use Rattle.std.proofs.lemmas.List.{get_or_append_left, get_or-append-add, get_or-drop, get_or-take, get_or-replicate}
 use Rattle.rs_field.specs.words.Locator.{log_sum}
-use Rattle.rs_field.proofs.of_words.{LocatorLemmas.log_sum-same, LocatorProduct.none_marked_past, Convolution.few_bits}
+use Rattle.rs_field.proofs.of_words.LocatorLemmas.{log_sum-same}
+use Rattle.rs_field.proofs.of_words.LocatorProduct.{none_marked_past}
+use Rattle.rs_field.proofs.of_words.Convolution.{few_bits}
 use Rattle.rs_field.proofs.engine.Engine.locate.Goals as goal
 
 -- behind its first entries a list is as before

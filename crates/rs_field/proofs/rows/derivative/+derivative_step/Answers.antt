@@ -2,7 +2,9 @@
 use Rattle.std.proofs.Common.{◌+◌, ◌/◌, arith, inl, inr}
 use Rattle.rs_field.specs.rows.View.{word}
 use Rattle.rs_field.proofs.of_words.Halves.{few_halves, half_power, no_steps, steps_half, two_halves}
-use Rattle.rs_field.proofs.of_rows.{Recursion.fits_kept, DerivativeStep.derivative_one, DerivativeStep.derivative_rows, RowOffsets.outside_cell}
+use Rattle.rs_field.proofs.of_rows.Recursion.{fits_kept}
+use Rattle.rs_field.proofs.of_rows.DerivativeStep.{derivative_one, derivative_rows}
+use Rattle.rs_field.proofs.of_rows.RowOffsets.{outside_cell}
 use Rattle.rs_field.proofs.rows.derivative.+derivative_step.Goals as goal
 
 pub derivative_step-requires : goal.derivative_step-requires

@@ -1,5 +1,6 @@
 use Rattle.std.proofs.Common.{◌≡◌, ap₂, ◌∙◌, arith, inl, inr, ap, bit_or, slice_index}
-use Rattle.std.proofs.lemmas.{Nat.le_or_l, Nat.le_or_r, Bool.cases_lt}
+use Rattle.std.proofs.lemmas.Nat.{le_or_l, le_or_r}
+use Rattle.std.proofs.lemmas.Bool.{cases_lt}
 use Rattle.std.specs.Int.Bits.{or_zero_l}
 use Rattle.rs_field.proofs.rows.layout.are_zero.Goals as goal
 

@@ -1,5 +1,6 @@
 use Rattle.std.proofs.Common.{◌≡◌, ◌+◌, get_or, ap, ◌∙◌, sym, arith}
-use Rattle.std.proofs.lemmas.{Simd.get_or-chunk, Simd.length-chunk, List.ext_get_or}
+use Rattle.std.proofs.lemmas.Simd.{get_or-chunk, length-chunk}
+use Rattle.std.proofs.lemmas.List.{ext_get_or}
 use Rattle.rs_field.proofs.rows.layout.load_32.Goals as goal
 
 pub returns : goal.returns

@@ -1,5 +1,6 @@
 use Rattle.std.proofs.Common.{◌≡◌, ◌+◌, ◌*◌, ◌/◌, ◌%◌, ◌<◌, rules, bit_and, bit_xor, get_or, ap, ◌∙◌, arith}
-use Rattle.std.proofs.lemmas.{List.places, Nat.and_mask}
+use Rattle.std.proofs.lemmas.List.{places}
+use Rattle.std.proofs.lemmas.Nat.{and_mask}
 use Rattle.rs_field.specs.rows.Rows.{symbol}
 use Rattle.rs_field.proofs.of_rows.Symbols.{sum_of_bytes}
 use Rattle.rs_field.proofs.rows.symbols.add_symbol.Goals as goal

@@ -1,6 +1,9 @@
 -- The layers and the transforms of the parts that they leave make the whole.
 use Rattle.std.proofs.Common.{◌≡◌, ℕ, ◌+◌, ◌-◌, ◌*◌, ◌/◌, ◌<◌, ◌≤◌, arith, subst, sym, refl}
-use Rattle.rs_field.specs.rows.{View.word, Layers.rows_of_part, Layers.layer_steps, MarkedRows.is_used, MarkedRows.HasMarks, Directions.AreTransformed}
+use Rattle.rs_field.specs.rows.View.{word}
+use Rattle.rs_field.specs.rows.Layers.{rows_of_part, layer_steps}
+use Rattle.rs_field.specs.rows.MarkedRows.{is_used, HasMarks}
+use Rattle.rs_field.specs.rows.Directions.{AreTransformed}
 use Rattle.rs_field.specs.words.StepBounds.{transform_steps}
 use Rattle.rs_field.proofs.of_words.Counting.{counts_none, counts_rows}
 use Rattle.rs_field.proofs.of_rows.Recursion.{fits_kept}

@@ -1,5 +1,6 @@
 use Rattle.std.proofs.Common.{◌≡◌, ℕ, ◌*◌, ◌<◌, ◌≤◌, get_or}
-use Rattle.rs_field.specs.words.{StepBounds.CountsPairs, Walsh.IsFourSums}
+use Rattle.rs_field.specs.words.StepBounds.{CountsPairs}
+use Rattle.rs_field.specs.words.Walsh.{IsFourSums}
 use Rattle.rs_field.proofs.words.fwht.quarter_sums.Given as goal
 
 abbrev pub invariant-loop-i : goal.invariant-loop-i

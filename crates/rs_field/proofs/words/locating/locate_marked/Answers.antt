@@ -1,6 +1,9 @@
 use Rattle.std.proofs.Common.{◌≡◌, ◌∙◌, ℕ, ◌*◌, ◌/◌, ◌^◌, length, get_or, sym, subst, arith}
-use Rattle.rs_field.specs.words.{StepBounds.CountsProducts, StepBounds.WalshCounts, Locator.IsLocatorBelow, Walsh.IsWalsh, Walsh.log_or_zero}
-use Rattle.rs_field.proofs.of_words.{Halving.walsh-at, Convolution.few_bits, Convolution.locator-made, Convolution.locator-counts}
+use Rattle.rs_field.specs.words.StepBounds.{CountsProducts, WalshCounts}
+use Rattle.rs_field.specs.words.Locator.{IsLocatorBelow}
+use Rattle.rs_field.specs.words.Walsh.{IsWalsh, log_or_zero}
+use Rattle.rs_field.proofs.of_words.Halving.{walsh-at}
+use Rattle.rs_field.proofs.of_words.Convolution.{few_bits, locator-made, locator-counts}
 use Rattle.rs_field.proofs.words.locating.locate_marked.Goals as goal
 
 pub fwht-requires-2-clause-power : goal.fwht-requires-2-clause-power

@@ -1,5 +1,6 @@
 use Rattle.std.proofs.Common.{◌≡◌, ℕ, zero, suc, ◌*◌, ◌/◌, ◌%◌, ◌^◌, ◌<◌, [], ◌∷◌, get_or, arith}
-use Rattle.rs_field.specs.words.{Field.product, Products.byte_at}
+use Rattle.rs_field.specs.words.Field.{product}
+use Rattle.rs_field.specs.words.Products.{byte_at}
 use Rattle.rs_field.proofs.words.mul128.bytes_of.Goals as goal
 
 four : (P : ℕ → ℕ → Type 0) (a b c d : ℕ) → P 0 a → P 1 b → P 2 c → P 3 d → (n : ℕ) → n < 4 → P n (get_or (a ∷ b ∷ c ∷ d ∷ []) n 0)

@@ -1,5 +1,6 @@
 use Rattle.std.proofs.Common.{◌≡◌, ℕ, ◌<◌, [], get_or, length}
-use Rattle.rs_field.specs.words.{Field.power, Products.IsNibbles}
+use Rattle.rs_field.specs.words.Field.{power}
+use Rattle.rs_field.specs.words.Products.{IsNibbles}
 use Rattle.rs_field.proofs.words.mul16.mul16_table.Given as goal
 
 abbrev pub invariant-loop-m : goal.invariant-loop-m

@@ -1,6 +1,8 @@
 use Rattle.std.proofs.Common.{◌≡◌, ◌+◌, ◌%◌, ℕ, ◌<◌, get_or, List, sym, ap, ◌∙◌, arith}
-use Rattle.rs_field.specs.words.{Field.product, Field.power, Field.log, Tables.IsExpLog}
-use Rattle.rs_field.proofs.of_words.{Product.zero_product, Power.power-mod, Power.product-log}
+use Rattle.rs_field.specs.words.Field.{product, power, log}
+use Rattle.rs_field.specs.words.Tables.{IsExpLog}
+use Rattle.rs_field.proofs.of_words.Product.{zero_product}
+use Rattle.rs_field.proofs.of_words.Power.{power-mod, product-log}
 use Rattle.rs_field.proofs.words.tables.mul.Goals as goal
 
 pub returns-then-x-eq0 : goal.returns-then-x-eq0

@@ -1,7 +1,11 @@
 use Rattle.std.proofs.Common.{◌≡◌, ◌≤◌, ◌<◌, ◌*◌, ◌^◌, ◌+◌, ◌-◌, ℕ, zero, suc, List, [], ◌∷◌, ◌++◌, get_or, length, sym, ap, ◌∙◌, arith, refl, inl, inr, ne_eqb, pow_mono, one-mul, add-mul, mul-pos}
-use Rattle.std.proofs.lemmas.{List.get_or_push, List.get_or_append_left, List.length-append, Bool.cases_eq, Bool.cases_lt, Nat.pow_pos, Nat.shl-shr}
-use Rattle.rs_field.specs.words.{Subspace.subspace, Tables.IsExpLog, Tables.log_or_mark}
-use Rattle.rs_field.proofs.of_words.{Halves.mark_zero, Halves.mark_word, Subspace.subspace_shift}
+use Rattle.std.proofs.lemmas.List.{get_or_push, get_or_append_left, length-append}
+use Rattle.std.proofs.lemmas.Bool.{cases_eq, cases_lt}
+use Rattle.std.proofs.lemmas.Nat.{pow_pos, shl-shr}
+use Rattle.rs_field.specs.words.Subspace.{subspace}
+use Rattle.rs_field.specs.words.Tables.{IsExpLog, log_or_mark}
+use Rattle.rs_field.proofs.of_words.Halves.{mark_zero, mark_word}
+use Rattle.rs_field.proofs.of_words.Subspace.{subspace_shift}
 use Rattle.rs_field.proofs.words.tables.skew_table.Goals as goal
 
 any_default : (xs : List ℕ) (i d e : ℕ) → i < length xs → get_or xs i d ≡ get_or xs i e

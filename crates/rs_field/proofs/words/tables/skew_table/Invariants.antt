@@ -1,5 +1,6 @@
 use Rattle.std.proofs.Common.{◌≡◌, ◌<◌, ◌-◌, ◌+◌, ◌*◌, ◌^◌, ℕ, get_or, length}
-use Rattle.rs_field.specs.words.{Subspace.subspace, Tables.log_or_mark}
+use Rattle.rs_field.specs.words.Subspace.{subspace}
+use Rattle.rs_field.specs.words.Tables.{log_or_mark}
 use Rattle.rs_field.proofs.words.tables.skew_table.Given as goal
 
 abbrev pub invariant-loop-i : goal.invariant-loop-i

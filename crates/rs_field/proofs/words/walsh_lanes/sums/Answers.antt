@@ -1,5 +1,6 @@
 use Rattle.std.proofs.Common.{◌≡◌, ℕ, ◌+◌, ◌-◌, ◌%◌, map, get_or, ap, ◌∙◌, arith}
-use Rattle.std.proofs.lemmas.{Simd.get_or-zip2, List.get_or-map}
+use Rattle.std.proofs.lemmas.Simd.{get_or-zip2}
+use Rattle.std.proofs.lemmas.List.{get_or-map}
 use lib.Lanes.{zip2}
 use Rattle.rs_field.proofs.of_words.WalshLanes.{lane_below}
 use Rattle.rs_field.proofs.words.walsh_lanes.sums.Goals as goal

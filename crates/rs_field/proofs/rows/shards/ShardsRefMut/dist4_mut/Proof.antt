@@ -1,13 +1,6 @@
-use Rattle.rs_field.proofs.Walking.{◌≡◌, refl, sym, ap, ◌∙◌, ℕ, ◌+◌, ◌*◌, ◌^◌, ◌<◌, ◌≤◌, arith, List, [], ◌∷◌, ◌++◌, length, take, drop_list, named}
-use Rattle.rs_field.proofs.Walking.{w64, Val, vstruct, vcons, vnil, of_list, id⊢, emp, full_share, Lft, ftrue, flft, fact, fact_i, tables, proved}
-use Rattle.rs_field.proofs.Walking.{mul-le-mul_right, ‵, ◌⊛◌, raw, some, later, ◌$◌, ◌∵◌, !, qed, move, keep, drop, split, join, fsplit3, fjoin}
-use Rattle.rs_field.proofs.Walking.{fjoin3, use0, use1, use2, await, pick, suffices, done, rewrite, group, whole, sub, look_in, stop, fld, addr, load}
-use Rattle.rs_field.proofs.Walking.{bin, lit, of_opd, returns, enter, no_more, and_then, alloc_all, pass_all, free_all, look_at, get, through, sets}
-use Rattle.rs_field.proofs.Walking.{lands_as, usize, u8, yes, no, Is, shows, cell_at, uint_vals, uint_Tells, uint_Makes, RattleType, owns, Valss}
-use Rattle.rs_field.proofs.Walking.{flat, MutBor, MutRef, mut_vals, mut_Tells, plain, named_lft, Array, MutSlice, Room, slice_val, nothing, heard}
-use Rattle.rs_field.proofs.Walking.{only, opens, closes, peeks, owned, row, fields, tuple_type, calls_at, lasts, triple_of, framed, Stays}
-use Rattle.rs_field.proofs.Walking.{stay_dropped, walk_of, ends_at, Goes-dropped, Goes-spent_ref}
-use Rattle.rs_field.specs.rows.{Rows.Chunks, Lending.LendsFourParts}
+use Rattle.rs_field.proofs.Walking.{◌≡◌, refl, sym, ap, ◌∙◌, ℕ, ◌+◌, ◌*◌, ◌^◌, ◌<◌, ◌≤◌, arith, List, [], ◌∷◌, ◌++◌, length, take, drop_list, named, w64, Val, vstruct, vcons, vnil, of_list, id⊢, emp, full_share, Lft, ftrue, flft, fact, fact_i, tables, proved, mul-le-mul_right, ‵, ◌⊛◌, raw, some, later, ◌$◌, ◌∵◌, !, qed, move, keep, drop, split, join, fsplit3, fjoin, fjoin3, use0, use1, use2, await, pick, suffices, done, rewrite, group, whole, sub, look_in, stop, fld, addr, load, bin, lit, of_opd, returns, enter, no_more, and_then, alloc_all, pass_all, free_all, look_at, get, through, sets, lands_as, usize, u8, yes, no, Is, shows, cell_at, uint_vals, uint_Tells, uint_Makes, RattleType, owns, Valss, flat, MutBor, MutRef, mut_vals, mut_Tells, plain, named_lft, Array, MutSlice, Room, slice_val, nothing, heard, only, opens, closes, peeks, owned, row, fields, tuple_type, calls_at, lasts, triple_of, framed, Stays, stay_dropped, walk_of, ends_at, Goes-dropped, Goes-spent_ref}
+use Rattle.rs_field.specs.rows.Rows.{Chunks}
+use Rattle.rs_field.specs.rows.Lending.{LendsFourParts}
 use Rattle.rs_field.specs.declared.rows.shards.ShardsRefMut.{ShardsRefMut}
 use Rattle.rs_field.specs.contracts.rows.shards.ShardsRefMut.{the_row, the_type}
 use Rattle.rs_field.specs.contracts.rows.shards.ShardsRefMut.dist4_mut as f

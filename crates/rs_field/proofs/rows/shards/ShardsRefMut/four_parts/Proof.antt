@@ -1,16 +1,8 @@
-use Rattle.rs_field.proofs.Walking.{◌≡◌, refl, sym, ap, ◌∙◌, ℕ, ◌+◌, ◌*◌, ◌-◌, ◌^◌, ◌<◌, ◌≤◌, arith, List, [], ◌∷◌, ◌++◌, length, take, drop_list}
-use Rattle.rs_field.proofs.Walking.{take-append-drop, length-drop, named, w64, Val, vstruct, vcons, vnil, id⊢, ftrue, flft, Lft, fact, tables, proved}
-use Rattle.rs_field.proofs.Walking.{‵, ◌⊛◌, raw, some, later, at_ret, ◌$◌, ◌∵◌, !, qed, move, keep, drop, split, split3, join, fsplit, fjoin, use1}
-use Rattle.rs_field.proofs.Walking.{use2, await, pick, suffices, frame, done, rewrite, feq_l, fpack, feq_i, whole, sub, agg, stop, fld, hop, from}
-use Rattle.rs_field.proofs.Walking.{addr, bin, of_opd, lit, first, blocks, exec, returns, enter, no_more, and_then, alloc_all, pass_all, free_all}
-use Rattle.rs_field.proofs.Walking.{look_at, look_in_at, get, through, sets, sets_last, lands_as, env, usize, u8, yes, no, uint_vals, uint_Tells}
-use Rattle.rs_field.proofs.Walking.{RattleType, owns, Valss, MutBor, MutRef, mut_vals, mut_Tells, plain, named_lft, Array, MutSlice, room, slice_val}
-use Rattle.rs_field.proofs.Walking.{mut_slice_vals, mut_slice_at, pure_l, pure_i, nothing, heard, only, calls_at, lasts, triple_of, framed, says}
-use Rattle.rs_field.proofs.Walking.{Stays, stay_dropped, walk_of, ends_at, Goes-dropped, Goes-spent_ref, at, at_mul, length-take-le, drop-drop}
-use Rattle.rs_field.proofs.Walking.{within, tuple_type, shape}
+use Rattle.rs_field.proofs.Walking.{◌≡◌, refl, sym, ap, ◌∙◌, ℕ, ◌+◌, ◌*◌, ◌-◌, ◌^◌, ◌<◌, ◌≤◌, arith, List, [], ◌∷◌, ◌++◌, length, take, drop_list, take-append-drop, length-drop, named, w64, Val, vstruct, vcons, vnil, id⊢, ftrue, flft, Lft, fact, tables, proved, ‵, ◌⊛◌, raw, some, later, at_ret, ◌$◌, ◌∵◌, !, qed, move, keep, drop, split, split3, join, fsplit, fjoin, use1, use2, await, pick, suffices, frame, done, rewrite, feq_l, fpack, feq_i, whole, sub, agg, stop, fld, hop, from, addr, bin, of_opd, lit, first, blocks, exec, returns, enter, no_more, and_then, alloc_all, pass_all, free_all, look_at, look_in_at, get, through, sets, sets_last, lands_as, env, usize, u8, yes, no, uint_vals, uint_Tells, RattleType, owns, Valss, MutBor, MutRef, mut_vals, mut_Tells, plain, named_lft, Array, MutSlice, room, slice_val, mut_slice_vals, mut_slice_at, pure_l, pure_i, nothing, heard, only, calls_at, lasts, triple_of, framed, says, Stays, stay_dropped, walk_of, ends_at, Goes-dropped, Goes-spent_ref, at, at_mul, length-take-le, drop-drop, within, tuple_type, shape}
 use lib.ListN.{length-append}
 use Rattle.rs_field.proofs.of_rows.FourRuns.{four_lent, lends_four, four_of}
-use Rattle.rs_field.specs.rows.{Rows.Chunks, Lending.with_chunks, Lending.between, Lending.with_four, Lending.LendsAll, Lending.LendsFour}
+use Rattle.rs_field.specs.rows.Rows.{Chunks}
+use Rattle.rs_field.specs.rows.Lending.{with_chunks, between, with_four, LendsAll, LendsFour}
 use Rattle.rs_field.specs.contracts.rows.shards.ShardsRefMut.{the_row}
 use Rattle.rs_field.proofs.rows.shards.ShardsRefMut.all.Met.{met}
 use Rattle.rs_field.specs.contracts.rows.shards.ShardsRefMut.four_parts as f

@@ -1,15 +1,8 @@
-use Rattle.rs_field.proofs.Walking.{◌≡◌, refl, sym, ap, ◌∙◌, ℕ, ◌+◌, ◌*◌, ◌-◌, ◌^◌, ◌<◌, ◌≤◌, arith, List, [], ◌∷◌, ◌++◌, length, take, drop_list}
-use Rattle.rs_field.proofs.Walking.{take-append-drop, length-drop, named, w64, Val, id⊢, ftrue, flft, fact, tables, proved, ‵, ◌⊛◌, raw, some, later}
-use Rattle.rs_field.proofs.Walking.{at_ret, ◌$◌, ◌∵◌, !, qed, move, keep, drop, split, split3, join, fsplit, fjoin, use1, use2, await, pick, suffices}
-use Rattle.rs_field.proofs.Walking.{frame, done, rewrite, feq_l, whole, sub, agg, stop, fld, hop, from, addr, bin, of_opd, lit, first, blocks, exec}
-use Rattle.rs_field.proofs.Walking.{returns, enter, no_more, and_then, alloc_all, pass_all, free_all, look_at, look_in_at, get, through, sets}
-use Rattle.rs_field.proofs.Walking.{sets_last, lands_as, env, usize, u8, yes, no, uint_vals, uint_Tells, RattleType, owns, MutBor, MutRef, mut_vals}
-use Rattle.rs_field.proofs.Walking.{mut_Tells, plain, named_lft, Array, MutSlice, Room, room, slice_val, mut_slice_vals, mut_slice_at, pure_l, pure_i}
-use Rattle.rs_field.proofs.Walking.{nothing, heard, only, calls_at, lasts, triple_of, framed, says, Stays, stay_dropped, walk_of, ends_at}
-use Rattle.rs_field.proofs.Walking.{Goes-dropped, Goes-spent_ref, at, at_mul, length-take-le}
+use Rattle.rs_field.proofs.Walking.{◌≡◌, refl, sym, ap, ◌∙◌, ℕ, ◌+◌, ◌*◌, ◌-◌, ◌^◌, ◌<◌, ◌≤◌, arith, List, [], ◌∷◌, ◌++◌, length, take, drop_list, take-append-drop, length-drop, named, w64, Val, id⊢, ftrue, flft, fact, tables, proved, ‵, ◌⊛◌, raw, some, later, at_ret, ◌$◌, ◌∵◌, !, qed, move, keep, drop, split, split3, join, fsplit, fjoin, use1, use2, await, pick, suffices, frame, done, rewrite, feq_l, whole, sub, agg, stop, fld, hop, from, addr, bin, of_opd, lit, first, blocks, exec, returns, enter, no_more, and_then, alloc_all, pass_all, free_all, look_at, look_in_at, get, through, sets, sets_last, lands_as, env, usize, u8, yes, no, uint_vals, uint_Tells, RattleType, owns, MutBor, MutRef, mut_vals, mut_Tells, plain, named_lft, Array, MutSlice, Room, room, slice_val, mut_slice_vals, mut_slice_at, pure_l, pure_i, nothing, heard, only, calls_at, lasts, triple_of, framed, says, Stays, stay_dropped, walk_of, ends_at, Goes-dropped, Goes-spent_ref, at, at_mul, length-take-le}
 use denote.Follow.{follows, follows_then}
 use Rattle.rs_field.proofs.of_rows.Runs.{run_lent, lends_run}
-use Rattle.rs_field.specs.rows.{Rows.Chunks, Lending.with_chunks, Lending.LendsAll}
+use Rattle.rs_field.specs.rows.Rows.{Chunks}
+use Rattle.rs_field.specs.rows.Lending.{with_chunks, LendsAll}
 use Rattle.rs_field.specs.contracts.rows.shards.ShardsRefMut.{the_row}
 use Rattle.rs_field.specs.contracts.rows.shards.ShardsRefMut.part as f
 use Rattle.rs_field.proofs.rows.shards.ShardsRefMut.part.Statement.{statement}

@@ -1,16 +1,10 @@
-use Rattle.rs_field.proofs.Walking.{◌≡◌, refl, sym, ap, ◌∙◌, ℕ, ◌+◌, ◌*◌, ◌-◌, ◌^◌, ◌<◌, ◌≤◌, arith, List, [], ◌∷◌, ◌++◌, length, take, drop_list}
-use Rattle.rs_field.proofs.Walking.{length-drop, named, w64, Val, vstruct, vcons, vnil, of_list, id⊢, emp, full_share, Lft, ftrue, flft, fact, fact_i}
-use Rattle.rs_field.proofs.Walking.{tables, proved, ‵, ◌⊛◌, raw, some, later, ◌$◌, ◌∵◌, !, qed, move, keep, drop, split, join, fsplit3, fjoin, fjoin3}
-use Rattle.rs_field.proofs.Walking.{use0, use1, use2, await, pick, suffices, done, rewrite, group, whole, sub, look_in, stop, fld, addr, load, bin}
-use Rattle.rs_field.proofs.Walking.{lit, of_opd, returns, enter, no_more, and_then, alloc_all, pass_all, free_all, look_at, get, through, sets}
-use Rattle.rs_field.proofs.Walking.{lands_as, length-take-le, usize, u8, yes, no, Is, shows, cell_at, uint_vals, uint_Tells, uint_Makes, RattleType}
-use Rattle.rs_field.proofs.Walking.{owns, Valss, flat, MutBor, MutRef, mut_vals, mut_Tells, plain, named_lft, Array, MutSlice, Room, slice_val}
-use Rattle.rs_field.proofs.Walking.{nothing, heard, only, opens, closes, peeks, owned, follows_both, row, fields, tuple_type, calls_at, lasts}
-use Rattle.rs_field.proofs.Walking.{triple_of, framed, Stays, stay_dropped, walk_of, ends_at, Goes-dropped, Goes-spent_ref}
+use Rattle.rs_field.proofs.Walking.{◌≡◌, refl, sym, ap, ◌∙◌, ℕ, ◌+◌, ◌*◌, ◌-◌, ◌^◌, ◌<◌, ◌≤◌, arith, List, [], ◌∷◌, ◌++◌, length, take, drop_list, length-drop, named, w64, Val, vstruct, vcons, vnil, of_list, id⊢, emp, full_share, Lft, ftrue, flft, fact, fact_i, tables, proved, ‵, ◌⊛◌, raw, some, later, ◌$◌, ◌∵◌, !, qed, move, keep, drop, split, join, fsplit3, fjoin, fjoin3, use0, use1, use2, await, pick, suffices, done, rewrite, group, whole, sub, look_in, stop, fld, addr, load, bin, lit, of_opd, returns, enter, no_more, and_then, alloc_all, pass_all, free_all, look_at, get, through, sets, lands_as, length-take-le, usize, u8, yes, no, Is, shows, cell_at, uint_vals, uint_Tells, uint_Makes, RattleType, owns, Valss, flat, MutBor, MutRef, mut_vals, mut_Tells, plain, named_lft, Array, MutSlice, Room, slice_val, nothing, heard, only, opens, closes, peeks, owned, follows_both, row, fields, tuple_type, calls_at, lasts, triple_of, framed, Stays, stay_dropped, walk_of, ends_at, Goes-dropped, Goes-spent_ref}
 use base.Fml.{GName}
 use Rattle.std.proofs.Common.{lit<}
 use denote.Struct.Tuple.{tuple_laws}
-use Rattle.rs_field.specs.rows.{Rows.Chunks, View.HasRows, View.IsListOf, Lending.LendsTwoParts, Lending.with_chunks, Lending.with_two}
+use Rattle.rs_field.specs.rows.Rows.{Chunks}
+use Rattle.rs_field.specs.rows.View.{HasRows, IsListOf}
+use Rattle.rs_field.specs.rows.Lending.{LendsTwoParts, with_chunks, with_two}
 use Rattle.rs_field.specs.declared.rows.shards.ShardsRefMut.{ShardsRefMut}
 use Rattle.rs_field.specs.contracts.rows.shards.ShardsRefMut.{the_row, the_type}
 use Rattle.rs_field.proofs.rows.shards.ShardsRefMut.TheLaws.{the_row_laws}
