@@ -4,7 +4,7 @@ use Rattle.std.proofs.lemmas.Bool.{cases_lt, eq-eqb, ne_eqb, eqb-true}
 use Rattle.std.proofs.lemmas.List.{append_assoc, length-append, length-take-le, length-map, get_or-map, drop_more, drop_all, nil_from_length, take-set-le, length-set, get_or-set_same, take_more}
 use Rattle.rs_field.specs.code.Outcome.{result_and_then}
 use Rattle.rs_field.specs.code.Column.{Shard}
-use Rattle.rs_field.specs.code.Given.{Shards, nothing, listed, listed_one, listed_from, Lists}
+use Rattle.rs_field.specs.code.Given.{Shards, listed, listed_one, listed_from, Lists}
 use Rattle.rs_field.specs.code.OneCall.{Items}
 use Rattle.rs_field.proofs.of_code.Listed.{listed_from-zero, listed_from-suc}
 use Rattle.rs_c.specs.declared.fault.Fault.{Fault}

@@ -1,6 +1,5 @@
-use Rattle.std.proofs.Common.{rules, Ok, Err}
+use Rattle.std.proofs.Common.{rules}
 use Rattle.rs_field.specs.code.Encoder.{with_shard}
-use Rattle.rs_field.proofs.of_code.SupportedCounts.{default_fits}
 use Rattle.reed_solomon_simd.proofs.Giving.{no-calls, ended-calls, ended-run, first-then, outcome-ok, outcome-err, reached-ok, reached-err, steps-ok, steps-err}
 use Rattle.reed_solomon_simd.proofs.OneCall.{encoding-unset, encoding-given}
 use Rattle.reed_solomon_simd.proofs.coders.given_encoder.Goals as goal

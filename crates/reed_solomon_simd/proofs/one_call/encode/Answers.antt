@@ -1,4 +1,4 @@
-use Rattle.std.proofs.Common.{rules, Ok, Err, IfOk}
+use Rattle.std.proofs.Common.{rules, Err, IfOk}
 use Rattle.rs_field.specs.code.Counts.{default_rate}
 use Rattle.rs_field.specs.code.RoundTrip.{AreCoded}
 use Rattle.rs_field.specs.code.OneCall.{collected}
