@@ -1,4 +1,4 @@
--- Lemmas of words: the field, polynomials, transforms, the locator, tables. They rest on nothing else.
+-- Lemmas of words: the field, polynomials, transforms, the locator, tables. Of other folders they use the steps of a decode alone.
 pub mod Search
 pub mod Linear
 pub mod Product

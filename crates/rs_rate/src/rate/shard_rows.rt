@@ -1,10 +1,11 @@
 //! Shards in rows of chunks: room for them, laying them in, their tails, and reading them.
-ghost use Rattle.std.specs.Prelude.{◌≡◌, ◌≢◌, ℕ, ◌+◌, ◌*◌, ◌%◌, ◌^◌, ◌<◌, ◌≤◌, length, slice_index, MatchResult};
+ghost use Rattle.std.specs.Prelude.{◌≡◌, ◌≢◌, ℕ, ◌+◌, ◌*◌, ◌%◌, ◌^◌, ◌<◌, ◌≤◌, length, MatchResult};
 ghost use Rattle.rs_field.specs.code.Column.{IsShard};
 ghost use Rattle.rs_field.specs.rows.Layout.{row_len as chunks_for};
 ghost use Rattle.rs_field.specs.words.StepBounds.{CountsRows};
 ghost use Rattle.rs_rate.specs.ShardRows.{chunk_count as chunk_count_of, row_chunk, shard_laid_out, shard_in_order};
 
+use rs_field::bytes::are_bytes;
 use rs_field::engine::Steps;
 use rs_field::engine::layout::{insert, row_len, shard_of, undo_last_chunk_encoding};
 use rs_field::error::Error;
@@ -79,12 +80,12 @@ pub(crate) fn move_tail(chunks: &mut [[u8; 64]], index: usize, shard_bytes: usiz
     undo_last_chunk_encoding(&mut chunks[start..start + len], shard_bytes);
 }
 
-// The shards in rows are bytes. It and the three functions below do nothing when they run: they tell the checker so.
+// The shards in rows are bytes. It and the two functions below do nothing when they run: they tell the checker so.
 pub(crate) fn laid_out_are_bytes(chunks: &[[u8; 64]], count: usize, shard_bytes: usize)
     requires room { chunk_count_of count shard_bytes ≤ length chunks.now }
     ensures { (i : ℕ) → i < count → IsShard shard_bytes (shard_laid_out chunks.now shard_bytes i) }
 {
-    bytes_are_bytes(chunks.as_flattened());
+    are_bytes(chunks.as_flattened());
 }
 
 // The same of shards whose tails were moved.
@@ -92,16 +93,12 @@ pub(crate) fn in_order_are_bytes(chunks: &[[u8; 64]], count: usize, shard_bytes:
     requires room { chunk_count_of count shard_bytes ≤ length chunks.now }
     ensures { (i : ℕ) → i < count → IsShard shard_bytes (shard_in_order chunks.now shard_bytes i) }
 {
-    bytes_are_bytes(chunks.as_flattened());
+    are_bytes(chunks.as_flattened());
 }
 
 // The same of a shard that is given.
 pub(crate) fn shard_is_bytes(shard: &[u8])
     ensures { IsShard (length shard.now) shard.now }
 {
-    bytes_are_bytes(shard);
+    are_bytes(shard);
 }
-
-fn bytes_are_bytes(bytes: &[u8])
-    ensures { (j : ℕ) → slice_index bytes.now j < 256 }
-{}
