@@ -3,6 +3,7 @@ use crate::engine_nosimd::NoSimd;
 use crate::engine_shuffle::{Avx2, Ssse3};
 use rs_field::engine::tables::Tables;
 use rs_field::engine::{Engine, GfElement, Naive, ShardsRefMut, Steps};
+use std::fmt;
 use std::str::FromStr;
 
 /// The kinds of engines. In lower case the name of each is read as the kind.
@@ -28,6 +29,14 @@ pub enum EngineKind {
 /// What is read as a kind and isn't the name of one.
 #[derive(Clone, Copy, Debug, PartialEq, Eq, Hash)]
 pub struct UnknownEngine;
+
+impl fmt::Display for UnknownEngine {
+    fn fmt<W: fmt::Write>(&self, f: &mut fmt::Formatter<W>) -> fmt::Result {
+        write!(f, "unknown engine")
+    }
+}
+
+impl std::error::Error for UnknownEngine {}
 
 /// Reads the name of an engine, in lower case: `naive`, `nosimd`, `avx2` or `ssse3`.
 impl FromStr for EngineKind {

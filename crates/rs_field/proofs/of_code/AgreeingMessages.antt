@@ -29,12 +29,8 @@ pub column_taken : (c : Configuration) (originals recovery : Shards) (message : 
     → Agrees c originals recovery message → HasWords (placement c.rate c.original_count c.recovery_count) originals recovery j words
     → (p : List ℕ) × Codes c.rate c.original_count c.recovery_count (columns j message) p
     × TakesGiven (placement c.rate c.original_count c.recovery_count) c.original_count c.recovery_count originals recovery words p
-column_taken c originals recovery message j words hj a w = by_polynomial (a.coded.1.words j hj)
-  where
-    by_polynomial : AreRecoveryWords c.rate c.original_count c.recovery_count (columns j message) (columns j a.coded.0)
-        → (p : List ℕ) × Codes c.rate c.original_count c.recovery_count (columns j message) p
-        × TakesGiven (placement c.rate c.original_count c.recovery_count) c.original_count c.recovery_count originals recovery words p
-    by_polynomial (p, codes, at) = (
+column_taken c originals recovery message j words hj a w =
+    let (p, codes, at) = a.coded.1.words j hj in (
       p,
       codes,
       record {
@@ -50,10 +46,9 @@ column_taken c originals recovery message j words hj a w = by_polynomial (a.code
 -- what there is for each number below n is there for a function
 chosen : (n : ℕ) (P : ℕ → List ℕ → Type 0) → ((j : ℕ) → j < n → (p : List ℕ) × P j p) → (f : ℕ → List ℕ) × ((j : ℕ) → j < n → P j (f j))
 chosen zero P h = (λ j. [], λ j hj. absurd (let no : ⊥ = omega arith in no))
-chosen (suc n) P h = with_last (chosen n P (λ j hj. h j (omega arith))) (h n (omega arith))
-  where
-    with_last : (f : ℕ → List ℕ) × ((j : ℕ) → j < n → P j (f j)) → (p : List ℕ) × P n p → (f : ℕ → List ℕ) × ((j : ℕ) → j < suc n → P j (f j))
-    with_last (f, at) (p, last) = (
+chosen (suc n) P h =
+    let (f, at) = chosen n P (λ j hj. h j (omega arith)) in
+    let (p, last) = h n (omega arith) in (
       λ j. cond (eqb j n) p (f j),
       λ j hj. elim (cases_eq j n) [
         | inl e ↦ subst (λ (q : List ℕ). P j q) (sym (ap (λ (b : Bool). cond b p (f j)) (eq-eqb j n e))) (subst (λ (k : ℕ). P k p) (sym e) last)

@@ -33,21 +33,15 @@ pub consistent_exactly : (c : Configuration) (originals recovery : Shards) (e bo
     → count_below c.original_count originals + count_below c.recovery_count recovery ≡ c.original_count + t
     → Consistent c originals recovery ↔ ((j i : ℕ) → j < c.shard_bytes / 2 → 2 ^ e ≤ i + t → i < 2 ^ e → rows j i ≡ 0)
 consistent_exactly c originals recovery e bound zeros_end t marks words located rows h count = (
-  λ m j i hj. by_column m.0 j (column_taken c originals recovery m.0 j (words j) hj m.1 (h.has j hj)) (h.each j hj) i,
-  λ none. consistent c originals recovery words h.even h.own_sized h.coded_sized h.has (λ j hj. taken j (some_message c.rate c.original_count c.recovery_count e bound zeros_end t originals recovery marks (words j) (located j) (rows j) (h.each j hj) count (λ i. none j i hj))),
+  λ m j i hj.
+      let (p, codes, takes) = column_taken c originals recovery m.0 j (words j) hj m.1 (h.has j hj) in
+      surplus_rows c.rate c.original_count c.recovery_count e bound zeros_end t originals recovery marks (words j) (located j) (rows j) (columns j m.0) p
+      (h.each j hj) count codes takes i,
+  λ none. consistent c originals recovery words h.even h.own_sized h.coded_sized h.has (λ j hj.
+      let (message, p, _, codes, takes) = some_message c.rate c.original_count c.recovery_count e bound zeros_end t originals recovery marks (words j) (located j) (rows j)
+      (h.each j hj) count (λ i. none j i hj) in
+      (p, (message, codes, takes))),
 )
-  where
-    by_column : (message : List Shard) (j : ℕ) → (p : List ℕ) × Codes c.rate c.original_count c.recovery_count (columns j message) p
-        × TakesGiven (placement c.rate c.original_count c.recovery_count) c.original_count c.recovery_count originals recovery (words j) p
-        → IsColumnOf (placement c.rate c.original_count c.recovery_count) c.original_count c.recovery_count e bound zeros_end originals recovery marks (words j) (located j) (rows j)
-        → (i : ℕ) → 2 ^ e ≤ i + t → i < 2 ^ e → rows j i ≡ 0
-    by_column message j (p, codes, takes) rows_of =
-        surplus_rows c.rate c.original_count c.recovery_count e bound zeros_end t originals recovery marks (words j) (located j) (rows j) (columns j message) p rows_of count codes takes
-
-    taken : (j : ℕ) → (message p : List ℕ) × (length message ≡ c.original_count) × Codes c.rate c.original_count c.recovery_count message p
-        × TakesGiven (placement c.rate c.original_count c.recovery_count) c.original_count c.recovery_count originals recovery (words j) p
-        → (p : List ℕ) × IsTaken c originals recovery words j p
-    taken j (message, p, size, codes, takes) = (p, (message, codes, takes))
 
 -- What stands at a missing original after the derivative step, by 65535 less a residue of the locator, is the message's column.
 pub restored_column : (c : Configuration) (originals recovery : Shards) (e bound zeros_end : ℕ) (marks : ℕ → ℕ) (words located rows : ℕ → ℕ → ℕ) (message : List Shard) (added : ℕ → ℕ) (i j l : ℕ)
@@ -58,31 +52,21 @@ pub restored_column : (c : Configuration) (originals recovery : Shards) (e bound
     → l ≤ 65535 → power l ≡ power (log_sum (2 ^ e) marks ((placement c.rate c.original_count c.recovery_count).originals_from + i))
     → product (forward (2 ^ e) 0 added ((placement c.rate c.original_count c.recovery_count).originals_from + i)) (power (65535 - l)) ≡ column j (shard_at message i)
 restored_column c originals recovery e bound zeros_end marks words located rows message added i j l h enough agrees hi hj step one hl same =
-    by_polynomial (column_taken c originals recovery message j (words j) hj agrees (h.has j hj)) (h.each j hj)
-  where
-    by_polynomial : (p : List ℕ) × Codes c.rate c.original_count c.recovery_count (columns j message) p
-        × TakesGiven (placement c.rate c.original_count c.recovery_count) c.original_count c.recovery_count originals recovery (words j) p
-        → IsColumnOf (placement c.rate c.original_count c.recovery_count) c.original_count c.recovery_count e bound zeros_end originals recovery marks (words j) (located j) (rows j)
-        → product (forward (2 ^ e) 0 added ((placement c.rate c.original_count c.recovery_count).originals_from + i)) (power (65535 - l)) ≡ column j (shard_at message i)
-    by_polynomial (p, codes, takes) rows_of =
-        let below : (placement c.rate c.original_count c.recovery_count).originals_from + c.original_count ≤ 2 ^ e = rows_of.frame.originals in
-        restored_word c.rate c.original_count c.recovery_count e bound zeros_end originals recovery marks (words j) (located j) (rows j) added (columns j message) p rows_of enough codes takes step
-        ((placement c.rate c.original_count c.recovery_count).originals_from + i) l (omega arith) one hl same
-        ∙ codes.originals i hi ∙ columns-at j message i
+    let (p, codes, takes) = column_taken c originals recovery message j (words j) hj agrees (h.has j hj) in
+    let below = (h.each j hj).frame.originals in
+    restored_word c.rate c.original_count c.recovery_count e bound zeros_end originals recovery marks (words j) (located j) (rows j) added (columns j message) p
+    (h.each j hj) enough codes takes step ((placement c.rate c.original_count c.recovery_count).originals_from + i) l (omega arith) one hl same
+    ∙ codes.originals i hi ∙ columns-at j message i
 
 -- With at least k shards given one message at most agrees.
 pub one_message : (c : Configuration) (originals recovery : Shards) (one other : List Shard) → supports c.rate c.original_count c.recovery_count ≡ true → c.shard_bytes % 2 ≡ 0
     → c.original_count ≤ count_below c.original_count originals + count_below c.recovery_count recovery
     → Agrees c originals recovery one → Agrees c originals recovery other → one ≡ other
-one_message c originals recovery one other is even enough a b = by_places (places_given (c.original_count + c.recovery_count) (by_place c.original_count originals recovery))
-  where
-    by_places : (place : ℕ → ℕ) × ArePlaces (count_below (c.original_count + c.recovery_count) (by_place c.original_count originals recovery)) (c.original_count + c.recovery_count) place
-        × ((i : ℕ) → i < count_below (c.original_count + c.recovery_count) (by_place c.original_count originals recovery) → is_some (by_place c.original_count originals recovery (place i)) ≡ true)
-        → one ≡ other
-    by_places (place, are, some) =
-        let count = count-by_place c.original_count c.recovery_count originals recovery in
-        fixed_by_places c one other a.coded.0 b.coded.0 place is even a.shards b.shards a.coded.1 b.coded.1
-        (record { below = λ i h. are.below i (omega arith); once = λ i j h k. are.once i j (omega arith) (omega arith) })
-        (λ i h.
-        let s = some_of (by_place c.original_count originals recovery (place i)) (some i (omega arith)) in
-        codeword_given c originals recovery one a (place i) s.0 s.1 ∙ sym (codeword_given c originals recovery other b (place i) s.0 s.1))
+one_message c originals recovery one other is even enough a b =
+    let (place, are, some) = places_given (c.original_count + c.recovery_count) (by_place c.original_count originals recovery) in
+    let count = count-by_place c.original_count c.recovery_count originals recovery in
+    fixed_by_places c one other a.coded.0 b.coded.0 place is even a.shards b.shards a.coded.1 b.coded.1
+    (record { below = λ i h. are.below i (omega arith); once = λ i j h k. are.once i j (omega arith) (omega arith) })
+    (λ i h.
+    let s = some_of (by_place c.original_count originals recovery (place i)) (some i (omega arith)) in
+    codeword_given c originals recovery one a (place i) s.0 s.1 ∙ sym (codeword_given c originals recovery other b (place i) s.0 s.1))

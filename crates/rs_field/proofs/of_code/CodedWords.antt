@@ -32,8 +32,6 @@ pub coded_in : (p : Placement) (k r e bound zeros_end : ℕ) (words : List ℕ) 
     → (q : List ℕ) × CodesIn p k bound zeros_end words q
 coded_in p k r e bound zeros_end words f are_words =
     let room : 2 ^ e ≤ 2 ^ 16 = pow_mono f.few in
-    let counts : zeros_end ≡ bound + p.originals_from = f.counts in
-    let follow : p.zeros_from ≡ p.originals_from + k = f.follow in
     let zeros : (p.zeros_from ≤ zeros_end) × (zeros_end ≤ 2 ^ e) = f.zeros in
     let q = interpolated p.originals_from bound (first k (λ j. slice_index words j)) (omega arith) (λ i h. first-word k (λ j. slice_index words j) are_words i) in (
       q.0,

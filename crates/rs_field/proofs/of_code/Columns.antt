@@ -39,11 +39,10 @@ shard_from_columns size s t hs ht even same =
     both : (q i w : ℕ) → i < w → w ≤ 32 → q * 64 + 2 * w ≤ size → chunk_words s (q * 64) ≡ w → chunk_words t (q * 64) ≡ w
         → (slice_index s (q * 64 + i) ≡ slice_index t (q * 64 + i)) × (slice_index s (q * 64 + i + w) ≡ slice_index t (q * 64 + i + w))
     both q i w hi hw fits ws wt =
-        let small : i < 32 = omega arith in
         let place : q * 32 + i < size / 2 = omega arith in
         halves (slice_index s (q * 64 + i)) _ (slice_index t (q * 64 + i)) _ (byte_lt size s hs (q * 64 + i)) (byte_lt size t ht (q * 64 + i))
-        (ap (λ v. slice_index s (q * 64 + i) + 256 * slice_index s (q * 64 + i + v)) (sym ws) ∙ sym (column-at q i s small) ∙ same (q * 32 + i) place
-        ∙ column-at q i t small ∙ ap (λ v. slice_index t (q * 64 + i) + 256 * slice_index t (q * 64 + i + v)) wt)
+        (ap (λ v. slice_index s (q * 64 + i) + 256 * slice_index s (q * 64 + i + v)) (sym ws) ∙ sym (column-at q i s (omega arith)) ∙ same (q * 32 + i) place
+        ∙ column-at q i t (omega arith) ∙ ap (λ v. slice_index t (q * 64 + i) + 256 * slice_index t (q * 64 + i + v)) wt)
 
     -- byte r of a chunk of w words
     at : (q r w : ℕ) → r < 2 * w → w ≤ 32 → q * 64 + 2 * w ≤ size → chunk_words s (q * 64) ≡ w → chunk_words t (q * 64) ≡ w
@@ -52,20 +51,15 @@ shard_from_columns size s t hs ht even same =
         elim (cases_lt r w) [
           | inl low ↦ (both q r w low hw fits ws wt).0
           | inr high ↦
-              let place : q * 64 + (r - w) + w ≡ q * 64 + r = omega arith in
-              let low : r - w < w = omega arith in
-              ap (slice_index s) (sym place) ∙ (both q (r - w) w low hw fits ws wt).1 ∙ ap (slice_index t) place
+              ap (slice_index s) (sym (omega arith)) ∙ (both q (r - w) w (omega arith) hw fits ws wt).1 ∙ ap (slice_index t) (omega arith)
         ]
 
     -- each byte, by the chunk that it is in
     byte : (b : ℕ) → b < size → slice_index s b ≡ slice_index t b
     byte b hb =
-        let place : b / 64 * 64 + b % 64 ≡ b = omega arith in
-        let under : b % 64 < 64 = omega arith in
-        let fits : b / 64 * 64 ≤ size = omega arith in
         let words : (u : Shard) → length u ≡ size → (w : ℕ) → min 64 (size - b / 64 * 64) / 2 ≡ w → chunk_words u (b / 64 * 64) ≡ w
         = λ u e w is. ap (λ n. min 64 (n - b / 64 * 64) / 2) e ∙ is in
-        ap (slice_index s) (sym place)
+        ap (slice_index s) (sym (omega arith))
         ∙ elim (cases_lt (size - b / 64 * 64) 64) [
           | inl tail ↦
               let is : min 64 (size - b / 64 * 64) / 2 ≡ (size - b / 64 * 64) / 2 = ap (λ n. n / 2) (min-eq_right (let h : size - b / 64 * 64 ≤ 64 = omega arith in h)) in
@@ -74,7 +68,7 @@ shard_from_columns size s t hs ht even same =
               let is : min 64 (size - b / 64 * 64) / 2 ≡ 32 = ap (λ n. n / 2) (min-eq_left whole) in
               at (b / 64) (b % 64) 32 (omega arith) (omega arith) (omega arith) (words s hs.length_is _ is) (words t ht.length_is _ is)
         ]
-        ∙ ap (slice_index t) place
+        ∙ ap (slice_index t) (omega arith)
 
 -- an empty shard has zero columns
 column-none : (j : ℕ) → column j [] ≡ 0

@@ -72,8 +72,7 @@ codes_from rate k r words P h =
       coefficients = all_from (λ w. nat_lt w 65536) (λ w. w < 65536) (λ w. ltb-true w 65536) P two.0;
       originals = same_from k (λ j. value P ((placement rate k r).originals_from + j)) (slice_index words) three.0;
       zeros = λ x from to.
-          let place : (placement rate k r).zeros_from + (x - (placement rate k r).zeros_from) ≡ x = omega arith in
-          ap (value P) (sym place)
+          ap (value P) (sym (omega arith))
           ∙ same_from ((placement rate k r).zeros_to - (placement rate k r).zeros_from) (λ x. value P ((placement rate k r).zeros_from + x)) (λ x. 0) three.1
           (x - (placement rate k r).zeros_from) (omega arith);
     }
@@ -150,8 +149,7 @@ words_high d rate k r words recovery P lie join =
           let place : x ≡ m + k + (x - (m + k)) = omega arith in
           ap (value P) place ∙ same_from (2 ^ d - (m + k)) (λ x. value P (m + k + x)) (λ x. 0) h.0 (x - (m + k)) (omega arith)),
       λ i below.
-          let place : i ≡ 0 + i = omega arith in
-          same_from r (slice_index recovery) (value P) h.1 i below ∙ ap (value P) place ∙ sym (value-inside d P depth each (0 + i) (omega arith))
+          same_from r (slice_index recovery) (value P) h.1 i below ∙ ap (value P) (omega arith) ∙ sym (value-inside d P depth each (0 + i) (omega arith))
           ∙ ap (λ (q : Placement). value (times (points (2 ^ d) (65536 - 2 ^ d)) P) (q.recovery_from + i)) (sym high),
     )
 

@@ -34,15 +34,14 @@ pub at_unmarked : (p : Placement) (k r n zeros_end : ℕ) (originals recovery : 
     → TakesGiven p k r originals recovery words q → ((x : ℕ) → p.zeros_from ≤ x → x < zeros_end → value q x ≡ words x)
     → (x : ℕ) → x < n → marks x ≡ 0 → value q x ≡ words x
 at_unmarked p k r n zeros_end originals recovery marks words q h t known x hx none =
-    elim (place p.originals_from k x) [
+    elim (between p.originals_from (p.originals_from + k) x) [
       | inl own ↦
-          let i : ℕ = x - p.originals_from in
           let back : p.originals_from + (x - p.originals_from) ≡ x = omega arith in
           let hi : x - p.originals_from < k = omega arith in
           sym (ap (value q) back)
           ∙ t.own (x - p.originals_from) hi (unmarked_by (is_some (originals (x - p.originals_from))) (marks (p.originals_from + (x - p.originals_from))) (h.own (x - p.originals_from) hi) (ap marks back ∙ none))
           ∙ ap words back
-      | inr not_own ↦ elim (place p.recovery_from r x) [
+      | inr not_own ↦ elim (between p.recovery_from (p.recovery_from + r) x) [
         | inl coded ↦
             let back : p.recovery_from + (x - p.recovery_from) ≡ x = omega arith in
             let hi : x - p.recovery_from < r = omega arith in
@@ -56,12 +55,6 @@ at_unmarked p k r n zeros_end originals recovery marks words q h t known x hx no
       ]
     ]
   where
-    place : (a n x : ℕ) → ((a ≤ x) × (x < a + n)) ⊎ ((x < a) ⊎ (a + n ≤ x))
-    place a n x = elim (cases_lt x a) [
-      | inl below ↦ inr (inl below)
-      | inr above ↦ elim (cases_lt x (a + n)) [ inl within ↦ inl (above, within) | inr past ↦ inr (inr past) ]
-    ]
-
     between : (a b x : ℕ) → ((a ≤ x) × (x < b)) ⊎ ((x < a) ⊎ (b ≤ x))
     between a b x = elim (cases_lt x a) [
       | inl below ↦ inr (inl below)
@@ -86,8 +79,6 @@ pub taken_in : (rate : Rate) (k r e bound zeros_end : ℕ) (originals recovery :
     → (q : List ℕ) × Takes (2 ^ e) bound marks words q × ((x : ℕ) → x < 2 ^ e → value q x ≡ value p x)
 taken_in rate k r e bound zeros_end originals recovery marks words message p frame erasures known codes takes =
     let q = framed rate k r e bound zeros_end message p frame codes in
-    let own_below : (placement rate k r).originals_from + k ≤ 2 ^ e = frame.originals in
-    let coded_below : (placement rate k r).recovery_from + r ≤ 2 ^ e = frame.recovery in
     let takes_q : TakesGiven (placement rate k r) k r originals recovery words q.0 = record {
       own = λ i hi some. q.2 ((placement rate k r).originals_from + i) (omega arith) ∙ takes.own i hi some;
       coded = λ i hi some. q.2 ((placement rate k r).recovery_from + i) (omega arith) ∙ takes.coded i hi some;
@@ -125,7 +116,6 @@ restored_product rate k r e bound zeros_end originals recovery marks words locat
     let total : length (marked (2 ^ e) marks) + bound + (count_below k originals + count_below r recovery) ≡ 2 ^ e + k =
     erased_count (placement rate k r) k r e bound zeros_end originals recovery marks c.frame c.erasures in
     let q = taken_in rate k r e bound zeros_end originals recovery marks words message p c.frame c.erasures c.known codes takes in
-    let degree : length q.0 ≡ bound = q.1.degree in
     restored e rows added marks q.0 c.frame.few q.1.coefficients c.erasures.are_marks (omega arith)
     (λ i hi. c.back i hi ∙ located_values (2 ^ e) bound marks words located q.0 (pow_mono c.frame.few) c.erasures.are_marks c.are_located q.1 i hi) step x hx one
     ∙ ap (product (power (log_sum (2 ^ e) marks x))) (q.2 x hx)
@@ -139,10 +129,11 @@ pub restored_word : (rate : Rate) (k r e bound zeros_end : ℕ) (originals recov
     → (x l : ℕ) → x < 2 ^ e → marks x ≡ 1 → l ≤ 65535 → power l ≡ power (log_sum (2 ^ e) marks x)
     → product (forward (2 ^ e) 0 added x) (power (65535 - l)) ≡ value p x
 restored_word rate k r e bound zeros_end originals recovery marks words located rows added message p c enough codes takes step x l hx one hl same =
-    ap (λ w. product w (power (65535 - l)))
-    (restored_product rate k r e bound zeros_end originals recovery marks words located rows added message p c enough codes takes step x hx one
-    ∙ product-comm (power (log_sum (2 ^ e) marks x)) (value p x) ∙ ap (product (value p x)) (sym same))
-    ∙ residue_undone l (value p x) hl (value_lt p x (words_from p codes.coefficients))
+    cc (
+      restored_product rate k r e bound zeros_end originals recovery marks words located rows added message p c enough codes takes step x hx one,
+      product-comm (power (log_sum (2 ^ e) marks x)) (value p x),
+      residue_undone l (value p x) hl (value_lt p x (words_from p codes.coefficients)),
+    )
 
 -- the values at the originals' points of a polynomial
 message_of : (p : Placement) (k : ℕ) (q : List ℕ) → List ℕ
@@ -176,22 +167,13 @@ pub some_message : (rate : Rate) (k r e bound zeros_end t : ℕ) (originals reco
 some_message rate k r e bound zeros_end t originals recovery marks words located rows c count none =
     let total : length (marked (2 ^ e) marks) + bound + (count_below k originals + count_below r recovery) ≡ 2 ^ e + k =
     erased_count (placement rate k r) k r e bound zeros_end originals recovery marks c.frame c.erasures in
-    by_polynomial (taken_from_zero_rows (2 ^ e) bound t marks words located rows (pow_mono c.frame.few) c.erasures.are_marks (omega arith) c.are_located (λ x hx _. c.are_words x hx) c.back none)
-  where
-    by_code : (q : List ℕ) → Takes (2 ^ e) bound marks words q
-        → (p : List ℕ) × Codes rate k r (message_of (placement rate k r) k q) p × ((x : ℕ) → x < 2 ^ e → value p x ≡ value q x)
-        → (message p : List ℕ) × (length message ≡ k) × Codes rate k r message p × TakesGiven (placement rate k r) k r originals recovery words p
-    by_code q takes (p, codes, same) = (
+    let (q, takes) = taken_from_zero_rows (2 ^ e) bound t marks words located rows (pow_mono c.frame.few) c.erasures.are_marks (omega arith) c.are_located
+    (λ x hx _. c.are_words x hx) c.back none in
+    let (p, codes, same) = unframed rate k r e bound zeros_end (message_of (placement rate k r) k q) q c.frame
+    (own_message (placement rate k r) k r e bound zeros_end originals recovery marks words q c.frame c.erasures c.known takes) in (
       message_of (placement rate k r) k q,
       p,
       length-message_of (placement rate k r) k q,
       codes,
       takes_same (placement rate k r) k r e bound zeros_end originals recovery marks words q p c.frame c.erasures takes same,
     )
-
-    by_polynomial : (q : List ℕ) × Takes (2 ^ e) bound marks words q
-        → (message p : List ℕ) × (length message ≡ k) × Codes rate k r message p × TakesGiven (placement rate k r) k r originals recovery words p
-    by_polynomial (q, takes) =
-        by_code q takes
-        (unframed rate k r e bound zeros_end (message_of (placement rate k r) k q) q c.frame
-        (own_message (placement rate k r) k r e bound zeros_end originals recovery marks words q c.frame c.erasures c.known takes))

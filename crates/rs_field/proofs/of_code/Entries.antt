@@ -49,13 +49,12 @@ count-entered zero given k x inside free = absurd (let no : ⊥ = omega arith in
 count-entered (suc n) given k x inside free =
     elim (cases_eq n k) [
       | inl last ↦
-          let here : is_some (entered given k x n) ≡ true = elim (entered_cases given k n x) [ inl e ↦ ap is_some e.1 | inr other ↦ absurd (other.0 last) ] in
-          let before : is_some (given n) ≡ false = ap (λ i. is_some (given i)) last ∙ ap is_some free in
           let rest : count_below n (entered given k x) ≡ count_below n given =
           count_below-same n (entered given k x) given (λ i below. elim (entered_cases given k i x) [ inl e ↦ absurd (let no : ⊥ = omega (arith, e.0) in no) | inr other ↦ other.1 ]) in
           count_below-suc n (entered given k x)
-          ∙ ap₂ (λ m b. m + cond b 1 0) rest here
-          ∙ sym (ap (λ m. m + 1) (count_below-suc n given ∙ ap (λ b. count_below n given + cond b 1 0) before ∙ omega arith))
+          ∙ ap₂ (λ m b. m + cond b 1 0) rest (elim (entered_cases given k n x) [ inl e ↦ ap is_some e.1 | inr other ↦ absurd (other.0 last) ])
+          ∙ sym (ap (λ m. m + 1) (count_below-suc n given
+          ∙ ap (λ b. count_below n given + cond b 1 0) (ap (λ i. is_some (given i)) last ∙ ap is_some free) ∙ omega arith))
       | inr less ↦
           let same : entered given k x n ≡ given n = elim (entered_cases given k n x) [ inl e ↦ absurd (less e.0) | inr other ↦ other.1 ] in
           omega (
@@ -91,9 +90,11 @@ some-entered given k i x = grind (arith, common_steps)
 pub some-entered_all : (items : Items) (given : Shards) (i : ℕ) → is_some (entered_all given items i) ≡ (is_some (given i) || list_any (λ item. nat_eq i item.0) items)
 some-entered_all [] given i = search rules
 some-entered_all (item ∷ items) given i =
-    some-entered_all items (entered given item.0 item.1) i
-    ∙ ap (λ b. b || list_any (λ item. nat_eq i item.0) items) (some-entered given item.0 i item.1)
-    ∙ or_assoc (is_some (given i)) (nat_eq i item.0) (list_any (λ item. nat_eq i item.0) items)
+    cc (
+      some-entered_all items (entered given item.0 item.1) i,
+      some-entered given item.0 i item.1,
+      or_assoc (is_some (given i)) (nat_eq i item.0) (list_any (λ item. nat_eq i item.0) items),
+    )
 
 count_most : (n : ℕ) (given : Shards) → count_below n given ≤ n
 count_most zero given = omega (arith, count_below-zero given)

@@ -53,7 +53,6 @@ down d j h = ap (λ w. bit_xor w (2 ^ d)) (sym (up d j h)) ∙ xor_undo j (2 ^ d
 -- where both counts have the power m, the high rate's rows are 2 m
 rows_double : (k r d e : ℕ) → 0 < k → d ≤ 16 → next_power r ≡ 2 ^ d → k ≤ 2 ^ d → next_power (next_power r + k) ≡ 2 ^ e → next_power r + k ≤ 2 ^ e → 2 ^ e ≡ 2 ^ d + 2 ^ d
 rows_double k r d e some hd power most rows above =
-    let double : 2 ^ suc d ≡ 2 ^ d * 2 = pow-suc 2 d in
     let least : next_power (next_power r + k) ≤ 2 ^ suc d = next_power-least (next_power r + k) (suc d) (omega arith) (omega arith) in
     elim (cases_lt d e) [
       | inl more ↦ let big : 2 ^ suc d ≤ 2 ^ e = pow_mono more in omega arith
@@ -70,20 +69,18 @@ moved_codes : (k r d : ℕ) (words p : List ℕ) → 0 < k → d ≤ 16 → next
 unfolding placement low_placement high_placement is_low
 moved_codes k r d words p some hd power_r power_k most_k most_r fit codes =
     let f = high_frame k r fit (omega arith) in
-    let above : next_power r + k ≤ 2 ^ f.0 = f.2.originals in
-    let rows : 2 ^ f.0 ≡ 2 ^ d + 2 ^ d = rows_double k r d f.0 some hd power_r most_k f.1 above in
+    let rows : 2 ^ f.0 ≡ 2 ^ d + 2 ^ d = rows_double k r d f.0 some hd power_r most_k f.1 f.2.originals in
     let q = framed high_rate k r f.0 (2 ^ f.0 - next_power r) (2 ^ f.0) words p f.2 codes in
-    let c : CodesIn (high_placement k r) k (2 ^ f.0 - next_power r) (2 ^ f.0) words q.0 = q.1 in
     let at : (j : ℕ) → j < 2 ^ d → value (moved (2 ^ d) q.0) j ≡ value q.0 (2 ^ d + j) = λ j hj. value-moved (2 ^ d) q.0 j ∙ ap (value q.0) (up d j hj) in (
       moved (2 ^ d) q.0,
       record {
         codes = record {
-          degree = length-moved (2 ^ d) q.0 ∙ c.degree ∙ omega arith;
-          coefficients = all_words (moved (2 ^ d) q.0) (words_moved (2 ^ d) q.0 c.coefficients);
+          degree = length-moved (2 ^ d) q.0 ∙ q.1.degree ∙ omega arith;
+          coefficients = all_words (moved (2 ^ d) q.0) (words_moved (2 ^ d) q.0 q.1.coefficients);
           originals = λ j hj.
               ap (value (moved (2 ^ d) q.0)) (zero-add j) ∙ at j (omega arith)
-              ∙ ap (λ m. value q.0 (m + j)) (sym power_r) ∙ c.originals j hj;
-          zeros = λ x a b. at x (omega arith) ∙ c.zeros (2 ^ d + x) (omega arith) (omega arith);
+              ∙ ap (λ m. value q.0 (m + j)) (sym power_r) ∙ q.1.originals j hj;
+          zeros = λ x a b. at x (omega arith) ∙ q.1.zeros (2 ^ d + x) (omega arith) (omega arith);
         };
         recovery = λ i hi. value-moved (2 ^ d) q.0 (2 ^ d + i) ∙ ap (value q.0) (down d i (omega arith)) ∙ q.2 i (omega arith);
       },
@@ -93,42 +90,26 @@ equal_powers : (k r : ℕ) (words low high : List ℕ) → 0 < k → next_power 
     → AreRecoveryWords low_rate k r words low → AreRecoveryWords high_rate k r words high → (i : ℕ) → i < r → slice_index low i ≡ slice_index high i
 unfolding placement low_placement high_placement is_low
 equal_powers k r words low high some same fit (p, hp, at_low) (o, ho, at_high) i hi =
-    let most_r : r ≤ next_power r = next_power-above r (omega arith) in
-    by_power (next_power-small r (omega arith))
-  where
-    by_moved : (d : ℕ) → next_power k ≡ 2 ^ d → k ≤ 65536 → (q : List ℕ) × IsMoved k r d words o q → slice_index low i ≡ slice_index high i
-    by_moved d power few (q, m) =
-        at_low i hi
-        ∙ ap (λ (w : List ℕ). value w (next_power k + i)) (codes_unique low_rate k r words p q few hp m.codes)
-        ∙ ap (λ w. value q (w + i)) power
-        ∙ m.recovery i hi
-        ∙ ap (value o) (sym (zero-add i))
-        ∙ sym (at_high i hi)
-
-    by_power : (d : ℕ) × (d ≤ 16) × (next_power r ≡ 2 ^ d) × (r ≤ next_power r) → slice_index low i ≡ slice_index high i
-    by_power (d, hd, power, most_r) =
-        let most_k : k ≤ next_power k = next_power-above k (omega arith) in
-        by_moved d (same ∙ power) (omega arith) (moved_codes k r d words o some hd power (same ∙ power) (omega arith) (omega arith) fit ho)
+    let least_r : r ≤ next_power r = next_power-above r (omega arith) in
+    let least_k : k ≤ next_power k = next_power-above k (omega arith) in
+    let (d, hd, power, _) = next_power-small r (omega arith) in
+    let (q, m) = moved_codes k r d words o some hd power (same ∙ power) (omega arith) (omega arith) fit ho in
+    cc (at_low i hi, codes_unique low_rate k r words p q (omega arith) hp m.codes, m.recovery i hi, zero-add i, at_high i hi)
 
 -- so recovery words at the one rate are those at the other
 to_high : (k r : ℕ) (words recovery : List ℕ) → supports low_rate k r ≡ true → supports high_rate k r ≡ true → next_power k ≡ next_power r
     → AreRecoveryWords low_rate k r words recovery → AreRecoveryWords high_rate k r words recovery
 to_high k r words recovery low high same own =
-    by_recovery (recovered high_rate k r words high (coded_lt low_rate k r words own.0 own.1))
-  where
-    by_recovery : (other : List ℕ) × (length other ≡ r) × AreRecoveryWords high_rate k r words other → AreRecoveryWords high_rate k r words recovery
-    by_recovery (other, size, (o, codes, at)) =
-        let f = high_fits k r high in
-        (o, codes, λ i hi. equal_powers k r words recovery other f.0 same f.2 own (o, codes, at) i hi ∙ at i hi)
+    let f = high_fits k r high in
+    let (other, _, (o, codes, at)) = recovered high_rate k r words high (coded_lt low_rate k r words own.0 own.1) in
+    (o, codes, λ i hi. equal_powers k r words recovery other f.0 same f.2 own (o, codes, at) i hi ∙ at i hi)
 
 to_low : (k r : ℕ) (words recovery : List ℕ) → supports low_rate k r ≡ true → supports high_rate k r ≡ true → next_power k ≡ next_power r
     → AreRecoveryWords high_rate k r words recovery → AreRecoveryWords low_rate k r words recovery
-to_low k r words recovery low high same own = by_recovery (recovered low_rate k r words low (coded_lt high_rate k r words own.0 own.1))
-  where
-    by_recovery : (other : List ℕ) × (length other ≡ r) × AreRecoveryWords low_rate k r words other → AreRecoveryWords low_rate k r words recovery
-    by_recovery (other, size, (o, codes, at)) =
-        let f = high_fits k r high in
-        (o, codes, λ i hi. sym (equal_powers k r words other recovery f.0 same f.2 (o, codes, at) own i hi) ∙ at i hi)
+to_low k r words recovery low high same own =
+    let f = high_fits k r high in
+    let (other, _, (o, codes, at)) = recovered low_rate k r words low (coded_lt high_rate k r words own.0 own.1) in
+    (o, codes, λ i hi. sym (equal_powers k r words other recovery f.0 same f.2 (o, codes, at) own i hi) ∙ at i hi)
 
 -- and recovery shards
 pub one_code : (k r size : ℕ) (message recovery : List Shard) → supports low_rate k r ≡ true → supports high_rate k r ≡ true → next_power k ≡ next_power r

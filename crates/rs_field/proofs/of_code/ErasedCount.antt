@@ -1,5 +1,5 @@
 -- Erased points, given shards and known zeros are as many as the rows.
-use Rattle.std.proofs.Common.{rules, ◌≡◌, ℕ, zero, suc, ◌+◌, ◌-◌, ◌^◌, ◌<◌, ◌≤◌, ◌⊎◌, Bool, cond, length, refl, sym, ap, ◌∙◌, arith, inl, inr, add-zero, add-suc}
+use Rattle.std.proofs.Common.{rules, ◌≡◌, ℕ, zero, suc, ◌+◌, ◌-◌, ◌*◌, ◌^◌, ◌<◌, ◌≤◌, ◌⊎◌, Bool, cond, length, refl, sym, ap, ◌∙◌, arith, inl, inr, add-zero, add-suc}
 use Rattle.std.specs.Prelude.{is_some}
 use Rattle.std.proofs.lemmas.Bool.{cases_eq}
 use Rattle.std.proofs.lemmas.Grind.{common_steps}
@@ -26,23 +26,13 @@ total-marked zero marks m = refl
 total-marked (suc n) marks m =
     grind (arith, common_steps, cases_eq, marked-more, marked-same, total-marked n marks (record { mark = λ y hy. m.mark y (omega arith) }))
 
--- n more that are all zero
-past_zeros : (a n b : ℕ) (f : ℕ → ℕ) → a + n ≡ b → ((x : ℕ) → a ≤ x → x < b → f x ≡ 0) → total b f ≡ total a f
-past_zeros a zero b f e none = ap (λ k. total k f) (sym e ∙ add-zero a)
-past_zeros a (suc n) b f e none =
+-- n more that are all m
+past_same : (m a n b : ℕ) (f : ℕ → ℕ) → a + n ≡ b → ((x : ℕ) → a ≤ x → x < b → f x ≡ m) → total b f ≡ total a f + n * m
+past_same m a zero b f e all = omega (arith, ap (λ k. total k f) e, ap (λ k. total k f) (add-zero a))
+past_same m a (suc n) b f e all =
     let last : b ≡ suc (a + n) = omega arith in
-    let rest : total (a + n) f ≡ total a f = past_zeros a n (a + n) f refl (λ x h k. none x h (omega arith)) in
-    let one : f (a + n) ≡ 0 = none (a + n) (omega arith) (omega arith) in
-    ap (λ k. total k f) last ∙ total-suc (a + n) f ∙ omega arith
-
--- n more that are all one
-past_ones : (a n b : ℕ) (f : ℕ → ℕ) → a + n ≡ b → ((x : ℕ) → a ≤ x → x < b → f x ≡ 1) → total b f ≡ total a f + n
-past_ones a zero b f e all = ap (λ k. total k f) (sym e ∙ add-zero a) ∙ sym (add-zero (total a f))
-past_ones a (suc n) b f e all =
-    let last : b ≡ suc (a + n) = omega arith in
-    let rest : total (a + n) f ≡ total a f + n = past_ones a n (a + n) f refl (λ x h k. all x h (omega arith)) in
-    let one : f (a + n) ≡ 1 = all (a + n) (omega arith) (omega arith) in
-    ap (λ k. total k f) last ∙ total-suc (a + n) f ∙ omega arith
+    let rest = past_same m a n (a + n) f refl (λ x h k. all x h (omega arith)) in
+    omega (arith, ap (λ k. total k f) last, total-suc (a + n) f, all (a + n) (omega arith) (omega arith))
 
 one_of_two : (b : Bool) → cond b 0 1 + cond b 1 0 ≡ 1
 one_of_two b = search rules
@@ -59,31 +49,22 @@ pub erased_count : (p : Placement) (k r e bound zeros_end : ℕ) (originals reco
     → IsFrame p k r e bound zeros_end → AreErasures p k r (2 ^ e) zeros_end originals recovery marks
     → length (marked (2 ^ e) marks) + bound + (count_below k originals + count_below r recovery) ≡ 2 ^ e + k
 erased_count p k r e bound zeros_end originals recovery marks f h =
-    let a : ℕ = p.originals_from in
-    let b : ℕ = p.recovery_from in
     let erased : length (marked (2 ^ e) marks) ≡ total (2 ^ e) marks = total-marked (2 ^ e) marks h.are_marks in
     let own : total (p.originals_from + k) marks + count_below k originals ≡ total p.originals_from marks + k = past_given p.originals_from k marks originals h.own in
     let coded : total (p.recovery_from + r) marks + count_below r recovery ≡ total p.recovery_from marks + r = past_given p.recovery_from r marks recovery h.coded in
-    let most_own : p.originals_from + k ≤ 2 ^ e = f.originals in
-    let most_coded : p.recovery_from + r ≤ 2 ^ e = f.recovery in
-    let zeros : (p.zeros_from ≤ zeros_end) × (zeros_end ≤ 2 ^ e) = f.zeros in
-    let follow : p.zeros_from ≡ p.originals_from + k = f.follow in
-    let counts : zeros_end ≡ bound + p.originals_from = f.counts in
-    let none : total zeros_end marks ≡ total (p.originals_from + k) marks =
-    past_zeros (p.originals_from + k) (zeros_end - (p.originals_from + k)) zeros_end marks (omega arith) (λ x above below. h.known x (omega arith) below) in
+    let none =
+    past_same 0 (p.originals_from + k) (zeros_end - (p.originals_from + k)) zeros_end marks (omega arith) (λ x above below. h.known x (omega arith) below) in
     elim f.order [
       | inl low ↦
           let start : total p.originals_from marks ≡ 0 = ap (λ n. total n marks) low.0 ∙ total-zero marks in
-          let next : total p.recovery_from marks ≡ total zeros_end marks = ap (λ n. total n marks) low.1 in
-          let rest : total (2 ^ e) marks ≡ total (p.recovery_from + r) marks + (2 ^ e - (p.recovery_from + r)) =
-          past_ones (p.recovery_from + r) (2 ^ e - (p.recovery_from + r)) (2 ^ e) marks (omega arith)
+          let rest =
+          past_same 1 (p.recovery_from + r) (2 ^ e - (p.recovery_from + r)) (2 ^ e) marks (omega arith)
           (λ x above below. h.other x below (inr (omega (arith, low.1))) (inr above) (inr (omega (arith, low.1)))) in
-          omega (arith, erased, own, coded, none, start, next, rest, low.0, low.1)
+          omega (arith, erased, own, coded, none, start, (ap (λ n. total n marks) low.1), rest, low.0, low.1)
       | inr high ↦
-          let start : total p.recovery_from marks ≡ 0 = ap (λ n. total n marks) high.0 ∙ total-zero marks in
-          let gap : total p.originals_from marks ≡ total (p.recovery_from + r) marks + (p.originals_from - (p.recovery_from + r)) =
-          past_ones (p.recovery_from + r) (p.originals_from - (p.recovery_from + r)) p.originals_from marks (omega (arith, high.0, high.1))
+          let gap =
+          past_same 1 (p.recovery_from + r) (p.originals_from - (p.recovery_from + r)) p.originals_from marks (omega (arith, high.0, high.1))
           (λ x above below. h.other x (omega arith) (inl below) (inr above) (inl (omega arith))) in
           let last : total (2 ^ e) marks ≡ total zeros_end marks = ap (λ n. total n marks) (sym high.2) in
-          omega (arith, erased, own, coded, none, start, gap, last, high.0, high.1, high.2)
+          omega (arith, erased, own, coded, none, (ap (λ n. total n marks) high.0 ∙ total-zero marks), gap, last, high.0, high.1, high.2)
     ]

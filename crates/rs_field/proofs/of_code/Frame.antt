@@ -34,8 +34,6 @@ pub record CodesIn (p : Placement) (k bound zeros_end : ℕ) (words q : List ℕ
 pub framed : (rate : Rate) (k r e bound zeros_end : ℕ) (words p : List ℕ) → IsFrame (placement rate k r) k r e bound zeros_end → Codes rate k r words p
     → (q : List ℕ) × CodesIn (placement rate k r) k bound zeros_end words q × ((x : ℕ) → x < 2 ^ e → value q x ≡ value p x)
 framed rate k r e bound zeros_end words p f c =
-    let o : Placement = placement rate k r in
-    let most = f.originals in
     let zeros = f.zeros in
     elim f.whole [
       | inl same ↦ (
@@ -67,7 +65,6 @@ pub unframed : (rate : Rate) (k r e bound zeros_end : ℕ) (words q : List ℕ) 
     → CodesIn (placement rate k r) k bound zeros_end words q
     → (p : List ℕ) × Codes rate k r words p × ((x : ℕ) → x < 2 ^ e → value p x ≡ value q x)
 unframed rate k r e bound zeros_end words q f c =
-    let most = f.originals in
     let zeros = f.zeros in
     elim f.whole [
       | inl same ↦ (

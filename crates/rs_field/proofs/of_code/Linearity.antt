@@ -46,8 +46,7 @@ byte-xor : (size : ℕ) (s t : Shard) (i d : ℕ) → length s ≡ size → leng
 unfolding xor_bytes
 byte-xor size s t i d hs ht inside =
     let both : length (zip s t) ≡ min (length s) (length t) = length-zip s t in
-    get_or-map (λ pair. bit_xor pair.0 pair.1) (zip s t) i (0, 0) d (omega arith)
-    ∙ ap (λ (pair : ℕ × ℕ). bit_xor pair.0 pair.1) (get_or-zip s t i (0, 0) (omega arith) (omega arith))
+    cc (get_or-map (λ pair. bit_xor pair.0 pair.1) (zip s t) i (0, 0) d (omega arith), get_or-zip s t i (0, 0) (omega arith) (omega arith))
 
 shard-xor : (size : ℕ) (s t : Shard) → IsShard size s → IsShard size t → IsShard size (xor_bytes s t)
 shard-xor size s t hs ht =
@@ -65,8 +64,7 @@ shard_at-xor : (count i : ℕ) (a b : List Shard) (d : Shard) → length a ≡ c
 unfolding xor_shards
 shard_at-xor count i a b d ha hb h =
     let both : length (zip a b) ≡ min (length a) (length b) = length-zip a b in
-    get_or-map (λ pair. xor_bytes pair.0 pair.1) (zip a b) i ([], []) d (omega arith)
-    ∙ ap (λ (pair : Shard × Shard). xor_bytes pair.0 pair.1) (get_or-zip a b i ([], []) (omega arith) (omega arith))
+    cc (get_or-map (λ pair. xor_bytes pair.0 pair.1) (zip a b) i ([], []) d (omega arith), get_or-zip a b i ([], []) (omega arith) (omega arith))
 
 shards-xor : (count size : ℕ) (a b : List Shard) → AreShards count size a → AreShards count size b → AreShards count size (xor_shards a b)
 unfolding xor_shards

@@ -68,22 +68,8 @@ recovery_lt rate k r words recovery size (p, codes, at) i = grind (arith, common
 -- every message of a configuration with supported counts and an even size has recovery shards
 pub has_recovery : (c : Configuration) (message : List Shard) → supports c.rate c.original_count c.recovery_count ≡ true → c.shard_bytes % 2 ≡ 0
     → AreShards c.original_count c.shard_bytes message → (recovery : List Shard) × AreRecovery c message recovery
-has_recovery c message is even h = by_words (λ j. recovered c.rate c.original_count c.recovery_count (columns j message) is (columns_lt c.original_count c.shard_bytes message h j))
-  where
-    by_shards : (words : (j : ℕ) → (recovery : List ℕ) × (length recovery ≡ c.recovery_count) × AreRecoveryWords c.rate c.original_count c.recovery_count (columns j message) recovery)
-        → (shards : List Shard) × AreShards c.recovery_count c.shard_bytes shards
-        × ((i j : ℕ) → i < c.recovery_count → j < c.shard_bytes / 2 → slice_index (columns j shards) i ≡ slice_index (words j).0 i)
-        → (recovery : List Shard) × AreRecovery c message recovery
-    by_shards words (shards, are, at) = (
-      shards,
-      record {
-        shards = are;
-        words = λ j hj. ((words j).2.0, (words j).2.1, λ i hi. at i j hi hj ∙ (words j).2.2 i hi);
-      },
-    )
-
-    by_words : ((j : ℕ) → (recovery : List ℕ) × (length recovery ≡ c.recovery_count) × AreRecoveryWords c.rate c.original_count c.recovery_count (columns j message) recovery)
-        → (recovery : List Shard) × AreRecovery c message recovery
-    by_words words =
-        by_shards words (shards_of c.recovery_count c.shard_bytes (λ i j. slice_index (words j).0 i) even
-        (λ i j. recovery_lt c.rate c.original_count c.recovery_count (columns j message) (words j).0 (words j).1 (words j).2 i))
+has_recovery c message is even h =
+    let words = λ (j : ℕ). recovered c.rate c.original_count c.recovery_count (columns j message) is (columns_lt c.original_count c.shard_bytes message h j) in
+    let (shards, are, at) = shards_of c.recovery_count c.shard_bytes (λ i j. slice_index (words j).0 i) even
+    (λ i j. recovery_lt c.rate c.original_count c.recovery_count (columns j message) (words j).0 (words j).1 (words j).2 i) in
+    (shards, record { shards = are; words = λ j hj. ((words j).2.0, (words j).2.1, λ i hi. at i j hi hj ∙ (words j).2.2 i hi) })

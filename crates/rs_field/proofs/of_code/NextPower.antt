@@ -19,8 +19,7 @@ next_power-small n small =
 pub next_power-least : (n d : ℕ) → d < 64 → n ≤ 2 ^ d → next_power n ≤ 2 ^ d
 unfolding next_power
 next_power-least n d hd h =
-    let most : first_below 64 (λ e. nat_le n (2 ^ e)) ≤ d = first_below_most 64 (λ e. nat_le n (2 ^ e)) d hd (le-leb n (2 ^ d) h) in
-    pow_mono {i = first_below 64 (λ e. nat_le n (2 ^ e))} most
+    pow_mono {i = first_below 64 (λ e. nat_le n (2 ^ e))} (first_below_most 64 (λ e. nat_le n (2 ^ e)) d hd (le-leb n (2 ^ d) h))
 
 -- the power of two that is not below n, of which half is below n
 pub next_power-is : (n p x : ℕ) → p ≡ 2 ^ x → x < 64 → n ≤ p → p / 2 < max 1 n → p ≡ next_power n
@@ -30,7 +29,6 @@ next_power-is n p x power few above half =
   where
     halved : (j y : ℕ) → j < suc y → 2 ^ suc y / 2 < max 1 n → 2 ^ j < n
     halved j y less h =
-        let even : 2 ^ suc y ≡ 2 ^ y * 2 = pow-suc 2 y in
         let le : 2 ^ j ≤ 2 ^ y = pow_mono (omega arith) in
         let positive : 0 < 2 ^ j = pow_pos j in
         omega arith
@@ -69,7 +67,6 @@ next_power-above n h =
 
 pub power_is_own : (n d : ℕ) → n ≡ 2 ^ d → n ≤ 65536 → next_power n ≡ n
 power_is_own n d is small =
-    let positive = pow_pos d in
     let few : d < 64 = elim (cases_lt d 64) [
       | inl h ↦ h
       | inr many ↦ let big : 2 ^ 64 ≤ 2 ^ d = pow_mono many in absurd (let no : ⊥ = omega arith in no)

@@ -57,7 +57,6 @@ taken (x ∷ xs) s t is =
       sized = All-cons (λ y. length y ≡ s.configuration.shard_bytes) x xs one.1 (subst (λ (c : Configuration). All (λ y. length y ≡ c.shard_bytes) xs) same more.sized);
       few = λ h.
           let long : length first.0.given ≡ length s.given + 1 = ap length now ∙ length-append s.given (x ∷ []) in
-          let most : length t.given ≤ first.0.configuration.original_count = more.few (omega (arith, one.2)) in
           omega arith;
     }
 
@@ -67,23 +66,21 @@ codes_in_one_call k r originals recovery bytes (inl answers) = by_outcome origin
   where
     by_shards : (shards : List Shard) → All (All (λ b. b < 256)) shards → (s : EncoderState) → encoding k r shards ≡ Ok s → EncodeAnswers s (Ok recovery) → AreCoded k r shards recovery
     by_shards [] small s same h =
-        let none = then_ok (λ _. Err (TooFewOriginalShards k 0)) (counted k r) s same in
-        let e = none.2 in absurd (let no : ⊥ = cc in no)
+        let e = (then_ok (λ _. Err (TooFewOriginalShards k 0)) (counted k r) s same).2 in absurd (let no : ⊥ = cc in no)
     by_shards (x ∷ xs) small s same h =
         let c = default_of k r (length x) in
         let begun = then_ok (λ _. with_shards (fresh_encoder c) (x ∷ xs)) (started (encoder_rows default_rate k r) c) s same in
         let valid = then_ok _ (validated c) begun.0 begun.1 in
         let all = taken (x ∷ xs) (fresh_encoder c) s begun.2 in
         let out = answered s recovery h in
-        let given : s.given ≡ x ∷ xs = all.given in
-        let most : length s.given ≤ k = all.few (omega arith) in
         let least : k ≤ length s.given = subst (λ (d : Configuration). d.original_count ≤ length s.given) all.of out.0 in
-        let long : length s.given ≡ length (x ∷ xs) = ap length given in
+        let long : length s.given ≡ length (x ∷ xs) = ap length all.given in
         record {
           size = length x;
           valid = valid.1;
           shards = record { length_is = omega arith; each = λ i d inside. record { length_is = all.sized i d inside; bytes = small i d inside } };
-          coded = subst (λ (d : Configuration). AreRecovery d (x ∷ xs) recovery) all.of (subst (λ (m : List Shard). AreRecovery s.configuration m recovery) given out.1);
+          coded = subst (λ (d : Configuration). AreRecovery d (x ∷ xs) recovery) all.of
+              (subst (λ (m : List Shard). AreRecovery s.configuration m recovery) all.given out.1);
         }
 
     by_outcome : (shards : List Shard) → All (All (λ b. b < 256)) shards → (o : Result EncoderState Error) → encoding k r shards ≡ o → MatchResult o (λ s. EncodeAnswers s (Ok recovery)) (λ e. Ok recovery ≡ Err e) → AreCoded k r shards recovery
@@ -126,14 +123,11 @@ pub encodes_in_one_call : (k r size : ℕ) (originals : List Shard) (result : Re
     → length originals ≡ k → All (λ shard. length shard ≡ size) originals → OneEncodeAnswers k r originals result → IfErr result (λ e. e ≡ OutOfMemory)
 encodes_in_one_call k r size originals result valid count sized (inr lacks) = subst (λ (o : Result (List Shard) Error). IfErr o (λ e. e ≡ OutOfMemory)) (sym lacks.1) refl
 encodes_in_one_call k r size [] result valid count sized (inl answers) =
-    let some = default_fits k r (supported_valid k r size valid) in
-    let none : 0 ≡ k = count in
-    absurd (let no : ⊥ = omega (arith, some.0) in no)
+    absurd (let no : ⊥ = omega (arith, (default_fits k r (supported_valid k r size valid)).0) in no)
 encodes_in_one_call k r size (x ∷ xs) result valid count sized (inl answers) =
-    let first : length x ≡ size = sized 0 x (omega arith) in
     whole_by_start k r size (x ∷ xs) result valid count sized
     (subst (λ (n : ℕ). MatchResult (result_and_then (λ _. with_shards (fresh_encoder (default_of k r n)) (x ∷ xs)) (started (encoder_rows default_rate k r) (default_of k r n)))
-    (λ s. EncodeAnswers s result) (λ e. result ≡ Err e)) first answers)
+    (λ s. EncodeAnswers s result) (λ e. result ≡ Err e)) (sized 0 x (omega arith)) answers)
 
 -- shards that an encoder took one after another are a message, and what it answered are their recovery shards
 pub encoded_all : (rate : Rate) (c : Configuration) (shards recovery : List Shard) (s : EncoderState) → IsEncoder rate s → with_shards (fresh_encoder c) shards ≡ Ok s
@@ -143,7 +137,6 @@ encoded_all rate c shards recovery s is made h =
     let out = answered s recovery h in
     let given : s.given ≡ shards = all.given in
     let least : c.original_count ≤ length s.given = subst (λ (d : Configuration). d.original_count ≤ length s.given) all.of out.0 in
-    let most : length s.given ≤ c.original_count = subst (λ (d : Configuration). length s.given ≤ d.original_count) all.of is.no_more in
     let long : length s.given ≡ length shards = ap length given in (
       record {
         length_is = omega arith;
@@ -225,9 +218,7 @@ none_noted (item ∷ items) = (refl, none_noted items)
 came_left : (k : ℕ) (items : Items) → AllByRecursion (λ item. item.0 < k) items → IsDistinct nat_eq (indexes items) → all_came k items ≡ enough_left k items []
 came_left k items below once =
     let all = all_noted k items [] below (none_noted items) once in
-    let count : length all.0 ≡ length items = all.2 ∙ zero-add (length items) in
-    ap (result_and_then (λ came. cond (nat_lt (length came) k) (Err (NotEnoughShards k (length came) 0)) (Ok tt))) all.1
-    ∙ ap₂ (λ a b. cond (nat_lt a k) (Err (NotEnoughShards k b 0)) (Ok tt)) (count ∙ sym (add-zero (length items))) count
+    cc (add-zero (length items), zero-add (length items))
 
 -- where all originals are left, none is lost
 none_lost : (originals : List Shard) (kept : Items) → AreLeft originals kept → length originals ≤ length kept → (i : ℕ) → lost_of originals kept i ≡ None
@@ -239,8 +230,7 @@ none_lost originals kept left many i = by_test (nat_lt i (length originals)) ref
     by_test true e =
         let count = left_count (length originals) originals kept refl left in
         let there = all_some (length originals) (entered_all nothing kept) (omega arith) i (ltb-true i (length originals) e) in
-        let came : list_any (λ item. nat_eq i item.0) kept ≡ true = sym (some-entered_all kept nothing i) ∙ there in
-        ap (λ b. cond (not b) (Some (shard_at originals i)) None) came
+        ap (λ b. cond (not b) (Some (shard_at originals i)) None) (sym (some-entered_all kept nothing i) ∙ there)
 
 -- a decoder that was given just what is left
 abbrev pub left_with : Configuration → Items → Items → DecoderState

@@ -56,9 +56,6 @@ point_cases p k r x h = grind (arith, common_steps, cases_lt, below_or-first, be
 -- a point is a word that is no known zero
 point_apart : (p : Placement) (k r x : ℕ) → IsSpread p k r → x < k + r → (point p k x < 65536) × ((point p k x < p.zeros_from) ⊎ (p.zeros_to ≤ point p k x))
 point_apart p k r x s hx =
-    let own : p.originals_from + k ≡ p.zeros_from = s.originals in
-    let most : p.recovery_from + r ≤ 65536 = s.recovery in
-    let zeros : (p.zeros_from ≤ p.zeros_to) × (p.zeros_to ≤ 65536) = s.zeros in
     elim (point_cases p k r x hx) [
       | inl first ↦ (omega (arith, first.0, first.1), inl (omega (arith, first.0, first.1)))
       | inr later ↦
@@ -68,8 +65,6 @@ point_apart p k r x s hx =
 -- different places have different points
 point_once : (p : Placement) (k r x y : ℕ) → IsSpread p k r → x < k + r → y < k + r → point p k x ≡ point p k y → x ≡ y
 point_once p k r x y s hx hy same =
-    let own : p.originals_from + k ≡ p.zeros_from = s.originals in
-    let zeros : (p.zeros_from ≤ p.zeros_to) × (p.zeros_to ≤ 65536) = s.zeros in
     elim (point_cases p k r x hx) [
       | inl a ↦ elim (point_cases p k r y hy) [
         | inl b ↦ omega (arith, a.1, b.1)
@@ -103,8 +98,6 @@ fixed_by_points rate k r words other p o place is cp co are same = by_spread (sp
 
     by_spread : IsSpread (placement rate k r) k r → p ≡ o
     by_spread s =
-        let counts : (placement rate k r).degree_bound + (placement rate k r).zeros_from ≡ k + (placement rate k r).zeros_to = s.counts in
-        let zeros : ((placement rate k r).zeros_from ≤ (placement rate k r).zeros_to) × ((placement rate k r).zeros_to ≤ 65536) = s.zeros in
         same_from_values (placement rate k r).degree_bound p o cp.degree co.degree (words_from p cp.coefficients) (words_from o co.coefficients) at
         (λ i hi. elim (cases_lt i k) [
           | inl few ↦ omega (arith, at_place i few, (point_apart (placement rate k r) k r (place i) s (are.below i few)).0)
@@ -231,8 +224,7 @@ unfolding by_place
 count-by_place k zero originals recovery = search (rules, below_or, add-zero, count_below-same, below_or-first, count_below-zero)
 count-by_place k (suc r) originals recovery =
     let rest : count_below (k + r) (below_or k originals recovery) ≡ count_below k originals + count_below r recovery = count-by_place k r originals recovery in
-    let back : k + r - k ≡ r = omega arith in
-    let here : below_or k originals recovery (k + r) ≡ recovery r = below_or-then k originals recovery (k + r) (omega arith) ∙ ap recovery back in
+    let here : below_or k originals recovery (k + r) ≡ recovery r = below_or-then k originals recovery (k + r) (omega arith) ∙ ap recovery (omega arith) in
     let last : count_below (suc (k + r)) (below_or k originals recovery) ≡ count_below (k + r) (below_or k originals recovery) + cond (is_some (recovery r)) 1 0
     = count_below-suc (k + r) (below_or k originals recovery) ∙ ap (λ (o : Option Shard). count_below (k + r) (below_or k originals recovery) + cond (is_some o) 1 0) here in
     ap (λ n. count_below n (below_or k originals recovery)) (add-suc k r) ∙ last ∙ (let more = count_below-suc r recovery in omega arith)

@@ -69,8 +69,7 @@ frame_by rate k r low high = by_rate (is_low rate k r) refl
           frame = subst (λ (b : Bool). IsFrame (cond b (low_placement k) (high_placement k r)) k r f.0 (next_power k) (next_power k)) (sym e) f.2;
         }
     by_rate false e =
-        let fit : next_power r + k ≤ 65536 = high e in
-        let f = high_frame k r fit (next_power-above r (omega arith)) in
+        let f = high_frame k r (high e) (next_power-above r (omega arith)) in
         record {
           exponent = f.0;
           bound = 2 ^ f.0 - next_power r;
@@ -92,10 +91,7 @@ has_frame default_rate k r is =
 
 -- so originals are at most as many as the points
 pub few_originals : (rate : Rate) (k r : ℕ) → supports rate k r ≡ true → k ≤ 65536
-few_originals rate k r is = by_frame (has_frame rate k r is)
-  where
-    by_frame : HasFrame rate k r → k ≤ 65536
-    by_frame h =
-        let most : (placement rate k r).originals_from + k ≤ 2 ^ h.exponent = h.frame.originals in
-        let room : 2 ^ h.exponent ≤ 2 ^ 16 = pow_mono h.frame.few in
-        omega arith
+few_originals rate k r is =
+    let h = has_frame rate k r is in
+    let room : 2 ^ h.exponent ≤ 2 ^ 16 = pow_mono h.frame.few in
+    omega arith

@@ -1,5 +1,5 @@
 -- A message has one list of recovery shards at most, and a column one column of them.
-use Rattle.std.proofs.Common.{◌≡◌, ℕ, ◌+◌, ◌-◌, ◌/◌, ◌%◌, ◌^◌, ◌<◌, ◌≤◌, List, length, true, false, cond, refl, sym, ap, ◌∙◌, subst, arith, ◌⊎◌, inl, inr, pow_mono}
+use Rattle.std.proofs.Common.{◌≡◌, ℕ, ◌+◌, ◌-◌, ◌/◌, ◌%◌, ◌^◌, ◌<◌, ◌≤◌, List, length, Bool, true, false, cond, refl, sym, ap, ◌∙◌, subst, arith, ◌⊎◌, inl, inr, pow_mono}
 use Rattle.std.specs.Prelude.{slice_index}
 use Rattle.std.proofs.lemmas.Bool.{cases_lt}
 use Rattle.std.proofs.lemmas.List.{ext_get_or, length-map}
@@ -14,47 +14,30 @@ use Rattle.rs_field.proofs.of_code.Columns.{shards_from_columns}
 use Rattle.rs_field.proofs.of_words.Roots.{words_from}
 use Rattle.rs_field.proofs.of_words.Values.{same_from_values}
 
--- each placement is that of the low rate or that of the high rate
-low_or_high : (rate : Rate) (k r : ℕ) → (placement rate k r ≡ low_placement k) ⊎ (placement rate k r ≡ high_placement k r)
-unfolding placement
-low_or_high rate k r = elim (is_low rate k r) as (λ b. (cond b (low_placement k) (high_placement k r) ≡ low_placement k) ⊎ (cond b (low_placement k) (high_placement k r) ≡ high_placement k r)) [ true ↦ inl refl | false ↦ inr refl ]
+-- in each placement the known zeros follow the originals, up to the point of the last coefficient
+in_line : (low : Bool) (k r i : ℕ) → k ≤ 65536 → i < (cond low (low_placement k) (high_placement k r)).degree_bound
+    → ((cond low (low_placement k) (high_placement k r)).zeros_from ≡ (cond low (low_placement k) (high_placement k r)).originals_from + k)
+    × ((cond low (low_placement k) (high_placement k r)).originals_from + i < (cond low (low_placement k) (high_placement k r)).zeros_to)
+    × ((cond low (low_placement k) (high_placement k r)).zeros_to ≤ 65536)
+unfolding low_placement high_placement
+in_line true k r i most hi =
+    let (d, few, power, above) = next_power-small k most in
+    let least : 2 ^ d ≤ 2 ^ 16 = pow_mono few in
+    (omega arith, omega arith, omega arith)
+in_line false k r i most hi = (refl, omega arith, omega arith)
 
 -- two polynomials that code the same words are one
 pub codes_unique : (rate : Rate) (k r : ℕ) (words P Q : List ℕ) → k ≤ 65536 → Codes rate k r words P → Codes rate k r words Q → P ≡ Q
-unfolding low_placement high_placement
+unfolding placement
 codes_unique rate k r words P Q most p q =
-    elim (low_or_high rate k r) [
-      | inl low ↦
-          let bound : (placement rate k r).degree_bound ≡ next_power k = ap (λ (x : Placement). x.degree_bound) low in
-          let from : (placement rate k r).originals_from ≡ 0 = ap (λ (x : Placement). x.originals_from) low in
-          let zeros_from : (placement rate k r).zeros_from ≡ k = ap (λ (x : Placement). x.zeros_from) low in
-          let zeros_to : (placement rate k r).zeros_to ≡ next_power k = ap (λ (x : Placement). x.zeros_to) low in
-          let power = next_power-small k most in
-          let least : 2 ^ power.0 ≤ 2 ^ 16 = pow_mono {i = power.0} power.1 in
-          let room : next_power k ≤ 65536 = omega (arith, power.2, least) in
-          let at : (S : List ℕ) → Codes rate k r words S → (j : ℕ) → j < k → value S j ≡ slice_index words j =
-          λ S s j h. ap (value S) (let e : j ≡ (placement rate k r).originals_from + j = omega arith in e) ∙ s.originals j h in
-          same_from_values (next_power k) P Q (p.degree ∙ bound) (q.degree ∙ bound) (words_from P p.coefficients) (words_from Q q.coefficients)
-          (λ i. i) (λ i h. omega arith) (λ i j hi hj e. e)
-          (λ i h. elim (cases_lt i k) [
-            | inl original ↦ at P p i original ∙ sym (at Q q i original)
-            | inr zero_point ↦ p.zeros i (omega arith) (omega arith) ∙ sym (q.zeros i (omega arith) (omega arith))
-          ])
-      | inr high ↦
-          let m : ℕ = next_power r in
-          let bound : (placement rate k r).degree_bound ≡ 65536 - next_power r = ap (λ (x : Placement). x.degree_bound) high in
-          let from : (placement rate k r).originals_from ≡ next_power r = ap (λ (x : Placement). x.originals_from) high in
-          let zeros_from : (placement rate k r).zeros_from ≡ next_power r + k = ap (λ (x : Placement). x.zeros_from) high in
-          let zeros_to : (placement rate k r).zeros_to ≡ 65536 = ap (λ (x : Placement). x.zeros_to) high in
-          let at : (S : List ℕ) → Codes rate k r words S → (j : ℕ) → j < k → value S (next_power r + j) ≡ slice_index words j =
-          λ S s j h. ap (value S) (let e : next_power r + j ≡ (placement rate k r).originals_from + j = omega arith in e) ∙ s.originals j h in
-          same_from_values (65536 - next_power r) P Q (p.degree ∙ bound) (q.degree ∙ bound) (words_from P p.coefficients) (words_from Q q.coefficients)
-          (λ i. next_power r + i) (λ i h. omega arith) (λ i j hi hj e. omega arith)
-          (λ i h. elim (cases_lt i k) [
-            | inl original ↦ at P p i original ∙ sym (at Q q i original)
-            | inr zero_point ↦ p.zeros (next_power r + i) (omega arith) (omega arith) ∙ sym (q.zeros (next_power r + i) (omega arith) (omega arith))
-          ])
-    ]
+    same_from_values (placement rate k r).degree_bound P Q p.degree q.degree (words_from P p.coefficients) (words_from Q q.coefficients)
+    (λ i. (placement rate k r).originals_from + i) (λ i h. omega (arith, in_line (is_low rate k r) k r i most h)) (λ i j hi hj e. omega arith)
+    (λ i h. elim (cases_lt i k) [
+      | inl original ↦ p.originals i original ∙ sym (q.originals i original)
+      | inr zero_point ↦
+          let at = in_line (is_low rate k r) k r i most h in
+          p.zeros _ (omega (arith, at.0)) at.1 ∙ sym (q.zeros _ (omega (arith, at.0)) at.1)
+    ])
 
 -- words have one list of recovery words
 recovery_words-unique : (rate : Rate) (k r : ℕ) (words a b : List ℕ) → k ≤ 65536 → AreRecoveryWords rate k r words a → AreRecoveryWords rate k r words b

@@ -74,15 +74,11 @@ basis_next e q n p he hn is h = record {
 basis_polynomial : (e q : ℕ) → e ≤ 16 → q < 2 ^ e → (p : List ℕ) × IsBasis q p
 basis_polynomial zero q he hq = (1 ∷ [], basis_first q (omega arith))
 basis_polynomial (suc e) q he hq =
-    let double : 2 ^ suc e ≡ 2 ^ e * 2 = pow-suc 2 e in
     elim (cases_lt q (2 ^ e)) [
       | inl low ↦ basis_polynomial e q (omega arith) low
       | inr high ↦
-          let n : ℕ = q - 2 ^ e in
-          let hn : q - 2 ^ e < 2 ^ e = omega arith in
-          let is : q ≡ 2 ^ e + (q - 2 ^ e) = omega arith in
-          let rest = basis_polynomial e (q - 2 ^ e) (omega arith) hn in
-          (times (points 0 (2 ^ e)) rest.0, basis_next e q (q - 2 ^ e) rest.0 (omega arith) hn is rest.1)
+          let rest = basis_polynomial e (q - 2 ^ e) (omega arith) (omega arith) in
+          (times (points 0 (2 ^ e)) rest.0, basis_next e q (q - 2 ^ e) rest.0 (omega arith) (omega arith) (omega arith) rest.1)
     ]
 
 -- ---- sums of n terms
@@ -147,16 +143,14 @@ pub no_terms_past : (n t : ℕ) (f : ℕ → ℕ) (h : List ℕ) → n + t ≤ 6
     → ((x : ℕ) → x < n + t → forward (n + t) 0 f x ≡ value h x) → (i : ℕ) → n ≤ i → i < n + t → f i ≡ 0
 no_terms_past n zero f h hn word size words at i above below = absurd (let no : ⊥ = omega arith in no)
 no_terms_past n (suc t) f h hn word size words at i above below =
-    let full : length (padded t h) ≡ n + t = length-padded t h ∙ omega arith in
-    let next : n + suc t ≡ suc (n + t) = omega arith in
     let last : f (n + t) ≡ 0 =
-    no_last_term (n + t) f (padded t h) (omega arith) (word (n + t) (omega arith)) full (words_padded t h words)
-    (λ x hx. ap (λ k. forward k 0 f x) (sym next) ∙ at x (omega arith) ∙ sym (value-padded t h x)) in
+    no_last_term (n + t) f (padded t h) (omega arith) (word (n + t) (omega arith)) (length-padded t h ∙ omega arith) (words_padded t h words)
+    (λ x hx. ap (λ k. forward k 0 f x) (sym (omega arith)) ∙ at x (omega arith) ∙ sym (value-padded t h x)) in
     elim (cases_eq i (n + t)) [
       | inl e ↦ ap f e ∙ last
       | inr apart ↦
           no_terms_past n t f h (omega arith) (λ k hk. word k (omega arith)) size words
-          (λ x hx. sym (drop_last (n + t) f x last) ∙ ap (λ k. forward k 0 f x) (sym next) ∙ at x (omega arith)) i above (omega arith)
+          (λ x hx. sym (drop_last (n + t) f x last) ∙ ap (λ k. forward k 0 f x) (sym (omega arith)) ∙ at x (omega arith)) i above (omega arith)
     ]
   where
     drop_last : (m : ℕ) (f : ℕ → ℕ) (x : ℕ) → f m ≡ 0 → forward (suc m) 0 f x ≡ forward m 0 f x

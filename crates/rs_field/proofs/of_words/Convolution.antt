@@ -18,6 +18,7 @@ use Rattle.rs_field.proofs.of_words.Totals.{total-zero, total-suc, total-same, t
 use Rattle.rs_field.proofs.of_words.Signs.{sign-comm, sign-zero, sign-xor}
 use Rattle.rs_field.proofs.of_words.Halving.{sum_lower, sum_upper}
 use Rattle.rs_field.proofs.of_words.Counting.{counted}
+use Rattle.std.proofs.lemmas.Grind.{common_steps}
 
 -- ---- a sum of signs
 
@@ -32,7 +33,6 @@ signs_at_zero n u none =
 signs_elsewhere : (e u : ℕ) → 0 < u → u < 2 ^ e → signed_sum (2 ^ e) (λ y. 1) u % 65535 ≡ 0
 signs_elsewhere zero u some hu = absurd (let no : ⊥ = omega arith in no)
 signs_elsewhere (suc e) u some hu =
-    let p = pow-suc 2 e in
     let two : 2 ^ suc e ≡ 2 ^ e + 2 ^ e = omega arith in
     elim (cases_lt u (2 ^ e)) [
       | inl first ↦
@@ -138,11 +138,7 @@ log_sum-is (suc n) e x = search (rules, log_sum-suc, total-suc, cases_eq, xor_se
 -- the transforms of 2 ^ d entries leave the factor 2 ^ d, and their table has 65536 / 2 ^ d: the product is 65536, which is one
 one_turn : (d v : ℕ) → d ≤ 16 → 65536 / 2 ^ d * v * 2 ^ d % 65535 ≡ v % 65535
 one_turn d v hd =
-    let whole : (16 - d) + d ≡ 16 = omega arith in
-    let split : 2 ^ (16 - d) * 2 ^ d ≡ 65536 = sym (pow-add 2 (16 - d) d) ∙ ap (λ n. 2 ^ n) whole in
-    let factor : 65536 / 2 ^ d ≡ 2 ^ (16 - d) = ap (λ n. n / 2 ^ d) (sym split) ∙ shl-shr (2 ^ (16 - d)) d in
-    ap (λ n. n % 65535)
-    (ap (λ n. n * v * 2 ^ d) factor ∙ regroup (2 ^ (16 - d)) v (2 ^ d) ∙ ap (λ n. n * v) split) ∙ turned v
+    grind (arith, common_steps, regroup (2 ^ (16 - d)) v (2 ^ d), turned v, shl-shr (2 ^ (16 - d)) d, pow-add 2 (16 - d) d)
   where
     regroup : (a v b : ℕ) → a * v * b ≡ a * b * v
     regroup a v b = omega arith
@@ -174,9 +170,7 @@ locator-made d old old_walsh products new l_walsh hd is_old is_log made is_new x
 pub locator-counts : (n : ℕ) (a b c d : Steps) → WalshCounts n a b → CountsProducts n b c → WalshCounts n c d → LocatorCountsBelow n a d
 unfolding transform_steps
 locator-counts n a b c d p (x, y, z) q =
-    let halves : n / 2 * 2 ≤ n = omega arith in
-    let twice : n / 2 * log2 n + n / 2 * log2 n ≤ n * log2 n = doubled (n / 2) (log2 n) n halves in
-    of_bounds (n / 2 * log2 n) (n * log2 n) twice p q x y z
+    of_bounds (n / 2 * log2 n) (n * log2 n) (doubled (n / 2) (log2 n) n (omega arith)) p q x y z
   where
     doubled : (h l n : ℕ) → h * 2 ≤ n → h * l + h * l ≤ n * l
     doubled h l n le = let two : h * 2 * l ≡ h * l + h * l = omega arith in subst (λ (v : ℕ). v ≤ n * l) two (mul-le-mul_right l le)

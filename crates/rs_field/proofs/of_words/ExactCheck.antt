@@ -68,7 +68,6 @@ pub zero_rows : (n b t : ℕ) (marks words f F : ℕ → ℕ) → n ≤ 2 ^ 16 �
     → ((x : ℕ) → x < n → F x < 2 ^ 16) → ((x : ℕ) → x < n → forward n 0 F x ≡ f x)
     → (q : List ℕ) × Takes n b marks words q → (i : ℕ) → n ≤ i + t → i < n → F i ≡ 0
 zero_rows n b t marks words f F hn m count l word at (q, h) i above below =
-    let degree : length q ≡ b = h.degree in
     let k : ℕ = length (marked n marks) + b in
     let size : length (times (marked n marks) q) ≡ length (marked n marks) + b = length-marked_times (marked n marks) q ∙ omega arith in
     no_terms_past (length (marked n marks) + b) t F (times (marked n marks) q) (omega arith) (λ x hx. word x (omega arith)) size (words_times (marked n marks) q h.coefficients)
@@ -84,19 +83,15 @@ divided_takes n b marks words f h hn m l given same (q, size, are_words, at) =
 -- as many coefficients as the marked points and those of the polynomial wanted, with the located words as values
 few_coefficients : (n k t : ℕ) (f F : ℕ → ℕ) → n ≤ 2 ^ 16 → k + t ≡ n → ((x : ℕ) → x < n → forward n 0 F x ≡ f x)
     → ((i : ℕ) → n ≤ i + t → i < n → F i ≡ 0) → (h : List ℕ) × (length h ≡ k) × WordsOneByOne h × ((x : ℕ) → x < n → value h x ≡ f x)
-few_coefficients n k t f F hn count at none = with_values (polynomial_of_terms k F (omega arith))
-  where
-    with_values : (h : List ℕ) × (length h ≡ k) × AreWords h × ((x : ℕ) → value h x ≡ forward k 0 F x) → (h : List ℕ) × (length h ≡ k) × WordsOneByOne h × ((x : ℕ) → x < n → value h x ≡ f x)
-    with_values (h, size, words, is) =
-        (h, size, words_from h words, λ x hx. is x ∙ sym (forward-fewer k t F x (λ i a. none (k + i) (omega arith) (omega arith))) ∙ ap (λ j. forward j 0 F x) count ∙ at x hx)
+few_coefficients n k t f F hn count at none =
+    let (h, size, words, is) = polynomial_of_terms k F (omega arith) in
+    (h, size, words_from h words, λ x hx. is x ∙ sym (forward-fewer k t F x (λ i a. none (k + i) (omega arith) (omega arith))) ∙ ap (λ j. forward j 0 F x) count ∙ at x hx)
 
 -- where these rows are zero, some polynomial takes the words given
 pub taken_from_zero_rows : (n b t : ℕ) (marks words f F : ℕ → ℕ) → n ≤ 2 ^ 16 → AreMarks n marks → length (marked n marks) + b + t ≡ n → AreLocated n marks words f
     → ((x : ℕ) → x < n → marks x ≡ 0 → words x < 2 ^ 16) → ((x : ℕ) → x < n → forward n 0 F x ≡ f x)
     → ((i : ℕ) → n ≤ i + t → i < n → F i ≡ 0) → (q : List ℕ) × Takes n b marks words q
-taken_from_zero_rows n b t marks words f F hn m count l given at none = by_division (few_coefficients n (length (marked n marks) + b) t f F hn count at none)
-  where
-    by_division : (h : List ℕ) × (length h ≡ length (marked n marks) + b) × WordsOneByOne h × ((x : ℕ) → x < n → value h x ≡ f x) → (q : List ℕ) × Takes n b marks words q
-    by_division (h, size, are_words, same) =
-        divided_takes n b marks words f h hn m l given same
-        (divided_by n (marked n marks) h b hn (falling_marked n marks m) size are_words (roots_marked n marks h m (λ x hx one. same x hx ∙ l.erased x hx one)))
+taken_from_zero_rows n b t marks words f F hn m count l given at none =
+    let (h, size, are_words, same) = few_coefficients n (length (marked n marks) + b) t f F hn count at none in
+    divided_takes n b marks words f h hn m l given same
+    (divided_by n (marked n marks) h b hn (falling_marked n marks m) size are_words (roots_marked n marks h m (λ x hx one. same x hx ∙ l.erased x hx one)))

@@ -77,13 +77,15 @@ pub table_factor : (skew : List ℕ) (e half shift w : ℕ) → IsSkew skew → 
 table_factor skew e half shift w table is whole fits =
     let u : ℕ = shift / 2 ^ suc e in
     let p : 2 ^ suc e ≡ 2 ^ e * 2 = pow-suc 2 e in
-    let pos : 0 < 2 ^ e = pow_pos e in
     let parts : u * 2 ^ suc e + shift % 2 ^ suc e ≡ shift = div-add-mod' shift (2 ^ suc e) in
     let odd : shift + 2 ^ e ≡ (2 * u + 1) * 2 ^ e = regroup u (2 ^ suc e) (2 ^ e) shift parts whole p in
-    let back : shift + 2 ^ e - 2 ^ e ≡ shift = omega arith in
-    ap (λ v. scaled (get_or skew (shift + v - 1) 0) w) is
-    ∙ ap (λ m. scaled m w) (table.skew_entry e u (shift + 2 ^ e) odd (omega arith) ∙ ap (λ v. log_or_mark (subspace e v)) back)
-    ∙ scaled_by (subspace e shift) w (subspace_lt e shift)
+    grind (
+      arith,
+      common_steps,
+      table.skew_entry e u (shift + 2 ^ e) odd (omega arith),
+      scaled_by (subspace e shift) w (subspace_lt e shift),
+      pow_pos e,
+    )
   where
     regroup : (u m n shift : ℕ) → u * m + shift % m ≡ shift → shift % m ≡ 0 → m ≡ n * 2 → shift + n ≡ (2 * u + 1) * n
     regroup u m n shift parts whole p = omega (arith, ap (λ v. u * v) p)
@@ -102,11 +104,8 @@ log2-power e he =
 pub steps_half : (size e half : ℕ) → e < 16 → size ≡ 2 ^ suc e → half ≡ 2 ^ e → half + 2 * transform_steps half ≡ transform_steps size
 unfolding transform_steps
 steps_half size e half he is h =
-    let p : 2 ^ suc e ≡ 2 ^ e * 2 = pow-suc 2 e in
-    let whole : size / 2 ≡ half = omega arith in
-    let high : log2 size ≡ suc e = ap log2 is ∙ log2-power (suc e) (omega arith) in
     let low : log2 half ≡ e = ap log2 h ∙ log2-power e (omega arith) in
-    sum half (half / 2) e (size / 2) (log2 size) (log2 half) whole high low (twice half e h)
+    cc (sum half (half / 2) e (size / 2) (log2 size) (log2 half) (omega arith) (ap log2 is ∙ log2-power (suc e) (omega arith)) low (twice half e h))
   where
     twice : (half e : ℕ) → half ≡ 2 ^ e → half / 2 * 2 * e ≡ half * e
     twice half zero is = omega arith
@@ -116,13 +115,11 @@ steps_half size e half he is h =
     sum half quarter e n a b i j k t =
         let l : 2 * (quarter * b) ≡ 2 * (quarter * e) = ap (λ v. 2 * (quarter * v)) k in
         let r : n * a ≡ half * suc e = ap₂ (λ v w. v * w) i j in
-        let m : half * suc e ≡ half * e + half = omega arith in
         omega arith
 
 -- and two layers between the quarters and the steps of all four
 pub steps_quarters : (size e quarter : ℕ) → size ≤ 65536 → size ≡ 2 ^ suc (suc e) → quarter ≡ 2 ^ e → 4 * quarter + 4 * transform_steps quarter ≡ transform_steps size
 steps_quarters size e quarter small is q =
-    let p = pow-suc 2 e in
     let few = few_halves size (suc e) 0 is (omega arith) in
     let outer = steps_half size (suc e) (quarter + quarter) few is (omega arith) in
     let inner = steps_half (quarter + quarter) e quarter (omega arith) (omega arith) q in

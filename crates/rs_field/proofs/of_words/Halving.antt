@@ -46,25 +46,20 @@ pub record IsStep (half : ℕ) (low high new : ℕ → ℕ) : Type 0 where
 pub walsh-halves : (e n half : ℕ) (old low high new : ℕ → ℕ) → n ≡ 2 ^ suc e → half ≡ 2 ^ e
     → IsWalsh half old low → IsWalsh half (λ y. old (half + y)) high → IsStep half low high new → IsWalsh n old new
 walsh-halves e n half old low high new is h a b s w hw =
-    let p : 2 ^ suc e ≡ 2 ^ e * 2 = pow-suc 2 e in
-    let two : n ≡ 2 ^ e + 2 ^ e = omega arith in
     elim (cases_lt w half) [
       | inl first ↦
           s.sums w first
           ∙ add_near (low w) (high w) (signed_sum half old w) (signed_sum half (λ y. old (half + y)) w) (a w first) (b w first)
           ∙ ap (λ v. v % 65535) (ap (λ m. signed_sum m old w + signed_sum m (λ y. old (m + y)) w) h
-          ∙ sym (sum_lower e w old (omega arith)) ∙ ap (λ m. signed_sum m old w) (sym two))
+          ∙ sym (sum_lower e w old (omega arith)) ∙ ap (λ m. signed_sum m old w) (sym (omega arith)))
       | inr second ↦
           let i : ℕ = w - half in
-          let hi : i < half = omega arith in
-          let back : half + i ≡ w = omega arith in
-          let there : 2 ^ e + i ≡ w = omega arith in
-          ap (λ v. new v % 65535) (sym back) ∙ s.differences i hi
-          ∙ add_near (low i) (65534 * high i) (signed_sum half old i) (65534 * signed_sum half (λ y. old (half + y)) i) (a i hi)
-          (mul_near 65534 (high i) 65534 (signed_sum half (λ y. old (half + y)) i) refl (b i hi))
+          ap (λ v. new v % 65535) (sym (omega arith)) ∙ s.differences i (omega arith)
+          ∙ add_near (low i) (65534 * high i) (signed_sum half old i) (65534 * signed_sum half (λ y. old (half + y)) i) (a i (omega arith))
+          (mul_near 65534 (high i) 65534 (signed_sum half (λ y. old (half + y)) i) refl (b i (omega arith)))
           ∙ ap (λ m. (signed_sum m old i + 65534 * signed_sum m (λ y. old (m + y)) i) % 65535) h
           ∙ sym (sum_upper e i old (omega arith))
-          ∙ ap₂ (λ m v. signed_sum m old v % 65535) (sym two) there
+          ∙ ap₂ (λ m v. signed_sum m old v % 65535) (sym (omega arith)) (omega arith)
     ]
 
 -- ---- equal residues, values, sizes
@@ -114,22 +109,18 @@ walsh-quarters e n q old t0 t1 t2 t3 new is h done0 done1 done2 done3 sums =
     sums_of_halves i hi = elim (cases_lt i q) [
       | inl first ↦ (sums i first).0 ∙ sym (ap₂ (λ a b. (a + b) % 65535) (joined_first t0 t1 i first) (joined_first t2 t3 i first))
       | inr second ↦
-          let j : ℕ = i - q in
-          let back : q + j ≡ i = omega arith in
-          ap (λ k. new k % 65535) (sym back) ∙ (sums j (omega arith)).1
-          ∙ sym (ap₂ (λ a b. (a + b) % 65535) (joined_second t0 t1 j) (joined_second t2 t3 j))
-          ∙ ap (λ k. (joined t0 t1 k + joined t2 t3 k) % 65535) back
+          ap (λ k. new k % 65535) (sym (omega arith)) ∙ (sums (i - q) (omega arith)).1
+          ∙ sym (ap₂ (λ a b. (a + b) % 65535) (joined_second t0 t1 (i - q)) (joined_second t2 t3 (i - q)))
+          ∙ ap (λ k. (joined t0 t1 k + joined t2 t3 k) % 65535) (omega arith)
     ]
 
     differences_of_halves : (i : ℕ) → i < q + q → new (q + q + i) % 65535 ≡ (joined t0 t1 i + 65534 * joined t2 t3 i) % 65535
     differences_of_halves i hi = elim (cases_lt i q) [
       | inl first ↦ (sums i first).2 ∙ sym (ap₂ (λ a b. (a + 65534 * b) % 65535) (joined_first t0 t1 i first) (joined_first t2 t3 i first))
       | inr second ↦
-          let j : ℕ = i - q in
-          let back : q + j ≡ i = omega arith in
-          ap (λ k. new (q + q + k) % 65535) (sym back) ∙ (sums j (omega arith)).3
-          ∙ sym (ap₂ (λ a b. (a + 65534 * b) % 65535) (joined_second t0 t1 j) (joined_second t2 t3 j))
-          ∙ ap (λ k. (joined t0 t1 k + 65534 * joined t2 t3 k) % 65535) back
+          ap (λ k. new (q + q + k) % 65535) (sym (omega arith)) ∙ (sums (i - q) (omega arith)).3
+          ∙ sym (ap₂ (λ a b. (a + 65534 * b) % 65535) (joined_second t0 t1 (i - q)) (joined_second t2 t3 (i - q)))
+          ∙ ap (λ k. (joined t0 t1 k + 65534 * joined t2 t3 k) % 65535) (omega arith)
     ]
 
 -- ---- halves and quarters of lists

@@ -9,6 +9,7 @@ use Rattle.rs_field.specs.words.Inverse.{TransformsAreInverse}
 use Rattle.rs_field.proofs.of_words.Product.{product_lt}
 use Rattle.rs_field.proofs.of_words.Combination.{forward-one, lower_half, upper_half}
 use Rattle.rs_field.proofs.of_words.Halves.{few_halves, shift_half, xor_undo}
+use Rattle.std.proofs.lemmas.Grind.{common_steps}
 
 -- the first and the second rows after a butterfly
 low : ℕ → ℕ → (ℕ → ℕ) → ℕ → ℕ
@@ -44,13 +45,9 @@ pub forward_injective : (e shift : ℕ) (f g : ℕ → ℕ) → shift % 2 ^ e �
     → ((i : ℕ) → i < 2 ^ e → f i < 65536) → ((i : ℕ) → i < 2 ^ e → g i < 65536)
     → ((i : ℕ) → i < 2 ^ e → forward (2 ^ e) shift f i ≡ forward (2 ^ e) shift g i) → (i : ℕ) → i < 2 ^ e → f i ≡ g i
 forward_injective zero shift f g whole fits words_f words_g same i hi =
-    let first : i ≡ 0 = omega arith in
     let one : 0 < 2 ^ 0 = omega arith in
-    ap f first ∙ sym (forward-one shift f 0 (words_f 0 one)) ∙ same 0 one ∙ forward-one shift g 0 (words_g 0 one) ∙ ap g (sym first)
+    grind (arith, common_steps, forward-one shift f 0 (words_f 0 one), same 0 one, forward-one shift g 0 (words_g 0 one))
 forward_injective (suc e) shift f g whole fits words_f words_g same i hi =
-    let half : ℕ = 2 ^ e in
-    let c : ℕ = subspace e shift in
-    let double : 2 ^ suc e ≡ 2 ^ e * 2 = pow-suc 2 e in
     let few : e < 16 = few_halves (2 ^ suc e) e shift refl fits in
     let s = shift_half (2 ^ suc e) e shift refl whole in
     let lows : (q : ℕ) → q < 2 ^ e → low (2 ^ e) (subspace e shift) f q ≡ low (2 ^ e) (subspace e shift) g q =
@@ -73,9 +70,7 @@ forward_injective (suc e) shift f g whole fits words_f words_g same i hi =
           first_back (2 ^ e) (subspace e shift) f i ∙ ap₂ bit_xor (lows i below) (ap (λ v. product v (subspace e shift)) (seconds i below))
           ∙ sym (first_back (2 ^ e) (subspace e shift) g i)
       | inr above ↦
-          let j : ℕ = i - 2 ^ e in
-          let back : 2 ^ e + j ≡ i = omega arith in
-          ap f (sym back) ∙ seconds j (omega arith) ∙ ap g back
+          ap f (sym (omega arith)) ∙ seconds (i - 2 ^ e) (omega arith) ∙ ap g (omega arith)
     ]
 
 pub transforms_are_inverse : TransformsAreInverse

@@ -92,9 +92,8 @@ pub fermat : (x : ℕ) → 0 < x → x < 2 ^ 16 → ones_raised 16 x ≡ 1
 fermat x pos hx =
     let he : ones_raised 16 x < 2 ^ 16 = ones_raised_lt 16 x in
     let fixed : product (ones_raised 16 x) x ≡ x = ones_raised_times 16 x hx ∙ frobenius x hx in
-    let hq : ones_raised 15 (product x x) < 2 ^ 16 = ones_raised_lt 15 (product x x) in
     let own : product (ones_raised 16 x) (ones_raised 16 x) ≡ ones_raised 16 x =
-    own_square (ones_raised 16 x) x (ones_raised 15 (product x x)) he hx hq (ones_raised_suc 15 x) fixed in
+    own_square (ones_raised 16 x) x (ones_raised 15 (product x x)) he hx (ones_raised_lt 15 (product x x)) (ones_raised_suc 15 x) fixed in
     zero_or_one (ones_raised 16 x) x pos (idempotent (ones_raised 16 x) he own) fixed
 
 -- x to the power 65534

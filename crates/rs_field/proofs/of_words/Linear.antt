@@ -11,8 +11,7 @@ xor_swap a b c d = grind (arith, common_steps, xor_assoc, xor_comm)
 
 pub xor_times_pow : (k a b : ℕ) → bit_xor a b * 2 ^ k ≡ bit_xor (a * 2 ^ k) (b * 2 ^ k)
 xor_times_pow k a b =
-    sym (add-zero (bit_xor a b * 2 ^ k)) ∙ sym (xor_block k a b 0 0 (pow_pos k) (pow_pos k))
-    ∙ ap₂ bit_xor (add-zero (a * 2 ^ k)) (add-zero (b * 2 ^ k))
+    cc (add-zero (bit_xor a b * 2 ^ k), xor_block k a b 0 0 (pow_pos k) (pow_pos k), add-zero (a * 2 ^ k), add-zero (b * 2 ^ k))
 
 digit_xor : (a b : ℕ) → a < 2 → b < 2 → (c : ℕ) → bit_xor a b * c ≡ bit_xor (a * c) (b * c)
 digit_xor zero b ha hb c = ap (λ x. bit_xor x (b * c)) (sym (zero-mul c))
@@ -24,15 +23,13 @@ digit_xor (suc (suc a)) b ha hb c = absurd (omega arith)
 -- the lowest bit of a XOR, times a number
 pub lowest_xor : (a b c : ℕ) → bit_xor a b % 2 * c ≡ bit_xor (a % 2 * c) (b % 2 * c)
 lowest_xor a b c =
-    let two : 0 < 2 = omega arith in
-    ap (λ x. x * c) (xor_mod a b 1) ∙ digit_xor (a % 2) (b % 2) (mod-lt a two) (mod-lt b two) c
+    ap (λ x. x * c) (xor_mod a b 1) ∙ digit_xor (a % 2) (b % 2) (mod-lt a (omega arith)) (mod-lt b (omega arith)) c
 
 pub combine_xor : (bs : List ℕ) (a b : ℕ) → combine bs (bit_xor a b) ≡ bit_xor (combine bs a) (combine bs b)
 unfolding combine
 combine_xor [] a b = refl
 combine_xor (c ∷ bs) a b =
-    ap₂ bit_xor (lowest_xor a b c) (ap (combine bs) (xor_shr a b 1) ∙ combine_xor bs (a / 2) (b / 2))
-    ∙ xor_swap (a % 2 * c) (b % 2 * c) (combine bs (a / 2)) (combine bs (b / 2))
+    cc (lowest_xor a b c, xor_shr a b 1, combine_xor bs (a / 2) (b / 2), xor_swap (a % 2 * c) (b % 2 * c) (combine bs (a / 2)) (combine bs (b / 2)))
 
 -- a map that keeps the XOR of numbers of w bits
 pub record IsAdditive (w : ℕ) (f : ℕ → ℕ) : Type 0 where
@@ -55,20 +52,16 @@ pub agree_below : (w : ℕ) (f g : ℕ → ℕ) → IsAdditive w f → IsAdditiv
     → (n : ℕ) → n ≤ w → (x : ℕ) → x < 2 ^ n → f x ≡ g x
 agree_below w f g hf hg same zero hn x hx = grind (arith, common_steps, additive_zero)
 agree_below w f g hf hg same (suc n) hn x hx =
-    let low : x % 2 ^ n < 2 ^ n = mod-lt x (pow_pos n) in
-    let double : 2 ^ suc n ≡ 2 ^ n * 2 = pow-suc 2 n in
-    let high : x / 2 ^ n < 2 = shr_below x 1 n (subst (λ (p : ℕ). x < p) (ap (λ (k : ℕ). 2 ^ k) (sym (one-add n))) hx) in
     let below : n ≤ w = omega arith in
     let wide : 2 ^ suc n ≤ 2 ^ w = pow_mono hn in
-    let ih : f (x % 2 ^ n) ≡ g (x % 2 ^ n) = agree_below w f g hf hg same n below (x % 2 ^ n) low in
     let top : f (x / 2 ^ n * 2 ^ n) ≡ g (x / 2 ^ n * 2 ^ n) =
-    elim (digit_times (x / 2 ^ n) n high) [
+    elim (digit_times (x / 2 ^ n) n (shr_below x 1 n (subst (λ (p : ℕ). x < p) (ap (λ (k : ℕ). 2 ^ k) (sym (one-add n))) hx))) [
       | inl e ↦ ap f e ∙ additive_zero w f hf ∙ sym (additive_zero w g hg) ∙ ap g (sym e)
       | inr e ↦ ap f e ∙ same n hn ∙ ap g (sym e)
     ] in
     let high_lt : x / 2 ^ n * 2 ^ n < 2 ^ w = lt_of_lt_of_le (lt_of_le_of_lt (div-mul-le_self x (2 ^ n)) hx) wide in
     let low_lt : x % 2 ^ n < 2 ^ w = omega arith in
-    ap f (split_top n x) ∙ hf.xor _ _ high_lt low_lt ∙ ap₂ bit_xor top ih ∙ sym (hg.xor _ _ high_lt low_lt) ∙ ap g (sym (split_top n x))
+    cc (split_top n x, hf.xor _ _ high_lt low_lt, hg.xor _ _ high_lt low_lt, agree_below w f g hf hg same n below (x % 2 ^ n) (mod-lt x (pow_pos n)))
 
 -- a test of every number below n, for facts that are proved by computation
 unfoldable pub passes_below : ℕ → (ℕ → Bool) → Bool

@@ -15,9 +15,7 @@ use Rattle.rs_field.proofs.of_words.Subspace.{product_below-suc, product_below-z
 -- a multiple of a logarithm is the logarithm of a power
 power-mul_log : (z k : ℕ) → 0 < z → z < 2 ^ 16 → power (k * log z) ≡ raised z k
 unfolding power
-power-mul_log z k pos lt =
-    let turned : k * log z ≡ log z * k = omega arith in
-    ap (raised generator) turned ∙ sym (raised-mul generator (log z) k generator_lt) ∙ ap (λ v. raised v k) (power-log z pos lt)
+power-mul_log z k pos lt = grind (arith, common_steps, raised-mul generator (log z) k generator_lt, power-log z pos lt)
 
 -- two points have a sum that is not zero
 sum_pos : (x y : ℕ) → x ≢ y → 0 < bit_xor x y
@@ -29,14 +27,16 @@ pub power-log_sum : (n : ℕ) (e : ℕ → ℕ) (x : ℕ) → n ≤ 65536 → x 
 unfolding log_sum
 power-log_sum zero e x hn hx = power_zero ∙ sym (product_below-zero (λ y. if x == y then 1 else raised (bit_xor x y) (e y)))
 power-log_sum (suc y) e x hn hx =
-    let rest : power (log_sum y e x) ≡ product_below y (λ y. if x == y then 1 else raised (bit_xor x y) (e y)) = power-log_sum y e x (omega arith) hx in
     let last : power (if x == y then 0 else e y * log (bit_xor x y)) ≡ (if x == y then 1 else raised (bit_xor x y) (e y)) =
     elim (eqb_tells x y) [
       | inl same ↦ ap (λ b. power (cond b 0 (e y * log (bit_xor x y)))) same.0 ∙ power_zero ∙ sym (ap (λ b. cond b 1 (raised (bit_xor x y) (e y))) same.0)
-      | inr apart ↦
-          ap (λ b. power (cond b 0 (e y * log (bit_xor x y)))) apart.0
+      | inr apart
+          ↦ ap (λ b. power (cond b 0 (e y * log (bit_xor x y)))) apart.0
           ∙ power-mul_log (bit_xor x y) (e y) (sum_pos x y apart.1) (xor_lt 16 x y hx (omega arith))
           ∙ sym (ap (λ b. cond b 1 (raised (bit_xor x y) (e y))) apart.0)
     ] in
-    power-add (log_sum y e x) (if x == y then 0 else e y * log (bit_xor x y)) ∙ ap₂ product rest last
-    ∙ sym (product_below-suc y (λ y. if x == y then 1 else raised (bit_xor x y) (e y)))
+    cc (
+      power-add (log_sum y e x) (if x == y then 0 else e y * log (bit_xor x y)),
+      product_below-suc y (λ y. if x == y then 1 else raised (bit_xor x y) (e y)),
+      power-log_sum y e x (omega arith) hx,
+    )

@@ -96,8 +96,6 @@ pub locator_derivative : (n : ℕ) (e : ℕ → ℕ) (p : List ℕ) (x : ℕ) �
 unfolding marked times
 locator_derivative zero e p x hn w m hx one = absurd (let no : ⊥ = omega arith in no)
 locator_derivative (suc n) e p x hn w m hx one =
-    let rest : List ℕ = times (marked n e) p in
-    let word : x < 2 ^ 16 = omega arith in
     elim (mark_cases n e m) [
       | inl last ↦
           ap (λ (r : List ℕ). derivative_value (times r p) x) (marked-more n e last)
@@ -107,13 +105,13 @@ locator_derivative (suc n) e p x hn w m hx one =
                 ap (λ k. bit_xor (value (times (marked n e) p) x) k)
                 (ap (λ k. product k (derivative_value (times (marked n e) p) x)) (ap (bit_xor x) (sym same) ∙ xor_self x) ∙ zero_product (derivative_value (times (marked n e) p) x))
                 ∙ xor_zero_r (value (times (marked n e) p) x)
-                ∙ locator_value n e p x (omega arith) word w (fewer n e m) (λ y hy of_y. λ (at : y ≡ x). let no : ⊥ = omega arith in no)
+                ∙ locator_value n e p x (omega arith) (omega arith) w (fewer n e m) (λ y hy of_y. λ (at : y ≡ x). let no : ⊥ = omega arith in no)
                 ∙ ap (λ k. product (power k) (value p x)) (sym (log_sum-itself n e x (sym same)))
             | inr differs ↦
                 ap₂ bit_xor (locator_root n e p x (fewer n e m) (omega arith) one) (ap (product (bit_xor x n)) (locator_derivative n e p x (omega arith) w (fewer n e m) (omega arith) one))
                 ∙ xor_zero_l (product (bit_xor x n) (product (power (log_sum n e x)) (value p x)))
                 ∙ moved_in (bit_xor x n) (power (log_sum n e x)) (value p x)
-                ∙ ap (λ k. product k (value p x)) (sym (grown n e x word (omega arith) last (λ (at : n ≡ x). differs (sym at))))
+                ∙ ap (λ k. product k (value p x)) (sym (grown n e x (omega arith) (omega arith) last (λ (at : n ≡ x). differs (sym at))))
           ]
       | inr none ↦
           ap (λ (r : List ℕ). derivative_value (times r p) x) (marked-same n e none)
@@ -132,16 +130,13 @@ length-marked_times (a ∷ r) p = let e : length (times r p) ≡ length r + leng
 pub unmarked_past : (m n : ℕ) (e : ℕ → ℕ) (x : ℕ) → ((y : ℕ) → m ≤ y → y < m + n → e y ≡ 0) → log_sum (m + n) e x ≡ log_sum m e x
 unmarked_past m zero e x none = ap (λ k. log_sum k e x) (add-zero m)
 unmarked_past m (suc n) e x none =
-    ap (λ k. log_sum k e x) (add-suc m n) ∙ kept (m + n) e x (none (m + n) (omega arith) (omega arith))
-    ∙ unmarked_past m n e x (λ y a b. none y a (omega arith))
+    cc (add-suc m n, kept (m + n) e x (none (m + n) (omega arith) (omega arith)), unmarked_past m n e x (λ y a b. none y a (omega arith)))
 
 -- and so to the sum over all points
 pub none_marked_past : (d : ℕ) (e : ℕ → ℕ) (x : ℕ) → d ≤ 16 → ((y : ℕ) → 2 ^ d ≤ y → y < 65536 → e y ≡ 0)
     → log_sum 65536 e x ≡ log_sum (2 ^ d) e x
 none_marked_past d e x hd none =
-    let room : 2 ^ d ≤ 2 ^ 16 = pow_mono hd in
-    let whole : 2 ^ d + (65536 - 2 ^ d) ≡ 65536 = omega arith in
-    ap (λ k. log_sum k e x) (sym whole) ∙ unmarked_past (2 ^ d) (65536 - 2 ^ d) e x (λ y a b. none y a (omega arith))
+    grind (arith, common_steps, unmarked_past (2 ^ d) (65536 - 2 ^ d) e x (λ y a b. none y a (omega arith)), pow_mono hd)
 
 -- ---- residues
 
@@ -152,7 +147,4 @@ same_residue l s e = sym (power-mod l) ∙ ap power e ∙ power-mod s
 -- 65535 less a logarithm undoes it
 pub residue_undone : (l w : ℕ) → l ≤ 65535 → w < 2 ^ 16 → product (product w (power l)) (power (65535 - l)) ≡ w
 residue_undone l w hl hw =
-    let whole : l + (65535 - l) ≡ 65535 = omega arith in
-    product-assoc w (power l) (power (65535 - l))
-    ∙ ap (product w) (sym (power-add l (65535 - l)) ∙ ap power whole ∙ power_turn)
-    ∙ product_one w hw
+    grind (arith, common_steps, product-assoc w (power l) (power (65535 - l)), power-add l (65535 - l), power_turn, product_one w hw)

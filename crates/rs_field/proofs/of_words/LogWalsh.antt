@@ -19,10 +19,8 @@ all-from_below table h = grind (arith, common_steps)
 pub part-below : (d n : ℕ) (all : List ℕ) → n ≡ 2 ^ d → d ≤ 16 → AreLogWalshes all → IsLogWalshBelow n (take (2 * n - 1 - (n - 1)) (drop (n - 1) all))
 part-below d n all is hd h =
     let few : 2 ^ d ≤ 2 ^ 16 = pow_mono hd in
-    let some : 0 < 2 ^ d = pow_pos d in
-    let size : 2 * n - 1 - (n - 1) ≡ n = omega arith in
     let left : length (drop (n - 1) all) ≡ 131071 - (n - 1) = length-drop (n - 1) all ∙ ap (λ l. l - (n - 1)) h.all_length in
-    subst (λ (m : ℕ). IsLogWalshBelow n (take m (drop (n - 1) all))) (sym size) (record {
+    subst (λ (m : ℕ). IsLogWalshBelow n (take m (drop (n - 1) all))) (sym (omega arith)) (record {
       below_length = length-take-le n (drop (n - 1) all) (omega arith);
       below_entry = λ w hw.
           ap (λ v. v % 65535) (get_or-take n (drop (n - 1) all) w 0 hw ∙ get_or-drop (n - 1) all w 0) ∙ at w hw;
@@ -51,19 +49,16 @@ pub first-more : (sizes n : ℕ) (old new : List ℕ) → n ≡ 2 ^ sizes → Ar
     → ((i : ℕ) → i < length old → get_or new i 0 ≡ get_or old i 0)
     → IsWalsh n (λ z. 65536 / n * log_or_zero z) (λ w. get_or new (length old + w) 0) → AreFirst (sizes + 1) new
 first-more sizes n old new is h grown kept last =
-    let some : 0 < 2 ^ sizes = pow_pos sizes in
     let two : 2 ^ (sizes + 1) ≡ 2 ^ sizes * 2 = ap (λ e. 2 ^ e) (add-one sizes) ∙ pow-suc 2 sizes in
     let here : IsWalsh (2 ^ sizes) (λ z. 65536 / 2 ^ sizes * log_or_zero z) (λ w. get_or new (2 ^ sizes - 1 + w) 0) =
     subst (λ (k : ℕ). IsWalsh (2 ^ sizes) (λ z. 65536 / 2 ^ sizes * log_or_zero z) (λ w. get_or new (k + w) 0)) h.first_length
     (subst (λ (m : ℕ). IsWalsh m (λ z. 65536 / m * log_or_zero z) (λ w. get_or new (length old + w) 0)) is last) in
-    let before = h.first_length in
     record {
       first_length = omega arith;
       first_entry = λ d hd. elim (cases_eq d sizes) [
         | inl same ↦ subst (λ (e : ℕ). IsWalsh (2 ^ e) (λ z. 65536 / 2 ^ e * log_or_zero z) (λ w. get_or new (2 ^ e - 1 + w) 0)) (sym same) here
         | inr other ↦ λ w hw.
-            let less : d + 1 ≤ sizes = omega arith in
-            let wide : 2 ^ (d + 1) ≤ 2 ^ sizes = pow_mono less in
+            let wide : 2 ^ (d + 1) ≤ 2 ^ sizes = pow_mono (omega arith) in
             let double : 2 ^ (d + 1) ≡ 2 ^ d * 2 = ap (λ e. 2 ^ e) (add-one d) ∙ pow-suc 2 d in
             ap (λ v. v % 65535) (kept (2 ^ d - 1 + w) (omega arith)) ∙ h.first_entry d (omega arith) w hw
       ];

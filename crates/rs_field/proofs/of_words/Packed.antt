@@ -22,9 +22,7 @@ packed_lt : (g : ℕ → ℕ) → ((i : ℕ) → g i < 256) → (k : ℕ) → pa
 packed_lt g small zero = small 0
 packed_lt g small (suc k) =
     let before : packed g k < 256 ^ suc k = packed_lt g small k in
-    let s = small (suc k) in
     let less : g (suc k) * 256 ^ suc k ≤ 255 * 256 ^ suc k = mul-le-mul_right (256 ^ suc k) (omega arith) in
-    let next = pow-suc 256 (suc k) in
     omega arith
 
 bytes_pos : (i : ℕ) → 0 < 256 ^ i
@@ -36,10 +34,8 @@ byte_of_packed g small zero i h = grind (arith, common_steps)
 byte_of_packed g small (suc k) i h =
     elim (cases_eq i (suc k)) [
       | inl e ↦
-          let s = small (suc k) in
-          let turned : packed g (suc k) ≡ g (suc k) * 256 ^ suc k + packed g k = omega arith in
           ap (λ i. packed g (suc k) / 256 ^ i % 256) e
-          ∙ ap (λ n. n / 256 ^ suc k % 256) turned
+          ∙ ap (λ n. n / 256 ^ suc k % 256) (omega arith)
           ∙ ap (λ n. n % 256) (div-mul-add (g (suc k)) (256 ^ suc k) (packed g k) (packed_lt g small k))
           ∙ (let small : g (suc k) % 256 ≡ g (suc k) = omega arith in small)
           ∙ ap g (sym e)
@@ -61,22 +57,25 @@ byte_xor x y i = cc (power_of 8 i, xor_shr x y (8 * i), xor_mod (x / 2 ^ (8 * i)
 low_half : (low high i : ℕ) → i < 8 → (low + 2 ^ 64 * high) / 256 ^ i % 256 ≡ low / 256 ^ i % 256
 low_half low high i h =
     let rest : ℕ = high * 256 ^ (7 - i) in
-    let split : 8 ≡ suc (7 - i) + i = omega arith in
-    let top : 2 ^ 64 * high ≡ rest * 256 * 256 ^ i =
-    mul_comm (2 ^ 64) high
-    ∙ ap (λ n. high * 256 ^ n) split
-    ∙ ap (λ p. high * p) (pow-add 256 (suc (7 - i)) i ∙ ap (λ p. p * 256 ^ i) (pow-suc 256 (7 - i)))
-    ∙ sym (mul_assoc high (256 ^ (7 - i) * 256) (256 ^ i))
-    ∙ ap (λ p. p * 256 ^ i) (sym (mul_assoc high (256 ^ (7 - i)) 256)) in
-    ap (λ n. (low + n) / 256 ^ i % 256) top
-    ∙ ap (λ n. n % 256) (add-mul-div_right low (rest * 256) (bytes_pos i))
-    ∙ (let gone : (low / 256 ^ i + rest * 256) % 256 ≡ low / 256 ^ i % 256 = omega arith in gone)
+    grind (
+      arith,
+      common_steps,
+      add-mul-div_right low (rest * 256) (bytes_pos i),
+      (let gone : (low / 256 ^ i + rest * 256) % 256 ≡ low / 256 ^ i % 256 = omega arith in gone),
+      mul_comm (2 ^ 64) high,
+      pow-add 256 (suc (7 - i)) i,
+      pow-suc 256 (7 - i),
+      mul_assoc high (256 ^ (7 - i) * 256) (256 ^ i),
+      mul_assoc high (256 ^ (7 - i)) 256,
+    )
 
 high_half : (low high j : ℕ) → low < 2 ^ 64 → (low + 2 ^ 64 * high) / 256 ^ (8 + j) % 256 ≡ high / 256 ^ j % 256
 high_half low high j h =
-    ap (λ p. (low + 2 ^ 64 * high) / p % 256) (pow-add 256 8 j)
-    ∙ ap (λ n. n % 256) (sym (div-div-eq-div-mul (low + 2 ^ 64 * high) (256 ^ 8) (256 ^ j)))
-    ∙ ap (λ n. n / 256 ^ j % 256) (let e : (low + 2 ^ 64 * high) / 2 ^ 64 ≡ high = omega arith in e)
+    cc (
+      pow-add 256 8 j,
+      div-div-eq-div-mul (low + 2 ^ 64 * high) (256 ^ 8) (256 ^ j),
+      (let e : (low + 2 ^ 64 * high) / 2 ^ 64 ≡ high = omega arith in e),
+    )
 
 digit_lt : (d a : ℕ) → d < 2 → a < 256 → d * a < 256
 digit_lt d a h1 h2 = grind (arith, common_steps, zero-mul, one-mul)
@@ -84,9 +83,7 @@ digit_lt d a h1 h2 = grind (arith, common_steps, zero-mul, one-mul)
 -- byte i of a number that has a in the bytes whose place has bit b
 byte_of_places : (b a x : ℕ) → a < 256 → x ≡ packed (λ (i : ℕ). i / 2 ^ b % 2 * a) 7 → (i : ℕ) → i < 8 → x / 256 ^ i % 256 ≡ i / 2 ^ b % 2 * a
 byte_of_places b a x ha e i h =
-    let two : 0 < 2 = omega arith in
-    ap (λ x. x / 256 ^ i % 256) e
-    ∙ byte_of_packed (λ (i : ℕ). i / 2 ^ b % 2 * a) (λ i. digit_lt (i / 2 ^ b % 2) a (mod-lt (i / 2 ^ b) two) ha) 7 i (omega arith)
+    cc (byte_of_packed (λ (i : ℕ). i / 2 ^ b % 2 * a) (λ i. digit_lt (i / 2 ^ b % 2) a (mod-lt (i / 2 ^ b) (omega arith)) ha) 7 i (omega arith))
 
 -- sixteen bytes from four products and a sum of halves: byte i is the sum of a, b, c and d at the set bits of i
 pub spread_bytes : (a b c d x y z w n i : ℕ) → a < 256 → b < 256 → c < 256 → d < 256

@@ -53,8 +53,7 @@ fast_is zero x n hx hn = let z : 0 ≡ n = omega arith in sym (raised_none x) �
 fast_is (suc k) x n hx hn =
     let half : n / 2 < 2 ^ k = shr_below n k 1 (subst (λ (j : ℕ). n < 2 ^ j) (sym (add-one k)) hn) in
     let whole : n % 2 + 2 * (n / 2) ≡ n = omega arith in
-    ap (product (raised x (n % 2))) (fast_is k (product x x) (n / 2) (product_lt x x) half ∙ ap (λ v. raised v (n / 2)) (sym (raised_two x hx)) ∙ raised-mul x 2 (n / 2) hx)
-    ∙ sym (raised-add x (n % 2) (2 * (n / 2)) hx) ∙ ap (raised x) whole
+    cc (fast_is k (product x x) (n / 2) (product_lt x x) half, raised_two x hx, raised-mul x 2 (n / 2) hx, raised-add x (n % 2) (2 * (n / 2)) hx)
 
 pub generator_lt : generator < 2 ^ 16
 unfolding generator
@@ -71,21 +70,11 @@ check_turn : fast 16 generator 65535 ≡ 1
 unfolding fast raised generator combine bits from_bits cantor_basis monomials carryless reduce product
 check_turn = refl
 
-check_without_three : eqb (fast 16 generator 21845) 1 ≡ false
+-- without one of the prime factors of 65535
+check_without : (eqb (fast 16 generator 21845) 1 ≡ false) × (eqb (fast 16 generator 13107) 1 ≡ false) × (eqb (fast 16 generator 3855) 1 ≡ false)
+    × (eqb (fast 16 generator 255) 1 ≡ false)
 unfolding fast raised generator combine bits from_bits cantor_basis monomials carryless reduce product
-check_without_three = refl
-
-check_without_five : eqb (fast 16 generator 13107) 1 ≡ false
-unfolding fast raised generator combine bits from_bits cantor_basis monomials carryless reduce product
-check_without_five = refl
-
-check_without_seventeen : eqb (fast 16 generator 3855) 1 ≡ false
-unfolding fast raised generator combine bits from_bits cantor_basis monomials carryless reduce product
-check_without_seventeen = refl
-
-check_without_largest : eqb (fast 16 generator 255) 1 ≡ false
-unfolding fast raised generator combine bits from_bits cantor_basis monomials carryless reduce product
-check_without_largest = refl
+check_without = (refl, refl, refl, refl)
 
 power_is : (n : ℕ) → n < 2 ^ 16 → fast 16 generator n ≡ power n
 unfolding power
@@ -103,26 +92,25 @@ not_one n hn test e = grind (arith, common_steps, power_is, true≢false)
 unfoldable has_inverses : ℕ → Bool
 has_inverses p = passes_below p (λ r. eqb r 0 || eqb (r * r ^ (p - 2) % p) 1)
 
-check_inverses : (has_inverses 3 && has_inverses 5 && has_inverses 17 && has_inverses 257) ≡ true
+check_inverses : (has_inverses 3 ≡ true) × (has_inverses 5 ≡ true) × (has_inverses 17 ≡ true) × (has_inverses 257 ≡ true)
 unfolding has_inverses passes_below
-check_inverses = refl
+check_inverses = (refl, refl, refl, refl)
 
 -- if power k is 1 and p does not divide k, then power q is 1, where p * q is 65535
 unit_from : (p q k m t : ℕ) → p * q ≡ 65535 → k * m ≡ 1 + p * t → power k ≡ 1 → power q ≡ 1
 unfolding power
 unit_from p q k m t whole bezout one =
-    let exponent : k * (m * q) ≡ q + 65535 * t =
-    sym (mul_assoc k m q) ∙ ap (λ v. v * q) bezout ∙ expand p q t ∙ ap (λ v. q + v * t) whole in
-    let left : raised generator (k * (m * q)) ≡ 1 = sym (raised-mul generator k (m * q) generator_lt) ∙ ap (λ v. raised v (m * q)) one ∙ one_raised (m * q) in
-    let right : raised generator (q + 65535 * t) ≡ raised generator q =
-    raised-add generator q (65535 * t) generator_lt
-    ∙ ap (product (raised generator q)) (sym (raised-mul generator 65535 t generator_lt) ∙ ap (λ v. raised v t) power_turn ∙ one_raised t)
-    ∙ product_one (raised generator q) (raised_lt generator q) in
-    sym right ∙ ap (raised generator) (sym exponent) ∙ left
-
-or_right : (a b : Bool) → a ≡ false → (a || b) ≡ true → b ≡ true
-or_right true b e h = cc
-or_right false b e h = h
+    cc (
+      raised-add generator q (65535 * t) generator_lt,
+      raised-mul generator 65535 t generator_lt,
+      power_turn,
+      one_raised t,
+      product_one (raised generator q) (raised_lt generator q),
+      raised-mul generator k (m * q) generator_lt,
+      one_raised (m * q),
+      mul_assoc k m q,
+      expand p q t,
+    )
 
 dividend : (n p : ℕ) → n % p ≡ 1 → n ≡ 1 + p * (n / p)
 dividend n p e = sym (mod-add-div n p) ∙ ap (λ v. v + p * (n / p)) e
@@ -130,9 +118,7 @@ dividend n p e = sym (mod-add-div n p) ∙ ap (λ v. v + p * (n / p)) e
 inverse_of : (p r : ℕ) → has_inverses p ≡ true → r < p → r ≢ 0 → r * r ^ (p - 2) % p ≡ 1
 unfolding has_inverses
 inverse_of p r h hr apart =
-    eqb-true (r * r ^ (p - 2) % p) 1
-    (or_right (eqb r 0) (eqb (r * r ^ (p - 2) % p) 1) (ne_eqb r 0 apart)
-    (from_passes_below p (λ r. eqb r 0 || eqb (r * r ^ (p - 2) % p) 1) h r hr))
+    eqb-true (r * r ^ (p - 2) % p) 1 (rw (ne_eqb r 0 apart) at (from_passes_below p (λ r. eqb r 0 || eqb (r * r ^ (p - 2) % p) 1) h r hr))
 
 divided : (p q k : ℕ) → p * q ≡ 65535 → 0 < p → has_inverses p ≡ true → power q ≢ 1 → power k ≡ 1 → k % p ≡ 0
 divided p q k whole pos h apart one =
@@ -150,14 +136,11 @@ all_four k h a b c d = omega arith
 
 pub order : (k : ℕ) → k < 65535 → power k ≡ 1 → k ≡ 0
 order k hk one =
-    let i1 : has_inverses 257 ≡ true = (and_parts _ _ check_inverses).1 in
-    let i2 : (has_inverses 3 && has_inverses 5 && has_inverses 17) ≡ true = (and_parts _ _ check_inverses).0 in
-    let i3 : (has_inverses 3 && has_inverses 5) ≡ true = (and_parts _ _ i2).0 in
     all_four k hk
-    (divided 3 21845 k refl (lit< tt) (and_parts _ _ i3).0 (not_one 21845 (lit< tt) check_without_three) one)
-    (divided 5 13107 k refl (lit< tt) (and_parts _ _ i3).1 (not_one 13107 (lit< tt) check_without_five) one)
-    (divided 17 3855 k refl (lit< tt) (and_parts _ _ i2).1 (not_one 3855 (lit< tt) check_without_seventeen) one)
-    (divided 257 255 k refl (lit< tt) i1 (not_one 255 (lit< tt) check_without_largest) one)
+    (divided 3 21845 k refl (lit< tt) check_inverses.0 (not_one 21845 (lit< tt) check_without.0) one)
+    (divided 5 13107 k refl (lit< tt) check_inverses.1 (not_one 13107 (lit< tt) check_without.1) one)
+    (divided 17 3855 k refl (lit< tt) check_inverses.2 (not_one 3855 (lit< tt) check_without.2) one)
+    (divided 257 255 k refl (lit< tt) check_inverses.3 (not_one 255 (lit< tt) check_without.3) one)
 
 pub power_lt : (n : ℕ) → power n < 2 ^ 16
 unfolding power
@@ -196,7 +179,8 @@ power_injective i j hi hj e = grind (arith, common_steps, cases_order, power_apa
 -- each nonzero word is a power
 pub power_onto : (z : ℕ) → 0 < z → z < 2 ^ 16 → (n : ℕ) × (n < 65535) × (power n ≡ z)
 power_onto z pos hz =
-    found z pos (onto 65535 (λ n. power n - 1) within once (z - 1) (omega arith))
+    let (n, hn, e) = onto 65535 (λ n. power n - 1) within once (z - 1) (omega arith) in
+    (n, hn, omega (arith, power_pos n))
   where
     within : (i : ℕ) → i < 65535 → power i - 1 < 65535
     within i hi = omega (arith, power_pos i, power_lt i)
@@ -204,21 +188,14 @@ power_onto z pos hz =
     once : (i j : ℕ) → i < 65535 → j < 65535 → power i - 1 ≡ power j - 1 → i ≡ j
     once i j hi hj e = power_injective i j hi hj (omega (arith, power_pos i, power_pos j))
 
-    found : (z : ℕ) → 0 < z → (n : ℕ) × (n < 65535) × (power n - 1 ≡ z - 1) → (n : ℕ) × (n < 65535) × (power n ≡ z)
-    found z pos (n, hn, e) = (n, hn, omega (arith, power_pos n))
-
 -- ---- logarithms
 
 log_found : (z : ℕ) → 0 < z → z < 2 ^ 16 → (log z < 65535) × (eqb (power (log z)) z ≡ true)
 unfolding log
-log_found z pos hz = from_place z (power_onto z pos hz)
-  where
-    from_place : (z : ℕ) → (n : ℕ) × (n < 65535) × (power n ≡ z)
-        → (first_below 65535 (λ n. eqb (power n) z) < 65535) × (eqb (power (first_below 65535 (λ n. eqb (power n) z))) z ≡ true)
-    from_place z (n, hn, e) =
-        let most = first_below_most 65535 (λ n. eqb (power n) z) n hn (eq-eqb (power n) z e) in
-        let found : first_below 65535 (λ n. eqb (power n) z) < 65535 = omega arith in
-        (found, first_below-passes 65535 (λ n. eqb (power n) z) found)
+log_found z pos hz =
+    let (n, hn, e) = power_onto z pos hz in
+    let most = first_below_most 65535 (λ n. eqb (power n) z) n hn (eq-eqb (power n) z e) in
+    (omega arith, first_below-passes 65535 (λ n. eqb (power n) z) (omega arith))
 
 pub log_lt : (z : ℕ) → 0 < z → z < 2 ^ 16 → log z < 65535
 log_lt z pos hz = (log_found z pos hz).0

@@ -43,11 +43,12 @@ unfolding reduce
 reduce_xor zero p q = refl
 reduce_xor (suc n) p q =
     let m : ℕ = 0x1002D * 2 ^ n in
-    ap (reduce n)
-    (ap (λ x. bit_xor (bit_xor p q) (x % 2 * m)) (xor_shr p q (16 + n))
-    ∙ ap (bit_xor (bit_xor p q)) (lowest_xor (p / 2 ^ (16 + n)) (q / 2 ^ (16 + n)) m)
-    ∙ xor_swap p q (p / 2 ^ (16 + n) % 2 * m) (q / 2 ^ (16 + n) % 2 * m))
-    ∙ reduce_xor n _ _
+    cc (
+      xor_shr p q (16 + n),
+      lowest_xor (p / 2 ^ (16 + n)) (q / 2 ^ (16 + n)) m,
+      xor_swap p q (p / 2 ^ (16 + n) % 2 * m) (q / 2 ^ (16 + n) % 2 * m),
+      reduce_xor n _ _,
+    )
 
 pub product_xor_left : (x y z : ℕ) → product (bit_xor x y) z ≡ bit_xor (product x z) (product y z)
 unfolding product
@@ -67,9 +68,8 @@ combine_lt : (bs : List ℕ) (x : ℕ) → entries_below (2 ^ 16) bs ≡ true �
 unfolding combine entries_below
 combine_lt [] x h = omega arith
 combine_lt (b ∷ bs) x h =
-    let two : 0 < 2 = omega arith in
     let first : b < 2 ^ 16 = ltb-true b (2 ^ 16) (and_parts _ _ h).0 in
-    xor_lt 16 _ _ (digit_times_lt (x % 2) b (2 ^ 16) (mod-lt x two) first) (combine_lt bs (x / 2) (and_parts _ _ h).1)
+    xor_lt 16 _ _ (digit_times_lt (x % 2) b (2 ^ 16) (mod-lt x (omega arith)) first) (combine_lt bs (x / 2) (and_parts _ _ h).1)
 
 pub from_bits_lt : (v : ℕ) → from_bits v < 2 ^ 16
 unfolding from_bits entries_below monomials

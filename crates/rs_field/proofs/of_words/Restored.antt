@@ -31,13 +31,11 @@ pub restored : (e : ℕ) (f g marks : ℕ → ℕ) (p : List ℕ) → e ≤ 16 �
     → (x : ℕ) → x < 2 ^ e → marks x ≡ 1 → forward (2 ^ e) 0 g x ≡ product (power (log_sum (2 ^ e) marks x)) (value p x)
 restored e f g marks p he words m size at step x hx one =
     let room : 2 ^ e ≤ 2 ^ 16 = pow_mono he in
-    let r : List ℕ = marked (2 ^ e) marks in
     let h : List ℕ = times (marked (2 ^ e) marks) p in
-    let h_words : WordsOneByOne (times (marked (2 ^ e) marks) p) = words_times (marked (2 ^ e) marks) p words in
     let n : ℕ = 2 ^ e - length (times (marked (2 ^ e) marks) p) in
     let h_size : length (times (marked (2 ^ e) marks) p) ≡ length (marked (2 ^ e) marks) + length p = length-marked_times (marked (2 ^ e) marks) p in
     let full : length (padded n h) ≡ 2 ^ e = length-padded n h ∙ omega arith in
-    let full_words : WordsOneByOne (padded n h) = words_padded n h h_words in
+    let full_words : WordsOneByOne (padded n h) = words_padded n h (words_times (marked (2 ^ e) marks) p words) in
     step (padded n h) full (all_words (padded n h) full_words) (in_basis e f (padded n h) he full full_words (λ i hi. at i hi ∙ sym (value-padded n h i))) x (omega arith)
     ∙ ap₂ bit_xor (value-padded n h x ∙ locator_root (2 ^ e) marks p x m hx one)
     (derivative-padded n h x ∙ locator_derivative (2 ^ e) marks p x room words m hx one)

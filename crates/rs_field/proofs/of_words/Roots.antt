@@ -64,12 +64,15 @@ apart a x = ap (bit_xor a) (xor_comm x a) ∙ sym (xor_assoc a a x) ∙ ap (λ v
 regroup : (c a x r q : ℕ) → bit_xor (bit_xor c (product a r)) (product (bit_xor x a) (bit_xor r (product x q))) ≡ bit_xor c (product x (bit_xor r (product (bit_xor x a) q)))
 regroup c a x r q =
     let s : ℕ = bit_xor x a in
-    xor_assoc c (product a r) (product s (bit_xor r (product x q)))
-    ∙ ap (bit_xor c)
-    (ap (bit_xor (product a r)) (product_xor_right s r (product x q))
-    ∙ sym (xor_assoc (product a r) (product s r) (product s (product x q)))
-    ∙ ap₂ bit_xor (sym (product_xor_left a s r) ∙ ap (λ v. product v r) (apart a x)) (product-left_comm s x q)
-    ∙ sym (product_xor_right x r (product s q)))
+    cc (
+      xor_assoc c (product a r) (product s (bit_xor r (product x q))),
+      product_xor_right s r (product x q),
+      xor_assoc (product a r) (product s r) (product s (product x q)),
+      product_xor_left a s r,
+      apart a x,
+      product-left_comm s x q,
+      product_xor_right x r (product s q),
+    )
 
 -- P(x) is P(a) + (x + a) * Q(x)
 factor : (a x c : ℕ) (cs : List ℕ) → value (c ∷ cs) x ≡ bit_xor (value (c ∷ cs) a) (product (bit_xor x a) (value (steps a cs) x))
@@ -115,9 +118,8 @@ zero_from_roots (suc n) (c ∷ cs) size h f words once roots =
     let last : n < suc n = omega arith in
     let ha : f n < 2 ^ 16 = words n last in
     let at : value (c ∷ cs) (f n) ≡ 0 = roots n last in
-    let len : length (steps (f n) cs) ≡ n = length-steps (f n) cs ∙ omega arith in
     zero_back (f n) c cs
-    (zero_from_roots n (steps (f n) cs) len (words_steps (f n) cs h.1) f
+    (zero_from_roots n (steps (f n) cs) (length-steps (f n) cs ∙ omega arith) (words_steps (f n) cs h.1) f
     (λ i hi. words i (omega arith)) (λ i j hi hj. once i j (omega arith) (omega arith))
     (λ i hi. next_root (f n) (f i) c cs ha (words i (omega arith)) h.1 at (roots i (omega arith)) (λ e. not_last i n hi (once i n (omega arith) last e))))
     at

@@ -30,19 +30,14 @@ shared_none w y none = let a = and_le_l w y in let b = ones_le_self (bit_and w y
 shared-step : (w y : ℕ) → shared w y ≡ min (w % 2) (y % 2) + shared (w / 2) (y / 2)
 shared-step w y =
     let s = and_step w y in
-    let low : bit_and w y % 2 ≡ min (w % 2) (y % 2) = omega arith in
-    let high : bit_and w y / 2 ≡ bit_and (w / 2) (y / 2) = omega arith in
-    ones_step (bit_and w y) ∙ ap₂ (λ a b. a + count_ones b) low high
+    grind (arith, common_steps, ones_step (bit_and w y))
 
 shared_ones : shared 1 1 ≡ 1
 shared_ones = shared-step 1 1 ∙ ap (λ v. 1 + v) (shared_none 0 0 refl)
 
 pub sign-right : (e w y : ℕ) → w < 2 ^ e → y < 2 ^ e → sign w (2 ^ e + y) ≡ sign w y
 sign-right e w y hw hy =
-    let m : 0 * 2 ^ e + w ≡ w = omega arith in
-    let n : 1 * 2 ^ e + y ≡ 2 ^ e + y = omega arith in
-    let s : shared w (2 ^ e + y) ≡ shared w y = ap₂ shared (sym m) (sym n) ∙ shared_top e 0 1 w y hw hy ∙ ap (λ v. v + shared w y) (shared_none 0 1 refl) ∙ zero-add (shared w y) in
-    sign-is w (2 ^ e + y) ∙ ap (λ v. sign_at (v % 2)) s ∙ sym (sign-is w y)
+    grind (arith, common_steps, sign-is w (2 ^ e + y), sign-is w y, shared_top e 0 1 w y hw hy, shared_none 0 1 refl, zero-add (shared w y))
 
 pub sign-left : (e w y : ℕ) → w < 2 ^ e → y < 2 ^ e → sign (2 ^ e + w) y ≡ sign w y
 sign-left e w y hw hy = sign-comm (2 ^ e + w) y ∙ sign-right e y w hy hw ∙ sign-comm y w
@@ -52,11 +47,7 @@ sign_turns p = grind (arith, common_steps)
 
 pub sign-both : (e w y : ℕ) → w < 2 ^ e → y < 2 ^ e → sign (2 ^ e + w) (2 ^ e + y) % 65535 ≡ 65534 * sign w y % 65535
 sign-both e w y hw hy =
-    let m : 1 * 2 ^ e + w ≡ 2 ^ e + w = omega arith in
-    let n : 1 * 2 ^ e + y ≡ 2 ^ e + y = omega arith in
-    let s : shared (2 ^ e + w) (2 ^ e + y) ≡ 1 + shared w y = ap₂ shared (sym m) (sym n) ∙ shared_top e 1 1 w y hw hy ∙ ap (λ v. v + shared w y) shared_ones in
-    ap (λ v. v % 65535) (sign-is (2 ^ e + w) (2 ^ e + y)) ∙ ap (λ v. sign_at (v % 2) % 65535) s
-    ∙ sign_turns (shared w y) ∙ ap (λ v. 65534 * v % 65535) (sym (sign-is w y))
+    grind (arith, common_steps, sign-is (2 ^ e + w) (2 ^ e + y), sign_turns (shared w y), sign-is w y, shared_top e 1 1 w y hw hy, shared_ones)
 
 pub sign-zero : (w : ℕ) → sign 0 w ≡ 1
 sign-zero w =
@@ -68,14 +59,13 @@ sign-zero w =
 shared-xor : (n w x y : ℕ) → w < 2 ^ n → shared w (bit_xor x y) % 2 ≡ (shared w x + shared w y) % 2
 shared-xor zero w x y hw = grind (arith, common_steps, shared_none)
 shared-xor (suc n) w x y hw =
-    let p = pow-suc 2 n in
     let a = shared-step w (bit_xor x y) ∙ ap (λ v. min (w % 2) (bit_xor x y % 2) + shared (w / 2) v) (xor_shr x y 1) in
     let b = shared-step w x in
     let c = shared-step w y in
     let low = xor_add_and x y in
-    let rest = shared-xor n (w / 2) (x / 2) (y / 2) (omega arith) in
     put (w % 2) (x % 2) (y % 2) (bit_xor x y % 2) (shared (w / 2) (bit_xor (x / 2) (y / 2))) (shared (w / 2) (x / 2)) (shared (w / 2) (y / 2))
-    (shared w (bit_xor x y)) (shared w x) (shared w y) (omega arith) (omega arith) (omega arith) (omega arith) a b c rest
+    (shared w (bit_xor x y)) (shared w x) (shared w y) (omega arith) (omega arith) (omega arith) (omega arith) a b c
+    (shared-xor n (w / 2) (x / 2) (y / 2) (omega arith))
   where
     put : (i j k l s t u a b c : ℕ) → i < 2 → j < 2 → k < 2 → l ≡ (j + k) % 2 → a ≡ min i l + s → b ≡ min i j + t → c ≡ min i k + u → s % 2 ≡ (t + u) % 2 → a % 2 ≡ (b + c) % 2
     put zero j k l s t u a b c hi hj hk hl ha hb hc hs = omega arith
@@ -89,6 +79,9 @@ pub sign-xor : (w x y : ℕ) → w < 2 ^ 16 → sign w x * sign w y % 65535 ≡ 
 sign-xor w x y hw =
     let two : 0 < 2 = omega arith in
     let parity : (shared w x % 2 + shared w y % 2) % 2 ≡ shared w (bit_xor x y) % 2 = let s = shared-xor 16 w x y hw in omega arith in
-    ap₂ (λ a b. a * b % 65535) (sign-is w x) (sign-is w y)
-    ∙ sign_product (shared w x % 2) (shared w y % 2) (mod-lt (shared w x) two) (mod-lt (shared w y) two)
-    ∙ ap (λ v. sign_at v % 65535) parity ∙ ap (λ v. v % 65535) (sym (sign-is w (bit_xor x y)))
+    cc (
+      sign-is w x,
+      sign-is w y,
+      sign_product (shared w x % 2) (shared w y % 2) (mod-lt (shared w x) two) (mod-lt (shared w y) two),
+      sign-is w (bit_xor x y),
+    )

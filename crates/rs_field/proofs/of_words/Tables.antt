@@ -27,9 +27,7 @@ take_entry items i out rest h e = grind (arith, common_steps, one-mul, one_more)
 -- where it is not
 pub leave_entry : (items : List ℕ) (i out rest : ℕ) → i < length items → rest % 2 ≡ 0
     → bit_xor out (combine (drop (i + 1) items) (rest / 2)) ≡ bit_xor out (combine (drop i items) rest)
-leave_entry items i out rest h e =
-    ap (λ v. bit_xor v (combine (drop (i + 1) items) (rest / 2))) (sym (ap (bit_xor out) (ap (λ d. d * get_or items i 0) e ∙ zero-mul (get_or items i 0)) ∙ xor_zero_r out))
-    ∙ sym (one_more items i out rest h)
+leave_entry items i out rest h e = cc (zero-mul (get_or items i 0), xor_zero_r out, one_more items i out rest h)
 
 unfoldable pub generator_products : List ℕ
 generator_products =

@@ -52,13 +52,10 @@ pub values-joined : (d n u : ℕ) (g : ℕ → ℕ → ℕ) (j i : ℕ) → (u *
 unfolding joined_blocks
 values-joined d zero u g j i whole fits hj hi = grind (arith, common_steps, add-zero)
 values-joined d (suc n) u g j i whole fits hj hi =
-    let size : 2 ^ (d + suc n) ≡ 2 ^ suc (d + n) = power_suc d n in
-    let aligned : (u * 2 ^ d) % 2 ^ suc (d + n) ≡ 0 = subst (λ (m : ℕ). (u * 2 ^ d) % m ≡ 0) size whole in
-    let room : u * 2 ^ d + 2 ^ suc (d + n) ≤ 65536 = subst (λ (m : ℕ). u * 2 ^ d + m ≤ 65536) size fits in
+    let aligned : (u * 2 ^ d) % 2 ^ suc (d + n) ≡ 0 = subst (λ (m : ℕ). (u * 2 ^ d) % m ≡ 0) (power_suc d n) whole in
+    let room : u * 2 ^ d + 2 ^ suc (d + n) ≤ 65536 = subst (λ (m : ℕ). u * 2 ^ d + m ≤ 65536) (power_suc d n) fits in
     let few : d + n < 16 = few_halves (2 ^ suc (d + n)) (d + n) (u * 2 ^ d) refl room in
     let halves = shift_half (2 ^ suc (d + n)) (d + n) (u * 2 ^ d) refl aligned in
-    let twice : 2 ^ suc (d + n) ≡ 2 ^ (d + n) * 2 = pow-suc 2 (d + n) in
-    let double : 2 ^ suc n ≡ 2 ^ n * 2 = pow-suc 2 n in
     let blocks : 2 ^ (d + n) ≡ 2 ^ d * 2 ^ n = pow-add 2 d n in
     let next : u * 2 ^ d + 2 ^ (d + n) ≡ (u + 2 ^ n) * 2 ^ d = second_start d n u in
     let c : ℕ = subspace (d + n) (u * 2 ^ d) in
@@ -66,7 +63,7 @@ values-joined d (suc n) u g j i whole fits hj hi =
     let b : ℕ → ℕ = joined_blocks d n (u + 2 ^ n) g in
     let all : ℕ → ℕ = paired (2 ^ (d + n)) c a b in
     let low : (q : ℕ) → q < 2 ^ (d + n) → a q ≡ bit_xor (all q) (product (all (2 ^ (d + n) + q)) c) = λ q h. first_of (2 ^ (d + n)) c a b q h in
-    ap (λ m. forward m (u * 2 ^ d) all (j * 2 ^ d + i)) size
+    ap (λ m. forward m (u * 2 ^ d) all (j * 2 ^ d + i)) (power_suc d n)
     ∙ elim (cases_lt j (2 ^ n)) [
       | inl below ↦
           let at : j * 2 ^ d + i < 2 ^ (d + n) = inside j i (2 ^ n) (2 ^ d) (2 ^ (d + n)) blocks below hi in
@@ -76,19 +73,16 @@ values-joined d (suc n) u g j i whole fits hj hi =
           let k : ℕ = j - 2 ^ n in
           let back : 2 ^ n + k ≡ j = omega arith in
           let at : k * 2 ^ d + i < 2 ^ (d + n) = inside k i (2 ^ n) (2 ^ d) (2 ^ (d + n)) blocks (omega arith) hi in
-          let point : j * 2 ^ d + i ≡ 2 ^ (d + n) + (k * 2 ^ d + i) = ap (λ v. v * 2 ^ d + i) (sym back) ∙ moved (2 ^ n) k (2 ^ d) i (2 ^ (d + n)) blocks in
-          let block : u + 2 ^ n + k ≡ u + j = omega arith in
-          ap (forward (2 ^ suc (d + n)) (u * 2 ^ d) all) point
+          ap (forward (2 ^ suc (d + n)) (u * 2 ^ d) all) (ap (λ v. v * 2 ^ d + i) (sym back) ∙ moved (2 ^ n) k (2 ^ d) i (2 ^ (d + n)) blocks)
           ∙ sym (upper_half (d + n) (u * 2 ^ d) all a b (k * 2 ^ d + i) few aligned room at low (λ q h. second_of (2 ^ (d + n)) c a b q))
           ∙ ap (λ s. forward (2 ^ (d + n)) s b (k * 2 ^ d + i)) next
           ∙ values-joined d n (u + 2 ^ n) g k i (subst (λ (s : ℕ). s % 2 ^ (d + n) ≡ 0) next halves.1) (omega arith) (omega arith) hi
-          ∙ ap (λ v. forward (2 ^ d) (v * 2 ^ d) (g v) i) block
+          ∙ ap (λ v. forward (2 ^ d) (v * 2 ^ d) (g v) i) (omega arith)
     ]
   where
     inside : (j i n m all : ℕ) → all ≡ m * n → j < n → i < m → j * m + i < all
     inside j i n m all e hj hi =
-        let more : suc j ≤ n = omega arith in
-        let le : suc j * m ≤ n * m = mul-le-mul_right m more in
+        let le : suc j * m ≤ n * m = mul-le-mul_right m (omega arith) in
         omega arith
 
     moved : (n k m i all : ℕ) → all ≡ m * n → (n + k) * m + i ≡ all + (k * m + i)
@@ -101,17 +95,18 @@ unfolding joined_blocks
 last-joined d zero u g before q is = grind (arith, common_steps, add-zero, sum_below-suc, sum_below-zero)
 last-joined d (suc n) u g before q is =
     let size : 2 ^ (d + suc n) ≡ 2 ^ suc (d + n) = power_suc d n in
-    let twice : 2 ^ suc (d + n) ≡ 2 ^ (d + n) * 2 = pow-suc 2 (d + n) in
     let double : 2 ^ suc n ≡ 2 ^ n + 2 ^ n = (let p = pow-suc 2 n in omega arith) in
     let least : 2 ^ d ≤ 2 ^ (d + n) = pow_mono (omega arith) in
     let rest : ℕ = 2 ^ (d + n) - 2 ^ d in
-    let whole : 2 ^ (d + n) - 2 ^ d + 2 ^ d ≡ 2 ^ (d + n) = omega arith in
     let at : before + q ≡ 2 ^ (d + n) + (2 ^ (d + n) - 2 ^ d + q) = omega arith in
     let c : ℕ = subspace (d + n) (u * 2 ^ d) in
     let a : ℕ → ℕ = joined_blocks d n u g in
     let b : ℕ → ℕ = joined_blocks d n (u + 2 ^ n) g in
-    ap (paired (2 ^ (d + n)) c a b) at
-    ∙ paired-second (2 ^ (d + n)) c a b (rest + q)
-    ∙ ap₂ bit_xor (last-joined d n u g rest q whole) (last-joined d n (u + 2 ^ n) g rest q whole)
-    ∙ sym (ap (λ m. sum_below m (λ j. g (u + j) q)) double ∙ sum_below-add (2 ^ n) (2 ^ n) (λ j. g (u + j) q)
-    ∙ ap (bit_xor (sum_below (2 ^ n) (λ j. g (u + j) q))) (sum_below-same (2 ^ n) (λ j. g (u + (2 ^ n + j)) q) (λ j. g (u + 2 ^ n + j) q) (λ j h. ap (λ v. g v q) (sym (add_assoc u (2 ^ n) j)))))
+    cc (
+      paired-second (2 ^ (d + n)) c a b (rest + q),
+      last-joined d n u g rest q (omega arith),
+      last-joined d n (u + 2 ^ n) g rest q (omega arith),
+      sum_below-add (2 ^ n) (2 ^ n) (λ j. g (u + j) q),
+      sum_below-same (2 ^ n) (λ j. g (u + (2 ^ n + j)) q) (λ j. g (u + 2 ^ n + j) q)
+          (λ j h. ap (λ v. g v q) (sym (add_assoc u (2 ^ n) j))),
+    )

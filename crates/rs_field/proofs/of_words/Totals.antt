@@ -3,6 +3,7 @@ use Rattle.std.proofs.Common.{◌≡◌, ℕ, zero, suc, ◌+◌, ◌*◌, ◌%�
 use Rattle.std.proofs.lemmas.Bool.{cases_eq}
 use Rattle.std.proofs.lemmas.Nat.{mul-mod_first, mul-mod_second}
 use Rattle.rs_field.specs.words.Walsh.{total}
+use Rattle.std.proofs.lemmas.Grind.{common_steps}
 
 pub total-zero : (g : ℕ → ℕ) → total 0 g ≡ 0
 unfolding total
@@ -37,17 +38,15 @@ total-none (suc n) g none = total-suc n g ∙ ap₂ (λ a b. a + b) (total-none 
 pub total-split : (h m : ℕ) (g : ℕ → ℕ) → total (h + m) g ≡ total h g + total m (λ y. g (h + y))
 total-split h zero g = ap (λ n. total n g) (add-zero h) ∙ sym (ap (λ v. total h g + v) (total-zero (λ y. g (h + y))) ∙ add-zero (total h g))
 total-split h (suc m) g =
-    let next : h + suc m ≡ suc (h + m) = omega arith in
     let more = total-split h m g in
     let s = total-suc (h + m) g in
     let t = total-suc m (λ y. g (h + y)) in
-    ap (λ n. total n g) next ∙ (let r : total (suc (h + m)) g ≡ total h g + total (suc m) (λ y. g (h + y)) = omega arith in r)
+    grind (arith, common_steps, (let r : total (suc (h + m)) g ≡ total h g + total (suc m) (λ y. g (h + y)) = omega arith in r))
 
 pub total-scale : (n c : ℕ) (g : ℕ → ℕ) → total n (λ y. c * g y) ≡ c * total n g
 total-scale zero c g = total-zero (λ y. c * g y) ∙ sym (ap (λ v. c * v) (total-zero g) ∙ (let r : c * 0 ≡ 0 = omega arith in r))
 total-scale (suc n) c g =
-    total-suc n (λ y. c * g y) ∙ ap (λ v. v + c * g n) (total-scale n c g)
-    ∙ sym (ap (λ v. c * v) (total-suc n g) ∙ (let r : c * (total n g + g n) ≡ c * total n g + c * g n = omega arith in r))
+    cc (total-suc n (λ y. c * g y), total-scale n c g, total-suc n g, (let r : c * (total n g + g n) ≡ c * total n g + c * g n = omega arith in r))
 
 pub total-plus : (n : ℕ) (g h : ℕ → ℕ) → total n (λ y. g y + h y) ≡ total n g + total n h
 total-plus zero g h = total-zero (λ y. g y + h y) ∙ sym (ap₂ (λ a b. a + b) (total-zero g) (total-zero h))
@@ -58,10 +57,12 @@ pub total-swap : (n m : ℕ) (g : ℕ → ℕ → ℕ) → total n (λ x. total 
 total-swap zero m g =
     total-zero (λ x. total m (λ y. g x y)) ∙ sym (total-none m (λ y. total zero (λ x. g x y)) (λ y hy. total-zero (λ x. g x y)))
 total-swap (suc n) m g =
-    total-suc n (λ x. total m (λ y. g x y))
-    ∙ ap (λ v. v + total m (λ y. g n y)) (total-swap n m g)
-    ∙ sym (total-plus m (λ y. total n (λ x. g x y)) (λ y. g n y))
-    ∙ total-same m (λ y. total n (λ x. g x y) + g n y) (λ y. total (suc n) (λ x. g x y)) (λ y hy. sym (total-suc n (λ x. g x y)))
+    cc (
+      total-suc n (λ x. total m (λ y. g x y)),
+      total-swap n m g,
+      total-plus m (λ y. total n (λ x. g x y)) (λ y. g n y),
+      total-same m (λ y. total n (λ x. g x y) + g n y) (λ y. total (suc n) (λ x. g x y)) (λ y hy. sym (total-suc n (λ x. g x y))),
+    )
 
 -- where all terms but one vanish
 pub total-one : (n x : ℕ) (g : ℕ → ℕ) → x < n → ((y : ℕ) → y < n → y ≢ x → g y % 65535 ≡ 0) → total n g % 65535 ≡ g x % 65535

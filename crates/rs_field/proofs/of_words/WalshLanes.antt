@@ -91,16 +91,13 @@ stage e n half a f g new is h room first second layer low high =
     (record {
       sums = λ i hi.
           let there : a + i + half ≡ a + half + i = omega arith in
-          let turned : get_or g (a + half + i) 0 + get_or g (a + i) 0 ≡ get_or g (a + i) 0 + get_or g (a + half + i) 0 = omega arith in
           layer (a + i) (omega arith)
           ∙ ap (λ b. by_parity b (get_or g (a + i + half) 0 + get_or g (a + i) 0) (get_or g (a + i - half) 0 + 65534 * get_or g (a + i) 0)) (first i hi)
-          ∙ ap (λ k. (get_or g k 0 + get_or g (a + i) 0) % 65535) there ∙ ap (λ v. v % 65535) turned;
+          ∙ ap (λ k. (get_or g k 0 + get_or g (a + i) 0) % 65535) there ∙ ap (λ v. v % 65535) (omega arith);
       differences = λ i hi.
-          let back : a + (half + i) - half ≡ a + i = omega arith in
-          let there : a + (half + i) ≡ a + half + i = omega arith in
           layer (a + (half + i)) (omega arith)
           ∙ ap (λ b. by_parity b (get_or g (a + (half + i) + half) 0 + get_or g (a + (half + i)) 0) (get_or g (a + (half + i) - half) 0 + 65534 * get_or g (a + (half + i)) 0)) (second i hi)
-          ∙ ap₂ (λ k m. (get_or g k 0 + 65534 * get_or g m 0) % 65535) back there;
+          ∙ ap₂ (λ k m. (get_or g k 0 + 65534 * get_or g m 0) % 65535) (omega arith) (omega arith);
     })
 
 -- four layers make the transform

@@ -9,6 +9,7 @@ use Rattle.rs_field.proofs.of_words.Roots.{WordsOneByOne, value_lt}
 use Rattle.rs_field.proofs.of_words.Subspace.{outside}
 use Rattle.rs_field.proofs.of_words.Factors.{points, times, value_with_root, value-times, length-times, words_times}
 use Rattle.rs_field.proofs.of_words.Division.{AreFalling, AreRoots, divided_by}
+use Rattle.std.proofs.lemmas.Grind.{common_steps}
 
 falling_points : (a n : ℕ) → AreFalling (a + n) (points a n)
 unfolding points
@@ -38,30 +39,22 @@ root_there a (suc n) p i hi =
 -- below 2 ^ e the roots at all points from there on change nothing
 pub value-inside : (e : ℕ) (q : List ℕ) → e ≤ 16 → WordsOneByOne q → (x : ℕ) → x < 2 ^ e → value (times (points (2 ^ e) (65536 - 2 ^ e)) q) x ≡ value q x
 value-inside e q he words x hx =
-    value-times (2 ^ e) (65536 - 2 ^ e) q words x
-    ∙ ap (λ k. product k (value q x)) (outside e x he hx) ∙ one_product (value q x) (value_lt q x words)
+    cc (value-times (2 ^ e) (65536 - 2 ^ e) q words x, outside e x he hx, one_product (value q x) (value_lt q x words))
 
 -- at a point from 2 ^ e on it is zero
 pub zero_outside : (e : ℕ) (q : List ℕ) (x : ℕ) → 2 ^ e ≤ x → x < 65536 → value (times (points (2 ^ e) (65536 - 2 ^ e)) q) x ≡ 0
-zero_outside e q x above below =
-    let back : x ≡ 2 ^ e + (x - 2 ^ e) = omega arith in
-    ap (value (times (points (2 ^ e) (65536 - 2 ^ e)) q)) back ∙ root_there (2 ^ e) (65536 - 2 ^ e) q (x - 2 ^ e) (omega arith)
-
-divided_out : (e b : ℕ) (p : List ℕ) → e ≤ 16 → (q : List ℕ) × (length q ≡ b) × WordsOneByOne q × ((x : ℕ) → value p x ≡ value (times (points (2 ^ e) (65536 - 2 ^ e)) q) x)
-    → (q : List ℕ) × (length q ≡ b) × WordsOneByOne q × ((x : ℕ) → x < 2 ^ e → value q x ≡ value p x)
-divided_out e b p he (q, size, words, at) = (q, size, words, λ x hx. sym (at x ∙ value-inside e q he words x hx))
+zero_outside e q x above below = grind (arith, common_steps, root_there (2 ^ e) (65536 - 2 ^ e) q (x - 2 ^ e) (omega arith))
 
 -- a polynomial that is zero at each point from 2 ^ e on has the values of one of as many fewer coefficients below 2 ^ e
 pub narrowed : (e b : ℕ) (p : List ℕ) → e ≤ 16 → length p ≡ b + (65536 - 2 ^ e) → WordsOneByOne p → ((x : ℕ) → 2 ^ e ≤ x → x < 65536 → value p x ≡ 0)
     → (q : List ℕ) × (length q ≡ b) × WordsOneByOne q × ((x : ℕ) → x < 2 ^ e → value q x ≡ value p x)
 narrowed e b p he size words none =
     let room : 2 ^ e ≤ 2 ^ 16 = pow_mono he in
-    let whole : 2 ^ e + (65536 - 2 ^ e) ≡ 65536 = omega arith in
-    let count : length (points (2 ^ e) (65536 - 2 ^ e)) ≡ 65536 - 2 ^ e = length-points (2 ^ e) (65536 - 2 ^ e) in
-    divided_out e b p he
-    (divided_by 65536 (points (2 ^ e) (65536 - 2 ^ e)) p b (omega arith)
-    (subst (λ (n : ℕ). AreFalling n (points (2 ^ e) (65536 - 2 ^ e))) whole (falling_points (2 ^ e) (65536 - 2 ^ e))) (omega arith) words
-    (roots_points (2 ^ e) (65536 - 2 ^ e) p (λ i hi. none (2 ^ e + i) (omega arith) (omega arith))))
+    let count = length-points (2 ^ e) (65536 - 2 ^ e) in
+    let (q, degree, coefficients, at) = divided_by 65536 (points (2 ^ e) (65536 - 2 ^ e)) p b (omega arith)
+    (subst (λ (n : ℕ). AreFalling n (points (2 ^ e) (65536 - 2 ^ e))) (omega arith) (falling_points (2 ^ e) (65536 - 2 ^ e))) (omega arith) words
+    (roots_points (2 ^ e) (65536 - 2 ^ e) p (λ i hi. none (2 ^ e + i) (omega arith) (omega arith))) in
+    (q, degree, coefficients, λ x hx. sym (at x ∙ value-inside e q he coefficients x hx))
 
 -- and back
 pub widened : (e b : ℕ) (q : List ℕ) → e ≤ 16 → length q ≡ b → WordsOneByOne q

@@ -26,6 +26,10 @@ decode_steps_at rate k r = decode_steps (decoder_rows rate k r)
 abbrev pub EncodeCountsAt : Rate → ℕ → ℕ → Steps → Steps → Type 0
 EncodeCountsAt rate k r old new = CountsUpTo (encode_steps_at rate k r) 0 0 old new
 
+-- what a decode with w rows may count: its row steps, and one locator
+abbrev pub DecodeCounts : ℕ → Steps → Steps → Type 0
+DecodeCounts w old new = CountsUpTo (decode_steps w) 1048576 65536 old new
+
 -- what a decode at these counts may count
 abbrev pub DecodeCountsAt : Rate → ℕ → ℕ → Steps → Steps → Type 0
-DecodeCountsAt rate k r old new = CountsUpTo (decode_steps_at rate k r) 1048576 65536 old new
+DecodeCountsAt rate k r old new = DecodeCounts (decoder_rows rate k r) old new

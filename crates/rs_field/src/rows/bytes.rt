@@ -6,6 +6,7 @@ ghost use Rattle.rs_field.specs.rows.Rows.{chunk, symbol};
 ghost use Rattle.rs_field.specs.rows.View.{word, Fits};
 
 use super::ShardsRefMut;
+use crate::words::GfElement;
 
 /// The bytes of a slice, and what is read at any index.
 pub fn are_bytes(bytes: &[u8])
@@ -39,6 +40,11 @@ pub fn arrays_are_bytes<const N: usize>(shards: &[[u8; N]])
         are_bytes(shard);
     }
 }
+
+/// The entries of a slice, and what is read at any index, lie below 65536.
+pub fn are_words(entries: &[GfElement])
+    ensures { (x : ℕ) → slice_index entries.now x < 65536 }
+{}
 
 /// The symbols of rows.
 pub fn row_symbols_are_words(rows: &ShardsRefMut<'_>)

@@ -21,6 +21,16 @@ impl Model for Steps {
     ghost also_owns = { λ _. ftrue };
 }
 
+impl Default for Steps {
+    ghost use Rattle.std.specs.Prelude.{◌≡◌};
+
+    ghost is_default = { λ steps. (steps.row_steps ≡ 0) × (steps.pair_sums ≡ 0) × (steps.products ≡ 0) };
+
+    fn default() -> Steps {
+        Steps::new()
+    }
+}
+
 impl Steps {
     /// Nothing was counted yet.
     pub fn new() -> Steps

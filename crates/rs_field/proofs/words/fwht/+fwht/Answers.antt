@@ -112,11 +112,10 @@ returns-then-truncated-quarter-clause-values t c =
 
 pub returns-then-truncated-quarter-clause-counts : goal.returns-then-truncated-quarter-clause-counts
 returns-then-truncated-quarter-clause-counts t c =
-    let q : ℕ = length c.args.data.now / 4 in
     let (e, is, part, cut) =
     in_quarters c.args.data.now c.if-n-gt2.true c.requires.power c.split_at_mut-low.ensures.front c.split_at_mut-low.ensures.back
     c.split_at_mut-x0.ensures.front c.split_at_mut-x0.ensures.back c.split_at_mut-x2.ensures.front c.split_at_mut-x2.ensures.back in
-    walsh-quarter-counts e (length c.args.data.now) q c.args.steps.now c.fwht.new.steps c.requires.size is part
+    walsh-quarter-counts e (length c.args.data.now) (length c.args.data.now / 4) c.args.steps.now c.fwht.new.steps c.requires.size is part
     (subst (λ (n : ℕ). WalshCounts n c.args.steps.now c.fwht.new.steps) cut.size0 c.fwht.ensures.counts)
 
 pub returns-else-truncated-quarter-clause-values : goal.returns-else-truncated-quarter-clause-values
@@ -144,23 +143,19 @@ returns-else-truncated-quarter-clause-counts t c =
     let (e, is, part, cut) =
     in_quarters c.args.data.now c.if-n-gt2.true c.requires.power c.split_at_mut-low.ensures.front c.split_at_mut-low.ensures.back
     c.split_at_mut-x0.ensures.front c.split_at_mut-x0.ensures.back c.split_at_mut-x2.ensures.front c.split_at_mut-x2.ensures.back in
-    let four : 4 * length c.fwht.new.data ≡ 4 * q = omega arith in
     walsh-counts e (length c.args.data.now) q c.args.steps.now c.fwht.new.steps c.fwht-else-truncated-quarter.new.steps c.fwht-else-truncated-quarter-2.new.steps c.fwht-else-truncated-quarter-3.new.steps c.quarter_sums.new.steps c.requires.size is part
     (subst (λ (n : ℕ). WalshCounts n c.args.steps.now c.fwht.new.steps) cut.size0 c.fwht.ensures.counts)
     (subst (λ (n : ℕ). WalshCounts n c.fwht.new.steps c.fwht-else-truncated-quarter.new.steps) cut.size1 c.fwht-else-truncated-quarter.ensures.counts)
     (subst (λ (n : ℕ). WalshCounts n c.fwht-else-truncated-quarter.new.steps c.fwht-else-truncated-quarter-2.new.steps) cut.size2 c.fwht-else-truncated-quarter-2.ensures.counts)
     (subst (λ (n : ℕ). WalshCounts n c.fwht-else-truncated-quarter-2.new.steps c.fwht-else-truncated-quarter-3.new.steps) cut.size3 c.fwht-else-truncated-quarter-3.ensures.counts)
-    (subst (λ (n : ℕ). CountsPairs n c.fwht-else-truncated-quarter-3.new.steps c.quarter_sums.new.steps) four c.quarter_sums.ensures.counts)
+    (subst (λ (n : ℕ). CountsPairs n c.fwht-else-truncated-quarter-3.new.steps c.quarter_sums.new.steps) (omega arith) c.quarter_sums.ensures.counts)
 
 pub returns-else-n-gt2-clause-values : goal.returns-else-n-gt2-clause-values
 returns-else-n-gt2-clause-values t c =
     elim c.else-n-gt2.branch [
       | else-n-gt2-via-then-n-gt2+else-truncated-gt0 w ↦
-          let none = w.if-truncated-gt0.false in
           walsh-none (length c.args.data.now) (λ y. get_or c.args.data.now y 0) (λ y hy. c.requires.tail y (omega arith) hy)
       | else-n-gt2-via-else-n-gt2 w ↦
-          let few = w.if-n-gt2.false in
-          let not_two = c.if-n-eq2.false in
           let power = c.requires.power in
           let some = pow_pos power.0 in
           walsh-one (length c.args.data.now) (λ y. get_or c.args.data.now y 0) (omega (arith, power.1))

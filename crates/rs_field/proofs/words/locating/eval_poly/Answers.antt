@@ -7,12 +7,5 @@ use Rattle.rs_field.proofs.words.locating.eval_poly.Goals as goal
 pub locate_marked-requires-clause-power : goal.locate_marked-requires-clause-power
 locate_marked-requires-clause-power c = (16, c.requires.size)
 
-pub locate_marked-requires-clause-table : goal.locate_marked-requires-clause-table
-locate_marked-requires-clause-table c = below-from_all (length c.args.erasures.now) c.args.log_walsh.now c.requires.size c.requires.table
-
-pub returns-clause-values : goal.returns-clause-values
-returns-clause-values c =
-    subst (λ (n : ℕ). IsLocatorBelow n (λ y. get_or c.args.erasures.now y 0) (λ x. get_or c.locate_marked.new.entries x 0)) c.requires.size c.locate_marked.ensures.values
-
 pub returns-clause-counts : goal.returns-clause-counts
 returns-clause-counts c = counts-below 16 (length c.args.erasures.now) c.args.steps.now c.locate_marked.new.steps c.requires.size (omega arith) c.locate_marked.ensures.counts

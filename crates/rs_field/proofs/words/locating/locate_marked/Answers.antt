@@ -6,9 +6,6 @@ use Rattle.rs_field.proofs.of_words.Halving.{walsh-at}
 use Rattle.rs_field.proofs.of_words.Convolution.{few_bits, locator-made, locator-counts}
 use Rattle.rs_field.proofs.words.locating.locate_marked.Goals as goal
 
-pub fwht-requires-2-clause-power : goal.fwht-requires-2-clause-power
-fwht-requires-2-clause-power c = (c.requires.power.0, c.products.auto.entries ∙ c.fwht.auto.data ∙ c.requires.power.1)
-
 pub returns-clause-values : goal.returns-clause-values
 returns-clause-values c =
     let d : ℕ = c.requires.power.0 in
@@ -25,7 +22,6 @@ returns-clause-values c =
 pub returns-clause-counts : goal.returns-clause-counts
 returns-clause-counts c =
     let first : length c.fwht.new.data ≡ length c.args.entries.now = c.fwht.auto.data in
-    let second : length c.products.new.entries ≡ length c.args.entries.now = c.products.auto.entries ∙ first in
     locator-counts (length c.args.entries.now) c.args.steps.now c.fwht.new.steps c.products.new.steps c.fwht-2.new.steps c.fwht.ensures.counts
     (subst (λ (n : ℕ). CountsProducts n c.fwht.new.steps c.products.new.steps) first c.products.ensures.counts)
-    (subst (λ (n : ℕ). WalshCounts n c.products.new.steps c.fwht-2.new.steps) second c.fwht-2.ensures.counts)
+    (subst (λ (n : ℕ). WalshCounts n c.products.new.steps c.fwht-2.new.steps) (c.products.auto.entries ∙ first) c.fwht-2.ensures.counts)

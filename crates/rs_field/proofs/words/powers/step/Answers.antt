@@ -8,7 +8,6 @@ use Rattle.rs_field.proofs.words.powers.step.Goals as goal
 pub returns : goal.returns
 returns c =
     let z = c.args.z in
-    let hz : z < 65536 = c.ranges.z.fits in
     let low : get_or c.args.low.now (bit_and z 255) 0 ≡ product (z % 256) generator =
     ap (λ i. get_or c.args.low.now i 0) (and_mask z 8) ∙ c.requires.low (z % 256) (omega arith) in
     let high : get_or c.args.high.now (z / 256) 0 ≡ product (256 * (z / 256)) generator = c.requires.high (z / 256) (omega arith) in

@@ -14,7 +14,6 @@ behind front last rest n from w size inside below =
 
 pub returns-clause-entries : goal.returns-clause-entries
 returns-clause-entries c = λ w hw.
-    let points : ℕ = c.args.points in
     let from : ℕ = c.len-from.result in
     let last : List ℕ = c.split_at_mut-last.result.1.now in
     let size : length c.split_at_mut-last.result.1.now ≡ c.args.points =
@@ -25,6 +24,6 @@ returns-clause-entries c = λ w hw.
     ap (λ v. v % 65535) (behind c.split_at_mut-last.result.0.now c.fwht.new.data (drop (length (c.split_at_mut-last.result.0.now ++ c.fwht.new.data)) c.push_logs.new.table.items)
     c.push_logs.new.table.len (vec_len c.args.table.now) w (c.split_at_mut-last.ensures.front_len ∙ c.len-from.ensures)
     (omega (arith, c.fwht.auto.data)) (omega (arith, c.in_ok-push_logs.ensures.length)))
-    ∙ walsh-near points (λ y. get_or last y 0) (λ z. 65536 / points * log_or_zero z) (λ w. get_or c.fwht.new.data w 0)
+    ∙ walsh-near c.args.points (λ y. get_or last y 0) (λ z. 65536 / c.args.points * log_or_zero z) (λ w. get_or c.fwht.new.data w 0)
     (λ y hy. ap (λ v. v % 65535) (read y) ∙ c.in_ok-push_logs.ensures.entries y hy)
-    (walsh-at (length last) points (λ y. get_or last y 0) (λ w. get_or c.fwht.new.data w 0) size c.fwht.ensures.values) w hw
+    (walsh-at (length last) c.args.points (λ y. get_or last y 0) (λ w. get_or c.fwht.new.data w 0) size c.fwht.ensures.values) w hw

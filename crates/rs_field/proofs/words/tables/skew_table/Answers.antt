@@ -22,14 +22,11 @@ read exps logs z h hz = elim (cases_eq z 0) [
 -- s_d(j - 2 ^ d) is 2u, for j = (2u + 1) * 2 ^ d
 subspace_word : (d u j : ℕ) → j ≡ (2 * u + 1) * 2 ^ d → j < 65536 → subspace d (j - 2 ^ d) ≡ 2 * u
 subspace_word d u j is hj =
-    let split : (2 * u + 1) * 2 ^ d ≡ 2 * u * 2 ^ d + 2 ^ d = add-mul (2 * u) 1 (2 ^ d) ∙ ap (λ v. 2 * u * 2 ^ d + v) (one-mul (2 ^ d)) in
-    let rest : j - 2 ^ d ≡ 2 * u * 2 ^ d = omega arith in
-    let word : 2 * u * 2 ^ d < 2 ^ 16 = omega arith in
     let few : d ≤ 16 = elim (cases_lt 16 d) [
       | inl more ↦ let le : 16 ≤ d = omega arith in let big : 2 ^ 16 ≤ 2 ^ d = pow_mono le in absurd (omega arith)
       | inr few ↦ few
     ] in
-    ap (subspace d) rest ∙ subspace_shift d (2 * u * 2 ^ d) few word ∙ shl-shr (2 * u) d
+    ap (subspace d) (omega arith) ∙ subspace_shift d (2 * u * 2 ^ d) few (omega arith) ∙ shl-shr (2 * u) d
 
 pushed : (items exps logs : List ℕ) (i x word : ℕ) → IsExpLog exps logs → length items ≡ i → i < 65535 → word < 65536
     → ((d u j : ℕ) → j ≡ (2 * u + 1) * 2 ^ d → j < i + 1 → get_or items (j - 1) 0 ≡ log_or_mark (subspace d (j - 2 ^ d)))
@@ -39,9 +36,8 @@ pushed : (items exps logs : List ℕ) (i x word : ℕ) → IsExpLog exps logs �
 pushed items exps logs i x word h size hi hw sofar odd at d u j is hj =
     elim (cases_eq j (i + 1)) [
       | inl e ↦
-          let twice : word ≡ 2 * u = odd d u (sym e ∙ is) in
           get_or_push items x 0 (j - 1) (omega arith) ∙ at ∙ any_default logs word x 0 (omega (arith, h.log_length)) ∙ read exps logs word h hw
-          ∙ ap log_or_mark (twice ∙ sym (subspace_word d u j is (omega arith)))
+          ∙ ap log_or_mark ((odd d u (sym e ∙ is)) ∙ sym (subspace_word d u j is (omega arith)))
       | inr apart ↦
           let positive : 0 < (2 * u + 1) * 2 ^ d = product_positive u d in
           get_or_append_left items (x ∷ []) 0 (j - 1) (omega arith) ∙ sofar d u j is (omega arith)

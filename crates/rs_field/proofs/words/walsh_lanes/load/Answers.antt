@@ -4,5 +4,4 @@ use Rattle.rs_field.proofs.words.walsh_lanes.load.Goals as goal
 
 pub returns : goal.returns
 returns c i h =
-    let z : 0 + i ≡ i = omega arith in
-    get_or-chunk 0 16 c.args.data.now i 0 h ∙ ap (λ k. get_or c.args.data.now k 0) z
+    get_or-chunk 0 16 c.args.data.now i 0 h ∙ ap (λ k. get_or c.args.data.now k 0) (omega arith)

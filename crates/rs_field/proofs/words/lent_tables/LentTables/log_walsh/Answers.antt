@@ -4,6 +4,3 @@ use Rattle.rs_field.proofs.words.lent_tables.LentTables.log_walsh.Goals as goal
 
 pub log_walsh_below-requires-clause-power : goal.log_walsh_below-requires-clause-power
 log_walsh_below-requires-clause-power c = (16, refl)
-
-pub returns : goal.returns
-returns c = all-from_below c.log_walsh_below.result.now c.log_walsh_below.ensures
