@@ -4,7 +4,7 @@ use Rattle.rs_field.specs.code.Counts.{default_rate}
 use Rattle.rs_field.specs.code.Encoder.{IsEncoder}
 use Rattle.rs_field.specs.code.Decoder.{IsDecoder}
 use Rattle.rs_field.specs.code.Placement.{encoder_rows, decoder_rows}
-use Rattle.rs_rate.specs.DecoderView.{HasRoom}
+use Rattle.rs_rate.specs.DecoderRoom.{HasRoom}
 use Rattle.rs_rate.specs.ObjectLaws.{is_encoder, is_decoder, has_own_room, has_own_decoder_room}
 use Rattle.rs_rate.specs.ShardRows.{chunk_count}
 use Rattle.reed_solomon_simd.specs.declared.encoder.ReedSolomonEncoder.{ReedSolomonEncoder}
@@ -13,15 +13,15 @@ use Rattle.reed_solomon_simd.specs.EncoderObject.{state_of as encoder_state, roo
 use Rattle.reed_solomon_simd.specs.DecoderObject.{state_of as decoder_state, room_of as decoder_room}
 
 pub valid-encoder : (object : ReedSolomonEncoder) → IsEncoder default_rate (encoder_state object)
-valid-encoder object = is_encoder default_rate object.encoder.rows object.encoder.valid object.encoder.shaped
+valid-encoder object = is_encoder default_rate object.encoder.rows object.encoder.set_up
 
 pub own_room-encoder : (object : ReedSolomonEncoder) → let c = (encoder_state object).configuration in
     chunk_count (encoder_rows default_rate c.original_count c.recovery_count) c.shard_bytes ≤ encoder_room object
-own_room-encoder object = has_own_room default_rate object.encoder.rows object.encoder.shaped
+own_room-encoder object = has_own_room default_rate object.encoder.rows object.encoder.set_up
 
 pub valid-decoder : (object : ReedSolomonDecoder) → IsDecoder default_rate (decoder_state object)
-valid-decoder object = is_decoder default_rate object.decoder.rows object.decoder.valid object.decoder.shaped
+valid-decoder object = is_decoder default_rate object.decoder.rows object.decoder.set_up
 
 pub own_room-decoder : (object : ReedSolomonDecoder) → let c = (decoder_state object).configuration in
     HasRoom (decoder_room object) (decoder_rows default_rate c.original_count c.recovery_count) c.shard_bytes
-own_room-decoder object = has_own_decoder_room default_rate object.decoder.rows object.decoder.shaped
+own_room-decoder object = has_own_decoder_room default_rate object.decoder.rows object.decoder.set_up

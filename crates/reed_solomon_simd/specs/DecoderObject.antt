@@ -2,7 +2,8 @@
 use Rattle.rs_field.specs.code.Counts.{default_rate}
 use Rattle.rs_field.specs.code.Decoder.{DecoderState}
 use Rattle.rs_engines.specs.declared.engine_default.DefaultEngine.{DefaultEngine}
-use Rattle.rs_rate.specs.DecoderView.{DecoderRoom, decoder_state, memory_room}
+use Rattle.rs_rate.specs.DecoderRoom.{DecoderRoom, memory_room}
+use Rattle.rs_rate.specs.DecoderView.{decoder_state}
 use Rattle.reed_solomon_simd.specs.declared.decoder.ReedSolomonDecoder.{ReedSolomonDecoder}
 
 -- its configuration, and the shards given so far

@@ -24,6 +24,7 @@ pub use Rattle.rs_field.specs.code.Decoder
 pub use Rattle.rs_engines.specs.Kind
 pub use Rattle.rs_rate.specs.ShardRows
 pub use Rattle.rs_rate.specs.EncoderView
+pub use Rattle.rs_rate.specs.DecoderRoom
 pub use Rattle.rs_rate.specs.DecoderView
 pub use Rattle.rs_rate.specs.ResultView
 pub use Rattle.rs_rate.specs.Loan

@@ -8,7 +8,7 @@ ghost use Rattle.rs_field.specs.code.Decoder.{fresh_decoder, with_original, with
 ghost use Rattle.rs_field.specs.code.OneCall.{default_of};
 ghost use Rattle.rs_field.specs.code.Outcome.{answer_of, state_after};
 ghost use Rattle.rs_field.specs.code.Placement.{decoder_rows};
-ghost use Rattle.rs_rate.specs.DecoderView.{HasRoom, Grows};
+ghost use Rattle.rs_rate.specs.DecoderRoom.{HasRoom, Grows};
 ghost use Rattle.rs_rate.specs.Loan.{EndsWith};
 ghost use Rattle.rs_rate.specs.ResultView.{answered_originals};
 

@@ -9,7 +9,7 @@ ghost use Rattle.rs_field.specs.rows.MarkedRows.{is_marked, OthersAreZero};
 ghost use Rattle.reed_solomon_simd.specs.Rows.{chunk, symbol};
 ghost use Rattle.reed_solomon_simd.specs.View.{word, Fits};
 ghost use Rattle.reed_solomon_simd.specs.EncoderView.{work_room as encoder_room};
-ghost use Rattle.reed_solomon_simd.specs.DecoderView.{work_room as decoder_room};
+ghost use Rattle.reed_solomon_simd.specs.DecoderRoom.{work_room as decoder_room};
 ghost use Rattle.rs_field.specs.words.StepBounds.{LocatorCountsBelow};
 ghost use Rattle.rs_field.specs.words.Products.{IsMul16, IsMul128};
 ghost use Rattle.reed_solomon_simd.specs.Tables.{IsExpLog, IsLogWalsh, IsSkew};

@@ -1,5 +1,5 @@
 -- What a coder is set up for: its rate is the low or the high rate, whose rows and frame have room for its shards.
-use Rattle.std.proofs.Common.{◌≡◌, ◌≢◌, ℕ, ◌+◌, ◌%◌, ◌^◌, ◌<◌, ◌≤◌, Bool, true, false, refl, sym, ap, ◌∙◌, subst, arith, pow_mono}
+use Rattle.std.proofs.Common.{◌≡◌, ℕ, ◌+◌, ◌%◌, ◌^◌, ◌<◌, ◌≤◌, Bool, true, false, refl, sym, ap, ◌∙◌, subst, arith, pow_mono}
 use Rattle.std.specs.Prelude.{cond, Result, Ok, Err, OnOk, OnErr}
 use Rattle.std.proofs.lemmas.Nat.{pow_pos}
 use Rattle.rs_field.specs.declared.code.error.Error.{Error}
@@ -13,13 +13,16 @@ use Rattle.rs_rate.specs.declared.rate.decoder_work.Frame.{Frame}
 use Rattle.rs_rate.specs.declared.rate.encoder_work.EncoderShape.{EncoderShape}
 use Rattle.rs_rate.specs.declared.rate.decoder_work.DecoderShape.{DecoderShape}
 use Rattle.rs_rate.specs.Configured.{configured, low_or_high, frame_of, shape_of_encoder, shape_of_decoder, IsConfigured}
-use Rattle.rs_rate.specs.DecoderView.{configuration_of as decoder_configuration, decoder_shape, shape_chunks as decoder_shape_chunks}
-use Rattle.rs_rate.specs.EncoderView.{configuration_of, encoder_shape, shape_chunks}
+use Rattle.rs_rate.specs.DecoderView.{configuration_of as decoder_configuration, decoder_shape}
+use Rattle.rs_rate.specs.EncoderView.{configuration_of, encoder_shape}
 use Rattle.rs_rate.specs.ShardRows.{chunk_count}
-use Rattle.rs_rate.specs.Shapes.{EncoderCanBeLaid, DecoderCanBeLaid}
+use Rattle.rs_rate.specs.SetUp.{AreSetUp, IsEncoderShape, IsDecoderShape, IsEncoderOf, IsDecoderOf}
+use Rattle.rs_rate.specs.Shapes.{EncoderCanBeLaid, DecoderCanBeLaid, HasPlaces}
 use Rattle.rs_rate.proofs.DecoderRows.{low_frame-is}
 use Rattle.rs_rate.proofs.HighCounts.{high_rows, high_small, low_rows-fit, high_rows-fit}
 use Rattle.rs_rate.proofs.PowerLemmas.{low_small, rounded_up-low}
+use Rattle.rs_rate.proofs.ShardRowsLemmas.{chunk_count-size}
+use Rattle.rs_rate.proofs.StateLemmas.{started-by}
 use Rattle.rs_rate.proofs.RateLemmas.{chosen_low, chosen_high, low_is, high_is, low_block, high_block, rows_alike, block_alike, frame_alike, high_frame-is}
 
 -- the low or high rate that a rate is at counts chooses as it does, and supports them
@@ -106,35 +109,37 @@ decoder_shape-is rate k r size c shape is laid =
     laid ∙ ap shape_of_decoder is ∙ ap (λ (f : Frame). let own : DecoderShape = record { configuration = configured rate k r size; frame = f } in own)
     (frame_alike (low_or_high (is_low rate k r)) rate k r (chooses_alike rate k r))
 
--- so it has so many rows and chunks
-pub encoder-chunks : (rate : Rate) (k r size : ℕ) (shape : EncoderShape) → shape ≡ encoder_shape rate k r size → shape_chunks shape ≡ chunk_count (encoder_rows rate k r) size
-unfolding encoder_shape
-encoder-chunks rate k r size shape is = ap shape_chunks is
+-- a valid configuration's rows are set up
+are_set_up : (rate : Rate) (k r size wanted row_count shard_bytes : ℕ) → validated (configuration rate k r size) ≡ Ok tt → row_count ≡ wanted → shard_bytes ≡ size
+    → AreSetUp rate k r size wanted row_count shard_bytes
+are_set_up rate k r size wanted row_count shard_bytes valid count bytes =
+    record { valid = valid; count = count; bytes = bytes; answer = started-by wanted (configuration rate k r size) (chunk_count wanted size) valid refl }
 
-pub decoder-chunks : (rate : Rate) (k r size : ℕ) (shape : DecoderShape) → shape ≡ decoder_shape rate k r size
-    → (shape.frame.row_count ≡ decoder_rows rate k r) × (decoder_shape_chunks shape ≡ chunk_count (decoder_rows rate k r) size)
+pub is_encoder_shape : (rate : Rate) (k r size : ℕ) (shape : EncoderShape) → validated (configuration rate k r size) ≡ Ok tt → shape ≡ encoder_shape rate k r size
+    → EncoderCanBeLaid shape → IsEncoderShape rate k r size shape
+unfolding encoder_shape
+is_encoder_shape rate k r size shape valid is laid =
+    let rows = are_set_up rate k r size (encoder_rows rate k r) _ _ valid (ap (λ s. s.row_count) is) (ap (λ s. s.configuration.shard_bytes) is) in
+    record { rows = rows; shaped = is; own = ap (configuration_of rate) is; laid = laid }
+
+pub is_decoder_shape : (rate : Rate) (k r size : ℕ) (shape : DecoderShape) → validated (configuration rate k r size) ≡ Ok tt → shape ≡ decoder_shape rate k r size
+    → DecoderCanBeLaid shape → IsDecoderShape rate k r size shape
 unfolding frame_of
-decoder-chunks rate k r size shape is = (ap (λ s. s.frame.row_count) is, ap decoder_shape_chunks is)
+is_decoder_shape rate k r size shape valid is laid =
+    let rows = are_set_up rate k r size (decoder_rows rate k r) _ _ valid (ap (λ s. s.frame.row_count) is) (ap (λ s. s.configuration.shard_bytes) is) in
+    record { rows = rows; shaped = is; own = ap (decoder_configuration rate) is; laid = laid }
 
--- such a shape is valid, and what the rate tells of its own numbers
-abbrev pub EncoderIsOf : Rate → EncoderShape → Type 0
-EncoderIsOf rate shape =
-    (validated (configuration_of rate shape) ≡ Ok tt)
-    × (shape ≡ encoder_shape rate shape.configuration.original_count shape.configuration.recovery_count shape.configuration.shard_bytes)
-
-abbrev pub DecoderIsOf : Rate → DecoderShape → Type 0
-DecoderIsOf rate shape =
-    (validated (decoder_configuration rate shape) ≡ Ok tt)
-    × (shape ≡ decoder_shape rate shape.configuration.original_count shape.configuration.recovery_count shape.configuration.shard_bytes)
-
-pub encoder_is_of : (rate : Rate) (k r size : ℕ) (shape : EncoderShape) → validated (configuration rate k r size) ≡ Ok tt → shape ≡ encoder_shape rate k r size
-    → EncoderIsOf rate shape
+-- such a shape is one at its own numbers
+pub encoder_of : (rate : Rate) (k r size : ℕ) (shape own : EncoderShape) → IsEncoderShape rate k r size shape → own ≡ shape → IsEncoderOf rate own
 unfolding encoder_shape
-encoder_is_of rate k r size shape valid is = rw is (valid, refl)
+encoder_of rate k r size shape own is same = rw (same, is.shaped) (subst (IsEncoderShape rate k r size) is.shaped is)
 
-pub decoder_is_of : (rate : Rate) (k r size : ℕ) (shape : DecoderShape) → validated (configuration rate k r size) ≡ Ok tt → shape ≡ decoder_shape rate k r size
-    → DecoderIsOf rate shape
-decoder_is_of rate k r size shape valid is = rw is (valid, refl)
+pub decoder_of : (rate : Rate) (k r size : ℕ) (shape own : DecoderShape) → IsDecoderShape rate k r size shape → own ≡ shape → IsDecoderOf rate own
+decoder_of rate k r size shape own is same = rw (same, is.shaped) (subst (IsDecoderShape rate k r size) is.shaped is)
+
+-- as many rows of no larger a size have no more chunks
+pub chunks-within : (wanted rows size own : ℕ) → wanted ≡ rows → size ≤ own → chunk_count wanted size ≤ chunk_count rows own
+chunks-within wanted rows size own same less = rw same (chunk_count-size rows size own less)
 
 -- the rate that it was set up for chooses as the low or the high rate that it tells
 pub encoder-alike : (rate : Rate) (k r size : ℕ) (shape : EncoderShape) → shape ≡ encoder_shape rate k r size → is_low (low_or_high shape.configuration.is_low) k r ≡ is_low rate k r
@@ -161,14 +166,7 @@ encoder-laid c is =
     by_choice true is = let rows = low_rows-fit k r is in (omega (arith, rows.block, rows.some), rows.enough)
     by_choice false is = let rows = high_rows-fit k r is in (rows.enough, omega (arith, rows.block, rows.some))
 
--- a frame has a power of two of rows, with originals and recovery shards among them, no two in one row
-record HasPlaces (k r : ℕ) (f : Frame) : Type 0 where
-  power : next_power f.row_count ≡ f.row_count
-  few : f.row_count ≤ 65536
-  originals : f.originals_from + k ≤ f.row_count
-  recovery : f.recovery_from + r ≤ f.row_count
-  apart : (i j : ℕ) → i < k → j < r → f.originals_from + i ≢ f.recovery_from + j
-
+-- the next power of two of so few points is a power of two of its own
 rows-known : (n : ℕ) → n ≤ 65536 → (next_power (next_power n) ≡ next_power n) × (next_power n ≤ 65536) × (n ≤ next_power n)
 rows-known n small =
     let known = next_power-small n small in
@@ -194,8 +192,7 @@ high-places k r is =
 
 pub decoder-laid : (c : Configuration) → IsConfigured c → DecoderCanBeLaid (shape_of_decoder c)
 decoder-laid c is =
-    let places = by_choice c.is_low is.supported in
-    record { configured = is; power = places.power; few = places.few; original_rows = places.originals; recovery_rows = places.recovery; apart = places.apart }
+    record { configured = is; places = by_choice c.is_low is.supported }
   where
     by_choice : (b : Bool) → supports (low_or_high b) c.original_count c.recovery_count ≡ true → HasPlaces c.original_count c.recovery_count (frame_of (low_or_high b) c.original_count c.recovery_count)
     by_choice true is = low-places c.original_count c.recovery_count is

@@ -17,12 +17,12 @@ use Rattle.rs_rate.specs.DecoderView.{configuration_of, state_over}
 use Rattle.rs_rate.specs.declared.rate.marks.Marks.{Marks}
 use Rattle.rs_rate.specs.declared.rate.marks.MarkedShards.{MarkedShards}
 use Rattle.rs_rate.specs.declared.rate.marks.MarkedShards.TheVariants.{Given, Restored}
-use Rattle.rs_rate.specs.Marks.{if_given, given_marks, given_row_count, given_shards, restored_shards}
+use Rattle.rs_rate.specs.Marks.{if_given, given_marks, given_row_count, given_shards, restored_shards, HoldGiven}
 use Rattle.rs_rate.specs.ShardRows.{shard_laid_out, shard_in_order}
 
 -- the rows of a shape that can be laid are a power of two
 pub rows_power : (s : DecoderShape) → DecoderCanBeLaid s → (d : ℕ) × (s.frame.row_count ≡ 2 ^ d)
-rows_power s laid = own_is_power s.frame.row_count laid.power laid.few
+rows_power s laid = own_is_power s.frame.row_count laid.places.power laid.places.few
 
 pub none_told : (marks : Marks) → marks.shards ≡ Restored → (p : ℕ) → is_marked (given_marks marks) p ≡ false
 none_told marks told p = ap (λ t. is_marked (if_given t marks.rows.items) p) told
@@ -124,6 +124,16 @@ given_row_count-nothing marks from zero empty = given_row_count-zero marks from
 given_row_count-nothing marks from (suc n) empty =
     let rest = given_row_count-nothing marks from n (λ i h. empty i (omega arith)) in
     given_row_count-suc marks from n ∙ ap (λ b. given_row_count marks from n + cond b 1 0) (empty n (omega arith)) ∙ (let none : given_row_count marks from n + 0 ≡ 0 = omega arith in none)
+
+-- rows of which none is marked hold nothing given
+pub hold_nothing : (s : DecoderShape) (marks : List Bool) (chunks : Chunks) → ((p : ℕ) → is_marked marks p ≡ false) → HoldGiven s 0 0 marks chunks
+hold_nothing s marks chunks empty =
+    record {
+      originals_counted = sym (given_row_count-nothing marks s.frame.originals_from s.configuration.original_count (λ i inside. empty (s.frame.originals_from + i)));
+      recovery_counted = sym (given_row_count-nothing marks s.frame.recovery_from s.configuration.recovery_count (λ i inside. empty (s.frame.recovery_from + i)));
+      placed = λ p not_own not_coded. empty p;
+      shards = λ p given. absurd (let no : true ≡ false = sym given ∙ empty p in let never : ⊥ = cc in never);
+    }
 
 -- marks by which some shard is given tell of given shards
 pub given_if_some : (marks : Marks) (from n from_too m : ℕ) → 0 < given_row_count (given_marks marks) from n + given_row_count (given_marks marks) from_too m → marks.shards ≡ Given

@@ -15,11 +15,6 @@ pub low_frame-is : (k r : ℕ) → frame_of low_rate k r
 unfolding frame_of placement low_placement is_low decoder_rows
 low_frame-is k r = refl
 
--- a frame has the rows of a decoder
-pub frame-rows : (rate : Rate) (k r : ℕ) → (frame_of rate k r).row_count ≡ decoder_rows rate k r
-unfolding frame_of
-frame-rows rate k r = refl
-
 -- what is left and what is answered, by whether shards enough are given
 abbrev LeftBy : DecoderState → Result (Unit {0}) Error → DecoderState
 LeftBy s enough = cond (is_ok enough) (fresh_decoder s.configuration) s

@@ -111,7 +111,7 @@ count-most (suc n) given = let more = count_below-suc n given in omega (arith, c
 pub restored-few : (rows : DecoderRows) → length (restored_from rows 0) < 2 ^ 64
 restored-few rows =
     let listed_all = ap length (restored_from-all rows) ∙ length-listed rows.shape.configuration.original_count (restored_of rows) in
-    omega (arith, listed_all, count-most rows.shape.configuration.original_count (restored_of rows), rows.laid.few, rows.laid.original_rows)
+    omega (arith, listed_all, count-most rows.shape.configuration.original_count (restored_of rows), rows.laid.places.few, rows.laid.places.originals)
 
 -- nor recovery shards made
 pub recovery-few : (rows : EncoderRows) → length (lent_of rows) < 2 ^ 64

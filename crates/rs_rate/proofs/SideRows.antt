@@ -24,8 +24,8 @@ other Recovery = Original
 
 -- a side's rows are among the rows
 pub side-within : (w : DecoderRows) (side : Side) → side_from side w.shape + side_count side w.shape ≤ w.shape.frame.row_count
-side-within w Original = w.laid.original_rows
-side-within w Recovery = w.laid.recovery_rows
+side-within w Original = w.laid.places.originals
+side-within w Recovery = w.laid.places.recovery
 
 -- an index of a side tells whether its row is marked
 given-at : (rate : Rate) (w : DecoderRows) (side : Side) (index row : ℕ) (given : Bool) → row ≡ side_row side w.shape index → index < side_count side w.shape
@@ -85,8 +85,8 @@ own-apart from index i row at apart = omega (arith, at, apart)
 
 other-apart : (w : DecoderRows) (side : Side) (index i row : ℕ) → row ≡ side_row side w.shape index → index < side_count side w.shape → i < side_count (other side) w.shape
     → side_from (other side) w.shape + i ≢ row
-other-apart w Original index i row at inside within same = w.laid.apart index i inside within (sym (same ∙ at))
-other-apart w Recovery index i row at inside within same = w.laid.apart i index within inside (same ∙ at)
+other-apart w Original index i row at inside within same = w.laid.places.apart index i inside within (sym (same ∙ at))
+other-apart w Recovery index i row at inside within same = w.laid.places.apart i index within inside (same ∙ at)
 
 -- the side has one shard more
 own-entered : (w : DecoderRows) (side : Side) (index row : ℕ) (shard : Shard) (marks : List Bool) (chunks : Chunks) → RowEntered w side index row shard marks chunks
@@ -136,11 +136,11 @@ pub add-counted : (w : DecoderRows) (side : Side) (index row : ℕ) (shard : Sha
 add-counted w Original index row shard marks chunks e =
     let more = (own-entered w Original index row shard marks chunks e).1 in
     let same = (other-kept w Original index row shard marks chunks e).1 in
-    (omega (arith, more, w.originals_counted), omega (arith, same, w.recovery_counted))
+    (omega (arith, more, w.given.originals_counted), omega (arith, same, w.given.recovery_counted))
 add-counted w Recovery index row shard marks chunks e =
     let more = (own-entered w Recovery index row shard marks chunks e).1 in
     let same = (other-kept w Recovery index row shard marks chunks e).1 in
-    (omega (arith, same, w.originals_counted), omega (arith, more, w.recovery_counted))
+    (omega (arith, same, w.given.originals_counted), omega (arith, more, w.given.recovery_counted))
 
 -- a row outside both sides is none of theirs
 pub outside-apart : (w : DecoderRows) (side : Side) (index row p : ℕ) → row ≡ side_row side w.shape index → index < side_count side w.shape

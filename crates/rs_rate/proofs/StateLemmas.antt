@@ -1,6 +1,6 @@
 -- Steps of an encoder's state, and what setting up answers.
 use Rattle.std.proofs.Common.{◌≡◌, ℕ, ◌<◌, ◌≤◌, ◌*◌, ◌^◌, ◌%◌, ◌++◌, ◌∷◌, [], length, refl, sym, ap, ap₂, ◌∙◌, subst, Bool, true, false, cond}
-use Rattle.std.specs.Prelude.{nat_le, Result, Ok, Err, OnOk, OnErr, not, ◌||◌, ◌==◌, Option, Some, None, IfSome, List, nat_lt, is_ok, IsOkAnd, MatchResult}
+use Rattle.std.specs.Prelude.{nat_le, Result, Ok, Err, OnOk, OnErr, not, ◌||◌, ◌==◌, List, nat_lt, is_ok, IsOkAnd, MatchResult}
 use Rattle.std.proofs.lemmas.Bool.{lt-leb, eq-eqb, ltb-false}
 use Rattle.rs_field.specs.declared.code.error.Error.{Error}
 use Rattle.rs_field.specs.declared.code.error.Error.TheVariants.{OutOfMemory, UnsupportedShardCount, InvalidShardSize, TooFewOriginalShards}
@@ -102,11 +102,6 @@ pub encode_answers-made : (s : EncoderState) (recovery : List Shard) → Ok tt �
 encode_answers-made s recovery made right =
     subst (λ (m : Result (List Shard) Error). AnswersOf s m (Ok recovery))
     (sym (message-whole s made).1) right
-
--- what follows from a fact of a value that may be there
-pub if_some-map : {S : Type 0} (o : Option S) (P Q : S → Type 0) → ((x : S) → P x → Q x) → IfSome o P → IfSome o Q
-if_some-map None P Q follows h = tt
-if_some-map (Some x) P Q follows h = follows x h
 
 -- an encoder over rows of a shape with nothing given is a fresh one
 pub encoder_state-fresh : (rate : Rate) (rows : EncoderRows) (shape : EncoderShape) → rows.shape ≡ shape → rows.originals_given ≡ 0

@@ -1,6 +1,5 @@
 -- What a decoder's rows and working space stand for.
-use Rattle.std.specs.Prelude.{◌-◌, ◌≤◌, ℕ, Bool, List, Option, Some, None}
-use Rattle.std.specs.Vec.{vec_capacity}
+use Rattle.std.specs.Prelude.{◌-◌, ℕ, Bool, List}
 use Rattle.rs_field.specs.code.Column.{Shard}
 use Rattle.rs_field.specs.code.Counts.{Rate}
 use Rattle.rs_field.specs.code.Configuration.{Configuration, configuration}
@@ -9,10 +8,7 @@ use Rattle.rs_field.specs.code.Decoder.{DecoderState}
 use Rattle.rs_field.specs.rows.Rows.{Chunks}
 use Rattle.rs_rate.specs.declared.rate.decoder_work.DecoderShape.{DecoderShape}
 use Rattle.rs_rate.specs.declared.rate.decoder_work.DecoderRows.{DecoderRows}
-use Rattle.rs_rate.specs.declared.rate.decoder_work.DecoderMemory.{DecoderMemory}
-use Rattle.rs_rate.specs.declared.rate.decoder_work.DecoderWork.{DecoderWork}
 use Rattle.rs_rate.specs.Configured.{configured, frame_of}
-use Rattle.rs_rate.specs.ShardRows.{chunk_count}
 use Rattle.rs_rate.specs.Marks.{given_marks, restored_marks, given_shards, restored_shards}
 
 -- the configuration of a shape, at this rate
@@ -47,39 +43,3 @@ restored_from rows index = listed_from index (rows.shape.configuration.original_
 -- what a decoder of this rate is set up for at these counts and this size
 abbrev pub decoder_shape : Rate → ℕ → ℕ → ℕ → DecoderShape
 decoder_shape rate k r size = record { configuration = configured rate k r size; frame = frame_of rate k r }
-
--- the chunks of a shape's rows
-abbrev pub shape_chunks : DecoderShape → ℕ
-shape_chunks shape = chunk_count shape.frame.row_count shape.configuration.shard_bytes
-
--- the room that a working space has: for chunks, for the marks of rows, and for the locator's entries at the rows
-pub record DecoderRoom : Type 0 where
-  pub chunks : ℕ
-  pub rows : ℕ
-  pub entries : ℕ
-
--- the room of a decoder's memory
-abbrev pub memory_room : DecoderMemory → DecoderRoom
-memory_room memory =
-    record { chunks = vec_capacity memory.chunks; rows = vec_capacity memory.marks.rows; entries = vec_capacity memory.erasures }
-
--- the room of memory that is handed on, if there is any
-abbrev pub room_if : Option DecoderMemory → DecoderRoom
-room_if None = record { chunks = 0; rows = 0; entries = 0 }
-room_if (Some memory) = memory_room memory
-
--- the room of what is handed from one decoder to the next
-abbrev pub work_room : DecoderWork → DecoderRoom
-work_room work = room_if work.memory
-
--- there is room for so many rows of shards of this size, so that no memory is taken
-pub record HasRoom (room : DecoderRoom) (count size : ℕ) : Type 0 where
-  pub chunks : chunk_count count size ≤ room.chunks
-  pub rows : count ≤ room.rows
-  pub entries : count ≤ room.entries
-
--- the new room is no less than the old
-pub record Grows (old new : DecoderRoom) : Type 0 where
-  pub chunks : old.chunks ≤ new.chunks
-  pub rows : old.rows ≤ new.rows
-  pub entries : old.entries ≤ new.entries

@@ -9,5 +9,7 @@ pub mod Coding
 pub mod ObjectLaws
 pub mod Marks
 pub mod Sides
+pub mod DecoderRoom
 pub mod DecoderView
+pub mod SetUp
 pub mod Decoding

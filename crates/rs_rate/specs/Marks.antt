@@ -1,9 +1,11 @@
 -- The shards that the marks of a decoder's rows tell of.
-use Rattle.std.specs.Prelude.{◌≡◌, ℕ, zero, suc, ◌+◌, ◌<◌, ◌≤◌, ◌⊎◌, nat_lt, nat_le, ◌&&◌, ◌||◌, if◌then◌else◌, Bool, false, not, List, [], Some, None, vec_len}
+use Rattle.std.specs.Prelude.{◌≡◌, ℕ, zero, suc, ◌+◌, ◌<◌, ◌≤◌, ◌⊎◌, nat_lt, nat_le, ◌&&◌, ◌||◌, if◌then◌else◌, Bool, true, false, not, List, [], Some, None, vec_len}
 use Rattle.std.specs.Vec.{vec_capacity}
+use Rattle.rs_field.specs.code.Column.{IsShard}
 use Rattle.rs_field.specs.code.Given.{Shards}
 use Rattle.rs_field.specs.rows.MarkedRows.{is_marked}
 use Rattle.rs_field.specs.rows.Rows.{Chunks}
+use Rattle.rs_rate.specs.declared.rate.decoder_work.DecoderShape.{DecoderShape}
 use Rattle.rs_rate.specs.declared.rate.marks.Marks.{Marks}
 use Rattle.rs_rate.specs.declared.rate.marks.MarkedShards.{MarkedShards}
 use Rattle.rs_rate.specs.declared.rate.marks.MarkedShards.TheVariants.{Given, Restored}
@@ -54,6 +56,13 @@ restored_shards marks chunks size from n i =
 abbrev pub ArePlaced : ℕ → ℕ → ℕ → ℕ → List Bool → Type 0
 ArePlaced originals_from k recovery_from r marks =
     (p : ℕ) → (p < originals_from) ⊎ (originals_from + k ≤ p) → (p < recovery_from) ⊎ (recovery_from + r ≤ p) → is_marked marks p ≡ false
+
+-- so many originals and recovery shards are given in their rows of a shape, each of its size, and no shard in another row
+pub record HoldGiven (shape : DecoderShape) (originals recovery : ℕ) (marks : List Bool) (chunks : Chunks) : Type 0 where
+  pub originals_counted : originals ≡ given_row_count marks shape.frame.originals_from shape.configuration.original_count
+  pub recovery_counted : recovery ≡ given_row_count marks shape.frame.recovery_from shape.configuration.recovery_count
+  pub placed : ArePlaced shape.frame.originals_from shape.configuration.original_count shape.frame.recovery_from shape.configuration.recovery_count marks
+  pub shards : (p : ℕ) → is_marked marks p ≡ true → IsShard shape.configuration.shard_bytes (shard_laid_out chunks shape.configuration.shard_bytes p)
 
 -- whether a row is erased: it is no known zero, and no given shard stands there
 abbrev pub erased : ℕ → ℕ → List Bool → ℕ → ℕ

@@ -1,11 +1,10 @@
 -- What the traits' laws say of the objects, by what their rows keep.
-use Rattle.std.specs.Prelude.{◌≡◌, ◌+◌, ◌*◌, ◌^◌, ◌<◌, ◌≤◌, ℕ, List, All, Bool, true, false, Some, None, is_some, unwrap_or, nat_lt, if◌then◌else◌, Ok, refl}
+use Rattle.std.specs.Prelude.{◌≡◌, ◌+◌, ◌*◌, ◌^◌, ◌<◌, ◌≤◌, ℕ, List, All, Bool, true, false, Some, None, is_some, unwrap_or, nat_lt, if◌then◌else◌, refl}
 use Rattle.std.proofs.Common.{sym, ap, subst, true≢false}
 use Rattle.std.proofs.lemmas.Bool.{le-ltb}
 use Rattle.std.specs.Vec.{vec_capacity}
 use Rattle.rs_field.specs.code.Column.{Shard, IsShard}
 use Rattle.rs_field.specs.code.Counts.{Rate}
-use Rattle.rs_field.specs.code.Configuration.{validated}
 use Rattle.rs_field.specs.code.Encoder.{IsEncoder}
 use Rattle.rs_field.specs.code.Decoder.{IsDecoder}
 use Rattle.rs_field.specs.code.Given.{AreWithin}
@@ -16,10 +15,11 @@ use Rattle.rs_field.specs.rows.MarkedRows.{is_marked}
 use Rattle.rs_field.proofs.of_rows.LayoutLemmas.{length-up_to, get-up_to}
 use Rattle.rs_rate.specs.declared.rate.encoder_work.EncoderRows.{EncoderRows}
 use Rattle.rs_rate.specs.declared.rate.decoder_work.DecoderRows.{DecoderRows}
-use Rattle.rs_rate.specs.EncoderView.{configuration_of, encoder_shape, encoder_state}
-use Rattle.rs_rate.specs.DecoderView.{configuration_of as decoder_configuration, decoder_shape, decoder_state, HasRoom, memory_room}
-use Rattle.rs_rate.specs.Configured.{frame_of}
+use Rattle.rs_rate.specs.EncoderView.{encoder_state}
+use Rattle.rs_rate.specs.DecoderRoom.{HasRoom, memory_room}
+use Rattle.rs_rate.specs.DecoderView.{decoder_state}
 use Rattle.rs_rate.specs.Marks.{given_marks, given_shards}
+use Rattle.rs_rate.specs.SetUp.{IsEncoderOf, IsDecoderOf}
 use Rattle.rs_rate.specs.ShardRows.{chunk_count, shard_laid_out}
 
 -- what holds of each of the first n values holds of their list
@@ -28,25 +28,21 @@ all-up_to P n f each i d h =
     let inside : i < n = subst (λ (m : ℕ). i < m) (length-up_to n f) h in subst P (sym (get-up_to n f i d inside)) (each i inside)
 
 -- an encoder over rows of a valid shape is in a state that an encoder can be in
-pub is_encoder : (rate : Rate) (rows : EncoderRows) → validated (configuration_of rate rows.shape) ≡ Ok tt
-    → rows.shape ≡ encoder_shape rate rows.shape.configuration.original_count rows.shape.configuration.recovery_count rows.shape.configuration.shard_bytes → IsEncoder rate (encoder_state rate rows)
-unfolding encoder_shape chunk_count
-is_encoder rate rows valid shaped =
+pub is_encoder : (rate : Rate) (rows : EncoderRows) → IsEncoderOf rate rows.shape → IsEncoder rate (encoder_state rate rows)
+unfolding chunk_count
+is_encoder rate rows is =
     record {
       of_rate = refl;
-      valid = valid;
-      fits = subst (λ (n : ℕ). chunk_count n rows.shape.configuration.shard_bytes * 64 < 2 ^ 64) (ap (λ s. s.row_count) shaped) rows.sized;
+      valid = is.rows.valid;
+      fits = subst (λ (n : ℕ). chunk_count n rows.shape.configuration.shard_bytes * 64 < 2 ^ 64) is.rows.count rows.sized;
       no_more = subst (λ (n : ℕ). n ≤ rows.shape.configuration.original_count) (sym (length-up_to rows.originals_given (shard_laid_out rows.chunks.items rows.shape.configuration.shard_bytes))) rows.no_more;
       sized = all-up_to (IsShard rows.shape.configuration.shard_bytes) rows.originals_given (shard_laid_out rows.chunks.items rows.shape.configuration.shard_bytes) rows.shards;
     }
 
 -- and has room for its own rows
-pub has_own_room : (rate : Rate) (rows : EncoderRows)
-    → rows.shape ≡ encoder_shape rate rows.shape.configuration.original_count rows.shape.configuration.recovery_count rows.shape.configuration.shard_bytes
+pub has_own_room : (rate : Rate) (rows : EncoderRows) → IsEncoderOf rate rows.shape
     → chunk_count (encoder_rows rate rows.shape.configuration.original_count rows.shape.configuration.recovery_count) rows.shape.configuration.shard_bytes ≤ vec_capacity rows.chunks
-unfolding encoder_shape
-has_own_room rate rows shaped =
-    subst (λ (n : ℕ). chunk_count n rows.shape.configuration.shard_bytes ≤ vec_capacity rows.chunks) (ap (λ s. s.row_count) shaped) rows.own_room
+has_own_room rate rows is = subst (λ (n : ℕ). chunk_count n rows.shape.configuration.shard_bytes ≤ vec_capacity rows.chunks) is.rows.count rows.own_room
 
 -- the shards that rows tell of by their marks are of the size
 given_within : (marks : List Bool) (chunks : Chunks) (size from n : ℕ)
@@ -65,27 +61,20 @@ given_within marks chunks size from n shards =
     by_tests i shard false given mark is = absurd (true≢false (sym (ap is_some is)))
 
 -- a decoder over rows of a valid shape is in a state that a decoder can be in
-pub is_decoder : (rate : Rate) (rows : DecoderRows) → validated (decoder_configuration rate rows.shape) ≡ Ok tt
-    → rows.shape ≡ decoder_shape rate rows.shape.configuration.original_count rows.shape.configuration.recovery_count rows.shape.configuration.shard_bytes → IsDecoder rate (decoder_state rate rows)
-unfolding frame_of chunk_count
-is_decoder rate rows valid shaped =
+pub is_decoder : (rate : Rate) (rows : DecoderRows) → IsDecoderOf rate rows.shape → IsDecoder rate (decoder_state rate rows)
+unfolding chunk_count
+is_decoder rate rows is =
     let s = rows.shape in
     record {
       of_rate = refl;
-      valid = valid;
-      fits = subst (λ (n : ℕ). chunk_count n rows.shape.configuration.shard_bytes * 64 < 2 ^ 64) (ap (λ t. t.frame.row_count) shaped) rows.sized;
-      originals_within = given_within (given_marks rows.memory.marks) rows.memory.chunks.items s.configuration.shard_bytes s.frame.originals_from s.configuration.original_count rows.shards;
-      recovery_within = given_within (given_marks rows.memory.marks) rows.memory.chunks.items s.configuration.shard_bytes s.frame.recovery_from s.configuration.recovery_count rows.shards;
+      valid = is.rows.valid;
+      fits = subst (λ (n : ℕ). chunk_count n s.configuration.shard_bytes * 64 < 2 ^ 64) is.rows.count rows.laid_out.sized;
+      originals_within = given_within (given_marks rows.memory.marks) rows.memory.chunks.items s.configuration.shard_bytes s.frame.originals_from s.configuration.original_count rows.given.shards;
+      recovery_within = given_within (given_marks rows.memory.marks) rows.memory.chunks.items s.configuration.shard_bytes s.frame.recovery_from s.configuration.recovery_count rows.given.shards;
     }
 
 -- and has room for its own rows
-pub has_own_decoder_room : (rate : Rate) (rows : DecoderRows)
-    → rows.shape ≡ decoder_shape rate rows.shape.configuration.original_count rows.shape.configuration.recovery_count rows.shape.configuration.shard_bytes
+pub has_own_decoder_room : (rate : Rate) (rows : DecoderRows) → IsDecoderOf rate rows.shape
     → HasRoom (memory_room rows.memory) (decoder_rows rate rows.shape.configuration.original_count rows.shape.configuration.recovery_count) rows.shape.configuration.shard_bytes
-unfolding frame_of
-has_own_decoder_room rate rows shaped =
-    record {
-      chunks = subst (λ (n : ℕ). chunk_count n rows.shape.configuration.shard_bytes ≤ vec_capacity rows.memory.chunks) (ap (λ s. s.frame.row_count) shaped) rows.own_chunks;
-      rows = subst (λ (n : ℕ). n ≤ vec_capacity rows.memory.marks.rows) (ap (λ s. s.frame.row_count) shaped) rows.own_marks;
-      entries = subst (λ (n : ℕ). n ≤ vec_capacity rows.memory.erasures) (ap (λ s. s.frame.row_count) shaped) rows.own_entries;
-    }
+has_own_decoder_room rate rows is =
+    subst (λ (n : ℕ). HasRoom (memory_room rows.memory) n rows.shape.configuration.shard_bytes) is.rows.count rows.laid_out.room

@@ -5,6 +5,7 @@ use Rattle.rs_field.specs.code.Placement.{encoder_rows}
 use Rattle.rs_rate.specs.Configured.{IsConfigured, low_or_high}
 use Rattle.rs_rate.specs.declared.rate.encoder_work.EncoderShape.{EncoderShape}
 use Rattle.rs_rate.specs.declared.rate.decoder_work.DecoderShape.{DecoderShape}
+use Rattle.rs_rate.specs.declared.rate.decoder_work.Frame.{Frame}
 
 -- a configuration, and its rows: enough for the originals and for the recovery shards
 pub record EncoderCanBeLaid (shape : EncoderShape) : Type 0 where
@@ -17,15 +18,15 @@ pub record EncoderCanBeLaid (shape : EncoderShape) : Type 0 where
 abbrev pub original_row : DecoderShape → ℕ → ℕ
 original_row shape index = shape.frame.originals_from + index
 
--- the row of a recovery shard
-abbrev pub recovery_row : DecoderShape → ℕ → ℕ
-recovery_row shape index = shape.frame.recovery_from + index
+-- a frame has a power of two of at most 65536 rows, with k originals and r recovery shards among them, no two in one row
+pub record HasPlaces (k r : ℕ) (frame : Frame) : Type 0 where
+  pub power : next_power frame.row_count ≡ frame.row_count
+  pub few : frame.row_count ≤ 65536
+  pub originals : frame.originals_from + k ≤ frame.row_count
+  pub recovery : frame.recovery_from + r ≤ frame.row_count
+  pub apart : (i j : ℕ) → i < k → j < r → frame.originals_from + i ≢ frame.recovery_from + j
 
--- a configuration, and a power of two of at most 65536 rows, with originals and recovery shards among them, no two in one row
+-- a configuration, and a frame with places for its shards
 pub record DecoderCanBeLaid (shape : DecoderShape) : Type 0 where
   pub configured : IsConfigured shape.configuration
-  pub power : next_power shape.frame.row_count ≡ shape.frame.row_count
-  pub few : shape.frame.row_count ≤ 65536
-  pub original_rows : original_row shape shape.configuration.original_count ≤ shape.frame.row_count
-  pub recovery_rows : recovery_row shape shape.configuration.recovery_count ≤ shape.frame.row_count
-  pub apart : (i j : ℕ) → i < shape.configuration.original_count → j < shape.configuration.recovery_count → original_row shape i ≢ recovery_row shape j
+  pub places : HasPlaces shape.configuration.original_count shape.configuration.recovery_count shape.frame

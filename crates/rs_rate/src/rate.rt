@@ -40,7 +40,7 @@ pub trait Rate<E: Engine>: Sized {
     ghost use Rattle.rs_field.specs.code.Decoder.{fresh_decoder};
     ghost use Rattle.rs_rate.specs.ShardRows.{chunk_count};
     ghost use Rattle.rs_rate.specs.EncoderView.{work_room};
-    ghost use Rattle.rs_rate.specs.DecoderView.{HasRoom, Grows, work_room as decoder_work_room};
+    ghost use Rattle.rs_rate.specs.DecoderRoom.{HasRoom, Grows, work_room as decoder_work_room};
 
     /// The encoder of the rate.
     type RateEncoder: RateEncoder<E, Rate = Self> + Drop;
@@ -262,7 +262,7 @@ pub trait RateDecoder<E: Engine>: Sized {
     ghost use Rattle.rs_field.specs.code.Configuration.{configuration, validated, started, UpToMemory, FitsWithin};
     ghost use Rattle.rs_field.specs.code.Bounds.{DecodeCountsAt};
     ghost use Rattle.rs_field.specs.code.Decoder.{DecoderState, IsDecoder, fresh_decoder, with_original, with_recovery, DecodeAnswers, after_decode};
-    ghost use Rattle.rs_rate.specs.DecoderView.{DecoderRoom, HasRoom, Grows, work_room};
+    ghost use Rattle.rs_rate.specs.DecoderRoom.{DecoderRoom, HasRoom, Grows, work_room};
     ghost use Rattle.rs_rate.specs.ResultView.{answered_originals};
     ghost use Rattle.rs_rate.specs.Loan.{EndsWith};
 

@@ -1,18 +1,19 @@
 //! The working space of a decoder: the memory that is handed on, and a decoder's rows in it.
 ghost use Rattle.std.specs.Prelude.{◌≡◌, ◌≢◌, ℕ, ◌+◌, ◌*◌, ◌%◌, ◌^◌, ◌<◌, ◌≤◌, true, false, length, vec_len};
-ghost use Rattle.std.specs.Prelude.{IfOk, IfErr, IfSome, OnOk, OnErr, IsOk, MatchOption, [], ◌∷◌, option_copied};
-ghost use Rattle.std.specs.Vec.{vec_capacity};
+ghost use Rattle.std.specs.Prelude.{Err, IfOk, IfSome, OnOk, OnErr, MatchOption, MatchResult, [], ◌∷◌, option_copied};
 ghost use Rattle.rs_field.specs.code.Column.{IsShard};
 ghost use Rattle.rs_field.specs.code.Counts.{Rate};
 ghost use Rattle.rs_field.specs.code.Outcome.{answer_of, state_after};
-ghost use Rattle.rs_field.specs.code.Configuration.{UpToMemory};
+ghost use Rattle.rs_field.specs.code.Configuration.{configuration, validated as validated_as, UpToMemory};
 ghost use Rattle.rs_field.specs.code.Decoder.{fresh_decoder, with_original, with_recovery, enough_given};
 ghost use Rattle.rs_field.specs.rows.MarkedRows.{is_marked};
 ghost use Rattle.rs_rate.specs.Shapes.{DecoderCanBeLaid, original_row};
 ghost use Rattle.rs_rate.specs.ShardRows.{asked, chunk_count as chunk_count_of, shard_laid_out};
-ghost use Rattle.rs_rate.specs.Marks.{given_marks, given_row_count, ArePlaced};
+ghost use Rattle.rs_rate.specs.Marks.{given_marks, HoldGiven};
+ghost use Rattle.rs_rate.specs.DecoderRoom.{IsLaidOut};
 ghost use Rattle.rs_rate.specs.Sides.{with_given};
 
+use crate::rate::code::Code;
 use crate::rate::configuration::Configuration;
 use crate::rate::marks::Marks;
 use crate::rate::memory::{make_room, set_chunks, set_length};
@@ -62,22 +63,31 @@ pub struct DecoderRows {
     pub(crate) recovery_given: usize,
     pub(crate) memory: DecoderMemory,
     pub ghost laid: { DecoderCanBeLaid shape },
-    pub ghost whole: { vec_len memory.chunks ≡ chunk_count_of shape.frame.row_count shape.configuration.shard_bytes },
-    pub ghost own_chunks: { chunk_count_of shape.frame.row_count shape.configuration.shard_bytes ≤ vec_capacity memory.chunks },
-    pub ghost sized: { chunk_count_of shape.frame.row_count shape.configuration.shard_bytes * 64 < 2 ^ 64 },
-    pub ghost marked: { vec_len memory.marks.rows ≡ shape.frame.row_count },
-    pub ghost own_marks: { shape.frame.row_count ≤ vec_capacity memory.marks.rows },
-    pub ghost entries: { vec_len memory.erasures ≡ shape.frame.row_count },
-    pub ghost own_entries: { shape.frame.row_count ≤ vec_capacity memory.erasures },
-    pub ghost originals_counted: { originals_given ≡ given_row_count (given_marks memory.marks) shape.frame.originals_from shape.configuration.original_count },
-    pub ghost recovery_counted: { recovery_given ≡ given_row_count (given_marks memory.marks) shape.frame.recovery_from shape.configuration.recovery_count },
-    pub ghost placed: { ArePlaced shape.frame.originals_from shape.configuration.original_count shape.frame.recovery_from shape.configuration.recovery_count
-        (given_marks memory.marks) },
-    pub ghost shards: { (p : ℕ) → is_marked (given_marks memory.marks) p ≡ true
-        → IsShard shape.configuration.shard_bytes (shard_laid_out memory.chunks.items shape.configuration.shard_bytes p) },
+    pub ghost laid_out: { IsLaidOut shape memory },
+    pub ghost given: { HoldGiven shape originals_given recovery_given (given_marks memory.marks) memory.chunks.items },
 }
 
 impl DecoderShape {
+    ghost use Rattle.rs_rate.specs.SetUp.{IsDecoderShape};
+
+    // What a decoder of a rate is set up for, or the first refusal.
+    #[inline(always)]
+    pub(crate) fn validated<C: Code>(
+        original_count: usize,
+        recovery_count: usize,
+        shard_bytes: usize,
+    ) -> Result<DecoderShape, Error>
+        ensures { MatchResult result (IsDecoderShape C.rate original_count recovery_count shard_bytes)
+            (λ e. validated_as (configuration C.rate original_count recovery_count shard_bytes) ≡ Err e) }
+    {
+        let configuration = Configuration::validated::<C>(
+            original_count,
+            recovery_count,
+            shard_bytes,
+        )?;
+        Ok(configuration.decoder_shape())
+    }
+
     // The row of an original.
     pub(crate) fn original_row(self, index: usize) -> usize
         requires { original_row self index < 2 ^ 64 }
@@ -88,7 +98,7 @@ impl DecoderShape {
 }
 
 impl DecoderWork {
-    ghost use Rattle.rs_rate.specs.DecoderView.{work_room};
+    ghost use Rattle.rs_rate.specs.DecoderRoom.{work_room};
 
     /// A working space that took no memory yet.
     pub fn new() -> DecoderWork
@@ -99,7 +109,7 @@ impl DecoderWork {
 }
 
 impl Default for DecoderWork {
-    ghost use Rattle.rs_rate.specs.DecoderView.{work_room};
+    ghost use Rattle.rs_rate.specs.DecoderRoom.{work_room};
 
     ghost is_default = { λ work. work_room work ≡ record { chunks = 0; rows = 0; entries = 0 } };
 
@@ -109,7 +119,7 @@ impl Default for DecoderWork {
 }
 
 impl DecoderMemory {
-    ghost use Rattle.rs_rate.specs.DecoderView.{HasRoom, Grows, memory_room, work_room};
+    ghost use Rattle.rs_rate.specs.DecoderRoom.{HasRoom, Grows, memory_room, shape_chunks, work_room, IsLaidOut};
 
     // The memory that is handed on, or one that took nothing yet.
     fn of(alloc: Global, work: Option<DecoderWork>) -> DecoderMemory
@@ -129,38 +139,27 @@ impl DecoderMemory {
         }
     }
 
-    // Makes room for so many chunks and rows; nothing else changes.
-    fn make_room(&mut self, chunks: usize, rows: usize) -> Result<(), Error>
-        ensures chunks { self.new.chunks.items ≡ self.old.chunks.items }
-        ensures rows { self.new.marks.rows.items ≡ self.old.marks.rows.items }
-        ensures shards { self.new.marks.shards ≡ self.old.marks.shards }
-        ensures entries { self.new.erasures.items ≡ self.old.erasures.items }
-        ensures room { OnOk result ((chunks ≤ vec_capacity self.new.chunks) × (rows ≤ vec_capacity self.new.marks.rows) × (rows ≤ vec_capacity self.new.erasures)) }
+    // Is laid out for a shape, with nothing given: every growth first. What the locator's entries are is open: each
+    // decode writes them. Inlined, so that the chunks of a new memory become zeros by a `memset`.
+    #[inline(always)]
+    fn lay_out(&mut self, shape: DecoderShape) -> Result<(), Error>
+        ensures laid_out { OnOk result (IsLaidOut shape self.new) }
+        ensures empty { OnOk result ((p : ℕ) → is_marked (given_marks self.new.marks) p ≡ false) }
+        ensures kept { OnErr result ((self.new.chunks.items ≡ self.old.chunks.items) × (self.new.marks.rows.items ≡ self.old.marks.rows.items)
+            × (self.new.marks.shards ≡ self.old.marks.shards) × (self.new.erasures.items ≡ self.old.erasures.items)) }
+        ensures answer { UpToMemory (asked (shape_chunks shape)) result }
         ensures grown { Grows (memory_room self.old) (memory_room self.new) }
-        ensures memory { IfErr result (λ e. e ≡ Error.OutOfMemory) }
-        ensures enough { chunks ≤ vec_capacity self.old.chunks → rows ≤ vec_capacity self.old.marks.rows → rows ≤ vec_capacity self.old.erasures → IsOk result }
+        ensures roomy { HasRoom (memory_room self.old) shape.frame.row_count shape.configuration.shard_bytes → result ≡ asked (shape_chunks shape) }
     {
+        let rows = shape.frame.row_count;
+        let chunks = chunk_count(rows, shape.configuration.shard_bytes)?;
         make_room(&mut self.chunks, chunks)?;
         self.marks.make_room(rows)?;
-        make_room(&mut self.erasures, rows)
-    }
-
-    // Holds so many chunks and so many rows that are marked as empty, for which there is room. What the locator's entries
-    // are is open: each decode writes them. Inlined, so that the chunks of a new memory become zeros by a `memset`.
-    #[inline(always)]
-    fn set_empty(&mut self, chunks: usize, rows: usize)
-        requires chunks { chunks ≤ vec_capacity self.old.chunks }
-        requires rows { rows ≤ vec_capacity self.old.marks.rows }
-        requires entries { rows ≤ vec_capacity self.old.erasures }
-        ensures chunks { vec_len self.new.chunks ≡ chunks }
-        ensures rows { vec_len self.new.marks.rows ≡ rows }
-        ensures entries { vec_len self.new.erasures ≡ rows }
-        ensures empty { (p : ℕ) → is_marked (given_marks self.new.marks) p ≡ false }
-        ensures grown { Grows (memory_room self.old) (memory_room self.new) }
-    {
+        make_room(&mut self.erasures, rows)?;
         set_chunks(&mut self.chunks, chunks);
         self.marks.set_empty(rows);
         set_length(&mut self.erasures, rows, 0);
+        Ok(())
     }
 
     // Lays a shard into row `row` of rows of its size, and marks the row.
@@ -184,7 +183,8 @@ impl DecoderMemory {
 }
 
 impl DecoderRows {
-    ghost use Rattle.rs_rate.specs.DecoderView.{HasRoom, Grows, configuration_of, decoder_state, memory_room, shape_chunks, work_room, restored_of, restored_from};
+    ghost use Rattle.rs_rate.specs.DecoderRoom.{HasRoom, Grows, memory_room, shape_chunks, work_room};
+    ghost use Rattle.rs_rate.specs.DecoderView.{configuration_of, decoder_state, restored_of, restored_from};
     ghost use Rattle.rs_rate.specs.Decoding.{CanBeRestored};
 
     // Rows with nothing given, in the memory of `work` where one is passed. Inlined, so that clearing is a `memset`.
@@ -202,10 +202,8 @@ impl DecoderRows {
         ensures roomy { IfSome work (λ w. HasRoom (work_room w) shape.frame.row_count shape.configuration.shard_bytes
             → answer_of result ≡ asked (shape_chunks shape)) }
     {
-        let chunks = chunk_count(shape.frame.row_count, shape.configuration.shard_bytes)?;
         let mut memory = DecoderMemory::of(alloc, work);
-        memory.make_room(chunks, shape.frame.row_count)?;
-        memory.set_empty(chunks, shape.frame.row_count);
+        memory.lay_out(shape)?;
         Ok(DecoderRows {
             shape,
             originals_given: 0,
@@ -226,9 +224,7 @@ impl DecoderRows {
         ensures grown { Grows (memory_room self.old.memory) (memory_room self.new.memory) }
         ensures roomy { HasRoom (memory_room self.old.memory) shape.frame.row_count shape.configuration.shard_bytes → result ≡ asked (shape_chunks shape) }
     {
-        let chunks = chunk_count(shape.frame.row_count, shape.configuration.shard_bytes)?;
-        self.memory.make_room(chunks, shape.frame.row_count)?;
-        self.memory.set_empty(chunks, shape.frame.row_count);
+        self.memory.lay_out(shape)?;
         self.shape = shape;
         self.originals_given = 0;
         self.recovery_given = 0;

@@ -1,12 +1,12 @@
 //! The decoders of the rates.
-ghost use Rattle.std.specs.Prelude.{◌≡◌, Ok};
-ghost use Rattle.rs_field.specs.code.Configuration.{validated};
-ghost use Rattle.rs_rate.specs.DecoderView.{configuration_of, decoder_shape as decoder_shape_of, decoder_state, memory_room};
+ghost use Rattle.rs_rate.specs.DecoderRoom.{memory_room};
+ghost use Rattle.rs_rate.specs.DecoderView.{decoder_state};
+ghost use Rattle.rs_rate.specs.SetUp.{IsDecoderOf};
 
 use crate::decoder_result::DecoderResult;
 use crate::rate::code::{Code, DefaultCode, HighCode, LowCode, RateOf};
 use crate::rate::configuration::Configuration;
-use crate::rate::decoder_work::DecoderRows;
+use crate::rate::decoder_work::{DecoderRows, DecoderShape};
 use crate::rate::rounds::{decode_round, lent_originals};
 use crate::rate::{DecoderWork, RateDecoder};
 use rs_field::engine::{Engine, Steps};
@@ -29,8 +29,7 @@ pub struct Decoder<E: Engine, C: Code> {
     pub(crate) engine: E,
     pub(crate) rows: DecoderRows,
     code: PhantomData<C>,
-    pub ghost valid: { validated (configuration_of C.rate rows.shape) ≡ Ok tt },
-    pub ghost shaped: { rows.shape ≡ decoder_shape_of C.rate rows.shape.configuration.original_count rows.shape.configuration.recovery_count rows.shape.configuration.shard_bytes },
+    pub ghost set_up: { IsDecoderOf C.rate rows.shape },
 }
 
 impl<E: Engine, C: Code> RateDecoder<E> for Decoder<E, C> {
@@ -67,12 +66,8 @@ impl<E: Engine, C: Code> RateDecoder<E> for Decoder<E, C> {
         engine: E,
         work: Option<DecoderWork>,
     ) -> Result<Decoder<E, C>, Error> {
-        let configuration = Configuration::validated::<C>(
-            original_count,
-            recovery_count,
-            shard_bytes,
-        )?;
-        let rows = DecoderRows::new(alloc, configuration.decoder_shape(), work)?;
+        let shape = DecoderShape::validated::<C>(original_count, recovery_count, shard_bytes)?;
+        let rows = DecoderRows::new(alloc, shape, work)?;
         Ok(Decoder {
             engine,
             rows,
@@ -86,12 +81,8 @@ impl<E: Engine, C: Code> RateDecoder<E> for Decoder<E, C> {
         recovery_count: usize,
         shard_bytes: usize,
     ) -> Result<(), Error> {
-        let configuration = Configuration::validated::<C>(
-            original_count,
-            recovery_count,
-            shard_bytes,
-        )?;
-        self.rows.reset(configuration.decoder_shape())
+        let shape = DecoderShape::validated::<C>(original_count, recovery_count, shard_bytes)?;
+        self.rows.reset(shape)
     }
 
     fn add_original_shard(&mut self, index: usize, original_shard: &[u8]) -> Result<(), Error> {
@@ -116,7 +107,7 @@ impl<E: Engine, C: Code> RateDecoder<E> for Decoder<E, C> {
         )
     }
 
-    ghost valid = { λ x. is_decoder C.rate x.rows x.valid x.shaped };
+    ghost valid = { λ x. is_decoder C.rate x.rows x.set_up };
 
-    ghost own_room = { λ x. has_own_decoder_room C.rate x.rows x.shaped };
+    ghost own_room = { λ x. has_own_decoder_room C.rate x.rows x.set_up };
 }

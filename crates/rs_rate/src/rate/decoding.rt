@@ -1,16 +1,17 @@
 //! The decoding of a round, for every rate: the locator of the erased rows, the rows over the chunks, the tails, and
 //! the round's end.
 ghost use Rattle.std.specs.Prelude.{◌≡◌, ℕ, ◌+◌, ◌-◌, ◌*◌, ◌/◌, ◌%◌, ◌^◌, ◌<◌, ◌≤◌, ◌⊎◌, ◌&&◌, if◌then◌else◌};
-ghost use Rattle.std.specs.Prelude.{true, Ok, List, length, slice_index, vec_len, IfOk, MatchResult};
+ghost use Rattle.std.specs.Prelude.{true, List, length, slice_index, vec_len, IfOk, MatchResult};
 ghost use Rattle.rs_field.specs.words.StepBounds.{CountsUpTo, LocatorCounts, transform_steps};
-ghost use Rattle.rs_field.specs.code.Bounds.{decode_steps};
-ghost use Rattle.rs_field.specs.code.Configuration.{validated};
+ghost use Rattle.rs_field.specs.code.Bounds.{DecodeCounts};
 ghost use Rattle.rs_field.specs.code.Counts.{Rate};
 ghost use Rattle.rs_field.specs.code.Decoder.{fresh_decoder, Restored, NoneAgrees};
 ghost use Rattle.rs_field.specs.rows.MarkedRows.{is_marked};
-ghost use Rattle.rs_rate.specs.DecoderView.{configuration_of, decoder_shape, decoder_state, memory_room, restored_of, restored_from};
+ghost use Rattle.rs_rate.specs.DecoderRoom.{memory_room};
+ghost use Rattle.rs_rate.specs.DecoderView.{configuration_of, decoder_state, restored_of, restored_from};
 ghost use Rattle.rs_rate.specs.Decoding.{CanBeRestored, IsLocatorOf, RestoresShards};
 ghost use Rattle.rs_rate.specs.Marks.{erased, given_marks, restored_marks, WantsMissing};
+ghost use Rattle.rs_rate.specs.SetUp.{IsDecoderOf};
 ghost use Rattle.rs_rate.specs.Shapes.{DecoderCanBeLaid, original_row};
 ghost use Rattle.rs_rate.specs.ShardRows.{chunk_count, shard_laid_out, shard_in_order};
 
@@ -18,6 +19,7 @@ use crate::rate::decoder_work::{DecoderMemory, DecoderRows, DecoderShape, Frame}
 use crate::rate::marks::Marks;
 use crate::rate::restoring::{Round, restore_rows};
 use crate::rate::shard_rows::{in_order_are_bytes, move_tail};
+use rs_field::bytes::are_words;
 use rs_field::engine::layout::row_len;
 use rs_field::engine::{Engine, GfElement, ShardsRefMut, Steps};
 use rs_field::error::Error;
@@ -31,13 +33,12 @@ pub(crate) fn decode_rows<E: Engine>(
 ) -> Result<usize, Error>
     requires enough { rows.old.shape.configuration.original_count ≤ rows.old.originals_given + rows.old.recovery_given }
     ensures state { (rate : Rate) → decoder_state rate rows.new ≡ fresh_decoder (configuration_of rate rows.old.shape) }
-    ensures answer { (rate : Rate) → validated (configuration_of rate rows.old.shape) ≡ Ok tt
-        → rows.old.shape ≡ decoder_shape rate rows.old.shape.configuration.original_count rows.old.shape.configuration.recovery_count rows.old.shape.configuration.shard_bytes
+    ensures answer { (rate : Rate) → IsDecoderOf rate rows.old.shape
         → MatchResult result (λ _. Restored (decoder_state rate rows.old) (restored_of rows.new)) (NoneAgrees (decoder_state rate rows.old)) }
     ensures counted { IfOk result (λ count. count ≡ length (restored_from rows.new 0)) }
     ensures shape { rows.new.shape ≡ rows.old.shape }
     ensures room { memory_room rows.new.memory ≡ memory_room rows.old.memory }
-    ensures counts { CountsUpTo (decode_steps rows.old.shape.frame.row_count) 1048576 65536 steps.old steps.new }
+    ensures counts { DecodeCounts rows.old.shape.frame.row_count steps.old steps.new }
 {
     let round = rows.round();
     let agrees = restore(engine, steps, &mut rows.memory, round);
@@ -78,7 +79,7 @@ fn restore<E: Engine>(
     ensures nothing { round.missing ≡ 0 → round.surplus ≡ 0 → result ≡ true }
     ensures restored { 0 < round.missing + round.surplus → (locator : List ℕ) × IsLocatorOf round.shape.frame (given_marks memory.old.marks) locator
         × RestoresShards round.shape (given_marks memory.old.marks) locator round.surplus memory.old.chunks.items memory.new.chunks.items result }
-    ensures counts { CountsUpTo (decode_steps round.shape.frame.row_count) 1048576 65536 steps.old steps.new }
+    ensures counts { DecodeCounts round.shape.frame.row_count steps.old steps.new }
 {
     let shape = round.shape;
     if round.missing == 0 && round.surplus == 0 {
@@ -111,13 +112,8 @@ fn make_locator<E: Engine>(
 {
     mark_erasures(entries, given, shape.frame);
     engine.locate(steps, entries);
-    entries_are_words(entries);
+    are_words(entries);
 }
-
-// An entry is a word. It does nothing when it runs: it tells the checker so.
-fn entries_are_words(entries: &[GfElement])
-    ensures { (x : ℕ) → slice_index entries.now x < 65536 }
-{}
 
 // Marks the erased rows.
 fn mark_erasures(entries: &mut [GfElement], given: &[bool], frame: Frame)

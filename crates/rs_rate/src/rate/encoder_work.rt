@@ -1,14 +1,15 @@
 //! The working space of an encoder: the memory that is handed on, and an encoder's rows in it.
-ghost use Rattle.std.specs.Prelude.{◌≡◌, ℕ, ◌*◌, ◌%◌, ◌^◌, ◌<◌, ◌≤◌, vec_len, IfOk, OnOk, OnErr, IfSome, MatchOption};
+ghost use Rattle.std.specs.Prelude.{◌≡◌, ℕ, ◌*◌, ◌%◌, ◌^◌, ◌<◌, ◌≤◌, vec_len, Err, IfOk, OnOk, OnErr, IfSome, MatchOption, MatchResult};
 ghost use Rattle.std.specs.Vec.{vec_capacity};
 ghost use Rattle.rs_field.specs.code.Column.{IsShard};
 ghost use Rattle.rs_field.specs.code.Counts.{Rate};
 ghost use Rattle.rs_field.specs.code.Outcome.{answer_of, state_after};
-ghost use Rattle.rs_field.specs.code.Configuration.{UpToMemory};
-ghost use Rattle.rs_field.specs.code.Encoder.{with_shard, message_of};
+ghost use Rattle.rs_field.specs.code.Configuration.{configuration, validated as validated_as, UpToMemory};
+ghost use Rattle.rs_field.specs.code.Encoder.{fresh_encoder, with_shard, message_of};
 ghost use Rattle.rs_rate.specs.Shapes.{EncoderCanBeLaid};
 ghost use Rattle.rs_rate.specs.ShardRows.{asked, chunk_count as chunk_count_of, shard_laid_out, shard_in_order};
 
+use crate::rate::code::Code;
 use crate::rate::configuration::Configuration;
 use crate::rate::memory::{make_room, set_chunks, vec_of};
 use crate::rate::shard_rows::{chunk_count, insert_at, shard_at, shard_is_bytes};
@@ -42,6 +43,28 @@ pub struct EncoderRows {
     pub ghost shards: { (i : ℕ) → i < originals_given → IsShard shape.configuration.shard_bytes (shard_laid_out chunks.items shape.configuration.shard_bytes i) },
 }
 
+impl EncoderShape {
+    ghost use Rattle.rs_rate.specs.SetUp.{IsEncoderShape};
+
+    // What an encoder of a rate is set up for, or the first refusal.
+    #[inline(always)]
+    pub(crate) fn validated<C: Code>(
+        original_count: usize,
+        recovery_count: usize,
+        shard_bytes: usize,
+    ) -> Result<EncoderShape, Error>
+        ensures { MatchResult result (IsEncoderShape C.rate original_count recovery_count shard_bytes)
+            (λ e. validated_as (configuration C.rate original_count recovery_count shard_bytes) ≡ Err e) }
+    {
+        let configuration = Configuration::validated::<C>(
+            original_count,
+            recovery_count,
+            shard_bytes,
+        )?;
+        Ok(configuration.encoder_shape())
+    }
+}
+
 impl EncoderWork {
     ghost use Rattle.rs_rate.specs.EncoderView.{work_room};
 
@@ -64,7 +87,7 @@ impl Default for EncoderWork {
 }
 
 impl EncoderRows {
-    ghost use Rattle.rs_rate.specs.EncoderView.{encoder_state, shape_chunks, work_room};
+    ghost use Rattle.rs_rate.specs.EncoderView.{configuration_of, encoder_state, shape_chunks, work_room};
 
     // Rows with nothing given, in the memory of `work` where one is passed.
     pub(crate) fn new(
@@ -73,7 +96,8 @@ impl EncoderRows {
         work: Option<EncoderWork>,
     ) -> Result<EncoderRows, Error>
         requires { EncoderCanBeLaid shape }
-        ensures made { IfOk result (λ x. (x.shape ≡ shape) × (x.originals_given ≡ 0)) }
+        ensures shape { IfOk result (λ x. x.shape ≡ shape) }
+        ensures state { IfOk result (λ x. (rate : Rate) → encoder_state rate x ≡ fresh_encoder (configuration_of rate shape)) }
         ensures answer { UpToMemory (asked (shape_chunks shape)) (answer_of result) }
         ensures grown { IfOk result (λ x. IfSome work (λ w. work_room w ≤ vec_capacity x.chunks)) }
         ensures roomy { IfSome work (λ w. shape_chunks shape ≤ work_room w → answer_of result ≡ asked (shape_chunks shape)) }
@@ -95,8 +119,10 @@ impl EncoderRows {
     // The rows of another shape, with nothing given: growth first.
     pub(crate) fn reset(&mut self, shape: EncoderShape) -> Result<(), Error>
         requires { EncoderCanBeLaid shape }
-        ensures ok { OnOk result ((self.new.shape ≡ shape) × (self.new.originals_given ≡ 0)) }
-        ensures err { OnErr result ((self.new.shape ≡ self.old.shape) × (self.new.originals_given ≡ self.old.originals_given) × (self.new.chunks.items ≡ self.old.chunks.items)) }
+        ensures ok { OnOk result ((rate : Rate) → encoder_state rate self.new ≡ fresh_encoder (configuration_of rate shape)) }
+        ensures err { OnErr result ((rate : Rate) → encoder_state rate self.new ≡ encoder_state rate self.old) }
+        ensures shape { OnOk result (self.new.shape ≡ shape) }
+        ensures same_shape { OnErr result (self.new.shape ≡ self.old.shape) }
         ensures answer { UpToMemory (asked (shape_chunks shape)) result }
         ensures grown { vec_capacity self.old.chunks ≤ vec_capacity self.new.chunks }
         ensures roomy { shape_chunks shape ≤ vec_capacity self.old.chunks → result ≡ asked (shape_chunks shape) }

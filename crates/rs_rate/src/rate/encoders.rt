@@ -1,13 +1,12 @@
 //! The encoders of the rates.
-ghost use Rattle.std.specs.Prelude.{◌≡◌, Ok};
 ghost use Rattle.std.specs.Vec.{vec_capacity};
-ghost use Rattle.rs_field.specs.code.Configuration.{validated};
-ghost use Rattle.rs_rate.specs.EncoderView.{configuration_of, encoder_shape as encoder_shape_of, encoder_state};
+ghost use Rattle.rs_rate.specs.EncoderView.{encoder_state};
+ghost use Rattle.rs_rate.specs.SetUp.{IsEncoderOf};
 
 use crate::encoder_result::EncoderResult;
 use crate::rate::code::{Code, DefaultCode, HighCode, LowCode, RateOf};
 use crate::rate::configuration::Configuration;
-use crate::rate::encoder_work::EncoderRows;
+use crate::rate::encoder_work::{EncoderRows, EncoderShape};
 use crate::rate::rounds::{encode_round, lent_recovery};
 use crate::rate::{EncoderWork, RateEncoder};
 use rs_field::engine::{Engine, Steps};
@@ -30,8 +29,7 @@ pub struct Encoder<E: Engine, C: Code> {
     pub(crate) engine: E,
     pub(crate) rows: EncoderRows,
     code: PhantomData<C>,
-    pub ghost valid: { validated (configuration_of C.rate rows.shape) ≡ Ok tt },
-    pub ghost shaped: { rows.shape ≡ encoder_shape_of C.rate rows.shape.configuration.original_count rows.shape.configuration.recovery_count rows.shape.configuration.shard_bytes },
+    pub ghost set_up: { IsEncoderOf C.rate rows.shape },
 }
 
 impl<E: Engine, C: Code> RateEncoder<E> for Encoder<E, C> {
@@ -68,12 +66,8 @@ impl<E: Engine, C: Code> RateEncoder<E> for Encoder<E, C> {
         engine: E,
         work: Option<EncoderWork>,
     ) -> Result<Encoder<E, C>, Error> {
-        let configuration = Configuration::validated::<C>(
-            original_count,
-            recovery_count,
-            shard_bytes,
-        )?;
-        let rows = EncoderRows::new(alloc, configuration.encoder_shape(), work)?;
+        let shape = EncoderShape::validated::<C>(original_count, recovery_count, shard_bytes)?;
+        let rows = EncoderRows::new(alloc, shape, work)?;
         Ok(Encoder {
             engine,
             rows,
@@ -87,12 +81,8 @@ impl<E: Engine, C: Code> RateEncoder<E> for Encoder<E, C> {
         recovery_count: usize,
         shard_bytes: usize,
     ) -> Result<(), Error> {
-        let configuration = Configuration::validated::<C>(
-            original_count,
-            recovery_count,
-            shard_bytes,
-        )?;
-        self.rows.reset(configuration.encoder_shape())
+        let shape = EncoderShape::validated::<C>(original_count, recovery_count, shard_bytes)?;
+        self.rows.reset(shape)
     }
 
     fn add_original_shard(&mut self, original_shard: &[u8]) -> Result<(), Error> {
@@ -113,7 +103,7 @@ impl<E: Engine, C: Code> RateEncoder<E> for Encoder<E, C> {
         )
     }
 
-    ghost valid = { λ x. is_encoder C.rate x.rows x.valid x.shaped };
+    ghost valid = { λ x. is_encoder C.rate x.rows x.set_up };
 
-    ghost own_room = { λ x. has_own_room C.rate x.rows x.shaped };
+    ghost own_room = { λ x. has_own_room C.rate x.rows x.set_up };
 }

@@ -38,6 +38,6 @@ returns-clause-coded g c =
     let object = c.in_ok-encoder.encoder in
     always-run {P = λ items. IfOk (collected c.collect_recovery.result) (AreCoded c.args.original_count c.args.recovery_count items)} (
       run.0,
-      λ items begins. encoding-coded c.args.original_count c.args.recovery_count items _ (run.1 items begins) (is_encoder default_rate object.rows object.valid object.shaped)
+      λ items begins. encoding-coded c.args.original_count c.args.recovery_count items _ (run.1 items begins) (is_encoder default_rate object.rows object.set_up)
           (recovery_shards c.in_ok-result.result) _ c.in_ok-result.ensures.answer c.collect_recovery.ensures,
     )

@@ -34,7 +34,7 @@ write_recovery-requires c =
     let led = always-run c.in_ok-encoder.ensures.run shards (lends-left (λ shard. shard.now) _ shards c.new-shards.ensures) in
     fits-length r size (length c.args.recovery.now) c.in_ok-check_length-2.ensures
     ∙ sym (recovery-length k r size c.args.originals.now recovery (fits-length k size (length c.args.originals.now) c.in_ok-check_length.ensures)
-    (encoding-coded k r shards _ led (is_encoder default_rate object.rows object.valid object.shaped) recovery (Ok recovery) c.in_ok-result.ensures.answer refl))
+    (encoding-coded k r shards _ led (is_encoder default_rate object.rows object.set_up) recovery (Ok recovery) c.in_ok-result.ensures.answer refl))
 
 pub returns : goal.returns
 returns c =

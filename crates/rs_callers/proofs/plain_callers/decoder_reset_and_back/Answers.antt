@@ -2,7 +2,7 @@ use Rattle.std.proofs.Common.{◌≡◌, ap, ap₂, subst, arith, ◌∙◌}
 use Rattle.std.specs.Prelude.{OnOk}
 use Rattle.reed_solomon_simd.specs.Counts.{default_rate}
 use Rattle.reed_solomon_simd.specs.DecoderObject.{state_of, room_of}
-use Rattle.reed_solomon_simd.specs.DecoderView.{HasRoom}
+use Rattle.reed_solomon_simd.specs.DecoderRoom.{HasRoom}
 use Rattle.reed_solomon_simd.specs.Decoder.{fresh_decoder}
 use Rattle.reed_solomon_simd.specs.OneCall.{default_of}
 use Rattle.reed_solomon_simd.specs.Placement.{decoder_rows}

@@ -6,11 +6,12 @@ use Rattle.rs_field.specs.declared.code.error.Error.TheVariants.{InconsistentSha
 use Rattle.rs_field.specs.code.Column.{IsShard}
 use Rattle.rs_field.specs.rows.Rows.{Chunks}
 use Rattle.rs_rate.specs.declared.rate.decoder_work.DecoderShape.{DecoderShape}
+use Rattle.rs_rate.specs.DecoderRoom.{DecoderRoom, HasRoom}
 use Rattle.rs_rate.specs.Decoding.{IsLocatorOf, RestoresShards}
 use Rattle.rs_rate.specs.Marks.{given_marks, restored_marks, WantsMissing}
 use Rattle.rs_rate.specs.ShardRows.{shard_in_order}
 use Rattle.rs_rate.proofs.DecodeAnswer.{AnswersOver, decode_answers, complete_answers, told_answer}
-use Rattle.rs_rate.proofs.DecoderLemmas.{given_row_count-most, given_row_count-nothing, none_told, nothing-given}
+use Rattle.rs_rate.proofs.DecoderLemmas.{given_row_count-most, hold_nothing, none_told, nothing-given}
 use Rattle.rs_rate.proofs.ResultLemmas.{length-restored}
 use Rattle.rs_rate.proofs.rate.decoding.decode_rows.Goals as goal
 use Rattle.rs_rate.proofs.rate.decoding.decode_rows.Goals.{then-agrees, else-agrees}
@@ -20,23 +21,18 @@ invariant_of-rows g c =
     let old = c.args.rows.now in
     let s = old.shape in
     let missing = c.restore-agrees.ensures.marks in
-    let empty = none_told c.restore-agrees.new.memory.marks missing.shards in
+    let now = c.restore-agrees.new.memory in
     let room = c.restore-agrees.ensures.room in
-    let chunk_room = ap (λ r. r.chunks) room in
-    let entry_room = ap (λ r. r.entries) room in
     record {
       laid = old.laid;
-      whole = omega (arith, old.whole, c.restore-agrees.ensures.length);
-      own_chunks = omega (arith, old.own_chunks, chunk_room);
-      sized = old.sized;
-      marked = omega (arith, old.marked, missing.length);
-      own_marks = omega (arith, old.own_marks, missing.room);
-      entries = omega (arith, old.entries, c.restore-agrees.ensures.entries);
-      own_entries = omega (arith, old.own_entries, entry_room);
-      originals_counted = sym (given_row_count-nothing _ s.frame.originals_from s.configuration.original_count (λ i inside. empty (s.frame.originals_from + i)));
-      recovery_counted = sym (given_row_count-nothing _ s.frame.recovery_from s.configuration.recovery_count (λ i inside. empty (s.frame.recovery_from + i)));
-      placed = λ p _ _. empty p;
-      shards = λ p given. absurd (let no : true ≡ false = sym given ∙ empty p in let never : ⊥ = cc in never);
+      laid_out = record {
+        whole = omega (arith, old.laid_out.whole, c.restore-agrees.ensures.length);
+        marked = omega (arith, old.laid_out.marked, missing.length);
+        entries = omega (arith, old.laid_out.entries, c.restore-agrees.ensures.entries);
+        sized = old.laid_out.sized;
+        room = subst (λ (r : DecoderRoom). HasRoom r s.frame.row_count s.configuration.shard_bytes) (sym room) old.laid_out.room;
+      };
+      given = hold_nothing s (given_marks now.marks) now.chunks.items (none_told now.marks missing.shards);
     }
 
 pub returns-clause-state : goal.returns-clause-state
@@ -45,7 +41,7 @@ returns-clause-state g c = λ rate.
     nothing-given rate c.args.rows.now.shape (given_marks new.marks) new.chunks.items (none_told new.marks c.restore-agrees.ensures.marks.shards)
 
 pub returns-clause-answer : goal.returns-clause-answer
-returns-clause-answer g c = λ rate valid shaped.
+returns-clause-answer g c = λ rate is.
     let old = c.args.rows.now in
     let s = old.shape in
     let from = s.frame.originals_from in
@@ -61,7 +57,7 @@ returns-clause-answer g c = λ rate valid shaped.
     let sized = λ (i : ℕ) (inside : i < s.configuration.original_count).
     subst (λ (xs : Chunks). IsShard s.configuration.shard_bytes (shard_in_order xs s.configuration.shard_bytes (from + i))) c.as_slice.ensures.value
     (subst (λ (x : DecoderShape). IsShard x.configuration.shard_bytes (shard_in_order c.as_slice.result.now x.configuration.shard_bytes (from + i))) round.shape
-    (c.in_order_are_bytes.ensures (from + i) (omega (arith, inside, old.laid.original_rows, ap (λ (x : DecoderShape). x.frame.row_count) round.shape)))) in
+    (c.in_order_are_bytes.ensures (from + i) (omega (arith, inside, old.laid.places.originals, ap (λ (x : DecoderShape). x.frame.row_count) round.shape)))) in
     let told : ((c.restore-agrees.result ≡ true) × (c.if-agrees.answer ≡ Ok (s.configuration.original_count - old.originals_given)))
     ⊎ ((c.restore-agrees.result ≡ false) × (c.if-agrees.answer ≡ Err (InconsistentShards c.args.rows.now.originals_given c.args.rows.now.recovery_given))) =
     elim c.if-agrees.branch [
@@ -72,27 +68,27 @@ returns-clause-answer g c = λ rate valid shaped.
     elim (cases_eq (c.round-round.result.missing + c.round-round.result.surplus) 0) [
       | inl none ↦
           subst (λ b. AnswersOver rate s given marks before chunks b) (sym (c.restore-agrees.ensures.nothing (omega arith) (omega arith)))
-          (complete_answers rate s given marks before chunks valid shaped old.laid.configured.even old.shards
-          (omega (arith, none, most, most_too, round.missing, round.surplus, old.originals_counted, old.recovery_counted))
-          (omega (arith, none, most, most_too, round.missing, round.surplus, old.originals_counted, old.recovery_counted)) missing.missing)
+          (complete_answers rate s given marks before chunks is.rows.valid is.shaped old.laid.configured.even old.given.shards
+          (omega (arith, none, most, most_too, round.missing, round.surplus, old.given.originals_counted, old.given.recovery_counted))
+          (omega (arith, none, most, most_too, round.missing, round.surplus, old.given.originals_counted, old.given.recovery_counted)) missing.missing)
       | inr some ↦
           let made =
           subst (λ (x : DecoderShape). (locator : List ℕ) × IsLocatorOf x.frame given locator
           × RestoresShards x given locator c.round-round.result.surplus before chunks c.restore-agrees.result) round.shape
           (c.restore-agrees.ensures.restored (omega arith)) in
-          decode_answers rate s given marks made.0 c.round-round.result.surplus before chunks c.restore-agrees.result valid shaped
+          decode_answers rate s given marks made.0 c.round-round.result.surplus before chunks c.restore-agrees.result is.rows.valid is.shaped
           (record {
             even = old.laid.configured.even;
-            placed = old.placed;
-            shards = old.shards;
-            counted = omega (arith, round.surplus, old.originals_counted, old.recovery_counted);
+            placed = old.given.placed;
+            shards = old.given.shards;
+            counted = omega (arith, round.surplus, old.given.originals_counted, old.given.recovery_counted);
             is_locator = made.1;
             restores = made.2;
             marked = missing.missing;
             sized = sized;
           })
     ] in
-    told_answer (s.configuration.original_count - old.originals_given) rate s given marks before chunks old.originals_given old.recovery_given c.restore-agrees.result c.if-agrees.answer told old.originals_counted old.recovery_counted over
+    told_answer (s.configuration.original_count - old.originals_given) rate s given marks before chunks old.originals_given old.recovery_given c.restore-agrees.result c.if-agrees.answer told old.given.originals_counted old.given.recovery_counted over
 
 pub returns-clause-counted : goal.returns-clause-counted
 returns-clause-counted g c =
@@ -104,6 +100,6 @@ returns-clause-counted g c =
     subst (λ (x : DecoderShape). WantsMissing x.frame.originals_from x.configuration.original_count old.memory.marks new.marks) c.round-round.ensures.shape c.restore-agrees.ensures.marks in
     let counted = length-restored given (restored_marks new.marks) new.chunks.items s.configuration.shard_bytes s.frame.originals_from s.configuration.original_count missing.missing in
     elim c.if-agrees.branch [
-      | then-agrees w ↦ let is : c.if-agrees.answer ≡ Ok c.round-round.result.missing = w.answer-is in rw (is, sub-zero) (omega (arith, counted, old.originals_counted, c.round-round.ensures.missing))
+      | then-agrees w ↦ let is : c.if-agrees.answer ≡ Ok c.round-round.result.missing = w.answer-is in rw (is, sub-zero) (omega (arith, counted, old.given.originals_counted, c.round-round.ensures.missing))
       | else-agrees w ↦ rw w.answer-is tt
     ]

@@ -16,7 +16,7 @@ returns-clause-locator g c =
     let frame = c.args.shape.frame in
     let size : length c.mark_erasures.new.entries ≡ c.args.shape.frame.row_count = c.mark_erasures.auto.entries ∙ c.requires.entries in
     record {
-      are_words = c.entries_are_words.ensures;
+      are_words = c.are_words.ensures;
       values = locator_same frame.row_count (erased frame.zeros_from frame.zeros_to c.args.given.now) (λ y. slice_index c.mark_erasures.new.entries y) (λ x. slice_index c.locate.new.entries x)
           c.mark_erasures.ensures
           (subst (λ (n : ℕ). IsLocatorBelow n (λ y. slice_index c.mark_erasures.new.entries y) (λ x. slice_index c.locate.new.entries x)) size c.locate.ensures.values);

@@ -15,7 +15,7 @@ use Rattle.rs_rate.proofs.rate.decoding.move_restored_tails.Goals.{then-is_resto
 pub move_tail-requires-clause-room : goal.move_tail-requires-clause-room
 move_tail-requires-clause-room c =
     let s = c.args.shape in
-    let below : c.original_row-row.result < s.frame.row_count = omega (arith, c.loop-i-test.true, c.original_row-row.ensures, c.requires.laid.original_rows) in
+    let below : c.original_row-row.result < s.frame.row_count = omega (arith, c.loop-i-test.true, c.original_row-row.ensures, c.requires.laid.places.originals) in
     let within = chunk_count-within c.original_row-row.result s.frame.row_count s.configuration.shard_bytes (length c.args.chunks.now) below c.requires.whole in
     omega (arith, within, c.loop-i.auto.chunks)
 

@@ -1,11 +1,10 @@
-use Rattle.std.proofs.Common.{ℕ, sym, ap, ◌∙◌, subst, arith}
+use Rattle.std.proofs.Common.{ℕ, sym, ◌∙◌, subst, arith}
 use Rattle.std.proofs.lemmas.Result.{err_from_is_err_and}
-use Rattle.rs_field.specs.words.StepBounds.{CountsUpTo}
-use Rattle.rs_field.specs.code.Bounds.{decode_steps}
+use Rattle.rs_field.specs.code.Bounds.{DecodeCounts}
 use Rattle.rs_rate.specs.DecoderView.{decoder_state, restored_of}
 use Rattle.rs_rate.proofs.DecoderLemmas.{count-given}
 use Rattle.rs_rate.proofs.DecoderSteps.{enough-least}
-use Rattle.rs_rate.proofs.DecoderRows.{after_decode-refused, after_decode-made, decode_answers-refused, decode_answers-made, frame-rows}
+use Rattle.rs_rate.proofs.DecoderRows.{after_decode-refused, after_decode-made, decode_answers-refused, decode_answers-made}
 use Rattle.rs_rate.specs.Marks.{given_marks}
 use Rattle.rs_rate.proofs.rate.rounds.decode_round.Goals as goal
 
@@ -28,18 +27,16 @@ decode_rows-requires g c =
     let least = enough-least (decoder_state g.C.Code.rate rows) (c.in_ok-check_enough_given.ensures g.C.Code.rate) in
     let originals = count-given marks chunks s.configuration.shard_bytes s.frame.originals_from s.configuration.original_count in
     let recovery = count-given marks chunks s.configuration.shard_bytes s.frame.recovery_from s.configuration.recovery_count in
-    omega (arith, least, originals, recovery, rows.originals_counted, rows.recovery_counted)
+    omega (arith, least, originals, recovery, rows.given.originals_counted, rows.given.recovery_counted)
 
 pub returns-clause-answer : goal.returns-clause-answer
 returns-clause-answer g c =
     decode_answers-made (decoder_state g.C.Code.rate c.args.decoder.now.rows) (restored_of c.decode_rows.new.rows) c.decode_rows.result (c.in_ok-check_enough_given.ensures g.C.Code.rate)
-    (c.decode_rows.ensures.answer g.C.Code.rate c.args.decoder.now.valid c.args.decoder.now.shaped)
+    (c.decode_rows.ensures.answer g.C.Code.rate c.args.decoder.now.set_up)
 
 pub returns-clause-counts : goal.returns-clause-counts
 returns-clause-counts g c =
-    let rows = c.args.decoder.now.rows in
-    let rate_rows = ap (λ s. s.frame.row_count) c.args.decoder.now.shaped ∙ frame-rows g.C.Code.rate rows.shape.configuration.original_count rows.shape.configuration.recovery_count in
-    subst (λ (n : ℕ). CountsUpTo (decode_steps n) 1048576 65536 c.args.steps.now c.decode_rows.new.steps) rate_rows c.decode_rows.ensures.counts
+    subst (λ (n : ℕ). DecodeCounts n c.args.steps.now c.decode_rows.new.steps) c.args.decoder.now.set_up.rows.count c.decode_rows.ensures.counts
 
 pub returns-clause-state : goal.returns-clause-state
 returns-clause-state g c =

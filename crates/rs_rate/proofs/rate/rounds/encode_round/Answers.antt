@@ -33,7 +33,7 @@ returns-clause-answer g c =
     let rows = c.args.encoder.now.rows in
     let own = rows.shape.configuration in
     let state = encoder_state g.C.Code.rate rows in
-    let alike = encoder-alike g.C.Code.rate own.original_count own.recovery_count own.shard_bytes rows.shape c.args.encoder.now.shaped in
+    let alike = encoder-alike g.C.Code.rate own.original_count own.recovery_count own.shard_bytes rows.shape c.args.encoder.now.set_up.shaped in
     encode_answers-made state (lent_of c.encode_rows.new.rows) (c.in_ok-check_all_given.ensures g.C.Code.rate)
     (shards_alike (low_or_high own.is_low) g.C.Code.rate own.original_count own.recovery_count own.shard_bytes (given_of rows) (lent_of c.encode_rows.new.rows) alike
     c.encode_rows.ensures.recovery)
@@ -42,7 +42,7 @@ pub returns-clause-counts : goal.returns-clause-counts
 returns-clause-counts g c =
     let rows = c.args.encoder.now.rows in
     let own = rows.shape.configuration in
-    let alike = encoder-alike g.C.Code.rate own.original_count own.recovery_count own.shard_bytes rows.shape c.args.encoder.now.shaped in
+    let alike = encoder-alike g.C.Code.rate own.original_count own.recovery_count own.shard_bytes rows.shape c.args.encoder.now.set_up.shaped in
     subst (λ (n : ℕ). CountsUpTo n 0 0 c.args.steps.now c.encode_rows.new.steps) (steps_alike (low_or_high own.is_low) g.C.Code.rate own.original_count own.recovery_count alike) c.encode_rows.ensures.counts
 
 pub returns-clause-state : goal.returns-clause-state

@@ -1,7 +1,8 @@
-use Rattle.std.proofs.Common.{◌+◌, length, sym, ap, ◌∙◌, arith}
+use Rattle.std.proofs.Common.{◌+◌, length, sym, ap, subst, ◌∙◌, arith}
 use Rattle.std.specs.Prelude.{Err}
 use Rattle.rs_field.specs.code.Outcome.{answer_of, state_after}
 use Rattle.rs_rate.specs.ShardRows.{chunk_count}
+use Rattle.rs_rate.specs.DecoderRoom.{DecoderRoom, HasRoom}
 use Rattle.rs_rate.specs.DecoderView.{decoder_state}
 use Rattle.rs_rate.proofs.ShardRowsLemmas.{chunk_count-within, shard-entered}
 use Rattle.rs_rate.proofs.DecoderLemmas.{given_row_count-most}
@@ -33,8 +34,8 @@ enter-requires-clause-room c =
     let row = c.row-row.result in
     let size = ap (λ n. chunk_count (row + 1) n) c.if-shard-self.false in
     let below = side-within w c.args.side in
-    let within = chunk_count-within row w.shape.frame.row_count w.shape.configuration.shard_bytes (length w.memory.chunks.items) (omega (arith, c.if-index-count.false, c.count.ensures, c.row-row.ensures, below)) (omega (arith, w.whole)) in
-    omega (arith, size, within, w.whole)
+    let within = chunk_count-within row w.shape.frame.row_count w.shape.configuration.shard_bytes (length w.memory.chunks.items) (omega (arith, c.if-index-count.false, c.count.ensures, c.row-row.ensures, below)) (omega (arith, w.laid_out.whole)) in
+    omega (arith, size, within, w.laid_out.whole)
 
 pub overflow_add-self : goal.overflow_add-self
 overflow_add-self c =
@@ -44,7 +45,7 @@ overflow_add-self c =
     c.if-index-count.false (sym c.is_given.ensures ∙ c.if-is_given.false) c.if-shard-self.false c.enter.ensures.mark c.enter.ensures.here c.enter.ensures.other_marks c.enter.ensures.others in
     let counted = (add-counted w c.args.side c.args.index c.row-row.result c.args.shard.now (given_marks c.enter.new.self.marks) c.enter.new.self.chunks.items e).0 in
     let most = given_row_count-most (given_marks c.enter.new.self.marks) w.shape.frame.originals_from w.shape.configuration.original_count in
-    omega (arith, counted, most, c.originals.ensures, w.laid.original_rows, w.laid.few)
+    omega (arith, counted, most, c.originals.ensures, w.laid.places.originals, w.laid.places.few)
 
 pub overflow_add-self-2 : goal.overflow_add-self-2
 overflow_add-self-2 c =
@@ -54,7 +55,7 @@ overflow_add-self-2 c =
     c.if-index-count.false (sym c.is_given.ensures ∙ c.if-is_given.false) c.if-shard-self.false c.enter.ensures.mark c.enter.ensures.here c.enter.ensures.other_marks c.enter.ensures.others in
     let counted = (add-counted w c.args.side c.args.index c.row-row.result c.args.shard.now (given_marks c.enter.new.self.marks) c.enter.new.self.chunks.items e).1 in
     let most = given_row_count-most (given_marks c.enter.new.self.marks) w.shape.frame.recovery_from w.shape.configuration.recovery_count in
-    omega (arith, counted, most, c.recovery.ensures, w.laid.recovery_rows, w.laid.few)
+    omega (arith, counted, most, c.recovery.ensures, w.laid.places.recovery, w.laid.places.few)
 
 pub returns-clause-answer : goal.returns-clause-answer
 returns-clause-answer c = λ rate.
@@ -77,28 +78,27 @@ invariant_of-self c =
     let w = c.args.self.now in
     let row = c.row-row.result in
     let lengths = c.enter.ensures.lengths in
-    let chunks = ap (λ r. r.chunks) c.enter.ensures.grown in
-    let rows = ap (λ r. r.rows) c.enter.ensures.grown in
-    let entry_room = ap (λ r. r.entries) c.enter.ensures.grown in
     let e =
     row_entered w c.args.side c.args.index c.row-row.result c.count.result c.args.shard.now (given_marks c.enter.new.self.marks) c.enter.new.self.chunks.items c.row-row.ensures c.count.ensures
     c.if-index-count.false (sym c.is_given.ensures ∙ c.if-is_given.false) c.if-shard-self.false c.enter.ensures.mark c.enter.ensures.here c.enter.ensures.other_marks c.enter.ensures.others in
     let counted = add-counted w c.args.side c.args.index c.row-row.result c.args.shard.now (given_marks c.enter.new.self.marks) c.enter.new.self.chunks.items e in
     record {
       laid = w.laid;
-      whole = omega (arith, w.whole, lengths.0);
-      own_chunks = omega (arith, w.own_chunks, chunks);
-      sized = w.sized;
-      marked = omega (arith, w.marked, lengths.1);
-      own_marks = omega (arith, w.own_marks, rows);
-      entries = omega (arith, w.entries, lengths.2);
-      own_entries = omega (arith, w.own_entries, entry_room);
-      originals_counted = omega (arith, counted.0, c.originals.ensures);
-      recovery_counted = omega (arith, counted.1, c.recovery.ensures);
-      placed = λ p not_own not_coded.
-          c.enter.ensures.other_marks p (outside-apart w c.args.side c.args.index row p e.at e.inside not_own not_coded) ∙ w.placed p not_own not_coded;
-      shards = λ p given.
-          shard-entered w.memory.chunks.items c.enter.new.self.chunks.items w.shape.configuration.shard_bytes row (length c.args.shard.now) p c.args.shard.now
-          c.if-shard-self.false c.enter.ensures.shard c.enter.ensures.here c.enter.ensures.others
-          (λ apart. w.shards p (sym (c.enter.ensures.other_marks p apart) ∙ given));
+      laid_out = record {
+        whole = omega (arith, w.laid_out.whole, lengths.0);
+        marked = omega (arith, w.laid_out.marked, lengths.1);
+        entries = omega (arith, w.laid_out.entries, lengths.2);
+        sized = w.laid_out.sized;
+        room = subst (λ (r : DecoderRoom). HasRoom r w.shape.frame.row_count w.shape.configuration.shard_bytes) (sym c.enter.ensures.grown) w.laid_out.room;
+      };
+      given = record {
+        originals_counted = omega (arith, counted.0, c.originals.ensures);
+        recovery_counted = omega (arith, counted.1, c.recovery.ensures);
+        placed = λ p not_own not_coded.
+            c.enter.ensures.other_marks p (outside-apart w c.args.side c.args.index row p e.at e.inside not_own not_coded) ∙ w.given.placed p not_own not_coded;
+        shards = λ p given.
+            shard-entered w.memory.chunks.items c.enter.new.self.chunks.items w.shape.configuration.shard_bytes row (length c.args.shard.now) p c.args.shard.now
+            c.if-shard-self.false c.enter.ensures.shard c.enter.ensures.here c.enter.ensures.others
+            (λ apart. w.given.shards p (sym (c.enter.ensures.other_marks p apart) ∙ given));
+      };
     }

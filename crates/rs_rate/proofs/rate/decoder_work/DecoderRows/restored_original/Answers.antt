@@ -24,8 +24,8 @@ pub shard_at-requires : goal.shard_at-requires
 shard_at-requires c =
     let w = c.args.self.now in
     let slice = ap length c.as_slice.ensures.value in
-    let below : c.original_row-row.result < w.shape.frame.row_count = omega (arith, w.laid.original_rows, c.original_row-row.ensures, c.if-index-self.false) in
-    let within = chunk_count-within c.original_row-row.result w.shape.frame.row_count w.shape.configuration.shard_bytes (length w.memory.chunks.items) below (omega (arith, w.whole)) in
+    let below : c.original_row-row.result < w.shape.frame.row_count = omega (arith, w.laid.places.originals, c.original_row-row.ensures, c.if-index-self.false) in
+    let within = chunk_count-within c.original_row-row.result w.shape.frame.row_count w.shape.configuration.shard_bytes (length w.memory.chunks.items) below (omega (arith, w.laid_out.whole)) in
     omega (arith, slice, within)
 
 pub returns : goal.returns

@@ -10,19 +10,19 @@ overflow_add-given c =
     let w = c.args.self.now in
     let most = given_row_count-most (given_marks w.memory.marks) w.shape.frame.originals_from w.shape.configuration.original_count in
     let most_too = given_row_count-most (given_marks w.memory.marks) w.shape.frame.recovery_from w.shape.configuration.recovery_count in
-    omega (arith, most, most_too, w.originals_counted, w.recovery_counted, w.laid.original_rows, w.laid.recovery_rows, w.laid.few)
+    omega (arith, most, most_too, w.given.originals_counted, w.given.recovery_counted, w.laid.places.originals, w.laid.places.recovery, w.laid.places.few)
 
 pub overflow_sub-result : goal.overflow_sub-result
 overflow_sub-result c =
     let w = c.args.self.now in
     let most = given_row_count-most (given_marks w.memory.marks) w.shape.frame.originals_from w.shape.configuration.original_count in
-    omega (arith, most, w.originals_counted)
+    omega (arith, most, w.given.originals_counted)
 
 pub returns-clause-missing : goal.returns-clause-missing
 returns-clause-missing c =
     let w = c.args.self.now in
     let most = given_row_count-most (given_marks w.memory.marks) w.shape.frame.originals_from w.shape.configuration.original_count in
-    omega (arith, most, w.originals_counted)
+    omega (arith, most, w.given.originals_counted)
 
 pub returns-clause-facts : goal.returns-clause-facts
 returns-clause-facts c =
@@ -33,9 +33,9 @@ returns-clause-facts c =
     let some = (supported-in_field (low_or_high own.is_low) own.original_count own.recovery_count w.laid.configured.supported).0 in
     record {
       laid = w.laid;
-      marked = w.marked;
+      marked = w.laid_out.marked;
       shards = given_if_some w.memory.marks w.shape.frame.originals_from w.shape.configuration.original_count w.shape.frame.recovery_from w.shape.configuration.recovery_count
-          (omega (arith, some, c.requires, most, w.originals_counted, w.recovery_counted));
-      counted = omega (arith, most, w.originals_counted);
-      few_surplus = omega (arith, most, most_too, w.originals_counted, w.recovery_counted, w.laid.recovery_rows);
+          (omega (arith, some, c.requires, most, w.given.originals_counted, w.given.recovery_counted));
+      counted = omega (arith, most, w.given.originals_counted);
+      few_surplus = omega (arith, most, most_too, w.given.originals_counted, w.given.recovery_counted, w.laid.places.recovery);
     }

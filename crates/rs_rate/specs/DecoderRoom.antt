@@ -1,0 +1,51 @@
+-- The memory of a decoder: the room that it has, and how it is laid out for rows.
+use Rattle.std.specs.Prelude.{◌≡◌, ◌*◌, ◌^◌, ◌<◌, ◌≤◌, ℕ, Option, Some, None, vec_len}
+use Rattle.std.specs.Vec.{vec_capacity}
+use Rattle.rs_rate.specs.declared.rate.decoder_work.DecoderShape.{DecoderShape}
+use Rattle.rs_rate.specs.declared.rate.decoder_work.DecoderMemory.{DecoderMemory}
+use Rattle.rs_rate.specs.declared.rate.decoder_work.DecoderWork.{DecoderWork}
+use Rattle.rs_rate.specs.ShardRows.{chunk_count}
+
+-- the chunks of a shape's rows
+abbrev pub shape_chunks : DecoderShape → ℕ
+shape_chunks shape = chunk_count shape.frame.row_count shape.configuration.shard_bytes
+
+-- the room that a working space has: for chunks, for the marks of rows, and for the locator's entries at the rows
+pub record DecoderRoom : Type 0 where
+  pub chunks : ℕ
+  pub rows : ℕ
+  pub entries : ℕ
+
+-- the room of a decoder's memory
+abbrev pub memory_room : DecoderMemory → DecoderRoom
+memory_room memory =
+    record { chunks = vec_capacity memory.chunks; rows = vec_capacity memory.marks.rows; entries = vec_capacity memory.erasures }
+
+-- the room of memory that is handed on, if there is any
+abbrev pub room_if : Option DecoderMemory → DecoderRoom
+room_if None = record { chunks = 0; rows = 0; entries = 0 }
+room_if (Some memory) = memory_room memory
+
+-- the room of what is handed from one decoder to the next
+abbrev pub work_room : DecoderWork → DecoderRoom
+work_room work = room_if work.memory
+
+-- there is room for so many rows of shards of this size, so that no memory is taken
+pub record HasRoom (room : DecoderRoom) (count size : ℕ) : Type 0 where
+  pub chunks : chunk_count count size ≤ room.chunks
+  pub rows : count ≤ room.rows
+  pub entries : count ≤ room.entries
+
+-- memory is laid out for a shape: it has as many chunks, marks and entries as the rows take, and room for these
+pub record IsLaidOut (shape : DecoderShape) (memory : DecoderMemory) : Type 0 where
+  pub whole : vec_len memory.chunks ≡ shape_chunks shape
+  pub marked : vec_len memory.marks.rows ≡ shape.frame.row_count
+  pub entries : vec_len memory.erasures ≡ shape.frame.row_count
+  pub sized : shape_chunks shape * 64 < 2 ^ 64
+  pub room : HasRoom (memory_room memory) shape.frame.row_count shape.configuration.shard_bytes
+
+-- the new room is no less than the old
+pub record Grows (old new : DecoderRoom) : Type 0 where
+  pub chunks : old.chunks ≤ new.chunks
+  pub rows : old.rows ≤ new.rows
+  pub entries : old.entries ≤ new.entries
