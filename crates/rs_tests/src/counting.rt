@@ -5,7 +5,9 @@ ghost use Rattle.std.specs.Prelude.{◌<◌};
 use reed_solomon_simd::Error;
 use reed_solomon_simd::engine::tables::Tables;
 use reed_solomon_simd::engine::{Engine, GfElement, Naive, ShardsRefMut, Steps};
-use reed_solomon_simd::rate::{HighRate, LowRate, Rate, RateDecoder, RateEncoder};
+use reed_solomon_simd::rate::{HighRate, LowRate, LowRateDecoder, Rate, RateDecoder, RateEncoder};
+use rs_field::engine::kernel::Kernel;
+use rs_field::engine::lent_tables::LentTables;
 use std::alloc::Global;
 use std::cell::Cell;
 use std::process::Abort;
@@ -162,4 +164,121 @@ fn a_decode_transforms_once_to_check_and_once_to_restore(rt: HostRuntime) -> Res
     let tables = Tables::new(rt.alloc())?;
     counts_decodes::<LowRate<Counting<'_>>, _>(&rt, &tables)?;
     counts_decodes::<HighRate<Counting<'_>>, _>(&rt, &tables)
+}
+
+/// The plain engine, which tells how many entries the locators had that it was asked for.
+#[derive(Drop)]
+pub struct Locating<'t> {
+    naive: Naive<'t>,
+    entries: Cell<usize>,
+}
+
+impl Engine for Locating<'_> {
+    fn fft(
+        &self,
+        steps: &mut Steps,
+        data: &mut ShardsRefMut<'_>,
+        pos: usize,
+        size: usize,
+        truncated_size: usize,
+        skew_delta: usize,
+    ) {
+        self.naive
+            .fft(steps, data, pos, size, truncated_size, skew_delta);
+    }
+
+    fn ifft(
+        &self,
+        steps: &mut Steps,
+        data: &mut ShardsRefMut<'_>,
+        pos: usize,
+        size: usize,
+        truncated_size: usize,
+        skew_delta: usize,
+    ) {
+        self.naive
+            .ifft(steps, data, pos, size, truncated_size, skew_delta);
+    }
+
+    fn mul(&self, steps: &mut Steps, x: &mut [[u8; 64]], log_m: GfElement) {
+        self.naive.mul(steps, x, log_m);
+    }
+
+    fn eval_poly(&self, steps: &mut Steps, erasures: &mut [GfElement], truncated_size: usize) {
+        let entries = self.entries.get().saturating_add(erasures.len());
+        self.entries.set(entries);
+        self.naive.eval_poly(steps, erasures, truncated_size);
+    }
+
+    fn locate(&self, steps: &mut Steps, entries: &mut [GfElement]) {
+        let all = self.entries.get().saturating_add(entries.len());
+        self.entries.set(all);
+        self.naive.locate(steps, entries);
+    }
+}
+
+/// The plain engine's kernel, which counts the butterflies of rows of one chunk.
+#[derive(Drop)]
+pub struct Butterflies<'t> {
+    naive: Naive<'t>,
+    forward: Cell<usize>,
+    backward: Cell<usize>,
+}
+
+impl Kernel for Butterflies<'_> {
+    fn tables(&self) -> LentTables<'_> {
+        self.naive.tables()
+    }
+
+    fn fft_butterfly(&self, x: &mut [[u8; 64]], y: &mut [[u8; 64]], log_m: GfElement) {
+        self.forward.set(self.forward.get().saturating_add(x.len()));
+        self.naive.fft_butterfly(x, y, log_m);
+    }
+
+    fn ifft_butterfly(&self, x: &mut [[u8; 64]], y: &mut [[u8; 64]], log_m: GfElement) {
+        self.backward
+            .set(self.backward.get().saturating_add(x.len()));
+        self.naive.ifft_butterfly(x, y, log_m);
+    }
+
+    fn mul_row(&self, x: &mut [[u8; 64]], log_m: GfElement) {
+        self.naive.mul_row(x, log_m);
+    }
+}
+
+// The engine after a decode of eight originals, all of them zeros and lost, from eight recovery shards.
+fn after_decode<E: Engine>(alloc: Global, engine: E) -> Result<E, Error> {
+    let mut decoder = LowRateDecoder::new(alloc, 8, 8, 2, engine, None)?;
+    for index in 0..8 {
+        decoder.add_recovery_shard(index, &[0, 0])?;
+    }
+    drop(decoder.decode(&mut Steps::new())?);
+    Ok(decoder.into_parts().0)
+}
+
+#[test]
+fn a_decode_over_16_rows_locates_at_16_points(rt: HostRuntime) -> Result<(), Fail> {
+    let tables = Tables::new(rt.alloc())?;
+    let engine = Locating {
+        naive: Naive::new(&tables),
+        entries: Cell::new(0),
+    };
+    assert_eq!(rt; after_decode(rt.alloc(), engine)?.entries.get(), 16);
+    Ok(())
+}
+
+// A transform of 16 rows has two layers of eight butterflies between its quarters, and four in each quarter. Two quarters
+// hold nothing given, and of the other two nothing is wanted.
+#[test]
+fn a_decode_leaves_empty_quarters_out(rt: HostRuntime) -> Result<(), Fail> {
+    let tables = Tables::new(rt.alloc())?;
+    let engine = Butterflies {
+        naive: Naive::new(&tables),
+        forward: Cell::new(0),
+        backward: Cell::new(0),
+    };
+    let engine = after_decode(rt.alloc(), engine)?;
+    assert_eq!(rt; engine.backward.get(), 24);
+    assert_eq!(rt; engine.forward.get(), 24);
+    Ok(())
 }
