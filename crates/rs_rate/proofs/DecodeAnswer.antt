@@ -97,8 +97,8 @@ columns_of rate k r size surplus marks new locator before after agrees f d =
     let words = d.restores.restored in
     are_columns rate k r size f.exponent f.bound f.zeros_end marks before locator words.coefficients d.even f.frame d.placed d.shards
     (subst (λ (n : ℕ). IsLocatorBelow n (erased (placement rate k r).zeros_from (placement rate k r).zeros_to marks) (λ x. slice_index locator x)) f.rows d.is_locator.values)
-    (λ j s i hj hs hi. words.are_words j s i hj hs (omega (arith, f.rows, hi)))
-    (λ j s hj hs. subst (λ (n : ℕ). IsBackward n 0 (located marks locator (word_in before (row_len size) j s)) (words.coefficients j s)) f.rows (words.are_coefficients j s hj hs))
+    (λ j s i hj hs hi. words.found.are_words j s i hj hs (omega (arith, f.rows, hi)))
+    (λ j s hj hs. subst (λ (n : ℕ). IsBackward n 0 (located marks locator (word_in before (row_len size) j s)) (words.coefficients j s)) f.rows (words.found.of_located j s hj hs))
 
 -- a marked entry at a missing original
 entry_of : (rate : Rate) (k r i : ℕ) (marks : List Bool) (f : HasFrame rate k r) → i < k → is_marked marks ((placement rate k r).originals_from + i) ≡ false
@@ -127,8 +127,8 @@ told rate k r size surplus marks new locator before after agrees supported d =
     f.exponent f.bound f.zeros_end surplus (erased (placement rate k r).zeros_from (placement rate k r).zeros_to marks) (words_given marks before size)
     (λ j. located marks locator (word_in before (row_len size) (j / 32) (j % 32))) (λ j. d.restores.restored.coefficients (j / 32) (j % 32))
     (columns_of rate k r size surplus marks new locator before after agrees f d) (given_count rate (decoder_shape rate k r size) marks before (k + surplus) d.counted) in (
-      λ some. d.restores.restored.checked.0 (λ i j past below inside. exact.0 some j i inside (omega (arith, f.rows, past)) (omega (arith, f.rows, below))),
-      λ yes. exact.1 (λ j i inside past below. d.restores.restored.checked.1 yes i j (omega (arith, f.rows, past)) (omega (arith, f.rows, below)) inside),
+      λ some. d.restores.restored.found.checked.0 (λ i j past below inside. exact.0 some j i inside (omega (arith, f.rows, past)) (omega (arith, f.rows, below))),
+      λ yes. exact.1 (λ j i inside past below. d.restores.restored.found.checked.1 yes i j (omega (arith, f.rows, past)) (omega (arith, f.rows, below)) inside),
     )
 
 -- what was restored in a missing original's row is the shard of a message that agrees
@@ -203,7 +203,7 @@ by_answer rate k r size surplus marks new locator before after false supported d
     let s = decoder_shape rate k r size in
     let count = given_count rate s marks before (k + surplus) d.counted in
     let some : 0 < surplus = elim (cases_eq surplus 0) [
-      | inl none ↦ absurd (true≢false (sym (d.restores.restored.checked.0 (λ i j past below inside. absurd (let no : ⊥ = omega (arith, none, past, below) in no)))))
+      | inl none ↦ absurd (true≢false (sym (d.restores.restored.found.checked.0 (λ i j past below inside. absurd (let no : ⊥ = omega (arith, none, past, below) in no)))))
       | inr some ↦ omega arith
     ] in
     record {

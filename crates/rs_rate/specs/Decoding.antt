@@ -47,12 +47,16 @@ AreRevealed shape marks locator coefficients new =
     → (added : ℕ → ℕ) × IsDerivativeAdded shape.frame.row_count coefficients added
     × (new p ≡ product (forward shape.frame.row_count 0 added p) (power (65535 - slice_index locator p)))
 
--- in each column (symbol s of chunk k): the located words are values of a polynomial; whether its last coefficients are zero is answered, and if so the missing words are revealed
+-- in each column (symbol s of chunk k): words, the coefficients of the polynomial through the located words; whether the last of them, as many as surplus shards, are zero is answered
+pub record AreCoefficients (shape : DecoderShape) (marks : List Bool) (locator : List ℕ) (surplus : ℕ) (old coefficients : ℕ → ℕ → ℕ → ℕ) (agrees : Bool) : Type 0 where
+  pub are_words : (k s i : ℕ) → k < row_len shape.configuration.shard_bytes → s < 32 → i < shape.frame.row_count → coefficients k s i < 65536
+  pub of_located : (k s : ℕ) → k < row_len shape.configuration.shard_bytes → s < 32 → IsBackward shape.frame.row_count 0 (located marks locator (old k s)) (coefficients k s)
+  pub checked : ((i j : ℕ) → shape.frame.row_count ≤ i + surplus → i < shape.frame.row_count → j < shape.configuration.shard_bytes / 2 → coefficients (j / 32) (j % 32) i ≡ 0) ↔ (agrees ≡ true)
+
+-- in each column: the located words are values of a polynomial; whether its last coefficients are zero is answered, and if so the missing words are revealed
 pub record RestoresWords (shape : DecoderShape) (marks : List Bool) (locator : List ℕ) (surplus : ℕ) (old new : ℕ → ℕ → ℕ → ℕ) (agrees : Bool) : Type 0 where
   pub coefficients : ℕ → ℕ → ℕ → ℕ
-  pub are_words : (k s i : ℕ) → k < row_len shape.configuration.shard_bytes → s < 32 → i < shape.frame.row_count → coefficients k s i < 65536
-  pub are_coefficients : (k s : ℕ) → k < row_len shape.configuration.shard_bytes → s < 32 → IsBackward shape.frame.row_count 0 (located marks locator (old k s)) (coefficients k s)
-  pub checked : ((i j : ℕ) → shape.frame.row_count ≤ i + surplus → i < shape.frame.row_count → j < shape.configuration.shard_bytes / 2 → coefficients (j / 32) (j % 32) i ≡ 0) ↔ (agrees ≡ true)
+  pub found : AreCoefficients shape marks locator surplus old coefficients agrees
   pub revealed : agrees ≡ true → (k s : ℕ) → k < row_len shape.configuration.shard_bytes → s < 32
       → AreRevealed shape marks locator (coefficients k s) (new k s)
 

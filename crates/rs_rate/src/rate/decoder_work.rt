@@ -5,7 +5,7 @@ ghost use Rattle.rs_field.specs.code.Column.{IsShard};
 ghost use Rattle.rs_field.specs.code.Counts.{Rate};
 ghost use Rattle.rs_field.specs.code.Outcome.{answer_of, state_after};
 ghost use Rattle.rs_field.specs.code.Configuration.{configuration, validated as validated_as, UpToMemory};
-ghost use Rattle.rs_field.specs.code.Decoder.{fresh_decoder, with_original, with_recovery, enough_given};
+ghost use Rattle.rs_field.specs.code.Decoder.{fresh_decoder, enough_given};
 ghost use Rattle.rs_field.specs.rows.MarkedRows.{is_marked};
 ghost use Rattle.rs_rate.specs.Shapes.{DecoderCanBeLaid, original_row};
 ghost use Rattle.rs_rate.specs.ShardRows.{asked, chunk_count as chunk_count_of, shard_laid_out};
@@ -154,7 +154,7 @@ impl DecoderMemory {
         let rows = shape.frame.row_count;
         let chunks = chunk_count(rows, shape.configuration.shard_bytes)?;
         make_room(&mut self.chunks, chunks)?;
-        self.marks.make_room(rows)?;
+        make_room(&mut self.marks.rows, rows)?;
         make_room(&mut self.erasures, rows)?;
         set_chunks(&mut self.chunks, chunks);
         self.marks.set_empty(rows);
@@ -231,36 +231,8 @@ impl DecoderRows {
         Ok(())
     }
 
-    pub(crate) fn add_original_shard(
-        &mut self,
-        index: usize,
-        original_shard: &[u8],
-    ) -> Result<(), Error>
-        ensures answer { (rate : Rate) → result ≡ answer_of (with_original (decoder_state rate self.old) index original_shard.now) }
-        ensures left { (rate : Rate) → decoder_state rate self.new
-            ≡ state_after (decoder_state rate self.old) (with_original (decoder_state rate self.old) index original_shard.now) }
-        ensures shape { self.new.shape ≡ self.old.shape }
-        ensures room { memory_room self.new.memory ≡ memory_room self.old.memory }
-    {
-        self.add_shard(Side::Original, index, original_shard)
-    }
-
-    pub(crate) fn add_recovery_shard(
-        &mut self,
-        index: usize,
-        recovery_shard: &[u8],
-    ) -> Result<(), Error>
-        ensures answer { (rate : Rate) → result ≡ answer_of (with_recovery (decoder_state rate self.old) index recovery_shard.now) }
-        ensures left { (rate : Rate) → decoder_state rate self.new
-            ≡ state_after (decoder_state rate self.old) (with_recovery (decoder_state rate self.old) index recovery_shard.now) }
-        ensures shape { self.new.shape ≡ self.old.shape }
-        ensures room { memory_room self.new.memory ≡ memory_room self.old.memory }
-    {
-        self.add_shard(Side::Recovery, index, recovery_shard)
-    }
-
     // Enters a shard of a side in its row, where the row is free.
-    fn add_shard(&mut self, side: Side, index: usize, shard: &[u8]) -> Result<(), Error>
+    pub(crate) fn add_shard(&mut self, side: Side, index: usize, shard: &[u8]) -> Result<(), Error>
         ensures answer { (rate : Rate) → result ≡ answer_of (with_given side (decoder_state rate self.old) index shard.now) }
         ensures left { (rate : Rate) → decoder_state rate self.new
             ≡ state_after (decoder_state rate self.old) (with_given side (decoder_state rate self.old) index shard.now) }

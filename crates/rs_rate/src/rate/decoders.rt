@@ -8,6 +8,7 @@ use crate::rate::code::{Code, DefaultCode, HighCode, LowCode, RateOf};
 use crate::rate::configuration::Configuration;
 use crate::rate::decoder_work::{DecoderRows, DecoderShape};
 use crate::rate::rounds::{decode_round, lent_originals};
+use crate::rate::side::Side;
 use crate::rate::{DecoderWork, RateDecoder};
 use rs_field::engine::{Engine, Steps};
 use rs_field::error::Error;
@@ -86,11 +87,11 @@ impl<E: Engine, C: Code> RateDecoder<E> for Decoder<E, C> {
     }
 
     fn add_original_shard(&mut self, index: usize, original_shard: &[u8]) -> Result<(), Error> {
-        self.rows.add_original_shard(index, original_shard)
+        self.rows.add_shard(Side::Original, index, original_shard)
     }
 
     fn add_recovery_shard(&mut self, index: usize, recovery_shard: &[u8]) -> Result<(), Error> {
-        self.rows.add_recovery_shard(index, recovery_shard)
+        self.rows.add_shard(Side::Recovery, index, recovery_shard)
     }
 
     fn decode(&mut self, steps: &mut Steps) -> Result<DecoderResult<'_>, Error> {

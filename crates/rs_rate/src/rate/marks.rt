@@ -1,11 +1,10 @@
 //! Which rows of a decoder hold given shards and, once a decode restores, which of them restored ones.
-ghost use Rattle.std.specs.Prelude.{◌≡◌, ◌≢◌, ℕ, ◌+◌, ◌<◌, ◌≤◌, true, false, length, vec_len, OnOk, IfErr, IsOk};
+ghost use Rattle.std.specs.Prelude.{◌≡◌, ◌≢◌, ℕ, ◌+◌, ◌<◌, ◌≤◌, true, false, length, vec_len};
 ghost use Rattle.std.specs.Vec.{vec_capacity};
 ghost use Rattle.rs_field.specs.rows.MarkedRows.{is_marked};
 ghost use Rattle.rs_rate.specs.Marks.{given_marks, restored_marks, WantsMissing};
 
-use crate::rate::memory::{make_room, set_length};
-use rs_field::error::Error;
+use crate::rate::memory::set_length;
 use std::alloc::Global;
 
 /// Which shards a decoder's marks tell of: while they are added, those that are given; from the decode on, the
@@ -30,18 +29,6 @@ impl Marks {
             rows: Vec::new(alloc),
             shards: MarkedShards::Given,
         }
-    }
-
-    // Makes room for the marks of so many rows; nothing else changes.
-    pub(crate) fn make_room(&mut self, rows: usize) -> Result<(), Error>
-        ensures rows { self.new.rows.items ≡ self.old.rows.items }
-        ensures shards { self.new.shards ≡ self.old.shards }
-        ensures room { OnOk result (rows ≤ vec_capacity self.new.rows) }
-        ensures grown { vec_capacity self.old.rows ≤ vec_capacity self.new.rows }
-        ensures memory { IfErr result (λ e. e ≡ Error.OutOfMemory) }
-        ensures enough { rows ≤ vec_capacity self.old.rows → IsOk result }
-    {
-        make_room(&mut self.rows, rows)
     }
 
     // Has so many rows, none of them with a given shard, for which there is room.

@@ -6,12 +6,12 @@
 //! agrees with all that is given. The polynomial plus its derivative takes at each erased row the wanted word times
 //! the locator's derivative. The method is that of Lin, Chung and Han in the form of Leopard-RS; the check is added.
 ghost use Rattle.std.specs.Prelude.{◌≡◌, ℕ, ◌+◌, ◌-◌, ◌/◌, ◌%◌, ◌^◌, ◌<◌, ◌≤◌, ◌↔◌, true, false, length, replicate, slice_index, vec_len};
-ghost use Rattle.rs_field.specs.words.StepBounds.{CountsRows, CountsUpTo};
+ghost use Rattle.rs_field.specs.words.StepBounds.{CountsRows, CountsUpTo, transform_steps};
 ghost use Rattle.rs_field.specs.words.Field.{product, power};
 ghost use Rattle.rs_field.specs.rows.Layout.{row_len as chunks_for};
 ghost use Rattle.rs_field.specs.rows.View.{cell, word, Fits, SameShape};
 ghost use Rattle.rs_field.specs.rows.MarkedRows.{is_marked};
-ghost use Rattle.rs_rate.specs.Decoding.{located, CanBeRestored, restore_steps, RestoresWords};
+ghost use Rattle.rs_rate.specs.Decoding.{located, AreCoefficients, CanBeRestored, restore_steps, RestoresWords};
 ghost use Rattle.rs_rate.specs.Marks.{given_marks, restored_marks, WantsMissing};
 ghost use Rattle.rs_rate.specs.Shapes.{DecoderCanBeLaid, original_row};
 
@@ -53,24 +53,46 @@ pub(crate) fn restore_rows<E: Engine>(
     ensures counts { CountsUpTo (restore_steps round.shape round.surplus) 0 0 steps.old steps.new }
 {
     let shape = round.shape;
-    let given = marks.given();
-    locate_rows(engine, steps, rows, given, locator);
-    engine.ifft_given(steps, rows, 0, given, 0);
-    row_symbols_are_words(rows);
+    let agrees = interpolate(engine, steps, rows, marks.given(), locator, round);
     marks.want_missing(
         shape.frame.originals_from,
         shape.configuration.original_count,
     );
-    let first = shape.frame.row_count - round.surplus;
-    if !are_zero(steps, rows, first, shape.configuration.shard_bytes) {
-        return false;
-    }
-    if round.missing > 0 {
+    if agrees && round.missing > 0 {
         formal_derivative(steps, rows);
         engine.fft_wanted(steps, rows, 0, marks.restored(), 0);
         reveal_rows(engine, steps, rows, marks, locator, shape);
     }
-    true
+    agrees
+}
+
+// Makes of the given words the coefficients of the polynomial through the located ones, and answers whether the last
+// of them, as many as surplus shards, are zero.
+fn interpolate<E: Engine>(
+    engine: &E,
+    steps: &mut Steps,
+    rows: &mut ShardsRefMut<'_>,
+    given: &[bool],
+    locator: &[GfElement],
+    round: Round,
+) -> bool
+    requires fits { Fits rows.old }
+    requires count { rows.old.shard_count ≡ round.shape.frame.row_count }
+    requires len { rows.old.shard_len_64 ≡ chunks_for round.shape.configuration.shard_bytes }
+    requires laid { DecoderCanBeLaid round.shape }
+    requires marked { length given.now ≡ round.shape.frame.row_count }
+    requires located { length locator.now ≡ round.shape.frame.row_count }
+    requires few_surplus { round.surplus ≤ round.shape.frame.row_count }
+    ensures shape { SameShape rows.old rows.new }
+    ensures coefficients { AreCoefficients round.shape given.now locator.now round.surplus (word rows.old) (word rows.new) result }
+    ensures counts { CountsUpTo (round.shape.frame.row_count + (transform_steps round.shape.frame.row_count + round.surplus)) 0 0 steps.old steps.new }
+{
+    let shape = round.shape;
+    locate_rows(engine, steps, rows, given, locator);
+    engine.ifft_given(steps, rows, 0, given, 0);
+    row_symbols_are_words(rows);
+    let first = shape.frame.row_count - round.surplus;
+    are_zero(steps, rows, first, shape.configuration.shard_bytes)
 }
 
 // Multiplies the given rows by the locator's power at their points, and clears the others; a row step each at most.

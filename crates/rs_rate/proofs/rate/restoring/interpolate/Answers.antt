@@ -1,0 +1,27 @@
+use Rattle.std.proofs.Common.{◌≡◌, ℕ, ◌-◌, List, Bool, refl, sym, ap, ◌∙◌, arith}
+use Rattle.rs_field.specs.rows.View.{word}
+use Rattle.rs_rate.proofs.DecoderLemmas.{rows_power}
+use Rattle.rs_rate.proofs.RestoringRows.{from_row_zero, checked_rows}
+use Rattle.rs_rate.proofs.rate.restoring.interpolate.Goals as goal
+
+pub ifft_given-requires-clause-power : goal.ifft_given-requires-clause-power
+ifft_given-requires-clause-power g c =
+    let p = rows_power c.args.round.shape c.requires.laid in (p.0, c.requires.marked ∙ p.1)
+
+pub returns-clause-coefficients : goal.returns-clause-coefficients
+returns-clause-coefficients g c =
+    let s = c.args.round.shape in
+    let old = c.args.rows.now in
+    let passed = c.ifft_given.new.«data» in
+    let located_shape = c.locate_rows.ensures.shape in
+    let shape = c.ifft_given.ensures.shape in
+    let rows = s.frame.row_count in
+    record {
+      are_words = λ k t i hk ht hi. c.row_symbols_are_words.ensures k t i (omega (arith, hk, shape.len_64, located_shape.len_64, c.requires.len)) ht (omega (arith, hi, shape.count, located_shape.count, c.requires.count));
+      of_located = λ k t hk ht i hi.
+          sym (c.locate_rows.ensures.located k t i (omega (arith, hk, c.requires.len)) ht (omega (arith, hi, c.requires.count)))
+          ∙ from_row_zero _ rows i (word c.locate_rows.new.rows k t) (word passed k t) c.requires.marked
+          (c.ifft_given.ensures.values k t i (omega (arith, hk, located_shape.len_64, c.requires.len)) ht (omega (arith, hi, c.requires.marked)));
+      checked = checked_rows rows c.args.round.surplus s.configuration.shard_bytes passed.shard_count (rows - c.args.round.surplus) (word passed) c.are_zero.result c.are_zero.result
+          c.requires.few_surplus refl (shape.count ∙ located_shape.count ∙ c.requires.count) refl c.are_zero.ensures.zero;
+    }
