@@ -23,12 +23,14 @@ pub record IsLocatorOf (frame : Frame) (marks : List Bool) (locator : List ℕ) 
   pub are_words : (x : ℕ) → slice_index locator x < 65536
   pub values : IsLocatorBelow frame.row_count (erased frame.zeros_from frame.zeros_to marks) (λ x. slice_index locator x)
 
--- what a round begins with: a shape that can be laid, as many marks as rows, which tell of given shards; so many originals missing, and no more surplus shards than rows
+-- what a round begins with: a shape that can be laid, as many marks as rows, which tell of given shards; so many originals missing, and so many shards given beyond the originals' number, no more than rows
 pub record CanBeRestored (round : Round) (marks : Marks) : Type 0 where
   pub laid : DecoderCanBeLaid round.shape
   pub marked : vec_len marks.rows ≡ round.shape.frame.row_count
   pub shards : marks.shards ≡ Given
-  pub counted : given_row_count (given_marks marks) round.shape.frame.originals_from round.shape.configuration.original_count + round.missing ≡ round.shape.configuration.original_count
+  pub missing_counted : given_row_count (given_marks marks) round.shape.frame.originals_from round.shape.configuration.original_count + round.missing ≡ round.shape.configuration.original_count
+  pub surplus_counted : given_row_count (given_marks marks) round.shape.frame.originals_from round.shape.configuration.original_count
+      + given_row_count (given_marks marks) round.shape.frame.recovery_from round.shape.configuration.recovery_count ≡ round.shape.configuration.original_count + round.surplus
   pub few_surplus : round.surplus ≤ round.shape.frame.row_count
 
 -- the row steps of restoring words in the rows of a shape: each row located, a transform, the surplus rows tested, two transforms, the originals' rows revealed

@@ -262,8 +262,6 @@ impl DecoderRows {
     pub(crate) fn round(&self) -> Round
         requires { self.now.shape.configuration.original_count ≤ self.now.originals_given + self.now.recovery_given }
         ensures shape { result.shape ≡ self.now.shape }
-        ensures missing { result.missing + self.now.originals_given ≡ self.now.shape.configuration.original_count }
-        ensures surplus { result.surplus + self.now.shape.configuration.original_count ≡ self.now.originals_given + self.now.recovery_given }
         ensures facts { CanBeRestored result self.now.memory.marks }
     {
         let given = self.originals_given + self.recovery_given;

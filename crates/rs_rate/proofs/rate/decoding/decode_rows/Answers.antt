@@ -11,7 +11,7 @@ use Rattle.rs_rate.specs.Decoding.{IsLocatorOf, RestoresShards}
 use Rattle.rs_rate.specs.Marks.{given_marks, restored_marks, WantsMissing}
 use Rattle.rs_rate.specs.ShardRows.{shard_in_order}
 use Rattle.rs_rate.proofs.DecodeAnswer.{AnswersOver, decode_answers, complete_answers, told_answer}
-use Rattle.rs_rate.proofs.DecoderLemmas.{given_row_count-most, hold_nothing, none_told, nothing-given}
+use Rattle.rs_rate.proofs.DecoderLemmas.{given_row_count-most, hold_nothing, none_told, nothing-given, round_counts}
 use Rattle.rs_rate.proofs.ResultLemmas.{length-restored}
 use Rattle.rs_rate.proofs.rate.decoding.decode_rows.Goals as goal
 use Rattle.rs_rate.proofs.rate.decoding.decode_rows.Goals.{then-agrees, else-agrees}
@@ -50,9 +50,9 @@ returns-clause-answer g c = λ rate is.
     let marks = restored_marks c.restore-agrees.new.memory.marks in
     let chunks = c.restore-agrees.new.memory.chunks.items in
     let round = c.round-round.ensures in
+    let counts = round_counts s c.round-round.result old.memory.marks round.shape round.facts in
     let missing : WantsMissing c.args.rows.now.shape.frame.originals_from c.args.rows.now.shape.configuration.original_count c.args.rows.now.memory.marks c.restore-agrees.new.memory.marks =
     subst (λ (x : DecoderShape). WantsMissing x.frame.originals_from x.configuration.original_count old.memory.marks c.restore-agrees.new.memory.marks) round.shape c.restore-agrees.ensures.marks in
-    let most = given_row_count-most given from s.configuration.original_count in
     let most_too = given_row_count-most given s.frame.recovery_from s.configuration.recovery_count in
     let sized = λ (i : ℕ) (inside : i < s.configuration.original_count).
     subst (λ (xs : Chunks). IsShard s.configuration.shard_bytes (shard_in_order xs s.configuration.shard_bytes (from + i))) c.as_slice.ensures.value
@@ -61,7 +61,7 @@ returns-clause-answer g c = λ rate is.
     let told : ((c.restore-agrees.result ≡ true) × (c.if-agrees.answer ≡ Ok (s.configuration.original_count - old.originals_given)))
     ⊎ ((c.restore-agrees.result ≡ false) × (c.if-agrees.answer ≡ Err (InconsistentShards c.args.rows.now.originals_given c.args.rows.now.recovery_given))) =
     elim c.if-agrees.branch [
-      | then-agrees w ↦ inl (w.if-agrees.true, w.answer-is ∙ ap Ok (let is : c.round-round.result.missing ≡ c.args.rows.now.shape.configuration.original_count - c.args.rows.now.originals_given = omega arith in is))
+      | then-agrees w ↦ inl (w.if-agrees.true, w.answer-is ∙ ap Ok (let is : c.round-round.result.missing ≡ c.args.rows.now.shape.configuration.original_count - c.args.rows.now.originals_given = omega (arith, counts.0, old.given.originals_counted) in is))
       | else-agrees w ↦ inr (w.if-agrees.false, w.answer-is)
     ] in
     let over : AnswersOver rate c.args.rows.now.shape (given_marks c.args.rows.now.memory.marks) (restored_marks c.restore-agrees.new.memory.marks) c.args.rows.now.memory.chunks.items c.restore-agrees.new.memory.chunks.items c.restore-agrees.result =
@@ -69,8 +69,8 @@ returns-clause-answer g c = λ rate is.
       | inl none ↦
           subst (λ b. AnswersOver rate s given marks before chunks b) (sym (c.restore-agrees.ensures.nothing (omega arith) (omega arith)))
           (complete_answers rate s given marks before chunks is.rows.valid is.shaped old.laid.configured.even old.given.shards
-          (omega (arith, none, most, most_too, round.missing, round.surplus, old.given.originals_counted, old.given.recovery_counted))
-          (omega (arith, none, most, most_too, round.missing, round.surplus, old.given.originals_counted, old.given.recovery_counted)) missing.missing)
+          (omega (arith, none, most_too, counts.0, counts.1))
+          (omega (arith, none, most_too, counts.0, counts.1)) missing.missing)
       | inr some ↦
           let made =
           subst (λ (x : DecoderShape). (locator : List ℕ) × IsLocatorOf x.frame given locator
@@ -81,7 +81,7 @@ returns-clause-answer g c = λ rate is.
             even = old.laid.configured.even;
             placed = old.given.placed;
             shards = old.given.shards;
-            counted = omega (arith, round.surplus, old.given.originals_counted, old.given.recovery_counted);
+            counted = counts.1;
             is_locator = made.1;
             restores = made.2;
             marked = missing.missing;
@@ -96,10 +96,11 @@ returns-clause-counted g c =
     let s = old.shape in
     let given = given_marks old.memory.marks in
     let new = c.restore-agrees.new.memory in
+    let counts = round_counts s c.round-round.result old.memory.marks c.round-round.ensures.shape c.round-round.ensures.facts in
     let missing : WantsMissing c.args.rows.now.shape.frame.originals_from c.args.rows.now.shape.configuration.original_count c.args.rows.now.memory.marks c.restore-agrees.new.memory.marks =
     subst (λ (x : DecoderShape). WantsMissing x.frame.originals_from x.configuration.original_count old.memory.marks new.marks) c.round-round.ensures.shape c.restore-agrees.ensures.marks in
     let counted = length-restored given (restored_marks new.marks) new.chunks.items s.configuration.shard_bytes s.frame.originals_from s.configuration.original_count missing.missing in
     elim c.if-agrees.branch [
-      | then-agrees w ↦ let is : c.if-agrees.answer ≡ Ok c.round-round.result.missing = w.answer-is in rw (is, sub-zero) (omega (arith, counted, old.given.originals_counted, c.round-round.ensures.missing))
+      | then-agrees w ↦ let is : c.if-agrees.answer ≡ Ok c.round-round.result.missing = w.answer-is in rw (is, sub-zero) (omega (arith, counted, counts.0))
       | else-agrees w ↦ rw w.answer-is tt
     ]

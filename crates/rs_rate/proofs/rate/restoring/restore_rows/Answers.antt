@@ -59,7 +59,7 @@ returns-else-agrees-clause-words g c =
       found = rw (← c.given.ensures.marks) c.interpolate-agrees.ensures.coefficients;
       revealed = λ agreed k t hk ht i hi none. elim c.else-agrees.branch [
         | else-agrees-via-then-agrees+else-round-gt0 w ↦
-            absurd (true≢false (sym (all_given marks s.frame.originals_from s.configuration.original_count (omega (arith, w.if-round-gt0.false, c.requires.facts.counted)) i hi) ∙ none))
+            absurd (true≢false (sym (all_given marks s.frame.originals_from s.configuration.original_count (omega (arith, w.if-round-gt0.false, c.requires.facts.missing_counted)) i hi) ∙ none))
         | else-agrees-via-else-agrees w ↦ absurd (true≢false (sym agreed ∙ w.if-agrees.false))
       ];
     }

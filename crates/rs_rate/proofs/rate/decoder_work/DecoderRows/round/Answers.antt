@@ -18,12 +18,6 @@ overflow_sub-result c =
     let most = given_row_count-most (given_marks w.memory.marks) w.shape.frame.originals_from w.shape.configuration.original_count in
     omega (arith, most, w.given.originals_counted)
 
-pub returns-clause-missing : goal.returns-clause-missing
-returns-clause-missing c =
-    let w = c.args.self.now in
-    let most = given_row_count-most (given_marks w.memory.marks) w.shape.frame.originals_from w.shape.configuration.original_count in
-    omega (arith, most, w.given.originals_counted)
-
 pub returns-clause-facts : goal.returns-clause-facts
 returns-clause-facts c =
     let w = c.args.self.now in
@@ -36,6 +30,7 @@ returns-clause-facts c =
       marked = w.laid_out.marked;
       shards = given_if_some w.memory.marks w.shape.frame.originals_from w.shape.configuration.original_count w.shape.frame.recovery_from w.shape.configuration.recovery_count
           (omega (arith, some, c.requires, most, w.given.originals_counted, w.given.recovery_counted));
-      counted = omega (arith, most, w.given.originals_counted);
+      missing_counted = omega (arith, most, w.given.originals_counted);
+      surplus_counted = omega (arith, c.requires, w.given.originals_counted, w.given.recovery_counted);
       few_surplus = omega (arith, most, most_too, w.given.originals_counted, w.given.recovery_counted, w.laid.places.recovery);
     }
