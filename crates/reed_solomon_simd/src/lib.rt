@@ -4,6 +4,13 @@
 #![tactic(auto)]
 
 mod all_came;
+/// Encoders and decoders of the default rate with a message's shards given to them: a round whose result is lent.
+///
+/// ```
+/// // quoted: crates/rs/src/program.rt
+/// let coded = encoder.encode(&mut Steps::new())?;
+/// lines(alloc, coded.recovery_iter())
+/// ```
 pub mod coders;
 mod decoder;
 mod encoder;
@@ -11,6 +18,11 @@ mod one_call;
 mod slices;
 
 /// The version of this library.
+///
+/// ```
+/// // quoted: crates/rs/src/main.rt
+/// write_text(out, VERSION)
+/// ```
 pub const VERSION: &str = "1.1";
 
 pub use decoder::ReedSolomonDecoder;
@@ -45,7 +57,14 @@ pub use rs_rate::{DecoderResult, EncoderResult, Recovery, RestoredOriginal};
 /// let engine = DefaultEngine::new(&tables, EngineKind::Ssse3);
 /// ```
 pub mod engine {
-    pub use rs_engines::engine_default::{DefaultEngine, EngineKind, UnknownEngine};
+    pub use rs_engines::engine_default::{DefaultEngine, EngineKind};
+    /// A word that names no engine.
+    ///
+    /// ```
+    /// // quoted: crates/rs/src/command.rt
+    /// let Ok(engine) = EngineKind::from_str(engine.as_str()) else {
+    /// ```
+    pub use rs_engines::engine_default::UnknownEngine;
     pub use rs_engines::engine_nosimd::NoSimd;
     pub use rs_engines::engine_shuffle::{Avx2, Ssse3};
     /// The field's constants.
