@@ -1,5 +1,5 @@
 -- The derivative of polynomials: of sums, of multiples, and of products of factors x + a; that of a subspace polynomial is one.
-use Rattle.std.proofs.Common.{rules, ◌≡◌, ℕ, zero, suc, ◌+◌, ◌/◌, ◌^◌, ◌<◌, ◌≤◌, List, [], ◌∷◌, bit_xor, refl, sym, ap, ap₂, ◌∙◌, subst, arith, add-zero, add-suc, zero-add, pow-suc, one-mul, pow_mono}
+use Rattle.std.proofs.Common.{rules, ◌≡◌, ℕ, zero, suc, ◌+◌, ◌/◌, ◌^◌, ◌<◌, ◌≤◌, List, [], ◌∷◌, bit_xor, refl, sym, ap, ◌∙◌, subst, arith, add-zero, add-suc, zero-add, pow-suc, one-mul, pow_mono}
 use Rattle.std.specs.Int.Bits.{xor_comm, xor_assoc, xor_self, xor_zero_r, xor_lt, xor_shr, xor_shifted}
 use Rattle.std.proofs.lemmas.Nat.{pow_pos, pow_below, shl-shr}
 use Rattle.std.proofs.lemmas.Grind.{common_steps}

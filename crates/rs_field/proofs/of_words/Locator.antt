@@ -2,10 +2,10 @@
 use Rattle.std.proofs.lemmas.Grind.{common_steps}
 use Rattle.std.proofs.lemmas.Bool.{cases_eq}
 use Rattle.std.proofs.lemmas.Bool.Decides.{eqb_tells}
-use Rattle.std.proofs.Common.{◌≡◌, ℕ, zero, suc, ◌*◌, ◌^◌, ◌<◌, ◌≤◌, ◌≢◌, cond, bit_xor, sym, ap, ap₂, ◌∙◌, inl, inr, arith}
+use Rattle.std.proofs.Common.{◌≡◌, ℕ, zero, suc, ◌*◌, ◌^◌, ◌<◌, ◌≤◌, ◌≢◌, cond, bit_xor, sym, ap, ◌∙◌, inl, inr, arith}
 use Rattle.std.specs.Prelude.{if◌then◌else◌, ◌==◌}
 use Rattle.std.specs.Int.Bits.{xor_lt}
-use Rattle.rs_field.specs.words.Field.{product, raised, power, log, generator}
+use Rattle.rs_field.specs.words.Field.{raised, power, log, generator}
 use Rattle.rs_field.specs.words.Subspace.{product_below}
 use Rattle.rs_field.specs.words.Locator.{log_sum}
 use Rattle.rs_field.proofs.of_words.Power.{generator_lt, raised-mul, power-add, power_zero, power-log}

@@ -1,6 +1,6 @@
 -- The bytes of a number that is a sum of bytes at their places.
 use Rattle.std.proofs.lemmas.Grind.{common_steps}
-use Rattle.std.proofs.lemmas.Nat.{div-mul-add}
+use Rattle.std.proofs.lemmas.Nat.{div-mul-add, xor_block}
 use Rattle.std.proofs.lemmas.Bool.{cases_eq, cases_lt}
 use Rattle.std.proofs.Common.{bit_xor, ap₂, zero-mul, one-mul, ◌≡◌, ℕ, zero, suc, ◌+◌, ◌*◌, ◌/◌, ◌%◌, ◌^◌, ◌<◌, ◌≤◌, ◌-◌, sym, ap, ◌∙◌, arith, inl, inr, pow-suc, pow-add, mod-lt, mul_comm, mul-suc, mul-zero, mul_assoc, mul-le-mul_right}
 use Rattle.std.specs.Int.{sum_through, byte_worth}
@@ -128,3 +128,12 @@ spread_bytes a b c d x y z w n i ha hb hc hd ex ey ez ew lt en hi =
 
     byte_of_ones : (j : ℕ) → j < 8 → w / 256 ^ j % 256 ≡ d
     byte_of_ones j h = ap (λ w. w / 256 ^ j % 256) (let e : w ≡ packed (λ (i : ℕ). d) 7 = omega (arith, ew) in e) ∙ byte_of_packed (λ (i : ℕ). d) (λ i. hd) 7 j (omega arith)
+
+-- the bytes of a sum are the sums of the bytes
+pub sum_of_bytes : (a b c d : ℕ) → a < 256 → c < 256 → bit_xor a c + 256 * bit_xor b d ≡ bit_xor (a + 256 * b) (c + 256 * d)
+sum_of_bytes a b c d p q =
+    let whole = xor_block 8 b d a c p q in
+    let left : b * 256 + a ≡ a + 256 * b = omega arith in
+    let right : d * 256 + c ≡ c + 256 * d = omega arith in
+    let ends : bit_xor a c + 256 * bit_xor b d ≡ bit_xor b d * 256 + bit_xor a c = omega arith in
+    ends ∙ sym whole ∙ ap (λ n. bit_xor n (d * 256 + c)) left ∙ ap (λ n. bit_xor (a + 256 * b) n) right

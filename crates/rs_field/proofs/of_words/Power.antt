@@ -1,11 +1,10 @@
 -- The powers of the generator: each nonzero word is one of 65535.
-use Rattle.std.proofs.Common.{◌≡◌, ℕ, zero, suc, ◌+◌, ◌-◌, ◌*◌, ◌/◌, ◌%◌, ◌^◌, ◌<◌, ◌≢◌, Bool, true, false, ◌&&◌, ◌||◌, eqb, refl, sym, ap, ap₂, ◌∙◌, subst, arith, inl, inr, add-suc, add-zero, mul-zero, mul-suc, one-mul, mul_assoc, add-one, add-mul, mul_right_comm, true≢false, lit<, mod-lt, eqb-true, ne_eqb, eq-eqb}
+use Rattle.std.proofs.Common.{◌≡◌, ℕ, zero, suc, ◌+◌, ◌-◌, ◌*◌, ◌/◌, ◌%◌, ◌^◌, ◌<◌, ◌≢◌, Bool, true, false, ◌||◌, eqb, refl, sym, ap, ap₂, ◌∙◌, subst, arith, inl, inr, add-suc, add-zero, mul-zero, mul-suc, one-mul, mul_assoc, add-one, add-mul, mul_right_comm, true≢false, lit<, mod-lt, eqb-true, ne_eqb, eq-eqb}
 use Rattle.std.proofs.Math.Nat.{mod-add-div}
 use Rattle.std.proofs.lemmas.Nat.{shr_below, mul-mod_first}
-use Rattle.std.proofs.lemmas.Bool.{cases_eq, cases_order, and_parts}
+use Rattle.std.proofs.lemmas.Bool.{cases_eq, cases_order}
 use Rattle.std.proofs.lemmas.Grind.{common_steps}
 use Rattle.rs_field.specs.words.Field.{combine, cantor_basis, bits, monomials, from_bits, carryless, reduce, product, raised, power, generator, log}
-use Rattle.rs_field.specs.words.Search.{first_below}
 use Rattle.rs_field.proofs.of_words.Search.{first_below-passes, first_below_most}
 use Rattle.rs_field.proofs.of_words.Linear.{passes_below, from_passes_below}
 use Rattle.rs_field.proofs.of_words.Product.{product_lt, product_comm, product_assoc, product_one, one_product}

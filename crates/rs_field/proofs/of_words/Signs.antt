@@ -1,5 +1,5 @@
 -- The signs of a Walsh-Hadamard transform: how they go by halves, and that they are characters of XOR.
-use Rattle.std.proofs.Common.{◌≡◌, ℕ, zero, suc, ◌+◌, ◌*◌, ◌/◌, ◌%◌, ◌^◌, ◌<◌, min, cond, eqb, bit_and, bit_xor, count_ones, refl, sym, ap, ap₂, ◌∙◌, arith, zero-add, pow-suc, mod-lt}
+use Rattle.std.proofs.Common.{◌≡◌, ℕ, zero, suc, ◌+◌, ◌*◌, ◌/◌, ◌%◌, ◌^◌, ◌<◌, min, cond, eqb, bit_and, bit_xor, count_ones, refl, sym, ap, ◌∙◌, arith, zero-add, mod-lt}
 use Rattle.std.proofs.lemmas.Nat.{and_comm, and_block, ones_cat, ones_le_self, xor_shr}
 use Rattle.std.proofs.lemmas.Grind.{common_steps}
 use Rattle.std.specs.Int.Bits.{and_step, xor_add_and, and_lt, and_le_l}

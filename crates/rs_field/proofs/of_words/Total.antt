@@ -1,5 +1,5 @@
 -- The laws of the product at every number: only the lowest 16 bits of a factor count.
-use Rattle.std.proofs.Common.{arith, ◌≡◌, ℕ, ◌*◌, ◌/◌, ◌%◌, ◌^◌, ◌<◌, List, [], ◌∷◌, length, bit_xor, refl, sym, ap, ap₂, ◌∙◌, mod-lt, zero-mul}
+use Rattle.std.proofs.Common.{◌≡◌, ℕ, ◌*◌, ◌/◌, ◌%◌, ◌^◌, ◌<◌, List, [], ◌∷◌, length, bit_xor, refl, sym, ap, ap₂, ◌∙◌, mod-lt, zero-mul}
 use Rattle.std.specs.Int.Bits.{xor_shifted, shifted_half, shifted_even}
 use Rattle.std.proofs.lemmas.Nat.{pow_pos, shr_split}
 use Rattle.rs_field.specs.words.Field.{combine, cantor_basis, bits, from_bits, carryless, reduce, product}
