@@ -2,7 +2,6 @@
 pub mod Runs
 pub mod FourRuns
 pub mod RowOffsets
-pub mod LentRows
 pub mod LayoutLemmas
 pub mod ZeroColumns
 pub mod Symbols

@@ -57,25 +57,22 @@ byte_xor x y i = cc (power_of 8 i, xor_shr x y (8 * i), xor_mod (x / 2 ^ (8 * i)
 low_half : (low high i : ℕ) → i < 8 → (low + 2 ^ 64 * high) / 256 ^ i % 256 ≡ low / 256 ^ i % 256
 low_half low high i h =
     let rest : ℕ = high * 256 ^ (7 - i) in
-    grind (
-      arith,
-      common_steps,
-      add-mul-div_right low (rest * 256) (bytes_pos i),
-      (let gone : (low / 256 ^ i + rest * 256) % 256 ≡ low / 256 ^ i % 256 = omega arith in gone),
-      mul_comm (2 ^ 64) high,
-      pow-add 256 (suc (7 - i)) i,
-      pow-suc 256 (7 - i),
-      mul_assoc high (256 ^ (7 - i) * 256) (256 ^ i),
-      mul_assoc high (256 ^ (7 - i)) 256,
-    )
+    let split : 8 ≡ suc (7 - i) + i = omega arith in
+    let top : 2 ^ 64 * high ≡ rest * 256 * 256 ^ i =
+    mul_comm (2 ^ 64) high
+    ∙ ap (λ n. high * 256 ^ n) split
+    ∙ ap (λ p. high * p) (pow-add 256 (suc (7 - i)) i ∙ ap (λ p. p * 256 ^ i) (pow-suc 256 (7 - i)))
+    ∙ sym (mul_assoc high (256 ^ (7 - i) * 256) (256 ^ i))
+    ∙ ap (λ p. p * 256 ^ i) (sym (mul_assoc high (256 ^ (7 - i)) 256)) in
+    ap (λ n. (low + n) / 256 ^ i % 256) top
+    ∙ ap (λ n. n % 256) (add-mul-div_right low (rest * 256) (bytes_pos i))
+    ∙ (let gone : (low / 256 ^ i + rest * 256) % 256 ≡ low / 256 ^ i % 256 = omega arith in gone)
 
 high_half : (low high j : ℕ) → low < 2 ^ 64 → (low + 2 ^ 64 * high) / 256 ^ (8 + j) % 256 ≡ high / 256 ^ j % 256
 high_half low high j h =
-    cc (
-      pow-add 256 8 j,
-      div-div-eq-div-mul (low + 2 ^ 64 * high) (256 ^ 8) (256 ^ j),
-      (let e : (low + 2 ^ 64 * high) / 2 ^ 64 ≡ high = omega arith in e),
-    )
+    ap (λ p. (low + 2 ^ 64 * high) / p % 256) (pow-add 256 8 j)
+    ∙ ap (λ n. n % 256) (sym (div-div-eq-div-mul (low + 2 ^ 64 * high) (256 ^ 8) (256 ^ j)))
+    ∙ ap (λ n. n / 256 ^ j % 256) (let e : (low + 2 ^ 64 * high) / 2 ^ 64 ≡ high = omega arith in e)
 
 digit_lt : (d a : ℕ) → d < 2 → a < 256 → d * a < 256
 digit_lt d a h1 h2 = grind (arith, common_steps, zero-mul, one-mul)

@@ -99,17 +99,14 @@ check_inverses = (refl, refl, refl, refl)
 unit_from : (p q k m t : ℕ) → p * q ≡ 65535 → k * m ≡ 1 + p * t → power k ≡ 1 → power q ≡ 1
 unfolding power
 unit_from p q k m t whole bezout one =
-    cc (
-      raised-add generator q (65535 * t) generator_lt,
-      raised-mul generator 65535 t generator_lt,
-      power_turn,
-      one_raised t,
-      product_one (raised generator q) (raised_lt generator q),
-      raised-mul generator k (m * q) generator_lt,
-      one_raised (m * q),
-      mul_assoc k m q,
-      expand p q t,
-    )
+    let exponent : k * (m * q) ≡ q + 65535 * t =
+    sym (mul_assoc k m q) ∙ ap (λ v. v * q) bezout ∙ expand p q t ∙ ap (λ v. q + v * t) whole in
+    let left : raised generator (k * (m * q)) ≡ 1 = sym (raised-mul generator k (m * q) generator_lt) ∙ ap (λ v. raised v (m * q)) one ∙ one_raised (m * q) in
+    let right : raised generator (q + 65535 * t) ≡ raised generator q =
+    raised-add generator q (65535 * t) generator_lt
+    ∙ ap (product (raised generator q)) (sym (raised-mul generator 65535 t generator_lt) ∙ ap (λ v. raised v t) power_turn ∙ one_raised t)
+    ∙ product_one (raised generator q) (raised_lt generator q) in
+    sym right ∙ ap (raised generator) (sym exponent) ∙ left
 
 dividend : (n p : ℕ) → n % p ≡ 1 → n ≡ 1 + p * (n / p)
 dividend n p e = sym (mod-add-div n p) ∙ ap (λ v. v + p * (n / p)) e
