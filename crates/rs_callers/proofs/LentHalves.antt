@@ -1,13 +1,13 @@
--- What stands where in a list of which each part after a split was written to.
+-- What stands where in a list of which the first rows of both parts after a split changed places.
 use Rattle.std.proofs.Common.{◌≡◌, ℕ, ◌+◌, ◌-◌, ◌*◌, ◌<◌, ◌≤◌, [], ◌++◌, length, take, drop, sym, ap, ap₂, ◌∙◌, refl, arith}
 use Rattle.std.proofs.lemmas.List.{append_assoc, take-append-drop, drop-take, drop-append-le, length-take-le, length-drop}
-use lib.Seq.{drop-drop}
+use lib.Seq.{drop-drop, take-take}
 use Rattle.rs_field.specs.rows.Rows.{Chunks}
-use Rattle.rs_field.specs.rows.View.{Fits, HasRows}
+use Rattle.rs_field.specs.rows.View.{Fits, HasRows, row_at}
 use Rattle.rs_field.specs.rows.Lending.{between, with_two}
 use Rattle.rs_field.specs.declared.rows.shards.ShardsRefMut.{ShardsRefMut}
-use Rattle.rs_callers.specs.RowsBut.{HasFirstRow}
-use Rattle.rs_field.proofs.of_rows.LentRows.{part-long, ends}
+use Rattle.rs_callers.specs.SwappedRows.{HasFirstRow}
+use Rattle.rs_callers.proofs.LentRows.{part-long, ends, swapped_rows}
 
 -- the rows of a part fit its chunks
 pub fits-part : (h : ShardsRefMut) (i m : ℕ) (r : ShardsRefMut) → i * h.shard_len_64 + m * h.shard_len_64 ≤ length h.chunks.now → HasRows h i m r → Fits r
@@ -46,9 +46,17 @@ joined-parts ch first second a n m short₁ short₂ within =
 pub parted : (m r c n : ℕ) → m + r ≡ c → m * n + r * n ≡ c * n
 parted m r c n e = let products : (m + r) * n ≡ c * n = ap (λ k. k * n) e in omega (arith, products)
 
--- what becomes of the list, if the first row of each of the two parts after a split became another
-module _ (h : ShardsRefMut) (mid : ℕ) (first second : Chunks) (x y x' y' : ShardsRefMut) (fits : h.shard_count * h.shard_len_64 ≤ length h.chunks.now) (some : 0 < mid)
-    (within : mid < h.shard_count) (front : HasRows h 0 mid x) (back : HasRows h mid (h.shard_count - mid) y) (is₁ : HasFirstRow x first x') (is₂ : HasFirstRow y second y') where
+-- the first row of a part
+first-of-part : (h : ShardsRefMut) (i m : ℕ) (r : ShardsRefMut) → 0 < m → HasRows h i m r → row_at r 0 ≡ row_at h i
+first-of-part h i m r some is =
+    let n = h.shard_len_64 in
+    let short = ends n 0 m some in
+    let none : 0 * r.shard_len_64 ≡ 0 = omega arith in
+    ap (λ k. take r.shard_len_64 (drop k r.chunks.now)) none ∙ ap₂ take is.len_64 is.chunks ∙ take-take n (m * n) (drop (i * n) h.chunks.now) (omega (arith, short))
+
+-- what becomes of the list, if the first rows of the two parts after a split changed places
+module _ (h : ShardsRefMut) (mid : ℕ) (x y x' y' : ShardsRefMut) (fits : Fits h) (some : 0 < mid) (within : mid < h.shard_count)
+    (front : HasRows h 0 mid x) (back : HasRows h mid (h.shard_count - mid) y) (is₁ : HasFirstRow x (row_at y 0) x') (is₂ : HasFirstRow y (row_at x 0) y') where
   abbrev n : ℕ
   n = h.shard_len_64
 
@@ -61,19 +69,23 @@ module _ (h : ShardsRefMut) (mid : ℕ) (first second : Chunks) (x y x' y' : Sha
   zero-rows : 0 * n ≡ 0
   zero-rows = omega arith
 
-  first-part : x'.chunks.now ≡ first ++ drop n (take (mid * n) ch)
-  first-part = is₁.chunks ∙ ap₂ (λ k l. first ++ drop k l) front.len_64 (front.chunks ∙ ap (λ k. take (mid * n) (drop k ch)) zero-rows)
+  more : 0 < rest
+  more = omega (arith, within)
 
-  second-part : y'.chunks.now ≡ second ++ drop n (take (rest * n) (drop (mid * n) ch))
-  second-part = is₂.chunks ∙ ap₂ (λ k l. second ++ drop k l) back.len_64 back.chunks
+  first-part : x'.chunks.now ≡ row_at h mid ++ drop n (take (mid * n) ch)
+  first-part =
+      is₁.chunks ∙ ap₂ (λ p l. p ++ l) (first-of-part h mid rest y more back)
+      (ap₂ drop front.len_64 (front.chunks ∙ ap (λ k. take (mid * n) (drop k ch)) zero-rows))
 
-  pub split-written : with_two ch 0 (mid * n) (mid * n) (rest * n) x'.chunks.now y'.chunks.now ≡ with_two ch (0 * n) n ((0 + mid) * n) n first second
+  second-part : y'.chunks.now ≡ row_at h 0 ++ drop n (take (rest * n) (drop (mid * n) ch))
+  second-part = is₂.chunks ∙ ap₂ (λ p l. p ++ l) (first-of-part h 0 mid x some front) (ap₂ drop back.len_64 back.chunks)
+
+  pub split-written : with_two ch 0 (mid * n) (mid * n) (rest * n) x'.chunks.now y'.chunks.now ≡ (swapped_rows h 0 mid).chunks.now
   split-written =
       let whole : mid + rest ≡ h.shard_count = omega (arith, within) in
       let parts = parted mid rest h.shard_count n whole in
       let short₁ = ends n 0 mid some in
-      let short₂ = ends n 0 rest (omega (arith, within)) in
-      let e : mid ≡ 0 + mid = omega arith in
+      let short₂ = ends n 0 rest more in
       ap₂ (λ u v. with_two ch 0 (mid * n) (mid * n) (rest * n) u v) first-part second-part
-      ∙ joined-parts ch first second (mid * n) n (rest * n) (omega (arith, short₁)) (omega (arith, short₂)) (omega (arith, parts, fits))
-      ∙ ap₂ (λ i j. with_two ch i n j n first second) (sym zero-rows) (ap (λ k. k * n) e)
+      ∙ joined-parts ch (row_at h mid) (row_at h 0) (mid * n) n (rest * n) (omega (arith, short₁)) (omega (arith, short₂)) (omega (arith, parts, fits))
+      ∙ ap (λ i. with_two ch i n (mid * n) n (row_at h mid) (row_at h 0)) (sym zero-rows)

@@ -1,5 +1,5 @@
-pub mod LentTwoRows
-pub mod LentFourRows
+pub mod LentWalks
+pub mod LentRows
 pub mod LentHalves
 pub mod Chains
 pub mod Stepping

@@ -1,2 +1,2 @@
 pub mod Losing
-pub mod RowsBut
+pub mod SwappedRows

@@ -1,4 +1,4 @@
--- Lemmas of the code: who codes and restores what, states, round trips. They rest on `words`, and on where shards lie in `rows`.
+-- Lemmas of the code: who codes and restores what, states, round trips. They rest on `words`.
 pub mod NextPower
 pub mod Columns
 pub mod Given
@@ -22,5 +22,6 @@ pub mod Agreement
 pub mod Changes
 pub mod Entries
 pub mod RoundTrip
+pub mod DecodeSteps
 pub mod OneRoundTrip
 pub mod Left

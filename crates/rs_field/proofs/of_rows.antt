@@ -1,8 +1,7 @@
--- Lemmas of rows: layers, parts, lending, layout. They rest on `words`, and on columns and powers of two of `code`.
+-- Lemmas of rows: layers, parts, lending, layout. They rest on `words` and on columns and powers of two of `code`.
 pub mod Runs
 pub mod FourRuns
 pub mod RowOffsets
-pub mod LentRows
 pub mod LayoutLemmas
 pub mod ZeroColumns
 pub mod Symbols

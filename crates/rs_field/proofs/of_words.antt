@@ -1,5 +1,6 @@
--- Lemmas of words: the field, polynomials, transforms, the locator, tables. Of other folders they use the steps of a decode alone.
+-- Lemmas of words: the field, polynomials, transforms, the locator, tables. They rest on nothing else.
 pub mod Search
+pub mod UpTo
 pub mod Linear
 pub mod Product
 pub mod Inverse

@@ -1,5 +1,6 @@
 -- Words as mathematics: the field, polynomials, transforms, the locator, and tables of them. It rests on nothing else.
 pub mod Search
+pub mod UpTo
 pub mod Field
 pub mod Polynomial
 pub mod Subspace

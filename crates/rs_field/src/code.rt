@@ -1,4 +1,3 @@
-//! The code: its refusals, and its laws and worked examples as contracts of functions that do nothing. It rests on the constants of `words`.
+//! The code: its refusals, and its laws as contracts of functions that do nothing. It rests on `words`.
 pub mod error;
 pub mod laws;
-pub mod worked;

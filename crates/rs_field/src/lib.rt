@@ -5,6 +5,7 @@ mod code;
 pub mod engine;
 mod rows;
 mod words;
+pub mod worked;
 
-pub use code::{error, laws, worked};
+pub use code::{error, laws};
 pub use rows::bytes;

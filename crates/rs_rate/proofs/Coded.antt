@@ -5,11 +5,11 @@ use Rattle.rs_field.specs.code.Column.{Shard, IsShard, column, columns}
 use Rattle.rs_field.specs.code.Code.{AreRecovery, AreRecoveryWords}
 use Rattle.rs_field.specs.code.Configuration.{Configuration}
 use Rattle.rs_field.specs.code.Counts.{Rate}
-use Rattle.rs_field.specs.rows.Layout.{up_to}
+use Rattle.rs_field.specs.words.UpTo.{up_to}
 use Rattle.rs_field.specs.rows.Rows.{Chunks, chunk, symbol}
 use Rattle.rs_field.specs.rows.View.{cell, word}
 use Rattle.rs_field.specs.declared.rows.shards.ShardsRefMut.{ShardsRefMut}
-use Rattle.rs_field.proofs.of_rows.LayoutLemmas.{length-up_to, up_to-same}
+use Rattle.rs_field.proofs.of_words.UpTo.{length-up_to, up_to-same}
 use Rattle.rs_rate.specs.Coding.{CodesWords}
 use Rattle.rs_rate.specs.ShardRows.{word_in}
 use Rattle.rs_rate.specs.ObjectLaws.{all-up_to}

@@ -10,7 +10,8 @@ use Rattle.rs_field.specs.code.Placement.{placement, decoder_rows}
 use Rattle.rs_field.specs.code.Configuration.{configuration, validated}
 use Rattle.rs_field.specs.code.Decoder.{DecoderState, originals_given, recovery_given, IsConsistent, missing_of, Restored, NoneAgrees}
 use Rattle.rs_field.specs.code.Given.{count_below, Agrees, Consistent}
-use Rattle.rs_field.specs.rows.Layout.{row_len, up_to}
+use Rattle.rs_field.specs.rows.Layout.{row_len}
+use Rattle.rs_field.specs.words.UpTo.{up_to}
 use Rattle.rs_field.specs.words.Locator.{IsLocatorBelow, log_sum}
 use Rattle.rs_field.specs.rows.Rows.{Chunks}
 use Rattle.rs_field.specs.words.Field.{product, power}
@@ -18,7 +19,7 @@ use Rattle.rs_field.specs.words.Derivative.{IsDerivativeAdded}
 use Rattle.rs_field.specs.words.Transform.{forward, IsBackward}
 use Rattle.rs_field.specs.rows.MarkedRows.{is_marked}
 use Rattle.rs_field.proofs.of_code.Columns.{shard_from_columns}
-use Rattle.rs_field.proofs.of_rows.LayoutLemmas.{length-up_to, get-up_to}
+use Rattle.rs_field.proofs.of_words.UpTo.{length-up_to, get-up_to}
 use Rattle.rs_field.proofs.of_code.MadeShards.{has_recovery}
 use Rattle.rs_field.proofs.of_code.RateFrames.{HasFrame, has_frame}
 use Rattle.rs_field.proofs.of_code.Agreement.{AreColumns, consistent_exactly, restored_column, one_message}

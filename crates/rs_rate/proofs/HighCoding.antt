@@ -9,7 +9,7 @@ use Rattle.rs_field.specs.words.Polynomial.{value}
 use Rattle.rs_field.specs.words.Transform.{sum_below, forward}
 use Rattle.rs_field.specs.code.Counts.{next_power, supports, is_low, high_rate}
 use Rattle.rs_field.specs.code.Placement.{placement, high_placement}
-use Rattle.rs_field.proofs.of_rows.LayoutLemmas.{get-up_to}
+use Rattle.rs_field.proofs.of_words.UpTo.{get-up_to}
 use Rattle.rs_field.proofs.of_words.Combination.{sum_below-suc, sum_below-zero, sum_below-same, sum_below-add, forward-same, forward-zero}
 use Rattle.rs_field.proofs.of_words.Coefficients.{forward-fewer, polynomial_of_terms}
 use Rattle.rs_field.proofs.of_words.TopBlock.{joined_blocks, values-joined, last-joined}

@@ -7,10 +7,10 @@ use Rattle.rs_field.specs.words.Transform.{forward}
 use Rattle.rs_field.specs.code.Counts.{next_power, supports, is_low, low_rate}
 use Rattle.rs_field.specs.code.Placement.{placement, low_placement}
 use Rattle.rs_field.specs.code.Code.{AreRecoveryWords}
-use Rattle.rs_field.specs.rows.Layout.{up_to}
+use Rattle.rs_field.specs.words.UpTo.{up_to}
 use Rattle.rs_field.proofs.of_words.Combination.{forward-same, forward-moved}
 use Rattle.rs_field.proofs.of_words.Coefficients.{polynomial_of_terms}
-use Rattle.rs_field.proofs.of_rows.LayoutLemmas.{get-up_to}
+use Rattle.rs_field.proofs.of_words.UpTo.{get-up_to}
 use Rattle.rs_field.proofs.of_code.SupportedCounts.{low_fits}
 use Rattle.rs_rate.specs.Coding.{CodesLow, CodesWords}
 

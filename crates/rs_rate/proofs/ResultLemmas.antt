@@ -10,7 +10,7 @@ use Rattle.rs_field.specs.code.Given.{Shards, Lists, listed, listed_from, count_
 use Rattle.rs_field.specs.rows.Rows.{Chunks}
 use Rattle.rs_field.specs.rows.MarkedRows.{is_marked}
 use Rattle.rs_field.proofs.of_code.Given.{count_below-zero, count_below-suc}
-use Rattle.rs_field.proofs.of_rows.LayoutLemmas.{length-up_to, get-up_to}
+use Rattle.rs_field.proofs.of_words.UpTo.{length-up_to, get-up_to}
 use Rattle.rs_field.proofs.of_code.Listed.{listed_from-none, listed_from-some, listed_from-past, length-listed}
 use Rattle.rs_rate.specs.declared.rate.decoder_work.DecoderRows.{DecoderRows}
 use Rattle.rs_rate.specs.declared.rate.encoder_work.EncoderRows.{EncoderRows}

@@ -6,11 +6,13 @@ use Rattle.std.proofs.lemmas.Bool.{cases_eq}
 use Rattle.std.proofs.lemmas.List.{places, length-take, length-drop}
 use borrow.Rule.Slice.PartMut.{put_mid}
 use Rattle.rs_field.specs.rows.Rows.{Chunks, chunk}
-use Rattle.rs_field.specs.rows.Layout.{row_len, up_to, laid_out, in_order}
+use Rattle.rs_field.specs.rows.Layout.{row_len, laid_out, in_order}
+use Rattle.rs_field.specs.words.UpTo.{up_to}
 use Rattle.rs_field.specs.code.Column.{Shard, IsShard, column}
 use Rattle.rs_rate.specs.ShardRows.{chunk_count, row_chunk, shard_laid_out, shard_in_order, word_in}
 use Rattle.rs_field.proofs.of_rows.Symbols.{byte_fits}
-use Rattle.rs_field.proofs.of_rows.LayoutLemmas.{up_to-same, laid_out-same, in_order-same, column-laid_out}
+use Rattle.rs_field.proofs.of_rows.LayoutLemmas.{laid_out-same, in_order-same, column-laid_out}
+use Rattle.rs_field.proofs.of_words.UpTo.{up_to-same}
 use Rattle.rs_field.proofs.of_rows.RowOffsets.{offset_apart}
 
 pub chunk_count-is : (rows size : ℕ) → chunk_count rows size ≡ rows * row_len size

@@ -10,7 +10,7 @@ use Rattle.rs_field.specs.code.Outcome.{answer_of, state_after, result_and_then}
 use Rattle.rs_field.specs.code.Configuration.{Configuration, validated, space, started}
 use Rattle.rs_field.specs.code.Encoder.{EncoderState, fresh_encoder, with_shard, message_of, EncodeAnswers, after_encode}
 use Rattle.rs_field.specs.code.Code.{AreRecovery}
-use Rattle.rs_field.specs.rows.Layout.{up_to}
+use Rattle.rs_field.specs.words.UpTo.{up_to}
 use Rattle.rs_rate.specs.declared.rate.encoder_work.EncoderRows.{EncoderRows}
 use Rattle.rs_rate.specs.declared.rate.encoder_work.EncoderShape.{EncoderShape}
 use Rattle.rs_rate.specs.EncoderView.{configuration_of, encoder_state}

@@ -1,7 +1,7 @@
 -- How the words of one column become recovery words, and in how many row steps.
 use Rattle.std.specs.Prelude.{◌≡◌, ℕ, ◌+◌, ◌-◌, ◌*◌, ◌/◌, ◌<◌, ◌≤◌}
 use Rattle.rs_field.specs.code.Counts.{Rate}
-use Rattle.rs_field.specs.rows.Layout.{up_to}
+use Rattle.rs_field.specs.words.UpTo.{up_to}
 use Rattle.rs_field.specs.code.Code.{AreRecoveryWords}
 use Rattle.rs_field.specs.words.Transform.{sum_below, forward}
 use Rattle.rs_field.specs.words.StepBounds.{CountsUpTo}

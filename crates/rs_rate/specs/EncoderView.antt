@@ -5,7 +5,7 @@ use Rattle.rs_field.specs.code.Counts.{Rate}
 use Rattle.rs_field.specs.code.Placement.{encoder_rows}
 use Rattle.rs_field.specs.code.Configuration.{Configuration, configuration}
 use Rattle.rs_field.specs.code.Encoder.{EncoderState}
-use Rattle.rs_field.specs.rows.Layout.{up_to}
+use Rattle.rs_field.specs.words.UpTo.{up_to}
 use Rattle.rs_rate.specs.declared.rate.encoder_work.EncoderShape.{EncoderShape}
 use Rattle.rs_rate.specs.declared.rate.encoder_work.EncoderRows.{EncoderRows}
 use Rattle.rs_rate.specs.declared.rate.encoder_work.EncoderWork.{EncoderWork}

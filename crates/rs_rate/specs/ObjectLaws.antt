@@ -8,11 +8,11 @@ use Rattle.rs_field.specs.code.Counts.{Rate}
 use Rattle.rs_field.specs.code.Encoder.{IsEncoder}
 use Rattle.rs_field.specs.code.Decoder.{IsDecoder}
 use Rattle.rs_field.specs.code.Given.{AreWithin}
-use Rattle.rs_field.specs.rows.Layout.{up_to}
+use Rattle.rs_field.specs.words.UpTo.{up_to}
 use Rattle.rs_field.specs.code.Placement.{encoder_rows, decoder_rows}
 use Rattle.rs_field.specs.rows.Rows.{Chunks}
 use Rattle.rs_field.specs.rows.MarkedRows.{is_marked}
-use Rattle.rs_field.proofs.of_rows.LayoutLemmas.{length-up_to, get-up_to}
+use Rattle.rs_field.proofs.of_words.UpTo.{length-up_to, get-up_to}
 use Rattle.rs_rate.specs.declared.rate.encoder_work.EncoderRows.{EncoderRows}
 use Rattle.rs_rate.specs.declared.rate.decoder_work.DecoderRows.{DecoderRows}
 use Rattle.rs_rate.specs.EncoderView.{encoder_state}

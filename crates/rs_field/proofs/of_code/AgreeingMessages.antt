@@ -8,7 +8,7 @@ use Rattle.rs_field.specs.code.Column.{Shard, IsShard, AreShards, shard_at, colu
 use Rattle.rs_field.specs.code.Placement.{Placement, placement}
 use Rattle.rs_field.specs.code.Configuration.{Configuration}
 use Rattle.rs_field.specs.code.Given.{Shards, Agrees, Consistent}
-use Rattle.rs_field.specs.code.Code.{Codes, AreRecoveryWords}
+use Rattle.rs_field.specs.code.Code.{Codes}
 use Rattle.rs_field.proofs.of_words.Roots.{value_lt, words_from}
 use Rattle.rs_field.proofs.of_code.Given.{some_of}
 use Rattle.rs_field.proofs.of_code.Columns.{columns-at, shard_from_columns}

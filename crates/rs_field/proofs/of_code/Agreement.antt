@@ -1,6 +1,6 @@
 -- A decode column by column: whether some message agrees, and what is restored.
-use Rattle.std.proofs.Common.{◌≡◌, ℕ, ◌+◌, ◌-◌, ◌/◌, ◌%◌, ◌^◌, ◌<◌, ◌≤◌, List, length, sym, ◌∙◌, arith}
-use Rattle.std.specs.Prelude.{◌↔◌, true, is_some}
+use Rattle.std.proofs.Common.{◌≡◌, ℕ, ◌+◌, ◌-◌, ◌/◌, ◌%◌, ◌^◌, ◌<◌, ◌≤◌, List, sym, ◌∙◌, arith}
+use Rattle.std.specs.Prelude.{◌↔◌, true}
 use Rattle.rs_field.specs.words.Field.{product, power}
 use Rattle.rs_field.specs.words.Transform.{forward}
 use Rattle.rs_field.specs.words.Locator.{log_sum}
@@ -10,13 +10,11 @@ use Rattle.rs_field.specs.code.Column.{Shard, shard_at, column, columns}
 use Rattle.rs_field.specs.code.Placement.{placement}
 use Rattle.rs_field.specs.code.Configuration.{Configuration}
 use Rattle.rs_field.specs.code.Given.{Shards, count_below, Agrees, Consistent}
-use Rattle.rs_field.specs.code.Code.{Codes}
-use Rattle.rs_field.specs.code.CodeLaws.{ArePlaces}
 use Rattle.rs_field.proofs.of_code.Columns.{columns-at}
 use Rattle.rs_field.proofs.of_code.Given.{some_of}
 use Rattle.rs_field.proofs.of_code.Places.{fixed_by_places, places_given, by_place, count-by_place, codeword_given}
-use Rattle.rs_field.proofs.of_code.DecodedColumn.{TakesGiven, IsColumnOf, surplus_rows, some_message, restored_word}
-use Rattle.rs_field.proofs.of_code.AgreeingMessages.{AreSized, HasWords, IsTaken, column_taken, consistent}
+use Rattle.rs_field.proofs.of_code.DecodedColumn.{IsColumnOf, surplus_rows, some_message, restored_word}
+use Rattle.rs_field.proofs.of_code.AgreeingMessages.{AreSized, HasWords, column_taken, consistent}
 
 -- The columns of a decode: shards given of one even size, in each column the words at their places, and the rows.
 pub record AreColumns (c : Configuration) (originals recovery : Shards) (e bound zeros_end : ℕ) (marks : ℕ → ℕ) (words located rows : ℕ → ℕ → ℕ) : Type 0 where

@@ -129,11 +129,10 @@ pub restored_word : (rate : Rate) (k r e bound zeros_end : ℕ) (originals recov
     → (x l : ℕ) → x < 2 ^ e → marks x ≡ 1 → l ≤ 65535 → power l ≡ power (log_sum (2 ^ e) marks x)
     → product (forward (2 ^ e) 0 added x) (power (65535 - l)) ≡ value p x
 restored_word rate k r e bound zeros_end originals recovery marks words located rows added message p c enough codes takes step x l hx one hl same =
-    cc (
-      restored_product rate k r e bound zeros_end originals recovery marks words located rows added message p c enough codes takes step x hx one,
-      product-comm (power (log_sum (2 ^ e) marks x)) (value p x),
-      residue_undone l (value p x) hl (value_lt p x (words_from p codes.coefficients)),
-    )
+    ap (λ w. product w (power (65535 - l)))
+    (restored_product rate k r e bound zeros_end originals recovery marks words located rows added message p c enough codes takes step x hx one
+    ∙ product-comm (power (log_sum (2 ^ e) marks x)) (value p x) ∙ ap (product (value p x)) (sym same))
+    ∙ residue_undone l (value p x) hl (value_lt p x (words_from p codes.coefficients))
 
 -- the values at the originals' points of a polynomial
 message_of : (p : Placement) (k : ℕ) (q : List ℕ) → List ℕ

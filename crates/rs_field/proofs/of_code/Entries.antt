@@ -90,11 +90,9 @@ some-entered given k i x = grind (arith, common_steps)
 pub some-entered_all : (items : Items) (given : Shards) (i : ℕ) → is_some (entered_all given items i) ≡ (is_some (given i) || list_any (λ item. nat_eq i item.0) items)
 some-entered_all [] given i = search rules
 some-entered_all (item ∷ items) given i =
-    cc (
-      some-entered_all items (entered given item.0 item.1) i,
-      some-entered given item.0 i item.1,
-      or_assoc (is_some (given i)) (nat_eq i item.0) (list_any (λ item. nat_eq i item.0) items),
-    )
+    some-entered_all items (entered given item.0 item.1) i
+    ∙ ap (λ b. b || list_any (λ item. nat_eq i item.0) items) (some-entered given item.0 i item.1)
+    ∙ or_assoc (is_some (given i)) (nat_eq i item.0) (list_any (λ item. nat_eq i item.0) items)
 
 count_most : (n : ℕ) (given : Shards) → count_below n given ≤ n
 count_most zero given = omega (arith, count_below-zero given)

@@ -1,5 +1,5 @@
 -- Where both counts have one power, both rates have the same recovery words.
-use Rattle.std.proofs.Common.{rules, ◌≡◌, ℕ, suc, ◌+◌, ◌-◌, ◌*◌, ◌^◌, ◌<◌, ◌≤◌, List, [], ◌∷◌, length, bit_xor, refl, sym, ap, ◌∙◌, arith, inl, inr, one-mul, zero-add, pow_mono, pow-suc}
+use Rattle.std.proofs.Common.{rules, ◌≡◌, ℕ, suc, ◌+◌, ◌-◌, ◌^◌, ◌<◌, ◌≤◌, List, [], ◌∷◌, length, bit_xor, refl, sym, ap, ◌∙◌, arith, inl, inr, one-mul, zero-add, pow_mono}
 use Rattle.std.specs.Prelude.{slice_index, ◌↔◌, true}
 use Rattle.std.specs.Int.Bits.{xor_comm, xor_shifted}
 use Rattle.std.proofs.lemmas.Bool.{cases_lt}
@@ -14,7 +14,7 @@ use Rattle.rs_field.proofs.of_words.Roots.{WordsOneByOne, value-nil, value-cons,
 use Rattle.rs_field.proofs.of_words.Factors.{add, with_root, value_add, value_with_root, length-add, length-with_root, words_add, words_with_root, all_words}
 use Rattle.rs_field.proofs.of_code.Unique.{codes_unique}
 use Rattle.rs_field.proofs.of_code.NextPower.{next_power-small, next_power-least, next_power-above}
-use Rattle.rs_field.proofs.of_code.Frame.{CodesIn, framed}
+use Rattle.rs_field.proofs.of_code.Frame.{framed}
 use Rattle.rs_field.proofs.of_code.SupportedCounts.{high_fits}
 use Rattle.rs_field.proofs.of_code.RateFrames.{high_frame}
 use Rattle.rs_field.proofs.of_code.CodedWords.{recovered, coded_lt}

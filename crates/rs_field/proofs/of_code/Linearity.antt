@@ -1,5 +1,5 @@
 -- The code is linear: the recovery shards of the XOR of two messages are the XOR of their recovery shards.
-use Rattle.std.proofs.Common.{rules, ◌≡◌, ℕ, ◌+◌, ◌<◌, List, [], length, min, bit_xor, sym, ap, ap₂, ◌∙◌, subst, arith}
+use Rattle.std.proofs.Common.{rules, ◌≡◌, ℕ, ◌+◌, ◌<◌, List, [], length, min, bit_xor, sym, ap₂, ◌∙◌, subst, arith}
 use Rattle.std.specs.Prelude.{slice_index, slice_index_or, zip}
 use Rattle.std.specs.Int.Bits.{xor_lt}
 use Rattle.std.proofs.lemmas.Bool.{cases_lt}
@@ -14,7 +14,7 @@ use Rattle.rs_field.specs.code.CodeLaws.{xor_bytes, xor_shards}
 use Rattle.rs_field.proofs.of_words.Roots.{words_from}
 use Rattle.rs_field.proofs.of_words.Factors.{add, value_add, length-add, words_add, all_words}
 use Rattle.rs_field.proofs.of_code.Columns.{byte_lt, columns-at, shard_in}
-use Rattle.rs_field.proofs.of_rows.Symbols.{sum_of_bytes}
+use Rattle.rs_field.proofs.of_words.Packed.{sum_of_bytes}
 
 -- ---- polynomials
 

@@ -1,5 +1,5 @@
 -- The shards of a map, listed with their indexes.
-use Rattle.std.proofs.Common.{rules, ◌≡◌, ℕ, zero, suc, ◌+◌, ◌-◌, ◌<◌, ◌≤◌, [], ◌∷◌, ◌++◌, length, refl, sym, ap, ap₂, ◌∙◌, arith, length-append, append_assoc, append-nil, add-zero}
+use Rattle.std.proofs.Common.{rules, ◌≡◌, ℕ, zero, suc, ◌+◌, ◌-◌, ◌<◌, ◌≤◌, [], ◌∷◌, ◌++◌, length, refl, sym, ap, ◌∙◌, arith, length-append, append_assoc, append-nil, add-zero, ap₂}
 use Rattle.std.specs.Prelude.{Some, None}
 use Rattle.rs_field.specs.code.Column.{Shard}
 use Rattle.rs_field.specs.code.Given.{Shards, listed_one, listed_from, listed, count_below}
@@ -16,21 +16,17 @@ listed_from-suc from n given = refl
 -- an index with no shard is passed over
 pub listed_from-none : (from n : ℕ) (given : Shards) → from < n → given from ≡ None → listed_from from (n - from) given ≡ listed_from (from + 1) (n - (from + 1)) given
 listed_from-none from n given inside none =
-    cc (
-      (let m : n - from ≡ suc (n - (from + 1)) = omega arith in m),
-      listed_from-suc from (n - (from + 1)) given,
-      (let i : suc from ≡ from + 1 = omega arith in i),
-    )
+    ap (λ m. listed_from from m given) (let m : n - from ≡ suc (n - (from + 1)) = omega arith in m)
+    ∙ listed_from-suc from (n - (from + 1)) given
+    ∙ ap₂ (λ o i. listed_one from o ++ listed_from i (n - (from + 1)) given) none (let i : suc from ≡ from + 1 = omega arith in i)
 
 -- an index with a shard heads the list
 pub listed_from-some : (from n : ℕ) (given : Shards) (shard : Shard) → from < n → given from ≡ Some shard
     → listed_from from (n - from) given ≡ (from, shard) ∷ listed_from (from + 1) (n - (from + 1)) given
 listed_from-some from n given shard inside some =
-    cc (
-      (let m : n - from ≡ suc (n - (from + 1)) = omega arith in m),
-      listed_from-suc from (n - (from + 1)) given,
-      (let i : suc from ≡ from + 1 = omega arith in i),
-    )
+    ap (λ m. listed_from from m given) (let m : n - from ≡ suc (n - (from + 1)) = omega arith in m)
+    ∙ listed_from-suc from (n - (from + 1)) given
+    ∙ ap₂ (λ o i. listed_one from o ++ listed_from i (n - (from + 1)) given) some (let i : suc from ≡ from + 1 = omega arith in i)
 
 -- nothing is listed from the end on
 pub listed_from-past : (from n : ℕ) (given : Shards) → n ≤ from → listed_from from (n - from) given ≡ []

@@ -1,49 +1,49 @@
 -- Shards with given words as columns, so every message has recovery shards.
-use Rattle.std.proofs.Common.{rules, ◌≡◌, ℕ, ◌+◌, ◌-◌, ◌*◌, ◌/◌, ◌%◌, ◌<◌, Bool, true, cond, List, [], length, sym, ap, ◌∙◌, subst, arith}
+use Rattle.std.proofs.Common.{◌≡◌, ℕ, ◌+◌, ◌-◌, ◌*◌, ◌/◌, ◌%◌, ◌<◌, true, cond, List, [], length, min, sym, ap, ◌∙◌, subst, arith}
 use Rattle.std.specs.Prelude.{slice_index, nat_lt}
-use Rattle.std.proofs.lemmas.Bool.{cases_lt, lt-ltb}
+use Rattle.std.proofs.lemmas.Bool.{cases_lt}
 use Rattle.std.proofs.lemmas.List.{get_or_past}
 use Rattle.std.proofs.lemmas.Grind.{common_steps}
 use Rattle.rs_field.specs.code.Column.{Shard, IsShard, AreShards, column, columns}
 use Rattle.rs_field.specs.code.Counts.{Rate, supports}
 use Rattle.rs_field.specs.code.Configuration.{Configuration}
 use Rattle.rs_field.specs.code.Code.{AreRecoveryWords, AreRecovery}
-use Rattle.rs_field.specs.rows.Layout.{up_to, laid_out}
+use Rattle.rs_field.specs.words.UpTo.{up_to}
 use Rattle.rs_field.proofs.of_words.Roots.{value_lt, words_from}
 use Rattle.rs_field.proofs.of_code.Columns.{columns-at, columns_lt}
 use Rattle.rs_field.proofs.of_code.CodedWords.{recovered}
-use Rattle.rs_field.proofs.of_rows.LayoutLemmas.{length-up_to, get-up_to, shard-laid_out, column-laid_out}
+use Rattle.rs_field.proofs.of_words.UpTo.{length-up_to, get-up_to}
 
--- byte b of chunk q of a row with these words: the low bytes first, then the high ones
-byte_of : (ℕ → ℕ) → ℕ → ℕ → ℕ
-byte_of w q b = cond (nat_lt b 32) (w (q * 32 + b) % 256) (w (q * 32 + (b - 32)) / 256)
+-- byte b of the shard of a size with these words as columns: in each chunk first the low bytes, and then the high ones
+byte_of : ℕ → (ℕ → ℕ) → ℕ → ℕ
+byte_of size w b =
+    let half = min 64 (size - b / 64 * 64) / 2 in
+    cond (nat_lt (b % 64) half) (w (b / 64 * 32 + b % 64) % 256) (w (b / 64 * 32 + (b % 64 - half)) / 256)
 
-low_byte : (w : ℕ → ℕ) (q b : ℕ) → b < 32 → byte_of w q b ≡ w (q * 32 + b) % 256
+-- the two bytes of word i of chunk q
+low_byte : (size q i half : ℕ) (w : ℕ → ℕ) → min 64 (size - q * 64) / 2 ≡ half → i < half → byte_of size w (q * 64 + i) ≡ w (q * 32 + i) % 256
 unfolding byte_of
-low_byte w q b h = ap (λ (c : Bool). cond c (w (q * 32 + b) % 256) (w (q * 32 + (b - 32)) / 256)) (lt-ltb b 32 h)
+low_byte size q i half w e h = grind (arith, common_steps)
 
-byte_lt : (w : ℕ → ℕ) → ((j : ℕ) → w j < 65536) → (q b : ℕ) → byte_of w q b < 256
+high_byte : (size q i half : ℕ) (w : ℕ → ℕ) → min 64 (size - q * 64) / 2 ≡ half → i < half → byte_of size w (q * 64 + i + half) ≡ w (q * 32 + i) / 256
 unfolding byte_of
-byte_lt w words q b = grind (arith, common_steps)
+high_byte size q i half w e h = grind (arith, common_steps)
 
-chunk_of : (ℕ → ℕ) → ℕ → List ℕ
-chunk_of w q = up_to 64 (byte_of w q)
+byte_of_lt : (size : ℕ) (w : ℕ → ℕ) → ((j : ℕ) → w j < 65536) → (b : ℕ) → byte_of size w b < 256
+unfolding byte_of
+byte_of_lt size w words b = grind (arith, common_steps)
 
-chunk_of-at : (w : ℕ → ℕ) (q b : ℕ) → b < 64 → slice_index (chunk_of w q) b ≡ byte_of w q b
-unfolding chunk_of
-chunk_of-at w q b h = get-up_to 64 (byte_of w q) b 0 h
-
--- the shard of a size with these words as columns
+-- that shard
 shard_of : ℕ → (ℕ → ℕ) → Shard
-shard_of size w = laid_out size (chunk_of w)
+shard_of size w = up_to size (byte_of size w)
 
 is_shard_of : (size : ℕ) (w : ℕ → ℕ) → ((j : ℕ) → w j < 65536) → IsShard size (shard_of size w)
 unfolding shard_of
-is_shard_of size w words = shard-laid_out size (chunk_of w) (λ k b hk hb. subst (λ n. n < 256) (sym (chunk_of-at w k b hb)) (byte_lt w words k b))
+is_shard_of size w words = grind (arith, common_steps, length-up_to, get-up_to, byte_of_lt)
 
 column-shard_of : (size j : ℕ) (w : ℕ → ℕ) → size % 2 ≡ 0 → j < size / 2 → column j (shard_of size w) ≡ w j
-unfolding shard_of byte_of
-column-shard_of size j w even h = search (rules, column-laid_out, chunk_of, chunk_of-at, low_byte)
+unfolding shard_of column
+column-shard_of size j w even h = grind (arith, common_steps, length-up_to, get-up_to, low_byte, high_byte)
 
 -- n shards of an even size with given words, word j of shard i, as columns
 pub shards_of : (n size : ℕ) (w : ℕ → ℕ → ℕ) → size % 2 ≡ 0 → ((i j : ℕ) → w i j < 65536)

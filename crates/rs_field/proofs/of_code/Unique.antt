@@ -1,12 +1,12 @@
 -- A message has one list of recovery shards at most, and a column one column of them.
-use Rattle.std.proofs.Common.{◌≡◌, ℕ, ◌+◌, ◌-◌, ◌/◌, ◌%◌, ◌^◌, ◌<◌, ◌≤◌, List, length, Bool, true, false, cond, refl, sym, ap, ◌∙◌, subst, arith, ◌⊎◌, inl, inr, pow_mono}
+use Rattle.std.proofs.Common.{◌≡◌, ℕ, ◌+◌, ◌/◌, ◌%◌, ◌^◌, ◌<◌, ◌≤◌, List, length, Bool, true, false, cond, refl, sym, ap, ◌∙◌, subst, arith, inl, inr, pow_mono}
 use Rattle.std.specs.Prelude.{slice_index}
 use Rattle.std.proofs.lemmas.Bool.{cases_lt}
 use Rattle.std.proofs.lemmas.List.{ext_get_or, length-map}
 use Rattle.rs_field.specs.words.Polynomial.{value}
 use Rattle.rs_field.specs.code.Column.{Shard, column, columns}
-use Rattle.rs_field.specs.code.Counts.{Rate, next_power, is_low}
-use Rattle.rs_field.specs.code.Placement.{Placement, placement, low_placement, high_placement}
+use Rattle.rs_field.specs.code.Counts.{Rate, is_low}
+use Rattle.rs_field.specs.code.Placement.{placement, low_placement, high_placement}
 use Rattle.rs_field.specs.code.Configuration.{Configuration, configuration}
 use Rattle.rs_field.specs.code.Code.{Codes, AreRecoveryWords, AreRecovery}
 use Rattle.rs_field.proofs.of_code.NextPower.{next_power-small}

@@ -1,42 +1,15 @@
 -- Where the bytes of a shard lie in a row, and that its columns are the symbols of the row's chunks.
-use Rattle.std.proofs.Common.{rules, ◌≡◌, ℕ, zero, suc, ◌+◌, ◌-◌, ◌*◌, ◌/◌, ◌%◌, ◌<◌, ◌≤◌, List, [], ◌∷◌, ◌++◌, length, get_or, min, take, drop, All, sym, ap, ap₂, ◌∙◌, refl, subst, arith, inl, inr, add-one, length-append}
+use Rattle.std.proofs.Common.{rules, ◌≡◌, ℕ, suc, ◌+◌, ◌-◌, ◌*◌, ◌/◌, ◌%◌, ◌<◌, ◌≤◌, List, [], ◌∷◌, length, get_or, min, take, drop, All, sym, ap, ap₂, ◌∙◌, refl, subst, arith, inl, inr, length-append}
 use Rattle.std.specs.Prelude.{slice_index}
 use Rattle.std.proofs.Math.Nat.{min-eq_left, min-eq_right}
-use Rattle.std.proofs.Math.Seq.{get_or-append_seam}
 use Rattle.std.proofs.lemmas.Bool.{cases_lt}
-use Rattle.std.proofs.lemmas.List.{ext_get_or, get_or_append_left, get_or-append_right, get_or-take, get_or-drop, length-take-le}
+use Rattle.std.proofs.lemmas.List.{get_or_append_left, get_or-append_right, get_or-take, get_or-drop, length-take-le}
 use Rattle.std.proofs.lemmas.Grind.{common_steps}
 use Rattle.rs_field.specs.code.Column.{Shard, IsShard, column}
 use Rattle.std.specs.List.{flat_map}
 use Rattle.rs_field.specs.rows.Rows.{chunk, symbol}
-use Rattle.rs_field.specs.rows.Layout.{row_len, up_to, byte_offset, laid_out, in_order}
-
-pub length-up_to : {A : Type 0} (n : ℕ) (f : ℕ → A) → length (up_to n f) ≡ n
-length-up_to zero f = refl
-length-up_to (suc n) f = length-append (up_to n f) (f n ∷ []) ∙ ap (λ k. k + 1) (length-up_to n f) ∙ add-one n
-
-pub get-up_to : {A : Type 0} (n : ℕ) (f : ℕ → A) (i : ℕ) (d : A) → i < n → get_or (up_to n f) i d ≡ f i
-get-up_to zero f i d h = absurd (omega arith)
-get-up_to (suc n) f i d h =
-    elim (cases_lt i n) [
-      | inl low ↦
-          get_or_append_left (up_to n f) (f n ∷ []) d i (subst (λ k. i < k) (sym (length-up_to n f)) low) ∙ get-up_to n f i d low
-      | inr high ↦
-          let last : i ≡ n = omega arith in
-          let seam = get_or-append_seam (up_to n f) (f n) [] d in
-          ap (λ k. get_or (up_to n f ++ f n ∷ []) k d) (last ∙ sym (length-up_to n f)) ∙ seam ∙ ap f (sym last)
-    ]
-
-pub up_to-same : {A : Type 0} (n : ℕ) (f g : ℕ → A) → ((i : ℕ) → i < n → f i ≡ g i) → up_to n f ≡ up_to n g
-up_to-same zero f g same = refl
-up_to-same (suc n) f g same =
-    ap₂ (λ xs x. xs ++ x ∷ []) (up_to-same n f g (λ i h. same i (omega arith))) (same n (omega arith))
-
--- a list of n elements that are those of f
-pub up_to-is : {A : Type 0} (d : A) (n : ℕ) (f : ℕ → A) (s : List A) → length s ≡ n → ((i : ℕ) → i < n → f i ≡ get_or s i d) → up_to n f ≡ s
-up_to-is d n f s len same =
-    ext_get_or d (up_to n f) s (length-up_to n f ∙ sym len) (λ i h.
-    let lt : i < n = subst (λ k. i < k) (length-up_to n f) h in get-up_to n f i d lt ∙ same i lt)
+use Rattle.rs_field.specs.rows.Layout.{row_len, byte_offset, laid_out, in_order}
+use Rattle.rs_field.proofs.of_words.UpTo.{length-up_to, get-up_to, up_to-same, up_to-is}
 
 pub length-laid_out : (size : ℕ) (chunks : ℕ → List ℕ) → length (laid_out size chunks) ≡ size
 unfolding laid_out

@@ -1,20 +1,10 @@
 -- Symbols and the bytes that they are made of.
-use Rattle.std.proofs.Common.{◌≡◌, ℕ, ◌+◌, ◌*◌, ◌<◌, List, [], ◌∷◌, zero, suc, Fits, w8, length, get_or, take, replicate, arith, ap, ap₂, sym, subst, ◌∙◌, bit_xor}
+use Rattle.std.proofs.Common.{◌≡◌, ℕ, ◌+◌, ◌*◌, ◌<◌, List, [], ◌∷◌, zero, suc, Fits, w8, length, get_or, take, replicate, arith, ap, ap₂, subst, ◌∙◌}
 use Rattle.std.specs.Prelude.{flat_map}
 use Rattle.std.proofs.lemmas.List.{get_or-replicate}
 use Rattle.std.proofs.lemmas.List.Concat.{get_or-flat_map}
-use Rattle.std.proofs.lemmas.Nat.{xor_block}
 use Rattle.rs_field.specs.rows.Rows.{Chunks, chunk, symbol}
 use lib.Lanes.{Each1}
-
--- the bytes of a sum are the sums of the bytes
-pub sum_of_bytes : (a b c d : ℕ) → a < 256 → c < 256 → bit_xor a c + 256 * bit_xor b d ≡ bit_xor (a + 256 * b) (c + 256 * d)
-sum_of_bytes a b c d p q =
-    let whole = xor_block 8 b d a c p q in
-    let left : b * 256 + a ≡ a + 256 * b = omega arith in
-    let right : d * 256 + c ≡ c + 256 * d = omega arith in
-    let ends : bit_xor a c + 256 * bit_xor b d ≡ bit_xor b d * 256 + bit_xor a c = omega arith in
-    ends ∙ sym whole ∙ ap (λ n. bit_xor n (d * 256 + c)) left ∙ ap (λ n. bit_xor (a + 256 * b) n) right
 
 pub symbol-zero : (s : ℕ) → s < 32 → symbol (replicate 64 0) s ≡ 0
 symbol-zero s h =

@@ -128,22 +128,18 @@ other_bit d e q h apart =
 
 pub basis-zero : (x : ℕ) → basis 0 x ≡ 1
 basis-zero x =
-    cc (
-      basis_is 0 x,
-      product_below-same 16 (factor 0 x) (λ d. 1) (λ d h. factor-unset 0 x d (ap (λ v. v % 2) (zero-div (2 ^ d)))),
-      product_below-ones 16,
-    )
+    basis_is 0 x
+    ∙ product_below-same 16 (factor 0 x) (λ d. 1) (λ d h. factor-unset 0 x d (ap (λ v. v % 2) (zero-div (2 ^ d))))
+    ∙ product_below-ones 16
 
 -- the basis polynomial 2 ^ e + q is q's times the subspace polynomial e
 pub basis-half : (e q x : ℕ) → e < 16 → q < 2 ^ e → basis (2 ^ e + q) x ≡ product (basis q x) (subspace e x)
 basis-half e q x he hq =
-    cc (
-      basis_is (2 ^ e + q) x,
-      product_below-one_more 16 e (subspace e x) (factor q x) (factor (2 ^ e + q) x) he
-          (factor-unset q x e (bit_past e q hq)) (factor-set (2 ^ e + q) x e (top_bit_of e q hq))
-          (λ d h apart. factor-bit (2 ^ e + q) q x d (other_bit d e q hq apart)),
-      basis_is q x,
-    )
+    basis_is (2 ^ e + q) x
+    ∙ product_below-one_more 16 e (subspace e x) (factor q x) (factor (2 ^ e + q) x) he
+    (factor-unset q x e (bit_past e q hq)) (factor-set (2 ^ e + q) x e (top_bit_of e q hq))
+    (λ d h apart. factor-bit (2 ^ e + q) q x d (other_bit d e q hq apart))
+    ∙ ap (λ v. product v (subspace e x)) (sym (basis_is q x))
 
 -- ---- the forward transform
 
@@ -191,18 +187,16 @@ forward-one shift f i word = grind (arith, common_steps, forward_is, sum_below-s
 pub forward-half : (e shift : ℕ) (f : ℕ → ℕ) (i : ℕ) → e < 16
     → forward (2 ^ suc e) shift f i ≡ bit_xor (forward (2 ^ e) shift f i) (product (forward (2 ^ e) shift (λ q. f (2 ^ e + q)) i) (subspace e (shift + i)))
 forward-half e shift f i he =
-    let s : ℕ = subspace e (shift + i) in
-    cc (
-      forward_is (2 ^ suc e) shift f i,
-      two-pow-succ e,
-      sum_below-add (2 ^ e) (2 ^ e) (λ q. product (f q) (basis q (shift + i))),
-      forward_is (2 ^ e) shift f i,
-      sum_below-same (2 ^ e) (λ q. product (f (2 ^ e + q)) (basis (2 ^ e + q) (shift + i)))
-          (λ q. product (product (f (2 ^ e + q)) (basis q (shift + i))) s) (λ q h. ap (product (f (2 ^ e + q))) (basis-half e q (shift + i) he h) ∙
-          sym (product-assoc (f (2 ^ e + q)) (basis q (shift + i)) s)),
-      sum_below-product (2 ^ e) (λ q. product (f (2 ^ e + q)) (basis q (shift + i))) s,
-      forward_is (2 ^ e) shift (λ q. f (2 ^ e + q)) i,
-    )
+    let x : ℕ = shift + i in
+    let s : ℕ = subspace e x in
+    forward_is (2 ^ suc e) shift f i
+    ∙ ap (λ n. sum_below n (λ q. product (f q) (basis q x))) (two-pow-succ e)
+    ∙ sum_below-add (2 ^ e) (2 ^ e) (λ q. product (f q) (basis q x))
+    ∙ ap₂ bit_xor (sym (forward_is (2 ^ e) shift f i))
+    (sum_below-same (2 ^ e) (λ q. product (f (2 ^ e + q)) (basis (2 ^ e + q) x)) (λ q. product (product (f (2 ^ e + q)) (basis q x)) s)
+    (λ q h. ap (product (f (2 ^ e + q))) (basis-half e q x he h) ∙ sym (product-assoc (f (2 ^ e + q)) (basis q x) s))
+    ∙ sum_below-product (2 ^ e) (λ q. product (f (2 ^ e + q)) (basis q x)) s
+    ∙ ap (λ v. product v s) (sym (forward_is (2 ^ e) shift (λ q. f (2 ^ e + q)) i)))
 
 -- ---- a block of 2 ^ (e + 1) points
 
@@ -221,16 +215,13 @@ lower_factor e shift i he whole fits hi = grind (arith, common_steps, two-pow-su
 -- and on the second half that XOR 1
 pub upper_factor : (e shift i : ℕ) → e < 16 → shift % 2 ^ suc e ≡ 0 → shift + 2 ^ suc e ≤ 65536 → i < 2 ^ e → subspace e (shift + (2 ^ e + i)) ≡ bit_xor (subspace e shift) 1
 upper_factor e shift i he whole fits hi =
+    let d : 2 ^ suc e ≡ 2 ^ e + 2 ^ e = two-pow-succ e in
     let b = even_block e shift whole in
-    cc (
-      subspace_shift e (shift + (2 ^ e + i)) (omega arith) (omega arith),
-      next (b.0 * 2) (2 ^ e) i,
-      div-mul-add (b.0 * 2 + 1) (2 ^ e) i hi,
-      xor_shifted b.0 1 1 (omega arith),
-      subspace_shift e shift (omega arith) (omega arith),
-      add-zero (b.0 * 2 * 2 ^ e),
-      div-mul-add (b.0 * 2) (2 ^ e) 0 (pow_pos e),
-    )
+    subspace_shift e (shift + (2 ^ e + i)) (omega arith) (omega arith)
+    ∙ ap (λ v. (v + (2 ^ e + i)) / 2 ^ e) b.1 ∙ ap (λ v. v / 2 ^ e) (next (b.0 * 2) (2 ^ e) i) ∙ div-mul-add (b.0 * 2 + 1) (2 ^ e) i hi
+    ∙ sym (xor_shifted b.0 1 1 (omega arith))
+    ∙ ap (λ v. bit_xor v 1)
+    (sym (subspace_shift e shift (omega arith) (omega arith) ∙ ap (λ v. v / 2 ^ e) (b.1 ∙ sym (add-zero (b.0 * 2 * 2 ^ e))) ∙ div-mul-add (b.0 * 2) (2 ^ e) 0 (pow_pos e)))
   where
     next : (u m i : ℕ) → u * m + (m + i) ≡ (u + 1) * m + i
     next u m i = omega arith
@@ -240,11 +231,9 @@ mixed : (e shift : ℕ) (f g : ℕ → ℕ) (i : ℕ)
     → forward (2 ^ e) shift g i ≡ bit_xor (forward (2 ^ e) shift f i) (product (forward (2 ^ e) shift (λ q. f (2 ^ e + q)) i) (subspace e shift))
 mixed e shift f g i made =
     let c : ℕ = subspace e shift in
-    cc (
-      forward-same (2 ^ e) shift g (λ q. bit_xor (f q) (product (f (2 ^ e + q)) c)) i made,
-      forward-xor (2 ^ e) shift f (λ q. product (f (2 ^ e + q)) c) i,
-      forward-product (2 ^ e) shift (λ q. f (2 ^ e + q)) c i,
-    )
+    forward-same (2 ^ e) shift g (λ q. bit_xor (f q) (product (f (2 ^ e + q)) c)) i made
+    ∙ forward-xor (2 ^ e) shift f (λ q. product (f (2 ^ e + q)) c) i
+    ∙ ap (bit_xor (forward (2 ^ e) shift f i)) (forward-product (2 ^ e) shift (λ q. f (2 ^ e + q)) c i)
 
 -- the transform of the first rows after a butterfly is the first half of that of all rows before it
 pub lower_half : (e shift : ℕ) (f g : ℕ → ℕ) (i : ℕ) → e < 16 → shift % 2 ^ suc e ≡ 0 → shift + 2 ^ suc e ≤ 65536 → i < 2 ^ e
@@ -263,15 +252,12 @@ upper_half e shift f g h i he whole fits hi made sums =
     let second : ℕ → ℕ = λ q. f (2 ^ e + q) in
     let top : ℕ = forward (2 ^ e) shift second j in
     let low : ℕ = forward (2 ^ e) shift f j in
-    cc (
-      forward-moved (2 ^ e) shift (2 ^ e) h i,
-      forward-same (2 ^ e) shift h (λ q. bit_xor (second q) (g q)) j sums,
-      forward-xor (2 ^ e) shift second g j,
-      mixed e shift f g j made,
-      one_more top low c (forward_lt (2 ^ e) shift second j),
-      forward-half e shift f j he,
-      upper_factor e shift i he whole fits hi,
-    )
+    forward-moved (2 ^ e) shift (2 ^ e) h i
+    ∙ forward-same (2 ^ e) shift h (λ q. bit_xor (second q) (g q)) j sums
+    ∙ forward-xor (2 ^ e) shift second g j
+    ∙ ap (bit_xor top) (mixed e shift f g j made)
+    ∙ one_more top low c (forward_lt (2 ^ e) shift second j)
+    ∙ sym (forward-half e shift f j he ∙ ap (λ v. bit_xor low (product top v)) (upper_factor e shift i he whole fits hi))
   where
     one_more : (top low c : ℕ) → top < 2 ^ 16 → bit_xor top (bit_xor low (product top c)) ≡ bit_xor low (product top (bit_xor c 1))
     one_more top low c word =

@@ -1,5 +1,5 @@
 -- The locator by two Walsh-Hadamard transforms, of any power of two of entries.
-use Rattle.std.proofs.Common.{rules, ◌≡◌, ℕ, zero, suc, ◌+◌, ◌-◌, ◌*◌, ◌/◌, ◌%◌, ◌^◌, ◌<◌, ◌≤◌, ◌≢◌, true, leb-true, cond, eqb, bit_xor, refl, sym, ap, ap₂, ◌∙◌, subst, arith, inl, inr, pow-suc, pow_mono, ne_eqb, eq-eqb}
+use Rattle.std.proofs.Common.{rules, ◌≡◌, ℕ, zero, suc, ◌+◌, ◌-◌, ◌*◌, ◌/◌, ◌%◌, ◌^◌, ◌<◌, ◌≤◌, ◌≢◌, true, leb-true, cond, eqb, bit_xor, refl, sym, ap, ap₂, ◌∙◌, subst, arith, inl, inr, pow_mono, ne_eqb, eq-eqb}
 use Rattle.std.specs.Prelude.{nat_le}
 use Rattle.std.specs.Int.Bits.{xor_self, xor_lt}
 use Rattle.std.proofs.Math.Nat.{mul-le-mul_right}

@@ -1,5 +1,5 @@
 -- The derivative of polynomials: of sums, of multiples, and of products of factors x + a; that of a subspace polynomial is one.
-use Rattle.std.proofs.Common.{rules, ◌≡◌, ℕ, zero, suc, ◌+◌, ◌/◌, ◌^◌, ◌<◌, ◌≤◌, List, [], ◌∷◌, bit_xor, refl, sym, ap, ap₂, ◌∙◌, subst, arith, add-zero, add-suc, zero-add, pow-suc, one-mul, pow_mono}
+use Rattle.std.proofs.Common.{rules, ◌≡◌, ℕ, zero, suc, ◌+◌, ◌/◌, ◌^◌, ◌<◌, ◌≤◌, List, [], ◌∷◌, bit_xor, refl, sym, ap, ◌∙◌, subst, arith, add-zero, add-suc, zero-add, pow-suc, one-mul, pow_mono, ap₂}
 use Rattle.std.specs.Int.Bits.{xor_comm, xor_assoc, xor_self, xor_zero_r, xor_lt, xor_shr, xor_shifted}
 use Rattle.std.proofs.lemmas.Nat.{pow_pos, pow_below, shl-shr}
 use Rattle.std.proofs.lemmas.Grind.{common_steps}
@@ -95,17 +95,14 @@ derivative-times : (a n : ℕ) (p : List ℕ) → WordsOneByOne p → (x : ℕ) 
 unfolding times points
 derivative-times a zero p w x hx hn = grind (arith, common_steps, factors_is, product_below-zero, one_product, derivative_lt, slope-zero, product-comm, product_zero)
 derivative-times a (suc n) p w x hx hn =
+    let s : ℕ = bit_xor x (a + n) in
     let s_lt : bit_xor x (a + n) < 2 ^ 16 = xor_lt 16 x (a + n) hx (omega arith) in
-    cc (
-      derivative_with_root (a + n) (times (points a n) p) x,
-      value-times a n p w x,
-      factors_is a n x,
-      derivative-times a n p w x hx (omega arith),
-      rule (bit_xor x (a + n)) (factors a n x) (slope a n x) (value p x) (derivative_value p x) s_lt (factors_lt a n x) (slope_lt a n x)
-          (value_lt p x w) (derivative_lt p x w),
-      factors-suc a n x,
-      slope-suc a n x,
-    )
+    derivative_with_root (a + n) (times (points a n) p) x
+    ∙ ap₂ bit_xor (value-times a n p w x ∙ ap (λ z. product z (value p x)) (sym (factors_is a n x)))
+    (ap (product (bit_xor x (a + n))) (derivative-times a n p w x hx (omega arith)))
+    ∙ rule (bit_xor x (a + n)) (factors a n x) (slope a n x) (value p x) (derivative_value p x)
+    s_lt (factors_lt a n x) (slope_lt a n x) (value_lt p x w) (derivative_lt p x w)
+    ∙ ap₂ bit_xor (ap (λ z. product z (derivative_value p x)) (sym (factors-suc a n x))) (ap (λ z. product z (value p x)) (sym (slope-suc a n x)))
 
 -- m factors and then n more
 factors-add : (m n x : ℕ) → x < 2 ^ 16 → m + n ≤ 2 ^ 16 → factors 0 (m + n) x ≡ product (factors 0 m x) (factors m n x)
@@ -126,18 +123,14 @@ slope-add : (m n x : ℕ) → x < 2 ^ 16 → m + n ≤ 2 ^ 16
     → slope 0 (m + n) x ≡ bit_xor (product (slope 0 m x) (factors m n x)) (product (factors 0 m x) (slope m n x))
 slope-add m zero x hx h = grind (arith, common_steps, slope, add-zero, factors_is, product_below-zero, product_one, slope_lt, factors, slope-zero, product_zero)
 slope-add m (suc n) x hx h =
+    let less : m + n ≤ 2 ^ 16 = omega arith in
     let s_lt : bit_xor x (m + n) < 2 ^ 16 = xor_lt 16 x (m + n) hx (omega arith) in
-    cc (
-      add-suc m n,
-      slope-suc 0 (m + n) x,
-      factors-add m n x hx (omega arith),
-      zero-add (m + n),
-      slope-add m n x hx (omega arith),
-      sum_rule (bit_xor x (m + n)) (factors 0 m x) (factors m n x) (slope 0 m x) (slope m n x) s_lt (factors_lt 0 m x) (factors_lt m n x)
-          (slope_lt 0 m x) (slope_lt m n x),
-      factors-suc m n x,
-      slope-suc m n x,
-    )
+    ap (λ k. slope 0 k x) (add-suc m n)
+    ∙ slope-suc 0 (m + n) x
+    ∙ ap₂ bit_xor (factors-add m n x hx less) (ap₂ product (ap (bit_xor x) (zero-add (m + n))) (slope-add m n x hx less))
+    ∙ sum_rule (bit_xor x (m + n)) (factors 0 m x) (factors m n x) (slope 0 m x) (slope m n x)
+    s_lt (factors_lt 0 m x) (factors_lt m n x) (slope_lt 0 m x) (slope_lt m n x)
+    ∙ ap₂ bit_xor (ap (product (slope 0 m x)) (sym (factors-suc m n x))) (ap (product (factors 0 m x)) (sym (slope-suc m n x)))
 
 -- the points past 2 ^ e are those from 0 on, each XOR 2 ^ e
 moved_point : (e i x : ℕ) → i < 2 ^ e → bit_xor x (2 ^ e + i) ≡ bit_xor (bit_xor x (2 ^ e)) (0 + i)
@@ -165,27 +158,22 @@ factors_lower e x he hx = factors_subspace e x ∙ subspace_shift e x he hx
 slope_subspace : (e x : ℕ) → e ≤ 16 → x < 2 ^ 16 → slope 0 (2 ^ e) x ≡ 1
 slope_subspace zero x he hx = search (rules, slope-suc, factors_is, product_below-zero, slope-zero, product_zero)
 slope_subspace (suc e) x he hx =
-    let y_lt : bit_xor x (2 ^ e) < 2 ^ 16 = xor_lt 16 x (2 ^ e) hx (pow_below e 16 he) in
+    let n : ℕ = 2 ^ e in
+    let bit : 2 ^ e < 2 ^ 16 = pow_below e 16 he in
+    let y_lt : bit_xor x (2 ^ e) < 2 ^ 16 = xor_lt 16 x (2 ^ e) hx bit in
     let double : 2 ^ suc e ≡ 2 ^ e + 2 ^ e = omega (arith, pow-suc 2 e) in
     let room : 2 ^ suc e ≤ 2 ^ 16 = pow_mono he in
     let quotient_lt : x / 2 ^ e < 2 ^ 16 = subst (λ (k : ℕ). k < 2 ^ 16) (factors_lower e x (omega arith) hx) (factors_lt 0 (2 ^ e) x) in
-    cc (
-      slope-add (2 ^ e) (2 ^ e) x hx (omega arith),
-      slope_subspace e x (omega arith) hx,
-      factors-moved e (2 ^ e) x (omega arith),
-      factors_lower e (bit_xor x (2 ^ e)) (omega arith) y_lt,
-      xor_shr x (2 ^ e) e,
-      one_product (bit_xor (x / 2 ^ e) 1) (xor_lt 16 (x / 2 ^ e) 1 quotient_lt (omega arith)),
-      factors_lower e x (omega arith) hx,
-      slope-moved e (2 ^ e) x (omega arith),
-      slope_subspace e (bit_xor x (2 ^ e)) (omega arith) y_lt,
-      product_one (x / 2 ^ e) quotient_lt,
-      xor_comm (bit_xor (x / 2 ^ e) 1) (x / 2 ^ e),
-      xor_assoc (x / 2 ^ e) (x / 2 ^ e) 1,
-      xor_self (x / 2 ^ e),
-      one-mul (2 ^ e),
-      shl-shr 1 e,
-    )
+    let one : 2 ^ e / 2 ^ e ≡ 1 = ap (λ k. k / 2 ^ e) (sym (one-mul (2 ^ e))) ∙ shl-shr 1 e in
+    ap (λ k. slope 0 k x) double
+    ∙ slope-add (2 ^ e) (2 ^ e) x hx (omega arith)
+    ∙ ap₂ bit_xor
+    (ap₂ product (slope_subspace e x (omega arith) hx)
+    (factors-moved e (2 ^ e) x (omega arith) ∙ factors_lower e (bit_xor x (2 ^ e)) (omega arith) y_lt ∙ xor_shr x (2 ^ e) e ∙ ap (bit_xor (x / 2 ^ e)) one)
+    ∙ one_product (bit_xor (x / 2 ^ e) 1) (xor_lt 16 (x / 2 ^ e) 1 quotient_lt (omega arith)))
+    (ap₂ product (factors_lower e x (omega arith) hx) (slope-moved e (2 ^ e) x (omega arith) ∙ slope_subspace e (bit_xor x (2 ^ e)) (omega arith) y_lt)
+    ∙ product_one (x / 2 ^ e) quotient_lt)
+    ∙ xor_comm (bit_xor (x / 2 ^ e) 1) (x / 2 ^ e) ∙ sym (xor_assoc (x / 2 ^ e) (x / 2 ^ e) 1) ∙ ap (λ k. bit_xor k 1) (xor_self (x / 2 ^ e))
 
 -- a polynomial times the subspace polynomial e: of the two terms of the product rule the second is the polynomial itself
 pub derivative-subspace : (e : ℕ) (p : List ℕ) → e < 16 → WordsOneByOne p → (x : ℕ) → x < 2 ^ 16

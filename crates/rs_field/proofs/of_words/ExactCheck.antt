@@ -3,7 +3,7 @@ use Rattle.std.proofs.Common.{◌≡◌, ℕ, zero, suc, ◌+◌, ◌^◌, ◌<�
 use Rattle.std.proofs.lemmas.Bool.{cases_eq}
 use Rattle.std.proofs.lemmas.Grind.{common_steps}
 use Rattle.rs_field.specs.words.Field.{product, power}
-use Rattle.rs_field.specs.words.Polynomial.{AreWords, value}
+use Rattle.rs_field.specs.words.Polynomial.{value}
 use Rattle.rs_field.specs.words.Transform.{forward}
 use Rattle.rs_field.specs.words.Locator.{log_sum}
 use Rattle.rs_field.proofs.of_words.Product.{zero_product}

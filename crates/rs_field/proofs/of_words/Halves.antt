@@ -77,15 +77,13 @@ pub table_factor : (skew : List ℕ) (e half shift w : ℕ) → IsSkew skew → 
 table_factor skew e half shift w table is whole fits =
     let u : ℕ = shift / 2 ^ suc e in
     let p : 2 ^ suc e ≡ 2 ^ e * 2 = pow-suc 2 e in
+    let pos : 0 < 2 ^ e = pow_pos e in
     let parts : u * 2 ^ suc e + shift % 2 ^ suc e ≡ shift = div-add-mod' shift (2 ^ suc e) in
     let odd : shift + 2 ^ e ≡ (2 * u + 1) * 2 ^ e = regroup u (2 ^ suc e) (2 ^ e) shift parts whole p in
-    grind (
-      arith,
-      common_steps,
-      table.skew_entry e u (shift + 2 ^ e) odd (omega arith),
-      scaled_by (subspace e shift) w (subspace_lt e shift),
-      pow_pos e,
-    )
+    let back : shift + 2 ^ e - 2 ^ e ≡ shift = omega arith in
+    ap (λ v. scaled (get_or skew (shift + v - 1) 0) w) is
+    ∙ ap (λ m. scaled m w) (table.skew_entry e u (shift + 2 ^ e) odd (omega arith) ∙ ap (λ v. log_or_mark (subspace e v)) back)
+    ∙ scaled_by (subspace e shift) w (subspace_lt e shift)
   where
     regroup : (u m n shift : ℕ) → u * m + shift % m ≡ shift → shift % m ≡ 0 → m ≡ n * 2 → shift + n ≡ (2 * u + 1) * n
     regroup u m n shift parts whole p = omega (arith, ap (λ v. u * v) p)

@@ -52,17 +52,13 @@ comes a n p v hn hv words =
     let w : ℕ = bit_xor v (value p (a + n)) in
     let pos : 0 < product_below n (λ i. bit_xor (a + n) (a + i)) = differences_pos a n (a + n) hn (omega arith) (λ i h e. omega arith) in
     let word : bit_xor v (value p (a + n)) < 2 ^ 16 = xor_lt 16 v (value p (a + n)) hv (value_lt p (a + n) words) in
-    cc (
-      value-one_more a n p v (a + n),
-      value-times a n (1 ∷ []) (omega arith, tt) (a + n),
-      value-one 1 (a + n),
-      product_one d (product_below_lt n (λ i. bit_xor (a + n) (a + i))),
-      product-assoc w (inverse d) d,
-      product-comm (inverse d) d,
-      product_inverse d pos (product_below_lt n (λ i. bit_xor (a + n) (a + i))),
-      product_one w word,
-      xor_undo v (value p (a + n)),
-    )
+    value-one_more a n p v (a + n)
+    ∙ ap (λ u. bit_xor u (value p (a + n)))
+    (ap (product (missing a n p v)) (value-times a n (1 ∷ []) (omega arith, tt) (a + n) ∙ ap (product d) (value-one 1 (a + n)) ∙ product_one d (product_below_lt n (λ i. bit_xor (a + n) (a + i))))
+    ∙ product-assoc w (inverse d) d
+    ∙ ap (product w) (product-comm (inverse d) d ∙ product_inverse d pos (product_below_lt n (λ i. bit_xor (a + n) (a + i))))
+    ∙ product_one w word)
+    ∙ xor_undo v (value p (a + n))
 
 has_more : (a n : ℕ) (v : ℕ → ℕ) (p : List ℕ) → a + n < 2 ^ 16 → v n < 2 ^ 16 → Has a n v p → Has a (suc n) v (one_more a n p (v n))
 unfolding one_more

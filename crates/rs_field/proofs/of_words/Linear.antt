@@ -1,5 +1,5 @@
 -- Maps that keep XOR, and that two such maps are equal where they agree on powers of two.
-use Rattle.std.proofs.Common.{◌≡◌, ℕ, zero, suc, ◌*◌, ◌/◌, ◌%◌, ◌^◌, ◌<◌, ◌≤◌, List, [], ◌∷◌, Bool, true, ◌&&◌, bit_xor, refl, sym, ap, ap₂, ◌∙◌, subst, inl, inr, arith, zero-mul, one-mul, add-zero, pow-suc, mod-lt, lt_of_lt_of_le, ◌⊎◌, one-add, pow_mono, div-mul-le_self, lt_of_le_of_lt}
+use Rattle.std.proofs.Common.{◌≡◌, ℕ, zero, suc, ◌*◌, ◌/◌, ◌%◌, ◌^◌, ◌<◌, ◌≤◌, List, [], ◌∷◌, Bool, true, ◌&&◌, bit_xor, refl, sym, ap, ap₂, ◌∙◌, subst, inl, inr, arith, zero-mul, one-mul, add-zero, mod-lt, lt_of_lt_of_le, ◌⊎◌, one-add, pow_mono, div-mul-le_self, lt_of_le_of_lt}
 use Rattle.std.specs.Int.Bits.{xor_comm, xor_assoc, xor_self, xor_zero_r, xor_block, xor_shr, xor_mod, xor_shifted}
 use Rattle.std.proofs.lemmas.Nat.{pow_pos, shr_split, shr_below}
 use Rattle.std.proofs.lemmas.Bool.{cases_eq, and_parts}

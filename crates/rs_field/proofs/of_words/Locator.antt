@@ -2,10 +2,10 @@
 use Rattle.std.proofs.lemmas.Grind.{common_steps}
 use Rattle.std.proofs.lemmas.Bool.{cases_eq}
 use Rattle.std.proofs.lemmas.Bool.Decides.{eqb_tells}
-use Rattle.std.proofs.Common.{◌≡◌, ℕ, zero, suc, ◌*◌, ◌^◌, ◌<◌, ◌≤◌, ◌≢◌, cond, bit_xor, sym, ap, ap₂, ◌∙◌, inl, inr, arith}
+use Rattle.std.proofs.Common.{◌≡◌, ℕ, zero, suc, ◌*◌, ◌^◌, ◌<◌, ◌≤◌, ◌≢◌, cond, bit_xor, sym, ap, ◌∙◌, inl, inr, arith, ap₂}
 use Rattle.std.specs.Prelude.{if◌then◌else◌, ◌==◌}
 use Rattle.std.specs.Int.Bits.{xor_lt}
-use Rattle.rs_field.specs.words.Field.{product, raised, power, log, generator}
+use Rattle.rs_field.specs.words.Field.{raised, power, log, generator, product}
 use Rattle.rs_field.specs.words.Subspace.{product_below}
 use Rattle.rs_field.specs.words.Locator.{log_sum}
 use Rattle.rs_field.proofs.of_words.Power.{generator_lt, raised-mul, power-add, power_zero, power-log}
@@ -27,16 +27,14 @@ pub power-log_sum : (n : ℕ) (e : ℕ → ℕ) (x : ℕ) → n ≤ 65536 → x 
 unfolding log_sum
 power-log_sum zero e x hn hx = power_zero ∙ sym (product_below-zero (λ y. if x == y then 1 else raised (bit_xor x y) (e y)))
 power-log_sum (suc y) e x hn hx =
+    let rest : power (log_sum y e x) ≡ product_below y (λ y. if x == y then 1 else raised (bit_xor x y) (e y)) = power-log_sum y e x (omega arith) hx in
     let last : power (if x == y then 0 else e y * log (bit_xor x y)) ≡ (if x == y then 1 else raised (bit_xor x y) (e y)) =
     elim (eqb_tells x y) [
       | inl same ↦ ap (λ b. power (cond b 0 (e y * log (bit_xor x y)))) same.0 ∙ power_zero ∙ sym (ap (λ b. cond b 1 (raised (bit_xor x y) (e y))) same.0)
-      | inr apart
-          ↦ ap (λ b. power (cond b 0 (e y * log (bit_xor x y)))) apart.0
+      | inr apart ↦
+          ap (λ b. power (cond b 0 (e y * log (bit_xor x y)))) apart.0
           ∙ power-mul_log (bit_xor x y) (e y) (sum_pos x y apart.1) (xor_lt 16 x y hx (omega arith))
           ∙ sym (ap (λ b. cond b 1 (raised (bit_xor x y) (e y))) apart.0)
     ] in
-    cc (
-      power-add (log_sum y e x) (if x == y then 0 else e y * log (bit_xor x y)),
-      product_below-suc y (λ y. if x == y then 1 else raised (bit_xor x y) (e y)),
-      power-log_sum y e x (omega arith) hx,
-    )
+    power-add (log_sum y e x) (if x == y then 0 else e y * log (bit_xor x y)) ∙ ap₂ product rest last
+    ∙ sym (product_below-suc y (λ y. if x == y then 1 else raised (bit_xor x y) (e y)))

@@ -1,6 +1,6 @@
 -- The bytes of a number that is a sum of bytes at their places.
 use Rattle.std.proofs.lemmas.Grind.{common_steps}
-use Rattle.std.proofs.lemmas.Nat.{div-mul-add}
+use Rattle.std.proofs.lemmas.Nat.{div-mul-add, xor_block}
 use Rattle.std.proofs.lemmas.Bool.{cases_eq, cases_lt}
 use Rattle.std.proofs.Common.{bit_xor, ap₂, zero-mul, one-mul, ◌≡◌, ℕ, zero, suc, ◌+◌, ◌*◌, ◌/◌, ◌%◌, ◌^◌, ◌<◌, ◌≤◌, ◌-◌, sym, ap, ◌∙◌, arith, inl, inr, pow-suc, pow-add, mod-lt, mul_comm, mul-suc, mul-zero, mul_assoc, mul-le-mul_right}
 use Rattle.std.specs.Int.{sum_through, byte_worth}
@@ -57,25 +57,22 @@ byte_xor x y i = cc (power_of 8 i, xor_shr x y (8 * i), xor_mod (x / 2 ^ (8 * i)
 low_half : (low high i : ℕ) → i < 8 → (low + 2 ^ 64 * high) / 256 ^ i % 256 ≡ low / 256 ^ i % 256
 low_half low high i h =
     let rest : ℕ = high * 256 ^ (7 - i) in
-    grind (
-      arith,
-      common_steps,
-      add-mul-div_right low (rest * 256) (bytes_pos i),
-      (let gone : (low / 256 ^ i + rest * 256) % 256 ≡ low / 256 ^ i % 256 = omega arith in gone),
-      mul_comm (2 ^ 64) high,
-      pow-add 256 (suc (7 - i)) i,
-      pow-suc 256 (7 - i),
-      mul_assoc high (256 ^ (7 - i) * 256) (256 ^ i),
-      mul_assoc high (256 ^ (7 - i)) 256,
-    )
+    let split : 8 ≡ suc (7 - i) + i = omega arith in
+    let top : 2 ^ 64 * high ≡ rest * 256 * 256 ^ i =
+    mul_comm (2 ^ 64) high
+    ∙ ap (λ n. high * 256 ^ n) split
+    ∙ ap (λ p. high * p) (pow-add 256 (suc (7 - i)) i ∙ ap (λ p. p * 256 ^ i) (pow-suc 256 (7 - i)))
+    ∙ sym (mul_assoc high (256 ^ (7 - i) * 256) (256 ^ i))
+    ∙ ap (λ p. p * 256 ^ i) (sym (mul_assoc high (256 ^ (7 - i)) 256)) in
+    ap (λ n. (low + n) / 256 ^ i % 256) top
+    ∙ ap (λ n. n % 256) (add-mul-div_right low (rest * 256) (bytes_pos i))
+    ∙ (let gone : (low / 256 ^ i + rest * 256) % 256 ≡ low / 256 ^ i % 256 = omega arith in gone)
 
 high_half : (low high j : ℕ) → low < 2 ^ 64 → (low + 2 ^ 64 * high) / 256 ^ (8 + j) % 256 ≡ high / 256 ^ j % 256
 high_half low high j h =
-    cc (
-      pow-add 256 8 j,
-      div-div-eq-div-mul (low + 2 ^ 64 * high) (256 ^ 8) (256 ^ j),
-      (let e : (low + 2 ^ 64 * high) / 2 ^ 64 ≡ high = omega arith in e),
-    )
+    ap (λ p. (low + 2 ^ 64 * high) / p % 256) (pow-add 256 8 j)
+    ∙ ap (λ n. n % 256) (sym (div-div-eq-div-mul (low + 2 ^ 64 * high) (256 ^ 8) (256 ^ j)))
+    ∙ ap (λ n. n / 256 ^ j % 256) (let e : (low + 2 ^ 64 * high) / 2 ^ 64 ≡ high = omega arith in e)
 
 digit_lt : (d a : ℕ) → d < 2 → a < 256 → d * a < 256
 digit_lt d a h1 h2 = grind (arith, common_steps, zero-mul, one-mul)
@@ -128,3 +125,12 @@ spread_bytes a b c d x y z w n i ha hb hc hd ex ey ez ew lt en hi =
 
     byte_of_ones : (j : ℕ) → j < 8 → w / 256 ^ j % 256 ≡ d
     byte_of_ones j h = ap (λ w. w / 256 ^ j % 256) (let e : w ≡ packed (λ (i : ℕ). d) 7 = omega (arith, ew) in e) ∙ byte_of_packed (λ (i : ℕ). d) (λ i. hd) 7 j (omega arith)
+
+-- the bytes of a sum are the sums of the bytes
+pub sum_of_bytes : (a b c d : ℕ) → a < 256 → c < 256 → bit_xor a c + 256 * bit_xor b d ≡ bit_xor (a + 256 * b) (c + 256 * d)
+sum_of_bytes a b c d p q =
+    let whole = xor_block 8 b d a c p q in
+    let left : b * 256 + a ≡ a + 256 * b = omega arith in
+    let right : d * 256 + c ≡ c + 256 * d = omega arith in
+    let ends : bit_xor a c + 256 * bit_xor b d ≡ bit_xor b d * 256 + bit_xor a c = omega arith in
+    ends ∙ sym whole ∙ ap (λ n. bit_xor n (d * 256 + c)) left ∙ ap (λ n. bit_xor (a + 256 * b) n) right

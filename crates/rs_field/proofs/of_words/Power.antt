@@ -1,11 +1,10 @@
 -- The powers of the generator: each nonzero word is one of 65535.
-use Rattle.std.proofs.Common.{◌≡◌, ℕ, zero, suc, ◌+◌, ◌-◌, ◌*◌, ◌/◌, ◌%◌, ◌^◌, ◌<◌, ◌≢◌, Bool, true, false, ◌&&◌, ◌||◌, eqb, refl, sym, ap, ap₂, ◌∙◌, subst, arith, inl, inr, add-suc, add-zero, mul-zero, mul-suc, one-mul, mul_assoc, add-one, add-mul, mul_right_comm, true≢false, lit<, mod-lt, eqb-true, ne_eqb, eq-eqb}
+use Rattle.std.proofs.Common.{◌≡◌, ℕ, zero, suc, ◌+◌, ◌-◌, ◌*◌, ◌/◌, ◌%◌, ◌^◌, ◌<◌, ◌≢◌, Bool, true, false, ◌||◌, eqb, refl, sym, ap, ap₂, ◌∙◌, subst, arith, inl, inr, add-suc, add-zero, mul-zero, mul-suc, one-mul, mul_assoc, add-one, add-mul, mul_right_comm, true≢false, lit<, mod-lt, eqb-true, ne_eqb, eq-eqb}
 use Rattle.std.proofs.Math.Nat.{mod-add-div}
 use Rattle.std.proofs.lemmas.Nat.{shr_below, mul-mod_first}
-use Rattle.std.proofs.lemmas.Bool.{cases_eq, cases_order, and_parts}
+use Rattle.std.proofs.lemmas.Bool.{cases_eq, cases_order}
 use Rattle.std.proofs.lemmas.Grind.{common_steps}
 use Rattle.rs_field.specs.words.Field.{combine, cantor_basis, bits, monomials, from_bits, carryless, reduce, product, raised, power, generator, log}
-use Rattle.rs_field.specs.words.Search.{first_below}
 use Rattle.rs_field.proofs.of_words.Search.{first_below-passes, first_below_most}
 use Rattle.rs_field.proofs.of_words.Linear.{passes_below, from_passes_below}
 use Rattle.rs_field.proofs.of_words.Product.{product_lt, product_comm, product_assoc, product_one, one_product}
@@ -100,17 +99,14 @@ check_inverses = (refl, refl, refl, refl)
 unit_from : (p q k m t : ℕ) → p * q ≡ 65535 → k * m ≡ 1 + p * t → power k ≡ 1 → power q ≡ 1
 unfolding power
 unit_from p q k m t whole bezout one =
-    cc (
-      raised-add generator q (65535 * t) generator_lt,
-      raised-mul generator 65535 t generator_lt,
-      power_turn,
-      one_raised t,
-      product_one (raised generator q) (raised_lt generator q),
-      raised-mul generator k (m * q) generator_lt,
-      one_raised (m * q),
-      mul_assoc k m q,
-      expand p q t,
-    )
+    let exponent : k * (m * q) ≡ q + 65535 * t =
+    sym (mul_assoc k m q) ∙ ap (λ v. v * q) bezout ∙ expand p q t ∙ ap (λ v. q + v * t) whole in
+    let left : raised generator (k * (m * q)) ≡ 1 = sym (raised-mul generator k (m * q) generator_lt) ∙ ap (λ v. raised v (m * q)) one ∙ one_raised (m * q) in
+    let right : raised generator (q + 65535 * t) ≡ raised generator q =
+    raised-add generator q (65535 * t) generator_lt
+    ∙ ap (product (raised generator q)) (sym (raised-mul generator 65535 t generator_lt) ∙ ap (λ v. raised v t) power_turn ∙ one_raised t)
+    ∙ product_one (raised generator q) (raised_lt generator q) in
+    sym right ∙ ap (raised generator) (sym exponent) ∙ left
 
 dividend : (n p : ℕ) → n % p ≡ 1 → n ≡ 1 + p * (n / p)
 dividend n p e = sym (mod-add-div n p) ∙ ap (λ v. v + p * (n / p)) e

@@ -43,12 +43,11 @@ unfolding reduce
 reduce_xor zero p q = refl
 reduce_xor (suc n) p q =
     let m : ℕ = 0x1002D * 2 ^ n in
-    cc (
-      xor_shr p q (16 + n),
-      lowest_xor (p / 2 ^ (16 + n)) (q / 2 ^ (16 + n)) m,
-      xor_swap p q (p / 2 ^ (16 + n) % 2 * m) (q / 2 ^ (16 + n) % 2 * m),
-      reduce_xor n _ _,
-    )
+    ap (reduce n)
+    (ap (λ x. bit_xor (bit_xor p q) (x % 2 * m)) (xor_shr p q (16 + n))
+    ∙ ap (bit_xor (bit_xor p q)) (lowest_xor (p / 2 ^ (16 + n)) (q / 2 ^ (16 + n)) m)
+    ∙ xor_swap p q (p / 2 ^ (16 + n) % 2 * m) (q / 2 ^ (16 + n) % 2 * m))
+    ∙ reduce_xor n _ _
 
 pub product_xor_left : (x y z : ℕ) → product (bit_xor x y) z ≡ bit_xor (product x z) (product y z)
 unfolding product

@@ -1,5 +1,5 @@
 -- A polynomial with as many roots as coefficients is zero.
-use Rattle.std.proofs.Common.{◌≡◌, ℕ, zero, suc, ◌^◌, ◌<◌, ◌≢◌, List, [], ◌∷◌, length, bit_xor, refl, sym, ap, ap₂, ◌∙◌, subst, arith, inl, inr}
+use Rattle.std.proofs.Common.{◌≡◌, ℕ, zero, suc, ◌^◌, ◌<◌, ◌≢◌, List, [], ◌∷◌, length, bit_xor, refl, sym, ap, ◌∙◌, subst, arith, inl, inr, ap₂}
 use Rattle.std.specs.Prelude.{All}
 use Rattle.std.specs.Int.Bits.{xor_comm, xor_assoc, xor_self, xor_zero_r, xor_lt}
 use Rattle.std.proofs.lemmas.Bool.{cases_eq}
@@ -64,15 +64,12 @@ apart a x = ap (bit_xor a) (xor_comm x a) ∙ sym (xor_assoc a a x) ∙ ap (λ v
 regroup : (c a x r q : ℕ) → bit_xor (bit_xor c (product a r)) (product (bit_xor x a) (bit_xor r (product x q))) ≡ bit_xor c (product x (bit_xor r (product (bit_xor x a) q)))
 regroup c a x r q =
     let s : ℕ = bit_xor x a in
-    cc (
-      xor_assoc c (product a r) (product s (bit_xor r (product x q))),
-      product_xor_right s r (product x q),
-      xor_assoc (product a r) (product s r) (product s (product x q)),
-      product_xor_left a s r,
-      apart a x,
-      product-left_comm s x q,
-      product_xor_right x r (product s q),
-    )
+    xor_assoc c (product a r) (product s (bit_xor r (product x q)))
+    ∙ ap (bit_xor c)
+    (ap (bit_xor (product a r)) (product_xor_right s r (product x q))
+    ∙ sym (xor_assoc (product a r) (product s r) (product s (product x q)))
+    ∙ ap₂ bit_xor (sym (product_xor_left a s r) ∙ ap (λ v. product v r) (apart a x)) (product-left_comm s x q)
+    ∙ sym (product_xor_right x r (product s q)))
 
 -- P(x) is P(a) + (x + a) * Q(x)
 factor : (a x c : ℕ) (cs : List ℕ) → value (c ∷ cs) x ≡ bit_xor (value (c ∷ cs) a) (product (bit_xor x a) (value (steps a cs) x))

@@ -1,5 +1,5 @@
 -- A search among the first numbers: where it ends.
-use Rattle.std.proofs.Common.{◌≡◌, ℕ, zero, suc, ◌<◌, ◌≤◌, Bool, true, false, cond, ap, ◌∙◌, arith}
+use Rattle.std.proofs.Common.{◌≡◌, ℕ, zero, suc, ◌<◌, ◌≤◌, Bool, true, false, cond, ap, arith}
 use Rattle.rs_field.specs.words.Search.{first_below}
 use Rattle.std.proofs.lemmas.Grind.{common_steps}
 

@@ -1,5 +1,5 @@
 -- The signs of a Walsh-Hadamard transform: how they go by halves, and that they are characters of XOR.
-use Rattle.std.proofs.Common.{◌≡◌, ℕ, zero, suc, ◌+◌, ◌*◌, ◌/◌, ◌%◌, ◌^◌, ◌<◌, min, cond, eqb, bit_and, bit_xor, count_ones, refl, sym, ap, ap₂, ◌∙◌, arith, zero-add, pow-suc, mod-lt}
+use Rattle.std.proofs.Common.{◌≡◌, ℕ, zero, suc, ◌+◌, ◌*◌, ◌/◌, ◌%◌, ◌^◌, ◌<◌, min, cond, eqb, bit_and, bit_xor, count_ones, refl, sym, ap, ◌∙◌, arith, zero-add, mod-lt, ap₂}
 use Rattle.std.proofs.lemmas.Nat.{and_comm, and_block, ones_cat, ones_le_self, xor_shr}
 use Rattle.std.proofs.lemmas.Grind.{common_steps}
 use Rattle.std.specs.Int.Bits.{and_step, xor_add_and, and_lt, and_le_l}
@@ -79,9 +79,6 @@ pub sign-xor : (w x y : ℕ) → w < 2 ^ 16 → sign w x * sign w y % 65535 ≡ 
 sign-xor w x y hw =
     let two : 0 < 2 = omega arith in
     let parity : (shared w x % 2 + shared w y % 2) % 2 ≡ shared w (bit_xor x y) % 2 = let s = shared-xor 16 w x y hw in omega arith in
-    cc (
-      sign-is w x,
-      sign-is w y,
-      sign_product (shared w x % 2) (shared w y % 2) (mod-lt (shared w x) two) (mod-lt (shared w y) two),
-      sign-is w (bit_xor x y),
-    )
+    ap₂ (λ a b. a * b % 65535) (sign-is w x) (sign-is w y)
+    ∙ sign_product (shared w x % 2) (shared w y % 2) (mod-lt (shared w x) two) (mod-lt (shared w y) two)
+    ∙ ap (λ v. sign_at v % 65535) parity ∙ ap (λ v. v % 65535) (sym (sign-is w (bit_xor x y)))

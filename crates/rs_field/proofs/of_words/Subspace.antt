@@ -35,12 +35,9 @@ unfolding product_below
 product_below-add m zero f words =
     ap (λ k. product_below k f) (add-zero m) ∙ sym (product_one (product_below m f) (product_below_lt m f))
 product_below-add m (suc n) f words =
-    cc (
-      add-suc m n,
-      product_below-add m n f (λ i h. words i (omega arith)),
-      product_assoc (product_below m f) (product_below n (λ i. f (m + i)))
-          (f (m + n)) (product_below_lt m f) (product_below_lt n _) (words (m + n) (omega arith)),
-    )
+    ap (λ k. product_below k f) (add-suc m n)
+    ∙ ap (λ v. product v (f (m + n))) (product_below-add m n f (λ i h. words i (omega arith)))
+    ∙ product_assoc (product_below m f) (product_below n (λ i. f (m + i))) (f (m + n)) (product_below_lt m f) (product_below_lt n _) (words (m + n) (omega arith))
 
 subspace_is : (d x : ℕ) → subspace d x ≡ product_below (2 ^ d) (λ y. bit_xor x y)
 unfolding subspace
@@ -65,28 +62,25 @@ subspace_shift zero x hd hx = grind (arith, common_steps, subspace_is, product_b
 subspace_shift (suc d) x hd hx =
     let less : d ≤ 16 = omega arith in
     let half : 2 ^ suc d ≤ 2 ^ 16 = pow_mono hd in
-    let moved : bit_xor x (2 ^ d) < 2 ^ 16 = xor_lt 16 x (2 ^ d) hx (omega arith) in
+    let whole : 2 ^ suc d ≡ 2 ^ d + 2 ^ d = two-pow-succ d in
+    let pos : 0 < 2 ^ d = pow_pos d in
+    let bit : 2 ^ d < 2 ^ 16 = omega arith in
+    let moved : bit_xor x (2 ^ d) < 2 ^ 16 = xor_lt 16 x (2 ^ d) hx bit in
     let u : ℕ = x / 2 ^ d in
     let hu : u < 2 ^ 16 = lt_of_le_of_lt (shr_le x d) hx in
+    let upper : product_below (2 ^ d) (λ y. bit_xor x (2 ^ d + y)) ≡ subspace d (bit_xor x (2 ^ d)) =
+    product_below-same (2 ^ d) (λ y. bit_xor x (2 ^ d + y)) (λ y. bit_xor (bit_xor x (2 ^ d)) y)
+    (λ y h. ap (bit_xor x) (top_bit d y h) ∙ sym (xor_assoc x (2 ^ d) y))
+    ∙ sym (subspace_is d (bit_xor x (2 ^ d))) in
+    let one : 2 ^ d / 2 ^ d ≡ 1 = ap (λ v. v / 2 ^ d) (sym (one-mul (2 ^ d))) ∙ shl-shr 1 d in
     let words : (i : ℕ) → i < 2 ^ d + 2 ^ d → bit_xor x i < 2 ^ 16 = λ i h. xor_lt 16 x i hx (omega arith) in
-    cc (
-      subspace_is (suc d) x,
-      two-pow-succ d,
-      product_below-add (2 ^ d) (2 ^ d) (λ y. bit_xor x y) words,
-      subspace_is d x,
-      subspace_shift d x less hx,
-      subspace_shift d (bit_xor x (2 ^ d)) less moved,
-      xor_shr x (2 ^ d) d,
-      times_next u hu,
-      shr-shr x d 1,
-      add-suc d 0,
-      add-zero d,
-      one-mul (2 ^ d),
-      shl-shr 1 d,
-      product_below-same (2 ^ d) (λ y. bit_xor x (2 ^ d + y)) (λ y. bit_xor (bit_xor x (2 ^ d)) y)
-          (λ y h. ap (bit_xor x) (top_bit d y h) ∙ sym (xor_assoc x (2 ^ d) y)),
-      subspace_is d (bit_xor x (2 ^ d)),
-    )
+    subspace_is (suc d) x
+    ∙ ap (λ n. product_below n (λ y. bit_xor x y)) (two-pow-succ d)
+    ∙ product_below-add (2 ^ d) (2 ^ d) (λ y. bit_xor x y) words
+    ∙ ap₂ product (sym (subspace_is d x) ∙ subspace_shift d x less hx) (upper ∙ subspace_shift d (bit_xor x (2 ^ d)) less moved ∙ xor_shr x (2 ^ d) d ∙ ap (bit_xor u) one)
+    ∙ times_next u hu
+    ∙ shr-shr x d 1
+    ∙ ap (λ k. x / 2 ^ k) (add-suc d 0 ∙ ap suc (add-zero d))
 
 -- m blocks of n numbers
 pub product_below-mul : (m n : ℕ) (f : ℕ → ℕ) → ((i : ℕ) → i < m * n → f i < 2 ^ 16)
@@ -119,20 +113,15 @@ nonzero_words (suc k) hk =
 -- a block of words beside a word below 2 ^ d
 block : (d x v : ℕ) → d ≤ 16 → x < 2 ^ d → suc v * 2 ^ d < 2 ^ 16 → product_below (2 ^ d) (λ i. bit_xor x (2 ^ d + (v * 2 ^ d + i))) ≡ v + 1
 block d x v hd hx hv =
-    grind (
-      arith,
-      common_steps,
-      product_below-same (2 ^ d) (λ i. bit_xor x (2 ^ d + (v * 2 ^ d + i))) (λ y. bit_xor (bit_xor x (suc v * 2 ^ d)) y)
-          (λ i h. ap (bit_xor x) (sym (add_assoc (2 ^ d) (v * 2 ^ d) i) ∙ ap (λ k. k + i) (one_more_block (2 ^ d) v) ∙ sym (xor_shifted (suc v) d i h))
-          ∙ sym (xor_assoc x (suc v * 2 ^ d) i)),
-      subspace_is d (bit_xor x (suc v * 2 ^ d)),
-      subspace_shift d (bit_xor x (suc v * 2 ^ d)) hd (xor_lt 16 x (suc v * 2 ^ d) (omega arith) hv),
-      xor_shr x (suc v * 2 ^ d) d,
-      shl-shr (suc v) d,
-      add-one v,
-      div-eq_of_lt hx,
-      pow_mono hd,
-    )
+    let wide : 2 ^ d ≤ 2 ^ 16 = pow_mono hd in
+    let x_word : x < 2 ^ 16 = omega arith in
+    let low : x / 2 ^ d ≡ 0 = div-eq_of_lt hx in
+    product_below-same (2 ^ d) (λ i. bit_xor x (2 ^ d + (v * 2 ^ d + i))) (λ y. bit_xor (bit_xor x (suc v * 2 ^ d)) y)
+    (λ i h. ap (bit_xor x) (sym (add_assoc (2 ^ d) (v * 2 ^ d) i) ∙ ap (λ k. k + i) (one_more_block (2 ^ d) v) ∙ sym (xor_shifted (suc v) d i h))
+    ∙ sym (xor_assoc x (suc v * 2 ^ d) i))
+    ∙ sym (subspace_is d (bit_xor x (suc v * 2 ^ d)))
+    ∙ subspace_shift d (bit_xor x (suc v * 2 ^ d)) hd (xor_lt 16 x (suc v * 2 ^ d) x_word hv)
+    ∙ xor_shr x (suc v * 2 ^ d) d ∙ ap₂ bit_xor low (shl-shr (suc v) d) ∙ sym (add-one v)
   where
     one_more_block : (n v : ℕ) → n + v * n ≡ suc v * n
     one_more_block n v = omega (arith, suc-mul v n)

@@ -95,18 +95,17 @@ unfolding joined_blocks
 last-joined d zero u g before q is = grind (arith, common_steps, add-zero, sum_below-suc, sum_below-zero)
 last-joined d (suc n) u g before q is =
     let size : 2 ^ (d + suc n) ≡ 2 ^ suc (d + n) = power_suc d n in
+    let twice : 2 ^ suc (d + n) ≡ 2 ^ (d + n) * 2 = pow-suc 2 (d + n) in
     let double : 2 ^ suc n ≡ 2 ^ n + 2 ^ n = (let p = pow-suc 2 n in omega arith) in
     let least : 2 ^ d ≤ 2 ^ (d + n) = pow_mono (omega arith) in
     let rest : ℕ = 2 ^ (d + n) - 2 ^ d in
+    let whole : 2 ^ (d + n) - 2 ^ d + 2 ^ d ≡ 2 ^ (d + n) = omega arith in
     let at : before + q ≡ 2 ^ (d + n) + (2 ^ (d + n) - 2 ^ d + q) = omega arith in
     let c : ℕ = subspace (d + n) (u * 2 ^ d) in
     let a : ℕ → ℕ = joined_blocks d n u g in
     let b : ℕ → ℕ = joined_blocks d n (u + 2 ^ n) g in
-    cc (
-      paired-second (2 ^ (d + n)) c a b (rest + q),
-      last-joined d n u g rest q (omega arith),
-      last-joined d n (u + 2 ^ n) g rest q (omega arith),
-      sum_below-add (2 ^ n) (2 ^ n) (λ j. g (u + j) q),
-      sum_below-same (2 ^ n) (λ j. g (u + (2 ^ n + j)) q) (λ j. g (u + 2 ^ n + j) q)
-          (λ j h. ap (λ v. g v q) (sym (add_assoc u (2 ^ n) j))),
-    )
+    ap (paired (2 ^ (d + n)) c a b) at
+    ∙ paired-second (2 ^ (d + n)) c a b (rest + q)
+    ∙ ap₂ bit_xor (last-joined d n u g rest q whole) (last-joined d n (u + 2 ^ n) g rest q whole)
+    ∙ sym (ap (λ m. sum_below m (λ j. g (u + j) q)) double ∙ sum_below-add (2 ^ n) (2 ^ n) (λ j. g (u + j) q)
+    ∙ ap (bit_xor (sum_below (2 ^ n) (λ j. g (u + j) q))) (sum_below-same (2 ^ n) (λ j. g (u + (2 ^ n + j)) q) (λ j. g (u + 2 ^ n + j) q) (λ j h. ap (λ v. g v q) (sym (add_assoc u (2 ^ n) j)))))

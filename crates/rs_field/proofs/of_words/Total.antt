@@ -1,5 +1,5 @@
 -- The laws of the product at every number: only the lowest 16 bits of a factor count.
-use Rattle.std.proofs.Common.{arith, ◌≡◌, ℕ, ◌*◌, ◌/◌, ◌%◌, ◌^◌, ◌<◌, List, [], ◌∷◌, length, bit_xor, refl, sym, ap, ap₂, ◌∙◌, mod-lt, zero-mul}
+use Rattle.std.proofs.Common.{◌≡◌, ℕ, ◌*◌, ◌/◌, ◌%◌, ◌^◌, ◌<◌, List, [], ◌∷◌, length, bit_xor, refl, sym, ap, ap₂, ◌∙◌, mod-lt, zero-mul}
 use Rattle.std.specs.Int.Bits.{xor_shifted, shifted_half, shifted_even}
 use Rattle.std.proofs.lemmas.Nat.{pow_pos, shr_split}
 use Rattle.rs_field.specs.words.Field.{combine, cantor_basis, bits, from_bits, carryless, reduce, product}
@@ -21,12 +21,9 @@ bits_high h = ap (λ n. combine cantor_basis (h * 2 ^ n)) (sym sixteen) ∙ comb
 
 bits_low : (x : ℕ) → bits (x % 2 ^ 16) ≡ bits x
 bits_low x =
-    cc (
-      bits_xor (x / 2 ^ 16 * 2 ^ 16) (x % 2 ^ 16),
-      bits_high (x / 2 ^ 16),
-      shr_split x 16,
-      xor_shifted (x / 2 ^ 16) 16 (x % 2 ^ 16) (mod-lt x (pow_pos 16)),
-    )
+    let parts : x ≡ bit_xor (x / 2 ^ 16 * 2 ^ 16) (x % 2 ^ 16) =
+    sym (shr_split x 16) ∙ sym (xor_shifted (x / 2 ^ 16) 16 (x % 2 ^ 16) (mod-lt x (pow_pos 16))) in
+    sym (ap bits parts ∙ bits_xor (x / 2 ^ 16 * 2 ^ 16) (x % 2 ^ 16) ∙ ap (λ v. bit_xor v (bits (x % 2 ^ 16))) (bits_high (x / 2 ^ 16)))
 
 low_left : (x y : ℕ) → product (x % 2 ^ 16) y ≡ product x y
 unfolding product
@@ -48,15 +45,9 @@ product-assoc x y z =
     let p : ℕ = x % 2 ^ 16 in
     let q : ℕ = y % 2 ^ 16 in
     let r : ℕ = z % 2 ^ 16 in
-    cc (
-      low_left x y,
-      low_right p y,
-      low_right (product p q) z,
-      product_assoc p q r (low_lt x) (low_lt y) (low_lt z),
-      low_left x (product q r),
-      low_left y r,
-      low_right y z,
-    )
+    ap (λ v. product v z) (sym (low_left x y) ∙ sym (low_right p y)) ∙ sym (low_right (product p q) z)
+    ∙ product_assoc p q r (low_lt x) (low_lt y) (low_lt z)
+    ∙ low_left x (product q r) ∙ ap (product x) (low_left y r ∙ low_right y z)
 
 -- three factors in another order
 pub product-left_comm : (x y z : ℕ) → product x (product y z) ≡ product y (product x z)

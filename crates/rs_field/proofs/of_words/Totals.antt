@@ -57,12 +57,10 @@ pub total-swap : (n m : ℕ) (g : ℕ → ℕ → ℕ) → total n (λ x. total 
 total-swap zero m g =
     total-zero (λ x. total m (λ y. g x y)) ∙ sym (total-none m (λ y. total zero (λ x. g x y)) (λ y hy. total-zero (λ x. g x y)))
 total-swap (suc n) m g =
-    cc (
-      total-suc n (λ x. total m (λ y. g x y)),
-      total-swap n m g,
-      total-plus m (λ y. total n (λ x. g x y)) (λ y. g n y),
-      total-same m (λ y. total n (λ x. g x y) + g n y) (λ y. total (suc n) (λ x. g x y)) (λ y hy. sym (total-suc n (λ x. g x y))),
-    )
+    total-suc n (λ x. total m (λ y. g x y))
+    ∙ ap (λ v. v + total m (λ y. g n y)) (total-swap n m g)
+    ∙ sym (total-plus m (λ y. total n (λ x. g x y)) (λ y. g n y))
+    ∙ total-same m (λ y. total n (λ x. g x y) + g n y) (λ y. total (suc n) (λ x. g x y)) (λ y hy. sym (total-suc n (λ x. g x y)))
 
 -- where all terms but one vanish
 pub total-one : (n x : ℕ) (g : ℕ → ℕ) → x < n → ((y : ℕ) → y < n → y ≢ x → g y % 65535 ≡ 0) → total n g % 65535 ≡ g x % 65535

@@ -1,5 +1,5 @@
 -- The values at n points fix a polynomial of n coefficients.
-use Rattle.std.proofs.Common.{◌≡◌, ℕ, ◌^◌, ◌<◌, ◌≤◌, List, [], ◌∷◌, length, bit_xor, refl, sym, ap, ap₂, ◌∙◌, arith}
+use Rattle.std.proofs.Common.{◌≡◌, ℕ, ◌^◌, ◌<◌, List, [], ◌∷◌, length, bit_xor, refl, sym, ap, ap₂, ◌∙◌, arith}
 use Rattle.std.specs.Int.Bits.{xor_self}
 use Rattle.rs_field.specs.words.Polynomial.{value}
 use Rattle.rs_field.proofs.of_words.Roots.{WordsOneByOne, ZerosOneByOne, zero_from_roots, same_from_xor}

@@ -1,16 +1,12 @@
 -- How a shard lies in a row of chunks.
-use Rattle.std.specs.Prelude.{◌≡◌, ◌<◌, ℕ, zero, suc, ◌+◌, ◌-◌, ◌*◌, ◌/◌, ◌%◌, min, nat_lt, if◌then◌else◌, List, [], ◌∷◌, ◌++◌, slice_index}
+use Rattle.std.specs.Prelude.{◌≡◌, ◌<◌, ℕ, ◌+◌, ◌-◌, ◌*◌, ◌/◌, ◌%◌, min, nat_lt, if◌then◌else◌, List, slice_index}
+use Rattle.rs_field.specs.words.UpTo.{up_to}
 use Rattle.rs_field.specs.code.Column.{Shard, column}
 use Rattle.rs_field.specs.rows.Rows.{symbol}
 
 -- the chunks of a row for shards of this size
 abbrev pub row_len : ℕ → ℕ
 row_len size = (size + 63) / 64
-
--- f 0, f 1, .., f (n - 1)
-abbrev pub up_to : {A : Type 0} → ℕ → (ℕ → A) → List A
-up_to zero f = []
-up_to (suc n) f = up_to n f ++ f n ∷ []
 
 -- where byte b of a shard of this size lies in its chunk: the first half of a chunk or of the tail lies from byte 0 on, the second half from byte 32 on
 unfoldable pub byte_offset : ℕ → ℕ → ℕ

@@ -5,7 +5,6 @@ ghost use Rattle.rs_field.specs.code.CodeLaws.{HasRecovery, IsLinear, IsColumnwi
 ghost use Rattle.rs_field.specs.code.Column.{ColumnsTellShard, IsColumn};
 ghost use Rattle.rs_field.specs.code.CountLaws.{SupportsRanges};
 ghost use Rattle.rs_field.specs.words.Field.{cantor_basis, polynomial};
-ghost use Rattle.rs_field.specs.rows.Layout.{LaysColumns};
 ghost use Rattle.rs_field.specs.words.Laws.{IsField, IsGenerated, IsProductOfBits};
 ghost use Rattle.rs_field.specs.words.Locator.{LocatesByProduct};
 ghost use Rattle.rs_field.specs.code.RoundTrip.{RestoresLost, RestoresEncoded, RestoresLeft, CodesInOneCall, EncodesInOneCall, RestoresInOneCall};
@@ -72,11 +71,6 @@ pub fn round_trip_laws()
     ensures one_encode { CodesInOneCall }
     ensures one_encode_whole { EncodesInOneCall }
     ensures one_call { RestoresInOneCall }
-{}
-
-/// A shard that lies in a row has its columns as the row's symbols.
-pub fn layout_laws()
-    ensures { LaysColumns }
 {}
 
 /// The subspace polynomials shift coordinates, and a locator's sums of logarithms are logarithms of products.

@@ -4,7 +4,7 @@
 //! are. A tail of L bytes lies in the last chunk: its first half from byte 0 on, its second half from byte 32 on. The
 //! other bytes of the last chunk are open.
 ghost use Rattle.std.specs.Prelude.{◌≡◌, ℕ, ◌+◌, ◌*◌, ◌%◌, ◌<◌, ◌≤◌, ◌↔◌, ◌⊎◌, length, slice_index, IsTrue, EachIndex};
-ghost use Rattle.rs_field.specs.rows.Layout.{row_len as chunks_for, laid_out, in_order, HasZeroColumns};
+ghost use Rattle.rs_field.specs.rows.Layout.{row_len as chunks_for, laid_out, in_order, LaysColumns, HasZeroColumns};
 ghost use Rattle.rs_field.specs.rows.Rows.{chunk};
 
 use std::simd::prelude::*;
@@ -177,3 +177,8 @@ fn are_zero(bytes: &[u8]) -> bool
     }
     bits == 0
 }
+
+/// A shard that lies in a row has its columns as the row's symbols.
+pub fn layout_laws()
+    ensures { LaysColumns }
+{}

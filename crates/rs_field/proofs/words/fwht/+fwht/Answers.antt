@@ -1,5 +1,5 @@
 -- The quarters' transforms and two layers after them make the whole.
-use Rattle.std.proofs.Common.{◌≡◌, ℕ, ◌+◌, ◌*◌, ◌/◌, ◌%◌, ◌<◌, List, length, get_or, subst, ap, ◌∙◌, arith}
+use Rattle.std.proofs.Common.{◌≡◌, ℕ, ◌+◌, ◌/◌, ◌%◌, ◌<◌, List, length, get_or, subst, ap, ◌∙◌, arith}
 use Rattle.std.proofs.lemmas.Nat.{pow_pos}
 use Rattle.rs_field.specs.words.StepBounds.{CountsPairs, WalshCounts}
 use Rattle.rs_field.proofs.of_words.Halving.{in_quarters, walsh-joined, walsh-at, walsh-one, walsh-none, walsh-pair, walsh-counts, walsh-quarter-counts, pair-counts, block-counts, two_blocks-counts}

@@ -1,7 +1,5 @@
-use Rattle.std.proofs.Common.{ℕ, length, get_or, subst, arith}
-use Rattle.rs_field.specs.words.Locator.{IsLocatorBelow}
+use Rattle.std.proofs.Common.{length, arith}
 use Rattle.rs_field.proofs.of_words.Convolution.{counts-below}
-use Rattle.rs_field.proofs.of_words.LogWalsh.{below-from_all}
 use Rattle.rs_field.proofs.words.locating.eval_poly.Goals as goal
 
 pub locate_marked-requires-clause-power : goal.locate_marked-requires-clause-power

@@ -1,8 +1,8 @@
 use Rattle.std.proofs.Common.{◌≡◌, ◌<◌, ◌≤◌, ℕ, [], Bor, length, sym, ◌∙◌, arith}
 use Rattle.std.specs.Prelude.{Option, Some, None, MatchOption}
 use Rattle.rs_field.specs.code.Column.{Shard, shard_at}
-use Rattle.rs_field.specs.rows.Layout.{up_to}
-use Rattle.rs_field.proofs.of_rows.LayoutLemmas.{length-up_to, get-up_to}
+use Rattle.rs_field.specs.words.UpTo.{up_to}
+use Rattle.rs_field.proofs.of_words.UpTo.{length-up_to, get-up_to}
 use Rattle.rs_rate.specs.ShardRows.{shard_in_order}
 use Rattle.rs_rate.proofs.encoder_result.EncoderResult.recovery.Goals as goal
 

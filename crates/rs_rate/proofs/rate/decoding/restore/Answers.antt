@@ -1,4 +1,4 @@
-use Rattle.rs_field.proofs.of_words.Counting.{counts_decode}
+use Rattle.rs_field.proofs.of_code.DecodeSteps.{counts_decode}
 use Rattle.rs_rate.proofs.rate.decoding.restore.Goals as goal
 
 pub returns-clause-counts : goal.returns-clause-counts

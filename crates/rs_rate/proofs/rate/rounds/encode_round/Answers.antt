@@ -1,6 +1,6 @@
 use Rattle.std.proofs.Common.{ℕ, sym, ◌∙◌, subst, arith}
 use Rattle.std.proofs.lemmas.Result.{err_from_is_err_and}
-use Rattle.rs_field.proofs.of_rows.LayoutLemmas.{length-up_to}
+use Rattle.rs_field.proofs.of_words.UpTo.{length-up_to}
 use Rattle.rs_field.specs.words.StepBounds.{CountsUpTo}
 use Rattle.rs_rate.specs.Configured.{low_or_high}
 use Rattle.rs_rate.specs.EncoderView.{encoder_state, given_of, lent_of}

@@ -1,5 +1,4 @@
 use Rattle.std.proofs.Common.{refl}
-use Rattle.rs_field.proofs.of_words.LogWalsh.{all-from_below}
 use Rattle.rs_field.proofs.words.lent_tables.LentTables.log_walsh.Goals as goal
 
 pub log_walsh_below-requires-clause-power : goal.log_walsh_below-requires-clause-power

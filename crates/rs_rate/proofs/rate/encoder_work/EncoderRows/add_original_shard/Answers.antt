@@ -1,10 +1,10 @@
 use Rattle.std.proofs.Common.{rules, ◌≡◌, ◌≢◌, ℕ, ◌+◌, arith, ap, ◌<◌, ◌∙◌, sym, length, List, subst}
 use Rattle.std.proofs.lemmas.List.{with_items_is}
-use Rattle.rs_field.proofs.of_rows.LayoutLemmas.{length-up_to}
+use Rattle.rs_field.proofs.of_words.UpTo.{length-up_to}
 use Rattle.rs_rate.proofs.ShardRowsLemmas.{chunk_count-within, given-more, shard-entered}
 use Rattle.rs_field.specs.code.Column.{Shard, IsShard}
 use Rattle.rs_field.specs.code.Encoder.{EncoderState}
-use Rattle.rs_field.specs.rows.Layout.{up_to}
+use Rattle.rs_field.specs.words.UpTo.{up_to}
 use Rattle.rs_field.specs.rows.Rows.{Chunks}
 use Rattle.rs_rate.specs.EncoderView.{configuration_of, encoder_state}
 use Rattle.rs_rate.proofs.StateLemmas.{with_shard-added}

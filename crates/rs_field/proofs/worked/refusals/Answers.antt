@@ -4,7 +4,7 @@ use Rattle.rs_field.specs.code.Counts.{next_power, supports, is_low}
 use Rattle.rs_field.specs.code.Placement.{encoder_rows, decoder_rows}
 use Rattle.rs_field.specs.code.Given.{entered, count_below}
 use Rattle.rs_field.specs.worked.Calls.{EncodeOrder, DecodeOrder, NoRecoveryOrder, EncoderRound, DecoderRound, LargestIndex, MemoryOrder}
-use Rattle.rs_field.proofs.code.worked.refusals.Goals as goal
+use Rattle.rs_field.proofs.worked.refusals.Goals as goal
 
 encode : EncodeOrder
 unfolding supports encoder_rows is_low next_power first_below

@@ -11,7 +11,7 @@ use Rattle.rs_field.specs.code.CodeLaws.{xor_bytes, xor_shards}
 use Rattle.rs_field.specs.worked.Codes.{LowRows, HighRows, ShortLineRow, CubicRow, TailRow, ChunkAndTailRow}
 use Rattle.rs_field.proofs.of_words.Linear.{passes_below}
 use Rattle.rs_field.proofs.of_code.Decided.{codes_from, recovery_from, recovery_from_high}
-use Rattle.rs_field.proofs.code.worked.codes.Goals as goal
+use Rattle.rs_field.proofs.worked.codes.Goals as goal
 
 -- the tests of the low rate
 low : LowRows low_rate × LowRows default_rate × ShortLineRow low_rate × CubicRow low_rate × TailRow × ChunkAndTailRow

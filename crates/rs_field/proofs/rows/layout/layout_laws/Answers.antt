@@ -1,5 +1,5 @@
 use Rattle.rs_field.proofs.of_rows.LayoutLemmas.{column-laid_out}
-use Rattle.rs_field.proofs.code.laws.layout_laws.Goals as goal
+use Rattle.rs_field.proofs.rows.layout.layout_laws.Goals as goal
 
 pub returns : goal.returns
 returns c = column-laid_out

@@ -20,7 +20,7 @@ use Rattle.rs_field.proofs.of_code.Agreement.{one_message}
 use Rattle.rs_field.proofs.of_code.Changes.{changes_noticed}
 use Rattle.rs_field.proofs.of_code.Given.{entered_cases, nothing_among, entered_among}
 use Rattle.rs_field.proofs.of_code.Decided.{shards_from, recovery_from, recovery_from_high}
-use Rattle.rs_field.proofs.code.worked.agreement.Goals as goal
+use Rattle.rs_field.proofs.worked.agreement.Goals as goal
 
 -- the message that is restored
 abbrev message : List Shard

@@ -4,7 +4,7 @@ use Rattle.rs_field.specs.words.Search.{first_below}
 use Rattle.rs_field.specs.code.Bounds.{encode_steps, decode_steps}
 use Rattle.rs_field.specs.code.Placement.{block_rows, encoder_rows, decoder_rows}
 use Rattle.rs_field.specs.code.Counts.{is_low, next_power}
-use Rattle.rs_field.proofs.code.worked.bounds.Goals as goal
+use Rattle.rs_field.proofs.worked.bounds.Goals as goal
 
 pub returns : goal.returns
 unfolding log2 transform_steps encode_steps decode_steps block_rows encoder_rows decoder_rows is_low next_power first_below

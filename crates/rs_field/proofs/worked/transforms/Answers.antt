@@ -5,7 +5,7 @@ use Rattle.rs_field.specs.words.Subspace.{product_below, subspace, basis}
 use Rattle.rs_field.specs.words.Transform.{sum_below, forward}
 use Rattle.rs_field.specs.worked.Numbers.{pair}
 use Rattle.rs_field.proofs.of_words.Subspace.{product_below-same, subspace_shift}
-use Rattle.rs_field.proofs.code.worked.transforms.Goals as goal
+use Rattle.rs_field.proofs.worked.transforms.Goals as goal
 
 -- `basis` by shifts of the point
 by_shift : ℕ → ℕ → ℕ

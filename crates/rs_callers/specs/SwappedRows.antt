@@ -1,0 +1,25 @@
+-- What becomes of rows that change places.
+use Rattle.std.specs.Prelude.{◌≡◌, ℕ, ◌+◌, ◌*◌, ◌<◌, ◌≤◌, ◌⊎◌, ◌++◌, drop}
+use Rattle.reed_solomon_simd.specs.Rows.{Chunks, chunk}
+use Rattle.reed_solomon_simd.specs.View.{SameShape, cell}
+use Rattle.rs_field.specs.declared.rows.shards.ShardsRefMut.{ShardsRefMut}
+
+-- chunk c lies before row i, or past it
+abbrev pub IsOutside : ShardsRefMut → ℕ → ℕ → Type 0
+IsOutside r i c = (c < i * r.shard_len_64) ⊎ (i * r.shard_len_64 + r.shard_len_64 ≤ c)
+
+-- rows i and j changed places, and all other chunks are the same, to the last one past the rows
+pub record AreSwapped (i j : ℕ) (old new : ShardsRefMut) : Type 0 where
+  pub shape : SameShape old new
+  pub first : (k : ℕ) → k < old.shard_len_64 → cell new k i ≡ cell old k j
+  pub second : (k : ℕ) → k < old.shard_len_64 → cell new k j ≡ cell old k i
+  pub others : (c : ℕ) → IsOutside old i c → IsOutside old j c → chunk new.chunks.now c ≡ chunk old.chunks.now c
+
+-- rows i and j changed places, and then rows k and l
+abbrev pub AreSwappedTwice : ℕ → ℕ → ℕ → ℕ → ShardsRefMut → ShardsRefMut → Type 0
+AreSwappedTwice i j k l old new = (mid : ShardsRefMut) × AreSwapped i j old mid × AreSwapped k l mid new
+
+-- the same loan, over chunks of which these are the first, in place of as many as a row has
+pub record HasFirstRow (old : ShardsRefMut) (row : Chunks) (new : ShardsRefMut) : Type 0 where
+  pub name : new.chunks.ghost_name ≡ old.chunks.ghost_name
+  pub chunks : new.chunks.now ≡ row ++ drop old.shard_len_64 old.chunks.now
