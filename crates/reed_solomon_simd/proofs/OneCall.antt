@@ -1,5 +1,5 @@
 -- From coders that were given shards to what one call answers.
-use Rattle.std.proofs.Common.{◌≡◌, ℕ, Bool, true, false, if◌then◌else◌, List, [], ◌∷◌, length, Some, None, Result, Ok, Err, IsOk, IfOk, MatchResult, inl, inr, refl, sym, ap, subst, ◌⊎◌, ◌∙◌, arith}
+use Rattle.std.proofs.Common.{◌≡◌, ℕ, true, false, List, [], ◌∷◌, length, Some, None, Result, Ok, Err, IsOk, IfOk, MatchResult, inl, inr, refl, sym, ap, subst, ◌⊎◌, ◌∙◌, arith}
 use Rattle.std.proofs.lemmas.Grind.{common_steps}
 use Rattle.rs_field.specs.declared.code.error.Error.{Error}
 use Rattle.rs_field.specs.declared.code.error.Error.TheVariants.{OutOfMemory, UnsupportedShardCount}
@@ -57,15 +57,10 @@ leads-off {T = T} A o e is = subst (λ o. MatchResult o (λ s. A s (Err e)) (λ 
 
 -- ---- encoders
 
--- what is told of counts, by whether they are supported
-uncounted : (k r : ℕ) (e : Error) (supported : Bool) → ◌≡◌ {A = Result (Unit {0}) Error} (Err e) (if supported then Ok tt else Err (UnsupportedShardCount k r)) → (supported ≡ false) × (e ≡ UnsupportedShardCount k r)
-uncounted k r e true told = cc
-uncounted k r e false told = (refl, cc)
-
 -- counts that aren't supported are refused, whatever comes
-pub encoding-uncounted : (k r : ℕ) (shards : List Shard) (e : Error) → Err e ≡ counted k r → IsEncoding k r shards (Err e)
-encoding-uncounted k r [] e told = let refused = uncounted k r e (supports default_rate k r) told in rw (refused.0, refused.1) (inl refl)
-encoding-uncounted k r (x ∷ xs) e told = let refused = uncounted k r e (supports default_rate k r) told in rw (refused.0, refused.1) (inl refl)
+pub encoding-uncounted : (k r : ℕ) (shards : List Shard) (e : Error) → (supports default_rate k r ≡ false) × (e ≡ UnsupportedShardCount k r) → IsEncoding k r shards (Err e)
+encoding-uncounted k r [] e refused = rw (refused.0, refused.1) (inl refl)
+encoding-uncounted k r (x ∷ xs) e refused = rw (refused.0, refused.1) (inl refl)
 
 module _ (k r : ℕ) (first : Shard) (rest : List Shard) where
   -- an encoder that isn't set up decides
@@ -142,17 +137,15 @@ both-ok s now originals recovery o taken led = ap (result_and_then (λ t. with_r
 pub both-err : (s : DecoderState) (originals recovery : Items) (e : Error) → with_originals s originals ≡ Err e → with_both s originals recovery ≡ Err e
 both-err s originals recovery e refused = ap (result_and_then (λ t. with_recoveries t recovery)) refused
 
-pub decoding-uncounted : (k r : ℕ) (originals recovery : Items) (e : Error) → Err e ≡ counted k r → IsDecoding k r originals recovery (Err e)
-decoding-uncounted k r originals [] e told = let refused = uncounted k r e (supports default_rate k r) told in rw (refused.0, refused.1) (inl refl)
-decoding-uncounted k r originals (x ∷ xs) e told = let refused = uncounted k r e (supports default_rate k r) told in rw (refused.0, refused.1) (inl refl)
+pub decoding-uncounted : (k r : ℕ) (originals recovery : Items) (e : Error) → (supports default_rate k r ≡ false) × (e ≡ UnsupportedShardCount k r) → IsDecoding k r originals recovery (Err e)
+decoding-uncounted k r originals [] e refused = rw (refused.0, refused.1) (inl refl)
+decoding-uncounted k r originals (x ∷ xs) e refused = rw (refused.0, refused.1) (inl refl)
 
 -- where no recovery shard came: whether all originals did, or memory lacked for their indexes
-pub decoding-none : (k r : ℕ) (originals : Items) (o : Result (Unit {0}) Error) → Ok tt ≡ counted k r → (o ≡ all_came k originals) ⊎ (o ≡ Err OutOfMemory)
+pub decoding-none : (k r : ℕ) (originals : Items) (o : Result (Unit {0}) Error) → supports default_rate k r ≡ true → (o ≡ all_came k originals) ⊎ (o ≡ Err OutOfMemory)
     → IsDecoding k r originals [] (result_and_then (λ _. Ok None) o)
-decoding-none k r originals o supported (inl same) =
-    inl (ap (result_and_then (λ _. Ok None)) (same ∙ ap (result_and_then (λ _. all_came k originals)) supported))
-decoding-none k r originals o supported (inr lacks) =
-    inr (subst (λ (o : Result (Unit {0}) Error). IsOk o) supported refl, ap (result_and_then (λ _. Ok None)) lacks)
+decoding-none k r originals o supported (inl same) = rw supported (inl (ap (result_and_then (λ _. Ok None)) same))
+decoding-none k r originals o supported (inr lacks) = rw supported (inr (refl, ap (result_and_then (λ _. Ok None)) lacks))
 
 module _ (k r : ℕ) (originals : Items) (first : ℕ × Shard) (rest : Items) where
   -- a decoder that isn't set up decides

@@ -1,77 +1,67 @@
 //! Encoders and decoders of the default rate with the shards of a message given to them, as one call gives them.
-ghost use Rattle.std.specs.Prelude.{◌≡◌, List, Err, IfErr};
+ghost use Rattle.std.specs.Prelude.{◌≡◌, List};
 ghost use Rattle.std.specs.Iterator.{IsFinite};
 ghost use Rattle.std.specs.Option.{option_map};
 ghost use Rattle.std.specs.Result.{result_map_both};
 ghost use Rattle.rs_field.specs.code.Column.{Shard};
 ghost use Rattle.rs_field.specs.code.Counts.{default_rate};
-ghost use Rattle.rs_field.specs.code.OneCall.{Items, counted, with_shards, with_originals, with_recoveries};
+ghost use Rattle.rs_field.specs.code.OneCall.{Items, with_shards, with_originals, with_recoveries};
 ghost use Rattle.rs_rate.specs.EncoderView.{encoder_state};
 ghost use Rattle.rs_rate.specs.DecoderView.{decoder_state};
 ghost use Rattle.reed_solomon_simd.specs.Calls.{Calls, BeginsWith, BeginsWithItems};
 ghost use Rattle.reed_solomon_simd.specs.Giving.{Reaches, IsEncoding, IsDecoding};
 
 use crate::all_came::check_all_came;
-use rs_engines::engine_default::DefaultEngine;
 use rs_field::engine::Engine;
 use rs_field::error::Error;
-use rs_rate::rate::{DefaultRateDecoder, DefaultRateEncoder, RateDecoder, RateEncoder};
+use rs_rate::rate::{
+    DefaultRateCounts, DefaultRateDecoder, DefaultRateEncoder, RateDecoder, RateEncoder,
+};
 use std::alloc::Global;
 
-/// An encoder that was given the originals. Refused as `encode` is up to the last of them.
+/// An encoder at these counts that was given the originals. Refused as `encode` is behind the counts, up to the last original.
 ///
 /// ```
 /// // quoted: crates/rs/src/program.rt
 /// let shards = original.iter().map(|shard| shard.as_slice());
-/// let mut encoder = given_encoder(alloc, counts.original, counts.recovery, shards, engine)?;
+/// let mut encoder = given_encoder(alloc, counts, shards, engine)?;
 /// ```
 pub fn given_encoder<'a, E: Engine, I: Iterator<Item = &'a [u8]> + Drop>(
     alloc: Global,
-    original_count: usize,
-    recovery_count: usize,
+    counts: DefaultRateCounts,
     mut original: I,
     engine: E,
 ) -> Result<DefaultRateEncoder<E>, Error>
     requires can { I.can_next original }
     requires ends { IsFinite (I.remaining original) }
-    ensures counts { IfErr (counted original_count recovery_count) (λ e. result ≡ Err e) }
-    ensures run { (calls : Calls I.next_gives original) × ((items : List Shard) → BeginsWith items calls
-        → IsEncoding original_count recovery_count items (result_map_both (λ x. encoder_state default_rate x.rows) (λ e. e) result)) }
+    ensures { (calls : Calls I.next_gives original) × ((items : List Shard) → BeginsWith items calls
+        → IsEncoding counts.original_count counts.recovery_count items (result_map_both (λ x. encoder_state default_rate x.rows) (λ e. e) result)) }
 {
-    check_counts(original_count, recovery_count)?;
     let Some(first) = original.next() else {
         return Err(Error::TooFewOriginalShards {
-            original_count,
+            original_count: counts.original_count,
             original_received_count: 0,
         });
     };
     let size = first.len();
-    let mut encoder = DefaultRateEncoder::new(
-        alloc,
-        original_count,
-        recovery_count,
-        size,
-        engine,
-        None,
-    )?;
+    let mut encoder = DefaultRateEncoder::with_counts(alloc, counts, size, engine, None)?;
     encoder.add_original_shard(first)?;
     give_shards(&mut encoder, original)?;
     Ok(encoder)
 }
 
-/// A decoder that was given the originals and the recovery shards; None where no recovery shard came and all originals did.
-/// Refused as `decode` is up to the last of them.
+/// A decoder at these counts that was given the originals and the recovery shards; None where no recovery shard came and
+/// all originals did. Refused as `decode` is behind the counts, up to the last shard.
 ///
 /// ```
 /// // quoted: crates/rs/src/program.rt
-/// let Some(mut decoder) = given_decoder(alloc, k, r, original, recovery, engine)? else {
+/// let Some(mut decoder) = given_decoder(alloc, counts, original, recovery, engine)? else {
 ///     return Ok(Vec::new(alloc));
 /// };
 /// ```
 pub fn given_decoder<'a, E: Engine, O, R>(
     alloc: Global,
-    original_count: usize,
-    recovery_count: usize,
+    counts: DefaultRateCounts,
     original: O,
     mut recovery: R,
     engine: E,
@@ -83,48 +73,20 @@ where
     requires ends { IsFinite (O.remaining original) }
     requires can_recovery { R.can_next recovery }
     requires recovery_ends { IsFinite (R.remaining recovery) }
-    ensures counts { IfErr (counted original_count recovery_count) (λ e. result ≡ Err e) }
-    ensures run { (calls : Calls O.next_gives original) × (further : Calls R.next_gives recovery) × ((originals recoveries : Items)
-        → BeginsWithItems originals calls → BeginsWithItems recoveries further → IsDecoding original_count recovery_count originals recoveries
+    ensures { (calls : Calls O.next_gives original) × (further : Calls R.next_gives recovery) × ((originals recoveries : Items)
+        → BeginsWithItems originals calls → BeginsWithItems recoveries further → IsDecoding counts.original_count counts.recovery_count originals recoveries
         (result_map_both (λ o. option_map (λ x. decoder_state default_rate x.rows) o) (λ e. e) result)) }
 {
-    check_counts(original_count, recovery_count)?;
     let Some((first_index, first_shard)) = recovery.next() else {
-        check_all_came(alloc, original_count, original)?;
+        check_all_came(alloc, counts.original_count, original)?;
         return Ok(None);
     };
     let size = first_shard.len();
-    let mut decoder = DefaultRateDecoder::new(
-        alloc,
-        original_count,
-        recovery_count,
-        size,
-        engine,
-        None,
-    )?;
+    let mut decoder = DefaultRateDecoder::with_counts(alloc, counts, size, engine, None)?;
     give_originals(&mut decoder, original)?;
     decoder.add_recovery_shard(first_index, first_shard)?;
     give_recovery(&mut decoder, recovery)?;
     Ok(Some(decoder))
-}
-
-/// `UnsupportedShardCount` where the default rate doesn't support the counts.
-///
-/// ```
-/// // quoted: crates/rs/src/program.rt
-/// check_counts(command.counts.original, command.counts.recovery)?;
-/// ```
-pub fn check_counts(original_count: usize, recovery_count: usize) -> Result<(), Error>
-    ensures { result ≡ counted original_count recovery_count }
-{
-    if DefaultRateEncoder::<DefaultEngine<'_>>::supports(original_count, recovery_count) {
-        Ok(())
-    } else {
-        Err(Error::UnsupportedShardCount {
-            original_count,
-            recovery_count,
-        })
-    }
 }
 
 /// Gives an encoder shards in order; the first refused one decides.

@@ -128,6 +128,13 @@ pub mod rate {
         DefaultRateDecoder, DefaultRateEncoder, HighRateDecoder, HighRateEncoder, LowRateDecoder,
         LowRateEncoder, RateDecoder, RateEncoder,
     };
+    /// Counts that a rate supports: asked for once, where a call begins.
+    ///
+    /// ```
+    /// // quoted: crates/reed_solomon_simd/src/one_call.rt
+    /// let counts = DefaultRateCounts::new(original_count, recovery_count)?;
+    /// ```
+    pub use rs_rate::rate::{DefaultRateCounts, HighRateCounts, LowRateCounts};
     /// Memory that passes from object to object.
     ///
     /// ```

@@ -11,7 +11,7 @@ use crate::coders::{given_decoder, given_encoder};
 use rs_engines::engine_default::DefaultEngine;
 use rs_field::engine::Steps;
 use rs_field::error::Error;
-use rs_rate::rate::{RateDecoder, RateEncoder};
+use rs_rate::rate::{DefaultRateCounts, RateDecoder, RateEncoder};
 use rs_rate::{DecoderResult, EncoderResult};
 use std::alloc::Global;
 use std::collections::BTreeMap;
@@ -46,7 +46,8 @@ pub fn encode<'a, I: Iterator<Item = &'a [u8]> + Drop>(
     ensures coded { (items : List Shard) → Lends I.next_gives original items
         → IfOk (collected result) (AreCoded original_count recovery_count items) }
 {
-    let mut encoder = given_encoder(alloc, original_count, recovery_count, original, engine)?;
+    let counts = DefaultRateCounts::new(original_count, recovery_count)?;
+    let mut encoder = given_encoder(alloc, counts, original, engine)?;
     let mut steps = Steps::new();
     let result = encoder.encode(&mut steps)?;
     collect_recovery(alloc, &result)
@@ -90,15 +91,8 @@ where
     ensures answer { (originals recoveries : Items) → LendsItems O.next_gives original originals
         → LendsItems R.next_gives recovery recoveries → OneDecodeAnswers original_count recovery_count originals recoveries (collected_map result) }
 {
-    let Some(mut decoder) = given_decoder(
-        alloc,
-        original_count,
-        recovery_count,
-        original,
-        recovery,
-        engine,
-    )?
-    else {
+    let counts = DefaultRateCounts::new(original_count, recovery_count)?;
+    let Some(mut decoder) = given_decoder(alloc, counts, original, recovery, engine)? else {
         return Ok(BTreeMap::new(alloc));
     };
     let mut steps = Steps::new();

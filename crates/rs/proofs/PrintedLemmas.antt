@@ -1,10 +1,10 @@
 -- What is printed, and what is told in its place.
-use Rattle.std.proofs.Common.{◌≡◌, ℕ, Bool, true, false, cond, List, [], ◌∷◌, Result, Ok, Err, inl, inr, refl, arith}
+use Rattle.std.proofs.Common.{◌≡◌, ℕ, false, List, Result, Ok, Err, inl, inr, refl, arith}
 use Rattle.std.specs.Prelude.{MatchResult}
 use Rattle.std.specs.declared.string.String.{String}
 use Rattle.std.specs.declared.vec.Vec.{Vec}
 use Rattle.reed_solomon_simd.specs.Counts.{default_rate, supports}
-use Rattle.reed_solomon_simd.specs.OneCall.{Items, counted, OneEncodeAnswers, OneDecodeAnswers}
+use Rattle.reed_solomon_simd.specs.OneCall.{Items, OneEncodeAnswers, OneDecodeAnswers}
 use Rattle.reed_solomon_simd.specs.declared.Error.{Error}
 use Rattle.reed_solomon_simd.specs.declared.Error.TheVariants.{UnsupportedShardCount, OutOfMemory}
 use Rattle.reed_solomon_simd.specs.Column.{Shard}
@@ -30,9 +30,9 @@ restores-lines k r given restored items (Ok texts) answered listed lines = (rest
 restores-lines k r given restored items (Err e) answered listed lacking = inr lacking
 
 -- whatever is asked, counts that aren't supported are refused
-pub unsupported : (k r : ℕ) (task : Task) (e : Error) → Err e ≡ counted k r → Answers k r task (Err e)
-unsupported k r (Coded shards) e told = encoding-refused k r shards e (encoding-uncounted k r shards e told)
-unsupported k r (Restored given) e told = decoding-refused k r given.originals given.recovery e (decoding-uncounted k r given.originals given.recovery e told)
+pub unsupported : (k r : ℕ) (task : Task) (e : Error) → (supports default_rate k r ≡ false) × (e ≡ UnsupportedShardCount k r) → Answers k r task (Err e)
+unsupported k r (Coded shards) e refused = encoding-refused k r shards e (encoding-uncounted k r shards e refused)
+unsupported k r (Restored given) e refused = decoding-refused k r given.originals given.recovery e (decoding-uncounted k r given.originals given.recovery e refused)
 
 -- with status 1 what is told of an answer is a refusal of the words
 pub refusal-told : (words : List (List ℕ)) (fault told : Fault) → status_of fault ≡ 1 → HasFault words fault → IsToldAs fault told

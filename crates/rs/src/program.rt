@@ -9,14 +9,14 @@ ghost use Rattle.rs.specs.Printed.{lines_of, indexed_lines_of, concatenated, Cod
 ghost use Rattle.rs.specs.Told.{message_of, AppendsFront, CutShort};
 ghost use Rattle.rs.specs.declared.fault.Fault.TheVariants.{Usage, Refused};
 
-use crate::command::{Command, Counts, Given, Task, read_command};
+use crate::command::{Command, Given, Task, read_command};
 use crate::fault::Fault;
 use crate::hexadecimal::line;
 use crate::writing::write_texts;
-use reed_solomon_simd::coders::{check_counts, given_decoder, given_encoder};
+use reed_solomon_simd::coders::{given_decoder, given_encoder};
 use reed_solomon_simd::engine::tables::Tables;
 use reed_solomon_simd::engine::{DefaultEngine, Steps};
-use reed_solomon_simd::rate::{RateDecoder, RateEncoder};
+use reed_solomon_simd::rate::{DefaultRateCounts, RateDecoder, RateEncoder};
 use reed_solomon_simd::{Error, Recovery, RestoredOriginal};
 use std::alloc::Global;
 use std::io::Write;
@@ -47,14 +47,14 @@ fn indexed_lines(alloc: Global, shards: RestoredOriginal<'_>) -> Result<Vec<Stri
 // The lines of the recovery shards of the originals.
 fn coded_lines(
     alloc: Global,
-    counts: Counts,
+    counts: DefaultRateCounts,
     original: &[Vec<u8>],
     engine: DefaultEngine<'_>,
 ) -> Result<Vec<String>, Error>
-    ensures { OrLacksMemory (CodesLines counts.original counts.recovery (map (λ v. v.items) original.now)) result }
+    ensures { OrLacksMemory (CodesLines counts.original_count counts.recovery_count (map (λ v. v.items) original.now)) result }
 {
     let shards = original.iter().map(|shard| shard.as_slice());
-    let mut encoder = given_encoder(alloc, counts.original, counts.recovery, shards, engine)?;
+    let mut encoder = given_encoder(alloc, counts, shards, engine)?;
     let coded = encoder.encode(&mut Steps::new())?;
     lines(alloc, coded.recovery_iter())
 }
@@ -62,13 +62,12 @@ fn coded_lines(
 // The lines of the originals that are restored from the given shards.
 fn restored_lines(
     alloc: Global,
-    counts: Counts,
+    counts: DefaultRateCounts,
     given: &Given,
     engine: DefaultEngine<'_>,
 ) -> Result<Vec<String>, Error>
-    ensures { OrLacksMemory (RestoresLines counts.original counts.recovery (as_given given.now)) result }
+    ensures { OrLacksMemory (RestoresLines counts.original_count counts.recovery_count (as_given given.now)) result }
 {
-    let (k, r) = (counts.original, counts.recovery);
     let original = given
         .original
         .iter()
@@ -77,25 +76,27 @@ fn restored_lines(
         .recovery
         .iter()
         .map(|item| (item.0, item.1.as_slice()));
-    let Some(mut decoder) = given_decoder(alloc, k, r, original, recovery, engine)? else {
+    let Some(mut decoder) = given_decoder(alloc, counts, original, recovery, engine)? else {
         return Ok(Vec::new(alloc));
     };
     let restored = decoder.decode(&mut Steps::new())?;
     indexed_lines(alloc, restored.restored_original_iter())
 }
 
-// The lines that answer a command, made by the engine that it asks for.
+// The lines that answer a command, at its counts and by the engine that it asks for.
 fn lines_for(
     alloc: Global,
     command: &Command,
+    counts: DefaultRateCounts,
     engine: DefaultEngine<'_>,
 ) -> Result<Vec<String>, Error>
+    requires counts { (counts.original_count ≡ command.now.counts.original) × (counts.recovery_count ≡ command.now.counts.recovery) }
     requires engine { kind_of engine ≡ command.now.engine }
     ensures { OrLacksMemory (IsAnswered (as_request command.now)) result }
 {
     match &command.task {
-        Task::Encode(original) => coded_lines(alloc, command.counts, original, engine),
-        Task::Decode(given) => restored_lines(alloc, command.counts, given, engine),
+        Task::Encode(original) => coded_lines(alloc, counts, original, engine),
+        Task::Decode(given) => restored_lines(alloc, counts, given, engine),
     }
 }
 
@@ -106,10 +107,10 @@ fn answer(alloc: Global, words: &[String]) -> Result<Vec<String>, Fault>
         (λ fault. HasFault (map string_bytes words.now) fault) }
 {
     let command = read_command(alloc, words)?;
-    check_counts(command.counts.original, command.counts.recovery)?;
+    let counts = DefaultRateCounts::new(command.counts.original, command.counts.recovery)?;
     let tables = Tables::new(alloc)?;
     let engine = DefaultEngine::new(&tables, command.engine);
-    Ok(lines_for(alloc, &command, engine)?)
+    Ok(lines_for(alloc, &command, counts, engine)?)
 }
 
 /// Does what the words ask, and answers the status.

@@ -6,11 +6,12 @@ use Rattle.std.proofs.lemmas.List.{length-take-le, length-drop, take-append-drop
 use Rattle.std.specs.List.{count_by}
 use Rattle.rs_field.specs.declared.code.error.Error.{Error}
 use Rattle.rs_field.specs.code.Column.{Shard, AreShards, shard_at}
+use Rattle.rs_field.specs.code.Counts.{default_rate, supports}
 use Rattle.rs_field.specs.code.Given.{Shards, nothing}
 use Rattle.rs_field.specs.code.Outcome.{result_and_then}
 use Rattle.rs_field.specs.code.Configuration.{Configuration}
 use Rattle.rs_field.specs.code.Decoder.{DecoderState, Restored, missing_of, enough_given, DecodeAnswers}
-use Rattle.rs_field.specs.code.OneCall.{Items, counted, OneDecodeAnswers}
+use Rattle.rs_field.specs.code.OneCall.{Items, OneDecodeAnswers}
 use Rattle.reed_solomon_simd.specs.Giving.{IsDecoding}
 use Rattle.reed_solomon_simd.proofs.OneCall.{decoding-none, decoding-kept}
 use Rattle.rs_c.specs.declared.fault.Fault.{Fault}
@@ -68,7 +69,7 @@ marked-none i size (mark ∷ marks) bytes none = by_mark (mark == 0) none (marke
     by_mark false none further = absurd (omega (arith, none))
 
 -- where no recovery shard is marked, whether all originals are
-pub decodes-unmarked : (k r size : ℕ) (own other old recovery : List ℕ) (o : Result (Unit {0}) Error) → Ok tt ≡ counted k r → length own ≡ k → count_by (λ mark. not (mark == 0)) other ≡ 0
+pub decodes-unmarked : (k r size : ℕ) (own other old recovery : List ℕ) (o : Result (Unit {0}) Error) → supports default_rate k r ≡ true → length own ≡ k → count_by (λ mark. not (mark == 0)) other ≡ 0
     → o ≡ all_or_refused (length own) (count_by (λ mark. not (mark == 0)) own) → IsDecoding k r (marked 0 size own old) (marked 0 size other recovery) (result_and_then (λ _. Ok None) o)
 decodes-unmarked k r size own other old recovery o supported many none is =
     subst (λ items. IsDecoding k r (marked 0 size own old) items (result_and_then (λ _. Ok None) o)) (sym (marked-none 0 size other recovery (count-present other ∙ none)))
@@ -82,10 +83,10 @@ with-nothing i size (suc n) bytes sized =
     ap (λ (l : List ℕ). take size bytes ++ l) (with-nothing (i + 1) size n (drop size bytes) (length-drop size bytes ∙ omega (arith, sized, more))) ∙ take-append-drop size bytes
 
 -- where counts and lengths go, what one call answers is answered
-pub decodes : (k r size : ℕ) (marks recovery old new : List ℕ) (answer : Result (Unit {0}) Fault) (decoded : Result Shards Error) → Ok tt ≡ counted k r → Ok tt ≡ fitting k size (length old)
+pub decodes : (k r size : ℕ) (marks recovery old new : List ℕ) (answer : Result (Unit {0}) Fault) (decoded : Result Shards Error) → supports default_rate k r ≡ true → Ok tt ≡ fitting k size (length old)
     → Ok tt ≡ fitting r size (length recovery) → Ok tt ≡ fitting (k + r) 1 (length marks) → OneDecodeAnswers k r (marked 0 size (take k marks) old) (marked 0 size (drop k marks) recovery) decoded
     → Writes decoded (λ restored. with_restored restored 0 size k old) old new answer → DecodesBuffer k r size marks recovery old new answer
-decodes k r size marks recovery old new answer decoded counts own other all answers writes =
+decodes k r size marks recovery old new answer decoded supported own other all answers writes =
     subst (λ (o : Result (Unit {0}) Fault). MatchResult o (λ _. (decoded : Result Shards Error) × OneDecodeAnswers k r (marked 0 size (take k marks) old) (marked 0 size (drop k marks) recovery) decoded
     × Writes decoded (λ restored. with_restored restored 0 size k old) old new answer) (λ fault. (answer ≡ Err fault) × (new ≡ old)))
-    (sym (ap (result_and_then (λ _. fitting (k + r) 1 (length marks))) (lengths-ok k r size (length old) (length recovery) counts own other) ∙ sym all)) (decoded, answers, writes)
+    (sym (ap (result_and_then (λ _. fitting (k + r) 1 (length marks))) (lengths-ok k r size (length old) (length recovery) supported own other) ∙ sym all)) (decoded, answers, writes)

@@ -1,32 +1,19 @@
 -- From the steps of an encode over buffers to its answer.
-use Rattle.std.proofs.Common.{◌≡◌, ℕ, zero, suc, ◌+◌, ◌-◌, ◌≤◌, ◌*◌, ◌^◌, ◌==◌, Bool, true, false, List, length, take, nat_lt, if◌then◌else◌, Result, Ok, Err, MatchResult, sym, ap, subst, ◌∙◌, refl, arith}
+use Rattle.std.proofs.Common.{◌≡◌, ℕ, zero, suc, ◌-◌, ◌*◌, ◌^◌, ◌==◌, Bool, true, false, List, length, take, nat_lt, if◌then◌else◌, Result, Ok, Err, MatchResult, sym, ap, subst, ◌∙◌, refl, arith}
 use Rattle.std.proofs.Math.Nat.{suc-mul}
 use Rattle.std.proofs.lemmas.Bool.{eqb-true}
 use Rattle.std.proofs.lemmas.List.{length-take-le}
 use Rattle.rs_field.specs.declared.code.error.Error.{Error}
-use Rattle.rs_field.specs.declared.code.error.Error.TheVariants.{UnsupportedShardCount}
 use Rattle.rs_field.specs.code.Column.{Shard}
 use Rattle.rs_field.specs.code.Counts.{default_rate, supports}
-use Rattle.rs_field.specs.code.Outcome.{result_and_then}
-use Rattle.rs_field.specs.code.OneCall.{counted, default_of, OneEncodeAnswers}
+use Rattle.rs_field.specs.code.OneCall.{default_of, OneEncodeAnswers}
 use Rattle.rs_field.specs.code.RoundTrip.{AreCoded}
-use Rattle.rs_field.proofs.of_code.SupportedCounts.{default_fits}
 use Rattle.reed_solomon_simd.proofs.CallerLemmas.{valid-some}
 use Rattle.rs_c.specs.declared.fault.Fault.{Fault}
 use Rattle.rs_c.specs.declared.fault.Fault.TheVariants.{WrongLength}
-use Rattle.rs_c.specs.Faults.{refusing}
 use Rattle.rs_c.specs.Buffers.{fitting, cut, joined}
 use Rattle.rs_c.specs.Answers.{EncodesBuffer, Writes, encode_lengths}
 use Rattle.rs_c.proofs.BufferLemmas.{length-joined}
-
--- counts that aren't refused are supported
-supported_by : (k r : ℕ) (b : Bool) → ◌≡◌ {A = Result (Unit {0}) Error} (Ok tt) (if b then Ok tt else Err (UnsupportedShardCount k r)) → b ≡ true
-supported_by k r true is = refl
-supported_by k r false is = absurd (let no : ⊥ = cc in no)
-
--- and so fit together
-pub counted-fits : (k r : ℕ) → Ok tt ≡ counted k r → k + r ≤ 65536 + 65536
-counted-fits k r is = let fits = default_fits k r (supported_by k r (supports default_rate k r) is) in omega (arith, fits)
 
 -- a length that isn't refused is right
 pub fits-length : (count size got : ℕ) → Ok tt ≡ fitting count size got → got ≡ count * size
@@ -38,11 +25,9 @@ fits-length count size got is = by_test (count * size == got) refl (Ok tt) refl 
     by_test false same o taken is = absurd (let no : ⊥ = cc in no)
 
 -- lengths that aren't refused
-pub lengths-ok : (k r size originals recovery : ℕ) → Ok tt ≡ counted k r → Ok tt ≡ fitting k size originals → Ok tt ≡ fitting r size recovery
+pub lengths-ok : (k r size originals recovery : ℕ) → supports default_rate k r ≡ true → Ok tt ≡ fitting k size originals → Ok tt ≡ fitting r size recovery
     → encode_lengths k r size originals recovery ≡ Ok tt
-lengths-ok k r size originals recovery counts own other =
-    ap (λ o. result_and_then (λ _. result_and_then (λ _. fitting r size recovery) (fitting k size originals)) (refusing o)) (sym counts)
-    ∙ ap (result_and_then (λ _. fitting r size recovery)) (sym own) ∙ sym other
+lengths-ok k r size originals recovery supported own other = rw (supported, ← own, ← other) refl
 
 -- the recovery shards of a buffer's shards have their number and size
 pub recovery-length : (k r size : ℕ) (bytes : List ℕ) (recovery : List Shard) → length bytes ≡ k * size → AreCoded k r (cut k size bytes) recovery → length (joined recovery) ≡ r * size
@@ -53,8 +38,8 @@ recovery-length (suc n) r size bytes recovery whole coded =
     length-joined coded.size recovery coded.coded.shards.each ∙ ap (λ (m : ℕ). m * coded.size) coded.coded.shards.length_is ∙ ap (λ (m : ℕ). r * m) same
 
 -- where counts and lengths go, what one call answers is answered
-pub encodes : (k r size : ℕ) (originals old new : List ℕ) (answer : Result (Unit {0}) Fault) (coded : Result (List Shard) Error) → Ok tt ≡ counted k r → Ok tt ≡ fitting k size (length originals)
+pub encodes : (k r size : ℕ) (originals old new : List ℕ) (answer : Result (Unit {0}) Fault) (coded : Result (List Shard) Error) → supports default_rate k r ≡ true → Ok tt ≡ fitting k size (length originals)
     → Ok tt ≡ fitting r size (length old) → OneEncodeAnswers k r (cut k size originals) coded → Writes coded joined old new answer → EncodesBuffer k r size originals old new answer
-encodes k r size originals old new answer coded counts own other answers writes =
+encodes k r size originals old new answer coded supported own other answers writes =
     subst (λ (o : Result (Unit {0}) Fault). MatchResult o (λ _. (coded : Result (List Shard) Error) × OneEncodeAnswers k r (cut k size originals) coded × Writes coded joined old new answer) (λ fault. (answer ≡ Err fault) × (new ≡ old)))
-    (sym (lengths-ok k r size (length originals) (length old) counts own other)) (coded, answers, writes)
+    (sym (lengths-ok k r size (length originals) (length old) supported own other)) (coded, answers, writes)

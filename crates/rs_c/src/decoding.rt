@@ -10,11 +10,11 @@ use crate::engine::Borrowing;
 use crate::fault::Fault;
 use crate::layouts::{Marked, RsShard};
 use crate::rooms::{check_number, check_rooms, fill_rooms};
-use reed_solomon_simd::coders::{check_counts, given_decoder};
+use reed_solomon_simd::coders::given_decoder;
 use rs_field::engine::Steps;
 use rs_field::error::Error;
 use rs_rate::DecoderResult;
-use rs_rate::rate::RateDecoder;
+use rs_rate::rate::{DefaultRateCounts, RateDecoder};
 use std::alloc::Global;
 
 /// Writes the originals whose mark is 0 to their places.
@@ -31,7 +31,7 @@ pub fn decode_buffer(
     ensures answer { DecodesBuffer original_count recovery_count shard_bytes marks.now recovery.now originals.old originals.new result }
     ensures memory { WantsNoMemory original_count marks.now result }
 {
-    check_counts(original_count, recovery_count)?;
+    let counts = DefaultRateCounts::new(original_count, recovery_count)?;
     check_length(original_count, shard_bytes, originals.len())?;
     check_length(recovery_count, shard_bytes, recovery.len())?;
     check_length(original_count + recovery_count, 1, marks.len())?;
@@ -41,15 +41,7 @@ pub fn decode_buffer(
     }
     let own = Marked::new(original_marks, shard_bytes, originals);
     let other = Marked::new(recovery_marks, shard_bytes, recovery);
-    let Some(mut decoder) = given_decoder(
-        alloc,
-        original_count,
-        recovery_count,
-        own,
-        other,
-        engine,
-    )?
-    else {
+    let Some(mut decoder) = given_decoder(alloc, counts, own, other, engine)? else {
         return Ok(());
     };
     let result = decoder.decode(&mut Steps::new())?;
@@ -71,17 +63,10 @@ pub fn decode_arrays(
         (bytes_in restored.old) (bytes_in restored.new) result }
     ensures kept { KeepsRooms restored.old restored.new }
 {
+    let counts = DefaultRateCounts::new(original_count, recovery_count)?;
     let own = originals.iter().map(|shard| (shard.index, shard.bytes));
     let other = recovery.iter().map(|shard| (shard.index, shard.bytes));
-    let Some(mut decoder) = given_decoder(
-        alloc,
-        original_count,
-        recovery_count,
-        own,
-        other,
-        engine,
-    )?
-    else {
+    let Some(mut decoder) = given_decoder(alloc, counts, own, other, engine)? else {
         return check_number(0, restored.len());
     };
     let result = decoder.decode(&mut Steps::new())?;

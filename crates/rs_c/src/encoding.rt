@@ -10,10 +10,10 @@ use crate::engine::Borrowing;
 use crate::fault::Fault;
 use crate::layouts::Joined;
 use crate::rooms::{check_rooms, fill_rooms};
-use reed_solomon_simd::coders::{check_counts, given_encoder};
+use reed_solomon_simd::coders::given_encoder;
 use rs_field::engine::Steps;
 use rs_rate::EncoderResult;
-use rs_rate::rate::RateEncoder;
+use rs_rate::rate::{DefaultRateCounts, RateEncoder};
 use std::alloc::Global;
 
 /// Writes the recovery shards of the originals, one behind the other.
@@ -28,11 +28,11 @@ pub fn encode_buffer(
 ) -> Result<(), Fault>
     ensures { EncodesBuffer original_count recovery_count shard_bytes originals.now recovery.old recovery.new result }
 {
-    check_counts(original_count, recovery_count)?;
+    let counts = DefaultRateCounts::new(original_count, recovery_count)?;
     check_length(original_count, shard_bytes, originals.len())?;
     check_length(recovery_count, shard_bytes, recovery.len())?;
     let shards = Joined::new(original_count, shard_bytes, originals);
-    let mut encoder = given_encoder(alloc, original_count, recovery_count, shards, engine)?;
+    let mut encoder = given_encoder(alloc, counts, shards, engine)?;
     let result = encoder.encode(&mut Steps::new())?;
     write_recovery(&result, recovery);
     Ok(())
@@ -50,8 +50,9 @@ pub fn encode_arrays(
     ensures answer { EncodesArrays original_count recovery_count (shards_of originals.now) (bytes_in recovery.old) (bytes_in recovery.new) result }
     ensures kept { KeepsRooms recovery.old recovery.new }
 {
+    let counts = DefaultRateCounts::new(original_count, recovery_count)?;
     let shards = originals.iter().map(|shard| *shard);
-    let mut encoder = given_encoder(alloc, original_count, recovery_count, shards, engine)?;
+    let mut encoder = given_encoder(alloc, counts, shards, engine)?;
     let result = encoder.encode(&mut Steps::new())?;
     check_rooms(result.recovery_iter(), recovery)?;
     fill_rooms(result.recovery_iter(), recovery);

@@ -26,7 +26,7 @@ use encoding::{encode_arrays, encode_buffer};
 use engine::Borrowing;
 use fault::{Fault, RsFault};
 use layouts::RsShard;
-use reed_solomon_simd::coders::check_counts;
+use rs_rate::rate::DefaultRateCounts;
 use std::alloc::Global;
 use tables::{RsTables, fill};
 
@@ -48,8 +48,8 @@ pub extern "C" fn rs_supports(original_count: usize, recovery_count: usize) -> u
     ensures yes { (result ≡ 1) ↔ (supports default_rate original_count recovery_count ≡ true) }
     ensures no { result ≢ 1 → result ≡ 0 }
 {
-    match check_counts(original_count, recovery_count) {
-        Ok(()) => 1,
+    match DefaultRateCounts::new(original_count, recovery_count) {
+        Ok(_) => 1,
         Err(_) => 0,
     }
 }

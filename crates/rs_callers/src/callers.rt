@@ -1,15 +1,17 @@
 //! Callers that know encoders, decoders and rates by their contracts alone.
-ghost use Rattle.std.specs.Prelude.{◌≡◌, ◌<◌, ◌+◌, ◌⊎◌, length, Ok, IfOk, OnOk, OnErr, MatchResult, Err};
+ghost use Rattle.std.specs.Prelude.{◌≡◌, ◌<◌, ◌+◌, ◌⊎◌, length, Ok, IfOk, IfErr, OnOk, OnErr, MatchResult, Err};
 ghost use Rattle.reed_solomon_simd.specs.Counts.{default_rate};
 ghost use Rattle.reed_solomon_simd.specs.Placement.{encoder_rows, decoder_rows};
-ghost use Rattle.reed_solomon_simd.specs.Configuration.{configuration, started, UpToMemory};
+ghost use Rattle.reed_solomon_simd.specs.Configuration.{configuration, validated, started, UpToMemory};
 ghost use Rattle.reed_solomon_simd.specs.Outcome.{answer_of};
 ghost use Rattle.reed_solomon_simd.specs.Encoder.{fresh_encoder};
 ghost use Rattle.reed_solomon_simd.specs.Decoder.{fresh_decoder, originals_given, recovery_given, enough_given, after_decode, IsConsistent, NoneAgrees};
 
 use reed_solomon_simd::Error;
 use reed_solomon_simd::engine::{Engine, Steps};
-use reed_solomon_simd::rate::{DefaultRateDecoder, Rate, RateDecoder, RateEncoder};
+use reed_solomon_simd::rate::{
+    DefaultRateCounts, DefaultRateDecoder, DefaultRateEncoder, Rate, RateDecoder, RateEncoder,
+};
 use std::alloc::Global;
 
 /// A round ends inside `encode`: once all originals were given and coded, a second `encode` finds nothing given,
@@ -57,6 +59,26 @@ pub fn pass_to_high<E: Engine>(decoder: &mut DefaultRateDecoder<E>) -> Result<()
     ensures engine { ⟦<DefaultRateDecoder<E> as RateDecoder<E>>⟧.engine_of decoder.new ≡ ⟦<DefaultRateDecoder<E> as RateDecoder<E>>⟧.engine_of decoder.old }
 {
     decoder.reset(3, 2, 2)
+}
+
+/// Both sides of a message at counts that are asked for once. The first refusal is that of the counts, then that of the size.
+pub fn both_sides<E: Engine>(
+    alloc: Global,
+    original_count: usize,
+    recovery_count: usize,
+    shard_bytes: usize,
+    engine: E,
+    other: E,
+) -> Result<(DefaultRateEncoder<E>, DefaultRateDecoder<E>), Error>
+    ensures refused { IfErr (validated (configuration default_rate original_count recovery_count shard_bytes)) (λ e. result ≡ Err e) }
+    ensures made { let c = configuration default_rate original_count recovery_count shard_bytes in
+        IfOk result (λ sides. (⟦<DefaultRateEncoder<E> as RateEncoder<E>>⟧.state sides.0 ≡ fresh_encoder c)
+        × (⟦<DefaultRateDecoder<E> as RateDecoder<E>>⟧.state sides.1 ≡ fresh_decoder c)) }
+{
+    let counts = DefaultRateCounts::new(original_count, recovery_count)?;
+    let encoder = DefaultRateEncoder::with_counts(alloc, counts, shard_bytes, engine, None)?;
+    let decoder = DefaultRateDecoder::with_counts(alloc, counts, shard_bytes, other, None)?;
+    Ok((encoder, decoder))
 }
 
 /// An encoder of a rate, known by the rate alone: where the rate supports the counts it refuses to encode nothing.

@@ -1,7 +1,7 @@
 //! Every public path of the library, each used at its type: where a name stood for another item, this file would not
 //! compile or not be proved.
-ghost use Rattle.std.specs.Prelude.{◌≡◌, ℕ, ◌^◌, ◌<◌, ◌≤◌, true, [], ◌∷◌, length, slice_index, bit_xor};
-ghost use Rattle.reed_solomon_simd.specs.Counts.{low_rate, high_rate, default_rate};
+ghost use Rattle.std.specs.Prelude.{◌≡◌, ℕ, ◌^◌, ◌<◌, ◌≤◌, true, [], ◌∷◌, length, slice_index, bit_xor, IfOk};
+ghost use Rattle.reed_solomon_simd.specs.Counts.{low_rate, high_rate, default_rate, supports};
 ghost use Rattle.reed_solomon_simd.specs.Field.{product, power};
 ghost use Rattle.reed_solomon_simd.specs.Kind.{kind_of};
 ghost use Rattle.reed_solomon_simd.specs.Locator.{IsLocatorBelow};
@@ -24,9 +24,9 @@ use reed_solomon_simd::engine::{
     GF_POLYNOMIAL, GfElement, Naive, NoSimd, ShardsRefMut, Ssse3, Steps,
 };
 use reed_solomon_simd::rate::{
-    DecoderWork, DefaultRate, DefaultRateDecoder, DefaultRateEncoder, EncoderWork, HighRate,
-    HighRateDecoder, HighRateEncoder, LowRate, LowRateDecoder, LowRateEncoder, Rate, RateDecoder,
-    RateEncoder,
+    DecoderWork, DefaultRate, DefaultRateCounts, DefaultRateDecoder, DefaultRateEncoder,
+    EncoderWork, HighRate, HighRateCounts, HighRateDecoder, HighRateEncoder, LowRate,
+    LowRateCounts, LowRateDecoder, LowRateEncoder, Rate, RateDecoder, RateEncoder,
 };
 use reed_solomon_simd::{
     DecoderResult, EncoderResult, Error, Recovery, ReedSolomonDecoder, ReedSolomonEncoder,
@@ -170,6 +170,24 @@ pub fn names<E: Engine>()
     ensures default_encoder { ⟦<DefaultRateEncoder<E> as RateEncoder<E>>⟧.rate ≡ default_rate }
     ensures default_decoder { ⟦<DefaultRateDecoder<E> as RateDecoder<E>>⟧.rate ≡ default_rate }
 {}
+
+/// Counts that all rates support, as each has them.
+pub fn counts_at_each(
+    original_count: usize,
+    recovery_count: usize,
+) -> Result<(LowRateCounts, HighRateCounts, DefaultRateCounts), Error>
+    ensures low { IfOk result (λ _. supports low_rate original_count recovery_count ≡ true) }
+    ensures high { IfOk result (λ _. supports high_rate original_count recovery_count ≡ true) }
+    ensures default { IfOk result (λ _. supports default_rate original_count recovery_count ≡ true) }
+{
+    let low = LowRateCounts::new(original_count, recovery_count)?;
+    let high = HighRateCounts::new(original_count, recovery_count)?;
+    Ok((
+        low,
+        high,
+        DefaultRateCounts::new(original_count, recovery_count)?,
+    ))
+}
 
 /// The first shards of the results of plain objects.
 pub fn first_shards<'a>(

@@ -7,7 +7,7 @@ use Rattle.rs_field.specs.code.Counts.{Rate, next_power, supports, is_low, low_r
 use Rattle.rs_field.specs.code.Placement.{block_rows}
 use Rattle.rs_field.proofs.of_code.SupportedCounts.{low_fits, high_fits, default_fits, low_powers, high_powers}
 use Rattle.rs_rate.specs.declared.rate.counts.Choice.{Choice}
-use Rattle.rs_rate.specs.Configured.{choice_of}
+use Rattle.rs_rate.specs.Configured.{choice_at, choice_of}
 use Rattle.rs_rate.proofs.PowerLemmas.{low_small}
 use Rattle.rs_rate.proofs.HighCounts.{high_small}
 
@@ -66,11 +66,10 @@ supported-in_field default_rate k r is =
 
 -- a choice tells whether the counts are supported, and what the rate is at them
 pub choice-some : (rate : Rate) (k r : ℕ) (x : Choice) → Some x ≡ choice_of rate k r
-    → (supports rate k r ≡ true) × (x ≡ record { is_low = is_low rate k r; block_rows = block_rows rate k r })
+    → (supports rate k r ≡ true) × (x ≡ choice_at rate k r)
 choice-some rate k r x some = by_support (supports rate k r) some
   where
-    by_support : (b : Bool) → Some x ≡ cond b (Some (let y : Choice = record { is_low = is_low rate k r; block_rows = block_rows rate k r } in y)) None
-        → (b ≡ true) × (x ≡ record { is_low = is_low rate k r; block_rows = block_rows rate k r })
+    by_support : (b : Bool) → Some x ≡ cond b (Some (choice_at rate k r)) None → (b ≡ true) × (x ≡ choice_at rate k r)
     by_support true h = (refl, cc)
     by_support false h = absurd (let no : ⊥ = cc in no)
 

@@ -8,9 +8,13 @@ use Rattle.rs_rate.specs.declared.rate.decoder_work.Frame.{Frame}
 use Rattle.rs_rate.specs.declared.rate.decoder_work.DecoderShape.{DecoderShape}
 use Rattle.rs_rate.specs.declared.rate.encoder_work.EncoderShape.{EncoderShape}
 
--- what a rate is at counts, where it supports them
+-- what a rate is at counts
+abbrev pub choice_at : Rate → ℕ → ℕ → Choice
+choice_at rate k r = record { is_low = is_low rate k r; block_rows = block_rows rate k r }
+
+-- it, where the rate supports them
 abbrev pub choice_of : Rate → ℕ → ℕ → Option Choice
-choice_of rate k r = if supports rate k r then Some (record { is_low = is_low rate k r; block_rows = block_rows rate k r }) else None
+choice_of rate k r = if supports rate k r then Some (choice_at rate k r) else None
 
 -- a rate's configuration at counts and a size
 abbrev pub configured : Rate → ℕ → ℕ → ℕ → Configuration

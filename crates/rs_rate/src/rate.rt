@@ -17,6 +17,7 @@ mod restoring;
 pub mod rounds;
 mod shard_rows;
 mod side;
+pub(crate) mod supported_counts;
 
 use crate::decoder_result::DecoderResult;
 use crate::encoder_result::EncoderResult;
@@ -28,6 +29,7 @@ pub use encoders::{DefaultRateEncoder, HighRateEncoder, LowRateEncoder};
 use rs_field::engine::{Engine, Steps};
 use rs_field::error::Error;
 use std::alloc::Global;
+pub use supported_counts::{DefaultRateCounts, HighRateCounts, LowRateCounts};
 
 /// A rate of the code, over an engine: the counts that it supports, its encoders and its decoders.
 pub trait Rate<E: Engine>: Sized {

@@ -1,6 +1,6 @@
 //! What a coder is set up for, validated once: from it come the rows of an encoder and the frame of a decoder.
 ghost use Rattle.std.specs.Prelude.{◌≡◌, Ok, Err, MatchResult};
-ghost use Rattle.rs_field.specs.code.Configuration.{configuration, validated as validated_as};
+ghost use Rattle.rs_field.specs.code.Configuration.{configuration, validated};
 ghost use Rattle.rs_rate.specs.Configured.{configured, shape_of_encoder, shape_of_decoder, IsConfigured};
 ghost use Rattle.rs_rate.specs.Shapes.{EncoderCanBeLaid, DecoderCanBeLaid};
 
@@ -8,6 +8,7 @@ use crate::rate::code::Code;
 use crate::rate::counts::power_of_two;
 use crate::rate::decoder_work::{DecoderShape, Frame};
 use crate::rate::encoder_work::EncoderShape;
+use crate::rate::supported_counts::SupportedCounts;
 use rs_field::engine::GF_ORDER;
 use rs_field::error::Error;
 
@@ -23,33 +24,25 @@ pub struct Configuration {
 }
 
 impl Configuration {
-    // The configuration of a rate, or the first refusal: of its counts, then of its size.
+    // The configuration of a rate at counts that it supports, or the refusal of the size.
     #[inline(always)]
-    pub(crate) fn validated<C: Code>(
-        original_count: usize,
-        recovery_count: usize,
+    pub(crate) fn new<C: Code>(
+        counts: SupportedCounts<C>,
         shard_bytes: usize,
     ) -> Result<Configuration, Error>
-        ensures { MatchResult result
-            (λ c. (validated_as (configuration C.rate original_count recovery_count shard_bytes) ≡ Ok tt)
-            × (c ≡ configured C.rate original_count recovery_count shard_bytes) × IsConfigured c)
-            (λ e. validated_as (configuration C.rate original_count recovery_count shard_bytes) ≡ Err e) }
+        ensures { let as_defined = configuration C.rate counts.original_count counts.recovery_count shard_bytes in MatchResult result
+            (λ c. (validated as_defined ≡ Ok tt) × (c ≡ configured C.rate counts.original_count counts.recovery_count shard_bytes) × IsConfigured c)
+            (λ e. validated as_defined ≡ Err e) }
     {
-        let Some(choice) = C::choose(original_count, recovery_count) else {
-            return Err(Error::UnsupportedShardCount {
-                original_count,
-                recovery_count,
-            });
-        };
         if shard_bytes == 0 || shard_bytes % 2 == 1 {
             return Err(Error::InvalidShardSize { shard_bytes });
         }
         Ok(Configuration {
-            original_count,
-            recovery_count,
+            original_count: counts.original_count,
+            recovery_count: counts.recovery_count,
             shard_bytes,
-            is_low: choice.is_low,
-            block_rows: choice.block_rows,
+            is_low: counts.choice.is_low,
+            block_rows: counts.choice.block_rows,
         })
     }
 

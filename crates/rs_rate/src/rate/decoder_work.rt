@@ -4,7 +4,7 @@ ghost use Rattle.std.specs.Prelude.{Err, IfOk, IfSome, OnOk, OnErr, MatchOption,
 ghost use Rattle.rs_field.specs.code.Column.{IsShard};
 ghost use Rattle.rs_field.specs.code.Counts.{Rate};
 ghost use Rattle.rs_field.specs.code.Outcome.{answer_of, state_after};
-ghost use Rattle.rs_field.specs.code.Configuration.{configuration, validated as validated_as, UpToMemory};
+ghost use Rattle.rs_field.specs.code.Configuration.{configuration, validated, UpToMemory};
 ghost use Rattle.rs_field.specs.code.Decoder.{fresh_decoder, enough_given};
 ghost use Rattle.rs_field.specs.rows.MarkedRows.{is_marked};
 ghost use Rattle.rs_rate.specs.Shapes.{DecoderCanBeLaid, original_row};
@@ -20,6 +20,7 @@ use crate::rate::memory::{make_room, set_chunks, set_length};
 use crate::rate::restoring::Round;
 use crate::rate::shard_rows::{chunk_count, insert_at, shard_at, shard_is_bytes};
 use crate::rate::side::Side;
+use crate::rate::supported_counts::SupportedCounts;
 use rs_field::engine::GfElement;
 use rs_field::error::Error;
 use std::alloc::Global;
@@ -70,22 +71,16 @@ pub struct DecoderRows {
 impl DecoderShape {
     ghost use Rattle.rs_rate.specs.SetUp.{IsDecoderShape};
 
-    // What a decoder of a rate is set up for, or the first refusal.
+    // What a decoder of a rate is set up for at counts that it supports, or the refusal of the size.
     #[inline(always)]
-    pub(crate) fn validated<C: Code>(
-        original_count: usize,
-        recovery_count: usize,
+    pub(crate) fn new<C: Code>(
+        counts: SupportedCounts<C>,
         shard_bytes: usize,
     ) -> Result<DecoderShape, Error>
-        ensures { MatchResult result (IsDecoderShape C.rate original_count recovery_count shard_bytes)
-            (λ e. validated_as (configuration C.rate original_count recovery_count shard_bytes) ≡ Err e) }
+        ensures { MatchResult result (IsDecoderShape C.rate counts.original_count counts.recovery_count shard_bytes)
+            (λ e. validated (configuration C.rate counts.original_count counts.recovery_count shard_bytes) ≡ Err e) }
     {
-        let configuration = Configuration::validated::<C>(
-            original_count,
-            recovery_count,
-            shard_bytes,
-        )?;
-        Ok(configuration.decoder_shape())
+        Ok(Configuration::new(counts, shard_bytes)?.decoder_shape())
     }
 
     // The row of an original.

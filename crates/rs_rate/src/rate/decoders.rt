@@ -9,6 +9,7 @@ use crate::rate::configuration::Configuration;
 use crate::rate::decoder_work::{DecoderRows, DecoderShape};
 use crate::rate::rounds::{decode_round, lent_originals};
 use crate::rate::side::Side;
+use crate::rate::supported_counts::SupportedCounts;
 use crate::rate::{DecoderWork, RateDecoder};
 use rs_field::engine::{Engine, Steps};
 use rs_field::error::Error;
@@ -33,6 +34,41 @@ pub struct Decoder<E: Engine, C: Code> {
     pub ghost set_up: { IsDecoderOf C.rate rows.shape },
 }
 
+impl<E: Engine, C: Code> Decoder<E, C> {
+    ghost use Rattle.std.specs.Prelude.{◌≡◌, IfOk, IfSome};
+    ghost use Rattle.rs_field.specs.code.Configuration.{configuration, started, UpToMemory};
+    ghost use Rattle.rs_field.specs.code.Decoder.{fresh_decoder};
+    ghost use Rattle.rs_field.specs.code.Outcome.{answer_of};
+    ghost use Rattle.rs_field.specs.code.Placement.{decoder_rows};
+    ghost use Rattle.rs_rate.specs.DecoderRoom.{HasRoom, Grows, work_room};
+
+    /// A decoder at counts that its rate supports. Refused as by `new`, where these weren't refused.
+    #[inline(always)]
+    pub fn with_counts(
+        alloc: Global,
+        counts: SupportedCounts<C>,
+        shard_bytes: usize,
+        engine: E,
+        work: Option<DecoderWork>,
+    ) -> Result<Decoder<E, C>, Error>
+        ensures answer { let c = configuration C.rate counts.original_count counts.recovery_count shard_bytes in
+            UpToMemory (started (decoder_rows C.rate counts.original_count counts.recovery_count) c) (answer_of result) }
+        ensures made { let c = configuration C.rate counts.original_count counts.recovery_count shard_bytes in
+            IfOk result (λ x. (decoder_state C.rate x.rows ≡ fresh_decoder c) × (x.engine ≡ engine)) }
+        ensures grown { IfOk result (λ x. IfSome work (λ w. Grows (work_room w) (memory_room x.rows.memory))) }
+        ensures roomy { IfSome work (λ w. HasRoom (work_room w) (decoder_rows C.rate counts.original_count counts.recovery_count) shard_bytes
+            → answer_of result ≡ started (decoder_rows C.rate counts.original_count counts.recovery_count) (configuration C.rate counts.original_count counts.recovery_count shard_bytes)) }
+    {
+        let shape = DecoderShape::new(counts, shard_bytes)?;
+        let rows = DecoderRows::new(alloc, shape, work)?;
+        Ok(Decoder {
+            engine,
+            rows,
+            code: PhantomData,
+        })
+    }
+}
+
 impl<E: Engine, C: Code> RateDecoder<E> for Decoder<E, C> {
     ghost use Rattle.rs_rate.specs.ObjectLaws.{is_decoder, has_own_decoder_room};
 
@@ -55,7 +91,10 @@ impl<E: Engine, C: Code> RateDecoder<E> for Decoder<E, C> {
         recovery_count: usize,
         shard_bytes: usize,
     ) -> Result<(), Error> {
-        Configuration::validated::<C>(original_count, recovery_count, shard_bytes)?;
+        Configuration::new(
+            SupportedCounts::<C>::new(original_count, recovery_count)?,
+            shard_bytes,
+        )?;
         Ok(())
     }
 
@@ -67,13 +106,8 @@ impl<E: Engine, C: Code> RateDecoder<E> for Decoder<E, C> {
         engine: E,
         work: Option<DecoderWork>,
     ) -> Result<Decoder<E, C>, Error> {
-        let shape = DecoderShape::validated::<C>(original_count, recovery_count, shard_bytes)?;
-        let rows = DecoderRows::new(alloc, shape, work)?;
-        Ok(Decoder {
-            engine,
-            rows,
-            code: PhantomData,
-        })
+        let counts = SupportedCounts::<C>::new(original_count, recovery_count)?;
+        Decoder::with_counts(alloc, counts, shard_bytes, engine, work)
     }
 
     fn reset(
@@ -82,7 +116,8 @@ impl<E: Engine, C: Code> RateDecoder<E> for Decoder<E, C> {
         recovery_count: usize,
         shard_bytes: usize,
     ) -> Result<(), Error> {
-        let shape = DecoderShape::validated::<C>(original_count, recovery_count, shard_bytes)?;
+        let counts = SupportedCounts::<C>::new(original_count, recovery_count)?;
+        let shape = DecoderShape::new(counts, shard_bytes)?;
         self.rows.reset(shape)
     }
 

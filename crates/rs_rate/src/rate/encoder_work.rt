@@ -4,7 +4,7 @@ ghost use Rattle.std.specs.Vec.{vec_capacity};
 ghost use Rattle.rs_field.specs.code.Column.{IsShard};
 ghost use Rattle.rs_field.specs.code.Counts.{Rate};
 ghost use Rattle.rs_field.specs.code.Outcome.{answer_of, state_after};
-ghost use Rattle.rs_field.specs.code.Configuration.{configuration, validated as validated_as, UpToMemory};
+ghost use Rattle.rs_field.specs.code.Configuration.{configuration, validated, UpToMemory};
 ghost use Rattle.rs_field.specs.code.Encoder.{fresh_encoder, with_shard, message_of};
 ghost use Rattle.rs_rate.specs.Shapes.{EncoderCanBeLaid};
 ghost use Rattle.rs_rate.specs.ShardRows.{asked, chunk_count as chunk_count_of, shard_laid_out, shard_in_order};
@@ -13,6 +13,7 @@ use crate::rate::code::Code;
 use crate::rate::configuration::Configuration;
 use crate::rate::memory::{make_room, set_chunks, vec_of};
 use crate::rate::shard_rows::{chunk_count, insert_at, shard_at, shard_is_bytes};
+use crate::rate::supported_counts::SupportedCounts;
 use rs_field::error::Error;
 use std::alloc::Global;
 
@@ -46,22 +47,16 @@ pub struct EncoderRows {
 impl EncoderShape {
     ghost use Rattle.rs_rate.specs.SetUp.{IsEncoderShape};
 
-    // What an encoder of a rate is set up for, or the first refusal.
+    // What an encoder of a rate is set up for at counts that it supports, or the refusal of the size.
     #[inline(always)]
-    pub(crate) fn validated<C: Code>(
-        original_count: usize,
-        recovery_count: usize,
+    pub(crate) fn new<C: Code>(
+        counts: SupportedCounts<C>,
         shard_bytes: usize,
     ) -> Result<EncoderShape, Error>
-        ensures { MatchResult result (IsEncoderShape C.rate original_count recovery_count shard_bytes)
-            (λ e. validated_as (configuration C.rate original_count recovery_count shard_bytes) ≡ Err e) }
+        ensures { MatchResult result (IsEncoderShape C.rate counts.original_count counts.recovery_count shard_bytes)
+            (λ e. validated (configuration C.rate counts.original_count counts.recovery_count shard_bytes) ≡ Err e) }
     {
-        let configuration = Configuration::validated::<C>(
-            original_count,
-            recovery_count,
-            shard_bytes,
-        )?;
-        Ok(configuration.encoder_shape())
+        Ok(Configuration::new(counts, shard_bytes)?.encoder_shape())
     }
 }
 

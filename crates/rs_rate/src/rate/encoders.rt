@@ -8,6 +8,7 @@ use crate::rate::code::{Code, DefaultCode, HighCode, LowCode, RateOf};
 use crate::rate::configuration::Configuration;
 use crate::rate::encoder_work::{EncoderRows, EncoderShape};
 use crate::rate::rounds::{encode_round, lent_recovery};
+use crate::rate::supported_counts::SupportedCounts;
 use crate::rate::{EncoderWork, RateEncoder};
 use rs_field::engine::{Engine, Steps};
 use rs_field::error::Error;
@@ -32,6 +33,42 @@ pub struct Encoder<E: Engine, C: Code> {
     pub ghost set_up: { IsEncoderOf C.rate rows.shape },
 }
 
+impl<E: Engine, C: Code> Encoder<E, C> {
+    ghost use Rattle.std.specs.Prelude.{◌≡◌, ◌≤◌, IfOk, IfSome};
+    ghost use Rattle.rs_field.specs.code.Configuration.{configuration, started, UpToMemory};
+    ghost use Rattle.rs_field.specs.code.Encoder.{fresh_encoder};
+    ghost use Rattle.rs_field.specs.code.Outcome.{answer_of};
+    ghost use Rattle.rs_field.specs.code.Placement.{encoder_rows};
+    ghost use Rattle.rs_rate.specs.EncoderView.{work_room};
+    ghost use Rattle.rs_rate.specs.ShardRows.{chunk_count};
+
+    /// An encoder at counts that its rate supports. Refused as by `new`, where these weren't refused.
+    #[inline(always)]
+    pub fn with_counts(
+        alloc: Global,
+        counts: SupportedCounts<C>,
+        shard_bytes: usize,
+        engine: E,
+        work: Option<EncoderWork>,
+    ) -> Result<Encoder<E, C>, Error>
+        ensures answer { let c = configuration C.rate counts.original_count counts.recovery_count shard_bytes in
+            UpToMemory (started (encoder_rows C.rate counts.original_count counts.recovery_count) c) (answer_of result) }
+        ensures made { let c = configuration C.rate counts.original_count counts.recovery_count shard_bytes in
+            IfOk result (λ x. (encoder_state C.rate x.rows ≡ fresh_encoder c) × (x.engine ≡ engine)) }
+        ensures grown { IfOk result (λ x. IfSome work (λ w. work_room w ≤ vec_capacity x.rows.chunks)) }
+        ensures roomy { IfSome work (λ w. chunk_count (encoder_rows C.rate counts.original_count counts.recovery_count) shard_bytes ≤ work_room w
+            → answer_of result ≡ started (encoder_rows C.rate counts.original_count counts.recovery_count) (configuration C.rate counts.original_count counts.recovery_count shard_bytes)) }
+    {
+        let shape = EncoderShape::new(counts, shard_bytes)?;
+        let rows = EncoderRows::new(alloc, shape, work)?;
+        Ok(Encoder {
+            engine,
+            rows,
+            code: PhantomData,
+        })
+    }
+}
+
 impl<E: Engine, C: Code> RateEncoder<E> for Encoder<E, C> {
     ghost use Rattle.rs_rate.specs.ObjectLaws.{is_encoder, has_own_room};
 
@@ -54,7 +91,10 @@ impl<E: Engine, C: Code> RateEncoder<E> for Encoder<E, C> {
         recovery_count: usize,
         shard_bytes: usize,
     ) -> Result<(), Error> {
-        Configuration::validated::<C>(original_count, recovery_count, shard_bytes)?;
+        Configuration::new(
+            SupportedCounts::<C>::new(original_count, recovery_count)?,
+            shard_bytes,
+        )?;
         Ok(())
     }
 
@@ -66,13 +106,8 @@ impl<E: Engine, C: Code> RateEncoder<E> for Encoder<E, C> {
         engine: E,
         work: Option<EncoderWork>,
     ) -> Result<Encoder<E, C>, Error> {
-        let shape = EncoderShape::validated::<C>(original_count, recovery_count, shard_bytes)?;
-        let rows = EncoderRows::new(alloc, shape, work)?;
-        Ok(Encoder {
-            engine,
-            rows,
-            code: PhantomData,
-        })
+        let counts = SupportedCounts::<C>::new(original_count, recovery_count)?;
+        Encoder::with_counts(alloc, counts, shard_bytes, engine, work)
     }
 
     fn reset(
@@ -81,7 +116,8 @@ impl<E: Engine, C: Code> RateEncoder<E> for Encoder<E, C> {
         recovery_count: usize,
         shard_bytes: usize,
     ) -> Result<(), Error> {
-        let shape = EncoderShape::validated::<C>(original_count, recovery_count, shard_bytes)?;
+        let counts = SupportedCounts::<C>::new(original_count, recovery_count)?;
+        let shape = EncoderShape::new(counts, shard_bytes)?;
         self.rows.reset(shape)
     }
 

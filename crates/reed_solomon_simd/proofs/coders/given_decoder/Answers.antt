@@ -6,64 +6,61 @@ use Rattle.reed_solomon_simd.proofs.Giving.{no-calls, ended-both, first-both, ou
 use Rattle.reed_solomon_simd.proofs.OneCall.{decoding-none, decoding-unset, decoding-given, both-ok, both-err}
 use Rattle.reed_solomon_simd.proofs.coders.given_decoder.Goals as goal
 
-pub returns-in_err-check_counts-clause-run : goal.returns-in_err-check_counts-clause-run
-returns-in_err-check_counts-clause-run g c = (no-calls c.args.original, no-calls c.args.recovery, λ originals recoveries begins further. search rules)
-
-pub returns-in_err-check_all_came-clause-run : goal.returns-in_err-check_all_came-clause-run
-returns-in_err-check_all_came-clause-run g c =
+pub returns-in_err-check_all_came : goal.returns-in_err-check_all_came
+returns-in_err-check_all_came g c =
     ended-both (λ item. (item.0, item.1.now)) (λ item. (item.0, item.1.now)) _ c.args.recovery c.next.new.self c.in_default.ensures.steps
-    (c.in_err-check_all_came.ensures.0, λ originals begins. let led = decoding-none c.args.original_count c.args.recovery_count originals (Err c.in_err-check_all_came.field-0.0) c.in_ok-check_counts.ensures (c.in_err-check_all_came.ensures.1 originals begins) in search rules)
+    (c.in_err-check_all_came.ensures.0, λ originals begins. let led = decoding-none c.args.counts.original_count c.args.counts.recovery_count originals (Err c.in_err-check_all_came.field-0.0) c.args.counts.supported (c.in_err-check_all_came.ensures.1 originals begins) in search rules)
 
-pub returns-in_default-clause-run : goal.returns-in_default-clause-run
-returns-in_default-clause-run g c =
+pub returns-in_default : goal.returns-in_default
+returns-in_default g c =
     ended-both (λ item. (item.0, item.1.now)) (λ item. (item.0, item.1.now)) _ c.args.recovery c.next.new.self c.in_default.ensures.steps
-    (c.in_ok-check_all_came.ensures.0, λ originals begins. decoding-none c.args.original_count c.args.recovery_count originals (Ok tt) c.in_ok-check_counts.ensures (c.in_ok-check_all_came.ensures.1 originals begins))
+    (c.in_ok-check_all_came.ensures.0, λ originals begins. decoding-none c.args.counts.original_count c.args.counts.recovery_count originals (Ok tt) c.args.counts.supported (c.in_ok-check_all_came.ensures.1 originals begins))
 
-pub returns-in_err-decoder-clause-run : goal.returns-in_err-decoder-clause-run
-returns-in_err-decoder-clause-run g c =
+pub returns-in_err-decoder : goal.returns-in_err-decoder
+returns-in_err-decoder g c =
     first-both (λ item. (item.0, item.1.now)) (λ item. (item.0, item.1.now)) _ {item = (c.in-Some.first_index, c.in-Some.first_shard)} c.in-Some.ensures.steps (
       no-calls c.args.original,
       no-calls c.next.new.self,
       λ originals others begins further.
-          let led = decoding-unset c.args.original_count c.args.recovery_count originals (c.in-Some.first_index, c.in-Some.first_shard.now) others _ c.in_err-decoder.ensures.answer in search rules,
+          let led = decoding-unset c.args.counts.original_count c.args.counts.recovery_count originals (c.in-Some.first_index, c.in-Some.first_shard.now) others _ c.in_err-decoder.ensures.answer in search rules,
     )
 
-pub returns-in_err-give_originals-clause-run : goal.returns-in_err-give_originals-clause-run
-returns-in_err-give_originals-clause-run g c =
+pub returns-in_err-give_originals : goal.returns-in_err-give_originals
+returns-in_err-give_originals g c =
     first-both (λ item. (item.0, item.1.now)) (λ item. (item.0, item.1.now)) _ {item = (c.in-Some.first_index, c.in-Some.first_shard)} c.in-Some.ensures.steps (
       c.in_err-give_originals.ensures.0,
       no-calls c.next.new.self,
       λ originals others begins further.
-          let led = decoding-given c.args.original_count c.args.recovery_count originals (c.in-Some.first_index, c.in-Some.first_shard.now) others _ c.in_ok-decoder.ensures.answer c.in_ok-decoder.ensures.made.0 _
+          let led = decoding-given c.args.counts.original_count c.args.counts.recovery_count originals (c.in-Some.first_index, c.in-Some.first_shard.now) others _ c.in_ok-decoder.ensures.answer c.in_ok-decoder.ensures.made.0 _
           (both-err (decoder_state default_rate c.in_ok-decoder.decoder.rows) originals ((c.in-Some.first_index, c.in-Some.first_shard.now) ∷ others) _ (reached-err _ _ _ (c.in_err-give_originals.ensures.1 originals begins))) in search rules,
     )
 
-pub returns-in_err-add_recovery_shard-clause-run : goal.returns-in_err-add_recovery_shard-clause-run
-returns-in_err-add_recovery_shard-clause-run g c =
+pub returns-in_err-add_recovery_shard : goal.returns-in_err-add_recovery_shard
+returns-in_err-add_recovery_shard g c =
     first-both (λ item. (item.0, item.1.now)) (λ item. (item.0, item.1.now)) _ {item = (c.in-Some.first_index, c.in-Some.first_shard)} c.in-Some.ensures.steps (
       c.in_ok-give_originals.ensures.0,
       no-calls c.next.new.self,
       λ originals others begins further.
-          let led = decoding-given c.args.original_count c.args.recovery_count originals (c.in-Some.first_index, c.in-Some.first_shard.now) others _ c.in_ok-decoder.ensures.answer c.in_ok-decoder.ensures.made.0 _
+          let led = decoding-given c.args.counts.original_count c.args.counts.recovery_count originals (c.in-Some.first_index, c.in-Some.first_shard.now) others _ c.in_ok-decoder.ensures.answer c.in_ok-decoder.ensures.made.0 _
           (both-ok (decoder_state default_rate c.in_ok-decoder.decoder.rows) (decoder_state default_rate c.give_originals.new.decoder.rows) originals ((c.in-Some.first_index, c.in-Some.first_shard.now) ∷ others) _ (reached-ok _ _ (c.in_ok-give_originals.ensures.1 originals begins)) (steps-err (λ now item. with_recovery now item.0 item.1) (decoder_state default_rate c.give_originals.new.decoder.rows) (c.in-Some.first_index, c.in-Some.first_shard.now) others _ (outcome-err (with_recovery (decoder_state default_rate c.give_originals.new.decoder.rows) c.in-Some.first_index c.in-Some.first_shard.now) _ c.in_err-add_recovery_shard.ensures.answer))) in search rules,
     )
 
-pub returns-in_err-give_recovery-clause-run : goal.returns-in_err-give_recovery-clause-run
-returns-in_err-give_recovery-clause-run g c =
+pub returns-in_err-give_recovery : goal.returns-in_err-give_recovery
+returns-in_err-give_recovery g c =
     first-both (λ item. (item.0, item.1.now)) (λ item. (item.0, item.1.now)) _ {item = (c.in-Some.first_index, c.in-Some.first_shard)} c.in-Some.ensures.steps (
       c.in_ok-give_originals.ensures.0,
       c.in_err-give_recovery.ensures.0,
       λ originals others begins further.
-          let led = decoding-given c.args.original_count c.args.recovery_count originals (c.in-Some.first_index, c.in-Some.first_shard.now) others _ c.in_ok-decoder.ensures.answer c.in_ok-decoder.ensures.made.0 _
+          let led = decoding-given c.args.counts.original_count c.args.counts.recovery_count originals (c.in-Some.first_index, c.in-Some.first_shard.now) others _ c.in_ok-decoder.ensures.answer c.in_ok-decoder.ensures.made.0 _
           (both-ok (decoder_state default_rate c.in_ok-decoder.decoder.rows) (decoder_state default_rate c.give_originals.new.decoder.rows) originals ((c.in-Some.first_index, c.in-Some.first_shard.now) ∷ others) _ (reached-ok _ _ (c.in_ok-give_originals.ensures.1 originals begins)) (steps-ok (λ now item. with_recovery now item.0 item.1) (decoder_state default_rate c.give_originals.new.decoder.rows) (decoder_state default_rate c.add_recovery_shard.new.self.rows) (c.in-Some.first_index, c.in-Some.first_shard.now) others _ (outcome-ok (decoder_state default_rate c.give_originals.new.decoder.rows) (decoder_state default_rate c.add_recovery_shard.new.self.rows) (with_recovery (decoder_state default_rate c.give_originals.new.decoder.rows) c.in-Some.first_index c.in-Some.first_shard.now) c.in_ok-add_recovery_shard.ensures.answer c.in_ok-add_recovery_shard.ensures.left) (reached-err _ _ _ (c.in_err-give_recovery.ensures.1 others further)))) in search rules,
     )
 
-pub returns-clause-run : goal.returns-clause-run
-returns-clause-run g c =
+pub returns : goal.returns
+returns g c =
     first-both (λ item. (item.0, item.1.now)) (λ item. (item.0, item.1.now)) _ {item = (c.in-Some.first_index, c.in-Some.first_shard)} c.in-Some.ensures.steps (
       c.in_ok-give_originals.ensures.0,
       c.in_ok-give_recovery.ensures.0,
       λ originals others begins further.
-          decoding-given c.args.original_count c.args.recovery_count originals (c.in-Some.first_index, c.in-Some.first_shard.now) others _ c.in_ok-decoder.ensures.answer c.in_ok-decoder.ensures.made.0 _
+          decoding-given c.args.counts.original_count c.args.counts.recovery_count originals (c.in-Some.first_index, c.in-Some.first_shard.now) others _ c.in_ok-decoder.ensures.answer c.in_ok-decoder.ensures.made.0 _
           (both-ok (decoder_state default_rate c.in_ok-decoder.decoder.rows) (decoder_state default_rate c.give_originals.new.decoder.rows) originals ((c.in-Some.first_index, c.in-Some.first_shard.now) ∷ others) _ (reached-ok _ _ (c.in_ok-give_originals.ensures.1 originals begins)) (steps-ok (λ now item. with_recovery now item.0 item.1) (decoder_state default_rate c.give_originals.new.decoder.rows) (decoder_state default_rate c.add_recovery_shard.new.self.rows) (c.in-Some.first_index, c.in-Some.first_shard.now) others _ (outcome-ok (decoder_state default_rate c.give_originals.new.decoder.rows) (decoder_state default_rate c.add_recovery_shard.new.self.rows) (with_recovery (decoder_state default_rate c.give_originals.new.decoder.rows) c.in-Some.first_index c.in-Some.first_shard.now) c.in_ok-add_recovery_shard.ensures.answer c.in_ok-add_recovery_shard.ensures.left) (reached-ok _ _ (c.in_ok-give_recovery.ensures.1 others further)))),
     )

@@ -4,46 +4,43 @@ use Rattle.reed_solomon_simd.proofs.Giving.{no-calls, ended-calls, ended-run, fi
 use Rattle.reed_solomon_simd.proofs.OneCall.{encoding-unset, encoding-given}
 use Rattle.reed_solomon_simd.proofs.coders.given_encoder.Goals as goal
 
-pub returns-in_err-check_counts-clause-run : goal.returns-in_err-check_counts-clause-run
-returns-in_err-check_counts-clause-run g c = (no-calls c.args.original, λ items begins. search rules)
-
-pub returns-in_default-clause-run : goal.returns-in_default-clause-run
-returns-in_default-clause-run g c = (
+pub returns-in_default : goal.returns-in_default
+returns-in_default g c = (
   ended-calls c.args.original c.next.new.self c.in_default.ensures.steps,
-  ended-run g.I.Iterator.next_gives (λ shard. shard.now) _ c.args.original c.next.new.self c.in_default.ensures.steps (search rules),
+  ended-run g.I.Iterator.next_gives (λ shard. shard.now) _ c.args.original c.next.new.self c.in_default.ensures.steps (let supported = c.args.counts.supported in search rules),
 )
 
-pub returns-in_err-encoder-clause-run : goal.returns-in_err-encoder-clause-run
-returns-in_err-encoder-clause-run g c =
+pub returns-in_err-encoder : goal.returns-in_err-encoder
+returns-in_err-encoder g c =
     first-then g.I.Iterator.next_gives (λ shard. shard.now) _ c.in-Some.ensures.steps (
       no-calls c.next.new.self,
       λ others begins.
-          let led = encoding-unset c.args.original_count c.args.recovery_count c.in-Some.first.now others _ c.in_err-encoder.ensures.answer in search rules,
+          let led = encoding-unset c.args.counts.original_count c.args.counts.recovery_count c.in-Some.first.now others _ c.in_err-encoder.ensures.answer in search rules,
     )
 
-pub returns-in_err-add_original_shard-clause-run : goal.returns-in_err-add_original_shard-clause-run
-returns-in_err-add_original_shard-clause-run g c =
+pub returns-in_err-add_original_shard : goal.returns-in_err-add_original_shard
+returns-in_err-add_original_shard g c =
     first-then g.I.Iterator.next_gives (λ shard. shard.now) _ c.in-Some.ensures.steps (
       no-calls c.next.new.self,
       λ others begins.
-          let led = encoding-given c.args.original_count c.args.recovery_count c.in-Some.first.now others _ c.in_ok-encoder.ensures.answer c.in_ok-encoder.ensures.made.0 _
+          let led = encoding-given c.args.counts.original_count c.args.counts.recovery_count c.in-Some.first.now others _ c.in_ok-encoder.ensures.answer c.in_ok-encoder.ensures.made.0 _
           (steps-err with_shard _ c.in-Some.first.now others _ (outcome-err _ _ c.in_err-add_original_shard.ensures.answer)) in search rules,
     )
 
-pub returns-in_err-give_shards-clause-run : goal.returns-in_err-give_shards-clause-run
-returns-in_err-give_shards-clause-run g c =
+pub returns-in_err-give_shards : goal.returns-in_err-give_shards
+returns-in_err-give_shards g c =
     first-then g.I.Iterator.next_gives (λ shard. shard.now) _ c.in-Some.ensures.steps (
       c.in_err-give_shards.ensures.0,
       λ others begins.
-          let led = encoding-given c.args.original_count c.args.recovery_count c.in-Some.first.now others _ c.in_ok-encoder.ensures.answer c.in_ok-encoder.ensures.made.0 _
+          let led = encoding-given c.args.counts.original_count c.args.counts.recovery_count c.in-Some.first.now others _ c.in_ok-encoder.ensures.answer c.in_ok-encoder.ensures.made.0 _
           (steps-ok with_shard _ _ c.in-Some.first.now others _ (outcome-ok _ _ _ c.in_ok-add_original_shard.ensures.answer c.in_ok-add_original_shard.ensures.left) (reached-err _ _ _ (c.in_err-give_shards.ensures.1 others begins))) in search rules,
     )
 
-pub returns-clause-run : goal.returns-clause-run
-returns-clause-run g c =
+pub returns : goal.returns
+returns g c =
     first-then g.I.Iterator.next_gives (λ shard. shard.now) _ c.in-Some.ensures.steps (
       c.in_ok-give_shards.ensures.0,
       λ others begins.
-          encoding-given c.args.original_count c.args.recovery_count c.in-Some.first.now others _ c.in_ok-encoder.ensures.answer c.in_ok-encoder.ensures.made.0 _
+          encoding-given c.args.counts.original_count c.args.counts.recovery_count c.in-Some.first.now others _ c.in_ok-encoder.ensures.answer c.in_ok-encoder.ensures.made.0 _
           (steps-ok with_shard _ _ c.in-Some.first.now others _ (outcome-ok _ _ _ c.in_ok-add_original_shard.ensures.answer c.in_ok-add_original_shard.ensures.left) (reached-ok _ _ (c.in_ok-give_shards.ensures.1 others begins))),
     )

@@ -2,13 +2,24 @@ use Rattle.std.proofs.Common.{rules, Ok, Err, sym, subst}
 use Rattle.rs_field.specs.code.OneCall.{OneDecodeAnswers}
 use Rattle.rs_rate.specs.ResultView.{restored_originals}
 use Rattle.reed_solomon_simd.proofs.Collecting.{shards_in-empty}
-use Rattle.reed_solomon_simd.proofs.Giving.{always-both}
-use Rattle.reed_solomon_simd.proofs.OneCall.{decoding-refused, decoding-nothing, decoding-answers, decoding-collected}
+use Rattle.reed_solomon_simd.proofs.Giving.{no-calls, always-both}
+use Rattle.reed_solomon_simd.proofs.OneCall.{decoding-uncounted, decoding-refused, decoding-nothing, decoding-answers, decoding-collected}
 use Rattle.reed_solomon_simd.proofs.one_call.decode.Goals as goal
+
+pub returns-in_err-counts-clause-run : goal.returns-in_err-counts-clause-run
+returns-in_err-counts-clause-run g c = (
+  no-calls c.args.original,
+  no-calls c.args.recovery,
+  λ originals recoveries begins further.
+      let led = decoding-refused c.args.original_count c.args.recovery_count originals recoveries _ (decoding-uncounted c.args.original_count c.args.recovery_count originals recoveries _ c.in_err-counts.ensures) in search rules,
+)
+
+pub returns-in_err-counts-clause-answer : goal.returns-in_err-counts-clause-answer
+returns-in_err-counts-clause-answer g c = always-both (λ item. (item.0, item.1.now)) (λ item. (item.0, item.1.now)) _ (returns-in_err-counts-clause-run g c)
 
 pub returns-in_err-decoder-clause-run : goal.returns-in_err-decoder-clause-run
 returns-in_err-decoder-clause-run g c =
-    let run = c.in_err-decoder.ensures.run in
+    let run = rw (c.in_ok-counts.ensures.0, c.in_ok-counts.ensures.1) at c.in_err-decoder.ensures in
     (run.0, run.1, λ originals recoveries begins further. let led = decoding-refused c.args.original_count c.args.recovery_count originals recoveries _ (run.2 originals recoveries begins further) in search rules)
 
 pub returns-in_err-decoder-clause-answer : goal.returns-in_err-decoder-clause-answer
@@ -16,11 +27,11 @@ returns-in_err-decoder-clause-answer g c = always-both (λ item. (item.0, item.1
 
 pub returns-in_default-clause-run : goal.returns-in_default-clause-run
 returns-in_default-clause-run g c =
-    let run = rw c.in_default.is at c.in_ok-decoder.ensures.run in (
+    let run = rw (c.in_ok-counts.ensures.0, c.in_ok-counts.ensures.1, c.in_default.is) at c.in_ok-decoder.ensures in (
       run.0,
       run.1,
       λ originals recoveries begins further.
-          subst (λ restored. OneDecodeAnswers c.args.original_count c.args.recovery_count originals recoveries (Ok restored)) (sym (shards_in-empty c.new.result c.new.ensures.empty))
+          subst (λ restored. OneDecodeAnswers c.args.original_count c.args.recovery_count originals recoveries (Ok restored)) (sym (shards_in-empty c.new-in_default.result c.new-in_default.ensures.empty))
           (decoding-nothing c.args.original_count c.args.recovery_count originals recoveries (run.2 originals recoveries begins further)),
     )
 
@@ -29,7 +40,7 @@ returns-in_default-clause-answer g c = always-both (λ item. (item.0, item.1.now
 
 pub returns-in_err-result-clause-run : goal.returns-in_err-result-clause-run
 returns-in_err-result-clause-run g c =
-    let run = rw c.in-Some.is at c.in_ok-decoder.ensures.run in (
+    let run = rw (c.in_ok-counts.ensures.0, c.in_ok-counts.ensures.1, c.in-Some.is) at c.in_ok-decoder.ensures in (
       run.0,
       run.1,
       λ originals recoveries begins further.
@@ -41,7 +52,7 @@ returns-in_err-result-clause-answer g c = always-both (λ item. (item.0, item.1.
 
 pub returns-clause-run : goal.returns-clause-run
 returns-clause-run g c =
-    let run = rw c.in-Some.is at c.in_ok-decoder.ensures.run in (
+    let run = rw (c.in_ok-counts.ensures.0, c.in_ok-counts.ensures.1, c.in-Some.is) at c.in_ok-decoder.ensures in (
       run.0,
       run.1,
       λ originals recoveries begins further.

@@ -11,18 +11,18 @@ pub returns-in_err-encoder : goal.returns-in_err-encoder
 returns-in_err-encoder c =
     let shards = YieldsList-from_map_by _ (λ shard. shard.now) (λ v. v.items) (YieldsList-from_slice c.args.original.now cc) c.map-shards.ensures.closure (λ x r q k. search rules) in
     let exit = err_from_is_err_and c.from_residual.result c.from_residual.ensures.1 in
-    rw (exit.1, exit.2) (inl (encoding-refused c.args.counts.original c.args.counts.recovery _ _ (always-run c.in_err-encoder.ensures.run (map (λ v. v.items) c.args.original.now) shards.runs)))
+    rw (exit.1, exit.2) (inl (encoding-refused c.args.counts.original_count c.args.counts.recovery_count _ _ (always-run c.in_err-encoder.ensures (map (λ v. v.items) c.args.original.now) shards.runs)))
 
 pub returns-in_err-coded : goal.returns-in_err-coded
 returns-in_err-coded c =
     let shards = YieldsList-from_map_by _ (λ shard. shard.now) (λ v. v.items) (YieldsList-from_slice c.args.original.now cc) c.map-shards.ensures.closure (λ x r q k. search rules) in
     let exit = err_from_is_err_and c.from_residual-in_err-coded.result c.from_residual-in_err-coded.ensures.1 in
-    let led = always-run c.in_ok-encoder.ensures.run (map (λ v. v.items) c.args.original.now) shards.runs in
-    rw (exit.1, exit.2) (inl (encoding-answers c.args.counts.original c.args.counts.recovery _ _ led (Err c.in_err-coded.field-0.0) c.in_err-coded.ensures.answer))
+    let led = always-run c.in_ok-encoder.ensures (map (λ v. v.items) c.args.original.now) shards.runs in
+    rw (exit.1, exit.2) (inl (encoding-answers c.args.counts.original_count c.args.counts.recovery_count _ _ led (Err c.in_err-coded.field-0.0) c.in_err-coded.ensures.answer))
 
 pub returns : goal.returns
 returns c =
     let shards = YieldsList-from_map_by _ (λ shard. shard.now) (λ v. v.items) (YieldsList-from_slice c.args.original.now cc) c.map-shards.ensures.closure (λ x r q k. search rules) in
-    let led = always-run c.in_ok-encoder.ensures.run (map (λ v. v.items) c.args.original.now) shards.runs in
-    codes-lines c.args.counts.original c.args.counts.recovery _ (recovery_shards c.in_ok-coded.coded) _
-    (encoding-answers c.args.counts.original c.args.counts.recovery _ _ led (Ok (recovery_shards c.in_ok-coded.coded)) c.in_ok-coded.ensures.answer) (rw c.recovery_iter.ensures.shards at c.lines.ensures)
+    let led = always-run c.in_ok-encoder.ensures (map (λ v. v.items) c.args.original.now) shards.runs in
+    codes-lines c.args.counts.original_count c.args.counts.recovery_count _ (recovery_shards c.in_ok-coded.coded) _
+    (encoding-answers c.args.counts.original_count c.args.counts.recovery_count _ _ led (Ok (recovery_shards c.in_ok-coded.coded)) c.in_ok-coded.ensures.answer) (rw c.recovery_iter.ensures.shards at c.lines.ensures)

@@ -14,32 +14,32 @@ returns-in_err-decoder c =
     let original = YieldsList-from_map_by _ (λ item. (item.0, item.1.now)) (λ item. (item.0, item.1.items)) (YieldsList-from_slice c.args.given.now.original.items cc) c.map-original.ensures.closure (λ x r q k. search rules) in
     let recovery = YieldsList-from_map_by _ (λ item. (item.0, item.1.now)) (λ item. (item.0, item.1.items)) (YieldsList-from_slice c.args.given.now.recovery.items cc) c.map-recovery.ensures.closure (λ x r q k. search rules) in
     let given = as_given c.args.given.now in
-    let led = always-both (λ item. (item.0, item.1.now)) (λ item. (item.0, item.1.now)) _ c.in_err-decoder.ensures.run given.originals given.recovery original.runs recovery.runs in
+    let led = always-both (λ item. (item.0, item.1.now)) (λ item. (item.0, item.1.now)) _ c.in_err-decoder.ensures given.originals given.recovery original.runs recovery.runs in
     let exit = err_from_is_err_and c.from_residual.result c.from_residual.ensures.1 in
-    rw (exit.1, exit.2) (inl (decoding-refused c.args.counts.original c.args.counts.recovery given.originals given.recovery _ led))
+    rw (exit.1, exit.2) (inl (decoding-refused c.args.counts.original_count c.args.counts.recovery_count given.originals given.recovery _ led))
 
 pub returns-in_default : goal.returns-in_default
 returns-in_default c =
     let original = YieldsList-from_map_by _ (λ item. (item.0, item.1.now)) (λ item. (item.0, item.1.items)) (YieldsList-from_slice c.args.given.now.original.items cc) c.map-original.ensures.closure (λ x r q k. search rules) in
     let recovery = YieldsList-from_map_by _ (λ item. (item.0, item.1.now)) (λ item. (item.0, item.1.items)) (YieldsList-from_slice c.args.given.now.recovery.items cc) c.map-recovery.ensures.closure (λ x r q k. search rules) in
     let given = as_given c.args.given.now in
-    let led = always-both (λ item. (item.0, item.1.now)) (λ item. (item.0, item.1.now)) _ (rw c.in_default.is at c.in_ok-decoder.ensures.run) given.originals given.recovery original.runs recovery.runs in
-    restores-lines c.args.counts.original c.args.counts.recovery given nothing [] (Ok c.new.result) (decoding-nothing c.args.counts.original c.args.counts.recovery given.originals given.recovery led) lists-none (search rules)
+    let led = always-both (λ item. (item.0, item.1.now)) (λ item. (item.0, item.1.now)) _ (rw c.in_default.is at c.in_ok-decoder.ensures) given.originals given.recovery original.runs recovery.runs in
+    restores-lines c.args.counts.original_count c.args.counts.recovery_count given nothing [] (Ok c.new.result) (decoding-nothing c.args.counts.original_count c.args.counts.recovery_count given.originals given.recovery led) lists-none (search rules)
 
 pub returns-in_err-restored : goal.returns-in_err-restored
 returns-in_err-restored c =
     let original = YieldsList-from_map_by _ (λ item. (item.0, item.1.now)) (λ item. (item.0, item.1.items)) (YieldsList-from_slice c.args.given.now.original.items cc) c.map-original.ensures.closure (λ x r q k. search rules) in
     let recovery = YieldsList-from_map_by _ (λ item. (item.0, item.1.now)) (λ item. (item.0, item.1.items)) (YieldsList-from_slice c.args.given.now.recovery.items cc) c.map-recovery.ensures.closure (λ x r q k. search rules) in
     let given = as_given c.args.given.now in
-    let led = always-both (λ item. (item.0, item.1.now)) (λ item. (item.0, item.1.now)) _ (rw c.in-Some.is at c.in_ok-decoder.ensures.run) given.originals given.recovery original.runs recovery.runs in
+    let led = always-both (λ item. (item.0, item.1.now)) (λ item. (item.0, item.1.now)) _ (rw c.in-Some.is at c.in_ok-decoder.ensures) given.originals given.recovery original.runs recovery.runs in
     let exit = err_from_is_err_and c.from_residual-in_err-restored.result c.from_residual-in_err-restored.ensures.1 in
-    rw (exit.1, exit.2) (inl (decoding-answers c.args.counts.original c.args.counts.recovery given.originals given.recovery _ led (Err c.in_err-restored.field-0.0) c.in_err-restored.ensures.answer))
+    rw (exit.1, exit.2) (inl (decoding-answers c.args.counts.original_count c.args.counts.recovery_count given.originals given.recovery _ led (Err c.in_err-restored.field-0.0) c.in_err-restored.ensures.answer))
 
 pub returns : goal.returns
 returns c =
     let original = YieldsList-from_map_by _ (λ item. (item.0, item.1.now)) (λ item. (item.0, item.1.items)) (YieldsList-from_slice c.args.given.now.original.items cc) c.map-original.ensures.closure (λ x r q k. search rules) in
     let recovery = YieldsList-from_map_by _ (λ item. (item.0, item.1.now)) (λ item. (item.0, item.1.items)) (YieldsList-from_slice c.args.given.now.recovery.items cc) c.map-recovery.ensures.closure (λ x r q k. search rules) in
     let given = as_given c.args.given.now in
-    let led = always-both (λ item. (item.0, item.1.now)) (λ item. (item.0, item.1.now)) _ (rw c.in-Some.is at c.in_ok-decoder.ensures.run) given.originals given.recovery original.runs recovery.runs in
+    let led = always-both (λ item. (item.0, item.1.now)) (λ item. (item.0, item.1.now)) _ (rw c.in-Some.is at c.in_ok-decoder.ensures) given.originals given.recovery original.runs recovery.runs in
     let restored = restored_originals c.in_ok-restored.restored in
-    restores-lines c.args.counts.original c.args.counts.recovery given restored _ _ (decoding-answers c.args.counts.original c.args.counts.recovery given.originals given.recovery _ led (Ok restored) c.in_ok-restored.ensures.answer) c.restored_original_iter.ensures.listed c.indexed_lines.ensures
+    restores-lines c.args.counts.original_count c.args.counts.recovery_count given restored _ _ (decoding-answers c.args.counts.original_count c.args.counts.recovery_count given.originals given.recovery _ led (Ok restored) c.in_ok-restored.ensures.answer) c.restored_original_iter.ensures.listed c.indexed_lines.ensures

@@ -5,7 +5,7 @@ use Rattle.rs_field.specs.code.Given.{nothing}
 use Rattle.rs_field.specs.code.OneCall.{Items}
 use Rattle.rs_rate.specs.ResultView.{restored_originals}
 use Rattle.reed_solomon_simd.proofs.Giving.{always-both}
-use Rattle.reed_solomon_simd.proofs.OneCall.{decoding-refused, decoding-nothing, decoding-answers, lists-none}
+use Rattle.reed_solomon_simd.proofs.OneCall.{decoding-uncounted, decoding-refused, decoding-nothing, decoding-answers, lists-none}
 use Rattle.rs_c.specs.Arrays.{items_of, bytes_in, rooms_fit, as_many}
 use Rattle.rs_c.proofs.RoomLemmas.{bytes-count, fills-refused, fills-done, fills-none, lists-same}
 use Rattle.rs_c.proofs.decoding.decode_arrays.Goals as goal
@@ -14,32 +14,38 @@ use Rattle.rs_c.proofs.decoding.decode_arrays.Goals as goal
 abbrev shards_in_items : Items → List Shard
 shards_in_items items = map (λ item. item.1) items
 
+pub returns-in_err-counts-clause-answer : goal.returns-in_err-counts-clause-answer
+returns-in_err-counts-clause-answer c =
+    let k = c.args.original_count in let r = c.args.recovery_count in
+    let own = items_of c.args.originals.now in let other = items_of c.args.recovery.now in
+    let e = c.in_err-counts.field-0.0 in (Err e, decoding-refused k r own other e (decoding-uncounted k r own other e c.in_err-counts.ensures), (search rules, refl))
+
 pub returns-in_err-decoder-clause-answer : goal.returns-in_err-decoder-clause-answer
 returns-in_err-decoder-clause-answer c =
     let own = YieldsList-from_map_by _ (λ item. (item.0, item.1.now)) (λ shard. (shard.index, shard.bytes.now)) (YieldsList-from_slice c.args.originals.now cc) c.map-own.ensures.closure (λ x r q k. search rules) in
     let other = YieldsList-from_map_by _ (λ item. (item.0, item.1.now)) (λ shard. (shard.index, shard.bytes.now)) (YieldsList-from_slice c.args.recovery.now cc) c.map-other.ensures.closure (λ x r q k. search rules) in
-    let led = always-both (λ item. (item.0, item.1.now)) (λ item. (item.0, item.1.now)) _ c.in_err-decoder.ensures.run (items_of c.args.originals.now) (items_of c.args.recovery.now) own.runs other.runs in
+    let led = always-both (λ item. (item.0, item.1.now)) (λ item. (item.0, item.1.now)) _ (rw (c.in_ok-counts.ensures.0, c.in_ok-counts.ensures.1) at c.in_err-decoder.ensures) (items_of c.args.originals.now) (items_of c.args.recovery.now) own.runs other.runs in
     let e = c.in_err-decoder.field-0.0 in (Err e, decoding-refused c.args.original_count c.args.recovery_count _ _ e led, (search rules, refl))
 
 pub returns-in_default-clause-answer : goal.returns-in_default-clause-answer
 returns-in_default-clause-answer c =
     let own = YieldsList-from_map_by _ (λ item. (item.0, item.1.now)) (λ shard. (shard.index, shard.bytes.now)) (YieldsList-from_slice c.args.originals.now cc) c.map-own.ensures.closure (λ x r q k. search rules) in
     let other = YieldsList-from_map_by _ (λ item. (item.0, item.1.now)) (λ shard. (shard.index, shard.bytes.now)) (YieldsList-from_slice c.args.recovery.now cc) c.map-other.ensures.closure (λ x r q k. search rules) in
-    let led = always-both (λ item. (item.0, item.1.now)) (λ item. (item.0, item.1.now)) _ (rw c.in_default.is at c.in_ok-decoder.ensures.run) (items_of c.args.originals.now) (items_of c.args.recovery.now) own.runs other.runs in
+    let led = always-both (λ item. (item.0, item.1.now)) (λ item. (item.0, item.1.now)) _ (rw (c.in_ok-counts.ensures.0, c.in_ok-counts.ensures.1, c.in_default.is) at c.in_ok-decoder.ensures) (items_of c.args.originals.now) (items_of c.args.recovery.now) own.runs other.runs in
     (Ok nothing, decoding-nothing c.args.original_count c.args.recovery_count _ _ led, ([], lists-none, fills-none (bytes_in c.args.restored.now) _ (c.check_number.ensures ∙ ap (as_many 0) (sym (bytes-count c.args.restored.now)))))
 
 pub returns-in_err-result-clause-answer : goal.returns-in_err-result-clause-answer
 returns-in_err-result-clause-answer c =
     let own = YieldsList-from_map_by _ (λ item. (item.0, item.1.now)) (λ shard. (shard.index, shard.bytes.now)) (YieldsList-from_slice c.args.originals.now cc) c.map-own.ensures.closure (λ x r q k. search rules) in
     let other = YieldsList-from_map_by _ (λ item. (item.0, item.1.now)) (λ shard. (shard.index, shard.bytes.now)) (YieldsList-from_slice c.args.recovery.now cc) c.map-other.ensures.closure (λ x r q k. search rules) in
-    let led = always-both (λ item. (item.0, item.1.now)) (λ item. (item.0, item.1.now)) _ (rw c.in-Some.is at c.in_ok-decoder.ensures.run) (items_of c.args.originals.now) (items_of c.args.recovery.now) own.runs other.runs in
+    let led = always-both (λ item. (item.0, item.1.now)) (λ item. (item.0, item.1.now)) _ (rw (c.in_ok-counts.ensures.0, c.in_ok-counts.ensures.1, c.in-Some.is) at c.in_ok-decoder.ensures) (items_of c.args.originals.now) (items_of c.args.recovery.now) own.runs other.runs in
     let e = c.in_err-result.field-0.0 in (Err e, decoding-answers c.args.original_count c.args.recovery_count _ _ _ led (Err e) c.in_err-result.ensures.answer, (search rules, refl))
 
 pub returns-in_err-check_rooms-clause-answer : goal.returns-in_err-check_rooms-clause-answer
 returns-in_err-check_rooms-clause-answer c =
     let own = YieldsList-from_map_by _ (λ item. (item.0, item.1.now)) (λ shard. (shard.index, shard.bytes.now)) (YieldsList-from_slice c.args.originals.now cc) c.map-own.ensures.closure (λ x r q k. search rules) in
     let other = YieldsList-from_map_by _ (λ item. (item.0, item.1.now)) (λ shard. (shard.index, shard.bytes.now)) (YieldsList-from_slice c.args.recovery.now cc) c.map-other.ensures.closure (λ x r q k. search rules) in
-    let led = always-both (λ item. (item.0, item.1.now)) (λ item. (item.0, item.1.now)) _ (rw c.in-Some.is at c.in_ok-decoder.ensures.run) (items_of c.args.originals.now) (items_of c.args.recovery.now) own.runs other.runs in
+    let led = always-both (λ item. (item.0, item.1.now)) (λ item. (item.0, item.1.now)) _ (rw (c.in_ok-counts.ensures.0, c.in_ok-counts.ensures.1, c.in-Some.is) at c.in_ok-decoder.ensures) (items_of c.args.originals.now) (items_of c.args.recovery.now) own.runs other.runs in
     let restored = restored_originals c.in_ok-result.result in
     let old = bytes_in c.args.restored.now in
     let items : Items = c.restored_original_iter.result in (
@@ -60,7 +66,7 @@ pub returns-clause-answer : goal.returns-clause-answer
 returns-clause-answer c =
     let own = YieldsList-from_map_by _ (λ item. (item.0, item.1.now)) (λ shard. (shard.index, shard.bytes.now)) (YieldsList-from_slice c.args.originals.now cc) c.map-own.ensures.closure (λ x r q k. search rules) in
     let other = YieldsList-from_map_by _ (λ item. (item.0, item.1.now)) (λ shard. (shard.index, shard.bytes.now)) (YieldsList-from_slice c.args.recovery.now cc) c.map-other.ensures.closure (λ x r q k. search rules) in
-    let led = always-both (λ item. (item.0, item.1.now)) (λ item. (item.0, item.1.now)) _ (rw c.in-Some.is at c.in_ok-decoder.ensures.run) (items_of c.args.originals.now) (items_of c.args.recovery.now) own.runs other.runs in
+    let led = always-both (λ item. (item.0, item.1.now)) (λ item. (item.0, item.1.now)) _ (rw (c.in_ok-counts.ensures.0, c.in_ok-counts.ensures.1, c.in-Some.is) at c.in_ok-decoder.ensures) (items_of c.args.originals.now) (items_of c.args.recovery.now) own.runs other.runs in
     let restored = restored_originals c.in_ok-result.result in
     let old = bytes_in c.args.restored.now in
     let items : Items = c.restored_original_iter-2.result in

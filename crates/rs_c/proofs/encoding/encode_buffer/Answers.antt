@@ -13,16 +13,16 @@ returns-in_err-encoder c =
     let k = c.args.original_count in let r = c.args.recovery_count in
     let shards = cut k c.args.shard_bytes c.args.originals.now in
     let e = c.in_err-encoder.field-0.0 in
-    encodes k r c.args.shard_bytes c.args.originals.now c.args.recovery.now _ _ (Err e) c.in_ok-check_counts.ensures c.in_ok-check_length.ensures c.in_ok-check_length-2.ensures
-    (encoding-refused k r shards e (always-run c.in_err-encoder.ensures.run shards (lends-left (λ shard. shard.now) _ shards c.new-shards.ensures))) (search rules, refl)
+    encodes k r c.args.shard_bytes c.args.originals.now c.args.recovery.now _ _ (Err e) (rw (c.in_ok-counts.ensures.0, c.in_ok-counts.ensures.1) at c.in_ok-counts.counts.supported) c.in_ok-check_length.ensures c.in_ok-check_length-2.ensures
+    (encoding-refused k r shards e (always-run (rw (c.in_ok-counts.ensures.0, c.in_ok-counts.ensures.1) at c.in_err-encoder.ensures) shards (lends-left (λ shard. shard.now) _ shards c.new-shards.ensures))) (search rules, refl)
 
 pub returns-in_err-result : goal.returns-in_err-result
 returns-in_err-result c =
     let k = c.args.original_count in let r = c.args.recovery_count in
     let shards = cut k c.args.shard_bytes c.args.originals.now in
     let e = c.in_err-result.field-0.0 in
-    let led = always-run c.in_ok-encoder.ensures.run shards (lends-left (λ shard. shard.now) _ shards c.new-shards.ensures) in
-    encodes k r c.args.shard_bytes c.args.originals.now c.args.recovery.now _ _ (Err e) c.in_ok-check_counts.ensures c.in_ok-check_length.ensures c.in_ok-check_length-2.ensures
+    let led = always-run (rw (c.in_ok-counts.ensures.0, c.in_ok-counts.ensures.1) at c.in_ok-encoder.ensures) shards (lends-left (λ shard. shard.now) _ shards c.new-shards.ensures) in
+    encodes k r c.args.shard_bytes c.args.originals.now c.args.recovery.now _ _ (Err e) (rw (c.in_ok-counts.ensures.0, c.in_ok-counts.ensures.1) at c.in_ok-counts.counts.supported) c.in_ok-check_length.ensures c.in_ok-check_length-2.ensures
     (encoding-answers k r shards _ led (Err e) c.in_err-result.ensures.answer) (search rules, refl)
 
 pub write_recovery-requires : goal.write_recovery-requires
@@ -31,7 +31,7 @@ write_recovery-requires c =
     let shards = cut k size c.args.originals.now in
     let object = c.in_ok-encoder.encoder in
     let recovery = recovery_shards c.in_ok-result.result in
-    let led = always-run c.in_ok-encoder.ensures.run shards (lends-left (λ shard. shard.now) _ shards c.new-shards.ensures) in
+    let led = always-run (rw (c.in_ok-counts.ensures.0, c.in_ok-counts.ensures.1) at c.in_ok-encoder.ensures) shards (lends-left (λ shard. shard.now) _ shards c.new-shards.ensures) in
     fits-length r size (length c.args.recovery.now) c.in_ok-check_length-2.ensures
     ∙ sym (recovery-length k r size c.args.originals.now recovery (fits-length k size (length c.args.originals.now) c.in_ok-check_length.ensures)
     (encoding-coded k r shards _ led (is_encoder default_rate object.rows object.set_up) recovery (Ok recovery) c.in_ok-result.ensures.answer refl))
@@ -41,6 +41,6 @@ returns c =
     let k = c.args.original_count in let r = c.args.recovery_count in
     let shards = cut k c.args.shard_bytes c.args.originals.now in
     let recovery = recovery_shards c.in_ok-result.result in
-    let led = always-run c.in_ok-encoder.ensures.run shards (lends-left (λ shard. shard.now) _ shards c.new-shards.ensures) in
-    encodes k r c.args.shard_bytes c.args.originals.now c.args.recovery.now _ _ (Ok recovery) c.in_ok-check_counts.ensures c.in_ok-check_length.ensures c.in_ok-check_length-2.ensures
+    let led = always-run (rw (c.in_ok-counts.ensures.0, c.in_ok-counts.ensures.1) at c.in_ok-encoder.ensures) shards (lends-left (λ shard. shard.now) _ shards c.new-shards.ensures) in
+    encodes k r c.args.shard_bytes c.args.originals.now c.args.recovery.now _ _ (Ok recovery) (rw (c.in_ok-counts.ensures.0, c.in_ok-counts.ensures.1) at c.in_ok-counts.counts.supported) c.in_ok-check_length.ensures c.in_ok-check_length-2.ensures
     (encoding-answers k r shards _ led (Ok recovery) c.in_ok-result.ensures.answer) (refl, c.write_recovery.ensures)

@@ -1,0 +1,63 @@
+//! Counts that a rate supports, asked for once, where a call begins.
+ghost use Rattle.std.specs.Prelude.{◌≡◌, ⊤, true, false, MatchResult};
+ghost use Rattle.rs_field.specs.code.Counts.{supports};
+ghost use Rattle.rs_rate.specs.Configured.{choice_at};
+
+use crate::rate::code::{Code, DefaultCode, HighCode, LowCode};
+use crate::rate::counts::Choice;
+use rs_field::error::Error;
+use std::alloc::AllocError;
+use std::marker::PhantomData;
+
+/// Counts that the low rate supports.
+pub type LowRateCounts = SupportedCounts<LowCode>;
+
+/// Counts that the high rate supports.
+pub type HighRateCounts = SupportedCounts<HighCode>;
+
+/// Counts that the default rate supports.
+pub type DefaultRateCounts = SupportedCounts<DefaultCode>;
+
+/// Counts that a rate supports, with what the rate is at them. A coder at these asks for neither again.
+pub struct SupportedCounts<C: Code> {
+    pub original_count: usize,
+    pub recovery_count: usize,
+    pub(crate) choice: Choice,
+    code: PhantomData<C>,
+    pub ghost supported: { supports C.rate original_count recovery_count ≡ true },
+    pub ghost chosen: { choice ≡ choice_at C.rate original_count recovery_count },
+}
+
+impl<C: Code> SupportedCounts<C> {
+    /// These counts, or `UnsupportedShardCount` where the rate doesn't support them.
+    #[inline(always)]
+    pub fn new(original_count: usize, recovery_count: usize) -> Result<SupportedCounts<C>, Error>
+        ensures { MatchResult result (λ c. (c.original_count ≡ original_count) × (c.recovery_count ≡ recovery_count))
+            (λ e. (supports C.rate original_count recovery_count ≡ false) × (e ≡ Error.UnsupportedShardCount original_count recovery_count)) }
+    {
+        let Some(choice) = C::choose(original_count, recovery_count) else {
+            return Err(Error::UnsupportedShardCount {
+                original_count,
+                recovery_count,
+            });
+        };
+        Ok(SupportedCounts {
+            original_count,
+            recovery_count,
+            choice,
+            code: PhantomData,
+        })
+    }
+}
+
+impl<C: Code> Clone for SupportedCounts<C> {
+    ghost is_clone = { λ counts cloned. cloned ≡ counts };
+
+    ghost is_infallible = { λ _. ⊤ };
+
+    fn clone(&self) -> Result<SupportedCounts<C>, AllocError> {
+        Ok(*self)
+    }
+}
+
+impl<C: Code> Copy for SupportedCounts<C> {}
