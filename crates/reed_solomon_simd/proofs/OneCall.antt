@@ -9,7 +9,7 @@ use Rattle.rs_field.specs.code.Counts.{default_rate, supports}
 use Rattle.rs_field.specs.code.Decoder.{DecoderState, fresh_decoder, with_original, with_recovery, DecodeAnswers}
 use Rattle.rs_field.specs.code.Encoder.{EncoderState, IsEncoder, fresh_encoder, EncodeAnswers}
 use Rattle.rs_field.specs.code.Given.{Shards, nothing, Lists}
-use Rattle.rs_field.specs.code.OneCall.{Items, default_of, counted, all_came, encode_opening, one_by_one, with_shards, with_originals, with_recoveries, with_both, encoding, decoding, OneEncodeAnswers, OneDecodeAnswers}
+use Rattle.rs_field.specs.code.OneCall.{Items, default_of, counted, originals_alone, encode_opening, one_by_one, with_shards, with_originals, with_recoveries, with_both, encoding, decoding, OneEncodeAnswers, OneDecodeAnswers}
 use Rattle.rs_field.specs.code.Outcome.{result_and_then}
 use Rattle.rs_field.specs.code.Placement.{encoder_rows, decoder_rows}
 use Rattle.rs_field.specs.code.RoundTrip.{AreCoded}
@@ -141,8 +141,8 @@ pub decoding-uncounted : (k r : ℕ) (originals recovery : Items) (e : Error) �
 decoding-uncounted k r originals [] e refused = rw (refused.0, refused.1) (inl refl)
 decoding-uncounted k r originals (x ∷ xs) e refused = rw (refused.0, refused.1) (inl refl)
 
--- where no recovery shard came: whether all originals did, or memory lacked for their indexes
-pub decoding-none : (k r : ℕ) (originals : Items) (o : Result (Unit {0}) Error) → supports default_rate k r ≡ true → (o ≡ all_came k originals) ⊎ (o ≡ Err OutOfMemory)
+-- where no recovery shard is given: whether all originals are, or memory lacked for their indexes
+pub decoding-none : (k r : ℕ) (originals : Items) (o : Result (Unit {0}) Error) → supports default_rate k r ≡ true → (o ≡ originals_alone k originals) ⊎ (o ≡ Err OutOfMemory)
     → IsDecoding k r originals [] (result_and_then (λ _. Ok None) o)
 decoding-none k r originals o supported (inl same) = rw supported (inl (ap (result_and_then (λ _. Ok None)) same))
 decoding-none k r originals o supported (inr lacks) = rw supported (inr (refl, ap (result_and_then (λ _. Ok None)) lacks))

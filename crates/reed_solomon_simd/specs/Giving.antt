@@ -5,7 +5,7 @@ use Rattle.rs_field.specs.declared.code.error.Error.{Error}
 use Rattle.rs_field.specs.code.Column.{Shard}
 use Rattle.rs_field.specs.code.Decoder.{DecoderState}
 use Rattle.rs_field.specs.code.Encoder.{EncoderState}
-use Rattle.rs_field.specs.code.OneCall.{Items, LacksMemory, counted, all_came, encode_opening, encoding, decode_opening, decoding}
+use Rattle.rs_field.specs.code.OneCall.{Items, LacksMemory, counted, originals_alone, encode_opening, encoding, decode_opening, decoding}
 use Rattle.rs_field.specs.code.Outcome.{result_and_then}
 
 -- a call answered as the outcome says: a success, with such a state as the outcome names, or the refusal
@@ -13,17 +13,17 @@ abbrev pub Reaches : {S : Type 0} → Result S Error → Result (Unit {0}) Error
 Reaches outcome result P = MatchResult outcome (λ s. (result ≡ Ok tt) × P s) (λ e. result ≡ Err e)
 
 -- the places that are true are those of the indexes, each of which stands once
-pub record AreNoted (indexes : List ℕ) (came : List Bool) : Type 0 where
-  pub places : (i : ℕ) → slice_index_or came i false ≡ list_any (nat_eq i) indexes
-  pub number : count_by (λ noted. noted) came ≡ length indexes
+pub record AreNoted (indexes : List ℕ) (given : List Bool) : Type 0 where
+  pub places : (i : ℕ) → slice_index_or given i false ≡ list_any (nat_eq i) indexes
+  pub number : count_by (λ noted. noted) given ≡ length indexes
 
 -- the encoder that shards lead to, or their refusal; or out of memory, where nothing was refused before memory was wanted
 abbrev pub IsEncoding : ℕ → ℕ → List Shard → Result EncoderState Error → Type 0
 IsEncoding k r shards result = (result ≡ encoding k r shards) ⊎ LacksMemory (encode_opening k r shards) result
 
--- the decoder that originals and recovery shards lead to, none where no recovery shard came and all originals did, or their refusal
+-- the decoder that originals and recovery shards lead to, none where no recovery shard is given and all originals are, or their refusal
 abbrev pub decoding_any : ℕ → ℕ → Items → Items → Result (Option DecoderState) Error
-decoding_any k r originals [] = result_and_then (λ _. Ok None) (result_and_then (λ _. all_came k originals) (counted k r))
+decoding_any k r originals [] = result_and_then (λ _. Ok None) (result_and_then (λ _. originals_alone k originals) (counted k r))
 decoding_any k r originals (first ∷ rest) = result_and_then (λ s. Ok (Some s)) (decoding k r originals first rest)
 
 -- it, or out of memory, where nothing was refused before memory was wanted

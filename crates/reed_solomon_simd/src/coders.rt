@@ -11,7 +11,7 @@ ghost use Rattle.rs_rate.specs.DecoderView.{decoder_state};
 ghost use Rattle.reed_solomon_simd.specs.Calls.{Calls, BeginsWith, BeginsWithItems};
 ghost use Rattle.reed_solomon_simd.specs.Giving.{Reaches, IsEncoding, IsDecoding};
 
-use crate::all_came::check_all_came;
+use crate::originals_alone::check_originals_alone;
 use rs_field::engine::Engine;
 use rs_field::error::Error;
 use rs_rate::rate::{
@@ -50,8 +50,8 @@ pub fn given_encoder<'a, E: Engine, I: Iterator<Item = &'a [u8]> + Drop>(
     Ok(encoder)
 }
 
-/// A decoder at these counts that was given the originals and the recovery shards; None where no recovery shard came and
-/// all originals did. Refused as `decode` is behind the counts, up to the last shard.
+/// A decoder at these counts that was given the originals and the recovery shards; None where no recovery shard is given
+/// and all originals are. Refused as `decode` is behind the counts, up to the last shard.
 ///
 /// ```
 /// // quoted: crates/rs/src/program.rt
@@ -78,7 +78,7 @@ where
         (result_map_both (λ o. option_map (λ x. decoder_state default_rate x.rows) o) (λ e. e) result)) }
 {
     let Some((first_index, first_shard)) = recovery.next() else {
-        check_all_came(alloc, counts.original_count, original)?;
+        check_originals_alone(alloc, counts.original_count, original)?;
         return Ok(None);
     };
     let size = first_shard.len();

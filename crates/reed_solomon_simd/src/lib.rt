@@ -3,7 +3,7 @@
 //! A message of `original_count` shards of one size is coded into `recovery_count` recovery shards.
 #![tactic(auto)]
 
-mod all_came;
+mod originals_alone;
 /// Encoders and decoders of the default rate with a message's shards given to them: a round whose result is lent.
 ///
 /// ```

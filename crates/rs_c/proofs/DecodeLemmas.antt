@@ -18,7 +18,7 @@ use Rattle.rs_c.specs.declared.fault.Fault.{Fault}
 use Rattle.rs_c.specs.Buffers.{fitting, marked, with_restored, AreSized}
 use Rattle.rs_c.specs.Answers.{DecodesBuffer, Writes, all_or_refused}
 use Rattle.rs_c.proofs.EncodeLemmas.{lengths-ok}
-use Rattle.rs_c.proofs.MarkedLemmas.{present, count-present, all_came-marked}
+use Rattle.rs_c.proofs.MarkedLemmas.{present, count-present, originals_alone-marked}
 
 -- a missing original of a message of shards of the size has it
 missing-sized : (k size : ℕ) (o : Bool) (message : List Shard) (i : ℕ) (x : Shard) → AreShards k size message → (if nat_lt i k && o then Some (shard_at message i) else None) ≡ Some x → length x ≡ size
@@ -73,7 +73,7 @@ pub decodes-unmarked : (k r size : ℕ) (own other old recovery : List ℕ) (o :
     → o ≡ all_or_refused (length own) (count_by (λ mark. not (mark == 0)) own) → IsDecoding k r (marked 0 size own old) (marked 0 size other recovery) (result_and_then (λ _. Ok None) o)
 decodes-unmarked k r size own other old recovery o supported many none is =
     subst (λ items. IsDecoding k r (marked 0 size own old) items (result_and_then (λ _. Ok None) o)) (sym (marked-none 0 size other recovery (count-present other ∙ none)))
-    (decoding-none k r (marked 0 size own old) o supported (inl (is ∙ ap (λ (n : ℕ). all_or_refused n (count_by (λ mark. not (mark == 0)) own)) many ∙ sym (all_came-marked k size own old many))))
+    (decoding-none k r (marked 0 size own old) o supported (inl (is ∙ ap (λ (n : ℕ). all_or_refused n (count_by (λ mark. not (mark == 0)) own)) many ∙ sym (originals_alone-marked k size own old many))))
 
 -- where nothing is restored the buffer stays
 pub with-nothing : (i size n : ℕ) (bytes : List ℕ) → length bytes ≡ n * size → with_restored nothing i size n bytes ≡ bytes

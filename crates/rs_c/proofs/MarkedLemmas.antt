@@ -4,7 +4,7 @@ use Rattle.std.proofs.lemmas.Bool.{ne_eqb, lt-leb}
 use Rattle.std.proofs.lemmas.List.Recursion.{is_count_by}
 use Rattle.std.specs.List.{count_by, list_any}
 use Rattle.rs_field.specs.code.Outcome.{result_and_then}
-use Rattle.rs_field.specs.code.OneCall.{Items, one_by_one, noted, all_came}
+use Rattle.rs_field.specs.code.OneCall.{Items, one_by_one, noted, originals_alone}
 use Rattle.reed_solomon_simd.proofs.Noting.{noted_by}
 use Rattle.rs_c.specs.Answers.{all_or_refused}
 use Rattle.rs_c.specs.Buffers.{marked}
@@ -18,7 +18,7 @@ present (mark ∷ marks) = cond (not (mark == 0)) (1 + present marks) (present m
 pub count-present : (marks : List ℕ) → present marks ≡ count_by (λ mark. not (mark == 0)) marks
 count-present marks = is_count_by present (λ mark. not (mark == 0)) refl (λ mark others. refl) marks
 
--- no index from i on is among those that came
+-- no index from i on is among those given
 abbrev IsBelow : ℕ → List ℕ → Type 0
 IsBelow i came = (j : ℕ) → i ≤ j → list_any (nat_eq j) came ≡ false
 
@@ -55,10 +55,10 @@ notes-all k i size (mark ∷ marks) bytes came ends below =
       with.2 ∙ omega arith,
     )
 
--- whether all marked originals came, by the number of marks
-pub all_came-marked : (k size : ℕ) (marks bytes : List ℕ) → length marks ≡ k
-    → all_came k (marked 0 size marks bytes) ≡ all_or_refused k (count_by (λ mark. not (mark == 0)) marks)
-all_came-marked k size marks bytes many =
+-- whether all marked originals are given, by the number of marks
+pub originals_alone-marked : (k size : ℕ) (marks bytes : List ℕ) → length marks ≡ k
+    → originals_alone k (marked 0 size marks bytes) ≡ all_or_refused k (count_by (λ mark. not (mark == 0)) marks)
+originals_alone-marked k size marks bytes many =
     let notes = notes-all k 0 size marks bytes [] (omega (arith, many)) (λ j h. refl) in
     let counted : length notes.0 ≡ count_by (λ mark. not (mark == 0)) marks =
     notes.2 ∙ (let e : 0 + present marks ≡ present marks = omega arith in e) ∙ count-present marks

@@ -45,6 +45,6 @@ DecodesBuffer k r size marks recovery old new answer =
 abbrev pub WantsNoMemory : ℕ → List ℕ → Result (Unit {0}) Fault → Type 0
 WantsNoMemory k marks answer = count_by (λ mark. not (mark == 0)) (drop k marks) ≡ 0 → answer ≢ Err (Refused OutOfMemory)
 
--- whether all k originals came, where so many did and no recovery shard
+-- whether all k originals are given, where so many are and no recovery shard
 abbrev pub all_or_refused : ℕ → ℕ → Result (Unit {0}) Error
 all_or_refused k came = if nat_lt came k then Err (NotEnoughShards k came 0) else Ok tt

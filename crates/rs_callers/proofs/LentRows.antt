@@ -11,8 +11,8 @@ use Rattle.rs_field.specs.rows.Lending.{between, with_chunks, with_two, with_fou
 use Rattle.rs_field.specs.declared.rows.shards.ShardsRefMut.{ShardsRefMut}
 use Rattle.rs_callers.specs.SwappedRows.{AreSwapped, AreSwappedTwice}
 
-pub part-long : (ch : Chunks) (a n : ℕ) → a + n ≤ length ch → length (take n (drop a ch)) ≡ n
-part-long ch a n within = let left = length-drop a ch in length-take-le n (drop a ch) (omega arith)
+pub run-long : (ch : Chunks) (a n : ℕ) → a + n ≤ length ch → length (take n (drop a ch)) ≡ n
+run-long ch a n within = let left = length-drop a ch in length-take-le n (drop a ch) (omega arith)
 
 past : (xs ys : Chunks) (p q c : ℕ) → length xs ≡ q - p → p ≤ q → q ≤ c → chunk (xs ++ ys) (c - p) ≡ chunk ys (c - q)
 past xs ys p q c long ordered from = grind (arith, common_steps)
@@ -29,8 +29,8 @@ past-front ch ys i c within from = get_or-append_right (take i ch) ys i c [] (le
 
 -- a part from place a on, then what stands up to place b, then the rest from there on
 module _ (ch part ys : Chunks) (a n b : ℕ) (long : length part ≡ n) (apart : a + n ≤ b) (within : b ≤ length ch) where
-  pub in-part : (k : ℕ) → k < n → chunk (part ++ ys) (a + k - a) ≡ chunk part k
-  in-part k low = grind (arith, common_steps)
+  pub in-run : (k : ℕ) → k < n → chunk (part ++ ys) (a + k - a) ≡ chunk part k
+  in-run k low = grind (arith, common_steps)
 
   pub in-gap : (c : ℕ) → a + n ≤ c → c < b → chunk (part ++ (between (a + n) b ch ++ ys)) (c - a) ≡ chunk ch c
   in-gap c from below = grind (arith, common_steps)
@@ -93,10 +93,10 @@ module _ (h : ShardsRefMut) (a b : ℕ) (first second : Chunks) (fits : Fits h) 
   two-shape = grind (arith, common_steps, length-append, length-take-le, front, length-gap, apart, inner, length-last, last)
 
   first-of-two : (k : ℕ) → k < n → cell two_written k a ≡ chunk first k
-  first-of-two k low = grind (arith, common_steps, cell-is, past-front, front, in-part, between, apart, inner)
+  first-of-two k low = grind (arith, common_steps, cell-is, past-front, front, in-run, between, apart, inner)
 
   second-of-two : (k : ℕ) → k < n → cell two_written k b ≡ chunk second k
-  second-of-two k low = grind (arith, common_steps, cell-is, past-front, front, apart, past-gap, inner, in-part, last)
+  second-of-two k low = grind (arith, common_steps, cell-is, past-front, front, apart, past-gap, inner, in-run, last)
 
   others-of-two : (c : ℕ) → (c < i) ⊎ (i + n ≤ c) → (c < j) ⊎ (j + n ≤ c) → chunk two_written.chunks.now c ≡ chunk ch c
   others-of-two c h1 h2 = grind (arith, common_steps, from-front, front, past-front, in-gap, apart, inner, past-gap, past-last, last)
@@ -129,7 +129,7 @@ module _ (h : ShardsRefMut) (a b : ℕ) (first second : Chunks) (fits : Fits h) 
 
 -- a row of a list
 pub row-long : (h : ShardsRefMut) (r : ℕ) → Fits h → r < h.shard_count → length (row_at h r) ≡ h.shard_len_64
-row-long h r fits within = part-long h.chunks.now (r * h.shard_len_64) h.shard_len_64 (let rows = ends h.shard_len_64 r h.shard_count within in omega (arith, rows, fits))
+row-long h r fits within = run-long h.chunks.now (r * h.shard_len_64) h.shard_len_64 (let rows = ends h.shard_len_64 r h.shard_count within in omega (arith, rows, fits))
 
 cell-of-row : (h : ShardsRefMut) (r k : ℕ) → k < h.shard_len_64 → chunk (row_at h r) k ≡ cell h k r
 unfolding cell
@@ -163,7 +163,10 @@ swapped-twice h i j k l fits ij jk kl within =
     let l₂ = row-long h i fits (omega (arith, ij, inside)) in
     let once = swapped h i j fits ij inside in
     let same : (r : ℕ) → j < r → row_at mid r ≡ row_at h r = λ r later. ap (take n) (after-two h i j (row_at h j) (row_at h i) fits ij inside l₁ l₂ (r * n) (ends n j r later)) in
-    let whole = four-as-two h i j (row_at h j) (row_at h i) fits ij inside l₁ l₂ (k * n) (l * n) (row_at h l) (row_at h k) (ends n j k jk) (let e = ends n k l kl in omega (arith, e)) in
-    (mid, once, subst (λ (w : Chunks). AreSwapped k l mid (with_chunks h w))
-    (ap₂ (with_two mid.chunks.now (k * n) n (l * n) n) (same l (omega (arith, jk, kl))) (same k jk) ∙ sym whole)
-    (swapped mid k l (let long = once.shape.length in omega (arith, long, fits)) kl within))
+    let whole = four-as-two h i j (row_at h j) (row_at h i) fits ij inside l₁ l₂ (k * n) (l * n) (row_at h l) (row_at h k) (ends n j k jk) (let e = ends n k l kl in omega (arith, e)) in (
+      mid,
+      once,
+      subst (λ (w : Chunks). AreSwapped k l mid (with_chunks h w))
+          (ap₂ (with_two mid.chunks.now (k * n) n (l * n) n) (same l (omega (arith, jk, kl))) (same k jk) ∙ sym whole)
+          (swapped mid k l (let long = once.shape.length in omega (arith, long, fits)) kl within),
+    )

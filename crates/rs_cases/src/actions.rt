@@ -1,5 +1,5 @@
 //! What the actions of a case do.
-use crate::coder::{Coder, Configuration, Parts, Role, Side};
+use crate::coder::{Coder, Configuration, Object, Parts, Role};
 use crate::kept::{Item, Kept, Way};
 use crate::notation::{counted, digest_of, drawn, points, shard_of, write_items};
 use anyhow::{Context, Result, bail, ensure};
@@ -8,10 +8,10 @@ use reed_solomon_simd::rate::{DecoderWork, EncoderWork};
 
 /// Does an action of a coder. Answers the text of what comes, empty where nothing does; a refusal is the error.
 pub fn do_action<C: Coder>(coder: &mut C, kept: &mut Kept, action: &str) -> Result<String> {
-    let side = side_of(action);
+    let object = object_of(action);
     match name_of(action) {
-        "encoder" | "decoder" => coder.start(side, configuration_of(action)?, &mut kept.parts)?,
-        "reset-encoder" | "reset-decoder" => coder.reset(side, configuration_of(action)?)?,
+        "encoder" | "decoder" => coder.start(object, configuration_of(action)?, &mut kept.parts)?,
+        "reset-encoder" | "reset-decoder" => coder.reset(object, configuration_of(action)?)?,
         "parts" => coder.take_parts(&mut kept.parts)?,
         "empty-parts" => {
             kept.parts.encoder = Some(EncoderWork::default());
@@ -19,7 +19,7 @@ pub fn do_action<C: Coder>(coder: &mut C, kept: &mut Kept, action: &str) -> Resu
         }
         "give" => give_from(coder, kept, action, 1)?,
         "code" | "restore" => return round(coder, kept, action, 1),
-        "encode" | "decode" => return run(coder, kept, side),
+        "encode" | "decode" => return run(coder, kept, object),
         "forget" => kept.forgets = true,
         "encodes" | "decodes" => return repeat_round(coder, kept, action),
         "makes" => make(coder, kept, action)?,
@@ -38,10 +38,10 @@ fn name_of(action: &str) -> &str {
 }
 
 // The object that the action is about.
-fn side_of(action: &str) -> Side {
+fn object_of(action: &str) -> Object {
     match name_of(action) {
-        "decoder" | "reset-decoder" | "restore" | "decode" | "decodes" => Side::Decoder,
-        _ => Side::Encoder,
+        "decoder" | "reset-decoder" | "restore" | "decode" | "decodes" => Object::Decoder,
+        _ => Object::Encoder,
     }
 }
 
@@ -110,14 +110,14 @@ fn give_items<C: Coder>(coder: &mut C, role: Role, items: &[Item]) -> Result<()>
 }
 
 // Encodes or decodes what was given.
-fn run<C: Coder>(coder: &mut C, kept: &mut Kept, side: Side) -> Result<String> {
+fn run<C: Coder>(coder: &mut C, kept: &mut Kept, object: Object) -> Result<String> {
     let mut text = String::new(kept.alloc);
-    match side {
-        Side::Encoder => {
+    match object {
+        Object::Encoder => {
             coder.encode(kept)?;
             write_items(kept.alloc, &mut text, kept.recovery.as_slice())?;
         }
-        Side::Decoder => {
+        Object::Decoder => {
             coder.decode(kept)?;
             write_items(kept.alloc, &mut text, kept.restored.as_slice())?;
         }
@@ -129,18 +129,18 @@ fn run<C: Coder>(coder: &mut C, kept: &mut Kept, side: Side) -> Result<String> {
 // Gives the shards of the action's words from so many on, and encodes or decodes.
 fn round<C: Coder>(coder: &mut C, kept: &mut Kept, action: &str, from: usize) -> Result<String> {
     give_from(coder, kept, action, from)?;
-    run(coder, kept, side_of(action))
+    run(coder, kept, object_of(action))
 }
 
 // Gets the object that the action is about in the way that the cases are run in.
 fn obtain<C: Coder>(coder: &mut C, kept: &mut Kept, action: &str) -> Result<()> {
-    let (side, configuration) = (side_of(action), configuration_of(action)?);
+    let (object, configuration) = (object_of(action), configuration_of(action)?);
     match kept.way {
-        Way::New => coder.start(side, configuration, &mut Parts::default())?,
-        Way::Reset => coder.reset(side, configuration)?,
+        Way::New => coder.start(object, configuration, &mut Parts::default())?,
+        Way::Reset => coder.reset(object, configuration)?,
         Way::HandedOn => {
             coder.take_parts(&mut kept.parts)?;
-            coder.start(side, configuration, &mut kept.parts)?;
+            coder.start(object, configuration, &mut kept.parts)?;
         }
     }
     Ok(())
@@ -197,11 +197,11 @@ fn check_counts<C: Coder>(coder: &C, action: &str, supported: bool) -> Result<()
 // Every call that takes a configuration refuses it alike, which leaves the objects.
 fn configure<C: Coder>(coder: &mut C, configuration: Configuration) -> Result<()> {
     let mut parts = Parts::default();
-    let answer = coder.start(Side::Encoder, configuration, &mut parts);
+    let answer = coder.start(Object::Encoder, configuration, &mut parts);
     for other in [
-        coder.start(Side::Decoder, configuration, &mut parts),
-        coder.reset(Side::Encoder, configuration),
-        coder.reset(Side::Decoder, configuration),
+        coder.start(Object::Decoder, configuration, &mut parts),
+        coder.reset(Object::Encoder, configuration),
+        coder.reset(Object::Decoder, configuration),
     ] {
         ensure!(other == answer, "{other:?} and {answer:?}");
     }

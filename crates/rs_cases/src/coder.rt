@@ -11,7 +11,7 @@ pub type Answer = Result<(), Error>;
 
 /// Which of a coder's two objects.
 #[derive(Clone, Copy)]
-pub enum Side {
+pub enum Object {
     Encoder,
     Decoder,
 }
@@ -37,10 +37,10 @@ pub struct Parts {
 /// An encoder and a decoder of one level of use.
 pub trait Coder {
     /// Makes the object anew: over the memory of an earlier one where that was taken, else over none.
-    fn start(&mut self, side: Side, configuration: Configuration, parts: &mut Parts) -> Answer;
+    fn start(&mut self, object: Object, configuration: Configuration, parts: &mut Parts) -> Answer;
 
     /// Resets the object.
-    fn reset(&mut self, side: Side, configuration: Configuration) -> Answer;
+    fn reset(&mut self, object: Object, configuration: Configuration) -> Answer;
 
     /// Gives a shard; the index tells nothing where it is the encoder's next.
     fn give(&mut self, role: Role, index: usize, shard: &[u8]) -> Answer;

@@ -1,5 +1,5 @@
 //! The one-call functions: what was given is handed over when the call is made.
-use crate::coder::{Answer, Coder, Configuration, Parts, Role, Side};
+use crate::coder::{Answer, Coder, Configuration, Object, Parts, Role};
 use crate::kept::{Item, Kept};
 use crate::watch::Watch;
 use reed_solomon_simd::engine::DefaultEngine;
@@ -42,11 +42,16 @@ impl<'t> OneCall<'t> {
 }
 
 impl Coder for OneCall<'_> {
-    fn start(&mut self, side: Side, configuration: Configuration, _parts: &mut Parts) -> Answer {
-        self.reset(side, configuration)
+    fn start(
+        &mut self,
+        object: Object,
+        configuration: Configuration,
+        _parts: &mut Parts,
+    ) -> Answer {
+        self.reset(object, configuration)
     }
 
-    fn reset(&mut self, _side: Side, configuration: Configuration) -> Answer {
+    fn reset(&mut self, _object: Object, configuration: Configuration) -> Answer {
         self.configuration = configuration;
         self.next.clear();
         self.original.clear();

@@ -1,5 +1,5 @@
 //! The plain objects.
-use crate::coder::{Answer, Coder, Configuration, Parts, Role, Side};
+use crate::coder::{Answer, Coder, Configuration, Object, Parts, Role};
 use crate::kept::Kept;
 use crate::watch::Watch;
 use reed_solomon_simd::engine::DefaultEngine;
@@ -28,21 +28,21 @@ impl<'t> Plain<'t> {
 }
 
 impl Coder for Plain<'_> {
-    fn start(&mut self, side: Side, (k, r, size): Configuration, _parts: &mut Parts) -> Answer {
+    fn start(&mut self, object: Object, (k, r, size): Configuration, _parts: &mut Parts) -> Answer {
         let (alloc, engine) = (self.alloc, self.engine);
         let _watch = Watch::new(alloc);
-        match side {
-            Side::Encoder => self.encoder = ReedSolomonEncoder::new(alloc, k, r, size, engine)?,
-            Side::Decoder => self.decoder = ReedSolomonDecoder::new(alloc, k, r, size, engine)?,
+        match object {
+            Object::Encoder => self.encoder = ReedSolomonEncoder::new(alloc, k, r, size, engine)?,
+            Object::Decoder => self.decoder = ReedSolomonDecoder::new(alloc, k, r, size, engine)?,
         }
         Ok(())
     }
 
-    fn reset(&mut self, side: Side, (k, r, size): Configuration) -> Answer {
+    fn reset(&mut self, object: Object, (k, r, size): Configuration) -> Answer {
         let _watch = Watch::new(self.alloc);
-        match side {
-            Side::Encoder => self.encoder.reset(k, r, size),
-            Side::Decoder => self.decoder.reset(k, r, size),
+        match object {
+            Object::Encoder => self.encoder.reset(k, r, size),
+            Object::Decoder => self.decoder.reset(k, r, size),
         }
     }
 

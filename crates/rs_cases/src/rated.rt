@@ -1,5 +1,5 @@
 //! The objects of a rate over an engine.
-use crate::coder::{Answer, Coder, Configuration, Parts, Role, Side};
+use crate::coder::{Answer, Coder, Configuration, Object, Parts, Role};
 use crate::kept::Kept;
 use crate::watch::Watch;
 use reed_solomon_simd::Error;
@@ -30,14 +30,14 @@ impl<E: Engine + Copy, R: Rate<E>> Rated<E, R> {
 }
 
 impl<E: Engine + Copy, R: Rate<E>> Coder for Rated<E, R> {
-    fn start(&mut self, side: Side, (k, r, size): Configuration, parts: &mut Parts) -> Answer {
+    fn start(&mut self, object: Object, (k, r, size): Configuration, parts: &mut Parts) -> Answer {
         let _watch = Watch::new(self.alloc);
-        match side {
-            Side::Encoder => {
+        match object {
+            Object::Encoder => {
                 let work = parts.encoder.take();
                 self.encoder = R::encoder(self.alloc, k, r, size, self.engine, work)?;
             }
-            Side::Decoder => {
+            Object::Decoder => {
                 let work = parts.decoder.take();
                 self.decoder = R::decoder(self.alloc, k, r, size, self.engine, work)?;
             }
@@ -45,11 +45,11 @@ impl<E: Engine + Copy, R: Rate<E>> Coder for Rated<E, R> {
         Ok(())
     }
 
-    fn reset(&mut self, side: Side, (k, r, size): Configuration) -> Answer {
+    fn reset(&mut self, object: Object, (k, r, size): Configuration) -> Answer {
         let _watch = Watch::new(self.alloc);
-        match side {
-            Side::Encoder => self.encoder.reset(k, r, size),
-            Side::Decoder => self.decoder.reset(k, r, size),
+        match object {
+            Object::Encoder => self.encoder.reset(k, r, size),
+            Object::Decoder => self.decoder.reset(k, r, size),
         }
     }
 

@@ -1,4 +1,4 @@
--- Look-ups by shuffles, in a table of 16 bytes that stands once in each block of 16 lanes.
+-- Look-ups by shuffles, in a table of 16 bytes that stands once in each 16 lanes.
 use Rattle.std.proofs.Common.{◌≡◌, ℕ, List, ◌<◌, ◌*◌, ◌+◌, ◌/◌, ◌%◌, ◌^◌, length, get_or, replicate, bit_and, Fits, ap, sym, ◌∙◌, arith, w8}
 use Rattle.std.proofs.lemmas.Nat.{and_mask, and_le_r}
 use lib.Lanes.{zip2, Each1}

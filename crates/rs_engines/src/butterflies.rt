@@ -1,4 +1,4 @@
-//! Butterflies of words in lanes, forward and backward: one layer on two blocks, two layers on four.
+//! Butterflies of words in lanes, forward and backward: one layer on two of them, two layers on four.
 ghost use Rattle.std.specs.Prelude.{◌≡◌, ℕ, ◌<◌};
 ghost use Rattle.rs_field.specs.rows.Pairs.{OnTwoWords, IsForwardTwo, IsBackwardTwo};
 ghost use Rattle.rs_field.specs.rows.TwoLayers.{OnFourWords, IsForwardFour, IsBackwardFour};
@@ -16,7 +16,7 @@ pub trait Butterflies {
     // What two layers make of four words, by the factors of rows 0 and 2, of rows 0 and 1 and of rows 2 and 3.
     ghost four: { ℕ → ℕ → ℕ → OnFourWords };
 
-    /// The butterfly of the words of two blocks.
+    /// The butterfly of the words of two rows.
     fn of_two<V: ByteVector, F: Factor>(
         x0: Words<V>,
         x1: Words<V>,
@@ -27,7 +27,7 @@ pub trait Butterflies {
             (lane (V.bytes x0.low) (V.bytes x0.high) i) (lane (V.bytes x1.low) (V.bytes x1.high) i)
             (lane (V.bytes result.0.low) (V.bytes result.0.high) i) (lane (V.bytes result.1.low) (V.bytes result.1.high) i) };
 
-    /// Two layers of butterflies of the words of four blocks.
+    /// Two layers of butterflies of the words of four rows.
     fn of_four<V: ByteVector, F02: Factor, F01: Factor, F23: Factor>(
         x0: Words<V>,
         x1: Words<V>,

@@ -41,7 +41,7 @@ pub trait ByteVector: Copy + Drop {
         ensures small { (i : ℕ) → i < LANES → slice_index (bytes self) i < 256 }
         ensures lanes { (i : ℕ) → i < LANES → slice_index (bytes result) i ≡ byte_at t (slice_index (bytes self) i / 16) };
 
-    // A block of words is half a chunk or a whole one.
+    // The words of the lanes are half a chunk or a whole one.
     ghost width: { (LANES ≡ 16) ⊎ (LANES ≡ 32) };
 }
 

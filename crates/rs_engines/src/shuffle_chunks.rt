@@ -1,4 +1,4 @@
-//! Products, butterflies and two layers of butterflies of chunks by shuffles: a chunk is one block of words or two.
+//! Products, butterflies and two layers of butterflies of chunks by shuffles: the lanes take a chunk at once, or one half and then the other.
 ghost use Rattle.std.specs.Prelude.{◌≡◌, ℕ, ◌+◌, ◌<◌, ◌≤◌, ◌⊎◌};
 ghost use Rattle.rs_field.specs.words.Field.{product};
 ghost use Rattle.rs_field.specs.rows.Rows.{symbol};
@@ -12,9 +12,9 @@ use crate::factors::{Factor, ThreeFactors};
 use crate::words::{load, store, times};
 use rs_field::engine::tables::Multiply128lutT;
 
-// Multiplies the symbols of a block, from `at` on.
+// Multiplies as many symbols as there are lanes, from `at` on.
 #[inline(always)]
-fn mul_block<V: ByteVector>(c: &mut [u8; 64], at: usize, factor: &Multiply128lutT)
+fn mul_lanes<V: ByteVector>(c: &mut [u8; 64], at: usize, factor: &Multiply128lutT)
     requires { at + V.LANES ≤ 32 }
     ensures products { (f i s : ℕ) → IsNibbleBytes f factor.now → i < V.LANES → s ≡ at + i
         → symbol c.new s ≡ product (symbol c.old s) f }
@@ -29,15 +29,15 @@ fn mul_block<V: ByteVector>(c: &mut [u8; 64], at: usize, factor: &Multiply128lut
 pub fn mul_chunk<V: ByteVector>(c: &mut [u8; 64], factor: &Multiply128lutT)
     ensures { (f s : ℕ) → IsNibbleBytes f factor.now → s < 32 → symbol c.new s ≡ product (symbol c.old s) f }
 {
-    mul_block::<V>(c, 0, factor);
+    mul_lanes::<V>(c, 0, factor);
     if V::LANES < 32 {
-        mul_block::<V>(c, 16, factor);
+        mul_lanes::<V>(c, 16, factor);
     }
 }
 
-// The butterfly of two blocks.
+// The butterfly of as many symbols of two chunks as there are lanes, from `at` on.
 #[inline(always)]
-fn two_blocks<V: ByteVector, D: Butterflies, F: Factor>(
+fn lanes_of_two<V: ByteVector, D: Butterflies, F: Factor>(
     c0: &mut [u8; 64],
     c1: &mut [u8; 64],
     at: usize,
@@ -64,15 +64,15 @@ pub fn two_chunks<V: ByteVector, D: Butterflies, F: Factor>(
 )
     ensures { (s : ℕ) → s < 32 → at_two_symbols s (D.two (F.log factor)) c0.old c1.old c0.new c1.new }
 {
-    two_blocks::<V, D, F>(c0, c1, 0, factor);
+    lanes_of_two::<V, D, F>(c0, c1, 0, factor);
     if V::LANES < 32 {
-        two_blocks::<V, D, F>(c0, c1, 16, factor);
+        lanes_of_two::<V, D, F>(c0, c1, 16, factor);
     }
 }
 
-// Two layers on a block of each of four chunks: one load and one store of each.
+// Two layers on as many symbols of four chunks as there are lanes: one load and one store of each.
 #[inline(always)]
-fn four_blocks<V: ByteVector, D: Butterflies, F02: Factor, F01: Factor, F23: Factor>(
+fn lanes_of_four<V: ByteVector, D: Butterflies, F02: Factor, F01: Factor, F23: Factor>(
     c0: &mut [u8; 64],
     c1: &mut [u8; 64],
     c2: &mut [u8; 64],
@@ -113,8 +113,8 @@ pub fn four_chunks<V: ByteVector, D: Butterflies, F02: Factor, F01: Factor, F23:
         → at_four_symbols s (D.four (F02.log factors.f02) (F01.log factors.f01) (F23.log factors.f23))
         c0.old c1.old c2.old c3.old c0.new c1.new c2.new c3.new }
 {
-    four_blocks::<V, D, F02, F01, F23>(c0, c1, c2, c3, 0, factors);
+    lanes_of_four::<V, D, F02, F01, F23>(c0, c1, c2, c3, 0, factors);
     if V::LANES < 32 {
-        four_blocks::<V, D, F02, F01, F23>(c0, c1, c2, c3, 16, factors);
+        lanes_of_four::<V, D, F02, F01, F23>(c0, c1, c2, c3, 16, factors);
     }
 }

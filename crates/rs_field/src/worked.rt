@@ -2,7 +2,7 @@
 ghost use Rattle.rs_field.specs.code.Counts.{low_rate, high_rate, default_rate};
 ghost use Rattle.rs_field.specs.worked.Numbers.{Products, ColumnsOfShards, Powers, Supported, Unsupported, OfOneRate, Choices};
 ghost use Rattle.rs_field.specs.worked.Numbers.{Validated, Spaces, BlockRows, EncoderRows, DecoderRows, TransformOfTwo, StepBounds};
-ghost use Rattle.rs_field.specs.worked.Codes.{LowRows, HighRows, ShortLineRow, CubicRow, TailRow, ChunkAndTailRow, RestoredRow, MixtureRow, SurplusRow};
+ghost use Rattle.rs_field.specs.worked.Codes.{LowExamples, HighExamples, ShortLineExample, CubicExample, TailExample, ChunkAndTailExample, RestoredExample, MixtureExample, SurplusExample};
 ghost use Rattle.rs_field.specs.worked.Calls.{EncodeOrder, DecodeOrder, NoRecoveryOrder, EncoderRound, DecoderRound, LargestIndex, MemoryOrder};
 
 /// Products of words, and columns of shards with and without a tail.
@@ -42,21 +42,21 @@ pub fn transforms()
 /// Recovery shards, with the polynomials that code their messages: at the low rate, at the high rate, and at the default
 /// rate, where k's power is the smaller those of the low rate, else those of the high.
 pub fn codes()
-    ensures low { LowRows low_rate }
-    ensures short_line { ShortLineRow low_rate }
-    ensures cubic { CubicRow low_rate }
-    ensures high { HighRows high_rate }
-    ensures default_low { LowRows default_rate }
-    ensures tail { TailRow }
-    ensures chunk_and_tail { ChunkAndTailRow }
-    ensures default_high { HighRows default_rate }
+    ensures low { LowExamples low_rate }
+    ensures short_line { ShortLineExample low_rate }
+    ensures cubic { CubicExample low_rate }
+    ensures high { HighExamples high_rate }
+    ensures default_low { LowExamples default_rate }
+    ensures tail { TailExample }
+    ensures chunk_and_tail { ChunkAndTailExample }
+    ensures default_high { HighExamples default_rate }
 {}
 
 /// Which messages agree with given shards.
 pub fn agreement()
-    ensures restored { RestoredRow }
-    ensures mixture { MixtureRow }
-    ensures surplus { SurplusRow }
+    ensures restored { RestoredExample }
+    ensures mixture { MixtureExample }
+    ensures surplus { SurplusExample }
 {}
 
 /// Which refusal comes first, and what a call leaves.

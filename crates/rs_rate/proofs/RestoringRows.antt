@@ -57,7 +57,7 @@ from_row_zero size n i values coefficients same is =
 pub checked_rows : (rows surplus size count first : ℕ) (f : ℕ → ℕ → ℕ → ℕ) (answer agrees : Bool) → surplus ≤ rows → first ≡ rows - surplus → count ≡ rows → answer ≡ agrees
     → ((i j : ℕ) → first ≤ i → i < count → j < size / 2 → f (j / 32) (j % 32) i ≡ 0) ↔ (answer ≡ true)
     → ((i j : ℕ) → rows ≤ i + surplus → i < rows → j < size / 2 → f (j / 32) (j % 32) i ≡ 0) ↔ (agrees ≡ true)
-checked_rows rows surplus size count first f answer agrees few is all same (zero_rows, are_zero) = (
+checked_rows rows surplus size count first f answer agrees few is all same (zero_rows, are_zero_rows) = (
   λ h. sym same ∙ zero_rows (λ i j from to inside. h i j (omega arith) (omega arith) inside),
-  λ h i j from to inside. are_zero (same ∙ h) i j (omega arith) (omega arith) inside,
+  λ h i j from to inside. are_zero_rows (same ∙ h) i j (omega arith) (omega arith) inside,
 )

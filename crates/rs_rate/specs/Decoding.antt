@@ -13,7 +13,7 @@ use Rattle.rs_rate.specs.declared.rate.decoder_work.Frame.{Frame}
 use Rattle.rs_rate.specs.declared.rate.decoder_work.DecoderShape.{DecoderShape}
 use Rattle.rs_rate.specs.declared.rate.marks.Marks.{Marks}
 use Rattle.rs_rate.specs.declared.rate.marks.MarkedShards.TheVariants.{Given}
-use Rattle.rs_rate.specs.declared.rate.restoring.Round.{Round}
+use Rattle.rs_rate.specs.declared.rate.restoring.Tally.{Tally}
 use Rattle.rs_rate.specs.Marks.{given_marks, given_row_count, erased}
 use Rattle.rs_rate.specs.Shapes.{DecoderCanBeLaid, original_row}
 use Rattle.rs_rate.specs.ShardRows.{word_in, shard_in_order}
@@ -23,15 +23,15 @@ pub record IsLocatorOf (frame : Frame) (marks : List Bool) (locator : List ℕ) 
   pub are_words : (x : ℕ) → slice_index locator x < 65536
   pub values : IsLocatorBelow frame.row_count (erased frame.zeros_from frame.zeros_to marks) (λ x. slice_index locator x)
 
--- what a round begins with: a shape that can be laid, as many marks as rows, which tell of given shards; so many originals missing, and so many shards given beyond the originals' number, no more than rows
-pub record CanBeRestored (round : Round) (marks : Marks) : Type 0 where
-  pub laid : DecoderCanBeLaid round.shape
-  pub marked : vec_len marks.rows ≡ round.shape.frame.row_count
+-- what a decode goes by: a shape that can be laid, as many marks as rows, which tell of given shards; so many originals missing, and so many shards given beyond the originals' number, no more than rows
+pub record CanBeRestored (tally : Tally) (marks : Marks) : Type 0 where
+  pub laid : DecoderCanBeLaid tally.shape
+  pub marked : vec_len marks.rows ≡ tally.shape.frame.row_count
   pub shards : marks.shards ≡ Given
-  pub missing_counted : given_row_count (given_marks marks) round.shape.frame.originals_from round.shape.configuration.original_count + round.missing ≡ round.shape.configuration.original_count
-  pub surplus_counted : given_row_count (given_marks marks) round.shape.frame.originals_from round.shape.configuration.original_count
-      + given_row_count (given_marks marks) round.shape.frame.recovery_from round.shape.configuration.recovery_count ≡ round.shape.configuration.original_count + round.surplus
-  pub few_surplus : round.surplus ≤ round.shape.frame.row_count
+  pub missing_counted : given_row_count (given_marks marks) tally.shape.frame.originals_from tally.shape.configuration.original_count + tally.missing ≡ tally.shape.configuration.original_count
+  pub surplus_counted : given_row_count (given_marks marks) tally.shape.frame.originals_from tally.shape.configuration.original_count
+      + given_row_count (given_marks marks) tally.shape.frame.recovery_from tally.shape.configuration.recovery_count ≡ tally.shape.configuration.original_count + tally.surplus
+  pub few_surplus : tally.surplus ≤ tally.shape.frame.row_count
 
 -- the row steps of restoring words in the rows of a shape: each row located, a transform, the surplus rows tested, two transforms, the originals' rows revealed
 abbrev pub restore_steps : DecoderShape → ℕ → ℕ

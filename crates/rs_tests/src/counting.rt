@@ -53,7 +53,7 @@ impl Engine for Counting<'_> {
     fn fft(
         &self,
         steps: &mut Steps,
-        data: &mut ShardsRefMut<'_>,
+        rows: &mut ShardsRefMut<'_>,
         pos: usize,
         size: usize,
         truncated_size: usize,
@@ -61,13 +61,13 @@ impl Engine for Counting<'_> {
     ) {
         self.count(FFT);
         self.naive
-            .fft(steps, data, pos, size, truncated_size, skew_delta);
+            .fft(steps, rows, pos, size, truncated_size, skew_delta);
     }
 
     fn ifft(
         &self,
         steps: &mut Steps,
-        data: &mut ShardsRefMut<'_>,
+        rows: &mut ShardsRefMut<'_>,
         pos: usize,
         size: usize,
         truncated_size: usize,
@@ -75,7 +75,7 @@ impl Engine for Counting<'_> {
     ) {
         self.count(IFFT);
         self.naive
-            .ifft(steps, data, pos, size, truncated_size, skew_delta);
+            .ifft(steps, rows, pos, size, truncated_size, skew_delta);
     }
 
     fn mul(&self, steps: &mut Steps, x: &mut [[u8; 64]], log_m: GfElement) {
@@ -83,9 +83,9 @@ impl Engine for Counting<'_> {
         self.naive.mul(steps, x, log_m);
     }
 
-    fn eval_poly(&self, steps: &mut Steps, erasures: &mut [GfElement], truncated_size: usize) {
+    fn eval_poly(&self, steps: &mut Steps, entries: &mut [GfElement], truncated_size: usize) {
         self.count(EVAL_POLY);
-        self.naive.eval_poly(steps, erasures, truncated_size);
+        self.naive.eval_poly(steps, entries, truncated_size);
     }
 }
 
@@ -177,37 +177,37 @@ impl Engine for Locating<'_> {
     fn fft(
         &self,
         steps: &mut Steps,
-        data: &mut ShardsRefMut<'_>,
+        rows: &mut ShardsRefMut<'_>,
         pos: usize,
         size: usize,
         truncated_size: usize,
         skew_delta: usize,
     ) {
         self.naive
-            .fft(steps, data, pos, size, truncated_size, skew_delta);
+            .fft(steps, rows, pos, size, truncated_size, skew_delta);
     }
 
     fn ifft(
         &self,
         steps: &mut Steps,
-        data: &mut ShardsRefMut<'_>,
+        rows: &mut ShardsRefMut<'_>,
         pos: usize,
         size: usize,
         truncated_size: usize,
         skew_delta: usize,
     ) {
         self.naive
-            .ifft(steps, data, pos, size, truncated_size, skew_delta);
+            .ifft(steps, rows, pos, size, truncated_size, skew_delta);
     }
 
     fn mul(&self, steps: &mut Steps, x: &mut [[u8; 64]], log_m: GfElement) {
         self.naive.mul(steps, x, log_m);
     }
 
-    fn eval_poly(&self, steps: &mut Steps, erasures: &mut [GfElement], truncated_size: usize) {
-        let entries = self.entries.get().saturating_add(erasures.len());
+    fn eval_poly(&self, steps: &mut Steps, entries: &mut [GfElement], truncated_size: usize) {
+        let all = self.entries.get().saturating_add(entries.len());
         self.entries.set(entries);
-        self.naive.eval_poly(steps, erasures, truncated_size);
+        self.naive.eval_poly(steps, entries, truncated_size);
     }
 
     fn locate(&self, steps: &mut Steps, entries: &mut [GfElement]) {

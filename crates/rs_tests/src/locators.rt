@@ -12,35 +12,35 @@ use std::test::Fail;
 fn located<E: Engine>(engine: &E, first: usize, end: usize) -> [GfElement; 65536]
     requires { end ≤ 65536 }
 {
-    let mut erasures = [0; 65536];
+    let mut entries = [0; 65536];
     for y in first..end {
-        erasures[y] = 1;
+        entries[y] = 1;
     }
     let mut steps = Steps::new();
-    engine.eval_poly(&mut steps, &mut erasures, end);
-    erasures
+    engine.eval_poly(&mut steps, &mut entries, end);
+    entries
 }
 
 // Each product of differences is named by its logarithm; that of one is 0 or 65535.
 fn check_locators<E: Engine>(rt: &impl Abort, engine: &E, log: &[GfElement])
     requires { length log.now ≡ 65536 }
 {
-    let erasures = located(engine, 0, 0);
+    let entries = located(engine, 0, 0);
     for x in 0..GF_ORDER {
-        assert_eq!(rt; erasures[x] % 65535, 0, "at {x}, none marked");
+        assert_eq!(rt; entries[x] % 65535, 0, "at {x}, none marked");
     }
-    let erasures = located(engine, 0, 1);
-    assert_eq!(rt; [erasures[0] % 65535, erasures[1] % 65535], [0, 0]);
-    assert_eq!(rt; [erasures[2], erasures[3]], [log[2], log[3]]);
+    let entries = located(engine, 0, 1);
+    assert_eq!(rt; [entries[0] % 65535, entries[1] % 65535], [0, 0]);
+    assert_eq!(rt; [entries[2], entries[3]], [log[2], log[3]]);
     // The differences are 2 and 3 at 0 and 1, whose product is 1, and 1 at 2 and 3.
-    let erasures = located(engine, 2, 4);
+    let entries = located(engine, 2, 4);
     for x in 0..4 {
-        assert_eq!(rt; erasures[x] % 65535, 0, "at {x}");
+        assert_eq!(rt; entries[x] % 65535, 0, "at {x}");
     }
     // The differences are all nonzero elements, whose product is 1.
-    let erasures = located(engine, 0, GF_ORDER);
+    let entries = located(engine, 0, GF_ORDER);
     for x in 0..GF_ORDER {
-        assert_eq!(rt; erasures[x] % 65535, 0, "at {x}, all marked");
+        assert_eq!(rt; entries[x] % 65535, 0, "at {x}, all marked");
     }
 }
 

@@ -17,7 +17,7 @@ use Rattle.rs_field.specs.code.Code.{AreRecovery}
 use Rattle.rs_field.specs.code.Given.{Shards, nothing, entered, count_below}
 use Rattle.rs_field.specs.code.Encoder.{EncoderState, IsEncoder, fresh_encoder, with_shard, EncodeAnswers}
 use Rattle.rs_field.specs.code.Decoder.{DecoderState, fresh_decoder, with_original, with_recovery, missing_of, DecodeAnswers}
-use Rattle.rs_field.specs.code.OneCall.{Items, default_of, counted, one_by_one, with_shards, with_originals, with_recoveries, with_both, encoding, noted, all_came, OneEncodeAnswers, OneDecodes, OneDecodeAnswers}
+use Rattle.rs_field.specs.code.OneCall.{Items, default_of, counted, one_by_one, with_shards, with_originals, with_recoveries, with_both, encoding, noted, originals_alone, OneEncodeAnswers, OneDecodes, OneDecodeAnswers}
 use Rattle.rs_field.specs.code.RoundTrip.{AreCoded, AreLeft, enough_left, lost_of, GivesBack, OneBringsBack}
 use Rattle.rs_field.proofs.of_code.Given.{nothing_among}
 use Rattle.rs_field.proofs.of_code.Entries.{entered_all, count-nothing, AreFree, indexes, free-next, count-entered_all, among-entered_all, some-entered_all, all_some}
@@ -215,8 +215,8 @@ none_noted [] = tt
 none_noted (item ∷ items) = (refl, none_noted items)
 
 -- so all came where k are left
-came_left : (k : ℕ) (items : Items) → AllByRecursion (λ item. item.0 < k) items → IsDistinct nat_eq (indexes items) → all_came k items ≡ enough_left k items []
-came_left k items below once =
+given_left : (k : ℕ) (items : Items) → AllByRecursion (λ item. item.0 < k) items → IsDistinct nat_eq (indexes items) → originals_alone k items ≡ enough_left k items []
+given_left k items below once =
     let all = all_noted k items [] below (none_noted items) once in
     cc (add-zero (length items), zero-add (length items))
 
@@ -284,7 +284,7 @@ module _ (k r : ℕ) (originals recovery : List Shard) (kept : Items) (was : Are
 
   -- where no recovery shard is left
   by_indexes : (result : Result Shards Error) → OneDecodes k r kept [] result → OneBringsBack originals kept [] result
-  by_indexes result answers = search (rules, counted_valid, came_left, recursion_from_All, none_lost, if_ok-refused)
+  by_indexes result answers = search (rules, counted_valid, given_left, recursion_from_All, none_lost, if_ok-refused)
 
   by_answer : (received : Items) (result : Result Shards Error) → AreLeft recovery received → OneDecodeAnswers k r kept received result → OneBringsBack originals kept received result
   by_answer received result got (inr lacks) = record { answer = inr lacks.1; restored = if_ok-refused result OutOfMemory _ lacks.1 }

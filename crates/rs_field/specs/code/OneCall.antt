@@ -74,18 +74,18 @@ OneEncodeAnswers k r shards result =
     MatchResult (encoding k r shards) (λ s. EncodeAnswers s result) (λ e. result ≡ Err e)
     ⊎ LacksMemory (encode_opening k r shards) result
 
--- the outcome of noting an original's index with those that came before it: it is to be below k, and not among them
+-- the outcome of noting an original's index with those that were given before it: it is to be below k, and not among them
 abbrev pub noted : ℕ → List ℕ → ℕ → Result (List ℕ) Error
-noted k came index =
+noted k given index =
     if nat_le k index then Err (InvalidOriginalShardIndex k index)
-    else if list_any (nat_eq index) came then Err (DuplicateOriginalShardIndex index)
-    else Ok (index ∷ came)
+    else if list_any (nat_eq index) given then Err (DuplicateOriginalShardIndex index)
+    else Ok (index ∷ given)
 
--- whether all k originals came, where no recovery shard did: each index is noted in order, and they are to be k
-abbrev pub all_came : ℕ → Items → Result (Unit {0}) Error
-all_came k originals =
-    result_and_then (λ came. if nat_lt (length came) k then Err (NotEnoughShards k (length came) 0) else Ok tt)
-    (one_by_one (λ came item. noted k came item.0) [] originals)
+-- whether all k originals are given, where no recovery shard is: each index is noted in order, and they are to be k
+abbrev pub originals_alone : ℕ → Items → Result (Unit {0}) Error
+originals_alone k originals =
+    result_and_then (λ given. if nat_lt (length given) k then Err (NotEnoughShards k (length given) 0) else Ok tt)
+    (one_by_one (λ given item. noted k given item.0) [] originals)
 
 -- the refusals of `decode` that come before any want of memory: the counts, the first recovery shard's size
 abbrev pub decode_opening : ℕ → ℕ → Items → Result (Unit {0}) Error
@@ -101,7 +101,7 @@ decoding k r originals first rest =
 -- what one-call `decode` answers while memory is found
 abbrev pub OneDecodes : ℕ → ℕ → Items → Items → Result Shards Error → Type 0
 OneDecodes k r originals [] result =
-    MatchResult (result_and_then (λ _. all_came k originals) (counted k r))
+    MatchResult (result_and_then (λ _. originals_alone k originals) (counted k r))
     (λ _. result ≡ Ok nothing) (λ e. result ≡ Err e)
 OneDecodes k r originals (first ∷ rest) result =
     MatchResult (decoding k r originals first rest) (λ s. DecodeAnswers s result) (λ e. result ≡ Err e)

@@ -9,8 +9,8 @@ use Rattle.rs_field.specs.declared.rows.shards.ShardsRefMut.{ShardsRefMut}
 use Rattle.rs_field.specs.contracts.rows.shards.ShardsRefMut.{the_row}
 
 -- the list with other chunks in the place of the n chunks from a on
-abbrev pub with_part : Chunks → ℕ → ℕ → Chunks → Chunks
-with_part chunks a n part = take a chunks ++ (part ++ drop n (drop a chunks))
+abbrev pub with_run : Chunks → ℕ → ℕ → Chunks → Chunks
+with_run chunks a n run = take a chunks ++ (run ++ drop n (drop a chunks))
 
 -- the chunks from a to b - 1
 abbrev pub between : ℕ → ℕ → Chunks → Chunks
@@ -35,29 +35,29 @@ abbrev pub LendsAll : MutBor ShardsRefMut → MutBor Chunks → Fml
 LendsAll rows lent = Lends (the_row (record { mir = named 1; lft = [] })) (Array (Array u8 64) 0) rows lent (with_chunks rows.now)
 
 -- the n chunks from a on are lent: the last value written stands in their place, and all else is as it was
-abbrev pub LendsPart : MutBor ShardsRefMut → ℕ → ℕ → MutBor Chunks → Fml
-LendsPart rows a n lent =
+abbrev pub LendsRun : MutBor ShardsRefMut → ℕ → ℕ → MutBor Chunks → Fml
+LendsRun rows a n lent =
     Lends (the_row (record { mir = named 1; lft = [] })) (Array (Array u8 64) 0) rows lent
-    (λ part. with_chunks rows.now (with_part rows.now.chunks.now a n part))
+    (λ run. with_chunks rows.now (with_run rows.now.chunks.now a n run))
 
 -- row i is lent
 abbrev pub LendsRow : MutBor ShardsRefMut → ℕ → MutBor Chunks → Fml
-LendsRow rows i lent = LendsPart rows (i * rows.now.shard_len_64) rows.now.shard_len_64 lent
+LendsRow rows i lent = LendsRun rows (i * rows.now.shard_len_64) rows.now.shard_len_64 lent
 
 -- the n chunks from a on and the m chunks from b on are lent: what is written to each stands in its place, and all else is as it was
-abbrev pub LendsTwoParts : MutBor ShardsRefMut → ℕ → ℕ → ℕ → ℕ → MutBor Chunks × MutBor Chunks → Fml
-LendsTwoParts rows a n b m lent =
+abbrev pub LendsTwoRuns : MutBor ShardsRefMut → ℕ → ℕ → ℕ → ℕ → MutBor Chunks × MutBor Chunks → Fml
+LendsTwoRuns rows a n b m lent =
     LendsBoth (the_row (record { mir = named 1; lft = [] })) (Array (Array u8 64) 0) (Array (Array u8 64) 0) rows lent
     (λ first second. with_chunks rows.now (with_two rows.now.chunks.now a n b m first second))
 
 -- rows i and j are lent
 abbrev pub LendsTwoRows : MutBor ShardsRefMut → ℕ → ℕ → MutBor Chunks × MutBor Chunks → Fml
-LendsTwoRows rows i j lent = let n = rows.now.shard_len_64 in LendsTwoParts rows (i * n) n (j * n) n lent
+LendsTwoRows rows i j lent = let n = rows.now.shard_len_64 in LendsTwoRuns rows (i * n) n (j * n) n lent
 
 -- the rows before row mid are lent as a list of their own, and so are those from row mid on: what becomes of the chunks of each stands in its place
 abbrev pub LendsHalves : MutBor ShardsRefMut → ℕ → ShardsRefMut × ShardsRefMut → Fml
 LendsHalves rows mid lent =
-    let n = rows.now.shard_len_64 in LendsTwoParts rows 0 (mid * n) (mid * n) ((rows.now.shard_count - mid) * n) (lent.0.chunks, lent.1.chunks)
+    let n = rows.now.shard_len_64 in LendsTwoRuns rows 0 (mid * n) (mid * n) ((rows.now.shard_count - mid) * n) (lent.0.chunks, lent.1.chunks)
 
 -- s ends as F v w x y, where these are the last values behind the four parts of r: `LendsBoth` for four
 abbrev pub LendsFour : (R T : RattleType) → MutBor R.Denot → MutBor T.Denot × MutBor T.Denot × MutBor T.Denot × MutBor T.Denot
@@ -68,11 +68,11 @@ LendsFour R T s r F =
     fwand (fsep (fsep (ends r.0 v.0) (ends r.1 v.1)) (fsep (ends r.2 v.2) (ends r.3 v.3))) (fres s.ghost_name (R.coded.code (F v.0 v.1 v.2 v.3))))
 
 -- the n chunks from each of four places on are lent, in the same way
-abbrev pub LendsFourParts : MutBor ShardsRefMut → ℕ → ℕ → ℕ → ℕ → ℕ → MutBor Chunks × MutBor Chunks × MutBor Chunks × MutBor Chunks → Fml
-LendsFourParts rows a b c d n lent =
+abbrev pub LendsFourRuns : MutBor ShardsRefMut → ℕ → ℕ → ℕ → ℕ → ℕ → MutBor Chunks × MutBor Chunks × MutBor Chunks × MutBor Chunks → Fml
+LendsFourRuns rows a b c d n lent =
     LendsFour (the_row (record { mir = named 1; lft = [] })) (Array (Array u8 64) 0) rows lent
     (λ first second third fourth. with_chunks rows.now (with_four rows.now.chunks.now a b c d n first second third fourth))
 
 -- rows i, j, k and l are lent
 abbrev pub LendsFourRows : MutBor ShardsRefMut → ℕ → ℕ → ℕ → ℕ → MutBor Chunks × MutBor Chunks × MutBor Chunks × MutBor Chunks → Fml
-LendsFourRows rows i j k l lent = let n = rows.now.shard_len_64 in LendsFourParts rows (i * n) (j * n) (k * n) (l * n) n lent
+LendsFourRows rows i j k l lent = let n = rows.now.shard_len_64 in LendsFourRuns rows (i * n) (j * n) (k * n) (l * n) n lent

@@ -35,7 +35,7 @@ DecodeOrder =
     × (decoding 2 2 [] (1, zeros 64) ((1, zeros 128) ∷ []) ≡ Err (DuplicateRecoveryShardIndex 1))
     × (result_and_then enough_given (decoding 2 1 [] (0, zeros 64) []) ≡ Err (NotEnoughShards 2 0 1))
 
--- one-call `decode` with no recovery shard: each original's index, whether it came before, then the count
+-- one-call `decode` with no recovery shard: each original's index, whether it was given before, then the count
 abbrev pub NoRecoveryOrder : Type 0
 NoRecoveryOrder =
     (result : Result Shards Error)

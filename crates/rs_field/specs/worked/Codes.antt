@@ -20,40 +20,40 @@ Recovers rate message polynomial recovery =
     × AreRecovery (configuration rate (length message) (length recovery) 2) message recovery
 
 -- one original is a constant polynomial: each recovery shard is its copy
-abbrev pub ConstantRow : Rate → Type 0
-ConstantRow rate = Recovers rate ((7 ∷ 9 ∷ []) ∷ []) ((7 + 256 * 9) ∷ []) ((7 ∷ 9 ∷ []) ∷ (7 ∷ 9 ∷ []) ∷ (7 ∷ 9 ∷ []) ∷ [])
+abbrev pub ConstantExample : Rate → Type 0
+ConstantExample rate = Recovers rate ((7 ∷ 9 ∷ []) ∷ []) ((7 + 256 * 9) ∷ []) ((7 ∷ 9 ∷ []) ∷ (7 ∷ 9 ∷ []) ∷ (7 ∷ 9 ∷ []) ∷ [])
 
 -- 0, 1 at the points 0, 1 are the polynomial x: its values at 2, 3, 4
-abbrev pub LineRow : Rate → Type 0
-LineRow rate = Recovers rate (low_bytes (0 ∷ 1 ∷ [])) (0 ∷ 1 ∷ []) (low_bytes (2 ∷ 3 ∷ 4 ∷ []))
+abbrev pub LineExample : Rate → Type 0
+LineExample rate = Recovers rate (low_bytes (0 ∷ 1 ∷ [])) (0 ∷ 1 ∷ []) (low_bytes (2 ∷ 3 ∷ 4 ∷ []))
 
 -- 1, 1 are a constant; their XOR with the line's 0, 1 is 1, 0, the polynomial 1 + x, whose recovery shards are the XOR of both
-abbrev pub LinearRow : Rate → Type 0
-LinearRow rate =
+abbrev pub LinearExample : Rate → Type 0
+LinearExample rate =
     Recovers rate (low_bytes (1 ∷ 1 ∷ [])) (1 ∷ 0 ∷ []) (low_bytes (1 ∷ 1 ∷ 1 ∷ []))
     × (xor_shards (low_bytes (1 ∷ 1 ∷ [])) (low_bytes (0 ∷ 1 ∷ [])) ≡ low_bytes (1 ∷ 0 ∷ []))
     × Recovers rate (low_bytes (1 ∷ 0 ∷ [])) (1 ∷ 1 ∷ []) (low_bytes (3 ∷ 2 ∷ 5 ∷ []))
     × (xor_shards (low_bytes (1 ∷ 1 ∷ 1 ∷ [])) (low_bytes (2 ∷ 3 ∷ 4 ∷ [])) ≡ low_bytes (3 ∷ 2 ∷ 5 ∷ []))
 
 -- the line at two points
-abbrev pub ShortLineRow : Rate → Type 0
-ShortLineRow rate = Recovers rate (low_bytes (0 ∷ 1 ∷ [])) (0 ∷ 1 ∷ []) (low_bytes (2 ∷ 3 ∷ []))
+abbrev pub ShortLineExample : Rate → Type 0
+ShortLineExample rate = Recovers rate (low_bytes (0 ∷ 1 ∷ [])) (0 ∷ 1 ∷ []) (low_bytes (2 ∷ 3 ∷ []))
 
 -- 0, 0, 2, 3 at the points 0 to 3 are the polynomial x * x * x + x * x: its values at 4 to 7
-abbrev pub CubicRow : Rate → Type 0
-CubicRow rate = Recovers rate (low_bytes (0 ∷ 0 ∷ 2 ∷ 3 ∷ [])) (0 ∷ 0 ∷ 1 ∷ 1 ∷ []) (low_bytes (11 ∷ 9 ∷ 14 ∷ 13 ∷ []))
+abbrev pub CubicExample : Rate → Type 0
+CubicExample rate = Recovers rate (low_bytes (0 ∷ 0 ∷ 2 ∷ 3 ∷ [])) (0 ∷ 0 ∷ 1 ∷ 1 ∷ []) (low_bytes (11 ∷ 9 ∷ 14 ∷ 13 ∷ []))
 
 -- 0, 0, 1 at the points 0 to 2, and a zero at the point 3: the recovery shards stand at 4 to 8
-abbrev pub PaddedRow : Rate → Type 0
-PaddedRow rate = Recovers rate (low_bytes (0 ∷ 0 ∷ 1 ∷ [])) (0 ∷ 3 ∷ 2 ∷ 1 ∷ []) (low_bytes (10 ∷ 8 ∷ 12 ∷ 15 ∷ 8 ∷ []))
+abbrev pub PaddedExample : Rate → Type 0
+PaddedExample rate = Recovers rate (low_bytes (0 ∷ 0 ∷ 1 ∷ [])) (0 ∷ 3 ∷ 2 ∷ 1 ∷ []) (low_bytes (10 ∷ 8 ∷ 12 ∷ 15 ∷ 8 ∷ []))
 
--- rows of the low rate, and of the default rate where k's power is the smaller
-abbrev pub LowRows : Rate → Type 0
-LowRows rate = ConstantRow rate × LineRow rate × LinearRow rate × PaddedRow rate
+-- examples of the low rate, and of the default rate where k's power is the smaller
+abbrev pub LowExamples : Rate → Type 0
+LowExamples rate = ConstantExample rate × LineExample rate × LinearExample rate × PaddedExample rate
 
 -- four bytes are two words: bytes 1 and 3 are the second one
-abbrev pub TailRow : Type 0
-TailRow =
+abbrev pub TailExample : Type 0
+TailExample =
     AreRecovery (configuration default_rate 2 3 4) ((0 ∷ 0 ∷ 0 ∷ 0 ∷ []) ∷ (0 ∷ 1 ∷ 0 ∷ 0 ∷ []) ∷ [])
     ((0 ∷ 2 ∷ 0 ∷ 0 ∷ []) ∷ (0 ∷ 3 ∷ 0 ∷ 0 ∷ []) ∷ (0 ∷ 4 ∷ 0 ∷ 0 ∷ []) ∷ [])
 
@@ -62,28 +62,28 @@ abbrev pub last_words : List ℕ → List Shard
 last_words bytes = map (λ b. replicate 64 0 ++ b ∷ 0 ∷ []) bytes
 
 -- a chunk is followed by a tail of one word
-abbrev pub ChunkAndTailRow : Type 0
-ChunkAndTailRow = AreRecovery (configuration default_rate 2 3 66) (last_words (0 ∷ 1 ∷ [])) (last_words (2 ∷ 3 ∷ 4 ∷ []))
+abbrev pub ChunkAndTailExample : Type 0
+ChunkAndTailExample = AreRecovery (configuration default_rate 2 3 66) (last_words (0 ∷ 1 ∷ [])) (last_words (2 ∷ 3 ∷ 4 ∷ []))
 
 -- with one recovery shard at the high rate it is the sum of all
-abbrev pub SumRow : Rate → Type 0
-SumRow rate = AreRecovery (configuration rate 3 1 2) ((1 ∷ 2 ∷ []) ∷ (4 ∷ 8 ∷ []) ∷ (16 ∷ 32 ∷ []) ∷ []) ((21 ∷ 42 ∷ []) ∷ [])
+abbrev pub SumExample : Rate → Type 0
+SumExample rate = AreRecovery (configuration rate 3 1 2) ((1 ∷ 2 ∷ []) ∷ (4 ∷ 8 ∷ []) ∷ (16 ∷ 32 ∷ []) ∷ []) ((21 ∷ 42 ∷ []) ∷ [])
 
 -- at the high rate 0, 1 stand at the points 2, 3 and their recovery words at 0, 1
-abbrev pub HighLineRow : Rate → Type 0
-HighLineRow rate = AreRecovery (configuration rate 2 2 2) (low_bytes (0 ∷ 1 ∷ [])) (low_bytes (2 ∷ 3 ∷ []))
+abbrev pub HighLineExample : Rate → Type 0
+HighLineExample rate = AreRecovery (configuration rate 2 2 2) (low_bytes (0 ∷ 1 ∷ [])) (low_bytes (2 ∷ 3 ∷ []))
 
 -- at the high rate 0, 0, 2, 3 stand at the points 4 to 7 and their recovery words at 0 to 3
-abbrev pub HighCubicRow : Rate → Type 0
-HighCubicRow rate = AreRecovery (configuration rate 4 4 2) (low_bytes (0 ∷ 0 ∷ 2 ∷ 3 ∷ [])) (low_bytes (11 ∷ 9 ∷ 14 ∷ 13 ∷ []))
+abbrev pub HighCubicExample : Rate → Type 0
+HighCubicExample rate = AreRecovery (configuration rate 4 4 2) (low_bytes (0 ∷ 0 ∷ 2 ∷ 3 ∷ [])) (low_bytes (11 ∷ 9 ∷ 14 ∷ 13 ∷ []))
 
 -- at the high rate 2, 0, 4 stand at the points 2 to 4, with zeros from 5 on, and their recovery words at 0, 1
-abbrev pub HighPaddedRow : Rate → Type 0
-HighPaddedRow rate = AreRecovery (configuration rate 3 2 2) (low_bytes (2 ∷ 0 ∷ 4 ∷ [])) (low_bytes (3 ∷ 5 ∷ []))
+abbrev pub HighPaddedExample : Rate → Type 0
+HighPaddedExample rate = AreRecovery (configuration rate 3 2 2) (low_bytes (2 ∷ 0 ∷ 4 ∷ [])) (low_bytes (3 ∷ 5 ∷ []))
 
--- rows of the high rate, and of the default rate elsewhere
-abbrev pub HighRows : Rate → Type 0
-HighRows rate = SumRow rate × HighLineRow rate × HighCubicRow rate × HighPaddedRow rate
+-- examples of the high rate, and of the default rate elsewhere
+abbrev pub HighExamples : Rate → Type 0
+HighExamples rate = SumExample rate × HighLineExample rate × HighCubicExample rate × HighPaddedExample rate
 
 -- a decoder of two originals and three recovery shards that was given the first two recovery shards
 abbrev pub two_given : DecoderState
@@ -94,15 +94,15 @@ two_given = record {
 }
 
 -- one message agrees with the two recovery shards, no other does, and it is restored
-abbrev pub RestoredRow : Type 0
-RestoredRow =
+abbrev pub RestoredExample : Type 0
+RestoredExample =
     IsAgreeing two_given (low_bytes (0 ∷ 1 ∷ []))
     × ((message : List Shard) → IsAgreeing two_given message → message ≡ low_bytes (0 ∷ 1 ∷ []))
     × Restored two_given (entered (entered nothing 0 (0 ∷ 0 ∷ [])) 1 (1 ∷ 0 ∷ []))
 
 -- two originals and two recovery shards, given out of order, agree with a message of four shards
-abbrev pub MixtureRow : Type 0
-MixtureRow =
+abbrev pub MixtureExample : Type 0
+MixtureExample =
     IsAgreeing
     (record {
       configuration = configuration default_rate 4 4 2;
@@ -120,6 +120,6 @@ surplus_given recovery = record {
 }
 
 -- with a copy of the original nothing is missing, and with another shard no message agrees
-abbrev pub SurplusRow : Type 0
-SurplusRow =
+abbrev pub SurplusExample : Type 0
+SurplusExample =
     DecodeAnswers (surplus_given (7 ∷ 9 ∷ [])) (Ok nothing) × DecodeAnswers (surplus_given (7 ∷ 8 ∷ [])) (Err (InconsistentShards 1 1))

@@ -16,7 +16,7 @@ pub struct Block {
 
 impl Block {
     ghost use Rattle.std.specs.Prelude.{ℕ, ◌*◌, ◌^◌, ◌<◌};
-    ghost use Rattle.rs_field.specs.rows.Layers.{is_halved as takes_one_layer, rows_of_part};
+    ghost use Rattle.rs_field.specs.rows.Layers.{is_halved, rows_of_part};
 
     /// The block of these numbers.
     pub fn new(pos: usize, size: usize, skew_delta: usize) -> Block
@@ -38,7 +38,7 @@ impl Block {
     /// rows they are, so that what is left ends in four rows, which take two layers at once, and not in two.
     #[tactic(auto, unfolding(crate::specs::rows::Layers::is_halved))]
     pub fn is_halved(self) -> bool
-        ensures { result ≡ takes_one_layer self.size }
+        ensures { result ≡ is_halved self.size }
     {
         matches!(self.size, 2 | 8 | 32)
     }

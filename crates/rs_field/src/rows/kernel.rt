@@ -108,7 +108,7 @@ impl<K: Kernel> Engine for K {
     fn fft(
         &self,
         steps: &mut Steps,
-        data: &mut ShardsRefMut<'_>,
+        rows: &mut ShardsRefMut<'_>,
         pos: usize,
         size: usize,
         truncated_size: usize,
@@ -116,13 +116,13 @@ impl<K: Kernel> Engine for K {
     ) {
         let wanted = UsedRows::First(truncated_size);
         let block = Block::new(pos, size, skew_delta);
-        transform(Forward, self, steps, data, block, wanted);
+        transform(Forward, self, steps, rows, block, wanted);
     }
 
     fn ifft(
         &self,
         steps: &mut Steps,
-        data: &mut ShardsRefMut<'_>,
+        rows: &mut ShardsRefMut<'_>,
         pos: usize,
         size: usize,
         truncated_size: usize,
@@ -130,33 +130,33 @@ impl<K: Kernel> Engine for K {
     ) {
         let given = UsedRows::First(truncated_size);
         let block = Block::new(pos, size, skew_delta);
-        transform(Backward, self, steps, data, block, given);
+        transform(Backward, self, steps, rows, block, given);
     }
 
     fn fft_wanted(
         &self,
         steps: &mut Steps,
-        data: &mut ShardsRefMut<'_>,
+        rows: &mut ShardsRefMut<'_>,
         pos: usize,
         wanted: &[bool],
         skew_delta: usize,
     ) {
         let block = Block::new(pos, wanted.len(), skew_delta);
         let wanted = UsedRows::Marked(wanted);
-        transform(Forward, self, steps, data, block, wanted);
+        transform(Forward, self, steps, rows, block, wanted);
     }
 
     fn ifft_given(
         &self,
         steps: &mut Steps,
-        data: &mut ShardsRefMut<'_>,
+        rows: &mut ShardsRefMut<'_>,
         pos: usize,
         given: &[bool],
         skew_delta: usize,
     ) {
         let block = Block::new(pos, given.len(), skew_delta);
         let given = UsedRows::Marked(given);
-        transform(Backward, self, steps, data, block, given);
+        transform(Backward, self, steps, rows, block, given);
     }
 
     fn mul(&self, steps: &mut Steps, x: &mut [[u8; 64]], log_m: GfElement) {
@@ -164,9 +164,9 @@ impl<K: Kernel> Engine for K {
         self.mul_row(x, log_m);
     }
 
-    fn eval_poly(&self, steps: &mut Steps, erasures: &mut [GfElement], truncated_size: usize) {
+    fn eval_poly(&self, steps: &mut Steps, entries: &mut [GfElement], truncated_size: usize) {
         let log_walsh = self.tables().log_walsh();
-        locating::eval_poly(steps, erasures, truncated_size, log_walsh);
+        locating::eval_poly(steps, entries, truncated_size, log_walsh);
     }
 
     fn locate(&self, steps: &mut Steps, entries: &mut [GfElement])

@@ -4,21 +4,21 @@
 //! are. A tail of L bytes lies in the last chunk: its first half from byte 0 on, its second half from byte 32 on. The
 //! other bytes of the last chunk are open.
 ghost use Rattle.std.specs.Prelude.{◌≡◌, ℕ, ◌+◌, ◌*◌, ◌%◌, ◌<◌, ◌≤◌, ◌↔◌, ◌⊎◌, length, slice_index, IsTrue, EachIndex};
-ghost use Rattle.rs_field.specs.rows.Layout.{row_len as chunks_for, laid_out, in_order, LaysColumns, HasZeroColumns};
+ghost use Rattle.rs_field.specs.rows.Layout.{row_len, laid_out, in_order, LaysColumns, HasZeroColumns};
 ghost use Rattle.rs_field.specs.rows.Rows.{chunk};
 
 use std::simd::prelude::*;
 
 /// How many chunks a row of shards of this size has.
 pub fn row_len(shard_bytes: usize) -> usize
-    ensures { result ≡ chunks_for shard_bytes }
+    ensures { result ≡ row_len shard_bytes }
 {
     shard_bytes.div_ceil(64)
 }
 
 /// Lays a shard into its row.
 pub fn insert(row: &mut [[u8; 64]], shard: &[u8])
-    requires room { length row.old ≡ chunks_for (length shard.now) }
+    requires room { length row.old ≡ row_len (length shard.now) }
     requires even { length shard.now % 2 ≡ 0 }
     ensures { laid_out (length shard.now) (λ k. chunk row.new k) ≡ shard.now }
 {
@@ -126,7 +126,7 @@ fn put_bytes(chunk: &mut [u8; 64], start: usize, bytes: &[u8])
 
 /// Moves the second half of a row's tail to the end of its first half, so that the shard lies in the row's first bytes.
 pub fn undo_last_chunk_encoding(row: &mut [[u8; 64]], shard_bytes: usize)
-    requires room { length row.old ≡ chunks_for shard_bytes }
+    requires room { length row.old ≡ row_len shard_bytes }
     requires even { shard_bytes % 2 ≡ 0 }
     ensures { in_order shard_bytes (λ k. chunk row.new k) ≡ laid_out shard_bytes (λ k. chunk row.old k) }
 {
@@ -148,7 +148,7 @@ fn join_tail(chunk: &mut [u8; 64], half: usize)
 
 /// The shard that lies in the first bytes of a row.
 pub fn shard_of(row: &[[u8; 64]], shard_bytes: usize) -> &[u8]
-    requires { length row.now ≡ chunks_for shard_bytes }
+    requires { length row.now ≡ row_len shard_bytes }
     ensures { result.now ≡ in_order shard_bytes (λ k. chunk row.now k) }
 {
     let bytes = row.as_flattened();
@@ -158,17 +158,18 @@ pub fn shard_of(row: &[[u8; 64]], shard_bytes: usize) -> &[u8]
 /// Whether a row is zero in each column that shards of this size have. The open bytes of the last chunk don't count.
 /// The row has as many chunks as such shards need.
 pub fn is_zero_row(row: &[[u8; 64]], shard_bytes: usize) -> bool
-    requires { length row.now ≡ chunks_for shard_bytes }
+    requires { length row.now ≡ row_len shard_bytes }
     ensures { IsTrue result ↔ HasZeroColumns shard_bytes (λ k. chunk row.now k) }
 {
     let bytes = row.as_flattened();
     let tail = shard_bytes / 64 * 64;
     let half = shard_bytes % 64 / 2;
-    are_zero(&bytes[..tail + half]) && (half == 0 || are_zero(&bytes[tail + 32..tail + 32 + half]))
+    are_zero_bytes(&bytes[..tail + half])
+        && (half == 0 || are_zero_bytes(&bytes[tail + 32..tail + 32 + half]))
 }
 
 // No way out before the last byte: so many bytes are taken at a time.
-fn are_zero(bytes: &[u8]) -> bool
+fn are_zero_bytes(bytes: &[u8]) -> bool
     ensures { IsTrue result ↔ EachIndex bytes.now (λ b. slice_index bytes.now b ≡ 0) }
 {
     let mut bits = 0;

@@ -10,42 +10,42 @@ use crate::engine::Engine;
 use crate::words::{GfElement, Steps};
 
 /// Rows `start` to `end - 1` become zero bytes; a row step each.
-pub fn clear_rows(steps: &mut Steps, data: &mut ShardsRefMut<'_>, start: usize, end: usize)
-    requires fits { Fits «data».old }
+pub fn clear_rows(steps: &mut Steps, rows: &mut ShardsRefMut<'_>, start: usize, end: usize)
+    requires fits { Fits rows.old }
     requires ordered { start ≤ end }
-    requires within { end ≤ «data».old.shard_count }
-    ensures shape { SameShape «data».old «data».new }
-    ensures zeros { AreZero start end «data».new }
-    ensures others { SameRowsOutside start end «data».old «data».new }
+    requires within { end ≤ rows.old.shard_count }
+    ensures shape { SameShape rows.old rows.new }
+    ensures zeros { AreZero start end rows.new }
+    ensures others { SameRowsOutside start end rows.old rows.new }
     ensures counts { CountsRows (end - start) steps.old steps.new }
 {
     steps.row_steps(end - start);
-    data.zero(start..end);
+    rows.zero(start..end);
 }
 
 /// Rows `to` to `to + count - 1` become those from `from` on; a row step each.
 pub fn copy_rows(
     steps: &mut Steps,
-    data: &mut ShardsRefMut<'_>,
+    rows: &mut ShardsRefMut<'_>,
     from: usize,
     to: usize,
     count: usize,
 )
-    requires fits { Fits «data».old }
+    requires fits { Fits rows.old }
     requires apart { from + count ≤ to }
-    requires within { to + count ≤ «data».old.shard_count }
-    ensures shape { SameShape «data».old «data».new }
-    ensures copied { (i k : ℕ) → k < «data».old.shard_len_64 → i < count → cell «data».new k (to + i) ≡ cell «data».old k (from + i) }
-    ensures others { SameRowsOutside to (to + count) «data».old «data».new }
+    requires within { to + count ≤ rows.old.shard_count }
+    ensures shape { SameShape rows.old rows.new }
+    ensures copied { (i k : ℕ) → k < rows.old.shard_len_64 → i < count → cell rows.new k (to + i) ≡ cell rows.old k (from + i) }
+    ensures others { SameRowsOutside to (to + count) rows.old rows.new }
     ensures counts { CountsRows count steps.old steps.new }
 {
     steps.row_steps(count);
-    let len = data.shard_len_64;
-    copy_part(data.chunks, from * len, to * len, count * len);
+    let len = rows.shard_len_64;
+    copy_run(rows.chunks, from * len, to * len, count * len);
 }
 
 // The n chunks from `to` on become those from `from` on.
-fn copy_part(chunks: &mut [[u8; 64]], from: usize, to: usize, n: usize)
+fn copy_run(chunks: &mut [[u8; 64]], from: usize, to: usize, n: usize)
     requires from_in { from + n ≤ length chunks.old }
     requires to_in { to + n ≤ length chunks.old }
     ensures copied { (k : ℕ) → k < n → chunk chunks.new (to + k) ≡ chunk chunks.old (from + k) }
@@ -58,23 +58,23 @@ fn copy_part(chunks: &mut [[u8; 64]], from: usize, to: usize, n: usize)
 pub fn mul_row<E: Engine>(
     engine: &E,
     steps: &mut Steps,
-    data: &mut ShardsRefMut<'_>,
+    rows: &mut ShardsRefMut<'_>,
     index: usize,
     log_m: GfElement,
 )
-    requires fits { Fits «data».old }
-    requires within { index < «data».old.shard_count }
-    ensures shape { SameShape «data».old «data».new }
-    ensures products { (k s : ℕ) → k < «data».old.shard_len_64 → s < 32 → word «data».new k s index ≡ product (word «data».old k s index) (power log_m) }
-    ensures others { SameRowsOutside index (index + 1) «data».old «data».new }
+    requires fits { Fits rows.old }
+    requires within { index < rows.old.shard_count }
+    ensures shape { SameShape rows.old rows.new }
+    ensures products { (k s : ℕ) → k < rows.old.shard_len_64 → s < 32 → word rows.new k s index ≡ product (word rows.old k s index) (power log_m) }
+    ensures others { SameRowsOutside index (index + 1) rows.old rows.new }
     ensures counts { RowProductCounts steps.old steps.new }
 {
-    let len = data.shard_len_64;
-    mul_part(engine, steps, data.chunks, index * len, len, log_m);
+    let len = rows.shard_len_64;
+    mul_run(engine, steps, rows.chunks, index * len, len, log_m);
 }
 
 // Multiplies the n chunks from a on.
-fn mul_part<E: Engine>(
+fn mul_run<E: Engine>(
     engine: &E,
     steps: &mut Steps,
     chunks: &mut [[u8; 64]],

@@ -3,7 +3,7 @@ ghost use Rattle.std.specs.Prelude.{◌≡◌, ℕ, ◌+◌, ◌-◌, ◌*◌, �
 ghost use Rattle.std.specs.Borrow.{sem};
 ghost use Rattle.rs_field.specs.rows.Rows.{chunk, SameOutside};
 ghost use Rattle.rs_field.specs.rows.View.{row_at, Fits, SameShape, SameRowsOutside, AreZero, HasRows, IsListOf};
-ghost use Rattle.rs_field.specs.rows.Lending.{LendsAll, LendsPart, LendsRow, LendsTwoParts, LendsTwoRows, LendsFourParts, LendsFourRows, LendsHalves};
+ghost use Rattle.rs_field.specs.rows.Lending.{LendsAll, LendsRun, LendsRow, LendsTwoRuns, LendsTwoRows, LendsFourRuns, LendsFourRows, LendsHalves};
 
 use std::cell::UnsafeCell;
 use std::ops::Range;
@@ -19,23 +19,23 @@ pub struct ShardsRefMut<'a> {
 }
 
 impl<'a> ShardsRefMut<'a> {
-    /// The first `shard_count * shard_len_64` chunks of `data` as rows of `shard_len_64` chunks. Further data stays
-    /// as it is.
+    /// The first `shard_count * shard_len_64` chunks of `chunks` as rows of `shard_len_64` chunks. The others stay
+    /// as they are.
     pub fn new(
         shard_count: usize,
         shard_len_64: usize,
-        data: &'a mut [[u8; 64]],
+        chunks: &'a mut [[u8; 64]],
     ) -> ShardsRefMut<'a>
-        requires { shard_count * shard_len_64 ≤ length «data».old }
-        ensures name { result.chunks.ghost_name ≡ «data».entry.ghost_name }
-        ensures chunks { result.chunks.now ≡ «data».old }
+        requires { shard_count * shard_len_64 ≤ length chunks.old }
+        ensures name { result.chunks.ghost_name ≡ chunks.entry.ghost_name }
+        ensures chunks { result.chunks.now ≡ chunks.old }
         ensures count { result.shard_count ≡ shard_count }
         ensures len_64 { result.shard_len_64 ≡ shard_len_64 }
     {
         ShardsRefMut {
             shard_count,
             shard_len_64,
-            chunks: data,
+            chunks,
             marker: UnsafeCell::new(()),
         }
     }
@@ -67,7 +67,7 @@ impl<'a> ShardsRefMut<'a> {
         let len = self.shard_len_64;
         let a = pos * len;
         let b = (pos + dist) * len;
-        self.two_parts(a, len, b, len)
+        self.two_runs(a, len, b, len)
     }
 
     /// Rows `pos`, `pos + dist`, `pos + 2 * dist` and `pos + 3 * dist`, to be written: what is written to each stands
@@ -96,7 +96,7 @@ impl<'a> ShardsRefMut<'a> {
         let second = (pos + dist) * len;
         let third = (pos + 2 * dist) * len;
         let fourth = (pos + 3 * dist) * len;
-        self.four_parts(first, second, third, fourth, len)
+        self.four_runs(first, second, third, fourth, len)
     }
 
     /// The rows before `mid`, and those from `mid` on, as two lists: what becomes of each stands in this list
@@ -111,7 +111,7 @@ impl<'a> ShardsRefMut<'a> {
         let len = self.shard_len_64;
         let rest = self.shard_count - mid;
         let a = mid * len;
-        two_lists(self.two_parts(0, a, a, rest * len), mid, rest, len)
+        two_lists(self.two_runs(0, a, a, rest * len), mid, rest, len)
     }
 
     /// The rows of the range become zero bytes. It ends no earlier than it starts, and at most at the number of rows.
@@ -124,7 +124,7 @@ impl<'a> ShardsRefMut<'a> {
         ensures others { SameRowsOutside range.start range.end self.old self.new }
     {
         let len = self.shard_len_64;
-        zero_part(self.chunks, range.start * len, range.end * len);
+        zero_run(self.chunks, range.start * len, range.end * len);
     }
 
     /// Row `index`, which is in the list.
@@ -146,7 +146,7 @@ impl<'a> ShardsRefMut<'a> {
         ensures now { result.now ≡ row_at self.old index }
     {
         let len = self.shard_len_64;
-        self.part(index * len, len)
+        self.run(index * len, len)
     }
 
     // All chunks, as their own loan.
@@ -158,9 +158,9 @@ impl<'a> ShardsRefMut<'a> {
     }
 
     // The n chunks from a on, by the list's pointer: the checker doesn't follow a loan through `split_at_mut`.
-    fn part(&mut self, a: usize, n: usize) -> &mut [[u8; 64]]
+    fn run(&mut self, a: usize, n: usize) -> &mut [[u8; 64]]
         requires { a + n ≤ length self.old.chunks.now }
-        ensures* lends { sem 𝓛 (LendsPart self.entry a n result) }
+        ensures* lends { sem 𝓛 (LendsRun self.entry a n result) }
         ensures now { result.now ≡ take n (drop a self.old.chunks.now) }
     {
         let all = self.all();
@@ -169,7 +169,7 @@ impl<'a> ShardsRefMut<'a> {
     }
 
     // The n chunks from a on, and the m chunks from b on.
-    fn two_parts(
+    fn two_runs(
         &mut self,
         a: usize,
         n: usize,
@@ -178,7 +178,7 @@ impl<'a> ShardsRefMut<'a> {
     ) -> (&mut [[u8; 64]], &mut [[u8; 64]])
         requires apart { a + n ≤ b }
         requires within { b + m ≤ length self.old.chunks.now }
-        ensures* lends { sem 𝓛 (LendsTwoParts self.entry a n b m result) }
+        ensures* lends { sem 𝓛 (LendsTwoRuns self.entry a n b m result) }
         ensures value { (result.0.now ≡ take n (drop a self.old.chunks.now)) × (result.1.now ≡ take m (drop b self.old.chunks.now)) }
     {
         let all = self.all();
@@ -192,7 +192,7 @@ impl<'a> ShardsRefMut<'a> {
     }
 
     // The n chunks from each of four places on.
-    fn four_parts(
+    fn four_runs(
         &mut self,
         a: usize,
         b: usize,
@@ -207,9 +207,9 @@ impl<'a> ShardsRefMut<'a> {
     )
         requires apart { (a + n ≤ b) × (b + n ≤ c) × (c + n ≤ d) }
         requires within { d + n ≤ length self.old.chunks.now }
-        ensures* lends { sem 𝓛 (LendsFourParts self.entry a b c d n result) }
-        ensures value { let part = λ (start : ℕ). take n (drop start self.old.chunks.now) in
-            (result.0.now ≡ part a) × (result.1.now ≡ part b) × (result.2.now ≡ part c) × (result.3.now ≡ part d) }
+        ensures* lends { sem 𝓛 (LendsFourRuns self.entry a b c d n result) }
+        ensures value { let run = λ (start : ℕ). take n (drop start self.old.chunks.now) in
+            (result.0.now ≡ run a) × (result.1.now ≡ run b) × (result.2.now ≡ run c) × (result.3.now ≡ run d) }
     {
         let all = self.all();
         let p = all.as_mut_ptr();
@@ -224,19 +224,19 @@ impl<'a> ShardsRefMut<'a> {
     }
 }
 
-// The chunks of each part, as rows.
+// The chunks of each run, as rows.
 fn two_lists<'a>(
-    parts: (&'a mut [[u8; 64]], &'a mut [[u8; 64]]),
+    runs: (&'a mut [[u8; 64]], &'a mut [[u8; 64]]),
     count: usize,
     rest: usize,
     len: usize,
 ) -> (ShardsRefMut<'a>, ShardsRefMut<'a>)
-    requires first { count * len ≤ length parts.0.now }
-    requires second { rest * len ≤ length parts.1.now }
-    ensures first { IsListOf result.0 parts.entry.0 count len }
-    ensures second { IsListOf result.1 parts.entry.1 rest len }
+    requires first { count * len ≤ length runs.0.now }
+    requires second { rest * len ≤ length runs.1.now }
+    ensures first { IsListOf result.0 runs.entry.0 count len }
+    ensures second { IsListOf result.1 runs.entry.1 rest len }
 {
-    let (first, second) = parts;
+    let (first, second) = runs;
     (
         ShardsRefMut::new(count, len, first),
         ShardsRefMut::new(rest, len, second),
@@ -244,7 +244,7 @@ fn two_lists<'a>(
 }
 
 // The chunks from start to end - 1 become zero bytes.
-fn zero_part(chunks: &mut [[u8; 64]], start: usize, end: usize)
+fn zero_run(chunks: &mut [[u8; 64]], start: usize, end: usize)
     requires ordered { start ≤ end }
     requires within { end ≤ length chunks.old }
     ensures zeros { (k : ℕ) → start ≤ k → k < end → chunk chunks.new k ≡ replicate 64 0 }

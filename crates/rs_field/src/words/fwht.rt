@@ -9,7 +9,7 @@ use super::{GfElement, Steps};
 // The sum modulo 65535, as `add_mod`: the larger of the sum without its carry, which is right up to 65535, and of the
 // sum less 65535, which is 0 up to there and right above. So a loop over entries becomes vector code without a choice.
 #[inline(always)]
-pub(crate) fn lane_sum(x: GfElement, y: GfElement) -> GfElement
+pub(crate) fn branchless_add_mod(x: GfElement, y: GfElement) -> GfElement
     ensures { result % 65535 ≡ (x + y) % 65535 }
 {
     x.wrapping_add(y).max(x.saturating_sub(!y))
@@ -20,7 +20,7 @@ pub(crate) fn lane_sum(x: GfElement, y: GfElement) -> GfElement
 pub(crate) fn residue(n: u32) -> GfElement
     ensures { result % 65535 ≡ n % 65535 }
 {
-    lane_sum((n & 0xFFFF) as u16, (n >> 16) as u16)
+    branchless_add_mod((n & 0xFFFF) as u16, (n >> 16) as u16)
 }
 
 // The difference modulo 65535, where 0 and 65535 both stand for zero; 65534 is minus one.
@@ -28,7 +28,7 @@ pub(crate) fn residue(n: u32) -> GfElement
 fn sub_mod(x: GfElement, y: GfElement) -> GfElement
     ensures { result % 65535 ≡ (x + 65534 * y) % 65535 }
 {
-    lane_sum(x, !y)
+    branchless_add_mod(x, !y)
 }
 
 // The sum and the difference modulo 65535.
@@ -39,7 +39,7 @@ fn pair_sum(steps: &mut Steps, x: GfElement, y: GfElement) -> (GfElement, GfElem
     ensures counts { CountsPairs 1 steps.old steps.new }
 {
     steps.pair_sum();
-    (lane_sum(x, y), sub_mod(x, y))
+    (branchless_add_mod(x, y), sub_mod(x, y))
 }
 
 // Two layers: sums and differences of entries 0 and 1 and of entries 2 and 3, and then of what became of 0 and 2 and of
@@ -95,12 +95,12 @@ fn half_sums(steps: &mut Steps, x0: &mut [GfElement], x1: &mut [GfElement])
 }
 
 // The transform of 128 entries, of which both halves are done in lanes: so are the quarters of 512 entries, and so on.
-fn walsh_128(steps: &mut Steps, data: &mut [GfElement])
-    requires { length «data».old ≡ 128 }
-    ensures values { IsWalsh 128 (λ y. slice_index «data».old y) (λ w. slice_index «data».new w) }
+fn walsh_128(steps: &mut Steps, entries: &mut [GfElement])
+    requires { length entries.old ≡ 128 }
+    ensures values { IsWalsh 128 (λ y. slice_index entries.old y) (λ w. slice_index entries.new w) }
     ensures counts { CountsPairs 448 steps.old steps.new }
 {
-    let (low, high) = data.split_at_mut(64);
+    let (low, high) = entries.split_at_mut(64);
     walsh_64(steps, low);
     walsh_64(steps, high);
     half_sums(steps, low, high);
@@ -112,25 +112,25 @@ fn walsh_128(steps: &mut Steps, data: &mut [GfElement])
 /// There are a power of two of entries, at most 65536, and those from `truncated` on are 0. Of a new entry the residue
 /// alone is fixed: 0 and 65535 both stand for zero. At most half the number of entries times its logarithm pair sums
 /// are counted. The transform is that of Leopard-RS, two layers at a time, quarter by quarter.
-pub fn fwht(steps: &mut Steps, data: &mut [GfElement], truncated: usize)
-    requires power { (d : ℕ) × (length «data».old ≡ 2 ^ d) }
-    requires size { length «data».old ≤ 65536 }
-    requires tail { (y : ℕ) → truncated ≤ y → y < length «data».old → slice_index «data».old y ≡ 0 }
-    ensures values { IsWalsh (length «data».old) (λ y. slice_index «data».old y) (λ w. slice_index «data».new w) }
-    ensures counts { WalshCounts (length «data».old) steps.old steps.new }
+pub fn fwht(steps: &mut Steps, entries: &mut [GfElement], truncated: usize)
+    requires power { (d : ℕ) × (length entries.old ≡ 2 ^ d) }
+    requires size { length entries.old ≤ 65536 }
+    requires tail { (y : ℕ) → truncated ≤ y → y < length entries.old → slice_index entries.old y ≡ 0 }
+    ensures values { IsWalsh (length entries.old) (λ y. slice_index entries.old y) (λ w. slice_index entries.new w) }
+    ensures counts { WalshCounts (length entries.old) steps.old steps.new }
 {
-    let n = data.len();
+    let n = entries.len();
     if n == 64 {
-        walsh_64(steps, data);
+        walsh_64(steps, entries);
     } else if n == 128 {
-        walsh_128(steps, data);
+        walsh_128(steps, entries);
     } else if n == 2 {
-        let (sum, difference) = pair_sum(steps, data[0], data[1]);
-        data[0] = sum;
-        data[1] = difference;
+        let (sum, difference) = pair_sum(steps, entries[0], entries[1]);
+        entries[0] = sum;
+        entries[1] = difference;
     } else if n > 2 && truncated > 0 {
         let quarter = n / 4;
-        let (low, high) = data.split_at_mut(n / 2);
+        let (low, high) = entries.split_at_mut(n / 2);
         let (x0, x1) = low.split_at_mut(quarter);
         let (x2, x3) = high.split_at_mut(quarter);
         fwht(steps, x0, truncated);

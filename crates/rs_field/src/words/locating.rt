@@ -10,7 +10,7 @@ use super::{GfElement, Steps};
 
 // The product modulo 65535, where 0 and 65535 both stand for zero.
 #[inline(always)]
-fn product_step(steps: &mut Steps, x: GfElement, y: GfElement) -> GfElement
+fn counted_product(steps: &mut Steps, x: GfElement, y: GfElement) -> GfElement
     ensures product { result % 65535 ≡ x * y % 65535 }
     ensures counts { CountsProducts 1 steps.old steps.new }
 {
@@ -25,7 +25,7 @@ fn products(steps: &mut Steps, entries: &mut [GfElement], factors: &[GfElement])
     ensures counts { CountsProducts (length entries.old) steps.old steps.new }
 {
     for i in 0..entries.len() {
-        entries[i] = product_step(steps, entries[i], factors[i]);
+        entries[i] = counted_product(steps, entries[i], factors[i]);
     }
 }
 
@@ -39,17 +39,17 @@ fn products(steps: &mut Steps, entries: &mut [GfElement], factors: &[GfElement])
 /// between them. No row step is counted, and at most 1048576 pair sums and 65536 products.
 pub fn eval_poly(
     steps: &mut Steps,
-    erasures: &mut [GfElement],
+    entries: &mut [GfElement],
     truncated_size: usize,
     log_walsh: LogWalsh<'_>,
 )
-    requires size { length erasures.old ≡ 65536 }
-    requires tail { (y : ℕ) → truncated_size ≤ y → y < 65536 → slice_index erasures.old y ≡ 0 }
+    requires size { length entries.old ≡ 65536 }
+    requires tail { (y : ℕ) → truncated_size ≤ y → y < 65536 → slice_index entries.old y ≡ 0 }
     requires table { IsLogWalsh log_walsh.now }
-    ensures values { IsLocator (λ y. slice_index erasures.old y) (λ x. slice_index erasures.new x) }
+    ensures values { IsLocator (λ y. slice_index entries.old y) (λ x. slice_index entries.new x) }
     ensures counts { LocatorCounts steps.old steps.new }
 {
-    locate_marked(steps, erasures, truncated_size, log_walsh);
+    locate_marked(steps, entries, truncated_size, log_walsh);
 }
 
 /// The locator of the marked points among the first ones, as many as there are entries, at these points: entry x becomes,

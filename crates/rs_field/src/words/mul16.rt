@@ -10,7 +10,7 @@ use std::alloc::{AllocError, Global};
 
 // The sixteen sums of four products: entry i is that of the products at the set bits of i.
 #[inline(always)]
-fn sums(a: GfElement, b: GfElement, c: GfElement, d: GfElement) -> [GfElement; 16]
+fn nibble_sums(a: GfElement, b: GfElement, c: GfElement, d: GfElement) -> [GfElement; 16]
     ensures { (n f : ℕ) → a ≡ product (1 * 16 ^ n) f → b ≡ product (2 * 16 ^ n) f
         → c ≡ product (4 * 16 ^ n) f → d ≡ product (8 * 16 ^ n) f → IsNibbleRow n f result }
 {
@@ -43,7 +43,7 @@ fn nibble_row(place: GfElement, log_m: GfElement, t: &ExpLog) -> [GfElement; 16]
     requires place { place ≤ 4096 }
     ensures { (n : ℕ) → place ≡ 16 ^ n → IsNibbleRow n (power log_m) result }
 {
-    sums(
+    nibble_sums(
         tables::mul(place, log_m, &t.exp, &t.log),
         tables::mul(2 * place, log_m, &t.exp, &t.log),
         tables::mul(4 * place, log_m, &t.exp, &t.log),

@@ -29,30 +29,30 @@ fn times_generator(z: GfElement) -> GfElement
 }
 
 // The products of the generator with the words of the low byte.
-fn low_steps() -> [GfElement; 256]
+fn low_products() -> [GfElement; 256]
     ensures { (i : ℕ) → i < 256 → slice_index result i ≡ product i generator }
 {
-    let mut steps = [0; 256];
+    let mut products = [0; 256];
     for i in 0..256 {
-        steps[i] = times_generator(i as u16);
+        products[i] = times_generator(i as u16);
     }
-    steps
+    products
 }
 
 // The products of the generator with the words of the high byte.
-fn high_steps() -> [GfElement; 256]
+fn high_products() -> [GfElement; 256]
     ensures { (i : ℕ) → i < 256 → slice_index result i ≡ product (256 * i) generator }
 {
-    let mut steps = [0; 256];
+    let mut products = [0; 256];
     for i in 0..256 {
-        steps[i] = times_generator(256 * (i as u16));
+        products[i] = times_generator(256 * (i as u16));
     }
-    steps
+    products
 }
 
 // The product of a word and the generator, as the sum of those of its bytes.
 #[inline(always)]
-fn step(z: GfElement, low: &[GfElement; 256], high: &[GfElement; 256]) -> GfElement
+fn product_by_bytes(z: GfElement, low: &[GfElement; 256], high: &[GfElement; 256]) -> GfElement
     requires low { (i : ℕ) → i < 256 → slice_index low.now i ≡ product i generator }
     requires high { (i : ℕ) → i < 256 → slice_index high.now i ≡ product (256 * i) generator }
     ensures { result ≡ product z generator }
@@ -72,15 +72,15 @@ fn filled(alloc: Global, value: GfElement, n: usize) -> Result<Vec<GfElement>, A
 pub fn exp_log_table(alloc: Global) -> Result<ExpLog, AllocError>
     ensures { IfOk result (λ t. IsExpLog t.exp.items t.log.items) }
 {
-    let low = low_steps();
-    let high = high_steps();
+    let low = low_products();
+    let high = high_products();
     let mut exp = filled(alloc, 0, GF_ORDER)?;
     let mut log = filled(alloc, GF_MODULUS, GF_ORDER)?;
     let mut z = 1;
     for n in 0..GF_MODULUS {
         exp[n as usize] = z;
         log[z as usize] = n;
-        z = step(z, &low, &high);
+        z = product_by_bytes(z, &low, &high);
     }
     exp[GF_MODULUS as usize] = 1;
     Ok(ExpLog { exp, log })

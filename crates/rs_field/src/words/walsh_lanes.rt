@@ -22,9 +22,9 @@ fn excess(x: u16x16, y: u16x16) -> u16x16
     x.saturating_sub(y)
 }
 
-// The sums modulo 65535, as `lane_sum` makes them.
+// The sums modulo 65535, as `branchless_add_mod` makes them.
 #[inline(always)]
-fn sums(x: u16x16, y: u16x16) -> u16x16
+fn add_mod_lanes(x: u16x16, y: u16x16) -> u16x16
     ensures { (i : ℕ) → i < 16 → slice_index result i % 65535 ≡ (slice_index x i + slice_index y i) % 65535 }
 {
     larger(x + y, excess(x, !y))
@@ -32,10 +32,10 @@ fn sums(x: u16x16, y: u16x16) -> u16x16
 
 // The differences modulo 65535: a complement is the negative.
 #[inline(always)]
-fn differences(x: u16x16, y: u16x16) -> u16x16
+fn sub_mod_lanes(x: u16x16, y: u16x16) -> u16x16
     ensures { (i : ℕ) → i < 16 → slice_index result i % 65535 ≡ (slice_index x i + 65534 * slice_index y i) % 65535 }
 {
-    sums(x, !y)
+    add_mod_lanes(x, !y)
 }
 
 // Sums and differences of lanes at distance 1. In lanes 1, 3, .. the complement makes the difference.
@@ -43,7 +43,7 @@ fn differences(x: u16x16, y: u16x16) -> u16x16
 fn layer_1(v: u16x16) -> u16x16
     ensures { IsLayer 1 v result }
 {
-    sums(
+    add_mod_lanes(
         v.swizzle([1, 0, 3, 2, 5, 4, 7, 6, 9, 8, 11, 10, 13, 12, 15, 14]),
         v.shuffle(
             !v,
@@ -57,7 +57,7 @@ fn layer_1(v: u16x16) -> u16x16
 fn layer_2(v: u16x16) -> u16x16
     ensures { IsLayer 2 v result }
 {
-    sums(
+    add_mod_lanes(
         v.swizzle([2, 3, 0, 1, 6, 7, 4, 5, 10, 11, 8, 9, 14, 15, 12, 13]),
         v.shuffle(
             !v,
@@ -71,7 +71,7 @@ fn layer_2(v: u16x16) -> u16x16
 fn layer_4(v: u16x16) -> u16x16
     ensures { IsLayer 4 v result }
 {
-    sums(
+    add_mod_lanes(
         v.swizzle([4, 5, 6, 7, 0, 1, 2, 3, 12, 13, 14, 15, 8, 9, 10, 11]),
         v.shuffle(
             !v,
@@ -85,7 +85,7 @@ fn layer_4(v: u16x16) -> u16x16
 fn layer_8(v: u16x16) -> u16x16
     ensures { IsLayer 8 v result }
 {
-    sums(
+    add_mod_lanes(
         v.swizzle([8, 9, 10, 11, 12, 13, 14, 15, 0, 1, 2, 3, 4, 5, 6, 7]),
         v.shuffle(!v, [0, 1, 2, 3, 4, 5, 6, 7, 24, 25, 26, 27, 28, 29, 30, 31]),
     )
@@ -106,45 +106,45 @@ fn vector_sums(x0: u16x16, x1: u16x16, x2: u16x16, x3: u16x16) -> (u16x16, u16x1
     ensures { (i : ℕ) → i < 16 → IsFourSums (slice_index x0 i) (slice_index x1 i) (slice_index x2 i) (slice_index x3 i)
         (slice_index result.0 i) (slice_index result.1 i) (slice_index result.2 i) (slice_index result.3 i) }
 {
-    let low_sum = sums(x0, x1);
-    let low_difference = differences(x0, x1);
-    let high_sum = sums(x2, x3);
-    let high_difference = differences(x2, x3);
+    let low_sum = add_mod_lanes(x0, x1);
+    let low_difference = sub_mod_lanes(x0, x1);
+    let high_sum = add_mod_lanes(x2, x3);
+    let high_difference = sub_mod_lanes(x2, x3);
     (
-        sums(low_sum, high_sum),
-        sums(low_difference, high_difference),
-        differences(low_sum, high_sum),
-        differences(low_difference, high_difference),
+        add_mod_lanes(low_sum, high_sum),
+        add_mod_lanes(low_difference, high_difference),
+        sub_mod_lanes(low_sum, high_sum),
+        sub_mod_lanes(low_difference, high_difference),
     )
 }
 
 // The entries as a vector.
 #[inline(always)]
-fn load(data: &[GfElement]) -> u16x16
-    requires { length «data».now ≡ 16 }
-    ensures { (i : ℕ) → i < 16 → slice_index result i ≡ slice_index «data».now i }
+fn load(entries: &[GfElement]) -> u16x16
+    requires { length entries.now ≡ 16 }
+    ensures { (i : ℕ) → i < 16 → slice_index result i ≡ slice_index entries.now i }
 {
-    u16x16::from_slice(data)
+    u16x16::from_slice(entries)
 }
 
 // Makes a vector's lanes the entries.
 #[inline(always)]
-fn store(v: u16x16, data: &mut [GfElement])
-    requires { length «data».old ≡ 16 }
-    ensures { (i : ℕ) → i < 16 → slice_index «data».new i ≡ slice_index v i }
+fn store(v: u16x16, entries: &mut [GfElement])
+    requires { length entries.old ≡ 16 }
+    ensures { (i : ℕ) → i < 16 → slice_index entries.new i ≡ slice_index v i }
 {
-    v.copy_to_slice(data);
+    v.copy_to_slice(entries);
 }
 
 /// The transform of 64 entries.
 #[inline(always)]
-pub(crate) fn walsh_64(steps: &mut Steps, data: &mut [GfElement])
-    requires { length «data».old ≡ 64 }
-    ensures values { IsWalsh 64 (λ y. slice_index «data».old y) (λ w. slice_index «data».new w) }
+pub(crate) fn walsh_64(steps: &mut Steps, entries: &mut [GfElement])
+    requires { length entries.old ≡ 64 }
+    ensures values { IsWalsh 64 (λ y. slice_index entries.old y) (λ w. slice_index entries.new w) }
     ensures counts { CountsPairs 192 steps.old steps.new }
 {
     steps.pair_sums(192);
-    let (low, high) = data.split_at_mut(32);
+    let (low, high) = entries.split_at_mut(32);
     let (x0, x1) = low.split_at_mut(16);
     let (x2, x3) = high.split_at_mut(16);
     let v0 = walsh_16(load(x0));

@@ -8,7 +8,7 @@ ghost use Rattle.rs_field.specs.code.Configuration.{configuration, validated, Up
 ghost use Rattle.rs_field.specs.code.Decoder.{fresh_decoder, enough_given};
 ghost use Rattle.rs_field.specs.rows.MarkedRows.{is_marked};
 ghost use Rattle.rs_rate.specs.Shapes.{DecoderCanBeLaid, original_row};
-ghost use Rattle.rs_rate.specs.ShardRows.{asked, chunk_count as chunk_count_of, shard_laid_out};
+ghost use Rattle.rs_rate.specs.ShardRows.{asked, chunk_count, shard_laid_out};
 ghost use Rattle.rs_rate.specs.Marks.{given_marks, HoldGiven};
 ghost use Rattle.rs_rate.specs.DecoderRoom.{IsLaidOut};
 ghost use Rattle.rs_rate.specs.Sides.{with_given};
@@ -17,7 +17,7 @@ use crate::rate::code::Code;
 use crate::rate::configuration::Configuration;
 use crate::rate::marks::Marks;
 use crate::rate::memory::{make_room, set_chunks, set_length};
-use crate::rate::restoring::Round;
+use crate::rate::restoring::Tally;
 use crate::rate::shard_rows::{chunk_count, insert_at, shard_at, shard_is_bytes};
 use crate::rate::side::Side;
 use crate::rate::supported_counts::SupportedCounts;
@@ -36,7 +36,7 @@ pub struct DecoderWork {
 pub struct DecoderMemory {
     pub(crate) chunks: Vec<[u8; 64]>,
     pub(crate) marks: Marks,
-    pub(crate) erasures: Vec<GfElement>,
+    pub(crate) entries: Vec<GfElement>,
 }
 
 /// Where a decoder's shards stand among the points, which points are known zeros, and how many rows it works on.
@@ -129,7 +129,7 @@ impl DecoderMemory {
             None => DecoderMemory {
                 chunks: Vec::new(alloc),
                 marks: Marks::new(alloc),
-                erasures: Vec::new(alloc),
+                entries: Vec::new(alloc),
             },
         }
     }
@@ -141,7 +141,7 @@ impl DecoderMemory {
         ensures laid_out { OnOk result (IsLaidOut shape self.new) }
         ensures empty { OnOk result ((p : ℕ) → is_marked (given_marks self.new.marks) p ≡ false) }
         ensures kept { OnErr result ((self.new.chunks.items ≡ self.old.chunks.items) × (self.new.marks.rows.items ≡ self.old.marks.rows.items)
-            × (self.new.marks.shards ≡ self.old.marks.shards) × (self.new.erasures.items ≡ self.old.erasures.items)) }
+            × (self.new.marks.shards ≡ self.old.marks.shards) × (self.new.entries.items ≡ self.old.entries.items)) }
         ensures answer { UpToMemory (asked (shape_chunks shape)) result }
         ensures grown { Grows (memory_room self.old) (memory_room self.new) }
         ensures roomy { HasRoom (memory_room self.old) shape.frame.row_count shape.configuration.shard_bytes → result ≡ asked (shape_chunks shape) }
@@ -150,16 +150,16 @@ impl DecoderMemory {
         let chunks = chunk_count(rows, shape.configuration.shard_bytes)?;
         make_room(&mut self.chunks, chunks)?;
         make_room(&mut self.marks.rows, rows)?;
-        make_room(&mut self.erasures, rows)?;
+        make_room(&mut self.entries, rows)?;
         set_chunks(&mut self.chunks, chunks);
         self.marks.set_empty(rows);
-        set_length(&mut self.erasures, rows, 0);
+        set_length(&mut self.entries, rows, 0);
         Ok(())
     }
 
     // Lays a shard into row `row` of rows of its size, and marks the row.
     fn enter(&mut self, row: usize, shard: &[u8])
-        requires room { chunk_count_of (row + 1) (length shard.now) ≤ vec_len self.old.chunks }
+        requires room { chunk_count (row + 1) (length shard.now) ≤ vec_len self.old.chunks }
         requires even { length shard.now % 2 ≡ 0 }
         requires marked { row < vec_len self.old.marks.rows }
         ensures here { shard_laid_out self.new.chunks.items (length shard.now) row ≡ shard.now }
@@ -168,7 +168,7 @@ impl DecoderMemory {
         ensures mark { is_marked (given_marks self.new.marks) row ≡ true }
         ensures other_marks { (p : ℕ) → p ≢ row → is_marked (given_marks self.new.marks) p ≡ is_marked (given_marks self.old.marks) p }
         ensures lengths { (vec_len self.new.chunks ≡ vec_len self.old.chunks) × (vec_len self.new.marks.rows ≡ vec_len self.old.marks.rows)
-            × (vec_len self.new.erasures ≡ vec_len self.old.erasures) }
+            × (vec_len self.new.entries ≡ vec_len self.old.entries) }
         ensures grown { memory_room self.new ≡ memory_room self.old }
     {
         shard_is_bytes(shard);
@@ -253,14 +253,14 @@ impl DecoderRows {
         Ok(())
     }
 
-    // What a decode of the rows has to do.
-    pub(crate) fn round(&self) -> Round
+    // What a decode of the rows goes by.
+    pub(crate) fn tally(&self) -> Tally
         requires { self.now.shape.configuration.original_count ≤ self.now.originals_given + self.now.recovery_given }
         ensures shape { result.shape ≡ self.now.shape }
         ensures facts { CanBeRestored result self.now.memory.marks }
     {
         let given = self.originals_given + self.recovery_given;
-        Round {
+        Tally {
             shape: self.shape,
             missing: self.shape.configuration.original_count - self.originals_given,
             surplus: given - self.shape.configuration.original_count,

@@ -17,7 +17,7 @@ ghost use Rattle.rs_rate.specs.ShardRows.{chunk_count, shard_laid_out, shard_in_
 
 use crate::rate::decoder_work::{DecoderMemory, DecoderRows, DecoderShape, Frame};
 use crate::rate::marks::Marks;
-use crate::rate::restoring::{Round, restore_rows};
+use crate::rate::restoring::{Tally, restore_rows};
 use crate::rate::shard_rows::{in_order_are_bytes, move_tail};
 use rs_field::bytes::are_words;
 use rs_field::engine::layout::row_len;
@@ -40,10 +40,10 @@ pub(crate) fn decode_rows<E: Engine>(
     ensures room { memory_room rows.new.memory ≡ memory_room rows.old.memory }
     ensures counts { DecodeCounts rows.old.shape.frame.row_count steps.old steps.new }
 {
-    let round = rows.round();
-    let agrees = restore(engine, steps, &mut rows.memory, round);
+    let tally = rows.tally();
+    let agrees = restore(engine, steps, &mut rows.memory, tally);
     let answer = if agrees {
-        Ok(round.missing)
+        Ok(tally.missing)
     } else {
         Err(Error::InconsistentShards {
             original_received_count: rows.originals_given,
@@ -52,8 +52,8 @@ pub(crate) fn decode_rows<E: Engine>(
     };
     in_order_are_bytes(
         rows.memory.chunks.as_slice(),
-        round.shape.frame.row_count,
-        round.shape.configuration.shard_bytes,
+        tally.shape.frame.row_count,
+        tally.shape.configuration.shard_bytes,
     );
     rows.originals_given = 0;
     rows.recovery_given = 0;
@@ -67,33 +67,33 @@ fn restore<E: Engine>(
     engine: &E,
     steps: &mut Steps,
     memory: &mut DecoderMemory,
-    round: Round,
+    tally: Tally,
 ) -> bool
-    requires whole { chunk_count round.shape.frame.row_count round.shape.configuration.shard_bytes ≤ length memory.old.chunks.items }
-    requires entries { length memory.old.erasures.items ≡ round.shape.frame.row_count }
-    requires facts { CanBeRestored round memory.old.marks }
-    ensures marks { WantsMissing round.shape.frame.originals_from round.shape.configuration.original_count memory.old.marks memory.new.marks }
+    requires whole { chunk_count tally.shape.frame.row_count tally.shape.configuration.shard_bytes ≤ length memory.old.chunks.items }
+    requires entries { length memory.old.entries.items ≡ tally.shape.frame.row_count }
+    requires facts { CanBeRestored tally memory.old.marks }
+    ensures marks { WantsMissing tally.shape.frame.originals_from tally.shape.configuration.original_count memory.old.marks memory.new.marks }
     ensures length { length memory.new.chunks.items ≡ length memory.old.chunks.items }
-    ensures entries { length memory.new.erasures.items ≡ length memory.old.erasures.items }
+    ensures entries { length memory.new.entries.items ≡ length memory.old.entries.items }
     ensures room { memory_room memory.new ≡ memory_room memory.old }
-    ensures nothing { round.missing ≡ 0 → round.surplus ≡ 0 → result ≡ true }
-    ensures restored { 0 < round.missing + round.surplus → (locator : List ℕ) × IsLocatorOf round.shape.frame (given_marks memory.old.marks) locator
-        × RestoresShards round.shape (given_marks memory.old.marks) locator round.surplus memory.old.chunks.items memory.new.chunks.items result }
-    ensures counts { DecodeCounts round.shape.frame.row_count steps.old steps.new }
+    ensures nothing { tally.missing ≡ 0 → tally.surplus ≡ 0 → result ≡ true }
+    ensures restored { 0 < tally.missing + tally.surplus → (locator : List ℕ) × IsLocatorOf tally.shape.frame (given_marks memory.old.marks) locator
+        × RestoresShards tally.shape (given_marks memory.old.marks) locator tally.surplus memory.old.chunks.items memory.new.chunks.items result }
+    ensures counts { DecodeCounts tally.shape.frame.row_count steps.old steps.new }
 {
-    let shape = round.shape;
-    if round.missing == 0 && round.surplus == 0 {
+    let shape = tally.shape;
+    if tally.missing == 0 && tally.surplus == 0 {
         memory.marks.want_missing(
             shape.frame.originals_from,
             shape.configuration.original_count,
         );
         return true;
     }
-    let entries = memory.erasures.as_mut_slice();
+    let entries = memory.entries.as_mut_slice();
     make_locator(engine, steps, entries, memory.marks.given(), shape);
     let chunks = memory.chunks.as_mut_slice();
-    let locator = memory.erasures.as_slice();
-    restore_chunks(engine, steps, chunks, &mut memory.marks, locator, round)
+    let locator = memory.entries.as_slice();
+    restore_chunks(engine, steps, chunks, &mut memory.marks, locator, tally)
 }
 
 // The locator of the erased rows, at all rows.
@@ -110,13 +110,13 @@ fn make_locator<E: Engine>(
     ensures locator { IsLocatorOf shape.frame given.now entries.new }
     ensures counts { LocatorCounts steps.old steps.new }
 {
-    mark_erasures(entries, given, shape.frame);
+    mark_erased(entries, given, shape.frame);
     engine.locate(steps, entries);
     are_words(entries);
 }
 
-// Marks the erased rows.
-fn mark_erasures(entries: &mut [GfElement], given: &[bool], frame: Frame)
+// The entries of the erased rows become 1, the others 0.
+fn mark_erased(entries: &mut [GfElement], given: &[bool], frame: Frame)
     requires entries { length entries.old ≡ frame.row_count }
     requires marked { frame.row_count ≤ length given.now }
     ensures { (row : ℕ) → row < frame.row_count → slice_index entries.new row ≡ erased frame.zeros_from frame.zeros_to given.now row }
@@ -143,20 +143,20 @@ fn restore_chunks<E: Engine>(
     chunks: &mut [[u8; 64]],
     marks: &mut Marks,
     locator: &[GfElement],
-    round: Round,
+    tally: Tally,
 ) -> bool
-    requires whole { chunk_count round.shape.frame.row_count round.shape.configuration.shard_bytes ≤ length chunks.old }
-    requires facts { CanBeRestored round marks.old }
-    requires located { length locator.now ≡ round.shape.frame.row_count }
-    ensures marks { WantsMissing round.shape.frame.originals_from round.shape.configuration.original_count marks.old marks.new }
-    ensures shards { RestoresShards round.shape (given_marks marks.old) locator.now round.surplus chunks.old chunks.new result }
-    ensures counts { CountsUpTo (3 * transform_steps round.shape.frame.row_count + 4 * round.shape.frame.row_count) 0 0 steps.old steps.new }
+    requires whole { chunk_count tally.shape.frame.row_count tally.shape.configuration.shard_bytes ≤ length chunks.old }
+    requires facts { CanBeRestored tally marks.old }
+    requires located { length locator.now ≡ tally.shape.frame.row_count }
+    ensures marks { WantsMissing tally.shape.frame.originals_from tally.shape.configuration.original_count marks.old marks.new }
+    ensures shards { RestoresShards tally.shape (given_marks marks.old) locator.now tally.surplus chunks.old chunks.new result }
+    ensures counts { CountsUpTo (3 * transform_steps tally.shape.frame.row_count + 4 * tally.shape.frame.row_count) 0 0 steps.old steps.new }
 {
-    let len = row_len(round.shape.configuration.shard_bytes);
-    let mut rows = ShardsRefMut::new(round.shape.frame.row_count, len, chunks);
-    let agrees = restore_rows(engine, steps, &mut rows, marks, locator, round);
+    let len = row_len(tally.shape.configuration.shard_bytes);
+    let mut rows = ShardsRefMut::new(tally.shape.frame.row_count, len, chunks);
+    let agrees = restore_rows(engine, steps, &mut rows, marks, locator, tally);
     if agrees {
-        move_restored_tails(steps, chunks, marks, round.shape);
+        move_restored_tails(steps, chunks, marks, tally.shape);
     }
     agrees
 }

@@ -7,7 +7,7 @@ ghost use Rattle.rs_field.specs.code.Outcome.{answer_of, state_after};
 ghost use Rattle.rs_field.specs.code.Configuration.{configuration, validated, UpToMemory};
 ghost use Rattle.rs_field.specs.code.Encoder.{fresh_encoder, with_shard, message_of};
 ghost use Rattle.rs_rate.specs.Shapes.{EncoderCanBeLaid};
-ghost use Rattle.rs_rate.specs.ShardRows.{asked, chunk_count as chunk_count_of, shard_laid_out, shard_in_order};
+ghost use Rattle.rs_rate.specs.ShardRows.{asked, chunk_count, shard_laid_out, shard_in_order};
 
 use crate::rate::code::Code;
 use crate::rate::configuration::Configuration;
@@ -38,9 +38,9 @@ pub struct EncoderRows {
     pub(crate) chunks: Vec<[u8; 64]>,
     pub ghost laid: { EncoderCanBeLaid shape },
     pub ghost no_more: { originals_given ≤ shape.configuration.original_count },
-    pub ghost whole: { vec_len chunks ≡ chunk_count_of shape.row_count shape.configuration.shard_bytes },
-    pub ghost own_room: { chunk_count_of shape.row_count shape.configuration.shard_bytes ≤ vec_capacity chunks },
-    pub ghost sized: { chunk_count_of shape.row_count shape.configuration.shard_bytes * 64 < 2 ^ 64 },
+    pub ghost whole: { vec_len chunks ≡ chunk_count shape.row_count shape.configuration.shard_bytes },
+    pub ghost own_room: { chunk_count shape.row_count shape.configuration.shard_bytes ≤ vec_capacity chunks },
+    pub ghost sized: { chunk_count shape.row_count shape.configuration.shard_bytes * 64 < 2 ^ 64 },
     pub ghost shards: { (i : ℕ) → i < originals_given → IsShard shape.configuration.shard_bytes (shard_laid_out chunks.items shape.configuration.shard_bytes i) },
 }
 

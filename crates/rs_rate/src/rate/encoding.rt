@@ -3,7 +3,7 @@ ghost use Rattle.std.specs.Prelude.{◌≡◌, ℕ, ◌<◌, ◌≤◌, length};
 ghost use Rattle.std.specs.Vec.{vec_capacity};
 ghost use Rattle.rs_field.specs.code.Bounds.{EncodeCountsAt};
 ghost use Rattle.rs_field.specs.code.Code.{AreRecovery};
-ghost use Rattle.rs_field.specs.rows.Layout.{row_len as chunks_for};
+ghost use Rattle.rs_field.specs.rows.Layout.{row_len};
 ghost use Rattle.rs_rate.specs.Coding.{CodesWords, CodingCounts};
 ghost use Rattle.rs_rate.specs.Configured.{low_or_high};
 ghost use Rattle.rs_rate.specs.EncoderView.{configuration_of, shape_chunks, given_of, lent_of};
@@ -46,7 +46,7 @@ fn code_chunks<E: Engine>(
 )
     requires laid { EncoderCanBeLaid shape }
     requires room { shape_chunks shape ≤ length chunks.old }
-    ensures words { let c = shape.configuration in let n = chunks_for c.shard_bytes in (k s : ℕ) → k < n → s < 32
+    ensures words { let c = shape.configuration in let n = row_len c.shard_bytes in (k s : ℕ) → k < n → s < 32
         → CodesWords (low_or_high c.is_low) c.original_count c.recovery_count (word_in chunks.old n k s) (word_in chunks.new n k s) }
     ensures counts { let c = shape.configuration in CodingCounts (low_or_high c.is_low) c.original_count c.recovery_count steps.old steps.new }
 {

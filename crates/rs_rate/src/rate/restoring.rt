@@ -8,7 +8,7 @@
 ghost use Rattle.std.specs.Prelude.{◌≡◌, ℕ, ◌+◌, ◌-◌, ◌/◌, ◌%◌, ◌^◌, ◌<◌, ◌≤◌, ◌↔◌, true, false, length, replicate, slice_index, vec_len};
 ghost use Rattle.rs_field.specs.words.StepBounds.{CountsRows, CountsUpTo, transform_steps};
 ghost use Rattle.rs_field.specs.words.Field.{product, power};
-ghost use Rattle.rs_field.specs.rows.Layout.{row_len as chunks_for};
+ghost use Rattle.rs_field.specs.rows.Layout.{row_len};
 ghost use Rattle.rs_field.specs.rows.View.{cell, word, Fits, SameShape};
 ghost use Rattle.rs_field.specs.rows.MarkedRows.{is_marked};
 ghost use Rattle.rs_rate.specs.Decoding.{located, AreCoefficients, CanBeRestored, restore_steps, RestoresWords};
@@ -23,10 +23,9 @@ use rs_field::engine::layout::is_zero_row;
 use rs_field::engine::rows::{clear_rows, mul_row};
 use rs_field::engine::{Engine, GF_MODULUS, GfElement, ShardsRefMut, Steps};
 
-// What a round has to do: what its rows are set up for, how many originals are missing, and how many shards are given
-// beyond the originals' number.
+// What a decode goes by: what its rows are set up for, how many originals are missing, and the number of the surplus.
 #[derive(Clone, Copy)]
-pub(crate) struct Round {
+pub(crate) struct Tally {
     pub(crate) shape: DecoderShape,
     pub(crate) missing: usize,
     pub(crate) surplus: usize,
@@ -40,25 +39,25 @@ pub(crate) fn restore_rows<E: Engine>(
     rows: &mut ShardsRefMut<'_>,
     marks: &mut Marks,
     locator: &[GfElement],
-    round: Round,
+    tally: Tally,
 ) -> bool
     requires fits { Fits rows.old }
-    requires count { rows.old.shard_count ≡ round.shape.frame.row_count }
-    requires len { rows.old.shard_len_64 ≡ chunks_for round.shape.configuration.shard_bytes }
-    requires facts { CanBeRestored round marks.old }
-    requires located { length locator.now ≡ round.shape.frame.row_count }
+    requires count { rows.old.shard_count ≡ tally.shape.frame.row_count }
+    requires len { rows.old.shard_len_64 ≡ row_len tally.shape.configuration.shard_bytes }
+    requires facts { CanBeRestored tally marks.old }
+    requires located { length locator.now ≡ tally.shape.frame.row_count }
     ensures shape { SameShape rows.old rows.new }
-    ensures marks { WantsMissing round.shape.frame.originals_from round.shape.configuration.original_count marks.old marks.new }
-    ensures words { RestoresWords round.shape (given_marks marks.old) locator.now round.surplus (word rows.old) (word rows.new) result }
-    ensures counts { CountsUpTo (restore_steps round.shape round.surplus) 0 0 steps.old steps.new }
+    ensures marks { WantsMissing tally.shape.frame.originals_from tally.shape.configuration.original_count marks.old marks.new }
+    ensures words { RestoresWords tally.shape (given_marks marks.old) locator.now tally.surplus (word rows.old) (word rows.new) result }
+    ensures counts { CountsUpTo (restore_steps tally.shape tally.surplus) 0 0 steps.old steps.new }
 {
-    let shape = round.shape;
-    let agrees = interpolate(engine, steps, rows, marks.given(), locator, round);
+    let shape = tally.shape;
+    let agrees = interpolate(engine, steps, rows, marks.given(), locator, tally);
     marks.want_missing(
         shape.frame.originals_from,
         shape.configuration.original_count,
     );
-    if agrees && round.missing > 0 {
+    if agrees && tally.missing > 0 {
         formal_derivative(steps, rows);
         engine.fft_wanted(steps, rows, 0, marks.restored(), 0);
         reveal_rows(engine, steps, rows, marks, locator, shape);
@@ -74,25 +73,25 @@ fn interpolate<E: Engine>(
     rows: &mut ShardsRefMut<'_>,
     given: &[bool],
     locator: &[GfElement],
-    round: Round,
+    tally: Tally,
 ) -> bool
     requires fits { Fits rows.old }
-    requires count { rows.old.shard_count ≡ round.shape.frame.row_count }
-    requires len { rows.old.shard_len_64 ≡ chunks_for round.shape.configuration.shard_bytes }
-    requires laid { DecoderCanBeLaid round.shape }
-    requires marked { length given.now ≡ round.shape.frame.row_count }
-    requires located { length locator.now ≡ round.shape.frame.row_count }
-    requires few_surplus { round.surplus ≤ round.shape.frame.row_count }
+    requires count { rows.old.shard_count ≡ tally.shape.frame.row_count }
+    requires len { rows.old.shard_len_64 ≡ row_len tally.shape.configuration.shard_bytes }
+    requires laid { DecoderCanBeLaid tally.shape }
+    requires marked { length given.now ≡ tally.shape.frame.row_count }
+    requires located { length locator.now ≡ tally.shape.frame.row_count }
+    requires few_surplus { tally.surplus ≤ tally.shape.frame.row_count }
     ensures shape { SameShape rows.old rows.new }
-    ensures coefficients { AreCoefficients round.shape given.now locator.now round.surplus (word rows.old) (word rows.new) result }
-    ensures counts { CountsUpTo (round.shape.frame.row_count + (transform_steps round.shape.frame.row_count + round.surplus)) 0 0 steps.old steps.new }
+    ensures coefficients { AreCoefficients tally.shape given.now locator.now tally.surplus (word rows.old) (word rows.new) result }
+    ensures counts { CountsUpTo (tally.shape.frame.row_count + (transform_steps tally.shape.frame.row_count + tally.surplus)) 0 0 steps.old steps.new }
 {
-    let shape = round.shape;
+    let shape = tally.shape;
     locate_rows(engine, steps, rows, given, locator);
     engine.ifft_given(steps, rows, 0, given, 0);
     row_symbols_are_words(rows);
-    let first = shape.frame.row_count - round.surplus;
-    are_zero(steps, rows, first, shape.configuration.shard_bytes)
+    let first = shape.frame.row_count - tally.surplus;
+    are_zero_rows(steps, rows, first, shape.configuration.shard_bytes)
 }
 
 // Multiplies the given rows by the locator's power at their points, and clears the others; a row step each at most.
@@ -124,9 +123,14 @@ fn locate_rows<E: Engine>(
 
 // Whether all rows from row `first` on are zero in each column of shards of this size; a row step for each that is
 // looked at.
-fn are_zero(steps: &mut Steps, rows: &ShardsRefMut<'_>, first: usize, shard_bytes: usize) -> bool
+fn are_zero_rows(
+    steps: &mut Steps,
+    rows: &ShardsRefMut<'_>,
+    first: usize,
+    shard_bytes: usize,
+) -> bool
     requires fits { Fits rows.now }
-    requires len { rows.now.shard_len_64 ≡ chunks_for shard_bytes }
+    requires len { rows.now.shard_len_64 ≡ row_len shard_bytes }
     requires even { shard_bytes % 2 ≡ 0 }
     requires within { first ≤ rows.now.shard_count }
     ensures zero { ((i j : ℕ) → first ≤ i → i < rows.now.shard_count → j < shard_bytes / 2 → word rows.now (j / 32) (j % 32) i ≡ 0) ↔ (result ≡ true) }

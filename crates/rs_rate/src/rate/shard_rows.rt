@@ -1,9 +1,9 @@
 //! Shards in rows of chunks: room for them, laying them in, their tails, and reading them.
 ghost use Rattle.std.specs.Prelude.{◌≡◌, ◌≢◌, ℕ, ◌+◌, ◌*◌, ◌%◌, ◌^◌, ◌<◌, ◌≤◌, length, MatchResult};
 ghost use Rattle.rs_field.specs.code.Column.{IsShard};
-ghost use Rattle.rs_field.specs.rows.Layout.{row_len as chunks_for};
+ghost use Rattle.rs_field.specs.rows.Layout.{row_len};
 ghost use Rattle.rs_field.specs.words.StepBounds.{CountsRows};
-ghost use Rattle.rs_rate.specs.ShardRows.{chunk_count as chunk_count_of, row_chunk, shard_laid_out, shard_in_order};
+ghost use Rattle.rs_rate.specs.ShardRows.{chunk_count, row_chunk, shard_laid_out, shard_in_order};
 
 use rs_field::bytes::are_bytes;
 use rs_field::engine::Steps;
@@ -13,8 +13,8 @@ use rs_field::error::Error;
 // The chunks of so many rows, where their size in bytes is a `usize`.
 pub(crate) fn chunk_count(row_count: usize, shard_bytes: usize) -> Result<usize, Error>
     ensures { MatchResult result
-        (λ n. (n ≡ chunk_count_of row_count shard_bytes) × (n * 64 < 2 ^ 64))
-        (λ e. (e ≡ Error.OutOfMemory) × (2 ^ 64 ≤ chunk_count_of row_count shard_bytes * 64)) }
+        (λ n. (n ≡ chunk_count row_count shard_bytes) × (n * 64 < 2 ^ 64))
+        (λ e. (e ≡ Error.OutOfMemory) × (2 ^ 64 ≤ chunk_count row_count shard_bytes * 64)) }
 {
     let Some(chunks) = row_count.checked_mul(row_len(shard_bytes)) else {
         return Err(Error::OutOfMemory);
@@ -28,7 +28,7 @@ pub(crate) fn chunk_count(row_count: usize, shard_bytes: usize) -> Result<usize,
 // Lays a shard into row `index` of rows of its size.
 #[tactic(auto, using(crate::proofs::ShardRowsLemmas::row_end))]
 pub(crate) fn insert_at(chunks: &mut [[u8; 64]], shard: &[u8], index: usize)
-    requires room { chunk_count_of (index + 1) (length shard.now) ≤ length chunks.old }
+    requires room { chunk_count (index + 1) (length shard.now) ≤ length chunks.old }
     requires even { length shard.now % 2 ≡ 0 }
     ensures here { shard_laid_out chunks.new (length shard.now) index ≡ shard.now }
     ensures others { (i : ℕ) → i ≢ index → shard_laid_out chunks.new (length shard.now) i ≡ shard_laid_out chunks.old (length shard.now) i }
@@ -41,7 +41,7 @@ pub(crate) fn insert_at(chunks: &mut [[u8; 64]], shard: &[u8], index: usize)
 // The shard that lies in row `index`, once its tail was moved.
 #[tactic(auto, using(crate::proofs::ShardRowsLemmas::row_end))]
 pub(crate) fn shard_at(chunks: &[[u8; 64]], shard_bytes: usize, index: usize) -> &[u8]
-    requires { chunk_count_of (index + 1) shard_bytes ≤ length chunks.now }
+    requires { chunk_count (index + 1) shard_bytes ≤ length chunks.now }
     ensures { result.now ≡ shard_in_order chunks.now shard_bytes index }
 {
     let len = row_len(shard_bytes);
@@ -56,7 +56,7 @@ pub(crate) fn move_tails(
     count: usize,
     shard_bytes: usize,
 )
-    requires room { chunk_count_of count shard_bytes ≤ length chunks.old }
+    requires room { chunk_count count shard_bytes ≤ length chunks.old }
     requires even { shard_bytes % 2 ≡ 0 }
     ensures moved { (i : ℕ) → i < count → shard_in_order chunks.new shard_bytes i ≡ shard_laid_out chunks.old shard_bytes i }
     ensures counts { CountsRows count steps.old steps.new }
@@ -70,10 +70,10 @@ pub(crate) fn move_tails(
 // Moves the tail of row `index`.
 #[tactic(auto, using(crate::proofs::ShardRowsLemmas::row_end))]
 pub(crate) fn move_tail(chunks: &mut [[u8; 64]], index: usize, shard_bytes: usize)
-    requires room { chunk_count_of (index + 1) shard_bytes ≤ length chunks.old }
+    requires room { chunk_count (index + 1) shard_bytes ≤ length chunks.old }
     requires even { shard_bytes % 2 ≡ 0 }
     ensures here { shard_in_order chunks.new shard_bytes index ≡ shard_laid_out chunks.old shard_bytes index }
-    ensures others { (i k : ℕ) → i ≢ index → k < chunks_for shard_bytes → row_chunk chunks.new shard_bytes i k ≡ row_chunk chunks.old shard_bytes i k }
+    ensures others { (i k : ℕ) → i ≢ index → k < row_len shard_bytes → row_chunk chunks.new shard_bytes i k ≡ row_chunk chunks.old shard_bytes i k }
 {
     let len = row_len(shard_bytes);
     let start = index * len;
@@ -82,7 +82,7 @@ pub(crate) fn move_tail(chunks: &mut [[u8; 64]], index: usize, shard_bytes: usiz
 
 // The shards in rows are bytes. It and the two functions below do nothing when they run: they tell the checker so.
 pub(crate) fn laid_out_are_bytes(chunks: &[[u8; 64]], count: usize, shard_bytes: usize)
-    requires room { chunk_count_of count shard_bytes ≤ length chunks.now }
+    requires room { chunk_count count shard_bytes ≤ length chunks.now }
     ensures { (i : ℕ) → i < count → IsShard shard_bytes (shard_laid_out chunks.now shard_bytes i) }
 {
     are_bytes(chunks.as_flattened());
@@ -90,7 +90,7 @@ pub(crate) fn laid_out_are_bytes(chunks: &[[u8; 64]], count: usize, shard_bytes:
 
 // The same of shards whose tails were moved.
 pub(crate) fn in_order_are_bytes(chunks: &[[u8; 64]], count: usize, shard_bytes: usize)
-    requires room { chunk_count_of count shard_bytes ≤ length chunks.now }
+    requires room { chunk_count count shard_bytes ≤ length chunks.now }
     ensures { (i : ℕ) → i < count → IsShard shard_bytes (shard_in_order chunks.now shard_bytes i) }
 {
     are_bytes(chunks.as_flattened());

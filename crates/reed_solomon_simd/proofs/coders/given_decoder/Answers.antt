@@ -6,15 +6,15 @@ use Rattle.reed_solomon_simd.proofs.Giving.{no-calls, ended-both, first-both, ou
 use Rattle.reed_solomon_simd.proofs.OneCall.{decoding-none, decoding-unset, decoding-given, both-ok, both-err}
 use Rattle.reed_solomon_simd.proofs.coders.given_decoder.Goals as goal
 
-pub returns-in_err-check_all_came : goal.returns-in_err-check_all_came
-returns-in_err-check_all_came g c =
+pub returns-in_err-check_originals_alone : goal.returns-in_err-check_originals_alone
+returns-in_err-check_originals_alone g c =
     ended-both (λ item. (item.0, item.1.now)) (λ item. (item.0, item.1.now)) _ c.args.recovery c.next.new.self c.in_default.ensures.steps
-    (c.in_err-check_all_came.ensures.0, λ originals begins. let led = decoding-none c.args.counts.original_count c.args.counts.recovery_count originals (Err c.in_err-check_all_came.field-0.0) c.args.counts.supported (c.in_err-check_all_came.ensures.1 originals begins) in search rules)
+    (c.in_err-check_originals_alone.ensures.0, λ originals begins. let led = decoding-none c.args.counts.original_count c.args.counts.recovery_count originals (Err c.in_err-check_originals_alone.field-0.0) c.args.counts.supported (c.in_err-check_originals_alone.ensures.1 originals begins) in search rules)
 
 pub returns-in_default : goal.returns-in_default
 returns-in_default g c =
     ended-both (λ item. (item.0, item.1.now)) (λ item. (item.0, item.1.now)) _ c.args.recovery c.next.new.self c.in_default.ensures.steps
-    (c.in_ok-check_all_came.ensures.0, λ originals begins. decoding-none c.args.counts.original_count c.args.counts.recovery_count originals (Ok tt) c.args.counts.supported (c.in_ok-check_all_came.ensures.1 originals begins))
+    (c.in_ok-check_originals_alone.ensures.0, λ originals begins. decoding-none c.args.counts.original_count c.args.counts.recovery_count originals (Ok tt) c.args.counts.supported (c.in_ok-check_originals_alone.ensures.1 originals begins))
 
 pub returns-in_err-decoder : goal.returns-in_err-decoder
 returns-in_err-decoder g c =

@@ -14,7 +14,7 @@ use Rattle.rs_field.specs.code.Code.{AreRecovery}
 use Rattle.rs_field.specs.code.CodeLaws.{changed}
 use Rattle.rs_field.specs.code.Given.{Shards, nothing, entered, count_below}
 use Rattle.rs_field.specs.code.Decoder.{IsAgreeing, IsConsistent, missing_of, Restored, DecodeAnswers}
-use Rattle.rs_field.specs.worked.Codes.{low_bytes, two_given, surplus_given, MixtureRow}
+use Rattle.rs_field.specs.worked.Codes.{low_bytes, two_given, surplus_given, MixtureExample}
 use Rattle.rs_field.proofs.of_words.Linear.{passes_below}
 use Rattle.rs_field.proofs.of_code.Agreement.{one_message}
 use Rattle.rs_field.proofs.of_code.Changes.{changes_noticed}
@@ -92,7 +92,7 @@ unfolding passes_below is_low next_power first_below value product combine bits 
 cubic = recovery_from_high 3 _ _ _ ((11 ∷ 6 ∷ 5 ∷ 1 ∷ []) ∷ []) refl
 
 -- two of each agree with it
-mixture : MixtureRow
+mixture : MixtureExample
 mixture = record {
   shards = shards_from 4 2 four refl;
   own = entered_among _ 1 (0 ∷ 0 ∷ []) four (entered_among nothing 3 (3 ∷ 0 ∷ []) four (nothing_among four) refl) refl;

@@ -8,13 +8,13 @@ use Rattle.rs_field.specs.code.Column.{column}
 use Rattle.rs_field.specs.code.Counts.{next_power, is_low, low_rate, high_rate, default_rate}
 use Rattle.rs_field.specs.code.Placement.{placement, low_placement, high_placement}
 use Rattle.rs_field.specs.code.CodeLaws.{xor_bytes, xor_shards}
-use Rattle.rs_field.specs.worked.Codes.{LowRows, HighRows, ShortLineRow, CubicRow, TailRow, ChunkAndTailRow}
+use Rattle.rs_field.specs.worked.Codes.{LowExamples, HighExamples, ShortLineExample, CubicExample, TailExample, ChunkAndTailExample}
 use Rattle.rs_field.proofs.of_words.Linear.{passes_below}
 use Rattle.rs_field.proofs.of_code.Decided.{codes_from, recovery_from, recovery_from_high}
 use Rattle.rs_field.proofs.worked.codes.Goals as goal
 
 -- the tests of the low rate
-low : LowRows low_rate × LowRows default_rate × ShortLineRow low_rate × CubicRow low_rate × TailRow × ChunkAndTailRow
+low : LowExamples low_rate × LowExamples default_rate × ShortLineExample low_rate × CubicExample low_rate × TailExample × ChunkAndTailExample
 unfolding passes_below placement low_placement high_placement is_low next_power first_below value product combine bits from_bits cantor_basis monomials carryless reduce column xor_bytes xor_shards
 low = (
   (
@@ -37,7 +37,7 @@ low = (
 )
 
 -- those of the high rate, below 4 or below 8
-high : HighRows high_rate × HighRows default_rate
+high : HighExamples high_rate × HighExamples default_rate
 unfolding passes_below is_low next_power first_below value product combine bits from_bits cantor_basis monomials carryless reduce column
 high = (
   (

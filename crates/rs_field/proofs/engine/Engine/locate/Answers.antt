@@ -32,7 +32,7 @@ returns-clause-values g c x hx =
     let first : List ℕ = c.copy_from_slice.new.self in
     let copied : length c.copy_from_slice.new.self ≡ length c.args.entries.now = ap (λ (xs : List ℕ). length xs) c.copy_from_slice.ensures.after in
     ap (λ (xs : List ℕ). get_or xs x 0 % 65535) c.copy_from_slice-2.ensures.after
-    ∙ ap (λ v. v % 65535) (get_or-take n c.eval_poly.new.erasures x 0 hx)
+    ∙ ap (λ v. v % 65535) (get_or-take n c.eval_poly.new.entries x 0 hx)
     ∙ c.eval_poly.ensures.values x (omega (arith, hx, c.requires.few))
     ∙ ap (λ v. v % 65535)
     (sum_of_first c.requires.power.0 n c.args.entries.now _ x size (few_bits c.requires.power.0 (omega (arith, size, c.requires.few)))

@@ -3,4 +3,4 @@ use Rattle.rs_field.proofs.rows.rows.mul_row.Goals as goal
 
 pub returns-clause-products : goal.returns-clause-products
 unfolding cell
-returns-clause-products g c k s inside symbols = c.mul_part.ensures.products k s inside symbols
+returns-clause-products g c k s inside symbols = c.mul_run.ensures.products k s inside symbols

@@ -4,4 +4,4 @@ use Rattle.rs_field.proofs.words.walsh_lanes.load.Goals as goal
 
 pub returns : goal.returns
 returns c i h =
-    get_or-chunk 0 16 c.args.data.now i 0 h ∙ ap (λ k. get_or c.args.data.now k 0) (omega arith)
+    get_or-chunk 0 16 c.args.entries.now i 0 h ∙ ap (λ k. get_or c.args.entries.now k 0) (omega arith)

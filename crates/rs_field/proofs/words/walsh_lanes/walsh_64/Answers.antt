@@ -6,16 +6,16 @@ use Rattle.rs_field.proofs.words.walsh_lanes.walsh_64.Goals as goal
 pub returns-clause-values : goal.returns-clause-values
 returns-clause-values c =
     let cut =
-    cut_in_quarters 32 16 c.args.data.now c.split_at_mut-low.result.0.now c.split_at_mut-low.result.1.now
+    cut_in_quarters 32 16 c.args.entries.now c.split_at_mut-low.result.0.now c.split_at_mut-low.result.1.now
     c.split_at_mut-x0.result.0.now c.split_at_mut-x0.result.1.now c.split_at_mut-x2.result.0.now c.split_at_mut-x2.result.1.now refl c.requires
     c.split_at_mut-low.ensures.front c.split_at_mut-low.ensures.back c.split_at_mut-x0.ensures.front c.split_at_mut-x0.ensures.back
     c.split_at_mut-x2.ensures.front c.split_at_mut-x2.ensures.back in
-    walsh-joined 4 64 16 c.args.data.now c.split_at_mut-x0.result.0.now c.split_at_mut-x0.result.1.now c.split_at_mut-x2.result.0.now c.split_at_mut-x2.result.1.now
+    walsh-joined 4 64 16 c.args.entries.now c.split_at_mut-x0.result.0.now c.split_at_mut-x0.result.1.now c.split_at_mut-x2.result.0.now c.split_at_mut-x2.result.1.now
     c.walsh_16-v0.result c.walsh_16-v1.result c.walsh_16-v2.result c.walsh_16-v3.result
-    c.store.new.data c.store-2.new.data c.store-3.new.data c.store-4.new.data refl refl cut (record {
-      size0 = c.store.auto.data ∙ cut.size0;
-      size1 = c.store-2.auto.data ∙ cut.size1;
-      size2 = c.store-3.auto.data ∙ cut.size2;
+    c.store.new.entries c.store-2.new.entries c.store-3.new.entries c.store-4.new.entries refl refl cut (record {
+      size0 = c.store.auto.entries ∙ cut.size0;
+      size1 = c.store-2.auto.entries ∙ cut.size1;
+      size2 = c.store-3.auto.entries ∙ cut.size2;
       done0 = walsh-same 16 (λ y. get_or c.load.result y 0) (λ y. get_or c.split_at_mut-x0.result.0.now y 0) (λ w. get_or c.walsh_16-v0.result w 0) c.load.ensures c.walsh_16-v0.ensures;
       done1 = walsh-same 16 (λ y. get_or c.load-2.result y 0) (λ y. get_or c.split_at_mut-x0.result.1.now y 0) (λ w. get_or c.walsh_16-v1.result w 0) c.load-2.ensures c.walsh_16-v1.ensures;
       done2 = walsh-same 16 (λ y. get_or c.load-3.result y 0) (λ y. get_or c.split_at_mut-x2.result.0.now y 0) (λ w. get_or c.walsh_16-v2.result w 0) c.load-3.ensures c.walsh_16-v2.ensures;

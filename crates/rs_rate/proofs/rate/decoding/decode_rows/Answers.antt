@@ -49,23 +49,23 @@ returns-clause-answer g c = λ rate is.
     let given = given_marks old.memory.marks in
     let marks = restored_marks c.restore-agrees.new.memory.marks in
     let chunks = c.restore-agrees.new.memory.chunks.items in
-    let round = c.round-round.ensures in
-    let counts = round_counts s c.round-round.result old.memory.marks round.shape round.facts in
+    let tally = c.tally-tally.ensures in
+    let counts = round_counts s c.tally-tally.result old.memory.marks tally.shape tally.facts in
     let missing : WantsMissing c.args.rows.now.shape.frame.originals_from c.args.rows.now.shape.configuration.original_count c.args.rows.now.memory.marks c.restore-agrees.new.memory.marks =
-    subst (λ (x : DecoderShape). WantsMissing x.frame.originals_from x.configuration.original_count old.memory.marks c.restore-agrees.new.memory.marks) round.shape c.restore-agrees.ensures.marks in
+    subst (λ (x : DecoderShape). WantsMissing x.frame.originals_from x.configuration.original_count old.memory.marks c.restore-agrees.new.memory.marks) tally.shape c.restore-agrees.ensures.marks in
     let most_too = given_row_count-most given s.frame.recovery_from s.configuration.recovery_count in
     let sized = λ (i : ℕ) (inside : i < s.configuration.original_count).
     subst (λ (xs : Chunks). IsShard s.configuration.shard_bytes (shard_in_order xs s.configuration.shard_bytes (from + i))) c.as_slice.ensures.value
-    (subst (λ (x : DecoderShape). IsShard x.configuration.shard_bytes (shard_in_order c.as_slice.result.now x.configuration.shard_bytes (from + i))) round.shape
-    (c.in_order_are_bytes.ensures (from + i) (omega (arith, inside, old.laid.places.originals, ap (λ (x : DecoderShape). x.frame.row_count) round.shape)))) in
+    (subst (λ (x : DecoderShape). IsShard x.configuration.shard_bytes (shard_in_order c.as_slice.result.now x.configuration.shard_bytes (from + i))) tally.shape
+    (c.in_order_are_bytes.ensures (from + i) (omega (arith, inside, old.laid.places.originals, ap (λ (x : DecoderShape). x.frame.row_count) tally.shape)))) in
     let told : ((c.restore-agrees.result ≡ true) × (c.if-agrees.answer ≡ Ok (s.configuration.original_count - old.originals_given)))
     ⊎ ((c.restore-agrees.result ≡ false) × (c.if-agrees.answer ≡ Err (InconsistentShards c.args.rows.now.originals_given c.args.rows.now.recovery_given))) =
     elim c.if-agrees.branch [
-      | then-agrees w ↦ inl (w.if-agrees.true, w.answer-is ∙ ap Ok (let is : c.round-round.result.missing ≡ c.args.rows.now.shape.configuration.original_count - c.args.rows.now.originals_given = omega (arith, counts.0, old.given.originals_counted) in is))
+      | then-agrees w ↦ inl (w.if-agrees.true, w.answer-is ∙ ap Ok (let is : c.tally-tally.result.missing ≡ c.args.rows.now.shape.configuration.original_count - c.args.rows.now.originals_given = omega (arith, counts.0, old.given.originals_counted) in is))
       | else-agrees w ↦ inr (w.if-agrees.false, w.answer-is)
     ] in
     let over : AnswersOver rate c.args.rows.now.shape (given_marks c.args.rows.now.memory.marks) (restored_marks c.restore-agrees.new.memory.marks) c.args.rows.now.memory.chunks.items c.restore-agrees.new.memory.chunks.items c.restore-agrees.result =
-    elim (cases_eq (c.round-round.result.missing + c.round-round.result.surplus) 0) [
+    elim (cases_eq (c.tally-tally.result.missing + c.tally-tally.result.surplus) 0) [
       | inl none ↦
           subst (λ b. AnswersOver rate s given marks before chunks b) (sym (c.restore-agrees.ensures.nothing (omega arith) (omega arith)))
           (complete_answers rate s given marks before chunks is.rows.valid is.shaped old.laid.configured.even old.given.shards
@@ -74,9 +74,9 @@ returns-clause-answer g c = λ rate is.
       | inr some ↦
           let made =
           subst (λ (x : DecoderShape). (locator : List ℕ) × IsLocatorOf x.frame given locator
-          × RestoresShards x given locator c.round-round.result.surplus before chunks c.restore-agrees.result) round.shape
+          × RestoresShards x given locator c.tally-tally.result.surplus before chunks c.restore-agrees.result) tally.shape
           (c.restore-agrees.ensures.restored (omega arith)) in
-          decode_answers rate s given marks made.0 c.round-round.result.surplus before chunks c.restore-agrees.result is.rows.valid is.shaped
+          decode_answers rate s given marks made.0 c.tally-tally.result.surplus before chunks c.restore-agrees.result is.rows.valid is.shaped
           (record {
             even = old.laid.configured.even;
             placed = old.given.placed;
@@ -96,11 +96,11 @@ returns-clause-counted g c =
     let s = old.shape in
     let given = given_marks old.memory.marks in
     let new = c.restore-agrees.new.memory in
-    let counts = round_counts s c.round-round.result old.memory.marks c.round-round.ensures.shape c.round-round.ensures.facts in
+    let counts = round_counts s c.tally-tally.result old.memory.marks c.tally-tally.ensures.shape c.tally-tally.ensures.facts in
     let missing : WantsMissing c.args.rows.now.shape.frame.originals_from c.args.rows.now.shape.configuration.original_count c.args.rows.now.memory.marks c.restore-agrees.new.memory.marks =
-    subst (λ (x : DecoderShape). WantsMissing x.frame.originals_from x.configuration.original_count old.memory.marks new.marks) c.round-round.ensures.shape c.restore-agrees.ensures.marks in
+    subst (λ (x : DecoderShape). WantsMissing x.frame.originals_from x.configuration.original_count old.memory.marks new.marks) c.tally-tally.ensures.shape c.restore-agrees.ensures.marks in
     let counted = length-restored given (restored_marks new.marks) new.chunks.items s.configuration.shard_bytes s.frame.originals_from s.configuration.original_count missing.missing in
     elim c.if-agrees.branch [
-      | then-agrees w ↦ let is : c.if-agrees.answer ≡ Ok c.round-round.result.missing = w.answer-is in rw (is, sub-zero) (omega (arith, counted, counts.0))
+      | then-agrees w ↦ let is : c.if-agrees.answer ≡ Ok c.tally-tally.result.missing = w.answer-is in rw (is, sub-zero) (omega (arith, counted, counts.0))
       | else-agrees w ↦ rw w.answer-is tt
     ]

@@ -48,9 +48,9 @@ pub code_further-requires : goal.code_further-requires
 code_further-requires g c =
     let rows = low_rows-fit c.args.configuration.original_count c.args.configuration.recovery_count c.requires.supported in
     let passed = c.args.rows.now in
-    let count : c.ifft.new.«data».shard_count ≡ passed.shard_count = c.ifft.ensures.shape.count ∙ c.clear_rows.ensures.shape.count in
+    let count : c.ifft.new.rows.shard_count ≡ passed.shard_count = c.ifft.ensures.shape.count ∙ c.clear_rows.ensures.shape.count in
     record {
-      fits = fits_kept c.clear_rows.new.«data» c.ifft.new.«data» c.ifft.ensures.shape (fits_kept passed c.clear_rows.new.«data» c.clear_rows.ensures.shape c.requires.fits);
+      fits = fits_kept c.clear_rows.new.rows c.ifft.new.rows c.ifft.ensures.shape (fits_kept passed c.clear_rows.new.rows c.clear_rows.ensures.shape c.requires.fits);
       power = (rows.power.0, c.requires.block ∙ rows.power.1);
       enough = omega (arith, rows.enough, c.requires.rows, count);
       whole = rw (count, c.requires.rows, c.requires.block) rows.whole;
@@ -79,21 +79,21 @@ returns-clause-words g c = λ k s inside symbols.
     let enough : c.args.configuration.recovery_count ≤ c.args.rows.now.shard_count = omega (arith, rows.enough, c.requires.rows) in
     let some : c.args.configuration.block_rows ≤ c.args.rows.now.shard_count = omega (arith, rows.some, c.requires.rows, block) in
     let given : c.args.configuration.original_count ≤ c.args.configuration.block_rows = omega (arith, rows.block, block) in
-    let len_1 : c.clear_rows.new.«data».shard_len_64 ≡ c.args.rows.now.shard_len_64 = c.clear_rows.ensures.shape.len_64 in
-    let len_2 : c.ifft.new.«data».shard_len_64 ≡ c.args.rows.now.shard_len_64 = c.ifft.ensures.shape.len_64 ∙ len_1 in
+    let len_1 : c.clear_rows.new.rows.shard_len_64 ≡ c.args.rows.now.shard_len_64 = c.clear_rows.ensures.shape.len_64 in
+    let len_2 : c.ifft.new.rows.shard_len_64 ≡ c.args.rows.now.shard_len_64 = c.ifft.ensures.shape.len_64 ∙ len_1 in
     let len_3 : c.code_further.new.rows.shard_len_64 ≡ c.args.rows.now.shard_len_64 = c.code_further.ensures.shape.len_64 ∙ len_2 in
     let old : ℕ → ℕ = word c.args.rows.now k s in
-    let new : ℕ → ℕ = word c.fft.new.«data» k s in
+    let new : ℕ → ℕ = word c.fft.new.rows k s in
     let column : CodesLow c.args.configuration.original_count c.args.configuration.recovery_count c.args.configuration.block_rows old new =
     coded c.args.configuration.original_count c.args.configuration.recovery_count c.args.configuration.block_rows
-    old (word c.clear_rows.new.«data» k s) (word c.ifft.new.«data» k s) (word c.code_further.new.rows k s) new
-    (λ j small. ap (λ x. symbol x s) (outside_cell _ _ c.args.rows.now c.clear_rows.new.«data» c.clear_rows.ensures.shape c.clear_rows.ensures.others j k inside (inl small)))
+    old (word c.clear_rows.new.rows k s) (word c.ifft.new.rows k s) (word c.code_further.new.rows k s) new
+    (λ j small. ap (λ x. symbol x s) (outside_cell _ _ c.args.rows.now c.clear_rows.new.rows c.clear_rows.ensures.shape c.clear_rows.ensures.others j k inside (inl small)))
     (λ j low high. ap (λ x. symbol x s) (c.clear_rows.ensures.zeros j k (omega arith) low high) ∙ symbol-zero s symbols)
     (λ j small. c.ifft.ensures.values k s j (omega arith) symbols small)
     (λ q small. ap (λ x. symbol x s) (c.code_further.ensures.combination q k (omega arith) small))
     (λ i low few. c.code_further.ensures.values k s i (omega arith) symbols low few)
     (λ i wanted. c.fft.ensures.values k s i (omega arith) symbols (omega arith))
-    (λ i low. ap (λ x. symbol x s) (outside_cell _ _ c.code_further.new.rows c.fft.new.«data» c.fft.ensures.shape c.fft.ensures.others i k (omega arith) (inr (omega arith))))
+    (λ i low. ap (λ x. symbol x s) (outside_cell _ _ c.code_further.new.rows c.fft.new.rows c.fft.ensures.shape c.fft.ensures.others i k (omega arith) (inr (omega arith))))
     given in
     codes_words c.args.configuration.original_count c.args.configuration.recovery_count old new c.requires.supported
     (subst (λ (m : ℕ). CodesLow c.args.configuration.original_count c.args.configuration.recovery_count m old new) block column)
@@ -102,8 +102,8 @@ pub returns-clause-counts : goal.returns-clause-counts
 returns-clause-counts g c =
     let t : ℕ = transform_steps c.args.configuration.block_rows in
     let cleared : ℕ = c.args.configuration.block_rows - c.args.configuration.original_count in
-    let further : ℕ = further_blocks c.args.configuration.block_rows c.ifft.new.«data».shard_count * (c.args.configuration.block_rows + transform_steps c.args.configuration.block_rows) in
-    let all = low_total c.args.configuration.original_count c.args.configuration.recovery_count c.args.configuration.block_rows c.ifft.new.«data».shard_count c.requires.supported c.requires.block
+    let further : ℕ = further_blocks c.args.configuration.block_rows c.ifft.new.rows.shard_count * (c.args.configuration.block_rows + transform_steps c.args.configuration.block_rows) in
+    let all = low_total c.args.configuration.original_count c.args.configuration.recovery_count c.args.configuration.block_rows c.ifft.new.rows.shard_count c.requires.supported c.requires.block
     (c.ifft.ensures.shape.count ∙ c.clear_rows.ensures.shape.count ∙ c.requires.rows) in
     counts_both (cleared + t + further) t (encode_steps_at low_rate c.args.configuration.original_count c.args.configuration.recovery_count - c.args.configuration.recovery_count)
     c.args.steps.now c.code_further.new.steps c.fft.new.steps (omega (arith, all))

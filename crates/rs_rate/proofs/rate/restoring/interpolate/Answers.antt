@@ -6,13 +6,13 @@ use Rattle.rs_rate.proofs.rate.restoring.interpolate.Goals as goal
 
 pub ifft_given-requires-clause-power : goal.ifft_given-requires-clause-power
 ifft_given-requires-clause-power g c =
-    let p = rows_power c.args.round.shape c.requires.laid in (p.0, c.requires.marked ∙ p.1)
+    let p = rows_power c.args.tally.shape c.requires.laid in (p.0, c.requires.marked ∙ p.1)
 
 pub returns-clause-coefficients : goal.returns-clause-coefficients
 returns-clause-coefficients g c =
-    let s = c.args.round.shape in
+    let s = c.args.tally.shape in
     let old = c.args.rows.now in
-    let passed = c.ifft_given.new.«data» in
+    let passed = c.ifft_given.new.rows in
     let located_shape = c.locate_rows.ensures.shape in
     let shape = c.ifft_given.ensures.shape in
     let rows = s.frame.row_count in
@@ -22,6 +22,6 @@ returns-clause-coefficients g c =
           sym (c.locate_rows.ensures.located k t i (omega (arith, hk, c.requires.len)) ht (omega (arith, hi, c.requires.count)))
           ∙ from_row_zero _ rows i (word c.locate_rows.new.rows k t) (word passed k t) c.requires.marked
           (c.ifft_given.ensures.values k t i (omega (arith, hk, located_shape.len_64, c.requires.len)) ht (omega (arith, hi, c.requires.marked)));
-      checked = checked_rows rows c.args.round.surplus s.configuration.shard_bytes passed.shard_count (rows - c.args.round.surplus) (word passed) c.are_zero.result c.are_zero.result
-          c.requires.few_surplus refl (shape.count ∙ located_shape.count ∙ c.requires.count) refl c.are_zero.ensures.zero;
+      checked = checked_rows rows c.args.tally.surplus s.configuration.shard_bytes passed.shard_count (rows - c.args.tally.surplus) (word passed) c.are_zero_rows.result c.are_zero_rows.result
+          c.requires.few_surplus refl (shape.count ∙ located_shape.count ∙ c.requires.count) refl c.are_zero_rows.ensures.zero;
     }

@@ -30,7 +30,7 @@ loop-p-preserved g c =
       | then-given-p w ↦
           let given = w.if-given-p.true in
           subst (λ (r : ShardsRefMut). RowLocated marks locator p mid r c.loop-p.steps c.if-given-p.steps) (sym w.rows-is)
-          (subst (λ (t : Steps). RowLocated marks locator p mid w.mul_row.new.«data» c.loop-p.steps t) (sym w.steps-is)
+          (subst (λ (t : Steps). RowLocated marks locator p mid w.mul_row.new.rows c.loop-p.steps t) (sym w.steps-is)
           (record {
             shape = w.mul_row.ensures.shape;
             others = w.mul_row.ensures.others;
@@ -42,7 +42,7 @@ loop-p-preserved g c =
           let none = w.if-given-p.false in
           let cleared_len = w.clear_rows.ensures.shape.len_64 in
           subst (λ (r : ShardsRefMut). RowLocated marks locator p mid r c.loop-p.steps c.if-given-p.steps) (sym w.rows-is)
-          (subst (λ (t : Steps). RowLocated marks locator p mid w.clear_rows.new.«data» c.loop-p.steps t) (sym w.steps-is)
+          (subst (λ (t : Steps). RowLocated marks locator p mid w.clear_rows.new.rows c.loop-p.steps t) (sym w.steps-is)
           (record {
             shape = w.clear_rows.ensures.shape;
             others = w.clear_rows.ensures.others;

@@ -8,27 +8,27 @@ use Rattle.rs_rate.specs.Marks.{given_marks}
 use Rattle.rs_rate.proofs.DecoderLemmas.{all_given, rows_power}
 use Rattle.rs_rate.proofs.RestoringRows.{from_row_zero}
 use Rattle.rs_rate.proofs.rate.restoring.restore_rows.Goals as goal
-use Rattle.rs_rate.proofs.rate.restoring.restore_rows.Goals.{else-agrees-via-then-agrees+else-round-gt0, else-agrees-via-else-agrees}
+use Rattle.rs_rate.proofs.rate.restoring.restore_rows.Goals.{else-agrees-via-then-agrees+else-tally-gt0, else-agrees-via-else-agrees}
 
 pub formal_derivative-requires-clause-power : goal.formal_derivative-requires-clause-power
 formal_derivative-requires-clause-power g c =
-    let p = rows_power c.args.round.shape c.requires.facts.laid in
+    let p = rows_power c.args.tally.shape c.requires.facts.laid in
     (p.0, c.interpolate-agrees.ensures.shape.count ∙ c.requires.count ∙ p.1)
 
 pub fft_wanted-requires-clause-power : goal.fft_wanted-requires-clause-power
 fft_wanted-requires-clause-power g c =
-    let p = rows_power c.args.round.shape c.requires.facts.laid in
+    let p = rows_power c.args.tally.shape c.requires.facts.laid in
     let missing = c.want_missing.ensures in
     (p.0, c.restored.ensures.length ∙ missing.length ∙ c.requires.facts.marked ∙ p.1)
 
-pub returns-then-round-gt0-clause-words : goal.returns-then-round-gt0-clause-words
-returns-then-round-gt0-clause-words g c =
-    let s = c.args.round.shape in
+pub returns-then-tally-gt0-clause-words : goal.returns-then-tally-gt0-clause-words
+returns-then-tally-gt0-clause-words g c =
+    let s = c.args.tally.shape in
     let from = s.frame.originals_from in
     let locator = c.args.locator.now in
     let passed = c.interpolate-agrees.new.rows in
-    let added = c.formal_derivative.new.«data» in
-    let valued = c.fft_wanted.new.«data» in
+    let added = c.formal_derivative.new.rows in
+    let valued = c.fft_wanted.new.rows in
     let shape = c.interpolate-agrees.ensures.shape in
     let added_shape = c.formal_derivative.ensures.shape in
     let valued_shape = c.fft_wanted.ensures.shape in
@@ -52,14 +52,14 @@ returns-then-round-gt0-clause-words g c =
 
 pub returns-else-agrees-clause-words : goal.returns-else-agrees-clause-words
 returns-else-agrees-clause-words g c =
-    let s = c.args.round.shape in
+    let s = c.args.tally.shape in
     let marks = given_marks c.args.marks.now in
     record {
       coefficients = word c.interpolate-agrees.new.rows;
       found = rw (← c.given.ensures.marks) c.interpolate-agrees.ensures.coefficients;
       revealed = λ agreed k t hk ht i hi none. elim c.else-agrees.branch [
-        | else-agrees-via-then-agrees+else-round-gt0 w ↦
-            absurd (true≢false (sym (all_given marks s.frame.originals_from s.configuration.original_count (omega (arith, w.if-round-gt0.false, c.requires.facts.missing_counted)) i hi) ∙ none))
+        | else-agrees-via-then-agrees+else-tally-gt0 w ↦
+            absurd (true≢false (sym (all_given marks s.frame.originals_from s.configuration.original_count (omega (arith, w.if-tally-gt0.false, c.requires.facts.missing_counted)) i hi) ∙ none))
         | else-agrees-via-else-agrees w ↦ absurd (true≢false (sym agreed ∙ w.if-agrees.false))
       ];
     }

@@ -1,13 +1,13 @@
 use Rattle.rs_field.proofs.Walking.{◌≡◌, refl, sym, ap, ◌∙◌, ◌+◌, ◌*◌, ◌^◌, ◌<◌, ◌≤◌, arith, List, [], ◌∷◌, ◌++◌, length, take, drop_list, named, w64, Val, vstruct, vcons, vnil, of_list, id⊢, emp, full_share, Lft, ftrue, flft, fact, fact_i, tables, proved, mul-le-mul_right, ‵, ◌⊛◌, raw, some, later, ◌$◌, ◌∵◌, !, qed, move, keep, drop, split, join, fsplit3, fjoin, fjoin3, use0, use1, use2, await, pick, suffices, done, rewrite, group, whole, sub, look_in, stop, fld, addr, load, bin, of_opd, returns, enter, no_more, and_then, alloc_all, pass_all, free_all, look_at, get, through, sets, lands_as, usize, u8, yes, no, Is, shows, cell_at, uint_vals, uint_Tells, uint_Makes, RattleType, owns, Valss, flat, MutBor, MutRef, mut_vals, mut_Tells, plain, named_lft, Array, MutSlice, Room, slice_val, nothing, heard, only, opens, closes, peeks, owned, row, fields, tuple_type, calls_at, lasts, triple_of, framed, Stays, stay_dropped, walk_of, ends_at, Goes-dropped, Goes-spent_ref}
 use Rattle.rs_field.specs.rows.Rows.{Chunks}
-use Rattle.rs_field.specs.rows.Lending.{LendsTwoParts}
+use Rattle.rs_field.specs.rows.Lending.{LendsTwoRuns}
 use Rattle.rs_field.specs.declared.rows.shards.ShardsRefMut.{ShardsRefMut}
 use Rattle.rs_field.specs.contracts.rows.shards.ShardsRefMut.{the_row, the_type}
 use Rattle.rs_field.specs.contracts.rows.shards.ShardsRefMut.dist2_mut as f
 use Rattle.rs_field.proofs.rows.shards.ShardsRefMut.dist2_mut.Statement.{statement}
 use Rattle.rs_field.proofs.rows.shards.ShardsRefMut.dist2_mut.Code as code
-use Rattle.rs_field.specs.contracts.rows.shards.ShardsRefMut.two_parts as g
-use Rattle.rs_field.proofs.rows.shards.ShardsRefMut.two_parts.Met.{met}
+use Rattle.rs_field.specs.contracts.rows.shards.ShardsRefMut.two_runs as g
+use Rattle.rs_field.proofs.rows.shards.ShardsRefMut.two_runs.Met.{met}
 
 abbrev E : RattleType
 E = Array u8 64
@@ -43,7 +43,7 @@ dist2_mut_spec 𝓤 𝓛 𝓜 𝓡 wired =
     let bytes : length ch * 64 < 2 ^ 63 = rm.1 in
     let pos_below : (pos + 1) * n ≤ (pos + dist) * n = mul-le-mul_right n (omega (arith, apart)) in
     let ends_below : (pos + dist + 1) * n ≤ h.shard_count * n = mul-le-mul_right n (omega (arith, within)) in
-    let parts : pos * n + n ≤ (pos + dist) * n = omega arith in
+    let runs : pos * n + n ≤ (pos + dist) * n = omega arith in
     let last : (pos + dist) * n + n ≤ length ch = omega arith in
     let first_fits : pos * n < 2 ^ 64 = omega arith in
     let second_fits : (pos + dist) * n < 2 ^ 64 = omega arith in
@@ -54,7 +54,7 @@ dist2_mut_spec 𝓤 𝓛 𝓜 𝓡 wired =
     rewrite ! 1 Cell held refl $
     sets ! (of_opd ! (load ! (through ! refl (fld ! refl (stop !))) (look_in ! 1 (sub ! 1 refl (whole !))))) refl (tt, record { fits = sized }) $
     rewrite ! 1 Cell (sym held) refl $ move ! (1 ∷ []) $ closes ! tt Row h us b o $
-    -- [two parts of self; the token of the loan; what is left of self; the other tokens]
+    -- [two runs of self; the token of the loan; what is left of self; the other tokens]
     move ! (3 ∷ 0 ∷ 1 ∷ []) $ fjoin3 ! $
     sets ! (bin ! (get ! refl) (get ! refl) (record { fits = first_fits })) refl (tt, record { fits = first_fits }) $
     sets ! (bin ! (get ! refl) (get ! refl) (record { fits = sum_fits })) refl (tt, record { fits = sum_fits }) $
@@ -70,12 +70,12 @@ dist2_mut_spec 𝓤 𝓛 𝓜 𝓡 wired =
     owned ! usize _ (uint_Makes 𝓛 w64) (pos * n) _ (refl, first_fits) $ fjoin ! $
     move ! (1 ∷ 0 ∷ []) $ join ! $ move ! (1 ∷ 2 ∷ []) $ join ! $ join ! $
     use0 𝓛 (raw (fact 𝓤 ((pos + dist) * n + n ≤ length ch))) (fact_i 𝓤 ((pos + dist) * n + n ≤ length ch) (emp 𝓤) last) $
-    use0 𝓛 (raw (fact 𝓤 (pos * n + n ≤ (pos + dist) * n))) (fact_i 𝓤 (pos * n + n ≤ (pos + dist) * n) (emp 𝓤) parts) $
+    use0 𝓛 (raw (fact 𝓤 (pos * n + n ≤ (pos + dist) * n))) (fact_i 𝓤 (pos * n + n ≤ (pos + dist) * n) (emp 𝓤) runs) $
     join ! $ move ! (1 ∷ 0 ∷ []) $ use2 𝓛 (raw (G.pre z)) (id⊢ 𝓤 _) $
-    calls_at ! (framed 𝓤 𝓛.H 𝓜 𝓣) G (met 𝓤 𝓛 𝓜 𝓡 (code.calls-rs_field::rows::shards::ShardsRefMut::two_parts 𝓡.env wired)) z
+    calls_at ! (framed 𝓤 𝓛.H 𝓜 𝓣) G (met 𝓤 𝓛 𝓜 𝓡 (code.calls-rs_field::rows::shards::ShardsRefMut::two_runs 𝓡.env wired)) z
     (and_then ! (get ! refl) (and_then ! (get ! refl) (and_then ! (get ! refl) (and_then ! (get ! refl) (and_then ! (get ! refl) (no_more !)))))) (λ v.
     use1 𝓛 (later (some (λ (x : MutBor Chunks × MutBor Chunks). ((‵ (flft κs.0 qs.0) ⊛ ‵ (flft κs.1.0 qs.1.0) ⊛ ‵ ftrue) ⊛ ‵ ((Pair κs.0).own_val x (v ∷ []))) ⊛
-    some (λ (ws : Unit {0} × (Unit {0} × (Unit {0} × (Unit {0} × (Unit {0} × Unit {0}))))). ‵ (lasts g.ended κs z.0.3 ws) ⊛ ‵ (LendsTwoParts self (pos * n) n ((pos + dist) * n) n x)
+    some (λ (ws : Unit {0} × (Unit {0} × (Unit {0} × (Unit {0} × (Unit {0} × Unit {0}))))). ‵ (lasts g.ended κs z.0.3 ws) ⊛ ‵ (LendsTwoRuns self (pos * n) n ((pos + dist) * n) n x)
     ⊛ raw (fact 𝓤 ((x.0.now ≡ take n (drop_list (pos * n) ch)) × (x.1.now ≡ take n (drop_list ((pos + dist) * n) ch)))))))) (id⊢ 𝓤 _) $
     await ! tt $ pick ! (λ x. split ! $ split ! $ move ! (2 ∷ []) $ pick ! (λ ws. split ! $ drop ! $ split ! $ move ! (1 ∷ []) $ heard ! _ (λ value. move ! (2 ∷ []) $
     -- [the pair; what self follows; the tokens; the locals]

@@ -1,13 +1,13 @@
 use Rattle.rs_field.proofs.Walking.{◌≡◌, refl, sym, ap, ◌∙◌, ℕ, ◌+◌, ◌*◌, ◌^◌, ◌<◌, ◌≤◌, arith, List, [], ◌∷◌, ◌++◌, length, take, drop_list, named, w64, Val, vstruct, vcons, vnil, of_list, id⊢, emp, full_share, Lft, ftrue, flft, fact, fact_i, tables, proved, mul-le-mul_right, ‵, ◌⊛◌, raw, some, later, ◌$◌, ◌∵◌, !, qed, move, keep, drop, split, join, fsplit3, fjoin, fjoin3, use0, use1, use2, await, pick, suffices, done, rewrite, group, whole, sub, look_in, stop, fld, addr, load, bin, lit, of_opd, returns, enter, no_more, and_then, alloc_all, pass_all, free_all, look_at, get, through, sets, lands_as, usize, u8, yes, no, Is, shows, cell_at, uint_vals, uint_Tells, uint_Makes, RattleType, owns, Valss, flat, MutBor, MutRef, mut_vals, mut_Tells, plain, named_lft, Array, MutSlice, Room, slice_val, nothing, heard, only, opens, closes, peeks, owned, row, fields, tuple_type, calls_at, lasts, triple_of, framed, Stays, stay_dropped, walk_of, ends_at, Goes-dropped, Goes-spent_ref}
 use Rattle.rs_field.specs.rows.Rows.{Chunks}
-use Rattle.rs_field.specs.rows.Lending.{LendsFourParts}
+use Rattle.rs_field.specs.rows.Lending.{LendsFourRuns}
 use Rattle.rs_field.specs.declared.rows.shards.ShardsRefMut.{ShardsRefMut}
 use Rattle.rs_field.specs.contracts.rows.shards.ShardsRefMut.{the_row, the_type}
 use Rattle.rs_field.specs.contracts.rows.shards.ShardsRefMut.dist4_mut as f
 use Rattle.rs_field.proofs.rows.shards.ShardsRefMut.dist4_mut.Statement.{statement}
 use Rattle.rs_field.proofs.rows.shards.ShardsRefMut.dist4_mut.Code as code
-use Rattle.rs_field.specs.contracts.rows.shards.ShardsRefMut.four_parts as g
-use Rattle.rs_field.proofs.rows.shards.ShardsRefMut.four_parts.Met.{met}
+use Rattle.rs_field.specs.contracts.rows.shards.ShardsRefMut.four_runs as g
+use Rattle.rs_field.proofs.rows.shards.ShardsRefMut.four_runs.Met.{met}
 
 abbrev E : RattleType
 E = Array u8 64
@@ -44,7 +44,7 @@ dist4_mut_spec 𝓤 𝓛 𝓜 𝓡 wired =
     let i : ℕ = pos * n in let j : ℕ = (pos + dist) * n in let k : ℕ = (pos + 2 * dist) * n in let m : ℕ = (pos + 3 * dist) * n in
     let one_row : 1 * n ≤ dist * n = mul-le-mul_right n apart in
     let ends_below : (pos + 3 * dist + 1) * n ≤ h.shard_count * n = mul-le-mul_right n (omega (arith, within)) in
-    let parts : (i + n ≤ j) × (j + n ≤ k) × (k + n ≤ m) = (omega arith, omega arith, omega arith) in
+    let runs : (i + n ≤ j) × (j + n ≤ k) × (k + n ≤ m) = (omega arith, omega arith, omega arith) in
     let last : m + n ≤ length ch = omega arith in
     let fi : i < 2 ^ 64 = omega arith in let fj : j < 2 ^ 64 = omega arith in let fk : k < 2 ^ 64 = omega arith in let fm : m < 2 ^ 64 = omega arith in
     let counted : h.shard_count < 2 ^ 64 = is.1.1.0.1 in
@@ -57,7 +57,7 @@ dist4_mut_spec 𝓤 𝓛 𝓜 𝓡 wired =
     rewrite ! 1 Cell held refl $
     sets ! (of_opd ! (load ! (through ! refl (fld ! refl (stop !))) (look_in ! 1 (sub ! 1 refl (whole !))))) refl (tt, record { fits = sized }) $
     rewrite ! 1 Cell (sym held) refl $ move ! (1 ∷ []) $ closes ! tt Row h us b o $
-    -- [two parts of self; the token of the loan; what is left of self; the other tokens]
+    -- [two runs of self; the token of the loan; what is left of self; the other tokens]
     move ! (3 ∷ 0 ∷ 1 ∷ []) $ fjoin3 ! $
     sets ! (bin ! (get ! refl) (get ! refl) (record { fits = fi })) refl (tt, record { fits = fi }) $
     sets ! (bin ! (get ! refl) (get ! refl) (record { fits = fd })) refl (tt, record { fits = fd }) $
@@ -77,16 +77,16 @@ dist4_mut_spec 𝓤 𝓛 𝓜 𝓡 wired =
     owned ! usize _ (uint_Makes 𝓛 w64) m _ (refl, fm) $ fjoin ! $ owned ! usize _ (uint_Makes 𝓛 w64) k _ (refl, fk) $ fjoin ! $
     owned ! usize _ (uint_Makes 𝓛 w64) j _ (refl, fj) $ fjoin ! $ owned ! usize _ (uint_Makes 𝓛 w64) i _ (refl, fi) $ fjoin ! $
     move ! (1 ∷ 0 ∷ []) $ join ! $ move ! (1 ∷ 2 ∷ []) $ join ! $ join ! $
-    let Parts : Type 0 = (i + n ≤ j) × (j + n ≤ k) × (k + n ≤ m) in
+    let RunsApart : Type 0 = (i + n ≤ j) × (j + n ≤ k) × (k + n ≤ m) in
     use0 𝓛 (raw (fact 𝓤 (m + n ≤ length ch))) (fact_i 𝓤 (m + n ≤ length ch) (emp 𝓤) last) $
-    use0 𝓛 (raw (fact 𝓤 Parts)) (fact_i 𝓤 Parts (emp 𝓤) parts) $
+    use0 𝓛 (raw (fact 𝓤 RunsApart)) (fact_i 𝓤 RunsApart (emp 𝓤) runs) $
     join ! $ move ! (1 ∷ 0 ∷ []) $ use2 𝓛 (raw (G.pre z)) (id⊢ 𝓤 _) $
-    calls_at ! (framed 𝓤 𝓛.H 𝓜 𝓣) G (met 𝓤 𝓛 𝓜 𝓡 (code.calls-rs_field::rows::shards::ShardsRefMut::four_parts 𝓡.env wired)) z
+    calls_at ! (framed 𝓤 𝓛.H 𝓜 𝓣) G (met 𝓤 𝓛 𝓜 𝓡 (code.calls-rs_field::rows::shards::ShardsRefMut::four_runs 𝓡.env wired)) z
     (and_then ! (get ! refl) (and_then ! (get ! refl) (and_then ! (get ! refl) (and_then ! (get ! refl) (and_then ! (get ! refl) (and_then ! (get ! refl) (no_more !))))))) (λ v.
-    let part : ℕ → Chunks = λ start. take n (drop_list start ch) in
+    let run : ℕ → Chunks = λ start. take n (drop_list start ch) in
     use1 𝓛 (later (some (λ (x : MutBor Chunks × MutBor Chunks × MutBor Chunks × MutBor Chunks). ((‵ (flft κs.0 qs.0) ⊛ ‵ (flft κs.1.0 qs.1.0) ⊛ ‵ ftrue) ⊛ ‵ ((Fours κs.0).own_val x (v ∷ []))) ⊛
-    some (λ (ws : Unit {0} × (Unit {0} × (Unit {0} × (Unit {0} × (Unit {0} × (Unit {0} × Unit {0})))))). ‵ (lasts g.ended κs z.0.3 ws) ⊛ ‵ (LendsFourParts self i j k m n x)
-    ⊛ raw (fact 𝓤 ((x.0.now ≡ part i) × (x.1.now ≡ part j) × (x.2.now ≡ part k) × (x.3.now ≡ part m))))))) (id⊢ 𝓤 _) $
+    some (λ (ws : Unit {0} × (Unit {0} × (Unit {0} × (Unit {0} × (Unit {0} × (Unit {0} × Unit {0})))))). ‵ (lasts g.ended κs z.0.3 ws) ⊛ ‵ (LendsFourRuns self i j k m n x)
+    ⊛ raw (fact 𝓤 ((x.0.now ≡ run i) × (x.1.now ≡ run j) × (x.2.now ≡ run k) × (x.3.now ≡ run m))))))) (id⊢ 𝓤 _) $
     await ! tt $ pick ! (λ x. split ! $ split ! $ move ! (2 ∷ []) $ pick ! (λ ws. split ! $ drop ! $ split ! $ move ! (1 ∷ []) $ heard ! _ (λ value. move ! (2 ∷ []) $
     -- [the pair; what self follows; the tokens; the locals]
     peeks ! (Fours κs.0) (Is (Fours κs.0)) (shows 𝓛 (Fours κs.0)) x (v ∷ []) (λ pair.
@@ -103,8 +103,8 @@ dist4_mut_spec 𝓤 𝓛 𝓜 𝓡 wired =
     returns ! (look_at ! 0 refl) $ free_all ! refl $
     suffices ! _ (ends_at 𝓛 f.ended stayed c y w x (tt, (tt, (tt, tt))) (tt, (tt, (tt, tt)))) $
     keep ! (0 ∷ 1 ∷ 2 ∷ []) $
-    use0 𝓛 (raw (fact 𝓤 (x.3.now ≡ part m))) (fact_i 𝓤 (x.3.now ≡ part m) (emp 𝓤) value.3) $
-    use0 𝓛 (raw (fact 𝓤 (x.2.now ≡ part k))) (fact_i 𝓤 (x.2.now ≡ part k) (emp 𝓤) value.2) $ join ! $
-    use0 𝓛 (raw (fact 𝓤 (x.1.now ≡ part j))) (fact_i 𝓤 (x.1.now ≡ part j) (emp 𝓤) value.1) $ join ! $
-    use0 𝓛 (raw (fact 𝓤 (x.0.now ≡ part i))) (fact_i 𝓤 (x.0.now ≡ part i) (emp 𝓤) value.0) $ join ! $ move ! (1 ∷ 2 ∷ 3 ∷ 0 ∷ []) $
+    use0 𝓛 (raw (fact 𝓤 (x.3.now ≡ run m))) (fact_i 𝓤 (x.3.now ≡ run m) (emp 𝓤) value.3) $
+    use0 𝓛 (raw (fact 𝓤 (x.2.now ≡ run k))) (fact_i 𝓤 (x.2.now ≡ run k) (emp 𝓤) value.2) $ join ! $
+    use0 𝓛 (raw (fact 𝓤 (x.1.now ≡ run j))) (fact_i 𝓤 (x.1.now ≡ run j) (emp 𝓤) value.1) $ join ! $
+    use0 𝓛 (raw (fact 𝓤 (x.0.now ≡ run i))) (fact_i 𝓤 (x.0.now ≡ run i) (emp 𝓤) value.0) $ join ! $ move ! (1 ∷ 2 ∷ 3 ∷ 0 ∷ []) $
     nothing ! $ nothing ! $ fjoin ! $ nothing ! $ fjoin ! $ nothing ! $ fjoin ! $ join ! $ move ! (2 ∷ []) $ join ! $ group ! 3 $ done !))))))))))))

@@ -4,15 +4,15 @@ use Rattle.std.proofs.Common.{lit<}
 use denote.Struct.Tuple.{tuple_laws}
 use Rattle.rs_field.specs.rows.Rows.{Chunks}
 use Rattle.rs_field.specs.rows.View.{HasRows, IsListOf}
-use Rattle.rs_field.specs.rows.Lending.{LendsTwoParts, with_chunks, with_two}
+use Rattle.rs_field.specs.rows.Lending.{LendsTwoRuns, with_chunks, with_two}
 use Rattle.rs_field.specs.declared.rows.shards.ShardsRefMut.{ShardsRefMut}
 use Rattle.rs_field.specs.contracts.rows.shards.ShardsRefMut.{the_row, the_type}
 use Rattle.rs_field.proofs.rows.shards.ShardsRefMut.TheLaws.{the_row_laws}
 use Rattle.rs_field.specs.contracts.rows.shards.ShardsRefMut.split_at_mut as f
 use Rattle.rs_field.proofs.rows.shards.ShardsRefMut.split_at_mut.Statement.{statement}
 use Rattle.rs_field.proofs.rows.shards.ShardsRefMut.split_at_mut.Code as code
-use Rattle.rs_field.specs.contracts.rows.shards.ShardsRefMut.two_parts as g
-use Rattle.rs_field.proofs.rows.shards.ShardsRefMut.two_parts.Met.{met}
+use Rattle.rs_field.specs.contracts.rows.shards.ShardsRefMut.two_runs as g
+use Rattle.rs_field.proofs.rows.shards.ShardsRefMut.two_runs.Met.{met}
 use Rattle.rs_field.specs.contracts.rows.shards.two_lists as g'
 use Rattle.rs_field.proofs.rows.shards.two_lists.Met.{met as met'}
 
@@ -75,7 +75,7 @@ split_at_mut_spec 𝓤 𝓛 𝓜 𝓡 wired =
     sets ! (of_opd ! (load ! (through ! refl (fld ! refl (stop !))) (look_in ! 1 (sub ! 1 refl (whole !))))) refl (tt, record { fits = sized }) $
     sets ! (of_opd ! (load ! (through ! refl (fld ! refl (stop !))) (look_in ! 1 (sub ! 0 refl (whole !))))) refl (tt, record { fits = counted }) $
     rewrite ! 1 Cell (sym held) refl $ move ! (1 ∷ []) $ closes ! tt Row h us b o $
-    -- [two parts of self; the token of the loan; what is left of self; the other tokens]
+    -- [two runs of self; the token of the loan; what is left of self; the other tokens]
     move ! (3 ∷ 0 ∷ 1 ∷ []) $ fjoin3 ! $
     sets ! (bin ! (get ! refl) (get ! refl) within) refl (tt, record { fits = rest_fits }) $
     sets ! (bin ! (get ! refl) (get ! refl) (record { fits = first_fits })) refl (tt, record { fits = first_fits }) $
@@ -93,10 +93,10 @@ split_at_mut_spec 𝓤 𝓛 𝓜 𝓡 wired =
     use0 𝓛 (raw (fact 𝓤 (mid * n + rest * n ≤ length ch))) (fact_i 𝓤 (mid * n + rest * n ≤ length ch) (emp 𝓤) last) $
     use0 𝓛 (raw (fact 𝓤 (0 + mid * n ≤ mid * n))) (fact_i 𝓤 (0 + mid * n ≤ mid * n) (emp 𝓤) apart) $
     join ! $ move ! (1 ∷ 0 ∷ []) $ use2 𝓛 (raw (G.pre z)) (id⊢ 𝓤 _) $
-    calls_at ! (framed 𝓤 𝓛.H 𝓜 𝓣) G (met 𝓤 𝓛 𝓜 𝓡 (code.calls-rs_field::rows::shards::ShardsRefMut::two_parts 𝓡.env wired)) z
+    calls_at ! (framed 𝓤 𝓛.H 𝓜 𝓣) G (met 𝓤 𝓛 𝓜 𝓡 (code.calls-rs_field::rows::shards::ShardsRefMut::two_runs 𝓡.env wired)) z
     (and_then ! (get ! refl) (and_then ! (lit ! tt) (and_then ! (get ! refl) (and_then ! (get ! refl) (and_then ! (get ! refl) (no_more !)))))) (λ v.
     use1 𝓛 (later (some (λ (x : MutBor Chunks × MutBor Chunks). ((‵ (flft κs.0 qs.0) ⊛ ‵ (flft κs.1.0 qs.1.0) ⊛ ‵ ftrue) ⊛ ‵ ((Pair κs.0).own_val x (v ∷ []))) ⊛
-    some (λ (ws : Unit {0} × (Unit {0} × (Unit {0} × (Unit {0} × (Unit {0} × Unit {0}))))). ‵ (lasts g.ended κs z.0.3 ws) ⊛ ‵ (LendsTwoParts self 0 (mid * n) (mid * n) (rest * n) x)
+    some (λ (ws : Unit {0} × (Unit {0} × (Unit {0} × (Unit {0} × (Unit {0} × Unit {0}))))). ‵ (lasts g.ended κs z.0.3 ws) ⊛ ‵ (LendsTwoRuns self 0 (mid * n) (mid * n) (rest * n) x)
     ⊛ raw (fact 𝓤 ((x.0.now ≡ take (mid * n) (drop_list 0 ch)) × (x.1.now ≡ take (rest * n) (drop_list (mid * n) ch)))))))) (id⊢ 𝓤 _) $
     await ! tt $ pick ! (λ x. split ! $ split ! $ move ! (2 ∷ []) $ pick ! (λ ws. split ! $ drop ! $ split ! $ move ! (1 ∷ []) $ heard ! _ (λ value. move ! (2 ∷ []) $
     -- [the pair; what self follows; the tokens; the locals]
@@ -126,27 +126,27 @@ split_at_mut_spec 𝓤 𝓛 𝓜 𝓡 wired =
     join ! $ move ! (1 ∷ 0 ∷ []) $ use2 𝓛 (raw (G'.pre z')) (id⊢ 𝓤 _) $
     calls_at ! (framed 𝓤 𝓛.H 𝓜 𝓣) G' (met' 𝓤 𝓛 𝓜 𝓡 (code.calls-rs_field::rows::shards::two_lists 𝓡.env wired)) z'
     (and_then ! (get ! refl) (and_then ! (get ! refl) (and_then ! (get ! refl) (and_then ! (get ! refl) (no_more !))))) (λ v'.
-    use1 𝓛 (later (some (λ (parts : ShardsRefMut × ShardsRefMut). ((‵ (flft κs.0 qs.0) ⊛ ‵ ftrue) ⊛ ‵ ((Lists κs.0).own_val parts (v' ∷ []))) ⊛
+    use1 𝓛 (later (some (λ (halves : ShardsRefMut × ShardsRefMut). ((‵ (flft κs.0 qs.0) ⊛ ‵ ftrue) ⊛ ‵ ((Lists κs.0).own_val halves (v' ∷ []))) ⊛
     some (λ (ws' : (Unit {0} × (Unit {0} × Unit {0})) × (Unit {0} × (Unit {0} × (Unit {0} × Unit {0})))). ‵ (lasts g'.ended z'.0.0 z'.0.3 ws')
-    ⊛ raw (fact 𝓤 (IsListOf parts.0 x.0 mid n)) ⊛ raw (fact 𝓤 (IsListOf parts.1 x.1 rest n)))))) (id⊢ 𝓤 _) $
-    await ! tt $ pick ! (λ parts. split ! $ split ! $ move ! (2 ∷ []) $ pick ! (λ ws'. split ! $ drop ! $ split ! $ heard ! _ (λ front. heard ! _ (λ back. move ! (1 ∷ []) $
+    ⊛ raw (fact 𝓤 (IsListOf halves.0 x.0 mid n)) ⊛ raw (fact 𝓤 (IsListOf halves.1 x.1 rest n)))))) (id⊢ 𝓤 _) $
+    await ! tt $ pick ! (λ halves. split ! $ split ! $ move ! (2 ∷ []) $ pick ! (λ ws'. split ! $ drop ! $ split ! $ heard ! _ (λ front. heard ! _ (λ back. move ! (1 ∷ []) $
     -- [the lists; the token of the loan; the other tokens; what self follows; the locals]
-    peeks ! (Lists κs.0) (Is (Lists κs.0)) (shows 𝓛 (Lists κs.0)) parts (v' ∷ []) (λ lists.
+    peeks ! (Lists κs.0) (Is (Lists κs.0)) (shows 𝓛 (Lists κs.0)) halves (v' ∷ []) (λ lists.
     let laws = the_row_laws (record { mir = named 0; lft = κs.0 }) in
-    lands_as ! refl refl (((tuple_laws (Rows κs.0 ∷ Rows κs.0 ∷ []) (laws, (laws, tt))).lawful 𝓛).typed parts (v' ∷ []) lists).0 $
+    lands_as ! refl refl (((tuple_laws (Rows κs.0 ∷ Rows κs.0 ∷ []) (laws, (laws, tt))).lawful 𝓛).typed halves (v' ∷ []) lists).0 $
     returns ! (look_at ! 0 refl) $ free_all ! refl $
-    suffices ! _ (ends_at 𝓛 f.ended stayed c y v' parts (tt, (tt, tt)) (tt, (tt, tt))) $
+    suffices ! _ (ends_at 𝓛 f.ended stayed c y v' halves (tt, (tt, tt)) (tt, (tt, tt))) $
     move ! (1 ∷ []) $ split ! $ move ! (0 ∷ 3 ∷ []) $ join ! $ keep ! (2 ∷ 3 ∷ 0 ∷ []) $
     let ends = λ (first second : Chunks). with_chunks h (with_two ch 0 (mid * n) (mid * n) (rest * n) first second) in
     rewrite ! 1 (λ (γ : GName). ‵ (follows_both Bare (Array E 0) (Array E 0) self.ghost_name γ x.1.ghost_name ends)) (sym front.name) refl $
-    rewrite ! 1 (λ (γ : GName). ‵ (follows_both Bare (Array E 0) (Array E 0) self.ghost_name parts.0.chunks.ghost_name γ ends)) (sym back.name) refl $
+    rewrite ! 1 (λ (γ : GName). ‵ (follows_both Bare (Array E 0) (Array E 0) self.ghost_name halves.0.chunks.ghost_name γ ends)) (sym back.name) refl $
     let none : 0 ≡ 0 * n = omega arith in
-    let first : HasRows h 0 mid parts.0 = record {
+    let first : HasRows h 0 mid halves.0 = record {
       count = front.count;
       len_64 = front.len_64;
       chunks = front.now ∙ value.0 ∙ ap (λ (k : ℕ). take (mid * n) (drop_list k ch)) none;
     } in
-    let second : HasRows h mid rest parts.1 = record { count = back.count; len_64 = back.len_64; chunks = back.now ∙ value.1 } in
-    use0 𝓛 (raw (fact 𝓤 (HasRows h mid rest parts.1))) (fact_i 𝓤 (HasRows h mid rest parts.1) (emp 𝓤) second) $
-    use0 𝓛 (raw (fact 𝓤 (HasRows h 0 mid parts.0))) (fact_i 𝓤 (HasRows h 0 mid parts.0) (emp 𝓤) first) $ join ! $ move ! (1 ∷ 2 ∷ 3 ∷ 0 ∷ []) $
+    let second : HasRows h mid rest halves.1 = record { count = back.count; len_64 = back.len_64; chunks = back.now ∙ value.1 } in
+    use0 𝓛 (raw (fact 𝓤 (HasRows h mid rest halves.1))) (fact_i 𝓤 (HasRows h mid rest halves.1) (emp 𝓤) second) $
+    use0 𝓛 (raw (fact 𝓤 (HasRows h 0 mid halves.0))) (fact_i 𝓤 (HasRows h 0 mid halves.0) (emp 𝓤) first) $ join ! $ move ! (1 ∷ 2 ∷ 3 ∷ 0 ∷ []) $
     nothing ! $ nothing ! $ fjoin ! $ nothing ! $ fjoin ! $ join ! $ move ! (2 ∷ []) $ join ! $ group ! 3 $ done !)))))))))))))))))

@@ -1,9 +1,0 @@
-use Rattle.std.proofs.Common.{◌≡◌, ℕ, ◌*◌, ◌<◌, get_or, length}
-use Rattle.rs_field.specs.words.Field.{product, generator}
-use Rattle.rs_field.proofs.words.powers.high_steps.Given as goal
-
-abbrev pub invariant-loop-i : goal.invariant-loop-i
-invariant-loop-i l = record {
-  size : length l.steps ≡ 256;
-  so_far : (k : ℕ) → k < l.i → get_or l.steps k 0 ≡ product (256 * k) generator;
-}
