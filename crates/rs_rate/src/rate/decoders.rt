@@ -42,7 +42,7 @@ impl<E: Engine, C: Code> Decoder<E, C> {
     ghost use Rattle.rs_field.specs.code.Placement.{decoder_rows};
     ghost use Rattle.rs_rate.specs.DecoderRoom.{HasRoom, Grows, work_room};
 
-    /// A decoder at counts that its rate supports. Refused as by `new`, where these weren't refused.
+    /// A decoder with nothing given, at counts that its rate supports. Refused as by `new`, but never for the counts.
     #[inline(always)]
     pub fn with_counts(
         alloc: Global,

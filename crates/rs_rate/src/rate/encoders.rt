@@ -42,7 +42,7 @@ impl<E: Engine, C: Code> Encoder<E, C> {
     ghost use Rattle.rs_rate.specs.EncoderView.{work_room};
     ghost use Rattle.rs_rate.specs.ShardRows.{chunk_count};
 
-    /// An encoder at counts that its rate supports. Refused as by `new`, where these weren't refused.
+    /// An encoder with nothing given, at counts that its rate supports. Refused as by `new`, but never for the counts.
     #[inline(always)]
     pub fn with_counts(
         alloc: Global,
