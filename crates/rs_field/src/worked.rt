@@ -2,7 +2,8 @@
 ghost use Rattle.rs_field.specs.code.Counts.{low_rate, high_rate, default_rate};
 ghost use Rattle.rs_field.specs.worked.Numbers.{Products, ColumnsOfShards, Powers, Supported, Unsupported, OfOneRate, Choices};
 ghost use Rattle.rs_field.specs.worked.Numbers.{Validated, Spaces, BlockRows, EncoderRows, DecoderRows, TransformOfTwo, StepBounds};
-ghost use Rattle.rs_field.specs.worked.Codes.{LowExamples, HighExamples, ShortLineExample, CubicExample, TailExample, ChunkAndTailExample, RestoredExample, MixtureExample, SurplusExample};
+ghost use Rattle.rs_field.specs.worked.Codes.{LowExamples, HighExamples, ShortLineExample, CubicExample, TailExample};
+ghost use Rattle.rs_field.specs.worked.Codes.{ChunkAndTailExample, RestoredExample, MixtureExample, SurplusExample};
 ghost use Rattle.rs_field.specs.worked.Calls.{EncodeOrder, DecodeOrder, NoRecoveryOrder, EncoderRound, DecoderRound, LargestIndex, MemoryOrder};
 
 /// Products of words, and columns of shards with and without a tail.

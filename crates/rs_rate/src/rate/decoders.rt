@@ -57,7 +57,8 @@ impl<E: Engine, C: Code> Decoder<E, C> {
             IfOk result (λ x. (decoder_state C.rate x.rows ≡ fresh_decoder c) × (x.engine ≡ engine)) }
         ensures grown { IfOk result (λ x. IfSome work (λ w. Grows (work_room w) (memory_room x.rows.memory))) }
         ensures roomy { IfSome work (λ w. HasRoom (work_room w) (decoder_rows C.rate counts.original_count counts.recovery_count) shard_bytes
-            → answer_of result ≡ started (decoder_rows C.rate counts.original_count counts.recovery_count) (configuration C.rate counts.original_count counts.recovery_count shard_bytes)) }
+            → answer_of result ≡ started (decoder_rows C.rate counts.original_count counts.recovery_count)
+            (configuration C.rate counts.original_count counts.recovery_count shard_bytes)) }
     {
         let shape = DecoderShape::new(counts, shard_bytes)?;
         let rows = DecoderRows::new(alloc, shape, work)?;
