@@ -9,7 +9,14 @@ use contract.BorrowLft.{meet_⊑_left}
 use types.Logic.{Logic, sem}
 use types.Kit.{Item, mean, updating, now, show}
 use types.Tokens.{lft_new, lft_end}
+use base.Stored.{Gv}
+use denote.Array.{Array}
+use Rattle.rs_field.specs.rows.Rows.{Chunks}
+use Rattle.rs_field.proofs.of_rows.LentChunks.{E}
 use denote.Lend.{lends_again, comes_back, LentAgain}
+
+abbrev pub code₀ : Chunks → Gv
+code₀ = (Array E 0).coded.code
 
 module _ {M : Type 1} {𝓤 : Ura M} (𝓛 : Logic 𝓤) (Row : RattleType) (κ₀ κ₁ : Lft) (q₀ q₁ : Share) (self : MutBor Row.Denot) where
   open 𝓛 use {H, A}

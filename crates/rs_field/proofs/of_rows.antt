@@ -1,4 +1,5 @@
 -- Lemmas of rows: layers, parts, lending, layout. They rest on `words` and on columns and powers of two of `code`.
+pub mod LentChunks
 pub mod Runs
 pub mod FourRuns
 pub mod RowOffsets

@@ -1,4 +1,4 @@
--- Rows of chunks: their symbols, steps on them, layers, lending, and where shards lie. It rests on `words`, and on `code` for columns of shards.
+-- Rows of chunks: their symbols, steps on them, layers, lending, and where shards lie. They rest on `words`, and on columns of shards of `code`.
 pub mod Rows
 pub mod View
 pub mod MarkedRows

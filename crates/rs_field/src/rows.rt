@@ -1,4 +1,4 @@
-//! Rows of chunks: lent, laid out, summed, transformed, and the plain engine. It rests on `words`, and makes and meets the calls of `trait Engine`.
+//! Rows of chunks: lent, laid out, summed, transformed, and the plain engine. It rests on `words` and `code`, and makes and meets the calls of `trait Engine`.
 pub mod block;
 pub mod bytes;
 pub mod derivative;

@@ -149,11 +149,11 @@ given_if_some marks from n from_too m some = by_kind marks.shards some
         absurd (let no : ⊥ = omega (arith, some, none, none_too) in no)
 
 -- how many originals a round of a shape has missing, and how many surplus shards
-pub round_counts : (s : DecoderShape) (tally : Tally) (marks : Marks) → tally.shape ≡ s → CanBeRestored tally marks
+pub tally_counts : (s : DecoderShape) (tally : Tally) (marks : Marks) → tally.shape ≡ s → CanBeRestored tally marks
     → (given_row_count (given_marks marks) s.frame.originals_from s.configuration.original_count + tally.missing ≡ s.configuration.original_count)
     × (given_row_count (given_marks marks) s.frame.originals_from s.configuration.original_count + given_row_count (given_marks marks) s.frame.recovery_from s.configuration.recovery_count
     ≡ s.configuration.original_count + tally.surplus)
-round_counts s tally marks same facts = rw (← same) (facts.missing_counted, facts.surplus_counted)
+tally_counts s tally marks same facts = rw (← same) (facts.missing_counted, facts.surplus_counted)
 
 -- the same rows, marked in the same way, stand for the same shards
 pub given-kept : (old new : List Bool) (before after : Chunks) (size from n : ℕ) → ((i : ℕ) → i < n → is_marked new (from + i) ≡ is_marked old (from + i))

@@ -206,7 +206,7 @@ impl Engine for Locating<'_> {
 
     fn eval_poly(&self, steps: &mut Steps, entries: &mut [GfElement], truncated_size: usize) {
         let all = self.entries.get().saturating_add(entries.len());
-        self.entries.set(entries);
+        self.entries.set(all);
         self.naive.eval_poly(steps, entries, truncated_size);
     }
 

@@ -77,20 +77,20 @@ Spaces =
     × (started (decoder_rows default_rate 1 1) (configuration default_rate 1 1 18446744073709551552) ≡ Err OutOfMemory)
 
 -- rows of encoders
-abbrev pub EncoderRows : Type 0
-EncoderRows =
+abbrev pub EncoderRowsExamples : Type 0
+EncoderRowsExamples =
     (encoder_rows low_rate 1 1 ≡ 1) × (encoder_rows low_rate 2 3 ≡ 4) × (encoder_rows low_rate 1024 4097 ≡ 5120) × (encoder_rows low_rate 1025 4097 ≡ 6144)
     × (encoder_rows high_rate 4097 1024 ≡ 5120) × (encoder_rows high_rate 4097 1025 ≡ 6144)
 
 -- rows of a block
-abbrev pub BlockRows : Type 0
-BlockRows =
+abbrev pub BlockRowsExamples : Type 0
+BlockRowsExamples =
     (block_rows low_rate 1 1 ≡ 1) × (block_rows low_rate 2 3 ≡ 2) × (block_rows low_rate 1025 4097 ≡ 2048) × (block_rows high_rate 3 2 ≡ 2)
     × (block_rows high_rate 4097 1025 ≡ 2048) × (block_rows default_rate 4 3 ≡ 4) × (block_rows default_rate 5 3 ≡ 4)
 
 -- rows of decoders
-abbrev pub DecoderRows : Type 0
-DecoderRows =
+abbrev pub DecoderRowsExamples : Type 0
+DecoderRowsExamples =
     (decoder_rows low_rate 4 4 ≡ 8) × (decoder_rows low_rate 1024 3072 ≡ 4096) × (decoder_rows low_rate 1025 2049 ≡ 8192) × (decoder_rows low_rate 32768 32768 ≡ 65536)
     × (decoder_rows high_rate 1 1 ≡ 2) × (decoder_rows high_rate 2049 1025 ≡ 8192) × (decoder_rows high_rate 32768 32768 ≡ 65536)
 

@@ -55,10 +55,9 @@ pub fn eval_poly(
 /// The locator of the marked points among the first ones, as many as there are entries, at these points: entry x becomes,
 /// modulo 65535, the sum over these points y other than x of entry y times the logarithm of `x XOR y`.
 ///
-/// There are a power of two of entries, n, at most 65536; `log_walsh` is the table of `get_log_walsh_below` for n. Where
-/// no point past them is marked the new entries are, modulo 65535, those that `eval_poly` gives at these points. Of a new
-/// entry the residue alone is fixed: 0 and 65535 both stand for zero. No row step is counted, and at most n * log2 n pair
-/// sums and n products.
+/// There are a power of two of entries, n, at most 65536; `log_walsh` is the table of `get_log_walsh_below` for n. Of a
+/// new entry the residue alone is fixed: 0 and 65535 both stand for zero. No row step is counted, and at most n * log2 n
+/// pair sums and n products.
 pub fn locate(steps: &mut Steps, entries: &mut [GfElement], log_walsh: LogWalsh<'_>)
     requires power { (d : ℕ) × (length entries.old ≡ 2 ^ d) }
     requires few { length entries.old ≤ 65536 }

@@ -11,9 +11,9 @@ use contract.BorrowLft.{meet_⊑_right}
 use types.Follow.{followed₂}
 use denote.Memory.{mem}
 use denote.FollowSlice.{heres_id}
-use base.Stored.{Gv}
 use denote.Follow.{both_by}
-use Rattle.rs_callers.proofs.LentWalks.{Kept, Lent, lends, Back, gives_back}
+use Rattle.rs_field.proofs.of_rows.LentChunks.{E, Bare}
+use Rattle.rs_callers.proofs.LentWalks.{code₀, Lent, lends, Back, gives_back}
 use Rattle.rs_callers.proofs.LentRows.{swapped_rows, swapped}
 use Rattle.rs_callers.proofs.LentHalves.{fits-part, parted, split-written}
 use Rattle.rs_callers.specs.SwappedRows.{AreSwapped, HasFirstRow}
@@ -34,15 +34,6 @@ use Rattle.rs_field.specs.contracts.rows.shards.ShardsRefMut.split_at_mut as g
 use Rattle.rs_field.proofs.rows.shards.ShardsRefMut.split_at_mut.Met.{met}
 use Rattle.rs_callers.specs.contracts.lent_rows.swap_first_rows as g'
 use Rattle.rs_callers.proofs.lent_rows.swap_first_rows.Met.{met as met'}
-
-abbrev E : RattleType
-E = Array u8 64
-
-abbrev code₀ : Chunks → Gv
-code₀ = (Array E 0).coded.code
-
-abbrev Bare : RattleType
-Bare = the_row (record { mir = named 1; lft = [] })
 
 abbrev Rows : Lft → RattleType
 Rows κ = the_row (record { mir = named 0; lft = κ })

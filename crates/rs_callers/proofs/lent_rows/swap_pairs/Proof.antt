@@ -9,9 +9,9 @@ use Rattle.rs_field.proofs.Walking.{walk_of, ends_at, Goes-dropped, use3, unit_l
 use base.Share
 use contract.BorrowLft.{meet_⊑_right}
 use denote.FollowSlice.{finally-res}
-use base.Stored.{Gv}
 use Rattle.rs_field.proofs.of_rows.FourRuns.{followed₄}
-use Rattle.rs_callers.proofs.LentWalks.{Kept, Lent, lends, Back, gives_back}
+use Rattle.rs_field.proofs.of_rows.LentChunks.{E, Bare, Fours, fours}
+use Rattle.rs_callers.proofs.LentWalks.{code₀, Lent, lends, Back, gives_back}
 use Rattle.rs_callers.proofs.LentRows.{row-long, swapped_four, swapped-twice}
 use Rattle.rs_callers.specs.SwappedRows.{AreSwappedTwice}
 use Rattle.rs_field.specs.rows.Rows.{Chunks}
@@ -26,18 +26,6 @@ use Rattle.rs_field.specs.contracts.rows.shards.ShardsRefMut.dist4_mut as g
 use Rattle.rs_field.proofs.rows.shards.ShardsRefMut.dist4_mut.Met.{met}
 use Rattle.rs_callers.specs.contracts.lent_rows.swap_four as g'
 use Rattle.rs_callers.proofs.lent_rows.swap_four.Met.{met as met'}
-
-abbrev E : RattleType
-E = Array u8 64
-
-abbrev code₀ : Chunks → Gv
-code₀ = (Array E 0).coded.code
-
-abbrev Bare : RattleType
-Bare = the_row (record { mir = named 1; lft = [] })
-
-abbrev Fours : Lft → RattleType
-Fours κ = row (tuple_type (MutSlice (named 0) κ E ∷ MutSlice (named 0) κ E ∷ MutSlice (named 0) κ E ∷ MutSlice (named 0) κ E ∷ []))
 
 abbrev stayed : Stays f.ended.signature.params f.ended.kept
 stayed = (stay_ref (0 ∷ []) tt (plain (λ κs. the_row (named_lft 2 1 tt κs))), (stay_dropped _ yes, (stay_dropped _ yes, tt)))
@@ -88,19 +76,10 @@ swap_pairs_spec 𝓤 𝓛 𝓜 𝓡 wired =
     await ! tt $ pick ! (λ x. split ! $ split ! $ move ! (2 ∷ []) $ pick ! (λ ws. split ! $ drop ! $ split ! $ move ! (1 ∷ []) $
     split ! $ heard ! _ (λ now₁. split ! $ heard ! _ (λ now₂. split ! $ heard ! _ (λ now₃. heard ! _ (λ now₄. move ! (2 ∷ []) $
     -- [the rows; what the loan follows; its tokens; what the lender keeps; the other tokens]
-    peeks ! (Fours κ) (Is (Fours κ)) (shows 𝓛 (Fours κ)) x (v ∷ []) (λ four.
-    let one : Room E (length x.0.now) = four.1.1.0.0.1 in
-    let two : Room E (length x.1.now) = four.1.1.1.0.0.1 in
-    let three : Room E (length x.2.now) = four.1.1.1.1.0.0.1 in
-    let last : Room E (length x.3.now) = four.1.1.1.1.1.0.0.1 in
-    let w : Val = vstruct (vcons (slice_val x.0.ref_ptr (length x.0.now)) (vcons (slice_val x.1.ref_ptr (length x.1.now))
-    (vcons (slice_val x.2.ref_ptr (length x.2.now)) (vcons (slice_val x.3.ref_ptr (length x.3.now)) vnil)))) in
-    let made : v ≡ w = ap only four.1.0 ∙ ap (λ (us : List Val × List Val × List Val × List Val). vstruct (of_list (us.0 ++ (us.1 ++ (us.2 ++ (us.3 ++ []))))))
-    (λ i. (four.1.1.0.0.0 i, four.1.1.1.0.0.0 i, four.1.1.1.1.0.0.0 i, four.1.1.1.1.1.0.0.0 i)) in
-    rewrite ! 0 (λ (u : Val). ‵ ((Fours κ).own_val x (u ∷ []))) made refl $
-    lands_as ! made refl (tt, ((tt, (record { fits = one.0 }, tt)), ((tt, (record { fits = two.0 }, tt)), ((tt, (record { fits = three.0 }, tt)), ((tt, (record { fits = last.0 }, tt)), tt))))) $
+    peeks ! (Fours κ) (Is (Fours κ)) (shows 𝓛 (Fours κ)) x (v ∷ []) (λ shown.
+    lands_as ! refl refl ((fours 𝓛 κ).typed x (v ∷ []) shown).0 $
     let G' = triple_of 𝓛 g'.signature (g'.spec 𝓛 𝓜.mem 𝓡.returns) in
-    let z' : G'.Ghost = (((κ, tt), (ql, tt), tt, (x, tt), (w ∷ [], tt)), tt) in
+    let z' : G'.Ghost = (((κ, tt), (ql, tt), tt, (x, tt), (v ∷ [], tt)), tt) in
     let long₁ = ap length now₁ ∙ row-long h pos fits (omega (arith, within)) in
     let long₂ = ap length now₂ ∙ row-long h second fits (omega (arith, within)) in
     let long₃ = ap length now₃ ∙ row-long h third fits (omega (arith, within)) in

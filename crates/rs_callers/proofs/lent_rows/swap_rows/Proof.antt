@@ -11,9 +11,9 @@ use contract.BorrowLft.{meet_⊑_right}
 use types.Follow.{followed₂}
 use denote.Memory.{mem}
 use denote.FollowSlice.{finally-res}
-use base.Stored.{Gv}
 use denote.Follow.{both_by}
-use Rattle.rs_callers.proofs.LentWalks.{Kept, Lent, lends, Back, gives_back}
+use Rattle.rs_field.proofs.of_rows.LentChunks.{E, Bare, Pair, pair}
+use Rattle.rs_callers.proofs.LentWalks.{code₀, Lent, lends, Back, gives_back}
 use Rattle.rs_callers.proofs.LentRows.{row-long, swapped_rows, swapped}
 use Rattle.rs_callers.specs.SwappedRows.{AreSwapped}
 use Rattle.rs_field.specs.rows.Rows.{Chunks}
@@ -28,18 +28,6 @@ use Rattle.rs_field.specs.contracts.rows.shards.ShardsRefMut.dist2_mut as g
 use Rattle.rs_field.proofs.rows.shards.ShardsRefMut.dist2_mut.Met.{met}
 use Rattle.rs_callers.specs.contracts.lent_rows.swap_two as g'
 use Rattle.rs_callers.proofs.lent_rows.swap_two.Met.{met as met'}
-
-abbrev E : RattleType
-E = Array u8 64
-
-abbrev code₀ : Chunks → Gv
-code₀ = (Array E 0).coded.code
-
-abbrev Bare : RattleType
-Bare = the_row (record { mir = named 1; lft = [] })
-
-abbrev Pair : Lft → RattleType
-Pair κ = row (tuple_type (MutSlice (named 0) κ E ∷ MutSlice (named 0) κ E ∷ []))
 
 abbrev stayed : Stays f.ended.signature.params f.ended.kept
 stayed = (stay_ref (0 ∷ []) tt (plain (λ κs. the_row (named_lft 2 1 tt κs))), (stay_dropped _ yes, (stay_dropped _ yes, tt)))
@@ -89,15 +77,10 @@ swap_rows_spec 𝓤 𝓛 𝓜 𝓡 wired =
     ⊛ raw (fact 𝓤 (x.0.now ≡ row_at h pos)) ⊛ raw (fact 𝓤 (x.1.now ≡ row_at h (pos + dist))))))) (id⊢ 𝓤 _) $
     await ! tt $ pick ! (λ x. split ! $ split ! $ move ! (2 ∷ []) $ pick ! (λ ws. split ! $ drop ! $ split ! $ move ! (1 ∷ []) $ split ! $ heard ! _ (λ now₁. heard ! _ (λ now₂. move ! (2 ∷ []) $
     -- [the pair; what the loan follows; its tokens; what the lender keeps; the other tokens]
-    peeks ! (Pair κ) (Is (Pair κ)) (shows 𝓛 (Pair κ)) x (v ∷ []) (λ pair.
-    let one : Room E (length x.0.now) = pair.1.1.0.0.1 in
-    let two : Room E (length x.1.now) = pair.1.1.1.0.0.1 in
-    let w : Val = vstruct (vcons (slice_val x.0.ref_ptr (length x.0.now)) (vcons (slice_val x.1.ref_ptr (length x.1.now)) vnil)) in
-    let made : v ≡ w = ap only pair.1.0 ∙ ap (λ (us : List Val × List Val). vstruct (of_list (us.0 ++ (us.1 ++ [])))) (λ i. (pair.1.1.0.0.0 i, pair.1.1.1.0.0.0 i)) in
-    rewrite ! 0 (λ (u : Val). ‵ ((Pair κ).own_val x (u ∷ []))) made refl $
-    lands_as ! made refl (tt, ((tt, (record { fits = one.0 }, tt)), ((tt, (record { fits = two.0 }, tt)), tt))) $
+    peeks ! (Pair κ) (Is (Pair κ)) (shows 𝓛 (Pair κ)) x (v ∷ []) (λ shown.
+    lands_as ! refl refl ((pair 𝓛 κ).typed x (v ∷ []) shown).0 $
     let G' = triple_of 𝓛 g'.signature (g'.spec 𝓛 𝓜.mem 𝓡.returns) in
-    let z' : G'.Ghost = (((κ, tt), (ql, tt), tt, (x, tt), (w ∷ [], tt)), tt) in
+    let z' : G'.Ghost = (((κ, tt), (ql, tt), tt, (x, tt), (v ∷ [], tt)), tt) in
     let as_long : length x.0.now ≡ length x.1.now = ap length now₁ ∙ row-long h pos fits (omega (arith, within)) ∙ sym (ap length now₂ ∙ row-long h (pos + dist) fits within) in
     move ! (2 ∷ []) $ split3 ! $ move ! (0 ∷ 2 ∷ []) $ join ! $ nothing ! $ move ! (3 ∷ 0 ∷ []) $ join ! $ move ! (1 ∷ 0 ∷ []) $ join ! $
     use0 𝓛 (raw (fact 𝓤 (length x.0.now ≡ length x.1.now))) (fact_i 𝓤 (length x.0.now ≡ length x.1.now) (emp 𝓤) as_long) $

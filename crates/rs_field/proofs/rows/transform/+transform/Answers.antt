@@ -19,12 +19,10 @@ transform-returns-then-are_none-clause-values g t c k s hk hs =
 
 pub transform_many-transform_parts-requires : goal.transform_many-transform_parts-requires
 transform_many-transform_parts-requires g t c κs within =
-    let shape = c.layers.ensures.shape in
-    let count = shape.count in
-    let open_rows : 0 ≤ c.args.block.size = omega arith in (
-      omega arith,
-      (within, (fits_kept c.args.rows.now c.layers.new.rows shape c.requires.fits, (omega arith, (c.requires.marks, (omega arith, rw c.in-Forward.is open_rows))))),
-    )
+    let shape = c.layers.ensures.shape in let count = shape.count in
+    let fits = fits_kept c.args.rows.now c.layers.new.rows shape c.requires.fits in
+    let open_rows : 0 ≤ c.args.block.size = omega arith in
+    (omega arith, (within, (fits, (omega arith, (c.requires.marks, (omega arith, rw c.in-Forward.is open_rows))))))
 
 pub transform_many-transform_parts-requires-in-Backward : goal.transform_many-transform_parts-requires-in-Backward
 transform_many-transform_parts-requires-in-Backward g t c κs within =
@@ -33,9 +31,7 @@ transform_many-transform_parts-requires-in-Backward g t c κs within =
 pub transform-returns-then-block-gt1-clause-values : goal.transform-returns-then-block-gt1-clause-values
 transform-returns-then-block-gt1-clause-values g t c k s hk hs =
     let block = c.args.block in
-    let shape = c.layers.ensures.shape in
-    let len = shape.len_64 in
-    let count = shape.count in
+    let shape = c.layers.ensures.shape in let len = shape.len_64 in let count = shape.count in
     let within = c.requires.within in
     layers_of_few c.args.direction (is_used c.args.used) block.size block.skew_delta (λ (q : ℕ). word c.args.rows.now k s (block.pos + q))
     (λ (q : ℕ). word c.layers.new.rows k s (block.pos + q)) (omega arith) (omega arith) (block_power block)
@@ -56,41 +52,35 @@ transform-returns-else-block-gt1-clause-values g t c k s hk hs =
 pub transform_many-returns-in-Forward-clause-values : goal.transform_many-returns-in-Forward-clause-values
 transform_many-returns-in-Forward-clause-values g t c k s hk hs =
     let block = c.args.block in
-    let large : 1 < block.size = omega arith in
     let len = c.layers.ensures.shape.len_64 in
     let layers = c.layers.ensures.parts k s hk hs in
     rw c.in-Forward.is (forward_whole block.size (rows_of_part block.size) block.skew_delta (is_used c.args.used) (λ q. word c.args.rows.now k s (block.pos + q))
-    (λ q. word c.layers.new.rows k s (block.pos + q)) (λ q. word c.transform_parts.new.rows k s (block.pos + q)) (part_found block _ refl large)
+    (λ q. word c.layers.new.rows k s (block.pos + q)) (λ q. word c.transform_parts.new.rows k s (block.pos + q)) (part_found block _ refl c.requires.large)
     (rw c.in-Forward.is at layers)
     (λ m hm. let parts = c.transform_parts.ensures.parts k s m (omega (arith, len)) hs hm in rw c.in-Forward.is at parts))
 
 pub transform_many-returns-in-Forward-clause-counts : goal.transform_many-returns-in-Forward-clause-counts
 transform_many-returns-in-Forward-clause-counts g t c =
-    let block = c.args.block in
-    let large : 1 < block.size = omega arith in
-    let few = (part_found block _ refl large).steps in
-    let size = block.size in
+    let block = c.args.block in let size = block.size in
+    let few = (part_found block _ refl c.requires.large).steps in
     counts_of_whole size (layer_steps size) (transform_steps size - layer_steps size) c.args.steps.now c.layers.new.steps c.transform_parts.new.steps (omega (arith, few))
     (counts_rows (layer_steps block.size) c.args.steps.now c.layers.new.steps c.layers.ensures.counts) c.transform_parts.ensures.counts
 
 pub transform_many-returns-in-Backward-clause-values : goal.transform_many-returns-in-Backward-clause-values
 transform_many-returns-in-Backward-clause-values g t c k s hk hs =
     let block = c.args.block in
-    let large : 1 < block.size = omega arith in
     let len = c.transform_parts-in-Backward.ensures.shape.len_64 in
     let layers = c.layers-in-Backward.ensures.parts k s (omega (arith, len)) hs in
     rw c.in-Backward.is (backward_whole block.size (rows_of_part block.size) block.skew_delta (is_used c.args.used) (λ q. word c.args.rows.now k s (block.pos + q))
-    (λ q. word c.transform_parts-in-Backward.new.rows k s (block.pos + q)) (λ q. word c.layers-in-Backward.new.rows k s (block.pos + q)) (part_found block _ refl large)
+    (λ q. word c.transform_parts-in-Backward.new.rows k s (block.pos + q)) (λ q. word c.layers-in-Backward.new.rows k s (block.pos + q)) (part_found block _ refl c.requires.large)
     (rw c.in-Backward.is at layers)
     (λ m hm. let parts = c.transform_parts-in-Backward.ensures.parts k s m hk hs hm in rw c.in-Backward.is at parts))
 
 pub transform_many-returns-in-Backward-clause-counts : goal.transform_many-returns-in-Backward-clause-counts
 transform_many-returns-in-Backward-clause-counts g t c =
-    let block = c.args.block in
-    let large : 1 < block.size = omega arith in
-    let few = (part_found block _ refl large).steps in
+    let block = c.args.block in let size = block.size in
+    let few = (part_found block _ refl c.requires.large).steps in
     let mid = c.transform_parts-in-Backward.new.steps in
-    let size = block.size in
     counts_of_whole size (transform_steps size - layer_steps size) (layer_steps size) c.args.steps.now mid c.layers-in-Backward.new.steps (omega (arith, few))
     c.transform_parts-in-Backward.ensures.counts (counts_rows (layer_steps block.size) mid c.layers-in-Backward.new.steps c.layers-in-Backward.ensures.counts)
 
@@ -115,26 +105,12 @@ transform_parts-transform-requires g t c κs within =
     let smaller = part.smaller in
     let begins = part_begins block.size n c.loop-j.j part c.loop-j-test.true in
     let inside = part_within block.size n c.loop-j.j part begins in
-    let shape = done.shape in
-    let count = shape.count in
-    let rows = c.part.ensures.rows in
-    let size = c.part.ensures.size in (
-      omega arith,
-      (
-        within,
-        (
-          fits_kept c.args.rows.now c.loop-j.rows shape c.requires.fits,
-          (
-            subst (HasMarks c.part-in-loop-j.result) (sym size) c.part-in-loop-j.ensures.marks,
-            (
-              omega arith,
-              rw (rows, size) (zeros_of_part c.args.direction c.args.used c.part-in-loop-j.result c.args.rows.now c.loop-j.rows block.pos block.size start n
-                  inside shape.len_64 (λ k i hk from to. done.rest k i hk from to) c.part-in-loop-j.ensures.used c.requires.zeros),
-            ),
-          ),
-        ),
-      ),
-    )
+    let shape = done.shape in let count = shape.count in
+    let rows = c.part.ensures.rows in let size = c.part.ensures.size in
+    let marks = subst (HasMarks c.part-in-loop-j.result) (sym size) c.part-in-loop-j.ensures.marks in
+    let zeros = zeros_of_part c.args.direction c.args.used c.part-in-loop-j.result c.args.rows.now c.loop-j.rows block.pos block.size start n
+    inside shape.len_64 done.rest c.part-in-loop-j.ensures.used c.requires.zeros in
+    (omega arith, (within, (fits_kept c.args.rows.now c.loop-j.rows shape c.requires.fits, (marks, (omega arith, rw (rows, size) zeros)))))
 
 pub transform_parts-loop-j-preserved : goal.transform_parts-loop-j-preserved
 transform_parts-loop-j-preserved g t c =
@@ -143,9 +119,7 @@ transform_parts-loop-j-preserved g t c =
     let j = c.loop-j.j in
     let part = part_found block n c.part_rows-part.ensures c.requires.large in
     let begins = part_begins block.size n j part c.loop-j-test.true in
-    let rows = c.part.ensures.rows in
-    let size = c.part.ensures.size in
-    let shift = c.part.ensures.shift in
+    let rows = c.part.ensures.rows in let size = c.part.ensures.size in let shift = c.part.ensures.shift in
     record {
       done =
           parts_next c.args.direction (is_used c.args.used) (is_used c.part-in-loop-j.result) block.size n block.skew_delta block.pos j c.args.rows.now c.loop-j.rows c.transform.new.rows
@@ -161,8 +135,7 @@ pub transform_parts-returns-clause-others : goal.transform_parts-returns-clause-
 transform_parts-returns-clause-others g t c = c.loop-j.invariant.done.others
 
 pub transform_parts-returns-clause-parts : goal.transform_parts-returns-clause-parts
-transform_parts-returns-clause-parts g t c =
-    λ k s m hk hs hm.
+transform_parts-returns-clause-parts g t c k s m hk hs hm =
     let block = c.args.block in
     let n = c.part_rows-part.result in
     let is = c.part_rows-part.ensures in

@@ -1,68 +1,59 @@
 -- The quarters' transforms and two layers after them make the whole.
-use Rattle.std.proofs.Common.{◌≡◌, ℕ, ◌+◌, ◌/◌, ◌%◌, ◌<◌, List, length, get_or, subst, ap, ◌∙◌, arith}
+use Rattle.std.proofs.Common.{◌≡◌, ℕ, suc, ◌^◌, ◌+◌, ◌/◌, ◌%◌, ◌<◌, List, length, get_or, subst, ap, ◌∙◌, arith}
 use Rattle.std.proofs.lemmas.Nat.{pow_pos}
 use Rattle.rs_field.specs.words.StepBounds.{CountsPairs, WalshCounts}
-use Rattle.rs_field.proofs.of_words.Halving.{in_quarters, walsh-joined, walsh-at, walsh-one, walsh-none, walsh-pair, walsh-counts, walsh-quarter-counts, pair-counts, block-counts, two_blocks-counts}
+use Rattle.rs_field.proofs.of_words.Halving.{AreQuarters, in_quarters, walsh-joined, walsh-at, walsh-one, walsh-none, walsh-pair, walsh-counts, walsh-quarter-counts, pair-counts, block-counts, two_blocks-counts}
 use Rattle.rs_field.proofs.words.fwht.+fwht.Goals as goal
-use Rattle.rs_field.proofs.words.fwht.+fwht.Goals.{else-n-gt2-via-then-n-gt2+else-truncated-gt0, else-n-gt2-via-else-n-gt2}
+use Rattle.rs_field.proofs.words.fwht.+fwht.Goals.{After-split_at_mut-x2, else-n-gt2-via-then-n-gt2+else-truncated-gt0, else-n-gt2-via-else-n-gt2}
+
+-- the quarters of the entries
+quarters : (t : ℕ) (c : After-split_at_mut-x2 t) → (e : ℕ) × (length c.args.entries.now ≡ 2 ^ suc (suc e)) × (length c.args.entries.now / 4 ≡ 2 ^ e)
+    × AreQuarters (length c.args.entries.now / 4) c.args.entries.now c.split_at_mut-x0.result.0.now c.split_at_mut-x0.result.1.now c.split_at_mut-x2.result.0.now c.split_at_mut-x2.result.1.now
+quarters t c =
+    in_quarters c.args.entries.now c.if-n-gt2.true c.requires.power c.split_at_mut-low.ensures.front c.split_at_mut-low.ensures.back
+    c.split_at_mut-x0.ensures.front c.split_at_mut-x0.ensures.back c.split_at_mut-x2.ensures.front c.split_at_mut-x2.ensures.back
 
 pub fwht-requires : goal.fwht-requires
 fwht-requires t c =
-    let (e, _, part, cut) =
-    in_quarters c.args.entries.now c.if-n-gt2.true c.requires.power c.split_at_mut-low.ensures.front c.split_at_mut-low.ensures.back
-    c.split_at_mut-x0.ensures.front c.split_at_mut-x0.ensures.back c.split_at_mut-x2.ensures.front c.split_at_mut-x2.ensures.back in
+    let (e, _, part, cut) = quarters t (goal.at.fwht-requires t c).After-split_at_mut-x2 in
     (omega arith, ((e, cut.size0 ∙ part), (omega arith, λ y from to. cut.entry0 y (omega arith) ∙ c.requires.tail y from (omega arith))))
 
 pub fwht-requires-else-truncated-quarter : goal.fwht-requires-else-truncated-quarter
 fwht-requires-else-truncated-quarter t c =
     let q : ℕ = length c.args.entries.now / 4 in
-    let (e, _, part, cut) =
-    in_quarters c.args.entries.now c.if-n-gt2.true c.requires.power c.split_at_mut-low.ensures.front c.split_at_mut-low.ensures.back
-    c.split_at_mut-x0.ensures.front c.split_at_mut-x0.ensures.back c.split_at_mut-x2.ensures.front c.split_at_mut-x2.ensures.back in
+    let (e, _, part, cut) = quarters t (goal.at.fwht-requires-else-truncated-quarter t c).After-split_at_mut-x2 in
     (omega arith, ((e, cut.size1 ∙ part), (omega arith, λ y from to. cut.entry1 y (omega arith) ∙ c.requires.tail (q + y) (omega arith) (omega arith))))
 
 pub fwht-requires-else-truncated-quarter-2 : goal.fwht-requires-else-truncated-quarter-2
 fwht-requires-else-truncated-quarter-2 t c =
     let q : ℕ = length c.args.entries.now / 4 in
-    let (e, _, part, cut) =
-    in_quarters c.args.entries.now c.if-n-gt2.true c.requires.power c.split_at_mut-low.ensures.front c.split_at_mut-low.ensures.back
-    c.split_at_mut-x0.ensures.front c.split_at_mut-x0.ensures.back c.split_at_mut-x2.ensures.front c.split_at_mut-x2.ensures.back in
+    let (e, _, part, cut) = quarters t (goal.at.fwht-requires-else-truncated-quarter-2 t c).After-split_at_mut-x2 in
     (omega arith, ((e, cut.size2 ∙ part), (omega arith, λ y from to. cut.entry2 y (omega arith) ∙ c.requires.tail (q + q + y) (omega arith) (omega arith))))
 
 pub fwht-requires-else-truncated-quarter-3 : goal.fwht-requires-else-truncated-quarter-3
 fwht-requires-else-truncated-quarter-3 t c =
     let q : ℕ = length c.args.entries.now / 4 in
-    let (e, _, part, cut) =
-    in_quarters c.args.entries.now c.if-n-gt2.true c.requires.power c.split_at_mut-low.ensures.front c.split_at_mut-low.ensures.back
-    c.split_at_mut-x0.ensures.front c.split_at_mut-x0.ensures.back c.split_at_mut-x2.ensures.front c.split_at_mut-x2.ensures.back in
+    let (e, _, part, cut) = quarters t (goal.at.fwht-requires-else-truncated-quarter-3 t c).After-split_at_mut-x2 in
     (omega arith, ((e, cut.size3 ∙ part), (omega arith, λ y from to. cut.entry3 y (omega arith) ∙ c.requires.tail (q + q + (q + y)) (omega arith) (omega arith))))
 
 pub copy_from_slice-requires : goal.copy_from_slice-requires
 copy_from_slice-requires t c =
-    let (_, _, _, cut) =
-    in_quarters c.args.entries.now c.if-n-gt2.true c.requires.power c.split_at_mut-low.ensures.front c.split_at_mut-low.ensures.back
-    c.split_at_mut-x0.ensures.front c.split_at_mut-x0.ensures.back c.split_at_mut-x2.ensures.front c.split_at_mut-x2.ensures.back in
+    let (_, _, _, cut) = quarters t (goal.at.copy_from_slice-requires t c).After-split_at_mut-x2 in
     omega arith
 
 pub copy_from_slice-requires-then-truncated-quarter-2 : goal.copy_from_slice-requires-then-truncated-quarter-2
 copy_from_slice-requires-then-truncated-quarter-2 t c =
-    let (_, _, _, cut) =
-    in_quarters c.args.entries.now c.if-n-gt2.true c.requires.power c.split_at_mut-low.ensures.front c.split_at_mut-low.ensures.back
-    c.split_at_mut-x0.ensures.front c.split_at_mut-x0.ensures.back c.split_at_mut-x2.ensures.front c.split_at_mut-x2.ensures.back in
+    let (_, _, _, cut) = quarters t (goal.at.copy_from_slice-requires-then-truncated-quarter-2 t c).After-split_at_mut-x2 in
     omega arith
 
 pub quarter_sums-requires-clause-one : goal.quarter_sums-requires-clause-one
 quarter_sums-requires-clause-one t c =
-    let (_, _, _, cut) =
-    in_quarters c.args.entries.now c.if-n-gt2.true c.requires.power c.split_at_mut-low.ensures.front c.split_at_mut-low.ensures.back
-    c.split_at_mut-x0.ensures.front c.split_at_mut-x0.ensures.back c.split_at_mut-x2.ensures.front c.split_at_mut-x2.ensures.back in
+    let (_, _, _, cut) = quarters t (goal.at.quarter_sums-requires-clause-one t c).After-split_at_mut-x2 in
     omega arith
 
 pub quarter_sums-requires-clause-three : goal.quarter_sums-requires-clause-three
 quarter_sums-requires-clause-three t c =
-    let (_, _, _, cut) =
-    in_quarters c.args.entries.now c.if-n-gt2.true c.requires.power c.split_at_mut-low.ensures.front c.split_at_mut-low.ensures.back
-    c.split_at_mut-x0.ensures.front c.split_at_mut-x0.ensures.back c.split_at_mut-x2.ensures.front c.split_at_mut-x2.ensures.back in
+    let (_, _, _, cut) = quarters t (goal.at.quarter_sums-requires-clause-three t c).After-split_at_mut-x2 in
     omega arith
 
 pub returns-then-n-eq64-clause-counts : goal.returns-then-n-eq64-clause-counts
@@ -84,9 +75,7 @@ returns-then-n-eq2-clause-counts t c =
 pub returns-then-truncated-quarter-clause-values : goal.returns-then-truncated-quarter-clause-values
 returns-then-truncated-quarter-clause-values t c =
     let q : ℕ = length c.args.entries.now / 4 in
-    let (e, is, part, cut) =
-    in_quarters c.args.entries.now c.if-n-gt2.true c.requires.power c.split_at_mut-low.ensures.front c.split_at_mut-low.ensures.back
-    c.split_at_mut-x0.ensures.front c.split_at_mut-x0.ensures.back c.split_at_mut-x2.ensures.front c.split_at_mut-x2.ensures.back in
+    let (e, is, part, cut) = quarters t (goal.at.returns-then-truncated-quarter-clause-values t c).After-split_at_mut-x2 in
     let none1 : (y : ℕ) → y < q → get_or c.split_at_mut-x0.result.1.now y 0 ≡ 0 = λ y hy. cut.entry1 y hy ∙ c.requires.tail (q + y) (omega arith) (omega arith) in
     let none2 : (y : ℕ) → y < q → get_or c.split_at_mut-x2.result.0.now y 0 ≡ 0 = λ y hy. cut.entry2 y hy ∙ c.requires.tail (q + q + y) (omega arith) (omega arith) in
     let none3 : (y : ℕ) → y < q → get_or c.split_at_mut-x2.result.1.now y 0 ≡ 0 = λ y hy. cut.entry3 y hy ∙ c.requires.tail (q + q + (q + y)) (omega arith) (omega arith) in
@@ -112,18 +101,14 @@ returns-then-truncated-quarter-clause-values t c =
 
 pub returns-then-truncated-quarter-clause-counts : goal.returns-then-truncated-quarter-clause-counts
 returns-then-truncated-quarter-clause-counts t c =
-    let (e, is, part, cut) =
-    in_quarters c.args.entries.now c.if-n-gt2.true c.requires.power c.split_at_mut-low.ensures.front c.split_at_mut-low.ensures.back
-    c.split_at_mut-x0.ensures.front c.split_at_mut-x0.ensures.back c.split_at_mut-x2.ensures.front c.split_at_mut-x2.ensures.back in
+    let (e, is, part, cut) = quarters t (goal.at.returns-then-truncated-quarter-clause-counts t c).After-split_at_mut-x2 in
     walsh-quarter-counts e (length c.args.entries.now) (length c.args.entries.now / 4) c.args.steps.now c.fwht.new.steps c.requires.size is part
     (subst (λ (n : ℕ). WalshCounts n c.args.steps.now c.fwht.new.steps) cut.size0 c.fwht.ensures.counts)
 
 pub returns-else-truncated-quarter-clause-values : goal.returns-else-truncated-quarter-clause-values
 returns-else-truncated-quarter-clause-values t c =
     let q : ℕ = length c.args.entries.now / 4 in
-    let (e, is, part, cut) =
-    in_quarters c.args.entries.now c.if-n-gt2.true c.requires.power c.split_at_mut-low.ensures.front c.split_at_mut-low.ensures.back
-    c.split_at_mut-x0.ensures.front c.split_at_mut-x0.ensures.back c.split_at_mut-x2.ensures.front c.split_at_mut-x2.ensures.back in
+    let (e, is, part, cut) = quarters t (goal.at.returns-else-truncated-quarter-clause-values t c).After-split_at_mut-x2 in
     walsh-joined e (length c.args.entries.now) q c.args.entries.now c.split_at_mut-x0.result.0.now c.split_at_mut-x0.result.1.now c.split_at_mut-x2.result.0.now c.split_at_mut-x2.result.1.now
     c.fwht.new.entries c.fwht-else-truncated-quarter.new.entries c.fwht-else-truncated-quarter-2.new.entries c.fwht-else-truncated-quarter-3.new.entries
     c.quarter_sums.new.x0 c.quarter_sums.new.x1 c.quarter_sums.new.x2 c.quarter_sums.new.x3 is part cut (record {
@@ -140,9 +125,7 @@ returns-else-truncated-quarter-clause-values t c =
 pub returns-else-truncated-quarter-clause-counts : goal.returns-else-truncated-quarter-clause-counts
 returns-else-truncated-quarter-clause-counts t c =
     let q : ℕ = length c.args.entries.now / 4 in
-    let (e, is, part, cut) =
-    in_quarters c.args.entries.now c.if-n-gt2.true c.requires.power c.split_at_mut-low.ensures.front c.split_at_mut-low.ensures.back
-    c.split_at_mut-x0.ensures.front c.split_at_mut-x0.ensures.back c.split_at_mut-x2.ensures.front c.split_at_mut-x2.ensures.back in
+    let (e, is, part, cut) = quarters t (goal.at.returns-else-truncated-quarter-clause-counts t c).After-split_at_mut-x2 in
     walsh-counts e (length c.args.entries.now) q c.args.steps.now c.fwht.new.steps c.fwht-else-truncated-quarter.new.steps c.fwht-else-truncated-quarter-2.new.steps c.fwht-else-truncated-quarter-3.new.steps c.quarter_sums.new.steps c.requires.size is part
     (subst (λ (n : ℕ). WalshCounts n c.args.steps.now c.fwht.new.steps) cut.size0 c.fwht.ensures.counts)
     (subst (λ (n : ℕ). WalshCounts n c.fwht.new.steps c.fwht-else-truncated-quarter.new.steps) cut.size1 c.fwht-else-truncated-quarter.ensures.counts)

@@ -11,7 +11,7 @@ use Rattle.rs_rate.specs.Decoding.{IsLocatorOf, RestoresShards}
 use Rattle.rs_rate.specs.Marks.{given_marks, restored_marks, WantsMissing}
 use Rattle.rs_rate.specs.ShardRows.{shard_in_order}
 use Rattle.rs_rate.proofs.DecodeAnswer.{AnswersOver, decode_answers, complete_answers, told_answer}
-use Rattle.rs_rate.proofs.DecoderLemmas.{given_row_count-most, hold_nothing, none_told, nothing-given, round_counts}
+use Rattle.rs_rate.proofs.DecoderLemmas.{given_row_count-most, hold_nothing, none_told, nothing-given, tally_counts}
 use Rattle.rs_rate.proofs.ResultLemmas.{length-restored}
 use Rattle.rs_rate.proofs.rate.decoding.decode_rows.Goals as goal
 use Rattle.rs_rate.proofs.rate.decoding.decode_rows.Goals.{then-agrees, else-agrees}
@@ -50,7 +50,7 @@ returns-clause-answer g c = λ rate is.
     let marks = restored_marks c.restore-agrees.new.memory.marks in
     let chunks = c.restore-agrees.new.memory.chunks.items in
     let tally = c.tally-tally.ensures in
-    let counts = round_counts s c.tally-tally.result old.memory.marks tally.shape tally.facts in
+    let counts = tally_counts s c.tally-tally.result old.memory.marks tally.shape tally.facts in
     let missing : WantsMissing c.args.rows.now.shape.frame.originals_from c.args.rows.now.shape.configuration.original_count c.args.rows.now.memory.marks c.restore-agrees.new.memory.marks =
     subst (λ (x : DecoderShape). WantsMissing x.frame.originals_from x.configuration.original_count old.memory.marks c.restore-agrees.new.memory.marks) tally.shape c.restore-agrees.ensures.marks in
     let most_too = given_row_count-most given s.frame.recovery_from s.configuration.recovery_count in
@@ -96,7 +96,7 @@ returns-clause-counted g c =
     let s = old.shape in
     let given = given_marks old.memory.marks in
     let new = c.restore-agrees.new.memory in
-    let counts = round_counts s c.tally-tally.result old.memory.marks c.tally-tally.ensures.shape c.tally-tally.ensures.facts in
+    let counts = tally_counts s c.tally-tally.result old.memory.marks c.tally-tally.ensures.shape c.tally-tally.ensures.facts in
     let missing : WantsMissing c.args.rows.now.shape.frame.originals_from c.args.rows.now.shape.configuration.original_count c.args.rows.now.memory.marks c.restore-agrees.new.memory.marks =
     subst (λ (x : DecoderShape). WantsMissing x.frame.originals_from x.configuration.original_count old.memory.marks new.marks) c.tally-tally.ensures.shape c.restore-agrees.ensures.marks in
     let counted = length-restored given (restored_marks new.marks) new.chunks.items s.configuration.shard_bytes s.frame.originals_from s.configuration.original_count missing.missing in

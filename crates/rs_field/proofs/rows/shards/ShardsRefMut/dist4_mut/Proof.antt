@@ -1,5 +1,6 @@
-use Rattle.rs_field.proofs.Walking.{◌≡◌, refl, sym, ap, ◌∙◌, ℕ, ◌+◌, ◌*◌, ◌^◌, ◌<◌, ◌≤◌, arith, List, [], ◌∷◌, ◌++◌, length, take, drop_list, named, w64, Val, vstruct, vcons, vnil, of_list, id⊢, emp, full_share, Lft, ftrue, flft, fact, fact_i, tables, proved, mul-le-mul_right, ‵, ◌⊛◌, raw, some, later, ◌$◌, ◌∵◌, !, qed, move, keep, drop, split, join, fsplit3, fjoin, fjoin3, use0, use1, use2, await, pick, suffices, done, rewrite, group, whole, sub, look_in, stop, fld, addr, load, bin, lit, of_opd, returns, enter, no_more, and_then, alloc_all, pass_all, free_all, look_at, get, through, sets, lands_as, usize, u8, yes, no, Is, shows, cell_at, uint_vals, uint_Tells, uint_Makes, RattleType, owns, Valss, flat, MutBor, MutRef, mut_vals, mut_Tells, plain, named_lft, Array, MutSlice, Room, slice_val, nothing, heard, only, opens, closes, peeks, owned, row, fields, tuple_type, calls_at, lasts, triple_of, framed, Stays, stay_dropped, walk_of, ends_at, Goes-dropped, Goes-spent_ref}
+use Rattle.rs_field.proofs.Walking.{◌≡◌, refl, sym, ap, ◌∙◌, ℕ, ◌+◌, ◌*◌, ◌^◌, ◌<◌, ◌≤◌, arith, List, [], ◌∷◌, length, take, drop_list, named, w64, Val, vstruct, of_list, id⊢, emp, full_share, ftrue, flft, fact, fact_i, tables, proved, mul-le-mul_right, ‵, ◌⊛◌, raw, some, later, ◌$◌, ◌∵◌, !, qed, move, keep, drop, split, join, fsplit3, fjoin, fjoin3, use0, use1, use2, await, pick, suffices, done, rewrite, group, whole, sub, look_in, stop, fld, addr, load, bin, lit, of_opd, returns, enter, no_more, and_then, alloc_all, pass_all, free_all, look_at, get, through, sets, lands_as, usize, yes, no, Is, shows, cell_at, uint_vals, uint_Tells, uint_Makes, RattleType, owns, Valss, flat, MutBor, MutRef, mut_vals, mut_Tells, plain, named_lft, Room, nothing, heard, opens, closes, peeks, owned, fields, calls_at, lasts, triple_of, framed, Stays, stay_dropped, walk_of, ends_at, Goes-dropped, Goes-spent_ref}
 use Rattle.rs_field.specs.rows.Rows.{Chunks}
+use Rattle.rs_field.proofs.of_rows.LentChunks.{E, Fours, fours}
 use Rattle.rs_field.specs.rows.Lending.{LendsFourRuns}
 use Rattle.rs_field.specs.declared.rows.shards.ShardsRefMut.{ShardsRefMut}
 use Rattle.rs_field.specs.contracts.rows.shards.ShardsRefMut.{the_row, the_type}
@@ -8,12 +9,6 @@ use Rattle.rs_field.proofs.rows.shards.ShardsRefMut.dist4_mut.Statement.{stateme
 use Rattle.rs_field.proofs.rows.shards.ShardsRefMut.dist4_mut.Code as code
 use Rattle.rs_field.specs.contracts.rows.shards.ShardsRefMut.four_runs as g
 use Rattle.rs_field.proofs.rows.shards.ShardsRefMut.four_runs.Met.{met}
-
-abbrev E : RattleType
-E = Array u8 64
-
-abbrev Fours : Lft → RattleType
-Fours κ = row (tuple_type (MutSlice (named 0) κ E ∷ MutSlice (named 0) κ E ∷ MutSlice (named 0) κ E ∷ MutSlice (named 0) κ E ∷ []))
 
 abbrev stayed : Stays f.ended.signature.params f.ended.kept
 stayed = (stay_dropped _ no, (stay_dropped _ yes, (stay_dropped _ yes, tt)))
@@ -89,19 +84,10 @@ dist4_mut_spec 𝓤 𝓛 𝓜 𝓡 wired =
     ⊛ raw (fact 𝓤 ((x.0.now ≡ run i) × (x.1.now ≡ run j) × (x.2.now ≡ run k) × (x.3.now ≡ run m))))))) (id⊢ 𝓤 _) $
     await ! tt $ pick ! (λ x. split ! $ split ! $ move ! (2 ∷ []) $ pick ! (λ ws. split ! $ drop ! $ split ! $ move ! (1 ∷ []) $ heard ! _ (λ value. move ! (2 ∷ []) $
     -- [the pair; what self follows; the tokens; the locals]
-    peeks ! (Fours κs.0) (Is (Fours κs.0)) (shows 𝓛 (Fours κs.0)) x (v ∷ []) (λ pair.
-    let one : Room E (length x.0.now) = pair.1.1.0.0.1 in
-    let two : Room E (length x.1.now) = pair.1.1.1.0.0.1 in
-    let three : Room E (length x.2.now) = pair.1.1.1.1.0.0.1 in
-    let four : Room E (length x.3.now) = pair.1.1.1.1.1.0.0.1 in
-    let w : Val = vstruct (vcons (slice_val x.0.ref_ptr (length x.0.now)) (vcons (slice_val x.1.ref_ptr (length x.1.now))
-    (vcons (slice_val x.2.ref_ptr (length x.2.now)) (vcons (slice_val x.3.ref_ptr (length x.3.now)) vnil)))) in
-    let made : v ≡ w = ap only pair.1.0 ∙ ap (λ (ws : List Val × List Val × List Val × List Val). vstruct (of_list (ws.0 ++ (ws.1 ++ (ws.2 ++ (ws.3 ++ []))))))
-    (λ i. (pair.1.1.0.0.0 i, pair.1.1.1.0.0.0 i, pair.1.1.1.1.0.0.0 i, pair.1.1.1.1.1.0.0.0 i)) in
-    rewrite ! 0 (λ (u : Val). ‵ ((Fours κs.0).own_val x (u ∷ []))) made refl $
-    lands_as ! made refl (tt, ((tt, (record { fits = one.0 }, tt)), ((tt, (record { fits = two.0 }, tt)), ((tt, (record { fits = three.0 }, tt)), ((tt, (record { fits = four.0 }, tt)), tt))))) $
+    peeks ! (Fours κs.0) (Is (Fours κs.0)) (shows 𝓛 (Fours κs.0)) x (v ∷ []) (λ shown.
+    lands_as ! refl refl ((fours 𝓛 κs.0).typed x (v ∷ []) shown).0 $
     returns ! (look_at ! 0 refl) $ free_all ! refl $
-    suffices ! _ (ends_at 𝓛 f.ended stayed c y w x (tt, (tt, (tt, tt))) (tt, (tt, (tt, tt)))) $
+    suffices ! _ (ends_at 𝓛 f.ended stayed c y v x (tt, (tt, (tt, tt))) (tt, (tt, (tt, tt)))) $
     keep ! (0 ∷ 1 ∷ 2 ∷ []) $
     use0 𝓛 (raw (fact 𝓤 (x.3.now ≡ run m))) (fact_i 𝓤 (x.3.now ≡ run m) (emp 𝓤) value.3) $
     use0 𝓛 (raw (fact 𝓤 (x.2.now ≡ run k))) (fact_i 𝓤 (x.2.now ≡ run k) (emp 𝓤) value.2) $ join ! $

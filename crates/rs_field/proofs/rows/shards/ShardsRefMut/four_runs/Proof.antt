@@ -1,7 +1,8 @@
-use Rattle.rs_field.proofs.Walking.{◌≡◌, refl, sym, ap, ◌∙◌, ℕ, ◌+◌, ◌*◌, ◌-◌, ◌^◌, ◌<◌, ◌≤◌, arith, List, [], ◌∷◌, ◌++◌, length, take, drop_list, take-append-drop, length-drop, named, w64, Val, vstruct, vcons, vnil, id⊢, ftrue, flft, Lft, fact, tables, proved, ‵, ◌⊛◌, raw, some, later, at_ret, ◌$◌, ◌∵◌, !, qed, move, keep, drop, split, split3, join, fsplit, fjoin, use1, use2, await, pick, suffices, frame, done, rewrite, feq_l, fpack, feq_i, whole, sub, agg, stop, fld, hop, from, addr, bin, of_opd, lit, first, blocks, exec, returns, enter, no_more, and_then, alloc_all, pass_all, free_all, look_at, look_in_at, get, through, sets, sets_last, lands_as, env, usize, u8, yes, no, uint_vals, uint_Tells, RattleType, owns, Valss, MutBor, MutRef, mut_vals, mut_Tells, plain, named_lft, Array, MutSlice, room, slice_val, mut_slice_vals, mut_slice_at, pure_l, pure_i, nothing, heard, only, calls_at, lasts, triple_of, framed, says, Stays, stay_dropped, walk_of, ends_at, Goes-dropped, Goes-spent_ref, at, at_mul, length-take-le, drop-drop, within, tuple_type, shape}
+use Rattle.rs_field.proofs.Walking.{◌≡◌, refl, sym, ap, ◌∙◌, ℕ, ◌+◌, ◌*◌, ◌-◌, ◌^◌, ◌<◌, ◌≤◌, arith, List, [], ◌∷◌, ◌++◌, length, take, drop_list, take-append-drop, named, w64, Val, vstruct, vcons, vnil, id⊢, ftrue, flft, Lft, fact, tables, proved, ‵, ◌⊛◌, raw, some, later, at_ret, ◌$◌, ◌∵◌, !, qed, move, keep, drop, split, split3, join, fsplit, fjoin, use1, use2, await, pick, suffices, frame, done, rewrite, feq_l, fpack, feq_i, whole, sub, agg, stop, fld, hop, from, addr, bin, of_opd, lit, first, blocks, exec, returns, enter, no_more, and_then, alloc_all, pass_all, free_all, look_at, look_in_at, get, through, sets, sets_last, lands_as, env, usize, yes, no, uint_vals, uint_Tells, RattleType, owns, Valss, MutBor, MutRef, mut_vals, mut_Tells, plain, named_lft, Array, MutSlice, room, slice_val, mut_slice_vals, mut_slice_at, pure_l, pure_i, nothing, heard, only, calls_at, lasts, triple_of, framed, says, Stays, stay_dropped, walk_of, ends_at, Goes-dropped, Goes-spent_ref, at, at_mul, length-take-le, within, tuple_type, shape}
 use lib.ListN.{length-append}
 use Rattle.rs_field.proofs.of_rows.FourRuns.{four_lent, lends_four, four_of}
 use Rattle.rs_field.specs.rows.Rows.{Chunks}
+use Rattle.rs_field.proofs.of_rows.LentChunks.{E, Bare, cut_at, cut_last, taken, between-long}
 use Rattle.rs_field.specs.rows.Lending.{with_chunks, between, with_four, LendsAll, LendsFour}
 use Rattle.rs_field.specs.contracts.rows.shards.ShardsRefMut.{the_row}
 use Rattle.rs_field.proofs.rows.shards.ShardsRefMut.all.Met.{met}
@@ -10,33 +11,11 @@ use Rattle.rs_field.proofs.rows.shards.ShardsRefMut.four_runs.Statement.{stateme
 use Rattle.rs_field.proofs.rows.shards.ShardsRefMut.four_runs.Code as code
 use Rattle.rs_field.specs.contracts.rows.shards.ShardsRefMut.all as g
 
-abbrev E : RattleType
-E = Array u8 64
-
-abbrev Bare : RattleType
-Bare = the_row (record { mir = named 1; lft = [] })
-
 abbrev Fours : Lft → List RattleType
 Fours κ = MutSlice (named 0) κ E ∷ MutSlice (named 0) κ E ∷ MutSlice (named 0) κ E ∷ MutSlice (named 0) κ E ∷ []
 
 abbrev stayed : Stays f.ended.signature.params f.ended.kept
 stayed = (stay_dropped _ no, (stay_dropped _ yes, (stay_dropped _ yes, (stay_dropped _ yes, (stay_dropped _ yes, (stay_dropped _ yes, tt))))))
-
--- from place i on: n elements, those up to place j, and the rest
-cut_at : (xs : Chunks) (i n j : ℕ) → i + n ≤ j → drop_list i xs ≡ take n (drop_list i xs) ++ (between (i + n) j xs ++ drop_list j xs)
-cut_at xs i n j within =
-    let to : (i + n) + (j - (i + n)) ≡ j = omega arith in
-    sym (take-append-drop n (drop_list i xs))
-    ∙ ap (λ (l : Chunks). take n (drop_list i xs) ++ l)
-    (drop-drop n i xs ∙ sym (take-append-drop (j - (i + n)) (drop_list (i + n) xs))
-    ∙ ap (λ (l : Chunks). between (i + n) j xs ++ l) (drop-drop (j - (i + n)) (i + n) xs ∙ ap (λ (h : ℕ). drop_list h xs) to))
-
--- how long the runs of a list are
-taken : (xs : Chunks) (i n : ℕ) → i + n ≤ length xs → length (take n (drop_list i xs)) ≡ n
-taken xs i n within = let left = length-drop i xs in length-take-le n (drop_list i xs) (omega arith)
-
-between-long : (xs : Chunks) (i j : ℕ) → i ≤ j → j ≤ length xs → length (between i j xs) ≡ j - i
-between-long xs i j ordered within = taken xs i (j - i) (omega arith)
 
 pub four_runs_spec : {M : Type 1} → statement M
 four_runs_spec 𝓤 𝓛 𝓜 𝓡 wired =
@@ -89,27 +68,18 @@ four_runs_spec 𝓤 𝓛 𝓜 𝓡 wired =
     let h₁ : length g₁ ≡ j - (i + n) = between-long xs (i + n) j ij (omega arith) in
     let h₂ : length g₂ ≡ k - (j + n) = between-long xs (j + n) k jk (omega arith) in
     let h₃ : length g₃ ≡ m - (k + n) = between-long xs (k + n) m km (omega arith) in
-    let last : drop_list m xs ≡ four ++ back = sym (take-append-drop n (drop_list m xs)) ∙ ap (λ (l : Chunks). four ++ l) (drop-drop n m xs) in
     let cut : xs ≡ front ++ (one ++ (g₁ ++ (two ++ (g₂ ++ (three ++ (g₃ ++ (four ++ back))))))) = sym (take-append-drop i xs)
     ∙ ap (λ (l : Chunks). front ++ l) (cut_at xs i n j ij
     ∙ ap (λ (l : Chunks). one ++ (g₁ ++ l)) (cut_at xs j n k jk
-    ∙ ap (λ (l : Chunks). two ++ (g₂ ++ l)) (cut_at xs k n m km ∙ ap (λ (l : Chunks). three ++ (g₃ ++ l)) last))) in
-    let left : length (one ++ (g₁ ++ (two ++ []))) ≡ length one + (length g₁ + (length two + 0)) = length-append one (g₁ ++ (two ++ []))
-    ∙ ap (λ (h : ℕ). length one + h) (length-append g₁ (two ++ []) ∙ ap (λ (h : ℕ). length g₁ + h) (length-append two [])) in
-    let right : length (three ++ (g₃ ++ (four ++ []))) ≡ length three + (length g₃ + (length four + 0)) = length-append three (g₃ ++ (four ++ []))
-    ∙ ap (λ (h : ℕ). length three + h) (length-append g₃ (four ++ []) ∙ ap (λ (h : ℕ). length g₃ + h) (length-append four [])) in
+    ∙ ap (λ (l : Chunks). two ++ (g₂ ++ l)) (cut_at xs k n m km ∙ ap (λ (l : Chunks). three ++ (g₃ ++ l)) (cut_last xs m n)))) in
+    let left : length (one ++ (g₁ ++ (two ++ []))) ≡ length one + (length g₁ + (length two + 0)) = simp length-append in
+    let right : length (three ++ (g₃ ++ (four ++ []))) ≡ length three + (length g₃ + (length four + 0)) = simp length-append in
     let p₁ : ℕ = i * 64 + o in let p₂ : ℕ = j * 64 + o in let p₃ : ℕ = k * 64 + o in let p₄ : ℕ = m * 64 + o in
     let on₁ : at o 64 (length front) ≡ p₁ = at_mul o 64 (length front) ∙ ap (λ (h : ℕ). h * 64 + o) lf in
-    let q₁ : at p₁ 64 (length one) ≡ length one * 64 + p₁ = at_mul p₁ 64 (length one) in
-    let q₂ : at (at p₁ 64 (length one)) 64 (length g₁) ≡ length g₁ * 64 + at p₁ 64 (length one) = at_mul (at p₁ 64 (length one)) 64 (length g₁) in
-    let on₂ : at (at p₁ 64 (length one)) 64 (length g₁) ≡ p₂ = omega arith in
+    let on₂ : at (at p₁ 64 (length one)) 64 (length g₁) ≡ p₂ = omega (arith, at_mul p₁ 64 (length one), at_mul (at p₁ 64 (length one)) 64 (length g₁)) in
     let both₁ : ℕ = length (one ++ (g₁ ++ (two ++ []))) in
-    let q₃ : at p₁ 64 both₁ ≡ both₁ * 64 + p₁ = at_mul p₁ 64 both₁ in
-    let q₄ : at (at p₁ 64 both₁) 64 (length g₂) ≡ length g₂ * 64 + at p₁ 64 both₁ = at_mul (at p₁ 64 both₁) 64 (length g₂) in
-    let on₃ : at (at p₁ 64 both₁) 64 (length g₂) ≡ p₃ = omega arith in
-    let q₅ : at p₃ 64 (length three) ≡ length three * 64 + p₃ = at_mul p₃ 64 (length three) in
-    let q₆ : at (at p₃ 64 (length three)) 64 (length g₃) ≡ length g₃ * 64 + at p₃ 64 (length three) = at_mul (at p₃ 64 (length three)) 64 (length g₃) in
-    let on₄ : at (at p₃ 64 (length three)) 64 (length g₃) ≡ p₄ = omega arith in
+    let on₃ : at (at p₁ 64 both₁) 64 (length g₂) ≡ p₃ = omega (arith, at_mul p₁ 64 both₁, at_mul (at p₁ 64 both₁) 64 (length g₂)) in
+    let on₄ : at (at p₃ 64 (length three)) 64 (length g₃) ≡ p₄ = omega (arith, at_mul p₃ 64 (length three), at_mul (at p₃ 64 (length three)) 64 (length g₃)) in
     let v : Val = vstruct (vcons (slice_val (b, p₁) n) (vcons (slice_val (b, p₂) n) (vcons (slice_val (b, p₃) n) (vcons (slice_val (b, p₄) n) vnil)))) in
     lands_as ! (ap only ev) refl (tt, (tt, (record { fits = rm.0 }, tt))) $
     sets ! (addr ! (from ! (fld ! refl (hop ! (look_in_at ! 7 (sub ! 0 refl (whole !))) (stop !))))) refl (tt, tt) $

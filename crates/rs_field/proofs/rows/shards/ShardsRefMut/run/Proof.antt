@@ -1,7 +1,8 @@
-use Rattle.rs_field.proofs.Walking.{◌≡◌, refl, sym, ap, ◌∙◌, ℕ, ◌+◌, ◌*◌, ◌-◌, ◌^◌, ◌<◌, ◌≤◌, arith, List, [], ◌∷◌, ◌++◌, length, take, drop_list, take-append-drop, length-drop, named, w64, Val, id⊢, ftrue, flft, fact, tables, proved, ‵, ◌⊛◌, raw, some, later, at_ret, ◌$◌, ◌∵◌, !, qed, move, keep, drop, split, split3, join, fsplit, fjoin, use1, use2, await, pick, suffices, frame, done, rewrite, feq_l, whole, sub, agg, stop, fld, hop, from, addr, bin, of_opd, lit, first, blocks, exec, returns, enter, no_more, and_then, alloc_all, pass_all, free_all, look_at, look_in_at, get, through, sets, sets_last, lands_as, env, usize, u8, yes, no, uint_vals, uint_Tells, RattleType, owns, MutBor, MutRef, mut_vals, mut_Tells, plain, named_lft, Array, MutSlice, Room, room, slice_val, mut_slice_vals, mut_slice_at, pure_l, pure_i, nothing, heard, only, calls_at, lasts, triple_of, framed, says, Stays, stay_dropped, walk_of, ends_at, Goes-dropped, Goes-spent_ref, at, at_mul, length-take-le}
+use Rattle.rs_field.proofs.Walking.{◌≡◌, refl, sym, ap, ◌∙◌, ℕ, ◌+◌, ◌*◌, ◌^◌, ◌<◌, ◌≤◌, arith, List, [], ◌∷◌, ◌++◌, length, take, drop_list, take-append-drop, named, w64, Val, id⊢, ftrue, flft, fact, tables, proved, ‵, ◌⊛◌, raw, some, later, at_ret, ◌$◌, ◌∵◌, !, qed, move, keep, drop, split, split3, join, fsplit, fjoin, use1, use2, await, pick, suffices, frame, done, rewrite, feq_l, whole, sub, agg, stop, fld, hop, from, addr, bin, of_opd, lit, first, blocks, exec, returns, enter, no_more, and_then, alloc_all, pass_all, free_all, look_at, look_in_at, get, through, sets, sets_last, lands_as, env, usize, yes, no, uint_vals, uint_Tells, owns, MutBor, MutRef, mut_vals, mut_Tells, plain, named_lft, Array, MutSlice, Room, room, slice_val, mut_slice_vals, mut_slice_at, pure_l, pure_i, nothing, heard, only, calls_at, lasts, triple_of, framed, says, Stays, stay_dropped, walk_of, ends_at, Goes-dropped, Goes-spent_ref, at, at_mul, length-take-le}
 use denote.Follow.{follows, follows_then}
 use Rattle.rs_field.proofs.of_rows.Runs.{run_lent, lends_run}
 use Rattle.rs_field.specs.rows.Rows.{Chunks}
+use Rattle.rs_field.proofs.of_rows.LentChunks.{E, Bare, taken}
 use Rattle.rs_field.specs.rows.Lending.{with_chunks, LendsAll}
 use Rattle.rs_field.specs.contracts.rows.shards.ShardsRefMut.{the_row}
 use Rattle.rs_field.specs.contracts.rows.shards.ShardsRefMut.run as f
@@ -9,12 +10,6 @@ use Rattle.rs_field.proofs.rows.shards.ShardsRefMut.run.Statement.{statement}
 use Rattle.rs_field.proofs.rows.shards.ShardsRefMut.run.Code as code
 use Rattle.rs_field.specs.contracts.rows.shards.ShardsRefMut.all as g
 use Rattle.rs_field.proofs.rows.shards.ShardsRefMut.all.Met.{met}
-
-abbrev E : RattleType
-E = Array u8 64
-
-abbrev Bare : RattleType
-Bare = the_row (record { mir = named 1; lft = [] })
 
 abbrev stayed : Stays f.ended.signature.params f.ended.kept
 stayed = (stay_dropped _ no, (stay_dropped _ yes, (stay_dropped _ yes, tt)))
@@ -56,8 +51,7 @@ run_spec 𝓤 𝓛 𝓜 𝓡 wired =
     let fit : length x.now * 64 < 2 ^ 63 = rm.1 in
     let fs : m * 64 < 2 ^ 64 = omega arith in
     let lf : length front ≡ m = length-take-le m x.now (omega arith) in
-    let lb : length (drop_list m x.now) ≡ length x.now - m = length-drop m x.now in
-    let long : length mid ≡ n = length-take-le n (drop_list m x.now) (omega arith) in
+    let long : length mid ≡ n = taken x.now m n (omega arith) in
     let on : at o 64 (length front) ≡ m * 64 + o = at_mul o 64 (length front) ∙ ap (λ (k : ℕ). k * 64 + o) lf in
     let cut : x.now ≡ front ++ (mid ++ back) = sym (take-append-drop m x.now) ∙ ap (λ (l : Chunks). front ++ l) (sym (take-append-drop n (drop_list m x.now))) in
     let fn : n < 2 ^ 64 = are.1.1.0.1 in

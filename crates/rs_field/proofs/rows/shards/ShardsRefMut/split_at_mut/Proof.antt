@@ -1,8 +1,9 @@
-use Rattle.rs_field.proofs.Walking.{◌≡◌, refl, sym, ap, ◌∙◌, ℕ, ◌+◌, ◌*◌, ◌-◌, ◌^◌, ◌<◌, ◌≤◌, arith, List, [], ◌∷◌, ◌++◌, length, take, drop_list, length-drop, named, w64, Val, vstruct, vcons, vnil, of_list, id⊢, emp, full_share, Lft, ftrue, flft, fact, fact_i, tables, proved, ‵, ◌⊛◌, raw, some, later, ◌$◌, ◌∵◌, !, qed, move, keep, drop, split, join, fsplit3, fjoin, fjoin3, use0, use1, use2, await, pick, suffices, done, rewrite, group, whole, sub, look_in, stop, fld, addr, load, bin, lit, of_opd, returns, enter, no_more, and_then, alloc_all, pass_all, free_all, look_at, get, through, sets, lands_as, length-take-le, usize, u8, yes, no, Is, shows, cell_at, uint_vals, uint_Tells, uint_Makes, RattleType, owns, Valss, flat, MutBor, MutRef, mut_vals, mut_Tells, plain, named_lft, Array, MutSlice, Room, slice_val, nothing, heard, only, opens, closes, peeks, owned, follows_both, row, fields, tuple_type, calls_at, lasts, triple_of, framed, Stays, stay_dropped, walk_of, ends_at, Goes-dropped, Goes-spent_ref}
+use Rattle.rs_field.proofs.Walking.{◌≡◌, refl, sym, ap, ◌∙◌, ℕ, ◌+◌, ◌*◌, ◌-◌, ◌^◌, ◌<◌, ◌≤◌, arith, List, [], ◌∷◌, length, take, drop_list, length-drop, named, w64, Val, vstruct, of_list, id⊢, emp, full_share, Lft, ftrue, flft, fact, fact_i, tables, proved, ‵, ◌⊛◌, raw, some, later, ◌$◌, ◌∵◌, !, qed, move, keep, drop, split, join, fsplit3, fjoin, fjoin3, use0, use1, use2, await, pick, suffices, done, rewrite, group, whole, sub, look_in, stop, fld, addr, load, bin, lit, of_opd, returns, enter, no_more, and_then, alloc_all, pass_all, free_all, look_at, get, through, sets, lands_as, length-take-le, usize, yes, no, Is, shows, cell_at, uint_vals, uint_Tells, uint_Makes, RattleType, owns, Valss, flat, MutBor, MutRef, mut_vals, mut_Tells, plain, named_lft, Array, Room, nothing, heard, opens, closes, peeks, owned, follows_both, row, fields, tuple_type, calls_at, lasts, triple_of, framed, Stays, stay_dropped, walk_of, ends_at, Goes-dropped, Goes-spent_ref}
 use base.Fml.{GName}
 use Rattle.std.proofs.Common.{lit<}
 use denote.Struct.Tuple.{tuple_laws}
 use Rattle.rs_field.specs.rows.Rows.{Chunks}
+use Rattle.rs_field.proofs.of_rows.LentChunks.{E, Bare, Pair, pair}
 use Rattle.rs_field.specs.rows.View.{HasRows, IsListOf}
 use Rattle.rs_field.specs.rows.Lending.{LendsTwoRuns, with_chunks, with_two}
 use Rattle.rs_field.specs.declared.rows.shards.ShardsRefMut.{ShardsRefMut}
@@ -15,15 +16,6 @@ use Rattle.rs_field.specs.contracts.rows.shards.ShardsRefMut.two_runs as g
 use Rattle.rs_field.proofs.rows.shards.ShardsRefMut.two_runs.Met.{met}
 use Rattle.rs_field.specs.contracts.rows.shards.two_lists as g'
 use Rattle.rs_field.proofs.rows.shards.two_lists.Met.{met as met'}
-
-abbrev E : RattleType
-E = Array u8 64
-
-abbrev Bare : RattleType
-Bare = the_row (record { mir = named 1; lft = [] })
-
-abbrev Pair : Lft → RattleType
-Pair κ = row (tuple_type (MutSlice (named 0) κ E ∷ MutSlice (named 0) κ E ∷ []))
 
 abbrev Rows : Lft → RattleType
 Rows κ = the_row (record { mir = named 0; lft = κ })
@@ -100,13 +92,8 @@ split_at_mut_spec 𝓤 𝓛 𝓜 𝓡 wired =
     ⊛ raw (fact 𝓤 ((x.0.now ≡ take (mid * n) (drop_list 0 ch)) × (x.1.now ≡ take (rest * n) (drop_list (mid * n) ch)))))))) (id⊢ 𝓤 _) $
     await ! tt $ pick ! (λ x. split ! $ split ! $ move ! (2 ∷ []) $ pick ! (λ ws. split ! $ drop ! $ split ! $ move ! (1 ∷ []) $ heard ! _ (λ value. move ! (2 ∷ []) $
     -- [the pair; what self follows; the tokens; the locals]
-    peeks ! (Pair κs.0) (Is (Pair κs.0)) (shows 𝓛 (Pair κs.0)) x (v ∷ []) (λ pair.
-    let one : Room E (length x.0.now) = pair.1.1.0.0.1 in
-    let two : Room E (length x.1.now) = pair.1.1.1.0.0.1 in
-    let w : Val = vstruct (vcons (slice_val x.0.ref_ptr (length x.0.now)) (vcons (slice_val x.1.ref_ptr (length x.1.now)) vnil)) in
-    let made : v ≡ w = ap only pair.1.0 ∙ ap (λ (ws : List Val × List Val). vstruct (of_list (ws.0 ++ (ws.1 ++ [])))) (λ i. (pair.1.1.0.0.0 i, pair.1.1.1.0.0.0 i)) in
-    rewrite ! 0 (λ (u : Val). ‵ ((Pair κs.0).own_val x (u ∷ []))) made refl $
-    lands_as ! made refl (tt, ((tt, (record { fits = one.0 }, tt)), ((tt, (record { fits = two.0 }, tt)), tt))) $
+    peeks ! (Pair κs.0) (Is (Pair κs.0)) (shows 𝓛 (Pair κs.0)) x (v ∷ []) (λ shown.
+    lands_as ! refl refl ((pair 𝓛 κs.0).typed x (v ∷ []) shown).0 $
     let all_left : length (drop_list 0 ch) ≡ length ch - 0 = length-drop 0 ch in
     let some_left : length (drop_list (mid * n) ch) ≡ length ch - mid * n = length-drop (mid * n) ch in
     let first_taken : length x.0.now ≡ mid * n = ap length value.0 ∙ length-take-le (mid * n) (drop_list 0 ch) (omega arith) in
@@ -115,7 +102,7 @@ split_at_mut_spec 𝓤 𝓛 𝓜 𝓡 wired =
     let second_long : rest * n ≤ length x.1.now = omega (arith, second_taken) in
     let G' = triple_of 𝓛 g'.signature (g'.spec 𝓛 𝓜.mem 𝓡.returns) in
     let args' : Valss (usize ∷ usize ∷ usize ∷ []) = (uint_vals w64 mid, (uint_vals w64 rest, (uint_vals w64 n, tt))) in
-    let z' : G'.Ghost = (((κs.0, tt), (qs.0, tt), tt, (x, (mid, (rest, (n, tt)))), (w ∷ [], args')), tt) in
+    let z' : G'.Ghost = (((κs.0, tt), (qs.0, tt), tt, (x, (mid, (rest, (n, tt)))), (v ∷ [], args')), tt) in
     nothing ! $ owned ! usize _ (uint_Makes 𝓛 w64) n _ (refl, sized) $ fjoin ! $
     owned ! usize _ (uint_Makes 𝓛 w64) rest _ (refl, rest_fits) $ fjoin ! $
     owned ! usize _ (uint_Makes 𝓛 w64) mid _ (refl, are.1.0.1) $ fjoin ! $

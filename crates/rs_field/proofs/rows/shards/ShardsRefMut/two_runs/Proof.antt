@@ -1,8 +1,9 @@
-use Rattle.rs_field.proofs.Walking.{◌≡◌, refl, sym, ap, ◌∙◌, ℕ, ◌+◌, ◌*◌, ◌-◌, ◌^◌, ◌<◌, ◌≤◌, arith, List, [], ◌∷◌, ◌++◌, length, take, drop_list, take-append-drop, length-drop, named, w64, Val, vstruct, vcons, vnil, id⊢, ftrue, flft, Lft, fact, tables, proved, ‵, ◌⊛◌, raw, some, later, at_ret, ◌$◌, ◌∵◌, !, qed, move, keep, drop, split, split3, join, fsplit, fjoin, use1, use2, await, pick, suffices, frame, done, rewrite, feq_l, fpack, feq_i, whole, sub, agg, stop, fld, hop, from, addr, bin, of_opd, lit, first, blocks, exec, returns, enter, no_more, and_then, alloc_all, pass_all, free_all, look_at, look_in_at, get, through, sets, sets_last, lands_as, env, usize, u8, yes, no, uint_vals, uint_Tells, RattleType, owns, Valss, MutBor, MutRef, mut_vals, mut_Tells, plain, named_lft, Array, MutSlice, room, slice_val, mut_slice_vals, mut_slice_at, pure_l, pure_i, nothing, heard, only, follows_both, calls_at, lasts, triple_of, framed, says, Stays, stay_dropped, walk_of, ends_at, Goes-dropped, Goes-spent_ref, at, at_mul, length-take-le, drop-drop, within, tuple_type, shape}
+use Rattle.rs_field.proofs.Walking.{◌≡◌, refl, sym, ap, ◌∙◌, ℕ, ◌+◌, ◌*◌, ◌-◌, ◌^◌, ◌<◌, ◌≤◌, arith, List, [], ◌∷◌, ◌++◌, length, take, drop_list, take-append-drop, named, w64, Val, vstruct, vcons, vnil, id⊢, ftrue, flft, Lft, fact, tables, proved, ‵, ◌⊛◌, raw, some, later, at_ret, ◌$◌, ◌∵◌, !, qed, move, keep, drop, split, split3, join, fsplit, fjoin, use1, use2, await, pick, suffices, frame, done, rewrite, feq_l, fpack, feq_i, whole, sub, agg, stop, fld, hop, from, addr, bin, of_opd, lit, first, blocks, exec, returns, enter, no_more, and_then, alloc_all, pass_all, free_all, look_at, look_in_at, get, through, sets, sets_last, lands_as, env, usize, yes, no, uint_vals, uint_Tells, RattleType, owns, Valss, MutBor, MutRef, mut_vals, mut_Tells, plain, named_lft, Array, MutSlice, room, slice_val, mut_slice_vals, mut_slice_at, pure_l, pure_i, nothing, heard, only, follows_both, calls_at, lasts, triple_of, framed, says, Stays, stay_dropped, walk_of, ends_at, Goes-dropped, Goes-spent_ref, at, at_mul, length-take-le, within, tuple_type, shape}
 use denote.Follow.{both_by}
 use Rattle.rs_field.proofs.of_rows.Runs.{both_then, runs_lent, lends_runs}
 use Rattle.rs_field.specs.rows.Rows.{Chunks}
-use Rattle.rs_field.specs.rows.Lending.{with_chunks, with_two, LendsAll}
+use Rattle.rs_field.proofs.of_rows.LentChunks.{E, Bare, cut_at, cut_last, taken, between-long}
+use Rattle.rs_field.specs.rows.Lending.{with_chunks, between, with_two, LendsAll}
 use Rattle.rs_field.specs.contracts.rows.shards.ShardsRefMut.{the_row}
 use Rattle.rs_field.proofs.rows.shards.ShardsRefMut.all.Met.{met}
 use Rattle.rs_field.specs.contracts.rows.shards.ShardsRefMut.two_runs as f
@@ -10,20 +11,11 @@ use Rattle.rs_field.proofs.rows.shards.ShardsRefMut.two_runs.Statement.{statemen
 use Rattle.rs_field.proofs.rows.shards.ShardsRefMut.two_runs.Code as code
 use Rattle.rs_field.specs.contracts.rows.shards.ShardsRefMut.all as g
 
-abbrev E : RattleType
-E = Array u8 64
-
-abbrev Bare : RattleType
-Bare = the_row (record { mir = named 1; lft = [] })
-
 abbrev Halves : Lft → List RattleType
 Halves κ = MutSlice (named 0) κ E ∷ MutSlice (named 0) κ E ∷ []
 
 abbrev stayed : Stays f.ended.signature.params f.ended.kept
 stayed = (stay_dropped _ no, (stay_dropped _ yes, (stay_dropped _ yes, (stay_dropped _ yes, (stay_dropped _ yes, tt)))))
-
-drop_drop : (a k : ℕ) (xs : Chunks) → drop_list k (drop_list a xs) ≡ drop_list (a + k) xs
-drop_drop a k xs = drop-drop k a xs
 
 pub two_runs_spec : {M : Type 1} → statement M
 unfolding both_by
@@ -62,32 +54,17 @@ two_runs_spec 𝓤 𝓛 𝓜 𝓡 wired =
     let fj : j * 64 < 2 ^ 64 = omega arith in
     let fn : n < 2 ^ 64 = are.1.1.0.1 in
     let fm : m < 2 ^ 64 = are.1.1.1.1.0.1 in
-    let front : Chunks = take i xs in
-    let rest₁ : Chunks = drop_list i xs in
-    let one : Chunks = take n rest₁ in
-    let rest₂ : Chunks = drop_list (i + n) xs in
-    let k : ℕ = j - (i + n) in
-    let gap : Chunks = take k rest₂ in
-    let rest₃ : Chunks = drop_list j xs in
-    let two : Chunks = take m rest₃ in
-    let back : Chunks = drop_list (j + m) xs in
-    let lr₁ : length rest₁ ≡ length xs - i = length-drop i xs in
-    let lr₂ : length rest₂ ≡ length xs - (i + n) = length-drop (i + n) xs in
-    let lr₃ : length rest₃ ≡ length xs - j = length-drop j xs in
+    let front : Chunks = take i xs in let one : Chunks = take n (drop_list i xs) in let gap : Chunks = between (i + n) j xs in
+    let two : Chunks = take m (drop_list j xs) in let back : Chunks = drop_list (j + m) xs in
     let lf : length front ≡ i = length-take-le i xs (omega arith) in
-    let l₁ : length one ≡ n = length-take-le n rest₁ (omega arith) in
-    let lg : length gap ≡ k = length-take-le k rest₂ (omega arith) in
-    let l₂ : length two ≡ m = length-take-le m rest₃ (omega arith) in
-    let to : (i + n) + k ≡ j = omega arith in
-    let cut₃ : rest₃ ≡ two ++ back = sym (take-append-drop m rest₃) ∙ ap (λ (l : Chunks). two ++ l) (drop_drop j m xs) in
-    let cut₂ : rest₂ ≡ gap ++ (two ++ back) = sym (take-append-drop k rest₂) ∙ ap (λ (l : Chunks). gap ++ l) (drop_drop (i + n) k xs ∙ ap (λ (h : ℕ). drop_list h xs) to ∙ cut₃) in
-    let cut₁ : rest₁ ≡ one ++ (gap ++ (two ++ back)) = sym (take-append-drop n rest₁) ∙ ap (λ (l : Chunks). one ++ l) (drop_drop i n xs ∙ cut₂) in
-    let cut : xs ≡ front ++ (one ++ (gap ++ (two ++ back))) = sym (take-append-drop i xs) ∙ ap (λ (l : Chunks). front ++ l) cut₁ in
+    let l₁ : length one ≡ n = taken xs i n (omega arith) in
+    let lg : length gap ≡ j - (i + n) = between-long xs (i + n) j apart (omega arith) in
+    let l₂ : length two ≡ m = taken xs j m le in
+    let cut : xs ≡ front ++ (one ++ (gap ++ (two ++ back))) = sym (take-append-drop i xs)
+    ∙ ap (λ (l : Chunks). front ++ l) (cut_at xs i n j apart ∙ ap (λ (l : Chunks). one ++ (gap ++ l)) (cut_last xs j m)) in
     let p₁ : ℕ = i * 64 + o in let p₂ : ℕ = j * 64 + o in
     let on₁ : at o 64 (length front) ≡ p₁ = at_mul o 64 (length front) ∙ ap (λ (h : ℕ). h * 64 + o) lf in
-    let q₁ : at p₁ 64 (length one) ≡ length one * 64 + p₁ = at_mul p₁ 64 (length one) in
-    let q₂ : at (at p₁ 64 (length one)) 64 (length gap) ≡ length gap * 64 + at p₁ 64 (length one) = at_mul (at p₁ 64 (length one)) 64 (length gap) in
-    let on₂ : at (at p₁ 64 (length one)) 64 (length gap) ≡ p₂ = omega arith in
+    let on₂ : at (at p₁ 64 (length one)) 64 (length gap) ≡ p₂ = omega (arith, at_mul p₁ 64 (length one), at_mul (at p₁ 64 (length one)) 64 (length gap)) in
     let v : Val = vstruct (vcons (slice_val (b, p₁) n) (vcons (slice_val (b, p₂) m) vnil)) in
     lands_as ! (ap only ev) refl (tt, (tt, (record { fits = rm.0 }, tt))) $
     sets ! (addr ! (from ! (fld ! refl (hop ! (look_in_at ! 6 (sub ! 0 refl (whole !))) (stop !))))) refl (tt, tt) $
