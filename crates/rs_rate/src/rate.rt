@@ -17,7 +17,7 @@ mod restoring;
 pub mod rounds;
 mod shard_rows;
 mod side;
-pub(crate) mod supported_counts;
+mod supported_counts;
 
 use crate::decoder_result::DecoderResult;
 use crate::encoder_result::EncoderResult;

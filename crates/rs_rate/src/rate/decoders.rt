@@ -52,13 +52,13 @@ impl<E: Engine, C: Code> Decoder<E, C> {
         work: Option<DecoderWork>,
     ) -> Result<Decoder<E, C>, Error>
         ensures answer { let c = configuration C.rate counts.original_count counts.recovery_count shard_bytes in
-            UpToMemory (started (decoder_rows C.rate counts.original_count counts.recovery_count) c) (answer_of result) }
+            UpToMemory (started (decoder_rows C.rate c.original_count c.recovery_count) c) (answer_of result) }
         ensures made { let c = configuration C.rate counts.original_count counts.recovery_count shard_bytes in
             IfOk result (λ x. (decoder_state C.rate x.rows ≡ fresh_decoder c) × (x.engine ≡ engine)) }
         ensures grown { IfOk result (λ x. IfSome work (λ w. Grows (work_room w) (memory_room x.rows.memory))) }
-        ensures roomy { IfSome work (λ w. HasRoom (work_room w) (decoder_rows C.rate counts.original_count counts.recovery_count) shard_bytes
-            → answer_of result ≡ started (decoder_rows C.rate counts.original_count counts.recovery_count)
-            (configuration C.rate counts.original_count counts.recovery_count shard_bytes)) }
+        ensures roomy { let c = configuration C.rate counts.original_count counts.recovery_count shard_bytes in
+            IfSome work (λ w. HasRoom (work_room w) (decoder_rows C.rate c.original_count c.recovery_count) shard_bytes
+            → answer_of result ≡ started (decoder_rows C.rate c.original_count c.recovery_count) c) }
     {
         let shape = DecoderShape::new(counts, shard_bytes)?;
         let rows = DecoderRows::new(alloc, shape, work)?;

@@ -52,13 +52,13 @@ impl<E: Engine, C: Code> Encoder<E, C> {
         work: Option<EncoderWork>,
     ) -> Result<Encoder<E, C>, Error>
         ensures answer { let c = configuration C.rate counts.original_count counts.recovery_count shard_bytes in
-            UpToMemory (started (encoder_rows C.rate counts.original_count counts.recovery_count) c) (answer_of result) }
+            UpToMemory (started (encoder_rows C.rate c.original_count c.recovery_count) c) (answer_of result) }
         ensures made { let c = configuration C.rate counts.original_count counts.recovery_count shard_bytes in
             IfOk result (λ x. (encoder_state C.rate x.rows ≡ fresh_encoder c) × (x.engine ≡ engine)) }
         ensures grown { IfOk result (λ x. IfSome work (λ w. work_room w ≤ vec_capacity x.rows.chunks)) }
-        ensures roomy { IfSome work (λ w. chunk_count (encoder_rows C.rate counts.original_count counts.recovery_count) shard_bytes ≤ work_room w
-            → answer_of result ≡ started (encoder_rows C.rate counts.original_count counts.recovery_count)
-            (configuration C.rate counts.original_count counts.recovery_count shard_bytes)) }
+        ensures roomy { let c = configuration C.rate counts.original_count counts.recovery_count shard_bytes in
+            IfSome work (λ w. chunk_count (encoder_rows C.rate c.original_count c.recovery_count) shard_bytes ≤ work_room w
+            → answer_of result ≡ started (encoder_rows C.rate c.original_count c.recovery_count) c) }
     {
         let shape = EncoderShape::new(counts, shard_bytes)?;
         let rows = EncoderRows::new(alloc, shape, work)?;
