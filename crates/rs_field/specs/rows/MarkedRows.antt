@@ -8,10 +8,13 @@ use Rattle.rs_field.specs.declared.rows.shards.ShardsRefMut.{ShardsRefMut}
 abbrev pub is_marked : List Bool → ℕ → Bool
 is_marked marks i = slice_index_or marks i false
 
--- of as many rows as there are marks, from row pos on, those that aren't marked are zero bytes
+-- of the rows from row pos on, as many as size, all but some are zero bytes
+abbrev pub AreZeroBut : (ℕ → Bool) → ℕ → ℕ → ShardsRefMut → Type 0
+AreZeroBut some pos size rows = (i k : ℕ) → k < rows.shard_len_64 → i < size → some i ≡ false → cell rows k (pos + i) ≡ replicate 64 0
+
+-- of as many rows as there are marks, from row pos on, all but the marked ones
 abbrev pub OthersAreZero : List Bool → ℕ → ShardsRefMut → Type 0
-OthersAreZero marks pos rows =
-    (i k : ℕ) → k < rows.shard_len_64 → i < length marks → is_marked marks i ≡ false → cell rows k (pos + i) ≡ replicate 64 0
+OthersAreZero marks pos rows = AreZeroBut (is_marked marks) pos (length marks) rows
 
 -- whether row i is used: it is one of the first ones, or marked
 abbrev pub is_used : UsedRows → ℕ → Bool
@@ -23,7 +26,6 @@ abbrev pub HasMarks : UsedRows → ℕ → Type 0
 HasMarks (UsedRows.First count) size = 0 ≤ size
 HasMarks (UsedRows.Marked marks) size = size ≤ length marks.now
 
--- of the rows from row pos on, as many as size, those that aren't used are zero bytes
+-- all but the used ones
 abbrev pub UnusedAreZero : UsedRows → ℕ → ℕ → ShardsRefMut → Type 0
-UnusedAreZero used pos size rows =
-    (i k : ℕ) → k < rows.shard_len_64 → i < size → is_used used i ≡ false → cell rows k (pos + i) ≡ replicate 64 0
+UnusedAreZero used pos size rows = AreZeroBut (is_used used) pos size rows
