@@ -163,7 +163,10 @@ swapped-twice h i j k l fits ij jk kl within =
     let l₂ = row-long h i fits (omega (arith, ij, inside)) in
     let once = swapped h i j fits ij inside in
     let same : (r : ℕ) → j < r → row_at mid r ≡ row_at h r = λ r later. ap (take n) (after-two h i j (row_at h j) (row_at h i) fits ij inside l₁ l₂ (r * n) (ends n j r later)) in
-    let whole = four-as-two h i j (row_at h j) (row_at h i) fits ij inside l₁ l₂ (k * n) (l * n) (row_at h l) (row_at h k) (ends n j k jk) (let e = ends n k l kl in omega (arith, e)) in
-    (mid, once, subst (λ (w : Chunks). AreSwapped k l mid (with_chunks h w))
-    (ap₂ (with_two mid.chunks.now (k * n) n (l * n) n) (same l (omega (arith, jk, kl))) (same k jk) ∙ sym whole)
-    (swapped mid k l (let long = once.shape.length in omega (arith, long, fits)) kl within))
+    let whole = four-as-two h i j (row_at h j) (row_at h i) fits ij inside l₁ l₂ (k * n) (l * n) (row_at h l) (row_at h k) (ends n j k jk) (let e = ends n k l kl in omega (arith, e)) in (
+      mid,
+      once,
+      subst (λ (w : Chunks). AreSwapped k l mid (with_chunks h w))
+          (ap₂ (with_two mid.chunks.now (k * n) n (l * n) n) (same l (omega (arith, jk, kl))) (same k jk) ∙ sym whole)
+          (swapped mid k l (let long = once.shape.length in omega (arith, long, fits)) kl within),
+    )
