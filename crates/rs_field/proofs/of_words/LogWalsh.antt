@@ -2,17 +2,9 @@
 use Rattle.std.proofs.Common.{◌≡◌, ℕ, ◌+◌, ◌-◌, ◌*◌, ◌/◌, ◌%◌, ◌^◌, ◌<◌, ◌≤◌, List, length, take, drop, get_or, cond, sym, ap, ◌∙◌, subst, arith, inl, inr, pow-suc, pow_mono, add-one, ne_eqb, eq-eqb}
 use Rattle.std.proofs.lemmas.Bool.{cases_eq}
 use Rattle.std.proofs.lemmas.List.{length-drop, length-take-le, get_or-take, get_or-drop}
-use Rattle.std.proofs.lemmas.Grind.{common_steps}
 use Rattle.rs_field.specs.words.Field.{log}
-use Rattle.rs_field.specs.words.Tables.{IsLog, IsLogWalsh, IsLogWalshBelow, AreLogWalshes}
+use Rattle.rs_field.specs.words.Tables.{IsLog, IsLogWalshBelow, AreLogWalshes}
 use Rattle.rs_field.specs.words.Walsh.{signed_sum, IsWalsh, log_or_zero}
-
--- for all points the factor is one
-pub below-from_all : (n : ℕ) (table : List ℕ) → n ≡ 65536 → IsLogWalsh table → IsLogWalshBelow n table
-below-from_all n table all h = grind (arith, common_steps)
-
-pub all-from_below : (table : List ℕ) → IsLogWalshBelow 65536 table → IsLogWalsh table
-all-from_below table h = grind (arith, common_steps)
 
 -- the part of all tables that is the one for n points
 pub part-below : (d n : ℕ) (all : List ℕ) → n ≡ 2 ^ d → d ≤ 16 → AreLogWalshes all → IsLogWalshBelow n (take (2 * n - 1 - (n - 1)) (drop (n - 1) all))
