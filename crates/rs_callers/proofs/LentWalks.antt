@@ -5,6 +5,13 @@ use seplogic.Ra.Ura.{Ura}
 use base.Share
 use base.Logic.{ent, sep}
 use base.Fml.{Fml, Share}
+pub use contract.BorrowLft.{meet_⊑_right}
+pub use types.Follow.{followed₂}
+pub use denote.Memory.{mem}
+pub use denote.FollowSlice.{finally-res, heres_id}
+pub use denote.Struct.Tuple.{tuple_laws}
+pub use base.Fml.{fobs}
+pub use types.Kit.{fpick}
 use contract.BorrowLft.{meet_⊑_left}
 use types.Logic.{Logic, sem}
 use types.Kit.{Item, mean, updating, now, show}

@@ -1,5 +1,5 @@
 -- Every rate has its frame at supported counts.
-use Rattle.std.proofs.Common.{rules, ◌≡◌, ℕ, ◌+◌, ◌-◌, ◌^◌, ◌≤◌, Bool, true, false, cond, min, max, refl, sym, ap, ◌∙◌, arith, inl, inr, pow_mono, subst}
+use Rattle.std.proofs.Common.{rules, ◌≡◌, ℕ, ◌+◌, ◌-◌, ◌^◌, ◌≤◌, Bool, true, false, cond, min, max, refl, sym, ap, ◌∙◌, arith, pow_mono, subst}
 use Rattle.rs_field.specs.code.Counts.{Rate, low_rate, high_rate, default_rate, next_power, supports, is_low}
 use Rattle.rs_field.specs.code.Placement.{low_placement, high_placement, placement, decoder_rows}
 use Rattle.rs_field.proofs.of_code.NextPower.{next_power-small, next_power-above}
@@ -10,40 +10,14 @@ pub low_frame : (k r : ℕ) → next_power k + r ≤ 65536 → k ≤ next_power 
     → (e : ℕ) × (next_power (next_power k + r) ≡ 2 ^ e) × IsFrame (low_placement k) k r e (next_power k) (next_power k)
 unfolding low_placement
 low_frame k r fit most =
-    let n = next_power-small (next_power k + r) fit in (
-      n.0,
-      n.2,
-      record {
-        few = n.1;
-        originals = omega (arith, n.2, n.3);
-        recovery = omega (arith, n.2, n.3);
-        zeros = (most, omega (arith, n.2, n.3));
-        follow = omega arith;
-        order = inl (refl, refl);
-        counts = omega arith;
-        whole = inl (refl, refl);
-      },
-    )
+    let n = next_power-small (next_power k + r) fit in (n.0, n.2, grind (arith, n.2, n.3, n.1))
 
 pub high_frame : (k r : ℕ) → next_power r + k ≤ 65536 → r ≤ next_power r
     → (e : ℕ) × (next_power (next_power r + k) ≡ 2 ^ e) × IsFrame (high_placement k r) k r e (2 ^ e - next_power r) (2 ^ e)
 unfolding high_placement
 high_frame k r fit most =
     let n = next_power-small (next_power r + k) fit in
-    let room : 2 ^ n.0 ≤ 2 ^ 16 = pow_mono n.1 in (
-      n.0,
-      n.2,
-      record {
-        few = n.1;
-        originals = omega (arith, n.2, n.3);
-        recovery = omega (arith, n.2, n.3);
-        zeros = (omega (arith, n.2, n.3), omega arith);
-        follow = refl;
-        order = inr (refl, most, refl);
-        counts = omega (arith, n.2, n.3);
-        whole = inr (omega (arith, n.2, n.3), refl, refl);
-      },
-    )
+    let room : 2 ^ n.0 ≤ 2 ^ 16 = pow_mono n.1 in (n.0, n.2, grind (arith, n.2, n.3, n.1))
 
 -- what stands for the rate at these counts
 pub record HasFrame (rate : Rate) (k r : ℕ) : Type 0 where

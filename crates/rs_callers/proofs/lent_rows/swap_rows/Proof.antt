@@ -1,19 +1,8 @@
-use Rattle.rs_field.proofs.Walking.{◌≡◌, refl, sym, ap, ◌∙◌, ℕ, ◌+◌, ◌*◌, ◌<◌, ◌≤◌, arith, List, [], ◌∷◌, ◌++◌, length, named, w64, Val, vstruct}
-use Rattle.rs_field.proofs.Walking.{vcons, vnil, of_list, id⊢, emp, Lft, ftrue, flft, fact, fact_i, tables, proved, ‵, ◌⊛◌, raw, some}
-use Rattle.rs_field.proofs.Walking.{later, ◌$◌, ◌∵◌, !, qed, move, keep, drop, split, split3, join, fsplit, fjoin, feq_l, feq_i, use0, use1, use2}
-use Rattle.rs_field.proofs.Walking.{await, pick, suffices, done, rewrite, stop, addr, of_opd, returns, enter, no_more, and_then, alloc_all, pass_all}
-use Rattle.rs_field.proofs.Walking.{free_all, look_at, get, through, sets, lands_as, usize, u8, yes, Is, shows, uint_vals, uint_Tells, uint_Makes}
-use Rattle.rs_field.proofs.Walking.{RattleType, owns, Valss, MutBor, MutRef, mut_vals, mut_Tells, plain, named_lft, Array, MutSlice, Room, slice_val}
-use Rattle.rs_field.proofs.Walking.{nothing, heard, only, peeks, owned, row, tuple_type, calls_at, lasts, triple_of, framed, Stays, stay_dropped}
-use Rattle.rs_field.proofs.Walking.{walk_of, ends_at, Goes-dropped, use3, unit_lit, stay_ref, Goes-ref, unit, fres, GName, vunit}
+use Rattle.rs_field.proofs.Walking.{◌≡◌, refl, sym, ap, ◌∙◌, ◌+◌, ◌*◌, ◌<◌, ◌≤◌, arith, [], ◌∷◌, ◌++◌, length, named, w64, id⊢, emp, Lft, ftrue, flft, fact, fact_i, tables, proved, ‵, ◌⊛◌, raw, some, later, ◌$◌, ◌∵◌, !, qed, move, keep, drop, split, split3, join, fsplit, fjoin, feq_l, feq_i, use0, use1, use2, await, pick, suffices, done, rewrite, stop, addr, of_opd, returns, enter, no_more, and_then, alloc_all, pass_all, free_all, look_at, get, through, sets, lands_as, usize, yes, Is, shows, uint_vals, uint_Tells, uint_Makes, RattleType, owns, Valss, MutBor, MutRef, mut_vals, mut_Tells, plain, named_lft, Array, nothing, heard, only, peeks, owned, calls_at, lasts, triple_of, framed, Stays, stay_dropped, walk_of, ends_at, Goes-dropped, use3, unit_lit, stay_ref, Goes-ref, unit, fres, GName, vunit}
 use base.Share
-use contract.BorrowLft.{meet_⊑_right}
-use types.Follow.{followed₂}
-use denote.Memory.{mem}
-use denote.FollowSlice.{finally-res}
 use denote.Follow.{both_by}
 use Rattle.rs_field.proofs.of_rows.LentChunks.{E, Bare, Pair, pair}
-use Rattle.rs_callers.proofs.LentWalks.{code₀, Lent, lends, Back, gives_back}
+use Rattle.rs_callers.proofs.LentWalks.{meet_⊑_right, followed₂, mem, finally-res, code₀, Lent, lends, Back, gives_back}
 use Rattle.rs_callers.proofs.LentRows.{row-long, swapped_rows, swapped}
 use Rattle.rs_callers.specs.SwappedRows.{AreSwapped}
 use Rattle.rs_field.specs.rows.Rows.{Chunks}

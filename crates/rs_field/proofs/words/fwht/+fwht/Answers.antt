@@ -37,24 +37,16 @@ fwht-requires-else-truncated-quarter-3 t c =
     (omega arith, ((e, cut.size3 ∙ part), (omega arith, λ y from to. cut.entry3 y (omega arith) ∙ c.requires.tail (q + q + (q + y)) (omega arith) (omega arith))))
 
 pub copy_from_slice-requires : goal.copy_from_slice-requires
-copy_from_slice-requires t c =
-    let (_, _, _, cut) = quarters t (goal.at.copy_from_slice-requires t c).After-split_at_mut-x2 in
-    omega arith
+copy_from_slice-requires t c = let cut = (quarters t (goal.at.copy_from_slice-requires t c).After-split_at_mut-x2).3 in omega arith
 
 pub copy_from_slice-requires-then-truncated-quarter-2 : goal.copy_from_slice-requires-then-truncated-quarter-2
-copy_from_slice-requires-then-truncated-quarter-2 t c =
-    let (_, _, _, cut) = quarters t (goal.at.copy_from_slice-requires-then-truncated-quarter-2 t c).After-split_at_mut-x2 in
-    omega arith
+copy_from_slice-requires-then-truncated-quarter-2 t c = let cut = (quarters t (goal.at.copy_from_slice-requires-then-truncated-quarter-2 t c).After-split_at_mut-x2).3 in omega arith
 
 pub quarter_sums-requires-clause-one : goal.quarter_sums-requires-clause-one
-quarter_sums-requires-clause-one t c =
-    let (_, _, _, cut) = quarters t (goal.at.quarter_sums-requires-clause-one t c).After-split_at_mut-x2 in
-    omega arith
+quarter_sums-requires-clause-one t c = let cut = (quarters t (goal.at.quarter_sums-requires-clause-one t c).After-split_at_mut-x2).3 in omega arith
 
 pub quarter_sums-requires-clause-three : goal.quarter_sums-requires-clause-three
-quarter_sums-requires-clause-three t c =
-    let (_, _, _, cut) = quarters t (goal.at.quarter_sums-requires-clause-three t c).After-split_at_mut-x2 in
-    omega arith
+quarter_sums-requires-clause-three t c = let cut = (quarters t (goal.at.quarter_sums-requires-clause-three t c).After-split_at_mut-x2).3 in omega arith
 
 pub returns-then-n-eq64-clause-counts : goal.returns-then-n-eq64-clause-counts
 returns-then-n-eq64-clause-counts t c =
