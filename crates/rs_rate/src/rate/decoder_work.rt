@@ -1,6 +1,7 @@
 //! The working space of a decoder: the memory that is handed on, and a decoder's rows in it.
 ghost use Rattle.std.specs.Prelude.{◌≡◌, ◌≢◌, ℕ, ◌+◌, ◌*◌, ◌%◌, ◌^◌, ◌<◌, ◌≤◌, true, false, length, vec_len};
-ghost use Rattle.std.specs.Prelude.{Err, IfOk, IfSome, OnOk, OnErr, MatchOption, MatchResult, [], ◌∷◌, option_copied};
+ghost use Rattle.std.specs.Prelude.{Err, IfOk, IfErr, IfSome, OnOk, OnErr, IsOk, MatchOption, MatchResult, [], ◌∷◌, option_copied};
+ghost use Rattle.std.specs.Vec.{vec_capacity};
 ghost use Rattle.rs_field.specs.code.Column.{IsShard};
 ghost use Rattle.rs_field.specs.code.Counts.{Rate};
 ghost use Rattle.rs_field.specs.code.Outcome.{answer_of, state_after};
@@ -134,6 +135,20 @@ impl DecoderMemory {
         }
     }
 
+    // Makes room for so many chunks and rows; nothing else changes.
+    fn make_room(&mut self, chunks: usize, rows: usize) -> Result<(), Error>
+        ensures kept { (self.new.chunks.items ≡ self.old.chunks.items) × (self.new.marks.rows.items ≡ self.old.marks.rows.items)
+            × (self.new.marks.shards ≡ self.old.marks.shards) × (self.new.entries.items ≡ self.old.entries.items) }
+        ensures room { OnOk result ((chunks ≤ vec_capacity self.new.chunks) × (rows ≤ vec_capacity self.new.marks.rows) × (rows ≤ vec_capacity self.new.entries)) }
+        ensures grown { Grows (memory_room self.old) (memory_room self.new) }
+        ensures memory { IfErr result (λ e. e ≡ Error.OutOfMemory) }
+        ensures enough { chunks ≤ vec_capacity self.old.chunks → rows ≤ vec_capacity self.old.marks.rows → rows ≤ vec_capacity self.old.entries → IsOk result }
+    {
+        make_room(&mut self.chunks, chunks)?;
+        make_room(&mut self.marks.rows, rows)?;
+        make_room(&mut self.entries, rows)
+    }
+
     // Is laid out for a shape, with nothing given: every growth first. What the locator's entries are is open: each
     // decode writes them. Inlined, so that the chunks of a new memory become zeros by a `memset`.
     #[inline(always)]
@@ -148,9 +163,7 @@ impl DecoderMemory {
     {
         let rows = shape.frame.row_count;
         let chunks = chunk_count(rows, shape.configuration.shard_bytes)?;
-        make_room(&mut self.chunks, chunks)?;
-        make_room(&mut self.marks.rows, rows)?;
-        make_room(&mut self.entries, rows)?;
+        self.make_room(chunks, rows)?;
         set_chunks(&mut self.chunks, chunks);
         self.marks.set_empty(rows);
         set_length(&mut self.entries, rows, 0);
@@ -182,8 +195,8 @@ impl DecoderRows {
     ghost use Rattle.rs_rate.specs.DecoderView.{configuration_of, decoder_state, restored_of, restored_from};
     ghost use Rattle.rs_rate.specs.Decoding.{CanBeRestored};
 
-    // Rows with nothing given, in the memory of `work` where one is passed. Inlined, so that clearing is a `memset`.
-    #[inline(always)]
+    // Rows with nothing given, in the memory of `work` where one is passed. A function by itself: behind the branches of
+    // its callers the compiler takes the clearing for rare, and makes no `memset` of it.
     pub(crate) fn new(
         alloc: Global,
         shape: DecoderShape,
