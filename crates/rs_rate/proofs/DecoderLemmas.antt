@@ -1,6 +1,7 @@
 -- The shards that a decoder's rows stand for.
-use Rattle.std.proofs.Common.{◌≡◌, ◌≢◌, ℕ, zero, suc, ◌+◌, ◌<◌, ◌≤◌, List, Bool, true, false, cond, refl, sym, ap, ap₂, ◌∙◌, arith, inl, inr, ◌^◌}
-use Rattle.std.specs.Prelude.{Some, None, is_some, nat_eq}
+use Rattle.std.proofs.Common.{◌≡◌, ◌≢◌, ℕ, zero, suc, ◌+◌, ◌<◌, ◌≤◌, List, Bool, true, false, cond, refl, sym, ap, ap₂, ◌∙◌, subst, arith, inl, inr, ◌^◌}
+use Rattle.std.specs.Prelude.{◌≤◌, Option, Some, None, IfSome, is_some, nat_eq}
+use Rattle.std.proofs.lemmas.Nat.{pow_pos}
 use Rattle.std.proofs.lemmas.Bool.{cases_lt, cases_eq, lt-ltb, le-ltb, eq-eqb, ne_eqb}
 use mathlib.Core.Path.{fun_ext}
 use Rattle.rs_field.specs.code.Column.{Shard}
@@ -13,7 +14,9 @@ use Rattle.rs_field.proofs.of_code.Given.{count_below-suc, count_below-zero}
 use Rattle.rs_field.proofs.of_code.NextPower.{own_is_power}
 use Rattle.rs_rate.specs.Shapes.{DecoderCanBeLaid}
 use Rattle.rs_rate.specs.declared.rate.decoder_work.DecoderShape.{DecoderShape}
+use Rattle.rs_rate.specs.declared.rate.decoder_work.DecoderWork.{DecoderWork}
 use Rattle.rs_rate.specs.declared.rate.restoring.Tally.{Tally}
+use Rattle.rs_rate.specs.DecoderRoom.{HasRoom, room_if, work_room}
 use Rattle.rs_rate.specs.DecoderView.{configuration_of, state_over}
 use Rattle.rs_rate.specs.Decoding.{CanBeRestored}
 use Rattle.rs_rate.specs.declared.rate.marks.Marks.{Marks}
@@ -25,6 +28,15 @@ use Rattle.rs_rate.specs.ShardRows.{shard_laid_out, shard_in_order}
 -- the rows of a shape that can be laid are a power of two
 pub rows_power : (s : DecoderShape) → DecoderCanBeLaid s → (d : ℕ) × (s.frame.row_count ≡ 2 ^ d)
 rows_power s laid = own_is_power s.frame.row_count laid.places.power laid.places.few
+
+-- what has no memory has no room for them
+pub no_room : (P : Type 0) (s : DecoderShape) → DecoderCanBeLaid s → (work : Option DecoderWork) → IfSome work (λ w. w.memory ≡ None)
+    → IfSome work (λ w. HasRoom (work_room w) s.frame.row_count s.configuration.shard_bytes → P)
+no_room P s laid None none = tt
+no_room P s laid (Some work) none = λ room.
+    let power = rows_power s laid in let positive = pow_pos power.0 in
+    let rows : s.frame.row_count ≤ 0 = subst (λ m. s.frame.row_count ≤ (room_if m).rows) none room.rows in
+    absurd (omega (arith, positive, power.1, rows))
 
 pub none_told : (marks : Marks) → marks.shards ≡ Restored → (p : ℕ) → is_marked (given_marks marks) p ≡ false
 none_told marks told p = ap (λ t. is_marked (if_given t marks.rows.items) p) told

@@ -16,7 +16,7 @@ ghost use Rattle.rs_rate.specs.Sides.{with_given};
 
 use crate::rate::code::Code;
 use crate::rate::configuration::Configuration;
-use crate::rate::marks::Marks;
+use crate::rate::marks::{MarkedShards, Marks};
 use crate::rate::memory::{make_room, set_chunks, set_length};
 use crate::rate::restoring::Tally;
 use crate::rate::shard_rows::{chunk_count, insert_at, shard_at, shard_is_bytes};
@@ -117,21 +117,59 @@ impl Default for DecoderWork {
 impl DecoderMemory {
     ghost use Rattle.rs_rate.specs.DecoderRoom.{HasRoom, Grows, memory_room, shape_chunks, work_room, IsLaidOut};
 
-    // The memory that is handed on, or one that took nothing yet.
-    fn of(alloc: Global, work: Option<DecoderWork>) -> DecoderMemory
-        ensures { IfSome work (λ w. Grows (work_room w) (memory_room result)) }
+    // The memory that is handed on, where there is some.
+    fn of(work: Option<DecoderWork>) -> Option<DecoderMemory>
+        ensures { IfSome work (λ w. w.memory ≡ result) }
     {
-        let memory = match work {
+        match work {
             Some(work) => work.memory,
             None => None,
+        }
+    }
+
+    // New memory that is laid out for a shape, with nothing given. A function by itself: behind the branches of its callers
+    // the compiler takes the clearing for rare, and makes no `memset` of it. The chunks come last, since their clearing
+    // drives from the cache what other requests for memory read.
+    fn new(alloc: Global, shape: DecoderShape) -> Result<DecoderMemory, Error>
+        ensures laid_out { IfOk result (IsLaidOut shape) }
+        ensures empty { IfOk result (λ m. (p : ℕ) → is_marked (given_marks m.marks) p ≡ false) }
+        ensures answer { UpToMemory (asked (shape_chunks shape)) (answer_of result) }
+    {
+        let row_count = shape.frame.row_count;
+        let chunk_count = chunk_count(row_count, shape.configuration.shard_bytes)?;
+        let marks = Marks {
+            rows: vec![in alloc; false; row_count]?,
+            shards: MarkedShards::Given,
         };
-        match memory {
-            Some(memory) => memory,
-            None => DecoderMemory {
-                chunks: Vec::new(alloc),
-                marks: Marks::new(alloc),
-                entries: Vec::new(alloc),
-            },
+        let entries = vec![in alloc; 0; row_count]?;
+        Ok(DecoderMemory {
+            chunks: vec![in alloc; [0; 64]; chunk_count]?,
+            marks,
+            entries,
+        })
+    }
+
+    // Memory laid out for a shape, with nothing given: that of `work`, where it has some.
+    #[inline(always)]
+    fn laid_out(
+        alloc: Global,
+        shape: DecoderShape,
+        work: Option<DecoderWork>,
+    ) -> Result<DecoderMemory, Error>
+        requires { DecoderCanBeLaid shape }
+        ensures laid_out { IfOk result (IsLaidOut shape) }
+        ensures empty { IfOk result (λ m. (p : ℕ) → is_marked (given_marks m.marks) p ≡ false) }
+        ensures answer { UpToMemory (asked (shape_chunks shape)) (answer_of result) }
+        ensures grown { IfOk result (λ m. IfSome work (λ w. Grows (work_room w) (memory_room m))) }
+        ensures roomy { IfSome work (λ w. HasRoom (work_room w) shape.frame.row_count shape.configuration.shard_bytes
+            → answer_of result ≡ asked (shape_chunks shape)) }
+    {
+        match DecoderMemory::of(work) {
+            Some(mut memory) => {
+                memory.lay_out(shape)?;
+                Ok(memory)
+            }
+            None => DecoderMemory::new(alloc, shape),
         }
     }
 
@@ -195,8 +233,8 @@ impl DecoderRows {
     ghost use Rattle.rs_rate.specs.DecoderView.{configuration_of, decoder_state, restored_of, restored_from};
     ghost use Rattle.rs_rate.specs.Decoding.{CanBeRestored};
 
-    // Rows with nothing given, in the memory of `work` where one is passed. A function by itself: behind the branches of
-    // its callers the compiler takes the clearing for rare, and makes no `memset` of it.
+    // Rows with nothing given, in the memory of `work` where one is passed.
+    #[inline(always)]
     pub(crate) fn new(
         alloc: Global,
         shape: DecoderShape,
@@ -210,8 +248,7 @@ impl DecoderRows {
         ensures roomy { IfSome work (λ w. HasRoom (work_room w) shape.frame.row_count shape.configuration.shard_bytes
             → answer_of result ≡ asked (shape_chunks shape)) }
     {
-        let mut memory = DecoderMemory::of(alloc, work);
-        memory.lay_out(shape)?;
+        let memory = DecoderMemory::laid_out(alloc, shape, work)?;
         Ok(DecoderRows {
             shape,
             originals_given: 0,

@@ -5,7 +5,6 @@ ghost use Rattle.rs_field.specs.rows.MarkedRows.{is_marked};
 ghost use Rattle.rs_rate.specs.Marks.{given_marks, restored_marks, WantsMissing};
 
 use crate::rate::memory::set_length;
-use std::alloc::Global;
 
 /// Which shards a decoder's marks tell of: while they are added, those that are given; from the decode on, the
 /// originals that weren't given and come to stand restored in their rows.
@@ -23,14 +22,6 @@ pub struct Marks {
 }
 
 impl Marks {
-    // Marks that took no memory yet.
-    pub(crate) fn new(alloc: Global) -> Marks {
-        Marks {
-            rows: Vec::new(alloc),
-            shards: MarkedShards::Given,
-        }
-    }
-
     // Has so many rows, none of them with a given shard, for which there is room.
     #[inline(always)]
     pub(crate) fn set_empty(&mut self, rows: usize)
