@@ -188,8 +188,7 @@ impl DecoderMemory {
     }
 
     // Is laid out for a shape, with nothing given: every growth first. What the locator's entries are is open: each
-    // decode writes them. Inlined, so that the chunks of a new memory become zeros by a `memset`.
-    #[inline(always)]
+    // decode writes them.
     fn lay_out(&mut self, shape: DecoderShape) -> Result<(), Error>
         ensures laid_out { OnOk result (IsLaidOut shape self.new) }
         ensures empty { OnOk result ((p : ℕ) → is_marked (given_marks self.new.marks) p ≡ false) }
