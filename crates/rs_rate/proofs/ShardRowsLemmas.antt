@@ -23,10 +23,6 @@ pub chunk_count-more : (m n size : ℕ) → m ≤ n → chunk_count m size ≤ c
 unfolding chunk_count
 chunk_count-more m n size h = mul-le-mul_right (row_len size) h
 
-pub chunk_count-size : (n a b : ℕ) → a ≤ b → chunk_count n a ≤ chunk_count n b
-unfolding chunk_count
-chunk_count-size n a b h = let longer : row_len a ≤ row_len b = omega (arith, h) in mul-le-mul_left n longer
-
 -- the chunks up to one row's end
 -- rows whose bytes are a `usize` are as few
 pub count-few : (n size : ℕ) → 0 < size → chunk_count n size * 64 < 2 ^ 64 → n < 2 ^ 64

@@ -11,7 +11,7 @@ ghost use Rattle.rs_rate.specs.DecoderRoom.{memory_room};
 ghost use Rattle.rs_rate.specs.DecoderView.{configuration_of, decoder_state, restored_of, restored_from};
 ghost use Rattle.rs_rate.specs.Decoding.{CanBeRestored, IsLocatorOf, RestoresShards};
 ghost use Rattle.rs_rate.specs.Marks.{erased, given_marks, restored_marks, WantsMissing};
-ghost use Rattle.rs_rate.specs.SetUp.{IsDecoderOf};
+ghost use Rattle.rs_rate.specs.SetUp.{IsSetUp};
 ghost use Rattle.rs_rate.specs.Shapes.{DecoderCanBeLaid, original_row};
 ghost use Rattle.rs_rate.specs.ShardRows.{chunk_count, shard_laid_out, shard_in_order};
 
@@ -33,7 +33,7 @@ pub(crate) fn decode_rows<E: Engine>(
 ) -> Result<usize, Error>
     requires enough { rows.old.shape.configuration.original_count ≤ rows.old.originals_given + rows.old.recovery_given }
     ensures state { (rate : Rate) → decoder_state rate rows.new ≡ fresh_decoder (configuration_of rate rows.old.shape) }
-    ensures answer { (rate : Rate) → IsDecoderOf rate rows.old.shape
+    ensures answer { (rate : Rate) → IsSetUp rate rows.old.shape.configuration
         → MatchResult result (λ _. Restored (decoder_state rate rows.old) (restored_of rows.new)) (NoneAgrees (decoder_state rate rows.old)) }
     ensures counted { IfOk result (λ count. count ≡ length (restored_from rows.new 0)) }
     ensures shape { rows.new.shape ≡ rows.old.shape }
