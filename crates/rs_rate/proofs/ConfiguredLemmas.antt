@@ -3,7 +3,7 @@ use Rattle.std.proofs.Common.{◌≡◌, ℕ, ◌+◌, ◌%◌, ◌^◌, ◌<◌
 use Rattle.std.specs.Prelude.{cond, Result, Ok, Err, OnOk, OnErr}
 use Rattle.std.proofs.lemmas.Nat.{pow_pos}
 use Rattle.rs_field.specs.declared.code.error.Error.{Error}
-use Rattle.rs_field.specs.code.Configuration.{configuration, validated, started}
+use Rattle.rs_field.specs.code.Configuration.{Configuration as AsDefined, configuration, validated, started}
 use Rattle.rs_field.specs.code.Counts.{Rate, next_power, supports, is_low, low_rate, high_rate}
 use Rattle.rs_field.specs.code.Placement.{block_rows, encoder_rows, rounded_up}
 use Rattle.rs_field.proofs.of_code.NextPower.{next_power-small, power_is_own}
@@ -11,10 +11,10 @@ use Rattle.rs_field.proofs.of_code.SupportedCounts.{low_fits, high_fits}
 use Rattle.rs_rate.specs.declared.rate.configuration.Configuration.{Configuration}
 use Rattle.rs_rate.specs.declared.rate.decoder_work.Frame.{Frame}
 use Rattle.rs_rate.specs.declared.rate.decoder_work.DecoderShape.{DecoderShape}
-use Rattle.rs_rate.specs.Configured.{configured, low_or_high, frame_of, shape_of_encoder, shape_of_decoder, IsConfigured}
+use Rattle.rs_rate.specs.Configured.{configuration_at, configured, low_or_high, frame_of, shape_of_encoder, shape_of_decoder, IsConfigured}
 use Rattle.rs_rate.specs.DecoderView.{decoder_shape}
 use Rattle.rs_rate.specs.ShardRows.{asked, chunk_count}
-use Rattle.rs_rate.specs.SetUp.{IsSetUp, configuration_at, rows_of}
+use Rattle.rs_rate.specs.SetUp.{IsSetUp, rows_of}
 use Rattle.rs_rate.specs.Shapes.{EncoderCanBeLaid, DecoderCanBeLaid, HasPlaces}
 use Rattle.rs_rate.proofs.DecoderRows.{low_frame-is}
 use Rattle.rs_rate.proofs.HighCounts.{high_rows, high_small, low_rows-fit, high_rows-fit}
@@ -92,24 +92,23 @@ blocks-known c is false high =
           ∙ ap (λ (b : Bool). encoder_rows (low_or_high b) c.original_count c.recovery_count) (sym high);
     }
 
--- what a rate is set up for at counts and a size, and what follows for its rows
+-- what is asked for a rate's configuration, by how many rows it has
 pub record IsAsked (row_count : Rate → ℕ → ℕ → ℕ) (rate : Rate) (k r size : ℕ) (c : Configuration) : Type 0 where
-  pub set_up : IsSetUp rate c
   pub own : configuration_at rate c ≡ configuration rate k r size
   pub count : rows_of row_count c ≡ row_count rate k r
   pub bytes : c.shard_bytes ≡ size
   pub answer : started (row_count rate k r) (configuration rate k r size) ≡ asked (chunk_count (row_count rate k r) size)
 
 pub is_asked : (row_count : Rate → ℕ → ℕ → ℕ) → ((one other : Rate) (k r : ℕ) → is_low one k r ≡ is_low other k r → row_count one k r ≡ row_count other k r)
-    → (rate : Rate) (k r size : ℕ) (c : Configuration) → validated (configuration rate k r size) ≡ Ok tt → c ≡ configured rate k r size → IsAsked row_count rate k r size c
-is_asked row_count alike rate k r size c valid is =
-    subst (IsAsked row_count rate k r size) (sym is) (record {
-      set_up = record { valid = valid; chosen = refl; alike = chooses_alike rate k r };
-      own = refl;
-      count = alike (low_or_high (is_low rate k r)) rate k r (chooses_alike rate k r);
-      bytes = refl;
-      answer = started-by (row_count rate k r) (configuration rate k r size) (chunk_count (row_count rate k r) size) valid refl;
-    })
+    → (rate : Rate) (k r size : ℕ) (c : Configuration) → (c ≡ configured rate k r size) × IsSetUp rate c → IsAsked row_count rate k r size c
+is_asked row_count alike rate k r size c (same, is) =
+    let own = ap (configuration_at rate) same in
+    record {
+      own = own;
+      count = alike (low_or_high c.is_low) rate c.original_count c.recovery_count is.alike ∙ ap (λ (x : AsDefined). row_count rate x.original_count x.recovery_count) own;
+      bytes = ap (λ (x : AsDefined). x.shard_bytes) own;
+      answer = started-by (row_count rate k r) (configuration rate k r size) (chunk_count (row_count rate k r) size) (subst (λ (x : AsDefined). validated x ≡ Ok tt) own is.valid) refl;
+    }
 
 -- a decoder's frame is that of the rate
 pub decoder_shape-is : (rate : Rate) (s : DecoderShape) → IsSetUp rate s.configuration → DecoderCanBeLaid s

@@ -1,21 +1,18 @@
 -- What rows are set up for at a rate, and what asking for their memory answers.
 use Rattle.std.specs.Prelude.{◌≡◌, ℕ, Result, Ok}
 use Rattle.rs_field.specs.declared.code.error.Error.{Error}
-use Rattle.rs_field.specs.code.Configuration.{Configuration as AsDefined, configuration, validated}
+use Rattle.rs_field.specs.code.Configuration.{validated}
 use Rattle.rs_field.specs.code.Counts.{Rate, is_low}
 use Rattle.rs_rate.specs.declared.rate.configuration.Configuration.{Configuration}
-use Rattle.rs_rate.specs.Configured.{configured, low_or_high}
+use Rattle.rs_rate.specs.Configured.{configuration_at, configured, low_or_high, IsConfigured}
 use Rattle.rs_rate.specs.ShardRows.{asked, chunk_count}
 
--- a configuration, at this rate
-abbrev pub configuration_at : Rate → Configuration → AsDefined
-configuration_at rate c = configuration rate c.original_count c.recovery_count c.shard_bytes
-
--- a configuration is a valid one of this rate, which chooses as the low or the high rate does that it tells
+-- a configuration is a valid one of this rate, which chooses as the low or the high rate that it tells
 pub record IsSetUp (rate : Rate) (c : Configuration) : Type 0 where
   pub valid : validated (configuration_at rate c) ≡ Ok tt
   pub chosen : c ≡ configured rate c.original_count c.recovery_count c.shard_bytes
   pub alike : is_low (low_or_high c.is_low) c.original_count c.recovery_count ≡ is_low rate c.original_count c.recovery_count
+  pub configured : IsConfigured c
 
 -- the rows of a configuration, by how many a rate has at counts
 abbrev pub rows_of : (Rate → ℕ → ℕ → ℕ) → Configuration → ℕ

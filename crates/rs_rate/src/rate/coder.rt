@@ -16,8 +16,8 @@ pub trait CoderRows: Sized {
     ghost use Rattle.rs_field.specs.code.Counts.{Rate, is_low};
     ghost use Rattle.rs_field.specs.code.Outcome.{answer_of};
     ghost use Rattle.rs_rate.specs.declared.rate.configuration.Configuration.{Configuration};
-    ghost use Rattle.rs_rate.specs.Configured.{IsConfigured};
-    ghost use Rattle.rs_rate.specs.SetUp.{Answer, configuration_at, rows_of, asked_for};
+    ghost use Rattle.rs_rate.specs.Configured.{configuration_at, IsConfigured};
+    ghost use Rattle.rs_rate.specs.SetUp.{Answer, rows_of, asked_for};
     ghost use Rattle.rs_rate.specs.ShardRows.{chunk_count};
 
     /// The memory that is handed on from an object before, where there is one.
@@ -92,7 +92,7 @@ impl<E: Engine, C: Code, R: CoderRows + Drop> Coder<E, C, R> {
     ghost use Rattle.std.specs.Prelude.{◌≡◌, ◌≢◌, Err, IfOk, OnOk, OnErr};
     ghost use Rattle.rs_field.specs.code.Configuration.{configuration, started, UpToMemory, FitsWithin};
     ghost use Rattle.rs_field.specs.code.Outcome.{answer_of};
-    ghost use Rattle.rs_rate.specs.SetUp.{configuration_at};
+    ghost use Rattle.rs_rate.specs.Configured.{configuration_at};
 
     /// An object with nothing given, at counts that its rate supports. Refused as by `new`, but never for the counts.
     #[inline(always)]

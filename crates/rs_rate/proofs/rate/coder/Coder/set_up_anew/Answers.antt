@@ -1,4 +1,4 @@
-use Rattle.std.proofs.Common.{ap₂, sym, ◌∙◌}
+use Rattle.std.proofs.Common.{ap₂, sym, ◌∙◌, refl}
 use Rattle.rs_rate.specs.SetUp.{IsSetUp}
 use Rattle.rs_rate.specs.Configured.{low_or_high}
 use Rattle.rs_rate.proofs.ConfiguredLemmas.{is_asked, either_way}
@@ -11,41 +11,29 @@ returns-in_err-counts-clause-grown g c = g.met.R.CoderRows.stays _
 pub returns-in_err-configuration-clause-grown : goal.returns-in_err-configuration-clause-grown
 returns-in_err-configuration-clause-grown g c = g.met.R.CoderRows.stays _
 
-pub returns-clause-answer : goal.returns-clause-answer
-returns-clause-answer g c =
+pub returns : goal.returns
+returns g c =
     let made = rw (c.in_ok-counts.ensures.0, c.in_ok-counts.ensures.1) at c.in_ok-configuration.ensures in
-    let is = is_asked g.R.CoderRows.row_count g.met.R.CoderRows.rows_alike g.C.Code.rate c.args.original_count c.args.recovery_count c.args.shard_bytes _ made.0 made.1 in
-    rw (is.count, is.bytes, ← is.answer) at c.reset.ensures.answer
-
-pub returns-clause-roomy : goal.returns-clause-roomy
-returns-clause-roomy g c =
-    let made = rw (c.in_ok-counts.ensures.0, c.in_ok-counts.ensures.1) at c.in_ok-configuration.ensures in
-    let is = is_asked g.R.CoderRows.row_count g.met.R.CoderRows.rows_alike g.C.Code.rate c.args.original_count c.args.recovery_count c.args.shard_bytes _ made.0 made.1 in
-    rw (is.count, is.bytes, ← is.answer) at c.reset.ensures.roomy
-
-pub returns-clause-own : goal.returns-clause-own
-returns-clause-own g c = λ within.
-    let made = rw (c.in_ok-counts.ensures.0, c.in_ok-counts.ensures.1) at c.in_ok-configuration.ensures in
-    let is = is_asked g.R.CoderRows.row_count g.met.R.CoderRows.rows_alike g.C.Code.rate c.args.original_count c.args.recovery_count c.args.shard_bytes _ made.0 made.1 in
-    let own = g.R.CoderRows.configuration_of c.args.self.now.rows in
-    let rows = ap₂ (g.R.CoderRows.row_count g.C.Code.rate) within.0 within.1
-    ∙ sym (g.met.R.CoderRows.rows_alike (low_or_high own.is_low) g.C.Code.rate own.original_count own.recovery_count c.args.self.now.set_up.alike) in
-    let room = rw (← rows) at (g.met.R.CoderRows.own_room c.args.self.now.rows c.args.shard_bytes within.2) in
-    asked-made _ c.reset.result room.0 (returns-clause-roomy g c room.1 ∙ is.answer)
-
-pub returns-clause-ok : goal.returns-clause-ok
-returns-clause-ok g c =
-    let made = rw (c.in_ok-counts.ensures.0, c.in_ok-counts.ensures.1) at c.in_ok-configuration.ensures in
-    let is = is_asked g.R.CoderRows.row_count g.met.R.CoderRows.rows_alike g.C.Code.rate c.args.original_count c.args.recovery_count c.args.shard_bytes _ made.0 made.1 in
-    rw (← is.own) (on_ok-at g.C.Code.rate c.reset.result _ c.reset.ensures.ok)
-
-pub returns-clause-err : goal.returns-clause-err
-returns-clause-err g c = on_err-at g.C.Code.rate c.reset.result _ c.reset.ensures.err
+    let is = is_asked g.R.CoderRows.row_count g.met.R.CoderRows.rows_alike g.C.Code.rate _ _ _ _ made in
+    let old = c.args.self.now in
+    let own = g.R.CoderRows.configuration_of old.rows in
+    let roomy = rw (is.count, is.bytes, ← is.answer) at c.reset.ensures.roomy in
+    record {
+      answer = rw (is.count, is.bytes, ← is.answer) at c.reset.ensures.answer;
+      ok = rw (← is.own) (on_ok-at g.C.Code.rate c.reset.result _ c.reset.ensures.ok);
+      err = on_err-at g.C.Code.rate c.reset.result _ c.reset.ensures.err;
+      roomy = roomy;
+      own = λ within.
+          let rows = ap₂ (g.R.CoderRows.row_count g.C.Code.rate) within.0 within.1
+          ∙ sym (g.met.R.CoderRows.rows_alike (low_or_high own.is_low) g.C.Code.rate own.original_count own.recovery_count old.set_up.alike) in
+          let room = rw (← rows) at (g.met.R.CoderRows.own_room old.rows c.args.shard_bytes within.2) in
+          asked-made _ c.reset.result room.0 (roomy room.1 ∙ is.answer);
+      engine = refl;
+      grown = c.reset.ensures.grown;
+    }
 
 pub invariant_of-self : goal.invariant_of-self
 invariant_of-self g c =
-    let made = rw (c.in_ok-counts.ensures.0, c.in_ok-counts.ensures.1) at c.in_ok-configuration.ensures in
-    let is = is_asked g.R.CoderRows.row_count g.met.R.CoderRows.rows_alike g.C.Code.rate c.args.original_count c.args.recovery_count c.args.shard_bytes _ made.0 made.1 in
     let own : IsSetUp g.C.Code.rate (g.R.CoderRows.configuration_of c.reset.new.self) = either_way c.reset.result c.reset.ensures.configuration c.reset.ensures.kept
-    (λ same. rw same is.set_up) (λ kept. rw kept c.args.self.now.set_up) in
+    (λ same. rw same c.in_ok-configuration.ensures.1) (λ kept. rw kept c.args.self.now.set_up) in
     record { set_up = own }

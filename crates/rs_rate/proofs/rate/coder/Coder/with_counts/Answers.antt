@@ -8,31 +8,19 @@ returns-in_err-configuration-clause-roomy g c = g.met.R.CoderRows.anyway c.args.
 
 pub returns-in_err-rows-clause-roomy : goal.returns-in_err-rows-clause-roomy
 returns-in_err-rows-clause-roomy g c =
-    let made = c.in_ok-configuration.ensures in
-    let is = is_asked g.R.CoderRows.row_count g.met.R.CoderRows.rows_alike g.C.Code.rate c.args.counts.original_count c.args.counts.recovery_count c.args.shard_bytes _ made.0 made.1 in
+    let is = is_asked g.R.CoderRows.row_count g.met.R.CoderRows.rows_alike g.C.Code.rate _ _ _ _ c.in_ok-configuration.ensures in
     let p = err_from_is_err_and c.from_residual-in_err-rows.result c.from_residual-in_err-rows.ensures.1 in
     rw (p.1, p.2) (rw (is.count, is.bytes, ← is.answer) at c.in_err-rows.ensures.roomy)
 
-pub returns-clause-answer : goal.returns-clause-answer
-returns-clause-answer g c =
-    let made = c.in_ok-configuration.ensures in
-    let is = is_asked g.R.CoderRows.row_count g.met.R.CoderRows.rows_alike g.C.Code.rate c.args.counts.original_count c.args.counts.recovery_count c.args.shard_bytes _ made.0 made.1 in
-    rw (is.count, is.bytes, ← is.answer) at c.in_ok-rows.ensures.answer
-
-pub returns-clause-roomy : goal.returns-clause-roomy
-returns-clause-roomy g c =
-    let made = c.in_ok-configuration.ensures in
-    let is = is_asked g.R.CoderRows.row_count g.met.R.CoderRows.rows_alike g.C.Code.rate c.args.counts.original_count c.args.counts.recovery_count c.args.shard_bytes _ made.0 made.1 in
-    rw (is.count, is.bytes, ← is.answer) at c.in_ok-rows.ensures.roomy
-
-pub returns-clause-made : goal.returns-clause-made
-returns-clause-made g c =
-    let made = c.in_ok-configuration.ensures in
-    let is = is_asked g.R.CoderRows.row_count g.met.R.CoderRows.rows_alike g.C.Code.rate c.args.counts.original_count c.args.counts.recovery_count c.args.shard_bytes _ made.0 made.1 in
-    (c.in_ok-rows.ensures.state g.C.Code.rate ∙ ap g.R.CoderRows.fresh is.own, refl)
+pub returns : goal.returns
+returns g c =
+    let is = is_asked g.R.CoderRows.row_count g.met.R.CoderRows.rows_alike g.C.Code.rate _ _ _ _ c.in_ok-configuration.ensures in
+    record {
+      answer = rw (is.count, is.bytes, ← is.answer) at c.in_ok-rows.ensures.answer;
+      made = (c.in_ok-rows.ensures.state g.C.Code.rate ∙ ap g.R.CoderRows.fresh is.own, refl);
+      grown = c.in_ok-rows.ensures.grown;
+      roomy = rw (is.count, is.bytes, ← is.answer) at c.in_ok-rows.ensures.roomy;
+    }
 
 pub invariant_of-result : goal.invariant_of-result
-invariant_of-result g c =
-    let made = c.in_ok-configuration.ensures in
-    let is = is_asked g.R.CoderRows.row_count g.met.R.CoderRows.rows_alike g.C.Code.rate c.args.counts.original_count c.args.counts.recovery_count c.args.shard_bytes _ made.0 made.1 in
-    record { set_up = rw c.in_ok-rows.ensures.configuration is.set_up }
+invariant_of-result g c = record { set_up = rw c.in_ok-rows.ensures.configuration c.in_ok-configuration.ensures.1 }
