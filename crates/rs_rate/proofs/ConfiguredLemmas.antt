@@ -99,13 +99,13 @@ pub record IsAsked (row_count : Rate → ℕ → ℕ → ℕ) (rate : Rate) (k r
   pub bytes : c.shard_bytes ≡ size
   pub answer : started (row_count rate k r) (configuration rate k r size) ≡ asked (chunk_count (row_count rate k r) size)
 
-pub is_asked : (row_count : Rate → ℕ → ℕ → ℕ) → ((one other : Rate) (k r : ℕ) → is_low one k r ≡ is_low other k r → row_count one k r ≡ row_count other k r)
+pub is_asked : (row_count : Rate → ℕ → ℕ → ℕ) → ((rate : Rate) (c : Configuration) → IsSetUp rate c → rows_of row_count c ≡ row_count rate c.original_count c.recovery_count)
     → (rate : Rate) (k r size : ℕ) (c : Configuration) → (c ≡ configured rate k r size) × IsSetUp rate c → IsAsked row_count rate k r size c
-is_asked row_count alike rate k r size c (same, is) =
+is_asked row_count rows rate k r size c (same, is) =
     let own = ap (configuration_at rate) same in
     record {
       own = own;
-      count = alike (low_or_high c.is_low) rate c.original_count c.recovery_count is.alike ∙ ap (λ (x : AsDefined). row_count rate x.original_count x.recovery_count) own;
+      count = rows rate c is ∙ ap (λ (x : AsDefined). row_count rate x.original_count x.recovery_count) own;
       bytes = ap (λ (x : AsDefined). x.shard_bytes) own;
       answer = started-by (row_count rate k r) (configuration rate k r size) (chunk_count (row_count rate k r) size) (subst (λ (x : AsDefined). validated x ≡ Ok tt) own is.valid) refl;
     }

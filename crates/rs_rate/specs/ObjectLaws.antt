@@ -15,8 +15,7 @@ use Rattle.rs_field.specs.rows.MarkedRows.{is_marked}
 use Rattle.rs_field.proofs.of_words.UpTo.{length-up_to, get-up_to}
 use Rattle.rs_rate.specs.declared.rate.encoder_work.EncoderRows.{EncoderRows}
 use Rattle.rs_rate.specs.declared.rate.decoder_work.DecoderRows.{DecoderRows}
-use Rattle.rs_rate.specs.RowsLaws.{encoder_rows_alike, decoder_rows_alike}
-use Rattle.rs_rate.specs.Configured.{low_or_high}
+use Rattle.rs_rate.specs.RowsLaws.{encoder_rows_set_up, decoder_rows_set_up}
 use Rattle.rs_rate.specs.EncoderView.{encoder_state}
 use Rattle.rs_rate.specs.DecoderRoom.{HasRoom, memory_room}
 use Rattle.rs_rate.specs.DecoderView.{decoder_state}
@@ -29,12 +28,6 @@ pub all-up_to : (P : Shard → Type 0) (n : ℕ) (f : ℕ → Shard) → ((i : �
 all-up_to P n f each i d h =
     let inside : i < n = subst (λ (m : ℕ). i < m) (length-up_to n f) h in subst P (sym (get-up_to n f i d inside)) (each i inside)
 
--- an encoder's rows are as many as the rate has
-encoder_count : (rate : Rate) (rows : EncoderRows) → IsSetUp rate rows.shape.configuration
-    → rows.shape.row_count ≡ encoder_rows rate rows.shape.configuration.original_count rows.shape.configuration.recovery_count
-encoder_count rate rows is =
-    let own = rows.shape.configuration in rows.laid.rows ∙ encoder_rows_alike (low_or_high own.is_low) rate own.original_count own.recovery_count is.alike
-
 -- an encoder over rows of a valid shape is in a state that an encoder can be in
 pub is_encoder : (rate : Rate) (rows : EncoderRows) → IsSetUp rate rows.shape.configuration → IsEncoder rate (encoder_state rate rows)
 unfolding chunk_count
@@ -42,7 +35,7 @@ is_encoder rate rows is =
     record {
       of_rate = refl;
       valid = is.valid;
-      fits = subst (λ (n : ℕ). chunk_count n rows.shape.configuration.shard_bytes * 64 < 2 ^ 64) (encoder_count rate rows is) rows.sized;
+      fits = subst (λ (n : ℕ). chunk_count n rows.shape.configuration.shard_bytes * 64 < 2 ^ 64) (rows.laid.rows ∙ encoder_rows_set_up rate rows.shape.configuration is) rows.sized;
       no_more = subst (λ (n : ℕ). n ≤ rows.shape.configuration.original_count) (sym (length-up_to rows.originals_given (shard_laid_out rows.chunks.items rows.shape.configuration.shard_bytes))) rows.no_more;
       sized = all-up_to (IsShard rows.shape.configuration.shard_bytes) rows.originals_given (shard_laid_out rows.chunks.items rows.shape.configuration.shard_bytes) rows.shards;
     }
@@ -50,7 +43,7 @@ is_encoder rate rows is =
 -- and has room for its own rows
 pub has_own_room : (rate : Rate) (rows : EncoderRows) → IsSetUp rate rows.shape.configuration
     → chunk_count (encoder_rows rate rows.shape.configuration.original_count rows.shape.configuration.recovery_count) rows.shape.configuration.shard_bytes ≤ vec_capacity rows.chunks
-has_own_room rate rows is = subst (λ (n : ℕ). chunk_count n rows.shape.configuration.shard_bytes ≤ vec_capacity rows.chunks) (encoder_count rate rows is) rows.own_room
+has_own_room rate rows is = subst (λ (n : ℕ). chunk_count n rows.shape.configuration.shard_bytes ≤ vec_capacity rows.chunks) (rows.laid.rows ∙ encoder_rows_set_up rate rows.shape.configuration is) rows.own_room
 
 -- the shards that rows tell of by their marks are of the size
 given_within : (marks : List Bool) (chunks : Chunks) (size from n : ℕ)
@@ -68,12 +61,6 @@ given_within marks chunks size from n shards =
     by_tests i shard true false mark is = absurd (true≢false (sym (ap is_some is)))
     by_tests i shard false given mark is = absurd (true≢false (sym (ap is_some is)))
 
--- a decoder's rows are as many as the rate has
-pub decoder_count : (rate : Rate) (rows : DecoderRows) → IsSetUp rate rows.shape.configuration
-    → rows.shape.frame.row_count ≡ decoder_rows rate rows.shape.configuration.original_count rows.shape.configuration.recovery_count
-decoder_count rate rows is =
-    let own = rows.shape.configuration in rows.laid.rows ∙ decoder_rows_alike (low_or_high own.is_low) rate own.original_count own.recovery_count is.alike
-
 -- a decoder over rows of a valid shape is in a state that a decoder can be in
 pub is_decoder : (rate : Rate) (rows : DecoderRows) → IsSetUp rate rows.shape.configuration → IsDecoder rate (decoder_state rate rows)
 unfolding chunk_count
@@ -82,7 +69,7 @@ is_decoder rate rows is =
     record {
       of_rate = refl;
       valid = is.valid;
-      fits = subst (λ (n : ℕ). chunk_count n s.configuration.shard_bytes * 64 < 2 ^ 64) (decoder_count rate rows is) rows.laid_out.sized;
+      fits = subst (λ (n : ℕ). chunk_count n s.configuration.shard_bytes * 64 < 2 ^ 64) (rows.laid.rows ∙ decoder_rows_set_up rate rows.shape.configuration is) rows.laid_out.sized;
       originals_within = given_within (given_marks rows.memory.marks) rows.memory.chunks.items s.configuration.shard_bytes s.frame.originals_from s.configuration.original_count rows.given.shards;
       recovery_within = given_within (given_marks rows.memory.marks) rows.memory.chunks.items s.configuration.shard_bytes s.frame.recovery_from s.configuration.recovery_count rows.given.shards;
     }
@@ -91,4 +78,4 @@ is_decoder rate rows is =
 pub has_own_decoder_room : (rate : Rate) (rows : DecoderRows) → IsSetUp rate rows.shape.configuration
     → HasRoom (memory_room rows.memory) (decoder_rows rate rows.shape.configuration.original_count rows.shape.configuration.recovery_count) rows.shape.configuration.shard_bytes
 has_own_decoder_room rate rows is =
-    subst (λ (n : ℕ). HasRoom (memory_room rows.memory) n rows.shape.configuration.shard_bytes) (decoder_count rate rows is) rows.laid_out.room
+    subst (λ (n : ℕ). HasRoom (memory_room rows.memory) n rows.shape.configuration.shard_bytes) (rows.laid.rows ∙ decoder_rows_set_up rate rows.shape.configuration is) rows.laid_out.room

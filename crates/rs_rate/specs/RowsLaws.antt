@@ -5,6 +5,9 @@ use Rattle.std.proofs.Math.Nat.{mul-le-mul_left}
 use Rattle.rs_field.specs.rows.Layout.{row_len}
 use Rattle.rs_field.specs.code.Counts.{Rate, next_power, is_low}
 use Rattle.rs_field.specs.code.Placement.{encoder_rows, decoder_rows, rounded_up}
+use Rattle.rs_rate.specs.declared.rate.configuration.Configuration.{Configuration}
+use Rattle.rs_rate.specs.Configured.{low_or_high}
+use Rattle.rs_rate.specs.SetUp.{IsSetUp, rows_of}
 use Rattle.rs_rate.specs.DecoderRoom.{DecoderRoom, HasRoom}
 use Rattle.rs_rate.specs.ShardRows.{chunk_count}
 
@@ -18,9 +21,14 @@ pub encoder_rows_alike : (one other : Rate) (k r : ℕ) → is_low one k r ≡ i
 unfolding encoder_rows
 encoder_rows_alike one other k r same = ap (λ b. if b then rounded_up r (next_power k) else rounded_up k (next_power r)) same
 
-pub decoder_rows_alike : (one other : Rate) (k r : ℕ) → is_low one k r ≡ is_low other k r → decoder_rows one k r ≡ decoder_rows other k r
+-- what is set up has as many rows as the rate has
+pub encoder_rows_set_up : (rate : Rate) (c : Configuration) → IsSetUp rate c → rows_of encoder_rows c ≡ encoder_rows rate c.original_count c.recovery_count
+encoder_rows_set_up rate c is = encoder_rows_alike (low_or_high c.is_low) rate c.original_count c.recovery_count is.alike
+
+pub decoder_rows_set_up : (rate : Rate) (c : Configuration) → IsSetUp rate c → rows_of decoder_rows c ≡ decoder_rows rate c.original_count c.recovery_count
 unfolding decoder_rows
-decoder_rows_alike one other k r same = ap (λ b. if b then next_power (next_power k + r) else next_power (next_power r + k)) same
+decoder_rows_set_up rate c is =
+    ap (λ b. if b then next_power (next_power c.original_count + c.recovery_count) else next_power (next_power c.recovery_count + c.original_count)) is.alike
 
 -- as many rows of no larger a size: their bytes are a `usize` too, and there is room for them
 pub chunks_within : (n rows size own room : ℕ) → rows ≡ n → size ≤ own → chunk_count rows own * 64 < 2 ^ 64 → chunk_count rows own ≤ room

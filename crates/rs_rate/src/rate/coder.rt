@@ -13,7 +13,7 @@ use std::marker::PhantomData;
 pub trait CoderRows: Sized {
     ghost use Rattle.std.specs.Prelude.{◌≡◌, ◌*◌, ◌^◌, ◌<◌, ◌≤◌, ℕ, IfOk, OnOk, OnErr};
     ghost use Rattle.rs_field.specs.code.Configuration.{Configuration as AsDefined, UpToMemory};
-    ghost use Rattle.rs_field.specs.code.Counts.{Rate, is_low};
+    ghost use Rattle.rs_field.specs.code.Counts.{Rate};
     ghost use Rattle.rs_field.specs.code.Outcome.{answer_of};
     ghost use Rattle.rs_rate.specs.declared.rate.configuration.Configuration.{Configuration};
     ghost use Rattle.rs_rate.specs.Configured.{configuration_at, IsConfigured};
@@ -71,8 +71,8 @@ pub trait CoderRows: Sized {
     /// What is answered anyway is answered where there is room.
     ghost anyway: { (work : Self.Work) (n size : ℕ) (answer wanted : Answer) → answer ≡ wanted → where_roomy work n size answer wanted };
 
-    /// Rates that choose alike have as many rows.
-    ghost rows_alike: { (one other : Rate) (k r : ℕ) → is_low one k r ≡ is_low other k r → row_count one k r ≡ row_count other k r };
+    /// What is set up has as many rows as the rate has.
+    ghost rows_set_up: { (rate : Rate) (c : Configuration) → IsSetUp rate c → rows_of row_count c ≡ row_count rate c.original_count c.recovery_count };
 
     /// There is room for as many rows of no larger a size.
     ghost own_room: { (x : Self) (size : ℕ) → size ≤ (configuration_of x).shard_bytes → let n = rows_of row_count (configuration_of x) in

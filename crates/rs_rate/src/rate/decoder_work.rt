@@ -179,7 +179,7 @@ impl CoderRows for DecoderRows {
     ghost use Rattle.std.proofs.Common.{le_refl};
     ghost use Rattle.rs_field.specs.code.Decoder.{DecoderState};
     ghost use Rattle.rs_field.specs.code.Placement.{decoder_rows};
-    ghost use Rattle.rs_rate.specs.RowsLaws.{some_anyway, decoder_rows_alike, room_within};
+    ghost use Rattle.rs_rate.specs.RowsLaws.{some_anyway, decoder_rows_set_up, room_within};
     ghost use Rattle.rs_rate.specs.DecoderRoom.{DecoderRoom, HasRoom, Grows, memory_room, work_room};
     ghost use Rattle.rs_rate.specs.DecoderView.{decoder_state};
 
@@ -239,7 +239,7 @@ impl CoderRows for DecoderRows {
 
     ghost anyway = { λ work n size answer wanted same. some_anyway work _ (λ w roomy. same) };
 
-    ghost rows_alike = { decoder_rows_alike };
+    ghost rows_set_up = { decoder_rows_set_up };
 
     ghost own_room = { λ x size less. room_within _ _ size _ _ x.laid.rows less x.laid_out.sized x.laid_out.room };
 }

@@ -68,7 +68,7 @@ impl CoderRows for EncoderRows {
     ghost use Rattle.std.proofs.Common.{le_refl};
     ghost use Rattle.rs_field.specs.code.Encoder.{EncoderState};
     ghost use Rattle.rs_field.specs.code.Placement.{encoder_rows};
-    ghost use Rattle.rs_rate.specs.RowsLaws.{some_anyway, encoder_rows_alike, chunks_within};
+    ghost use Rattle.rs_rate.specs.RowsLaws.{some_anyway, encoder_rows_set_up, chunks_within};
     ghost use Rattle.rs_rate.specs.EncoderView.{encoder_state, work_room};
 
     type Work = Option<EncoderWork>;
@@ -129,7 +129,7 @@ impl CoderRows for EncoderRows {
 
     ghost anyway = { λ work n size answer wanted same. some_anyway work _ (λ w roomy. same) };
 
-    ghost rows_alike = { encoder_rows_alike };
+    ghost rows_set_up = { encoder_rows_set_up };
 
     ghost own_room = { λ x size less. chunks_within _ _ size _ _ x.laid.rows less x.sized x.own_room };
 }

@@ -1,6 +1,5 @@
 use Rattle.std.proofs.Common.{ap₂, sym, ◌∙◌, refl}
 use Rattle.rs_rate.specs.SetUp.{IsSetUp}
-use Rattle.rs_rate.specs.Configured.{low_or_high}
 use Rattle.rs_rate.proofs.ConfiguredLemmas.{is_asked, either_way}
 use Rattle.rs_rate.proofs.StateLemmas.{asked-made, on_ok-at, on_err-at}
 use Rattle.rs_rate.proofs.rate.coder.Coder.set_up_anew.Goals as goal
@@ -14,7 +13,7 @@ returns-in_err-configuration-clause-grown g c = g.met.R.CoderRows.stays _
 pub returns : goal.returns
 returns g c =
     let made = rw (c.in_ok-counts.ensures.0, c.in_ok-counts.ensures.1) at c.in_ok-configuration.ensures in
-    let is = is_asked g.R.CoderRows.row_count g.met.R.CoderRows.rows_alike g.C.Code.rate _ _ _ _ made in
+    let is = is_asked g.R.CoderRows.row_count g.met.R.CoderRows.rows_set_up g.C.Code.rate _ _ _ _ made in
     let old = c.args.self.now in
     let own = g.R.CoderRows.configuration_of old.rows in
     let roomy = rw (is.count, is.bytes, ← is.answer) at c.reset.ensures.roomy in
@@ -24,8 +23,7 @@ returns g c =
       err = on_err-at g.C.Code.rate c.reset.result _ c.reset.ensures.err;
       roomy = roomy;
       own = λ within.
-          let rows = ap₂ (g.R.CoderRows.row_count g.C.Code.rate) within.0 within.1
-          ∙ sym (g.met.R.CoderRows.rows_alike (low_or_high own.is_low) g.C.Code.rate own.original_count own.recovery_count old.set_up.alike) in
+          let rows = ap₂ (g.R.CoderRows.row_count g.C.Code.rate) within.0 within.1 ∙ sym (g.met.R.CoderRows.rows_set_up g.C.Code.rate own old.set_up) in
           let room = rw (← rows) at (g.met.R.CoderRows.own_room old.rows c.args.shard_bytes within.2) in
           asked-made _ c.reset.result room.0 (roomy room.1 ∙ is.answer);
       engine = refl;
