@@ -9,6 +9,7 @@ use Rattle.rs_field.specs.rows.Rows.{Chunks, chunk}
 use Rattle.rs_field.specs.rows.Layout.{row_len, laid_out, in_order}
 use Rattle.rs_field.specs.words.UpTo.{up_to}
 use Rattle.rs_field.specs.code.Column.{Shard, IsShard, column}
+pub use Rattle.rs_rate.specs.RowsLaws.{chunk_count-size}
 use Rattle.rs_rate.specs.ShardRows.{chunk_count, row_chunk, shard_laid_out, shard_in_order, word_in}
 use Rattle.rs_field.proofs.of_rows.Symbols.{byte_fits}
 use Rattle.rs_field.proofs.of_rows.LayoutLemmas.{laid_out-same, in_order-same, column-laid_out}

@@ -30,13 +30,16 @@ unfolding decoder_rows
 decoder_rows_set_up rate c is =
     ap (λ b. if b then next_power (next_power c.original_count + c.recovery_count) else next_power (next_power c.recovery_count + c.original_count)) is.alike
 
+-- rows of a larger size have no fewer chunks
+pub chunk_count-size : (n a b : ℕ) → a ≤ b → chunk_count n a ≤ chunk_count n b
+unfolding chunk_count
+chunk_count-size n a b h = let longer : row_len a ≤ row_len b = omega (arith, h) in mul-le-mul_left n longer
+
 -- as many rows of no larger a size: their bytes are a `usize` too, and there is room for them
 pub chunks_within : (n rows size own room : ℕ) → rows ≡ n → size ≤ own → chunk_count rows own * 64 < 2 ^ 64 → chunk_count rows own ≤ room
     → (chunk_count n size * 64 < 2 ^ 64) × (chunk_count n size ≤ room)
-unfolding chunk_count
 chunks_within n rows size own room same less sized roomy =
-    let longer : row_len size ≤ row_len own = omega (arith, less) in
-    let within : chunk_count n size ≤ chunk_count rows own = rw same (mul-le-mul_left n longer) in
+    let within : chunk_count n size ≤ chunk_count rows own = rw same (chunk_count-size n size own less) in
     (omega (arith, within, sized), omega (arith, within, roomy))
 
 pub room_within : (n rows size own : ℕ) (room : DecoderRoom) → rows ≡ n → size ≤ own → chunk_count rows own * 64 < 2 ^ 64 → HasRoom room rows own
