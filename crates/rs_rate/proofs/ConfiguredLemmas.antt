@@ -1,29 +1,26 @@
 -- What a coder is set up for: its rate is the low or the high rate, whose rows and frame have room for its shards.
-use Rattle.std.proofs.Common.{◌≡◌, ℕ, ◌+◌, ◌%◌, ◌^◌, ◌<◌, ◌≤◌, Bool, true, false, refl, sym, ap, ◌∙◌, subst, arith, pow_mono}
+use Rattle.std.proofs.Common.{◌≡◌, ℕ, ◌+◌, ◌%◌, ◌^◌, ◌<◌, ◌≤◌, Bool, true, false, refl, sym, ap, ap₂, ◌∙◌, subst, arith, pow_mono}
 use Rattle.std.specs.Prelude.{cond, Result, Ok, Err, OnOk, OnErr}
 use Rattle.std.proofs.lemmas.Nat.{pow_pos}
 use Rattle.rs_field.specs.declared.code.error.Error.{Error}
-use Rattle.rs_field.specs.code.Configuration.{configuration, validated}
+use Rattle.rs_field.specs.code.Configuration.{Configuration as AsDefined, configuration, validated, started}
 use Rattle.rs_field.specs.code.Counts.{Rate, next_power, supports, is_low, low_rate, high_rate}
-use Rattle.rs_field.specs.code.Placement.{block_rows, encoder_rows, decoder_rows, rounded_up}
+use Rattle.rs_field.specs.code.Placement.{block_rows, encoder_rows, rounded_up}
 use Rattle.rs_field.proofs.of_code.NextPower.{next_power-small, power_is_own}
 use Rattle.rs_field.proofs.of_code.SupportedCounts.{low_fits, high_fits}
 use Rattle.rs_rate.specs.declared.rate.configuration.Configuration.{Configuration}
 use Rattle.rs_rate.specs.declared.rate.decoder_work.Frame.{Frame}
-use Rattle.rs_rate.specs.declared.rate.encoder_work.EncoderShape.{EncoderShape}
 use Rattle.rs_rate.specs.declared.rate.decoder_work.DecoderShape.{DecoderShape}
-use Rattle.rs_rate.specs.Configured.{configured, low_or_high, frame_of, shape_of_encoder, shape_of_decoder, IsConfigured}
-use Rattle.rs_rate.specs.DecoderView.{configuration_of as decoder_configuration, decoder_shape}
-use Rattle.rs_rate.specs.EncoderView.{configuration_of, encoder_shape}
-use Rattle.rs_rate.specs.ShardRows.{chunk_count}
-use Rattle.rs_rate.specs.SetUp.{AreSetUp, IsEncoderShape, IsDecoderShape, IsEncoderOf, IsDecoderOf}
+use Rattle.rs_rate.specs.Configured.{configuration_at, configured, low_or_high, frame_of, shape_of_encoder, shape_of_decoder, IsConfigured}
+use Rattle.rs_rate.specs.DecoderView.{decoder_shape}
+use Rattle.rs_rate.specs.ShardRows.{asked, chunk_count}
+use Rattle.rs_rate.specs.SetUp.{IsSetUp, rows_of}
 use Rattle.rs_rate.specs.Shapes.{EncoderCanBeLaid, DecoderCanBeLaid, HasPlaces}
 use Rattle.rs_rate.proofs.DecoderRows.{low_frame-is}
 use Rattle.rs_rate.proofs.HighCounts.{high_rows, high_small, low_rows-fit, high_rows-fit}
 use Rattle.rs_rate.proofs.PowerLemmas.{low_small, rounded_up-low}
-use Rattle.rs_rate.proofs.ShardRowsLemmas.{chunk_count-size}
 use Rattle.rs_rate.proofs.StateLemmas.{started-by}
-use Rattle.rs_rate.proofs.RateLemmas.{chosen_low, chosen_high, low_is, high_is, low_block, high_block, rows_alike, block_alike, frame_alike, high_frame-is}
+use Rattle.rs_rate.proofs.RateLemmas.{chosen_low, chosen_high, low_is, high_is, low_block, high_block, block_alike, frame_alike, high_frame-is}
 
 -- the low or high rate that a rate is at counts chooses as it does, and supports them
 pub chooses_alike : (rate : Rate) (k r : ℕ) → is_low (low_or_high (is_low rate k r)) k r ≡ is_low rate k r
@@ -95,56 +92,31 @@ blocks-known c is false high =
           ∙ ap (λ (b : Bool). encoder_rows (low_or_high b) c.original_count c.recovery_count) (sym high);
     }
 
--- what a coder of it is set up for is what the rate tells
-pub encoder_shape-is : (rate : Rate) (k r size : ℕ) (c : Configuration) (shape : EncoderShape) → c ≡ configured rate k r size → shape ≡ shape_of_encoder c
-    → shape ≡ encoder_shape rate k r size
-unfolding encoder_shape
-encoder_shape-is rate k r size c shape is laid =
-    laid ∙ ap shape_of_encoder is ∙ ap (λ (n : ℕ). let own : EncoderShape = record { configuration = configured rate k r size; row_count = n } in own)
-    (rows_alike (low_or_high (is_low rate k r)) rate k r (chooses_alike rate k r))
+-- what is asked for a rate's configuration, by how many rows it has
+pub record IsAsked (row_count : Rate → ℕ → ℕ → ℕ) (rate : Rate) (k r size : ℕ) (c : Configuration) : Type 0 where
+  pub own : configuration_at rate c ≡ configuration rate k r size
+  pub count : rows_of row_count c ≡ row_count rate k r
+  pub bytes : c.shard_bytes ≡ size
+  pub answer : started (row_count rate k r) (configuration rate k r size) ≡ asked (chunk_count (row_count rate k r) size)
 
-pub decoder_shape-is : (rate : Rate) (k r size : ℕ) (c : Configuration) (shape : DecoderShape) → c ≡ configured rate k r size → shape ≡ shape_of_decoder c
-    → shape ≡ decoder_shape rate k r size
-decoder_shape-is rate k r size c shape is laid =
-    laid ∙ ap shape_of_decoder is ∙ ap (λ (f : Frame). let own : DecoderShape = record { configuration = configured rate k r size; frame = f } in own)
-    (frame_alike (low_or_high (is_low rate k r)) rate k r (chooses_alike rate k r))
+pub is_asked : (row_count : Rate → ℕ → ℕ → ℕ) → ((rate : Rate) (c : Configuration) → IsSetUp rate c → rows_of row_count c ≡ row_count rate c.original_count c.recovery_count)
+    → (rate : Rate) (k r size : ℕ) (c : Configuration) → (c ≡ configured rate k r size) × IsSetUp rate c → IsAsked row_count rate k r size c
+is_asked row_count rows rate k r size c (same, is) =
+    let own = ap (configuration_at rate) same in
+    record {
+      own = own;
+      count = rows rate c is ∙ ap (λ (x : AsDefined). row_count rate x.original_count x.recovery_count) own;
+      bytes = ap (λ (x : AsDefined). x.shard_bytes) own;
+      answer = started-by (row_count rate k r) (configuration rate k r size) (chunk_count (row_count rate k r) size) (subst (λ (x : AsDefined). validated x ≡ Ok tt) own is.valid) refl;
+    }
 
--- a valid configuration's rows are set up
-are_set_up : (rate : Rate) (k r size wanted row_count shard_bytes : ℕ) → validated (configuration rate k r size) ≡ Ok tt → row_count ≡ wanted → shard_bytes ≡ size
-    → AreSetUp rate k r size wanted row_count shard_bytes
-are_set_up rate k r size wanted row_count shard_bytes valid count bytes =
-    record { valid = valid; count = count; bytes = bytes; answer = started-by wanted (configuration rate k r size) (chunk_count wanted size) valid refl }
-
-pub is_encoder_shape : (rate : Rate) (k r size : ℕ) (shape : EncoderShape) → validated (configuration rate k r size) ≡ Ok tt → shape ≡ encoder_shape rate k r size
-    → EncoderCanBeLaid shape → IsEncoderShape rate k r size shape
-unfolding encoder_shape
-is_encoder_shape rate k r size shape valid is laid =
-    let rows = are_set_up rate k r size (encoder_rows rate k r) _ _ valid (ap (λ s. s.row_count) is) (ap (λ s. s.configuration.shard_bytes) is) in
-    record { rows = rows; shaped = is; own = ap (configuration_of rate) is; laid = laid }
-
-pub is_decoder_shape : (rate : Rate) (k r size : ℕ) (shape : DecoderShape) → validated (configuration rate k r size) ≡ Ok tt → shape ≡ decoder_shape rate k r size
-    → DecoderCanBeLaid shape → IsDecoderShape rate k r size shape
-unfolding frame_of
-is_decoder_shape rate k r size shape valid is laid =
-    let rows = are_set_up rate k r size (decoder_rows rate k r) _ _ valid (ap (λ s. s.frame.row_count) is) (ap (λ s. s.configuration.shard_bytes) is) in
-    record { rows = rows; shaped = is; own = ap (decoder_configuration rate) is; laid = laid }
-
--- such a shape is one at its own numbers
-pub encoder_of : (rate : Rate) (k r size : ℕ) (shape own : EncoderShape) → IsEncoderShape rate k r size shape → own ≡ shape → IsEncoderOf rate own
-unfolding encoder_shape
-encoder_of rate k r size shape own is same = rw (same, is.shaped) (subst (IsEncoderShape rate k r size) is.shaped is)
-
-pub decoder_of : (rate : Rate) (k r size : ℕ) (shape own : DecoderShape) → IsDecoderShape rate k r size shape → own ≡ shape → IsDecoderOf rate own
-decoder_of rate k r size shape own is same = rw (same, is.shaped) (subst (IsDecoderShape rate k r size) is.shaped is)
-
--- as many rows of no larger a size have no more chunks
-pub chunks-within : (wanted rows size own : ℕ) → wanted ≡ rows → size ≤ own → chunk_count wanted size ≤ chunk_count rows own
-chunks-within wanted rows size own same less = rw same (chunk_count-size rows size own less)
-
--- the rate that it was set up for chooses as the low or the high rate that it tells
-pub encoder-alike : (rate : Rate) (k r size : ℕ) (shape : EncoderShape) → shape ≡ encoder_shape rate k r size → is_low (low_or_high shape.configuration.is_low) k r ≡ is_low rate k r
-unfolding encoder_shape
-encoder-alike rate k r size shape is = ap (λ (s : EncoderShape). is_low (low_or_high s.configuration.is_low) k r) is ∙ chooses_alike rate k r
+-- a decoder's frame is that of the rate
+pub decoder_shape-is : (rate : Rate) (s : DecoderShape) → IsSetUp rate s.configuration → DecoderCanBeLaid s
+    → s ≡ decoder_shape rate s.configuration.original_count s.configuration.recovery_count s.configuration.shard_bytes
+decoder_shape-is rate s is laid =
+    let own = s.configuration in
+    ap₂ (λ (c : Configuration) (f : Frame). let shape : DecoderShape = record { configuration = c; frame = f } in shape) is.chosen
+    (laid.frame ∙ frame_alike (low_or_high own.is_low) rate own.original_count own.recovery_count is.alike)
 
 -- what holds after a success and after a refusal
 pub either_way : {Made Kept P : Type 0} (result : Result (Unit {0}) Error) → OnOk result Made → OnErr result Kept → (Made → P) → (Kept → P) → P
@@ -191,8 +163,9 @@ high-places k r is =
     (record { power = rows.0; few = rows.1; originals = rows.2; recovery = omega (arith, block.2, rows.2); apart = λ i j own coded. omega (arith, block.2) })
 
 pub decoder-laid : (c : Configuration) → IsConfigured c → DecoderCanBeLaid (shape_of_decoder c)
+unfolding frame_of
 decoder-laid c is =
-    record { configured = is; places = by_choice c.is_low is.supported }
+    record { configured = is; rows = refl; frame = refl; places = by_choice c.is_low is.supported }
   where
     by_choice : (b : Bool) → supports (low_or_high b) c.original_count c.recovery_count ≡ true → HasPlaces c.original_count c.recovery_count (frame_of (low_or_high b) c.original_count c.recovery_count)
     by_choice true is = low-places c.original_count c.recovery_count is

@@ -25,8 +25,8 @@ use Rattle.rs_field.proofs.of_code.RateFrames.{HasFrame, has_frame}
 use Rattle.rs_field.proofs.of_code.Agreement.{AreColumns, consistent_exactly, restored_column, one_message}
 use Rattle.rs_field.proofs.of_words.LocatorProduct.{same_residue}
 use Rattle.rs_rate.specs.declared.rate.decoder_work.DecoderShape.{DecoderShape}
-use Rattle.rs_rate.specs.DecoderView.{configuration_of, decoder_shape, restored_over, state_over}
-use Rattle.rs_rate.specs.Configured.{frame_of}
+use Rattle.rs_rate.specs.DecoderView.{decoder_shape, restored_over, state_over}
+use Rattle.rs_rate.specs.Configured.{configuration_at, frame_of}
 use Rattle.rs_rate.specs.Decoding.{IsLocatorOf, RestoresShards, located}
 use Rattle.rs_rate.specs.Marks.{erased, given_row_count, given_shards, ArePlaced}
 use Rattle.rs_rate.specs.ObjectLaws.{all-up_to}
@@ -266,15 +266,15 @@ complete rate k r size marks new before after supported even shards all none mar
 
 -- a decode answers by what it made of the rows
 pub decode_answers : (rate : Rate) (s : DecoderShape) (marks new : List Bool) (locator : List ℕ) (surplus : ℕ) (before after : Chunks) (agrees : Bool)
-    → validated (configuration_of rate s) ≡ Ok tt → s ≡ decoder_shape rate s.configuration.original_count s.configuration.recovery_count s.configuration.shard_bytes
+    → validated (configuration_at rate s.configuration) ≡ Ok tt → s ≡ decoder_shape rate s.configuration.original_count s.configuration.recovery_count s.configuration.shard_bytes
     → IsDecoded s marks new locator surplus before after agrees → AnswersOver rate s marks new before after agrees
 decode_answers rate s marks new locator surplus before after agrees valid shaped d =
     subst (λ (t : DecoderShape). AnswersOver rate t marks new before after agrees) (sym shaped)
-    (by_answer rate s.configuration.original_count s.configuration.recovery_count s.configuration.shard_bytes surplus marks new locator before after agrees (valid-supported (configuration_of rate s) valid)
+    (by_answer rate s.configuration.original_count s.configuration.recovery_count s.configuration.shard_bytes surplus marks new locator before after agrees (valid-supported (configuration_at rate s.configuration) valid)
     (subst (λ (t : DecoderShape). IsDecoded t marks new locator surplus before after agrees) shaped d))
 
 -- and where all originals and nothing else are given, nothing is restored
-pub complete_answers : (rate : Rate) (s : DecoderShape) (marks new : List Bool) (before after : Chunks) → validated (configuration_of rate s) ≡ Ok tt
+pub complete_answers : (rate : Rate) (s : DecoderShape) (marks new : List Bool) (before after : Chunks) → validated (configuration_at rate s.configuration) ≡ Ok tt
     → s ≡ decoder_shape rate s.configuration.original_count s.configuration.recovery_count s.configuration.shard_bytes → s.configuration.shard_bytes % 2 ≡ 0
     → ((p : ℕ) → is_marked marks p ≡ true → IsShard s.configuration.shard_bytes (shard_laid_out before s.configuration.shard_bytes p))
     → given_row_count marks s.frame.originals_from s.configuration.original_count ≡ s.configuration.original_count → given_row_count marks s.frame.recovery_from s.configuration.recovery_count ≡ 0
@@ -283,7 +283,7 @@ pub complete_answers : (rate : Rate) (s : DecoderShape) (marks new : List Bool) 
 unfolding frame_of
 complete_answers rate s marks new before after valid shaped even shards all none marked =
     subst (λ (t : DecoderShape). Restored (state_over rate t marks before) (restored_over t new after)) (sym shaped)
-    (complete rate s.configuration.original_count s.configuration.recovery_count s.configuration.shard_bytes marks new before after (valid-supported (configuration_of rate s) valid) even shards
+    (complete rate s.configuration.original_count s.configuration.recovery_count s.configuration.shard_bytes marks new before after (valid-supported (configuration_at rate s.configuration) valid) even shards
     (subst (λ (t : DecoderShape). given_row_count marks t.frame.originals_from s.configuration.original_count ≡ s.configuration.original_count) shaped all)
     (subst (λ (t : DecoderShape). given_row_count marks t.frame.recovery_from s.configuration.recovery_count ≡ 0) shaped none)
     (subst (λ (t : DecoderShape). (i : ℕ) → i < s.configuration.original_count → is_marked new (t.frame.originals_from + i) ≡ not (is_marked marks (t.frame.originals_from + i))) shaped marked))

@@ -12,12 +12,13 @@ use Rattle.rs_field.specs.rows.Rows.{Chunks}
 use Rattle.rs_field.specs.rows.MarkedRows.{is_marked}
 use Rattle.rs_field.proofs.of_code.Given.{count_below-suc, count_below-zero}
 use Rattle.rs_field.proofs.of_code.NextPower.{own_is_power}
+use Rattle.rs_rate.specs.Configured.{configuration_at}
 use Rattle.rs_rate.specs.Shapes.{DecoderCanBeLaid}
 use Rattle.rs_rate.specs.declared.rate.decoder_work.DecoderShape.{DecoderShape}
 use Rattle.rs_rate.specs.declared.rate.decoder_work.DecoderWork.{DecoderWork}
 use Rattle.rs_rate.specs.declared.rate.restoring.Tally.{Tally}
 use Rattle.rs_rate.specs.DecoderRoom.{HasRoom, room_if, work_room}
-use Rattle.rs_rate.specs.DecoderView.{configuration_of, state_over}
+use Rattle.rs_rate.specs.DecoderView.{state_over}
 use Rattle.rs_rate.specs.Decoding.{CanBeRestored}
 use Rattle.rs_rate.specs.declared.rate.marks.Marks.{Marks}
 use Rattle.rs_rate.specs.declared.rate.marks.MarkedShards.{MarkedShards}
@@ -250,8 +251,8 @@ restored-marked marks chunks size from n i b inside mark =
 
 -- a decoder in whose rows no shard is marked as given is a fresh one
 pub nothing-given : (rate : Rate) (s : DecoderShape) (marks : List Bool) (chunks : Chunks) → ((p : ℕ) → is_marked marks p ≡ false)
-    → state_over rate s marks chunks ≡ fresh_decoder (configuration_of rate s)
+    → state_over rate s marks chunks ≡ fresh_decoder (configuration_at rate s.configuration)
 nothing-given rate s marks chunks empty =
-    ap₂ (λ (o r : Shards). let state : DecoderState = record { configuration = configuration_of rate s; originals = o; recovery = r } in state)
+    ap₂ (λ (o r : Shards). let state : DecoderState = record { configuration = configuration_at rate s.configuration; originals = o; recovery = r } in state)
     (given-nothing marks chunks s.configuration.shard_bytes s.frame.originals_from s.configuration.original_count (λ i inside. empty (s.frame.originals_from + i)))
     (given-nothing marks chunks s.configuration.shard_bytes s.frame.recovery_from s.configuration.recovery_count (λ i inside. empty (s.frame.recovery_from + i)))

@@ -5,7 +5,7 @@ use Rattle.std.specs.Result.{result_map_both}
 use Rattle.rs_field.specs.declared.code.error.Error.{Error}
 use Rattle.rs_field.specs.code.Given.{Shards}
 use Rattle.rs_field.specs.code.Decoder.{DecoderState, fresh_decoder, enough_given, Restored, NoneAgrees, DecodeAnswers, after_decode}
-use Rattle.rs_field.specs.code.Counts.{Rate, next_power, is_low, low_rate}
+use Rattle.rs_field.specs.code.Counts.{next_power, is_low, low_rate}
 use Rattle.rs_field.specs.code.Placement.{placement, low_placement, decoder_rows}
 use Rattle.rs_rate.specs.Configured.{frame_of}
 

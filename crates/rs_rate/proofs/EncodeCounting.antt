@@ -10,7 +10,8 @@ use Rattle.rs_field.specs.declared.words.steps.Steps.{Steps}
 use Rattle.rs_field.proofs.of_words.Counting.{counts_then, counts_within}
 use Rattle.rs_rate.specs.Coding.{further_blocks}
 use Rattle.rs_rate.proofs.HighCounts.{HasRows, low_rows-fit, high_rows-fit}
-use Rattle.rs_rate.proofs.RateLemmas.{low_is, high_is, low_block, high_block, rows_alike, block_alike, chosen_low, chosen_high}
+use Rattle.rs_rate.specs.RowsLaws.{encoder_rows_alike}
+use Rattle.rs_rate.proofs.RateLemmas.{low_is, high_is, low_block, high_block, block_alike, chosen_low, chosen_high}
 
 -- bounds of two calls that leave room within a bound for both
 pub counts_both : (m n whole : ℕ) (a b c : Steps) → m + n ≤ whole → CountsUpTo m 0 0 a b → CountsUpTo n 0 0 b c → CountsUpTo whole 0 0 a c
@@ -82,7 +83,7 @@ high_total k r m rows is block all =
 
 -- rates that choose alike have the same bound
 pub steps_alike : (one other : Rate) (k r : ℕ) → is_low one k r ≡ is_low other k r → encode_steps_at one k r ≡ encode_steps_at other k r
-steps_alike one other k r same = ap₂ (λ n m. encode_steps (n / m) m) (rows_alike one other k r same) (block_alike one other k r same)
+steps_alike one other k r same = ap₂ (λ n m. encode_steps (n / m) m) (encoder_rows_alike one other k r same) (block_alike one other k r same)
 
 -- an encode's bound has room for the tails
 pub tails_within : (rate : Rate) (k r : ℕ) → supports rate k r ≡ true → r ≤ encode_steps_at rate k r

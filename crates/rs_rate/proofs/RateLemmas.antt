@@ -2,7 +2,7 @@
 use Rattle.std.proofs.Common.{◌≡◌, ℕ, ◌+◌, ◌<◌, ◌≤◌, Bool, true, false, List, refl, sym, ap, ◌∙◌, subst, arith}
 use Rattle.std.specs.Prelude.{slice_index, if◌then◌else◌}
 use Rattle.rs_field.specs.code.Counts.{Rate, next_power, supports, is_low, low_rate, high_rate, default_rate}
-use Rattle.rs_field.specs.code.Placement.{Placement, placement, low_placement, high_placement, rounded_up, encoder_rows, block_rows, decoder_rows}
+use Rattle.rs_field.specs.code.Placement.{Placement, placement, low_placement, high_placement, block_rows, decoder_rows}
 use Rattle.rs_field.specs.words.Polynomial.{value}
 use Rattle.rs_field.specs.code.Column.{Shard, columns}
 use Rattle.rs_field.specs.code.Configuration.{configuration}
@@ -45,11 +45,7 @@ chosen_high default_rate k r is high =
     let powers = high_powers k r high in
     sym (high_turned k r) ∙ low_supported r k fits.1 fits.0 (omega (arith, fits.2, powers))
 
--- rates that choose alike have the same rows, frame, placement and recovery words
-pub rows_alike : (one other : Rate) (k r : ℕ) → is_low one k r ≡ is_low other k r → encoder_rows one k r ≡ encoder_rows other k r
-unfolding encoder_rows
-rows_alike one other k r same = ap (λ b. if b then rounded_up r (next_power k) else rounded_up k (next_power r)) same
-
+-- rates that choose alike have the same blocks, frame, placement and recovery words
 pub block_alike : (one other : Rate) (k r : ℕ) → is_low one k r ≡ is_low other k r → block_rows one k r ≡ block_rows other k r
 unfolding block_rows
 block_alike one other k r same = ap (λ b. if b then next_power k else next_power r) same

@@ -9,6 +9,7 @@ use Rattle.rs_field.specs.rows.Rows.{Chunks, chunk}
 use Rattle.rs_field.specs.rows.Layout.{row_len, laid_out, in_order}
 use Rattle.rs_field.specs.words.UpTo.{up_to}
 use Rattle.rs_field.specs.code.Column.{Shard, IsShard, column}
+pub use Rattle.rs_rate.specs.RowsLaws.{chunk_count-size}
 use Rattle.rs_rate.specs.ShardRows.{chunk_count, row_chunk, shard_laid_out, shard_in_order, word_in}
 use Rattle.rs_field.proofs.of_rows.Symbols.{byte_fits}
 use Rattle.rs_field.proofs.of_rows.LayoutLemmas.{laid_out-same, in_order-same, column-laid_out}
@@ -22,10 +23,6 @@ chunk_count-is rows size = refl
 pub chunk_count-more : (m n size : ℕ) → m ≤ n → chunk_count m size ≤ chunk_count n size
 unfolding chunk_count
 chunk_count-more m n size h = mul-le-mul_right (row_len size) h
-
-pub chunk_count-size : (n a b : ℕ) → a ≤ b → chunk_count n a ≤ chunk_count n b
-unfolding chunk_count
-chunk_count-size n a b h = let longer : row_len a ≤ row_len b = omega (arith, h) in mul-le-mul_left n longer
 
 -- the chunks up to one row's end
 -- rows whose bytes are a `usize` are as few

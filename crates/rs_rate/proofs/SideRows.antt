@@ -11,7 +11,8 @@ use Rattle.rs_field.specs.rows.Rows.{Chunks}
 use Rattle.rs_rate.specs.declared.rate.decoder_work.DecoderRows.{DecoderRows}
 use Rattle.rs_rate.specs.declared.rate.side.Side.{Side}
 use Rattle.rs_rate.specs.declared.rate.side.Side.TheVariants.{Original, Recovery}
-use Rattle.rs_rate.specs.DecoderView.{configuration_of, decoder_state, state_over}
+use Rattle.rs_rate.specs.Configured.{configuration_at}
+use Rattle.rs_rate.specs.DecoderView.{decoder_state, state_over}
 use Rattle.rs_rate.specs.Marks.{given_marks, given_row_count, given_shards}
 use Rattle.rs_rate.specs.ShardRows.{shard_laid_out}
 use Rattle.rs_rate.specs.Sides.{side_count, side_from, side_row, side_originals, side_recovery, repeat_refused, with_given}
@@ -122,11 +123,11 @@ pub add-entered : (rate : Rate) (w : DecoderRows) (side : Side) (index row : ℕ
     → with_given side (decoder_state rate w) index shard ≡ Ok (state_over rate w.shape marks chunks)
 add-entered rate w Original index row shard marks chunks e =
     rw (lt-leb w.shape.configuration.original_count index e.inside, given-at rate w Original index row false e.at e.inside e.free, eq-eqb (length shard) w.shape.configuration.shard_bytes e.size)
-    (ap₂ (λ (o r : Shards). Ok (record { configuration = configuration_of rate w.shape; originals = o; recovery = r }))
+    (ap₂ (λ (o r : Shards). Ok (record { configuration = configuration_at rate w.shape.configuration; originals = o; recovery = r }))
     (sym ((own-entered w Original index row shard marks chunks e).0)) (sym ((other-kept w Original index row shard marks chunks e).0)))
 add-entered rate w Recovery index row shard marks chunks e =
     rw (lt-leb w.shape.configuration.recovery_count index e.inside, given-at rate w Recovery index row false e.at e.inside e.free, eq-eqb (length shard) w.shape.configuration.shard_bytes e.size)
-    (ap₂ (λ (o r : Shards). Ok (record { configuration = configuration_of rate w.shape; originals = o; recovery = r }))
+    (ap₂ (λ (o r : Shards). Ok (record { configuration = configuration_at rate w.shape.configuration; originals = o; recovery = r }))
     (sym ((other-kept w Recovery index row shard marks chunks e).0)) (sym ((own-entered w Recovery index row shard marks chunks e).0)))
 
 -- and so are the counts

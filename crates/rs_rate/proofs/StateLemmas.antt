@@ -13,7 +13,8 @@ use Rattle.rs_field.specs.code.Code.{AreRecovery}
 use Rattle.rs_field.specs.words.UpTo.{up_to}
 use Rattle.rs_rate.specs.declared.rate.encoder_work.EncoderRows.{EncoderRows}
 use Rattle.rs_rate.specs.declared.rate.encoder_work.EncoderShape.{EncoderShape}
-use Rattle.rs_rate.specs.EncoderView.{configuration_of, encoder_state}
+use Rattle.rs_rate.specs.Configured.{configuration_at}
+use Rattle.rs_rate.specs.EncoderView.{encoder_state}
 use Rattle.rs_rate.specs.ShardRows.{asked, chunk_count, shard_laid_out}
 
 -- a shard of the size is added where there is room
@@ -105,7 +106,7 @@ encode_answers-made s recovery made right =
 
 -- an encoder over rows of a shape with nothing given is a fresh one
 pub encoder_state-fresh : (rate : Rate) (rows : EncoderRows) (shape : EncoderShape) → rows.shape ≡ shape → rows.originals_given ≡ 0
-    → encoder_state rate rows ≡ fresh_encoder (configuration_of rate shape)
+    → encoder_state rate rows ≡ fresh_encoder (configuration_at rate shape.configuration)
 encoder_state-fresh rate rows shape same none =
-    let F : EncoderShape → List Shard → EncoderState = λ s given. record { configuration = configuration_of rate s; given = given } in
+    let F : EncoderShape → List Shard → EncoderState = λ s given. record { configuration = configuration_at rate s.configuration; given = given } in
     ap₂ F same (ap (λ n. up_to n (shard_laid_out rows.chunks.items rows.shape.configuration.shard_bytes)) none)

@@ -1,6 +1,7 @@
 -- What a coder is set up for at a rate, and the rows that follow from it.
 use Rattle.std.specs.Prelude.{◌≡◌, ◌%◌, ◌<◌, ℕ, Bool, true, if◌then◌else◌, Option, Some, None}
 use Rattle.rs_field.specs.code.Counts.{Rate, low_rate, high_rate, supports, is_low}
+use Rattle.rs_field.specs.code.Configuration.{Configuration as AsDefined, configuration}
 use Rattle.rs_field.specs.code.Placement.{placement, block_rows, encoder_rows, decoder_rows}
 use Rattle.rs_rate.specs.declared.rate.configuration.Configuration.{Configuration}
 use Rattle.rs_rate.specs.declared.rate.counts.Choice.{Choice}
@@ -15,6 +16,10 @@ choice_at rate k r = record { is_low = is_low rate k r; block_rows = block_rows 
 -- it, where the rate supports them
 abbrev pub choice_of : Rate → ℕ → ℕ → Option Choice
 choice_of rate k r = if supports rate k r then Some (choice_at rate k r) else None
+
+-- a configuration, at this rate
+abbrev pub configuration_at : Rate → Configuration → AsDefined
+configuration_at rate c = configuration rate c.original_count c.recovery_count c.shard_bytes
 
 -- a rate's configuration at counts and a size
 abbrev pub configured : Rate → ℕ → ℕ → ℕ → Configuration

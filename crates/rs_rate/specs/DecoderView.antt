@@ -2,24 +2,19 @@
 use Rattle.std.specs.Prelude.{◌-◌, ℕ, Bool, List}
 use Rattle.rs_field.specs.code.Column.{Shard}
 use Rattle.rs_field.specs.code.Counts.{Rate}
-use Rattle.rs_field.specs.code.Configuration.{Configuration, configuration}
 use Rattle.rs_field.specs.code.Given.{Shards, listed_from}
 use Rattle.rs_field.specs.code.Decoder.{DecoderState}
 use Rattle.rs_field.specs.rows.Rows.{Chunks}
 use Rattle.rs_rate.specs.declared.rate.decoder_work.DecoderShape.{DecoderShape}
 use Rattle.rs_rate.specs.declared.rate.decoder_work.DecoderRows.{DecoderRows}
-use Rattle.rs_rate.specs.Configured.{configured, frame_of}
+use Rattle.rs_rate.specs.Configured.{configuration_at, configured, frame_of}
 use Rattle.rs_rate.specs.Marks.{given_marks, restored_marks, given_shards, restored_shards}
-
--- the configuration of a shape, at this rate
-abbrev pub configuration_of : Rate → DecoderShape → Configuration
-configuration_of rate shape = configuration rate shape.configuration.original_count shape.configuration.recovery_count shape.configuration.shard_bytes
 
 -- the state that the rows of a shape stand for at this rate, by the marks of given shards
 abbrev pub state_over : Rate → DecoderShape → List Bool → Chunks → DecoderState
 state_over rate s marks chunks =
     record {
-      configuration = configuration_of rate s;
+      configuration = configuration_at rate s.configuration;
       originals = given_shards marks chunks s.configuration.shard_bytes s.frame.originals_from s.configuration.original_count;
       recovery = given_shards marks chunks s.configuration.shard_bytes s.frame.recovery_from s.configuration.recovery_count;
     }

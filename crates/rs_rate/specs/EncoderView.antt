@@ -2,29 +2,13 @@
 use Rattle.std.specs.Prelude.{ℕ, List}
 use Rattle.rs_field.specs.code.Column.{Shard}
 use Rattle.rs_field.specs.code.Counts.{Rate}
-use Rattle.rs_field.specs.code.Placement.{encoder_rows}
-use Rattle.rs_field.specs.code.Configuration.{Configuration, configuration}
 use Rattle.rs_field.specs.code.Encoder.{EncoderState}
 use Rattle.rs_field.specs.words.UpTo.{up_to}
-use Rattle.rs_rate.specs.declared.rate.encoder_work.EncoderShape.{EncoderShape}
+use Rattle.rs_rate.specs.Configured.{configuration_at}
 use Rattle.rs_rate.specs.declared.rate.encoder_work.EncoderRows.{EncoderRows}
 use Rattle.rs_rate.specs.declared.rate.encoder_work.EncoderWork.{EncoderWork}
-use Rattle.rs_rate.specs.Configured.{configured}
 use Rattle.rs_rate.specs.Memory.{room_of}
-use Rattle.rs_rate.specs.ShardRows.{chunk_count, shard_laid_out, shard_in_order}
-
--- the configuration of a shape, at this rate
-abbrev pub configuration_of : Rate → EncoderShape → Configuration
-configuration_of rate shape = configuration rate shape.configuration.original_count shape.configuration.recovery_count shape.configuration.shard_bytes
-
--- what an encoder of this rate is set up for at these counts and this size
-unfoldable pub encoder_shape : Rate → ℕ → ℕ → ℕ → EncoderShape
-encoder_shape rate k r size =
-    record { configuration = configured rate k r size; row_count = encoder_rows rate k r }
-
--- the chunks of a shape's rows
-abbrev pub shape_chunks : EncoderShape → ℕ
-shape_chunks shape = chunk_count shape.row_count shape.configuration.shard_bytes
+use Rattle.rs_rate.specs.ShardRows.{shard_laid_out, shard_in_order}
 
 -- the originals that were given, in order
 abbrev pub given_of : EncoderRows → List Shard
@@ -32,7 +16,7 @@ given_of rows = up_to rows.originals_given (shard_laid_out rows.chunks.items row
 
 -- the state of an encoder of this rate over the rows
 abbrev pub encoder_state : Rate → EncoderRows → EncoderState
-encoder_state rate rows = record { configuration = configuration_of rate rows.shape; given = given_of rows }
+encoder_state rate rows = record { configuration = configuration_at rate rows.shape.configuration; given = given_of rows }
 
 -- the recovery shards that lie in the rows after a round
 abbrev pub lent_of : EncoderRows → List Shard

@@ -12,4 +12,5 @@ pub mod Sides
 pub mod DecoderRoom
 pub mod DecoderView
 pub mod SetUp
+pub mod RowsLaws
 pub mod Decoding

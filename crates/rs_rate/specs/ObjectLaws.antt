@@ -1,6 +1,6 @@
 -- What the traits' laws say of the objects, by what their rows keep.
 use Rattle.std.specs.Prelude.{◌≡◌, ◌+◌, ◌*◌, ◌^◌, ◌<◌, ◌≤◌, ℕ, List, All, Bool, true, false, Some, None, is_some, unwrap_or, nat_lt, if◌then◌else◌, refl}
-use Rattle.std.proofs.Common.{sym, ap, subst, true≢false}
+use Rattle.std.proofs.Common.{sym, ap, ◌∙◌, subst, true≢false}
 use Rattle.std.proofs.lemmas.Bool.{le-ltb}
 use Rattle.std.specs.Vec.{vec_capacity}
 use Rattle.rs_field.specs.code.Column.{Shard, IsShard}
@@ -15,11 +15,12 @@ use Rattle.rs_field.specs.rows.MarkedRows.{is_marked}
 use Rattle.rs_field.proofs.of_words.UpTo.{length-up_to, get-up_to}
 use Rattle.rs_rate.specs.declared.rate.encoder_work.EncoderRows.{EncoderRows}
 use Rattle.rs_rate.specs.declared.rate.decoder_work.DecoderRows.{DecoderRows}
+use Rattle.rs_rate.specs.RowsLaws.{encoder_rows_set_up, decoder_rows_set_up}
 use Rattle.rs_rate.specs.EncoderView.{encoder_state}
 use Rattle.rs_rate.specs.DecoderRoom.{HasRoom, memory_room}
 use Rattle.rs_rate.specs.DecoderView.{decoder_state}
 use Rattle.rs_rate.specs.Marks.{given_marks, given_shards}
-use Rattle.rs_rate.specs.SetUp.{IsEncoderOf, IsDecoderOf}
+use Rattle.rs_rate.specs.SetUp.{IsSetUp}
 use Rattle.rs_rate.specs.ShardRows.{chunk_count, shard_laid_out}
 
 -- what holds of each of the first n values holds of their list
@@ -28,21 +29,21 @@ all-up_to P n f each i d h =
     let inside : i < n = subst (λ (m : ℕ). i < m) (length-up_to n f) h in subst P (sym (get-up_to n f i d inside)) (each i inside)
 
 -- an encoder over rows of a valid shape is in a state that an encoder can be in
-pub is_encoder : (rate : Rate) (rows : EncoderRows) → IsEncoderOf rate rows.shape → IsEncoder rate (encoder_state rate rows)
+pub is_encoder : (rate : Rate) (rows : EncoderRows) → IsSetUp rate rows.shape.configuration → IsEncoder rate (encoder_state rate rows)
 unfolding chunk_count
 is_encoder rate rows is =
     record {
       of_rate = refl;
-      valid = is.rows.valid;
-      fits = subst (λ (n : ℕ). chunk_count n rows.shape.configuration.shard_bytes * 64 < 2 ^ 64) is.rows.count rows.sized;
+      valid = is.valid;
+      fits = subst (λ (n : ℕ). chunk_count n rows.shape.configuration.shard_bytes * 64 < 2 ^ 64) (rows.laid.rows ∙ encoder_rows_set_up rate rows.shape.configuration is) rows.sized;
       no_more = subst (λ (n : ℕ). n ≤ rows.shape.configuration.original_count) (sym (length-up_to rows.originals_given (shard_laid_out rows.chunks.items rows.shape.configuration.shard_bytes))) rows.no_more;
       sized = all-up_to (IsShard rows.shape.configuration.shard_bytes) rows.originals_given (shard_laid_out rows.chunks.items rows.shape.configuration.shard_bytes) rows.shards;
     }
 
 -- and has room for its own rows
-pub has_own_room : (rate : Rate) (rows : EncoderRows) → IsEncoderOf rate rows.shape
+pub has_own_room : (rate : Rate) (rows : EncoderRows) → IsSetUp rate rows.shape.configuration
     → chunk_count (encoder_rows rate rows.shape.configuration.original_count rows.shape.configuration.recovery_count) rows.shape.configuration.shard_bytes ≤ vec_capacity rows.chunks
-has_own_room rate rows is = subst (λ (n : ℕ). chunk_count n rows.shape.configuration.shard_bytes ≤ vec_capacity rows.chunks) is.rows.count rows.own_room
+has_own_room rate rows is = subst (λ (n : ℕ). chunk_count n rows.shape.configuration.shard_bytes ≤ vec_capacity rows.chunks) (rows.laid.rows ∙ encoder_rows_set_up rate rows.shape.configuration is) rows.own_room
 
 -- the shards that rows tell of by their marks are of the size
 given_within : (marks : List Bool) (chunks : Chunks) (size from n : ℕ)
@@ -61,20 +62,20 @@ given_within marks chunks size from n shards =
     by_tests i shard false given mark is = absurd (true≢false (sym (ap is_some is)))
 
 -- a decoder over rows of a valid shape is in a state that a decoder can be in
-pub is_decoder : (rate : Rate) (rows : DecoderRows) → IsDecoderOf rate rows.shape → IsDecoder rate (decoder_state rate rows)
+pub is_decoder : (rate : Rate) (rows : DecoderRows) → IsSetUp rate rows.shape.configuration → IsDecoder rate (decoder_state rate rows)
 unfolding chunk_count
 is_decoder rate rows is =
     let s = rows.shape in
     record {
       of_rate = refl;
-      valid = is.rows.valid;
-      fits = subst (λ (n : ℕ). chunk_count n s.configuration.shard_bytes * 64 < 2 ^ 64) is.rows.count rows.laid_out.sized;
+      valid = is.valid;
+      fits = subst (λ (n : ℕ). chunk_count n s.configuration.shard_bytes * 64 < 2 ^ 64) (rows.laid.rows ∙ decoder_rows_set_up rate rows.shape.configuration is) rows.laid_out.sized;
       originals_within = given_within (given_marks rows.memory.marks) rows.memory.chunks.items s.configuration.shard_bytes s.frame.originals_from s.configuration.original_count rows.given.shards;
       recovery_within = given_within (given_marks rows.memory.marks) rows.memory.chunks.items s.configuration.shard_bytes s.frame.recovery_from s.configuration.recovery_count rows.given.shards;
     }
 
 -- and has room for its own rows
-pub has_own_decoder_room : (rate : Rate) (rows : DecoderRows) → IsDecoderOf rate rows.shape
+pub has_own_decoder_room : (rate : Rate) (rows : DecoderRows) → IsSetUp rate rows.shape.configuration
     → HasRoom (memory_room rows.memory) (decoder_rows rate rows.shape.configuration.original_count rows.shape.configuration.recovery_count) rows.shape.configuration.shard_bytes
 has_own_decoder_room rate rows is =
-    subst (λ (n : ℕ). HasRoom (memory_room rows.memory) n rows.shape.configuration.shard_bytes) is.rows.count rows.laid_out.room
+    subst (λ (n : ℕ). HasRoom (memory_room rows.memory) n rows.shape.configuration.shard_bytes) (rows.laid.rows ∙ decoder_rows_set_up rate rows.shape.configuration is) rows.laid_out.room

@@ -1,8 +1,8 @@
 -- What the rows of an encoder and of a decoder can be set up for, and where a decoder's shards stand.
 use Rattle.std.specs.Prelude.{◌≡◌, ◌≢◌, ◌+◌, ◌<◌, ◌≤◌, ℕ}
 use Rattle.rs_field.specs.code.Counts.{next_power}
-use Rattle.rs_field.specs.code.Placement.{encoder_rows}
-use Rattle.rs_rate.specs.Configured.{IsConfigured, low_or_high}
+use Rattle.rs_field.specs.code.Placement.{encoder_rows, decoder_rows}
+use Rattle.rs_rate.specs.Configured.{IsConfigured, low_or_high, frame_of}
 use Rattle.rs_rate.specs.declared.rate.encoder_work.EncoderShape.{EncoderShape}
 use Rattle.rs_rate.specs.declared.rate.decoder_work.DecoderShape.{DecoderShape}
 use Rattle.rs_rate.specs.declared.rate.decoder_work.Frame.{Frame}
@@ -26,7 +26,9 @@ pub record HasPlaces (k r : ℕ) (frame : Frame) : Type 0 where
   pub recovery : frame.recovery_from + r ≤ frame.row_count
   pub apart : (i j : ℕ) → i < k → j < r → frame.originals_from + i ≢ frame.recovery_from + j
 
--- a configuration, and a frame with places for its shards
+-- a configuration, and its frame, with places for its shards
 pub record DecoderCanBeLaid (shape : DecoderShape) : Type 0 where
   pub configured : IsConfigured shape.configuration
+  pub rows : shape.frame.row_count ≡ decoder_rows (low_or_high shape.configuration.is_low) shape.configuration.original_count shape.configuration.recovery_count
+  pub frame : shape.frame ≡ frame_of (low_or_high shape.configuration.is_low) shape.configuration.original_count shape.configuration.recovery_count
   pub places : HasPlaces shape.configuration.original_count shape.configuration.recovery_count shape.frame

@@ -1,5 +1,6 @@
 //! The traits of a rate, its encoder and its decoder.
 mod code;
+pub(crate) mod coder;
 pub(crate) mod configuration;
 pub(crate) mod counts;
 pub(crate) mod decoder_work;

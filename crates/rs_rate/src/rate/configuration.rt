@@ -1,7 +1,8 @@
 //! What a coder is set up for, validated once: from it come the rows of an encoder and the frame of a decoder.
-ghost use Rattle.std.specs.Prelude.{◌≡◌, Ok, Err, MatchResult};
+ghost use Rattle.std.specs.Prelude.{◌≡◌, Err, MatchResult};
 ghost use Rattle.rs_field.specs.code.Configuration.{configuration, validated};
 ghost use Rattle.rs_rate.specs.Configured.{configured, shape_of_encoder, shape_of_decoder, IsConfigured};
+ghost use Rattle.rs_rate.specs.SetUp.{IsSetUp};
 ghost use Rattle.rs_rate.specs.Shapes.{EncoderCanBeLaid, DecoderCanBeLaid};
 
 use crate::rate::code::Code;
@@ -30,9 +31,8 @@ impl Configuration {
         counts: SupportedCounts<C>,
         shard_bytes: usize,
     ) -> Result<Configuration, Error>
-        ensures { let as_defined = configuration C.rate counts.original_count counts.recovery_count shard_bytes in MatchResult result
-            (λ c. (validated as_defined ≡ Ok tt) × (c ≡ configured C.rate counts.original_count counts.recovery_count shard_bytes) × IsConfigured c)
-            (λ e. validated as_defined ≡ Err e) }
+        ensures { MatchResult result (λ c. (c ≡ configured C.rate counts.original_count counts.recovery_count shard_bytes) × IsSetUp C.rate c)
+            (λ e. validated (configuration C.rate counts.original_count counts.recovery_count shard_bytes) ≡ Err e) }
     {
         if shard_bytes == 0 || shard_bytes % 2 == 1 {
             return Err(Error::InvalidShardSize { shard_bytes });
@@ -67,6 +67,7 @@ impl Configuration {
     pub(crate) fn decoder_shape(self) -> DecoderShape
         requires { IsConfigured self }
         ensures shape { result ≡ shape_of_decoder self }
+        ensures own { result.configuration ≡ self }
         ensures laid { DecoderCanBeLaid result }
     {
         let block = self.block_rows;

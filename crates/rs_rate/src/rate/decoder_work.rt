@@ -1,11 +1,11 @@
 //! The working space of a decoder: the memory that is handed on, and a decoder's rows in it.
 ghost use Rattle.std.specs.Prelude.{◌≡◌, ◌≢◌, ℕ, ◌+◌, ◌*◌, ◌%◌, ◌^◌, ◌<◌, ◌≤◌, true, false, length, vec_len};
-ghost use Rattle.std.specs.Prelude.{Err, IfOk, IfErr, IfSome, OnOk, OnErr, IsOk, MatchOption, MatchResult, [], ◌∷◌, option_copied};
+ghost use Rattle.std.specs.Prelude.{IfOk, IfErr, IfSome, OnOk, OnErr, IsOk, MatchOption, [], ◌∷◌, option_copied};
 ghost use Rattle.std.specs.Vec.{vec_capacity};
 ghost use Rattle.rs_field.specs.code.Column.{IsShard};
 ghost use Rattle.rs_field.specs.code.Counts.{Rate};
 ghost use Rattle.rs_field.specs.code.Outcome.{answer_of, state_after};
-ghost use Rattle.rs_field.specs.code.Configuration.{configuration, validated, UpToMemory};
+ghost use Rattle.rs_field.specs.code.Configuration.{UpToMemory};
 ghost use Rattle.rs_field.specs.code.Decoder.{fresh_decoder, enough_given};
 ghost use Rattle.rs_field.specs.rows.MarkedRows.{is_marked};
 ghost use Rattle.rs_rate.specs.Shapes.{DecoderCanBeLaid, original_row};
@@ -14,14 +14,13 @@ ghost use Rattle.rs_rate.specs.Marks.{given_marks, HoldGiven};
 ghost use Rattle.rs_rate.specs.DecoderRoom.{IsLaidOut};
 ghost use Rattle.rs_rate.specs.Sides.{with_given};
 
-use crate::rate::code::Code;
+use crate::rate::coder::CoderRows;
 use crate::rate::configuration::Configuration;
 use crate::rate::marks::{MarkedShards, Marks};
 use crate::rate::memory::{make_room, set_chunks, set_length};
 use crate::rate::restoring::Tally;
 use crate::rate::shard_rows::{chunk_count, insert_at, shard_at, shard_is_bytes};
 use crate::rate::side::Side;
-use crate::rate::supported_counts::SupportedCounts;
 use rs_field::engine::GfElement;
 use rs_field::error::Error;
 use std::alloc::Global;
@@ -70,20 +69,6 @@ pub struct DecoderRows {
 }
 
 impl DecoderShape {
-    ghost use Rattle.rs_rate.specs.SetUp.{IsDecoderShape};
-
-    // What a decoder of a rate is set up for at counts that it supports, or the refusal of the size.
-    #[inline(always)]
-    pub(crate) fn new<C: Code>(
-        counts: SupportedCounts<C>,
-        shard_bytes: usize,
-    ) -> Result<DecoderShape, Error>
-        ensures { MatchResult result (IsDecoderShape C.rate counts.original_count counts.recovery_count shard_bytes)
-            (λ e. validated (configuration C.rate counts.original_count counts.recovery_count shard_bytes) ≡ Err e) }
-    {
-        Ok(Configuration::new(counts, shard_bytes)?.decoder_shape())
-    }
-
     // The row of an original.
     pub(crate) fn original_row(self, index: usize) -> usize
         requires { original_row self index < 2 ^ 64 }
@@ -227,26 +212,45 @@ impl DecoderMemory {
     }
 }
 
-impl DecoderRows {
-    ghost use Rattle.rs_rate.specs.DecoderRoom.{HasRoom, Grows, memory_room, shape_chunks, work_room};
-    ghost use Rattle.rs_rate.specs.DecoderView.{configuration_of, decoder_state, restored_of, restored_from};
-    ghost use Rattle.rs_rate.specs.Decoding.{CanBeRestored};
+impl CoderRows for DecoderRows {
+    ghost use Rattle.std.proofs.Common.{le_refl};
+    ghost use Rattle.rs_field.specs.code.Decoder.{DecoderState};
+    ghost use Rattle.rs_field.specs.code.Placement.{decoder_rows};
+    ghost use Rattle.rs_rate.specs.RowsLaws.{some_anyway, decoder_rows_set_up, room_within};
+    ghost use Rattle.rs_rate.specs.DecoderRoom.{DecoderRoom, HasRoom, Grows, memory_room, work_room};
+    ghost use Rattle.rs_rate.specs.DecoderView.{decoder_state};
 
-    // Rows with nothing given, in the memory of `work` where one is passed.
+    type Work = Option<DecoderWork>;
+
+    ghost State = { DecoderState };
+
+    ghost Room = { DecoderRoom };
+
+    ghost row_count = { decoder_rows };
+
+    ghost configuration_of = { λ x. x.shape.configuration };
+
+    ghost state = { decoder_state };
+
+    ghost fresh = { fresh_decoder };
+
+    ghost room = { λ x. memory_room x.memory };
+
+    ghost has_room = { HasRoom };
+
+    ghost grows = { Grows };
+
+    ghost grows_from = { λ work room. IfSome work (λ w. Grows (work_room w) room) };
+
+    ghost where_roomy = { λ work n size answer wanted. IfSome work (λ w. HasRoom (work_room w) n size → answer ≡ wanted) };
+
     #[inline(always)]
-    pub(crate) fn new(
+    fn new(
         alloc: Global,
-        shape: DecoderShape,
+        configuration: Configuration,
         work: Option<DecoderWork>,
-    ) -> Result<DecoderRows, Error>
-        requires { DecoderCanBeLaid shape }
-        ensures shape { IfOk result (λ x. x.shape ≡ shape) }
-        ensures state { IfOk result (λ x. (rate : Rate) → decoder_state rate x ≡ fresh_decoder (configuration_of rate shape)) }
-        ensures answer { UpToMemory (asked (shape_chunks shape)) (answer_of result) }
-        ensures grown { IfOk result (λ x. IfSome work (λ w. Grows (work_room w) (memory_room x.memory))) }
-        ensures roomy { IfSome work (λ w. HasRoom (work_room w) shape.frame.row_count shape.configuration.shard_bytes
-            → answer_of result ≡ asked (shape_chunks shape)) }
-    {
+    ) -> Result<DecoderRows, Error> {
+        let shape = configuration.decoder_shape();
         let memory = DecoderMemory::laid_out(alloc, shape, work)?;
         Ok(DecoderRows {
             shape,
@@ -256,24 +260,29 @@ impl DecoderRows {
         })
     }
 
-    // The rows of another shape, with nothing given: every growth first.
     #[inline(always)]
-    pub(crate) fn reset(&mut self, shape: DecoderShape) -> Result<(), Error>
-        requires { DecoderCanBeLaid shape }
-        ensures ok { OnOk result ((rate : Rate) → decoder_state rate self.new ≡ fresh_decoder (configuration_of rate shape)) }
-        ensures err { OnErr result ((rate : Rate) → decoder_state rate self.new ≡ decoder_state rate self.old) }
-        ensures shape { OnOk result (self.new.shape ≡ shape) }
-        ensures same_shape { OnErr result (self.new.shape ≡ self.old.shape) }
-        ensures answer { UpToMemory (asked (shape_chunks shape)) result }
-        ensures grown { Grows (memory_room self.old.memory) (memory_room self.new.memory) }
-        ensures roomy { HasRoom (memory_room self.old.memory) shape.frame.row_count shape.configuration.shard_bytes → result ≡ asked (shape_chunks shape) }
-    {
+    fn reset(&mut self, configuration: Configuration) -> Result<(), Error> {
+        let shape = configuration.decoder_shape();
         self.memory.lay_out(shape)?;
         self.shape = shape;
         self.originals_given = 0;
         self.recovery_given = 0;
         Ok(())
     }
+
+    ghost stays = { λ room. record { chunks = le_refl room.chunks; rows = le_refl room.rows; entries = le_refl room.entries } };
+
+    ghost anyway = { λ work n size answer wanted same. some_anyway work _ (λ w roomy. same) };
+
+    ghost rows_set_up = { decoder_rows_set_up };
+
+    ghost own_room = { λ x size less. room_within _ _ size _ _ x.laid.rows less x.laid_out.sized x.laid_out.room };
+}
+
+impl DecoderRows {
+    ghost use Rattle.rs_rate.specs.DecoderRoom.{memory_room};
+    ghost use Rattle.rs_rate.specs.DecoderView.{decoder_state, restored_of, restored_from};
+    ghost use Rattle.rs_rate.specs.Decoding.{CanBeRestored};
 
     // Enters a shard of a side in its row, where the row is free.
     pub(crate) fn add_shard(&mut self, side: Side, index: usize, shard: &[u8]) -> Result<(), Error>

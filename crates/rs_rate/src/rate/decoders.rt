@@ -1,12 +1,12 @@
 //! The decoders of the rates.
 ghost use Rattle.rs_rate.specs.DecoderRoom.{memory_room};
 ghost use Rattle.rs_rate.specs.DecoderView.{decoder_state};
-ghost use Rattle.rs_rate.specs.SetUp.{IsDecoderOf};
 
 use crate::decoder_result::DecoderResult;
 use crate::rate::code::{Code, DefaultCode, HighCode, LowCode, RateOf};
+use crate::rate::coder::Coder;
 use crate::rate::configuration::Configuration;
-use crate::rate::decoder_work::{DecoderRows, DecoderShape};
+use crate::rate::decoder_work::DecoderRows;
 use crate::rate::rounds::{decode_round, lent_originals};
 use crate::rate::side::Side;
 use crate::rate::supported_counts::SupportedCounts;
@@ -14,7 +14,6 @@ use crate::rate::{DecoderWork, RateDecoder};
 use rs_field::engine::{Engine, Steps};
 use rs_field::error::Error;
 use std::alloc::Global;
-use std::marker::PhantomData;
 
 /// The decoder of the low rate.
 pub type LowRateDecoder<E> = Decoder<E, LowCode>;
@@ -25,50 +24,8 @@ pub type HighRateDecoder<E> = Decoder<E, HighCode>;
 /// The decoder of the default rate.
 pub type DefaultRateDecoder<E> = Decoder<E, DefaultCode>;
 
-/// The decoder of a rate: an engine, and rows set up for counts that the rate supports.
-#[derive(Drop)]
-pub struct Decoder<E: Engine, C: Code> {
-    pub(crate) engine: E,
-    pub(crate) rows: DecoderRows,
-    code: PhantomData<C>,
-    pub ghost set_up: { IsDecoderOf C.rate rows.shape },
-}
-
-impl<E: Engine, C: Code> Decoder<E, C> {
-    ghost use Rattle.std.specs.Prelude.{◌≡◌, IfOk, IfSome};
-    ghost use Rattle.rs_field.specs.code.Configuration.{configuration, started, UpToMemory};
-    ghost use Rattle.rs_field.specs.code.Decoder.{fresh_decoder};
-    ghost use Rattle.rs_field.specs.code.Outcome.{answer_of};
-    ghost use Rattle.rs_field.specs.code.Placement.{decoder_rows};
-    ghost use Rattle.rs_rate.specs.DecoderRoom.{HasRoom, Grows, work_room};
-
-    /// A decoder with nothing given, at counts that its rate supports. Refused as by `new`, but never for the counts.
-    #[inline(always)]
-    pub fn with_counts(
-        alloc: Global,
-        counts: SupportedCounts<C>,
-        shard_bytes: usize,
-        engine: E,
-        work: Option<DecoderWork>,
-    ) -> Result<Decoder<E, C>, Error>
-        ensures answer { let c = configuration C.rate counts.original_count counts.recovery_count shard_bytes in
-            UpToMemory (started (decoder_rows C.rate c.original_count c.recovery_count) c) (answer_of result) }
-        ensures made { let c = configuration C.rate counts.original_count counts.recovery_count shard_bytes in
-            IfOk result (λ x. (decoder_state C.rate x.rows ≡ fresh_decoder c) × (x.engine ≡ engine)) }
-        ensures grown { IfOk result (λ x. IfSome work (λ w. Grows (work_room w) (memory_room x.rows.memory))) }
-        ensures roomy { let c = configuration C.rate counts.original_count counts.recovery_count shard_bytes in
-            IfSome work (λ w. HasRoom (work_room w) (decoder_rows C.rate c.original_count c.recovery_count) shard_bytes
-            → answer_of result ≡ started (decoder_rows C.rate c.original_count c.recovery_count) c) }
-    {
-        let shape = DecoderShape::new(counts, shard_bytes)?;
-        let rows = DecoderRows::new(alloc, shape, work)?;
-        Ok(Decoder {
-            engine,
-            rows,
-            code: PhantomData,
-        })
-    }
-}
+/// The decoder of a rate.
+pub type Decoder<E, C> = Coder<E, C, DecoderRows>;
 
 impl<E: Engine, C: Code> RateDecoder<E> for Decoder<E, C> {
     ghost use Rattle.rs_rate.specs.ObjectLaws.{is_decoder, has_own_decoder_room};
@@ -117,9 +74,7 @@ impl<E: Engine, C: Code> RateDecoder<E> for Decoder<E, C> {
         recovery_count: usize,
         shard_bytes: usize,
     ) -> Result<(), Error> {
-        let counts = SupportedCounts::<C>::new(original_count, recovery_count)?;
-        let shape = DecoderShape::new(counts, shard_bytes)?;
-        self.rows.reset(shape)
+        self.set_up_anew(original_count, recovery_count, shard_bytes)
     }
 
     fn add_original_shard(&mut self, index: usize, original_shard: &[u8]) -> Result<(), Error> {

@@ -8,10 +8,11 @@ ghost use Rattle.rs_field.specs.code.Counts.{Rate};
 ghost use Rattle.rs_field.specs.code.Decoder.{fresh_decoder, Restored, NoneAgrees};
 ghost use Rattle.rs_field.specs.rows.MarkedRows.{is_marked};
 ghost use Rattle.rs_rate.specs.DecoderRoom.{memory_room};
-ghost use Rattle.rs_rate.specs.DecoderView.{configuration_of, decoder_state, restored_of, restored_from};
+ghost use Rattle.rs_rate.specs.Configured.{configuration_at};
+ghost use Rattle.rs_rate.specs.DecoderView.{decoder_state, restored_of, restored_from};
 ghost use Rattle.rs_rate.specs.Decoding.{CanBeRestored, IsLocatorOf, RestoresShards};
 ghost use Rattle.rs_rate.specs.Marks.{erased, given_marks, restored_marks, WantsMissing};
-ghost use Rattle.rs_rate.specs.SetUp.{IsDecoderOf};
+ghost use Rattle.rs_rate.specs.SetUp.{IsSetUp};
 ghost use Rattle.rs_rate.specs.Shapes.{DecoderCanBeLaid, original_row};
 ghost use Rattle.rs_rate.specs.ShardRows.{chunk_count, shard_laid_out, shard_in_order};
 
@@ -32,8 +33,8 @@ pub(crate) fn decode_rows<E: Engine>(
     rows: &mut DecoderRows,
 ) -> Result<usize, Error>
     requires enough { rows.old.shape.configuration.original_count ≤ rows.old.originals_given + rows.old.recovery_given }
-    ensures state { (rate : Rate) → decoder_state rate rows.new ≡ fresh_decoder (configuration_of rate rows.old.shape) }
-    ensures answer { (rate : Rate) → IsDecoderOf rate rows.old.shape
+    ensures state { (rate : Rate) → decoder_state rate rows.new ≡ fresh_decoder (configuration_at rate rows.old.shape.configuration) }
+    ensures answer { (rate : Rate) → IsSetUp rate rows.old.shape.configuration
         → MatchResult result (λ _. Restored (decoder_state rate rows.old) (restored_of rows.new)) (NoneAgrees (decoder_state rate rows.old)) }
     ensures counted { IfOk result (λ count. count ≡ length (restored_from rows.new 0)) }
     ensures shape { rows.new.shape ≡ rows.old.shape }

@@ -1,19 +1,17 @@
 //! The working space of an encoder: the memory that is handed on, and an encoder's rows in it.
-ghost use Rattle.std.specs.Prelude.{◌≡◌, ℕ, ◌*◌, ◌%◌, ◌^◌, ◌<◌, ◌≤◌, vec_len, Err, IfOk, OnOk, OnErr, IfSome, MatchOption, MatchResult};
+ghost use Rattle.std.specs.Prelude.{◌≡◌, ℕ, ◌*◌, ◌%◌, ◌^◌, ◌<◌, ◌≤◌, vec_len, IfSome, MatchOption};
 ghost use Rattle.std.specs.Vec.{vec_capacity};
 ghost use Rattle.rs_field.specs.code.Column.{IsShard};
 ghost use Rattle.rs_field.specs.code.Counts.{Rate};
 ghost use Rattle.rs_field.specs.code.Outcome.{answer_of, state_after};
-ghost use Rattle.rs_field.specs.code.Configuration.{configuration, validated, UpToMemory};
 ghost use Rattle.rs_field.specs.code.Encoder.{fresh_encoder, with_shard, message_of};
 ghost use Rattle.rs_rate.specs.Shapes.{EncoderCanBeLaid};
-ghost use Rattle.rs_rate.specs.ShardRows.{asked, chunk_count, shard_laid_out, shard_in_order};
+ghost use Rattle.rs_rate.specs.ShardRows.{chunk_count, shard_laid_out, shard_in_order};
 
-use crate::rate::code::Code;
+use crate::rate::coder::CoderRows;
 use crate::rate::configuration::Configuration;
 use crate::rate::memory::{make_room, set_chunks, vec_of};
 use crate::rate::shard_rows::{chunk_count, insert_at, shard_at, shard_is_bytes};
-use crate::rate::supported_counts::SupportedCounts;
 use rs_field::error::Error;
 use std::alloc::Global;
 
@@ -44,22 +42,6 @@ pub struct EncoderRows {
     pub ghost shards: { (i : ℕ) → i < originals_given → IsShard shape.configuration.shard_bytes (shard_laid_out chunks.items shape.configuration.shard_bytes i) },
 }
 
-impl EncoderShape {
-    ghost use Rattle.rs_rate.specs.SetUp.{IsEncoderShape};
-
-    // What an encoder of a rate is set up for at counts that it supports, or the refusal of the size.
-    #[inline(always)]
-    pub(crate) fn new<C: Code>(
-        counts: SupportedCounts<C>,
-        shard_bytes: usize,
-    ) -> Result<EncoderShape, Error>
-        ensures { MatchResult result (IsEncoderShape C.rate counts.original_count counts.recovery_count shard_bytes)
-            (λ e. validated (configuration C.rate counts.original_count counts.recovery_count shard_bytes) ≡ Err e) }
-    {
-        Ok(Configuration::new(counts, shard_bytes)?.encoder_shape())
-    }
-}
-
 impl EncoderWork {
     ghost use Rattle.rs_rate.specs.EncoderView.{work_room};
 
@@ -81,23 +63,44 @@ impl Default for EncoderWork {
     }
 }
 
-impl EncoderRows {
-    ghost use Rattle.rs_rate.specs.EncoderView.{configuration_of, encoder_state, shape_chunks, work_room};
+impl CoderRows for EncoderRows {
+    ghost use Rattle.std.proofs.Common.{le_refl};
+    ghost use Rattle.rs_field.specs.code.Encoder.{EncoderState};
+    ghost use Rattle.rs_field.specs.code.Placement.{encoder_rows};
+    ghost use Rattle.rs_rate.specs.RowsLaws.{some_anyway, encoder_rows_set_up, chunks_within};
+    ghost use Rattle.rs_rate.specs.EncoderView.{encoder_state, work_room};
 
-    // Rows with nothing given, in the memory of `work` where one is passed.
-    pub(crate) fn new(
+    type Work = Option<EncoderWork>;
+
+    ghost State = { EncoderState };
+
+    ghost Room = { ℕ };
+
+    ghost row_count = { encoder_rows };
+
+    ghost configuration_of = { λ x. x.shape.configuration };
+
+    ghost state = { encoder_state };
+
+    ghost fresh = { fresh_encoder };
+
+    ghost room = { λ x. vec_capacity x.chunks };
+
+    ghost has_room = { λ room n size. chunk_count n size ≤ room };
+
+    ghost grows = { λ old new. old ≤ new };
+
+    ghost grows_from = { λ work room. IfSome work (λ w. work_room w ≤ room) };
+
+    ghost where_roomy = { λ work n size answer wanted. IfSome work (λ w. chunk_count n size ≤ work_room w → answer ≡ wanted) };
+
+    fn new(
         alloc: Global,
-        shape: EncoderShape,
+        configuration: Configuration,
         work: Option<EncoderWork>,
-    ) -> Result<EncoderRows, Error>
-        requires { EncoderCanBeLaid shape }
-        ensures shape { IfOk result (λ x. x.shape ≡ shape) }
-        ensures state { IfOk result (λ x. (rate : Rate) → encoder_state rate x ≡ fresh_encoder (configuration_of rate shape)) }
-        ensures answer { UpToMemory (asked (shape_chunks shape)) (answer_of result) }
-        ensures grown { IfOk result (λ x. IfSome work (λ w. work_room w ≤ vec_capacity x.chunks)) }
-        ensures roomy { IfSome work (λ w. shape_chunks shape ≤ work_room w → answer_of result ≡ asked (shape_chunks shape)) }
-    {
-        let count = chunk_count(shape.row_count, shape.configuration.shard_bytes)?;
+    ) -> Result<EncoderRows, Error> {
+        let shape = configuration.encoder_shape();
+        let count = chunk_count(shape.row_count, configuration.shard_bytes)?;
         let mut chunks = match work {
             Some(work) => vec_of(alloc, work.chunks),
             None => Vec::new(alloc),
@@ -111,24 +114,27 @@ impl EncoderRows {
         })
     }
 
-    // The rows of another shape, with nothing given: growth first.
-    pub(crate) fn reset(&mut self, shape: EncoderShape) -> Result<(), Error>
-        requires { EncoderCanBeLaid shape }
-        ensures ok { OnOk result ((rate : Rate) → encoder_state rate self.new ≡ fresh_encoder (configuration_of rate shape)) }
-        ensures err { OnErr result ((rate : Rate) → encoder_state rate self.new ≡ encoder_state rate self.old) }
-        ensures shape { OnOk result (self.new.shape ≡ shape) }
-        ensures same_shape { OnErr result (self.new.shape ≡ self.old.shape) }
-        ensures answer { UpToMemory (asked (shape_chunks shape)) result }
-        ensures grown { vec_capacity self.old.chunks ≤ vec_capacity self.new.chunks }
-        ensures roomy { shape_chunks shape ≤ vec_capacity self.old.chunks → result ≡ asked (shape_chunks shape) }
-    {
-        let count = chunk_count(shape.row_count, shape.configuration.shard_bytes)?;
+    fn reset(&mut self, configuration: Configuration) -> Result<(), Error> {
+        let shape = configuration.encoder_shape();
+        let count = chunk_count(shape.row_count, configuration.shard_bytes)?;
         make_room(&mut self.chunks, count)?;
         self.originals_given = 0;
         set_chunks(&mut self.chunks, count);
         self.shape = shape;
         Ok(())
     }
+
+    ghost stays = { le_refl };
+
+    ghost anyway = { λ work n size answer wanted same. some_anyway work _ (λ w roomy. same) };
+
+    ghost rows_set_up = { encoder_rows_set_up };
+
+    ghost own_room = { λ x size less. chunks_within _ _ size _ _ x.laid.rows less x.sized x.own_room };
+}
+
+impl EncoderRows {
+    ghost use Rattle.rs_rate.specs.EncoderView.{encoder_state};
 
     pub(crate) fn add_original_shard(&mut self, original_shard: &[u8]) -> Result<(), Error>
         ensures answer { (rate : Rate) → result ≡ answer_of (with_shard (encoder_state rate self.old) original_shard.now) }

@@ -5,10 +5,10 @@ ghost use Rattle.rs_field.specs.code.Bounds.{EncodeCountsAt};
 ghost use Rattle.rs_field.specs.code.Code.{AreRecovery};
 ghost use Rattle.rs_field.specs.rows.Layout.{row_len};
 ghost use Rattle.rs_rate.specs.Coding.{CodesWords, CodingCounts};
-ghost use Rattle.rs_rate.specs.Configured.{low_or_high};
-ghost use Rattle.rs_rate.specs.EncoderView.{configuration_of, shape_chunks, given_of, lent_of};
+ghost use Rattle.rs_rate.specs.Configured.{configuration_at, low_or_high};
+ghost use Rattle.rs_rate.specs.EncoderView.{given_of, lent_of};
 ghost use Rattle.rs_rate.specs.Shapes.{EncoderCanBeLaid};
-ghost use Rattle.rs_rate.specs.ShardRows.{word_in};
+ghost use Rattle.rs_rate.specs.ShardRows.{chunk_count, word_in};
 
 use crate::rate::encoder_work::{EncoderRows, EncoderShape};
 use crate::rate::high_encoding::code_high;
@@ -22,7 +22,7 @@ pub(crate) fn encode_rows<E: Engine>(engine: &E, steps: &mut Steps, rows: &mut E
     requires full { rows.old.originals_given ≡ rows.old.shape.configuration.original_count }
     ensures shape { rows.new.shape ≡ rows.old.shape }
     ensures none { rows.new.originals_given ≡ 0 }
-    ensures recovery { AreRecovery (configuration_of (low_or_high rows.old.shape.configuration.is_low) rows.old.shape) (given_of rows.old) (lent_of rows.new) }
+    ensures recovery { AreRecovery (configuration_at (low_or_high rows.old.shape.configuration.is_low) rows.old.shape.configuration) (given_of rows.old) (lent_of rows.new) }
     ensures room { vec_capacity rows.new.chunks ≡ vec_capacity rows.old.chunks }
     ensures counts { let c = rows.old.shape.configuration in EncodeCountsAt (low_or_high c.is_low) c.original_count c.recovery_count steps.old steps.new }
 {
@@ -45,7 +45,7 @@ fn code_chunks<E: Engine>(
     shape: EncoderShape,
 )
     requires laid { EncoderCanBeLaid shape }
-    requires room { shape_chunks shape ≤ length chunks.old }
+    requires room { chunk_count shape.row_count shape.configuration.shard_bytes ≤ length chunks.old }
     ensures words { let c = shape.configuration in let n = row_len c.shard_bytes in (k s : ℕ) → k < n → s < 32
         → CodesWords (low_or_high c.is_low) c.original_count c.recovery_count (word_in chunks.old n k s) (word_in chunks.new n k s) }
     ensures counts { let c = shape.configuration in CodingCounts (low_or_high c.is_low) c.original_count c.recovery_count steps.old steps.new }

@@ -10,6 +10,7 @@ use Rattle.rs_rate.specs.DecoderRoom.{DecoderRoom, HasRoom}
 use Rattle.rs_rate.specs.Decoding.{IsLocatorOf, RestoresShards}
 use Rattle.rs_rate.specs.Marks.{given_marks, restored_marks, WantsMissing}
 use Rattle.rs_rate.specs.ShardRows.{shard_in_order}
+use Rattle.rs_rate.proofs.ConfiguredLemmas.{decoder_shape-is}
 use Rattle.rs_rate.proofs.DecodeAnswer.{AnswersOver, decode_answers, complete_answers, told_answer}
 use Rattle.rs_rate.proofs.DecoderLemmas.{given_row_count-most, hold_nothing, none_told, nothing-given, tally_counts}
 use Rattle.rs_rate.proofs.ResultLemmas.{length-restored}
@@ -68,7 +69,7 @@ returns-clause-answer g c = λ rate is.
     elim (cases_eq (c.tally-tally.result.missing + c.tally-tally.result.surplus) 0) [
       | inl none ↦
           subst (λ b. AnswersOver rate s given marks before chunks b) (sym (c.restore-agrees.ensures.nothing (omega arith) (omega arith)))
-          (complete_answers rate s given marks before chunks is.rows.valid is.shaped old.laid.configured.even old.given.shards
+          (complete_answers rate s given marks before chunks is.valid (decoder_shape-is rate c.args.rows.now.shape is c.args.rows.now.laid) old.laid.configured.even old.given.shards
           (omega (arith, none, most_too, counts.0, counts.1))
           (omega (arith, none, most_too, counts.0, counts.1)) missing.missing)
       | inr some ↦
@@ -76,7 +77,7 @@ returns-clause-answer g c = λ rate is.
           subst (λ (x : DecoderShape). (locator : List ℕ) × IsLocatorOf x.frame given locator
           × RestoresShards x given locator c.tally-tally.result.surplus before chunks c.restore-agrees.result) tally.shape
           (c.restore-agrees.ensures.restored (omega arith)) in
-          decode_answers rate s given marks made.0 c.tally-tally.result.surplus before chunks c.restore-agrees.result is.rows.valid is.shaped
+          decode_answers rate s given marks made.0 c.tally-tally.result.surplus before chunks c.restore-agrees.result is.valid (decoder_shape-is rate c.args.rows.now.shape is c.args.rows.now.laid)
           (record {
             even = old.laid.configured.even;
             placed = old.given.placed;

@@ -1,4 +1,4 @@
-use Rattle.std.proofs.Common.{◌≡◌, ℕ, ◌-◌, List, Bool, refl, sym, ap, ◌∙◌, arith}
+use Rattle.std.proofs.Common.{◌-◌, refl, sym, ◌∙◌, arith}
 use Rattle.rs_field.specs.rows.View.{word}
 use Rattle.rs_rate.proofs.DecoderLemmas.{rows_power}
 use Rattle.rs_rate.proofs.RestoringRows.{from_row_zero, checked_rows}

@@ -6,6 +6,7 @@ use Rattle.rs_rate.proofs.DecoderLemmas.{count-given}
 use Rattle.rs_rate.proofs.DecoderSteps.{enough-least}
 use Rattle.rs_rate.proofs.DecoderRows.{after_decode-refused, after_decode-made, decode_answers-refused, decode_answers-made}
 use Rattle.rs_rate.specs.Marks.{given_marks}
+use Rattle.rs_rate.specs.RowsLaws.{decoder_rows_set_up}
 use Rattle.rs_rate.proofs.rate.rounds.decode_round.Goals as goal
 
 pub returns-in_err-check_enough_given-clause-answer : goal.returns-in_err-check_enough_given-clause-answer
@@ -36,7 +37,7 @@ returns-clause-answer g c =
 
 pub returns-clause-counts : goal.returns-clause-counts
 returns-clause-counts g c =
-    subst (λ (n : ℕ). DecodeCounts n c.args.steps.now c.decode_rows.new.steps) c.args.decoder.now.set_up.rows.count c.decode_rows.ensures.counts
+    subst (λ (n : ℕ). DecodeCounts n c.args.steps.now c.decode_rows.new.steps) (c.args.decoder.now.rows.laid.rows ∙ decoder_rows_set_up g.C.Code.rate c.args.decoder.now.rows.shape.configuration c.args.decoder.now.set_up) c.decode_rows.ensures.counts
 
 pub returns-clause-state : goal.returns-clause-state
 returns-clause-state g c =

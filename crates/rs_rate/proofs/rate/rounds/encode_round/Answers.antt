@@ -4,7 +4,6 @@ use Rattle.rs_field.proofs.of_words.UpTo.{length-up_to}
 use Rattle.rs_field.specs.words.StepBounds.{CountsUpTo}
 use Rattle.rs_rate.specs.Configured.{low_or_high}
 use Rattle.rs_rate.specs.EncoderView.{encoder_state, given_of, lent_of}
-use Rattle.rs_rate.proofs.ConfiguredLemmas.{encoder-alike}
 use Rattle.rs_rate.proofs.EncodeCounting.{steps_alike}
 use Rattle.rs_rate.proofs.RateLemmas.{shards_alike}
 use Rattle.rs_rate.specs.ShardRows.{shard_laid_out}
@@ -33,17 +32,15 @@ returns-clause-answer g c =
     let rows = c.args.encoder.now.rows in
     let own = rows.shape.configuration in
     let state = encoder_state g.C.Code.rate rows in
-    let alike = encoder-alike g.C.Code.rate own.original_count own.recovery_count own.shard_bytes rows.shape c.args.encoder.now.set_up.shaped in
     encode_answers-made state (lent_of c.encode_rows.new.rows) (c.in_ok-check_all_given.ensures g.C.Code.rate)
-    (shards_alike (low_or_high own.is_low) g.C.Code.rate own.original_count own.recovery_count own.shard_bytes (given_of rows) (lent_of c.encode_rows.new.rows) alike
+    (shards_alike (low_or_high own.is_low) g.C.Code.rate own.original_count own.recovery_count own.shard_bytes (given_of rows) (lent_of c.encode_rows.new.rows) c.args.encoder.now.set_up.alike
     c.encode_rows.ensures.recovery)
 
 pub returns-clause-counts : goal.returns-clause-counts
 returns-clause-counts g c =
     let rows = c.args.encoder.now.rows in
     let own = rows.shape.configuration in
-    let alike = encoder-alike g.C.Code.rate own.original_count own.recovery_count own.shard_bytes rows.shape c.args.encoder.now.set_up.shaped in
-    subst (λ (n : ℕ). CountsUpTo n 0 0 c.args.steps.now c.encode_rows.new.steps) (steps_alike (low_or_high own.is_low) g.C.Code.rate own.original_count own.recovery_count alike) c.encode_rows.ensures.counts
+    subst (λ (n : ℕ). CountsUpTo n 0 0 c.args.steps.now c.encode_rows.new.steps) (steps_alike (low_or_high own.is_low) g.C.Code.rate own.original_count own.recovery_count c.args.encoder.now.set_up.alike) c.encode_rows.ensures.counts
 
 pub returns-clause-state : goal.returns-clause-state
 returns-clause-state g c =

@@ -4,8 +4,8 @@ use Rattle.std.proofs.lemmas.Bool.{ne_eqb}
 use Rattle.rs_field.specs.code.Configuration.{configuration, validated}
 use Rattle.rs_rate.specs.declared.rate.configuration.Configuration.{Configuration}
 use Rattle.rs_rate.specs.declared.rate.counts.Choice.{Choice}
-use Rattle.rs_rate.specs.Configured.{IsConfigured}
-use Rattle.rs_rate.proofs.ConfiguredLemmas.{configured-is}
+use Rattle.rs_rate.specs.SetUp.{IsSetUp}
+use Rattle.rs_rate.proofs.ConfiguredLemmas.{chooses_alike, configured-is}
 use Rattle.rs_rate.proofs.rate.configuration.Configuration.new.Goals as goal
 
 pub returns : goal.returns
@@ -16,5 +16,12 @@ returns g c =
     let valid : validated (configuration rate counts.original_count counts.recovery_count size) ≡ Ok tt =
     rw (counts.supported, ne_eqb size 0 c.if-shard_bytes-eq0.false, ne_eqb (size % 2) 1 c.if-shard_bytes-eq1.false) refl in
     let same =
-    ap (λ (x : Choice). let own : Configuration = record { original_count = counts.original_count; recovery_count = counts.recovery_count; shard_bytes = size; is_low = x.is_low; block_rows = x.block_rows } in own) counts.chosen in
-    (valid, same, subst IsConfigured (sym same) (configured-is rate counts.original_count counts.recovery_count size counts.supported (omega (arith, c.if-shard_bytes-eq0.false)) (omega (arith, c.if-shard_bytes-eq1.false))))
+    ap (λ (x : Choice). let own : Configuration = record { original_count = counts.original_count; recovery_count = counts.recovery_count; shard_bytes = size; is_low = x.is_low; block_rows = x.block_rows } in own) counts.chosen in (
+      same,
+      subst (IsSetUp rate) (sym same) (record {
+        valid = valid;
+        chosen = refl;
+        alike = chooses_alike rate counts.original_count counts.recovery_count;
+        configured = configured-is rate counts.original_count counts.recovery_count size counts.supported (omega (arith, c.if-shard_bytes-eq0.false)) (omega (arith, c.if-shard_bytes-eq1.false));
+      }),
+    )

@@ -6,7 +6,8 @@ use Rattle.rs_field.specs.code.Column.{Shard, IsShard}
 use Rattle.rs_field.specs.code.Encoder.{EncoderState}
 use Rattle.rs_field.specs.words.UpTo.{up_to}
 use Rattle.rs_field.specs.rows.Rows.{Chunks}
-use Rattle.rs_rate.specs.EncoderView.{configuration_of, encoder_state}
+use Rattle.rs_rate.specs.Configured.{configuration_at}
+use Rattle.rs_rate.specs.EncoderView.{encoder_state}
 use Rattle.rs_rate.proofs.StateLemmas.{with_shard-added}
 use Rattle.rs_rate.specs.ShardRows.{chunk_count, shard_laid_out}
 use Rattle.rs_rate.proofs.rate.encoder_work.EncoderRows.add_original_shard.Goals as goal
@@ -50,7 +51,7 @@ returns-clause-left c = λ rate.
     let w = c.args.self.now in
     let more = given-more w.chunks.items c.insert_at.new.chunks w.shape.configuration.shard_bytes w.originals_given (length c.args.original_shard.now) c.args.original_shard.now c.if-original_shard-self.false c.insert_at.ensures.here (subst (λ (xs : Chunks). (j : ℕ) → j ≢ w.originals_given → shard_laid_out c.insert_at.new.chunks (length c.args.original_shard.now) j ≡ shard_laid_out xs (length c.args.original_shard.now) j) c.as_mut_slice.ensures.value c.insert_at.ensures.others) in
     let few = length-up_to w.originals_given (shard_laid_out w.chunks.items w.shape.configuration.shard_bytes) in
-    let F : List Shard → EncoderState = λ given. record { configuration = configuration_of rate w.shape; given = given } in
+    let F : List Shard → EncoderState = λ given. record { configuration = configuration_at rate w.shape.configuration; given = given } in
     let room : length (up_to w.originals_given (shard_laid_out w.chunks.items w.shape.configuration.shard_bytes)) < w.shape.configuration.original_count = omega (arith, few, c.if-self.false, w.no_more) in
     ap (λ (xs : Chunks). F (up_to (w.originals_given + 1) (shard_laid_out xs w.shape.configuration.shard_bytes))) (with_items_is w.chunks c.insert_at.new.chunks (omega (arith, c.insert_at.auto.chunks, c.as_mut_slice.ensures.len)))
     ∙ ap F more ∙ sym (with_shard-added (encoder_state rate w) c.args.original_shard.now room c.if-original_shard-self.false)

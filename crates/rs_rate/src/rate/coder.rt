@@ -1,0 +1,147 @@
+//! An object over a rate and its rows. An encoder and a decoder differ in what their rows bring, and in what a round does.
+ghost use Rattle.rs_rate.specs.SetUp.{IsSetUp};
+
+use crate::rate::code::Code;
+use crate::rate::configuration::Configuration;
+use crate::rate::supported_counts::SupportedCounts;
+use rs_field::engine::Engine;
+use rs_field::error::Error;
+use std::alloc::Global;
+use std::marker::PhantomData;
+
+/// What the rows of an object bring: how many they are, the state that they stand for, and the room for them.
+pub trait CoderRows: Sized {
+    ghost use Rattle.std.specs.Prelude.{◌≡◌, ◌*◌, ◌^◌, ◌<◌, ◌≤◌, ℕ, IfOk, OnOk, OnErr};
+    ghost use Rattle.rs_field.specs.code.Configuration.{Configuration as AsDefined, UpToMemory};
+    ghost use Rattle.rs_field.specs.code.Counts.{Rate};
+    ghost use Rattle.rs_field.specs.code.Outcome.{answer_of};
+    ghost use Rattle.rs_rate.specs.declared.rate.configuration.Configuration.{Configuration};
+    ghost use Rattle.rs_rate.specs.Configured.{configuration_at, IsConfigured};
+    ghost use Rattle.rs_rate.specs.SetUp.{Answer, rows_of, asked_for};
+    ghost use Rattle.rs_rate.specs.ShardRows.{chunk_count};
+
+    /// The memory that is handed on from an object before, where there is one.
+    type Work: Drop;
+
+    ghost State: { Type 0 };
+
+    ghost Room: { Type 0 };
+
+    ghost row_count: { Rate → ℕ → ℕ → ℕ };
+
+    ghost configuration_of: { Self → Configuration };
+
+    ghost state: { Rate → Self → State };
+
+    ghost fresh: { AsDefined → State };
+
+    ghost room: { Self → Room };
+
+    ghost has_room: { Room → ℕ → ℕ → Type 0 };
+
+    ghost grows: { Room → Room → Type 0 };
+
+    ghost grows_from: { Self.Work → Room → Type 0 };
+
+    ghost where_roomy: { Self.Work → ℕ → ℕ → Answer → Answer → Type 0 };
+
+    /// Rows with nothing given, in the memory of `work` where one is passed.
+    fn new(alloc: Global, configuration: Configuration, work: Self::Work) -> Result<Self, Error>
+        requires { IsConfigured configuration }
+        ensures configuration { IfOk result (λ x. configuration_of x ≡ configuration) }
+        ensures state { IfOk result (λ x. (rate : Rate) → state rate x ≡ fresh (configuration_at rate configuration)) }
+        ensures answer { UpToMemory (asked_for row_count configuration) (answer_of result) }
+        ensures grown { IfOk result (λ x. grows_from work (room x)) }
+        ensures roomy { where_roomy work (rows_of row_count configuration) configuration.shard_bytes (answer_of result) (asked_for row_count configuration) };
+
+    /// The rows of another configuration, with nothing given: every growth first.
+    fn reset(&mut self, configuration: Configuration) -> Result<(), Error>
+        requires { IsConfigured configuration }
+        ensures ok { OnOk result ((rate : Rate) → state rate self.new ≡ fresh (configuration_at rate configuration)) }
+        ensures err { OnErr result ((rate : Rate) → state rate self.new ≡ state rate self.old) }
+        ensures configuration { OnOk result (configuration_of self.new ≡ configuration) }
+        ensures kept { OnErr result (configuration_of self.new ≡ configuration_of self.old) }
+        ensures answer { UpToMemory (asked_for row_count configuration) result }
+        ensures grown { grows (room self.old) (room self.new) }
+        ensures roomy { has_room (room self.old) (rows_of row_count configuration) configuration.shard_bytes → result ≡ asked_for row_count configuration };
+
+    /// Room that stays is no less.
+    ghost stays: { (room : Room) → grows room room };
+
+    /// What is answered anyway is answered where there is room.
+    ghost anyway: { (work : Self.Work) (n size : ℕ) (answer wanted : Answer) → answer ≡ wanted → where_roomy work n size answer wanted };
+
+    /// What is set up has as many rows as the rate has.
+    ghost rows_set_up: { (rate : Rate) (c : Configuration) → IsSetUp rate c → rows_of row_count c ≡ row_count rate c.original_count c.recovery_count };
+
+    /// There is room for as many rows of no larger a size.
+    ghost own_room: { (x : Self) (size : ℕ) → size ≤ (configuration_of x).shard_bytes → let n = rows_of row_count (configuration_of x) in
+        (chunk_count n size * 64 < 2 ^ 64) × has_room (room x) n size };
+}
+
+/// An object of a rate: an engine, and rows set up for counts that the rate supports.
+#[derive(Drop)]
+pub struct Coder<E: Engine, C: Code, R: CoderRows> {
+    pub(crate) engine: E,
+    pub(crate) rows: R,
+    code: PhantomData<C>,
+    pub ghost set_up: { IsSetUp C.rate (R.configuration_of rows) },
+}
+
+impl<E: Engine, C: Code, R: CoderRows + Drop> Coder<E, C, R> {
+    ghost use Rattle.std.specs.Prelude.{◌≡◌, ◌≢◌, Err, IfOk, OnOk, OnErr};
+    ghost use Rattle.rs_field.specs.code.Configuration.{configuration, started, UpToMemory, FitsWithin};
+    ghost use Rattle.rs_field.specs.code.Outcome.{answer_of};
+    ghost use Rattle.rs_rate.specs.Configured.{configuration_at};
+
+    /// An object with nothing given, at counts that its rate supports. Refused as by `new`, but never for the counts.
+    #[inline(always)]
+    pub fn with_counts(
+        alloc: Global,
+        counts: SupportedCounts<C>,
+        shard_bytes: usize,
+        engine: E,
+        work: R::Work,
+    ) -> Result<Coder<E, C, R>, Error>
+        ensures answer { let c = configuration C.rate counts.original_count counts.recovery_count shard_bytes in
+            UpToMemory (started (R.row_count C.rate c.original_count c.recovery_count) c) (answer_of result) }
+        ensures made { let c = configuration C.rate counts.original_count counts.recovery_count shard_bytes in
+            IfOk result (λ x. (R.state C.rate x.rows ≡ R.fresh c) × (x.engine ≡ engine)) }
+        ensures grown { IfOk result (λ x. R.grows_from work (R.room x.rows)) }
+        ensures roomy { let c = configuration C.rate counts.original_count counts.recovery_count shard_bytes in
+            R.where_roomy work (R.row_count C.rate c.original_count c.recovery_count) shard_bytes
+            (answer_of result) (started (R.row_count C.rate c.original_count c.recovery_count) c) }
+    {
+        let configuration = Configuration::new(counts, shard_bytes)?;
+        let rows = R::new(alloc, configuration, work)?;
+        Ok(Coder {
+            engine,
+            rows,
+            code: PhantomData,
+        })
+    }
+
+    // The object at other counts and another size, with nothing given, or as it was.
+    #[inline(always)]
+    pub(crate) fn set_up_anew(
+        &mut self,
+        original_count: usize,
+        recovery_count: usize,
+        shard_bytes: usize,
+    ) -> Result<(), Error>
+        ensures answer { let c = configuration C.rate original_count recovery_count shard_bytes in
+            UpToMemory (started (R.row_count C.rate original_count recovery_count) c) result }
+        ensures ok { OnOk result (R.state C.rate self.new.rows ≡ R.fresh (configuration C.rate original_count recovery_count shard_bytes)) }
+        ensures err { OnErr result (R.state C.rate self.new.rows ≡ R.state C.rate self.old.rows) }
+        ensures roomy { R.has_room (R.room self.old.rows) (R.row_count C.rate original_count recovery_count) shard_bytes
+            → result ≡ started (R.row_count C.rate original_count recovery_count) (configuration C.rate original_count recovery_count shard_bytes) }
+        ensures own { FitsWithin (configuration_at C.rate (R.configuration_of self.old.rows)) (configuration C.rate original_count recovery_count shard_bytes)
+            → result ≢ Err Error.OutOfMemory }
+        ensures engine { self.new.engine ≡ self.old.engine }
+        ensures grown { R.grows (R.room self.old.rows) (R.room self.new.rows) }
+    {
+        let counts = SupportedCounts::<C>::new(original_count, recovery_count)?;
+        let configuration = Configuration::new(counts, shard_bytes)?;
+        self.rows.reset(configuration)
+    }
+}
