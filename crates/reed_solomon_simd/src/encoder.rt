@@ -57,7 +57,7 @@ impl<'t> ReedSolomonEncoder<'t> {
     /// An encoder with nothing given.
     ///
     /// Refused with `UnsupportedShardCount`, then with `InvalidShardSize` where the size in bytes is zero or odd, then
-    /// with `OutOfMemory` where no memory is found or the working space's size in bytes passes `usize::MAX`.
+    /// with `OutOfMemory` where no memory is found or the rows' size in bytes passes `usize::MAX`.
     ///
     /// ```
     /// // quoted: crates/rs_callers/src/round_trip.rt
@@ -92,7 +92,7 @@ impl<'t> ReedSolomonEncoder<'t> {
     /// the given shards.
     ///
     /// `OutOfMemory` never comes where the rows fit the room that the encoder has: where they are its own and the size
-    /// is not above its own, and where its working space was grown for as much before.
+    /// is not above its own, and where it had room for as much before.
     ///
     /// ```
     /// // quoted: crates/rs_callers/src/plain_callers.rt

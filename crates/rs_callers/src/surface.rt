@@ -150,7 +150,7 @@ pub fn engine_of_kind(tables: &Tables, kind: EngineKind) -> DefaultEngine<'_>
     DefaultEngine::new(tables, kind)
 }
 
-/// Working spaces that hold nothing yet.
+/// Works that hold nothing yet.
 pub fn works() -> (EncoderWork, DecoderWork)
     ensures encoder { encoder_room result.0 ≡ 0 }
     ensures decoder { decoder_room result.1 ≡ record { chunks = 0; rows = 0; entries = 0 } }

@@ -1,32 +1,32 @@
 //! What the actions of a case do.
-use crate::coder::{Coder, Configuration, Object, Parts, Role};
+use crate::level::{Level, Configuration, Object, Parts, Role};
 use crate::kept::{Item, Kept, Way};
 use crate::notation::{counted, digest_of, drawn, points, shard_of, write_items};
 use anyhow::{Context, Result, bail, ensure};
 use reed_solomon_simd::Error;
 use reed_solomon_simd::rate::{DecoderWork, EncoderWork};
 
-/// Does an action of a coder. Answers the text of what comes, empty where nothing does; a refusal is the error.
-pub fn do_action<C: Coder>(coder: &mut C, kept: &mut Kept, action: &str) -> Result<String> {
+/// Does an action of a level. Answers the text of what comes, empty where nothing does; a refusal is the error.
+pub fn do_action<C: Level>(level: &mut C, kept: &mut Kept, action: &str) -> Result<String> {
     let object = object_of(action);
     match name_of(action) {
-        "encoder" | "decoder" => coder.start(object, configuration_of(action)?, &mut kept.parts)?,
-        "reset-encoder" | "reset-decoder" => coder.reset(object, configuration_of(action)?)?,
-        "parts" => coder.take_parts(&mut kept.parts)?,
+        "encoder" | "decoder" => level.start(object, configuration_of(action)?, &mut kept.parts)?,
+        "reset-encoder" | "reset-decoder" => level.reset(object, configuration_of(action)?)?,
+        "parts" => level.take_parts(&mut kept.parts)?,
         "empty-parts" => {
             kept.parts.encoder = Some(EncoderWork::default());
             kept.parts.decoder = Some(DecoderWork::default());
         }
-        "give" => give_from(coder, kept, action, 1)?,
-        "code" | "restore" => return round(coder, kept, action, 1),
-        "encode" | "decode" => return run(coder, kept, object),
+        "give" => give_from(level, kept, action, 1)?,
+        "code" | "restore" => return round(level, kept, action, 1),
+        "encode" | "decode" => return run(level, kept, object),
         "forget" => kept.forgets = true,
-        "encodes" | "decodes" => return repeat_round(coder, kept, action),
-        "makes" => make(coder, kept, action)?,
+        "encodes" | "decodes" => return repeat_round(level, kept, action),
+        "makes" => make(level, kept, action)?,
         "digest" => return digest_of(kept.alloc, kept.recovery.as_slice()),
-        "supports" => check_counts(coder, action, true)?,
-        "excludes" => check_counts(coder, action, false)?,
-        "configure" => configure(coder, configuration_of(action)?)?,
+        "supports" => check_counts(level, action, true)?,
+        "excludes" => check_counts(level, action, false)?,
+        "configure" => configure(level, configuration_of(action)?)?,
         _ => bail!("no such action"),
     }
     Ok(String::new(kept.alloc))
@@ -65,33 +65,33 @@ fn slice_of<'a>(items: &'a [Item], range: &str) -> Result<&'a [Item]> {
 }
 
 // Gives the shards of the action's words from so many on.
-fn give_from<C: Coder>(coder: &mut C, kept: &Kept, action: &str, from: usize) -> Result<()> {
+fn give_from<C: Level>(level: &mut C, kept: &Kept, action: &str, from: usize) -> Result<()> {
     for word in action.split_whitespace().skip(from) {
-        give_word(coder, kept, word)?;
+        give_word(level, kept, word)?;
     }
     Ok(())
 }
 
 // Gives the shards of a word: those of the encoder, or those of the decoder behind `o` or `r`. The rest tells them:
 // I=SHARD, or SHARD alone; @A..B, shards of the message or of those that came last; or `end`.
-fn give_word<C: Coder>(coder: &mut C, kept: &Kept, word: &str) -> Result<()> {
+fn give_word<C: Level>(level: &mut C, kept: &Kept, word: &str) -> Result<()> {
     let (role, rest) = match (word.strip_prefix('o'), word.strip_prefix('r')) {
         (Some(rest), _) => (Role::Original, rest),
         (_, Some(rest)) => (Role::Recovery, rest),
         _ => (Role::Next, word),
     };
     if rest == "end" {
-        return Ok(coder.end_once(role)?);
+        return Ok(level.end_once(role)?);
     }
     if let Some(range) = rest.strip_prefix('@') {
         let shards = match role {
             Role::Recovery => kept.recovery.as_slice(),
             Role::Next | Role::Original => kept.message.as_slice(),
         };
-        return give_items(coder, role, slice_of(shards, range)?);
+        return give_items(level, role, slice_of(shards, range)?);
     }
     let (index, shard) = item_of(kept, rest, 0)?;
-    Ok(coder.give(role, index, shard.as_slice())?)
+    Ok(level.give(role, index, shard.as_slice())?)
 }
 
 // The shard of a word I=SHARD; of SHARD alone it has this index.
@@ -102,23 +102,23 @@ fn item_of(kept: &Kept, word: &str, index: usize) -> Result<Item> {
     })
 }
 
-fn give_items<C: Coder>(coder: &mut C, role: Role, items: &[Item]) -> Result<()> {
+fn give_items<C: Level>(level: &mut C, role: Role, items: &[Item]) -> Result<()> {
     for (index, shard) in items {
-        coder.give(role, *index, shard.as_slice())?;
+        level.give(role, *index, shard.as_slice())?;
     }
     Ok(())
 }
 
 // Encodes or decodes what was given.
-fn run<C: Coder>(coder: &mut C, kept: &mut Kept, object: Object) -> Result<String> {
+fn run<C: Level>(level: &mut C, kept: &mut Kept, object: Object) -> Result<String> {
     let mut text = String::new(kept.alloc);
     match object {
         Object::Encoder => {
-            coder.encode(kept)?;
+            level.encode(kept)?;
             write_items(kept.alloc, &mut text, kept.recovery.as_slice())?;
         }
         Object::Decoder => {
-            coder.decode(kept)?;
+            level.decode(kept)?;
             write_items(kept.alloc, &mut text, kept.restored.as_slice())?;
         }
     }
@@ -127,39 +127,39 @@ fn run<C: Coder>(coder: &mut C, kept: &mut Kept, object: Object) -> Result<Strin
 }
 
 // Gives the shards of the action's words from so many on, and encodes or decodes.
-fn round<C: Coder>(coder: &mut C, kept: &mut Kept, action: &str, from: usize) -> Result<String> {
-    give_from(coder, kept, action, from)?;
-    run(coder, kept, object_of(action))
+fn round<C: Level>(level: &mut C, kept: &mut Kept, action: &str, from: usize) -> Result<String> {
+    give_from(level, kept, action, from)?;
+    run(level, kept, object_of(action))
 }
 
 // Gets the object that the action is about in the way that the cases are run in.
-fn obtain<C: Coder>(coder: &mut C, kept: &mut Kept, action: &str) -> Result<()> {
+fn obtain<C: Level>(level: &mut C, kept: &mut Kept, action: &str) -> Result<()> {
     let (object, configuration) = (object_of(action), configuration_of(action)?);
     match kept.way {
-        Way::New => coder.start(object, configuration, &mut Parts::default())?,
-        Way::Reset => coder.reset(object, configuration)?,
+        Way::New => level.start(object, configuration, &mut Parts::default())?,
+        Way::Reset => level.reset(object, configuration)?,
         Way::HandedOn => {
-            coder.take_parts(&mut kept.parts)?;
-            coder.start(object, configuration, &mut kept.parts)?;
+            level.take_parts(&mut kept.parts)?;
+            level.start(object, configuration, &mut kept.parts)?;
         }
     }
     Ok(())
 }
 
 // The object does the round twice, and is left with the first shard given.
-fn repeat_round<C: Coder>(coder: &mut C, kept: &mut Kept, action: &str) -> Result<String> {
-    obtain(coder, kept, action)?;
-    let first = round(coder, kept, action, 4)?;
-    let second = round(coder, kept, action, 4)?;
+fn repeat_round<C: Level>(level: &mut C, kept: &mut Kept, action: &str) -> Result<String> {
+    obtain(level, kept, action)?;
+    let first = round(level, kept, action, 4)?;
+    let second = round(level, kept, action, 4)?;
     ensure!(first.as_str() == second.as_str(), "then {second}");
     if let Some(word) = action.split_whitespace().nth(4) {
-        give_word(coder, kept, word)?;
+        give_word(level, kept, word)?;
     }
     Ok(first)
 }
 
 // Encodes a message that a rule makes; both are kept.
-fn make<C: Coder>(coder: &mut C, kept: &mut Kept, action: &str) -> Result<()> {
+fn make<C: Level>(level: &mut C, kept: &mut Kept, action: &str) -> Result<()> {
     let (k, _, size) = configuration_of(action)?;
     let mut words = action.split_whitespace().skip(4);
     kept.message = match words.next().unwrap_or("") {
@@ -171,15 +171,15 @@ fn make<C: Coder>(coder: &mut C, kept: &mut Kept, action: &str) -> Result<()> {
         "points" => points(kept.alloc, k, number(words.next())?)?,
         _ => bail!("no such rule"),
     };
-    obtain(coder, kept, action)?;
-    give_items(coder, Role::Next, kept.message.as_slice())?;
-    coder.encode(kept)?;
+    obtain(level, kept, action)?;
+    give_items(level, Role::Next, kept.message.as_slice())?;
+    level.encode(kept)?;
     ensure!(kept.agrees, "the result differs by index, walk and counts");
     Ok(())
 }
 
 // All pairs K+R of the action are supported, or none is.
-fn check_counts<C: Coder>(coder: &C, action: &str, supported: bool) -> Result<()> {
+fn check_counts<C: Level>(level: &C, action: &str, supported: bool) -> Result<()> {
     for pair in action.split_whitespace().skip(1) {
         let (k, r) = pair.split_once('+').context("a pair is K+R")?;
         let (original_count, recovery_count) = (k.parse::<usize>()?, r.parse::<usize>()?);
@@ -188,25 +188,25 @@ fn check_counts<C: Coder>(coder: &C, action: &str, supported: bool) -> Result<()
             recovery_count,
         };
         let answer = if supported { Ok(()) } else { Err(unsupported) };
-        let told = coder.tells((original_count, recovery_count, 64), answer);
+        let told = level.tells((original_count, recovery_count, 64), answer);
         ensure!(told, "not {pair}");
     }
     Ok(())
 }
 
 // Every call that takes a configuration refuses it alike, which leaves the objects.
-fn configure<C: Coder>(coder: &mut C, configuration: Configuration) -> Result<()> {
+fn configure<C: Level>(level: &mut C, configuration: Configuration) -> Result<()> {
     let mut parts = Parts::default();
-    let answer = coder.start(Object::Encoder, configuration, &mut parts);
+    let answer = level.start(Object::Encoder, configuration, &mut parts);
     for other in [
-        coder.start(Object::Decoder, configuration, &mut parts),
-        coder.reset(Object::Encoder, configuration),
-        coder.reset(Object::Decoder, configuration),
+        level.start(Object::Decoder, configuration, &mut parts),
+        level.reset(Object::Encoder, configuration),
+        level.reset(Object::Decoder, configuration),
     ] {
         ensure!(other == answer, "{other:?} and {answer:?}");
     }
     ensure!(answer.is_err(), "not refused");
-    ensure!(coder.tells(configuration, answer), "not so by other calls");
+    ensure!(level.tells(configuration, answer), "not so by other calls");
     Ok(answer?)
 }
 

@@ -1,16 +1,16 @@
 //! Files of cases, and how they are run.
 use crate::actions::text_of_expected;
-use crate::coders::Coders;
+use crate::levels::Levels;
 use crate::kept::{Kept, Way};
 use anyhow::{Context, Result, bail};
 use reed_solomon_simd::engine::Engine;
 use std::alloc::Global;
 
-/// Actions that follow one another, and the coders that they are run by.
+/// Actions that follow one another, and the levels that they are run by.
 #[derive(Drop)]
 struct Case<'a> {
     line: usize,
-    coders: &'a str,
+    levels: &'a str,
     actions: Vec<&'a str>,
 }
 
@@ -47,7 +47,7 @@ impl<'a> CaseFile<'a> {
         Ok(file)
     }
 
-    // A line is empty, a comment, a setting of the file, a case's first action behind its coders, or a further action.
+    // A line is empty, a comment, a setting of the file, a case's first action behind its levels, or a further action.
     fn read_line(&mut self, alloc: Global, index: usize, line: &'a str) -> Result<()> {
         if line.is_empty() || line.starts_with('#') {
             return Ok(());
@@ -56,10 +56,10 @@ impl<'a> CaseFile<'a> {
             self.ways = ways;
         } else if line == "every engine" {
             self.every_engine = true;
-        } else if let Some((coders, action)) = line.split_once(" | ") {
+        } else if let Some((levels, action)) = line.split_once(" | ") {
             self.cases.push(Case {
                 line: index.saturating_add(1),
-                coders,
+                levels,
                 actions: vec![in alloc; action]?,
             })?;
         } else {
@@ -69,7 +69,7 @@ impl<'a> CaseFile<'a> {
         Ok(())
     }
 
-    // Writes how many cases each coder of these names runs.
+    // Writes how many cases each level of these names runs.
     fn write_counts(&self, names: &[&str], report: &mut Report) -> Result<()> {
         for name in names {
             let count = self.cases.iter().filter(|case| case.is_by(name)).count();
@@ -80,14 +80,14 @@ impl<'a> CaseFile<'a> {
 }
 
 impl Case<'_> {
-    // Whether the case is run by the coder of this name.
+    // Whether the case is run by the level of this name.
     fn is_by(&self, name: &str) -> bool {
-        self.coders.split_whitespace().any(|own| own == name)
+        self.levels.split_whitespace().any(|own| own == name)
     }
 }
 
-impl<E: Engine + Copy> Coders<'_, E> {
-    /// Runs the cases of a file, in each of its ways, and tells how many of them each coder runs.
+impl<E: Engine + Copy> Levels<'_, E> {
+    /// Runs the cases of a file, in each of its ways, and tells how many of them each level runs.
     pub fn run(&mut self, file: &CaseFile<'_>, engine: &str, report: &mut Report) -> Result<()> {
         for name in file.ways.split_whitespace() {
             self.run_in(way_of(name)?, file, report)?;
@@ -106,7 +106,7 @@ impl<E: Engine + Copy> Coders<'_, E> {
         Ok(())
     }
 
-    // Runs the case by each of its coders that is among these.
+    // Runs the case by each of its levels that is among these.
     fn run_case(&mut self, way: Way, case: &Case<'_>, report: &mut Report) -> Result<()> {
         for name in self.names {
             if case.is_by(name) {
@@ -116,15 +116,15 @@ impl<E: Engine + Copy> Coders<'_, E> {
         Ok(())
     }
 
-    // Runs the actions by a coder; an action `by CODER` has the next ones run by another. Where one is refused for want of
+    // Runs the actions by a level; an action `by LEVEL` has the next ones run by another. Where one is refused for want of
     // memory, the case ends with the actions `else` behind it, which are left out otherwise.
     fn run_by(&mut self, name: &str, way: Way, case: &Case<'_>, report: &mut Report) -> Result<()> {
         let mut kept = Kept::new(self.alloc, way);
-        let mut coder = name;
+        let mut level = name;
         let mut lacking = false;
         for action in &case.actions {
             if let Some(next) = action.strip_prefix("by ") {
-                coder = next;
+                level = next;
                 continue;
             }
             let action = match (lacking, action.strip_prefix("else ")) {
@@ -133,11 +133,11 @@ impl<E: Engine + Copy> Coders<'_, E> {
                 (_, other) => other.unwrap_or(*action),
             };
             let (action, expected) = action.split_once("->").unwrap_or((action, ""));
-            let answer = self.answer_by(coder, &mut kept, action)?;
+            let answer = self.answer_by(level, &mut kept, action)?;
             if !is_expected(&kept, answer.as_str(), expected.trim()) {
                 lacking = lacking || answer.as_str() == "out of memory";
                 let line = case.line;
-                writeln!(report.text, "{line}, {coder}, {way:?}: {action}->{answer}")?;
+                writeln!(report.text, "{line}, {level}, {way:?}: {action}->{answer}")?;
                 report.differing = report.differing.saturating_add(1);
             }
         }

@@ -1,5 +1,5 @@
 //! What a case keeps from action to action.
-use crate::coder::{Answer, Parts};
+use crate::level::{Answer, Parts};
 use crate::watch::Watch;
 use reed_solomon_simd::{DecoderResult, EncoderResult};
 use std::alloc::Global;

@@ -7,8 +7,8 @@
 
 mod actions;
 mod cases;
-mod coder;
-mod coders;
+mod level;
+mod levels;
 mod kept;
 mod notation;
 mod one_call;
@@ -18,7 +18,7 @@ mod watch;
 
 use anyhow::{Result, ensure};
 use cases::{CaseFile, Report};
-use coders::{CODERS, Coders, RATES};
+use levels::{LEVELS, Levels, RATES};
 use reed_solomon_simd::engine::tables::Tables;
 use reed_solomon_simd::engine::{Avx2, DefaultEngine, Engine, EngineKind, Naive, NoSimd, Ssse3};
 use std::alloc::Global;
@@ -39,7 +39,7 @@ fn run_over_kinds(
         (EngineKind::Ssse3, "ssse3"),
     ] {
         let engine = DefaultEngine::new(tables, kind);
-        Coders::new(alloc, engine, engine, CODERS)?.run(file, name, report)?;
+        Levels::new(alloc, engine, engine, LEVELS)?.run(file, name, report)?;
         if !file.every_engine {
             break;
         }
@@ -57,7 +57,7 @@ fn run_over<E: Engine + Copy>(
     report: &mut Report,
 ) -> Result<()> {
     let idle = DefaultEngine::new(tables, EngineKind::Naive);
-    Coders::new(alloc, engine, idle, RATES)?.run(file, name, report)
+    Levels::new(alloc, engine, idle, RATES)?.run(file, name, report)
 }
 
 // Runs a file's cases over each engine's own type.

@@ -1,5 +1,5 @@
 //! The one-call functions: what was given is handed over when the call is made.
-use crate::coder::{Answer, Coder, Configuration, Object, Parts, Role};
+use crate::level::{Answer, Level, Configuration, Object, Parts, Role};
 use crate::kept::{Item, Kept};
 use crate::watch::Watch;
 use reed_solomon_simd::engine::DefaultEngine;
@@ -41,7 +41,7 @@ impl<'t> OneCall<'t> {
     }
 }
 
-impl Coder for OneCall<'_> {
+impl Level for OneCall<'_> {
     fn start(
         &mut self,
         object: Object,

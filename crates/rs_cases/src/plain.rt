@@ -1,5 +1,5 @@
 //! The plain objects.
-use crate::coder::{Answer, Coder, Configuration, Object, Parts, Role};
+use crate::level::{Answer, Level, Configuration, Object, Parts, Role};
 use crate::kept::Kept;
 use crate::watch::Watch;
 use reed_solomon_simd::engine::DefaultEngine;
@@ -27,7 +27,7 @@ impl<'t> Plain<'t> {
     }
 }
 
-impl Coder for Plain<'_> {
+impl Level for Plain<'_> {
     fn start(&mut self, object: Object, (k, r, size): Configuration, _parts: &mut Parts) -> Answer {
         let (alloc, engine) = (self.alloc, self.engine);
         let _watch = Watch::new(alloc);

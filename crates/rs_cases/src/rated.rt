@@ -1,5 +1,5 @@
 //! The objects of a rate over an engine.
-use crate::coder::{Answer, Coder, Configuration, Object, Parts, Role};
+use crate::level::{Answer, Level, Configuration, Object, Parts, Role};
 use crate::kept::Kept;
 use crate::watch::Watch;
 use reed_solomon_simd::Error;
@@ -29,7 +29,7 @@ impl<E: Engine + Copy, R: Rate<E>> Rated<E, R> {
     }
 }
 
-impl<E: Engine + Copy, R: Rate<E>> Coder for Rated<E, R> {
+impl<E: Engine + Copy, R: Rate<E>> Level for Rated<E, R> {
     fn start(&mut self, object: Object, (k, r, size): Configuration, parts: &mut Parts) -> Answer {
         let _watch = Watch::new(self.alloc);
         match object {

@@ -1,4 +1,4 @@
-//! The field of 65536 elements, its tables, the rows of a working space, and the plain engine.
+//! The field of 65536 elements, its tables, rows, and the plain engine.
 #![tactic(auto)]
 
 mod code;

@@ -24,7 +24,6 @@ pub chunk_count-more : (m n size : ℕ) → m ≤ n → chunk_count m size ≤ c
 unfolding chunk_count
 chunk_count-more m n size h = mul-le-mul_right (row_len size) h
 
--- the chunks up to one row's end
 -- rows whose bytes are a `usize` are as few
 pub count-few : (n size : ℕ) → 0 < size → chunk_count n size * 64 < 2 ^ 64 → n < 2 ^ 64
 unfolding chunk_count
@@ -33,6 +32,7 @@ count-few n size some fits =
     let more = mul-le-mul_left n longer in
     omega (arith, more, fits)
 
+-- the chunks up to one row's end
 pub row_end : (i size : ℕ) → chunk_count (i + 1) size ≡ i * row_len size + row_len size
 unfolding chunk_count
 row_end i size = omega arith

@@ -10,7 +10,7 @@ use Rattle.rs_rate.specs.ShardRows.{chunk_count}
 abbrev pub shape_chunks : DecoderShape → ℕ
 shape_chunks shape = chunk_count shape.frame.row_count shape.configuration.shard_bytes
 
--- the room that a working space has: for chunks, for the marks of rows, and for the locator's entries at the rows
+-- the room that a work has: for chunks, for the marks of rows, and for the locator's entries at the rows
 pub record DecoderRoom : Type 0 where
   pub chunks : ℕ
   pub rows : ℕ

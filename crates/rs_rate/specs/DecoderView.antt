@@ -1,4 +1,4 @@
--- What a decoder's rows and working space stand for.
+-- What a decoder's rows and work stand for.
 use Rattle.std.specs.Prelude.{◌-◌, ℕ, Bool, List}
 use Rattle.rs_field.specs.code.Column.{Shard}
 use Rattle.rs_field.specs.code.Counts.{Rate}

@@ -1,4 +1,4 @@
--- What an encoder's rows and working space stand for.
+-- What an encoder's rows and work stand for.
 use Rattle.std.specs.Prelude.{ℕ, List}
 use Rattle.rs_field.specs.code.Column.{Shard}
 use Rattle.rs_field.specs.code.Counts.{Rate}
@@ -22,6 +22,6 @@ encoder_state rate rows = record { configuration = configuration_at rate rows.sh
 abbrev pub lent_of : EncoderRows → List Shard
 lent_of rows = up_to rows.shape.configuration.recovery_count (shard_in_order rows.chunks.items rows.shape.configuration.shard_bytes)
 
--- the chunks that there is room for in a working space
+-- the chunks that there is room for in a work
 abbrev pub work_room : EncoderWork → ℕ
 work_room work = room_of work.chunks

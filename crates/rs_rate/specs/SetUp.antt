@@ -22,6 +22,6 @@ rows_of row_count c = row_count (low_or_high c.is_low) c.original_count c.recove
 abbrev pub Answer : Type 0
 Answer = Result (Unit {0}) Error
 
--- what asking for memory for them answers
+-- what asking for memory for the rows of a configuration answers
 abbrev pub asked_for : (Rate → ℕ → ℕ → ℕ) → Configuration → Answer
 asked_for row_count c = asked (chunk_count (rows_of row_count c) c.shard_bytes)

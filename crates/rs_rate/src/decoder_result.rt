@@ -8,7 +8,7 @@ use crate::rate::decoder_work::DecoderRows;
 use std::iter::FusedIterator;
 use std::marker::Model;
 
-/// The originals that `decode` restored. They are lent from the working space, without copying.
+/// The originals that `decode` restored. They are lent from the rows, without copying.
 #[derive(Drop)]
 pub struct DecoderResult<'a> {
     rows: &'a DecoderRows,
@@ -54,7 +54,7 @@ impl<'a> DecoderResult<'a> {
 }
 
 /// The restored originals of a round that are still to come, with their indexes, in order of index. They are lent from
-/// the working space.
+/// the rows.
 #[derive(Drop)]
 pub struct RestoredOriginal<'a> {
     rows: &'a DecoderRows,

@@ -7,7 +7,7 @@ use crate::rate::encoder_work::EncoderRows;
 use std::iter::FusedIterator;
 use std::marker::Model;
 
-/// The recovery shards that `encode` made. They are lent from the working space, without copying.
+/// The recovery shards that `encode` made. They are lent from the rows, without copying.
 #[derive(Drop)]
 pub struct EncoderResult<'a> {
     rows: &'a EncoderRows,
@@ -45,7 +45,7 @@ impl<'a> EncoderResult<'a> {
     }
 }
 
-/// The recovery shards of a round that are still to come, in order of index. They are lent from the working space.
+/// The recovery shards of a round that are still to come, in order of index. They are lent from the rows.
 #[derive(Drop)]
 pub struct Recovery<'a> {
     rows: &'a EncoderRows,

@@ -1,4 +1,4 @@
-//! Rates of the code: their encoders, decoders, working spaces and results.
+//! Rates of the code: their encoders, decoders, works and results.
 #![tactic(auto)]
 
 mod decoder_result;

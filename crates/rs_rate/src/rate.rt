@@ -176,7 +176,7 @@ pub trait RateEncoder<E: Engine>: Sized {
 
     /// An encoder with nothing given, over the rows of `work` where one is passed.
     ///
-    /// Refused as by `validate`, then with `OutOfMemory` where no memory is found or the working space's size in bytes
+    /// Refused as by `validate`, then with `OutOfMemory` where no memory is found or the rows' size in bytes
     /// passes `usize::MAX`. A refusal drops the engine and the work.
     fn new(
         alloc: Global,
@@ -197,7 +197,7 @@ pub trait RateEncoder<E: Engine>: Sized {
     /// the given shards.
     ///
     /// `OutOfMemory` never comes where the rows fit the room that the encoder has: where they are its own and the size
-    /// is not above its own, and where its working space was grown for as much before.
+    /// is not above its own, and where it had room for as much before.
     fn reset(
         &mut self,
         original_count: usize,
@@ -294,7 +294,7 @@ pub trait RateDecoder<E: Engine>: Sized {
 
     /// A decoder with nothing given, over the rows of `work` where one is passed.
     ///
-    /// Refused as by `validate`, then with `OutOfMemory` where no memory is found or the working space's size in bytes
+    /// Refused as by `validate`, then with `OutOfMemory` where no memory is found or the rows' size in bytes
     /// passes `usize::MAX`. A refusal drops the engine and the work.
     fn new(
         alloc: Global,
@@ -315,7 +315,7 @@ pub trait RateDecoder<E: Engine>: Sized {
     /// the given shards.
     ///
     /// `OutOfMemory` never comes where the rows fit the room that the decoder has: where they are its own and the size
-    /// is not above its own, and where its working space was grown for as much before.
+    /// is not above its own, and where it had room for as much before.
     fn reset(
         &mut self,
         original_count: usize,

@@ -57,7 +57,7 @@ pub enum Error {
         original_count: usize,
         recovery_count: usize,
     },
-    /// No memory was found, or the working space's size in bytes passes `usize::MAX`.
+    /// No memory was found, or the rows' size in bytes passes `usize::MAX`.
     OutOfMemory,
 }
 

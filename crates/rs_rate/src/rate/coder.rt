@@ -23,26 +23,37 @@ pub trait CoderRows: Sized {
     /// The memory that is handed on from an object before, where there is one.
     type Work: Drop;
 
+    /// What rows can stand for.
     ghost State: { Type 0 };
 
+    /// How much there is memory for.
     ghost Room: { Type 0 };
 
+    /// How many rows a rate has at counts of originals and of recovery shards.
     ghost row_count: { Rate → ℕ → ℕ → ℕ };
 
+    /// What rows are set up for.
     ghost configuration_of: { Self → Configuration };
 
+    /// What rows stand for at a rate.
     ghost state: { Rate → Self → State };
 
+    /// The state of a configuration with nothing given.
     ghost fresh: { AsDefined → State };
 
+    /// The room that rows have.
     ghost room: { Self → Room };
 
+    /// There is room for so many rows of shards of a size.
     ghost has_room: { Room → ℕ → ℕ → Type 0 };
 
+    /// The second room is no less than the first.
     ghost grows: { Room → Room → Type 0 };
 
+    /// The room is no less than that of the work, where one is passed.
     ghost grows_from: { Self.Work → Room → Type 0 };
 
+    /// Where a work is passed that has room for so many rows of a size, the answer is the wanted one.
     ghost where_roomy: { Self.Work → ℕ → ℕ → Answer → Answer → Type 0 };
 
     /// Rows with nothing given, in the memory of `work` where one is passed.
@@ -54,7 +65,8 @@ pub trait CoderRows: Sized {
         ensures grown { IfOk result (λ x. grows_from work (room x)) }
         ensures roomy { where_roomy work (rows_of row_count configuration) configuration.shard_bytes (answer_of result) (asked_for row_count configuration) };
 
-    /// The rows of another configuration, with nothing given: every growth first.
+    /// The rows of another configuration, with nothing given: every growth first, so that a refusal leaves what was set up
+    /// and given.
     fn reset(&mut self, configuration: Configuration) -> Result<(), Error>
         requires { IsConfigured configuration }
         ensures ok { OnOk result ((rate : Rate) → state rate self.new ≡ fresh (configuration_at rate configuration)) }
@@ -94,7 +106,8 @@ impl<E: Engine, C: Code, R: CoderRows + Drop> Coder<E, C, R> {
     ghost use Rattle.rs_field.specs.code.Outcome.{answer_of};
     ghost use Rattle.rs_rate.specs.Configured.{configuration_at};
 
-    /// An object with nothing given, at counts that its rate supports. Refused as by `new`, but never for the counts.
+    /// An object with nothing given, at counts that its rate supports, over the memory of `work` where one is passed.
+    /// Refused as by `new`, but never for the counts.
     #[inline(always)]
     pub fn with_counts(
         alloc: Global,
@@ -140,8 +153,7 @@ impl<E: Engine, C: Code, R: CoderRows + Drop> Coder<E, C, R> {
         ensures engine { self.new.engine ≡ self.old.engine }
         ensures grown { R.grows (R.room self.old.rows) (R.room self.new.rows) }
     {
-        let counts = SupportedCounts::<C>::new(original_count, recovery_count)?;
-        let configuration = Configuration::new(counts, shard_bytes)?;
+        let configuration = Configuration::at::<C>(original_count, recovery_count, shard_bytes)?;
         self.rows.reset(configuration)
     }
 }

@@ -46,6 +46,20 @@ impl Configuration {
         })
     }
 
+    // The configuration of a rate at counts and a size, or the first refusal.
+    #[inline(always)]
+    pub(crate) fn at<C: Code>(
+        original_count: usize,
+        recovery_count: usize,
+        shard_bytes: usize,
+    ) -> Result<Configuration, Error>
+        ensures { MatchResult result (λ c. (c ≡ configured C.rate original_count recovery_count shard_bytes) × IsSetUp C.rate c)
+            (λ e. validated (configuration C.rate original_count recovery_count shard_bytes) ≡ Err e) }
+    {
+        let counts = SupportedCounts::<C>::new(original_count, recovery_count)?;
+        Configuration::new(counts, shard_bytes)
+    }
+
     // What an encoder is set up for: rows for the recovery shards at the low rate, else for the originals, in whole blocks.
     pub(crate) fn encoder_shape(self) -> EncoderShape
         requires { IsConfigured self }

@@ -1,4 +1,4 @@
-//! The working space of a decoder: the memory that is handed on, and a decoder's rows in it.
+//! A decoder's work, the memory that is handed on, and its rows in it.
 ghost use Rattle.std.specs.Prelude.{◌≡◌, ◌≢◌, ℕ, ◌+◌, ◌*◌, ◌%◌, ◌^◌, ◌<◌, ◌≤◌, true, false, length, vec_len};
 ghost use Rattle.std.specs.Prelude.{IfOk, IfErr, IfSome, OnOk, OnErr, IsOk, MatchOption, [], ◌∷◌, option_copied};
 ghost use Rattle.std.specs.Vec.{vec_capacity};
@@ -81,7 +81,7 @@ impl DecoderShape {
 impl DecoderWork {
     ghost use Rattle.rs_rate.specs.DecoderRoom.{work_room};
 
-    /// A working space that took no memory yet.
+    /// A work that took no memory yet.
     pub fn new() -> DecoderWork
         ensures { work_room result ≡ record { chunks = 0; rows = 0; entries = 0 } }
     {
@@ -159,7 +159,7 @@ impl DecoderMemory {
     }
 
     // Makes room for so many chunks and rows; nothing else changes.
-    fn make_room(&mut self, chunks: usize, rows: usize) -> Result<(), Error>
+    fn grow(&mut self, chunks: usize, rows: usize) -> Result<(), Error>
         ensures kept { (self.new.chunks.items ≡ self.old.chunks.items) × (self.new.marks.rows.items ≡ self.old.marks.rows.items)
             × (self.new.marks.shards ≡ self.old.marks.shards) × (self.new.entries.items ≡ self.old.entries.items) }
         ensures room { OnOk result ((chunks ≤ vec_capacity self.new.chunks) × (rows ≤ vec_capacity self.new.marks.rows) × (rows ≤ vec_capacity self.new.entries)) }
@@ -185,7 +185,7 @@ impl DecoderMemory {
     {
         let rows = shape.frame.row_count;
         let chunks = chunk_count(rows, shape.configuration.shard_bytes)?;
-        self.make_room(chunks, rows)?;
+        self.grow(chunks, rows)?;
         set_chunks(&mut self.chunks, chunks);
         self.marks.set_empty(rows);
         set_length(&mut self.entries, rows, 0);

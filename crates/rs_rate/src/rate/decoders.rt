@@ -49,10 +49,7 @@ impl<E: Engine, C: Code> RateDecoder<E> for Decoder<E, C> {
         recovery_count: usize,
         shard_bytes: usize,
     ) -> Result<(), Error> {
-        Configuration::new(
-            SupportedCounts::<C>::new(original_count, recovery_count)?,
-            shard_bytes,
-        )?;
+        Configuration::at::<C>(original_count, recovery_count, shard_bytes)?;
         Ok(())
     }
 

@@ -1,4 +1,4 @@
-//! The working space of an encoder: the memory that is handed on, and an encoder's rows in it.
+//! An encoder's work, the memory that is handed on, and its rows in it.
 ghost use Rattle.std.specs.Prelude.{◌≡◌, ℕ, ◌*◌, ◌%◌, ◌^◌, ◌<◌, ◌≤◌, vec_len, IfSome, MatchOption};
 ghost use Rattle.std.specs.Vec.{vec_capacity};
 ghost use Rattle.rs_field.specs.code.Column.{IsShard};
@@ -45,7 +45,7 @@ pub struct EncoderRows {
 impl EncoderWork {
     ghost use Rattle.rs_rate.specs.EncoderView.{work_room};
 
-    /// A working space that took no memory yet.
+    /// A work that took no memory yet.
     pub fn new() -> EncoderWork
         ensures { work_room result ≡ 0 }
     {

@@ -48,10 +48,7 @@ impl<E: Engine, C: Code> RateEncoder<E> for Encoder<E, C> {
         recovery_count: usize,
         shard_bytes: usize,
     ) -> Result<(), Error> {
-        Configuration::new(
-            SupportedCounts::<C>::new(original_count, recovery_count)?,
-            shard_bytes,
-        )?;
+        Configuration::at::<C>(original_count, recovery_count, shard_bytes)?;
         Ok(())
     }
 

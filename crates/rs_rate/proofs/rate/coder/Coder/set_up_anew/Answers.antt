@@ -4,16 +4,12 @@ use Rattle.rs_rate.proofs.ConfiguredLemmas.{is_asked, either_way}
 use Rattle.rs_rate.proofs.StateLemmas.{asked-made, on_ok-at, on_err-at}
 use Rattle.rs_rate.proofs.rate.coder.Coder.set_up_anew.Goals as goal
 
-pub returns-in_err-counts-clause-grown : goal.returns-in_err-counts-clause-grown
-returns-in_err-counts-clause-grown g c = g.met.R.CoderRows.stays _
-
 pub returns-in_err-configuration-clause-grown : goal.returns-in_err-configuration-clause-grown
 returns-in_err-configuration-clause-grown g c = g.met.R.CoderRows.stays _
 
 pub returns : goal.returns
 returns g c =
-    let made = rw (c.in_ok-counts.ensures.0, c.in_ok-counts.ensures.1) at c.in_ok-configuration.ensures in
-    let is = is_asked g.R.CoderRows.row_count g.met.R.CoderRows.rows_set_up g.C.Code.rate _ _ _ _ made in
+    let is = is_asked g.R.CoderRows.row_count g.met.R.CoderRows.rows_set_up g.C.Code.rate _ _ _ _ c.in_ok-configuration.ensures in
     let old = c.args.self.now in
     let own = g.R.CoderRows.configuration_of old.rows in
     let roomy = rw (is.count, is.bytes, ← is.answer) at c.reset.ensures.roomy in

@@ -9,7 +9,7 @@ pub type Configuration = (usize, usize, usize);
 /// That a call is done, or why the library refuses it.
 pub type Answer = Result<(), Error>;
 
-/// Which of a coder's two objects.
+/// Which of a level's two objects.
 #[derive(Clone, Copy)]
 pub enum Object {
     Encoder,
@@ -35,7 +35,7 @@ pub struct Parts {
 }
 
 /// An encoder and a decoder of one level of use.
-pub trait Coder {
+pub trait Level {
     /// Makes the object anew: over the memory of an earlier one where that was taken, else over none.
     fn start(&mut self, object: Object, configuration: Configuration, parts: &mut Parts) -> Answer;
 
@@ -51,12 +51,12 @@ pub trait Coder {
     /// Restores what is missing; what comes is kept.
     fn decode(&mut self, kept: &mut Kept) -> Answer;
 
-    /// Takes both objects apart, where the coder can, and makes new ones of one original and one recovery shard.
+    /// Takes both objects apart, where the level can, and makes new ones of one original and one recovery shard.
     fn take_parts(&mut self, _parts: &mut Parts) -> Answer {
         Ok(())
     }
 
-    /// An iterator that the coder hands over ends here once, and goes on if it is asked again.
+    /// An iterator that the level hands over ends here once, and goes on if it is asked again.
     fn end_once(&mut self, _role: Role) -> Answer {
         Ok(())
     }

@@ -1,4 +1,4 @@
-//! The coders of all levels of use, side by side over one engine.
+//! The levels of use, side by side over one engine.
 use crate::actions::do_action;
 use crate::kept::Kept;
 use crate::one_call::OneCall;
@@ -10,15 +10,15 @@ use reed_solomon_simd::engine::{DefaultEngine, Engine};
 use reed_solomon_simd::rate::{DefaultRate, HighRate, LowRate};
 use std::alloc::{AllocError, Global};
 
-/// The words that name the coders: the one-call functions, the plain objects, and the objects of each rate.
-pub const CODERS: &[&str] = &["call", "plain", "low", "high", "default"];
+/// The words that name the levels: the one-call functions, the plain objects, and the objects of each rate.
+pub const LEVELS: &[&str] = &["call", "plain", "low", "high", "default"];
 
 /// Those of the objects of the rates, which are over any engine.
 pub const RATES: &[&str] = &["low", "high", "default"];
 
-/// The coders: those of the rates over any engine, the others over one that is chosen by name.
+/// The levels: those of the rates over any engine, the others over one that is chosen by name.
 #[derive(Drop)]
-pub struct Coders<'t, E: Engine> {
+pub struct Levels<'t, E: Engine> {
     /// The names of those that are run.
     pub names: &'static [&'static str],
     pub alloc: Global,
@@ -29,15 +29,15 @@ pub struct Coders<'t, E: Engine> {
     default: Rated<E, DefaultRate<E>>,
 }
 
-impl<'t, E: Engine + Copy> Coders<'t, E> {
-    /// New coders, of which those of these names are run.
+impl<'t, E: Engine + Copy> Levels<'t, E> {
+    /// New levels, of which those of these names are run.
     pub fn new(
         alloc: Global,
         engine: E,
         chosen: DefaultEngine<'t>,
         names: &'static [&'static str],
-    ) -> Result<Coders<'t, E>, Error> {
-        Ok(Coders {
+    ) -> Result<Levels<'t, E>, Error> {
+        Ok(Levels {
             names,
             alloc,
             call: OneCall::new(alloc, chosen),
@@ -48,28 +48,28 @@ impl<'t, E: Engine + Copy> Coders<'t, E> {
         })
     }
 
-    // Does an action by a coder.
-    fn do_by(&mut self, coder: &str, kept: &mut Kept, action: &str) -> Result<String> {
-        match coder {
+    // Does an action by a level.
+    fn do_by(&mut self, level: &str, kept: &mut Kept, action: &str) -> Result<String> {
+        match level {
             "call" => do_action(&mut self.call, kept, action),
             "plain" => do_action(&mut self.plain, kept, action),
             "low" => do_action(&mut self.low, kept, action),
             "high" => do_action(&mut self.high, kept, action),
             "default" => do_action(&mut self.default, kept, action),
-            _ => bail!("no such coder"),
+            _ => bail!("no such level"),
         }
     }
 
-    /// What an action answers by a coder: the text of what comes or of the refusal, and how many shards are left untaken.
+    /// What an action answers by a level: the text of what comes or of the refusal, and how many shards are left untaken.
     pub fn answer_by(
         &mut self,
-        coder: &str,
+        level: &str,
         kept: &mut Kept,
         action: &str,
     ) -> Result<String, AllocError> {
         kept.agrees = true;
         kept.left = (0, 0);
-        let mut answer = match self.do_by(coder, kept, action) {
+        let mut answer = match self.do_by(level, kept, action) {
             Ok(text) => text,
             Err(refusal) => format!(in kept.alloc; "{refusal}")?,
         };
