@@ -3,7 +3,7 @@ use rs_field::error::Error;
 use std::fmt;
 
 /// Why a call was refused.
-#[derive(Clone, Copy, Debug, PartialEq)]
+#[derive(Clone, Copy, Debug, PartialEq, Eq, Hash)]
 pub enum Fault {
     /// The library refused it.
     Refused(Error),

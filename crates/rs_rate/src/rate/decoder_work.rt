@@ -40,7 +40,7 @@ pub struct DecoderMemory {
 }
 
 /// Where a decoder's shards stand among the points, which points are known zeros, and how many rows it works on.
-#[derive(Clone, Copy)]
+#[derive(Clone, Copy, Debug, PartialEq, Eq)]
 pub struct Frame {
     pub row_count: usize,
     pub originals_from: usize,
@@ -50,7 +50,7 @@ pub struct Frame {
 }
 
 /// What a decoder's rows are set up for, and where its shards stand.
-#[derive(Clone, Copy)]
+#[derive(Clone, Copy, Debug, PartialEq, Eq)]
 pub struct DecoderShape {
     pub configuration: Configuration,
     pub frame: Frame,

@@ -22,7 +22,7 @@ pub struct EncoderWork {
 }
 
 /// What an encoder's rows are set up for, and how many they are.
-#[derive(Clone, Copy)]
+#[derive(Clone, Copy, Debug, PartialEq, Eq)]
 pub struct EncoderShape {
     pub configuration: Configuration,
     pub row_count: usize,
