@@ -1,6 +1,6 @@
 //! What the actions of a case do.
-use crate::level::{Level, Configuration, Object, Parts, Role};
 use crate::kept::{Item, Kept, Way};
+use crate::level::{Configuration, Level, Object, Parts, Role};
 use crate::notation::{counted, digest_of, drawn, points, shard_of, write_items};
 use anyhow::{Context, Result, bail, ensure};
 use reed_solomon_simd::Error;

@@ -1,7 +1,7 @@
 //! Files of cases, and how they are run.
 use crate::actions::text_of_expected;
-use crate::levels::Levels;
 use crate::kept::{Kept, Way};
+use crate::levels::Levels;
 use anyhow::{Context, Result, bail};
 use reed_solomon_simd::engine::Engine;
 use std::alloc::Global;

@@ -7,9 +7,9 @@
 
 mod actions;
 mod cases;
+mod kept;
 mod level;
 mod levels;
-mod kept;
 mod notation;
 mod one_call;
 mod plain;

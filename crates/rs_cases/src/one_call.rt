@@ -1,6 +1,6 @@
 //! The one-call functions: what was given is handed over when the call is made.
-use crate::level::{Answer, Level, Configuration, Object, Parts, Role};
 use crate::kept::{Item, Kept};
+use crate::level::{Answer, Configuration, Level, Object, Parts, Role};
 use crate::watch::Watch;
 use reed_solomon_simd::engine::DefaultEngine;
 use reed_solomon_simd::{decode, encode};

@@ -1,6 +1,6 @@
 //! The plain objects.
-use crate::level::{Answer, Level, Configuration, Object, Parts, Role};
 use crate::kept::Kept;
+use crate::level::{Answer, Configuration, Level, Object, Parts, Role};
 use crate::watch::Watch;
 use reed_solomon_simd::engine::DefaultEngine;
 use reed_solomon_simd::{Error, ReedSolomonDecoder, ReedSolomonEncoder};

@@ -1,6 +1,6 @@
 //! The objects of a rate over an engine.
-use crate::level::{Answer, Level, Configuration, Object, Parts, Role};
 use crate::kept::Kept;
+use crate::level::{Answer, Configuration, Level, Object, Parts, Role};
 use crate::watch::Watch;
 use reed_solomon_simd::Error;
 use reed_solomon_simd::engine::{Engine, Steps};
