@@ -65,7 +65,20 @@ pub mod engine {
     /// let Ok(engine) = EngineKind::from_str(engine.as_str()) else {
     /// ```
     pub use rs_engines::engine_default::UnknownEngine;
+    /// The engine without vectors.
+    ///
+    /// ```
+    /// // quoted: crates/rs_tests/src/locators.rt
+    /// check_engine(&rt, &NoSimd::new(&tables), log);
+    /// ```
     pub use rs_engines::engine_nosimd::NoSimd;
+    /// The engines of vectors of 16 bytes and of 32.
+    ///
+    /// ```
+    /// // quoted: crates/rs_tests/src/locators.rt
+    /// check_engine(&rt, &Ssse3::new(&tables), log);
+    /// check_engine(&rt, &Avx2::new(&tables), log);
+    /// ```
     pub use rs_engines::engine_shuffle::{Avx2, Ssse3};
     /// The field's constants.
     ///
@@ -77,35 +90,87 @@ pub mod engine {
     pub use rs_field::engine::{
         CANTOR_BASIS, GF_BITS, GF_MODULUS, GF_ORDER, GF_POLYNOMIAL, GfElement,
     };
-    /// What each engine does, the plain one, the rows that it works on, and the count of its steps.
+    /// What each engine does.
     ///
     /// ```
     /// // quoted: crates/rs_callers/src/surface.rt
     /// engine.locate(steps, entries);
     /// ```
-    pub use rs_field::engine::{Engine, Naive, ShardsRefMut, Steps};
-
-    /// The powers of the generator, the logarithms, their transforms, the factors of butterflies and the products by nibbles.
+    pub use rs_field::engine::Engine;
+    /// The plain engine, which takes each product by logarithms.
     ///
     /// ```
-    /// // quoted: crates/rs_callers/src/surface.rt
-    /// (get_exp_log(tables), get_skew(tables), get_log_walsh(tables))
+    /// // quoted: crates/rs_tests/src/locators.rt
+    /// check_engine(&rt, &Naive::new(&tables), log);
+    /// ```
+    pub use rs_field::engine::Naive;
+    /// The rows that an engine works on, and the count of its steps.
+    ///
+    /// ```
+    /// // quoted: crates/rs_tests/src/rows.rt
+    /// let mut rows = ShardsRefMut::new(4, 1, &mut chunks);
+    /// xor_within(&mut Steps::new(), &mut rows, 0, 2, 2);
+    /// ```
+    pub use rs_field::engine::{ShardsRefMut, Steps};
+
+    /// All tables, made once, and what engines read of them.
+    ///
+    /// ```
+    /// // quoted: crates/rs_callers/src/levels.rt
+    /// let tables = Tables::new(alloc)?;
     /// ```
     pub mod tables {
+        /// The powers of the generator, the logarithms and the factors of butterflies, and a product by these.
+        ///
+        /// ```
+        /// // quoted: crates/rs_callers/src/surface.rt
+        /// mul(x, log_m, exp, log)
+        /// ```
         pub use rs_field::engine::tables::{
-            Exp, ExpLog, Log, LogWalsh, Mul16, Mul128, Multiply128lutT, Skew, Tables, get_exp_log,
-            get_log_walsh, get_log_walsh_below, get_mul16, get_mul128, get_skew, mul,
+            Exp, ExpLog, Log, Skew, Tables, get_exp_log, get_skew, mul,
         };
+        /// The transforms of the logarithms.
+        ///
+        /// ```
+        /// // quoted: crates/rs_callers/src/surface.rt
+        /// (get_exp_log(tables), get_skew(tables), get_log_walsh(tables))
+        /// ```
+        pub use rs_field::engine::tables::{LogWalsh, get_log_walsh, get_log_walsh_below};
+        /// The products by nibbles, as words and as bytes.
+        ///
+        /// ```
+        /// // quoted: crates/rs_callers/src/surface.rt
+        /// (get_mul16(tables), get_mul128(tables))
+        /// ```
+        pub use rs_field::engine::tables::{Mul16, Mul128, Multiply128lutT, get_mul16, get_mul128};
     }
 
     /// Row functions and the locator, which engines share.
-    ///
-    /// ```
-    /// // quoted: crates/rs_callers/src/surface.rt
-    /// locate(steps, entries, get_log_walsh_below(tables, 64));
-    /// ```
     pub mod utils {
-        pub use rs_field::engine::utils::{eval_poly, locate, xor, xor_within};
+        /// The locator of marked points.
+        ///
+        /// ```
+        /// // quoted: crates/rs_callers/src/surface.rt
+        /// eval_poly(steps, entries, 0, get_log_walsh(tables));
+        /// ```
+        ///
+        /// ```
+        /// // quoted: crates/rs_callers/src/surface.rt
+        /// locate(steps, entries, get_log_walsh_below(tables, 64));
+        /// ```
+        pub use rs_field::engine::utils::{eval_poly, locate};
+        /// Sums of chunks, and of rows among others.
+        ///
+        /// ```
+        /// // quoted: crates/rs_callers/src/surface.rt
+        /// xor(first, second);
+        /// ```
+        ///
+        /// ```
+        /// // quoted: crates/rs_callers/src/surface.rt
+        /// xor_within(steps, rows, 0, 1, 1);
+        /// ```
+        pub use rs_field::engine::utils::{xor, xor_within};
     }
 }
 

@@ -1,7 +1,7 @@
 //! Worked examples: what the definitions say at small numbers, as contracts of functions that do nothing.
 ghost use Rattle.rs_field.specs.code.Counts.{low_rate, high_rate, default_rate};
 ghost use Rattle.rs_field.specs.worked.Numbers.{Products, ColumnsOfShards, Powers, Supported, Unsupported, OfOneRate, Choices};
-ghost use Rattle.rs_field.specs.worked.Numbers.{Validated, Spaces, BlockRowsExamples, EncoderRowsExamples, DecoderRowsExamples, TransformOfTwo, StepBounds};
+ghost use Rattle.rs_field.specs.worked.Numbers.{Validated, TooManyBytes, BlockRowsExamples, EncoderRowsExamples, DecoderRowsExamples, TransformOfTwo, StepBounds};
 ghost use Rattle.rs_field.specs.worked.Codes.{LowExamples, HighExamples, ShortLineExample, CubicExample, TailExample};
 ghost use Rattle.rs_field.specs.worked.Codes.{ChunkAndTailExample, RestoredExample, MixtureExample, SurplusExample};
 ghost use Rattle.rs_field.specs.worked.Calls.{EncodeOrder, DecodeOrder, NoRecoveryOrder, EncoderRound, DecoderRound, LargestIndex, MemoryOrder};
@@ -22,12 +22,12 @@ pub fn counts()
     ensures validated { Validated }
 {}
 
-/// How many rows encoders and decoders have, and which spaces are too large.
-pub fn spaces()
+/// How many rows encoders and decoders have, and how many bytes of them are too many.
+pub fn rows()
     ensures blocks { BlockRowsExamples }
     ensures encoders { EncoderRowsExamples }
     ensures decoders { DecoderRowsExamples }
-    ensures spaces { Spaces }
+    ensures bytes { TooManyBytes }
 {}
 
 /// How many steps calls may count.

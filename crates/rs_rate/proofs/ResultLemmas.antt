@@ -4,7 +4,7 @@ use Rattle.std.proofs.Math.Nat.{sub-zero}
 use Rattle.std.proofs.Math.Seq.{drop-cons}
 use Rattle.std.proofs.lemmas.List.{length-drop, drop_all}
 use Rattle.std.specs.Borrow.{Bor}
-use Rattle.std.specs.Prelude.{Option, Some, None, is_some, not, option_copied, MatchOption}
+use Rattle.std.specs.Prelude.{Option, Some, None, is_some, not, option_copied}
 use Rattle.rs_field.specs.code.Column.{Shard}
 use Rattle.rs_field.specs.code.Given.{Shards, Lists, listed, listed_from, count_below}
 use Rattle.rs_field.specs.rows.Rows.{Chunks}
@@ -31,20 +31,14 @@ left-past rows i past =
     let count = length-up_to rows.shape.configuration.recovery_count (shard_in_order rows.chunks.items rows.shape.configuration.shard_bytes) in
     drop_all i (lent_of rows) (omega arith)
 
--- a look-up of the next index lends the first of them
-pub lends_next : (rows : EncoderRows) (i : ℕ) (r : Option (Bor Shard)) → i < rows.shape.configuration.recovery_count
-    → MatchOption r (rows.shape.configuration.recovery_count ≤ i)
-    (λ shard. (i < rows.shape.configuration.recovery_count) × (shard.now ≡ shard_in_order rows.chunks.items rows.shape.configuration.shard_bytes i))
-    → (shard : Bor Shard) × (r ≡ Some shard) × (drop i (lent_of rows) ≡ shard.now ∷ drop (i + 1) (lent_of rows))
-lends_next rows i None inside lends = absurd (let no : ⊥ = omega (arith, lends) in no)
-lends_next rows i (Some shard) inside lends =
+-- the shard of the next index is the first of them
+pub lends_next : (rows : EncoderRows) (i : ℕ) (shard : Shard) → i < rows.shape.configuration.recovery_count
+    → shard ≡ shard_in_order rows.chunks.items rows.shape.configuration.shard_bytes i → drop i (lent_of rows) ≡ shard ∷ drop (i + 1) (lent_of rows)
+lends_next rows i shard inside lends =
     let f = shard_in_order rows.chunks.items rows.shape.configuration.shard_bytes in
-    let count = length-up_to rows.shape.configuration.recovery_count f in (
-      shard,
-      refl,
-      drop-cons (lent_of rows) i [] (omega arith)
-          ∙ ap₂ (λ x n. x ∷ drop n (lent_of rows)) (get-up_to rows.shape.configuration.recovery_count f i [] inside ∙ sym lends.1) (let n : suc i ≡ i + 1 = omega arith in n),
-    )
+    let count = length-up_to rows.shape.configuration.recovery_count f in
+    drop-cons (lent_of rows) i [] (omega arith)
+    ∙ ap₂ (λ x n. x ∷ drop n (lent_of rows)) (get-up_to rows.shape.configuration.recovery_count f i [] inside ∙ sym lends) (let n : suc i ≡ i + 1 = omega arith in n)
 
 -- the restored originals from an index on
 pub restored_from-past : (rows : DecoderRows) (i : ℕ) → rows.shape.configuration.original_count ≤ i → restored_from rows i ≡ []
@@ -114,7 +108,11 @@ restored-few rows =
     omega (arith, listed_all, count-most rows.shape.configuration.original_count (restored_of rows), rows.laid.places.few, rows.laid.places.originals)
 
 -- nor recovery shards made
+pub recovery_count-few : (rows : EncoderRows) → rows.shape.configuration.recovery_count < 2 ^ 64
+recovery_count-few rows =
+    omega (arith, rows.laid.recovery, count-few rows.shape.row_count rows.shape.configuration.shard_bytes rows.laid.configured.positive rows.sized)
+
 pub recovery-few : (rows : EncoderRows) → length (lent_of rows) < 2 ^ 64
 recovery-few rows =
     let made = length-up_to rows.shape.configuration.recovery_count (shard_in_order rows.chunks.items rows.shape.configuration.shard_bytes) in
-    omega (arith, made, rows.laid.recovery, count-few rows.shape.row_count rows.shape.configuration.shard_bytes rows.laid.configured.positive rows.sized)
+    omega (arith, made, recovery_count-few rows)

@@ -7,7 +7,7 @@ use Rattle.rs_field.specs.declared.code.error.Error.TheVariants.{OutOfMemory, Un
 use Rattle.rs_field.specs.code.Column.{Shard}
 use Rattle.rs_field.specs.code.Counts.{Rate, supports}
 use Rattle.rs_field.specs.code.Outcome.{answer_of, state_after, result_and_then}
-use Rattle.rs_field.specs.code.Configuration.{Configuration, validated, space, started}
+use Rattle.rs_field.specs.code.Configuration.{Configuration, validated, bytes_of_rows, started}
 use Rattle.rs_field.specs.code.Encoder.{EncoderState, fresh_encoder, with_shard, message_of, EncodeAnswers, after_encode}
 use Rattle.rs_field.specs.code.Code.{AreRecovery}
 use Rattle.rs_field.specs.words.UpTo.{up_to}
@@ -27,7 +27,7 @@ with_shard-added s shard room same =
 pub started-by : (rows : ℕ) (c : Configuration) (chunks : ℕ) → validated c ≡ Ok tt → chunks ≡ chunk_count rows c.shard_bytes → started rows c ≡ asked chunks
 unfolding chunk_count
 started-by rows c chunks valid is =
-    ap (result_and_then (λ _. cond (nat_le (2 ^ 64) (space rows c.shard_bytes)) (Err OutOfMemory) (Ok tt))) valid ∙ ap asked (sym is)
+    ap (result_and_then (λ _. cond (nat_le (2 ^ 64) (bytes_of_rows rows c.shard_bytes)) (Err OutOfMemory) (Ok tt))) valid ∙ ap asked (sym is)
 
 -- which is a success where they are a `usize` in bytes, and no want of memory
 asked-fits : (chunks : ℕ) → chunks * 64 < 2 ^ 64 → asked chunks ≡ Ok tt

@@ -23,7 +23,7 @@ pub record IsLocatorOf (frame : Frame) (marks : List Bool) (locator : List ℕ) 
   pub are_words : (x : ℕ) → slice_index locator x < 65536
   pub values : IsLocatorBelow frame.row_count (erased frame.zeros_from frame.zeros_to marks) (λ x. slice_index locator x)
 
--- what a decode goes by: a shape that can be laid, as many marks as rows, which tell of given shards; so many originals missing, and so many shards given beyond the originals' number, no more than rows
+-- what a decode goes by: a shape that can be laid, as many marks as rows, which tell of given shards; so many originals missing, and so many surplus shards, no more than rows
 pub record CanBeRestored (tally : Tally) (marks : Marks) : Type 0 where
   pub laid : DecoderCanBeLaid tally.shape
   pub marked : vec_len marks.rows ≡ tally.shape.frame.row_count
@@ -45,7 +45,7 @@ located marks locator words p = if is_marked marks p then product (words p) (pow
 -- the row of each original that wasn't given has the value of the polynomial plus its derivative, times the locator's inverse power
 abbrev pub AreRevealed : DecoderShape → List Bool → List ℕ → (ℕ → ℕ) → (ℕ → ℕ) → Type 0
 AreRevealed shape marks locator coefficients new =
-    (i : ℕ) → i < shape.configuration.original_count → let p = original_row shape i in is_marked marks p ≡ false
+    (i : ℕ) → i < shape.configuration.original_count → let p = original_row shape.frame i in is_marked marks p ≡ false
     → (added : ℕ → ℕ) × IsDerivativeAdded shape.frame.row_count coefficients added
     × (new p ≡ product (forward shape.frame.row_count 0 added p) (power (65535 - slice_index locator p)))
 
@@ -66,5 +66,5 @@ pub record RestoresWords (shape : DecoderShape) (marks : List Bool) (locator : L
 pub record RestoresShards (shape : DecoderShape) (marks : List Bool) (locator : List ℕ) (surplus : ℕ) (old new : Chunks) (agrees : Bool) : Type 0 where
   pub words : ℕ → ℕ → ℕ → ℕ
   pub restored : RestoresWords shape marks locator surplus (word_in old (row_len shape.configuration.shard_bytes)) words agrees
-  pub shards : agrees ≡ true → (i j : ℕ) → i < shape.configuration.original_count → j < shape.configuration.shard_bytes / 2 → is_marked marks (original_row shape i) ≡ false
-      → column j (shard_in_order new shape.configuration.shard_bytes (original_row shape i)) ≡ words (j / 32) (j % 32) (original_row shape i)
+  pub shards : agrees ≡ true → (i j : ℕ) → i < shape.configuration.original_count → j < shape.configuration.shard_bytes / 2 → is_marked marks (original_row shape.frame i) ≡ false
+      → column j (shard_in_order new shape.configuration.shard_bytes (original_row shape.frame i)) ≡ words (j / 32) (j % 32) (original_row shape.frame i)

@@ -9,6 +9,7 @@ use Rattle.rs_rate.specs.declared.rate.decoder_work.DecoderShape.{DecoderShape}
 use Rattle.rs_rate.specs.declared.rate.marks.Marks.{Marks}
 use Rattle.rs_rate.specs.declared.rate.marks.MarkedShards.{MarkedShards}
 use Rattle.rs_rate.specs.declared.rate.marks.MarkedShards.TheVariants.{Given, Restored}
+use Rattle.rs_rate.specs.Shapes.{original_row}
 use Rattle.rs_rate.specs.ShardRows.{shard_laid_out, shard_in_order}
 
 -- marks, where they tell of given shards; else none
@@ -29,11 +30,12 @@ given_marks marks = if_given marks.shards marks.rows.items
 abbrev pub restored_marks : Marks → List Bool
 restored_marks marks = if_restored marks.shards marks.rows.items
 
--- from marks of given shards to those of restored ones: those of the n rows from one on are marked that held no given shard, and no others
-pub record WantsMissing (from n : ℕ) (old new : Marks) : Type 0 where
+-- from marks of given shards to those of restored ones: of a shape's originals the rows are marked that held no given shard, and no others
+pub record WantsMissing (shape : DecoderShape) (old new : Marks) : Type 0 where
   pub shards : new.shards ≡ Restored
-  pub missing : (i : ℕ) → i < n → is_marked (restored_marks new) (from + i) ≡ not (is_marked (given_marks old) (from + i))
-  pub others : (p : ℕ) → (p < from) ⊎ (from + n ≤ p) → is_marked (restored_marks new) p ≡ false
+  pub missing : (i : ℕ) → i < shape.configuration.original_count
+      → is_marked (restored_marks new) (original_row shape.frame i) ≡ not (is_marked (given_marks old) (original_row shape.frame i))
+  pub others : (p : ℕ) → (p < shape.frame.originals_from) ⊎ (original_row shape.frame shape.configuration.original_count ≤ p) → is_marked (restored_marks new) p ≡ false
   pub length : vec_len new.rows ≡ vec_len old.rows
   pub room : vec_capacity new.rows ≡ vec_capacity old.rows
 

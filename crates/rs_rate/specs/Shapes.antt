@@ -15,16 +15,20 @@ pub record EncoderCanBeLaid (shape : EncoderShape) : Type 0 where
   pub recovery : shape.configuration.recovery_count ≤ shape.row_count
 
 -- the row of an original
-abbrev pub original_row : DecoderShape → ℕ → ℕ
-original_row shape index = shape.frame.originals_from + index
+abbrev pub original_row : Frame → ℕ → ℕ
+original_row frame index = frame.originals_from + index
+
+-- the row of a recovery shard
+abbrev pub recovery_row : Frame → ℕ → ℕ
+recovery_row frame index = frame.recovery_from + index
 
 -- a frame has a power of two of at most 65536 rows, with k originals and r recovery shards among them, no two in one row
 pub record HasPlaces (k r : ℕ) (frame : Frame) : Type 0 where
   pub power : next_power frame.row_count ≡ frame.row_count
   pub few : frame.row_count ≤ 65536
-  pub originals : frame.originals_from + k ≤ frame.row_count
-  pub recovery : frame.recovery_from + r ≤ frame.row_count
-  pub apart : (i j : ℕ) → i < k → j < r → frame.originals_from + i ≢ frame.recovery_from + j
+  pub originals : original_row frame k ≤ frame.row_count
+  pub recovery : recovery_row frame r ≤ frame.row_count
+  pub apart : (i j : ℕ) → i < k → j < r → original_row frame i ≢ recovery_row frame j
 
 -- a configuration, and its frame, with places for its shards
 pub record DecoderCanBeLaid (shape : DecoderShape) : Type 0 where

@@ -72,13 +72,9 @@ impl<'a> Iterator for Recovery<'a> {
     ghost remaining = { item_count (λ shards. shards) };
 
     fn next(&mut self) -> Option<&'a [u8]> {
-        let rows = self.rows;
-        let index = self.next_index;
-        if index >= rows.shape.configuration.recovery_count {
-            return None;
-        }
-        self.next_index = index + 1;
-        rows.recovery(index)
+        let shard = self.rows.recovery(self.next_index)?;
+        self.next_index += 1;
+        Some(shard)
     }
 
     fn size_hint(&self) -> (usize, Option<usize>)

@@ -174,7 +174,7 @@ pub trait RateEncoder<E: Engine>: Sized {
     ) -> Result<(), Error>
         ensures { result ≡ validated (configuration rate original_count recovery_count shard_bytes) };
 
-    /// An encoder with nothing given, over the rows of `work` where one is passed.
+    /// An encoder with nothing given, in the memory of `work` where one is passed.
     ///
     /// Refused as by `validate`, then with `OutOfMemory` where no memory is found or the rows' size in bytes
     /// passes `usize::MAX`. A refusal drops the engine and the work.
@@ -235,7 +235,7 @@ pub trait RateEncoder<E: Engine>: Sized {
         ensures* ends { sem 𝓛 (EndsWith Self.row self.entry
             (λ now. (state now ≡ after_encode (state self.old)) × (engine_of now ≡ engine_of self.old) × (room now ≡ room self.old))) };
 
-    /// The engine and the rows, for another encoder: they have room for this one's configuration.
+    /// The engine and the work, for another encoder: it has room for this one's configuration.
     fn into_parts(self) -> (E, EncoderWork)
         ensures engine { result.0 ≡ engine_of self }
         ensures room { work_room result.1 ≡ room self }
@@ -292,7 +292,7 @@ pub trait RateDecoder<E: Engine>: Sized {
     ) -> Result<(), Error>
         ensures { result ≡ validated (configuration rate original_count recovery_count shard_bytes) };
 
-    /// A decoder with nothing given, over the rows of `work` where one is passed.
+    /// A decoder with nothing given, in the memory of `work` where one is passed.
     ///
     /// Refused as by `validate`, then with `OutOfMemory` where no memory is found or the rows' size in bytes
     /// passes `usize::MAX`. A refusal drops the engine and the work.
@@ -367,7 +367,7 @@ pub trait RateDecoder<E: Engine>: Sized {
         ensures* ends { sem 𝓛 (EndsWith Self.row self.entry
             (λ now. (state now ≡ after_decode (state self.old)) × (engine_of now ≡ engine_of self.old) × (room now ≡ room self.old))) };
 
-    /// The engine and the rows, for another decoder: they have room for this one's configuration.
+    /// The engine and the work, for another decoder: it has room for this one's configuration.
     fn into_parts(self) -> (E, DecoderWork)
         ensures engine { result.0 ≡ engine_of self }
         ensures room { work_room result.1 ≡ room self }

@@ -12,7 +12,7 @@ use Rattle.rs_field.specs.code.Column.{Shard, IsShard, AreShards, shard_at}
 use Rattle.rs_field.specs.code.Counts.{Rate, default_rate, supports}
 use Rattle.rs_field.specs.code.Placement.{encoder_rows, decoder_rows}
 use Rattle.rs_field.specs.code.Outcome.{result_and_then}
-use Rattle.rs_field.specs.code.Configuration.{Configuration, validated, space, started}
+use Rattle.rs_field.specs.code.Configuration.{Configuration, validated, bytes_of_rows, started}
 use Rattle.rs_field.specs.code.Code.{AreRecovery}
 use Rattle.rs_field.specs.code.Given.{Shards, nothing, entered, count_below}
 use Rattle.rs_field.specs.code.Encoder.{EncoderState, IsEncoder, fresh_encoder, with_shard, EncodeAnswers}
@@ -195,26 +195,26 @@ left_count count shards items long left = search (rules, count-entered_all, recu
 -- ---- what comes back
 
 -- an index that was noted is not one of the others
-absent_next : (k : ℕ) (came : List ℕ) (items : Items) → AllByRecursion (λ i. nat_eq k i ≡ false) (indexes items) → AllByRecursion (λ item. list_any (nat_eq item.0) came ≡ false) items
-    → AllByRecursion (λ item. list_any (nat_eq item.0) (k ∷ came) ≡ false) items
-absent_next k came [] apart absent = tt
-absent_next k came (item ∷ items) apart absent = search (rules, or_from, ne_eqb, eqb-false, absent_next k came items apart.1 absent.1)
+absent_next : (k : ℕ) (given : List ℕ) (items : Items) → AllByRecursion (λ i. nat_eq k i ≡ false) (indexes items) → AllByRecursion (λ item. list_any (nat_eq item.0) given ≡ false) items
+    → AllByRecursion (λ item. list_any (nat_eq item.0) (k ∷ given) ≡ false) items
+absent_next k given [] apart absent = tt
+absent_next k given (item ∷ items) apart absent = search (rules, or_from, ne_eqb, eqb-false, absent_next k given items apart.1 absent.1)
 
 -- indexes below k, none of which comes twice, are all noted
-all_noted : (k : ℕ) (items : Items) (came : List ℕ) → AllByRecursion (λ item. item.0 < k) items → AllByRecursion (λ item. list_any (nat_eq item.0) came ≡ false) items
-    → IsDistinct nat_eq (indexes items) → (all : List ℕ) × (one_by_one (λ so_far item. noted k so_far item.0) came items ≡ Ok all) × (length all ≡ length came + length items)
-all_noted k [] came below absent once = (came, refl, sym (add-zero (length came)))
-all_noted k (item ∷ items) came below absent once =
-    let rest = all_noted k items (item.0 ∷ came) below.1 (absent_next item.0 came items (IsDistinct-head nat_eq item.0 (indexes items) once) absent.1)
+all_noted : (k : ℕ) (items : Items) (given : List ℕ) → AllByRecursion (λ item. item.0 < k) items → AllByRecursion (λ item. list_any (nat_eq item.0) given ≡ false) items
+    → IsDistinct nat_eq (indexes items) → (all : List ℕ) × (one_by_one (λ so_far item. noted k so_far item.0) given items ≡ Ok all) × (length all ≡ length given + length items)
+all_noted k [] given below absent once = (given, refl, sym (add-zero (length given)))
+all_noted k (item ∷ items) given below absent once =
+    let rest = all_noted k items (item.0 ∷ given) below.1 (absent_next item.0 given items (IsDistinct-head nat_eq item.0 (indexes items) once) absent.1)
     (IsDistinct-tail nat_eq item.0 (indexes items) once) in
-    let first : noted k came item.0 ≡ Ok (item.0 ∷ came) = rw (lt-leb k item.0 below.0, absent.0) refl in
+    let first : noted k given item.0 ≡ Ok (item.0 ∷ given) = rw (lt-leb k item.0 below.0, absent.0) refl in
     (rest.0, ap (result_and_then (λ next. one_by_one (λ so_far one. noted k so_far one.0) next items)) first ∙ rest.1, omega (arith, rest.2))
 
 none_noted : (items : Items) → AllByRecursion (λ item. list_any (nat_eq item.0) [] ≡ false) items
 none_noted [] = tt
 none_noted (item ∷ items) = (refl, none_noted items)
 
--- so all came where k are left
+-- so all k are noted where k are left
 given_left : (k : ℕ) (items : Items) → AllByRecursion (λ item. item.0 < k) items → IsDistinct nat_eq (indexes items) → originals_alone k items ≡ enough_left k items []
 given_left k items below once =
     let all = all_noted k items [] below (none_noted items) once in
@@ -271,12 +271,12 @@ module _ (k r : ℕ) (originals recovery : List Shard) (kept : Items) (was : Are
   by_start : (received : Items) (result : Result Shards Error) → AreLeft recovery received → Begun received result (started (decoder_rows default_rate k r) (default_of k r was.size))
       → OneBringsBack originals kept received result
   by_start received result got answers =
-      by_space (nat_le (2 ^ 64) (space (decoder_rows default_rate k r) was.size))
-      (subst (Begun received result) (ap (result_and_then (λ _. cond (nat_le (2 ^ 64) (space (decoder_rows default_rate k r) was.size)) (Err OutOfMemory) (Ok tt))) was.valid) answers)
+      by_bytes (nat_le (2 ^ 64) (bytes_of_rows (decoder_rows default_rate k r) was.size))
+      (subst (Begun received result) (ap (result_and_then (λ _. cond (nat_le (2 ^ 64) (bytes_of_rows (decoder_rows default_rate k r) was.size)) (Err OutOfMemory) (Ok tt))) was.valid) answers)
     where
-      by_space : (full : Bool) → Begun received result (cond full (Err OutOfMemory) (Ok tt)) → OneBringsBack originals kept received result
-      by_space true h = record { answer = inr h; restored = if_ok-refused result OutOfMemory _ h }
-      by_space false h =
+      by_bytes : (full : Bool) → Begun received result (cond full (Err OutOfMemory) (Ok tt)) → OneBringsBack originals kept received result
+      by_bytes true h = record { answer = inr h; restored = if_ok-refused result OutOfMemory _ h }
+      by_bytes false h =
           let all = all_taken (default_of k r was.size) originals recovery kept received was.shards was.coded left got in
           let back = gives_back (default_of k r was.size) originals recovery kept received was.shards was.coded left got result
           (subst (λ (o : Result DecoderState Error). MatchResult o (λ s. DecodeAnswers s result) (λ e. result ≡ Err e)) all h) in

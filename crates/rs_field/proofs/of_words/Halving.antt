@@ -38,13 +38,13 @@ walsh-one n f one w hw = grind (arith, common_steps, total-suc, total-zero, sign
 pub walsh-none : (n : ℕ) (f : ℕ → ℕ) → ((y : ℕ) → y < n → f y ≡ 0) → IsWalsh n f f
 walsh-none n f none w hw = grind (arith, common_steps, total-none)
 
--- what a step makes of the transforms of both halves
-pub record IsStep (half : ℕ) (low high new : ℕ → ℕ) : Type 0 where
+-- what sums and differences make of the transforms of both halves
+pub record IsSumsAndDifferences (half : ℕ) (low high new : ℕ → ℕ) : Type 0 where
   pub sums : (i : ℕ) → i < half → new i % 65535 ≡ (low i + high i) % 65535
   pub differences : (i : ℕ) → i < half → new (half + i) % 65535 ≡ (low i + 65534 * high i) % 65535
 
 pub walsh-halves : (e n half : ℕ) (old low high new : ℕ → ℕ) → n ≡ 2 ^ suc e → half ≡ 2 ^ e
-    → IsWalsh half old low → IsWalsh half (λ y. old (half + y)) high → IsStep half low high new → IsWalsh n old new
+    → IsWalsh half old low → IsWalsh half (λ y. old (half + y)) high → IsSumsAndDifferences half low high new → IsWalsh n old new
 walsh-halves e n half old low high new is h a b s w hw =
     elim (cases_lt w half) [
       | inl first ↦

@@ -24,12 +24,12 @@ validated c =
     else Ok tt
 
 -- the bytes of this many rows of whole chunks
-abbrev pub space : ℕ → ℕ → ℕ
-space rows size = rows * ((size + 63) / 64) * 64
+abbrev pub bytes_of_rows : ℕ → ℕ → ℕ
+bytes_of_rows rows size = rows * ((size + 63) / 64) * 64
 
--- what setting up with this many rows answers while memory is found; a space above `usize::MAX` bytes is never found
+-- what setting up with this many rows answers while memory is found; rows above `usize::MAX` bytes are never found
 abbrev pub started : ℕ → Configuration → Result (Unit {0}) Error
-started rows c = result_and_then (λ _. if nat_le (2 ^ 64) (space rows c.shard_bytes) then Err OutOfMemory else Ok tt) (validated c)
+started rows c = result_and_then (λ _. if nat_le (2 ^ 64) (bytes_of_rows rows c.shard_bytes) then Err OutOfMemory else Ok tt) (validated c)
 
 -- a result is the wanted one, or out of memory in place of a success
 abbrev pub UpToMemory : {T : Type 0} → Result T Error → Result T Error → Type 0

@@ -4,7 +4,7 @@ use Rattle.rs_field.specs.declared.code.error.Error.{Error}
 use Rattle.rs_field.specs.declared.code.error.Error.TheVariants.{InvalidOriginalShardIndex, InvalidRecoveryShardIndex, DuplicateOriginalShardIndex, DuplicateRecoveryShardIndex, DifferentShardSize, NotEnoughShards, InconsistentShards}
 use Rattle.rs_field.specs.code.Column.{Shard, shard_at}
 use Rattle.rs_field.specs.code.Counts.{Rate}
-use Rattle.rs_field.specs.code.Configuration.{Configuration, validated, space}
+use Rattle.rs_field.specs.code.Configuration.{Configuration, validated, bytes_of_rows}
 use Rattle.rs_field.specs.code.Placement.{decoder_rows}
 use Rattle.rs_field.specs.code.Given.{Shards, AreWithin, nothing, entered, count_below, Agrees, Consistent}
 
@@ -18,7 +18,7 @@ pub record DecoderState : Type 0 where
 pub record IsDecoder (rate : Rate) (s : DecoderState) : Type 0 where
   pub of_rate : s.configuration.rate ≡ rate
   pub valid : validated s.configuration ≡ Ok tt
-  pub fits : space (decoder_rows rate s.configuration.original_count s.configuration.recovery_count) s.configuration.shard_bytes < 2 ^ 64
+  pub fits : bytes_of_rows (decoder_rows rate s.configuration.original_count s.configuration.recovery_count) s.configuration.shard_bytes < 2 ^ 64
   pub originals_within : AreWithin s.configuration.original_count s.configuration.shard_bytes s.originals
   pub recovery_within : AreWithin s.configuration.recovery_count s.configuration.shard_bytes s.recovery
 

@@ -31,10 +31,10 @@ default_of k r size = configuration default_rate k r size
 abbrev pub counted : ℕ → ℕ → Result (Unit {0}) Error
 counted k r = if supports default_rate k r then Ok tt else Err (UnsupportedShardCount k r)
 
--- the outcome of a step for each item in order, the first refused one deciding
+-- the outcome of a call for each item in order, the first refused one deciding
 abbrev pub one_by_one : {S T : Type 0} → (S → T → Result S Error) → S → List T → Result S Error
-one_by_one step s [] = Ok s
-one_by_one step s (item ∷ items) = result_and_then (λ next. one_by_one step next items) (step s item)
+one_by_one call s [] = Ok s
+one_by_one call s (item ∷ items) = result_and_then (λ next. one_by_one call next items) (call s item)
 
 -- the outcome of adding shards in order
 abbrev pub with_shards : EncoderState → List Shard → Result EncoderState Error
@@ -113,11 +113,11 @@ OneDecodeAnswers k r originals recovery result =
 
 -- each run of the iterator lends these shards, and then ends
 abbrev pub Lends : {I : Type 0} → (I → Option (Bor Shard) → I → Type 0) → I → List Shard → Type 0
-Lends steps iterator shards = AlwaysYields steps (λ shard. shard.now) iterator shards
+Lends next iterator shards = AlwaysYields next (λ shard. shard.now) iterator shards
 
 -- each run of the iterator lends these shards with their indexes, and then ends
 abbrev pub LendsItems : {I : Type 0} → (I → Option (ℕ × Bor Shard) → I → Type 0) → I → Items → Type 0
-LendsItems steps iterator items = AlwaysYields steps (λ item. (item.0, item.1.now)) iterator items
+LendsItems next iterator items = AlwaysYields next (λ item. (item.0, item.1.now)) iterator items
 
 -- the vectors of a result as shards, or the refusal
 abbrev pub collected : {Y Z : Type 0} → Result (Vec (Vec ℕ Y) Z) Error → Result (List Shard) Error

@@ -8,15 +8,15 @@ use Rattle.rs_field.specs.words.StepBounds.{CountsUpTo, transform_steps}
 use Rattle.rs_field.specs.rows.MarkedRows.{UnusedAreZero}
 use Rattle.rs_field.specs.rows.Layers.{ArePartsOf, rows_of_part, layer_steps}
 use Rattle.rs_field.specs.rows.View.{word}
-use Rattle.rs_field.specs.rows.Pairs.{OnTwoChunks, IsForwardStep, IsBackwardStep}
+use Rattle.rs_field.specs.rows.Pairs.{OnTwoChunks, IsForwardButterfly, IsBackwardButterfly}
 use Rattle.rs_field.specs.rows.TwoLayers.{OnFourChunks, IsForwardTwoLayers, IsBackwardTwoLayers}
 use Rattle.rs_field.specs.declared.rows.block.Block.{Block}
 use Rattle.rs_field.specs.declared.words.steps.Steps.{Steps}
 
 -- a butterfly on each symbol of two chunks, by the factor of a logarithm
 abbrev pub IsButterfly : Direction → ℕ → OnTwoChunks
-IsButterfly Direction.Forward log_m = IsForwardStep log_m
-IsButterfly Direction.Backward log_m = IsBackwardStep log_m
+IsButterfly Direction.Forward log_m = IsForwardButterfly log_m
+IsButterfly Direction.Backward log_m = IsBackwardButterfly log_m
 
 -- two layers of butterflies on each symbol of four chunks
 abbrev pub AreTwoLayers : Direction → ℕ → ℕ → ℕ → OnFourChunks

@@ -1,4 +1,4 @@
--- What a step on two rows makes of a chunk of each, and a butterfly of two words.
+-- What a butterfly of two rows makes of a chunk of each, and a butterfly of two words.
 use Rattle.std.specs.Prelude.{◌≡◌, ℕ, List, ◌<◌, bit_xor}
 use Rattle.rs_field.specs.rows.Rows.{symbol}
 use Rattle.rs_field.specs.words.Tables.{scaled}
@@ -24,9 +24,9 @@ abbrev pub at_two_symbols : ℕ → OnTwoWords → OnTwoChunks
 at_two_symbols s R x y x' y' = R (symbol x s) (symbol y s) (symbol x' s) (symbol y' s)
 
 -- the forward butterfly on each symbol of two chunks
-abbrev pub IsForwardStep : ℕ → OnTwoChunks
-IsForwardStep log_m x y x' y' = (s : ℕ) → s < 32 → at_two_symbols s (IsForwardTwo log_m) x y x' y'
+abbrev pub IsForwardButterfly : ℕ → OnTwoChunks
+IsForwardButterfly log_m x y x' y' = (s : ℕ) → s < 32 → at_two_symbols s (IsForwardTwo log_m) x y x' y'
 
 -- the backward one
-abbrev pub IsBackwardStep : ℕ → OnTwoChunks
-IsBackwardStep log_m x y x' y' = (s : ℕ) → s < 32 → at_two_symbols s (IsBackwardTwo log_m) x y x' y'
+abbrev pub IsBackwardButterfly : ℕ → OnTwoChunks
+IsBackwardButterfly log_m x y x' y' = (s : ℕ) → s < 32 → at_two_symbols s (IsBackwardTwo log_m) x y x' y'

@@ -68,9 +68,9 @@ Validated =
     × (validated (configuration low_rate 61440 4096 123) ≡ Err (UnsupportedShardCount 61440 4096))
     × (validated (configuration high_rate 61440 4096 64) ≡ Ok tt)
 
--- two rows of a size just below the largest don't fit in the space of a machine, but one row does
-abbrev pub Spaces : Type 0
-Spaces =
+-- two rows of a size just below the largest have more bytes than a machine, but one row hasn't
+abbrev pub TooManyBytes : Type 0
+TooManyBytes =
     (started (encoder_rows default_rate 1 1) (configuration default_rate 1 1 18446744073709551614) ≡ Err OutOfMemory)
     × (started (decoder_rows default_rate 1 1) (configuration default_rate 1 1 18446744073709551614) ≡ Err OutOfMemory)
     × (started (encoder_rows default_rate 1 1) (configuration default_rate 1 1 18446744073709551552) ≡ Ok tt)

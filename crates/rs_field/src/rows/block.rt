@@ -4,7 +4,7 @@ ghost use Rattle.rs_field.specs.code.Counts.{next_power};
 
 /// The `size` rows from `pos` on, and the points from `skew_delta` on. `size` is a power of two and `skew_delta` a
 /// multiple of it, and all points lie below 65536.
-#[derive(Clone, Copy)]
+#[derive(Clone, Copy, Debug, PartialEq, Eq, Hash)]
 pub struct Block {
     pub pos: usize,
     pub size: usize,

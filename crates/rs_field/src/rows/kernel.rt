@@ -18,7 +18,7 @@ use crate::words::{GfElement, Steps, locating};
 
 /// The logarithms of the factors of two layers on four rows: of rows 0 and 2 and of rows 1 and 3, of rows 0 and 1, and of
 /// rows 2 and 3; 65535 marks the factor zero.
-#[derive(Clone, Copy)]
+#[derive(Clone, Copy, Debug, PartialEq, Eq, Hash)]
 pub struct ThreeLogarithms {
     pub log_m02: GfElement,
     pub log_m01: GfElement,

@@ -4,7 +4,7 @@ ghost use Rattle.rs_field.specs.rows.MarkedRows.{is_marked, is_used, HasMarks};
 
 /// The rows of a block that are of use: of a forward transform those that are wanted, of a backward one those that may
 /// hold anything but zeros.
-#[derive(Clone, Copy)]
+#[derive(Clone, Copy, Debug, PartialEq, Eq, Hash)]
 pub enum UsedRows<'a> {
     /// The first ones, so many.
     First(usize),

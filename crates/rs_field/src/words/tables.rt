@@ -34,7 +34,7 @@ pub type Mul16<'a> = &'a [[[GfElement; 16]; 4]];
 pub type Mul128<'a> = &'a [Multiply128lutT];
 
 /// The products of the words 0 to 15, shifted by no, one, two and three nibbles, with one factor.
-#[derive(Clone, Debug, Drop, PartialEq, Eq)]
+#[derive(Clone, Debug, Drop, PartialEq, Eq, Hash)]
 pub struct Multiply128lutT {
     /// Byte i of number n, the lowest first, is the low byte of the product of `i << 4n`.
     pub lo: [u128; 4],

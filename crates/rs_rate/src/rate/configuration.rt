@@ -15,7 +15,7 @@ use rs_field::error::Error;
 
 /// The counts and the size of a shard, whether the rate is the low rate at these counts, and the rows of a block: the
 /// power of two of the originals at the low rate, else that of the recovery shards.
-#[derive(Clone, Copy, Debug, PartialEq, Eq)]
+#[derive(Clone, Copy, Debug, PartialEq, Eq, Hash)]
 pub struct Configuration {
     pub original_count: usize,
     pub recovery_count: usize,

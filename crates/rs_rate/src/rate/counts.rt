@@ -6,7 +6,7 @@ ghost use Rattle.rs_rate.specs.Configured.{choice_of};
 use rs_field::engine::GF_ORDER;
 
 /// Whether a rate is the low rate at some counts, and the rows of its blocks there.
-#[derive(Clone, Copy)]
+#[derive(Clone, Copy, Debug, PartialEq, Eq, Hash)]
 pub struct Choice {
     pub is_low: bool,
     pub block_rows: usize,

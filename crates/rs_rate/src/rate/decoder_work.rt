@@ -8,7 +8,7 @@ ghost use Rattle.rs_field.specs.code.Outcome.{answer_of, state_after};
 ghost use Rattle.rs_field.specs.code.Configuration.{UpToMemory};
 ghost use Rattle.rs_field.specs.code.Decoder.{fresh_decoder, enough_given};
 ghost use Rattle.rs_field.specs.rows.MarkedRows.{is_marked};
-ghost use Rattle.rs_rate.specs.Shapes.{DecoderCanBeLaid, original_row};
+ghost use Rattle.rs_rate.specs.Shapes.{DecoderCanBeLaid, original_row, recovery_row};
 ghost use Rattle.rs_rate.specs.ShardRows.{asked, chunk_count, shard_laid_out};
 ghost use Rattle.rs_rate.specs.Marks.{given_marks, HoldGiven};
 ghost use Rattle.rs_rate.specs.DecoderRoom.{IsLaidOut};
@@ -16,7 +16,7 @@ ghost use Rattle.rs_rate.specs.Sides.{with_given};
 
 use crate::rate::coder::CoderRows;
 use crate::rate::configuration::Configuration;
-use crate::rate::marks::{MarkedShards, Marks};
+use crate::rate::marks::Marks;
 use crate::rate::memory::{make_room, set_chunks, set_length};
 use crate::rate::restoring::Tally;
 use crate::rate::shard_rows::{chunk_count, insert_at, shard_at, shard_is_bytes};
@@ -40,7 +40,7 @@ pub struct DecoderMemory {
 }
 
 /// Where a decoder's shards stand among the points, which points are known zeros, and how many rows it works on.
-#[derive(Clone, Copy, Debug, PartialEq, Eq)]
+#[derive(Clone, Copy, Debug, PartialEq, Eq, Hash)]
 pub struct Frame {
     pub row_count: usize,
     pub originals_from: usize,
@@ -50,7 +50,7 @@ pub struct Frame {
 }
 
 /// What a decoder's rows are set up for, and where its shards stand.
-#[derive(Clone, Copy, Debug, PartialEq, Eq)]
+#[derive(Clone, Copy, Debug, PartialEq, Eq, Hash)]
 pub struct DecoderShape {
     pub configuration: Configuration,
     pub frame: Frame,
@@ -68,13 +68,21 @@ pub struct DecoderRows {
     pub ghost given: { HoldGiven shape originals_given recovery_given (given_marks memory.marks) memory.chunks.items },
 }
 
-impl DecoderShape {
+impl Frame {
     // The row of an original.
     pub(crate) fn original_row(self, index: usize) -> usize
         requires { original_row self index < 2 ^ 64 }
         ensures { result ≡ original_row self index }
     {
-        self.frame.originals_from + index
+        self.originals_from + index
+    }
+
+    // The row of a recovery shard.
+    pub(crate) fn recovery_row(self, index: usize) -> usize
+        requires { recovery_row self index < 2 ^ 64 }
+        ensures { result ≡ recovery_row self index }
+    {
+        self.recovery_from + index
     }
 }
 
@@ -112,9 +120,10 @@ impl DecoderMemory {
         }
     }
 
-    // New memory that is laid out for a shape, with nothing given. A function by itself: behind the branches of its callers
-    // the compiler takes the clearing for rare, and makes no `memset` of it. The chunks come last, since their clearing
-    // drives from the cache what other requests for memory read.
+    // New memory that is laid out for a shape, with nothing given. Not inlined: behind the branches of its callers the
+    // compiler takes the clearing for rare, and makes no `memset` of it. The chunks come last, since their clearing drives
+    // from the cache what other requests for memory read.
+    #[inline(never)]
     fn new(alloc: Global, shape: DecoderShape) -> Result<DecoderMemory, Error>
         ensures laid_out { IfOk result (IsLaidOut shape) }
         ensures empty { IfOk result (λ m. (p : ℕ) → is_marked (given_marks m.marks) p ≡ false) }
@@ -122,10 +131,7 @@ impl DecoderMemory {
     {
         let row_count = shape.frame.row_count;
         let chunk_count = chunk_count(row_count, shape.configuration.shard_bytes)?;
-        let marks = Marks {
-            rows: vec![in alloc; false; row_count]?,
-            shards: MarkedShards::Given,
-        };
+        let marks = Marks::new(alloc, row_count)?;
         let entries = vec![in alloc; 0; row_count]?;
         Ok(DecoderMemory {
             chunks: vec![in alloc; [0; 64]; chunk_count]?,
@@ -168,7 +174,7 @@ impl DecoderMemory {
         ensures enough { chunks ≤ vec_capacity self.old.chunks → rows ≤ vec_capacity self.old.marks.rows → rows ≤ vec_capacity self.old.entries → IsOk result }
     {
         make_room(&mut self.chunks, chunks)?;
-        make_room(&mut self.marks.rows, rows)?;
+        self.marks.make_room(rows)?;
         make_room(&mut self.entries, rows)
     }
 
@@ -345,7 +351,7 @@ impl DecoderRows {
         if index >= self.shape.configuration.original_count {
             return None;
         }
-        let row = self.shape.original_row(index);
+        let row = self.shape.frame.original_row(index);
         if !self.memory.marks.is_restored(row) {
             return None;
         }

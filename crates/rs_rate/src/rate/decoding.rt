@@ -73,7 +73,7 @@ fn restore<E: Engine>(
     requires whole { chunk_count tally.shape.frame.row_count tally.shape.configuration.shard_bytes ≤ length memory.old.chunks.items }
     requires entries { length memory.old.entries.items ≡ tally.shape.frame.row_count }
     requires facts { CanBeRestored tally memory.old.marks }
-    ensures marks { WantsMissing tally.shape.frame.originals_from tally.shape.configuration.original_count memory.old.marks memory.new.marks }
+    ensures marks { WantsMissing tally.shape memory.old.marks memory.new.marks }
     ensures length { length memory.new.chunks.items ≡ length memory.old.chunks.items }
     ensures entries { length memory.new.entries.items ≡ length memory.old.entries.items }
     ensures room { memory_room memory.new ≡ memory_room memory.old }
@@ -84,10 +84,7 @@ fn restore<E: Engine>(
 {
     let shape = tally.shape;
     if tally.missing == 0 && tally.surplus == 0 {
-        memory.marks.want_missing(
-            shape.frame.originals_from,
-            shape.configuration.original_count,
-        );
+        memory.marks.want_missing(shape);
         return true;
     }
     let entries = memory.entries.as_mut_slice();
@@ -149,7 +146,7 @@ fn restore_chunks<E: Engine>(
     requires whole { chunk_count tally.shape.frame.row_count tally.shape.configuration.shard_bytes ≤ length chunks.old }
     requires facts { CanBeRestored tally marks.old }
     requires located { length locator.now ≡ tally.shape.frame.row_count }
-    ensures marks { WantsMissing tally.shape.frame.originals_from tally.shape.configuration.original_count marks.old marks.new }
+    ensures marks { WantsMissing tally.shape marks.old marks.new }
     ensures shards { RestoresShards tally.shape (given_marks marks.old) locator.now tally.surplus chunks.old chunks.new result }
     ensures counts { CountsUpTo (3 * transform_steps tally.shape.frame.row_count + 4 * tally.shape.frame.row_count) 0 0 steps.old steps.new }
 {
@@ -172,12 +169,12 @@ fn move_restored_tails(
     requires laid { DecoderCanBeLaid shape }
     requires marked { vec_len marks.now.rows ≡ shape.frame.row_count }
     requires whole { chunk_count shape.frame.row_count shape.configuration.shard_bytes ≤ length chunks.old }
-    ensures moved { (i : ℕ) → i < shape.configuration.original_count → let p = original_row shape i in is_marked (restored_marks marks.now) p ≡ true
+    ensures moved { (i : ℕ) → i < shape.configuration.original_count → let p = original_row shape.frame i in is_marked (restored_marks marks.now) p ≡ true
         → shard_in_order chunks.new shape.configuration.shard_bytes p ≡ shard_laid_out chunks.old shape.configuration.shard_bytes p }
     ensures counts { CountsUpTo shape.configuration.original_count 0 0 steps.old steps.new }
 {
     for i in 0..shape.configuration.original_count {
-        let row = shape.original_row(i);
+        let row = shape.frame.original_row(i);
         if marks.is_restored(row) {
             steps.row_step();
             move_tail(chunks, row, shape.configuration.shard_bytes);

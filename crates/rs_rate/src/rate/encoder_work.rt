@@ -22,7 +22,7 @@ pub struct EncoderWork {
 }
 
 /// What an encoder's rows are set up for, and how many they are.
-#[derive(Clone, Copy, Debug, PartialEq, Eq)]
+#[derive(Clone, Copy, Debug, PartialEq, Eq, Hash)]
 pub struct EncoderShape {
     pub configuration: Configuration,
     pub row_count: usize,

@@ -1,14 +1,18 @@
 //! Which rows of a decoder hold given shards and, once a decode restores, which of them restored ones.
-ghost use Rattle.std.specs.Prelude.{◌≡◌, ◌≢◌, ℕ, ◌+◌, ◌<◌, ◌≤◌, true, false, length, vec_len};
+ghost use Rattle.std.specs.Prelude.{◌≡◌, ◌≢◌, ℕ, ◌^◌, ◌<◌, ◌≤◌, ◌⊎◌, not, true, false, length, vec_len, IfOk, IfErr, OnOk};
 ghost use Rattle.std.specs.Vec.{vec_capacity};
 ghost use Rattle.rs_field.specs.rows.MarkedRows.{is_marked};
 ghost use Rattle.rs_rate.specs.Marks.{given_marks, restored_marks, WantsMissing};
+ghost use Rattle.rs_rate.specs.Shapes.{original_row};
 
-use crate::rate::memory::set_length;
+use crate::rate::decoder_work::DecoderShape;
+use crate::rate::memory::{make_room, set_length};
+use rs_field::error::Error;
+use std::alloc::Global;
 
 /// Which shards a decoder's marks tell of: while they are added, those that are given; from the decode on, the
 /// originals that weren't given and come to stand restored in their rows.
-#[derive(Clone, Copy, PartialEq, Eq)]
+#[derive(Clone, Copy, Debug, PartialEq, Eq, Hash)]
 pub enum MarkedShards {
     Given,
     Restored,
@@ -22,6 +26,29 @@ pub struct Marks {
 }
 
 impl Marks {
+    // Of so many rows, none of them with a given shard, or `OutOfMemory`.
+    pub(crate) fn new(alloc: Global, rows: usize) -> Result<Marks, Error>
+        ensures empty { IfOk result (λ marks. (p : ℕ) → is_marked (given_marks marks) p ≡ false) }
+        ensures length { IfOk result (λ marks. vec_len marks.rows ≡ rows) }
+        ensures room { IfOk result (λ marks. rows ≤ vec_capacity marks.rows) }
+        ensures refused { IfErr result (λ e. e ≡ Error.OutOfMemory) }
+    {
+        Ok(Marks {
+            rows: vec![in alloc; false; rows]?,
+            shards: MarkedShards::Given,
+        })
+    }
+
+    // Makes room for the marks of so many rows in all; no mark changes.
+    pub(crate) fn make_room(&mut self, rows: usize) -> Result<(), Error>
+        ensures same { (self.new.rows.items ≡ self.old.rows.items) × (self.new.shards ≡ self.old.shards) }
+        ensures room { OnOk result (rows ≤ vec_capacity self.new.rows) }
+        ensures more { vec_capacity self.old.rows ≤ vec_capacity self.new.rows }
+        ensures refused { IfErr result (λ e. (e ≡ Error.OutOfMemory) × (vec_capacity self.old.rows < rows)) }
+    {
+        make_room(&mut self.rows, rows)
+    }
+
     // Has so many rows, none of them with a given shard, for which there is room.
     #[inline(always)]
     pub(crate) fn set_empty(&mut self, rows: usize)
@@ -76,6 +103,18 @@ impl Marks {
         self.rows.as_slice()
     }
 
+    // Sets the mark of row `row`.
+    fn set(&mut self, row: usize, is: bool)
+        requires { row < vec_len self.old.rows }
+        ensures here { is_marked self.new.rows.items row ≡ is }
+        ensures others { (p : ℕ) → p ≢ row → is_marked self.new.rows.items p ≡ is_marked self.old.rows.items p }
+        ensures shards { self.new.shards ≡ self.old.shards }
+        ensures length { vec_len self.new.rows ≡ vec_len self.old.rows }
+        ensures room { vec_capacity self.new.rows ≡ vec_capacity self.old.rows }
+    {
+        self.rows[row] = is;
+    }
+
     // Has the marks tell of given shards: of none, where they told of restored ones.
     fn tell_given(&mut self)
         ensures shards { self.new.shards ≡ MarkedShards.Given }
@@ -98,30 +137,33 @@ impl Marks {
         ensures room { vec_capacity self.new.rows ≡ vec_capacity self.old.rows }
     {
         self.tell_given();
-        mark(self.rows.as_mut_slice(), row, true);
+        self.set(row, true);
     }
 
-    // Ends the giving: of so many rows from one on, those without a given shard are marked as restored, and no other row
-    // is marked.
-    pub(crate) fn want_missing(&mut self, from: usize, count: usize)
-        requires { from + count ≤ vec_len self.old.rows }
-        ensures { WantsMissing from count self.old self.new }
+    // Whether row `row` is that of an original which isn't given.
+    fn is_missing(&self, shape: DecoderShape, row: usize) -> bool
+        requires marked { row < vec_len self.now.rows }
+        requires fits { original_row shape.frame shape.configuration.original_count < 2 ^ 64 }
+        ensures missing { shape.frame.originals_from ≤ row → row < original_row shape.frame shape.configuration.original_count
+            → result ≡ not (is_marked (given_marks self.now) row) }
+        ensures others { (row < shape.frame.originals_from) ⊎ (original_row shape.frame shape.configuration.original_count ≤ row) → result ≡ false }
+    {
+        let end = shape.frame.original_row(shape.configuration.original_count);
+        shape.frame.originals_from <= row && row < end && !self.is_given(row)
+    }
+
+    // Ends the giving: of the rows of a shape's originals, those without a given shard are marked as restored, and no
+    // other row is marked.
+    pub(crate) fn want_missing(&mut self, shape: DecoderShape)
+        requires { original_row shape.frame shape.configuration.original_count ≤ vec_len self.old.rows }
+        ensures { WantsMissing shape self.old self.new }
     {
         for row in 0..self.rows.len() {
-            let wanted = from <= row && row < from + count && !self.is_given(row);
-            mark(self.rows.as_mut_slice(), row, wanted);
+            let wanted = self.is_missing(shape, row);
+            self.set(row, wanted);
         }
         self.shards = MarkedShards::Restored;
     }
-}
-
-// Sets the mark of a row.
-fn mark(marks: &mut [bool], row: usize, is: bool)
-    requires { row < length marks.old }
-    ensures here { is_marked marks.new row ≡ is }
-    ensures others { (p : ℕ) → p ≢ row → is_marked marks.new p ≡ is_marked marks.old p }
-{
-    marks[row] = is;
 }
 
 // Clears all marks.

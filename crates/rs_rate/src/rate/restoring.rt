@@ -2,8 +2,8 @@
 //! originals.
 //!
 //! The given rows are multiplied by the locator of the erased rows, and all others cleared. The polynomial through
-//! them has as many zero coefficients at its end as shards are given beyond the originals exactly where some message
-//! agrees with all that is given. The polynomial plus its derivative takes at each erased row the wanted word times
+//! them has as many zero coefficients at its end as there are surplus shards exactly where some message agrees with
+//! all that is given. The polynomial plus its derivative takes at each erased row the wanted word times
 //! the locator's derivative. The method is that of Lin, Chung and Han in the form of Leopard-RS; the check is added.
 ghost use Rattle.std.specs.Prelude.{◌≡◌, ℕ, ◌+◌, ◌-◌, ◌/◌, ◌%◌, ◌^◌, ◌<◌, ◌≤◌, ◌↔◌, true, false, length, replicate, slice_index, vec_len};
 ghost use Rattle.rs_field.specs.words.StepBounds.{CountsRows, CountsUpTo, transform_steps};
@@ -47,16 +47,13 @@ pub(crate) fn restore_rows<E: Engine>(
     requires facts { CanBeRestored tally marks.old }
     requires located { length locator.now ≡ tally.shape.frame.row_count }
     ensures shape { SameShape rows.old rows.new }
-    ensures marks { WantsMissing tally.shape.frame.originals_from tally.shape.configuration.original_count marks.old marks.new }
+    ensures marks { WantsMissing tally.shape marks.old marks.new }
     ensures words { RestoresWords tally.shape (given_marks marks.old) locator.now tally.surplus (word rows.old) (word rows.new) result }
     ensures counts { CountsUpTo (restore_steps tally.shape tally.surplus) 0 0 steps.old steps.new }
 {
     let shape = tally.shape;
-    let agrees = interpolate(engine, steps, rows, marks.given(), locator, tally);
-    marks.want_missing(
-        shape.frame.originals_from,
-        shape.configuration.original_count,
-    );
+    let agrees = interpolate(engine, steps, rows, marks, locator, tally);
+    marks.want_missing(shape);
     if agrees && tally.missing > 0 {
         formal_derivative(steps, rows);
         engine.fft_wanted(steps, rows, 0, marks.restored(), 0);
@@ -71,22 +68,21 @@ fn interpolate<E: Engine>(
     engine: &E,
     steps: &mut Steps,
     rows: &mut ShardsRefMut<'_>,
-    given: &[bool],
+    marks: &Marks,
     locator: &[GfElement],
     tally: Tally,
 ) -> bool
     requires fits { Fits rows.old }
     requires count { rows.old.shard_count ≡ tally.shape.frame.row_count }
     requires len { rows.old.shard_len_64 ≡ row_len tally.shape.configuration.shard_bytes }
-    requires laid { DecoderCanBeLaid tally.shape }
-    requires marked { length given.now ≡ tally.shape.frame.row_count }
+    requires facts { CanBeRestored tally marks.now }
     requires located { length locator.now ≡ tally.shape.frame.row_count }
-    requires few_surplus { tally.surplus ≤ tally.shape.frame.row_count }
     ensures shape { SameShape rows.old rows.new }
-    ensures coefficients { AreCoefficients tally.shape given.now locator.now tally.surplus (word rows.old) (word rows.new) result }
+    ensures coefficients { AreCoefficients tally.shape (given_marks marks.now) locator.now tally.surplus (word rows.old) (word rows.new) result }
     ensures counts { CountsUpTo (tally.shape.frame.row_count + (transform_steps tally.shape.frame.row_count + tally.surplus)) 0 0 steps.old steps.new }
 {
     let shape = tally.shape;
+    let given = marks.given();
     locate_rows(engine, steps, rows, given, locator);
     engine.ifft_given(steps, rows, 0, given, 0);
     row_symbols_are_words(rows);
@@ -163,12 +159,12 @@ fn reveal_rows<E: Engine>(
     requires located { length locator.now ≡ rows.old.shard_count }
     ensures shape { SameShape rows.old rows.new }
     ensures revealed { (k s i : ℕ) → k < rows.old.shard_len_64 → s < 32 → i < shape.configuration.original_count
-        → let p = original_row shape i in is_marked (restored_marks marks.now) p ≡ true
+        → let p = original_row shape.frame i in is_marked (restored_marks marks.now) p ≡ true
         → word rows.new k s p ≡ product (word rows.old k s p) (power (65535 - slice_index locator.now p)) }
     ensures counts { CountsUpTo shape.configuration.original_count 0 0 steps.old steps.new }
 {
     for i in 0..shape.configuration.original_count {
-        let row = shape.original_row(i);
+        let row = shape.frame.original_row(i);
         if marks.is_restored(row) {
             mul_row(engine, steps, rows, row, GF_MODULUS - locator[row]);
         }

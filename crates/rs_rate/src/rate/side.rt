@@ -29,8 +29,8 @@ impl Side {
         ensures { result ≡ side_row self shape index }
     {
         match self {
-            Side::Original => shape.original_row(index),
-            Side::Recovery => shape.frame.recovery_from + index,
+            Side::Original => shape.frame.original_row(index),
+            Side::Recovery => shape.frame.recovery_row(index),
         }
     }
 

@@ -52,8 +52,8 @@ returns-clause-answer g c = λ rate is.
     let chunks = c.restore-agrees.new.memory.chunks.items in
     let tally = c.tally-tally.ensures in
     let counts = tally_counts s c.tally-tally.result old.memory.marks tally.shape tally.facts in
-    let missing : WantsMissing c.args.rows.now.shape.frame.originals_from c.args.rows.now.shape.configuration.original_count c.args.rows.now.memory.marks c.restore-agrees.new.memory.marks =
-    subst (λ (x : DecoderShape). WantsMissing x.frame.originals_from x.configuration.original_count old.memory.marks c.restore-agrees.new.memory.marks) tally.shape c.restore-agrees.ensures.marks in
+    let missing : WantsMissing c.args.rows.now.shape c.args.rows.now.memory.marks c.restore-agrees.new.memory.marks =
+    subst (λ (x : DecoderShape). WantsMissing x old.memory.marks c.restore-agrees.new.memory.marks) tally.shape c.restore-agrees.ensures.marks in
     let most_too = given_row_count-most given s.frame.recovery_from s.configuration.recovery_count in
     let sized = λ (i : ℕ) (inside : i < s.configuration.original_count).
     subst (λ (xs : Chunks). IsShard s.configuration.shard_bytes (shard_in_order xs s.configuration.shard_bytes (from + i))) c.as_slice.ensures.value
@@ -98,8 +98,8 @@ returns-clause-counted g c =
     let given = given_marks old.memory.marks in
     let new = c.restore-agrees.new.memory in
     let counts = tally_counts s c.tally-tally.result old.memory.marks c.tally-tally.ensures.shape c.tally-tally.ensures.facts in
-    let missing : WantsMissing c.args.rows.now.shape.frame.originals_from c.args.rows.now.shape.configuration.original_count c.args.rows.now.memory.marks c.restore-agrees.new.memory.marks =
-    subst (λ (x : DecoderShape). WantsMissing x.frame.originals_from x.configuration.original_count old.memory.marks new.marks) c.tally-tally.ensures.shape c.restore-agrees.ensures.marks in
+    let missing : WantsMissing c.args.rows.now.shape c.args.rows.now.memory.marks c.restore-agrees.new.memory.marks =
+    subst (λ (x : DecoderShape). WantsMissing x old.memory.marks new.marks) c.tally-tally.ensures.shape c.restore-agrees.ensures.marks in
     let counted = length-restored given (restored_marks new.marks) new.chunks.items s.configuration.shard_bytes s.frame.originals_from s.configuration.original_count missing.missing in
     elim c.if-agrees.branch [
       | then-agrees w ↦ let is : c.if-agrees.answer ≡ Ok c.tally-tally.result.missing = w.answer-is in rw (is, sub-zero) (omega (arith, counted, counts.0))

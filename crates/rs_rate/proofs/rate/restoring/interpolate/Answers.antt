@@ -6,7 +6,7 @@ use Rattle.rs_rate.proofs.rate.restoring.interpolate.Goals as goal
 
 pub ifft_given-requires-clause-power : goal.ifft_given-requires-clause-power
 ifft_given-requires-clause-power g c =
-    let p = rows_power c.args.tally.shape c.requires.laid in (p.0, c.requires.marked ∙ p.1)
+    let p = rows_power c.args.tally.shape c.requires.facts.laid in (p.0, c.given-given.ensures.length ∙ c.requires.facts.marked ∙ p.1)
 
 pub returns-clause-coefficients : goal.returns-clause-coefficients
 returns-clause-coefficients g c =
@@ -16,12 +16,13 @@ returns-clause-coefficients g c =
     let located_shape = c.locate_rows.ensures.shape in
     let shape = c.ifft_given.ensures.shape in
     let rows = s.frame.row_count in
-    record {
+    let marked = c.given-given.ensures.length ∙ c.requires.facts.marked in
+    rw (← c.given-given.ensures.marks) (record {
       are_words = λ k t i hk ht hi. c.row_symbols_are_words.ensures k t i (omega (arith, hk, shape.len_64, located_shape.len_64, c.requires.len)) ht (omega (arith, hi, shape.count, located_shape.count, c.requires.count));
       of_located = λ k t hk ht i hi.
           sym (c.locate_rows.ensures.located k t i (omega (arith, hk, c.requires.len)) ht (omega (arith, hi, c.requires.count)))
-          ∙ from_row_zero _ rows i (word c.locate_rows.new.rows k t) (word passed k t) c.requires.marked
-          (c.ifft_given.ensures.values k t i (omega (arith, hk, located_shape.len_64, c.requires.len)) ht (omega (arith, hi, c.requires.marked)));
+          ∙ from_row_zero _ rows i (word c.locate_rows.new.rows k t) (word passed k t) marked
+          (c.ifft_given.ensures.values k t i (omega (arith, hk, located_shape.len_64, c.requires.len)) ht (omega (arith, hi, marked)));
       checked = checked_rows rows c.args.tally.surplus s.configuration.shard_bytes passed.shard_count (rows - c.args.tally.surplus) (word passed) c.are_zero_rows.result c.are_zero_rows.result
-          c.requires.few_surplus refl (shape.count ∙ located_shape.count ∙ c.requires.count) refl c.are_zero_rows.ensures.zero;
-    }
+          c.requires.facts.few_surplus refl (shape.count ∙ located_shape.count ∙ c.requires.count) refl c.are_zero_rows.ensures.zero;
+    })

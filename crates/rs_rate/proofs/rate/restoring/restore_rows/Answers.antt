@@ -37,7 +37,7 @@ returns-then-tally-gt0-clause-words g c =
     let wanted_size = c.restored.ensures.length ∙ missing.length ∙ c.requires.facts.marked in
     record {
       coefficients = word passed;
-      found = rw (← c.given.ensures.marks) c.interpolate-agrees.ensures.coefficients;
+      found = c.interpolate-agrees.ensures.coefficients;
       revealed = λ _ k t hk ht i hi none. (
         word added k t,
         subst (λ (n : ℕ). IsDerivativeAdded n (word passed k t) (word added k t)) (shape.count ∙ c.requires.count)
@@ -56,7 +56,7 @@ returns-else-agrees-clause-words g c =
     let marks = given_marks c.args.marks.now in
     record {
       coefficients = word c.interpolate-agrees.new.rows;
-      found = rw (← c.given.ensures.marks) c.interpolate-agrees.ensures.coefficients;
+      found = c.interpolate-agrees.ensures.coefficients;
       revealed = λ agreed k t hk ht i hi none. elim c.else-agrees.branch [
         | else-agrees-via-then-agrees+else-tally-gt0 w ↦
             absurd (true≢false (sym (all_given marks s.frame.originals_from s.configuration.original_count (omega (arith, w.if-tally-gt0.false, c.requires.facts.missing_counted)) i hi) ∙ none))
