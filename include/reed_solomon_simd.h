@@ -29,10 +29,10 @@ enum rs_status {
     RS_OUT_OF_MEMORY = 1,
     RS_UNSUPPORTED_SHARD_COUNT = 2,      /* first: original_count, second: recovery_count */
     RS_INVALID_SHARD_SIZE = 3,           /* first: the size, which is zero or odd */
-    RS_DIFFERENT_SHARD_SIZE = 4,         /* first: the size that is wanted, second: the one that came */
-    RS_TOO_FEW_ORIGINAL_SHARDS = 5,      /* first: original_count, second: how many came */
+    RS_DIFFERENT_SHARD_SIZE = 4,         /* first: the size that is wanted, second: the one that is given */
+    RS_TOO_FEW_ORIGINAL_SHARDS = 5,      /* first: original_count, second: how many are given */
     RS_TOO_MANY_ORIGINAL_SHARDS = 6,     /* first: original_count */
-    RS_NOT_ENOUGH_SHARDS = 7,            /* first: original_count, second: how many originals came, third: recovery shards */
+    RS_NOT_ENOUGH_SHARDS = 7,            /* first: original_count, second: how many originals are given, third: recovery shards */
     RS_INVALID_ORIGINAL_SHARD_INDEX = 8, /* first: original_count, second: the index */
     RS_INVALID_RECOVERY_SHARD_INDEX = 9, /* first: recovery_count, second: the index */
     RS_DUPLICATE_ORIGINAL_SHARD_INDEX = 10, /* first: the index */
@@ -40,7 +40,7 @@ enum rs_status {
     RS_INCONSISTENT_SHARDS = 12,         /* more than k shards, with which no message agrees; first: originals, second: recovery shards */
     RS_WRONG_LENGTH = 13,                /* a buffer's length isn't count * size, or a room's isn't its shard's; first: the one
                                             that is wanted, SIZE_MAX where it doesn't fit, second: its own */
-    RS_WRONG_NUMBER_OF_ROOMS = 14        /* first: how many shards are to be written, second: how many rooms came */
+    RS_WRONG_NUMBER_OF_ROOMS = 14        /* first: how many shards are to be written, second: how many rooms are given */
 };
 
 /* Why a call was refused: one of enum rs_status, and its counts; 0 where there are none. */

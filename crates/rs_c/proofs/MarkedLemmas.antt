@@ -20,38 +20,38 @@ count-present marks = is_count_by present (λ mark. not (mark == 0)) refl (λ ma
 
 -- no index from i on is among those given
 abbrev IsBelow : ℕ → List ℕ → Type 0
-IsBelow i came = (j : ℕ) → i ≤ j → list_any (nat_eq j) came ≡ false
+IsBelow i given = (j : ℕ) → i ≤ j → list_any (nat_eq j) given ≡ false
 
 -- an index that is in range and new is noted
-noted-next : (k i : ℕ) (came : List ℕ) → i < k → IsBelow i came → noted k came i ≡ Ok (i ∷ came)
-noted-next k i came inside below =
-    ap (λ (b : Bool). noted_by k came i b (list_any (nat_eq i) came)) (lt-leb k i inside) ∙ ap (λ (b : Bool). noted_by k came i false b) (below i (omega arith))
+noted-next : (k i : ℕ) (given : List ℕ) → i < k → IsBelow i given → noted k given i ≡ Ok (i ∷ given)
+noted-next k i given inside below =
+    ap (λ (b : Bool). noted_by k given i b (list_any (nat_eq i) given)) (lt-leb k i inside) ∙ ap (λ (b : Bool). noted_by k given i false b) (below i (omega arith))
 
 -- and then none from the next one on is among them
-below-next : (i : ℕ) (came : List ℕ) → IsBelow i came → IsBelow (i + 1) (i ∷ came)
-below-next i came below j h = ap (λ (b : Bool). b || list_any (nat_eq j) came) (ne_eqb j i (λ same. omega (arith, same, h))) ∙ below j (omega (arith, h))
+below-next : (i : ℕ) (given : List ℕ) → IsBelow i given → IsBelow (i + 1) (i ∷ given)
+below-next i given below j h = ap (λ (b : Bool). b || list_any (nat_eq j) given) (ne_eqb j i (λ same. omega (arith, same, h))) ∙ below j (omega (arith, h))
 
 -- items are noted, so many
 abbrev NotesAll : ℕ → List ℕ → Items → ℕ → Type 0
-NotesAll k came items count =
-    (all : List ℕ) × (one_by_one (λ so_far item. noted k so_far item.0) came items ≡ Ok all) × (length all ≡ length came + count)
+NotesAll k given items count =
+    (all : List ℕ) × (one_by_one (λ so_far item. noted k so_far item.0) given items ≡ Ok all) × (length all ≡ length given + count)
 
 -- the marked originals from index i on, as many as there are marks
-notes-all : (k i size : ℕ) (marks bytes came : List ℕ) → i + length marks ≡ k → IsBelow i came → NotesAll k came (marked i size marks bytes) (present marks)
-notes-all k i size [] bytes came ends below = (came, refl, omega arith)
-notes-all k i size (mark ∷ marks) bytes came ends below =
+notes-all : (k i size : ℕ) (marks bytes given : List ℕ) → i + length marks ≡ k → IsBelow i given → NotesAll k given (marked i size marks bytes) (present marks)
+notes-all k i size [] bytes given ends below = (given, refl, omega arith)
+notes-all k i size (mark ∷ marks) bytes given ends below =
     by_mark (mark == 0)
-    (notes-all k (i + 1) size marks (drop size bytes) came (omega (arith, ends)) (λ j h. below j (omega (arith, h))))
-    (notes-all k (i + 1) size marks (drop size bytes) (i ∷ came) (omega (arith, ends)) (below-next i came below))
+    (notes-all k (i + 1) size marks (drop size bytes) given (omega (arith, ends)) (λ j h. below j (omega (arith, h))))
+    (notes-all k (i + 1) size marks (drop size bytes) (i ∷ given) (omega (arith, ends)) (below-next i given below))
   where
-    by_mark : (lost : Bool) → NotesAll k came (marked (i + 1) size marks (drop size bytes)) (present marks)
-        → NotesAll k (i ∷ came) (marked (i + 1) size marks (drop size bytes)) (present marks)
-        → NotesAll k came (if lost then marked (i + 1) size marks (drop size bytes) else (i, take size bytes) ∷ marked (i + 1) size marks (drop size bytes))
+    by_mark : (lost : Bool) → NotesAll k given (marked (i + 1) size marks (drop size bytes)) (present marks)
+        → NotesAll k (i ∷ given) (marked (i + 1) size marks (drop size bytes)) (present marks)
+        → NotesAll k given (if lost then marked (i + 1) size marks (drop size bytes) else (i, take size bytes) ∷ marked (i + 1) size marks (drop size bytes))
         (cond (not lost) (1 + present marks) (present marks))
     by_mark true without with = without
     by_mark false without with = (
       with.0,
-      ap (result_and_then (λ next. one_by_one (λ so_far item. noted k so_far item.0) next (marked (i + 1) size marks (drop size bytes)))) (noted-next k i came (omega (arith, ends)) below) ∙ with.1,
+      ap (result_and_then (λ next. one_by_one (λ so_far item. noted k so_far item.0) next (marked (i + 1) size marks (drop size bytes)))) (noted-next k i given (omega (arith, ends)) below) ∙ with.1,
       with.2 ∙ omega arith,
     )
 
@@ -63,5 +63,5 @@ originals_alone-marked k size marks bytes many =
     let counted : length notes.0 ≡ count_by (λ mark. not (mark == 0)) marks =
     notes.2 ∙ (let e : 0 + present marks ≡ present marks = omega arith in e) ∙ count-present marks
     in
-    ap (result_and_then (λ (came : List ℕ). all_or_refused k (length came))) notes.1
+    ap (result_and_then (λ (given : List ℕ). all_or_refused k (length given))) notes.1
     ∙ ap (all_or_refused k) counted

@@ -47,4 +47,4 @@ WantsNoMemory k marks answer = count_by (λ mark. not (mark == 0)) (drop k marks
 
 -- whether all k originals are given, where so many are and no recovery shard
 abbrev pub all_or_refused : ℕ → ℕ → Result (Unit {0}) Error
-all_or_refused k came = if nat_lt came k then Err (NotEnoughShards k came 0) else Ok tt
+all_or_refused k given = if nat_lt given k then Err (NotEnoughShards k given 0) else Ok tt

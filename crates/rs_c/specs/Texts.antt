@@ -8,7 +8,7 @@ use Rattle.rs_c.specs.declared.fault.Fault.TheVariants.{Refused, WrongLength, Wr
 use Rattle.rs_c.specs.declared.fault.RsFault.{RsFault}
 use Rattle.rs_c.specs.FaultTexts.{text_of}
 
--- the refusal of shards that came that has these numbers
+-- the refusal of a decoder's shards that has these numbers
 abbrev pub shard_refusal_with : RsFault → Option Error
 shard_refusal_with fault =
     if fault.number == 8 then Some (InvalidOriginalShardIndex fault.first fault.second)

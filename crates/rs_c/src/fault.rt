@@ -48,7 +48,7 @@ impl fmt::Display for Fault {
 
 /// A fault as C reads it: its number, and up to three counts, indexes or sizes.
 #[repr(C)]
-#[derive(Clone, Copy)]
+#[derive(Clone, Copy, Debug, PartialEq, Eq, Hash)]
 pub struct RsFault {
     pub number: u32,
     pub first: usize,

@@ -131,7 +131,7 @@ fn first_marked(marks: &[u8], from: usize) -> usize
 
 /// A shard that lies anywhere, with its index.
 #[repr(C)]
-#[derive(Clone, Copy)]
+#[derive(Clone, Copy, Debug, PartialEq, Eq, Hash)]
 pub struct RsShard<'a> {
     pub index: usize,
     pub bytes: &'a [u8],

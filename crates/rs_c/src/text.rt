@@ -59,7 +59,7 @@ fn read_refusal(fault: RsFault) -> Option<Error>
     }
 }
 
-// Of the shards that came here.
+// Of the refusals of a decoder's shards.
 fn read_shard_refusal(fault: RsFault) -> Option<Error>
     ensures { result ≡ shard_refusal_with fault }
 {

@@ -73,7 +73,7 @@ fn give_from<C: Level>(level: &mut C, kept: &Kept, action: &str, from: usize) ->
 }
 
 // Gives the shards of a word: those of the encoder, or those of the decoder behind `o` or `r`. The rest tells them:
-// I=SHARD, or SHARD alone; @A..B, shards of the message or of those that came last; or `end`.
+// I=SHARD, or SHARD alone; @A..B, shards of the message or of those that were answered last; or `end`.
 fn give_word<C: Level>(level: &mut C, kept: &Kept, word: &str) -> Result<()> {
     let (role, rest) = match (word.strip_prefix('o'), word.strip_prefix('r')) {
         (Some(rest), _) => (Role::Original, rest),

@@ -101,8 +101,8 @@ fn restored_agrees(lent: &DecoderResult<'_>) -> bool {
     let mut walk = lent.restored_original_iter();
     let all = walk.len();
     let mut agrees = true;
-    for came in 0..all {
-        agrees = agrees && has_left(&walk, all - came);
+    for walked in 0..all {
+        agrees = agrees && has_left(&walk, all - walked);
         let (index, shard) = walk.next().unwrap_or((usize::MAX, &[]));
         agrees = agrees && lent.restored_original(index) == Some(shard);
     }

@@ -13,9 +13,9 @@ loop-shard-preserved c =
     let old : List ℕ = c.loop-shard.recovery in
     let shard : List ℕ = c.in-Some.shard.now in
     let next : List Shard = c.next.new.self in
-    let came : c.loop-shard.shard-iterator ≡ shard ∷ next = search rules in
+    let taken : c.loop-shard.shard-iterator ≡ shard ∷ next = search rules in
     let w : IsWritten (joined (recovery_shards c.args.lent.now)) at old (shard ++ joined next) =
-    subst (λ (shards : List Shard). IsWritten (joined (recovery_shards c.args.lent.now)) at old (joined shards)) came c.loop-shard.invariant
+    subst (λ (shards : List Shard). IsWritten (joined (recovery_shards c.args.lent.now)) at old (joined shards)) taken c.loop-shard.invariant
     in
     let room : at + length shard ≤ length old = written-room _ at old shard (joined next) w in
     let copied : c.copy_from_slice.new.self ≡ shard = search rules in

@@ -10,11 +10,11 @@ returns-then-rooms-index g c =
     let i : ℕ = c.loop-index.index in
     let rooms : List (MutBor (List ℕ)) = c.args.rooms.now in
     let shard : Shard = c.in-Some.shard.now in
-    let came : g.S.Lent.left c.loop-index.shards ≡ shard ∷ g.S.Lent.left c.take_next.new.self = search rules in
+    let taken : g.S.Lent.left c.loop-index.shards ≡ shard ∷ g.S.Lent.left c.take_next.new.self = search rules in
     let all = bytes-count rooms in
     let own : get_or (bytes_in rooms) i [] ≡ (get_or rooms i (record { ref_ptr = (0, 0); ghost_name = 0; now = [] })).now = bytes-at i rooms _ (omega arith) in
     ap (λ (room : List ℕ). Err (WrongLength (length shard) (length room))) (sym own)
-    ∙ sym (fit-other i shard (g.S.Lent.left c.take_next.new.self) (g.S.Lent.left c.loop-index.shards) (bytes_in rooms) (omega (arith, all)) came
+    ∙ sym (fit-other i shard (g.S.Lent.left c.take_next.new.self) (g.S.Lent.left c.loop-index.shards) (bytes_in rooms) (omega (arith, all)) taken
     (λ same. c.if-rooms-index.true (ap length (sym own) ∙ same)))
     ∙ c.loop-index.invariant
 
@@ -23,9 +23,9 @@ loop-index-preserved g c =
     let i : ℕ = c.loop-index.index in
     let rooms : List (MutBor (List ℕ)) = c.args.rooms.now in
     let shard : Shard = c.in-Some.shard.now in
-    let came : g.S.Lent.left c.loop-index.shards ≡ shard ∷ g.S.Lent.left c.take_next.new.self = search rules in
+    let taken : g.S.Lent.left c.loop-index.shards ≡ shard ∷ g.S.Lent.left c.take_next.new.self = search rules in
     let all = bytes-count rooms in
-    fit-same i shard (g.S.Lent.left c.take_next.new.self) (g.S.Lent.left c.loop-index.shards) (bytes_in rooms) (omega (arith, all)) came
+    fit-same i shard (g.S.Lent.left c.take_next.new.self) (g.S.Lent.left c.loop-index.shards) (bytes_in rooms) (omega (arith, all)) taken
     (ap length (bytes-at i rooms _ (omega arith)) ∙ c.if-rooms-index.false)
     ∙ c.loop-index.invariant
 
