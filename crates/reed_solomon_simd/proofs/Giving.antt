@@ -64,12 +64,12 @@ module _ {I A T : Type 0} (steps : I → Option A → I → Type 0) (view : A �
       → (calls : Calls steps after) × ((others : List T) → Begins view calls others → P (view item ∷ others)) → (calls : Calls steps iterator) × ((list : List T) → Begins view calls list → P list)
   first-then {iterator} {after} {item} gives run = (more-calls iterator after item gives run.0, more-run iterator after item gives run.0 run.1)
 
-module _ {I A S T : Type 0} (steps : I → Option A → I → Type 0) (view : A → T) (step : S → T → Result S Error) where
+module _ {I A S T : Type 0} (steps : I → Option A → I → Type 0) (view : A → T) (add : S → T → Result S Error) where
   -- calls gave items, and all lists that begin with them lead on from here by what comes after
   pub record LeadsOn (begin : I) (first : S) (iterator : I) (now : S) : Type 0 where
     pub taken : List A
     pub gave : Yields steps begin taken iterator
-    pub led : (more : List T) → one_by_one step first (map view taken ++ more) ≡ one_by_one step now more
+    pub led : (more : List T) → one_by_one add first (map view taken ++ more) ≡ one_by_one add now more
 
 -- one more item, and what comes after it
 map-further : {A T : Type 0} (view : A → T) (items : List A) (item : A) (more : List T) → map view (items ++ item ∷ []) ++ more ≡ map view items ++ view item ∷ more
@@ -99,22 +99,22 @@ reaches-ok outcome P s is holds = subst (λ o. Reaches o (Ok tt) P) (sym is) (re
 pub reaches-err : {S : Type 0} (outcome : Result S Error) (P : S → Type 0) (result : Result (Unit {0}) Error) (e : Error) → outcome ≡ Err e → result ≡ Err e → Reaches outcome result P
 reaches-err outcome P result e is refused = subst (λ o. Reaches o result P) (sym is) refused
 
-module _ {I A S T : Type 0} {steps : I → Option A → I → Type 0} {view : A → T} {step : S → T → Result S Error} where
+module _ {I A S T : Type 0} {steps : I → Option A → I → Type 0} {view : A → T} {add : S → T → Result S Error} where
   -- an item that is taken leads on
-  pub leads-taken : {begin iterator after : I} {first now next : S} {item : A} → LeadsOn steps view step begin first iterator now → steps iterator (Some item) after
-      → step now (view item) ≡ Ok next → LeadsOn steps view step begin first after next
+  pub leads-taken : {begin iterator after : I} {first now next : S} {item : A} → LeadsOn steps view add begin first iterator now → steps iterator (Some item) after
+      → add now (view item) ≡ Ok next → LeadsOn steps view add begin first after next
   leads-taken {begin} {iterator} {after} {first} {now} {next} {item} leads gives taken =
       record {
         taken = leads.taken ++ item ∷ [];
         gave = Yields-further steps leads.taken item begin iterator after leads.gave gives;
         led = λ more.
-            ap (one_by_one step first) (map-further view leads.taken item more) ∙ leads.led (view item ∷ more) ∙ ap (result_and_then (λ s. one_by_one step s more)) taken;
+            ap (one_by_one add first) (map-further view leads.taken item more) ∙ leads.led (view item ∷ more) ∙ ap (result_and_then (λ s. one_by_one add s more)) taken;
       }
 
   -- an item that is refused decides, whatever would come after it
   pub leads-refused : {begin iterator after : I} {first now : S} {item : A} {e : Error} {result : Result (Unit {0}) Error} (P : S → Type 0)
-      → LeadsOn steps view step begin first iterator now → steps iterator (Some item) after → step now (view item) ≡ Err e → result ≡ Err e
-      → (calls : Calls steps begin) × ((items : List T) → Begins view calls items → Reaches (one_by_one step first items) result P)
+      → LeadsOn steps view add begin first iterator now → steps iterator (Some item) after → add now (view item) ≡ Err e → result ≡ Err e
+      → (calls : Calls steps begin) × ((items : List T) → Begins view calls items → Reaches (one_by_one add first items) result P)
   leads-refused {begin} {iterator} {after} {first} {now} {item} {e} {result} P leads gives refused told = (
     record {
       items = leads.taken ++ item ∷ [];
@@ -122,22 +122,22 @@ module _ {I A S T : Type 0} {steps : I → Option A → I → Type 0} {view : A 
       gave = (after, Yields-further steps leads.taken item begin iterator after leads.gave gives, λ ended. absurd (true≢false (sym ended)));
     },
     λ items begins.
-        reaches-err (one_by_one step first items) P result e
+        reaches-err (one_by_one add first items) P result e
         (
-        ap (one_by_one step first) (begins.1 ∙ map-further view leads.taken item begins.0) ∙ leads.led (view item ∷ begins.0)
-        ∙ ap (result_and_then (λ s. one_by_one step s begins.0)) refused
+        ap (one_by_one add first) (begins.1 ∙ map-further view leads.taken item begins.0) ∙ leads.led (view item ∷ begins.0)
+        ∙ ap (result_and_then (λ s. one_by_one add s begins.0)) refused
         )
         told,
   )
 
   -- where the items end, all were taken
-  pub leads-ended : {begin iterator after : I} {first now : S} (P : S → Type 0) → LeadsOn steps view step begin first iterator now → steps iterator None after → P now
-      → (calls : Calls steps begin) × ((items : List T) → Begins view calls items → Reaches (one_by_one step first items) (Ok tt) P)
+  pub leads-ended : {begin iterator after : I} {first now : S} (P : S → Type 0) → LeadsOn steps view add begin first iterator now → steps iterator None after → P now
+      → (calls : Calls steps begin) × ((items : List T) → Begins view calls items → Reaches (one_by_one add first items) (Ok tt) P)
   leads-ended {begin} {iterator} {after} {first} {now} P leads gives holds = (
     record { items = leads.taken; ended = true; gave = (iterator, leads.gave, λ _. (after, gives)) },
     λ items begins.
-        reaches-ok (one_by_one step first items) P now
-        (ap (one_by_one step first) (begins.1 ∙ ap (λ more. map view leads.taken ++ more) (begins.2 refl)) ∙ leads.led []) holds,
+        reaches-ok (one_by_one add first items) P now
+        (ap (one_by_one add first) (begins.1 ∙ ap (λ more. map view leads.taken ++ more) (begins.2 refl)) ∙ leads.led []) holds,
   )
 
 -- a call that answered a success led to its state
@@ -150,14 +150,14 @@ pub reached-err : {S : Type 0} (outcome : Result S Error) (P : S → Type 0) (e 
 reached-err (Ok s) P e reached = absurd (let h = reached.0 in let no : ⊥ = cc in no)
 reached-err (Err f) P e reached = let same : f ≡ e = cc in ap Err same
 
-module _ {S T : Type 0} (step : S → T → Result S Error) where
-  -- a step that is taken leads to where the others do
-  pub steps-ok : (s t : S) (x : T) (xs : List T) (o : Result S Error) → step s x ≡ Ok t → one_by_one step t xs ≡ o → one_by_one step s (x ∷ xs) ≡ o
-  steps-ok s t x xs o taken led = ap (result_and_then (λ next. one_by_one step next xs)) taken ∙ led
+module _ {S T : Type 0} (add : S → T → Result S Error) where
+  -- an add that succeeds leads to where the others do
+  pub adds-ok : (s t : S) (x : T) (xs : List T) (o : Result S Error) → add s x ≡ Ok t → one_by_one add t xs ≡ o → one_by_one add s (x ∷ xs) ≡ o
+  adds-ok s t x xs o taken led = ap (result_and_then (λ next. one_by_one add next xs)) taken ∙ led
 
-  -- a step that is refused decides
-  pub steps-err : (s : S) (x : T) (xs : List T) (e : Error) → step s x ≡ Err e → one_by_one step s (x ∷ xs) ≡ Err e
-  steps-err s x xs e refused = ap (result_and_then (λ next. one_by_one step next xs)) refused
+  -- an add that is refused decides
+  pub adds-err : (s : S) (x : T) (xs : List T) (e : Error) → add s x ≡ Err e → one_by_one add s (x ∷ xs) ≡ Err e
+  adds-err s x xs e refused = ap (result_and_then (λ next. one_by_one add next xs)) refused
 
 -- what holds of all lists that begin with what calls gave holds of those that each run gives
 pub always-run : {I A T : Type 0} {steps : I → Option A → I → Type 0} {view : A → T} {iterator : I} {P : List T → Type 0}

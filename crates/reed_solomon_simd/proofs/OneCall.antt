@@ -17,19 +17,19 @@ use Rattle.rs_field.proofs.of_code.Listed.{listed_from-zero}
 use Rattle.rs_field.proofs.of_code.OneRoundTrip.{coded_by}
 use Rattle.reed_solomon_simd.specs.Giving.{IsEncoding, IsDecoding, decoding_any}
 
--- ---- steps one after another
+-- ---- calls one after another
 
 -- what set up a coder was a success
 started-made : (o : Result (Unit {0}) Error) → UpToMemory o (Ok tt) → o ≡ Ok tt
 started-made o (inl same) = sym same
 started-made o (inr lacks) = let refused = lacks.1 in cc
 
--- where a second step succeeded so did the first
+-- where a second call succeeded so did the first
 first-ok : {S T : Type 0} (f : S → Result T Error) (o : Result S Error) (t : T) → Ok t ≡ result_and_then f o → (s : S) × (o ≡ Ok s) × (f s ≡ Ok t)
 first-ok f (Ok s) t is = (s, refl, sym is)
 first-ok f (Err e) t is = absurd (let no : ⊥ = cc in no)
 
--- where the second step refuses nothing, the first refused
+-- where the second call refuses nothing, the first refused
 first-err : {S T : Type 0} (f : S → T) (o : Result S Error) (e : Error) → Err e ≡ result_and_then (λ s. Ok (f s)) o → o ≡ Err e
 first-err f (Ok s) e is = absurd (let no : ⊥ = cc in no)
 first-err f (Err x) e is = let same : e ≡ x = cc in ap Err (sym same)
@@ -115,12 +115,12 @@ module _ (k r : ℕ) (shards : List Shard) (s : EncoderState) (is : IsEncoding k
 
 -- ---- decoders
 
--- what each step keeps all keep
-kept-by-all : {S T A : Type 0} (step : S → T → Result S Error) (view : S → A) (kept : (s t : S) (x : T) → step s x ≡ Ok t → view t ≡ view s)
-    → (items : List T) (s t : S) → one_by_one step s items ≡ Ok t → view t ≡ view s
-kept-by-all step view kept [] s t is = ap view (let same : t ≡ s = cc in same)
-kept-by-all step view kept (x ∷ xs) s t is =
-    let one = first-ok (λ next. one_by_one step next xs) (step s x) t (sym is) in kept-by-all step view kept xs one.0 t one.2 ∙ kept s one.0 x one.1
+-- what each add keeps all keep
+kept-by-all : {S T A : Type 0} (add : S → T → Result S Error) (view : S → A) (kept : (s t : S) (x : T) → add s x ≡ Ok t → view t ≡ view s)
+    → (items : List T) (s t : S) → one_by_one add s items ≡ Ok t → view t ≡ view s
+kept-by-all add view kept [] s t is = ap view (let same : t ≡ s = cc in same)
+kept-by-all add view kept (x ∷ xs) s t is =
+    let one = first-ok (λ next. one_by_one add next xs) (add s x) t (sym is) in kept-by-all add view kept xs one.0 t one.2 ∙ kept s one.0 x one.1
 
 -- an original that is added leaves the configuration, and so does a recovery shard
 kept-original : (s t : DecoderState) (item : ℕ × Shard) → with_original s item.0 item.1 ≡ Ok t → t.configuration ≡ s.configuration

@@ -1,4 +1,4 @@
--- From the steps of an encode over buffers to its answer.
+-- From the calls of an encode over buffers to its answer.
 use Rattle.std.proofs.Common.{◌≡◌, ℕ, zero, suc, ◌-◌, ◌*◌, ◌^◌, ◌==◌, Bool, true, false, List, length, take, nat_lt, if◌then◌else◌, Result, Ok, Err, MatchResult, sym, ap, subst, ◌∙◌, refl, arith}
 use Rattle.std.proofs.Math.Nat.{suc-mul}
 use Rattle.std.proofs.lemmas.Bool.{eqb-true}

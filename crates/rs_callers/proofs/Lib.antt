@@ -2,5 +2,5 @@ pub mod LentWalks
 pub mod LentRows
 pub mod LentHalves
 pub mod Chains
-pub mod Stepping
+pub mod InTurn
 pub mod LeftCount

@@ -1,4 +1,4 @@
--- Steps of an encoder's state, and what setting up answers.
+-- Outcomes of an encoder's calls, and what setting up answers.
 use Rattle.std.proofs.Common.{◌≡◌, ℕ, ◌<◌, ◌≤◌, ◌*◌, ◌^◌, ◌%◌, ◌++◌, ◌∷◌, [], length, refl, sym, ap, ap₂, ◌∙◌, subst, Bool, true, false, cond}
 use Rattle.std.specs.Prelude.{nat_le, Result, Ok, Err, OnOk, OnErr, not, ◌||◌, ◌==◌, List, nat_lt, is_ok, IsOkAnd, MatchResult}
 use Rattle.std.proofs.lemmas.Bool.{lt-leb, eq-eqb, ltb-false}

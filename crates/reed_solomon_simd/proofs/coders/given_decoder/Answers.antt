@@ -2,7 +2,7 @@ use Rattle.std.proofs.Common.{rules, ◌∷◌, Ok, Err}
 use Rattle.rs_field.specs.code.Counts.{default_rate}
 use Rattle.rs_field.specs.code.Decoder.{with_recovery}
 use Rattle.rs_rate.specs.DecoderView.{decoder_state}
-use Rattle.reed_solomon_simd.proofs.Giving.{no-calls, ended-both, first-both, outcome-ok, outcome-err, reached-ok, reached-err, steps-ok, steps-err}
+use Rattle.reed_solomon_simd.proofs.Giving.{no-calls, ended-both, first-both, outcome-ok, outcome-err, reached-ok, reached-err, adds-ok, adds-err}
 use Rattle.reed_solomon_simd.proofs.OneCall.{decoding-none, decoding-unset, decoding-given, both-ok, both-err}
 use Rattle.reed_solomon_simd.proofs.coders.given_decoder.Goals as goal
 
@@ -42,7 +42,7 @@ returns-in_err-add_recovery_shard g c =
       no-calls c.next.new.self,
       λ originals others begins further.
           let led = decoding-given c.args.counts.original_count c.args.counts.recovery_count originals (c.in-Some.first_index, c.in-Some.first_shard.now) others _ c.in_ok-decoder.ensures.answer c.in_ok-decoder.ensures.made.0 _
-          (both-ok (decoder_state default_rate c.in_ok-decoder.decoder.rows) (decoder_state default_rate c.give_originals.new.decoder.rows) originals ((c.in-Some.first_index, c.in-Some.first_shard.now) ∷ others) _ (reached-ok _ _ (c.in_ok-give_originals.ensures.1 originals begins)) (steps-err (λ now item. with_recovery now item.0 item.1) (decoder_state default_rate c.give_originals.new.decoder.rows) (c.in-Some.first_index, c.in-Some.first_shard.now) others _ (outcome-err (with_recovery (decoder_state default_rate c.give_originals.new.decoder.rows) c.in-Some.first_index c.in-Some.first_shard.now) _ c.in_err-add_recovery_shard.ensures.answer))) in search rules,
+          (both-ok (decoder_state default_rate c.in_ok-decoder.decoder.rows) (decoder_state default_rate c.give_originals.new.decoder.rows) originals ((c.in-Some.first_index, c.in-Some.first_shard.now) ∷ others) _ (reached-ok _ _ (c.in_ok-give_originals.ensures.1 originals begins)) (adds-err (λ now item. with_recovery now item.0 item.1) (decoder_state default_rate c.give_originals.new.decoder.rows) (c.in-Some.first_index, c.in-Some.first_shard.now) others _ (outcome-err (with_recovery (decoder_state default_rate c.give_originals.new.decoder.rows) c.in-Some.first_index c.in-Some.first_shard.now) _ c.in_err-add_recovery_shard.ensures.answer))) in search rules,
     )
 
 pub returns-in_err-give_recovery : goal.returns-in_err-give_recovery
@@ -52,7 +52,7 @@ returns-in_err-give_recovery g c =
       c.in_err-give_recovery.ensures.0,
       λ originals others begins further.
           let led = decoding-given c.args.counts.original_count c.args.counts.recovery_count originals (c.in-Some.first_index, c.in-Some.first_shard.now) others _ c.in_ok-decoder.ensures.answer c.in_ok-decoder.ensures.made.0 _
-          (both-ok (decoder_state default_rate c.in_ok-decoder.decoder.rows) (decoder_state default_rate c.give_originals.new.decoder.rows) originals ((c.in-Some.first_index, c.in-Some.first_shard.now) ∷ others) _ (reached-ok _ _ (c.in_ok-give_originals.ensures.1 originals begins)) (steps-ok (λ now item. with_recovery now item.0 item.1) (decoder_state default_rate c.give_originals.new.decoder.rows) (decoder_state default_rate c.add_recovery_shard.new.self.rows) (c.in-Some.first_index, c.in-Some.first_shard.now) others _ (outcome-ok (decoder_state default_rate c.give_originals.new.decoder.rows) (decoder_state default_rate c.add_recovery_shard.new.self.rows) (with_recovery (decoder_state default_rate c.give_originals.new.decoder.rows) c.in-Some.first_index c.in-Some.first_shard.now) c.in_ok-add_recovery_shard.ensures.answer c.in_ok-add_recovery_shard.ensures.left) (reached-err _ _ _ (c.in_err-give_recovery.ensures.1 others further)))) in search rules,
+          (both-ok (decoder_state default_rate c.in_ok-decoder.decoder.rows) (decoder_state default_rate c.give_originals.new.decoder.rows) originals ((c.in-Some.first_index, c.in-Some.first_shard.now) ∷ others) _ (reached-ok _ _ (c.in_ok-give_originals.ensures.1 originals begins)) (adds-ok (λ now item. with_recovery now item.0 item.1) (decoder_state default_rate c.give_originals.new.decoder.rows) (decoder_state default_rate c.add_recovery_shard.new.self.rows) (c.in-Some.first_index, c.in-Some.first_shard.now) others _ (outcome-ok (decoder_state default_rate c.give_originals.new.decoder.rows) (decoder_state default_rate c.add_recovery_shard.new.self.rows) (with_recovery (decoder_state default_rate c.give_originals.new.decoder.rows) c.in-Some.first_index c.in-Some.first_shard.now) c.in_ok-add_recovery_shard.ensures.answer c.in_ok-add_recovery_shard.ensures.left) (reached-err _ _ _ (c.in_err-give_recovery.ensures.1 others further)))) in search rules,
     )
 
 pub returns : goal.returns
@@ -62,5 +62,5 @@ returns g c =
       c.in_ok-give_recovery.ensures.0,
       λ originals others begins further.
           decoding-given c.args.counts.original_count c.args.counts.recovery_count originals (c.in-Some.first_index, c.in-Some.first_shard.now) others _ c.in_ok-decoder.ensures.answer c.in_ok-decoder.ensures.made.0 _
-          (both-ok (decoder_state default_rate c.in_ok-decoder.decoder.rows) (decoder_state default_rate c.give_originals.new.decoder.rows) originals ((c.in-Some.first_index, c.in-Some.first_shard.now) ∷ others) _ (reached-ok _ _ (c.in_ok-give_originals.ensures.1 originals begins)) (steps-ok (λ now item. with_recovery now item.0 item.1) (decoder_state default_rate c.give_originals.new.decoder.rows) (decoder_state default_rate c.add_recovery_shard.new.self.rows) (c.in-Some.first_index, c.in-Some.first_shard.now) others _ (outcome-ok (decoder_state default_rate c.give_originals.new.decoder.rows) (decoder_state default_rate c.add_recovery_shard.new.self.rows) (with_recovery (decoder_state default_rate c.give_originals.new.decoder.rows) c.in-Some.first_index c.in-Some.first_shard.now) c.in_ok-add_recovery_shard.ensures.answer c.in_ok-add_recovery_shard.ensures.left) (reached-ok _ _ (c.in_ok-give_recovery.ensures.1 others further)))),
+          (both-ok (decoder_state default_rate c.in_ok-decoder.decoder.rows) (decoder_state default_rate c.give_originals.new.decoder.rows) originals ((c.in-Some.first_index, c.in-Some.first_shard.now) ∷ others) _ (reached-ok _ _ (c.in_ok-give_originals.ensures.1 originals begins)) (adds-ok (λ now item. with_recovery now item.0 item.1) (decoder_state default_rate c.give_originals.new.decoder.rows) (decoder_state default_rate c.add_recovery_shard.new.self.rows) (c.in-Some.first_index, c.in-Some.first_shard.now) others _ (outcome-ok (decoder_state default_rate c.give_originals.new.decoder.rows) (decoder_state default_rate c.add_recovery_shard.new.self.rows) (with_recovery (decoder_state default_rate c.give_originals.new.decoder.rows) c.in-Some.first_index c.in-Some.first_shard.now) c.in_ok-add_recovery_shard.ensures.answer c.in_ok-add_recovery_shard.ensures.left) (reached-ok _ _ (c.in_ok-give_recovery.ensures.1 others further)))),
     )

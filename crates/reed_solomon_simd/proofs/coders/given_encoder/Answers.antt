@@ -1,6 +1,6 @@
 use Rattle.std.proofs.Common.{rules}
 use Rattle.rs_field.specs.code.Encoder.{with_shard}
-use Rattle.reed_solomon_simd.proofs.Giving.{no-calls, ended-calls, ended-run, first-then, outcome-ok, outcome-err, reached-ok, reached-err, steps-ok, steps-err}
+use Rattle.reed_solomon_simd.proofs.Giving.{no-calls, ended-calls, ended-run, first-then, outcome-ok, outcome-err, reached-ok, reached-err, adds-ok, adds-err}
 use Rattle.reed_solomon_simd.proofs.OneCall.{encoding-unset, encoding-given}
 use Rattle.reed_solomon_simd.proofs.coders.given_encoder.Goals as goal
 
@@ -24,7 +24,7 @@ returns-in_err-add_original_shard g c =
       no-calls c.next.new.self,
       λ others begins.
           let led = encoding-given c.args.counts.original_count c.args.counts.recovery_count c.in-Some.first.now others _ c.in_ok-encoder.ensures.answer c.in_ok-encoder.ensures.made.0 _
-          (steps-err with_shard _ c.in-Some.first.now others _ (outcome-err _ _ c.in_err-add_original_shard.ensures.answer)) in search rules,
+          (adds-err with_shard _ c.in-Some.first.now others _ (outcome-err _ _ c.in_err-add_original_shard.ensures.answer)) in search rules,
     )
 
 pub returns-in_err-give_shards : goal.returns-in_err-give_shards
@@ -33,7 +33,7 @@ returns-in_err-give_shards g c =
       c.in_err-give_shards.ensures.0,
       λ others begins.
           let led = encoding-given c.args.counts.original_count c.args.counts.recovery_count c.in-Some.first.now others _ c.in_ok-encoder.ensures.answer c.in_ok-encoder.ensures.made.0 _
-          (steps-ok with_shard _ _ c.in-Some.first.now others _ (outcome-ok _ _ _ c.in_ok-add_original_shard.ensures.answer c.in_ok-add_original_shard.ensures.left) (reached-err _ _ _ (c.in_err-give_shards.ensures.1 others begins))) in search rules,
+          (adds-ok with_shard _ _ c.in-Some.first.now others _ (outcome-ok _ _ _ c.in_ok-add_original_shard.ensures.answer c.in_ok-add_original_shard.ensures.left) (reached-err _ _ _ (c.in_err-give_shards.ensures.1 others begins))) in search rules,
     )
 
 pub returns : goal.returns
@@ -42,5 +42,5 @@ returns g c =
       c.in_ok-give_shards.ensures.0,
       λ others begins.
           encoding-given c.args.counts.original_count c.args.counts.recovery_count c.in-Some.first.now others _ c.in_ok-encoder.ensures.answer c.in_ok-encoder.ensures.made.0 _
-          (steps-ok with_shard _ _ c.in-Some.first.now others _ (outcome-ok _ _ _ c.in_ok-add_original_shard.ensures.answer c.in_ok-add_original_shard.ensures.left) (reached-ok _ _ (c.in_ok-give_shards.ensures.1 others begins))),
+          (adds-ok with_shard _ _ c.in-Some.first.now others _ (outcome-ok _ _ _ c.in_ok-add_original_shard.ensures.answer c.in_ok-add_original_shard.ensures.left) (reached-ok _ _ (c.in_ok-give_shards.ensures.1 others begins))),
     )

@@ -3,7 +3,7 @@ use Rattle.reed_solomon_simd.specs.Encoder.{with_shard}
 use Rattle.reed_solomon_simd.specs.EncoderObject.{state_of}
 use Rattle.reed_solomon_simd.specs.OneCall.{with_shards}
 use Rattle.reed_solomon_simd.proofs.Giving.{outcome-ok}
-use Rattle.rs_callers.proofs.Stepping.{shards_from, shards_from-next, taken-next}
+use Rattle.rs_callers.proofs.InTurn.{shards_from, shards_from-next, taken-next}
 use Rattle.rs_callers.proofs.round_trip.give_all.Goals as goal
 
 pub loop-original-preserved : goal.loop-original-preserved

@@ -1,7 +1,7 @@
 use Rattle.std.proofs.Common.{◌≡◌}
 use Rattle.reed_solomon_simd.specs.EncoderObject.{state_of}
 use Rattle.reed_solomon_simd.specs.OneCall.{with_shards}
-use Rattle.rs_callers.proofs.Stepping.{shards_from}
+use Rattle.rs_callers.proofs.InTurn.{shards_from}
 use Rattle.rs_callers.proofs.round_trip.give_all.Given as goal
 
 -- all originals lead to where those still to come lead from here

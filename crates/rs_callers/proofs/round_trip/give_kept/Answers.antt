@@ -3,7 +3,7 @@ use Rattle.reed_solomon_simd.specs.Decoder.{with_original}
 use Rattle.reed_solomon_simd.specs.DecoderObject.{state_of}
 use Rattle.reed_solomon_simd.proofs.Giving.{outcome-ok}
 use Rattle.rs_callers.specs.Losing.{is_left}
-use Rattle.rs_callers.proofs.Stepping.{shards_from, shards_from-next, kept-next, lost-next}
+use Rattle.rs_callers.proofs.InTurn.{shards_from, shards_from-next, kept-next, lost-next}
 use Rattle.rs_callers.proofs.round_trip.give_kept.Goals as goal
 
 pub loop-index-preserved-then-contains : goal.loop-index-preserved-then-contains

@@ -3,7 +3,7 @@ use Rattle.std.specs.List.{enumerate_from, filter}
 use Rattle.reed_solomon_simd.specs.DecoderObject.{state_of}
 use Rattle.reed_solomon_simd.specs.OneCall.{with_originals}
 use Rattle.rs_callers.specs.Losing.{is_left, left_of}
-use Rattle.rs_callers.proofs.Stepping.{shards_from}
+use Rattle.rs_callers.proofs.InTurn.{shards_from}
 use Rattle.rs_callers.proofs.round_trip.give_kept.Given as goal
 
 -- all that are left lead to where those still to come lead from here

@@ -4,7 +4,7 @@ use Rattle.reed_solomon_simd.specs.Decoder.{with_recovery}
 use Rattle.reed_solomon_simd.specs.DecoderObject.{state_of}
 use Rattle.reed_solomon_simd.proofs.Giving.{outcome-ok, outcome-err, reaches-err}
 use Rattle.rs_callers.specs.Losing.{is_left}
-use Rattle.rs_callers.proofs.Stepping.{kept-next, kept-refused, lost-next}
+use Rattle.rs_callers.proofs.InTurn.{kept-next, kept-refused, lost-next}
 use Rattle.rs_callers.proofs.round_trip.give_received.Goals as goal
 
 pub loop-index-preserved-then-contains : goal.loop-index-preserved-then-contains

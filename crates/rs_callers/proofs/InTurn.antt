@@ -1,4 +1,4 @@
--- One step of giving listed shards one after another.
+-- Listed shards that are given in turn: what one of them leads to.
 use Rattle.std.proofs.Common.{◌≡◌, ℕ, ◌+◌, ◌<◌, Bool, true, false, cond, List, ◌∷◌, length, map, drop, get_or, Result, Ok, Err, sym, ap, ap₂, ◌∙◌, arith, Vec, drop-cons, add-one}
 use Rattle.std.specs.List.{enumerate_from, filter}
 use Rattle.reed_solomon_simd.specs.declared.Error.{Error}
