@@ -8,7 +8,7 @@ use crate::tables::{RsTables, whole};
 use rs_engines::any_factor::factor_of;
 use rs_engines::butterflies::{Backward, Forward};
 use rs_engines::factors::ThreeFactors;
-use rs_engines::shuffle_rows::{mul_row, one_layer, two_layers};
+use rs_engines::shuffle_rows::{mul_chunks, one_layer, two_layers};
 use rs_field::engine::GfElement;
 use rs_field::engine::kernel::{Kernel, ThreeLogarithms};
 use rs_field::engine::lent_tables::LentTables;
@@ -95,6 +95,6 @@ impl Kernel for Borrowing<'_> {
     }
 
     fn mul_row(&self, x: &mut [[u8; 64]], log_m: GfElement) {
-        mul_row::<Lanes>(x, &self.products(log_m));
+        mul_chunks::<Lanes>(x, &self.products(log_m));
     }
 }

@@ -47,7 +47,7 @@ pub trait ByteVector: Copy + Drop {
 
 // The N bytes of a chunk from `at` on.
 #[inline(always)]
-fn load<const N: usize>(c: &[u8; 64], at: usize) -> Simd<u8, N>
+fn vector_at<const N: usize>(c: &[u8; 64], at: usize) -> Simd<u8, N>
     requires { at + N ≤ 64 }
     ensures { (i s : ℕ) → i < N → s ≡ at + i → slice_index result i ≡ slice_index c.now s }
 {
@@ -56,7 +56,7 @@ fn load<const N: usize>(c: &[u8; 64], at: usize) -> Simd<u8, N>
 
 // Puts bytes into the N places of a chunk from `at` on.
 #[inline(always)]
-fn store<const N: usize>(v: Simd<u8, N>, c: &mut [u8; 64], at: usize)
+fn put_vector<const N: usize>(v: Simd<u8, N>, c: &mut [u8; 64], at: usize)
     requires { at + N ≤ 64 }
     ensures stored { (i s : ℕ) → i < N → s ≡ at + i → slice_index c.new s ≡ slice_index v.entry i }
     ensures kept { (i : ℕ) → (i < at) ⊎ (at + N ≤ i) → slice_index c.new i ≡ slice_index c.old i }
@@ -94,12 +94,12 @@ impl ByteVector for u8x16 {
 
     #[inline(always)]
     fn load(c: &[u8; 64], at: usize) -> u8x16 {
-        load(c, at)
+        vector_at(c, at)
     }
 
     #[inline(always)]
     fn store(self, c: &mut [u8; 64], at: usize) {
-        store(self, c, at);
+        put_vector(self, c, at);
     }
 
     #[inline(always)]
@@ -129,12 +129,12 @@ impl ByteVector for u8x32 {
 
     #[inline(always)]
     fn load(c: &[u8; 64], at: usize) -> u8x32 {
-        load(c, at)
+        vector_at(c, at)
     }
 
     #[inline(always)]
     fn store(self, c: &mut [u8; 64], at: usize) {
-        store(self, c, at);
+        put_vector(self, c, at);
     }
 
     #[inline(always)]

@@ -6,7 +6,7 @@ use crate::any_factor::{AnyFactor, factor_of};
 use crate::butterflies::{Backward, Forward};
 use crate::byte_vector::ByteVector;
 use crate::factors::ThreeFactors;
-use crate::shuffle_rows::{mul_row, one_layer, two_layers};
+use crate::shuffle_rows::{mul_chunks, one_layer, two_layers};
 use rs_field::engine::GfElement;
 use rs_field::engine::kernel::{Kernel, ThreeLogarithms};
 use rs_field::engine::lent_tables::LentTables;
@@ -109,6 +109,6 @@ impl<V: ByteVector> Kernel for ByShuffles<'_, V> {
     }
 
     fn mul_row(&self, x: &mut [[u8; 64]], log_m: GfElement) {
-        mul_row::<V>(x, &get_mul128(self.tables)[log_m as usize]);
+        mul_chunks::<V>(x, &get_mul128(self.tables)[log_m as usize]);
     }
 }

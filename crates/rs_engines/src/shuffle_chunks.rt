@@ -9,7 +9,7 @@ ghost use Rattle.rs_field.specs.rows.TwoLayers.{at_four_symbols};
 use crate::butterflies::Butterflies;
 use crate::byte_vector::ByteVector;
 use crate::factors::{Factor, ThreeFactors};
-use crate::words::{load, store, times};
+use crate::words::{put_words, times, words_at};
 use rs_field::engine::tables::Multiply128lutT;
 
 // Multiplies as many symbols as there are lanes, from `at` on.
@@ -20,8 +20,8 @@ fn mul_lanes<V: ByteVector>(c: &mut [u8; 64], at: usize, factor: &Multiply128lut
         → symbol c.new s ≡ product (symbol c.old s) f }
     ensures kept { (s : ℕ) → s < 32 → (s < at) ⊎ (at + V.LANES ≤ s) → symbol c.new s ≡ symbol c.old s }
 {
-    let words = load::<V>(c, at);
-    store(times(words, factor), c, at);
+    let words = words_at::<V>(c, at);
+    put_words(times(words, factor), c, at);
 }
 
 /// Multiplies each symbol of a chunk.
@@ -48,11 +48,11 @@ fn lanes_of_two<V: ByteVector, D: Butterflies, F: Factor>(
     ensures kept_0 { (s : ℕ) → s < 32 → (s < at) ⊎ (at + V.LANES ≤ s) → symbol c0.new s ≡ symbol c0.old s }
     ensures kept_1 { (s : ℕ) → s < 32 → (s < at) ⊎ (at + V.LANES ≤ s) → symbol c1.new s ≡ symbol c1.old s }
 {
-    let x0 = load::<V>(c0, at);
-    let x1 = load::<V>(c1, at);
+    let x0 = words_at::<V>(c0, at);
+    let x1 = words_at::<V>(c1, at);
     let (y0, y1) = D::of_two(x0, x1, factor);
-    store(y0, c0, at);
-    store(y1, c1, at);
+    put_words(y0, c0, at);
+    put_words(y1, c1, at);
 }
 
 /// The butterfly of two chunks.
@@ -89,15 +89,15 @@ fn lanes_of_four<V: ByteVector, D: Butterflies, F02: Factor, F01: Factor, F23: F
     ensures kept_2 { (s : ℕ) → s < 32 → (s < at) ⊎ (at + V.LANES ≤ s) → symbol c2.new s ≡ symbol c2.old s }
     ensures kept_3 { (s : ℕ) → s < 32 → (s < at) ⊎ (at + V.LANES ≤ s) → symbol c3.new s ≡ symbol c3.old s }
 {
-    let x0 = load::<V>(c0, at);
-    let x1 = load::<V>(c1, at);
-    let x2 = load::<V>(c2, at);
-    let x3 = load::<V>(c3, at);
+    let x0 = words_at::<V>(c0, at);
+    let x1 = words_at::<V>(c1, at);
+    let x2 = words_at::<V>(c2, at);
+    let x3 = words_at::<V>(c3, at);
     let (y0, y1, y2, y3) = D::of_four(x0, x1, x2, x3, factors);
-    store(y0, c0, at);
-    store(y1, c1, at);
-    store(y2, c2, at);
-    store(y3, c3, at);
+    put_words(y0, c0, at);
+    put_words(y1, c1, at);
+    put_words(y2, c2, at);
+    put_words(y3, c3, at);
 }
 
 /// Two layers on four chunks.

@@ -15,7 +15,7 @@ use crate::shuffle_chunks::{four_chunks, mul_chunk, two_chunks};
 use rs_field::engine::tables::Multiply128lutT;
 
 /// Multiplies each symbol of a row.
-pub fn mul_row<V: ByteVector>(x: &mut [[u8; 64]], factor: &Multiply128lutT)
+pub fn mul_chunks<V: ByteVector>(x: &mut [[u8; 64]], factor: &Multiply128lutT)
     ensures { (f k s : ℕ) → IsNibbleBytes f factor.now → k < length x.old → s < 32
         → symbol (chunk x.new k) s ≡ product (symbol (chunk x.old k) s) f }
 {

@@ -38,7 +38,7 @@ fn product_bytes<V: ByteVector>(low: V, high: V, numbers: &[u128; 4]) -> V
 
 /// The words of a chunk from `at` on.
 #[inline(always)]
-pub fn load<V: ByteVector>(c: &[u8; 64], at: usize) -> Words<V>
+pub fn words_at<V: ByteVector>(c: &[u8; 64], at: usize) -> Words<V>
     requires { at + V.LANES ≤ 32 }
     ensures { (i s : ℕ) → i < V.LANES → s ≡ at + i → lane (V.bytes result.low) (V.bytes result.high) i ≡ symbol c.now s }
 {
@@ -50,7 +50,7 @@ pub fn load<V: ByteVector>(c: &[u8; 64], at: usize) -> Words<V>
 
 /// Makes them the words of a chunk from `at` on.
 #[inline(always)]
-pub fn store<V: ByteVector>(words: Words<V>, c: &mut [u8; 64], at: usize)
+pub fn put_words<V: ByteVector>(words: Words<V>, c: &mut [u8; 64], at: usize)
     requires { at + V.LANES ≤ 32 }
     ensures stored { (i s : ℕ) → i < V.LANES → s ≡ at + i → symbol c.new s ≡ lane (V.bytes words.low) (V.bytes words.high) i }
     ensures kept { (s : ℕ) → s < 32 → (s < at) ⊎ (at + V.LANES ≤ s) → symbol c.new s ≡ symbol c.old s }

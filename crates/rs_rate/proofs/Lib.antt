@@ -7,7 +7,7 @@ pub mod DecoderLemmas
 pub mod ResultLemmas
 pub mod Erased
 pub mod DecodedColumns
-pub mod DecoderSteps
+pub mod EnoughGiven
 pub mod DecoderRows
 pub mod ChoiceLemmas
 pub mod RateLemmas

@@ -9,6 +9,8 @@ use Rattle.rs_field.specs.words.Locator.{IsLocatorBelow}
 use Rattle.rs_field.specs.rows.Rows.{Chunks}
 use Rattle.rs_field.specs.words.Transform.{forward, IsBackward}
 use Rattle.rs_field.specs.rows.MarkedRows.{is_marked}
+use Rattle.rs_field.specs.rows.View.{Fits}
+use Rattle.rs_field.specs.declared.rows.shards.ShardsRefMut.{ShardsRefMut}
 use Rattle.rs_rate.specs.declared.rate.decoder_work.Frame.{Frame}
 use Rattle.rs_rate.specs.declared.rate.decoder_work.DecoderShape.{DecoderShape}
 use Rattle.rs_rate.specs.declared.rate.marks.Marks.{Marks}
@@ -22,6 +24,12 @@ use Rattle.rs_rate.specs.ShardRows.{word_in, shard_in_order}
 pub record IsLocatorOf (frame : Frame) (marks : List Bool) (locator : List ℕ) : Type 0 where
   pub are_words : (x : ℕ) → slice_index locator x < 65536
   pub values : IsLocatorBelow frame.row_count (erased frame.zeros_from frame.zeros_to marks) (λ x. slice_index locator x)
+
+-- rows are those of a shape: as many as its frame has, each of as many chunks as a shard takes
+pub record AreRowsOf (shape : DecoderShape) (rows : ShardsRefMut) : Type 0 where
+  pub fits : Fits rows
+  pub count : rows.shard_count ≡ shape.frame.row_count
+  pub len : rows.shard_len_64 ≡ row_len shape.configuration.shard_bytes
 
 -- what a decode goes by: a shape that can be laid, as many marks as rows, which tell of given shards; so many originals missing, and so many surplus shards, no more than rows
 pub record CanBeRestored (tally : Tally) (marks : Marks) : Type 0 where

@@ -5,7 +5,9 @@ ghost use Rattle.std.specs.Prelude.{◌<◌};
 use reed_solomon_simd::Error;
 use reed_solomon_simd::engine::tables::Tables;
 use reed_solomon_simd::engine::{Engine, GfElement, Naive, ShardsRefMut, Steps};
-use reed_solomon_simd::rate::{HighRate, LowRate, LowRateDecoder, Rate, RateDecoder, RateEncoder};
+use reed_solomon_simd::rate::{
+    HighRate, HighRateDecoder, LowRate, LowRateDecoder, Rate, RateDecoder, RateEncoder,
+};
 use rs_field::engine::kernel::Kernel;
 use rs_field::engine::lent_tables::LentTables;
 use std::alloc::Global;
@@ -247,8 +249,8 @@ impl Kernel for Butterflies<'_> {
 }
 
 // The engine after a decode of eight originals, all of them zeros and lost, from eight recovery shards.
-fn after_decode<E: Engine>(alloc: Global, engine: E) -> Result<E, Error> {
-    let mut decoder = LowRateDecoder::new(alloc, 8, 8, 2, engine, None)?;
+fn after_decode<E: Engine, D: RateDecoder<E> + Drop>(alloc: Global, engine: E) -> Result<E, Error> {
+    let mut decoder = D::new(alloc, 8, 8, 2, engine, None)?;
     for index in 0..8 {
         decoder.add_recovery_shard(index, &[0, 0])?;
     }
@@ -263,22 +265,32 @@ fn a_decode_over_16_rows_locates_at_16_points(rt: HostRuntime) -> Result<(), Fai
         naive: Naive::new(&tables),
         entries: Cell::new(0),
     };
-    assert_eq!(rt; after_decode(rt.alloc(), engine)?.entries.get(), 16);
+    let engine = after_decode::<Locating<'_>, LowRateDecoder<Locating<'_>>>(rt.alloc(), engine)?;
+    assert_eq!(rt; engine.entries.get(), 16);
     Ok(())
 }
 
 // A transform of 16 rows has two layers of eight butterflies between its quarters, and four in each quarter. Two quarters
-// hold nothing given, and of the other two nothing is wanted.
-#[test]
-fn a_decode_leaves_empty_quarters_out(rt: HostRuntime) -> Result<(), Fail> {
-    let tables = Tables::new(rt.alloc())?;
+// hold nothing given, and of the other two nothing is wanted: the last two at the low rate, the first two at the high rate.
+fn check_empty_quarters<'t, D: RateDecoder<Butterflies<'t>> + Drop>(
+    rt: &impl Abort,
+    alloc: Global,
+    tables: &'t Tables,
+) -> Result<(), Fail> {
     let engine = Butterflies {
-        naive: Naive::new(&tables),
+        naive: Naive::new(tables),
         forward: Cell::new(0),
         backward: Cell::new(0),
     };
-    let engine = after_decode(rt.alloc(), engine)?;
+    let engine = after_decode::<Butterflies<'t>, D>(alloc, engine)?;
     assert_eq!(rt; engine.backward.get(), 24);
     assert_eq!(rt; engine.forward.get(), 24);
     Ok(())
+}
+
+#[test]
+fn a_decode_leaves_empty_quarters_out(rt: HostRuntime) -> Result<(), Fail> {
+    let tables = Tables::new(rt.alloc())?;
+    check_empty_quarters::<LowRateDecoder<Butterflies<'_>>>(&rt, rt.alloc(), &tables)?;
+    check_empty_quarters::<HighRateDecoder<Butterflies<'_>>>(&rt, rt.alloc(), &tables)
 }

@@ -93,7 +93,7 @@ taken_in rate k r e bound zeros_end originals recovery marks words message p fra
       q.2,
     )
 
--- where a polynomial that codes takes the words given, the last rows are zero: as many as shards are given beyond k
+-- where a polynomial that codes takes the words given, the last rows are zero: as many as surplus shards
 pub surplus_rows : (rate : Rate) (k r e bound zeros_end t : ℕ) (originals recovery : Shards) (marks words located rows : ℕ → ℕ) (message p : List ℕ)
     → IsColumnOf (placement rate k r) k r e bound zeros_end originals recovery marks words located rows
     → count_below k originals + count_below r recovery ≡ k + t

@@ -48,7 +48,7 @@ NoRecoveryOrder =
 abbrev pub encoder_with : List Shard → EncoderState
 encoder_with given = record { configuration = default_of 2 3 2; given = given }
 
--- a refused step leaves the encoder as it was, an added shard comes last, and `encode` leaves nothing given
+-- a refused add leaves the encoder as it was, an added shard comes last, and `encode` leaves nothing given
 abbrev pub EncoderRound : Type 0
 EncoderRound =
     (validated (default_of 2 3 3) ≡ Err (InvalidShardSize 3))

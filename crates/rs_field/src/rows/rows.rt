@@ -55,7 +55,7 @@ fn copy_run(chunks: &mut [[u8; 64]], from: usize, to: usize, n: usize)
 }
 
 /// Multiplies row `index` by the generator to the power `log_m`, by the engine; 65535 is the factor one.
-pub fn mul_row<E: Engine>(
+pub fn mul_row_at<E: Engine>(
     engine: &E,
     steps: &mut Steps,
     rows: &mut ShardsRefMut<'_>,

@@ -120,7 +120,7 @@ fn vector_sums(x0: u16x16, x1: u16x16, x2: u16x16, x3: u16x16) -> (u16x16, u16x1
 
 // The entries as a vector.
 #[inline(always)]
-fn load(entries: &[GfElement]) -> u16x16
+fn lanes_of(entries: &[GfElement]) -> u16x16
     requires { length entries.now ≡ 16 }
     ensures { (i : ℕ) → i < 16 → slice_index result i ≡ slice_index entries.now i }
 {
@@ -129,7 +129,7 @@ fn load(entries: &[GfElement]) -> u16x16
 
 // Makes a vector's lanes the entries.
 #[inline(always)]
-fn store(v: u16x16, entries: &mut [GfElement])
+fn put_lanes(v: u16x16, entries: &mut [GfElement])
     requires { length entries.old ≡ 16 }
     ensures { (i : ℕ) → i < 16 → slice_index entries.new i ≡ slice_index v i }
 {
@@ -147,13 +147,13 @@ pub(crate) fn walsh_64(steps: &mut Steps, entries: &mut [GfElement])
     let (low, high) = entries.split_at_mut(32);
     let (x0, x1) = low.split_at_mut(16);
     let (x2, x3) = high.split_at_mut(16);
-    let v0 = walsh_16(load(x0));
-    let v1 = walsh_16(load(x1));
-    let v2 = walsh_16(load(x2));
-    let v3 = walsh_16(load(x3));
+    let v0 = walsh_16(lanes_of(x0));
+    let v1 = walsh_16(lanes_of(x1));
+    let v2 = walsh_16(lanes_of(x2));
+    let v3 = walsh_16(lanes_of(x3));
     let (y0, y1, y2, y3) = vector_sums(v0, v1, v2, v3);
-    store(y0, x0);
-    store(y1, x1);
-    store(y2, x2);
-    store(y3, x3);
+    put_lanes(y0, x0);
+    put_lanes(y1, x1);
+    put_lanes(y2, x2);
+    put_lanes(y3, x3);
 }

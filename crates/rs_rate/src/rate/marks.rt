@@ -28,6 +28,7 @@ pub struct Marks {
 impl Marks {
     // Of so many rows, none of them with a given shard, or `OutOfMemory`.
     pub(crate) fn new(alloc: Global, rows: usize) -> Result<Marks, Error>
+        ensures shards { IfOk result (λ marks. marks.shards ≡ MarkedShards.Given) }
         ensures empty { IfOk result (λ marks. (p : ℕ) → is_marked (given_marks marks) p ≡ false) }
         ensures length { IfOk result (λ marks. vec_len marks.rows ≡ rows) }
         ensures room { IfOk result (λ marks. rows ≤ vec_capacity marks.rows) }

@@ -11,7 +11,7 @@ ghost use Rattle.rs_field.specs.words.Field.{product, power};
 ghost use Rattle.rs_field.specs.rows.Layout.{row_len};
 ghost use Rattle.rs_field.specs.rows.View.{cell, word, Fits, SameShape};
 ghost use Rattle.rs_field.specs.rows.MarkedRows.{is_marked};
-ghost use Rattle.rs_rate.specs.Decoding.{located, AreCoefficients, CanBeRestored, restore_steps, RestoresWords};
+ghost use Rattle.rs_rate.specs.Decoding.{located, AreRowsOf, AreCoefficients, CanBeRestored, restore_steps, RestoresWords};
 ghost use Rattle.rs_rate.specs.Marks.{given_marks, restored_marks, WantsMissing};
 ghost use Rattle.rs_rate.specs.Shapes.{DecoderCanBeLaid, original_row};
 
@@ -20,7 +20,7 @@ use crate::rate::marks::Marks;
 use rs_field::bytes::row_symbols_are_words;
 use rs_field::engine::derivative::formal_derivative;
 use rs_field::engine::layout::is_zero_row;
-use rs_field::engine::rows::{clear_rows, mul_row};
+use rs_field::engine::rows::{clear_rows, mul_row_at};
 use rs_field::engine::{Engine, GF_MODULUS, GfElement, ShardsRefMut, Steps};
 
 // What a decode goes by: what its rows are set up for, how many originals are missing, and the number of the surplus.
@@ -41,9 +41,7 @@ pub(crate) fn restore_rows<E: Engine>(
     locator: &[GfElement],
     tally: Tally,
 ) -> bool
-    requires fits { Fits rows.old }
-    requires count { rows.old.shard_count ≡ tally.shape.frame.row_count }
-    requires len { rows.old.shard_len_64 ≡ row_len tally.shape.configuration.shard_bytes }
+    requires rows { AreRowsOf tally.shape rows.old }
     requires facts { CanBeRestored tally marks.old }
     requires located { length locator.now ≡ tally.shape.frame.row_count }
     ensures shape { SameShape rows.old rows.new }
@@ -72,9 +70,7 @@ fn interpolate<E: Engine>(
     locator: &[GfElement],
     tally: Tally,
 ) -> bool
-    requires fits { Fits rows.old }
-    requires count { rows.old.shard_count ≡ tally.shape.frame.row_count }
-    requires len { rows.old.shard_len_64 ≡ row_len tally.shape.configuration.shard_bytes }
+    requires rows { AreRowsOf tally.shape rows.old }
     requires facts { CanBeRestored tally marks.now }
     requires located { length locator.now ≡ tally.shape.frame.row_count }
     ensures shape { SameShape rows.old rows.new }
@@ -110,7 +106,7 @@ fn locate_rows<E: Engine>(
 {
     for p in 0..rows.len() {
         if given[p] {
-            mul_row(engine, steps, rows, p, locator[p]);
+            mul_row_at(engine, steps, rows, p, locator[p]);
         } else {
             clear_rows(steps, rows, p, p + 1);
         }
@@ -152,9 +148,8 @@ fn reveal_rows<E: Engine>(
     locator: &[GfElement],
     shape: DecoderShape,
 )
-    requires fits { Fits rows.old }
     requires laid { DecoderCanBeLaid shape }
-    requires count { rows.old.shard_count ≡ shape.frame.row_count }
+    requires rows { AreRowsOf shape rows.old }
     requires marked { vec_len marks.now.rows ≡ rows.old.shard_count }
     requires located { length locator.now ≡ rows.old.shard_count }
     ensures shape { SameShape rows.old rows.new }
@@ -166,7 +161,7 @@ fn reveal_rows<E: Engine>(
     for i in 0..shape.configuration.original_count {
         let row = shape.frame.original_row(i);
         if marks.is_restored(row) {
-            mul_row(engine, steps, rows, row, GF_MODULUS - locator[row]);
+            mul_row_at(engine, steps, rows, row, GF_MODULUS - locator[row]);
         }
     }
 }

@@ -30,13 +30,13 @@ loop-p-preserved g c =
       | then-given-p w ↦
           let given = w.if-given-p.true in
           subst (λ (r : ShardsRefMut). RowLocated marks locator p mid r c.loop-p.steps c.if-given-p.steps) (sym w.rows-is)
-          (subst (λ (t : Steps). RowLocated marks locator p mid w.mul_row.new.rows c.loop-p.steps t) (sym w.steps-is)
+          (subst (λ (t : Steps). RowLocated marks locator p mid w.mul_row_at.new.rows c.loop-p.steps t) (sym w.steps-is)
           (record {
-            shape = w.mul_row.ensures.shape;
-            others = w.mul_row.ensures.others;
-            located_here = λ k s hk hs. w.mul_row.ensures.products k s hk hs ∙ sym (located-at marks locator (word mid k s) p true given);
+            shape = w.mul_row_at.ensures.shape;
+            others = w.mul_row_at.ensures.others;
+            located_here = λ k s hk hs. w.mul_row_at.ensures.products k s hk hs ∙ sym (located-at marks locator (word mid k s) p true given);
             cleared = λ k hk none. absurd (true≢false (sym given ∙ none));
-            counts = w.mul_row.ensures.counts;
+            counts = w.mul_row_at.ensures.counts;
           }))
       | else-given-p w ↦
           let none = w.if-given-p.false in

@@ -30,12 +30,12 @@ loop-i-preserved g c =
     elim c.if-is_restored.branch [
       | then-is_restored w ↦
           subst (λ (r : ShardsRefMut). RowRevealed marks locator p mid r c.loop-i.steps c.if-is_restored.steps) (sym w.rows-is)
-          (subst (λ (t : Steps). RowRevealed marks locator p mid w.mul_row.new.rows c.loop-i.steps t) (sym w.steps-is)
+          (subst (λ (t : Steps). RowRevealed marks locator p mid w.mul_row_at.new.rows c.loop-i.steps t) (sym w.steps-is)
           (record {
-            shape = w.mul_row.ensures.shape;
-            others = w.mul_row.ensures.others;
-            revealed_here = λ k s hk hs _. w.mul_row.ensures.products k s hk hs;
-            counts = w.mul_row.ensures.counts;
+            shape = w.mul_row_at.ensures.shape;
+            others = w.mul_row_at.ensures.others;
+            revealed_here = λ k s hk hs _. w.mul_row_at.ensures.products k s hk hs;
+            counts = w.mul_row_at.ensures.counts;
           }))
       | else-is_restored w ↦
           subst (λ (r : ShardsRefMut). RowRevealed marks locator p mid r c.loop-i.steps c.if-is_restored.steps) (sym w.rows-is)

@@ -3,7 +3,7 @@ use Rattle.std.proofs.lemmas.Result.{err_from_is_err_and}
 use Rattle.rs_field.specs.code.Bounds.{DecodeCounts}
 use Rattle.rs_rate.specs.DecoderView.{decoder_state, restored_of}
 use Rattle.rs_rate.proofs.DecoderLemmas.{count-given}
-use Rattle.rs_rate.proofs.DecoderSteps.{enough-least}
+use Rattle.rs_rate.proofs.EnoughGiven.{enough-least}
 use Rattle.rs_rate.proofs.DecoderRows.{after_decode-refused, after_decode-made, decode_answers-refused, decode_answers-made}
 use Rattle.rs_rate.specs.Marks.{given_marks}
 use Rattle.rs_rate.specs.RowsLaws.{decoder_rows_set_up}

@@ -1,6 +1,6 @@
 use Rattle.std.proofs.Common.{arith, sym, ◌∙◌}
 use Rattle.rs_rate.specs.DecoderView.{decoder_state}
-use Rattle.rs_rate.proofs.DecoderSteps.{enough-few, enough-many}
+use Rattle.rs_rate.proofs.EnoughGiven.{enough-few, enough-many}
 use Rattle.rs_rate.proofs.DecoderLemmas.{count-given, given_row_count-most}
 use Rattle.rs_rate.specs.Marks.{given_marks}
 use Rattle.rs_rate.proofs.rate.decoder_work.DecoderRows.check_enough_given.Goals as goal

@@ -2,7 +2,7 @@ use Rattle.std.proofs.Common.{◌≡◌, ℕ, ◌<◌, ◌≤◌}
 use Rattle.rs_field.specs.rows.Rows.{symbol, chunk}
 use Rattle.rs_field.specs.words.Field.{product}
 use Rattle.rs_field.specs.words.Products.{IsNibbleBytes}
-use Rattle.rs_engines.proofs.shuffle_rows.mul_row.Given as goal
+use Rattle.rs_engines.proofs.shuffle_rows.mul_chunks.Given as goal
 
 abbrev pub invariant-loop-k : goal.invariant-loop-k
 invariant-loop-k g l = record {

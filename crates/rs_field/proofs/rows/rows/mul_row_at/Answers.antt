@@ -1,5 +1,5 @@
 use Rattle.rs_field.specs.rows.View.{cell}
-use Rattle.rs_field.proofs.rows.rows.mul_row.Goals as goal
+use Rattle.rs_field.proofs.rows.rows.mul_row_at.Goals as goal
 
 pub returns-clause-products : goal.returns-clause-products
 unfolding cell

@@ -1,6 +1,6 @@
 use Rattle.std.proofs.Common.{get_or, ap, ◌∙◌, arith}
 use Rattle.std.proofs.lemmas.Simd.{get_or-chunk}
-use Rattle.rs_field.proofs.words.walsh_lanes.load.Goals as goal
+use Rattle.rs_field.proofs.words.walsh_lanes.lanes_of.Goals as goal
 
 pub returns : goal.returns
 returns c i h =
