@@ -6,10 +6,10 @@ use Rattle.reed_solomon_simd.specs.Texts.{text_of}
 use Rattle.rs.specs.declared.fault.Fault.{Fault}
 use Rattle.rs.specs.declared.fault.Fault.TheVariants.{Usage, Refused}
 
--- the message of a fault: `usage` or the refusal's text, and a line end
-abbrev pub message_of : Fault → List ℕ
-message_of Usage = codes "usage" ++ 10 ∷ []
-message_of (Refused e) = text_of e ++ 10 ∷ []
+-- the text that tells a fault: `usage` or the refusal's text, and a line end
+abbrev pub told_text : Fault → List ℕ
+told_text Usage = codes "usage" ++ 10 ∷ []
+told_text (Refused e) = text_of e ++ 10 ∷ []
 
 -- the status that a fault ends with
 abbrev pub status_of : Fault → ℕ

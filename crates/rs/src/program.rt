@@ -6,7 +6,7 @@ ghost use Rattle.reed_solomon_simd.specs.Kind.{kind_of};
 ghost use Rattle.rs.specs.CommandLine.{request_of};
 ghost use Rattle.rs.specs.Reading.{as_given, as_request};
 ghost use Rattle.rs.specs.Printed.{lines_of, indexed_lines_of, concatenated, CodesLines, RestoresLines, IsAnswered, OrLacksMemory, Prints, Refuses, HasFault};
-ghost use Rattle.rs.specs.Told.{message_of, AppendsFront, CutShort};
+ghost use Rattle.rs.specs.Told.{told_text, AppendsFront, CutShort};
 ghost use Rattle.rs.specs.declared.fault.Fault.TheVariants.{Usage, Refused};
 
 use crate::command::{Command, Given, Task, read_command};
@@ -126,13 +126,13 @@ pub fn run<O: Write, X: Write>(alloc: Global, words: &[String], out: &mut O, err
     ensures quiet { result ≡ 0 → err.new ≡ err.old }
     ensures refused { result ≡ 1
         → ((e : Error) × Refuses (map string_bytes words.now) e × (out.new ≡ out.old)
-        × AppendsFront (X.contents err.old) (X.contents err.new) (message_of (Refused e)))
+        × AppendsFront (X.contents err.old) (X.contents err.new) (told_text (Refused e)))
         ⊎ ((text : List ℕ) × Prints (map string_bytes words.now) text × (err.new ≡ err.old)
         × CutShort (O.contents out.old) (O.contents out.new) text) }
     ensures begun { request_of (take 4 (map string_bytes words.now)) ≡ None → result ≡ 2 }
     ensures usage { result ≡ 2
         → (request_of (map string_bytes words.now) ≡ None) × (out.new ≡ out.old)
-        × AppendsFront (X.contents err.old) (X.contents err.new) (message_of Usage) }
+        × AppendsFront (X.contents err.old) (X.contents err.new) (told_text Usage) }
 {
     match answer(alloc, words) {
         Ok(texts) if write_texts(out, texts.as_slice()) => 0,

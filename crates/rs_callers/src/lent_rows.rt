@@ -56,7 +56,7 @@ fn swap_four<'a>(
     y.swap_with_slice(z);
 }
 
-/// The list is split at row `mid`, and the first rows of both parts change places: all other chunks stay.
+/// The list is split at row `mid`, and the first rows of both lists change places: all other chunks stay.
 pub fn swap_across(rows: &mut ShardsRefMut<'_>, mid: usize)
     requires fits { Fits rows.old }
     requires apart { 0 < mid }

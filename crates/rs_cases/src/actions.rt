@@ -1,6 +1,6 @@
 //! What the actions of a case do.
 use crate::kept::{Item, Kept, Way};
-use crate::level::{Configuration, Level, Object, Parts, Role};
+use crate::level::{Configuration, Level, Object, Role, Works};
 use crate::notation::{counted, digest_of, drawn, points, shard_of, write_items};
 use anyhow::{Context, Result, bail, ensure};
 use reed_solomon_simd::Error;
@@ -10,12 +10,12 @@ use reed_solomon_simd::rate::{DecoderWork, EncoderWork};
 pub fn do_action<C: Level>(level: &mut C, kept: &mut Kept, action: &str) -> Result<String> {
     let object = object_of(action);
     match name_of(action) {
-        "encoder" | "decoder" => level.start(object, configuration_of(action)?, &mut kept.parts)?,
+        "encoder" | "decoder" => level.start(object, configuration_of(action)?, &mut kept.works)?,
         "reset-encoder" | "reset-decoder" => level.reset(object, configuration_of(action)?)?,
-        "parts" => level.take_parts(&mut kept.parts)?,
+        "parts" => level.take_works(&mut kept.works)?,
         "empty-parts" => {
-            kept.parts.encoder = Some(EncoderWork::default());
-            kept.parts.decoder = Some(DecoderWork::default());
+            kept.works.encoder = Some(EncoderWork::default());
+            kept.works.decoder = Some(DecoderWork::default());
         }
         "give" => give_from(level, kept, action, 1)?,
         "code" | "restore" => return round(level, kept, action, 1),
@@ -136,11 +136,11 @@ fn round<C: Level>(level: &mut C, kept: &mut Kept, action: &str, from: usize) ->
 fn obtain<C: Level>(level: &mut C, kept: &mut Kept, action: &str) -> Result<()> {
     let (object, configuration) = (object_of(action), configuration_of(action)?);
     match kept.way {
-        Way::New => level.start(object, configuration, &mut Parts::default())?,
+        Way::New => level.start(object, configuration, &mut Works::default())?,
         Way::Reset => level.reset(object, configuration)?,
         Way::HandedOn => {
-            level.take_parts(&mut kept.parts)?;
-            level.start(object, configuration, &mut kept.parts)?;
+            level.take_works(&mut kept.works)?;
+            level.start(object, configuration, &mut kept.works)?;
         }
     }
     Ok(())
@@ -196,10 +196,10 @@ fn check_counts<C: Level>(level: &C, action: &str, supported: bool) -> Result<()
 
 // Every call that takes a configuration refuses it alike, which leaves the objects.
 fn configure<C: Level>(level: &mut C, configuration: Configuration) -> Result<()> {
-    let mut parts = Parts::default();
-    let answer = level.start(Object::Encoder, configuration, &mut parts);
+    let mut works = Works::default();
+    let answer = level.start(Object::Encoder, configuration, &mut works);
     for other in [
-        level.start(Object::Decoder, configuration, &mut parts),
+        level.start(Object::Decoder, configuration, &mut works),
         level.reset(Object::Encoder, configuration),
         level.reset(Object::Decoder, configuration),
     ] {

@@ -1,5 +1,5 @@
 //! What a case keeps from action to action.
-use crate::level::{Answer, Parts};
+use crate::level::{Answer, Works};
 use crate::watch::Watch;
 use reed_solomon_simd::{DecoderResult, EncoderResult};
 use std::alloc::Global;
@@ -24,7 +24,7 @@ pub type Item = (usize, Vec<u8>);
 pub struct Kept {
     pub alloc: Global,
     pub way: Way,
-    pub parts: Parts,
+    pub works: Works,
     pub message: Vec<Item>,
     pub recovery: Vec<Item>,
     pub restored: Vec<Item>,
@@ -42,7 +42,7 @@ impl Kept {
         Kept {
             alloc,
             way,
-            parts: Parts::default(),
+            works: Works::default(),
             message: Vec::new(alloc),
             recovery: Vec::new(alloc),
             restored: Vec::new(alloc),

@@ -29,7 +29,7 @@ pub enum Role {
 
 /// The memory of objects that were taken apart.
 #[derive(Default, Drop)]
-pub struct Parts {
+pub struct Works {
     pub encoder: Option<EncoderWork>,
     pub decoder: Option<DecoderWork>,
 }
@@ -37,7 +37,7 @@ pub struct Parts {
 /// An encoder and a decoder of one level of use.
 pub trait Level {
     /// Makes the object anew: over the memory of an earlier one where that was taken, else over none.
-    fn start(&mut self, object: Object, configuration: Configuration, parts: &mut Parts) -> Answer;
+    fn start(&mut self, object: Object, configuration: Configuration, works: &mut Works) -> Answer;
 
     /// Resets the object.
     fn reset(&mut self, object: Object, configuration: Configuration) -> Answer;
@@ -52,7 +52,7 @@ pub trait Level {
     fn decode(&mut self, kept: &mut Kept) -> Answer;
 
     /// Takes both objects apart, where the level can, and makes new ones of one original and one recovery shard.
-    fn take_parts(&mut self, _parts: &mut Parts) -> Answer {
+    fn take_works(&mut self, _works: &mut Works) -> Answer {
         Ok(())
     }
 

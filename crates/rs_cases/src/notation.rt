@@ -6,13 +6,13 @@ use rand_core::{Rng, SeedableRng};
 use sha2::{Digest, Sha256};
 use std::alloc::{AllocError, Global};
 
-/// The bytes of a text of parts with `+` between them, each of them HEX, or HEX*N for the bytes of HEX N times over.
+/// The bytes of a text of pieces with `+` between them, each of them HEX, or HEX*N for the bytes of HEX N times over.
 pub fn shard_of(alloc: Global, text: &str) -> Result<Vec<u8>> {
     let mut shard = Vec::new(alloc);
-    for part in text.split('+') {
-        let (digits, times) = match part.split_once('*') {
+    for piece in text.split('+') {
+        let (digits, times) = match piece.split_once('*') {
             Some((digits, times)) => (digits, times.parse::<usize>()?),
-            None => (part, 1),
+            None => (piece, 1),
         };
         let bytes = hex::decode(alloc, digits)?.repeat(alloc, times)?;
         shard.extend_from_slice(bytes.as_slice())?;

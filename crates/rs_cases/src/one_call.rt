@@ -1,6 +1,6 @@
 //! The one-call functions: what was given is handed over when the call is made.
 use crate::kept::{Item, Kept};
-use crate::level::{Answer, Configuration, Level, Object, Parts, Role};
+use crate::level::{Answer, Configuration, Level, Object, Role, Works};
 use crate::watch::Watch;
 use reed_solomon_simd::engine::DefaultEngine;
 use reed_solomon_simd::{decode, encode};
@@ -46,7 +46,7 @@ impl Level for OneCall<'_> {
         &mut self,
         object: Object,
         configuration: Configuration,
-        _parts: &mut Parts,
+        _works: &mut Works,
     ) -> Answer {
         self.reset(object, configuration)
     }

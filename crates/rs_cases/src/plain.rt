@@ -1,6 +1,6 @@
 //! The plain objects.
 use crate::kept::Kept;
-use crate::level::{Answer, Configuration, Level, Object, Parts, Role};
+use crate::level::{Answer, Configuration, Level, Object, Role, Works};
 use crate::watch::Watch;
 use reed_solomon_simd::engine::DefaultEngine;
 use reed_solomon_simd::{Error, ReedSolomonDecoder, ReedSolomonEncoder};
@@ -28,7 +28,7 @@ impl<'t> Plain<'t> {
 }
 
 impl Level for Plain<'_> {
-    fn start(&mut self, object: Object, (k, r, size): Configuration, _parts: &mut Parts) -> Answer {
+    fn start(&mut self, object: Object, (k, r, size): Configuration, _works: &mut Works) -> Answer {
         let (alloc, engine) = (self.alloc, self.engine);
         let _watch = Watch::new(alloc);
         match object {

@@ -1,6 +1,6 @@
 //! The objects of a rate over an engine.
 use crate::kept::Kept;
-use crate::level::{Answer, Configuration, Level, Object, Parts, Role};
+use crate::level::{Answer, Configuration, Level, Object, Role, Works};
 use crate::watch::Watch;
 use reed_solomon_simd::Error;
 use reed_solomon_simd::engine::{Engine, Steps};
@@ -30,15 +30,15 @@ impl<E: Engine + Copy, R: Rate<E>> Rated<E, R> {
 }
 
 impl<E: Engine + Copy, R: Rate<E>> Level for Rated<E, R> {
-    fn start(&mut self, object: Object, (k, r, size): Configuration, parts: &mut Parts) -> Answer {
+    fn start(&mut self, object: Object, (k, r, size): Configuration, works: &mut Works) -> Answer {
         let _watch = Watch::new(self.alloc);
         match object {
             Object::Encoder => {
-                let work = parts.encoder.take();
+                let work = works.encoder.take();
                 self.encoder = R::encoder(self.alloc, k, r, size, self.engine, work)?;
             }
             Object::Decoder => {
-                let work = parts.decoder.take();
+                let work = works.decoder.take();
                 self.decoder = R::decoder(self.alloc, k, r, size, self.engine, work)?;
             }
         }
@@ -76,10 +76,10 @@ impl<E: Engine + Copy, R: Rate<E>> Level for Rated<E, R> {
         kept.keep_restored(lent, watch)
     }
 
-    fn take_parts(&mut self, parts: &mut Parts) -> Answer {
+    fn take_works(&mut self, works: &mut Works) -> Answer {
         let taken = mem::replace(self, Rated::new(self.alloc, self.engine)?);
-        parts.encoder = Some(taken.encoder.into_parts().1);
-        parts.decoder = Some(taken.decoder.into_parts().1);
+        works.encoder = Some(taken.encoder.into_parts().1);
+        works.decoder = Some(taken.decoder.into_parts().1);
         Ok(())
     }
 

@@ -36,24 +36,24 @@ impl<'t> NoSimd<'t> {
 
 // The product of the word of two bytes.
 #[inline(always)]
-fn nibble_product(rows: &[[GfElement; 16]; 4], low: u8, high: u8) -> GfElement
-    ensures { (f : ℕ) → IsNibbles f rows.now → result ≡ product (low + 256 * high) f }
+fn nibble_product(lists: &[[GfElement; 16]; 4], low: u8, high: u8) -> GfElement
+    ensures { (f : ℕ) → IsNibbles f lists.now → result ≡ product (low + 256 * high) f }
 {
-    rows[0][(low & 15) as usize]
-        ^ rows[1][(low >> 4) as usize]
-        ^ rows[2][(high & 15) as usize]
-        ^ rows[3][(high >> 4) as usize]
+    lists[0][(low & 15) as usize]
+        ^ lists[1][(low >> 4) as usize]
+        ^ lists[2][(high & 15) as usize]
+        ^ lists[3][(high >> 4) as usize]
 }
 
 // Each symbol becomes its product, two at a time.
 #[inline(always)]
-fn mul_chunk(c: &mut [u8; 64], rows: &[[GfElement; 16]; 4])
-    ensures { (f s : ℕ) → IsNibbles f rows.now → s < 32 → symbol c.new s ≡ product (symbol c.old s) f }
+fn mul_chunk(c: &mut [u8; 64], lists: &[[GfElement; 16]; 4])
+    ensures { (f s : ℕ) → IsNibbles f lists.now → s < 32 → symbol c.new s ≡ product (symbol c.old s) f }
 {
     for i in 0..16 {
         let s = 2 * i;
-        let even = nibble_product(rows, c[s], c[s + 32]);
-        let odd = nibble_product(rows, c[s + 1], c[s + 33]);
+        let even = nibble_product(lists, c[s], c[s + 32]);
+        let odd = nibble_product(lists, c[s + 1], c[s + 33]);
         set_symbol(c, s, even);
         set_symbol(c, s + 1, odd);
     }
@@ -61,37 +61,37 @@ fn mul_chunk(c: &mut [u8; 64], rows: &[[GfElement; 16]; 4])
 
 // Each symbol of x becomes its sum with the product of y's, two at a time.
 #[inline(always)]
-fn mul_add_chunk(x: &mut [u8; 64], y: &[u8; 64], rows: &[[GfElement; 16]; 4])
-    ensures { (f s : ℕ) → IsNibbles f rows.now → s < 32
+fn mul_add_chunk(x: &mut [u8; 64], y: &[u8; 64], lists: &[[GfElement; 16]; 4])
+    ensures { (f s : ℕ) → IsNibbles f lists.now → s < 32
         → symbol x.new s ≡ bit_xor (symbol x.old s) (product (symbol y.now s) f) }
 {
     for i in 0..16 {
         let s = 2 * i;
-        let even = nibble_product(rows, y[s], y[s + 32]);
-        let odd = nibble_product(rows, y[s + 1], y[s + 33]);
+        let even = nibble_product(lists, y[s], y[s + 32]);
+        let odd = nibble_product(lists, y[s + 1], y[s + 33]);
         add_symbol(x, s, even);
         add_symbol(x, s + 1, odd);
     }
 }
 
 // Each symbol of each chunk becomes its product.
-fn mul_chunks(x: &mut [[u8; 64]], rows: &[[GfElement; 16]; 4])
-    ensures { (f k s : ℕ) → IsNibbles f rows.now → k < length x.old → s < 32
+fn mul_chunks(x: &mut [[u8; 64]], lists: &[[GfElement; 16]; 4])
+    ensures { (f k s : ℕ) → IsNibbles f lists.now → k < length x.old → s < 32
         → symbol (chunk x.new k) s ≡ product (symbol (chunk x.old k) s) f }
 {
     for k in 0..x.len() {
-        mul_chunk(&mut x[k], rows);
+        mul_chunk(&mut x[k], lists);
     }
 }
 
 // Adds the product of each symbol of y to that of x.
-fn mul_add_chunks(x: &mut [[u8; 64]], y: &[[u8; 64]], rows: &[[GfElement; 16]; 4])
+fn mul_add_chunks(x: &mut [[u8; 64]], y: &[[u8; 64]], lists: &[[GfElement; 16]; 4])
     requires { length x.old ≡ length y.now }
-    ensures { (f k s : ℕ) → IsNibbles f rows.now → k < length x.old → s < 32
+    ensures { (f k s : ℕ) → IsNibbles f lists.now → k < length x.old → s < 32
         → symbol (chunk x.new k) s ≡ bit_xor (symbol (chunk x.old k) s) (product (symbol (chunk y.now k) s) f) }
 {
     for k in 0..x.len() {
-        mul_add_chunk(&mut x[k], &y[k], rows);
+        mul_add_chunk(&mut x[k], &y[k], lists);
     }
 }
 

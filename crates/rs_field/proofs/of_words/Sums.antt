@@ -4,7 +4,7 @@ use Rattle.std.proofs.lemmas.Nat.{and_mask}
 use Rattle.std.proofs.Common.{bit_and, ◌/◌, ◌%◌, ◌≡◌, ℕ, zero, suc, ◌*◌, ◌^◌, ◌<◌, List, [], ◌∷◌, get_or, bit_xor, sym, ap, ap₂, ◌∙◌, arith, zero-mul, one-mul}
 use Rattle.std.specs.Int.Bits.{xor_mod, xor_shr, xor_zero_r}
 use Rattle.rs_field.specs.words.Field.{product}
-use Rattle.rs_field.specs.words.Products.{IsNibbleRow}
+use Rattle.rs_field.specs.words.Products.{IsNibbleList}
 use Rattle.rs_field.proofs.of_words.Linear.{IsAdditive, additive_zero, agree_below, lowest_xor, xor_swap, xor_times_pow}
 use Rattle.rs_field.proofs.of_words.Product.{product_xor_left}
 use Rattle.rs_field.proofs.of_words.Packed.{power_of}
@@ -93,7 +93,7 @@ four_bits f hf a b c d i ea eb ec ed h = agree_below 4 (at_bits a b c d) f (at_b
     same (suc (suc (suc (suc k)))) h = absurd (omega arith)
 
 -- the low byte of each product, from those of four
-pub low_of_four : (n f : ℕ) (words : List ℕ) (i : ℕ) → IsNibbleRow n f words → i < 16
+pub low_of_four : (n f : ℕ) (words : List ℕ) (i : ℕ) → IsNibbleList n f words → i < 16
     → at_bits (bit_and (get_or words 1 0) 255) (bit_and (get_or words 2 0) 255) (bit_and (get_or words 4 0) 255) (bit_and (get_or words 8 0) 255) i
     ≡ product (i * 16 ^ n) f % 256
 low_of_four n f words i are h =
@@ -102,7 +102,7 @@ low_of_four n f words i are h =
     four_bits (λ i. product (i * 16 ^ n) f % 256) (low_nibble_additive n f) _ _ _ _ i (at 1 (omega arith)) (at 2 (omega arith)) (at 4 (omega arith)) (at 8 (omega arith)) h
 
 -- the high byte of each product, from those of four
-pub high_of_four : (n f : ℕ) (words : List ℕ) (i : ℕ) → IsNibbleRow n f words → i < 16
+pub high_of_four : (n f : ℕ) (words : List ℕ) (i : ℕ) → IsNibbleList n f words → i < 16
     → at_bits (get_or words 1 0 / 256) (get_or words 2 0 / 256) (get_or words 4 0 / 256) (get_or words 8 0 / 256) i
     ≡ product (i * 16 ^ n) f / 256
 high_of_four n f words i are h =

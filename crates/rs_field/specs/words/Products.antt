@@ -4,12 +4,12 @@ use Rattle.rs_field.specs.words.Field.{product, power}
 use Rattle.rs_field.specs.declared.words.tables.Multiply128lutT.{Multiply128lutT}
 
 -- word i is the word `i << 4n` times f
-pub record IsNibbleRow (n f : ℕ) (words : List ℕ) : Type 0 where
+pub record IsNibbleList (n f : ℕ) (words : List ℕ) : Type 0 where
   pub entries : (i : ℕ) → i < 16 → slice_index words i ≡ product (i * 16 ^ n) f
 
--- word i of row n is the word `i << 4n` times f
+-- word i of list n is the word `i << 4n` times f
 pub record IsNibbles (f : ℕ) (entry : List (List ℕ)) : Type 0 where
-  pub rows : (n : ℕ) → n < 4 → IsNibbleRow n f (slice_index_or entry n [])
+  pub lists : (n : ℕ) → n < 4 → IsNibbleList n f (slice_index_or entry n [])
 
 -- entry m has the products with the generator to the power m
 pub record IsMul16 (table : List (List (List ℕ))) : Type 0 where

@@ -1,7 +1,7 @@
 //! The table of products by bytes, from that of products as words.
 ghost use Rattle.std.specs.Prelude.{◌≡◌, ℕ, ◌+◌, ◌*◌, ◌/◌, ◌%◌, ◌^◌, ◌<◌, IfOk, bit_xor};
 ghost use Rattle.rs_field.specs.words.Field.{product};
-ghost use Rattle.rs_field.specs.words.Products.{byte_at, IsNibbleRow, IsNibbles, IsNibbleBytes, IsMul16, IsMul128};
+ghost use Rattle.rs_field.specs.words.Products.{byte_at, IsNibbleList, IsNibbles, IsNibbleBytes, IsMul16, IsMul128};
 
 use super::tables::{Mul16, Multiply128lutT};
 use super::{GF_ORDER, GfElement};
@@ -34,7 +34,7 @@ fn spread(a: u8, b: u8, c: u8, d: u8) -> u128
 // The number of the low bytes of sixteen products, as sums of four.
 #[inline(always)]
 fn low_bytes(words: &[GfElement; 16]) -> u128
-    ensures { (n f i : ℕ) → IsNibbleRow n f words.now → i < 16 → byte_at result i ≡ product (i * 16 ^ n) f % 256 }
+    ensures { (n f i : ℕ) → IsNibbleList n f words.now → i < 16 → byte_at result i ≡ product (i * 16 ^ n) f % 256 }
 {
     spread(
         (words[1] & 255) as u8,
@@ -47,7 +47,7 @@ fn low_bytes(words: &[GfElement; 16]) -> u128
 // The number of the high bytes of sixteen products, as sums of four.
 #[inline(always)]
 fn high_bytes(words: &[GfElement; 16]) -> u128
-    ensures { (n f i : ℕ) → IsNibbleRow n f words.now → i < 16 → byte_at result i ≡ product (i * 16 ^ n) f / 256 }
+    ensures { (n f i : ℕ) → IsNibbleList n f words.now → i < 16 → byte_at result i ≡ product (i * 16 ^ n) f / 256 }
 {
     spread(
         (words[1] >> 8) as u8,
@@ -59,21 +59,21 @@ fn high_bytes(words: &[GfElement; 16]) -> u128
 
 // The bytes of the products with one factor.
 #[inline(always)]
-fn bytes_of(rows: &[[GfElement; 16]; 4]) -> Multiply128lutT
-    ensures { (f : ℕ) → IsNibbles f rows.now → IsNibbleBytes f result }
+fn bytes_of(lists: &[[GfElement; 16]; 4]) -> Multiply128lutT
+    ensures { (f : ℕ) → IsNibbles f lists.now → IsNibbleBytes f result }
 {
     Multiply128lutT {
         lo: [
-            low_bytes(&rows[0]),
-            low_bytes(&rows[1]),
-            low_bytes(&rows[2]),
-            low_bytes(&rows[3]),
+            low_bytes(&lists[0]),
+            low_bytes(&lists[1]),
+            low_bytes(&lists[2]),
+            low_bytes(&lists[3]),
         ],
         hi: [
-            high_bytes(&rows[0]),
-            high_bytes(&rows[1]),
-            high_bytes(&rows[2]),
-            high_bytes(&rows[3]),
+            high_bytes(&lists[0]),
+            high_bytes(&lists[1]),
+            high_bytes(&lists[2]),
+            high_bytes(&lists[3]),
         ],
     }
 }

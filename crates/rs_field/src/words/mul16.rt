@@ -2,7 +2,7 @@
 ghost use Rattle.std.specs.Prelude.{◌≡◌, ℕ, ◌*◌, ◌^◌, ◌≤◌, IfOk};
 ghost use Rattle.rs_field.specs.words.Field.{product, power};
 ghost use Rattle.rs_field.specs.words.Tables.{IsExpLog};
-ghost use Rattle.rs_field.specs.words.Products.{IsNibbleRow, IsNibbles, IsMul16};
+ghost use Rattle.rs_field.specs.words.Products.{IsNibbleList, IsNibbles, IsMul16};
 
 use super::tables::{self, ExpLog};
 use super::{GF_ORDER, GfElement};
@@ -12,7 +12,7 @@ use std::alloc::{AllocError, Global};
 #[inline(always)]
 fn nibble_sums(a: GfElement, b: GfElement, c: GfElement, d: GfElement) -> [GfElement; 16]
     ensures { (n f : ℕ) → a ≡ product (1 * 16 ^ n) f → b ≡ product (2 * 16 ^ n) f
-        → c ≡ product (4 * 16 ^ n) f → d ≡ product (8 * 16 ^ n) f → IsNibbleRow n f result }
+        → c ≡ product (4 * 16 ^ n) f → d ≡ product (8 * 16 ^ n) f → IsNibbleList n f result }
 {
     let ab = a ^ b;
     let cd = c ^ d;
@@ -38,10 +38,10 @@ fn nibble_sums(a: GfElement, b: GfElement, c: GfElement, d: GfElement) -> [GfEle
 
 // The products of the words 0 to 15, each times `place`: four by the tables, the others as sums.
 #[inline(always)]
-fn nibble_row(place: GfElement, log_m: GfElement, t: &ExpLog) -> [GfElement; 16]
+fn nibble_list(place: GfElement, log_m: GfElement, t: &ExpLog) -> [GfElement; 16]
     requires tables { IsExpLog t.now.exp.items t.now.log.items }
     requires place { place ≤ 4096 }
-    ensures { (n : ℕ) → place ≡ 16 ^ n → IsNibbleRow n (power log_m) result }
+    ensures { (n : ℕ) → place ≡ 16 ^ n → IsNibbleList n (power log_m) result }
 {
     nibble_sums(
         tables::mul(place, log_m, &t.exp, &t.log),
@@ -58,10 +58,10 @@ fn nibbles_of(log_m: GfElement, t: &ExpLog) -> [[GfElement; 16]; 4]
     ensures { IsNibbles (power log_m) result }
 {
     [
-        nibble_row(1, log_m, t),
-        nibble_row(16, log_m, t),
-        nibble_row(256, log_m, t),
-        nibble_row(4096, log_m, t),
+        nibble_list(1, log_m, t),
+        nibble_list(16, log_m, t),
+        nibble_list(256, log_m, t),
+        nibble_list(4096, log_m, t),
     ]
 }
 

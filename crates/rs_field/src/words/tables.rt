@@ -26,7 +26,7 @@ pub type Skew<'a> = &'a [GfElement];
 /// Its entries are residues modulo 65535: 0 and 65535 both stand for zero.
 pub type LogWalsh<'a> = &'a [GfElement];
 
-/// A lent table of 65536 entries. Entry m has the products of the generator to the power m: word i of row n is that of
+/// A lent table of 65536 entries. Entry m has the products of the generator to the power m: word i of list n is that of
 /// the word `i << 4n`.
 pub type Mul16<'a> = &'a [[[GfElement; 16]; 4]];
 

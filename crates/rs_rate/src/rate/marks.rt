@@ -124,7 +124,7 @@ impl Marks {
         ensures room { vec_capacity self.new.rows ≡ vec_capacity self.old.rows }
     {
         if self.shards == MarkedShards::Restored {
-            clear_marks(self.rows.as_mut_slice());
+            self.rows.as_mut_slice().fill(false);
             self.shards = MarkedShards::Given;
         }
     }
@@ -164,14 +164,5 @@ impl Marks {
             self.set(row, wanted);
         }
         self.shards = MarkedShards::Restored;
-    }
-}
-
-// Clears all marks.
-fn clear_marks(marks: &mut [bool])
-    ensures { (p : ℕ) → is_marked marks.new p ≡ false }
-{
-    for row in 0..marks.len() {
-        marks[row] = false;
     }
 }

@@ -1,12 +1,12 @@
 use Rattle.std.proofs.Common.{◌≡◌, ◌∙◌, inl, inr, refl}
 use Rattle.reed_solomon_simd.specs.declared.Error.TheVariants.{OutOfMemory}
 use Rattle.rs.specs.declared.fault.Fault.TheVariants.{Refused}
-use Rattle.rs.specs.Told.{message_of}
+use Rattle.rs.specs.Told.{told_text}
 use Rattle.rs.proofs.fault.Fault.tell.Goals as goal
 
 pub returns-in-Ok : goal.returns-in-Ok
 returns-in-Ok g c =
-    let message : c.as_str.result.now ≡ message_of (Refused c.in-Refused.refusal) = c.as_str.ensures.value ∙ c.in-Ok.ensures.ok in
+    let message : c.as_str.result.now ≡ told_text (Refused c.in-Refused.refusal) = c.as_str.ensures.value ∙ c.in-Ok.ensures.ok in
     (Refused c.in-Refused.refusal, rw c.in-Refused.is (inl refl), rw message at c.write_text-in-Ok.ensures.front, rw message at c.write_text-in-Ok.ensures.whole)
 
 pub returns-in-Err : goal.returns-in-Err
