@@ -4,6 +4,7 @@ use Rattle.std.specs.Vec.{vec_capacity}
 use Rattle.rs_rate.specs.declared.rate.decoder_work.DecoderShape.{DecoderShape}
 use Rattle.rs_rate.specs.declared.rate.decoder_work.DecoderMemory.{DecoderMemory}
 use Rattle.rs_rate.specs.declared.rate.decoder_work.DecoderWork.{DecoderWork}
+use Rattle.rs_rate.specs.Marks.{mark_count, mark_room}
 use Rattle.rs_rate.specs.ShardRows.{chunk_count}
 
 -- the chunks of a shape's rows
@@ -19,7 +20,7 @@ pub record DecoderRoom : Type 0 where
 -- the room of a decoder's memory
 abbrev pub memory_room : DecoderMemory → DecoderRoom
 memory_room memory =
-    record { chunks = vec_capacity memory.chunks; rows = vec_capacity memory.marks.rows; entries = vec_capacity memory.entries }
+    record { chunks = vec_capacity memory.chunks; rows = mark_room memory.marks; entries = vec_capacity memory.entries }
 
 -- the room of memory that is handed on, if there is any
 abbrev pub room_if : Option DecoderMemory → DecoderRoom
@@ -39,7 +40,7 @@ pub record HasRoom (room : DecoderRoom) (count size : ℕ) : Type 0 where
 -- memory is laid out for a shape: it has as many chunks, marks and entries as the rows take, and room for these
 pub record IsLaidOut (shape : DecoderShape) (memory : DecoderMemory) : Type 0 where
   pub whole : vec_len memory.chunks ≡ shape_chunks shape
-  pub marked : vec_len memory.marks.rows ≡ shape.frame.row_count
+  pub marked : mark_count memory.marks ≡ shape.frame.row_count
   pub entries : vec_len memory.entries ≡ shape.frame.row_count
   pub sized : shape_chunks shape * 64 < 2 ^ 64
   pub room : HasRoom (memory_room memory) shape.frame.row_count shape.configuration.shard_bytes

@@ -1,5 +1,5 @@
 -- How the words of a decoder's rows become those of the missing originals.
-use Rattle.std.specs.Prelude.{◌≡◌, ℕ, ◌+◌, ◌-◌, ◌*◌, ◌/◌, ◌%◌, ◌<◌, ◌≤◌, ◌↔◌, if◌then◌else◌, Bool, true, false, List, slice_index, vec_len}
+use Rattle.std.specs.Prelude.{◌≡◌, ℕ, ◌+◌, ◌-◌, ◌*◌, ◌/◌, ◌%◌, ◌<◌, ◌≤◌, ◌↔◌, if◌then◌else◌, Bool, true, false, List, slice_index}
 use Rattle.rs_field.specs.words.StepBounds.{transform_steps}
 use Rattle.rs_field.specs.words.Derivative.{IsDerivativeAdded}
 use Rattle.rs_field.specs.words.Field.{product, power}
@@ -16,7 +16,7 @@ use Rattle.rs_rate.specs.declared.rate.decoder_work.DecoderShape.{DecoderShape}
 use Rattle.rs_rate.specs.declared.rate.marks.Marks.{Marks}
 use Rattle.rs_rate.specs.declared.rate.marks.MarkedShards.TheVariants.{Given}
 use Rattle.rs_rate.specs.declared.rate.restoring.Tally.{Tally}
-use Rattle.rs_rate.specs.Marks.{given_marks, given_row_count, erased}
+use Rattle.rs_rate.specs.Marks.{given_marks, mark_count, given_row_count, erased}
 use Rattle.rs_rate.specs.Shapes.{DecoderCanBeLaid, original_row}
 use Rattle.rs_rate.specs.ShardRows.{word_in, shard_in_order}
 
@@ -34,7 +34,7 @@ pub record AreRowsOf (shape : DecoderShape) (rows : ShardsRefMut) : Type 0 where
 -- what a decode goes by: a shape that can be laid, as many marks as rows, which tell of given shards; so many originals missing, and so many surplus shards, no more than rows
 pub record CanBeRestored (tally : Tally) (marks : Marks) : Type 0 where
   pub laid : DecoderCanBeLaid tally.shape
-  pub marked : vec_len marks.rows ≡ tally.shape.frame.row_count
+  pub marked : mark_count marks ≡ tally.shape.frame.row_count
   pub shards : marks.shards ≡ Given
   pub missing_counted : given_row_count (given_marks marks) tally.shape.frame.originals_from tally.shape.configuration.original_count + tally.missing ≡ tally.shape.configuration.original_count
   pub surplus_counted : given_row_count (given_marks marks) tally.shape.frame.originals_from tally.shape.configuration.original_count

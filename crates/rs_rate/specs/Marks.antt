@@ -30,14 +30,25 @@ given_marks marks = if_given marks.shards marks.rows.items
 abbrev pub restored_marks : Marks → List Bool
 restored_marks marks = if_restored marks.shards marks.rows.items
 
+-- how many rows have a mark, and for how many there is room
+abbrev pub mark_count : Marks → ℕ
+mark_count marks = vec_len marks.rows
+
+abbrev pub mark_room : Marks → ℕ
+mark_room marks = vec_capacity marks.rows
+
+-- the same marks, which tell of the same shards
+abbrev pub AreSameMarks : Marks → Marks → Type 0
+AreSameMarks old new = (new.rows.items ≡ old.rows.items) × (new.shards ≡ old.shards)
+
 -- from marks of given shards to those of restored ones: of a shape's originals the rows are marked that held no given shard, and no others
 pub record WantsMissing (shape : DecoderShape) (old new : Marks) : Type 0 where
   pub shards : new.shards ≡ Restored
   pub missing : (i : ℕ) → i < shape.configuration.original_count
       → is_marked (restored_marks new) (original_row shape.frame i) ≡ not (is_marked (given_marks old) (original_row shape.frame i))
   pub others : (p : ℕ) → (p < shape.frame.originals_from) ⊎ (original_row shape.frame shape.configuration.original_count ≤ p) → is_marked (restored_marks new) p ≡ false
-  pub length : vec_len new.rows ≡ vec_len old.rows
-  pub room : vec_capacity new.rows ≡ vec_capacity old.rows
+  pub length : mark_count new ≡ mark_count old
+  pub room : mark_room new ≡ mark_room old
 
 -- by the marks of given shards: how many of the n rows from one on hold one
 unfoldable pub given_row_count : List Bool → ℕ → ℕ → ℕ

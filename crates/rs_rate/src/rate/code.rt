@@ -20,15 +20,15 @@ pub trait Code {
 }
 
 /// The code of the low rate.
-#[derive(Drop)]
+#[derive(Clone, Copy, Debug, PartialEq, Eq, Hash)]
 pub struct LowCode;
 
 /// The code of the high rate.
-#[derive(Drop)]
+#[derive(Clone, Copy, Debug, PartialEq, Eq, Hash)]
 pub struct HighCode;
 
 /// The code of the default rate.
-#[derive(Drop)]
+#[derive(Clone, Copy, Debug, PartialEq, Eq, Hash)]
 pub struct DefaultCode;
 
 /// The low rate, over an engine: made for few originals.

@@ -10,7 +10,7 @@ ghost use Rattle.rs_field.specs.code.Decoder.{fresh_decoder, enough_given};
 ghost use Rattle.rs_field.specs.rows.MarkedRows.{is_marked};
 ghost use Rattle.rs_rate.specs.Shapes.{DecoderCanBeLaid, original_row, recovery_row};
 ghost use Rattle.rs_rate.specs.ShardRows.{asked, chunk_count, shard_laid_out};
-ghost use Rattle.rs_rate.specs.Marks.{given_marks, HoldGiven};
+ghost use Rattle.rs_rate.specs.Marks.{given_marks, mark_count, mark_room, AreSameMarks, HoldGiven};
 ghost use Rattle.rs_rate.specs.DecoderRoom.{IsLaidOut};
 ghost use Rattle.rs_rate.specs.Sides.{with_given};
 
@@ -166,12 +166,12 @@ impl DecoderMemory {
 
     // Makes room for so many chunks and rows; nothing else changes.
     fn grow(&mut self, chunks: usize, rows: usize) -> Result<(), Error>
-        ensures kept { (self.new.chunks.items ≡ self.old.chunks.items) × (self.new.marks.rows.items ≡ self.old.marks.rows.items)
-            × (self.new.marks.shards ≡ self.old.marks.shards) × (self.new.entries.items ≡ self.old.entries.items) }
-        ensures room { OnOk result ((chunks ≤ vec_capacity self.new.chunks) × (rows ≤ vec_capacity self.new.marks.rows) × (rows ≤ vec_capacity self.new.entries)) }
+        ensures kept { (self.new.chunks.items ≡ self.old.chunks.items) × AreSameMarks self.old.marks self.new.marks
+            × (self.new.entries.items ≡ self.old.entries.items) }
+        ensures room { OnOk result ((chunks ≤ vec_capacity self.new.chunks) × (rows ≤ mark_room self.new.marks) × (rows ≤ vec_capacity self.new.entries)) }
         ensures grown { Grows (memory_room self.old) (memory_room self.new) }
         ensures memory { IfErr result (λ e. e ≡ Error.OutOfMemory) }
-        ensures enough { chunks ≤ vec_capacity self.old.chunks → rows ≤ vec_capacity self.old.marks.rows → rows ≤ vec_capacity self.old.entries → IsOk result }
+        ensures enough { chunks ≤ vec_capacity self.old.chunks → rows ≤ mark_room self.old.marks → rows ≤ vec_capacity self.old.entries → IsOk result }
     {
         make_room(&mut self.chunks, chunks)?;
         self.marks.make_room(rows)?;
@@ -183,8 +183,8 @@ impl DecoderMemory {
     fn lay_out(&mut self, shape: DecoderShape) -> Result<(), Error>
         ensures laid_out { OnOk result (IsLaidOut shape self.new) }
         ensures empty { OnOk result ((p : ℕ) → is_marked (given_marks self.new.marks) p ≡ false) }
-        ensures kept { OnErr result ((self.new.chunks.items ≡ self.old.chunks.items) × (self.new.marks.rows.items ≡ self.old.marks.rows.items)
-            × (self.new.marks.shards ≡ self.old.marks.shards) × (self.new.entries.items ≡ self.old.entries.items)) }
+        ensures kept { OnErr result ((self.new.chunks.items ≡ self.old.chunks.items) × AreSameMarks self.old.marks self.new.marks
+            × (self.new.entries.items ≡ self.old.entries.items)) }
         ensures answer { UpToMemory (asked (shape_chunks shape)) result }
         ensures grown { Grows (memory_room self.old) (memory_room self.new) }
         ensures roomy { HasRoom (memory_room self.old) shape.frame.row_count shape.configuration.shard_bytes → result ≡ asked (shape_chunks shape) }
@@ -202,13 +202,13 @@ impl DecoderMemory {
     fn enter(&mut self, row: usize, shard: &[u8])
         requires room { chunk_count (row + 1) (length shard.now) ≤ vec_len self.old.chunks }
         requires even { length shard.now % 2 ≡ 0 }
-        requires marked { row < vec_len self.old.marks.rows }
+        requires marked { row < mark_count self.old.marks }
         ensures here { shard_laid_out self.new.chunks.items (length shard.now) row ≡ shard.now }
         ensures others { (i : ℕ) → i ≢ row → shard_laid_out self.new.chunks.items (length shard.now) i ≡ shard_laid_out self.old.chunks.items (length shard.now) i }
         ensures shard { IsShard (length shard.now) shard.now }
         ensures mark { is_marked (given_marks self.new.marks) row ≡ true }
         ensures other_marks { (p : ℕ) → p ≢ row → is_marked (given_marks self.new.marks) p ≡ is_marked (given_marks self.old.marks) p }
-        ensures lengths { (vec_len self.new.chunks ≡ vec_len self.old.chunks) × (vec_len self.new.marks.rows ≡ vec_len self.old.marks.rows)
+        ensures lengths { (vec_len self.new.chunks ≡ vec_len self.old.chunks) × (mark_count self.new.marks ≡ mark_count self.old.marks)
             × (vec_len self.new.entries ≡ vec_len self.old.entries) }
         ensures grown { memory_room self.new ≡ memory_room self.old }
     {

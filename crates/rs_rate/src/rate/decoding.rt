@@ -11,7 +11,7 @@ ghost use Rattle.rs_rate.specs.DecoderRoom.{memory_room};
 ghost use Rattle.rs_rate.specs.Configured.{configuration_at};
 ghost use Rattle.rs_rate.specs.DecoderView.{decoder_state, restored_of, restored_from};
 ghost use Rattle.rs_rate.specs.Decoding.{CanBeRestored, IsLocatorOf, RestoresShards};
-ghost use Rattle.rs_rate.specs.Marks.{erased, given_marks, restored_marks, WantsMissing};
+ghost use Rattle.rs_rate.specs.Marks.{erased, given_marks, restored_marks, mark_count, WantsMissing};
 ghost use Rattle.rs_rate.specs.SetUp.{IsSetUp};
 ghost use Rattle.rs_rate.specs.Shapes.{DecoderCanBeLaid, original_row};
 ghost use Rattle.rs_rate.specs.ShardRows.{chunk_count, shard_laid_out, shard_in_order};
@@ -167,7 +167,7 @@ fn move_restored_tails(
     shape: DecoderShape,
 )
     requires laid { DecoderCanBeLaid shape }
-    requires marked { vec_len marks.now.rows ≡ shape.frame.row_count }
+    requires marked { mark_count marks.now ≡ shape.frame.row_count }
     requires whole { chunk_count shape.frame.row_count shape.configuration.shard_bytes ≤ length chunks.old }
     ensures moved { (i : ℕ) → i < shape.configuration.original_count → let p = original_row shape.frame i in is_marked (restored_marks marks.now) p ≡ true
         → shard_in_order chunks.new shape.configuration.shard_bytes p ≡ shard_laid_out chunks.old shape.configuration.shard_bytes p }

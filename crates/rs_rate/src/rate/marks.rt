@@ -1,8 +1,7 @@
 //! Which rows of a decoder hold given shards and, once a decode restores, which of them restored ones.
-ghost use Rattle.std.specs.Prelude.{◌≡◌, ◌≢◌, ℕ, ◌^◌, ◌<◌, ◌≤◌, ◌⊎◌, not, true, false, length, vec_len, IfOk, IfErr, OnOk};
-ghost use Rattle.std.specs.Vec.{vec_capacity};
+ghost use Rattle.std.specs.Prelude.{◌≡◌, ◌≢◌, ℕ, ◌^◌, ◌<◌, ◌≤◌, ◌⊎◌, not, true, false, length, IfOk, IfErr, OnOk};
 ghost use Rattle.rs_field.specs.rows.MarkedRows.{is_marked};
-ghost use Rattle.rs_rate.specs.Marks.{given_marks, restored_marks, WantsMissing};
+ghost use Rattle.rs_rate.specs.Marks.{given_marks, restored_marks, mark_count, mark_room, AreSameMarks, WantsMissing};
 ghost use Rattle.rs_rate.specs.Shapes.{original_row};
 
 use crate::rate::decoder_work::DecoderShape;
@@ -21,8 +20,8 @@ pub enum MarkedShards {
 /// A mark for each row of a decoder.
 #[derive(Drop)]
 pub struct Marks {
-    pub(crate) rows: Vec<bool>,
-    pub(crate) shards: MarkedShards,
+    rows: Vec<bool>,
+    shards: MarkedShards,
 }
 
 impl Marks {
@@ -30,8 +29,8 @@ impl Marks {
     pub(crate) fn new(alloc: Global, rows: usize) -> Result<Marks, Error>
         ensures shards { IfOk result (λ marks. marks.shards ≡ MarkedShards.Given) }
         ensures empty { IfOk result (λ marks. (p : ℕ) → is_marked (given_marks marks) p ≡ false) }
-        ensures length { IfOk result (λ marks. vec_len marks.rows ≡ rows) }
-        ensures room { IfOk result (λ marks. rows ≤ vec_capacity marks.rows) }
+        ensures length { IfOk result (λ marks. mark_count marks ≡ rows) }
+        ensures room { IfOk result (λ marks. rows ≤ mark_room marks) }
         ensures refused { IfErr result (λ e. e ≡ Error.OutOfMemory) }
     {
         Ok(Marks {
@@ -42,10 +41,10 @@ impl Marks {
 
     // Makes room for the marks of so many rows in all; no mark changes.
     pub(crate) fn make_room(&mut self, rows: usize) -> Result<(), Error>
-        ensures same { (self.new.rows.items ≡ self.old.rows.items) × (self.new.shards ≡ self.old.shards) }
-        ensures room { OnOk result (rows ≤ vec_capacity self.new.rows) }
-        ensures more { vec_capacity self.old.rows ≤ vec_capacity self.new.rows }
-        ensures refused { IfErr result (λ e. (e ≡ Error.OutOfMemory) × (vec_capacity self.old.rows < rows)) }
+        ensures same { AreSameMarks self.old self.new }
+        ensures room { OnOk result (rows ≤ mark_room self.new) }
+        ensures more { mark_room self.old ≤ mark_room self.new }
+        ensures refused { IfErr result (λ e. (e ≡ Error.OutOfMemory) × (mark_room self.old < rows)) }
     {
         make_room(&mut self.rows, rows)
     }
@@ -53,11 +52,11 @@ impl Marks {
     // Has so many rows, none of them with a given shard, for which there is room.
     #[inline(always)]
     pub(crate) fn set_empty(&mut self, rows: usize)
-        requires { rows ≤ vec_capacity self.old.rows }
+        requires { rows ≤ mark_room self.old }
         ensures shards { self.new.shards ≡ MarkedShards.Given }
         ensures empty { (p : ℕ) → is_marked (given_marks self.new) p ≡ false }
-        ensures length { vec_len self.new.rows ≡ rows }
-        ensures grown { vec_capacity self.old.rows ≤ vec_capacity self.new.rows }
+        ensures length { mark_count self.new ≡ rows }
+        ensures grown { mark_room self.old ≤ mark_room self.new }
     {
         self.rows.clear();
         set_length(&mut self.rows, rows, false);
@@ -66,7 +65,7 @@ impl Marks {
 
     // Whether row `row` holds a given shard.
     pub(crate) fn is_given(&self, row: usize) -> bool
-        requires { row < vec_len self.now.rows }
+        requires { row < mark_count self.now }
         ensures { result ≡ is_marked (given_marks self.now) row }
     {
         match self.shards {
@@ -77,7 +76,7 @@ impl Marks {
 
     // Whether row `row` holds a restored shard.
     pub(crate) fn is_restored(&self, row: usize) -> bool
-        requires { row < vec_len self.now.rows }
+        requires { row < mark_count self.now }
         ensures { result ≡ is_marked (restored_marks self.now) row }
     {
         match self.shards {
@@ -90,7 +89,7 @@ impl Marks {
     pub(crate) fn given(&self) -> &[bool]
         requires { self.now.shards ≡ MarkedShards.Given }
         ensures marks { result.now ≡ given_marks self.now }
-        ensures length { length result.now ≡ vec_len self.now.rows }
+        ensures length { length result.now ≡ mark_count self.now }
     {
         self.rows.as_slice()
     }
@@ -99,19 +98,19 @@ impl Marks {
     pub(crate) fn restored(&self) -> &[bool]
         requires { self.now.shards ≡ MarkedShards.Restored }
         ensures marks { result.now ≡ restored_marks self.now }
-        ensures length { length result.now ≡ vec_len self.now.rows }
+        ensures length { length result.now ≡ mark_count self.now }
     {
         self.rows.as_slice()
     }
 
     // Sets the mark of row `row`.
     fn set(&mut self, row: usize, is: bool)
-        requires { row < vec_len self.old.rows }
+        requires { row < mark_count self.old }
         ensures here { is_marked self.new.rows.items row ≡ is }
         ensures others { (p : ℕ) → p ≢ row → is_marked self.new.rows.items p ≡ is_marked self.old.rows.items p }
         ensures shards { self.new.shards ≡ self.old.shards }
-        ensures length { vec_len self.new.rows ≡ vec_len self.old.rows }
-        ensures room { vec_capacity self.new.rows ≡ vec_capacity self.old.rows }
+        ensures length { mark_count self.new ≡ mark_count self.old }
+        ensures room { mark_room self.new ≡ mark_room self.old }
     {
         self.rows[row] = is;
     }
@@ -120,8 +119,8 @@ impl Marks {
     fn tell_given(&mut self)
         ensures shards { self.new.shards ≡ MarkedShards.Given }
         ensures same { (p : ℕ) → is_marked self.new.rows.items p ≡ is_marked (given_marks self.old) p }
-        ensures length { vec_len self.new.rows ≡ vec_len self.old.rows }
-        ensures room { vec_capacity self.new.rows ≡ vec_capacity self.old.rows }
+        ensures length { mark_count self.new ≡ mark_count self.old }
+        ensures room { mark_room self.new ≡ mark_room self.old }
     {
         if self.shards == MarkedShards::Restored {
             self.rows.as_mut_slice().fill(false);
@@ -131,11 +130,11 @@ impl Marks {
 
     // Marks row `row` as holding a given shard. The first one of a round clears the marks of the last one.
     pub(crate) fn give(&mut self, row: usize)
-        requires { row < vec_len self.old.rows }
+        requires { row < mark_count self.old }
         ensures here { is_marked (given_marks self.new) row ≡ true }
         ensures others { (p : ℕ) → p ≢ row → is_marked (given_marks self.new) p ≡ is_marked (given_marks self.old) p }
-        ensures length { vec_len self.new.rows ≡ vec_len self.old.rows }
-        ensures room { vec_capacity self.new.rows ≡ vec_capacity self.old.rows }
+        ensures length { mark_count self.new ≡ mark_count self.old }
+        ensures room { mark_room self.new ≡ mark_room self.old }
     {
         self.tell_given();
         self.set(row, true);
@@ -143,7 +142,7 @@ impl Marks {
 
     // Whether row `row` is that of an original which isn't given.
     fn is_missing(&self, shape: DecoderShape, row: usize) -> bool
-        requires marked { row < vec_len self.now.rows }
+        requires marked { row < mark_count self.now }
         requires fits { original_row shape.frame shape.configuration.original_count < 2 ^ 64 }
         ensures missing { shape.frame.originals_from ≤ row → row < original_row shape.frame shape.configuration.original_count
             → result ≡ not (is_marked (given_marks self.now) row) }
@@ -156,7 +155,7 @@ impl Marks {
     // Ends the giving: of the rows of a shape's originals, those without a given shard are marked as restored, and no
     // other row is marked.
     pub(crate) fn want_missing(&mut self, shape: DecoderShape)
-        requires { original_row shape.frame shape.configuration.original_count ≤ vec_len self.old.rows }
+        requires { original_row shape.frame shape.configuration.original_count ≤ mark_count self.old }
         ensures { WantsMissing shape self.old self.new }
     {
         for row in 0..self.rows.len() {

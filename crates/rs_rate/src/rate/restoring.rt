@@ -12,7 +12,7 @@ ghost use Rattle.rs_field.specs.rows.Layout.{row_len};
 ghost use Rattle.rs_field.specs.rows.View.{cell, word, Fits, SameShape};
 ghost use Rattle.rs_field.specs.rows.MarkedRows.{is_marked};
 ghost use Rattle.rs_rate.specs.Decoding.{located, AreRowsOf, AreCoefficients, CanBeRestored, restore_steps, RestoresWords};
-ghost use Rattle.rs_rate.specs.Marks.{given_marks, restored_marks, WantsMissing};
+ghost use Rattle.rs_rate.specs.Marks.{given_marks, restored_marks, mark_count, WantsMissing};
 ghost use Rattle.rs_rate.specs.Shapes.{DecoderCanBeLaid, original_row};
 
 use crate::rate::decoder_work::DecoderShape;
@@ -150,7 +150,7 @@ fn reveal_rows<E: Engine>(
 )
     requires laid { DecoderCanBeLaid shape }
     requires rows { AreRowsOf shape rows.old }
-    requires marked { vec_len marks.now.rows ≡ rows.old.shard_count }
+    requires marked { mark_count marks.now ≡ rows.old.shard_count }
     requires located { length locator.now ≡ rows.old.shard_count }
     ensures shape { SameShape rows.old rows.new }
     ensures revealed { (k s i : ℕ) → k < rows.old.shard_len_64 → s < 32 → i < shape.configuration.original_count

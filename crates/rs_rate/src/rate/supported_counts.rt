@@ -19,6 +19,7 @@ pub type HighRateCounts = SupportedCounts<HighCode>;
 pub type DefaultRateCounts = SupportedCounts<DefaultCode>;
 
 /// Counts that a rate supports, with what the rate is at them. A coder at these asks for neither again.
+#[derive(Debug, PartialEq, Eq, Hash)]
 pub struct SupportedCounts<C: Code> {
     pub original_count: usize,
     pub recovery_count: usize,
