@@ -1,7 +1,7 @@
 //! The decoding of a round, for every rate: the locator of the erased rows, the rows over the chunks, the tails, and
 //! the round's end.
 ghost use Rattle.std.specs.Prelude.{◌≡◌, ℕ, ◌+◌, ◌-◌, ◌*◌, ◌/◌, ◌%◌, ◌^◌, ◌<◌, ◌≤◌, ◌⊎◌, ◌&&◌, if◌then◌else◌};
-ghost use Rattle.std.specs.Prelude.{true, List, length, slice_index, vec_len, IfOk, MatchResult};
+ghost use Rattle.std.specs.Prelude.{true, List, length, slice_index, IfOk, MatchResult};
 ghost use Rattle.rs_field.specs.words.StepBounds.{CountsUpTo, LocatorCounts, transform_steps};
 ghost use Rattle.rs_field.specs.code.Bounds.{DecodeCounts};
 ghost use Rattle.rs_field.specs.code.Counts.{Rate};

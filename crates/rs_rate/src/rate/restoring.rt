@@ -5,7 +5,7 @@
 //! them has as many zero coefficients at its end as there are surplus shards exactly where some message agrees with
 //! all that is given. The polynomial plus its derivative takes at each erased row the wanted word times
 //! the locator's derivative. The method is that of Lin, Chung and Han in the form of Leopard-RS; the check is added.
-ghost use Rattle.std.specs.Prelude.{◌≡◌, ℕ, ◌+◌, ◌-◌, ◌/◌, ◌%◌, ◌^◌, ◌<◌, ◌≤◌, ◌↔◌, true, false, length, replicate, slice_index, vec_len};
+ghost use Rattle.std.specs.Prelude.{◌≡◌, ℕ, ◌+◌, ◌-◌, ◌/◌, ◌%◌, ◌^◌, ◌<◌, ◌≤◌, ◌↔◌, true, false, length, replicate, slice_index};
 ghost use Rattle.rs_field.specs.words.StepBounds.{CountsRows, CountsUpTo, transform_steps};
 ghost use Rattle.rs_field.specs.words.Field.{product, power};
 ghost use Rattle.rs_field.specs.rows.Layout.{row_len};
