@@ -108,5 +108,5 @@ module _ {Y : Type 0} where
   pub with_entries-inserted : (old new : BTreeMap ℕ (Vec ℕ Y)) (index : ℕ) (vector : Vec ℕ Y) (shard : Shard) (left rest : Items)
       → left ≡ (index, shard) ∷ rest → vector.items ≡ shard → Updates nat_cmp old new index (Some vector)
       → with_entries (shards_in new) rest ≡ with_entries (shards_in old) left
-  with_entries-inserted old new index vector shard left rest came same updates =
-      ap (λ s. with_entries s rest) (shards_in-inserted old new index vector shard same updates) ∙ ap (with_entries (shards_in old)) (sym came)
+  with_entries-inserted old new index vector shard left rest begins same updates =
+      ap (λ s. with_entries s rest) (shards_in-inserted old new index vector shard same updates) ∙ ap (with_entries (shards_in old)) (sym begins)

@@ -96,7 +96,7 @@ noted-more {indexes} {given} {new} index are told is =
 abbrev enough : ℕ → Result (List ℕ) Error → Result (Unit {0}) Error
 enough k outcome = result_and_then (λ all. if nat_lt (length all) k then Err (NotEnoughShards k (length all) 0) else Ok tt) outcome
 
--- where the indexes were noted in k places of which none was true, and that was answered so, the answer of all that came
+-- where the indexes were noted in k places of which none was true, and that was answered so, the answer of all that are given
 module _ (k : ℕ) (items : Items) (places given : List Bool) (result : Result (Unit {0}) Error) (filled : places ≡ replicate k false)
     (leads : Reaches (one_by_one (λ so_far item. noted (length places) so_far item.0) [] items) result (λ all. AreNoted all given)) where
   outcome : Result (List ℕ) Error

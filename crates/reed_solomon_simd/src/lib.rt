@@ -120,7 +120,7 @@ pub mod engine {
     /// let tables = Tables::new(alloc)?;
     /// ```
     pub mod tables {
-        /// The powers of the generator, the logarithms and the factors of butterflies, and a product by these.
+        /// All tables, the powers of the generator and the logarithms, a product by these, and the factors of butterflies.
         ///
         /// ```
         /// // quoted: crates/rs_callers/src/surface.rt
@@ -159,7 +159,7 @@ pub mod engine {
         /// locate(steps, entries, get_log_walsh_below(tables, 64));
         /// ```
         pub use rs_field::engine::utils::{eval_poly, locate};
-        /// Sums of chunks, and of rows among others.
+        /// Sums of chunks, and of ranges of rows.
         ///
         /// ```
         /// // quoted: crates/rs_callers/src/surface.rt

@@ -13,37 +13,37 @@ shards_from n vectors = map (λ vector. vector.items) (drop n vectors)
 pub shards_from-next : {Y : Type 0} (n : ℕ) (vectors : List (Vec ℕ Y)) (d : Vec ℕ Y) → n < length vectors → shards_from n vectors ≡ (get_or vectors n d).items ∷ shards_from (n + 1) vectors
 shards_from-next n vectors d inside = ap (map (λ vector. vector.items)) (drop-cons vectors n d inside ∙ ap (λ m. get_or vectors n d ∷ drop m vectors) (sym (add-one n)))
 
-module _ {S T : Type 0} (step : S → T → Result S Error) where
+module _ {S T : Type 0} (add : S → T → Result S Error) where
   -- an item that is taken
-  pub taken-next : (s next : S) (item : T) (items : List T) → step s item ≡ Ok next → one_by_one step s (item ∷ items) ≡ one_by_one step next items
-  taken-next s next item items is = ap (result_and_then (λ t. one_by_one step t items)) is
+  pub taken-next : (s next : S) (item : T) (items : List T) → add s item ≡ Ok next → one_by_one add s (item ∷ items) ≡ one_by_one add next items
+  taken-next s next item items is = ap (result_and_then (λ t. one_by_one add t items)) is
 
-module _ {S : Type 0} (step : S → ℕ × Shard → Result S Error) (kept : ℕ × Shard → Bool) where
+module _ {S : Type 0} (add : S → ℕ × Shard → Result S Error) (kept : ℕ × Shard → Bool) where
   -- what the shards from number n on lead to, but for those that aren't kept
   abbrev pub led_by : S → ℕ → List Shard → Result S Error
-  led_by s n shards = one_by_one step s (filter kept (enumerate_from n shards))
+  led_by s n shards = one_by_one add s (filter kept (enumerate_from n shards))
 
   -- a shard that is kept, and taken
   pub kept-next : (s next : S) (n m index : ℕ) (shard : Shard) (shards rest : List Shard) → shards ≡ shard ∷ rest → index ≡ n → m ≡ n + 1 → kept (index, shard) ≡ true
-      → step s (index, shard) ≡ Ok next → led_by s n shards ≡ led_by next m rest
+      → add s (index, shard) ≡ Ok next → led_by s n shards ≡ led_by next m rest
   kept-next s next n m index shard shards rest is first after keeps taken =
       ap₂ (led_by s) (sym first) is
-      ∙ ap (λ b. one_by_one step s (cond b ((index, shard) ∷ filter kept (enumerate_from (index + 1) rest)) (filter kept (enumerate_from (index + 1) rest)))) keeps
-      ∙ taken-next step s next (index, shard) (filter kept (enumerate_from (index + 1) rest)) taken
+      ∙ ap (λ b. one_by_one add s (cond b ((index, shard) ∷ filter kept (enumerate_from (index + 1) rest)) (filter kept (enumerate_from (index + 1) rest)))) keeps
+      ∙ taken-next add s next (index, shard) (filter kept (enumerate_from (index + 1) rest)) taken
       ∙ ap (λ k. led_by next k rest) (omega arith)
 
   -- a shard that is kept, and refused
   pub kept-refused : (s : S) (n index : ℕ) (shard : Shard) (shards rest : List Shard) (e : Error) → shards ≡ shard ∷ rest → index ≡ n → kept (index, shard) ≡ true
-      → step s (index, shard) ≡ Err e → led_by s n shards ≡ Err e
+      → add s (index, shard) ≡ Err e → led_by s n shards ≡ Err e
   kept-refused s n index shard shards rest e is first keeps refused =
       ap₂ (led_by s) (sym first) is
-      ∙ ap (λ b. one_by_one step s (cond b ((index, shard) ∷ filter kept (enumerate_from (index + 1) rest)) (filter kept (enumerate_from (index + 1) rest)))) keeps
-      ∙ ap (result_and_then (λ t. one_by_one step t (filter kept (enumerate_from (index + 1) rest)))) refused
+      ∙ ap (λ b. one_by_one add s (cond b ((index, shard) ∷ filter kept (enumerate_from (index + 1) rest)) (filter kept (enumerate_from (index + 1) rest)))) keeps
+      ∙ ap (result_and_then (λ t. one_by_one add t (filter kept (enumerate_from (index + 1) rest)))) refused
 
   -- a shard that is passed over
   pub lost-next : (s : S) (n m index : ℕ) (shard : Shard) (shards rest : List Shard) → shards ≡ shard ∷ rest → index ≡ n → m ≡ n + 1 → kept (index, shard) ≡ false
       → led_by s n shards ≡ led_by s m rest
   lost-next s n m index shard shards rest is first after passes =
       ap₂ (led_by s) (sym first) is
-      ∙ ap (λ b. one_by_one step s (cond b ((index, shard) ∷ filter kept (enumerate_from (index + 1) rest)) (filter kept (enumerate_from (index + 1) rest)))) passes
+      ∙ ap (λ b. one_by_one add s (cond b ((index, shard) ∷ filter kept (enumerate_from (index + 1) rest)) (filter kept (enumerate_from (index + 1) rest)))) passes
       ∙ ap (λ k. led_by s k rest) (omega arith)

@@ -107,11 +107,12 @@ restored-few rows =
     let listed_all = ap length (restored_from-all rows) ∙ length-listed rows.shape.configuration.original_count (restored_of rows) in
     omega (arith, listed_all, count-most rows.shape.configuration.original_count (restored_of rows), rows.laid.places.few, rows.laid.places.originals)
 
--- nor recovery shards made
+-- an encoder's recovery count is a `usize`
 pub recovery_count-few : (rows : EncoderRows) → rows.shape.configuration.recovery_count < 2 ^ 64
 recovery_count-few rows =
     omega (arith, rows.laid.recovery, count-few rows.shape.row_count rows.shape.configuration.shard_bytes rows.laid.configured.positive rows.sized)
 
+-- and no more recovery shards are made
 pub recovery-few : (rows : EncoderRows) → length (lent_of rows) < 2 ^ 64
 recovery-few rows =
     let made = length-up_to rows.shape.configuration.recovery_count (shard_in_order rows.chunks.items rows.shape.configuration.shard_bytes) in

@@ -30,10 +30,11 @@ given_marks marks = if_given marks.shards marks.rows.items
 abbrev pub restored_marks : Marks → List Bool
 restored_marks marks = if_restored marks.shards marks.rows.items
 
--- how many rows have a mark, and for how many there is room
+-- how many rows have a mark
 abbrev pub mark_count : Marks → ℕ
 mark_count marks = vec_len marks.rows
 
+-- for how many rows' marks there is room
 abbrev pub mark_room : Marks → ℕ
 mark_room marks = vec_capacity marks.rows
 

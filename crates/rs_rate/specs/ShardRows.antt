@@ -10,7 +10,7 @@ use Rattle.rs_field.specs.rows.Layout.{row_len, laid_out, in_order}
 unfoldable pub chunk_count : ℕ → ℕ → ℕ
 chunk_count rows size = rows * row_len size
 
--- what asking for memory for so many chunks answers while memory is found; chunks above `usize::MAX` bytes are never found
+-- what asking for memory for so many chunks answers while memory is found; memory of more than `usize::MAX` bytes is never found
 abbrev pub asked : ℕ → Result (Unit {0}) Error
 asked chunks = if nat_le (2 ^ 64) (chunks * 64) then Err OutOfMemory else Ok tt
 

@@ -271,7 +271,7 @@ fn a_decode_over_16_rows_locates_at_16_points(rt: HostRuntime) -> Result<(), Fai
 }
 
 // A transform of 16 rows has two layers of eight butterflies between its quarters, and four in each quarter. Two quarters
-// hold nothing given, and of the other two nothing is wanted: the last two at the low rate, the first two at the high rate.
+// hold nothing given, at the low rate the first two, at the high rate the last two; of the other two nothing is wanted.
 fn check_empty_quarters<'t, D: RateDecoder<Butterflies<'t>> + Drop>(
     rt: &impl Abort,
     alloc: Global,

@@ -24,7 +24,7 @@ use Rattle.rs_field.proofs.of_code.Entries.{entered_all, count-nothing, AreFree,
 use Rattle.rs_field.proofs.of_code.RoundTrip.{answered, restores_lost}
 use Rattle.rs_field.proofs.of_code.SupportedCounts.{default_fits}
 
--- a step after a success was reached by that success
+-- a call after a success was reached by that success
 then_ok : {S T : Type 0} (f : S → Result T Error) (o : Result S Error) (t : T) → result_and_then f o ≡ Ok t → (s : S) × (o ≡ Ok s) × (f s ≡ Ok t)
 then_ok {S} {T} f o t h1 = search rules
 

@@ -39,12 +39,12 @@ pub walsh-none : (n : ℕ) (f : ℕ → ℕ) → ((y : ℕ) → y < n → f y �
 walsh-none n f none w hw = grind (arith, common_steps, total-none)
 
 -- what sums and differences make of the transforms of both halves
-pub record IsSumsAndDifferences (half : ℕ) (low high new : ℕ → ℕ) : Type 0 where
+pub record AreSumsAndDifferences (half : ℕ) (low high new : ℕ → ℕ) : Type 0 where
   pub sums : (i : ℕ) → i < half → new i % 65535 ≡ (low i + high i) % 65535
   pub differences : (i : ℕ) → i < half → new (half + i) % 65535 ≡ (low i + 65534 * high i) % 65535
 
 pub walsh-halves : (e n half : ℕ) (old low high new : ℕ → ℕ) → n ≡ 2 ^ suc e → half ≡ 2 ^ e
-    → IsWalsh half old low → IsWalsh half (λ y. old (half + y)) high → IsSumsAndDifferences half low high new → IsWalsh n old new
+    → IsWalsh half old low → IsWalsh half (λ y. old (half + y)) high → AreSumsAndDifferences half low high new → IsWalsh n old new
 walsh-halves e n half old low high new is h a b s w hw =
     elim (cases_lt w half) [
       | inl first ↦

@@ -27,7 +27,7 @@ validated c =
 abbrev pub bytes_of_rows : ℕ → ℕ → ℕ
 bytes_of_rows rows size = rows * ((size + 63) / 64) * 64
 
--- what setting up with this many rows answers while memory is found; rows above `usize::MAX` bytes are never found
+-- what setting up with this many rows answers while memory is found; memory of more than `usize::MAX` bytes is never found
 abbrev pub started : ℕ → Configuration → Result (Unit {0}) Error
 started rows c = result_and_then (λ _. if nat_le (2 ^ 64) (bytes_of_rows rows c.shard_bytes) then Err OutOfMemory else Ok tt) (validated c)
 

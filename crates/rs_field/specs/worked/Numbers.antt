@@ -68,7 +68,7 @@ Validated =
     × (validated (configuration low_rate 61440 4096 123) ≡ Err (UnsupportedShardCount 61440 4096))
     × (validated (configuration high_rate 61440 4096 64) ≡ Ok tt)
 
--- two rows of a size just below the largest have more bytes than a machine, but one row hasn't
+-- at the largest size one row has more bytes than a `usize` counts; 62 bytes below it two rows have, and one hasn't
 abbrev pub TooManyBytes : Type 0
 TooManyBytes =
     (started (encoder_rows default_rate 1 1) (configuration default_rate 1 1 18446744073709551614) ≡ Err OutOfMemory)
