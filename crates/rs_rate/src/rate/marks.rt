@@ -10,7 +10,7 @@ use rs_field::error::Error;
 use std::alloc::Global;
 
 /// Which shards a decoder's marks tell of: while they are added, those that are given; from the decode on, the
-/// originals that weren't given and come to stand restored in their rows.
+/// originals that weren't given and are to be restored.
 #[derive(Clone, Copy, Debug, PartialEq, Eq, Hash)]
 pub enum MarkedShards {
     Given,
@@ -27,7 +27,6 @@ pub struct Marks {
 impl Marks {
     // Of so many rows, none of them with a given shard, or `OutOfMemory`.
     pub(crate) fn new(alloc: Global, rows: usize) -> Result<Marks, Error>
-        ensures shards { IfOk result (λ marks. marks.shards ≡ MarkedShards.Given) }
         ensures empty { IfOk result (λ marks. (p : ℕ) → is_marked (given_marks marks) p ≡ false) }
         ensures length { IfOk result (λ marks. mark_count marks ≡ rows) }
         ensures room { IfOk result (λ marks. rows ≤ mark_room marks) }
@@ -53,7 +52,6 @@ impl Marks {
     #[inline(always)]
     pub(crate) fn set_empty(&mut self, rows: usize)
         requires { rows ≤ mark_room self.old }
-        ensures shards { self.new.shards ≡ MarkedShards.Given }
         ensures empty { (p : ℕ) → is_marked (given_marks self.new) p ≡ false }
         ensures length { mark_count self.new ≡ rows }
         ensures grown { mark_room self.old ≤ mark_room self.new }
