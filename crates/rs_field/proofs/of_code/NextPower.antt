@@ -6,6 +6,7 @@ use Rattle.std.proofs.lemmas.Nat.{pow_pos}
 use Rattle.rs_field.specs.words.Search.{first_below}
 use Rattle.rs_field.specs.code.Counts.{next_power}
 use Rattle.rs_field.proofs.of_words.Search.{first_below-is, first_below-passes, first_below_most}
+use Rattle.rs_field.proofs.of_words.Halves.{exponent_below}
 
 -- the least power of two that is not below n, for small n
 pub next_power-small : (n : ℕ) → n ≤ 65536 → (d : ℕ) × (d ≤ 16) × (next_power n ≡ 2 ^ d) × (n ≤ next_power n)
@@ -47,13 +48,10 @@ next_power-large n large =
     elim (cases_lt 65536 (2 ^ first_below 64 (λ e. nat_le n (2 ^ e)))) [
       | inl above ↦ above
       | inr small ↦
-          let few : first_below 64 (λ e. nat_le n (2 ^ e)) < 17 = exponent (first_below 64 (λ e. nat_le n (2 ^ e))) small in
+          let few : first_below 64 (λ e. nat_le n (2 ^ e)) < 17 = exponent_below (first_below 64 (λ e. nat_le n (2 ^ e))) 17 (omega arith) in
           let no : n ≤ 2 ^ first_below 64 (λ e. nat_le n (2 ^ e)) = leb-true n (2 ^ first_below 64 (λ e. nat_le n (2 ^ e))) (first_below-passes 64 (λ e. nat_le n (2 ^ e)) (omega arith)) in
           absurd (omega arith)
     ]
-  where
-    exponent : (d : ℕ) → 2 ^ d ≤ 65536 → d < 17
-    exponent d h = elim (cases_lt d 17) [ inl few ↦ few | inr many ↦ let big : 2 ^ 17 ≤ 2 ^ d = pow_mono many in absurd (omega arith) ]
 
 -- a power of two that is small is not below its number
 pub next_power-above : (n : ℕ) → next_power n ≤ 65536 → n ≤ next_power n
@@ -66,12 +64,7 @@ next_power-above n h =
 -- ---- small powers of two are those that are their own
 
 pub power_is_own : (n d : ℕ) → n ≡ 2 ^ d → n ≤ 65536 → next_power n ≡ n
-power_is_own n d is small =
-    let few : d < 64 = elim (cases_lt d 64) [
-      | inl h ↦ h
-      | inr many ↦ let big : 2 ^ 64 ≤ 2 ^ d = pow_mono many in absurd (let no : ⊥ = omega arith in no)
-    ] in
-    sym (next_power-is n n d is few (omega arith) (omega arith))
+power_is_own n d is small = sym (next_power-is n n d is (exponent_below d 64 (omega arith)) (omega arith) (omega arith))
 
 pub own_is_power : (n : ℕ) → next_power n ≡ n → n ≤ 65536 → (d : ℕ) × (n ≡ 2 ^ d)
 own_is_power n own small = let p = next_power-small n small in (p.0, sym own ∙ p.2)

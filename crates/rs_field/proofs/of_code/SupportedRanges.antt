@@ -6,13 +6,11 @@ use Rattle.rs_field.specs.code.Counts.{default_rate, next_power, supports}
 use Rattle.rs_field.specs.code.CountLaws.{AreBeside}
 use Rattle.rs_field.proofs.of_code.NextPower.{next_power-small, next_power-least}
 use Rattle.rs_field.proofs.of_code.SupportedCounts.{default_fits}
+use Rattle.rs_field.proofs.of_words.Halves.{exponent_below}
 
 -- a power of two below the field's order is at most half of it
 half_most : (n : ℕ) → 2 ^ n < 65536 → (n < 64) × (2 ^ n ≤ 32768)
-half_most n h = elim (cases_lt n 16) [
-  | inl few ↦ let most : 2 ^ n ≤ 2 ^ 15 = pow_mono {j = 15} (omega arith) in (omega arith, omega arith)
-  | inr many ↦ let least : 2 ^ 16 ≤ 2 ^ n = pow_mono many in absurd (omega arith)
-]
+half_most n h = let few = exponent_below n 16 h in let most : 2 ^ n ≤ 2 ^ 15 = pow_mono {j = 15} (omega arith) in (omega arith, omega arith)
 
 -- positive counts are supported where the smaller power and the larger count are within the field's order
 fit : (k r : ℕ) → 0 < k → 0 < r → min (next_power k) (next_power r) + max k r ≤ 65536 → supports default_rate k r ≡ true

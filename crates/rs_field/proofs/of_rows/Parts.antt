@@ -2,13 +2,14 @@
 use Rattle.std.proofs.Common.{◌≡◌, ℕ, ◌+◌, ◌*◌, ◌/◌, ◌%◌, ◌^◌, ◌<◌, ◌≤◌, ◌≢◌, Bool, true, false, cond, refl, sym, ap, ◌∙◌, subst, inl, inr, arith}
 use Rattle.std.proofs.Math.Nat.{mul-le-mul_right, add-mul-mod_self_right, mul-div_cancel, mul-mod_left}
 use Rattle.std.proofs.lemmas.Bool.{cases_Bool, cases_lt, true≢false}
-use Rattle.std.proofs.lemmas.Nat.{pow_pos, div-add-mod'}
+use Rattle.std.proofs.lemmas.Nat.{pow_pos}
 use Rattle.std.proofs.lemmas.Grind.{common_steps}
 use Rattle.rs_field.specs.rows.Layers.{is_halved, rows_of_part, layer_steps}
 use Rattle.rs_field.specs.words.StepBounds.{transform_steps}
 use Rattle.rs_field.proofs.of_words.Halves.{few_halves, half_power, quarter_power, steps_half, steps_quarters, two_halves}
 use Rattle.rs_field.proofs.of_code.NextPower.{own_is_power}
 use Rattle.rs_field.specs.declared.rows.block.Block.{Block}
+use Rattle.rs_field.proofs.of_words.Combination.{aligned_parts}
 
 pub part_of_halved : (size : ℕ) → is_halved size ≡ true → rows_of_part size ≡ size / 2
 unfolding rows_of_part
@@ -97,13 +98,7 @@ part_within size n j p within =
 -- and begins at a multiple of its rows
 pub part_aligned : (size n shift j : ℕ) → IsPart size n → shift % size ≡ 0 → (shift + j * n) % n ≡ 0
 part_aligned size n shift j p aligned =
-    let u : ℕ = shift / size in
-    let parts : u * size + shift % size ≡ shift = div-add-mod' shift size in
-    let made : shift ≡ u * p.count * n = regroup u p.count shift parts aligned p.whole in
-    add-mul-mod_self_right shift j n ∙ ap (λ v. v % n) made ∙ mul-mod_left (u * p.count) n
-  where
-    regroup : (u m shift : ℕ) → u * size + shift % size ≡ shift → shift % size ≡ 0 → size ≡ m * n → shift ≡ u * m * n
-    regroup u m shift parts aligned whole = omega (arith, ap (λ v. u * v) whole)
+    add-mul-mod_self_right shift j n ∙ ap (λ v. v % n) (aligned_parts size p.count n shift p.whole aligned) ∙ mul-mod_left (shift / size * p.count) n
 
 -- ---- the parts one by one
 

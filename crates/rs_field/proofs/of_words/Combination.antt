@@ -86,17 +86,9 @@ basis_is : (q x : ℕ) → basis q x ≡ product_below 16 (factor q x)
 unfolding basis factor
 basis_is q x = refl
 
-factor-bit : (q p x d : ℕ) → q / 2 ^ d % 2 ≡ p / 2 ^ d % 2 → factor q x d ≡ factor p x d
+factor-bit : (q x d b : ℕ) → q / 2 ^ d % 2 ≡ b → factor q x d ≡ cond (eqb b 1) (subspace d x) 1
 unfolding factor
-factor-bit q p x d e = ap (λ (b : ℕ). cond (eqb b 1) (subspace d x) 1) e
-
-factor-unset : (q x d : ℕ) → q / 2 ^ d % 2 ≡ 0 → factor q x d ≡ 1
-unfolding factor
-factor-unset q x d e = ap (λ (b : ℕ). cond (eqb b 1) (subspace d x) 1) e
-
-factor-set : (q x d : ℕ) → q / 2 ^ d % 2 ≡ 1 → factor q x d ≡ subspace d x
-unfolding factor
-factor-set q x d e = ap (λ (b : ℕ). cond (eqb b 1) (subspace d x) 1) e
+factor-bit q x d b e = ap (λ (b : ℕ). cond (eqb b 1) (subspace d x) 1) e
 
 -- 2 ^ e adds the bit e to a number below it, and no other
 bit_below : (d e q : ℕ) → d < e → (2 ^ e + q) / 2 ^ d % 2 ≡ q / 2 ^ d % 2
@@ -129,7 +121,7 @@ other_bit d e q h apart =
 pub basis-zero : (x : ℕ) → basis 0 x ≡ 1
 basis-zero x =
     basis_is 0 x
-    ∙ product_below-same 16 (factor 0 x) (λ d. 1) (λ d h. factor-unset 0 x d (ap (λ v. v % 2) (zero-div (2 ^ d))))
+    ∙ product_below-same 16 (factor 0 x) (λ d. 1) (λ d h. factor-bit 0 x d 0 (ap (λ v. v % 2) (zero-div (2 ^ d))))
     ∙ product_below-ones 16
 
 -- the basis polynomial 2 ^ e + q is q's times the subspace polynomial e
@@ -137,8 +129,8 @@ pub basis-half : (e q x : ℕ) → e < 16 → q < 2 ^ e → basis (2 ^ e + q) x 
 basis-half e q x he hq =
     basis_is (2 ^ e + q) x
     ∙ product_below-one_more 16 e (subspace e x) (factor q x) (factor (2 ^ e + q) x) he
-    (factor-unset q x e (bit_past e q hq)) (factor-set (2 ^ e + q) x e (top_bit_of e q hq))
-    (λ d h apart. factor-bit (2 ^ e + q) q x d (other_bit d e q hq apart))
+    (factor-bit q x e 0 (bit_past e q hq)) (factor-bit (2 ^ e + q) x e 1 (top_bit_of e q hq))
+    (λ d h apart. factor-bit (2 ^ e + q) x d _ (other_bit d e q hq apart) ∙ sym (factor-bit q x d _ refl))
     ∙ ap (λ v. product v (subspace e x)) (sym (basis_is q x))
 
 -- ---- the forward transform
@@ -200,13 +192,15 @@ forward-half e shift f i he =
 
 -- ---- a block of 2 ^ (e + 1) points
 
-even_block : (e shift : ℕ) → shift % 2 ^ suc e ≡ 0 → (u : ℕ) × (shift ≡ u * 2 * 2 ^ e)
-even_block e shift h =
-    let u : ℕ = shift / 2 ^ suc e in
-    (u, sym (div-add-mod' shift (2 ^ suc e)) ∙ ap (λ v. u * 2 ^ suc e + v) h ∙ regroup u e)
+-- a multiple of a number of parts is one of a part
+pub aligned_parts : (size m n shift : ℕ) → size ≡ m * n → shift % size ≡ 0 → shift ≡ shift / size * m * n
+aligned_parts size m n shift whole aligned = regroup (shift / size) (div-add-mod' shift size)
   where
-    regroup : (u e : ℕ) → u * 2 ^ suc e + 0 ≡ u * 2 * 2 ^ e
-    regroup u e = omega (arith, ap (λ v. u * v) (pow-suc 2 e))
+    regroup : (u : ℕ) → u * size + shift % size ≡ shift → shift ≡ u * m * n
+    regroup u parts = omega (arith, ap (λ v. u * v) whole)
+
+even_block : (e shift : ℕ) → shift % 2 ^ suc e ≡ 0 → (u : ℕ) × (shift ≡ u * 2 * 2 ^ e)
+even_block e shift h = (shift / 2 ^ suc e, aligned_parts (2 ^ suc e) 2 (2 ^ e) shift (omega (arith, pow-suc 2 e)) h)
 
 -- on the first half of the block the subspace polynomial e is what it is at the block's start
 pub lower_factor : (e shift i : ℕ) → e < 16 → shift % 2 ^ suc e ≡ 0 → shift + 2 ^ suc e ≤ 65536 → i < 2 ^ e → subspace e (shift + i) ≡ subspace e shift

@@ -13,12 +13,13 @@ use Rattle.rs_field.specs.words.Locator.{log_sum, IsLocatorBelow}
 use Rattle.rs_field.specs.words.Walsh.{total, sign, signed_sum, IsWalsh, log_or_zero}
 use Rattle.rs_field.proofs.of_words.Linear.{passes_below, from_passes_below}
 use Rattle.rs_field.proofs.of_words.Roots.{same_from_xor}
-use Rattle.rs_field.proofs.of_words.LocatorLemmas.{log_sum-zero, log_sum-suc}
+use Rattle.rs_field.proofs.of_words.LocatorLemmas.{log_sum-zero, log_sum-suc, difference_pos}
 use Rattle.rs_field.proofs.of_words.Totals.{total-zero, total-suc, total-same, total-near, total-scale, total-swap, total-one, mul_near}
 use Rattle.rs_field.proofs.of_words.Signs.{sign-comm, sign-zero, sign-xor}
 use Rattle.rs_field.proofs.of_words.Halving.{sum_lower, sum_upper}
 use Rattle.rs_field.proofs.of_words.Counting.{counted}
 use Rattle.std.proofs.lemmas.Grind.{common_steps}
+use Rattle.rs_field.proofs.of_words.Halves.{exponent_below}
 
 -- ---- a sum of signs
 
@@ -78,7 +79,7 @@ transform-back d f g u hd is hu =
 
     elsewhere : (z : ℕ) → z < 2 ^ d → z ≢ u → f z * total (2 ^ d) (λ w. sign w u * sign w z) % 65535 ≡ 0
     elsewhere z hz apart =
-        let some : 0 < bit_xor u z = elim (cases_eq (bit_xor u z) 0) [ inl none ↦ absurd (apart (sym (same_from_xor u z none))) | inr other ↦ omega arith ] in
+        let some = difference_pos u z apart in
         mul_near (f z) (total (2 ^ d) (λ w. sign w u * sign w z)) (f z) 0 refl (signs_meet (2 ^ d) u z few ∙ signs_elsewhere d (bit_xor u z) some (xor_lt d u z hu hz))
         ∙ ap (λ v. v % 65535) (let r : f z * 0 ≡ 0 = omega arith in r)
 
@@ -148,11 +149,7 @@ one_turn d v hd =
 
 -- a power of two up to 65536 has an exponent up to 16
 pub few_bits : (d : ℕ) → 2 ^ d ≤ 65536 → d ≤ 16
-few_bits d h =
-    elim (cases_lt 16 d) [
-      | inl more ↦ let far : 2 ^ 17 ≤ 2 ^ d = pow_mono more in absurd (let no : ⊥ = omega arith in no)
-      | inr most ↦ most
-    ]
+few_bits d h = let few = exponent_below d 17 (omega arith) in omega arith
 
 pub locator-made : (d : ℕ) (old old_walsh products new l_walsh : ℕ → ℕ) → d ≤ 16
     → IsWalsh (2 ^ d) old old_walsh → IsWalsh (2 ^ d) (λ z. 65536 / 2 ^ d * log_or_zero z) l_walsh

@@ -1,10 +1,10 @@
 -- How a transform goes by halves: the sizes, the factor in the table, and the row steps.
 use Rattle.std.proofs.lemmas.Grind.{common_steps}
 use Rattle.std.proofs.lemmas.Bool.{cases_eq, cases_lt}
-use Rattle.std.proofs.lemmas.Nat.{pow_pos, pow_below, div-add-mod'}
+use Rattle.std.proofs.lemmas.Nat.{pow_pos, pow_below}
 use Rattle.std.proofs.Common.{◌≡◌, ℕ, zero, suc, ◌+◌, ◌-◌, ◌*◌, ◌/◌, ◌%◌, ◌^◌, ◌<◌, ◌≤◌, Bool, false, cond, eqb, List, get_or, bit_xor, refl, ap, ap₂, ◌∙◌, inl, inr, arith, pow-suc, pow_mono, ne_eqb, zero-mul}
 use Rattle.std.specs.Prelude.{nat_le}
-use Rattle.std.proofs.Math.Nat.{mul-mod_left}
+use Rattle.std.proofs.Math.Nat.{mul-mod_left, add-mod_right}
 use Rattle.std.specs.Int.Bits.{xor_assoc, xor_self, xor_zero_r}
 use Rattle.rs_field.specs.words.Field.{product, power, log}
 use Rattle.rs_field.specs.words.Subspace.{subspace}
@@ -14,6 +14,7 @@ use Rattle.rs_field.proofs.of_words.Search.{first_below-is}
 use Rattle.rs_field.proofs.of_words.Product.{product_zero}
 use Rattle.rs_field.proofs.of_words.Power.{log_lt, power-log}
 use Rattle.rs_field.proofs.of_words.Subspace.{product_below_lt}
+use Rattle.rs_field.proofs.of_words.Combination.{aligned_parts}
 
 -- half of a power of two that is above one
 pub half_power : (size : ℕ) → 1 < size → (d : ℕ) × (size ≡ 2 ^ d) → (e : ℕ) × (size ≡ 2 ^ suc e) × (size / 2 ≡ 2 ^ e)
@@ -29,31 +30,20 @@ quarter_power size h (suc (suc e), is) = grind (arith, common_steps, pow-suc)
 pub two_halves : (size : ℕ) → 1 < size → (d : ℕ) × (size ≡ 2 ^ d) → size ≡ size / 2 + size / 2
 two_halves size h power = omega (arith, half_power size h power)
 
+-- a power of two below another has the smaller exponent
+pub exponent_below : (d n : ℕ) → 2 ^ d < 2 ^ n → d < n
+exponent_below d n h = elim (cases_lt d n) [ inl less ↦ less | inr more ↦ let large : 2 ^ n ≤ 2 ^ d = pow_mono more in absurd (omega arith) ]
+
 -- a transform has no more points than there are words
 pub few_halves : (size e shift : ℕ) → size ≡ 2 ^ suc e → shift + size ≤ 65536 → e < 16
-few_halves size e shift is fits =
-    elim (cases_lt e 16) [
-      | inl few ↦ few
-      | inr many ↦ let more : 17 ≤ suc e = omega arith in let big : 2 ^ 17 ≤ 2 ^ suc e = pow_mono more in absurd (let no : ⊥ = omega arith in no)
-    ]
+few_halves size e shift is fits = let few = exponent_below (suc e) 17 (omega arith) in omega arith
 
 -- a multiple of the size is one of its half, and so is the point of the second half
 pub shift_half : (size e shift : ℕ) → size ≡ 2 ^ suc e → shift % size ≡ 0 → (shift % 2 ^ e ≡ 0) × ((shift + 2 ^ e) % 2 ^ e ≡ 0)
 shift_half size e shift is whole =
-    let u : ℕ = shift / size in
-    let p : size ≡ 2 * 2 ^ e = let s = pow-suc 2 e in omega arith in
-    let parts : u * size + shift % size ≡ shift = div-add-mod' shift size in
-    let made : shift ≡ u * 2 * 2 ^ e = regroup u size (2 ^ e) shift parts whole p in
-    (multiple (u * 2) (2 ^ e) shift made (pow_pos e), multiple (u * 2 + 1) (2 ^ e) (shift + 2 ^ e) (next (u * 2) (2 ^ e) shift made) (pow_pos e))
-  where
-    regroup : (u size n shift : ℕ) → u * size + shift % size ≡ shift → shift % size ≡ 0 → size ≡ 2 * n → shift ≡ u * 2 * n
-    regroup u size n shift parts whole p = omega (arith, ap (λ v. u * v) p)
-
-    next : (u n shift : ℕ) → shift ≡ u * n → shift + n ≡ (u + 1) * n
-    next u n shift e = omega arith
-
-    multiple : (u n x : ℕ) → x ≡ u * n → 0 < n → x % n ≡ 0
-    multiple u n x e pos = ap (λ v. v % n) e ∙ mul-mod_left u n
+    let first : shift % 2 ^ e ≡ 0 =
+    ap (λ v. v % 2 ^ e) (aligned_parts size 2 (2 ^ e) shift (omega (arith, pow-suc 2 e)) whole) ∙ mul-mod_left (shift / size * 2) (2 ^ e) in
+    (first, add-mod_right shift (2 ^ e) ∙ first)
 
 pub mark_zero : log_or_mark 0 ≡ 65535
 unfolding log_or_mark
@@ -78,15 +68,12 @@ table_factor skew e half shift w table is whole fits =
     let u : ℕ = shift / 2 ^ suc e in
     let p : 2 ^ suc e ≡ 2 ^ e * 2 = pow-suc 2 e in
     let pos : 0 < 2 ^ e = pow_pos e in
-    let parts : u * 2 ^ suc e + shift % 2 ^ suc e ≡ shift = div-add-mod' shift (2 ^ suc e) in
-    let odd : shift + 2 ^ e ≡ (2 * u + 1) * 2 ^ e = regroup u (2 ^ suc e) (2 ^ e) shift parts whole p in
+    let even : shift ≡ u * 2 * 2 ^ e = aligned_parts (2 ^ suc e) 2 (2 ^ e) shift (omega arith) whole in
+    let odd : shift + 2 ^ e ≡ (2 * u + 1) * 2 ^ e = omega arith in
     let back : shift + 2 ^ e - 2 ^ e ≡ shift = omega arith in
     ap (λ v. scaled (get_or skew (shift + v - 1) 0) w) is
     ∙ ap (λ m. scaled m w) (table.skew_entry e u (shift + 2 ^ e) odd (omega arith) ∙ ap (λ v. log_or_mark (subspace e v)) back)
     ∙ scaled_by (subspace e shift) w (subspace_lt e shift)
-  where
-    regroup : (u m n shift : ℕ) → u * m + shift % m ≡ shift → shift % m ≡ 0 → m ≡ n * 2 → shift + n ≡ (2 * u + 1) * n
-    regroup u m n shift parts whole p = omega (arith, ap (λ v. u * v) p)
 
 pub xor_undo : (a b : ℕ) → bit_xor (bit_xor a b) b ≡ a
 xor_undo a b = xor_assoc a b b ∙ ap (bit_xor a) (xor_self b) ∙ xor_zero_r a

@@ -242,23 +242,15 @@ walsh-quarter-counts e n q a b small is h p = omega (arith, steps_quarters n e q
 exact-counts : (n m : ℕ) (a b : Steps) → transform_steps n ≡ m → CountsPairs m a b → WalshCounts n a b
 exact-counts n m a b s (x, y, z) = counted 0 (transform_steps n) 0 a b (omega arith, omega arith) (omega arith, omega arith) (omega arith, omega arith)
 
-steps_of_2 : transform_steps 2 ≡ 1
+steps_of : (transform_steps 2 ≡ 1) × (transform_steps 64 ≡ 192) × (transform_steps 128 ≡ 448)
 unfolding transform_steps log2 first_below
-steps_of_2 = refl
-
-steps_of_64 : transform_steps 64 ≡ 192
-unfolding transform_steps log2 first_below
-steps_of_64 = refl
-
-steps_of_128 : transform_steps 128 ≡ 448
-unfolding transform_steps log2 first_below
-steps_of_128 = refl
+steps_of = (refl, refl, refl)
 
 pub pair-counts : (n : ℕ) (a b : Steps) → n ≡ 2 → CountsPairs 1 a b → WalshCounts n a b
-pair-counts n a b is counts = exact-counts n 1 a b (ap transform_steps is ∙ steps_of_2) counts
+pair-counts n a b is counts = exact-counts n 1 a b (ap transform_steps is ∙ steps_of.0) counts
 
 pub block-counts : (n : ℕ) (a b : Steps) → n ≡ 64 → CountsPairs 192 a b → WalshCounts n a b
-block-counts n a b is counts = exact-counts n 192 a b (ap transform_steps is ∙ steps_of_64) counts
+block-counts n a b is counts = exact-counts n 192 a b (ap transform_steps is ∙ steps_of.1) counts
 
 pub two_blocks-counts : (n : ℕ) (a b : Steps) → n ≡ 128 → CountsPairs 448 a b → WalshCounts n a b
-two_blocks-counts n a b is counts = exact-counts n 448 a b (ap transform_steps is ∙ steps_of_128) counts
+two_blocks-counts n a b is counts = exact-counts n 448 a b (ap transform_steps is ∙ steps_of.2) counts

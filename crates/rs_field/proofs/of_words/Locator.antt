@@ -1,25 +1,20 @@
 -- The locator as a product.
 use Rattle.std.proofs.lemmas.Grind.{common_steps}
-use Rattle.std.proofs.lemmas.Bool.{cases_eq}
 use Rattle.std.proofs.lemmas.Bool.Decides.{eqb_tells}
-use Rattle.std.proofs.Common.{◌≡◌, ℕ, zero, suc, ◌*◌, ◌^◌, ◌<◌, ◌≤◌, ◌≢◌, cond, bit_xor, sym, ap, ◌∙◌, inl, inr, arith, ap₂}
+use Rattle.std.proofs.Common.{◌≡◌, ℕ, zero, suc, ◌*◌, ◌^◌, ◌<◌, ◌≤◌, cond, bit_xor, sym, ap, ◌∙◌, inl, inr, arith, ap₂}
 use Rattle.std.specs.Prelude.{if◌then◌else◌, ◌==◌}
 use Rattle.std.specs.Int.Bits.{xor_lt}
 use Rattle.rs_field.specs.words.Field.{raised, power, log, generator, product}
 use Rattle.rs_field.specs.words.Subspace.{product_below}
 use Rattle.rs_field.specs.words.Locator.{log_sum}
 use Rattle.rs_field.proofs.of_words.Power.{generator_lt, raised-mul, power-add, power_zero, power-log}
-use Rattle.rs_field.proofs.of_words.Roots.{same_from_xor}
 use Rattle.rs_field.proofs.of_words.Subspace.{product_below-suc, product_below-zero}
+use Rattle.rs_field.proofs.of_words.LocatorLemmas.{difference_pos}
 
 -- a multiple of a logarithm is the logarithm of a power
 power-mul_log : (z k : ℕ) → 0 < z → z < 2 ^ 16 → power (k * log z) ≡ raised z k
 unfolding power
 power-mul_log z k pos lt = grind (arith, common_steps, raised-mul generator (log z) k generator_lt, power-log z pos lt)
-
--- two points have a sum that is not zero
-sum_pos : (x y : ℕ) → x ≢ y → 0 < bit_xor x y
-sum_pos x y apart = grind (arith, common_steps, cases_eq, same_from_xor)
 
 -- the generator to the power of a locator's sum is the product of its factors
 pub power-log_sum : (n : ℕ) (e : ℕ → ℕ) (x : ℕ) → n ≤ 65536 → x < 65536
@@ -33,7 +28,7 @@ power-log_sum (suc y) e x hn hx =
       | inl same ↦ ap (λ b. power (cond b 0 (e y * log (bit_xor x y)))) same.0 ∙ power_zero ∙ sym (ap (λ b. cond b 1 (raised (bit_xor x y) (e y))) same.0)
       | inr apart ↦
           ap (λ b. power (cond b 0 (e y * log (bit_xor x y)))) apart.0
-          ∙ power-mul_log (bit_xor x y) (e y) (sum_pos x y apart.1) (xor_lt 16 x y hx (omega arith))
+          ∙ power-mul_log (bit_xor x y) (e y) (difference_pos x y (λ e. apart.1 (sym e))) (xor_lt 16 x y hx (omega arith))
           ∙ sym (ap (λ b. cond b 1 (raised (bit_xor x y) (e y))) apart.0)
     ] in
     power-add (log_sum y e x) (if x == y then 0 else e y * log (bit_xor x y)) ∙ ap₂ product rest last

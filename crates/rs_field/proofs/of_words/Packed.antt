@@ -29,6 +29,17 @@ bytes_pos : (i : ℕ) → 0 < 256 ^ i
 bytes_pos zero = omega arith
 bytes_pos (suc i) = let before = bytes_pos i in let next = pow-suc 256 i in omega arith
 
+-- what is added in higher bytes leaves a byte
+past_byte : (low high i n : ℕ) → i < n → (low + high * 256 ^ n) / 256 ^ i % 256 ≡ low / 256 ^ i % 256
+past_byte low high i n h =
+    let rest : ℕ = high * 256 ^ (n - suc i) in
+    let split : n ≡ suc (n - suc i) + i = omega arith in
+    let top : high * 256 ^ n ≡ rest * 256 * 256 ^ i =
+    ap (λ m. high * 256 ^ m) split ∙ ap (λ p. high * p) (pow-add 256 (suc (n - suc i)) i ∙ ap (λ p. p * 256 ^ i) (pow-suc 256 (n - suc i)))
+    ∙ sym (mul_assoc high (256 ^ (n - suc i) * 256) (256 ^ i)) ∙ ap (λ p. p * 256 ^ i) (sym (mul_assoc high (256 ^ (n - suc i)) 256)) in
+    ap (λ m. (low + m) / 256 ^ i % 256) top ∙ ap (λ m. m % 256) (add-mul-div_right low (rest * 256) (bytes_pos i))
+    ∙ (let gone : (low / 256 ^ i + rest * 256) % 256 ≡ low / 256 ^ i % 256 = omega arith in gone)
+
 byte_of_packed : (g : ℕ → ℕ) → ((i : ℕ) → g i < 256) → (k i : ℕ) → i ≤ k → packed g k / 256 ^ i % 256 ≡ g i
 byte_of_packed g small zero i h = grind (arith, common_steps)
 byte_of_packed g small (suc k) i h =
@@ -39,34 +50,14 @@ byte_of_packed g small (suc k) i h =
           ∙ ap (λ n. n % 256) (div-mul-add (g (suc k)) (256 ^ suc k) (packed g k) (packed_lt g small k))
           ∙ (let small : g (suc k) % 256 ≡ g (suc k) = omega arith in small)
           ∙ ap g (sym e)
-      | inr apart ↦
-          let rest : ℕ = g (suc k) * 256 ^ (k - i) in
-          let split : suc k ≡ suc (k - i) + i = omega arith in
-          let top : g (suc k) * 256 ^ suc k ≡ rest * 256 * 256 ^ i =
-          ap (λ n. g (suc k) * 256 ^ n) split ∙ ap (λ p. g (suc k) * p) (pow-add 256 (suc (k - i)) i ∙ ap (λ p. p * 256 ^ i) (pow-suc 256 (k - i)))
-          ∙ sym (mul_assoc (g (suc k)) (256 ^ (k - i) * 256) (256 ^ i)) ∙ ap (λ p. p * 256 ^ i) (sym (mul_assoc (g (suc k)) (256 ^ (k - i)) 256)) in
-          ap (λ n. (packed g k + n) / 256 ^ i % 256) top
-          ∙ ap (λ n. n % 256) (add-mul-div_right (packed g k) (rest * 256) (bytes_pos i))
-          ∙ (let gone : (packed g k / 256 ^ i + rest * 256) % 256 ≡ packed g k / 256 ^ i % 256 = omega arith in gone)
-          ∙ byte_of_packed g small k i (omega arith)
+      | inr apart ↦ past_byte (packed g k) (g (suc k)) i (suc k) (omega arith) ∙ byte_of_packed g small k i (omega arith)
     ]
 
 byte_xor : (x y i : ℕ) → bit_xor x y / 256 ^ i % 256 ≡ bit_xor (x / 256 ^ i % 256) (y / 256 ^ i % 256)
 byte_xor x y i = cc (power_of 8 i, xor_shr x y (8 * i), xor_mod (x / 2 ^ (8 * i)) (y / 2 ^ (8 * i)) 8)
 
 low_half : (low high i : ℕ) → i < 8 → (low + 2 ^ 64 * high) / 256 ^ i % 256 ≡ low / 256 ^ i % 256
-low_half low high i h =
-    let rest : ℕ = high * 256 ^ (7 - i) in
-    let split : 8 ≡ suc (7 - i) + i = omega arith in
-    let top : 2 ^ 64 * high ≡ rest * 256 * 256 ^ i =
-    mul_comm (2 ^ 64) high
-    ∙ ap (λ n. high * 256 ^ n) split
-    ∙ ap (λ p. high * p) (pow-add 256 (suc (7 - i)) i ∙ ap (λ p. p * 256 ^ i) (pow-suc 256 (7 - i)))
-    ∙ sym (mul_assoc high (256 ^ (7 - i) * 256) (256 ^ i))
-    ∙ ap (λ p. p * 256 ^ i) (sym (mul_assoc high (256 ^ (7 - i)) 256)) in
-    ap (λ n. (low + n) / 256 ^ i % 256) top
-    ∙ ap (λ n. n % 256) (add-mul-div_right low (rest * 256) (bytes_pos i))
-    ∙ (let gone : (low / 256 ^ i + rest * 256) % 256 ≡ low / 256 ^ i % 256 = omega arith in gone)
+low_half low high i h = ap (λ n. (low + n) / 256 ^ i % 256) (mul_comm (2 ^ 64) high) ∙ past_byte low high i 8 h
 
 high_half : (low high j : ℕ) → low < 2 ^ 64 → (low + 2 ^ 64 * high) / 256 ^ (8 + j) % 256 ≡ high / 256 ^ j % 256
 high_half low high j h =
