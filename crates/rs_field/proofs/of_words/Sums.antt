@@ -1,7 +1,7 @@
 -- The sixteen products of a nibble, from those of 1, 2, 4 and 8.
 use Rattle.std.proofs.lemmas.Grind.{common_steps}
 use Rattle.std.proofs.lemmas.Nat.{and_mask}
-use Rattle.std.proofs.Common.{bit_and, ◌/◌, ◌%◌, ◌≡◌, ℕ, zero, suc, ◌*◌, ◌^◌, ◌<◌, List, [], ◌∷◌, get_or, bit_xor, sym, ap, ap₂, ◌∙◌, arith, zero-mul, one-mul}
+use Rattle.std.proofs.Common.{bit_and, ◌/◌, ◌%◌, ◌≡◌, ℕ, zero, suc, ◌*◌, ◌^◌, ◌<◌, List, [], ◌∷◌, get_or, bit_xor, sym, ap, ap₂, ◌∙◌, arith, zero-mul, one-mul, length, ◌+◌, add-zero, zero-add, rules}
 use Rattle.std.specs.Int.Bits.{xor_mod, xor_shr, xor_zero_r}
 use Rattle.rs_field.specs.words.Field.{product}
 use Rattle.rs_field.specs.words.Products.{IsNibbleList}
@@ -24,38 +24,25 @@ sixteen_sums a b c d =
     0 ∷ a ∷ b ∷ bit_xor a b ∷ c ∷ bit_xor a c ∷ bit_xor b c ∷ bit_xor (bit_xor a b) c
     ∷ d ∷ bit_xor a d ∷ bit_xor b d ∷ bit_xor (bit_xor a b) d ∷ bit_xor c d ∷ bit_xor a (bit_xor c d) ∷ bit_xor b (bit_xor c d) ∷ bit_xor (bit_xor a b) (bit_xor c d) ∷ []
 
+-- each entry of a list is a map's value at its place, from k on
+abbrev AreValues : (ℕ → ℕ) → ℕ → List ℕ → Type 0
+AreValues f k [] = Unit {0}
+AreValues f k (x ∷ xs) = (x ≡ f k) × AreValues f (suc k) xs
+
+value_at : (f : ℕ → ℕ) (k : ℕ) (xs : List ℕ) → AreValues f k xs → (i : ℕ) → i < length xs → get_or xs i 0 ≡ f (k + i)
+value_at f k [] are i h = absurd (omega arith)
+value_at f k (x ∷ xs) are zero h = are.0 ∙ ap f (sym (add-zero k))
+value_at f k (x ∷ xs) are (suc i) h = value_at f (suc k) xs are.1 i (omega arith) ∙ ap f (omega arith)
+
 -- they are the values of an additive map, if those four are
 pub sixteen : (f : ℕ → ℕ) → IsAdditive 4 f → (a b c d : ℕ) → a ≡ f 1 → b ≡ f 2 → c ≡ f 4 → d ≡ f 8 → (i : ℕ) → i < 16
     → get_or (sixteen_sums a b c d) i 0
     ≡ f i
-sixteen f hf a b c d ea eb ec ed i hi = at i hi
+sixteen f hf a b c d ea eb ec ed i hi =
+    value_at f 0 (sixteen_sums a b c d) (search (rules, sym (additive_zero 4 f hf), both)) i hi ∙ ap f (zero-add i)
   where
-    ab : bit_xor a b ≡ f 3
-    ab = ap₂ bit_xor ea eb ∙ sym (hf.xor 1 2 (omega arith) (omega arith))
-
-    cd : bit_xor c d ≡ f 12
-    cd = ap₂ bit_xor ec ed ∙ sym (hf.xor 4 8 (omega arith) (omega arith))
-
-    at : (i : ℕ) → i < 16
-        → get_or (sixteen_sums a b c d) i 0
-        ≡ f i
-    at zero h = sym (additive_zero 4 f hf)
-    at (suc zero) h = ea
-    at (suc (suc zero)) h = eb
-    at (suc (suc (suc zero))) h = ab
-    at (suc (suc (suc (suc zero)))) h = ec
-    at (suc (suc (suc (suc (suc zero))))) h = ap₂ bit_xor ea ec ∙ sym (hf.xor 1 4 (omega arith) (omega arith))
-    at (suc (suc (suc (suc (suc (suc zero)))))) h = ap₂ bit_xor eb ec ∙ sym (hf.xor 2 4 (omega arith) (omega arith))
-    at (suc (suc (suc (suc (suc (suc (suc zero))))))) h = ap₂ bit_xor ab ec ∙ sym (hf.xor 3 4 (omega arith) (omega arith))
-    at (suc (suc (suc (suc (suc (suc (suc (suc zero)))))))) h = ed
-    at (suc (suc (suc (suc (suc (suc (suc (suc (suc zero))))))))) h = ap₂ bit_xor ea ed ∙ sym (hf.xor 1 8 (omega arith) (omega arith))
-    at (suc (suc (suc (suc (suc (suc (suc (suc (suc (suc zero)))))))))) h = ap₂ bit_xor eb ed ∙ sym (hf.xor 2 8 (omega arith) (omega arith))
-    at (suc (suc (suc (suc (suc (suc (suc (suc (suc (suc (suc zero))))))))))) h = ap₂ bit_xor ab ed ∙ sym (hf.xor 3 8 (omega arith) (omega arith))
-    at (suc (suc (suc (suc (suc (suc (suc (suc (suc (suc (suc (suc zero)))))))))))) h = cd
-    at (suc (suc (suc (suc (suc (suc (suc (suc (suc (suc (suc (suc (suc zero))))))))))))) h = ap₂ bit_xor ea cd ∙ sym (hf.xor 1 12 (omega arith) (omega arith))
-    at (suc (suc (suc (suc (suc (suc (suc (suc (suc (suc (suc (suc (suc (suc zero)))))))))))))) h = ap₂ bit_xor eb cd ∙ sym (hf.xor 2 12 (omega arith) (omega arith))
-    at (suc (suc (suc (suc (suc (suc (suc (suc (suc (suc (suc (suc (suc (suc (suc zero))))))))))))))) h = ap₂ bit_xor ab cd ∙ sym (hf.xor 3 12 (omega arith) (omega arith))
-    at (suc (suc (suc (suc (suc (suc (suc (suc (suc (suc (suc (suc (suc (suc (suc (suc i)))))))))))))))) h = absurd (omega arith)
+    both : (x y p q n : ℕ) → x ≡ f p → y ≡ f q → bit_xor p q ≡ n → p < 16 → q < 16 → bit_xor x y ≡ f n
+    both x y p q n ex ey is hp hq = ap₂ bit_xor ex ey ∙ sym (hf.xor p q hp hq) ∙ ap f is
 
 low_nibble_additive : (n f : ℕ) → IsAdditive 4 (λ i. product (i * 16 ^ n) f % 256)
 low_nibble_additive n f = record {
