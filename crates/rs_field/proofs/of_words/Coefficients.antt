@@ -33,17 +33,11 @@ entry-scale c [] i = sym (product_zero c)
 entry-scale c (a ∷ p) zero = refl
 entry-scale c (a ∷ p) (suc i) = entry-scale c p i
 
-entry-shifted : (p : List ℕ) (i : ℕ) → slice_index (0 ∷ p) (suc i) ≡ slice_index p i
-entry-shifted p i = refl
-
-with_root_is : (a : ℕ) (p : List ℕ) → with_root a p ≡ add (0 ∷ p) (scale a p)
-unfolding with_root
-with_root_is a p = refl
-
 -- a factor x + a keeps the last coefficient
 entry-with_root : (a n : ℕ) (p : List ℕ) → length p ≡ suc n → slice_index (with_root a p) (suc n) ≡ slice_index p n
+unfolding with_root
 entry-with_root a n p size =
-    grind (arith, common_steps, with_root_is, entry-add, entry-shifted, entry-scale, get_or_past, product_zero, xor_zero_r)
+    grind (arith, common_steps, entry-add, entry-scale, get_or_past, product_zero, xor_zero_r)
 
 entry-times : (a m n : ℕ) (p : List ℕ) → length p ≡ suc n → slice_index (times (points a m) p) (m + n) ≡ slice_index p n
 unfolding times points
@@ -150,9 +144,5 @@ no_terms_past n (suc t) f h hn word size words at i above below =
       | inl e ↦ ap f e ∙ last
       | inr apart ↦
           no_terms_past n t f h (omega arith) (λ k hk. word k (omega arith)) size words
-          (λ x hx. sym (drop_last (n + t) f x last) ∙ ap (λ k. forward k 0 f x) (sym (omega arith)) ∙ at x (omega arith)) i above (omega arith)
+          (λ x hx. sym (forward-fewer (n + t) 1 f x (λ j hj. ap f (omega arith) ∙ last)) ∙ ap (λ k. forward k 0 f x) (sym (omega arith)) ∙ at x (omega arith)) i above (omega arith)
     ]
-  where
-    drop_last : (m : ℕ) (f : ℕ → ℕ) (x : ℕ) → f m ≡ 0 → forward (suc m) 0 f x ≡ forward m 0 f x
-    drop_last m f x none =
-        forward-more m f x ∙ ap (bit_xor (forward m 0 f x)) (ap (λ w. product w (basis m x)) none ∙ zero_product (basis m x)) ∙ xor_zero_r (forward m 0 f x)

@@ -48,36 +48,21 @@ derivative_with_root a p x = grind (arith, common_steps, derivative_add, derivat
 -- ---- products of factors
 
 -- the product of the factors at n points from a on
-factors : ℕ → ℕ → ℕ → ℕ
+abbrev factors : ℕ → ℕ → ℕ → ℕ
 factors a n x = product_below n (λ i. bit_xor x (a + i))
 
-factors_is : (a n x : ℕ) → factors a n x ≡ product_below n (λ i. bit_xor x (a + i))
-unfolding factors
-factors_is a n x = refl
-
 factors-suc : (a n x : ℕ) → factors a (suc n) x ≡ product (factors a n x) (bit_xor x (a + n))
-unfolding factors
 factors-suc a n x = product_below-suc n (λ i. bit_xor x (a + i))
 
 factors_lt : (a n x : ℕ) → factors a n x < 2 ^ 16
-unfolding factors
 factors_lt a n x = product_below_lt n (λ i. bit_xor x (a + i))
 
 -- the derivative of that product, by the product rule
-slope : ℕ → ℕ → ℕ → ℕ
+abbrev slope : ℕ → ℕ → ℕ → ℕ
 slope a zero x = 0
 slope a (suc n) x = bit_xor (factors a n x) (product (bit_xor x (a + n)) (slope a n x))
 
-slope-suc : (a n x : ℕ) → slope a (suc n) x ≡ bit_xor (factors a n x) (product (bit_xor x (a + n)) (slope a n x))
-unfolding slope
-slope-suc a n x = refl
-
-slope-zero : (a x : ℕ) → slope a 0 x ≡ 0
-unfolding slope
-slope-zero a x = refl
-
 slope_lt : (a n x : ℕ) → slope a n x < 2 ^ 16
-unfolding slope
 slope_lt a zero x = pow_pos 16
 slope_lt a (suc n) x = xor_lt 16 (factors a n x) (product (bit_xor x (a + n)) (slope a n x)) (factors_lt a n x) (product_lt (bit_xor x (a + n)) (slope a n x))
 
@@ -93,20 +78,18 @@ rule s f g p d hs hf hg hp hd =
 derivative-times : (a n : ℕ) (p : List ℕ) → WordsOneByOne p → (x : ℕ) → x < 2 ^ 16 → a + n ≤ 2 ^ 16
     → derivative_value (times (points a n) p) x ≡ bit_xor (product (factors a n x) (derivative_value p x)) (product (slope a n x) (value p x))
 unfolding times points
-derivative-times a zero p w x hx hn = grind (arith, common_steps, factors_is, product_below-zero, one_product, derivative_lt, slope-zero, product-comm, product_zero)
+derivative-times a zero p w x hx hn = grind (arith, common_steps, product_below-zero, one_product, derivative_lt, product-comm, product_zero)
 derivative-times a (suc n) p w x hx hn =
     let s : ℕ = bit_xor x (a + n) in
     let s_lt : bit_xor x (a + n) < 2 ^ 16 = xor_lt 16 x (a + n) hx (omega arith) in
     derivative_with_root (a + n) (times (points a n) p) x
-    ∙ ap₂ bit_xor (value-times a n p w x ∙ ap (λ z. product z (value p x)) (sym (factors_is a n x)))
-    (ap (product (bit_xor x (a + n))) (derivative-times a n p w x hx (omega arith)))
+    ∙ ap₂ bit_xor (value-times a n p w x) (ap (product (bit_xor x (a + n))) (derivative-times a n p w x hx (omega arith)))
     ∙ rule (bit_xor x (a + n)) (factors a n x) (slope a n x) (value p x) (derivative_value p x)
     s_lt (factors_lt a n x) (slope_lt a n x) (value_lt p x w) (derivative_lt p x w)
-    ∙ ap₂ bit_xor (ap (λ z. product z (derivative_value p x)) (sym (factors-suc a n x))) (ap (λ z. product z (value p x)) (sym (slope-suc a n x)))
+    ∙ ap (λ z. bit_xor (product z (derivative_value p x)) (product (slope a (suc n) x) (value p x))) (sym (factors-suc a n x))
 
 -- m factors and then n more
 factors-add : (m n x : ℕ) → x < 2 ^ 16 → m + n ≤ 2 ^ 16 → factors 0 (m + n) x ≡ product (factors 0 m x) (factors m n x)
-unfolding factors
 factors-add m n x hx h =
     product_below-add m n (λ i. bit_xor x (0 + i)) (λ i hi. xor_lt 16 x (0 + i) hx (omega arith))
     ∙ ap (product (product_below m (λ i. bit_xor x (0 + i)))) (product_below-same n (λ i. bit_xor x (0 + (m + i))) (λ i. bit_xor x (m + i)) (λ i hi. ap (bit_xor x) (zero-add (m + i))))
@@ -121,34 +104,32 @@ sum_rule s f g d e hs hf hg hd he =
 
 slope-add : (m n x : ℕ) → x < 2 ^ 16 → m + n ≤ 2 ^ 16
     → slope 0 (m + n) x ≡ bit_xor (product (slope 0 m x) (factors m n x)) (product (factors 0 m x) (slope m n x))
-slope-add m zero x hx h = grind (arith, common_steps, slope, add-zero, factors_is, product_below-zero, product_one, slope_lt, factors, slope-zero, product_zero)
+slope-add m zero x hx h = grind (arith, common_steps, add-zero, product_below-zero, product_one, slope_lt, product_zero)
 slope-add m (suc n) x hx h =
     let less : m + n ≤ 2 ^ 16 = omega arith in
     let s_lt : bit_xor x (m + n) < 2 ^ 16 = xor_lt 16 x (m + n) hx (omega arith) in
     ap (λ k. slope 0 k x) (add-suc m n)
-    ∙ slope-suc 0 (m + n) x
     ∙ ap₂ bit_xor (factors-add m n x hx less) (ap₂ product (ap (bit_xor x) (zero-add (m + n))) (slope-add m n x hx less))
     ∙ sum_rule (bit_xor x (m + n)) (factors 0 m x) (factors m n x) (slope 0 m x) (slope m n x)
     s_lt (factors_lt 0 m x) (factors_lt m n x) (slope_lt 0 m x) (slope_lt m n x)
-    ∙ ap₂ bit_xor (ap (product (slope 0 m x)) (sym (factors-suc m n x))) (ap (product (factors 0 m x)) (sym (slope-suc m n x)))
+    ∙ ap (λ z. bit_xor (product (slope 0 m x) z) (product (factors 0 m x) (slope m (suc n) x))) (sym (factors-suc m n x))
 
 -- the points past 2 ^ e are those from 0 on, each XOR 2 ^ e
 moved_point : (e i x : ℕ) → i < 2 ^ e → bit_xor x (2 ^ e + i) ≡ bit_xor (bit_xor x (2 ^ e)) (0 + i)
 moved_point e i x h = cc (one-mul (2 ^ e), xor_shifted 1 e i h, zero-add i, xor_assoc x (2 ^ e) (0 + i))
 
 factors-moved : (e n x : ℕ) → n ≤ 2 ^ e → factors (2 ^ e) n x ≡ factors 0 n (bit_xor x (2 ^ e))
-unfolding factors
 factors-moved e n x h =
     product_below-same n (λ i. bit_xor x (2 ^ e + i)) (λ i. bit_xor (bit_xor x (2 ^ e)) (0 + i)) (λ i hi. moved_point e i x (omega arith))
 
 slope-moved : (e n x : ℕ) → n ≤ 2 ^ e → slope (2 ^ e) n x ≡ slope 0 n (bit_xor x (2 ^ e))
-slope-moved e zero x h = grind (arith, common_steps, slope-zero)
-slope-moved e (suc n) x h = grind (arith, common_steps, slope-suc, factors-moved, moved_point, slope-moved e n x (omega arith))
+slope-moved e zero x h = refl
+slope-moved e (suc n) x h = grind (arith, common_steps, factors-moved, moved_point, slope-moved e n x (omega arith))
 
 -- ---- subspace polynomials
 
 factors_subspace : (e x : ℕ) → factors 0 (2 ^ e) x ≡ subspace e x
-unfolding factors subspace
+unfolding subspace
 factors_subspace e x = product_below-same (2 ^ e) (λ i. bit_xor x (0 + i)) (λ y. bit_xor x y) (λ i h. ap (bit_xor x) (zero-add i))
 
 factors_lower : (e x : ℕ) → e ≤ 16 → x < 2 ^ 16 → factors 0 (2 ^ e) x ≡ x / 2 ^ e
@@ -156,7 +137,7 @@ factors_lower e x he hx = factors_subspace e x ∙ subspace_shift e x he hx
 
 -- each subspace polynomial has derivative one
 slope_subspace : (e x : ℕ) → e ≤ 16 → x < 2 ^ 16 → slope 0 (2 ^ e) x ≡ 1
-slope_subspace zero x he hx = search (rules, slope-suc, factors_is, product_below-zero, slope-zero, product_zero)
+slope_subspace zero x he hx = search (rules, product_below-zero, product_zero)
 slope_subspace (suc e) x he hx =
     let n : ℕ = 2 ^ e in
     let bit : 2 ^ e < 2 ^ 16 = pow_below e 16 he in

@@ -12,34 +12,24 @@ use Rattle.rs_field.proofs.of_words.Halves.{few_halves, shift_half, xor_undo}
 use Rattle.std.proofs.lemmas.Grind.{common_steps}
 
 -- the first and the second rows after a butterfly
-low : ℕ → ℕ → (ℕ → ℕ) → ℕ → ℕ
+abbrev low : ℕ → ℕ → (ℕ → ℕ) → ℕ → ℕ
 low half c f q = bit_xor (f q) (product (f (half + q)) c)
 
-high : ℕ → ℕ → (ℕ → ℕ) → ℕ → ℕ
+abbrev high : ℕ → ℕ → (ℕ → ℕ) → ℕ → ℕ
 high half c f q = bit_xor (f (half + q)) (low half c f q)
 
-low_is : (half c : ℕ) (f : ℕ → ℕ) (q : ℕ) → low half c f q ≡ bit_xor (f q) (product (f (half + q)) c)
-unfolding low
-low_is half c f q = refl
-
-high_is : (half c : ℕ) (f : ℕ → ℕ) (q : ℕ) → high half c f q ≡ bit_xor (f (half + q)) (low half c f q)
-unfolding high
-high_is half c f q = refl
-
 low_lt : (half c : ℕ) (f : ℕ → ℕ) (q : ℕ) → f q < 65536 → low half c f q < 65536
-unfolding low
 low_lt half c f q h = xor_lt 16 (f q) (product (f (half + q)) c) h (product_lt (f (half + q)) c)
 
 high_lt : (half c : ℕ) (f : ℕ → ℕ) (q : ℕ) → f q < 65536 → f (half + q) < 65536 → high half c f q < 65536
-unfolding high
 high_lt half c f q h k = xor_lt 16 (f (half + q)) (low half c f q) k (low_lt half c f q h)
 
 -- they determine the rows before it
 second_back : (half c : ℕ) (f : ℕ → ℕ) (q : ℕ) → f (half + q) ≡ bit_xor (high half c f q) (low half c f q)
-second_back half c f q = sym (ap (λ v. bit_xor v (low half c f q)) (high_is half c f q) ∙ xor_undo (f (half + q)) (low half c f q))
+second_back half c f q = sym (xor_undo (f (half + q)) (low half c f q))
 
 first_back : (half c : ℕ) (f : ℕ → ℕ) (q : ℕ) → f q ≡ bit_xor (low half c f q) (product (f (half + q)) c)
-first_back half c f q = sym (ap (λ v. bit_xor v (product (f (half + q)) c)) (low_is half c f q) ∙ xor_undo (f q) (product (f (half + q)) c))
+first_back half c f q = sym (xor_undo (f q) (product (f (half + q)) c))
 
 pub forward_injective : (e shift : ℕ) (f g : ℕ → ℕ) → shift % 2 ^ e ≡ 0 → shift + 2 ^ e ≤ 65536
     → ((i : ℕ) → i < 2 ^ e → f i < 65536) → ((i : ℕ) → i < 2 ^ e → g i < 65536)
@@ -53,16 +43,16 @@ forward_injective (suc e) shift f g whole fits words_f words_g same i hi =
     let lows : (q : ℕ) → q < 2 ^ e → low (2 ^ e) (subspace e shift) f q ≡ low (2 ^ e) (subspace e shift) g q =
     forward_injective e shift (low (2 ^ e) (subspace e shift) f) (low (2 ^ e) (subspace e shift) g) s.0 (omega arith)
     (λ q hq. low_lt (2 ^ e) (subspace e shift) f q (words_f q (omega arith))) (λ q hq. low_lt (2 ^ e) (subspace e shift) g q (words_g q (omega arith)))
-    (λ q hq. lower_half e shift f (low (2 ^ e) (subspace e shift) f) q few whole fits hq (λ p hp. low_is (2 ^ e) (subspace e shift) f p)
+    (λ q hq. lower_half e shift f (low (2 ^ e) (subspace e shift) f) q few whole fits hq (λ p hp. refl)
     ∙ same q (omega arith)
-    ∙ sym (lower_half e shift g (low (2 ^ e) (subspace e shift) g) q few whole fits hq (λ p hp. low_is (2 ^ e) (subspace e shift) g p))) in
+    ∙ sym (lower_half e shift g (low (2 ^ e) (subspace e shift) g) q few whole fits hq (λ p hp. refl))) in
     let highs : (q : ℕ) → q < 2 ^ e → high (2 ^ e) (subspace e shift) f q ≡ high (2 ^ e) (subspace e shift) g q =
     forward_injective e (shift + 2 ^ e) (high (2 ^ e) (subspace e shift) f) (high (2 ^ e) (subspace e shift) g) s.1 (omega arith)
     (λ q hq. high_lt (2 ^ e) (subspace e shift) f q (words_f q (omega arith)) (words_f (2 ^ e + q) (omega arith)))
     (λ q hq. high_lt (2 ^ e) (subspace e shift) g q (words_g q (omega arith)) (words_g (2 ^ e + q) (omega arith)))
-    (λ q hq. upper_half e shift f (low (2 ^ e) (subspace e shift) f) (high (2 ^ e) (subspace e shift) f) q few whole fits hq (λ p hp. low_is (2 ^ e) (subspace e shift) f p) (λ p hp. high_is (2 ^ e) (subspace e shift) f p)
+    (λ q hq. upper_half e shift f (low (2 ^ e) (subspace e shift) f) (high (2 ^ e) (subspace e shift) f) q few whole fits hq (λ p hp. refl) (λ p hp. refl)
     ∙ same (2 ^ e + q) (omega arith)
-    ∙ sym (upper_half e shift g (low (2 ^ e) (subspace e shift) g) (high (2 ^ e) (subspace e shift) g) q few whole fits hq (λ p hp. low_is (2 ^ e) (subspace e shift) g p) (λ p hp. high_is (2 ^ e) (subspace e shift) g p))) in
+    ∙ sym (upper_half e shift g (low (2 ^ e) (subspace e shift) g) (high (2 ^ e) (subspace e shift) g) q few whole fits hq (λ p hp. refl) (λ p hp. refl))) in
     let seconds : (q : ℕ) → q < 2 ^ e → f (2 ^ e + q) ≡ g (2 ^ e + q) =
     λ q hq. second_back (2 ^ e) (subspace e shift) f q ∙ ap₂ bit_xor (highs q hq) (lows q hq) ∙ sym (second_back (2 ^ e) (subspace e shift) g q) in
     elim (cases_lt i (2 ^ e)) [

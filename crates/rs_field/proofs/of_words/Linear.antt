@@ -38,7 +38,7 @@ pub record IsAdditive (w : ℕ) (f : ℕ → ℕ) : Type 0 where
 pub additive_zero : (w : ℕ) (f : ℕ → ℕ) → IsAdditive w f → f 0 ≡ 0
 additive_zero w f h = h.xor 0 0 (pow_pos w) (pow_pos w) ∙ xor_self (f 0)
 
-split_top : (n x : ℕ) → x ≡ bit_xor (x / 2 ^ n * 2 ^ n) (x % 2 ^ n)
+pub split_top : (n x : ℕ) → x ≡ bit_xor (x / 2 ^ n * 2 ^ n) (x % 2 ^ n)
 split_top n x = sym (shr_split x n) ∙ sym (xor_shifted (x / 2 ^ n) n (x % 2 ^ n) (mod-lt x (pow_pos n)))
 
 digit_times : (d n : ℕ) → d < 2 → (d * 2 ^ n ≡ 0) ⊎ (d * 2 ^ n ≡ 2 ^ n)

@@ -1,9 +1,10 @@
 -- The laws of the product at every number: only the lowest 16 bits of a factor count.
 use Rattle.std.proofs.Common.{◌≡◌, ℕ, ◌*◌, ◌/◌, ◌%◌, ◌^◌, ◌<◌, List, [], ◌∷◌, length, bit_xor, refl, sym, ap, ap₂, ◌∙◌, mod-lt, zero-mul}
-use Rattle.std.specs.Int.Bits.{xor_shifted, shifted_half, shifted_even}
-use Rattle.std.proofs.lemmas.Nat.{pow_pos, shr_split}
+use Rattle.std.specs.Int.Bits.{shifted_half, shifted_even}
+use Rattle.std.proofs.lemmas.Nat.{pow_pos}
 use Rattle.rs_field.specs.words.Field.{combine, cantor_basis, bits, from_bits, carryless, reduce, product}
 use Rattle.rs_field.proofs.of_words.Product.{bits_xor, product_comm, product_assoc}
+use Rattle.rs_field.proofs.of_words.Linear.{split_top}
 
 combine_high : (bs : List ℕ) (h : ℕ) → combine bs (h * 2 ^ length bs) ≡ 0
 unfolding combine
@@ -11,19 +12,13 @@ combine_high [] h = refl
 combine_high (b ∷ bs) h =
     ap₂ bit_xor (ap (λ d. d * b) (shifted_even h (length bs)) ∙ zero-mul b) (ap (combine bs) (shifted_half h (length bs)) ∙ combine_high bs h)
 
-sixteen : length cantor_basis ≡ 16
-unfolding cantor_basis
-sixteen = refl
-
 bits_high : (h : ℕ) → bits (h * 2 ^ 16) ≡ 0
-unfolding bits
-bits_high h = ap (λ n. combine cantor_basis (h * 2 ^ n)) (sym sixteen) ∙ combine_high cantor_basis h
+unfolding bits cantor_basis
+bits_high h = combine_high cantor_basis h
 
 bits_low : (x : ℕ) → bits (x % 2 ^ 16) ≡ bits x
 bits_low x =
-    let parts : x ≡ bit_xor (x / 2 ^ 16 * 2 ^ 16) (x % 2 ^ 16) =
-    sym (shr_split x 16) ∙ sym (xor_shifted (x / 2 ^ 16) 16 (x % 2 ^ 16) (mod-lt x (pow_pos 16))) in
-    sym (ap bits parts ∙ bits_xor (x / 2 ^ 16 * 2 ^ 16) (x % 2 ^ 16) ∙ ap (λ v. bit_xor v (bits (x % 2 ^ 16))) (bits_high (x / 2 ^ 16)))
+    sym (ap bits (split_top 16 x) ∙ bits_xor (x / 2 ^ 16 * 2 ^ 16) (x % 2 ^ 16) ∙ ap (λ v. bit_xor v (bits (x % 2 ^ 16))) (bits_high (x / 2 ^ 16)))
 
 low_left : (x y : ℕ) → product (x % 2 ^ 16) y ≡ product x y
 unfolding product
