@@ -33,10 +33,6 @@ unfolding raised
 one_raised zero = refl
 one_raised (suc n) = ap (λ v. product v 1) (one_raised n) ∙ product_one 1 (omega arith)
 
-raised_none : (x : ℕ) → raised x 0 ≡ 1
-unfolding raised
-raised_none x = refl
-
 raised_two : (x : ℕ) → x < 2 ^ 16 → raised x 2 ≡ product x x
 unfolding raised
 raised_two x hx = ap (λ v. product v x) (one_product x hx)
@@ -47,8 +43,8 @@ fast zero x n = 1
 fast (suc k) x n = product (raised x (n % 2)) (fast k (product x x) (n / 2))
 
 fast_is : (k x n : ℕ) → x < 2 ^ 16 → n < 2 ^ k → fast k x n ≡ raised x n
-unfolding fast
-fast_is zero x n hx hn = let z : 0 ≡ n = omega arith in sym (raised_none x) ∙ ap (raised x) z
+unfolding fast raised
+fast_is zero x n hx hn = let z : 0 ≡ n = omega arith in ap (raised x) z
 fast_is (suc k) x n hx hn =
     let half : n / 2 < 2 ^ k = shr_below n k 1 (subst (λ (j : ℕ). n < 2 ^ j) (sym (add-one k)) hn) in
     let whole : n % 2 + 2 * (n / 2) ≡ n = omega arith in
@@ -65,22 +61,18 @@ generator_pos : 0 < generator
 unfolding generator
 generator_pos = omega arith
 
-check_turn : fast 16 generator 65535 ≡ 1
+-- at 65535, and without one of its prime factors
+check_powers : (fast 16 generator 65535 ≡ 1) × (eqb (fast 16 generator 21845) 1 ≡ false) × (eqb (fast 16 generator 13107) 1 ≡ false)
+    × (eqb (fast 16 generator 3855) 1 ≡ false) × (eqb (fast 16 generator 255) 1 ≡ false)
 unfolding fast raised generator combine bits from_bits cantor_basis monomials carryless reduce product
-check_turn = refl
-
--- without one of the prime factors of 65535
-check_without : (eqb (fast 16 generator 21845) 1 ≡ false) × (eqb (fast 16 generator 13107) 1 ≡ false) × (eqb (fast 16 generator 3855) 1 ≡ false)
-    × (eqb (fast 16 generator 255) 1 ≡ false)
-unfolding fast raised generator combine bits from_bits cantor_basis monomials carryless reduce product
-check_without = (refl, refl, refl, refl)
+check_powers = (refl, refl, refl, refl, refl)
 
 power_is : (n : ℕ) → n < 2 ^ 16 → fast 16 generator n ≡ power n
 unfolding power
 power_is n hn = fast_is 16 generator n generator_lt hn
 
 pub power_turn : power 65535 ≡ 1
-power_turn = sym (power_is 65535 (lit< tt)) ∙ check_turn
+power_turn = sym (power_is 65535 (lit< tt)) ∙ check_powers.0
 
 not_one : (n : ℕ) → n < 2 ^ 16 → eqb (fast 16 generator n) 1 ≡ false → power n ≢ 1
 not_one n hn test e = grind (arith, common_steps, power_is, true≢false)
@@ -133,10 +125,10 @@ all_four k h a b c d = omega arith
 pub order : (k : ℕ) → k < 65535 → power k ≡ 1 → k ≡ 0
 order k hk one =
     all_four k hk
-    (divided 3 21845 k refl (lit< tt) check_inverses.0 (not_one 21845 (lit< tt) check_without.0) one)
-    (divided 5 13107 k refl (lit< tt) check_inverses.1 (not_one 13107 (lit< tt) check_without.1) one)
-    (divided 17 3855 k refl (lit< tt) check_inverses.2 (not_one 3855 (lit< tt) check_without.2) one)
-    (divided 257 255 k refl (lit< tt) check_inverses.3 (not_one 255 (lit< tt) check_without.3) one)
+    (divided 3 21845 k refl (lit< tt) check_inverses.0 (not_one 21845 (lit< tt) check_powers.1) one)
+    (divided 5 13107 k refl (lit< tt) check_inverses.1 (not_one 13107 (lit< tt) check_powers.2) one)
+    (divided 17 3855 k refl (lit< tt) check_inverses.2 (not_one 3855 (lit< tt) check_powers.3) one)
+    (divided 257 255 k refl (lit< tt) check_inverses.3 (not_one 255 (lit< tt) check_powers.4) one)
 
 pub power_lt : (n : ℕ) → power n < 2 ^ 16
 unfolding power

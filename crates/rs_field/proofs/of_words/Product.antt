@@ -123,17 +123,17 @@ additive_left y = record { xor = λ a b ha hb. product_xor_left a b y }
 pub additive_right : (x : ℕ) → IsAdditive 16 (product x)
 additive_right x = record { xor = λ a b ha hb. product_xor_right x a b }
 
-check_comm : passes_below 16 (λ i. passes_below 16 (λ j. eqb (product (2 ^ i) (2 ^ j)) (product (2 ^ j) (2 ^ i)))) ≡ true
+-- each law of the product at powers of two
+check_laws : (passes_below 16 (λ i. passes_below 16 (λ j. eqb (product (2 ^ i) (2 ^ j)) (product (2 ^ j) (2 ^ i)))) ≡ true)
+    × (passes_below 16 (λ i. passes_below 16 (λ j. passes_below 16 (λ k. eqb (product (product (2 ^ i) (2 ^ j)) (2 ^ k)) (product (2 ^ i) (product (2 ^ j) (2 ^ k)))))) ≡ true)
+    × (passes_below 16 (λ i. eqb (product (2 ^ i) 1) (2 ^ i)) ≡ true)
+    × (passes_below 16 (λ i. passes_below 16 (λ j. eqb (bits (product (2 ^ i) (2 ^ j))) (reduce 16 (carryless 16 (bits (2 ^ i)) (bits (2 ^ j)))))) ≡ true)
 unfolding passes_below combine bits from_bits cantor_basis monomials carryless reduce product
-check_comm = refl
+check_laws = (refl, refl, refl, refl)
 
 pub product_comm : (x y : ℕ) → x < 2 ^ 16 → y < 2 ^ 16 → product x y ≡ product y x
 product_comm =
-    same_on_pairs product (λ x y. product y x) additive_left additive_right additive_right additive_left check_comm
-
-check_assoc : passes_below 16 (λ i. passes_below 16 (λ j. passes_below 16 (λ k. eqb (product (product (2 ^ i) (2 ^ j)) (2 ^ k)) (product (2 ^ i) (product (2 ^ j) (2 ^ k)))))) ≡ true
-unfolding passes_below combine bits from_bits cantor_basis monomials carryless reduce product
-check_assoc = refl
+    same_on_pairs product (λ x y. product y x) additive_left additive_right additive_right additive_left check_laws.0
 
 pub product_assoc : (x y z : ℕ) → x < 2 ^ 16 → y < 2 ^ 16 → z < 2 ^ 16 → product (product x y) z ≡ product x (product y z)
 product_assoc =
@@ -144,14 +144,10 @@ product_assoc =
     (λ y z. additive_left (product y z))
     (λ x z. record { xor = λ a b ha hb. ap (product x) (product_xor_left a b z) ∙ product_xor_right x _ _ })
     (λ x y. record { xor = λ a b ha hb. ap (product x) (product_xor_right y a b) ∙ product_xor_right x _ _ })
-    check_assoc
-
-check_one : passes_below 16 (λ i. eqb (product (2 ^ i) 1) (2 ^ i)) ≡ true
-unfolding passes_below combine bits from_bits cantor_basis monomials carryless reduce product
-check_one = refl
+    check_laws.1
 
 pub product_one : (x : ℕ) → x < 2 ^ 16 → product x 1 ≡ x
-product_one = same_on_words (λ x. product x 1) (λ x. x) (additive_left 1) (record { xor = λ a b ha hb. refl }) check_one
+product_one = same_on_words (λ x. product x 1) (λ x. x) (additive_left 1) (record { xor = λ a b ha hb. refl }) check_laws.2
 
 pub one_product : (x : ℕ) → x < 2 ^ 16 → product 1 x ≡ x
 one_product x hx = product_comm 1 x (omega arith) hx ∙ product_one x hx
@@ -161,10 +157,6 @@ product_zero x = additive_zero 16 (product x) (additive_right x)
 
 pub zero_product : (x : ℕ) → product 0 x ≡ 0
 zero_product x = additive_zero 16 (λ v. product v x) (additive_left x)
-
-check_bits : passes_below 16 (λ i. passes_below 16 (λ j. eqb (bits (product (2 ^ i) (2 ^ j))) (reduce 16 (carryless 16 (bits (2 ^ i)) (bits (2 ^ j)))))) ≡ true
-unfolding passes_below combine bits from_bits cantor_basis monomials carryless reduce product
-check_bits = refl
 
 -- the `bits` of a product are the shift-and-XOR product of the `bits`, reduced
 pub bits-product : (x y : ℕ) → x < 2 ^ 16 → y < 2 ^ 16 → bits (product x y) ≡ reduce 16 (carryless 16 (bits x) (bits y))
@@ -180,7 +172,7 @@ bits-product =
       xor = λ a b ha hb.
           ap (reduce 16) (ap (carryless 16 (bits x)) (bits_xor a b) ∙ carryless_xor_right 16 (bits x) (bits a) (bits b)) ∙ reduce_xor 16 (carryless 16 (bits x) (bits a)) (carryless 16 (bits x) (bits b));
     })
-    check_bits
+    check_laws.3
 
 pub bits_injective : (x y : ℕ) → x < 2 ^ 16 → y < 2 ^ 16 → bits x ≡ bits y → x ≡ y
 bits_injective x y hx hy e = sym (from_bits-bits x hx) ∙ ap from_bits e ∙ from_bits-bits y hy
