@@ -1,5 +1,5 @@
 -- Whether some polynomial takes the words given, by the rows after the backward transform: one column.
-use Rattle.std.proofs.Common.{◌≡◌, ℕ, zero, suc, ◌+◌, ◌^◌, ◌<◌, ◌≤◌, ◌⊎◌, ◌≢◌, List, [], ◌∷◌, length, sym, ap, ◌∙◌, arith}
+use Rattle.std.proofs.Common.{◌≡◌, ℕ, zero, suc, ◌+◌, ◌^◌, ◌<◌, ◌≤◌, ◌⊎◌, List, [], ◌∷◌, length, sym, ap, ◌∙◌, arith}
 use Rattle.std.proofs.lemmas.Bool.{cases_eq}
 use Rattle.std.proofs.lemmas.Grind.{common_steps}
 use Rattle.rs_field.specs.words.Field.{product, power}
@@ -12,7 +12,7 @@ use Rattle.rs_field.proofs.of_words.Inverse.{product_cancel}
 use Rattle.rs_field.proofs.of_words.Power.{power_lt, power_pos}
 use Rattle.rs_field.proofs.of_words.Roots.{WordsOneByOne, words_from, value_lt}
 use Rattle.rs_field.proofs.of_words.Factors.{times, words_times}
-use Rattle.rs_field.proofs.of_words.LocatorProduct.{marked, marked-more, marked-same, AreMarks, locator_value, locator_root, length-marked_times}
+use Rattle.rs_field.proofs.of_words.LocatorProduct.{marked, marked-more, marked-same, AreMarks, locator_value, locator_root, length-marked_times, not_both}
 use Rattle.rs_field.proofs.of_words.Division.{AreFalling, AreRoots, divided_by}
 use Rattle.rs_field.proofs.of_words.Coefficients.{forward-fewer, polynomial_of_terms, no_terms_past}
 
@@ -52,9 +52,6 @@ roots_marked (suc n) marks p m at =
     grind (arith, common_steps, cases_eq, marked-more, marked-same, below)
 
 -- ---- the located polynomial
-
-not_both : (marks : ℕ → ℕ) (x y : ℕ) → marks x ≡ 0 → marks y ≡ 1 → y ≢ x
-not_both marks x y none one e = let same : marks y ≡ marks x = ap marks e in omega arith
 
 -- a polynomial that takes the words given has the located words as values, once a root is put in at each marked point
 pub located_values : (n b : ℕ) (marks words f : ℕ → ℕ) (q : List ℕ) → n ≤ 2 ^ 16 → AreMarks n marks → AreLocated n marks words f → Takes n b marks words q

@@ -38,7 +38,11 @@ fewer n e h = record { mark = λ y hy. h.mark y (omega arith) }
 mark_cases : (n : ℕ) (e : ℕ → ℕ) → AreMarks (suc n) e → (e n ≡ 1) ⊎ (e n ≡ 0)
 mark_cases n e h = grind (arith, common_steps)
 
--- an unmarked point adds nothing
+-- an unmarked point is no marked one
+pub not_both : (marks : ℕ → ℕ) (x y : ℕ) → marks x ≡ 0 → marks y ≡ 1 → y ≢ x
+not_both marks x y none one e = let same : marks y ≡ marks x = ap marks e in omega arith
+
+-- it adds nothing
 kept : (n : ℕ) (e : ℕ → ℕ) (x : ℕ) → e n ≡ 0 → log_sum (suc n) e x ≡ log_sum n e x
 kept n e x none = elim (cases_eq n x) [ inl same ↦ log_sum-itself n e x same | inr differs ↦ log_sum-unmarked n e x none differs ]
 
@@ -70,9 +74,6 @@ locator_value (suc n) e p x hn hx w m apart =
           ap (λ (r : List ℕ). value (times r p) x) (marked-same n e none) ∙ ih ∙ ap (λ k. product (power k) (value p x)) (sym (kept n e x none))
     ]
 
-below : (x n : ℕ) → x < suc n → x ≢ n → x < n
-below x n h differs = omega arith
-
 -- at a marked point it is zero
 pub locator_root : (n : ℕ) (e : ℕ → ℕ) (p : List ℕ) (x : ℕ) → AreMarks n e → x < n → e x ≡ 1 → value (times (marked n e) p) x ≡ 0
 unfolding marked times
@@ -87,7 +88,7 @@ locator_root (suc n) e p x m hx one =
           ]
       | inr none ↦
           ap (λ (r : List ℕ). value (times r p) x) (marked-same n e none)
-          ∙ locator_root n e p x (fewer n e m) (below x n hx (λ (same : x ≡ n). let differ : e x ≡ e n = ap e same in let no : ⊥ = omega arith in no)) one
+          ∙ locator_root n e p x (fewer n e m) (omega (arith, not_both e n x none one)) one
     ]
 
 -- where x is marked: the derivative there of that polynomial
@@ -115,7 +116,7 @@ locator_derivative (suc n) e p x hn w m hx one =
           ]
       | inr none ↦
           ap (λ (r : List ℕ). derivative_value (times r p) x) (marked-same n e none)
-          ∙ locator_derivative n e p x (omega arith) w (fewer n e m) (below x n hx (λ (same : x ≡ n). let differ : e x ≡ e n = ap e same in let no : ⊥ = omega arith in no)) one
+          ∙ locator_derivative n e p x (omega arith) w (fewer n e m) (omega (arith, not_both e n x none one)) one
           ∙ ap (λ k. product (power k) (value p x)) (sym (kept n e x none))
     ]
 

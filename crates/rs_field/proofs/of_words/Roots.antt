@@ -1,5 +1,5 @@
 -- A polynomial with as many roots as coefficients is zero.
-use Rattle.std.proofs.Common.{◌≡◌, ℕ, zero, suc, ◌^◌, ◌<◌, ◌≢◌, List, [], ◌∷◌, length, bit_xor, refl, sym, ap, ◌∙◌, subst, arith, inl, inr, ap₂}
+use Rattle.std.proofs.Common.{◌≡◌, ℕ, zero, suc, ◌^◌, ◌<◌, ◌≢◌, List, [], ◌∷◌, length, bit_xor, refl, sym, ap, ◌∙◌, subst, arith, inl, inr}
 use Rattle.std.specs.Prelude.{All}
 use Rattle.std.specs.Int.Bits.{xor_comm, xor_assoc, xor_self, xor_zero_r, xor_lt}
 use Rattle.std.proofs.lemmas.Bool.{cases_eq}
@@ -56,20 +56,13 @@ unfolding steps
 words_steps a [] h = tt
 words_steps a (d ∷ cs) h = (value_lt (d ∷ cs) a h, words_steps a cs h.1)
 
--- a + (x + a) is x
-apart : (a x : ℕ) → bit_xor a (bit_xor x a) ≡ x
-apart a x = ap (bit_xor a) (xor_comm x a) ∙ sym (xor_assoc a a x) ∙ ap (λ v. bit_xor v x) (xor_self a)
+-- a + (x + (a + y)) is x + y
+xor_cancel : (a x y : ℕ) → bit_xor a (bit_xor x (bit_xor a y)) ≡ bit_xor x y
+xor_cancel a x y = grind (arith, common_steps, xor_assoc, xor_comm, xor_self)
 
 -- (c + a r) + s (r + x q) is c + x (r + s q), where s is x + a
 regroup : (c a x r q : ℕ) → bit_xor (bit_xor c (product a r)) (product (bit_xor x a) (bit_xor r (product x q))) ≡ bit_xor c (product x (bit_xor r (product (bit_xor x a) q)))
-regroup c a x r q =
-    let s : ℕ = bit_xor x a in
-    xor_assoc c (product a r) (product s (bit_xor r (product x q)))
-    ∙ ap (bit_xor c)
-    (ap (bit_xor (product a r)) (product_xor_right s r (product x q))
-    ∙ sym (xor_assoc (product a r) (product s r) (product s (product x q)))
-    ∙ ap₂ bit_xor (sym (product_xor_left a s r) ∙ ap (λ v. product v r) (apart a x)) (product-left_comm s x q)
-    ∙ sym (product_xor_right x r (product s q)))
+regroup c a x r q = grind (arith, common_steps, xor_assoc, product_xor_left, product_xor_right, product-left_comm, xor_cancel)
 
 -- P(x) is P(a) + (x + a) * Q(x)
 factor : (a x c : ℕ) (cs : List ℕ) → value (c ∷ cs) x ≡ bit_xor (value (c ∷ cs) a) (product (bit_xor x a) (value (steps a cs) x))
