@@ -134,36 +134,26 @@ pub derivative_rows : (old low mid new : ShardsRefMut) (k s pos size : ℕ) → 
     → ((q : ℕ) → q < size / 2 → cell new k (pos + q) ≡ cell mid k (pos + q))
     → IsDerivativeAdded size (λ q. word old k s (pos + q)) (λ q. word new k s (pos + q))
 derivative_rows old low mid new k s pos size large power few of_low low_kept sums mid_kept of_high new_kept =
-    let p = half_power size large power in
-    of_power p.0 (size / 2) p.1 p.2 of_low low_kept sums mid_kept of_high new_kept
-  where
-    of_power : (e half : ℕ) → size ≡ 2 ^ suc e → half ≡ 2 ^ e
-        → IsDerivativeAdded half (λ q. word old k s (pos + q)) (λ q. word low k s (pos + q))
-        → ((q : ℕ) → q < half → cell low k (pos + half + q) ≡ cell old k (pos + half + q))
-        → ((q : ℕ) → q < half → word mid k s (pos + q) ≡ bit_xor (word low k s (pos + q)) (word low k s (pos + half + q)))
-        → ((q : ℕ) → q < half → cell mid k (pos + half + q) ≡ cell low k (pos + half + q))
-        → IsDerivativeAdded half (λ q. word mid k s (pos + half + q)) (λ q. word new k s (pos + half + q))
-        → ((q : ℕ) → q < half → cell new k (pos + q) ≡ cell mid k (pos + q))
-        → IsDerivativeAdded size (λ q. word old k s (pos + q)) (λ q. word new k s (pos + q))
-    of_power e half is h of_low low_kept sums mid_kept of_high new_kept =
-        let P : ℕ → Type 0 = λ n. IsDerivativeAdded n (λ q. word old k s (pos + q)) (λ q. word new k s (pos + q)) in
-        let L : ℕ → Type 0 = λ n. IsDerivativeAdded n (λ q. word old k s (pos + q)) (λ q. word low k s (pos + q)) in
-        let H : ℕ → Type 0 = λ n. IsDerivativeAdded n (λ q. word old k s (pos + (n + q))) (λ q. word new k s (pos + half + q)) in
-        let there : (q : ℕ) → pos + half + q ≡ pos + (half + q) = λ q. add_assoc pos half q in
-        let old_high : (q : ℕ) → q < half → word low k s (pos + half + q) ≡ word old k s (pos + (half + q)) =
-        λ q hq. word_same low old k s (pos + half + q) (pos + half + q) (low_kept q hq) ∙ ap (word old k s) (there q) in
-        subst P (sym is)
-        (derivative_halves e (λ q. word old k s (pos + q)) (λ q. word low k s (pos + q)) (λ q. word new k s (pos + half + q)) (λ q. word new k s (pos + q))
-        (few_halves size e 0 is (omega arith))
-        (subst L h of_low)
-        (subst H h
-        (derivative_same half (λ q. word old k s (pos + (half + q))) (λ q. word mid k s (pos + half + q)) (λ q. word new k s (pos + half + q)) (λ q. word new k s (pos + half + q))
-        (λ q hq. word_same mid low k s (pos + half + q) (pos + half + q) (mid_kept q hq) ∙ old_high q hq) (λ q hq. refl) of_high))
-        (λ q hq.
-        let below : q < half = subst (λ (n : ℕ). q < n) (sym h) hq in
-        word_same new mid k s (pos + q) (pos + q) (new_kept q below) ∙ sums q below ∙ ap (bit_xor (word low k s (pos + q))) (old_high q below)
-        ∙ ap (λ n. bit_xor (word low k s (pos + q)) (word old k s (pos + (n + q)))) h)
-        (λ q hq. ap (λ n. word new k s (pos + (n + q))) (sym h) ∙ ap (word new k s) (sym (there q))))
+    let (e, is, h) = half_power size large power in
+    let half : ℕ = size / 2 in
+    let P : ℕ → Type 0 = λ n. IsDerivativeAdded n (λ q. word old k s (pos + q)) (λ q. word new k s (pos + q)) in
+    let L : ℕ → Type 0 = λ n. IsDerivativeAdded n (λ q. word old k s (pos + q)) (λ q. word low k s (pos + q)) in
+    let H : ℕ → Type 0 = λ n. IsDerivativeAdded n (λ q. word old k s (pos + (n + q))) (λ q. word new k s (pos + half + q)) in
+    let there : (q : ℕ) → pos + half + q ≡ pos + (half + q) = λ q. add_assoc pos half q in
+    let old_high : (q : ℕ) → q < half → word low k s (pos + half + q) ≡ word old k s (pos + (half + q)) =
+    λ q hq. word_same low old k s (pos + half + q) (pos + half + q) (low_kept q hq) ∙ ap (word old k s) (there q) in
+    subst P (sym is)
+    (derivative_halves e (λ q. word old k s (pos + q)) (λ q. word low k s (pos + q)) (λ q. word new k s (pos + half + q)) (λ q. word new k s (pos + q))
+    (few_halves size e 0 is (omega arith))
+    (subst L h of_low)
+    (subst H h
+    (derivative_same half (λ q. word old k s (pos + (half + q))) (λ q. word mid k s (pos + half + q)) (λ q. word new k s (pos + half + q)) (λ q. word new k s (pos + half + q))
+    (λ q hq. word_same mid low k s (pos + half + q) (pos + half + q) (mid_kept q hq) ∙ old_high q hq) (λ q hq. refl) of_high))
+    (λ q hq.
+    let below : q < half = subst (λ (n : ℕ). q < n) (sym h) hq in
+    word_same new mid k s (pos + q) (pos + q) (new_kept q below) ∙ sums q below ∙ ap (bit_xor (word low k s (pos + q))) (old_high q below)
+    ∙ ap (λ n. bit_xor (word low k s (pos + q)) (word old k s (pos + (n + q)))) h)
+    (λ q hq. ap (λ n. word new k s (pos + (n + q))) (sym h) ∙ ap (word new k s) (sym (there q))))
 
 -- the rows from row 0 on
 pub derivative_all : (old new : ShardsRefMut) (k s n size : ℕ) → size ≡ n

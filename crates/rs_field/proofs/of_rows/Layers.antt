@@ -1,7 +1,6 @@
 -- One layer of butterflies between the halves of a block, and two layers between its quarters, for one symbol of the rows.
-use Rattle.std.proofs.Common.{rules, ◌≡◌, ℕ, suc, ◌+◌, ◌-◌, ◌*◌, ◌%◌, ◌^◌, ◌<◌, ◌≤◌, cond, nat_lt, List, get_or, bit_xor, sym, ap, ap₂, ◌∙◌, subst, inl, inr, arith}
+use Rattle.std.proofs.Common.{rules, ◌≡◌, ℕ, suc, ◌+◌, ◌-◌, ◌*◌, ◌%◌, ◌^◌, ◌<◌, ◌≤◌, cond, nat_lt, List, get_or, bit_xor, sym, ap, ap₂, ◌∙◌, subst, arith, zero}
 use Rattle.std.proofs.Math.Nat.{mul-le-mul_right}
-use Rattle.std.proofs.lemmas.Bool.{cases_lt}
 use Rattle.std.proofs.lemmas.Grind.{common_steps}
 use Rattle.rs_field.specs.words.Field.{product}
 use Rattle.rs_field.specs.words.Subspace.{subspace}
@@ -54,93 +53,57 @@ made skew n e shift f g b is half l q hq = grind (arith, common_steps, table_fac
 layer_low : (skew : List ℕ) (n shift i : ℕ) (f g : ℕ → ℕ) → IsBlock skew (n + n) shift → i < n → IsLayer skew n shift f g
     → forward n shift g i ≡ forward (n + n) shift f i
 layer_low skew n shift i f g b hi l =
-    let p = half_power (n + n) b.large b.power in
-    of_power p.0 p.1 (omega (arith, p.2))
-  where
-    of_power : (e : ℕ) → n + n ≡ 2 ^ suc e → n ≡ 2 ^ e → forward n shift g i ≡ forward (n + n) shift f i
-    of_power e is half =
-        ap (λ m. forward m shift g i) half
-        ∙ lower_half e shift f g i (few_halves (n + n) e shift is b.points) (subst (λ (m : ℕ). shift % m ≡ 0) is b.aligned)
-        (subst (λ (m : ℕ). shift + m ≤ 65536) is b.points) (subst (λ (m : ℕ). i < m) half hi) (made skew n e shift f g b is half l)
-        ∙ ap (λ m. forward m shift f i) (sym is)
+    let (e, is, part) = half_power (n + n) b.large b.power in
+    let half : n ≡ 2 ^ e = omega (arith, part) in
+    ap (λ m. forward m shift g i) half
+    ∙ lower_half e shift f g i (few_halves (n + n) e shift is b.points) (subst (λ (m : ℕ). shift % m ≡ 0) is b.aligned)
+    (subst (λ (m : ℕ). shift + m ≤ 65536) is b.points) (subst (λ (m : ℕ). i < m) half hi) (made skew n e shift f g b is half l)
+    ∙ ap (λ m. forward m shift f i) (sym is)
 
 -- and of the second
 layer_high : (skew : List ℕ) (n shift i : ℕ) (f g : ℕ → ℕ) → IsBlock skew (n + n) shift → i < n → IsLayer skew n shift f g
     → forward n (shift + n) (λ q. g (n + q)) i ≡ forward (n + n) shift f (n + i)
 layer_high skew n shift i f g b hi l =
-    let p = half_power (n + n) b.large b.power in
-    of_power p.0 p.1 (omega (arith, p.2))
-  where
-    of_power : (e : ℕ) → n + n ≡ 2 ^ suc e → n ≡ 2 ^ e → forward n (shift + n) (λ q. g (n + q)) i ≡ forward (n + n) shift f (n + i)
-    of_power e is half =
-        ap (λ m. forward m (shift + m) (λ q. g (n + q)) i) half
-        ∙ upper_half e shift f g (λ q. g (n + q)) i (few_halves (n + n) e shift is b.points) (subst (λ (m : ℕ). shift % m ≡ 0) is b.aligned)
-        (subst (λ (m : ℕ). shift + m ≤ 65536) is b.points) (subst (λ (m : ℕ). i < m) half hi) (made skew n e shift f g b is half l)
-        (λ q hq. l.second q (subst (λ (m : ℕ). q < m) (sym half) hq) ∙ ap (λ m. bit_xor (f (m + q)) (g q)) half)
-        ∙ ap₂ (λ m o. forward m shift f (o + i)) (sym is) (sym half)
+    let (e, is, part) = half_power (n + n) b.large b.power in
+    let half : n ≡ 2 ^ e = omega (arith, part) in
+    ap (λ m. forward m (shift + m) (λ q. g (n + q)) i) half
+    ∙ upper_half e shift f g (λ q. g (n + q)) i (few_halves (n + n) e shift is b.points) (subst (λ (m : ℕ). shift % m ≡ 0) is b.aligned)
+    (subst (λ (m : ℕ). shift + m ≤ 65536) is b.points) (subst (λ (m : ℕ). i < m) half hi) (made skew n e shift f g b is half l)
+    (λ q hq. l.second q (subst (λ (m : ℕ). q < m) (sym half) hq) ∙ ap (λ m. bit_xor (f (m + q)) (g q)) half)
+    ∙ ap₂ (λ m o. forward m shift f (o + i)) (sym is) (sym half)
 
--- a part by another name of the place where it begins
-as_part : (size n shift start i to at : ℕ) (f g h : ℕ → ℕ) → shift + start ≡ to → start + i ≡ at → ((q : ℕ) → g (start + q) ≡ h q)
-    → forward n to h i ≡ forward size shift f at → forward n (shift + start) (λ q. g (start + q)) i ≡ forward size shift f (start + i)
-as_part size n shift start i to at f g h e place same r = search (rules, forward-same)
+-- part j by another name of the place where it begins
+as_part : (size n shift j i to at : ℕ) (f g : ℕ → ℕ) (place : ℕ → ℕ) → shift + j * n ≡ to → j * n + i ≡ at → ((q : ℕ) → j * n + q ≡ place q)
+    → forward n to (λ q. g (place q)) i ≡ forward size shift f at → forward n (shift + j * n) (λ q. g (j * n + q)) i ≡ forward size shift f (j * n + i)
+as_part size n shift j i to at f g place e is same r = search (rules, forward-same)
 
 -- one layer leaves two parts
 pub one_layer : (skew : List ℕ) (n shift : ℕ) (f g : ℕ → ℕ) → IsBlock skew (n + n) shift → IsLayer skew n shift f g → ArePartsOf (n + n) n shift f g
-one_layer skew n shift f g b l j i hj hi =
-    elim (cases_lt j 1) [
-      | inl low ↦
-          let e : j ≡ 0 = omega arith in
-          let start : j * n ≡ 0 * n = ap (λ v. v * n) e in
-          as_part (n + n) n shift (j * n) i shift i f g g (omega arith) (omega arith) (λ q. ap g (let r : j * n + q ≡ q = omega arith in r)) (layer_low skew n shift i f g b hi l)
-      | inr high ↦ elim (cases_lt j 2) [
-        | inl low ↦
-            let e : j ≡ 1 = omega arith in
-            let start : j * n ≡ 1 * n = ap (λ v. v * n) e in
-            as_part (n + n) n shift (j * n) i (shift + n) (n + i) f g (λ q. g (n + q)) (omega arith) (omega arith)
-            (λ q. ap g (let r : j * n + q ≡ n + q = omega arith in r)) (layer_high skew n shift i f g b hi l)
-        | inr past ↦ let le : 2 * n ≤ j * n = mul-le-mul_right n past in absurd (let no : ⊥ = omega arith in no)
-      ]
-    ]
+one_layer skew n shift f g b l zero i hj hi =
+    as_part (n + n) n shift 0 i shift i f g (λ q. q) (omega arith) (omega arith) (λ q. omega arith) (layer_low skew n shift i f g b hi l)
+one_layer skew n shift f g b l (suc zero) i hj hi =
+    as_part (n + n) n shift 1 i (shift + n) (n + i) f g (λ q. n + q) (omega arith) (omega arith) (λ q. omega arith) (layer_high skew n shift i f g b hi l)
+one_layer skew n shift f g b l (suc (suc j)) i hj hi = let le : 2 * n ≤ suc (suc j) * n = mul-le-mul_right n (omega arith) in absurd (omega arith)
 
 -- two layers leave four
 pub two_layers : (skew : List ℕ) (n shift : ℕ) (f g h : ℕ → ℕ) → IsBlock skew (n + n + (n + n)) shift → IsLayer skew (n + n) shift f g
     → IsLayer skew n shift g h → IsLayer skew n (shift + (n + n)) (λ q. g (n + n + q)) (λ q. h (n + n + q)) → ArePartsOf (n + n + (n + n)) n shift f h
-two_layers skew n shift f g h b l low high j i hj hi =
-    let b2 = block_halves skew (n + n) shift b (omega arith) in
-    elim (cases_lt j 2) [
-      | inl before ↦ elim (cases_lt j 1) [
-        | inl none ↦
-            let e : j ≡ 0 = omega arith in
-            let start : j * n ≡ 0 * n = ap (λ v. v * n) e in
-            as_part (n + n + (n + n)) n shift (j * n) i shift i f h h (omega arith) (omega arith) (λ q. ap h (let r : j * n + q ≡ q = omega arith in r))
-            (layer_low skew n shift i g h b2.0 hi low ∙ layer_low skew (n + n) shift i f g b (omega arith) l)
-        | inr one ↦
-            let e : j ≡ 1 = omega arith in
-            let start : j * n ≡ 1 * n = ap (λ v. v * n) e in
-            as_part (n + n + (n + n)) n shift (j * n) i (shift + n) (n + i) f h (λ q. h (n + q)) (omega arith) (omega arith)
-            (λ q. ap h (let r : j * n + q ≡ n + q = omega arith in r))
-            (layer_high skew n shift i g h b2.0 hi low ∙ layer_low skew (n + n) shift (n + i) f g b (omega arith) l)
-      ]
-      | inr after ↦ elim (cases_lt j 3) [
-        | inl two ↦
-            let e : j ≡ 2 = omega arith in
-            let start : j * n ≡ 2 * n = ap (λ v. v * n) e in
-            as_part (n + n + (n + n)) n shift (j * n) i (shift + (n + n)) (n + n + i) f h (λ q. h (n + n + q)) (omega arith) (omega arith)
-            (λ q. ap h (let r : j * n + q ≡ n + n + q = omega arith in r))
-            (layer_low skew n (shift + (n + n)) i (λ q. g (n + n + q)) (λ q. h (n + n + q)) b2.1 hi high
-            ∙ layer_high skew (n + n) shift i f g b (omega arith) l)
-        | inr more ↦ elim (cases_lt j 4) [
-          | inl within ↦
-              let e : j ≡ 3 = omega arith in
-              let start : j * n ≡ 3 * n = ap (λ v. v * n) e in
-              as_part (n + n + (n + n)) n shift (j * n) i (shift + (n + n) + n) (n + n + (n + i)) f h (λ q. h (n + n + (n + q))) (omega arith) (omega arith)
-              (λ q. ap h (let r : j * n + q ≡ n + n + (n + q) = omega arith in r))
-              (layer_high skew n (shift + (n + n)) i (λ q. g (n + n + q)) (λ q. h (n + n + q)) b2.1 hi high
-              ∙ layer_high skew (n + n) shift (n + i) f g b (omega arith) l)
-          | inr past ↦ let le : 4 * n ≤ j * n = mul-le-mul_right n past in absurd (let no : ⊥ = omega arith in no)
-        ]
-      ]
-    ]
+two_layers skew n shift f g h b l low high = parts (block_halves skew (n + n) shift b (omega (arith, b.large)))
+  where
+    parts : IsBlock skew (n + n) shift × IsBlock skew (n + n) (shift + (n + n)) → ArePartsOf (n + n + (n + n)) n shift f h
+    parts b2 zero i hj hi =
+        as_part (n + n + (n + n)) n shift 0 i shift i f h (λ q. q) (omega arith) (omega arith) (λ q. omega arith)
+        (layer_low skew n shift i g h b2.0 hi low ∙ layer_low skew (n + n) shift i f g b (omega arith) l)
+    parts b2 (suc zero) i hj hi =
+        as_part (n + n + (n + n)) n shift 1 i (shift + n) (n + i) f h (λ q. n + q) (omega arith) (omega arith) (λ q. omega arith)
+        (layer_high skew n shift i g h b2.0 hi low ∙ layer_low skew (n + n) shift (n + i) f g b (omega arith) l)
+    parts b2 (suc (suc zero)) i hj hi =
+        as_part (n + n + (n + n)) n shift 2 i (shift + (n + n)) (n + n + i) f h (λ q. n + n + q) (omega arith) (omega arith) (λ q. omega arith)
+        (layer_low skew n (shift + (n + n)) i (λ q. g (n + n + q)) (λ q. h (n + n + q)) b2.1 hi high ∙ layer_high skew (n + n) shift i f g b (omega arith) l)
+    parts b2 (suc (suc (suc zero))) i hj hi =
+        as_part (n + n + (n + n)) n shift 3 i (shift + (n + n) + n) (n + n + (n + i)) f h (λ q. n + n + (n + q)) (omega arith) (omega arith) (λ q. omega arith)
+        (layer_high skew n (shift + (n + n)) i (λ q. g (n + n + q)) (λ q. h (n + n + q)) b2.1 hi high ∙ layer_high skew (n + n) shift (n + i) f g b (omega arith) l)
+    parts b2 (suc (suc (suc (suc j)))) i hj hi = let le : 4 * n ≤ suc (suc (suc (suc j))) * n = mul-le-mul_right n (omega arith) in absurd (omega arith)
 
 -- ---- butterflies of four words
 
@@ -240,15 +203,9 @@ four_rows skew n shift pos f g b four =
 
     placed : at_quarters (IsForwardFour (factor skew (n + n) shift) (factor skew n shift) (factor skew n (shift + (n + n)))) n (λ q. f (pos + q)) (λ q. g (pos + q))
     placed q hq =
-        let m01 : ℕ = factor skew n shift in
-        let m23 : ℕ = get_or skew (shift + 2 * n + n - 1) 0 in
         let on02 : shift + 2 * n - 1 ≡ shift + (n + n) - 1 = omega arith in
         let on23 : shift + 2 * n + n - 1 ≡ shift + (n + n) + n - 1 = omega arith in
         let on1 : pos + n + q ≡ pos + (n + q) = omega arith in
         let on2 : pos + 2 * n + q ≡ pos + (n + n + q) = omega arith in
         let on3 : pos + 3 * n + q ≡ pos + (n + n + (n + q)) = omega arith in
-        subst (λ (p : ℕ). FourRows (factor skew (n + n) shift) m01 (get_or skew p 0) f g (pos + q) (pos + (n + q)) (pos + (n + n + q)) (pos + (n + n + (n + q)))) on23
-        (subst (λ (p : ℕ). FourRows (get_or skew p 0) m01 m23 f g (pos + q) (pos + (n + q)) (pos + (n + n + q)) (pos + (n + n + (n + q)))) on02
-        (subst (λ (p : ℕ). FourRows (get_or skew (shift + 2 * n - 1) 0) m01 m23 f g (pos + q) (pos + (n + q)) (pos + (n + n + q)) p) on3
-        (subst (λ (p : ℕ). FourRows (get_or skew (shift + 2 * n - 1) 0) m01 m23 f g (pos + q) (pos + (n + q)) p (pos + 3 * n + q)) on2
-        (subst (λ (p : ℕ). FourRows (get_or skew (shift + 2 * n - 1) 0) m01 m23 f g (pos + q) p (pos + 2 * n + q) (pos + 3 * n + q)) on1 (four q hq)))))
+        rw (on02, on23, on1, on2, on3) at (four q hq)

@@ -144,5 +144,6 @@ no_terms_past n (suc t) f h hn word size words at i above below =
       | inl e ↦ ap f e ∙ last
       | inr apart ↦
           no_terms_past n t f h (omega arith) (λ k hk. word k (omega arith)) size words
-          (λ x hx. sym (forward-fewer (n + t) 1 f x (λ j hj. ap f (omega arith) ∙ last)) ∙ ap (λ k. forward k 0 f x) (sym (omega arith)) ∙ at x (omega arith)) i above (omega arith)
+          (λ x hx. sym (forward-fewer (n + t) 1 f x (λ j hj. ap f (omega arith) ∙ last)) ∙ ap (λ k. forward k 0 f x) (sym (omega arith)) ∙ at x (omega arith))
+          i above (omega arith)
     ]
