@@ -2,10 +2,8 @@ use Rattle.std.proofs.Common.{ℕ, sym, ◌∙◌, subst, arith}
 use Rattle.std.proofs.lemmas.Result.{err_from_is_err_and}
 use Rattle.rs_field.specs.code.Bounds.{DecodeCounts}
 use Rattle.rs_rate.specs.DecoderView.{decoder_state, restored_of}
-use Rattle.rs_rate.proofs.DecoderLemmas.{count-given}
-use Rattle.rs_rate.proofs.EnoughGiven.{enough-least}
+use Rattle.rs_rate.proofs.EnoughGiven.{rows_given, enough-least}
 use Rattle.rs_rate.proofs.DecoderRows.{after_decode-refused, after_decode-made, decode_answers-refused, decode_answers-made}
-use Rattle.rs_rate.specs.Marks.{given_marks}
 use Rattle.rs_rate.specs.RowsLaws.{decoder_rows_set_up}
 use Rattle.rs_rate.proofs.rate.rounds.decode_round.Goals as goal
 
@@ -22,13 +20,9 @@ returns-in_err-check_enough_given-clause-state g c =
 pub decode_rows-requires : goal.decode_rows-requires
 decode_rows-requires g c =
     let rows = c.args.decoder.now.rows in
-    let s = rows.shape in
-    let marks = (given_marks rows.memory.marks) in
-    let chunks = rows.memory.chunks.items in
     let least = enough-least (decoder_state g.C.Code.rate rows) (c.in_ok-check_enough_given.ensures g.C.Code.rate) in
-    let originals = count-given marks chunks s.configuration.shard_bytes s.frame.originals_from s.configuration.original_count in
-    let recovery = count-given marks chunks s.configuration.shard_bytes s.frame.recovery_from s.configuration.recovery_count in
-    omega (arith, least, originals, recovery, rows.given.originals_counted, rows.given.recovery_counted)
+    let given = rows_given g.C.Code.rate rows in
+    omega (arith, least, given.0, given.1)
 
 pub returns-clause-answer : goal.returns-clause-answer
 returns-clause-answer g c =
