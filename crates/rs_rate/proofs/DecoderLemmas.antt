@@ -1,5 +1,5 @@
 -- The shards that a decoder's rows stand for.
-use Rattle.std.proofs.Common.{◌≡◌, ◌≢◌, ℕ, zero, suc, ◌+◌, ◌<◌, ◌≤◌, List, Bool, true, false, cond, refl, sym, ap, ap₂, ◌∙◌, subst, arith, inl, inr, ◌^◌}
+use Rattle.std.proofs.Common.{◌≡◌, ◌≢◌, ℕ, zero, suc, ◌+◌, ◌<◌, ◌≤◌, List, [], Bool, true, false, cond, refl, sym, ap, ap₂, ◌∙◌, subst, arith, rules, inl, inr, ◌^◌}
 use Rattle.std.specs.Prelude.{◌≤◌, Option, Some, None, IfSome, is_some, nat_eq}
 use Rattle.std.proofs.lemmas.Nat.{pow_pos}
 use Rattle.std.proofs.lemmas.Bool.{cases_lt, cases_eq, lt-ltb, le-ltb, eq-eqb, ne_eqb}
@@ -11,6 +11,7 @@ use Rattle.rs_field.specs.code.Given.{Shards, nothing, entered, count_below}
 use Rattle.rs_field.specs.rows.Rows.{Chunks}
 use Rattle.rs_field.specs.rows.MarkedRows.{is_marked}
 use Rattle.rs_field.proofs.of_code.Given.{count_below-suc, count_below-zero}
+use Rattle.rs_field.proofs.of_code.Entries.{all_some, count-nothing, count-entered}
 use Rattle.rs_field.proofs.of_code.NextPower.{own_is_power}
 use Rattle.rs_rate.specs.Configured.{configuration_at}
 use Rattle.rs_rate.specs.Shapes.{DecoderCanBeLaid}
@@ -42,17 +43,19 @@ no_room P s laid (Some work) none = λ room.
 pub none_told : (marks : Marks) → marks.shards ≡ Restored → (p : ℕ) → is_marked (given_marks marks) p ≡ false
 none_told marks told p = ap (λ t. is_marked (if_given t marks.rows.items) p) told
 
--- the shard of an index below the count, by its row's mark
+-- the shard that a row holds, by its mark
+abbrev pub shard_of_row : List Bool → Chunks → ℕ → ℕ → Option Shard
+shard_of_row marks chunks size p = cond (is_marked marks p) (Some (shard_laid_out chunks size p)) None
+
+-- the shard of an index below the count is that of its row
 pub given_shards-in : (marks : List Bool) (chunks : Chunks) (size from n i : ℕ) → i < n
-    → given_shards marks chunks size from n i ≡ cond (is_marked marks (from + i)) (Some (shard_laid_out chunks size (from + i))) None
+    → given_shards marks chunks size from n i ≡ shard_of_row marks chunks size (from + i)
 unfolding given_shards
-given_shards-in marks chunks size from n i inside =
-    ap (λ b. cond b (cond (is_marked marks (from + i)) (Some (shard_laid_out chunks size (from + i))) None) None) (lt-ltb i n inside)
+given_shards-in marks chunks size from n i inside = rw (lt-ltb i n inside) refl
 
 pub given_shards-out : (marks : List Bool) (chunks : Chunks) (size from n i : ℕ) → n ≤ i → given_shards marks chunks size from n i ≡ None
 unfolding given_shards
-given_shards-out marks chunks size from n i outside =
-    ap (λ b. cond b (cond (is_marked marks (from + i)) (Some (shard_laid_out chunks size (from + i))) None) None) (le-ltb i n outside)
+given_shards-out marks chunks size from n i outside = rw (le-ltb i n outside) refl
 
 some_if : (b : Bool) (shard : Shard) → is_some (cond b (Some shard) None) ≡ b
 some_if true shard = refl
@@ -72,45 +75,28 @@ pub given_row_count-suc : (marks : List Bool) (from n : ℕ) → given_row_count
 unfolding given_row_count
 given_row_count-suc marks from n = refl
 
-one_at_most : (b : Bool) → cond b 1 0 ≤ 1
-one_at_most true = omega arith
-one_at_most false = omega arith
-
--- no more shards are given than there are rows
-pub given_row_count-most : (marks : List Bool) (from n : ℕ) → given_row_count marks from n ≤ n
-given_row_count-most marks from zero = (let none = given_row_count-zero marks from in omega arith)
-given_row_count-most marks from (suc n) =
-    let rest = given_row_count-most marks from n in
-    let more = given_row_count-suc marks from n in
-    let one = one_at_most (is_marked marks (from + n)) in
-    omega arith
-
 -- as many shards are given as rows are marked so
 count-below : (marks : List Bool) (chunks : Chunks) (size from m n : ℕ) → n ≤ m → count_below n (given_shards marks chunks size from m) ≡ given_row_count marks from n
 count-below marks chunks size from m zero fits = count_below-zero (given_shards marks chunks size from m) ∙ sym (given_row_count-zero marks from)
 count-below marks chunks size from m (suc n) fits =
-    count_below-suc n (given_shards marks chunks size from m)
-    ∙ ap (λ b. count_below n (given_shards marks chunks size from m) + cond b 1 0) (given-marked marks chunks size from m n (omega arith))
-    ∙ ap (λ c. c + cond (is_marked marks (from + n)) 1 0) (count-below marks chunks size from m n (omega arith))
-    ∙ sym (given_row_count-suc marks from n)
+    rw (count_below-suc n, given-marked marks chunks size from m n (omega arith), count-below marks chunks size from m n (omega arith)) (sym (given_row_count-suc marks from n))
 
 pub count-given : (marks : List Bool) (chunks : Chunks) (size from n : ℕ) → count_below n (given_shards marks chunks size from n) ≡ given_row_count marks from n
 count-given marks chunks size from n = count-below marks chunks size from n n (omega arith)
 
+-- there are at most as many shards below an index
+pub count-most : (n : ℕ) (given : Shards) → count_below n given ≤ n
+count-most zero given = omega (arith, count_below-zero given)
+count-most (suc n) given = search (rules, count_below-suc, count-most n given)
+
+-- no more shards are given than there are rows
+pub given_row_count-most : (marks : List Bool) (from n : ℕ) → given_row_count marks from n ≤ n
+given_row_count-most marks from n = omega (arith, count-most n (given_shards marks [] 0 from n), count-given marks [] 0 from n)
+
 -- as many rows as there are, or none, are marked as given: then all are, or none is
 pub all_given : (marks : List Bool) (from n : ℕ) → given_row_count marks from n ≡ n → (i : ℕ) → i < n → is_marked marks (from + i) ≡ true
-all_given marks from zero count i inside = absurd (let no : ⊥ = omega arith in no)
-all_given marks from (suc n) count i inside =
-    let most = given_row_count-most marks from n in
-    let more = given_row_count-suc marks from n in
-    elim (cases_lt i n) [
-      | inl low ↦ all_given marks from n (let one = one_at_most (is_marked marks (from + n)) in omega arith) i low
-      | inr last ↦ ap (λ j. is_marked marks (from + j)) (let here : i ≡ n = omega arith in here) ∙ by_mark (is_marked marks (from + n)) (omega arith)
-    ]
-  where
-    by_mark : (given : Bool) → 0 < cond given 1 0 → given ≡ true
-    by_mark true some = refl
-    by_mark false some = absurd (let no : ⊥ = omega arith in no)
+all_given marks from n count i inside =
+    sym (given-marked marks [] 0 from n i inside) ∙ all_some n (given_shards marks [] 0 from n) (omega (arith, count, count-given marks [] 0 from n)) i inside
 
 pub none_given : (marks : List Bool) (from n : ℕ) → given_row_count marks from n ≡ 0 → (i : ℕ) → i < n → is_marked marks (from + i) ≡ false
 none_given marks from zero count i inside = absurd (let no : ⊥ = omega arith in no)
@@ -135,10 +121,7 @@ given-nothing marks chunks size from n empty =
     ])
 
 pub given_row_count-nothing : (marks : List Bool) (from n : ℕ) → ((i : ℕ) → i < n → is_marked marks (from + i) ≡ false) → given_row_count marks from n ≡ 0
-given_row_count-nothing marks from zero empty = given_row_count-zero marks from
-given_row_count-nothing marks from (suc n) empty =
-    let rest = given_row_count-nothing marks from n (λ i h. empty i (omega arith)) in
-    given_row_count-suc marks from n ∙ ap (λ b. given_row_count marks from n + cond b 1 0) (empty n (omega arith)) ∙ (let none : given_row_count marks from n + 0 ≡ 0 = omega arith in none)
+given_row_count-nothing marks from n empty = sym (count-given marks [] 0 from n) ∙ ap (count_below n) (given-nothing marks [] 0 from n empty) ∙ count-nothing n
 
 -- rows of which none is marked hold nothing given
 pub hold_nothing : (s : DecoderShape) (marks : List Bool) (chunks : Chunks) → ((p : ℕ) → is_marked marks p ≡ false) → HoldGiven s 0 0 marks chunks
@@ -168,86 +151,50 @@ pub tally_counts : (s : DecoderShape) (tally : Tally) (marks : Marks) → tally.
     ≡ s.configuration.original_count + tally.surplus)
 tally_counts s tally marks same facts = rw (← same) (facts.missing_counted, facts.surplus_counted)
 
--- the same rows, marked in the same way, stand for the same shards
-pub given-kept : (old new : List Bool) (before after : Chunks) (size from n : ℕ) → ((i : ℕ) → i < n → is_marked new (from + i) ≡ is_marked old (from + i))
-    → ((i : ℕ) → i < n → shard_laid_out after size (from + i) ≡ shard_laid_out before size (from + i)) → given_shards new after size from n ≡ given_shards old before size from n
-given-kept old new before after size from n marks shards =
-    fun_ext (λ i. elim (cases_lt i n) [
-      | inl inside ↦
-          given_shards-in new after size from n i inside
-          ∙ ap (λ p. cond p (Some (shard_laid_out after size (from + i))) None) (marks i inside)
-          ∙ ap (λ s. cond (is_marked old (from + i)) (Some s) None) (shards i inside)
-          ∙ sym (given_shards-in old before size from n i inside)
+-- rows that hold the same shards stand for the same shards
+given-same : (old new : List Bool) (before after : Chunks) (size from n i : ℕ) → (i < n → shard_of_row new after size (from + i) ≡ shard_of_row old before size (from + i))
+    → given_shards new after size from n i ≡ given_shards old before size from n i
+given-same old new before after size from n i same =
+    elim (cases_lt i n) [
+      | inl inside ↦ given_shards-in new after size from n i inside ∙ same inside ∙ sym (given_shards-in old before size from n i inside)
       | inr outside ↦ given_shards-out new after size from n i outside ∙ sym (given_shards-out old before size from n i outside)
-    ])
+    ]
 
-pub given_row_count-kept : (old new : List Bool) (from n : ℕ) → ((i : ℕ) → i < n → is_marked new (from + i) ≡ is_marked old (from + i)) → given_row_count new from n ≡ given_row_count old from n
-given_row_count-kept old new from zero marks = given_row_count-zero new from ∙ sym (given_row_count-zero old from)
-given_row_count-kept old new from (suc n) marks =
-    given_row_count-suc new from n
-    ∙ ap (λ p. given_row_count new from n + cond p 1 0) (marks n (omega arith))
-    ∙ ap (λ c. c + cond (is_marked old (from + n)) 1 0) (given_row_count-kept old new from n (λ i h. marks i (omega arith)))
-    ∙ sym (given_row_count-suc old from n)
+pub given-kept : (old new : List Bool) (before after : Chunks) (size from n : ℕ) → ((i : ℕ) → i < n → shard_of_row new after size (from + i) ≡ shard_of_row old before size (from + i))
+    → (given_shards new after size from n ≡ given_shards old before size from n) × (given_row_count new from n ≡ given_row_count old from n)
+given-kept old new before after size from n same =
+    let kept : given_shards new after size from n ≡ given_shards old before size from n = fun_ext (λ i. given-same old new before after size from n i (same i)) in
+    (kept, sym (count-given new after size from n) ∙ ap (count_below n) kept ∙ count-given old before size from n)
 
 entered-is : (given : Shards) (index i : ℕ) (shard : Shard) → entered given index shard i ≡ cond (nat_eq i index) (Some shard) (given i)
 unfolding entered
 entered-is given index i shard = refl
 
--- one more shard, in a row that is marked
-pub given-entered : (old new : List Bool) (before after : Chunks) (size from n index : ℕ) (shard : Shard) → index < n → is_marked new (from + index) ≡ true
-    → shard_laid_out after size (from + index) ≡ shard → ((i : ℕ) → i < n → i ≢ index → is_marked new (from + i) ≡ is_marked old (from + i))
-    → ((i : ℕ) → i < n → i ≢ index → shard_laid_out after size (from + i) ≡ shard_laid_out before size (from + i))
-    → given_shards new after size from n ≡ entered (given_shards old before size from n) index shard
-given-entered old new before after size from n index shard inside marked here marks shards =
-    fun_ext (λ i. elim (cases_eq i index) [
+-- one more shard, in a row that held none
+pub given-entered : (old new : List Bool) (before after : Chunks) (size from n index : ℕ) (shard : Shard) → index < n → is_marked old (from + index) ≡ false
+    → shard_of_row new after size (from + index) ≡ Some shard → ((i : ℕ) → i ≢ index → shard_of_row new after size (from + i) ≡ shard_of_row old before size (from + i))
+    → (given_shards new after size from n ≡ entered (given_shards old before size from n) index shard) × (given_row_count new from n ≡ given_row_count old from n + 1)
+given-entered old new before after size from n index shard inside free here others =
+    let own : ℕ → Option Shard = given_shards old before size from n in
+    let more : given_shards new after size from n ≡ entered (given_shards old before size from n) index shard = fun_ext (λ i. elim (cases_eq i index) [
       | inl same ↦
-          ap (given_shards new after size from n) same ∙ given_shards-in new after size from n index inside
-          ∙ ap (λ p. cond p (Some (shard_laid_out after size (from + index))) None) marked ∙ ap Some here
-          ∙ sym (ap (λ b. cond b (Some shard) (given_shards old before size from n i)) (eq-eqb i index same)) ∙ sym (entered-is (given_shards old before size from n) index i shard)
-      | inr apart ↦
-          elim (cases_lt i n) [
-            | inl within ↦
-                given_shards-in new after size from n i within
-                ∙ ap (λ p. cond p (Some (shard_laid_out after size (from + i))) None) (marks i within apart)
-                ∙ ap (λ s. cond (is_marked old (from + i)) (Some s) None) (shards i within apart)
-                ∙ sym (given_shards-in old before size from n i within)
-            | inr outside ↦ given_shards-out new after size from n i outside ∙ sym (given_shards-out old before size from n i outside)
-          ]
-          ∙ sym (ap (λ b. cond b (Some shard) (given_shards old before size from n i)) (ne_eqb i index apart)) ∙ sym (entered-is (given_shards old before size from n) index i shard)
-    ])
+          ap (given_shards new after size from n) same ∙ given_shards-in new after size from n index inside ∙ here ∙ sym (rw (entered-is own index i shard, eq-eqb i index same) refl)
+      | inr apart ↦ given-same old new before after size from n i (λ _. others i apart) ∙ sym (rw (entered-is own index i shard, ne_eqb i index apart) refl)
+    ]) in (
+      more,
+      sym (count-given new after size from n) ∙ ap (count_below n) more
+          ∙ count-entered n own index shard inside (given_shards-in old before size from n index inside ∙ rw free refl) ∙ ap (λ m. m + 1) (count-given old before size from n),
+    )
 
-pub given_row_count-more : (old new : List Bool) (from n index : ℕ) → index < n → is_marked new (from + index) ≡ true → is_marked old (from + index) ≡ false
-    → ((i : ℕ) → i < n → i ≢ index → is_marked new (from + i) ≡ is_marked old (from + i)) → given_row_count new from n ≡ given_row_count old from n + 1
-given_row_count-more old new from zero index inside marked before marks = absurd (let no : ⊥ = omega arith in no)
-given_row_count-more old new from (suc n) index inside marked before marks =
-    elim (cases_eq index n) [
-      | inl last ↦
-          let kept = given_row_count-kept old new from n (λ i h. marks i (omega arith) (let apart : i ≢ index = omega arith in apart)) in
-          let here : ◌≡◌ {A = ℕ} (cond (is_marked new (from + n)) 1 0) 1 = ap (λ j. cond (is_marked new (from + j)) 1 0) (sym last) ∙ ap (λ p. cond p 1 0) marked in
-          let there : ◌≡◌ {A = ℕ} (cond (is_marked old (from + n)) 1 0) 0 = ap (λ j. cond (is_marked old (from + j)) 1 0) (sym last) ∙ ap (λ b. cond b 1 0) before in
-          omega (arith, kept, here, there, given_row_count-suc new from n, given_row_count-suc old from n)
-      | inr earlier ↦
-          let more = given_row_count-more old new from n index (omega arith) marked before (λ i h. marks i (omega arith)) in
-          let same : ◌≡◌ {A = ℕ} (cond (is_marked new (from + n)) 1 0) (cond (is_marked old (from + n)) 1 0) = ap (λ p. cond p 1 0) (marks n (omega arith) (let apart : n ≢ index = omega arith in apart)) in
-          omega (arith, more, same, given_row_count-suc new from n, given_row_count-suc old from n)
-    ]
-
--- the original of an index below the count that was restored
-restored-in : (marks : List Bool) (chunks : Chunks) (size from n i : ℕ) → i < n
-    → restored_shards marks chunks size from n i ≡ cond (is_marked marks (from + i)) (Some (shard_in_order chunks size (from + i))) None
-unfolding restored_shards
-restored-in marks chunks size from n i inside =
-    ap (λ b. cond b (cond (is_marked marks (from + i)) (Some (shard_in_order chunks size (from + i))) None) None) (lt-ltb i n inside)
-
+-- the original of an index that was restored
 pub restored-out : (marks : List Bool) (chunks : Chunks) (size from n i : ℕ) → n ≤ i → restored_shards marks chunks size from n i ≡ None
 unfolding restored_shards
-restored-out marks chunks size from n i outside =
-    ap (λ b. cond b (cond (is_marked marks (from + i)) (Some (shard_in_order chunks size (from + i))) None) None) (le-ltb i n outside)
+restored-out marks chunks size from n i outside = rw (le-ltb i n outside) refl
 
 pub restored-marked : (marks : List Bool) (chunks : Chunks) (size from n i : ℕ) (b : Bool) → i < n → is_marked marks (from + i) ≡ b
     → restored_shards marks chunks size from n i ≡ cond b (Some (shard_in_order chunks size (from + i))) None
-restored-marked marks chunks size from n i b inside mark =
-    restored-in marks chunks size from n i inside ∙ ap (λ t. cond t (Some (shard_in_order chunks size (from + i))) None) mark
+unfolding restored_shards
+restored-marked marks chunks size from n i b inside mark = rw (lt-ltb i n inside, mark) refl
 
 -- a decoder in whose rows no shard is marked as given is a fresh one
 pub nothing-given : (rate : Rate) (s : DecoderShape) (marks : List Bool) (chunks : Chunks) → ((p : ℕ) → is_marked marks p ≡ false)

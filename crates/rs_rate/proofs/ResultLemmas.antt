@@ -6,7 +6,7 @@ use Rattle.std.proofs.lemmas.List.{length-drop, drop_all}
 use Rattle.std.specs.Borrow.{Bor}
 use Rattle.std.specs.Prelude.{Option, Some, None, is_some, not, option_copied}
 use Rattle.rs_field.specs.code.Column.{Shard}
-use Rattle.rs_field.specs.code.Given.{Shards, Lists, listed, listed_from, count_below}
+use Rattle.rs_field.specs.code.Given.{Lists, listed, listed_from, count_below}
 use Rattle.rs_field.specs.rows.Rows.{Chunks}
 use Rattle.rs_field.specs.rows.MarkedRows.{is_marked}
 use Rattle.rs_field.proofs.of_code.Given.{count_below-zero, count_below-suc}
@@ -18,7 +18,7 @@ use Rattle.rs_rate.specs.DecoderView.{restored_of, restored_from}
 use Rattle.rs_rate.specs.EncoderView.{lent_of}
 use Rattle.rs_rate.specs.Marks.{restored_marks, given_row_count, restored_shards}
 use Rattle.rs_rate.specs.ShardRows.{shard_in_order}
-use Rattle.rs_rate.proofs.DecoderLemmas.{given_row_count-zero, given_row_count-suc, restored-out, restored-marked}
+use Rattle.rs_rate.proofs.DecoderLemmas.{given_row_count-zero, given_row_count-suc, count-most, restored-out, restored-marked}
 use Rattle.rs_rate.proofs.ShardRowsLemmas.{count-few}
 
 -- the recovery shards from an index on
@@ -91,15 +91,6 @@ pub length-restored : (old new : List Bool) (chunks : Chunks) (size from n : ℕ
 length-restored old new chunks size from n marked =
     let counted = length-listed n (restored_shards new chunks size from n) in
     omega (arith, counted, count-restored old new chunks size from n n (omega arith) marked)
-
--- there are at most as many shards below an index
-count-most : (n : ℕ) (given : Shards) → count_below n given ≤ n
-count-most zero given = let none = count_below-zero given in omega (arith, none)
-count-most (suc n) given = let more = count_below-suc n given in omega (arith, count-most n given, at_most_one (is_some (given n)), more)
-  where
-    at_most_one : (b : Bool) → cond b 1 0 ≤ 1
-    at_most_one true = let le : 1 ≤ 1 = omega arith in le
-    at_most_one false = let le : 0 ≤ 1 = omega arith in le
 
 -- no more originals are restored than rows can be
 pub restored-few : (rows : DecoderRows) → length (restored_from rows 0) < 2 ^ 64

@@ -1,6 +1,6 @@
 -- A shard of either side that is added to a decoder's rows: the outcomes by the tests, and what the rows stand for then.
-use Rattle.std.proofs.Common.{◌≡◌, ◌≢◌, ℕ, ◌+◌, ◌<◌, ◌≤◌, ◌⊎◌, List, Bool, true, false, length, refl, sym, ap, ap₂, subst, ◌∙◌, arith, inl, inr}
-use Rattle.std.specs.Prelude.{Ok, Err, is_some}
+use Rattle.std.proofs.Common.{◌≡◌, ◌≢◌, ℕ, ◌+◌, ◌<◌, ◌≤◌, ◌⊎◌, List, Bool, true, false, length, refl, sym, ap, ap₂, ◌∙◌, arith, inl, inr}
+use Rattle.std.specs.Prelude.{Ok, Err, Some, is_some}
 use Rattle.std.proofs.lemmas.Bool.{lt-leb, eq-eqb, ne_eqb}
 use Rattle.rs_field.specs.declared.code.error.Error.TheVariants.{DifferentShardSize}
 use Rattle.rs_field.specs.code.Column.{Shard}
@@ -14,9 +14,8 @@ use Rattle.rs_rate.specs.declared.rate.side.Side.TheVariants.{Original, Recovery
 use Rattle.rs_rate.specs.Configured.{configuration_at}
 use Rattle.rs_rate.specs.DecoderView.{decoder_state, state_over}
 use Rattle.rs_rate.specs.Marks.{given_marks, given_row_count, given_shards}
-use Rattle.rs_rate.specs.ShardRows.{shard_laid_out}
 use Rattle.rs_rate.specs.Sides.{side_count, side_from, side_row, side_originals, side_recovery, repeat_refused, with_given}
-use Rattle.rs_rate.proofs.DecoderLemmas.{given-marked, given-kept, given-entered, given_row_count-kept, given_row_count-more}
+use Rattle.rs_rate.proofs.DecoderLemmas.{shard_of_row, given-marked, given-kept, given-entered}
 
 -- the other side
 abbrev other : Side → Side
@@ -29,10 +28,10 @@ side-within w Original = w.laid.places.originals
 side-within w Recovery = w.laid.places.recovery
 
 -- an index of a side tells whether its row is marked
-given-at : (rate : Rate) (w : DecoderRows) (side : Side) (index row : ℕ) (given : Bool) → row ≡ side_row side w.shape index → index < side_count side w.shape
+given-at : (w : DecoderRows) (side : Side) (index row : ℕ) (given : Bool) → row ≡ side_row side w.shape index → index < side_count side w.shape
     → is_marked (given_marks w.memory.marks) row ≡ given
     → is_some (given_shards (given_marks w.memory.marks) w.memory.chunks.items w.shape.configuration.shard_bytes (side_from side w.shape) (side_count side w.shape) index) ≡ given
-given-at rate w side index row given at inside is =
+given-at w side index row given at inside is =
     given-marked (given_marks w.memory.marks) w.memory.chunks.items w.shape.configuration.shard_bytes (side_from side w.shape) (side_count side w.shape) index inside
     ∙ ap (λ (p : ℕ). is_marked (given_marks w.memory.marks) p) (sym at) ∙ is
 
@@ -40,17 +39,17 @@ given-at rate w side index row given at inside is =
 pub add-repeated : (rate : Rate) (w : DecoderRows) (side : Side) (index row : ℕ) (shard : Shard) → row ≡ side_row side w.shape index → index < side_count side w.shape
     → is_marked (given_marks w.memory.marks) row ≡ true → with_given side (decoder_state rate w) index shard ≡ Err (repeat_refused side index)
 add-repeated rate w Original index row shard at inside given =
-    rw (lt-leb w.shape.configuration.original_count index inside, given-at rate w Original index row true at inside given) refl
+    rw (lt-leb w.shape.configuration.original_count index inside, given-at w Original index row true at inside given) refl
 add-repeated rate w Recovery index row shard at inside given =
-    rw (lt-leb w.shape.configuration.recovery_count index inside, given-at rate w Recovery index row true at inside given) refl
+    rw (lt-leb w.shape.configuration.recovery_count index inside, given-at w Recovery index row true at inside given) refl
 
 pub add-sized : (rate : Rate) (w : DecoderRows) (side : Side) (index row : ℕ) (shard : Shard) → row ≡ side_row side w.shape index → index < side_count side w.shape
     → is_marked (given_marks w.memory.marks) row ≡ false → length shard ≢ w.shape.configuration.shard_bytes
     → with_given side (decoder_state rate w) index shard ≡ Err (DifferentShardSize w.shape.configuration.shard_bytes (length shard))
 add-sized rate w Original index row shard at inside free other =
-    rw (lt-leb w.shape.configuration.original_count index inside, given-at rate w Original index row false at inside free, ne_eqb (length shard) w.shape.configuration.shard_bytes other) refl
+    rw (lt-leb w.shape.configuration.original_count index inside, given-at w Original index row false at inside free, ne_eqb (length shard) w.shape.configuration.shard_bytes other) refl
 add-sized rate w Recovery index row shard at inside free other =
-    rw (lt-leb w.shape.configuration.recovery_count index inside, given-at rate w Recovery index row false at inside free, ne_eqb (length shard) w.shape.configuration.shard_bytes other) refl
+    rw (lt-leb w.shape.configuration.recovery_count index inside, given-at w Recovery index row false at inside free, ne_eqb (length shard) w.shape.configuration.shard_bytes other) refl
 
 -- a shard of the size was entered in a free row of a side, and no other row was changed
 pub record RowEntered (w : DecoderRows) (side : Side) (index row : ℕ) (shard : Shard) (marks : List Bool) (chunks : Chunks) : Type 0 where
@@ -58,32 +57,10 @@ pub record RowEntered (w : DecoderRows) (side : Side) (index row : ℕ) (shard :
   pub inside : index < side_count side w.shape
   pub free : is_marked (given_marks w.memory.marks) row ≡ false
   pub size : length shard ≡ w.shape.configuration.shard_bytes
-  pub marked : is_marked marks row ≡ true
-  pub here : shard_laid_out chunks w.shape.configuration.shard_bytes row ≡ shard
-  pub other_marks : (p : ℕ) → p ≢ row → is_marked marks p ≡ is_marked (given_marks w.memory.marks) p
-  pub others : (p : ℕ) → p ≢ row → shard_laid_out chunks w.shape.configuration.shard_bytes p ≡ shard_laid_out w.memory.chunks.items w.shape.configuration.shard_bytes p
+  pub here : shard_of_row marks chunks w.shape.configuration.shard_bytes row ≡ Some shard
+  pub others : (p : ℕ) → p ≢ row → shard_of_row marks chunks w.shape.configuration.shard_bytes p ≡ shard_of_row (given_marks w.memory.marks) w.memory.chunks.items w.shape.configuration.shard_bytes p
 
-pub row_entered : (w : DecoderRows) (side : Side) (index row count : ℕ) (shard : Shard) (marks : List Bool) (chunks : Chunks) → row ≡ side_row side w.shape index → count ≡ side_count side w.shape
-    → index < count → is_marked (given_marks w.memory.marks) row ≡ false → length shard ≡ w.shape.configuration.shard_bytes
-    → is_marked marks row ≡ true → shard_laid_out chunks (length shard) row ≡ shard
-    → ((p : ℕ) → p ≢ row → is_marked marks p ≡ is_marked (given_marks w.memory.marks) p)
-    → ((p : ℕ) → p ≢ row → shard_laid_out chunks (length shard) p ≡ shard_laid_out w.memory.chunks.items (length shard) p)
-    → RowEntered w side index row shard marks chunks
-row_entered w side index row count shard marks chunks at count_is inside free size marked here other_marks others = record {
-  at = at;
-  inside = omega (arith, inside, count_is);
-  free = free;
-  size = size;
-  marked = marked;
-  here = subst (λ (n : ℕ). shard_laid_out chunks n row ≡ shard) size here;
-  other_marks = other_marks;
-  others = subst (λ (n : ℕ). (p : ℕ) → p ≢ row → shard_laid_out chunks n p ≡ shard_laid_out w.memory.chunks.items n p) size others;
-}
-
--- another index of the side has another row, and so has each of the other side
-own-apart : (from index i row : ℕ) → row ≡ from + index → i ≢ index → from + i ≢ row
-own-apart from index i row at apart = omega (arith, at, apart)
-
+-- each index of the other side has another row
 other-apart : (w : DecoderRows) (side : Side) (index i row : ℕ) → row ≡ side_row side w.shape index → index < side_count side w.shape → i < side_count (other side) w.shape
     → side_from (other side) w.shape + i ≢ row
 other-apart w Original index i row at inside within same = w.laid.places.apart index i inside within (sym (same ∙ at))
@@ -96,13 +73,8 @@ own-entered : (w : DecoderRows) (side : Side) (index row : ℕ) (shard : Shard) 
     × (given_row_count marks from n ≡ given_row_count (given_marks w.memory.marks) from n + 1)
 own-entered w side index row shard marks chunks e =
     let from = side_from side w.shape in
-    let n = side_count side w.shape in
-    let marked = ap (λ (p : ℕ). is_marked marks p) (sym e.at) ∙ e.marked in
-    let same = λ (i : ℕ) (inside : i < n) (apart : i ≢ index). e.other_marks (from + i) (own-apart from index i row e.at apart) in (
-      given-entered (given_marks w.memory.marks) marks w.memory.chunks.items chunks w.shape.configuration.shard_bytes from n index shard e.inside marked
-          (ap (λ (p : ℕ). shard_laid_out chunks w.shape.configuration.shard_bytes p) (sym e.at) ∙ e.here) same (λ i inside apart. e.others (from + i) (own-apart from index i row e.at apart)),
-      given_row_count-more (given_marks w.memory.marks) marks from n index e.inside marked (ap (λ (p : ℕ). is_marked (given_marks w.memory.marks) p) (sym e.at) ∙ e.free) same,
-    )
+    given-entered (given_marks w.memory.marks) marks w.memory.chunks.items chunks w.shape.configuration.shard_bytes from (side_count side w.shape) index shard e.inside
+    (rw e.at at e.free) (rw e.at at e.here) (λ i apart. e.others (from + i) (omega (arith, e.at, apart)))
 
 -- and the other side has the same
 other-kept : (w : DecoderRows) (side : Side) (index row : ℕ) (shard : Shard) (marks : List Bool) (chunks : Chunks) → RowEntered w side index row shard marks chunks
@@ -111,22 +83,18 @@ other-kept : (w : DecoderRows) (side : Side) (index row : ℕ) (shard : Shard) (
     × (given_row_count marks from n ≡ given_row_count (given_marks w.memory.marks) from n)
 other-kept w side index row shard marks chunks e =
     let from = side_from (other side) w.shape in
-    let n = side_count (other side) w.shape in
-    let same = λ (i : ℕ) (within : i < side_count (other side) w.shape). e.other_marks (side_from (other side) w.shape + i) (other-apart w side index i row e.at e.inside within) in (
-      given-kept (given_marks w.memory.marks) marks w.memory.chunks.items chunks w.shape.configuration.shard_bytes from n same
-          (λ i within. e.others (from + i) (other-apart w side index i row e.at e.inside within)),
-      given_row_count-kept (given_marks w.memory.marks) marks from n same,
-    )
+    given-kept (given_marks w.memory.marks) marks w.memory.chunks.items chunks w.shape.configuration.shard_bytes from (side_count (other side) w.shape)
+    (λ i within. e.others (from + i) (other-apart w side index i row e.at e.inside within))
 
 -- the outcome is the state of the rows then
 pub add-entered : (rate : Rate) (w : DecoderRows) (side : Side) (index row : ℕ) (shard : Shard) (marks : List Bool) (chunks : Chunks) → RowEntered w side index row shard marks chunks
     → with_given side (decoder_state rate w) index shard ≡ Ok (state_over rate w.shape marks chunks)
 add-entered rate w Original index row shard marks chunks e =
-    rw (lt-leb w.shape.configuration.original_count index e.inside, given-at rate w Original index row false e.at e.inside e.free, eq-eqb (length shard) w.shape.configuration.shard_bytes e.size)
+    rw (lt-leb w.shape.configuration.original_count index e.inside, given-at w Original index row false e.at e.inside e.free, eq-eqb (length shard) w.shape.configuration.shard_bytes e.size)
     (ap₂ (λ (o r : Shards). Ok (record { configuration = configuration_at rate w.shape.configuration; originals = o; recovery = r }))
     (sym ((own-entered w Original index row shard marks chunks e).0)) (sym ((other-kept w Original index row shard marks chunks e).0)))
 add-entered rate w Recovery index row shard marks chunks e =
-    rw (lt-leb w.shape.configuration.recovery_count index e.inside, given-at rate w Recovery index row false e.at e.inside e.free, eq-eqb (length shard) w.shape.configuration.shard_bytes e.size)
+    rw (lt-leb w.shape.configuration.recovery_count index e.inside, given-at w Recovery index row false e.at e.inside e.free, eq-eqb (length shard) w.shape.configuration.shard_bytes e.size)
     (ap₂ (λ (o r : Shards). Ok (record { configuration = configuration_at rate w.shape.configuration; originals = o; recovery = r }))
     (sym ((other-kept w Recovery index row shard marks chunks e).0)) (sym ((own-entered w Recovery index row shard marks chunks e).0)))
 

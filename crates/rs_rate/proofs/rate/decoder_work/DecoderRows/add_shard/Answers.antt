@@ -1,4 +1,4 @@
-use Rattle.std.proofs.Common.{◌+◌, length, sym, ap, subst, ◌∙◌, arith}
+use Rattle.std.proofs.Common.{◌+◌, length, refl, sym, ap, subst, ◌∙◌, arith}
 use Rattle.std.specs.Prelude.{Err}
 use Rattle.rs_field.specs.code.Outcome.{answer_of, state_after}
 use Rattle.rs_rate.specs.ShardRows.{chunk_count}
@@ -6,9 +6,21 @@ use Rattle.rs_rate.specs.DecoderRoom.{DecoderRoom, HasRoom}
 use Rattle.rs_rate.specs.DecoderView.{decoder_state}
 use Rattle.rs_rate.proofs.ShardRowsLemmas.{chunk_count-within, shard-entered}
 use Rattle.rs_rate.proofs.DecoderLemmas.{given_row_count-most}
-use Rattle.rs_rate.proofs.SideRows.{row_entered, side-within, add-repeated, add-sized, add-entered, add-counted, outside-apart}
+use Rattle.rs_rate.proofs.SideRows.{RowEntered, side-within, add-repeated, add-sized, add-entered, add-counted, outside-apart}
 use Rattle.rs_rate.specs.Marks.{given_marks}
 use Rattle.rs_rate.proofs.rate.decoder_work.DecoderRows.add_shard.Goals as goal
+use Rattle.rs_rate.proofs.rate.decoder_work.DecoderRows.add_shard.Goals.{After-enter}
+
+-- the shard was entered in its row
+entered : (c : After-enter) → RowEntered c.args.self.now c.args.side c.args.index c.row-row.result c.args.shard.now (given_marks c.enter.new.self.marks) c.enter.new.self.chunks.items
+entered c = record {
+  at = c.row-row.ensures;
+  inside = omega (arith, c.if-index-count.false, c.count.ensures);
+  free = sym c.is_given.ensures ∙ c.if-is_given.false;
+  size = c.if-shard-self.false;
+  here = rw (c.enter.ensures.mark, ← c.if-shard-self.false, c.enter.ensures.here) refl;
+  others = λ p apart. rw (c.enter.ensures.other_marks p apart, ← c.if-shard-self.false, c.enter.ensures.others p apart) refl;
+}
 
 pub returns-then-is_given-clause-answer : goal.returns-then-is_given-clause-answer
 returns-then-is_given-clause-answer c = λ rate.
@@ -40,48 +52,38 @@ enter-requires-clause-room c =
 pub overflow_add-self : goal.overflow_add-self
 overflow_add-self c =
     let w = c.args.self.now in
-    let e =
-    row_entered w c.args.side c.args.index c.row-row.result c.count.result c.args.shard.now (given_marks c.enter.new.self.marks) c.enter.new.self.chunks.items c.row-row.ensures c.count.ensures
-    c.if-index-count.false (sym c.is_given.ensures ∙ c.if-is_given.false) c.if-shard-self.false c.enter.ensures.mark c.enter.ensures.here c.enter.ensures.other_marks c.enter.ensures.others in
-    let counted = (add-counted w c.args.side c.args.index c.row-row.result c.args.shard.now (given_marks c.enter.new.self.marks) c.enter.new.self.chunks.items e).0 in
+    let e = entered (goal.at.overflow_add-self c).After-enter in
+    let counted = (add-counted w _ _ _ _ _ _ e).0 in
     let most = given_row_count-most (given_marks c.enter.new.self.marks) w.shape.frame.originals_from w.shape.configuration.original_count in
     omega (arith, counted, most, c.originals.ensures, w.laid.places.originals, w.laid.places.few)
 
 pub overflow_add-self-2 : goal.overflow_add-self-2
 overflow_add-self-2 c =
     let w = c.args.self.now in
-    let e =
-    row_entered w c.args.side c.args.index c.row-row.result c.count.result c.args.shard.now (given_marks c.enter.new.self.marks) c.enter.new.self.chunks.items c.row-row.ensures c.count.ensures
-    c.if-index-count.false (sym c.is_given.ensures ∙ c.if-is_given.false) c.if-shard-self.false c.enter.ensures.mark c.enter.ensures.here c.enter.ensures.other_marks c.enter.ensures.others in
-    let counted = (add-counted w c.args.side c.args.index c.row-row.result c.args.shard.now (given_marks c.enter.new.self.marks) c.enter.new.self.chunks.items e).1 in
+    let e = entered (goal.at.overflow_add-self-2 c).After-enter in
+    let counted = (add-counted w _ _ _ _ _ _ e).1 in
     let most = given_row_count-most (given_marks c.enter.new.self.marks) w.shape.frame.recovery_from w.shape.configuration.recovery_count in
     omega (arith, counted, most, c.recovery.ensures, w.laid.places.recovery, w.laid.places.few)
 
 pub returns-clause-answer : goal.returns-clause-answer
 returns-clause-answer c = λ rate.
     let w = c.args.self.now in
-    let e =
-    row_entered w c.args.side c.args.index c.row-row.result c.count.result c.args.shard.now (given_marks c.enter.new.self.marks) c.enter.new.self.chunks.items c.row-row.ensures c.count.ensures
-    c.if-index-count.false (sym c.is_given.ensures ∙ c.if-is_given.false) c.if-shard-self.false c.enter.ensures.mark c.enter.ensures.here c.enter.ensures.other_marks c.enter.ensures.others in
-    sym (ap answer_of (add-entered rate w c.args.side c.args.index c.row-row.result c.args.shard.now (given_marks c.enter.new.self.marks) c.enter.new.self.chunks.items e))
+    let e = entered (goal.at.returns-clause-answer c).After-enter in
+    sym (ap answer_of (add-entered rate w _ _ _ _ _ _ e))
 
 pub returns-clause-left : goal.returns-clause-left
 returns-clause-left c = λ rate.
     let w = c.args.self.now in
-    let e =
-    row_entered w c.args.side c.args.index c.row-row.result c.count.result c.args.shard.now (given_marks c.enter.new.self.marks) c.enter.new.self.chunks.items c.row-row.ensures c.count.ensures
-    c.if-index-count.false (sym c.is_given.ensures ∙ c.if-is_given.false) c.if-shard-self.false c.enter.ensures.mark c.enter.ensures.here c.enter.ensures.other_marks c.enter.ensures.others in
-    sym (ap (state_after (decoder_state rate w)) (add-entered rate w c.args.side c.args.index c.row-row.result c.args.shard.now (given_marks c.enter.new.self.marks) c.enter.new.self.chunks.items e))
+    let e = entered (goal.at.returns-clause-left c).After-enter in
+    sym (ap (state_after (decoder_state rate w)) (add-entered rate w _ _ _ _ _ _ e))
 
 pub invariant_of-self : goal.invariant_of-self
 invariant_of-self c =
     let w = c.args.self.now in
     let row = c.row-row.result in
     let lengths = c.enter.ensures.lengths in
-    let e =
-    row_entered w c.args.side c.args.index c.row-row.result c.count.result c.args.shard.now (given_marks c.enter.new.self.marks) c.enter.new.self.chunks.items c.row-row.ensures c.count.ensures
-    c.if-index-count.false (sym c.is_given.ensures ∙ c.if-is_given.false) c.if-shard-self.false c.enter.ensures.mark c.enter.ensures.here c.enter.ensures.other_marks c.enter.ensures.others in
-    let counted = add-counted w c.args.side c.args.index c.row-row.result c.args.shard.now (given_marks c.enter.new.self.marks) c.enter.new.self.chunks.items e in
+    let e = entered (goal.at.invariant_of-self c).After-enter in
+    let counted = add-counted w _ _ _ _ _ _ e in
     record {
       laid = w.laid;
       laid_out = record {
