@@ -1,7 +1,8 @@
-use Rattle.std.proofs.Common.{◌≡◌, ℕ, ◌+◌, min, sym, ap₂, ◌∙◌}
-use Rattle.std.specs.Prelude.{nat_le}
-use Rattle.rs_field.specs.code.Counts.{is_low, default_rate}
-use Rattle.rs_rate.proofs.ChoiceLemmas.{choice-made, choice-outside, default_supported, default_block, low_where_less, low_where_equal, low_where_more}
+use Rattle.std.proofs.Common.{◌≡◌, ℕ, ◌==◌, refl, ◌∙◌, arith}
+use Rattle.std.specs.Prelude.{nat_lt, ◌&&◌, ◌||◌}
+use Rattle.std.proofs.lemmas.Bool.{lt-ltb, le-ltb, eq-eqb, ne_eqb}
+use Rattle.rs_field.specs.code.Counts.{default_rate}
+use Rattle.rs_rate.proofs.ChoiceLemmas.{default-fits, choice-outside}
 use Rattle.rs_rate.proofs.rate.counts.default_choice.Goals.{then-original_power-recovery_power, else-original_power-recovery_power+then-original_power-recovery_power-2, else-original_power-recovery_power+else-original_power-recovery_power-2}
 use Rattle.rs_rate.proofs.rate.counts.default_choice.Goals as goal
 
@@ -14,14 +15,15 @@ returns c =
     let k = c.args.original_count in
     let r = c.args.recovery_count in
     let inside = c.are_in_field.ensures.0 c.if-not-are_in_field.false in
-    let p = c.power_of_two-original_power.ensures.value in
-    let q = c.power_of_two-recovery_power.ensures.value in
-    let block = c.min-block_rows.ensures ∙ ap₂ min p q in
-    let low : c.if-original_power-recovery_power.is_low ≡ is_low default_rate k r = elim c.if-original_power-recovery_power.branch [
-      | then-original_power-recovery_power w ↦ w.is_low-is ∙ low_where_less k r _ _ p q w.if-original_power-recovery_power.true
-      | else-original_power-recovery_power+then-original_power-recovery_power-2 w ↦ w.is_low-is ∙ low_where_equal k r _ _ p q w.if-original_power-recovery_power-2.true
-      | else-original_power-recovery_power+else-original_power-recovery_power-2 w ↦ w.is_low-is ∙ low_where_more k r _ _ p q w.if-original_power-recovery_power.false w.if-original_power-recovery_power-2.false
+    let p : ℕ = c.power_of_two-original_power.result in
+    let q : ℕ = c.power_of_two-recovery_power.result in
+    let low : c.if-original_power-recovery_power.is_low ≡ (nat_lt p q || (p == q && nat_lt r k)) = elim c.if-original_power-recovery_power.branch [
+      | then-original_power-recovery_power w ↦ w.is_low-is ∙ rw (lt-ltb p q w.if-original_power-recovery_power.true) refl
+      | else-original_power-recovery_power+then-original_power-recovery_power-2 w ↦
+          let equal = w.if-original_power-recovery_power-2.true in w.is_low-is ∙ rw (le-ltb p q (omega (arith, equal)), eq-eqb p q equal) refl
+      | else-original_power-recovery_power+else-original_power-recovery_power-2 w ↦
+          w.is_low-is ∙ rw (le-ltb p q w.if-original_power-recovery_power.false, ne_eqb p q w.if-original_power-recovery_power-2.false) refl
     ] in
     c.fitting.ensures
-    ∙ choice-made default_rate k r (nat_le (c.min-block_rows.result + c.max.result) 65536) c.if-original_power-recovery_power.is_low c.min-block_rows.result
-    (default_supported k r inside.0 inside.2 ∙ sym (ap₂ (λ (m n : ℕ). nat_le (m + n) 65536) block c.max.ensures)) (sym low) (default_block k r ∙ sym block)
+    ∙ default-fits k r p q _ _ _ inside.0 inside.2 c.power_of_two-original_power.ensures.value c.power_of_two-recovery_power.ensures.value
+    low c.min-block_rows.ensures c.max.ensures

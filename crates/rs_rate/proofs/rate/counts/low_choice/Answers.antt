@@ -1,8 +1,6 @@
-use Rattle.std.proofs.Common.{ℕ, ◌+◌, sym, ap, ◌∙◌, true}
-use Rattle.std.specs.Prelude.{nat_le}
+use Rattle.std.proofs.Common.{◌∙◌, true}
 use Rattle.rs_field.specs.code.Counts.{low_rate}
-use Rattle.rs_rate.proofs.ChoiceLemmas.{choice-made, choice-outside, low_supported-by}
-use Rattle.rs_rate.proofs.RateLemmas.{low_is, low_block}
+use Rattle.rs_rate.proofs.ChoiceLemmas.{choice-fits, choice-outside}
 use Rattle.rs_rate.proofs.rate.counts.low_choice.Goals as goal
 
 pub returns-then-not-are_in_field : goal.returns-then-not-are_in_field
@@ -11,10 +9,5 @@ returns-then-not-are_in_field c =
 
 pub returns : goal.returns
 returns c =
-    let k = c.args.original_count in
-    let r = c.args.recovery_count in
     let inside = c.are_in_field.ensures.0 c.if-not-are_in_field.false in
-    let power = sym c.power_of_two.ensures.value in
-    c.fitting.ensures
-    ∙ choice-made low_rate k r (nat_le (c.power_of_two.result + c.args.recovery_count) 65536) true c.power_of_two.result
-    (low_supported-by k r inside.0 inside.2 ∙ ap (λ (m : ℕ). nat_le (m + c.args.recovery_count) 65536) power) (low_is k r) (low_block k r ∙ power)
+    c.fitting.ensures ∙ choice-fits true c.args.original_count c.args.recovery_count c.power_of_two.result inside.0 inside.2 c.power_of_two.ensures.value
