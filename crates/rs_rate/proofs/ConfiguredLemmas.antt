@@ -4,10 +4,10 @@ use Rattle.std.specs.Prelude.{cond, Result, Ok, Err, OnOk, OnErr}
 use Rattle.std.proofs.lemmas.Nat.{pow_pos}
 use Rattle.rs_field.specs.declared.code.error.Error.{Error}
 use Rattle.rs_field.specs.code.Configuration.{Configuration as AsDefined, configuration, validated, started}
-use Rattle.rs_field.specs.code.Counts.{Rate, next_power, supports, is_low, low_rate, high_rate}
-use Rattle.rs_field.specs.code.Placement.{block_rows, encoder_rows, rounded_up}
+use Rattle.rs_field.specs.code.Counts.{Rate, next_power, supports, is_low, low_rate}
+use Rattle.rs_field.specs.code.Placement.{encoder_rows, rounded_up}
 use Rattle.rs_field.proofs.of_code.NextPower.{next_power-small, power_is_own}
-use Rattle.rs_field.proofs.of_code.SupportedCounts.{low_fits, high_fits}
+use Rattle.rs_field.proofs.of_code.SupportedCounts.{low_fits}
 use Rattle.rs_rate.specs.declared.rate.configuration.Configuration.{Configuration}
 use Rattle.rs_rate.specs.declared.rate.decoder_work.Frame.{Frame}
 use Rattle.rs_rate.specs.declared.rate.decoder_work.DecoderShape.{DecoderShape}
@@ -17,25 +17,10 @@ use Rattle.rs_rate.specs.ShardRows.{asked, chunk_count}
 use Rattle.rs_rate.specs.SetUp.{IsSetUp, rows_of}
 use Rattle.rs_rate.specs.Shapes.{EncoderCanBeLaid, DecoderCanBeLaid, HasPlaces}
 use Rattle.rs_rate.proofs.DecoderRows.{low_frame-is}
-use Rattle.rs_rate.proofs.HighCounts.{high_rows, high_small, low_rows-fit, high_rows-fit}
-use Rattle.rs_rate.proofs.PowerLemmas.{low_small, rounded_up-low}
+use Rattle.rs_rate.proofs.HighCounts.{high_turned, rows-fit}
+use Rattle.rs_rate.proofs.PowerLemmas.{low_small, rounded_up-by}
 use Rattle.rs_rate.proofs.StateLemmas.{started-by}
-use Rattle.rs_rate.proofs.RateLemmas.{chosen_low, chosen_high, low_is, high_is, low_block, high_block, block_alike, frame_alike, high_frame-is}
-
--- the low or high rate that a rate is at counts chooses as it does, and supports them
-pub chooses_alike : (rate : Rate) (k r : ℕ) → is_low (low_or_high (is_low rate k r)) k r ≡ is_low rate k r
-chooses_alike rate k r = by_choice (is_low rate k r)
-  where
-    by_choice : (b : Bool) → is_low (low_or_high b) k r ≡ b
-    by_choice true = low_is k r
-    by_choice false = high_is k r
-
-chosen-supported : (rate : Rate) (k r : ℕ) → supports rate k r ≡ true → supports (low_or_high (is_low rate k r)) k r ≡ true
-chosen-supported rate k r is = by_choice (is_low rate k r) refl
-  where
-    by_choice : (b : Bool) → is_low rate k r ≡ b → supports (low_or_high b) k r ≡ true
-    by_choice true low = chosen_low rate k r is low
-    by_choice false high = chosen_high rate k r is high
+use Rattle.rs_rate.proofs.RateLemmas.{chooses, chosen, block-is, block_alike, frame_alike, high_frame-is}
 
 -- a rate's configuration is one
 pub configured-is : (rate : Rate) (k r size : ℕ) → supports rate k r ≡ true → 0 < size → size % 2 ≡ 0 → IsConfigured (configured rate k r size)
@@ -43,24 +28,15 @@ configured-is rate k r size is some even =
     record {
       positive = some;
       even = even;
-      supported = chosen-supported rate k r is;
-      block = block_alike rate (low_or_high (is_low rate k r)) k r (sym (chooses_alike rate k r));
+      supported = chosen rate k r (is_low rate k r) is refl;
+      block = block_alike rate (low_or_high (is_low rate k r)) k r (sym (chooses (is_low rate k r) k r));
     }
 
 -- what a configuration of the low and of the high rate is
-pub configured-low : (c : Configuration) → IsConfigured c → c.is_low ≡ true
-    → (supports low_rate c.original_count c.recovery_count ≡ true) × (c.block_rows ≡ next_power c.original_count)
-configured-low c is low = (
-  subst (λ (b : Bool). supports (low_or_high b) c.original_count c.recovery_count ≡ true) low is.supported,
-  is.block ∙ ap (λ (b : Bool). block_rows (low_or_high b) c.original_count c.recovery_count) low ∙ low_block c.original_count c.recovery_count,
-)
-
-pub configured-high : (c : Configuration) → IsConfigured c → c.is_low ≡ false
-    → (supports high_rate c.original_count c.recovery_count ≡ true) × (c.block_rows ≡ next_power c.recovery_count)
-configured-high c is high = (
-  subst (λ (b : Bool). supports (low_or_high b) c.original_count c.recovery_count ≡ true) high is.supported,
-  is.block ∙ ap (λ (b : Bool). block_rows (low_or_high b) c.original_count c.recovery_count) high ∙ high_block c.original_count c.recovery_count,
-)
+pub configured-by : (c : Configuration) (low : Bool) → IsConfigured c → c.is_low ≡ low
+    → (supports (low_or_high low) c.original_count c.recovery_count ≡ true) × (c.block_rows ≡ next_power (cond low c.original_count c.recovery_count))
+configured-by c low is choice =
+    (rw choice at is.supported, rw choice at is.block ∙ block-is low c.original_count c.recovery_count)
 
 -- the blocks that an encoder codes: they hold so many shards, and are few
 pub record HasBlocks (c : Configuration) (coded : ℕ) : Type 0 where
@@ -69,27 +45,15 @@ pub record HasBlocks (c : Configuration) (coded : ℕ) : Type 0 where
   pub rows : rounded_up coded c.block_rows ≡ encoder_rows (low_or_high c.is_low) c.original_count c.recovery_count
 
 pub blocks-known : (c : Configuration) → IsConfigured c → (low : Bool) → c.is_low ≡ low → HasBlocks c (cond low c.recovery_count c.original_count)
-blocks-known c is true low =
-    let known = configured-low c is low in
-    let fits = low_fits c.original_count c.recovery_count known.0 in
-    let power = next_power-small c.original_count (low_small c.original_count c.recovery_count known.0) in
-    let positive = pow_pos power.0 in
+blocks-known c is low choice =
+    let known = configured-by c low is choice in
+    let fit = rows-fit low c.original_count c.recovery_count known.0 in
+    let positive = pow_pos fit.power.0 in
     record {
-      some = omega (arith, positive, power.2, known.1);
-      few = omega (arith, fits.2, known.1);
-      rows = ap (rounded_up c.recovery_count) known.1 ∙ rounded_up-low c.original_count c.recovery_count
-          ∙ ap (λ (b : Bool). encoder_rows (low_or_high b) c.original_count c.recovery_count) (sym low);
-    }
-blocks-known c is false high =
-    let known = configured-high c is high in
-    let fits = high_fits c.original_count c.recovery_count known.0 in
-    let power = next_power-small c.recovery_count (high_small c.original_count c.recovery_count known.0) in
-    let positive = pow_pos power.0 in
-    record {
-      some = omega (arith, positive, power.2, known.1);
-      few = omega (arith, fits.2, known.1);
-      rows = ap (rounded_up c.original_count) known.1 ∙ rounded_up-low c.recovery_count c.original_count ∙ high_rows c.original_count c.recovery_count
-          ∙ ap (λ (b : Bool). encoder_rows (low_or_high b) c.original_count c.recovery_count) (sym high);
+      some = omega (arith, positive, fit.power.1, known.1);
+      few = omega (arith, fit.points, fit.enough, known.1);
+      rows = ap (rounded_up (cond low c.recovery_count c.original_count)) known.1 ∙ rounded_up-by low c.original_count c.recovery_count
+          ∙ ap (λ (b : Bool). encoder_rows (low_or_high b) c.original_count c.recovery_count) (sym choice);
     }
 
 -- what is asked for a rate's configuration, by how many rows it has
@@ -128,45 +92,32 @@ pub encoder-laid : (c : Configuration) → IsConfigured c → EncoderCanBeLaid (
 encoder-laid c is =
     let rows = by_choice c.is_low is.supported in record { configured = is; rows = refl; originals = rows.0; recovery = rows.1 }
   where
-    k : ℕ
-    k = c.original_count
+    by_choice : (low : Bool) → supports (low_or_high low) c.original_count c.recovery_count ≡ true
+        → let n = encoder_rows (low_or_high low) c.original_count c.recovery_count in (c.original_count ≤ n) × (c.recovery_count ≤ n)
+    by_choice true is = let rows = rows-fit true c.original_count c.recovery_count is in (omega (arith, rows.block, rows.some), rows.enough)
+    by_choice false is = let rows = rows-fit false c.original_count c.recovery_count is in (rows.enough, omega (arith, rows.block, rows.some))
 
-    r : ℕ
-    r = c.recovery_count
-
-    by_choice : (b : Bool) → supports (low_or_high b) k r ≡ true → (k ≤ encoder_rows (low_or_high b) k r) × (r ≤ encoder_rows (low_or_high b) k r)
-    by_choice true is = let rows = low_rows-fit k r is in (omega (arith, rows.block, rows.some), rows.enough)
-    by_choice false is = let rows = high_rows-fit k r is in (rows.enough, omega (arith, rows.block, rows.some))
-
--- the next power of two of so few points is a power of two of its own
-rows-known : (n : ℕ) → n ≤ 65536 → (next_power (next_power n) ≡ next_power n) × (next_power n ≤ 65536) × (n ≤ next_power n)
-rows-known n small =
-    let known = next_power-small n small in
+-- the rows of a decoder, a power of two of its own, hold the first block and the shards after it
+rows-known : (k r : ℕ) → supports low_rate k r ≡ true
+    → let n = next_power (next_power k + r) in (next_power n ≡ n) × (n ≤ 65536) × (k ≤ next_power k) × (next_power k + r ≤ n)
+rows-known k r is =
+    let block = next_power-small k (low_small k r is) in
+    let known = next_power-small (next_power k + r) (low_fits k r is).2 in
     let most : 2 ^ known.0 ≤ 2 ^ 16 = pow_mono known.1 in
-    let few : next_power n ≤ 65536 = omega (arith, known.2) in
-    (power_is_own (next_power n) known.0 known.2 few, few, known.3)
+    let few : next_power (next_power k + r) ≤ 65536 = omega (arith, known.2) in
+    (power_is_own (next_power (next_power k + r)) known.0 known.2 few, few, block.3, known.3)
 
-low-places : (k r : ℕ) → supports low_rate k r ≡ true → HasPlaces k r (frame_of low_rate k r)
-low-places k r is =
-    let fits = low_fits k r is in
-    let block = rows-known k (low_small k r is) in
-    let rows = rows-known (next_power k + r) fits.2 in
+places : (low : Bool) (k r : ℕ) → supports (low_or_high low) k r ≡ true → HasPlaces k r (frame_of (low_or_high low) k r)
+places true k r is =
+    let rows = rows-known k r is in
     subst (HasPlaces k r) (sym (low_frame-is k r))
-    (record { power = rows.0; few = rows.1; originals = omega (arith, block.2, rows.2); recovery = rows.2; apart = λ i j own coded. omega (arith, block.2) })
-
-high-places : (k r : ℕ) → supports high_rate k r ≡ true → HasPlaces k r (frame_of high_rate k r)
-high-places k r is =
-    let fits = high_fits k r is in
-    let block = rows-known r (high_small k r is) in
-    let rows = rows-known (next_power r + k) fits.2 in
+    (record { power = rows.0; few = rows.1; originals = omega (arith, rows.2, rows.3); recovery = rows.3; apart = λ i j own coded. omega (arith, rows.2) })
+places false k r is =
+    let rows = rows-known r k (high_turned k r ∙ is) in
     subst (HasPlaces k r) (sym (high_frame-is k r))
-    (record { power = rows.0; few = rows.1; originals = rows.2; recovery = omega (arith, block.2, rows.2); apart = λ i j own coded. omega (arith, block.2) })
+    (record { power = rows.0; few = rows.1; originals = rows.3; recovery = omega (arith, rows.2, rows.3); apart = λ i j own coded. omega (arith, rows.2) })
 
 pub decoder-laid : (c : Configuration) → IsConfigured c → DecoderCanBeLaid (shape_of_decoder c)
 unfolding frame_of
 decoder-laid c is =
-    record { configured = is; rows = refl; frame = refl; places = by_choice c.is_low is.supported }
-  where
-    by_choice : (b : Bool) → supports (low_or_high b) c.original_count c.recovery_count ≡ true → HasPlaces c.original_count c.recovery_count (frame_of (low_or_high b) c.original_count c.recovery_count)
-    by_choice true is = low-places c.original_count c.recovery_count is
-    by_choice false is = high-places c.original_count c.recovery_count is
+    record { configured = is; rows = refl; frame = refl; places = places c.is_low c.original_count c.recovery_count is.supported }

@@ -1,17 +1,18 @@
 -- The row steps of an encode: block by block, and of the whole.
-use Rattle.std.proofs.Common.{◌≡◌, ℕ, true, false, Bool, ◌+◌, ◌-◌, ◌*◌, ◌/◌, ◌%◌, ◌<◌, ◌≤◌, refl, sym, ap, ap₂, ◌∙◌, arith}
+use Rattle.std.proofs.Common.{◌≡◌, ℕ, true, false, Bool, cond, ◌+◌, ◌-◌, ◌*◌, ◌/◌, ◌%◌, ◌<◌, ◌≤◌, refl, sym, ap, ap₂, ◌∙◌, subst, arith}
 use Rattle.std.proofs.Math.Nat.{add-div_right, div-mul-le_self, mul-le-mul_right}
 use Rattle.std.proofs.lemmas.Nat.{pow_pos, le-div, div-add-mod'}
 use Rattle.rs_field.specs.code.Counts.{Rate, next_power, supports, is_low, low_rate, high_rate}
-use Rattle.rs_field.specs.code.Placement.{encoder_rows, block_rows}
+use Rattle.rs_field.specs.code.Placement.{encoder_rows}
 use Rattle.rs_field.specs.words.StepBounds.{CountsUpTo, transform_steps}
 use Rattle.rs_field.specs.code.Bounds.{encode_steps, encode_steps_at}
 use Rattle.rs_field.specs.declared.words.steps.Steps.{Steps}
 use Rattle.rs_field.proofs.of_words.Counting.{counts_then, counts_within}
 use Rattle.rs_rate.specs.Coding.{further_blocks}
-use Rattle.rs_rate.proofs.HighCounts.{HasRows, low_rows-fit, high_rows-fit}
+use Rattle.rs_rate.specs.Configured.{low_or_high}
+use Rattle.rs_rate.proofs.HighCounts.{rows-fit}
 use Rattle.rs_rate.specs.RowsLaws.{encoder_rows_alike}
-use Rattle.rs_rate.proofs.RateLemmas.{low_is, high_is, low_block, high_block, block_alike, chosen_low, chosen_high}
+use Rattle.rs_rate.proofs.RateLemmas.{chooses, chosen, block-is, block_alike}
 
 -- bounds of two calls that leave room within a bound for both
 pub counts_both : (m n whole : ℕ) (a b c : Steps) → m + n ≤ whole → CountsUpTo m 0 0 a b → CountsUpTo n 0 0 b c → CountsUpTo whole 0 0 a c
@@ -30,29 +31,22 @@ further-within start rows m step some within =
     let below : (start - m) / m * m ≤ start - m = div-mul-le_self (start - m) m in
     mul-le-mul_right step (le-div ((start - m) / m) (rows - m) m some (omega arith))
 
--- the blocks of whole rows, and their number
-record Blocks (m rows : ℕ) : Type 0 where
-  count : rows / m ≡ further_blocks m rows + 1
-  whole : rows ≡ further_blocks m rows * m + m
-
-blocks : (k r m rows : ℕ) → m ≡ next_power k → HasRows k r rows → Blocks m rows
-blocks k r m rows is fit =
-    let some : 0 < m = (let p = pow_pos fit.power.0 in omega (arith, fit.power.1)) in
-    let apart : rows - m + m ≡ rows = omega (arith, fit.some) in
-    let count : rows / m ≡ (rows - m) / m + 1 = ap (λ n. n / m) (sym apart) ∙ add-div_right (rows - m) some in
-    let parts : rows / m * m + rows % m ≡ rows = div-add-mod' rows m in
-    let multiple : rows % m ≡ 0 = ap (λ n. rows % n) is ∙ fit.whole in
-    let product : rows / m * m ≡ (further_blocks m rows + 1) * m = ap (λ n. n * m) count in
-    record { count = count; whole = omega arith }
-
--- the row steps of an encode, by the blocks after the first
-bound-is : (rate : Rate) (k r m rows : ℕ) → block_rows rate k r ≡ m → encoder_rows rate k r ≡ rows → Blocks m rows
-    → encode_steps_at rate k r ≡ (further_blocks m rows + 2) * transform_steps m + 2 * (further_blocks m rows * m + m)
+-- the rows are whole blocks, and the row steps of an encode are told by those after the first
+bound-is : (low : Bool) (k r m rows : ℕ) → supports (low_or_high low) k r ≡ true → m ≡ next_power (cond low k r) → rows ≡ encoder_rows (low_or_high low) k r
+    → let f = further_blocks m rows in (encode_steps_at (low_or_high low) k r ≡ (f + 2) * transform_steps m + 2 * (f * m + m)) × (rows ≡ f * m + m)
 unfolding encode_steps
-bound-is rate k r m rows block all b =
-    ap₂ (λ n v. (n / v + 1) * transform_steps v + 2 * (n / v) * v) all block
-    ∙ ap (λ n. (n + 1) * transform_steps m + 2 * n * m) b.count
-    ∙ regroup (further_blocks m rows) (transform_steps m) m
+bound-is low k r m rows is block all =
+    let fit = rows-fit low k r is in
+    let some : 0 < m = (let p = pow_pos fit.power.0 in omega (arith, block, fit.power.1)) in
+    let apart : rows - m + m ≡ rows = omega (arith, block, all, fit.some) in
+    let count : rows / m ≡ further_blocks m rows + 1 = ap (λ n. n / m) (sym apart) ∙ add-div_right (rows - m) some in
+    let parts : rows / m * m + rows % m ≡ rows = div-add-mod' rows m in
+    let multiple : rows % m ≡ 0 = ap₂ (λ n v. n % v) all block ∙ fit.whole in
+    let product : rows / m * m ≡ (further_blocks m rows + 1) * m = ap (λ n. n * m) count in (
+      ap₂ (λ n v. (n / v + 1) * transform_steps v + 2 * (n / v) * v) (sym all) (block-is low k r ∙ sym block)
+          ∙ ap (λ n. (n + 1) * transform_steps m + 2 * n * m) count ∙ regroup (further_blocks m rows) (transform_steps m) m,
+      omega arith,
+    )
   where
     regroup : (f t m : ℕ) → (f + 1 + 1) * t + 2 * (f + 1) * m ≡ (f + 2) * t + 2 * (f * m + m)
     regroup f t m = omega arith
@@ -61,10 +55,9 @@ bound-is rate k r m rows block all b =
 pub low_total : (k r m rows : ℕ) → supports low_rate k r ≡ true → m ≡ next_power k → rows ≡ encoder_rows low_rate k r
     → m - k + transform_steps m + further_blocks m rows * (m + transform_steps m) + transform_steps m + r ≤ encode_steps_at low_rate k r
 low_total k r m rows is block all =
-    let fit = low_rows-fit k r is in
-    let b = blocks k r m rows block (rw all fit) in
-    let bound = bound-is low_rate k r m rows (low_block k r ∙ sym block) (sym all) b in
-    omega (arith, bound, sum k r m (transform_steps m) (further_blocks m rows) (omega (arith, fit.enough, b.whole)))
+    let fit = rows-fit true k r is in
+    let bound = bound-is true k r m rows is block all in
+    omega (arith, bound.0, sum k r m (transform_steps m) (further_blocks m rows) (omega (arith, fit.enough, all, bound.1)))
   where
     sum : (k r m t f : ℕ) → r ≤ f * m + m → m - k + t + f * (m + t) + t + r ≤ (f + 2) * t + 2 * (f * m + m)
     sum k r m t f enough = omega arith
@@ -73,10 +66,9 @@ low_total k r m rows is block all =
 pub high_total : (k r m rows : ℕ) → supports high_rate k r ≡ true → m ≡ next_power r → rows ≡ encoder_rows high_rate k r
     → m + transform_steps m + further_blocks m rows * (2 * m + transform_steps m) + transform_steps m + r ≤ encode_steps_at high_rate k r
 high_total k r m rows is block all =
-    let fit = high_rows-fit k r is in
-    let b = blocks r k m rows block (rw all fit) in
-    let bound = bound-is high_rate k r m rows (high_block k r ∙ sym block) (sym all) b in
-    omega (arith, bound, sum r m (transform_steps m) (further_blocks m rows) (omega (arith, fit.block, block)))
+    let fit = rows-fit false k r is in
+    let bound = bound-is false k r m rows is block all in
+    omega (arith, bound.0, sum r m (transform_steps m) (further_blocks m rows) (omega (arith, fit.block, block)))
   where
     sum : (r m t f : ℕ) → r ≤ m → m + t + f * (2 * m + t) + t + r ≤ (f + 2) * t + 2 * (f * m + m)
     sum r m t f few = omega arith
@@ -87,14 +79,10 @@ steps_alike one other k r same = ap₂ (λ n m. encode_steps (n / m) m) (encoder
 
 -- an encode's bound has room for the tails
 pub tails_within : (rate : Rate) (k r : ℕ) → supports rate k r ≡ true → r ≤ encode_steps_at rate k r
-tails_within rate k r is = by_choice (is_low rate k r) refl
+tails_within rate k r is =
+    subst (λ (n : ℕ). r ≤ n) (steps_alike (low_or_high (is_low rate k r)) rate k r (chooses (is_low rate k r) k r))
+    (by_choice (is_low rate k r) (chosen rate k r (is_low rate k r) is refl))
   where
-    by_choice : (b : Bool) → is_low rate k r ≡ b → r ≤ encode_steps_at rate k r
-    by_choice true low =
-        let room = low_total k r (next_power k) (encoder_rows low_rate k r) (chosen_low rate k r is low) refl refl in
-        let same = steps_alike rate low_rate k r (low ∙ sym (low_is k r)) in
-        omega arith
-    by_choice false high =
-        let room = high_total k r (next_power r) (encoder_rows high_rate k r) (chosen_high rate k r is high) refl refl in
-        let same = steps_alike rate high_rate k r (high ∙ sym (high_is k r)) in
-        omega arith
+    by_choice : (low : Bool) → supports (low_or_high low) k r ≡ true → r ≤ encode_steps_at (low_or_high low) k r
+    by_choice true is = let room = low_total k r (next_power k) (encoder_rows low_rate k r) is refl refl in omega arith
+    by_choice false is = let room = high_total k r (next_power r) (encoder_rows high_rate k r) is refl refl in omega arith

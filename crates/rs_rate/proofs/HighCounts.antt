@@ -1,29 +1,20 @@
 -- The rows of the encoders, and counts that the high rate supports.
-use Rattle.std.proofs.Common.{◌≡◌, ℕ, ◌+◌, ◌-◌, ◌*◌, ◌/◌, ◌%◌, ◌^◌, ◌<◌, ◌≤◌, Bool, true, false, refl, sym, ap, ◌∙◌, subst, inl, inr, arith}
+use Rattle.std.proofs.Common.{◌≡◌, ℕ, ◌+◌, ◌-◌, ◌*◌, ◌/◌, ◌%◌, ◌^◌, ◌<◌, ◌≤◌, Bool, true, false, cond, sym, ap, ◌∙◌, subst, arith}
 use Rattle.std.specs.Prelude.{nat_le, nat_lt, ◌&&◌}
-use Rattle.std.proofs.Math.Nat.{mul-mod_left, mul-le-mul_right}
-use Rattle.std.proofs.lemmas.Bool.{cases_lt}
+use Rattle.std.proofs.Math.Bool.{and_comm}
+use Rattle.std.proofs.Math.Nat.{mul-mod_left}
 use Rattle.std.proofs.lemmas.Nat.{pow_pos, div-add-mod'}
-use Rattle.rs_field.specs.code.Counts.{next_power, supports, is_low, low_rate, high_rate}
+use Rattle.rs_field.specs.code.Counts.{next_power, supports, low_rate, high_rate}
 use Rattle.rs_field.specs.code.Placement.{encoder_rows}
 use Rattle.rs_field.proofs.of_code.NextPower.{next_power-small}
 use Rattle.rs_field.proofs.of_code.SupportedCounts.{low_fits}
-use Rattle.rs_rate.proofs.PowerLemmas.{low_small, low_rows-enough, rounded_up-low, multiple_least, multiple_room}
+use Rattle.rs_rate.specs.Configured.{low_or_high}
+use Rattle.rs_rate.proofs.PowerLemmas.{low_small, rounded_up-by, multiple_least, multiple_room}
 
-swapped : (a b : Bool) → (a && b) ≡ (b && a)
-swapped true true = refl
-swapped true false = refl
-swapped false true = refl
-swapped false false = refl
-
--- the high rate supports the counts that the low rate supports the other way round, and has the same rows
+-- the high rate supports the counts that the low rate supports the other way round
 pub high_turned : (k r : ℕ) → supports low_rate r k ≡ supports high_rate k r
 unfolding supports
-high_turned k r = ap (λ b. b && nat_le (next_power r + k) 65536) (swapped (nat_lt 0 r) (nat_lt 0 k))
-
-pub high_rows : (k r : ℕ) → encoder_rows low_rate r k ≡ encoder_rows high_rate k r
-unfolding encoder_rows is_low
-high_rows k r = refl
+high_turned k r = ap (λ b. b && nat_le (next_power r + k) 65536) (and_comm (nat_lt 0 r) (nat_lt 0 k))
 
 -- counts that the high rate supports are small
 pub high_small : (k r : ℕ) → supports high_rate k r ≡ true → r ≤ 65536
@@ -38,33 +29,24 @@ pub record HasRows (k r n : ℕ) : Type 0 where
   pub whole : n % next_power k ≡ 0
   pub points : n + next_power k ≤ 65536
 
-pub low_rows-fit : (k r : ℕ) → supports low_rate k r ≡ true → HasRows k r (encoder_rows low_rate k r)
+low_rows-fit : (k r : ℕ) → supports low_rate k r ≡ true → HasRows k r (encoder_rows low_rate k r)
 low_rows-fit k r is =
     let known = next_power-small k (low_small k r is) in
     let fits = low_fits k r is in
     let positive : 0 < next_power k = (let p = pow_pos known.0 in omega (arith, known.2)) in
     let parts : (r + next_power k - 1) / next_power k * next_power k + (r + next_power k - 1) % next_power k ≡ r + next_power k - 1 = div-add-mod' (r + next_power k - 1) (next_power k) in
-    let rows : encoder_rows low_rate k r ≡ (r + next_power k - 1) / next_power k * next_power k = sym (rounded_up-low k r) in
+    let rows : encoder_rows low_rate k r ≡ (r + next_power k - 1) / next_power k * next_power k = sym (rounded_up-by true k r) in
+    let rest : (r + next_power k - 1) % next_power k < next_power k = omega arith in
     let multiple : encoder_rows low_rate k r % next_power k ≡ 0 = ap (λ n. n % next_power k) rows ∙ mul-mod_left ((r + next_power k - 1) / next_power k) (next_power k) in
-    let enough : r ≤ encoder_rows low_rate k r = low_rows-enough k r is in
     record {
       power = (known.0, known.2);
       block = known.3;
       some = multiple_least (encoder_rows low_rate k r) (next_power k) (omega (arith, fits.1)) multiple;
-      enough = enough;
+      enough = omega (arith, rows, parts, rest);
       whole = multiple;
       points = multiple_room (encoder_rows low_rate k r) known.0 (next_power k) known.1 known.2 multiple (omega (arith, fits.2));
     }
 
-pub high_rows-fit : (k r : ℕ) → supports high_rate k r ≡ true → HasRows r k (encoder_rows high_rate k r)
-high_rows-fit k r is = subst (λ (n : ℕ). HasRows r k n) (high_rows k r) (low_rows-fit r k (high_turned k r ∙ is))
-
--- a multiple of m below another leaves room for one more block
-pub next_block : (start rows m : ℕ) → start < rows → start % m ≡ 0 → rows % m ≡ 0 → start + m ≤ rows
-next_block start rows m below from to =
-    let a : start / m * m + start % m ≡ start = div-add-mod' start m in
-    let b : rows / m * m + rows % m ≡ rows = div-add-mod' rows m in
-    elim (cases_lt (start / m) (rows / m)) [
-      | inl less ↦ let more : start / m + 1 ≤ rows / m = omega arith in let rise : (start / m + 1) * m ≤ rows / m * m = mul-le-mul_right m more in omega arith
-      | inr more ↦ let rise : rows / m * m ≤ start / m * m = mul-le-mul_right m more in absurd (let no : ⊥ = omega arith in no)
-    ]
+pub rows-fit : (low : Bool) (k r : ℕ) → supports (low_or_high low) k r ≡ true → HasRows (cond low k r) (cond low r k) (encoder_rows (low_or_high low) k r)
+rows-fit true k r is = low_rows-fit k r is
+rows-fit false k r is = subst (λ (n : ℕ). HasRows r k n) (sym (rounded_up-by true r k) ∙ rounded_up-by false k r) (low_rows-fit r k (high_turned k r ∙ is))

@@ -1,5 +1,5 @@
 -- What a rate is at counts that it supports: the low or the high rate, with its rows, frame and recovery shards.
-use Rattle.std.proofs.Common.{◌≡◌, ℕ, ◌+◌, ◌<◌, ◌≤◌, Bool, true, false, List, refl, sym, ap, ◌∙◌, subst, arith}
+use Rattle.std.proofs.Common.{◌≡◌, ℕ, ◌+◌, ◌<◌, ◌≤◌, Bool, true, false, cond, List, refl, sym, ap, ap₂, ◌∙◌, subst, true≢false, arith}
 use Rattle.std.specs.Prelude.{slice_index, if◌then◌else◌}
 use Rattle.rs_field.specs.code.Counts.{Rate, next_power, supports, is_low, low_rate, high_rate, default_rate}
 use Rattle.rs_field.specs.code.Placement.{Placement, placement, low_placement, high_placement, block_rows, decoder_rows}
@@ -9,7 +9,7 @@ use Rattle.rs_field.specs.code.Configuration.{configuration}
 use Rattle.rs_field.specs.code.Code.{Codes, AreRecovery, AreRecoveryWords}
 use Rattle.rs_field.proofs.of_code.SupportedCounts.{default_fits, high_powers, low_powers}
 use Rattle.rs_rate.specs.declared.rate.decoder_work.Frame.{Frame}
-use Rattle.rs_rate.specs.Configured.{frame_of}
+use Rattle.rs_rate.specs.Configured.{frame_of, low_or_high}
 use Rattle.rs_rate.proofs.PowerLemmas.{low_supported}
 use Rattle.rs_rate.proofs.HighCounts.{high_turned}
 
@@ -19,31 +19,32 @@ pub high_frame-is : (k r : ℕ) → frame_of high_rate k r
 unfolding frame_of placement high_placement is_low decoder_rows
 high_frame-is k r = refl
 
--- the choice of the low and of the high rate
-pub low_is : (k r : ℕ) → is_low low_rate k r ≡ true
+-- the low and the high rate choose themselves
+pub chooses : (low : Bool) (k r : ℕ) → is_low (low_or_high low) k r ≡ low
 unfolding is_low
-low_is k r = refl
-
-pub high_is : (k r : ℕ) → is_low high_rate k r ≡ false
-unfolding is_low
-high_is k r = refl
+chooses true k r = refl
+chooses false k r = refl
 
 -- where a rate is the low rate, that one supports its counts, and likewise the high rate
-pub chosen_low : (rate : Rate) (k r : ℕ) → supports rate k r ≡ true → is_low rate k r ≡ true → supports low_rate k r ≡ true
+chosen_low : (rate : Rate) (k r : ℕ) → supports rate k r ≡ true → is_low rate k r ≡ true → supports low_rate k r ≡ true
 chosen_low low_rate k r is low = is
-chosen_low high_rate k r is low = absurd (let no : false ≡ true = sym (high_is k r) ∙ low in let never : ⊥ = cc in never)
+chosen_low high_rate k r is low = absurd (true≢false (sym low ∙ chooses false k r))
 chosen_low default_rate k r is low =
     let fits = default_fits k r is in
     let powers = low_powers k r low in
     low_supported k r fits.0 fits.1 (omega (arith, fits.2, powers))
 
-pub chosen_high : (rate : Rate) (k r : ℕ) → supports rate k r ≡ true → is_low rate k r ≡ false → supports high_rate k r ≡ true
-chosen_high low_rate k r is high = absurd (let no : true ≡ false = sym (low_is k r) ∙ high in let never : ⊥ = cc in never)
+chosen_high : (rate : Rate) (k r : ℕ) → supports rate k r ≡ true → is_low rate k r ≡ false → supports high_rate k r ≡ true
+chosen_high low_rate k r is high = absurd (true≢false (sym (chooses true k r) ∙ high))
 chosen_high high_rate k r is high = is
 chosen_high default_rate k r is high =
     let fits = default_fits k r is in
     let powers = high_powers k r high in
     sym (high_turned k r) ∙ low_supported r k fits.1 fits.0 (omega (arith, fits.2, powers))
+
+pub chosen : (rate : Rate) (k r : ℕ) (low : Bool) → supports rate k r ≡ true → is_low rate k r ≡ low → supports (low_or_high low) k r ≡ true
+chosen rate k r true is low = chosen_low rate k r is low
+chosen rate k r false is high = chosen_high rate k r is high
 
 -- rates that choose alike have the same blocks, frame, placement and recovery words
 pub block_alike : (one other : Rate) (k r : ℕ) → is_low one k r ≡ is_low other k r → block_rows one k r ≡ block_rows other k r
@@ -51,32 +52,21 @@ unfolding block_rows
 block_alike one other k r same = ap (λ b. if b then next_power k else next_power r) same
 
 -- the rows of a block, written out
-pub low_block : (k r : ℕ) → block_rows low_rate k r ≡ next_power k
+pub block-is : (low : Bool) (k r : ℕ) → block_rows (low_or_high low) k r ≡ next_power (cond low k r)
 unfolding block_rows is_low
-low_block k r = refl
-
-pub high_block : (k r : ℕ) → block_rows high_rate k r ≡ next_power r
-unfolding block_rows is_low
-high_block k r = refl
+block-is true k r = refl
+block-is false k r = refl
 
 placement_alike : (one other : Rate) (k r : ℕ) → is_low one k r ≡ is_low other k r → placement one k r ≡ placement other k r
 unfolding placement
 placement_alike one other k r same = ap (λ b. if b then low_placement k else high_placement k r) same
 
-framed : ℕ → ℕ → Bool → Frame
-framed k r b =
-    let p = (if b then low_placement k else high_placement k r) in
-    record {
-      row_count = if b then next_power (next_power k + r) else next_power (next_power r + k);
-      originals_from = p.originals_from;
-      recovery_from = p.recovery_from;
-      zeros_from = p.zeros_from;
-      zeros_to = p.zeros_to;
-    }
-
 pub frame_alike : (one other : Rate) (k r : ℕ) → is_low one k r ≡ is_low other k r → frame_of one k r ≡ frame_of other k r
-unfolding frame_of placement decoder_rows framed
-frame_alike one other k r same = ap (framed k r) same
+unfolding frame_of decoder_rows
+frame_alike one other k r same =
+    ap₂ (λ (n : ℕ) (p : Placement).
+    let frame : Frame = record { row_count = n; originals_from = p.originals_from; recovery_from = p.recovery_from; zeros_from = p.zeros_from; zeros_to = p.zeros_to } in frame)
+    (ap (λ b. if b then next_power (next_power k + r) else next_power (next_power r + k)) same) (placement_alike one other k r same)
 
 codes_alike : (one other : Rate) (k r : ℕ) (words polynomial : List ℕ) → is_low one k r ≡ is_low other k r → Codes one k r words polynomial → Codes other k r words polynomial
 codes_alike one other k r words polynomial alike codes =

@@ -1,4 +1,4 @@
-use Rattle.std.proofs.Common.{◌≡◌, ℕ, ◌+◌, ◌-◌, ◌*◌, ◌≤◌, sym, ap, ◌∙◌, subst, arith, zero-add}
+use Rattle.std.proofs.Common.{◌≡◌, ℕ, ◌+◌, ◌-◌, ◌*◌, ◌≤◌, false, sym, ap, ◌∙◌, subst, arith, zero-add}
 use Rattle.std.proofs.Math.Nat.{zero-mod}
 use Rattle.rs_field.specs.rows.View.{word}
 use Rattle.rs_field.specs.words.Transform.{forward}
@@ -9,14 +9,14 @@ use Rattle.rs_field.proofs.of_words.Combination.{forward-same}
 use Rattle.rs_field.proofs.of_rows.Recursion.{fits_kept}
 use Rattle.rs_field.proofs.of_code.SupportedCounts.{high_fits}
 use Rattle.rs_rate.specs.Coding.{SumsBlocks, further_blocks}
-use Rattle.rs_rate.proofs.HighCounts.{high_rows-fit}
+use Rattle.rs_rate.proofs.HighCounts.{rows-fit}
 use Rattle.rs_rate.proofs.HighCoding.{high_coded}
 use Rattle.rs_rate.proofs.EncodeCounting.{counts_both, high_total}
 use Rattle.rs_rate.proofs.rate.high_encoding.code_high.Goals as goal
 
 pub sum_blocks-requires : goal.sum_blocks-requires
 sum_blocks-requires g c =
-    let rows = high_rows-fit c.args.configuration.original_count c.args.configuration.recovery_count c.requires.supported in
+    let rows = rows-fit false c.args.configuration.original_count c.args.configuration.recovery_count c.requires.supported in
     record {
       fits = c.requires.fits;
       power = (rows.power.0, c.requires.block ∙ rows.power.1);
@@ -28,7 +28,7 @@ sum_blocks-requires g c =
 
 pub fft-requires : goal.fft-requires
 fft-requires g c =
-    let rows = high_rows-fit c.args.configuration.original_count c.args.configuration.recovery_count c.requires.supported in
+    let rows = rows-fit false c.args.configuration.original_count c.args.configuration.recovery_count c.requires.supported in
     record {
       fits = fits_kept c.args.rows.now c.sum_blocks.new.rows c.sum_blocks.ensures.shape c.requires.fits;
       power = (rows.power.0, c.requires.block ∙ rows.power.1);

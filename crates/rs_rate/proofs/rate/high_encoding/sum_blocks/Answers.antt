@@ -8,8 +8,7 @@ use Rattle.rs_field.specs.words.StepBounds.{transform_steps}
 use Rattle.rs_field.proofs.of_rows.Recursion.{fits_kept}
 use Rattle.rs_field.proofs.of_words.Counting.{counts_rows, counts_within}
 use Rattle.rs_rate.specs.Coding.{further_blocks}
-use Rattle.rs_rate.proofs.PowerLemmas.{multiple_least}
-use Rattle.rs_rate.proofs.HighCounts.{next_block}
+use Rattle.rs_rate.proofs.PowerLemmas.{multiple_least, next_block}
 use Rattle.rs_rate.proofs.HighCoding.{sums-start, sums-next}
 use Rattle.rs_rate.proofs.EncodeCounting.{counts_both, further-next, further-within}
 use Rattle.rs_rate.proofs.rate.high_encoding.sum_blocks.Goals as goal

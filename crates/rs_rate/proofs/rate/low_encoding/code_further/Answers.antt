@@ -8,7 +8,7 @@ use Rattle.rs_field.proofs.of_rows.RowOffsets.{outside_cell}
 use Rattle.rs_field.proofs.of_rows.Recursion.{fits_kept}
 use Rattle.rs_field.proofs.of_words.Counting.{counts_rows, counts_then, counts_within}
 use Rattle.rs_rate.specs.Coding.{further_blocks}
-use Rattle.rs_rate.proofs.HighCounts.{next_block}
+use Rattle.rs_rate.proofs.PowerLemmas.{next_block}
 use Rattle.rs_rate.proofs.EncodeCounting.{counts_both, further-next, further-within}
 use Rattle.rs_rate.proofs.LowCoding.{further-more}
 use Rattle.rs_rate.proofs.rate.low_encoding.code_further.Goals as goal

@@ -1,4 +1,5 @@
-use Rattle.std.proofs.Common.{◌≡◌, ℕ, ◌+◌, ◌-◌, ◌*◌, ◌≤◌, ◌∙◌, ap, subst, arith, inl, inr}
+use Rattle.std.proofs.Common.{◌≡◌, ℕ, ◌+◌, ◌-◌, ◌*◌, ◌≤◌, ◌∙◌, true, ap, subst, arith, inl, inr}
+use Rattle.std.proofs.Math.Nat.{zero-mod, mod_self}
 use Rattle.rs_field.specs.rows.Rows.{symbol}
 use Rattle.rs_field.specs.code.Counts.{next_power}
 use Rattle.rs_field.specs.rows.View.{word}
@@ -10,43 +11,36 @@ use Rattle.rs_field.proofs.of_rows.Recursion.{fits_kept}
 use Rattle.rs_field.proofs.of_rows.RowOffsets.{outside_cell}
 use Rattle.rs_field.proofs.of_rows.Symbols.{symbol-zero}
 use Rattle.rs_rate.specs.Coding.{CodesLow, further_blocks}
-use Rattle.rs_rate.proofs.HighCounts.{low_rows-fit}
+use Rattle.rs_rate.proofs.HighCounts.{rows-fit}
 use Rattle.rs_rate.proofs.LowCoding.{coded, codes_words}
 use Rattle.rs_rate.proofs.EncodeCounting.{counts_both, low_total}
 use Rattle.rs_rate.proofs.rate.low_encoding.code_low.Goals as goal
 
 pub clear_rows-requires : goal.clear_rows-requires
 clear_rows-requires g c =
-    let rows = low_rows-fit c.args.configuration.original_count c.args.configuration.recovery_count c.requires.supported in
+    let rows = rows-fit true c.args.configuration.original_count c.args.configuration.recovery_count c.requires.supported in
     record {
       fits = c.requires.fits;
       ordered = omega (arith, rows.block, c.requires.block);
       within = omega (arith, rows.some, c.requires.rows, c.requires.block);
     }
 
-pub ifft-requires-clause-power : goal.ifft-requires-clause-power
-ifft-requires-clause-power g c =
-    let rows = low_rows-fit c.args.configuration.original_count c.args.configuration.recovery_count c.requires.supported in
-    (rows.power.0, c.requires.block ∙ rows.power.1)
-
-pub ifft-requires-clause-truncated : goal.ifft-requires-clause-truncated
-ifft-requires-clause-truncated g c =
-    let rows = low_rows-fit c.args.configuration.original_count c.args.configuration.recovery_count c.requires.supported in
-    omega (arith, rows.block, c.requires.block)
-
-pub ifft-requires-clause-within : goal.ifft-requires-clause-within
-ifft-requires-clause-within g c =
-    let rows = low_rows-fit c.args.configuration.original_count c.args.configuration.recovery_count c.requires.supported in
-    omega (arith, rows.some, c.requires.rows, c.requires.block, c.clear_rows.ensures.shape.count)
-
-pub ifft-requires-clause-points : goal.ifft-requires-clause-points
-ifft-requires-clause-points g c =
-    let rows = low_rows-fit c.args.configuration.original_count c.args.configuration.recovery_count c.requires.supported in
-    omega (arith, rows.points, c.requires.block)
+pub ifft-requires : goal.ifft-requires
+ifft-requires g c =
+    let rows = rows-fit true c.args.configuration.original_count c.args.configuration.recovery_count c.requires.supported in
+    record {
+      fits = fits_kept c.args.rows.now c.clear_rows.new.rows c.clear_rows.ensures.shape c.requires.fits;
+      power = (rows.power.0, c.requires.block ∙ rows.power.1);
+      truncated = omega (arith, rows.block, c.requires.block);
+      within = omega (arith, rows.some, c.requires.rows, c.requires.block, c.clear_rows.ensures.shape.count);
+      shift = zero-mod c.args.configuration.block_rows;
+      points = omega (arith, rows.points, c.requires.block);
+      tail = λ i k inside from to. c.clear_rows.ensures.zeros i k inside (omega arith) (omega arith);
+    }
 
 pub code_further-requires : goal.code_further-requires
 code_further-requires g c =
-    let rows = low_rows-fit c.args.configuration.original_count c.args.configuration.recovery_count c.requires.supported in
+    let rows = rows-fit true c.args.configuration.original_count c.args.configuration.recovery_count c.requires.supported in
     let passed = c.args.rows.now in
     let count : c.ifft.new.rows.shard_count ≡ passed.shard_count = c.ifft.ensures.shape.count ∙ c.clear_rows.ensures.shape.count in
     record {
@@ -57,24 +51,22 @@ code_further-requires g c =
       points = omega (arith, rows.points, c.requires.rows, c.requires.block, count);
     }
 
-pub fft-requires-clause-power : goal.fft-requires-clause-power
-fft-requires-clause-power g c =
-    let rows = low_rows-fit c.args.configuration.original_count c.args.configuration.recovery_count c.requires.supported in
-    (rows.power.0, c.requires.block ∙ rows.power.1)
-
-pub fft-requires-clause-within : goal.fft-requires-clause-within
-fft-requires-clause-within g c =
-    let rows = low_rows-fit c.args.configuration.original_count c.args.configuration.recovery_count c.requires.supported in
-    omega (arith, rows.some, c.requires.rows, c.requires.block, c.clear_rows.ensures.shape.count, c.ifft.ensures.shape.count, c.code_further.ensures.shape.count)
-
-pub fft-requires-clause-points : goal.fft-requires-clause-points
-fft-requires-clause-points g c =
-    let rows = low_rows-fit c.args.configuration.original_count c.args.configuration.recovery_count c.requires.supported in
-    omega (arith, rows.some, rows.points, c.requires.block)
+pub fft-requires : goal.fft-requires
+fft-requires g c =
+    let rows = rows-fit true c.args.configuration.original_count c.args.configuration.recovery_count c.requires.supported in
+    record {
+      fits = fits_kept c.ifft.new.rows c.code_further.new.rows c.code_further.ensures.shape (fits_kept c.clear_rows.new.rows c.ifft.new.rows c.ifft.ensures.shape
+          (fits_kept c.args.rows.now c.clear_rows.new.rows c.clear_rows.ensures.shape c.requires.fits));
+      power = (rows.power.0, c.requires.block ∙ rows.power.1);
+      truncated = omega arith;
+      within = omega (arith, rows.some, c.requires.rows, c.requires.block, c.clear_rows.ensures.shape.count, c.ifft.ensures.shape.count, c.code_further.ensures.shape.count);
+      shift = mod_self c.args.configuration.block_rows;
+      points = omega (arith, rows.some, rows.points, c.requires.block);
+    }
 
 pub returns-clause-words : goal.returns-clause-words
 returns-clause-words g c = λ k s inside symbols.
-    let rows = low_rows-fit c.args.configuration.original_count c.args.configuration.recovery_count c.requires.supported in
+    let rows = rows-fit true c.args.configuration.original_count c.args.configuration.recovery_count c.requires.supported in
     let block : c.args.configuration.block_rows ≡ next_power c.args.configuration.original_count = c.requires.block in
     let enough : c.args.configuration.recovery_count ≤ c.args.rows.now.shard_count = omega (arith, rows.enough, c.requires.rows) in
     let some : c.args.configuration.block_rows ≤ c.args.rows.now.shard_count = omega (arith, rows.some, c.requires.rows, block) in

@@ -2,10 +2,12 @@ use Rattle.std.proofs.Common.{◌≡◌, ◌%◌, sym, ap, subst, refl, arith}
 use Rattle.std.specs.Prelude.{Ok}
 use Rattle.std.proofs.lemmas.Bool.{ne_eqb}
 use Rattle.rs_field.specs.code.Configuration.{configuration, validated}
+use Rattle.rs_field.specs.code.Counts.{is_low}
 use Rattle.rs_rate.specs.declared.rate.configuration.Configuration.{Configuration}
 use Rattle.rs_rate.specs.declared.rate.counts.Choice.{Choice}
 use Rattle.rs_rate.specs.SetUp.{IsSetUp}
-use Rattle.rs_rate.proofs.ConfiguredLemmas.{chooses_alike, configured-is}
+use Rattle.rs_rate.proofs.ConfiguredLemmas.{configured-is}
+use Rattle.rs_rate.proofs.RateLemmas.{chooses}
 use Rattle.rs_rate.proofs.rate.configuration.Configuration.new.Goals as goal
 
 pub returns : goal.returns
@@ -21,7 +23,7 @@ returns g c =
       subst (IsSetUp rate) (sym same) (record {
         valid = valid;
         chosen = refl;
-        alike = chooses_alike rate counts.original_count counts.recovery_count;
+        alike = chooses (is_low rate counts.original_count counts.recovery_count) counts.original_count counts.recovery_count;
         configured = configured-is rate counts.original_count counts.recovery_count size counts.supported (omega (arith, c.if-shard_bytes-eq0.false)) (omega (arith, c.if-shard_bytes-eq1.false));
       }),
     )
