@@ -2,15 +2,13 @@
 use Rattle.std.proofs.Common.{◌≡◌, ℕ, zero, suc, ◌+◌, ◌-◌, ◌*◌, ◌<◌, ◌≤◌, List, [], ◌∷◌, ◌++◌, length, take, drop, Option, Some, None, All, sym, ap, subst, ◌∙◌, refl, arith}
 use Rattle.std.specs.Prelude.{unwrap_or}
 use Rattle.std.proofs.Math.Nat.{suc-mul, mul-le-mul_right}
-use Rattle.std.proofs.lemmas.List.{append_assoc, length-append, length-drop, length-take-le, drop-drop, take-take, drop-take, take-append-drop}
+use Rattle.std.proofs.Math.Seq.{take-add}
+use Rattle.std.proofs.lemmas.Grind.{common_steps}
+use Rattle.std.proofs.lemmas.List.{append_assoc, length-append, length-drop, length-take-le, drop-drop}
 use borrow.Rule.Slice.PartMut.{put_mid}
 use Rattle.rs_field.specs.code.Column.{Shard, IsShard}
 use Rattle.rs_field.specs.code.Given.{Shards}
 use Rattle.rs_c.specs.Buffers.{joined, with_restored, AreSized}
-
--- one of the numbers below n less than before is left
-one-less : (i n : ℕ) → i < n → n - i ≡ suc (n - (i + 1))
-one-less i n h = omega arith
 
 -- the bytes before a place, with what is to be written behind them, are the whole, for which there is just room
 pub record IsWritten (whole : List ℕ) (at : ℕ) (bytes rest : List ℕ) : Type 0 where
@@ -21,10 +19,7 @@ pub record IsWritten (whole : List ℕ) (at : ℕ) (bytes rest : List ℕ) : Typ
 -- what is to be written next has room
 pub written-room : (whole : List ℕ) (at : ℕ) (bytes x rest : List ℕ) → IsWritten whole at bytes (x ++ rest) → at + length x ≤ length bytes
 written-room whole at bytes x rest w =
-    let all : at + (length x + length rest) ≡ length whole =
-    ap (λ (n : ℕ). n + (length x + length rest)) (sym (length-take-le at bytes w.inside)) ∙ ap (λ (n : ℕ). length (take at bytes) + n) (sym (length-append x rest))
-    ∙ sym (length-append (take at bytes) (x ++ rest)) ∙ ap length w.is_whole
-    in omega (arith, all, w.size)
+    let all = simp length-append at (ap length w.is_whole) in let front = length-take-le at bytes w.inside in omega (arith, all, front, w.size)
 
 -- it is written
 pub written-next : (whole : List ℕ) (at end : ℕ) (old new x rest : List ℕ) → IsWritten whole at old (x ++ rest) → length new ≡ length old → end ≡ at + length x
@@ -39,10 +34,7 @@ written-next whole at end old new x rest w same ends now =
 -- what was there stays
 pub written-kept : (whole : List ℕ) (at n : ℕ) (bytes rest : List ℕ) → IsWritten whole at bytes (take n (drop at bytes) ++ rest) → at + n ≤ length bytes → IsWritten whole (at + n) bytes rest
 written-kept whole at n bytes rest w room =
-    let here : take (at + n) bytes ≡ take at bytes ++ take n (drop at bytes) =
-    sym (take-append-drop at (take (at + n) bytes)) ∙ ap (λ (l : List ℕ). l ++ drop at (take (at + n) bytes)) (take-take at (at + n) bytes (omega arith))
-    ∙ ap (λ (l : List ℕ). take at bytes ++ l) (drop-take at n bytes)
-    in
+    let here = take-add at n bytes in
     record {
       inside = room;
       size = w.size;
@@ -53,8 +45,8 @@ written-kept whole at n bytes rest w room =
 pub length-joined : (size : ℕ) (shards : List Shard) → All (IsShard size) shards → length (joined shards) ≡ length shards * size
 length-joined size [] sized = omega arith
 length-joined size (x ∷ xs) sized =
-    length-append x (joined xs) ∙ ap (λ (n : ℕ). n + length (joined xs)) (sized 0 x (omega arith)).length_is ∙ ap (λ (n : ℕ). size + n) (length-joined size xs (λ k d h. sized (suc k) d (omega (arith, h))))
-    ∙ let more = suc-mul (length xs) size in omega (arith, more)
+    let first = (sized 0 x (omega arith)).length_is in let others = length-joined size xs (λ k d h. sized (suc k) d (omega (arith, h))) in
+    let more = suc-mul (length xs) size in simp length-append (omega (arith, first, others, more))
 
 -- what stands in a place of the size
 length-placed : (size : ℕ) (o : Option Shard) (own : List ℕ) → ((x : Shard) → o ≡ Some x → length x ≡ size) → length own ≡ size → length (unwrap_or o own) ≡ size
@@ -67,16 +59,14 @@ pub length-restored : (restored : Shards) (i size n : ℕ) (bytes : List ℕ) �
 length-restored restored i size zero bytes sized h = omega arith
 length-restored restored i size (suc n) bytes sized h =
     let more = suc-mul n size in
-    let left : length (drop size bytes) ≡ n * size = length-drop size bytes ∙ omega (arith, h, more) in
-    length-append (unwrap_or (restored i) (take size bytes)) (with_restored restored (i + 1) size n (drop size bytes))
-    ∙ ap (λ (m : ℕ). m + length (with_restored restored (i + 1) size n (drop size bytes)))
-    (length-placed size (restored i) (take size bytes) (sized i) (length-take-le size bytes (omega (arith, h, more))))
-    ∙ ap (λ (m : ℕ). size + m) (length-restored restored (i + 1) size n (drop size bytes) sized left) ∙ omega (arith, more)
+    let others = length-restored restored (i + 1) size n (drop size bytes) sized (length-drop size bytes ∙ omega (arith, h, more)) in
+    let first = length-placed size (restored i) (take size bytes) (sized i) (length-take-le size bytes (omega (arith, h, more))) in
+    simp length-append (omega (arith, first, others, more))
 
 -- the first of the places that are left
 pub restored-step : (restored : Shards) (i n size : ℕ) (bytes : List ℕ) → i < n
     → with_restored restored i size (n - i) bytes ≡ unwrap_or (restored i) (take size bytes) ++ with_restored restored (i + 1) size (n - (i + 1)) (drop size bytes)
-restored-step restored i n size bytes h = ap (λ (m : ℕ). with_restored restored i size m bytes) (one-less i n h)
+restored-step restored i n size bytes h = let one_less : n - i ≡ suc (n - (i + 1)) = omega arith in ap (λ (m : ℕ). with_restored restored i size m bytes) one_less
 
 -- a place that is left lies within the buffer
 pub place-inside : (i n size at length_is : ℕ) → i < n → at ≡ i * size → length_is ≡ n * size → at + size ≤ length_is
@@ -113,7 +103,4 @@ module _ (restored : Shards) (i n size : ℕ) (whole : List ℕ) (at : ℕ) (old
 
 -- a write to a place leaves the length
 pub length-written : (at size : ℕ) (old copy : List ℕ) → length copy ≡ size → at + size ≤ length old → length (put_mid at (at + size - at) old copy) ≡ length old
-length-written at size old copy sized room =
-    length-append (take at old) (copy ++ drop (at + size - at) (drop at old))
-    ∙ ap (λ (n : ℕ). length (take at old) + n) (length-append copy (drop (at + size - at) (drop at old)))
-    ∙ (let front = length-take-le at old (omega (arith, room)) in let rest = length-drop (at + size - at) (drop at old) in let behind = length-drop at old in omega (arith, front, rest, behind, sized, room))
+length-written at size old copy sized room = grind (arith, common_steps)

@@ -1,7 +1,7 @@
 -- From the calls of an encode over buffers to its answer.
-use Rattle.std.proofs.Common.{◌≡◌, ℕ, zero, suc, ◌-◌, ◌*◌, ◌^◌, ◌==◌, Bool, true, false, List, length, take, nat_lt, if◌then◌else◌, Result, Ok, Err, MatchResult, sym, ap, subst, ◌∙◌, refl, arith}
+use Rattle.std.proofs.Common.{◌≡◌, inl, inr, ℕ, zero, suc, ◌*◌, true, List, length, take, Result, Ok, Err, MatchResult, sym, ap, subst, ◌∙◌, refl, arith}
 use Rattle.std.proofs.Math.Nat.{suc-mul}
-use Rattle.std.proofs.lemmas.Bool.{eqb-true}
+use Rattle.std.proofs.lemmas.Bool.{cases_eq, ne_eqb}
 use Rattle.std.proofs.lemmas.List.{length-take-le}
 use Rattle.rs_field.specs.declared.code.error.Error.{Error}
 use Rattle.rs_field.specs.code.Column.{Shard}
@@ -10,19 +10,16 @@ use Rattle.rs_field.specs.code.OneCall.{default_of, OneEncodeAnswers}
 use Rattle.rs_field.specs.code.RoundTrip.{AreCoded}
 use Rattle.reed_solomon_simd.proofs.CallerLemmas.{valid-some}
 use Rattle.rs_c.specs.declared.fault.Fault.{Fault}
-use Rattle.rs_c.specs.declared.fault.Fault.TheVariants.{WrongLength}
 use Rattle.rs_c.specs.Buffers.{fitting, cut, joined}
 use Rattle.rs_c.specs.Answers.{EncodesBuffer, Writes, encode_lengths}
 use Rattle.rs_c.proofs.BufferLemmas.{length-joined}
 
 -- a length that isn't refused is right
 pub fits-length : (count size got : ℕ) → Ok tt ≡ fitting count size got → got ≡ count * size
-fits-length count size got is = by_test (count * size == got) refl (Ok tt) refl is
-  where
-    by_test : (b : Bool) → (count * size == got) ≡ b → (o : Result (Unit {0}) Fault) → o ≡ Ok tt
-        → o ≡ (if b then Ok tt else Err (WrongLength (if nat_lt (count * size) (2 ^ 64) then count * size else 2 ^ 64 - 1) got)) → got ≡ count * size
-    by_test true same o taken is = sym (eqb-true (count * size) got same)
-    by_test false same o taken is = absurd (let no : ⊥ = cc in no)
+fits-length count size got is = elim (cases_eq (count * size) got) [
+  | inl same ↦ sym same
+  | inr other ↦ let refused = rw (ne_eqb (count * size) got other) at is in absurd (let no : ⊥ = cc in no)
+]
 
 -- lengths that aren't refused
 pub lengths-ok : (k r size originals recovery : ℕ) → supports default_rate k r ≡ true → Ok tt ≡ fitting k size originals → Ok tt ≡ fitting r size recovery

@@ -7,7 +7,7 @@ use Rattle.rs_rate.specs.ResultView.{restored_originals}
 use Rattle.reed_solomon_simd.proofs.Giving.{always-both}
 use Rattle.reed_solomon_simd.proofs.OneCall.{decoding-uncounted, decoding-refused, decoding-nothing, decoding-answers, lists-none}
 use Rattle.rs_c.specs.Arrays.{items_of, bytes_in, rooms_fit, as_many}
-use Rattle.rs_c.proofs.RoomLemmas.{bytes-count, fills-refused, fills-done, fills-none, lists-same}
+use Rattle.rs_c.proofs.RoomLemmas.{bytes-count, fills, fills-none, lists-same}
 use Rattle.rs_c.proofs.decoding.decode_arrays.Goals as goal
 
 -- the shards of listed items
@@ -51,7 +51,7 @@ returns-in_err-check_rooms-clause-answer c =
     let items : Items = c.restored_original_iter.result in (
       Ok restored,
       decoding-answers c.args.original_count c.args.recovery_count _ _ _ led (Ok restored) c.in_ok-result.ensures.answer,
-      (items, c.restored_original_iter.ensures.listed, fills-refused (shards_in_items items) old old _ c.in_err-check_rooms.field-0.0 c.in_err-check_rooms.ensures (search rules) refl),
+      (items, c.restored_original_iter.ensures.listed, fills (shards_in_items items) old old _ (Err c.in_err-check_rooms.field-0.0) c.in_err-check_rooms.ensures (search rules, refl)),
     )
 
 pub fill_rooms-requires : goal.fill_rooms-requires
@@ -76,6 +76,6 @@ returns-clause-answer c =
       (
         items,
         c.restored_original_iter-2.ensures.listed,
-        fills-done (shards_in_items items) old _ _ (c.in_ok-check_rooms.ensures ∙ ap (λ l. rooms_fit (shards_in_items l) old) same) refl c.fill_rooms.ensures.filled,
+        fills (shards_in_items items) old _ _ (Ok tt) (c.in_ok-check_rooms.ensures ∙ ap (λ l. rooms_fit (shards_in_items l) old) same) (refl, c.fill_rooms.ensures.filled),
       ),
     )

@@ -5,7 +5,7 @@ use Rattle.rs_rate.specs.ResultView.{recovery_shards}
 use Rattle.reed_solomon_simd.proofs.Giving.{always-run}
 use Rattle.reed_solomon_simd.proofs.OneCall.{encoding-uncounted, encoding-refused, encoding-answers}
 use Rattle.rs_c.specs.Arrays.{shards_of, bytes_in, rooms_fit}
-use Rattle.rs_c.proofs.RoomLemmas.{fills-refused, fills-done}
+use Rattle.rs_c.proofs.RoomLemmas.{fills}
 use Rattle.rs_c.proofs.encoding.encode_arrays.Goals as goal
 
 pub returns-in_err-counts-clause-answer : goal.returns-in_err-counts-clause-answer
@@ -35,7 +35,7 @@ returns-in_err-check_rooms-clause-answer c =
     let old = bytes_in c.args.recovery.now in (
       Ok shards,
       encoding-answers c.args.original_count c.args.recovery_count _ _ led (Ok shards) c.in_ok-result.ensures.answer,
-      fills-refused shards old old _ c.in_err-check_rooms.field-0.0 (c.in_err-check_rooms.ensures ∙ ap (λ l. rooms_fit l old) c.recovery_iter.ensures.shards) (search rules) refl,
+      fills shards old old _ (Err c.in_err-check_rooms.field-0.0) (c.in_err-check_rooms.ensures ∙ ap (λ l. rooms_fit l old) c.recovery_iter.ensures.shards) (search rules, refl),
     )
 
 pub fill_rooms-requires : goal.fill_rooms-requires
@@ -50,6 +50,6 @@ returns-clause-answer c =
     let old = bytes_in c.args.recovery.now in (
       Ok shards,
       encoding-answers c.args.original_count c.args.recovery_count _ _ led (Ok shards) c.in_ok-result.ensures.answer,
-      fills-done shards old _ _ (c.in_ok-check_rooms.ensures ∙ ap (λ l. rooms_fit l old) c.recovery_iter.ensures.shards) refl
-          (c.fill_rooms.ensures.filled ∙ c.recovery_iter-2.ensures.shards),
+      fills shards old _ _ (Ok tt) (c.in_ok-check_rooms.ensures ∙ ap (λ l. rooms_fit l old) c.recovery_iter.ensures.shards)
+          (refl, c.fill_rooms.ensures.filled ∙ c.recovery_iter-2.ensures.shards),
     )
