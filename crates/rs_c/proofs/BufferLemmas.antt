@@ -3,9 +3,7 @@ use Rattle.std.proofs.Common.{◌≡◌, ℕ, zero, suc, ◌+◌, ◌-◌, ◌*�
 use Rattle.std.specs.Prelude.{unwrap_or}
 use Rattle.std.proofs.Math.Nat.{suc-mul, mul-le-mul_right}
 use Rattle.std.proofs.Math.Seq.{take-add}
-use Rattle.std.proofs.lemmas.Grind.{common_steps}
 use Rattle.std.proofs.lemmas.List.{append_assoc, length-append, length-drop, length-take-le, drop-drop}
-use borrow.Rule.Slice.PartMut.{put_mid}
 use Rattle.rs_field.specs.code.Column.{Shard, IsShard}
 use Rattle.rs_field.specs.code.Given.{Shards}
 use Rattle.rs_c.specs.Buffers.{joined, with_restored, AreSized}
@@ -31,16 +29,6 @@ written-next whole at end old new x rest w same ends now =
       is_whole = ap (λ (l : List ℕ). l ++ rest) now ∙ append_assoc (take at old) x rest ∙ w.is_whole;
     }
 
--- what was there stays
-pub written-kept : (whole : List ℕ) (at n : ℕ) (bytes rest : List ℕ) → IsWritten whole at bytes (take n (drop at bytes) ++ rest) → at + n ≤ length bytes → IsWritten whole (at + n) bytes rest
-written-kept whole at n bytes rest w room =
-    let here = take-add at n bytes in
-    record {
-      inside = room;
-      size = w.size;
-      is_whole = ap (λ (l : List ℕ). l ++ rest) here ∙ append_assoc (take at bytes) (take n (drop at bytes)) rest ∙ w.is_whole;
-    }
-
 -- shards of one size one behind the other have so many bytes
 pub length-joined : (size : ℕ) (shards : List Shard) → All (IsShard size) shards → length (joined shards) ≡ length shards * size
 length-joined size [] sized = omega arith
@@ -63,44 +51,32 @@ length-restored restored i size (suc n) bytes sized h =
     let first = length-placed size (restored i) (take size bytes) (sized i) (length-take-le size bytes (omega (arith, h, more))) in
     simp length-append (omega (arith, first, others, more))
 
--- the first of the places that are left
-pub restored-step : (restored : Shards) (i n size : ℕ) (bytes : List ℕ) → i < n
-    → with_restored restored i size (n - i) bytes ≡ unwrap_or (restored i) (take size bytes) ++ with_restored restored (i + 1) size (n - (i + 1)) (drop size bytes)
-restored-step restored i n size bytes h = let one_less : n - i ≡ suc (n - (i + 1)) = omega arith in ap (λ (m : ℕ). with_restored restored i size m bytes) one_less
-
 -- a place that is left lies within the buffer
 pub place-inside : (i n size at length_is : ℕ) → i < n → at ≡ i * size → length_is ≡ n * size → at + size ≤ length_is
 place-inside i n size at length_is h from whole =
     let more = suc-mul i size in let below = mul-le-mul_right size (let k : suc i ≤ n = omega (arith, h) in k) in omega (arith, more, below, from, whole)
-
--- the place behind it
-pub place-next : (i size at : ℕ) → at ≡ i * size → at + size ≡ (i + 1) * size
-place-next i size at from = let more = suc-mul i size in ap (λ (n : ℕ). n + size) from ∙ omega (arith, more)
 
 module _ (restored : Shards) (i n size : ℕ) (whole : List ℕ) (at : ℕ) (old : List ℕ) (inside : i < n)
     (w : IsWritten whole at old (with_restored restored i size (n - i) (drop at old))) where
   -- what is to be written next, and what after it
   by-place : IsWritten whole at old (unwrap_or (restored i) (take size (drop at old)) ++ with_restored restored (i + 1) size (n - (i + 1)) (drop (at + size) old))
   by-place =
-      subst (λ (rest : List ℕ). IsWritten whole at old (unwrap_or (restored i) (take size (drop at old)) ++ with_restored restored (i + 1) size (n - (i + 1)) rest)) (drop-drop size at old)
-      (subst (IsWritten whole at old) (restored-step restored i n size (drop at old) inside) w)
+      let one_less : n - i ≡ suc (n - (i + 1)) = omega (arith, inside) in
+      rw (drop-drop size at old) at (subst (λ (m : ℕ). IsWritten whole at old (with_restored restored i size m (drop at old))) one_less w)
 
-  -- a restored shard is written to its place
-  pub place-written : (new shard : List ℕ) → restored i ≡ Some shard → length shard ≡ size → length new ≡ length old
+  -- it is written to its place
+  pub place-written : (new shard : List ℕ) → unwrap_or (restored i) (take size (drop at old)) ≡ shard → length shard ≡ size → length new ≡ length old
       → take (at + size) new ≡ take at old ++ shard → drop (at + size) new ≡ drop (at + size) old
       → IsWritten whole (at + size) new (with_restored restored (i + 1) size (n - (i + 1)) (drop (at + size) new))
   place-written new shard is sized same front back =
       subst (λ (rest : List ℕ). IsWritten whole (at + size) new (with_restored restored (i + 1) size (n - (i + 1)) rest)) (sym back)
       (written-next whole at (at + size) old new shard _
-      (subst (λ (o : Option Shard). IsWritten whole at old (unwrap_or o (take size (drop at old)) ++ with_restored restored (i + 1) size (n - (i + 1)) (drop (at + size) old))) is by-place)
+      (subst (λ (x : List ℕ). IsWritten whole at old (x ++ with_restored restored (i + 1) size (n - (i + 1)) (drop (at + size) old))) is by-place)
       same (ap (λ (m : ℕ). at + m) (sym sized)) front)
 
-  -- a shard that isn't restored stays
+  -- or it is what was there, where none is restored
   pub place-kept : restored i ≡ None → at + size ≤ length old → IsWritten whole (at + size) old (with_restored restored (i + 1) size (n - (i + 1)) (drop (at + size) old))
   place-kept is room =
-      written-kept whole at size old _
-      (subst (λ (o : Option Shard). IsWritten whole at old (unwrap_or o (take size (drop at old)) ++ with_restored restored (i + 1) size (n - (i + 1)) (drop (at + size) old))) is by-place) room
-
--- a write to a place leaves the length
-pub length-written : (at size : ℕ) (old copy : List ℕ) → length copy ≡ size → at + size ≤ length old → length (put_mid at (at + size - at) old copy) ≡ length old
-length-written at size old copy sized room = grind (arith, common_steps)
+      let left = length-drop at old in
+      place-written old (take size (drop at old)) (ap (λ (o : Option Shard). unwrap_or o (take size (drop at old))) is) (length-take-le size (drop at old) (omega (arith, left, room)))
+      refl (take-add at size old) refl

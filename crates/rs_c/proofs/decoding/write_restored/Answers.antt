@@ -1,10 +1,12 @@
 use Rattle.std.proofs.Common.{rules, ◌≡◌, ℕ, ◌+◌, ◌-◌, ◌*◌, ◌<◌, ◌≤◌, List, ◌++◌, length, take, drop, Some, None, sym, ap, subst, ◌∙◌, arith}
+use Rattle.std.specs.Prelude.{unwrap_or}
 use Rattle.std.proofs.lemmas.Slice.{take-put_mid, drop-put_mid}
+use Rattle.std.proofs.lemmas.List.{places}
 use borrow.Rule.Slice.PartMut.{put_mid}
 use Rattle.rs_field.specs.code.Given.{Shards}
 use Rattle.rs_rate.specs.ResultView.{restored_originals}
 use Rattle.rs_c.specs.Buffers.{with_restored}
-use Rattle.rs_c.proofs.BufferLemmas.{IsWritten, length-restored, place-inside, place-next, place-written, place-kept, length-written}
+use Rattle.rs_c.proofs.BufferLemmas.{IsWritten, length-restored, place-inside, place-written, place-kept}
 use Rattle.rs_c.proofs.decoding.write_restored.Goals.{in-Some, in_default}
 use Rattle.rs_c.proofs.decoding.write_restored.Goals as goal
 
@@ -32,7 +34,7 @@ loop-index-preserved c =
     let w : IsWritten whole at old (with_restored restored i size (n - i) (drop at old)) = c.loop-index.invariant.1 in
     let long : length old ≡ n * size = w.size ∙ length-restored restored 0 size n c.args.originals.now c.requires.sized c.requires.room in
     let room : at + size ≤ length old = place-inside i n size at (length old) inside c.loop-index.invariant.0 long in (
-      place-next i size at c.loop-index.invariant.0,
+      omega (arith, c.loop-index.invariant.0),
       elim c.match-restored_original.branch [
         | in-Some v ↦
             let shard : List ℕ = v.in-Some.shard.now in
@@ -46,9 +48,9 @@ loop-index-preserved c =
             take-put_mid at (at + size - at) old copy (at + size) (omega (arith, long_copy)) w.inside ∙ ap (λ (x : List ℕ). take at old ++ x) copied
             in
             let back : drop (at + size) new ≡ drop (at + size) old = drop-put_mid at (at + size - at) old copy (at + size) (omega arith) w.inside (omega (arith, long_copy)) in
-            let same : length new ≡ length old = length-written at size old copy long_copy room in
+            let same : length new ≡ length old = search (rules, places) in
             subst (λ (bytes : List ℕ). IsWritten whole (at + size) bytes (with_restored restored (i + 1) size (n - (i + 1)) (drop (at + size) bytes))) (sym v.originals-is)
-            (place-written restored i n size whole at old inside w new shard is sized same front back)
+            (place-written restored i n size whole at old inside w new shard (ap (λ o. unwrap_or o (take size (drop at old))) is) sized same front back)
         | in_default v ↦
             let is : restored i ≡ None = search rules in
             subst (λ (bytes : List ℕ). IsWritten whole (at + size) bytes (with_restored restored (i + 1) size (n - (i + 1)) (drop (at + size) bytes))) (sym v.originals-is)
