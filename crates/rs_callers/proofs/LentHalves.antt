@@ -7,13 +7,14 @@ use Rattle.rs_field.specs.rows.View.{Fits, HasRows, row_at}
 use Rattle.rs_field.specs.rows.Lending.{between, with_two}
 use Rattle.rs_field.specs.declared.rows.shards.ShardsRefMut.{ShardsRefMut}
 use Rattle.rs_callers.specs.SwappedRows.{HasFirstRow}
-use Rattle.rs_callers.proofs.LentRows.{run-long, ends, swapped_rows}
+use Rattle.rs_field.proofs.of_rows.LentChunks.{taken}
+use Rattle.rs_callers.proofs.LentRows.{ends, swapped_rows}
 
 -- the rows of a part fit its chunks
 pub fits-part : (h : ShardsRefMut) (i m : ℕ) (r : ShardsRefMut) → i * h.shard_len_64 + m * h.shard_len_64 ≤ length h.chunks.now → HasRows h i m r → Fits r
 fits-part h i m r within is =
     let size = ap₂ (λ u v. u * v) is.count is.len_64 in
-    let long = ap length is.chunks ∙ run-long h.chunks.now (i * h.shard_len_64) (m * h.shard_len_64) within in
+    let long = ap length is.chunks ∙ taken h.chunks.now (i * h.shard_len_64) (m * h.shard_len_64) within in
     omega (arith, size, long)
 
 -- what is left of a list after n elements, up to m and from there on

@@ -1,6 +1,6 @@
 -- A list of rows is lent for a call, and comes back as what became of it.
-use Rattle.rs_field.proofs.Walking.{ℕ, List, [], ◌∷◌, named, Lft, flft, full_share, wand, apply∗, GName, fdead, fres, RattleType, MutBor, MutRef, mut_vals}
-use Rattle.rs_field.proofs.Walking.{‵, ◌⊛◌, raw, some, later, ◌$◌, ◌∵◌, !, qed, move, keep, split, split3, await, pick, done, use1, use2, use3}
+use Rattle.rs_field.proofs.Walking.{ℕ, [], ◌∷◌, named, Lft, flft, full_share, wand, apply∗, GName, fdead, fres, RattleType, MutBor, MutRef, mut_vals}
+use Rattle.rs_field.proofs.Walking.{‵, ◌⊛◌, raw, some, later, ◌$◌, ◌∵◌, !, qed, move, keep, split, await, pick, done, use1, use2, use3}
 use seplogic.Ra.Ura.{Ura}
 use base.Share
 use base.Logic.{ent, sep}

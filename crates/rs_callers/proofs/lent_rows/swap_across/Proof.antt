@@ -1,4 +1,4 @@
-use Rattle.rs_field.proofs.Walking.{◌≡◌, refl, sym, ◌∙◌, ◌+◌, ◌*◌, ◌<◌, ◌≤◌, arith, [], ◌∷◌, ◌++◌, length, named, w64, id⊢, emp, Lft, ftrue, flft, fact, fact_i, tables, proved, ‵, ◌⊛◌, raw, some, later, ◌$◌, ◌∵◌, !, qed, move, keep, drop, split, split3, join, fsplit, fjoin, feq_i, use0, use1, use2, await, pick, suffices, done, rewrite, stop, addr, of_opd, returns, enter, no_more, and_then, alloc_all, pass_all, free_all, look_at, get, through, sets, lands_as, usize, yes, Is, shows, uint_vals, uint_Tells, uint_Makes, RattleType, owns, Valss, MutBor, MutRef, mut_vals, mut_Tells, plain, named_lft, Array, nothing, heard, peeks, owned, row, tuple_type, calls_at, lasts, triple_of, framed, Stays, stay_dropped, walk_of, ends_at, Goes-dropped, use3, unit_lit, stay_ref, Goes-ref, fres, GName, vunit, fsplit3, ◌-◌}
+use Rattle.rs_field.proofs.Walking.{◌≡◌, refl, sym, ◌∙◌, ◌+◌, ◌*◌, ◌<◌, ◌≤◌, arith, [], ◌∷◌, length, named, w64, id⊢, emp, Lft, ftrue, flft, fact, fact_i, tables, proved, ‵, ◌⊛◌, raw, some, later, ◌$◌, ◌∵◌, !, qed, move, keep, drop, split, split3, join, fsplit, fjoin, feq_i, use0, use1, use2, await, pick, suffices, done, rewrite, stop, addr, of_opd, returns, enter, no_more, and_then, alloc_all, pass_all, free_all, look_at, get, through, sets, lands_as, usize, yes, Is, shows, uint_vals, uint_Tells, uint_Makes, RattleType, owns, Valss, MutBor, MutRef, mut_vals, mut_Tells, plain, named_lft, Array, nothing, heard, peeks, owned, row, tuple_type, calls_at, lasts, triple_of, framed, Stays, stay_dropped, walk_of, ends_at, Goes-dropped, use3, unit_lit, stay_ref, Goes-ref, fres, GName, vunit, fsplit3, ◌-◌}
 use base.Share
 use denote.Follow.{both_by}
 use Rattle.rs_field.proofs.of_rows.LentChunks.{E, Bare}
