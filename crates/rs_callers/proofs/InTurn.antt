@@ -1,5 +1,5 @@
 -- Listed shards that are given in turn: what one of them leads to.
-use Rattle.std.proofs.Common.{◌≡◌, ℕ, ◌+◌, ◌<◌, Bool, true, false, cond, List, ◌∷◌, length, map, drop, get_or, Result, Ok, Err, sym, ap, ap₂, ◌∙◌, arith, Vec, drop-cons, add-one}
+use Rattle.std.proofs.Common.{◌≡◌, refl, ℕ, ◌+◌, ◌<◌, Bool, true, false, List, ◌∷◌, length, map, drop, get_or, Result, Ok, Err, sym, ap, ◌∙◌, Vec, drop-cons, add-one}
 use Rattle.std.specs.List.{enumerate_from, filter}
 use Rattle.reed_solomon_simd.specs.declared.Error.{Error}
 use Rattle.reed_solomon_simd.specs.Column.{Shard}
@@ -26,24 +26,14 @@ module _ {S : Type 0} (add : S → ℕ × Shard → Result S Error) (kept : ℕ 
   -- a shard that is kept, and taken
   pub kept-next : (s next : S) (n m index : ℕ) (shard : Shard) (shards rest : List Shard) → shards ≡ shard ∷ rest → index ≡ n → m ≡ n + 1 → kept (index, shard) ≡ true
       → add s (index, shard) ≡ Ok next → led_by s n shards ≡ led_by next m rest
-  kept-next s next n m index shard shards rest is first after keeps taken =
-      ap₂ (led_by s) (sym first) is
-      ∙ ap (λ b. one_by_one add s (cond b ((index, shard) ∷ filter kept (enumerate_from (index + 1) rest)) (filter kept (enumerate_from (index + 1) rest)))) keeps
-      ∙ taken-next add s next (index, shard) (filter kept (enumerate_from (index + 1) rest)) taken
-      ∙ ap (λ k. led_by next k rest) (omega arith)
+  kept-next s next n m index shard shards rest is first after keeps taken = rw (is, after, ← first, keeps, taken) refl
 
   -- a shard that is kept, and refused
   pub kept-refused : (s : S) (n index : ℕ) (shard : Shard) (shards rest : List Shard) (e : Error) → shards ≡ shard ∷ rest → index ≡ n → kept (index, shard) ≡ true
       → add s (index, shard) ≡ Err e → led_by s n shards ≡ Err e
-  kept-refused s n index shard shards rest e is first keeps refused =
-      ap₂ (led_by s) (sym first) is
-      ∙ ap (λ b. one_by_one add s (cond b ((index, shard) ∷ filter kept (enumerate_from (index + 1) rest)) (filter kept (enumerate_from (index + 1) rest)))) keeps
-      ∙ ap (result_and_then (λ t. one_by_one add t (filter kept (enumerate_from (index + 1) rest)))) refused
+  kept-refused s n index shard shards rest e is first keeps refused = rw (is, ← first, keeps, refused) refl
 
   -- a shard that is passed over
   pub lost-next : (s : S) (n m index : ℕ) (shard : Shard) (shards rest : List Shard) → shards ≡ shard ∷ rest → index ≡ n → m ≡ n + 1 → kept (index, shard) ≡ false
       → led_by s n shards ≡ led_by s m rest
-  lost-next s n m index shard shards rest is first after passes =
-      ap₂ (led_by s) (sym first) is
-      ∙ ap (λ b. one_by_one add s (cond b ((index, shard) ∷ filter kept (enumerate_from (index + 1) rest)) (filter kept (enumerate_from (index + 1) rest)))) passes
-      ∙ ap (λ k. led_by s k rest) (omega arith)
+  lost-next s n m index shard shards rest is first after passes = rw (is, after, ← first, passes) refl

@@ -1,6 +1,7 @@
 -- What stands where in a list of which the first rows of both parts after a split changed places.
 use Rattle.std.proofs.Common.{◌≡◌, ℕ, ◌+◌, ◌-◌, ◌*◌, ◌<◌, ◌≤◌, [], ◌++◌, length, take, drop, sym, ap, ap₂, ◌∙◌, refl, arith}
-use Rattle.std.proofs.lemmas.List.{append_assoc, take-append-drop, drop-take, drop-append-le, length-take-le, length-drop}
+use Rattle.std.proofs.lemmas.List.{append_assoc, take-append-drop, drop-append-le, length-take-le, length-drop}
+use Rattle.std.proofs.lemmas.Slice.{between_is}
 use lib.Seq.{drop-drop, take-take}
 use Rattle.rs_field.specs.rows.Rows.{Chunks}
 use Rattle.rs_field.specs.rows.View.{Fits, HasRows, row_at}
@@ -33,10 +34,7 @@ joined-parts ch first second a n m short₁ short₂ within =
     none = let e : a - (0 + a) ≡ 0 = omega arith in ap (λ k. take k (drop (0 + a) ch)) e
 
     gap : drop n (take a ch) ≡ between (0 + n) a ch
-    gap =
-        let e : a ≡ n + (a - n) = omega (arith, short₁) in
-        let f : n ≡ 0 + n = omega arith in
-        ap (λ k. drop n (take k ch)) e ∙ drop-take n (a - n) ch ∙ ap (λ k. take (a - k) (drop k ch)) f
+    gap = let from : n ≡ 0 + n = omega arith in ap (λ k. drop k (take a ch)) from ∙ sym (between_is ch (0 + n) a)
 
     last : (second ++ drop n (take m (drop a ch))) ++ drop (a + m) ch ≡ second ++ drop (a + n) ch
     last =

@@ -1,11 +1,11 @@
-use Rattle.rs_field.proofs.Walking.{◌≡◌, refl, sym, ◌∙◌, ◌+◌, ◌*◌, ◌<◌, ◌≤◌, arith, [], ◌∷◌, length, named, w64, id⊢, emp, Lft, ftrue, flft, fact, fact_i, tables, proved, ‵, ◌⊛◌, raw, some, later, ◌$◌, ◌∵◌, !, qed, move, keep, drop, split, split3, join, fsplit, fjoin, feq_i, use0, use1, use2, await, pick, suffices, done, rewrite, stop, addr, of_opd, returns, enter, no_more, and_then, alloc_all, pass_all, free_all, look_at, get, through, sets, lands_as, usize, yes, Is, shows, uint_vals, uint_Tells, uint_Makes, RattleType, owns, Valss, MutBor, MutRef, mut_vals, mut_Tells, plain, named_lft, Array, nothing, heard, peeks, owned, row, tuple_type, calls_at, lasts, triple_of, framed, Stays, stay_dropped, walk_of, ends_at, Goes-dropped, use3, unit_lit, stay_ref, Goes-ref, fres, GName, vunit, fsplit3, ◌-◌}
+use Rattle.rs_field.proofs.Walking.{◌≡◌, refl, sym, ◌∙◌, ◌+◌, ◌*◌, ◌<◌, ◌≤◌, arith, [], ◌∷◌, length, named, w64, id⊢, emp, Lft, ftrue, flft, fact, fact_i, tables, proved, ‵, ◌⊛◌, raw, some, later, ◌$◌, ◌∵◌, !, qed, move, keep, drop, split, split3, join, fsplit, fjoin, feq_i, use0, use1, use2, await, pick, suffices, done, rewrite, stop, addr, of_opd, returns, enter, no_more, and_then, alloc_all, pass_all, free_all, look_at, get, through, sets, lands_as, usize, yes, Is, shows, uint_vals, uint_Tells, uint_Makes, RattleType, owns, Valss, MutBor, MutRef, mut_vals, mut_Tells, plain, named_lft, Array, nothing, heard, peeks, owned, row, tuple_type, calls_at, lasts, triple_of, framed, Stays, stay_dropped, walk_of, ends_at, says, Goes-dropped, use3, unit_lit, stay_ref, Goes-ref, fres, GName, vunit, fsplit3, ◌-◌}
 use base.Share
 use denote.Follow.{both_by}
 use Rattle.rs_field.proofs.of_rows.LentChunks.{E, Bare}
-use Rattle.rs_callers.proofs.LentWalks.{meet_⊑_right, followed₂, mem, heres_id, tuple_laws, fobs, fpick, code₀, Lent, lends, Back, gives_back}
+use Rattle.rs_callers.proofs.LentWalks.{meet_⊑_right, followed₂, mem, list-ended, tuple_laws, fpick, code₀, Lent, lends, Back, gives_back}
 use Rattle.rs_callers.proofs.LentRows.{swapped_rows, swapped}
 use Rattle.rs_callers.proofs.LentHalves.{fits-part, parted, split-written}
-use Rattle.rs_callers.specs.SwappedRows.{AreSwapped, HasFirstRow}
+use Rattle.rs_callers.specs.SwappedRows.{HasFirstRow}
 use Rattle.rs_field.specs.rows.Rows.{Chunks}
 use Rattle.rs_field.specs.rows.View.{Fits, HasRows, row_at}
 use Rattle.rs_field.specs.rows.Lending.{LendsHalves, with_chunks, with_two}
@@ -98,14 +98,10 @@ swap_across_spec 𝓤 𝓛 𝓜 𝓡 wired =
     -- [the lists; the tokens; what the loan follows; what the lender keeps; the rest of the new token]
     fpick ! (λ vss. fsplit ! $ drop ! $ fsplit ! $
     fpick ! (λ us. fsplit ! $ drop ! $ fsplit ! $ drop ! $ fsplit ! $ drop ! $ fsplit ! $ fsplit3 ! $ drop ! $
-    rewrite ! 0 (λ (k : Chunks). ‵ (fobs x'.0.chunks.ghost_name (code₀ k))) (heres_id E x'.0.chunks.now) refl $
-    use1 𝓛 (‵ (fres x'.0.chunks.ghost_name (code₀ x'.0.chunks.now))) (𝓛.names.obs-res x'.0.chunks.ghost_name (code₀ x'.0.chunks.now)) $
-    rewrite ! 0 (λ (γ : GName). ‵ (fres γ (code₀ x'.0.chunks.now))) is₁.name refl $
+    use1 𝓛 (‵ (fres x.0.chunks.ghost_name (code₀ x'.0.chunks.now))) (list-ended 𝓛 x'.0.chunks.ghost_name x'.0.chunks.now x.0.chunks.ghost_name is₁.name) $
     move ! (3 ∷ []) $ fsplit ! $
     fpick ! (λ us'. fsplit ! $ drop ! $ fsplit ! $ drop ! $ fsplit ! $ drop ! $ fsplit ! $ fsplit3 ! $ drop ! $
-    rewrite ! 0 (λ (k : Chunks). ‵ (fobs x'.1.chunks.ghost_name (code₀ k))) (heres_id E x'.1.chunks.now) refl $
-    use1 𝓛 (‵ (fres x'.1.chunks.ghost_name (code₀ x'.1.chunks.now))) (𝓛.names.obs-res x'.1.chunks.ghost_name (code₀ x'.1.chunks.now)) $
-    rewrite ! 0 (λ (γ : GName). ‵ (fres γ (code₀ x'.1.chunks.now))) is₂.name refl $
+    use1 𝓛 (‵ (fres x.1.chunks.ghost_name (code₀ x'.1.chunks.now))) (list-ended 𝓛 x'.1.chunks.ghost_name x'.1.chunks.now x.1.chunks.ghost_name is₂.name) $
     let ends : Chunks → Chunks → ShardsRefMut = λ s t. with_chunks h (with_two ch 0 (mid * n) (mid * n) (rest * n) s t) in
     let end : ShardsRefMut = swapped_rows h 0 mid in
     move ! (4 ∷ 0 ∷ []) $ join ! $ move ! (0 ∷ 8 ∷ []) $
@@ -117,10 +113,7 @@ swap_across_spec 𝓤 𝓛 𝓜 𝓡 wired =
     -- [self; its token; the list's; the other tokens]
     sets ! (of_opd ! (unit_lit !)) refl (tt, tt) $
     returns ! (look_at ! 0 refl) $ free_all ! refl $ keep ! (0 ∷ 1 ∷ 2 ∷ 3 ∷ []) $
-    suffices ! _ (ends_at 𝓛 f.ended stayed c y vunit tt (end, (tt, tt)) (tt, (tt, tt))) $
+    suffices ! _ (ends_at 𝓛 f.ended stayed c y vunit tt (end, (tt, tt)) (tt, (tt, tt))) $ says ! (swapped h 0 mid fits apart within) $
     move ! (2 ∷ 3 ∷ []) $ join ! $ move ! (2 ∷ 0 ∷ []) $ join ! $
     nothing ! $ nothing ! $ fjoin ! $ move ! (2 ∷ 0 ∷ []) $ join ! $
-    feq_i ! _ (vunit ∷ []) _ refl $ move ! (1 ∷ 0 ∷ []) $ join ! $ move ! (1 ∷ 0 ∷ []) $ join ! $
-    let Swapped : Type 0 = AreSwapped 0 mid h end in
-    use0 𝓛 (raw (fact 𝓤 Swapped)) (fact_i 𝓤 Swapped (emp 𝓤) (swapped h 0 mid fits apart within)) $
-    move ! (1 ∷ 0 ∷ []) $ join ! $ done !)))))))))))))))))))))
+    feq_i ! _ (vunit ∷ []) _ refl $ move ! (1 ∷ 0 ∷ []) $ join ! $ move ! (1 ∷ 0 ∷ []) $ join ! $ done !)))))))))))))))))))))

@@ -1,10 +1,9 @@
-use Rattle.rs_field.proofs.Walking.{◌≡◌, refl, sym, ap, ◌∙◌, ◌+◌, ◌*◌, ◌<◌, ◌≤◌, arith, [], ◌∷◌, length, named, w64, id⊢, emp, Lft, ftrue, flft, fact, fact_i, tables, proved, ‵, ◌⊛◌, raw, some, later, ◌$◌, ◌∵◌, !, qed, move, keep, drop, split, split3, join, fsplit, fjoin, feq_l, feq_i, use0, use1, use2, await, pick, suffices, done, rewrite, stop, addr, of_opd, returns, enter, no_more, and_then, alloc_all, pass_all, free_all, look_at, get, through, sets, lands_as, usize, yes, Is, shows, uint_vals, uint_Tells, uint_Makes, RattleType, owns, Valss, MutBor, MutRef, mut_vals, mut_Tells, plain, named_lft, Array, nothing, heard, only, peeks, owned, calls_at, lasts, triple_of, framed, Stays, stay_dropped, walk_of, ends_at, Goes-dropped, use3, unit_lit, stay_ref, Goes-ref, unit, fres, GName, vunit}
+use Rattle.rs_field.proofs.Walking.{◌≡◌, refl, sym, ap, ◌∙◌, ◌+◌, ◌*◌, ◌<◌, ◌≤◌, arith, [], ◌∷◌, length, named, w64, id⊢, emp, Lft, ftrue, flft, fact, fact_i, tables, proved, ‵, ◌⊛◌, raw, some, later, ◌$◌, ◌∵◌, !, qed, move, keep, drop, split, split3, join, fsplit, fjoin, feq_l, feq_i, use0, use1, use2, await, pick, suffices, done, stop, addr, of_opd, returns, enter, no_more, and_then, alloc_all, pass_all, free_all, look_at, get, through, sets, lands_as, usize, yes, Is, shows, uint_vals, uint_Tells, uint_Makes, RattleType, owns, Valss, MutBor, MutRef, mut_vals, mut_Tells, plain, named_lft, Array, nothing, heard, only, peeks, owned, calls_at, lasts, triple_of, framed, Stays, stay_dropped, walk_of, ends_at, says, Goes-dropped, use3, unit_lit, stay_ref, Goes-ref, unit, fres, GName, vunit}
 use base.Share
 use denote.Follow.{both_by}
 use Rattle.rs_field.proofs.of_rows.LentChunks.{E, Bare, Pair, pair}
-use Rattle.rs_callers.proofs.LentWalks.{meet_⊑_right, followed₂, mem, finally-res, code₀, Lent, lends, Back, gives_back}
+use Rattle.rs_callers.proofs.LentWalks.{meet_⊑_right, followed₂, mem, row-ended, code₀, Lent, lends, Back, gives_back}
 use Rattle.rs_callers.proofs.LentRows.{row-long, swapped_rows, swapped}
-use Rattle.rs_callers.specs.SwappedRows.{AreSwapped}
 use Rattle.rs_field.specs.rows.Rows.{Chunks}
 use Rattle.rs_field.specs.rows.View.{row_at}
 use Rattle.rs_field.specs.rows.Lending.{LendsTwoRows, with_chunks, with_two}
@@ -82,11 +81,9 @@ swap_rows_spec 𝓤 𝓛 𝓜 𝓡 wired =
     await ! tt $ pick ! (λ u. split ! $ split ! $ move ! (1 ∷ []) $ feq_l ! (λ is_unit. lands_as ! (ap only is_unit) refl (tt, tt) $
     move ! (1 ∷ []) $ pick ! (λ ws'. split ! $ move ! (1 ∷ []) $ split ! $ heard ! _ (λ is₁. heard ! _ (λ is₂.
     fsplit ! $ fsplit ! $ fsplit ! $ fsplit ! $
-    use1 𝓛 (‵ (fres x.0.ghost_name (code₀ ws'.0.0))) (finally-res 𝓛 E x.0.ghost_name ws'.0.0) $
-    rewrite ! 0 (λ (k : Chunks). ‵ (fres x.0.ghost_name (code₀ k))) (is₁ ∙ now₂) refl $
+    use1 𝓛 (‵ (fres x.0.ghost_name (code₀ (row_at h (pos + dist))))) (row-ended 𝓛 x.0.ghost_name ws'.0.0 (row_at h (pos + dist)) (is₁ ∙ now₂)) $
     move ! (3 ∷ []) $ fsplit ! $ fsplit ! $ fsplit ! $
-    use1 𝓛 (‵ (fres x.1.ghost_name (code₀ ws'.0.1.0))) (finally-res 𝓛 E x.1.ghost_name ws'.0.1.0) $
-    rewrite ! 0 (λ (k : Chunks). ‵ (fres x.1.ghost_name (code₀ k))) (is₂ ∙ now₁) refl $
+    use1 𝓛 (‵ (fres x.1.ghost_name (code₀ (row_at h pos)))) (row-ended 𝓛 x.1.ghost_name ws'.0.1.0 (row_at h pos) (is₂ ∙ now₁)) $
     let ends : Chunks → Chunks → ShardsRefMut = λ u t. with_chunks h (with_two ch (pos * n) n ((pos + dist) * n) n u t) in
     let end : ShardsRefMut = swapped_rows h pos (pos + dist) in
     move ! (4 ∷ 0 ∷ []) $ join ! $ move ! (0 ∷ 9 ∷ []) $
@@ -96,10 +93,7 @@ swap_rows_spec 𝓤 𝓛 𝓜 𝓡 wired =
     -- [self; its token; the list's; the other tokens]
     sets ! (of_opd ! (unit_lit !)) refl (tt, tt) $
     returns ! (look_at ! 0 refl) $ free_all ! refl $ keep ! (0 ∷ 1 ∷ 2 ∷ 3 ∷ []) $
-    suffices ! _ (ends_at 𝓛 f.ended stayed c y vunit tt (end, (tt, (tt, tt))) (tt, (tt, (tt, tt)))) $
+    suffices ! _ (ends_at 𝓛 f.ended stayed c y vunit tt (end, (tt, (tt, tt))) (tt, (tt, (tt, tt)))) $ says ! (swapped h pos (pos + dist) fits (omega (arith, apart)) within) $
     move ! (2 ∷ 3 ∷ []) $ join ! $ move ! (2 ∷ 0 ∷ []) $ join ! $
     nothing ! $ nothing ! $ fjoin ! $ nothing ! $ fjoin ! $ move ! (2 ∷ 0 ∷ []) $ join ! $
-    feq_i ! _ (vunit ∷ []) _ refl $ move ! (1 ∷ 0 ∷ []) $ join ! $ move ! (1 ∷ 0 ∷ []) $ join ! $
-    let Swapped : Type 0 = AreSwapped pos (pos + dist) h end in
-    use0 𝓛 (raw (fact 𝓤 Swapped)) (fact_i 𝓤 Swapped (emp 𝓤) (swapped h pos (pos + dist) fits (omega (arith, apart)) within)) $
-    move ! (1 ∷ 0 ∷ []) $ join ! $ done !))))))))))))))))))
+    feq_i ! _ (vunit ∷ []) _ refl $ move ! (1 ∷ 0 ∷ []) $ join ! $ move ! (1 ∷ 0 ∷ []) $ join ! $ done !))))))))))))))))))
