@@ -1,6 +1,6 @@
 -- From the calls of a decode over buffers to its answer.
-use Rattle.std.proofs.Common.{◌≡◌, ℕ, zero, suc, ◌+◌, ◌*◌, ◌==◌, ◌&&◌, Bool, true, false, not, cond, List, [], ◌∷◌, ◌++◌, length, take, drop, nat_lt, if◌then◌else◌, Some, None, is_some, Result, Ok, Err, MatchResult, inl, sym, ap, subst, ◌∙◌, refl, arith}
-use Rattle.std.proofs.lemmas.Bool.{ltb-true}
+use Rattle.std.proofs.Common.{◌≡◌, ℕ, zero, suc, ◌+◌, ◌*◌, ◌==◌, ◌&&◌, Bool, true, false, not, List, [], ◌∷◌, ◌++◌, length, take, drop, nat_lt, if◌then◌else◌, Some, None, is_some, Result, Ok, Err, MatchResult, inl, inr, sym, ap, ◌∙◌, refl, arith}
+use Rattle.std.proofs.lemmas.Bool.{cases_eq, eq-eqb, ne_eqb, ltb-true}
 use Rattle.std.proofs.Math.Nat.{suc-mul}
 use Rattle.std.proofs.lemmas.List.{length-take-le, length-drop, take-append-drop, nil_from_length}
 use Rattle.std.specs.List.{count_by}
@@ -36,13 +36,12 @@ marked-sized : (i size : ℕ) (marks bytes : List ℕ) (first : ℕ × Shard) (r
 marked-sized i size [] bytes first rest sized is = absurd (let no : ⊥ = cc in no)
 marked-sized i size (mark ∷ marks) bytes first rest sized is =
     let more = suc-mul (length marks) size in
-    by_mark (mark == 0) is (marked-sized (i + 1) size marks (drop size bytes) first rest (length-drop size bytes ∙ omega (arith, sized, more)))
-    (length-take-le size bytes (omega (arith, sized, more)))
-  where
-    by_mark : (lost : Bool) → (if lost then marked (i + 1) size marks (drop size bytes) else (i, take size bytes) ∷ marked (i + 1) size marks (drop size bytes)) ≡ first ∷ rest
-        → (marked (i + 1) size marks (drop size bytes) ≡ first ∷ rest → length first.1 ≡ size) → length (take size bytes) ≡ size → length first.1 ≡ size
-    by_mark true is further long = further is
-    by_mark false is further long = let same : (i, take size bytes) ≡ first = cc in ap (λ (item : ℕ × Shard). length item.1) (sym same) ∙ long
+    elim (cases_eq mark 0) [
+      | inl lost ↦ marked-sized (i + 1) size marks (drop size bytes) first rest (length-drop size bytes ∙ omega (arith, sized, more)) (rw (eq-eqb mark 0 lost) at is)
+      | inr kept ↦
+          let there = rw (ne_eqb mark 0 kept) at is in let same : (i, take size bytes) ≡ first = cc in
+          ap (λ (item : ℕ × Shard). length item.1) (sym same) ∙ length-take-le size bytes (omega (arith, sized, more))
+    ]
 
 -- what a decoder of marked shards restores has their size
 pub restored-sized : (k r size : ℕ) (originals : Items) (marks bytes : List ℕ) (given : DecoderState) (restored : Shards) → length bytes ≡ length marks * size
@@ -61,18 +60,16 @@ restored-sized k r size originals marks bytes given restored whole is answers i 
 -- where none is, none comes
 pub marked-none : (i size : ℕ) (marks bytes : List ℕ) → present marks ≡ 0 → marked i size marks bytes ≡ []
 marked-none i size [] bytes none = refl
-marked-none i size (mark ∷ marks) bytes none = by_mark (mark == 0) none (marked-none (i + 1) size marks (drop size bytes))
-  where
-    by_mark : (lost : Bool) → cond (not lost) (1 + present marks) (present marks) ≡ 0 → (present marks ≡ 0 → marked (i + 1) size marks (drop size bytes) ≡ [])
-        → (if lost then marked (i + 1) size marks (drop size bytes) else (i, take size bytes) ∷ marked (i + 1) size marks (drop size bytes)) ≡ []
-    by_mark true none further = further none
-    by_mark false none further = absurd (omega (arith, none))
+marked-none i size (mark ∷ marks) bytes none = elim (cases_eq mark 0) [
+  | inl lost ↦ rw (eq-eqb mark 0 lost) (marked-none (i + 1) size marks (drop size bytes) (rw (eq-eqb mark 0 lost) at none))
+  | inr kept ↦ let some = rw (ne_eqb mark 0 kept) at none in absurd (omega (arith, some))
+]
 
 -- where no recovery shard is marked, whether all originals are
 pub decodes-unmarked : (k r size : ℕ) (own other old recovery : List ℕ) (o : Result (Unit {0}) Error) → supports default_rate k r ≡ true → length own ≡ k → count_by (λ mark. not (mark == 0)) other ≡ 0
     → o ≡ all_or_refused (length own) (count_by (λ mark. not (mark == 0)) own) → IsDecoding k r (marked 0 size own old) (marked 0 size other recovery) (result_and_then (λ _. Ok None) o)
 decodes-unmarked k r size own other old recovery o supported many none is =
-    subst (λ items. IsDecoding k r (marked 0 size own old) items (result_and_then (λ _. Ok None) o)) (sym (marked-none 0 size other recovery (count-present other ∙ none)))
+    rw (marked-none 0 size other recovery (count-present other ∙ none))
     (decoding-none k r (marked 0 size own old) o supported (inl (is ∙ ap (λ (n : ℕ). all_or_refused n (count_by (λ mark. not (mark == 0)) own)) many ∙ sym (originals_alone-marked k size own old many))))
 
 -- where nothing is restored the buffer stays
@@ -87,6 +84,4 @@ pub decodes : (k r size : ℕ) (marks recovery old new : List ℕ) (answer : Res
     → Ok tt ≡ fitting r size (length recovery) → Ok tt ≡ fitting (k + r) 1 (length marks) → OneDecodeAnswers k r (marked 0 size (take k marks) old) (marked 0 size (drop k marks) recovery) decoded
     → Writes decoded (λ restored. with_restored restored 0 size k old) old new answer → DecodesBuffer k r size marks recovery old new answer
 decodes k r size marks recovery old new answer decoded supported own other all answers writes =
-    subst (λ (o : Result (Unit {0}) Fault). MatchResult o (λ _. (decoded : Result Shards Error) × OneDecodeAnswers k r (marked 0 size (take k marks) old) (marked 0 size (drop k marks) recovery) decoded
-    × Writes decoded (λ restored. with_restored restored 0 size k old) old new answer) (λ fault. (answer ≡ Err fault) × (new ≡ old)))
-    (sym (ap (result_and_then (λ _. fitting (k + r) 1 (length marks))) (lengths-ok k r size (length old) (length recovery) supported own other) ∙ sym all)) (decoded, answers, writes)
+    rw (lengths-ok k r size (length old) (length recovery) supported own other, ← all) (decoded, answers, writes)

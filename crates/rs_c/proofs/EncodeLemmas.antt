@@ -1,5 +1,5 @@
 -- From the calls of an encode over buffers to its answer.
-use Rattle.std.proofs.Common.{◌≡◌, inl, inr, ℕ, zero, suc, ◌*◌, true, List, length, take, Result, Ok, Err, MatchResult, sym, ap, subst, ◌∙◌, refl, arith}
+use Rattle.std.proofs.Common.{◌≡◌, inl, inr, ℕ, zero, suc, ◌*◌, true, List, length, take, Result, Ok, sym, ap, ◌∙◌, refl, arith}
 use Rattle.std.proofs.Math.Nat.{suc-mul}
 use Rattle.std.proofs.lemmas.Bool.{cases_eq, ne_eqb}
 use Rattle.std.proofs.lemmas.List.{length-take-le}
@@ -37,6 +37,4 @@ recovery-length (suc n) r size bytes recovery whole coded =
 -- where counts and lengths go, what one call answers is answered
 pub encodes : (k r size : ℕ) (originals old new : List ℕ) (answer : Result (Unit {0}) Fault) (coded : Result (List Shard) Error) → supports default_rate k r ≡ true → Ok tt ≡ fitting k size (length originals)
     → Ok tt ≡ fitting r size (length old) → OneEncodeAnswers k r (cut k size originals) coded → Writes coded joined old new answer → EncodesBuffer k r size originals old new answer
-encodes k r size originals old new answer coded supported own other answers writes =
-    subst (λ (o : Result (Unit {0}) Fault). MatchResult o (λ _. (coded : Result (List Shard) Error) × OneEncodeAnswers k r (cut k size originals) coded × Writes coded joined old new answer) (λ fault. (answer ≡ Err fault) × (new ≡ old)))
-    (sym (lengths-ok k r size (length originals) (length old) supported own other)) (coded, answers, writes)
+encodes k r size originals old new answer coded supported own other answers writes = rw (lengths-ok k r size (length originals) (length old) supported own other) (coded, answers, writes)

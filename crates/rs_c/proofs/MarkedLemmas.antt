@@ -1,11 +1,10 @@
 -- Marked originals are noted one after another, and none is refused.
-use Rattle.std.proofs.Common.{◌≡◌, ℕ, ◌+◌, ◌≤◌, ◌<◌, ◌==◌, ◌||◌, Bool, true, false, not, List, [], ◌∷◌, length, take, drop, if◌then◌else◌, cond, nat_eq, Ok, ap, ◌∙◌, refl, arith}
-use Rattle.std.proofs.lemmas.Bool.{ne_eqb, lt-leb}
+use Rattle.std.proofs.Common.{◌≡◌, ℕ, ◌+◌, ◌≤◌, ◌<◌, ◌==◌, ◌||◌, Bool, false, not, List, [], ◌∷◌, length, drop, cond, nat_eq, inl, inr, Ok, ap, ◌∙◌, refl, arith}
+use Rattle.std.proofs.lemmas.Bool.{cases_eq, eq-eqb, ne_eqb, lt-leb}
 use Rattle.std.proofs.lemmas.List.Recursion.{is_count_by}
 use Rattle.std.specs.List.{count_by, list_any}
 use Rattle.rs_field.specs.code.Outcome.{result_and_then}
 use Rattle.rs_field.specs.code.OneCall.{Items, one_by_one, noted, originals_alone}
-use Rattle.reed_solomon_simd.proofs.Noting.{noted_by}
 use Rattle.rs_c.specs.Answers.{all_or_refused}
 use Rattle.rs_c.specs.Buffers.{marked}
 
@@ -24,8 +23,7 @@ IsBelow i given = (j : ℕ) → i ≤ j → list_any (nat_eq j) given ≡ false
 
 -- an index that is in range and new is noted
 noted-next : (k i : ℕ) (given : List ℕ) → i < k → IsBelow i given → noted k given i ≡ Ok (i ∷ given)
-noted-next k i given inside below =
-    ap (λ (b : Bool). noted_by k given i b (list_any (nat_eq i) given)) (lt-leb k i inside) ∙ ap (λ (b : Bool). noted_by k given i false b) (below i (omega arith))
+noted-next k i given inside below = rw (lt-leb k i inside, below i (omega arith)) refl
 
 -- and then none from the next one on is among them
 below-next : (i : ℕ) (given : List ℕ) → IsBelow i given → IsBelow (i + 1) (i ∷ given)
@@ -39,21 +37,12 @@ NotesAll k given items count =
 -- the marked originals from index i on, as many as there are marks
 notes-all : (k i size : ℕ) (marks bytes given : List ℕ) → i + length marks ≡ k → IsBelow i given → NotesAll k given (marked i size marks bytes) (present marks)
 notes-all k i size [] bytes given ends below = (given, refl, omega arith)
-notes-all k i size (mark ∷ marks) bytes given ends below =
-    by_mark (mark == 0)
-    (notes-all k (i + 1) size marks (drop size bytes) given (omega (arith, ends)) (λ j h. below j (omega (arith, h))))
-    (notes-all k (i + 1) size marks (drop size bytes) (i ∷ given) (omega (arith, ends)) (below-next i given below))
-  where
-    by_mark : (lost : Bool) → NotesAll k given (marked (i + 1) size marks (drop size bytes)) (present marks)
-        → NotesAll k (i ∷ given) (marked (i + 1) size marks (drop size bytes)) (present marks)
-        → NotesAll k given (if lost then marked (i + 1) size marks (drop size bytes) else (i, take size bytes) ∷ marked (i + 1) size marks (drop size bytes))
-        (cond (not lost) (1 + present marks) (present marks))
-    by_mark true without with = without
-    by_mark false without with = (
-      with.0,
-      ap (result_and_then (λ next. one_by_one (λ so_far item. noted k so_far item.0) next (marked (i + 1) size marks (drop size bytes)))) (noted-next k i given (omega (arith, ends)) below) ∙ with.1,
-      with.2 ∙ omega arith,
-    )
+notes-all k i size (mark ∷ marks) bytes given ends below = elim (cases_eq mark 0) [
+  | inl lost ↦ rw (eq-eqb mark 0 lost) (notes-all k (i + 1) size marks (drop size bytes) given (omega (arith, ends)) (λ j h. below j (omega (arith, h))))
+  | inr kept ↦
+      let others = notes-all k (i + 1) size marks (drop size bytes) (i ∷ given) (omega (arith, ends)) (below-next i given below) in
+      rw (ne_eqb mark 0 kept) (others.0, rw (noted-next k i given (omega (arith, ends)) below) others.1, others.2 ∙ omega arith)
+]
 
 -- whether all marked originals are given, by the number of marks
 pub originals_alone-marked : (k size : ℕ) (marks bytes : List ℕ) → length marks ≡ k
