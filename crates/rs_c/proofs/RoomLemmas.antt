@@ -54,7 +54,7 @@ shards-left i rooms left all h filled number none =
     let so_far = simp length-append at (ap length filled) in let before = length-take-le i rooms (omega (arith, h)) in
     let nothing : length left ≡ 0 = ap length none in omega (arith, h, number, so_far, before, nothing)
 
--- rooms that go or don't, with what a call does by that
+-- what a call does where rooms go with shards, and where they don't
 pub fills : (shards : List Shard) (old new : List (List ℕ)) (answer : Result (Unit {0}) Fault) (o : Result (Unit {0}) Fault) → o ≡ rooms_fit shards old
     → MatchResult o (λ _. (answer ≡ Ok tt) × (new ≡ shards)) (λ fault. (answer ≡ Err fault) × (new ≡ old)) → Fills shards old new answer
 fills shards old new answer o fit does = subst (λ (o : Result (Unit {0}) Fault). MatchResult o (λ _. (answer ≡ Ok tt) × (new ≡ shards)) (λ fault. (answer ≡ Err fault) × (new ≡ old))) fit does

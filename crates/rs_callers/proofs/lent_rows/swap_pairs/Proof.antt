@@ -104,7 +104,8 @@ swap_pairs_spec 𝓤 𝓛 𝓜 𝓡 wired =
     -- [self; its token; the list's; the other tokens]
     sets ! (of_opd ! (unit_lit !)) refl (tt, tt) $
     returns ! (look_at ! 0 refl) $ free_all ! refl $ keep ! (0 ∷ 1 ∷ 2 ∷ 3 ∷ []) $
-    suffices ! _ (ends_at 𝓛 f.ended stayed c y vunit tt (end, (tt, (tt, tt))) (tt, (tt, (tt, tt)))) $ says ! (swapped-twice h pos second third fourth fits (omega (arith, apart)) (omega (arith, apart)) (omega (arith, apart)) within) $
+    suffices ! _ (ends_at 𝓛 f.ended stayed c y vunit tt (end, (tt, (tt, tt))) (tt, (tt, (tt, tt)))) $
+    says ! (swapped-twice h pos second third fourth fits (omega (arith, apart)) (omega (arith, apart)) (omega (arith, apart)) within) $
     move ! (2 ∷ 3 ∷ []) $ join ! $ move ! (2 ∷ 0 ∷ []) $ join ! $
     nothing ! $ nothing ! $ fjoin ! $ nothing ! $ fjoin ! $ move ! (2 ∷ 0 ∷ []) $ join ! $
     feq_i ! _ (vunit ∷ []) _ refl $ move ! (1 ∷ 0 ∷ []) $ join ! $ move ! (1 ∷ 0 ∷ []) $ join ! $ done !))))))))))))))))))))))
