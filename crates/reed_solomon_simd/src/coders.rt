@@ -12,21 +12,19 @@ ghost use Rattle.reed_solomon_simd.specs.Calls.{Calls, BeginsWith, BeginsWithIte
 ghost use Rattle.reed_solomon_simd.specs.Giving.{Reaches, IsEncoding, IsDecoding};
 
 use crate::originals_alone::check_originals_alone;
-use rs_field::engine::Engine;
 use rs_field::error::Error;
-use rs_rate::rate::{
-    DefaultRateCounts, DefaultRateDecoder, DefaultRateEncoder, RateDecoder, RateEncoder,
-};
+use rs_rate::rate::{DefaultRateCounts, DefaultRateDecoder, DefaultRateEncoder};
 use std::alloc::Global;
 
 /// An encoder at these counts that was given the originals. Refused as `encode` is behind the counts, up to the last original.
+/// Its engine may be `()` as yet: then `with_engine` makes the encoder that codes, and a refusal comes before any table.
 ///
 /// ```
 /// // quoted: crates/rs/src/program.rt
 /// let shards = original.iter().map(|shard| shard.as_slice());
 /// let mut encoder = given_encoder(alloc, counts, shards, engine)?;
 /// ```
-pub fn given_encoder<'a, E: Engine, I: Iterator<Item = &'a [u8]> + Drop>(
+pub fn given_encoder<'a, E: Drop, I: Iterator<Item = &'a [u8]> + Drop>(
     alloc: Global,
     counts: DefaultRateCounts,
     mut original: I,
@@ -45,13 +43,14 @@ pub fn given_encoder<'a, E: Engine, I: Iterator<Item = &'a [u8]> + Drop>(
     };
     let size = first.len();
     let mut encoder = DefaultRateEncoder::with_counts(alloc, counts, size, engine, None)?;
-    encoder.add_original_shard(first)?;
+    encoder.give_original_shard(first)?;
     give_shards(&mut encoder, original)?;
     Ok(encoder)
 }
 
 /// A decoder at these counts that was given the originals and the recovery shards; None where no recovery shard is given
-/// and all originals are. Refused as `decode` is behind the counts, up to the last shard.
+/// and all originals are. Refused as `decode` is behind the counts, up to the last shard. Its engine may be `()` as yet, as
+/// that of `given_encoder`.
 ///
 /// ```
 /// // quoted: crates/rs/src/program.rt
@@ -59,7 +58,7 @@ pub fn given_encoder<'a, E: Engine, I: Iterator<Item = &'a [u8]> + Drop>(
 ///     return Ok(Vec::new(alloc));
 /// };
 /// ```
-pub fn given_decoder<'a, E: Engine, O, R>(
+pub fn given_decoder<'a, E: Drop, O, R>(
     alloc: Global,
     counts: DefaultRateCounts,
     original: O,
@@ -84,84 +83,55 @@ where
     let size = first_shard.len();
     let mut decoder = DefaultRateDecoder::with_counts(alloc, counts, size, engine, None)?;
     give_originals(&mut decoder, original)?;
-    decoder.add_recovery_shard(first_index, first_shard)?;
+    decoder.give_recovery_shard(first_index, first_shard)?;
     give_recovery(&mut decoder, recovery)?;
     Ok(Some(decoder))
 }
 
-/// Gives an encoder shards in order; the first refused one decides.
-///
-/// ```
-/// // quoted: crates/rs_callers/src/rate_round_trip.rt
-/// let shards = originals.iter().map(|original| original.as_slice());
-/// give_shards(encoder, shards)
-/// ```
-pub fn give_shards<'a, E: Engine, X: RateEncoder<E>, I: Iterator<Item = &'a [u8]> + Drop>(
-    encoder: &mut X,
+// Gives an encoder shards in order; the first refused one decides.
+fn give_shards<'a, E: Drop, I: Iterator<Item = &'a [u8]> + Drop>(
+    encoder: &mut DefaultRateEncoder<E>,
     shards: I,
 ) -> Result<(), Error>
     requires can { I.can_next shards }
     requires ends { IsFinite (I.remaining shards) }
     ensures { (calls : Calls I.next_gives shards) × ((items : List Shard) → BeginsWith items calls
-        → Reaches (with_shards (X.state encoder.old) items) result (λ s. X.state encoder.new ≡ s)) }
+        → Reaches (with_shards (encoder_state default_rate encoder.old.rows) items) result (λ s. encoder_state default_rate encoder.new.rows ≡ s)) }
 {
     for shard in shards {
-        encoder.add_original_shard(shard)?;
+        encoder.give_original_shard(shard)?;
     }
     Ok(())
 }
 
-/// Gives a decoder originals in order; the first refused one decides.
-///
-/// ```
-/// // quoted: crates/rs_callers/src/rate_round_trip.rt
-/// let kept = originals
-///     .iter()
-///     .map(|original| original.as_slice())
-///     .enumerate()
-///     .filter(|item| !lost.contains(&item.0));
-/// give_originals(decoder, kept)
-/// ```
-pub fn give_originals<
-    'a,
-    E: Engine,
-    X: RateDecoder<E>,
-    I: Iterator<Item = (usize, &'a [u8])> + Drop,
->(decoder: &mut X, originals: I) -> Result<(), Error>
+// Gives a decoder originals in order; the first refused one decides.
+fn give_originals<'a, E: Drop, I: Iterator<Item = (usize, &'a [u8])> + Drop>(
+    decoder: &mut DefaultRateDecoder<E>,
+    originals: I,
+) -> Result<(), Error>
     requires can { I.can_next originals }
     requires ends { IsFinite (I.remaining originals) }
     ensures { (calls : Calls I.next_gives originals) × ((items : Items) → BeginsWithItems items calls
-        → Reaches (with_originals (X.state decoder.old) items) result (λ s. X.state decoder.new ≡ s)) }
+        → Reaches (with_originals (decoder_state default_rate decoder.old.rows) items) result (λ s. decoder_state default_rate decoder.new.rows ≡ s)) }
 {
     for (index, shard) in originals {
-        decoder.add_original_shard(index, shard)?;
+        decoder.give_original_shard(index, shard)?;
     }
     Ok(())
 }
 
-/// Gives a decoder recovery shards in order; the first refused one decides.
-///
-/// ```
-/// // quoted: crates/rs_callers/src/rate_round_trip.rt
-/// let received = recovery
-///     .recovery_iter()
-///     .enumerate()
-///     .filter(|item| !lost.contains(&item.0));
-/// give_recovery(decoder, received)
-/// ```
-pub fn give_recovery<
-    'a,
-    E: Engine,
-    X: RateDecoder<E>,
-    I: Iterator<Item = (usize, &'a [u8])> + Drop,
->(decoder: &mut X, recovery: I) -> Result<(), Error>
+// Gives a decoder recovery shards in order; the first refused one decides.
+fn give_recovery<'a, E: Drop, I: Iterator<Item = (usize, &'a [u8])> + Drop>(
+    decoder: &mut DefaultRateDecoder<E>,
+    recovery: I,
+) -> Result<(), Error>
     requires can { I.can_next recovery }
     requires ends { IsFinite (I.remaining recovery) }
     ensures { (calls : Calls I.next_gives recovery) × ((items : Items) → BeginsWithItems items calls
-        → Reaches (with_recoveries (X.state decoder.old) items) result (λ s. X.state decoder.new ≡ s)) }
+        → Reaches (with_recoveries (decoder_state default_rate decoder.old.rows) items) result (λ s. decoder_state default_rate decoder.new.rows ≡ s)) }
 {
     for (index, shard) in recovery {
-        decoder.add_recovery_shard(index, shard)?;
+        decoder.give_recovery_shard(index, shard)?;
     }
     Ok(())
 }

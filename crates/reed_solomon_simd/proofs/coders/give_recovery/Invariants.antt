@@ -1,10 +1,12 @@
 use Rattle.std.proofs.Common.{ℕ}
 use Rattle.rs_field.specs.code.Column.{Shard}
+use Rattle.rs_field.specs.code.Counts.{default_rate}
 use Rattle.rs_field.specs.code.Decoder.{with_recovery}
+use Rattle.rs_rate.specs.DecoderView.{decoder_state}
 use Rattle.reed_solomon_simd.proofs.Giving.{LeadsOn}
 use Rattle.reed_solomon_simd.proofs.coders.give_recovery.Given as goal
 
 abbrev pub invariant-loop-index : goal.invariant-loop-index
 invariant-loop-index g l =
     LeadsOn {T = ℕ × Shard} g.I.Iterator.next_gives (λ item. (item.0, item.1.now)) (λ now item. with_recovery now item.0 item.1)
-    l.fn.recovery (g.X.RateDecoder.state l.initial.decoder) l.index-iterator (g.X.RateDecoder.state l.decoder)
+    l.fn.recovery (decoder_state default_rate l.initial.decoder.rows) l.index-iterator (decoder_state default_rate l.decoder.rows)

@@ -39,8 +39,8 @@ returns-in_err-give_originals g c =
           (both-err made originals (item ∷ others) _ (reached-err _ _ _ (c.in_err-give_originals.ensures.1 originals begins))) in search rules,
     )
 
-pub returns-in_err-add_recovery_shard : goal.returns-in_err-add_recovery_shard
-returns-in_err-add_recovery_shard g c =
+pub returns-in_err-give_recovery_shard : goal.returns-in_err-give_recovery_shard
+returns-in_err-give_recovery_shard g c =
     let item : ℕ × Shard = (c.in-Some.first_index, c.in-Some.first_shard.now) in
     let made = decoder_state default_rate c.in_ok-decoder.decoder.rows in
     let given = decoder_state default_rate c.give_originals.new.decoder.rows in
@@ -49,7 +49,7 @@ returns-in_err-add_recovery_shard g c =
       no-calls c.next.new.self,
       λ originals others begins further.
           let led = decoding-given c.args.counts.original_count c.args.counts.recovery_count originals item others _ c.in_ok-decoder.ensures.answer c.in_ok-decoder.ensures.made.0 _
-          (both-ok made given originals (item ∷ others) _ (reached-ok _ _ (c.in_ok-give_originals.ensures.1 originals begins)) (adds-err (λ now item. with_recovery now item.0 item.1) given item others _ (outcome-err (with_recovery given item.0 item.1) _ c.in_err-add_recovery_shard.ensures.answer))) in search rules,
+          (both-ok made given originals (item ∷ others) _ (reached-ok _ _ (c.in_ok-give_originals.ensures.1 originals begins)) (adds-err (λ now item. with_recovery now item.0 item.1) given item others _ (outcome-err (with_recovery given item.0 item.1) _ c.in_err-give_recovery_shard.ensures.answer))) in search rules,
     )
 
 pub returns-in_err-give_recovery : goal.returns-in_err-give_recovery
@@ -57,13 +57,13 @@ returns-in_err-give_recovery g c =
     let item : ℕ × Shard = (c.in-Some.first_index, c.in-Some.first_shard.now) in
     let made = decoder_state default_rate c.in_ok-decoder.decoder.rows in
     let given = decoder_state default_rate c.give_originals.new.decoder.rows in
-    let added = decoder_state default_rate c.add_recovery_shard.new.self.rows in
+    let added = decoder_state default_rate c.give_recovery_shard.new.self.rows in
     first-both (λ item. (item.0, item.1.now)) (λ item. (item.0, item.1.now)) _ {item = (c.in-Some.first_index, c.in-Some.first_shard)} c.in-Some.ensures.steps (
       c.in_ok-give_originals.ensures.0,
       c.in_err-give_recovery.ensures.0,
       λ originals others begins further.
           let led = decoding-given c.args.counts.original_count c.args.counts.recovery_count originals item others _ c.in_ok-decoder.ensures.answer c.in_ok-decoder.ensures.made.0 _
-          (both-ok made given originals (item ∷ others) _ (reached-ok _ _ (c.in_ok-give_originals.ensures.1 originals begins)) (adds-ok (λ now item. with_recovery now item.0 item.1) given added item others _ (outcome-ok given added (with_recovery given item.0 item.1) c.in_ok-add_recovery_shard.ensures.answer c.in_ok-add_recovery_shard.ensures.left) (reached-err _ _ _ (c.in_err-give_recovery.ensures.1 others further)))) in search rules,
+          (both-ok made given originals (item ∷ others) _ (reached-ok _ _ (c.in_ok-give_originals.ensures.1 originals begins)) (adds-ok (λ now item. with_recovery now item.0 item.1) given added item others _ (outcome-ok given added (with_recovery given item.0 item.1) c.in_ok-give_recovery_shard.ensures.answer c.in_ok-give_recovery_shard.ensures.left) (reached-err _ _ _ (c.in_err-give_recovery.ensures.1 others further)))) in search rules,
     )
 
 pub returns : goal.returns
@@ -71,11 +71,11 @@ returns g c =
     let item : ℕ × Shard = (c.in-Some.first_index, c.in-Some.first_shard.now) in
     let made = decoder_state default_rate c.in_ok-decoder.decoder.rows in
     let given = decoder_state default_rate c.give_originals.new.decoder.rows in
-    let added = decoder_state default_rate c.add_recovery_shard.new.self.rows in
+    let added = decoder_state default_rate c.give_recovery_shard.new.self.rows in
     first-both (λ item. (item.0, item.1.now)) (λ item. (item.0, item.1.now)) _ {item = (c.in-Some.first_index, c.in-Some.first_shard)} c.in-Some.ensures.steps (
       c.in_ok-give_originals.ensures.0,
       c.in_ok-give_recovery.ensures.0,
       λ originals others begins further.
           decoding-given c.args.counts.original_count c.args.counts.recovery_count originals item others _ c.in_ok-decoder.ensures.answer c.in_ok-decoder.ensures.made.0 _
-          (both-ok made given originals (item ∷ others) _ (reached-ok _ _ (c.in_ok-give_originals.ensures.1 originals begins)) (adds-ok (λ now item. with_recovery now item.0 item.1) given added item others _ (outcome-ok given added (with_recovery given item.0 item.1) c.in_ok-add_recovery_shard.ensures.answer c.in_ok-add_recovery_shard.ensures.left) (reached-ok _ _ (c.in_ok-give_recovery.ensures.1 others further)))),
+          (both-ok made given originals (item ∷ others) _ (reached-ok _ _ (c.in_ok-give_originals.ensures.1 originals begins)) (adds-ok (λ now item. with_recovery now item.0 item.1) given added item others _ (outcome-ok given added (with_recovery given item.0 item.1) c.in_ok-give_recovery_shard.ensures.answer c.in_ok-give_recovery_shard.ensures.left) (reached-ok _ _ (c.in_ok-give_recovery.ensures.1 others further)))),
     )

@@ -18,13 +18,13 @@ returns-in_err-encoder g c =
           let led = encoding-unset c.args.counts.original_count c.args.counts.recovery_count c.in-Some.first.now others _ c.in_err-encoder.ensures.answer in search rules,
     )
 
-pub returns-in_err-add_original_shard : goal.returns-in_err-add_original_shard
-returns-in_err-add_original_shard g c =
+pub returns-in_err-give_original_shard : goal.returns-in_err-give_original_shard
+returns-in_err-give_original_shard g c =
     first-then g.I.Iterator.next_gives (λ shard. shard.now) _ c.in-Some.ensures.steps (
       no-calls c.next.new.self,
       λ others begins.
           let led = encoding-given c.args.counts.original_count c.args.counts.recovery_count c.in-Some.first.now others _ c.in_ok-encoder.ensures.answer c.in_ok-encoder.ensures.made.0 _
-          (adds-err with_shard _ c.in-Some.first.now others _ (outcome-err _ _ c.in_err-add_original_shard.ensures.answer)) in search rules,
+          (adds-err with_shard _ c.in-Some.first.now others _ (outcome-err _ _ c.in_err-give_original_shard.ensures.answer)) in search rules,
     )
 
 pub returns-in_err-give_shards : goal.returns-in_err-give_shards
@@ -33,7 +33,7 @@ returns-in_err-give_shards g c =
       c.in_err-give_shards.ensures.0,
       λ others begins.
           let led = encoding-given c.args.counts.original_count c.args.counts.recovery_count c.in-Some.first.now others _ c.in_ok-encoder.ensures.answer c.in_ok-encoder.ensures.made.0 _
-          (adds-ok with_shard _ _ c.in-Some.first.now others _ (outcome-ok _ _ _ c.in_ok-add_original_shard.ensures.answer c.in_ok-add_original_shard.ensures.left) (reached-err _ _ _ (c.in_err-give_shards.ensures.1 others begins))) in search rules,
+          (adds-ok with_shard _ _ c.in-Some.first.now others _ (outcome-ok _ _ _ c.in_ok-give_original_shard.ensures.answer c.in_ok-give_original_shard.ensures.left) (reached-err _ _ _ (c.in_err-give_shards.ensures.1 others begins))) in search rules,
     )
 
 pub returns : goal.returns
@@ -42,5 +42,5 @@ returns g c =
       c.in_ok-give_shards.ensures.0,
       λ others begins.
           encoding-given c.args.counts.original_count c.args.counts.recovery_count c.in-Some.first.now others _ c.in_ok-encoder.ensures.answer c.in_ok-encoder.ensures.made.0 _
-          (adds-ok with_shard _ _ c.in-Some.first.now others _ (outcome-ok _ _ _ c.in_ok-add_original_shard.ensures.answer c.in_ok-add_original_shard.ensures.left) (reached-ok _ _ (c.in_ok-give_shards.ensures.1 others begins))),
+          (adds-ok with_shard _ _ c.in-Some.first.now others _ (outcome-ok _ _ _ c.in_ok-give_original_shard.ensures.answer c.in_ok-give_original_shard.ensures.left) (reached-ok _ _ (c.in_ok-give_shards.ensures.1 others begins))),
     )
