@@ -2,7 +2,6 @@
 ghost use Rattle.std.specs.Prelude.{◌≡◌, ◌≤◌, ℕ, List, ◌⊎◌, None, Err, map, take, MatchResult};
 ghost use Rattle.std.specs.Io.KnownBytes.{Appends};
 ghost use Rattle.std.specs.String.{string_bytes};
-ghost use Rattle.reed_solomon_simd.specs.Kind.{kind_of};
 ghost use Rattle.rs.specs.CommandLine.{request_of};
 ghost use Rattle.rs.specs.Reading.{as_given, as_request};
 ghost use Rattle.rs.specs.Printed.{lines_of, indexed_lines_of, concatenated, CodesLines, RestoresLines, IsAnswered, OrLacksMemory, Prints, Refuses, HasFault};
@@ -15,7 +14,7 @@ use crate::hexadecimal::line;
 use crate::writing::write_texts;
 use reed_solomon_simd::coders::{given_decoder, given_encoder};
 use reed_solomon_simd::engine::tables::Tables;
-use reed_solomon_simd::engine::{DefaultEngine, Steps};
+use reed_solomon_simd::engine::Steps;
 use reed_solomon_simd::rate::{DefaultRateCounts, RateDecoder, RateEncoder};
 use reed_solomon_simd::{Error, Recovery, RestoredOriginal};
 use std::alloc::Global;
@@ -47,14 +46,16 @@ fn indexed_lines(alloc: Global, shards: RestoredOriginal<'_>) -> Result<Vec<Stri
 // The lines of the recovery shards of the originals.
 fn coded_lines(
     alloc: Global,
+    command: &Command,
     counts: DefaultRateCounts,
     original: &[Vec<u8>],
-    engine: DefaultEngine<'_>,
 ) -> Result<Vec<String>, Error>
     ensures { OrLacksMemory (CodesLines counts.original_count counts.recovery_count (map (λ v. v.items) original.now)) result }
 {
     let shards = original.iter().map(|shard| shard.as_slice());
-    let mut encoder = given_encoder(alloc, counts, shards, engine)?;
+    let given = given_encoder(alloc, counts, shards, ())?;
+    let tables = Tables::new(alloc)?;
+    let mut encoder = given.with_engine(command.engine_over(&tables));
     let coded = encoder.encode(&mut Steps::new())?;
     lines(alloc, coded.recovery_iter())
 }
@@ -62,9 +63,9 @@ fn coded_lines(
 // The lines of the originals that are restored from the given shards.
 fn restored_lines(
     alloc: Global,
+    command: &Command,
     counts: DefaultRateCounts,
     given: &Given,
-    engine: DefaultEngine<'_>,
 ) -> Result<Vec<String>, Error>
     ensures { OrLacksMemory (RestoresLines counts.original_count counts.recovery_count (as_given given.now)) result }
 {
@@ -76,31 +77,31 @@ fn restored_lines(
         .recovery
         .iter()
         .map(|item| (item.0, item.1.as_slice()));
-    let Some(mut decoder) = given_decoder(alloc, counts, original, recovery, engine)? else {
+    let Some(decoder) = given_decoder(alloc, counts, original, recovery, ())? else {
         return Ok(Vec::new(alloc));
     };
+    let tables = Tables::new(alloc)?;
+    let mut decoder = decoder.with_engine(command.engine_over(&tables));
     let restored = decoder.decode(&mut Steps::new())?;
     indexed_lines(alloc, restored.restored_original_iter())
 }
 
-// The lines that answer a command, at its counts and by the engine that it asks for.
+// The lines that answer a command, at its counts.
 fn lines_for(
     alloc: Global,
     command: &Command,
     counts: DefaultRateCounts,
-    engine: DefaultEngine<'_>,
 ) -> Result<Vec<String>, Error>
-    requires counts { (counts.original_count ≡ command.now.counts.original) × (counts.recovery_count ≡ command.now.counts.recovery) }
-    requires engine { kind_of engine ≡ command.now.engine }
+    requires { (counts.original_count ≡ command.now.counts.original) × (counts.recovery_count ≡ command.now.counts.recovery) }
     ensures { OrLacksMemory (IsAnswered (as_request command.now)) result }
 {
     match &command.task {
-        Task::Encode(original) => coded_lines(alloc, counts, original, engine),
-        Task::Decode(given) => restored_lines(alloc, counts, given, engine),
+        Task::Encode(original) => coded_lines(alloc, command, counts, original),
+        Task::Decode(given) => restored_lines(alloc, command, counts, given),
     }
 }
 
-// The lines that the words ask for. Tables are made for counts that are supported.
+// The lines that the words ask for. Tables are made once counts are supported and shards are given.
 fn answer(alloc: Global, words: &[String]) -> Result<Vec<String>, Fault>
     ensures begun { request_of (take 4 (map string_bytes words.now)) ≡ None → result ≡ Err Usage }
     ensures answer { MatchResult result (λ texts. Prints (map string_bytes words.now) (concatenated texts))
@@ -108,14 +109,12 @@ fn answer(alloc: Global, words: &[String]) -> Result<Vec<String>, Fault>
 {
     let command = read_command(alloc, words)?;
     let counts = DefaultRateCounts::new(command.counts.original, command.counts.recovery)?;
-    let tables = Tables::new(alloc)?;
-    let engine = DefaultEngine::new(&tables, command.engine);
-    Ok(lines_for(alloc, &command, counts, engine)?)
+    Ok(lines_for(alloc, &command, counts)?)
 }
 
 /// Does what the words ask, and answers the status.
 ///
-/// Every line is made before the first is written, and no table before the counts are known to be supported. Status 0:
+/// Every line is made before the first is written, and no table for counts or shards that are refused as they are given. Status 0:
 /// all lines were written to `out`. A refusal is told on `err` with status 1, a bad command line by `usage` with status
 /// 2; both write nothing to `out`. A failed write to `out` gives status 1; one to `err` changes no status. No memory is
 /// wanted before the command, the engine and the counts are read: where these are wrong the status is always 2.

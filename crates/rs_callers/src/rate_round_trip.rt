@@ -7,8 +7,8 @@ ghost use Rattle.reed_solomon_simd.specs.OneCall.{with_shards, with_originals, w
 ghost use Rattle.reed_solomon_simd.specs.ResultView.{recovery_shards};
 ghost use Rattle.rs_callers.specs.Losing.{lost_at, left_of, left_below};
 
+use crate::giving::{give_originals, give_recovery, give_shards};
 use crate::walking::restored_copies;
-use reed_solomon_simd::coders::{give_originals, give_recovery, give_shards};
 use reed_solomon_simd::engine::{Engine, Steps};
 use reed_solomon_simd::rate::{Rate, RateDecoder, RateEncoder};
 use reed_solomon_simd::{EncoderResult, Error};

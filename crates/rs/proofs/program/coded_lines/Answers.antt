@@ -7,22 +7,22 @@ use Rattle.reed_solomon_simd.proofs.OneCall.{encoding-refused, encoding-answers}
 use Rattle.rs.proofs.PrintedLemmas.{codes-lines}
 use Rattle.rs.proofs.program.coded_lines.Goals as goal
 
-pub returns-in_err-encoder : goal.returns-in_err-encoder
-returns-in_err-encoder c =
+pub returns-in_err-given : goal.returns-in_err-given
+returns-in_err-given c =
     let shards = YieldsList-from_map_by _ (λ shard. shard.now) (λ v. v.items) (YieldsList-from_slice c.args.original.now cc) c.map-shards.ensures.closure (λ x r q k. search rules) in
     let exit = err_from_is_err_and c.from_residual.result c.from_residual.ensures.1 in
-    rw (exit.1, exit.2) (inl (encoding-refused c.args.counts.original_count c.args.counts.recovery_count _ _ (always-run c.in_err-encoder.ensures (map (λ v. v.items) c.args.original.now) shards.runs)))
+    rw (exit.1, exit.2) (inl (encoding-refused c.args.counts.original_count c.args.counts.recovery_count _ _ (always-run c.in_err-given.ensures (map (λ v. v.items) c.args.original.now) shards.runs)))
 
 pub returns-in_err-coded : goal.returns-in_err-coded
 returns-in_err-coded c =
     let shards = YieldsList-from_map_by _ (λ shard. shard.now) (λ v. v.items) (YieldsList-from_slice c.args.original.now cc) c.map-shards.ensures.closure (λ x r q k. search rules) in
     let exit = err_from_is_err_and c.from_residual-in_err-coded.result c.from_residual-in_err-coded.ensures.1 in
-    let led = always-run c.in_ok-encoder.ensures (map (λ v. v.items) c.args.original.now) shards.runs in
-    rw (exit.1, exit.2) (inl (encoding-answers c.args.counts.original_count c.args.counts.recovery_count _ _ led (Err c.in_err-coded.field-0.0) c.in_err-coded.ensures.answer))
+    let led = always-run c.in_ok-given.ensures (map (λ v. v.items) c.args.original.now) shards.runs in
+    rw (exit.1, exit.2) (inl (encoding-answers c.args.counts.original_count c.args.counts.recovery_count _ _ led (Err c.in_err-coded.field-0.0) (rw c.with_engine-encoder.ensures.rows at c.in_err-coded.ensures.answer)))
 
 pub returns : goal.returns
 returns c =
     let shards = YieldsList-from_map_by _ (λ shard. shard.now) (λ v. v.items) (YieldsList-from_slice c.args.original.now cc) c.map-shards.ensures.closure (λ x r q k. search rules) in
-    let led = always-run c.in_ok-encoder.ensures (map (λ v. v.items) c.args.original.now) shards.runs in
+    let led = always-run c.in_ok-given.ensures (map (λ v. v.items) c.args.original.now) shards.runs in
     codes-lines c.args.counts.original_count c.args.counts.recovery_count _ (recovery_shards c.in_ok-coded.coded) _
-    (encoding-answers c.args.counts.original_count c.args.counts.recovery_count _ _ led (Ok (recovery_shards c.in_ok-coded.coded)) c.in_ok-coded.ensures.answer) (rw c.recovery_iter.ensures.shards at c.lines.ensures)
+    (encoding-answers c.args.counts.original_count c.args.counts.recovery_count _ _ led (Ok (recovery_shards c.in_ok-coded.coded)) (rw c.with_engine-encoder.ensures.rows at c.in_ok-coded.ensures.answer)) (rw c.recovery_iter.ensures.shards at c.lines.ensures)

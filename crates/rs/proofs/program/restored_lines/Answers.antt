@@ -33,7 +33,7 @@ returns-in_err-restored c =
     let given = as_given c.args.given.now in
     let led = always-both (λ item. (item.0, item.1.now)) (λ item. (item.0, item.1.now)) _ (rw c.in-Some.is at c.in_ok-decoder.ensures) given.originals given.recovery original.runs recovery.runs in
     let exit = err_from_is_err_and c.from_residual-in_err-restored.result c.from_residual-in_err-restored.ensures.1 in
-    rw (exit.1, exit.2) (inl (decoding-answers c.args.counts.original_count c.args.counts.recovery_count given.originals given.recovery _ led (Err c.in_err-restored.field-0.0) c.in_err-restored.ensures.answer))
+    rw (exit.1, exit.2) (inl (decoding-answers c.args.counts.original_count c.args.counts.recovery_count given.originals given.recovery _ led (Err c.in_err-restored.field-0.0) (rw c.with_engine-decoder.ensures.rows at c.in_err-restored.ensures.answer)))
 
 pub returns : goal.returns
 returns c =
@@ -42,4 +42,4 @@ returns c =
     let given = as_given c.args.given.now in
     let led = always-both (λ item. (item.0, item.1.now)) (λ item. (item.0, item.1.now)) _ (rw c.in-Some.is at c.in_ok-decoder.ensures) given.originals given.recovery original.runs recovery.runs in
     let restored = restored_originals c.in_ok-restored.restored in
-    restores-lines c.args.counts.original_count c.args.counts.recovery_count given restored _ _ (decoding-answers c.args.counts.original_count c.args.counts.recovery_count given.originals given.recovery _ led (Ok restored) c.in_ok-restored.ensures.answer) c.restored_original_iter.ensures.listed c.indexed_lines.ensures
+    restores-lines c.args.counts.original_count c.args.counts.recovery_count given restored _ _ (decoding-answers c.args.counts.original_count c.args.counts.recovery_count given.originals given.recovery _ led (Ok restored) (rw c.with_engine-decoder.ensures.rows at c.in_ok-restored.ensures.answer)) c.restored_original_iter.ensures.listed c.indexed_lines.ensures
