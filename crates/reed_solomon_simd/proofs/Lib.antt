@@ -1,3 +1,4 @@
+pub use Rattle.rs_rate.proofs.DecoderRows
 pub use Rattle.rs_rate.proofs.PowerLemmas
 pub use Rattle.rs_rate.proofs.ShardRowsLemmas
 pub use Rattle.rs_rate.proofs.StateLemmas

@@ -21,8 +21,10 @@ use std::alloc::Global;
 ///
 /// ```
 /// // quoted: crates/rs/src/program.rt
-/// let shards = original.iter().map(|shard| shard.as_slice());
-/// let mut encoder = given_encoder(alloc, counts, shards, engine)?;
+/// let given = given_encoder(alloc, counts, shards, ())?;
+/// given.check_all_given()?;
+/// let tables = Tables::new(alloc)?;
+/// let mut encoder = given.with_engine(command.engine_over(&tables));
 /// ```
 pub fn given_encoder<'a, E: Drop, I: Iterator<Item = &'a [u8]> + Drop>(
     alloc: Global,
@@ -54,7 +56,7 @@ pub fn given_encoder<'a, E: Drop, I: Iterator<Item = &'a [u8]> + Drop>(
 ///
 /// ```
 /// // quoted: crates/rs/src/program.rt
-/// let Some(mut decoder) = given_decoder(alloc, counts, original, recovery, engine)? else {
+/// let Some(decoder) = given_decoder(alloc, counts, original, recovery, ())? else {
 ///     return Ok(Vec::new(alloc));
 /// };
 /// ```

@@ -54,6 +54,7 @@ fn coded_lines(
 {
     let shards = original.iter().map(|shard| shard.as_slice());
     let given = given_encoder(alloc, counts, shards, ())?;
+    given.check_all_given()?;
     let tables = Tables::new(alloc)?;
     let mut encoder = given.with_engine(command.engine_over(&tables));
     let coded = encoder.encode(&mut Steps::new())?;
@@ -80,6 +81,7 @@ fn restored_lines(
     let Some(decoder) = given_decoder(alloc, counts, original, recovery, ())? else {
         return Ok(Vec::new(alloc));
     };
+    decoder.check_enough_given()?;
     let tables = Tables::new(alloc)?;
     let mut decoder = decoder.with_engine(command.engine_over(&tables));
     let restored = decoder.decode(&mut Steps::new())?;
@@ -101,7 +103,7 @@ fn lines_for(
     }
 }
 
-// The lines that the words ask for. Tables are made once counts are supported and shards are given.
+// The lines that the words ask for.
 fn answer(alloc: Global, words: &[String]) -> Result<Vec<String>, Fault>
     ensures begun { request_of (take 4 (map string_bytes words.now)) ≡ None → result ≡ Err Usage }
     ensures answer { MatchResult result (λ texts. Prints (map string_bytes words.now) (concatenated texts))
@@ -114,7 +116,7 @@ fn answer(alloc: Global, words: &[String]) -> Result<Vec<String>, Fault>
 
 /// Does what the words ask, and answers the status.
 ///
-/// Every line is made before the first is written, and no table for counts or shards that are refused as they are given. Status 0:
+/// Every line is made before the first is written, and no table where counts or the given shards are refused. Status 0:
 /// all lines were written to `out`. A refusal is told on `err` with status 1, a bad command line by `usage` with status
 /// 2; both write nothing to `out`. A failed write to `out` gives status 1; one to `err` changes no status. No memory is
 /// wanted before the command, the engine and the counts are read: where these are wrong the status is always 2.
