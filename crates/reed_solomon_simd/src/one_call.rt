@@ -39,7 +39,7 @@ pub fn encode<'a, I: Iterator<Item = &'a [u8]> + Drop>(
     requires can { I.can_next original }
     requires ends { IsFinite (I.remaining original) }
     ensures counts { IfErr (counted original_count recovery_count) (λ e. result ≡ Err e) }
-    ensures run { (calls : Calls I.next_gives original) × ((items : List Shard) → BeginsWith items calls
+    ensures calls { (calls : Calls I.next_gives original) × ((items : List Shard) → BeginsWith items calls
         → OneEncodeAnswers original_count recovery_count items (collected result)) }
     ensures answer { (items : List Shard) → Lends I.next_gives original items
         → OneEncodeAnswers original_count recovery_count items (collected result) }
@@ -86,7 +86,7 @@ where
     requires can_recovery { R.can_next recovery }
     requires recovery_ends { IsFinite (R.remaining recovery) }
     ensures counts { IfErr (counted original_count recovery_count) (λ e. result ≡ Err e) }
-    ensures run { (calls : Calls O.next_gives original) × (further : Calls R.next_gives recovery) × ((originals recoveries : Items)
+    ensures calls { (calls : Calls O.next_gives original) × (further : Calls R.next_gives recovery) × ((originals recoveries : Items)
         → BeginsWithItems originals calls → BeginsWithItems recoveries further → OneDecodeAnswers original_count recovery_count originals recoveries (collected_map result)) }
     ensures answer { (originals recoveries : Items) → LendsItems O.next_gives original originals
         → LendsItems R.next_gives recovery recoveries → OneDecodeAnswers original_count recovery_count originals recoveries (collected_map result) }

@@ -87,7 +87,7 @@ swapped h i j fits ordered within =
     let room : i * n + n ≤ length (with_run ch (j * n) n (row_at h i)) = omega (arith, same, apart, last) in
     let one = in-run _ (row_at h j) (i * n) n l₁ room in let off = off-run _ (row_at h j) (i * n) n l₁ room in
     record {
-      shape = record { name = refl; count = refl; len_64 = refl; length = ap length both ∙ length-run _ (row_at h j) (i * n) n l₁ room ∙ same };
+      extent = record { name = refl; count = refl; len_64 = refl; length = ap length both ∙ length-run _ (row_at h j) (i * n) n l₁ room ∙ same };
       first = λ k low. ap (λ l. chunk l (i * n + k)) both ∙ one (i * n + k) k refl low ∙ cell-of-row h j k low;
       second = λ k low. ap (λ l. chunk l (j * n + k)) both ∙ off (j * n + k) (inr (omega (arith, apart)))
           ∙ in-run ch (row_at h i) (j * n) n l₂ last (j * n + k) k refl low ∙ cell-of-row h i k low;
@@ -113,5 +113,5 @@ swapped-twice h i j k l fits ij jk kl within =
       once,
       subst (λ (w : Chunks). AreSwapped k l mid (with_chunks h w))
           (ap₂ (with_two mid.chunks.now (k * n) n (l * n) n) (same l (omega (arith, jk, kl))) (same k jk) ∙ sym whole)
-          (swapped mid k l (let long = once.shape.length in omega (arith, long, fits)) kl within),
+          (swapped mid k l (let long = once.extent.length in omega (arith, long, fits)) kl within),
     )

@@ -1,7 +1,7 @@
 -- What becomes of rows that change places.
 use Rattle.std.specs.Prelude.{◌≡◌, ℕ, ◌+◌, ◌*◌, ◌<◌, ◌≤◌, ◌⊎◌, ◌++◌, drop}
 use Rattle.reed_solomon_simd.specs.Rows.{Chunks, chunk}
-use Rattle.reed_solomon_simd.specs.View.{SameShape, cell}
+use Rattle.reed_solomon_simd.specs.View.{SameExtent, cell}
 use Rattle.rs_field.specs.declared.rows.shards.ShardsRefMut.{ShardsRefMut}
 
 -- chunk c lies before row i, or past it
@@ -10,7 +10,7 @@ IsOutside r i c = (c < i * r.shard_len_64) ⊎ (i * r.shard_len_64 + r.shard_len
 
 -- rows i and j changed places, and all other chunks are the same, to the last one past the rows
 pub record AreSwapped (i j : ℕ) (old new : ShardsRefMut) : Type 0 where
-  pub shape : SameShape old new
+  pub extent : SameExtent old new
   pub first : (k : ℕ) → k < old.shard_len_64 → cell new k i ≡ cell old k j
   pub second : (k : ℕ) → k < old.shard_len_64 → cell new k j ≡ cell old k i
   pub others : (c : ℕ) → IsOutside old i c → IsOutside old j c → chunk new.chunks.now c ≡ chunk old.chunks.now c

@@ -4,7 +4,7 @@ ghost use Rattle.rs_field.specs.words.Field.{product, power};
 ghost use Rattle.rs_field.specs.rows.MarkedRows.{is_marked, OthersAreZero};
 ghost use Rattle.rs_field.specs.words.Transform.{forward};
 ghost use Rattle.rs_field.specs.rows.Rows.{chunk, symbol};
-ghost use Rattle.rs_field.specs.rows.View.{word, Fits, SameShape, SameRowsOutside, AreZero};
+ghost use Rattle.rs_field.specs.rows.View.{word, Fits, SameExtent, SameRowsOutside, AreZero};
 ghost use Rattle.rs_field.specs.words.Locator.{IsLocator, IsLocatorBelow};
 ghost use Rattle.rs_field.specs.words.StepBounds.{LocatorCounts, TransformCounts, RowProductCounts};
 
@@ -49,7 +49,7 @@ pub trait Engine: Drop {
         requires within { pos + size ≤ rows.old.shard_count }
         requires shift { skew_delta % size ≡ 0 }
         requires points { skew_delta + size ≤ 65536 }
-        ensures shape { SameShape rows.old rows.new }
+        ensures extent { SameExtent rows.old rows.new }
         ensures others { SameRowsOutside pos (pos + size) rows.old rows.new }
         ensures values { (k s i : ℕ) → k < rows.old.shard_len_64 → s < 32 → i < truncated_size
             → word rows.new k s (pos + i) ≡ forward size skew_delta (λ q. word rows.old k s (pos + q)) i }
@@ -74,8 +74,8 @@ pub trait Engine: Drop {
         requires within { pos + size ≤ rows.old.shard_count }
         requires shift { skew_delta % size ≡ 0 }
         requires points { skew_delta + size ≤ 65536 }
-        requires tail { AreZero (pos + truncated_size) (pos + size) rows.old }
-        ensures shape { SameShape rows.old rows.new }
+        requires zeros { AreZero (pos + truncated_size) (pos + size) rows.old }
+        ensures extent { SameExtent rows.old rows.new }
         ensures others { SameRowsOutside pos (pos + size) rows.old rows.new }
         ensures values { (k s i : ℕ) → k < rows.old.shard_len_64 → s < 32 → i < size
             → word rows.old k s (pos + i) ≡ forward size skew_delta (λ q. word rows.new k s (pos + q)) i }
@@ -99,7 +99,7 @@ pub trait Engine: Drop {
         requires within { pos + length wanted.now ≤ rows.old.shard_count }
         requires shift { skew_delta % length wanted.now ≡ 0 }
         requires points { skew_delta + length wanted.now ≤ 65536 }
-        ensures shape { SameShape rows.old rows.new }
+        ensures extent { SameExtent rows.old rows.new }
         ensures others { SameRowsOutside pos (pos + length wanted.now) rows.old rows.new }
         ensures values { (k s i : ℕ) → k < rows.old.shard_len_64 → s < 32 → is_marked wanted.now i ≡ true
             → word rows.new k s (pos + i) ≡ forward (length wanted.now) skew_delta (λ q. word rows.old k s (pos + q)) i }
@@ -128,7 +128,7 @@ pub trait Engine: Drop {
         requires shift { skew_delta % length given.now ≡ 0 }
         requires points { skew_delta + length given.now ≤ 65536 }
         requires zeros { OthersAreZero given.now pos rows.old }
-        ensures shape { SameShape rows.old rows.new }
+        ensures extent { SameExtent rows.old rows.new }
         ensures others { SameRowsOutside pos (pos + length given.now) rows.old rows.new }
         ensures values { (k s i : ℕ) → k < rows.old.shard_len_64 → s < 32 → i < length given.now
             → word rows.old k s (pos + i) ≡ forward (length given.now) skew_delta (λ q. word rows.new k s (pos + q)) i }
@@ -152,7 +152,7 @@ pub trait Engine: Drop {
     fn eval_poly(&self, steps: &mut Steps, entries: &mut [GfElement], truncated_size: usize)
         requires size { length entries.old ≡ 65536 }
         requires truncated { truncated_size ≤ 65536 }
-        requires tail { (y : ℕ) → truncated_size ≤ y → y < 65536 → slice_index entries.old y ≡ 0 }
+        requires zeros { (y : ℕ) → truncated_size ≤ y → y < 65536 → slice_index entries.old y ≡ 0 }
         ensures values { IsLocator (λ y. slice_index entries.old y) (λ x. slice_index entries.new x) }
         ensures counts { LocatorCounts steps.old steps.new };
 

@@ -6,7 +6,7 @@ use Rattle.rs_field.specs.words.Transform.{forward}
 use Rattle.rs_field.specs.words.StepBounds.{CountsUpTo}
 use Rattle.rs_field.specs.words.Field.{product, power}
 use Rattle.rs_field.specs.rows.Rows.{chunk}
-use Rattle.rs_field.specs.rows.View.{cell, word, row_at, Fits, SameShape, SameRowsOutside}
+use Rattle.rs_field.specs.rows.View.{cell, word, row_at, Fits, SameExtent, SameRowsOutside}
 use Rattle.rs_field.specs.declared.rows.shards.ShardsRefMut.{ShardsRefMut}
 use Rattle.rs_field.specs.declared.words.steps.Steps.{Steps}
 use Rattle.rs_field.specs.rows.MarkedRows.{is_marked}
@@ -23,7 +23,7 @@ row-read r i k fits hi hk =
 
 -- one row was located, in one row step at most, and no other row was changed
 pub record RowLocated (marks : List Bool) (locator : List ℕ) (p : ℕ) (old new : ShardsRefMut) (before after : Steps) : Type 0 where
-  pub shape : SameShape old new
+  pub extent : SameExtent old new
   pub others : SameRowsOutside p (p + 1) old new
   pub located_here : (k s : ℕ) → k < old.shard_len_64 → s < 32 → word new k s p ≡ located marks locator (word old k s) p
   pub cleared : (k : ℕ) → k < old.shard_len_64 → is_marked marks p ≡ false → cell new k p ≡ replicate 64 0
@@ -41,7 +41,7 @@ located-same marks locator old new p same = ap (λ w. cond (is_marked marks p) (
 
 -- one row was revealed where it is to be restored, in one row step at most, and no other row was changed
 pub record RowRevealed (marks : List Bool) (locator : List ℕ) (p : ℕ) (old new : ShardsRefMut) (before after : Steps) : Type 0 where
-  pub shape : SameShape old new
+  pub extent : SameExtent old new
   pub others : SameRowsOutside p (p + 1) old new
   pub revealed_here : (k s : ℕ) → k < old.shard_len_64 → s < 32 → is_marked marks p ≡ true
       → word new k s p ≡ product (word old k s p) (power (65535 - slice_index locator p))

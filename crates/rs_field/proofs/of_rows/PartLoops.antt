@@ -7,7 +7,7 @@ use Rattle.std.proofs.lemmas.Grind.{common_steps}
 use Rattle.rs_field.specs.words.Transform.{forward}
 use Rattle.rs_field.specs.words.StepBounds.{CountsRows, CountsUpTo, TransformCounts, transform_steps}
 use Rattle.rs_field.specs.rows.Layers.{ArePartsOf, is_halved, rows_of_part, layer_steps}
-use Rattle.rs_field.specs.rows.View.{cell, word, SameShape, SameRowsOutside}
+use Rattle.rs_field.specs.rows.View.{cell, word, SameExtent, SameRowsOutside}
 use Rattle.rs_field.specs.rows.MarkedRows.{is_used}
 use Rattle.rs_field.specs.rows.Directions.{AreTransformed, UnusedAreZeroBackward, PartCounts}
 use Rattle.rs_field.specs.declared.rows.layers.Direction.{Direction}
@@ -20,7 +20,7 @@ use Rattle.rs_field.proofs.of_words.Counting.{counts_rows, counts_then, counts_w
 use Rattle.rs_field.proofs.of_words.Halves.{quarter_power}
 use Rattle.rs_field.proofs.of_rows.Parts.{IsPart, part_found, part_within}
 use Rattle.rs_field.proofs.of_rows.Recursion.{one_row, word_same, zero_rows}
-use Rattle.rs_field.proofs.of_rows.RowOffsets.{outside_both, outside_cell, shape_then}
+use Rattle.rs_field.proofs.of_rows.RowOffsets.{outside_both, outside_cell, extent_then}
 
 -- words that are the same are transformed in the same way
 transformed_same : (direction : Direction) (used used' : ℕ → Bool) (n shift : ℕ) (f g f' g' : ℕ → ℕ) → ((q : ℕ) → q < n → f' q ≡ f q)
@@ -34,7 +34,7 @@ transformed_same Direction.Backward used used' n shift f g f' g' old new same ar
 
 -- the parts before the j-th are transformed, and the rows from there on are unchanged
 pub record PartsDone (direction : Direction) (used : ℕ → Bool) (size n shift pos j : ℕ) (old new : ShardsRefMut) : Type 0 where
-  pub shape : SameShape old new
+  pub extent : SameExtent old new
   pub others : SameRowsOutside pos (pos + size) old new
   pub values : (k s m : ℕ) → k < old.shard_len_64 → s < 32 → m < j
       → AreTransformed direction (λ i. used (m * n + i)) n (shift + m * n) (λ q. word old k s (pos + (m * n + q))) (λ q. word new k s (pos + (m * n + q)))
@@ -44,15 +44,15 @@ pub parts_begun : (direction : Direction) (used : ℕ → Bool) (size n shift po
 parts_begun direction used size n shift pos rows = grind (arith, common_steps)
 
 pub parts_next : (direction : Direction) (used used' : ℕ → Bool) (size n shift pos j : ℕ) (old mid new : ShardsRefMut) → IsPart size n → j * n < size
-    → PartsDone direction used size n shift pos j old mid → SameShape mid new → SameRowsOutside (pos + j * n) (pos + j * n + n) mid new
+    → PartsDone direction used size n shift pos j old mid → SameExtent mid new → SameRowsOutside (pos + j * n) (pos + j * n + n) mid new
     → ((i : ℕ) → i < n → used' i ≡ used (j * n + i))
     → ((k s : ℕ) → k < mid.shard_len_64 → s < 32
     → AreTransformed direction used' n (shift + j * n) (λ q. word mid k s (pos + j * n + q)) (λ q. word new k s (pos + j * n + q)))
     → PartsDone direction used size n shift pos (j + 1) old new
-parts_next direction used used' size n shift pos j old mid new p begins done shape others same step = record {
-  shape = shape_then old mid new done.shape shape;
+parts_next direction used used' size n shift pos j old mid new p begins done extent others same step = record {
+  extent = extent_then old mid new done.extent extent;
   others =
-      outside_both pos (pos + size) (pos + j * n) (pos + j * n + n) pos (pos + size) old mid new done.shape done.others others
+      outside_both pos (pos + size) (pos + j * n) (pos + j * n + n) pos (pos + size) old mid new done.extent done.others others
       (omega arith) (omega arith) (omega arith) (omega (arith, inside));
   values = λ k s m hk hs hm. elim (cases_lt m j) [
     | inl before ↦
@@ -79,7 +79,7 @@ parts_next direction used used' size n shift pos j old mid new p begins done sha
     inside = part_within size n j p begins
 
     len : mid.shard_len_64 ≡ old.shard_len_64
-    len = done.shape.len_64
+    len = done.extent.len_64
 
     part : ShardsRefMut → ℕ → ℕ → ℕ → ℕ → ℕ
     part rows k s m q = word rows k s (pos + (m * n + q))
@@ -88,7 +88,7 @@ parts_next direction used used' size n shift pos j old mid new p begins done sha
     there rows k s q = ap (word rows k s) (let e : pos + (j * n + q) ≡ pos + j * n + q = omega arith in e)
 
     unchanged : (r k : ℕ) → k < old.shard_len_64 → (r < pos + j * n) ⊎ (pos + j * n + n ≤ r) → cell new k r ≡ cell mid k r
-    unchanged r k hk h = outside_cell (pos + j * n) (pos + j * n + n) mid new shape others r k (omega (arith, len)) h
+    unchanged r k hk h = outside_cell (pos + j * n) (pos + j * n + n) mid new extent others r k (omega (arith, len)) h
 
 -- rows of a part that aren't used are zero as long as they are unchanged
 pub zeros_of_part : (direction : Direction) (used part : UsedRows) (old mid : ShardsRefMut) (pos size start n : ℕ) → start + n ≤ size

@@ -2,13 +2,13 @@
 use Rattle.std.proofs.Common.{◌≡◌, ℕ, ◌+◌, ◌<◌, List, replicate, sym, ap, ◌∙◌, arith}
 use Rattle.rs_field.specs.words.Transform.{forward}
 use Rattle.rs_field.specs.rows.Rows.{symbol}
-use Rattle.rs_field.specs.rows.View.{cell, word, Fits, SameShape}
+use Rattle.rs_field.specs.rows.View.{cell, word, Fits, SameExtent}
 use Rattle.rs_field.specs.declared.rows.shards.ShardsRefMut.{ShardsRefMut}
 use Rattle.rs_field.proofs.of_rows.Symbols.{symbol-zero}
 use Rattle.rs_field.proofs.of_words.Combination.{forward-one, forward-zero}
 use Rattle.std.proofs.lemmas.Grind.{common_steps}
 
-pub fits_kept : (a b : ShardsRefMut) → SameShape a b → Fits a → Fits b
+pub fits_kept : (a b : ShardsRefMut) → SameExtent a b → Fits a → Fits b
 fits_kept a b p h = rw (p.count, p.len_64, p.length) h
 
 pub word_same : (a b : ShardsRefMut) (k s i j : ℕ) → cell a k i ≡ cell b k j → word a k s i ≡ word b k s j

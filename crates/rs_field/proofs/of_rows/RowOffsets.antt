@@ -3,7 +3,7 @@ use Rattle.std.proofs.Common.{◌≡◌, ℕ, ◌+◌, ◌*◌, ◌<◌, ◌≤�
 use Rattle.std.proofs.Math.Nat.{mul-le-mul_right}
 use Rattle.std.proofs.lemmas.Bool.{cases_lt}
 use Rattle.rs_field.specs.rows.Rows.{chunk, SameOutside}
-use Rattle.rs_field.specs.rows.View.{cell, SameShape, SameRowsOutside}
+use Rattle.rs_field.specs.rows.View.{cell, SameExtent, SameRowsOutside}
 use Rattle.rs_field.specs.declared.rows.shards.ShardsRefMut.{ShardsRefMut}
 
 pub row_ends : (i m n : ℕ) → i < m → i * n + n ≤ m * n
@@ -28,26 +28,26 @@ offset_apart a i k n q ne =
     elim (cases_lt i a) [ inl p ↦ inl (let r = row_ends i a n p in omega arith) | inr p ↦ inr (let l : a < i = omega arith in let r = row_ends a i n l in omega arith) ]
 
 -- the chunks of the rows outside are unchanged
-pub outside_cell : (a b : ℕ) (old new : ShardsRefMut) → SameShape old new → SameRowsOutside a b old new
+pub outside_cell : (a b : ℕ) (old new : ShardsRefMut) → SameExtent old new → SameRowsOutside a b old new
     → (i k : ℕ) → k < old.shard_len_64 → (i < a) ⊎ (b ≤ i) → cell new k i ≡ cell old k i
 unfolding cell
-outside_cell a b old new shape others i k hk h =
-    ap (λ n. chunk new.chunks.now (i * n + k)) shape.len_64
+outside_cell a b old new extent others i k hk h =
+    ap (λ n. chunk new.chunks.now (i * n + k)) extent.len_64
     ∙ others (i * old.shard_len_64 + k) (offset_outside a b i k old.shard_len_64 hk h)
 
 -- two changes one after another, each within rows e to f - 1
-pub outside_both : (a b c d e f : ℕ) (old mid new : ShardsRefMut) → SameShape old mid → SameRowsOutside a b old mid → SameRowsOutside c d mid new
+pub outside_both : (a b c d e f : ℕ) (old mid new : ShardsRefMut) → SameExtent old mid → SameRowsOutside a b old mid → SameRowsOutside c d mid new
     → e ≤ a → b ≤ f → e ≤ c → d ≤ f → SameRowsOutside e f old new
-outside_both a b c d e f old mid new shape first second ea bf ec df k h =
+outside_both a b c d e f old mid new extent first second ea bf ec df k h =
     let n : ℕ = old.shard_len_64 in
     let ea_n : e * n ≤ a * n = mul-le-mul_right n ea in
     let bf_n : b * n ≤ f * n = mul-le-mul_right n bf in
     let ec_n : e * n ≤ c * n = mul-le-mul_right n ec in
     let df_n : d * n ≤ f * n = mul-le-mul_right n df in
     let then : SameOutside (c * n) (d * n) mid.chunks.now new.chunks.now =
-    subst (λ (m : ℕ). SameOutside (c * m) (d * m) mid.chunks.now new.chunks.now) shape.len_64 second in
+    subst (λ (m : ℕ). SameOutside (c * m) (d * m) mid.chunks.now new.chunks.now) extent.len_64 second in
     then k (elim h [ inl before ↦ inl (omega arith) | inr after ↦ inr (omega arith) ])
     ∙ first k (elim h [ inl before ↦ inl (omega arith) | inr after ↦ inr (omega arith) ])
 
-pub shape_then : (old mid new : ShardsRefMut) → SameShape old mid → SameShape mid new → SameShape old new
-shape_then old mid new p q = record { name = q.name ∙ p.name; count = q.count ∙ p.count; len_64 = q.len_64 ∙ p.len_64; length = q.length ∙ p.length }
+pub extent_then : (old mid new : ShardsRefMut) → SameExtent old mid → SameExtent mid new → SameExtent old new
+extent_then old mid new p q = record { name = q.name ∙ p.name; count = q.count ∙ p.count; len_64 = q.len_64 ∙ p.len_64; length = q.length ∙ p.length }

@@ -34,7 +34,7 @@ pub record IsListOf (r : ShardsRefMut) (chunks : MutBor Chunks) (m n : ℕ) : Ty
   pub len_64 : r.shard_len_64 ≡ n
 
 -- as many rows as before, of the same length, over as many chunks of the same loan
-pub record SameShape (old new : ShardsRefMut) : Type 0 where
+pub record SameExtent (old new : ShardsRefMut) : Type 0 where
   pub name : new.chunks.ghost_name ≡ old.chunks.ghost_name
   pub count : new.shard_count ≡ old.shard_count
   pub len_64 : new.shard_len_64 ≡ old.shard_len_64

@@ -1,6 +1,6 @@
 //! The derivative of a polynomial whose coefficients in the subspace basis are rows.
 ghost use Rattle.std.specs.Prelude.{◌≡◌, ℕ, ◌+◌, ◌^◌, ◌<◌, ◌≤◌};
-ghost use Rattle.rs_field.specs.rows.View.{word, Fits, SameShape, SameRowsOutside};
+ghost use Rattle.rs_field.specs.rows.View.{word, Fits, SameExtent, SameRowsOutside};
 ghost use Rattle.rs_field.specs.words.Derivative.{IsDerivativeAdded};
 ghost use Rattle.rs_field.specs.words.StepBounds.{CountsRows, transform_steps};
 
@@ -17,7 +17,7 @@ pub fn formal_derivative(steps: &mut Steps, rows: &mut ShardsRefMut<'_>)
     requires fits { Fits rows.old }
     requires power { (d : ℕ) × (rows.old.shard_count ≡ 2 ^ d) }
     requires words { rows.old.shard_count ≤ 65536 }
-    ensures shape { SameShape rows.old rows.new }
+    ensures extent { SameExtent rows.old rows.new }
     ensures others { SameRowsOutside 0 rows.old.shard_count rows.old rows.new }
     ensures derivative { (k s : ℕ) → k < rows.old.shard_len_64 → s < 32
         → IsDerivativeAdded rows.old.shard_count (word rows.old k s) (word rows.new k s) }
@@ -34,7 +34,7 @@ fn derivative_within(steps: &mut Steps, rows: &mut ShardsRefMut<'_>, pos: usize,
     requires power { (d : ℕ) × (size ≡ 2 ^ d) }
     requires words { size ≤ 65536 }
     requires within { pos + size ≤ rows.old.shard_count }
-    ensures shape { SameShape rows.old rows.new }
+    ensures extent { SameExtent rows.old rows.new }
     ensures others { SameRowsOutside pos (pos + size) rows.old rows.new }
     ensures derivative { (k s : ℕ) → k < rows.old.shard_len_64 → s < 32
         → IsDerivativeAdded size (λ q. word rows.old k s (pos + q)) (λ q. word rows.new k s (pos + q)) }

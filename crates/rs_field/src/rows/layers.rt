@@ -5,7 +5,7 @@ ghost use Rattle.std.specs.Prelude.{◌≡◌, ℕ, ◌+◌, ◌*◌, ◌<◌, �
 ghost use Rattle.rs_field.specs.rows.Rows.{chunk};
 ghost use Rattle.rs_field.specs.rows.Layers.{rows_of_part, layer_steps};
 ghost use Rattle.rs_field.specs.rows.Directions.{IsButterfly, AreTwoLayers, AreLayers};
-ghost use Rattle.rs_field.specs.rows.View.{word, Fits, SameShape, SameRowsOutside};
+ghost use Rattle.rs_field.specs.rows.View.{word, Fits, SameExtent, SameRowsOutside};
 ghost use Rattle.rs_field.specs.words.StepBounds.{CountsRows};
 
 use super::ShardsRefMut;
@@ -83,7 +83,7 @@ pub(crate) fn layers<K: Kernel>(
     requires fits { Fits rows.old }
     requires large { 1 < block.size }
     requires within { block.pos + block.size ≤ rows.old.shard_count }
-    ensures shape { SameShape rows.old rows.new }
+    ensures extent { SameExtent rows.old rows.new }
     ensures others { SameRowsOutside block.pos (block.pos + block.size) rows.old rows.new }
     ensures parts { (k s : ℕ) → k < rows.old.shard_len_64 → s < 32
         → AreLayers direction block.size (rows_of_part block.size) block.skew_delta

@@ -2,7 +2,7 @@
 ghost use Rattle.std.specs.Prelude.{◌≡◌, ℕ, ◌+◌, ◌-◌, ◌<◌, ◌≤◌, length};
 ghost use Rattle.rs_field.specs.words.Field.{product, power};
 ghost use Rattle.rs_field.specs.rows.Rows.{chunk, symbol, SameOutside};
-ghost use Rattle.rs_field.specs.rows.View.{cell, word, Fits, SameShape, SameRowsOutside, AreZero};
+ghost use Rattle.rs_field.specs.rows.View.{cell, word, Fits, SameExtent, SameRowsOutside, AreZero};
 ghost use Rattle.rs_field.specs.words.StepBounds.{CountsRows, RowProductCounts};
 
 use super::ShardsRefMut;
@@ -14,7 +14,7 @@ pub fn clear_rows(steps: &mut Steps, rows: &mut ShardsRefMut<'_>, start: usize, 
     requires fits { Fits rows.old }
     requires ordered { start ≤ end }
     requires within { end ≤ rows.old.shard_count }
-    ensures shape { SameShape rows.old rows.new }
+    ensures extent { SameExtent rows.old rows.new }
     ensures zeros { AreZero start end rows.new }
     ensures others { SameRowsOutside start end rows.old rows.new }
     ensures counts { CountsRows (end - start) steps.old steps.new }
@@ -34,7 +34,7 @@ pub fn copy_rows(
     requires fits { Fits rows.old }
     requires apart { from + count ≤ to }
     requires within { to + count ≤ rows.old.shard_count }
-    ensures shape { SameShape rows.old rows.new }
+    ensures extent { SameExtent rows.old rows.new }
     ensures copied { (i k : ℕ) → k < rows.old.shard_len_64 → i < count → cell rows.new k (to + i) ≡ cell rows.old k (from + i) }
     ensures others { SameRowsOutside to (to + count) rows.old rows.new }
     ensures counts { CountsRows count steps.old steps.new }
@@ -64,7 +64,7 @@ pub fn mul_row_at<E: Engine>(
 )
     requires fits { Fits rows.old }
     requires within { index < rows.old.shard_count }
-    ensures shape { SameShape rows.old rows.new }
+    ensures extent { SameExtent rows.old rows.new }
     ensures products { (k s : ℕ) → k < rows.old.shard_len_64 → s < 32 → word rows.new k s index ≡ product (word rows.old k s index) (power log_m) }
     ensures others { SameRowsOutside index (index + 1) rows.old rows.new }
     ensures counts { RowProductCounts steps.old steps.new }

@@ -2,7 +2,7 @@
 ghost use Rattle.std.specs.Prelude.{◌≡◌, ℕ, ◌+◌, ◌-◌, ◌*◌, ◌<◌, ◌≤◌, ◌↔◌, length, take, drop, replicate, IsTrue};
 ghost use Rattle.std.specs.Borrow.{sem};
 ghost use Rattle.rs_field.specs.rows.Rows.{chunk, SameOutside};
-ghost use Rattle.rs_field.specs.rows.View.{row_at, Fits, SameShape, SameRowsOutside, AreZero, HasRows, IsListOf};
+ghost use Rattle.rs_field.specs.rows.View.{row_at, Fits, SameExtent, SameRowsOutside, AreZero, HasRows, IsListOf};
 ghost use Rattle.rs_field.specs.rows.Lending.{LendsAll, LendsRun, LendsRow, LendsTwoRuns, LendsTwoRows, LendsFourRuns, LendsFourRows, LendsHalves};
 
 use std::cell::UnsafeCell;
@@ -119,7 +119,7 @@ impl<'a> ShardsRefMut<'a> {
         requires fits { Fits self.old }
         requires ordered { range.start ≤ range.end }
         requires within { range.end ≤ self.old.shard_count }
-        ensures shape { SameShape self.old self.new }
+        ensures extent { SameExtent self.old self.new }
         ensures zeros { AreZero range.start range.end self.new }
         ensures others { SameRowsOutside range.start range.end self.old self.new }
     {

@@ -1,7 +1,7 @@
 //! Sums of rows: of two lists of chunks, and of ranges of rows.
 ghost use Rattle.std.specs.Prelude.{◌≡◌, ℕ, ◌+◌, ◌*◌, ◌<◌, ◌≤◌, ◌⊎◌, length, slice_index, bit_xor};
 ghost use Rattle.rs_field.specs.rows.Rows.{chunk, symbol, SameOutside};
-ghost use Rattle.rs_field.specs.rows.View.{word, Fits, SameShape, SameRowsOutside};
+ghost use Rattle.rs_field.specs.rows.View.{word, Fits, SameExtent, SameRowsOutside};
 ghost use Rattle.rs_field.specs.words.StepBounds.{CountsRows};
 
 use super::ShardsRefMut;
@@ -54,7 +54,7 @@ pub fn xor_within(steps: &mut Steps, rows: &mut ShardsRefMut<'_>, x: usize, y: u
     requires apart { (x + count ≤ y) ⊎ (y + count ≤ x) }
     requires x_in { x + count ≤ rows.old.shard_count }
     requires y_in { y + count ≤ rows.old.shard_count }
-    ensures shape { SameShape rows.old rows.new }
+    ensures extent { SameExtent rows.old rows.new }
     ensures sums { (i k s : ℕ) → i < count → k < rows.old.shard_len_64 → s < 32
         → word rows.new k s (x + i) ≡ bit_xor (word rows.old k s (x + i)) (word rows.old k s (y + i)) }
     ensures others { SameRowsOutside x (x + count) rows.old rows.new }

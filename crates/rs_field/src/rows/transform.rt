@@ -5,7 +5,7 @@
 //! transform of each half. So the recursion goes depth first, and a block that fits the cache stays in it.
 ghost use Rattle.std.specs.Prelude.{ℕ, ◌+◌, ◌<◌, ◌≤◌};
 ghost use Rattle.rs_field.specs.rows.Directions.{AreTransformed, ArePartsTransformed, UnusedAreZeroBackward, PartCounts};
-ghost use Rattle.rs_field.specs.rows.View.{word, Fits, SameShape, SameRowsOutside};
+ghost use Rattle.rs_field.specs.rows.View.{word, Fits, SameExtent, SameRowsOutside};
 ghost use Rattle.rs_field.specs.rows.MarkedRows.{is_used, HasMarks};
 ghost use Rattle.rs_field.specs.words.StepBounds.{TransformCounts};
 ghost use Rattle.rs_field.specs.words.Inverse.{TransformsAreInverse};
@@ -40,7 +40,7 @@ pub(crate) fn transform<K: Kernel>(
     requires marks { HasMarks used block.size }
     requires within { block.pos + block.size ≤ rows.old.shard_count }
     requires zeros { UnusedAreZeroBackward direction used block.pos block.size rows.old }
-    ensures shape { SameShape rows.old rows.new }
+    ensures extent { SameExtent rows.old rows.new }
     ensures others { SameRowsOutside block.pos (block.pos + block.size) rows.old rows.new }
     ensures values { (k s : ℕ) → k < rows.old.shard_len_64 → s < 32
         → AreTransformed direction (is_used used.entry) block.size block.skew_delta
@@ -76,7 +76,7 @@ fn transform_many<K: Kernel>(
     requires marks { HasMarks used block.size }
     requires within { block.pos + block.size ≤ rows.old.shard_count }
     requires zeros { UnusedAreZeroBackward direction used block.pos block.size rows.old }
-    ensures shape { SameShape rows.old rows.new }
+    ensures extent { SameExtent rows.old rows.new }
     ensures others { SameRowsOutside block.pos (block.pos + block.size) rows.old rows.new }
     ensures values { (k s : ℕ) → k < rows.old.shard_len_64 → s < 32
         → AreTransformed direction (is_used used.entry) block.size block.skew_delta
@@ -111,7 +111,7 @@ fn transform_parts<K: Kernel>(
     requires marks { HasMarks used block.size }
     requires within { block.pos + block.size ≤ rows.old.shard_count }
     requires zeros { UnusedAreZeroBackward direction used block.pos block.size rows.old }
-    ensures shape { SameShape rows.old rows.new }
+    ensures extent { SameExtent rows.old rows.new }
     ensures others { SameRowsOutside block.pos (block.pos + block.size) rows.old rows.new }
     ensures parts { ArePartsTransformed direction (is_used used.entry) block rows.old rows.new }
     ensures counts { PartCounts block.size steps.old steps.new }

@@ -115,7 +115,7 @@ fn walsh_128(steps: &mut Steps, entries: &mut [GfElement])
 pub fn fwht(steps: &mut Steps, entries: &mut [GfElement], truncated: usize)
     requires power { (d : ℕ) × (length entries.old ≡ 2 ^ d) }
     requires size { length entries.old ≤ 65536 }
-    requires tail { (y : ℕ) → truncated ≤ y → y < length entries.old → slice_index entries.old y ≡ 0 }
+    requires zeros { (y : ℕ) → truncated ≤ y → y < length entries.old → slice_index entries.old y ≡ 0 }
     ensures values { IsWalsh (length entries.old) (λ y. slice_index entries.old y) (λ w. slice_index entries.new w) }
     ensures counts { WalshCounts (length entries.old) steps.old steps.new }
 {

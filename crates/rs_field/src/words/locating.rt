@@ -44,7 +44,7 @@ pub fn eval_poly(
     log_walsh: LogWalsh<'_>,
 )
     requires size { length entries.old ≡ 65536 }
-    requires tail { (y : ℕ) → truncated_size ≤ y → y < 65536 → slice_index entries.old y ≡ 0 }
+    requires zeros { (y : ℕ) → truncated_size ≤ y → y < 65536 → slice_index entries.old y ≡ 0 }
     requires table { IsLogWalsh log_walsh.now }
     ensures values { IsLocator (λ y. slice_index entries.old y) (λ x. slice_index entries.new x) }
     ensures counts { LocatorCounts steps.old steps.new }
@@ -78,7 +78,7 @@ fn locate_marked(
 )
     requires power { (d : ℕ) × (length entries.old ≡ 2 ^ d) }
     requires few { length entries.old ≤ 65536 }
-    requires tail { (y : ℕ) → truncated_size ≤ y → y < length entries.old → slice_index entries.old y ≡ 0 }
+    requires zeros { (y : ℕ) → truncated_size ≤ y → y < length entries.old → slice_index entries.old y ≡ 0 }
     requires table { IsLogWalshBelow (length entries.old) log_walsh.now }
     ensures values { IsLocatorBelow (length entries.old) (λ y. slice_index entries.old y) (λ x. slice_index entries.new x) }
     ensures counts { LocatorCountsBelow (length entries.old) steps.old steps.new }

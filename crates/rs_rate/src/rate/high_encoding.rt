@@ -5,7 +5,7 @@ ghost use Rattle.rs_field.specs.words.StepBounds.{CountsUpTo, transform_steps};
 ghost use Rattle.rs_field.specs.code.Counts.{next_power, supports, high_rate};
 ghost use Rattle.rs_field.specs.code.Placement.{encoder_rows};
 ghost use Rattle.rs_field.specs.words.Transform.{forward};
-ghost use Rattle.rs_field.specs.rows.View.{word, Fits, SameShape, SameRowsOutside};
+ghost use Rattle.rs_field.specs.rows.View.{word, Fits, SameExtent, SameRowsOutside};
 ghost use Rattle.rs_rate.specs.Coding.{SumsBlocks, CodesWords, CodingCounts, further_blocks};
 
 use crate::rate::configuration::Configuration;
@@ -24,7 +24,7 @@ pub(crate) fn code_high<E: Engine>(
     requires supported { supports high_rate configuration.original_count configuration.recovery_count ≡ true }
     requires rows { rows.old.shard_count ≡ encoder_rows high_rate configuration.original_count configuration.recovery_count }
     requires block { configuration.block_rows ≡ next_power configuration.recovery_count }
-    ensures shape { SameShape rows.old rows.new }
+    ensures extent { SameExtent rows.old rows.new }
     ensures words { (k s : ℕ) → k < rows.old.shard_len_64 → s < 32
         → CodesWords high_rate configuration.original_count configuration.recovery_count (word rows.old k s) (word rows.new k s) }
     ensures counts { CodingCounts high_rate configuration.original_count configuration.recovery_count steps.old steps.new }
@@ -48,7 +48,7 @@ fn sum_blocks<E: Engine>(
     requires enough { original_count ≤ rows.old.shard_count }
     requires whole { rows.old.shard_count % block ≡ 0 }
     requires points { rows.old.shard_count + block ≤ 65536 }
-    ensures shape { SameShape rows.old rows.new }
+    ensures extent { SameExtent rows.old rows.new }
     ensures sums { (n : ℕ) × (original_count ≤ n * block) × (n * block + block ≤ 65536)
         × ((k s : ℕ) → k < rows.old.shard_len_64 → s < 32 → SumsBlocks block n original_count (word rows.old k s) (word rows.new k s)) }
     ensures counts { CountsUpTo (block + transform_steps block + further_blocks block rows.old.shard_count * (2 * block + transform_steps block)) 0 0 steps.old steps.new }
@@ -78,7 +78,7 @@ fn pass_block<E: Engine>(
     requires aligned { start % block ≡ 0 }
     requires within { start + block ≤ rows.old.shard_count }
     requires points { rows.old.shard_count + block ≤ 65536 }
-    ensures shape { SameShape rows.old rows.new }
+    ensures extent { SameExtent rows.old rows.new }
     ensures others { SameRowsOutside start (start + block) rows.old rows.new }
     ensures values { (k s i : ℕ) → k < rows.old.shard_len_64 → s < 32 → i < block → start + i < original_count
         → forward block (start + block) (λ q. word rows.new k s (start + q)) i ≡ word rows.old k s (start + i) }

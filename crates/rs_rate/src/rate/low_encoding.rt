@@ -5,7 +5,7 @@ ghost use Rattle.rs_field.specs.words.StepBounds.{CountsUpTo, transform_steps};
 ghost use Rattle.rs_field.specs.code.Counts.{low_rate, next_power, supports};
 ghost use Rattle.rs_field.specs.code.Placement.{encoder_rows};
 ghost use Rattle.rs_field.specs.words.Transform.{forward};
-ghost use Rattle.rs_field.specs.rows.View.{cell, word, Fits, SameShape};
+ghost use Rattle.rs_field.specs.rows.View.{cell, word, Fits, SameExtent};
 ghost use Rattle.rs_rate.specs.Coding.{CodesWords, CodingCounts, further_blocks};
 
 use crate::rate::configuration::Configuration;
@@ -23,7 +23,7 @@ pub(crate) fn code_low<E: Engine>(
     requires supported { supports low_rate configuration.original_count configuration.recovery_count ≡ true }
     requires rows { rows.old.shard_count ≡ encoder_rows low_rate configuration.original_count configuration.recovery_count }
     requires block { configuration.block_rows ≡ next_power configuration.original_count }
-    ensures shape { SameShape rows.old rows.new }
+    ensures extent { SameExtent rows.old rows.new }
     ensures words { (k s : ℕ) → k < rows.old.shard_len_64 → s < 32
         → CodesWords low_rate configuration.original_count configuration.recovery_count (word rows.old k s) (word rows.new k s) }
     ensures counts { CodingCounts low_rate configuration.original_count configuration.recovery_count steps.old steps.new }
@@ -50,7 +50,7 @@ fn code_further<E: Engine>(
     requires enough { recovery_count ≤ rows.old.shard_count }
     requires whole { rows.old.shard_count % block ≡ 0 }
     requires points { rows.old.shard_count + block ≤ 65536 }
-    ensures shape { SameShape rows.old rows.new }
+    ensures extent { SameExtent rows.old rows.new }
     ensures combination { (i k : ℕ) → k < rows.old.shard_len_64 → i < block → cell rows.new k i ≡ cell rows.old k i }
     ensures values { (k s i : ℕ) → k < rows.old.shard_len_64 → s < 32 → block ≤ i → i < recovery_count
         → word rows.new k s i ≡ forward block 0 (λ q. word rows.old k s q) (block + i) }

@@ -9,7 +9,7 @@ ghost use Rattle.std.specs.Prelude.{◌≡◌, ℕ, ◌+◌, ◌-◌, ◌/◌, �
 ghost use Rattle.rs_field.specs.words.StepBounds.{CountsRows, CountsUpTo, transform_steps};
 ghost use Rattle.rs_field.specs.words.Field.{product, power};
 ghost use Rattle.rs_field.specs.rows.Layout.{row_len};
-ghost use Rattle.rs_field.specs.rows.View.{cell, word, Fits, SameShape};
+ghost use Rattle.rs_field.specs.rows.View.{cell, word, Fits, SameExtent};
 ghost use Rattle.rs_field.specs.rows.MarkedRows.{is_marked};
 ghost use Rattle.rs_rate.specs.Decoding.{located, AreRowsOf, AreCoefficients, CanBeRestored, restore_steps, RestoresWords};
 ghost use Rattle.rs_rate.specs.Marks.{given_marks, restored_marks, mark_count, WantsMissing};
@@ -44,7 +44,7 @@ pub(crate) fn restore_rows<E: Engine>(
     requires rows { AreRowsOf tally.shape rows.old }
     requires facts { CanBeRestored tally marks.old }
     requires located { length locator.now ≡ tally.shape.frame.row_count }
-    ensures shape { SameShape rows.old rows.new }
+    ensures extent { SameExtent rows.old rows.new }
     ensures marks { WantsMissing tally.shape marks.old marks.new }
     ensures words { RestoresWords tally.shape (given_marks marks.old) locator.now tally.surplus (word rows.old) (word rows.new) result }
     ensures counts { CountsUpTo (restore_steps tally.shape tally.surplus) 0 0 steps.old steps.new }
@@ -73,7 +73,7 @@ fn interpolate<E: Engine>(
     requires rows { AreRowsOf tally.shape rows.old }
     requires facts { CanBeRestored tally marks.now }
     requires located { length locator.now ≡ tally.shape.frame.row_count }
-    ensures shape { SameShape rows.old rows.new }
+    ensures extent { SameExtent rows.old rows.new }
     ensures coefficients { AreCoefficients tally.shape (given_marks marks.now) locator.now tally.surplus (word rows.old) (word rows.new) result }
     ensures counts { CountsUpTo (tally.shape.frame.row_count + (transform_steps tally.shape.frame.row_count + tally.surplus)) 0 0 steps.old steps.new }
 {
@@ -97,7 +97,7 @@ fn locate_rows<E: Engine>(
     requires fits { Fits rows.old }
     requires marked { length given.now ≡ rows.old.shard_count }
     requires located { length locator.now ≡ rows.old.shard_count }
-    ensures shape { SameShape rows.old rows.new }
+    ensures extent { SameExtent rows.old rows.new }
     ensures located { (k s p : ℕ) → k < rows.old.shard_len_64 → s < 32 → p < rows.old.shard_count
         → word rows.new k s p ≡ located given.now locator.now (word rows.old k s) p }
     ensures cleared { (k p : ℕ) → k < rows.old.shard_len_64 → p < rows.old.shard_count → is_marked given.now p ≡ false
@@ -152,7 +152,7 @@ fn reveal_rows<E: Engine>(
     requires rows { AreRowsOf shape rows.old }
     requires marked { mark_count marks.now ≡ rows.old.shard_count }
     requires located { length locator.now ≡ rows.old.shard_count }
-    ensures shape { SameShape rows.old rows.new }
+    ensures extent { SameExtent rows.old rows.new }
     ensures revealed { (k s i : ℕ) → k < rows.old.shard_len_64 → s < 32 → i < shape.configuration.original_count
         → let p = original_row shape.frame i in is_marked (restored_marks marks.now) p ≡ true
         → word rows.new k s p ≡ product (word rows.old k s p) (power (65535 - slice_index locator.now p)) }

@@ -6,8 +6,8 @@ use Rattle.reed_solomon_simd.proofs.Giving.{no-calls, always-both}
 use Rattle.reed_solomon_simd.proofs.OneCall.{decoding-uncounted, decoding-refused, decoding-nothing, decoding-answers, decoding-collected}
 use Rattle.reed_solomon_simd.proofs.one_call.decode.Goals as goal
 
-pub returns-in_err-counts-clause-run : goal.returns-in_err-counts-clause-run
-returns-in_err-counts-clause-run g c = (
+pub returns-in_err-counts-clause-calls : goal.returns-in_err-counts-clause-calls
+returns-in_err-counts-clause-calls g c = (
   no-calls c.args.original,
   no-calls c.args.recovery,
   λ originals recoveries begins further.
@@ -15,18 +15,18 @@ returns-in_err-counts-clause-run g c = (
 )
 
 pub returns-in_err-counts-clause-answer : goal.returns-in_err-counts-clause-answer
-returns-in_err-counts-clause-answer g c = always-both (λ item. (item.0, item.1.now)) (λ item. (item.0, item.1.now)) _ (returns-in_err-counts-clause-run g c)
+returns-in_err-counts-clause-answer g c = always-both (λ item. (item.0, item.1.now)) (λ item. (item.0, item.1.now)) _ (returns-in_err-counts-clause-calls g c)
 
-pub returns-in_err-decoder-clause-run : goal.returns-in_err-decoder-clause-run
-returns-in_err-decoder-clause-run g c =
+pub returns-in_err-decoder-clause-calls : goal.returns-in_err-decoder-clause-calls
+returns-in_err-decoder-clause-calls g c =
     let run = rw (c.in_ok-counts.ensures.0, c.in_ok-counts.ensures.1) at c.in_err-decoder.ensures in
     (run.0, run.1, λ originals recoveries begins further. let led = decoding-refused c.args.original_count c.args.recovery_count originals recoveries _ (run.2 originals recoveries begins further) in search rules)
 
 pub returns-in_err-decoder-clause-answer : goal.returns-in_err-decoder-clause-answer
-returns-in_err-decoder-clause-answer g c = always-both (λ item. (item.0, item.1.now)) (λ item. (item.0, item.1.now)) _ (returns-in_err-decoder-clause-run g c)
+returns-in_err-decoder-clause-answer g c = always-both (λ item. (item.0, item.1.now)) (λ item. (item.0, item.1.now)) _ (returns-in_err-decoder-clause-calls g c)
 
-pub returns-in_default-clause-run : goal.returns-in_default-clause-run
-returns-in_default-clause-run g c =
+pub returns-in_default-clause-calls : goal.returns-in_default-clause-calls
+returns-in_default-clause-calls g c =
     let run = rw (c.in_ok-counts.ensures.0, c.in_ok-counts.ensures.1, c.in_default.is) at c.in_ok-decoder.ensures in (
       run.0,
       run.1,
@@ -36,10 +36,10 @@ returns-in_default-clause-run g c =
     )
 
 pub returns-in_default-clause-answer : goal.returns-in_default-clause-answer
-returns-in_default-clause-answer g c = always-both (λ item. (item.0, item.1.now)) (λ item. (item.0, item.1.now)) _ (returns-in_default-clause-run g c)
+returns-in_default-clause-answer g c = always-both (λ item. (item.0, item.1.now)) (λ item. (item.0, item.1.now)) _ (returns-in_default-clause-calls g c)
 
-pub returns-in_err-result-clause-run : goal.returns-in_err-result-clause-run
-returns-in_err-result-clause-run g c =
+pub returns-in_err-result-clause-calls : goal.returns-in_err-result-clause-calls
+returns-in_err-result-clause-calls g c =
     let run = rw (c.in_ok-counts.ensures.0, c.in_ok-counts.ensures.1, c.in-Some.is) at c.in_ok-decoder.ensures in (
       run.0,
       run.1,
@@ -48,10 +48,10 @@ returns-in_err-result-clause-run g c =
     )
 
 pub returns-in_err-result-clause-answer : goal.returns-in_err-result-clause-answer
-returns-in_err-result-clause-answer g c = always-both (λ item. (item.0, item.1.now)) (λ item. (item.0, item.1.now)) _ (returns-in_err-result-clause-run g c)
+returns-in_err-result-clause-answer g c = always-both (λ item. (item.0, item.1.now)) (λ item. (item.0, item.1.now)) _ (returns-in_err-result-clause-calls g c)
 
-pub returns-clause-run : goal.returns-clause-run
-returns-clause-run g c =
+pub returns-clause-calls : goal.returns-clause-calls
+returns-clause-calls g c =
     let run = rw (c.in_ok-counts.ensures.0, c.in_ok-counts.ensures.1, c.in-Some.is) at c.in_ok-decoder.ensures in (
       run.0,
       run.1,
@@ -60,4 +60,4 @@ returns-clause-run g c =
     )
 
 pub returns-clause-answer : goal.returns-clause-answer
-returns-clause-answer g c = always-both (λ item. (item.0, item.1.now)) (λ item. (item.0, item.1.now)) _ (returns-clause-run g c)
+returns-clause-answer g c = always-both (λ item. (item.0, item.1.now)) (λ item. (item.0, item.1.now)) _ (returns-clause-calls g c)

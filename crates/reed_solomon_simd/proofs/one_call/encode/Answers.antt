@@ -8,39 +8,39 @@ use Rattle.reed_solomon_simd.proofs.Giving.{no-calls, always-run}
 use Rattle.reed_solomon_simd.proofs.OneCall.{encoding-uncounted, encoding-refused, encoding-answers, encoding-collected, encoding-coded}
 use Rattle.reed_solomon_simd.proofs.one_call.encode.Goals as goal
 
-pub returns-in_err-counts-clause-run : goal.returns-in_err-counts-clause-run
-returns-in_err-counts-clause-run g c = (
+pub returns-in_err-counts-clause-calls : goal.returns-in_err-counts-clause-calls
+returns-in_err-counts-clause-calls g c = (
   no-calls c.args.original,
   λ items begins.
       let led = encoding-refused c.args.original_count c.args.recovery_count items _ (encoding-uncounted c.args.original_count c.args.recovery_count items _ c.in_err-counts.ensures) in search rules,
 )
 
 pub returns-in_err-counts-clause-answer : goal.returns-in_err-counts-clause-answer
-returns-in_err-counts-clause-answer g c = always-run (returns-in_err-counts-clause-run g c)
+returns-in_err-counts-clause-answer g c = always-run (returns-in_err-counts-clause-calls g c)
 
-pub returns-in_err-encoder-clause-run : goal.returns-in_err-encoder-clause-run
-returns-in_err-encoder-clause-run g c =
+pub returns-in_err-encoder-clause-calls : goal.returns-in_err-encoder-clause-calls
+returns-in_err-encoder-clause-calls g c =
     let run = rw (c.in_ok-counts.ensures.0, c.in_ok-counts.ensures.1) at c.in_err-encoder.ensures in
     (run.0, λ items begins. let led = encoding-refused c.args.original_count c.args.recovery_count items _ (run.1 items begins) in search rules)
 
 pub returns-in_err-encoder-clause-answer : goal.returns-in_err-encoder-clause-answer
-returns-in_err-encoder-clause-answer g c = always-run (returns-in_err-encoder-clause-run g c)
+returns-in_err-encoder-clause-answer g c = always-run (returns-in_err-encoder-clause-calls g c)
 
-pub returns-in_err-result-clause-run : goal.returns-in_err-result-clause-run
-returns-in_err-result-clause-run g c =
+pub returns-in_err-result-clause-calls : goal.returns-in_err-result-clause-calls
+returns-in_err-result-clause-calls g c =
     let run = rw (c.in_ok-counts.ensures.0, c.in_ok-counts.ensures.1) at c.in_ok-encoder.ensures in
     (run.0, λ items begins. let led = encoding-answers c.args.original_count c.args.recovery_count items _ (run.1 items begins) (Err c.in_err-result.field-0.0) c.in_err-result.ensures.answer in search rules)
 
 pub returns-in_err-result-clause-answer : goal.returns-in_err-result-clause-answer
-returns-in_err-result-clause-answer g c = always-run (returns-in_err-result-clause-run g c)
+returns-in_err-result-clause-answer g c = always-run (returns-in_err-result-clause-calls g c)
 
-pub returns-clause-run : goal.returns-clause-run
-returns-clause-run g c =
+pub returns-clause-calls : goal.returns-clause-calls
+returns-clause-calls g c =
     let run = rw (c.in_ok-counts.ensures.0, c.in_ok-counts.ensures.1) at c.in_ok-encoder.ensures in
     (run.0, λ items begins. encoding-collected c.args.original_count c.args.recovery_count items _ (run.1 items begins) (recovery_shards c.in_ok-result.result) _ c.in_ok-result.ensures.answer c.collect_recovery.ensures)
 
 pub returns-clause-answer : goal.returns-clause-answer
-returns-clause-answer g c = always-run (returns-clause-run g c)
+returns-clause-answer g c = always-run (returns-clause-calls g c)
 
 pub returns-clause-coded : goal.returns-clause-coded
 returns-clause-coded g c =

@@ -7,7 +7,7 @@ use Rattle.rs_callers.proofs.surface.back_and_forth.Goals as goal
 pub returns : goal.returns
 returns g c k s i hk hs marked =
     let at : 0 + i ≡ i = omega arith in
-    let len = c.ifft_given.ensures.shape.len_64 in
+    let len = c.ifft_given.ensures.extent.len_64 in
     elim (cases_lt i (length c.args.marks.now)) [
       | inl inside ↦
           ap (word c.fft_wanted.new.rows k s) (sym at)

@@ -2,8 +2,8 @@ use Rattle.std.proofs.Common.{◌≡◌, ℕ, ◌+◌, ◌-◌, replicate, subst
 use Rattle.rs_field.specs.rows.View.{cell}
 use Rattle.rs_field.proofs.engine.Engine.ifft_given.Goals as goal
 
-pub ifft-requires-clause-tail : goal.ifft-requires-clause-tail
-ifft-requires-clause-tail g c i k hk from to =
+pub ifft-requires-clause-zeros : goal.ifft-requires-clause-zeros
+ifft-requires-clause-zeros g c i k hk from to =
     let r : ℕ = i - c.args.pos in
     let at : c.args.pos + r ≡ i = omega arith in
     subst (λ (p : ℕ). cell c.args.rows.now k p ≡ replicate 64 0) at

@@ -14,8 +14,8 @@ past front whole n y size above =
     ap (λ k. get_or (front ++ drop n whole) k 0) (sym there) ∙ get_or-append-add front (drop n whole) (y - n) 0
     ∙ get_or-drop n whole (y - n) 0 ∙ ap (λ k. get_or whole k 0) back
 
-pub eval_poly-requires-clause-tail : goal.eval_poly-requires-clause-tail
-eval_poly-requires-clause-tail g c y above inside =
+pub eval_poly-requires-clause-zeros : goal.eval_poly-requires-clause-zeros
+eval_poly-requires-clause-zeros g c y above inside =
     past c.copy_from_slice.new.self _ (length c.args.entries.now) y (ap (λ (xs : List ℕ). length xs) c.copy_from_slice.ensures.after) above ∙ get_or-replicate 65536 y 0 0 inside
 
 -- over marks that are the same at the first points, and zero behind them, the sum is that of the first points

@@ -16,21 +16,21 @@ pub derivative_within-requires-then-size-gt1 : goal.derivative_within-requires-t
 derivative_within-requires-then-size-gt1 t c =
     let p = half_power c.args.size c.if-size-gt1.true c.requires.power in
     let even = two_halves c.args.size c.if-size-gt1.true c.requires.power in
-    let shape_low = c.derivative_within.ensures.shape in
-    let shape_mid = c.xor_within.ensures.shape in
-    let fits = fits_kept c.derivative_within.new.rows c.xor_within.new.rows shape_mid (fits_kept c.args.rows.now c.derivative_within.new.rows shape_low c.requires.fits) in
+    let extent_low = c.derivative_within.ensures.extent in
+    let extent_mid = c.xor_within.ensures.extent in
+    let fits = fits_kept c.derivative_within.new.rows c.xor_within.new.rows extent_mid (fits_kept c.args.rows.now c.derivative_within.new.rows extent_low c.requires.fits) in
     (omega arith, (fits, ((p.0, p.2), (omega arith, omega arith))))
 
 pub returns-then-size-gt1-clause-derivative : goal.returns-then-size-gt1-clause-derivative
 returns-then-size-gt1-clause-derivative t c k s hk hs =
     let even = two_halves c.args.size c.if-size-gt1.true c.requires.power in
-    let shape_low = c.derivative_within.ensures.shape in
-    let shape_mid = c.xor_within.ensures.shape in
+    let extent_low = c.derivative_within.ensures.extent in
+    let extent_mid = c.xor_within.ensures.extent in
     let pos = c.args.pos in
     let half = c.args.size / 2 in
-    let kept_low = outside_cell pos (pos + half) c.args.rows.now c.derivative_within.new.rows shape_low c.derivative_within.ensures.others in
-    let kept_mid = outside_cell pos (pos + half) c.derivative_within.new.rows c.xor_within.new.rows shape_mid c.xor_within.ensures.others in
-    let kept_high = outside_cell (pos + half) (pos + half + half) c.xor_within.new.rows c.derivative_within-then-size-gt1.new.rows c.derivative_within-then-size-gt1.ensures.shape c.derivative_within-then-size-gt1.ensures.others in
+    let kept_low = outside_cell pos (pos + half) c.args.rows.now c.derivative_within.new.rows extent_low c.derivative_within.ensures.others in
+    let kept_mid = outside_cell pos (pos + half) c.derivative_within.new.rows c.xor_within.new.rows extent_mid c.xor_within.ensures.others in
+    let kept_high = outside_cell (pos + half) (pos + half + half) c.xor_within.new.rows c.derivative_within-then-size-gt1.new.rows c.derivative_within-then-size-gt1.ensures.extent c.derivative_within-then-size-gt1.ensures.others in
     derivative_rows c.args.rows.now c.derivative_within.new.rows c.xor_within.new.rows c.derivative_within-then-size-gt1.new.rows k s c.args.pos c.args.size
     c.if-size-gt1.true c.requires.power c.requires.words
     (c.derivative_within.ensures.derivative k s hk hs)

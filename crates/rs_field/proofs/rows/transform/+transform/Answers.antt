@@ -19,8 +19,8 @@ transform-returns-then-are_none-clause-values g t c k s hk hs =
 
 pub transform_many-transform_parts-requires : goal.transform_many-transform_parts-requires
 transform_many-transform_parts-requires g t c κs within =
-    let shape = c.layers.ensures.shape in let count = shape.count in
-    let fits = fits_kept c.args.rows.now c.layers.new.rows shape c.requires.fits in
+    let extent = c.layers.ensures.extent in let count = extent.count in
+    let fits = fits_kept c.args.rows.now c.layers.new.rows extent c.requires.fits in
     let open_rows : 0 ≤ c.args.block.size = omega arith in
     (omega arith, (within, (fits, (omega arith, (c.requires.marks, (omega arith, rw c.in-Forward.is open_rows))))))
 
@@ -31,7 +31,7 @@ transform_many-transform_parts-requires-in-Backward g t c κs within =
 pub transform-returns-then-block-gt1-clause-values : goal.transform-returns-then-block-gt1-clause-values
 transform-returns-then-block-gt1-clause-values g t c k s hk hs =
     let block = c.args.block in
-    let shape = c.layers.ensures.shape in let len = shape.len_64 in let count = shape.count in
+    let extent = c.layers.ensures.extent in let len = extent.len_64 in let count = extent.count in
     let within = c.requires.within in
     layers_of_few c.args.direction (is_used c.args.used) block.size block.skew_delta (λ (q : ℕ). word c.args.rows.now k s (block.pos + q))
     (λ (q : ℕ). word c.layers.new.rows k s (block.pos + q)) (omega arith) (omega arith) (block_power block)
@@ -52,7 +52,7 @@ transform-returns-else-block-gt1-clause-values g t c k s hk hs =
 pub transform_many-returns-in-Forward-clause-values : goal.transform_many-returns-in-Forward-clause-values
 transform_many-returns-in-Forward-clause-values g t c k s hk hs =
     let block = c.args.block in
-    let len = c.layers.ensures.shape.len_64 in
+    let len = c.layers.ensures.extent.len_64 in
     let layers = c.layers.ensures.parts k s hk hs in
     rw c.in-Forward.is (forward_whole block.size (rows_of_part block.size) block.skew_delta (is_used c.args.used) (λ q. word c.args.rows.now k s (block.pos + q))
     (λ q. word c.layers.new.rows k s (block.pos + q)) (λ q. word c.transform_parts.new.rows k s (block.pos + q)) (part_found block _ refl c.requires.large)
@@ -69,7 +69,7 @@ transform_many-returns-in-Forward-clause-counts g t c =
 pub transform_many-returns-in-Backward-clause-values : goal.transform_many-returns-in-Backward-clause-values
 transform_many-returns-in-Backward-clause-values g t c k s hk hs =
     let block = c.args.block in
-    let len = c.transform_parts-in-Backward.ensures.shape.len_64 in
+    let len = c.transform_parts-in-Backward.ensures.extent.len_64 in
     let layers = c.layers-in-Backward.ensures.parts k s (omega (arith, len)) hs in
     rw c.in-Backward.is (backward_whole block.size (rows_of_part block.size) block.skew_delta (is_used c.args.used) (λ q. word c.args.rows.now k s (block.pos + q))
     (λ q. word c.transform_parts-in-Backward.new.rows k s (block.pos + q)) (λ q. word c.layers-in-Backward.new.rows k s (block.pos + q)) (part_found block _ refl c.requires.large)
@@ -105,12 +105,12 @@ transform_parts-transform-requires g t c κs within =
     let smaller = part.smaller in
     let begins = part_begins block.size n c.loop-j.j part c.loop-j-test.true in
     let inside = part_within block.size n c.loop-j.j part begins in
-    let shape = done.shape in let count = shape.count in
+    let extent = done.extent in let count = extent.count in
     let rows = c.part.ensures.rows in let size = c.part.ensures.size in
     let marks = subst (HasMarks c.part-in-loop-j.result) (sym size) c.part-in-loop-j.ensures.marks in
     let zeros = zeros_of_part c.args.direction c.args.used c.part-in-loop-j.result c.args.rows.now c.loop-j.rows block.pos block.size start n
-    inside shape.len_64 done.rest c.part-in-loop-j.ensures.used c.requires.zeros in
-    (omega arith, (within, (fits_kept c.args.rows.now c.loop-j.rows shape c.requires.fits, (marks, (omega arith, rw (rows, size) zeros)))))
+    inside extent.len_64 done.rest c.part-in-loop-j.ensures.used c.requires.zeros in
+    (omega arith, (within, (fits_kept c.args.rows.now c.loop-j.rows extent c.requires.fits, (marks, (omega arith, rw (rows, size) zeros)))))
 
 pub transform_parts-loop-j-preserved : goal.transform_parts-loop-j-preserved
 transform_parts-loop-j-preserved g t c =
@@ -123,13 +123,13 @@ transform_parts-loop-j-preserved g t c =
     record {
       done =
           parts_next c.args.direction (is_used c.args.used) (is_used c.part-in-loop-j.result) block.size n block.skew_delta block.pos j c.args.rows.now c.loop-j.rows c.transform.new.rows
-          part begins c.loop-j.invariant.done c.transform.ensures.shape (rw (rows, size) at c.transform.ensures.others) c.part-in-loop-j.ensures.used
+          part begins c.loop-j.invariant.done c.transform.ensures.extent (rw (rows, size) at c.transform.ensures.others) c.part-in-loop-j.ensures.used
           (rw (rows, size, shift) at c.transform.ensures.values);
       counts = counts_next (transform_steps n) j c.args.steps.now c.loop-j.steps c.transform.new.steps c.loop-j.invariant.counts (rw size at c.transform.ensures.counts);
     }
 
-pub transform_parts-returns-clause-shape : goal.transform_parts-returns-clause-shape
-transform_parts-returns-clause-shape g t c = c.loop-j.invariant.done.shape
+pub transform_parts-returns-clause-extent : goal.transform_parts-returns-clause-extent
+transform_parts-returns-clause-extent g t c = c.loop-j.invariant.done.extent
 
 pub transform_parts-returns-clause-others : goal.transform_parts-returns-clause-others
 transform_parts-returns-clause-others g t c = c.loop-j.invariant.done.others

@@ -16,25 +16,25 @@ quarters t c =
 pub fwht-requires : goal.fwht-requires
 fwht-requires t c =
     let (e, _, part, cut) = quarters t (goal.at.fwht-requires t c).After-split_at_mut-x2 in
-    (omega arith, ((e, cut.size0 ∙ part), (omega arith, λ y from to. cut.entry0 y (omega arith) ∙ c.requires.tail y from (omega arith))))
+    (omega arith, ((e, cut.size0 ∙ part), (omega arith, λ y from to. cut.entry0 y (omega arith) ∙ c.requires.zeros y from (omega arith))))
 
 pub fwht-requires-else-truncated-quarter : goal.fwht-requires-else-truncated-quarter
 fwht-requires-else-truncated-quarter t c =
     let q : ℕ = length c.args.entries.now / 4 in
     let (e, _, part, cut) = quarters t (goal.at.fwht-requires-else-truncated-quarter t c).After-split_at_mut-x2 in
-    (omega arith, ((e, cut.size1 ∙ part), (omega arith, λ y from to. cut.entry1 y (omega arith) ∙ c.requires.tail (q + y) (omega arith) (omega arith))))
+    (omega arith, ((e, cut.size1 ∙ part), (omega arith, λ y from to. cut.entry1 y (omega arith) ∙ c.requires.zeros (q + y) (omega arith) (omega arith))))
 
 pub fwht-requires-else-truncated-quarter-2 : goal.fwht-requires-else-truncated-quarter-2
 fwht-requires-else-truncated-quarter-2 t c =
     let q : ℕ = length c.args.entries.now / 4 in
     let (e, _, part, cut) = quarters t (goal.at.fwht-requires-else-truncated-quarter-2 t c).After-split_at_mut-x2 in
-    (omega arith, ((e, cut.size2 ∙ part), (omega arith, λ y from to. cut.entry2 y (omega arith) ∙ c.requires.tail (q + q + y) (omega arith) (omega arith))))
+    (omega arith, ((e, cut.size2 ∙ part), (omega arith, λ y from to. cut.entry2 y (omega arith) ∙ c.requires.zeros (q + q + y) (omega arith) (omega arith))))
 
 pub fwht-requires-else-truncated-quarter-3 : goal.fwht-requires-else-truncated-quarter-3
 fwht-requires-else-truncated-quarter-3 t c =
     let q : ℕ = length c.args.entries.now / 4 in
     let (e, _, part, cut) = quarters t (goal.at.fwht-requires-else-truncated-quarter-3 t c).After-split_at_mut-x2 in
-    (omega arith, ((e, cut.size3 ∙ part), (omega arith, λ y from to. cut.entry3 y (omega arith) ∙ c.requires.tail (q + q + (q + y)) (omega arith) (omega arith))))
+    (omega arith, ((e, cut.size3 ∙ part), (omega arith, λ y from to. cut.entry3 y (omega arith) ∙ c.requires.zeros (q + q + (q + y)) (omega arith) (omega arith))))
 
 pub copy_from_slice-requires : goal.copy_from_slice-requires
 copy_from_slice-requires t c = let cut = (quarters t (goal.at.copy_from_slice-requires t c).After-split_at_mut-x2).3 in omega arith
@@ -68,9 +68,9 @@ pub returns-then-truncated-quarter-clause-values : goal.returns-then-truncated-q
 returns-then-truncated-quarter-clause-values t c =
     let q : ℕ = length c.args.entries.now / 4 in
     let (e, is, part, cut) = quarters t (goal.at.returns-then-truncated-quarter-clause-values t c).After-split_at_mut-x2 in
-    let none1 : (y : ℕ) → y < q → get_or c.split_at_mut-x0.result.1.now y 0 ≡ 0 = λ y hy. cut.entry1 y hy ∙ c.requires.tail (q + y) (omega arith) (omega arith) in
-    let none2 : (y : ℕ) → y < q → get_or c.split_at_mut-x2.result.0.now y 0 ≡ 0 = λ y hy. cut.entry2 y hy ∙ c.requires.tail (q + q + y) (omega arith) (omega arith) in
-    let none3 : (y : ℕ) → y < q → get_or c.split_at_mut-x2.result.1.now y 0 ≡ 0 = λ y hy. cut.entry3 y hy ∙ c.requires.tail (q + q + (q + y)) (omega arith) (omega arith) in
+    let none1 : (y : ℕ) → y < q → get_or c.split_at_mut-x0.result.1.now y 0 ≡ 0 = λ y hy. cut.entry1 y hy ∙ c.requires.zeros (q + y) (omega arith) (omega arith) in
+    let none2 : (y : ℕ) → y < q → get_or c.split_at_mut-x2.result.0.now y 0 ≡ 0 = λ y hy. cut.entry2 y hy ∙ c.requires.zeros (q + q + y) (omega arith) (omega arith) in
+    let none3 : (y : ℕ) → y < q → get_or c.split_at_mut-x2.result.1.now y 0 ≡ 0 = λ y hy. cut.entry3 y hy ∙ c.requires.zeros (q + q + (q + y)) (omega arith) (omega arith) in
     walsh-joined e (length c.args.entries.now) q c.args.entries.now c.split_at_mut-x0.result.0.now c.split_at_mut-x0.result.1.now c.split_at_mut-x2.result.0.now c.split_at_mut-x2.result.1.now
     c.fwht.new.entries c.split_at_mut-x0.result.1.now c.split_at_mut-x2.result.0.now c.split_at_mut-x2.result.1.now c.fwht.new.entries c.copy_from_slice.new.self c.copy_from_slice-then-truncated-quarter.new.self c.copy_from_slice-then-truncated-quarter-2.new.self is part cut (record {
       size0 = omega arith;
@@ -129,7 +129,7 @@ pub returns-else-n-gt2-clause-values : goal.returns-else-n-gt2-clause-values
 returns-else-n-gt2-clause-values t c =
     elim c.else-n-gt2.branch [
       | else-n-gt2-via-then-n-gt2+else-truncated-gt0 w ↦
-          walsh-none (length c.args.entries.now) (λ y. get_or c.args.entries.now y 0) (λ y hy. c.requires.tail y (omega arith) hy)
+          walsh-none (length c.args.entries.now) (λ y. get_or c.args.entries.now y 0) (λ y hy. c.requires.zeros y (omega arith) hy)
       | else-n-gt2-via-else-n-gt2 w ↦
           let power = c.requires.power in
           let some = pow_pos power.0 in

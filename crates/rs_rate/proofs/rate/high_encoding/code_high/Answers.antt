@@ -30,10 +30,10 @@ pub fft-requires : goal.fft-requires
 fft-requires g c =
     let rows = rows-fit false c.args.configuration.original_count c.args.configuration.recovery_count c.requires.supported in
     record {
-      fits = fits_kept c.args.rows.now c.sum_blocks.new.rows c.sum_blocks.ensures.shape c.requires.fits;
+      fits = fits_kept c.args.rows.now c.sum_blocks.new.rows c.sum_blocks.ensures.extent c.requires.fits;
       power = (rows.power.0, c.requires.block ∙ rows.power.1);
       truncated = omega (arith, rows.block, c.requires.block);
-      within = omega (arith, rows.some, c.requires.rows, c.requires.block, c.sum_blocks.ensures.shape.count);
+      within = omega (arith, rows.some, c.requires.rows, c.requires.block, c.sum_blocks.ensures.extent.count);
       shift = zero-mod c.args.configuration.block_rows;
       points = omega (arith, rows.points, c.requires.block);
     }
@@ -41,7 +41,7 @@ fft-requires g c =
 pub returns-clause-words : goal.returns-clause-words
 returns-clause-words g c = λ k s inside symbols.
     let block = c.requires.block in
-    let len : c.sum_blocks.new.rows.shard_len_64 ≡ c.args.rows.now.shard_len_64 = c.sum_blocks.ensures.shape.len_64 in
+    let len : c.sum_blocks.new.rows.shard_len_64 ≡ c.args.rows.now.shard_len_64 = c.sum_blocks.ensures.extent.len_64 in
     let old : ℕ → ℕ = word c.args.rows.now k s in
     let mid : ℕ → ℕ = word c.sum_blocks.new.rows k s in
     let new : ℕ → ℕ = word c.fft.new.rows k s in

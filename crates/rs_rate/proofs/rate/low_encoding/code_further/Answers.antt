@@ -17,13 +17,13 @@ pub copy_rows-requires-clause-within : goal.copy_rows-requires-clause-within
 copy_rows-requires-clause-within g c =
     let loop = c.loop-start.invariant in
     let next = next_block c.loop-start.start c.args.rows.now.shard_count c.args.block (omega (arith, c.requires.enough)) loop.whole c.requires.whole in
-    omega (arith, next, loop.shape.count)
+    omega (arith, next, loop.extent.count)
 
 pub fft-requires-clause-within : goal.fft-requires-clause-within
 fft-requires-clause-within g c =
     let loop = c.loop-start.invariant in
     let next = next_block c.loop-start.start c.args.rows.now.shard_count c.args.block (omega (arith, c.requires.enough)) loop.whole c.requires.whole in
-    omega (arith, next, loop.shape.count, c.copy_rows.ensures.shape.count)
+    omega (arith, next, loop.extent.count, c.copy_rows.ensures.extent.count)
 
 pub fft-requires-clause-points : goal.fft-requires-clause-points
 fft-requires-clause-points g c =
@@ -41,22 +41,22 @@ loop-start-preserved g c =
     let some : 0 < c.args.block = (let p = pow_pos c.requires.power.0 in omega (arith, c.requires.power.1)) in
     let step : ℕ = c.args.block + transform_steps c.args.block in
     let next = next_block c.loop-start.start c.args.rows.now.shard_count c.args.block (omega (arith, c.requires.enough)) loop.whole c.requires.whole in
-    let same : c.loop-start.rows.shard_len_64 ≡ c.args.rows.now.shard_len_64 = loop.shape.len_64 in
-    let same_too : c.copy_rows.new.rows.shard_len_64 ≡ c.args.rows.now.shard_len_64 = c.copy_rows.ensures.shape.len_64 ∙ same in
+    let same : c.loop-start.rows.shard_len_64 ≡ c.args.rows.now.shard_len_64 = loop.extent.len_64 in
+    let same_too : c.copy_rows.new.rows.shard_len_64 ≡ c.args.rows.now.shard_len_64 = c.copy_rows.ensures.extent.len_64 ∙ same in
     let kept_before : (i k : ℕ) → k < c.args.rows.now.shard_len_64 → i < c.loop-start.start → cell c.copy_rows.new.rows k i ≡ cell c.loop-start.rows k i
-    = λ i k inside before. outside_cell _ _ c.loop-start.rows c.copy_rows.new.rows c.copy_rows.ensures.shape c.copy_rows.ensures.others i k (omega arith) (inl before) in
+    = λ i k inside before. outside_cell _ _ c.loop-start.rows c.copy_rows.new.rows c.copy_rows.ensures.extent c.copy_rows.ensures.others i k (omega arith) (inl before) in
     let kept_after : (i k : ℕ) → k < c.args.rows.now.shard_len_64 → i < c.loop-start.start → cell c.fft.new.rows k i ≡ cell c.copy_rows.new.rows k i
-    = λ i k inside before. outside_cell _ _ c.copy_rows.new.rows c.fft.new.rows c.fft.ensures.shape c.fft.ensures.others i k (omega arith) (inl before) in
+    = λ i k inside before. outside_cell _ _ c.copy_rows.new.rows c.fft.new.rows c.fft.ensures.extent c.fft.ensures.others i k (omega arith) (inl before) in
     record {
       first = omega arith;
       whole = add-mod_right c.loop-start.start c.args.block ∙ loop.whole;
       within = omega (arith, next);
-      fits = fits_kept c.copy_rows.new.rows c.fft.new.rows c.fft.ensures.shape (fits_kept c.loop-start.rows c.copy_rows.new.rows c.copy_rows.ensures.shape loop.fits);
-      shape = record {
-        name = c.fft.ensures.shape.name ∙ c.copy_rows.ensures.shape.name ∙ loop.shape.name;
-        count = c.fft.ensures.shape.count ∙ c.copy_rows.ensures.shape.count ∙ loop.shape.count;
-        len_64 = c.fft.ensures.shape.len_64 ∙ same_too;
-        length = c.fft.ensures.shape.length ∙ c.copy_rows.ensures.shape.length ∙ loop.shape.length;
+      fits = fits_kept c.copy_rows.new.rows c.fft.new.rows c.fft.ensures.extent (fits_kept c.loop-start.rows c.copy_rows.new.rows c.copy_rows.ensures.extent loop.fits);
+      extent = record {
+        name = c.fft.ensures.extent.name ∙ c.copy_rows.ensures.extent.name ∙ loop.extent.name;
+        count = c.fft.ensures.extent.count ∙ c.copy_rows.ensures.extent.count ∙ loop.extent.count;
+        len_64 = c.fft.ensures.extent.len_64 ∙ same_too;
+        length = c.fft.ensures.extent.length ∙ c.copy_rows.ensures.extent.length ∙ loop.extent.length;
       };
       combination = λ i k inside small.
           kept_after i k inside (omega arith) ∙ kept_before i k inside (omega arith) ∙ loop.combination i k inside small;

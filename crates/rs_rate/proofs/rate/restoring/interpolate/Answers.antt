@@ -13,16 +13,16 @@ returns-clause-coefficients g c =
     let s = c.args.tally.shape in
     let old = c.args.rows.now in
     let passed = c.ifft_given.new.rows in
-    let located_shape = c.locate_rows.ensures.shape in
-    let shape = c.ifft_given.ensures.shape in
+    let located_extent = c.locate_rows.ensures.extent in
+    let shape = c.ifft_given.ensures.extent in
     let rows = s.frame.row_count in
     let marked = c.given-given.ensures.length ∙ c.requires.facts.marked in
     rw (← c.given-given.ensures.marks) (record {
-      are_words = λ k t i hk ht hi. c.row_symbols_are_words.ensures k t i (omega (arith, hk, shape.len_64, located_shape.len_64, c.requires.rows.len)) ht (omega (arith, hi, shape.count, located_shape.count, c.requires.rows.count));
+      are_words = λ k t i hk ht hi. c.row_symbols_are_words.ensures k t i (omega (arith, hk, shape.len_64, located_extent.len_64, c.requires.rows.len)) ht (omega (arith, hi, shape.count, located_extent.count, c.requires.rows.count));
       of_located = λ k t hk ht i hi.
           sym (c.locate_rows.ensures.located k t i (omega (arith, hk, c.requires.rows.len)) ht (omega (arith, hi, c.requires.rows.count)))
           ∙ from_row_zero _ rows i (word c.locate_rows.new.rows k t) (word passed k t) marked
-          (c.ifft_given.ensures.values k t i (omega (arith, hk, located_shape.len_64, c.requires.rows.len)) ht (omega (arith, hi, marked)));
+          (c.ifft_given.ensures.values k t i (omega (arith, hk, located_extent.len_64, c.requires.rows.len)) ht (omega (arith, hi, marked)));
       checked = checked_rows rows c.args.tally.surplus s.configuration.shard_bytes passed.shard_count (rows - c.args.tally.surplus) (word passed) c.are_zero_rows.result c.are_zero_rows.result
-          c.requires.facts.few_surplus refl (shape.count ∙ located_shape.count ∙ c.requires.rows.count) refl c.are_zero_rows.ensures.zero;
+          c.requires.facts.few_surplus refl (shape.count ∙ located_extent.count ∙ c.requires.rows.count) refl c.are_zero_rows.ensures.zero;
     })

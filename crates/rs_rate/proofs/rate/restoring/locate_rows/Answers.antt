@@ -8,7 +8,7 @@ use Rattle.rs_field.specs.declared.words.steps.Steps.{Steps}
 use Rattle.rs_field.specs.rows.MarkedRows.{is_marked}
 use Rattle.rs_field.proofs.of_words.Counting.{counts_rows, counts_then}
 use Rattle.rs_field.proofs.of_rows.Recursion.{fits_kept}
-use Rattle.rs_field.proofs.of_rows.RowOffsets.{outside_cell, shape_then}
+use Rattle.rs_field.proofs.of_rows.RowOffsets.{outside_cell, extent_then}
 use Rattle.rs_field.proofs.of_rows.Symbols.{symbol-zero}
 use Rattle.rs_rate.specs.Decoding.{located}
 use Rattle.rs_rate.proofs.RestoringRows.{RowLocated, located-at, located-same}
@@ -24,7 +24,7 @@ loop-p-preserved g c =
     let locator = c.args.locator.now in
     let p = c.loop-p.p in
     let before = c.loop-p.invariant in
-    let count = before.shape.count in
+    let count = before.extent.count in
     let step : RowLocated c.args.given.now c.args.locator.now c.loop-p.p c.loop-p.rows c.if-given-p.rows c.loop-p.steps c.if-given-p.steps =
     elim c.if-given-p.branch [
       | then-given-p w ↦
@@ -32,7 +32,7 @@ loop-p-preserved g c =
           subst (λ (r : ShardsRefMut). RowLocated marks locator p mid r c.loop-p.steps c.if-given-p.steps) (sym w.rows-is)
           (subst (λ (t : Steps). RowLocated marks locator p mid w.mul_row_at.new.rows c.loop-p.steps t) (sym w.steps-is)
           (record {
-            shape = w.mul_row_at.ensures.shape;
+            extent = w.mul_row_at.ensures.extent;
             others = w.mul_row_at.ensures.others;
             located_here = λ k s hk hs. w.mul_row_at.ensures.products k s hk hs ∙ sym (located-at marks locator (word mid k s) p true given);
             cleared = λ k hk none. absurd (true≢false (sym given ∙ none));
@@ -40,11 +40,11 @@ loop-p-preserved g c =
           }))
       | else-given-p w ↦
           let none = w.if-given-p.false in
-          let cleared_len = w.clear_rows.ensures.shape.len_64 in
+          let cleared_len = w.clear_rows.ensures.extent.len_64 in
           subst (λ (r : ShardsRefMut). RowLocated marks locator p mid r c.loop-p.steps c.if-given-p.steps) (sym w.rows-is)
           (subst (λ (t : Steps). RowLocated marks locator p mid w.clear_rows.new.rows c.loop-p.steps t) (sym w.steps-is)
           (record {
-            shape = w.clear_rows.ensures.shape;
+            extent = w.clear_rows.ensures.extent;
             others = w.clear_rows.ensures.others;
             located_here = λ k s hk hs.
                 ap (λ x. symbol x s) (w.clear_rows.ensures.zeros p k (omega (arith, hk, cleared_len)) (omega arith) (omega arith)) ∙ symbol-zero s hs ∙ sym (located-at marks locator (word mid k s) p false none);
@@ -52,11 +52,11 @@ loop-p-preserved g c =
             counts = counts_rows 1 c.loop-p.steps w.clear_rows.new.steps (subst (λ (n : ℕ). CountsRows n c.loop-p.steps w.clear_rows.new.steps) (let one : c.loop-p.p + 1 - c.loop-p.p ≡ 1 = omega arith in one) w.clear_rows.ensures.counts);
           }))
     ] in
-    let len : c.loop-p.rows.shard_len_64 ≡ c.args.rows.now.shard_len_64 = before.shape.len_64 in
-    let kept = outside_cell p (p + 1) mid new step.shape step.others in
+    let len : c.loop-p.rows.shard_len_64 ≡ c.args.rows.now.shard_len_64 = before.extent.len_64 in
+    let kept = outside_cell p (p + 1) mid new step.extent step.others in
     record {
-      fits = fits_kept mid new step.shape before.fits;
-      shape = shape_then old mid new before.shape step.shape;
+      fits = fits_kept mid new step.extent before.fits;
+      extent = extent_then old mid new before.extent step.extent;
       located = λ k s q hk hs hq. elim (cases_lt q p) [
         | inl low ↦ ap (λ x. symbol x s) (kept q k (omega arith) (inl low)) ∙ before.located k s q hk hs low
         | inr high ↦

@@ -13,7 +13,7 @@ use Rattle.rs_rate.proofs.rate.restoring.restore_rows.Goals.{else-agrees-via-the
 pub formal_derivative-requires-clause-power : goal.formal_derivative-requires-clause-power
 formal_derivative-requires-clause-power g c =
     let p = rows_power c.args.tally.shape c.requires.facts.laid in
-    (p.0, c.interpolate-agrees.ensures.shape.count ∙ c.requires.rows.count ∙ p.1)
+    (p.0, c.interpolate-agrees.ensures.extent.count ∙ c.requires.rows.count ∙ p.1)
 
 pub fft_wanted-requires-clause-power : goal.fft_wanted-requires-clause-power
 fft_wanted-requires-clause-power g c =
@@ -29,9 +29,9 @@ returns-then-tally-gt0-clause-words g c =
     let passed = c.interpolate-agrees.new.rows in
     let added = c.formal_derivative.new.rows in
     let valued = c.fft_wanted.new.rows in
-    let shape = c.interpolate-agrees.ensures.shape in
-    let added_shape = c.formal_derivative.ensures.shape in
-    let valued_shape = c.fft_wanted.ensures.shape in
+    let shape = c.interpolate-agrees.ensures.extent in
+    let added_extent = c.formal_derivative.ensures.extent in
+    let valued_extent = c.fft_wanted.ensures.extent in
     let rows = s.frame.row_count in
     let missing = c.want_missing.ensures in
     let wanted_size = c.restored.ensures.length ∙ missing.length ∙ c.requires.facts.marked in
@@ -42,10 +42,10 @@ returns-then-tally-gt0-clause-words g c =
         word added k t,
         subst (λ (n : ℕ). IsDerivativeAdded n (word passed k t) (word added k t)) (shape.count ∙ c.requires.rows.count)
             (c.formal_derivative.ensures.derivative k t (omega (arith, hk, shape.len_64, c.requires.rows.len)) ht),
-        c.reveal_rows.ensures.revealed k t i (omega (arith, hk, valued_shape.len_64, added_shape.len_64, shape.len_64, c.requires.rows.len)) ht hi (missing.missing i hi ∙ ap not none)
+        c.reveal_rows.ensures.revealed k t i (omega (arith, hk, valued_extent.len_64, added_extent.len_64, shape.len_64, c.requires.rows.len)) ht hi (missing.missing i hi ∙ ap not none)
             ∙ ap (λ w. product w (power (65535 - slice_index locator (from + i))))
             (from_row_zero _ rows (from + i) (word valued k t) (word added k t) wanted_size
-            (c.fft_wanted.ensures.values k t (from + i) (omega (arith, hk, added_shape.len_64, shape.len_64, c.requires.rows.len)) ht
+            (c.fft_wanted.ensures.values k t (from + i) (omega (arith, hk, added_extent.len_64, shape.len_64, c.requires.rows.len)) ht
             (ap (λ (xs : List Bool). is_marked xs (from + i)) c.restored.ensures.marks ∙ missing.missing i hi ∙ ap not none))),
       );
     }

@@ -9,7 +9,7 @@ use Rattle.rs_field.specs.declared.words.steps.Steps.{Steps}
 use Rattle.rs_field.specs.rows.MarkedRows.{is_marked}
 use Rattle.rs_field.proofs.of_words.Counting.{counts_then, counts_none}
 use Rattle.rs_field.proofs.of_rows.Recursion.{fits_kept}
-use Rattle.rs_field.proofs.of_rows.RowOffsets.{outside_cell, shape_then}
+use Rattle.rs_field.proofs.of_rows.RowOffsets.{outside_cell, extent_then}
 use Rattle.rs_rate.specs.Marks.{restored_marks}
 use Rattle.rs_rate.proofs.RestoringRows.{RowRevealed}
 use Rattle.rs_rate.proofs.rate.restoring.reveal_rows.Goals as goal
@@ -25,14 +25,14 @@ loop-i-preserved g c =
     let from = c.args.shape.frame.originals_from in
     let p = c.original_row-row.result in
     let before = c.loop-i.invariant in
-    let count = before.shape.count in
+    let count = before.extent.count in
     let step : RowRevealed (restored_marks c.args.marks.now) c.args.locator.now c.original_row-row.result c.loop-i.rows c.if-is_restored.rows c.loop-i.steps c.if-is_restored.steps =
     elim c.if-is_restored.branch [
       | then-is_restored w ↦
           subst (λ (r : ShardsRefMut). RowRevealed marks locator p mid r c.loop-i.steps c.if-is_restored.steps) (sym w.rows-is)
           (subst (λ (t : Steps). RowRevealed marks locator p mid w.mul_row_at.new.rows c.loop-i.steps t) (sym w.steps-is)
           (record {
-            shape = w.mul_row_at.ensures.shape;
+            extent = w.mul_row_at.ensures.extent;
             others = w.mul_row_at.ensures.others;
             revealed_here = λ k s hk hs _. w.mul_row_at.ensures.products k s hk hs;
             counts = w.mul_row_at.ensures.counts;
@@ -41,17 +41,17 @@ loop-i-preserved g c =
           subst (λ (r : ShardsRefMut). RowRevealed marks locator p mid r c.loop-i.steps c.if-is_restored.steps) (sym w.rows-is)
           (subst (λ (t : Steps). RowRevealed marks locator p mid mid c.loop-i.steps t) (sym w.steps-is)
           (record {
-            shape = record { name = refl; count = refl; len_64 = refl; length = refl };
+            extent = record { name = refl; count = refl; len_64 = refl; length = refl };
             others = λ k _. refl;
             revealed_here = λ k s hk hs marked. absurd (true≢false (sym marked ∙ sym c.is_restored.ensures ∙ w.if-is_restored.false));
             counts = counts_none 1 0 0 c.loop-i.steps;
           }))
     ] in
-    let len : c.loop-i.rows.shard_len_64 ≡ c.args.rows.now.shard_len_64 = before.shape.len_64 in
-    let kept = outside_cell p (p + 1) mid new step.shape step.others in
+    let len : c.loop-i.rows.shard_len_64 ≡ c.args.rows.now.shard_len_64 = before.extent.len_64 in
+    let kept = outside_cell p (p + 1) mid new step.extent step.others in
     record {
-      fits = fits_kept mid new step.shape before.fits;
-      shape = shape_then old mid new before.shape step.shape;
+      fits = fits_kept mid new step.extent before.fits;
+      extent = extent_then old mid new before.extent step.extent;
       revealed = λ k s j hk hs hj marked. elim (cases_lt j c.loop-i.i) [
         | inl low ↦ ap (λ x. symbol x s) (kept (from + j) k (omega arith) (inl (omega arith))) ∙ before.revealed k s j hk hs low marked
         | inr high ↦
