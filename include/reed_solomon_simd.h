@@ -55,7 +55,7 @@ struct rs_tables {
     uint64_t words[RS_TABLE_WORDS];
 };
 
-/* Fills the tables, in 10 to 30 ms and with 17 MB of memory meanwhile. RS_OK, or RS_OUT_OF_MEMORY, and then they are as they were. */
+/* Fills the tables, in 9 to 30 ms and with 17 MB of memory meanwhile. RS_OK, or RS_OUT_OF_MEMORY, and then they are as they were. */
 uint32_t rs_tables_make(struct rs_tables *tables);
 
 /* 1 where so many originals go with so many recovery shards, else 0. */

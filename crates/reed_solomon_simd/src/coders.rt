@@ -24,7 +24,7 @@ use std::alloc::Global;
 /// let given = given_encoder(alloc, counts, shards, ())?;
 /// given.check_all_given()?;
 /// let tables = Tables::new(alloc)?;
-/// let mut encoder = given.with_engine(command.engine_over(&tables));
+/// let encoder = given.with_engine(DefaultEngine::new(&tables, command.engine));
 /// ```
 pub fn given_encoder<'a, E: Drop, I: Iterator<Item = &'a [u8]> + Drop>(
     alloc: Global,

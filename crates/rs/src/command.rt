@@ -9,8 +9,7 @@ ghost use Rattle.rs.specs.Reading.{Reads, as_shards, as_item, as_item_of_line, a
 use crate::fault::Fault;
 use crate::hexadecimal::word;
 use crate::number::number;
-use reed_solomon_simd::engine::tables::Tables;
-use reed_solomon_simd::engine::{DefaultEngine, EngineKind};
+use reed_solomon_simd::engine::EngineKind;
 use std::alloc::{AllocError, Global};
 use std::str::FromStr;
 
@@ -46,17 +45,6 @@ pub struct Command {
     pub engine: EngineKind,
     pub counts: Counts,
     pub task: Task,
-}
-
-impl Command {
-    ghost use Rattle.reed_solomon_simd.specs.Kind.{kind_of};
-
-    /// The engine that is asked for, over these tables.
-    pub fn engine_over<'t>(&self, tables: &'t Tables) -> DefaultEngine<'t>
-        ensures { kind_of result ≡ self.now.engine }
-    {
-        DefaultEngine::new(tables, self.engine)
-    }
 }
 
 // A word of a command line that asks for originals.

@@ -13,9 +13,11 @@ use crate::fault::Fault;
 use crate::hexadecimal::line;
 use crate::writing::write_texts;
 use reed_solomon_simd::coders::{given_decoder, given_encoder};
-use reed_solomon_simd::engine::Steps;
 use reed_solomon_simd::engine::tables::Tables;
-use reed_solomon_simd::rate::{DefaultRateCounts, RateDecoder, RateEncoder};
+use reed_solomon_simd::engine::{DefaultEngine, Steps};
+use reed_solomon_simd::rate::{
+    DefaultRateCounts, DefaultRateDecoder, DefaultRateEncoder, RateDecoder, RateEncoder,
+};
 use reed_solomon_simd::{Error, Recovery, RestoredOriginal};
 use std::alloc::Global;
 use std::io::Write;
@@ -43,6 +45,41 @@ fn indexed_lines(alloc: Global, shards: RestoredOriginal<'_>) -> Result<Vec<Stri
     Ok(texts)
 }
 
+impl Command {
+    ghost use Rattle.std.specs.Prelude.{◌≡◌};
+    ghost use Rattle.reed_solomon_simd.specs.Counts.{default_rate};
+    ghost use Rattle.reed_solomon_simd.specs.DecoderView.{decoder_state};
+    ghost use Rattle.reed_solomon_simd.specs.EncoderView.{encoder_state};
+    ghost use Rattle.reed_solomon_simd.specs.Kind.{kind_of};
+    ghost use Rattle.rs.specs.Printed.{OrLacksMemory, EncodesLines, DecodesLines};
+
+    // The lines of the recovery shards that an encoder makes, by the engine that is asked for.
+    fn recovery_lines(
+        &self,
+        alloc: Global,
+        mut encoder: DefaultRateEncoder<DefaultEngine<'_>>,
+    ) -> Result<Vec<String>, Error>
+        requires { kind_of encoder.engine ≡ self.now.engine }
+        ensures { OrLacksMemory (EncodesLines (encoder_state default_rate encoder.entry.rows)) result }
+    {
+        let coded = encoder.encode(&mut Steps::new())?;
+        lines(alloc, coded.recovery_iter())
+    }
+
+    // The lines of the originals that a decoder restores, by the engine that is asked for.
+    fn restored_lines(
+        &self,
+        alloc: Global,
+        mut decoder: DefaultRateDecoder<DefaultEngine<'_>>,
+    ) -> Result<Vec<String>, Error>
+        requires { kind_of decoder.engine ≡ self.now.engine }
+        ensures { OrLacksMemory (DecodesLines (decoder_state default_rate decoder.entry.rows)) result }
+    {
+        let restored = decoder.decode(&mut Steps::new())?;
+        indexed_lines(alloc, restored.restored_original_iter())
+    }
+}
+
 // The lines of the recovery shards of the originals.
 fn coded_lines(
     alloc: Global,
@@ -56,13 +93,12 @@ fn coded_lines(
     let given = given_encoder(alloc, counts, shards, ())?;
     given.check_all_given()?;
     let tables = Tables::new(alloc)?;
-    let mut encoder = given.with_engine(command.engine_over(&tables));
-    let coded = encoder.encode(&mut Steps::new())?;
-    lines(alloc, coded.recovery_iter())
+    let encoder = given.with_engine(DefaultEngine::new(&tables, command.engine));
+    command.recovery_lines(alloc, encoder)
 }
 
 // The lines of the originals that are restored from the given shards.
-fn restored_lines(
+fn decoded_lines(
     alloc: Global,
     command: &Command,
     counts: DefaultRateCounts,
@@ -83,9 +119,8 @@ fn restored_lines(
     };
     decoder.check_enough_given()?;
     let tables = Tables::new(alloc)?;
-    let mut decoder = decoder.with_engine(command.engine_over(&tables));
-    let restored = decoder.decode(&mut Steps::new())?;
-    indexed_lines(alloc, restored.restored_original_iter())
+    let decoder = decoder.with_engine(DefaultEngine::new(&tables, command.engine));
+    command.restored_lines(alloc, decoder)
 }
 
 // The lines that answer a command, at its counts.
@@ -99,7 +134,7 @@ fn lines_for(
 {
     match &command.task {
         Task::Encode(original) => coded_lines(alloc, command, counts, original),
-        Task::Decode(given) => restored_lines(alloc, command, counts, given),
+        Task::Decode(given) => decoded_lines(alloc, command, counts, given),
     }
 }
 
@@ -116,10 +151,11 @@ fn answer(alloc: Global, words: &[String]) -> Result<Vec<String>, Fault>
 
 /// Does what the words ask, and answers the status.
 ///
-/// Every line is made before the first is written, and no table where counts or the given shards are refused. Status 0:
-/// all lines were written to `out`. A refusal is told on `err` with status 1, a bad command line by `usage` with status
-/// 2; both write nothing to `out`. A failed write to `out` gives status 1; one to `err` changes no status. No memory is
-/// wanted before the command, the engine and the counts are read: where these are wrong the status is always 2.
+/// Every line is made before the first is written, and no table where counts are refused, or shards as they are given or
+/// as too few. Status 0: all lines were written to `out`. A refusal is told on `err` with status 1, a bad command line by
+/// `usage` with status 2; both write nothing to `out`. A failed write to `out` gives status 1; one to `err` changes no
+/// status. No memory is wanted before the command, the engine and the counts are read: where these are wrong the status
+/// is always 2.
 pub fn run<O: Write, X: Write>(alloc: Global, words: &[String], out: &mut O, err: &mut X) -> u8
     ensures status { result ≤ 2 }
     ensures printed { result ≡ 0

@@ -2,7 +2,7 @@
 #![tactic(auto)]
 
 pub mod callers;
-mod giving;
+pub mod giving;
 pub mod lent_rows;
 pub mod levels;
 pub mod one_call;

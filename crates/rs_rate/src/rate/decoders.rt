@@ -36,6 +36,8 @@ impl<E: Drop, C: Code> Decoder<E, C> {
     pub fn give_original_shard(&mut self, index: usize, shard: &[u8]) -> Result<(), Error>
         ensures answer { result ≡ answer_of (with_original (decoder_state C.rate self.old.rows) index shard.now) }
         ensures left { decoder_state C.rate self.new.rows ≡ state_after (decoder_state C.rate self.old.rows) (with_original (decoder_state C.rate self.old.rows) index shard.now) }
+        ensures engine { self.new.engine ≡ self.old.engine }
+        ensures room { memory_room self.new.rows.memory ≡ memory_room self.old.rows.memory }
     {
         self.rows.add_shard(Side::Original, index, shard)
     }
@@ -44,6 +46,8 @@ impl<E: Drop, C: Code> Decoder<E, C> {
     pub fn give_recovery_shard(&mut self, index: usize, shard: &[u8]) -> Result<(), Error>
         ensures answer { result ≡ answer_of (with_recovery (decoder_state C.rate self.old.rows) index shard.now) }
         ensures left { decoder_state C.rate self.new.rows ≡ state_after (decoder_state C.rate self.old.rows) (with_recovery (decoder_state C.rate self.old.rows) index shard.now) }
+        ensures engine { self.new.engine ≡ self.old.engine }
+        ensures room { memory_room self.new.rows.memory ≡ memory_room self.old.rows.memory }
     {
         self.rows.add_shard(Side::Recovery, index, shard)
     }

@@ -35,6 +35,8 @@ impl<E: Drop, C: Code> Encoder<E, C> {
     pub fn give_original_shard(&mut self, shard: &[u8]) -> Result<(), Error>
         ensures answer { result ≡ answer_of (with_shard (encoder_state C.rate self.old.rows) shard.now) }
         ensures left { encoder_state C.rate self.new.rows ≡ state_after (encoder_state C.rate self.old.rows) (with_shard (encoder_state C.rate self.old.rows) shard.now) }
+        ensures engine { self.new.engine ≡ self.old.engine }
+        ensures room { vec_capacity self.new.rows.chunks ≡ vec_capacity self.old.rows.chunks }
     {
         self.rows.add_original_shard(shard)
     }

@@ -72,7 +72,7 @@ impl Marks {
         }
     }
 
-    // Whether row `row` holds a restored shard.
+    // Whether row `row` holds a restored shard, or is to.
     pub(crate) fn is_restored(&self, row: usize) -> bool
         requires { row < mark_count self.now }
         ensures { result ≡ is_marked (restored_marks self.now) row }
