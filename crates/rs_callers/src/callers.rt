@@ -5,7 +5,8 @@ ghost use Rattle.reed_solomon_simd.specs.Placement.{encoder_rows, decoder_rows};
 ghost use Rattle.reed_solomon_simd.specs.Configuration.{configuration, validated, started, UpToMemory};
 ghost use Rattle.reed_solomon_simd.specs.Outcome.{answer_of, result_and_then};
 ghost use Rattle.reed_solomon_simd.specs.Encoder.{fresh_encoder, with_shard, message_of};
-ghost use Rattle.reed_solomon_simd.specs.Decoder.{fresh_decoder, with_original, with_recovery, originals_given, recovery_given, enough_given, after_decode, IsConsistent, NoneAgrees};
+ghost use Rattle.reed_solomon_simd.specs.Decoder.{fresh_decoder, with_original, with_recovery, originals_given};
+ghost use Rattle.reed_solomon_simd.specs.Decoder.{recovery_given, enough_given, after_decode, IsConsistent, NoneAgrees};
 
 use reed_solomon_simd::Error;
 use reed_solomon_simd::engine::{Engine, Steps};
