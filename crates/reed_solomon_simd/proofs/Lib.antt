@@ -3,10 +3,9 @@ pub use Rattle.rs_rate.proofs.PowerLemmas
 pub use Rattle.rs_rate.proofs.ShardRowsLemmas
 pub use Rattle.rs_rate.proofs.StateLemmas
 pub mod ObjectLaws
-pub mod Giving
-pub mod Noting
+pub use Rattle.rs_rate.proofs.Giving
+pub use Rattle.rs_rate.proofs.OneCall
 pub mod Collecting
-pub mod OneCall
 pub mod CallerLemmas
 pub mod ObjectRoundTrip
 pub use Rattle.rs_field.proofs.of_code.Given

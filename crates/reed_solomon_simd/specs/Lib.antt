@@ -35,5 +35,5 @@ pub use Rattle.rs_field.specs.code.RoundTrip
 pub use Rattle.rs_field.specs.words.Laws
 pub use Rattle.rs_field.specs.code.CodeLaws
 pub use Rattle.rs_field.specs.code.CountLaws
-pub mod Calls
-pub mod Giving
+pub use Rattle.rs_rate.specs.Calls
+pub use Rattle.rs_rate.specs.Giving

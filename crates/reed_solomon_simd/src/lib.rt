@@ -3,27 +3,13 @@
 //! A message of `original_count` shards of one size is coded into `recovery_count` recovery shards.
 #![tactic(auto)]
 
-mod originals_alone;
-/// Encoders and decoders of the default rate with a message's shards given to them: a round whose result is lent.
-///
-/// ```
-/// // quoted: crates/rs/src/program.rt
-/// let coded = encoder.encode(&mut Steps::new())?;
-/// lines(alloc, coded.recovery_iter())
-/// ```
-pub mod coders;
 mod decoder;
 mod encoder;
 mod one_call;
 mod slices;
 
 /// The version of this library.
-///
-/// ```
-/// // quoted: crates/rs/src/main.rt
-/// write_text(out, VERSION)
-/// ```
-pub const VERSION: &str = "1.1";
+pub const VERSION: &str = "1.2";
 
 pub use decoder::ReedSolomonDecoder;
 pub use encoder::ReedSolomonEncoder;

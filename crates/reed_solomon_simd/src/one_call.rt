@@ -4,13 +4,13 @@ ghost use Rattle.std.specs.Iterator.{IsFinite};
 ghost use Rattle.rs_field.specs.code.Column.{Shard};
 ghost use Rattle.rs_field.specs.code.OneCall.{Items, Lends, LendsItems, counted, collected, collected_map, OneEncodeAnswers, OneDecodeAnswers};
 ghost use Rattle.rs_field.specs.code.RoundTrip.{AreCoded};
+ghost use Rattle.rs_rate.specs.Calls.{Calls, BeginsWith, BeginsWithItems};
 ghost use Rattle.rs_rate.specs.ResultView.{recovery_shards, restored_originals};
-ghost use Rattle.reed_solomon_simd.specs.Calls.{Calls, BeginsWith, BeginsWithItems};
 
-use crate::coders::{given_decoder, given_encoder};
 use rs_engines::engine_default::DefaultEngine;
 use rs_field::engine::Steps;
 use rs_field::error::Error;
+use rs_rate::rate::giving::{given_decoder, given_encoder};
 use rs_rate::rate::{DefaultRateCounts, RateDecoder, RateEncoder};
 use rs_rate::{DecoderResult, EncoderResult};
 use std::alloc::Global;

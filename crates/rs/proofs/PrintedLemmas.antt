@@ -1,54 +1,54 @@
 -- What is printed, and what is told in its place.
-use Rattle.std.proofs.Common.{◌≡◌, ℕ, false, List, Some, Result, Ok, Err, inl, inr, refl, arith}
-use Rattle.std.specs.Prelude.{MatchResult}
+use Rattle.std.proofs.Common.{◌≡◌, ℕ, Bool, cond, List, [], ◌∷◌, map, Result, Ok, Err, inl, inr, refl, sym, ◌∙◌, ap, ap₂, subst, arith}
+use Rattle.std.specs.Prelude.{nat_eq, MatchResult}
+use Rattle.std.specs.BTreeMap.{BTreeMap, IsOrdered}
+use Rattle.std.specs.List.Sorted.{IsStrictlySortedBy}
+use Rattle.std.specs.Map.{lookup}
+use Rattle.std.specs.Option.{option_map}
+use Rattle.std.specs.Ordering.{nat_cmp, is_eq}
 use Rattle.std.specs.declared.string.String.{String}
 use Rattle.std.specs.declared.vec.Vec.{Vec}
-use Rattle.reed_solomon_simd.specs.Counts.{default_rate, supports}
-use Rattle.reed_solomon_simd.specs.Encoder.{EncoderState, EncodeAnswers}
-use Rattle.reed_solomon_simd.specs.Decoder.{DecoderState, DecodeAnswers}
-use Rattle.reed_solomon_simd.specs.Giving.{IsEncoding, IsDecoding}
-use Rattle.reed_solomon_simd.specs.OneCall.{Items}
+use Rattle.std.proofs.lemmas.Bool.Decides.{nat_tests}
+use Rattle.std.proofs.lemmas.Map.Made.{keys_of-map_values, lookup-map_values}
+use Rattle.reed_solomon_simd.specs.OneCall.{shards_in, OneEncodeAnswers, OneDecodeAnswers}
 use Rattle.reed_solomon_simd.specs.declared.Error.{Error}
-use Rattle.reed_solomon_simd.specs.declared.Error.TheVariants.{UnsupportedShardCount, OutOfMemory}
+use Rattle.reed_solomon_simd.specs.declared.Error.TheVariants.{OutOfMemory}
 use Rattle.reed_solomon_simd.specs.Column.{Shard}
 use Rattle.reed_solomon_simd.specs.Given.{Shards, Lists}
-use Rattle.reed_solomon_simd.proofs.OneCall.{encoding-uncounted, encoding-refused, encoding-answers, decoding-uncounted, decoding-refused, decoding-answers}
 use Rattle.rs.specs.declared.fault.Fault.{Fault}
 use Rattle.rs.specs.declared.fault.Fault.TheVariants.{Usage, Refused}
-use Rattle.rs.specs.CommandLine.{GivenItems, Task, Coded, Restored}
-use Rattle.rs.specs.Printed.{lines_of, indexed_lines_of, concatenated, EncodesLines, DecodesLines, CodesLines, RestoresLines, Answers, OrLacksMemory, Refuses, HasFault}
+use Rattle.rs.specs.CommandLine.{GivenItems}
+use Rattle.rs.specs.Printed.{ListsShards, lines_of, concatenated, CodesLines, RestoresLines, OrLacksMemory, Refuses, HasFault}
 use Rattle.rs.specs.Told.{status_of, IsToldAs}
+use Rattle.rs.proofs.ListedLemmas.{lists-sorted}
+
+compared_equal : (x y : ℕ) → is_eq (nat_cmp x y) ≡ nat_eq x y
+compared_equal x y = grind (arith, nat_tests)
+
+lookup-same : {X : Type 0} (test other : ℕ → Bool) → ((k : ℕ) → test k ≡ other k) → (entries : List (ℕ × X)) → lookup test entries ≡ lookup other entries
+lookup-same test other same [] = refl
+lookup-same test other same (entry ∷ entries) = ap₂ (λ found later. cond found (Some entry.1) later) (same entry.0) (lookup-same test other same entries)
+
+-- the entries of an ordered map list its shards
+pub entries_in_order : {Y : Type 0} (vectors : BTreeMap ℕ (Vec ℕ Y)) → IsOrdered nat_cmp vectors → Lists (shards_in vectors) (map (λ e. (e.0, e.1.items)) vectors.entries)
+entries_in_order vectors ordered =
+    lists-sorted (shards_in vectors) (map (λ e. (e.0, e.1.items)) vectors.entries)
+    (subst (IsStrictlySortedBy nat_cmp) (sym (keys_of-map_values (λ v. v.items) vectors.entries)) ordered)
+    (λ i. ap (option_map (λ v. v.items)) (lookup-same (λ k. is_eq (nat_cmp i k)) (nat_eq i) (compared_equal i) vectors.entries)
+    ∙ sym (lookup-map_values (λ v. v.items) (nat_eq i) vectors.entries))
 
 -- the lines of recovery shards, or want of memory
-pub encodes-lines : {Y Z : Type 0} (s : EncoderState) (recovery : List Shard) (result : Result (Vec (String Y) Z) Error) → EncodeAnswers s (Ok recovery)
-    → MatchResult result (λ texts. concatenated texts ≡ lines_of recovery) (λ e. e ≡ OutOfMemory) → OrLacksMemory (EncodesLines s) result
-encodes-lines s recovery (Ok texts) answered lines = (recovery, answered, lines)
-encodes-lines s recovery (Err e) answered lacking = inr lacking
-
--- those of the encoder that shards lead to are those of one call
-pub codes-lines : {Y Z : Type 0} (k r : ℕ) (shards : List Shard) (s : EncoderState) (result : Result (Vec (String Y) Z) Error) → IsEncoding k r shards (Ok s)
-    → OrLacksMemory (EncodesLines s) result → OrLacksMemory (CodesLines k r shards) result
-codes-lines k r shards s (Ok texts) is lines = (lines.0, encoding-answers k r shards s is (Ok lines.0) lines.1, lines.2)
-codes-lines k r shards s (Err e) is (inl refused) = inl (encoding-answers k r shards s is (Err e) refused)
-codes-lines k r shards s (Err e) is (inr lacking) = inr lacking
+pub codes-lines : {Y Z : Type 0} (k r : ℕ) (shards recovery : List Shard) (result : Result (Vec (String Y) Z) Error) → OneEncodeAnswers k r shards (Ok recovery)
+    → MatchResult result (λ texts. concatenated texts ≡ lines_of recovery) (λ e. e ≡ OutOfMemory) → OrLacksMemory (CodesLines k r shards) result
+codes-lines k r shards recovery (Ok texts) answered lines = (recovery, answered, lines)
+codes-lines k r shards recovery (Err e) answered lacking = inr lacking
 
 -- the lines of restored originals, or want of memory
-pub decodes-lines : {Y Z : Type 0} (s : DecoderState) (restored : Shards) (items : Items) (result : Result (Vec (String Y) Z) Error) → DecodeAnswers s (Ok restored) → Lists restored items
-    → MatchResult result (λ texts. concatenated texts ≡ indexed_lines_of items) (λ e. e ≡ OutOfMemory) → OrLacksMemory (DecodesLines s) result
-decodes-lines s restored items (Ok texts) answered listed lines = (restored, answered, (items, listed, lines))
-decodes-lines s restored items (Err e) answered listed lacking = inr lacking
-
--- those of the decoder that shards lead to are those of one call
-pub restores-lines : {Y Z : Type 0} (k r : ℕ) (given : GivenItems) (s : DecoderState) (result : Result (Vec (String Y) Z) Error) → IsDecoding k r given.originals given.recovery (Ok (Some s))
-    → OrLacksMemory (DecodesLines s) result → OrLacksMemory (RestoresLines k r given) result
-restores-lines k r given s (Ok texts) is lines = (lines.0, decoding-answers k r given.originals given.recovery s is (Ok lines.0) lines.1, lines.2)
-restores-lines k r given s (Err e) is (inl refused) = inl (decoding-answers k r given.originals given.recovery s is (Err e) refused)
-restores-lines k r given s (Err e) is (inr lacking) = inr lacking
-
--- whatever is asked, counts that aren't supported are refused
-pub unsupported : (k r : ℕ) (task : Task) (e : Error) → (supports default_rate k r ≡ false) × (e ≡ UnsupportedShardCount k r) → Answers k r task (Err e)
-unsupported k r (Coded shards) e refused = encoding-refused k r shards e (encoding-uncounted k r shards e refused)
-unsupported k r (Restored given) e refused = decoding-refused k r given.originals given.recovery e (decoding-uncounted k r given.originals given.recovery e refused)
+pub restores-lines : {Y Z : Type 0} (k r : ℕ) (given : GivenItems) (restored : Shards) (result : Result (Vec (String Y) Z) Error)
+    → OneDecodeAnswers k r given.originals given.recovery (Ok restored)
+    → MatchResult result (λ texts. ListsShards restored (concatenated texts)) (λ e. e ≡ OutOfMemory) → OrLacksMemory (RestoresLines k r given) result
+restores-lines k r given restored (Ok texts) answered lines = (restored, answered, lines)
+restores-lines k r given restored (Err e) answered lacking = inr lacking
 
 -- with status 1 what is told of an answer is a refusal of the words
 pub refusal-told : (words : List (List ℕ)) (fault told : Fault) → status_of fault ≡ 1 → HasFault words fault → IsToldAs fault told

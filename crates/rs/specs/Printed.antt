@@ -8,8 +8,6 @@ use Rattle.reed_solomon_simd.specs.declared.Error.{Error}
 use Rattle.reed_solomon_simd.specs.declared.Error.TheVariants.{OutOfMemory}
 use Rattle.reed_solomon_simd.specs.Column.{Shard}
 use Rattle.reed_solomon_simd.specs.Given.{Shards, Lists}
-use Rattle.reed_solomon_simd.specs.Encoder.{EncoderState, EncodeAnswers}
-use Rattle.reed_solomon_simd.specs.Decoder.{DecoderState, DecodeAnswers}
 use Rattle.reed_solomon_simd.specs.OneCall.{Items, OneEncodeAnswers, OneDecodeAnswers}
 use Rattle.rs.specs.declared.fault.Fault.{Fault}
 use Rattle.rs.specs.declared.fault.Fault.TheVariants.{Usage, Refused}
@@ -45,16 +43,6 @@ CodesLines k r shards (Err e) = OneEncodeAnswers k r shards (Err e)
 abbrev pub RestoresLines : ℕ → ℕ → GivenItems → Result (List ℕ) Error → Type 0
 RestoresLines k r given (Ok text) = (restored : Shards) × OneDecodeAnswers k r given.originals given.recovery (Ok restored) × ListsShards restored text
 RestoresLines k r given (Err e) = OneDecodeAnswers k r given.originals given.recovery (Err e)
-
--- the lines of the recovery shards that an encoder answers, or its refusal
-abbrev pub EncodesLines : EncoderState → Result (List ℕ) Error → Type 0
-EncodesLines s (Ok text) = (recovery : List Shard) × EncodeAnswers s (Ok recovery) × (text ≡ lines_of recovery)
-EncodesLines s (Err e) = EncodeAnswers s (Err e)
-
--- the lines of the originals that a decoder restores, or its refusal
-abbrev pub DecodesLines : DecoderState → Result (List ℕ) Error → Type 0
-DecodesLines s (Ok text) = (restored : Shards) × DecodeAnswers s (Ok restored) × ListsShards restored text
-DecodesLines s (Err e) = DecodeAnswers s (Err e)
 
 -- what is answered to a task at these counts: a text, or a refusal
 abbrev pub Answers : ℕ → ℕ → Task → Result (List ℕ) Error → Type 0

@@ -1,11 +1,11 @@
 //! Callers that know encoders, decoders and rates by their contracts alone.
-ghost use Rattle.std.specs.Prelude.{◌≡◌, ◌<◌, ◌+◌, ◌⊎◌, length, Ok, IsOk, IfOk, IfErr, OnOk, OnErr, MatchResult, Err};
+ghost use Rattle.std.specs.Prelude.{◌≡◌, ◌<◌, ◌+◌, ◌⊎◌, length, Ok, IfOk, IfErr, OnOk, OnErr, MatchResult, Err};
 ghost use Rattle.reed_solomon_simd.specs.Counts.{default_rate};
 ghost use Rattle.reed_solomon_simd.specs.Placement.{encoder_rows, decoder_rows};
 ghost use Rattle.reed_solomon_simd.specs.Configuration.{configuration, validated, started, UpToMemory};
-ghost use Rattle.reed_solomon_simd.specs.Outcome.{answer_of, result_and_then};
-ghost use Rattle.reed_solomon_simd.specs.Encoder.{fresh_encoder, with_shard, message_of};
-ghost use Rattle.reed_solomon_simd.specs.Decoder.{fresh_decoder, with_original, with_recovery, originals_given};
+ghost use Rattle.reed_solomon_simd.specs.Outcome.{answer_of};
+ghost use Rattle.reed_solomon_simd.specs.Encoder.{fresh_encoder};
+ghost use Rattle.reed_solomon_simd.specs.Decoder.{fresh_decoder, originals_given};
 ghost use Rattle.reed_solomon_simd.specs.Decoder.{recovery_given, enough_given, after_decode, IsConsistent, NoneAgrees};
 
 use reed_solomon_simd::Error;
@@ -80,48 +80,6 @@ pub fn both_sides<E: Engine>(
     let encoder = DefaultRateEncoder::with_counts(alloc, counts, shard_bytes, engine, None)?;
     let decoder = DefaultRateDecoder::with_counts(alloc, counts, shard_bytes, other, None)?;
     Ok((encoder, decoder))
-}
-
-/// An encoder of one original that gets its engine last: a refusal comes before one is asked for.
-pub fn encoder_before_engine<E: Engine>(
-    alloc: Global,
-    counts: DefaultRateCounts,
-    original: &[u8],
-    engine: E,
-) -> Result<DefaultRateEncoder<E>, Error>
-    ensures given { let c = configuration default_rate counts.original_count counts.recovery_count (length original.now) in
-        IfOk result (λ x. with_shard (fresh_encoder c) original.now ≡ Ok (⟦<DefaultRateEncoder<E> as RateEncoder<E>>⟧.state x)) }
-    ensures enough { IfOk result (λ x. IsOk (message_of (⟦<DefaultRateEncoder<E> as RateEncoder<E>>⟧.state x))) }
-    ensures engine { IfOk result (λ x. ⟦<DefaultRateEncoder<E> as RateEncoder<E>>⟧.engine_of x ≡ engine) }
-{
-    let mut encoder = DefaultRateEncoder::with_counts(alloc, counts, original.len(), (), None)?;
-    encoder.give_original_shard(original)?;
-    encoder.check_all_given()?;
-    Ok(encoder.with_engine(engine))
-}
-
-/// A decoder that gets its engine last: where the shards are refused, or too few, it is never asked for.
-pub fn decoder_before_engine<E: Engine>(
-    alloc: Global,
-    counts: DefaultRateCounts,
-    index: usize,
-    original: &[u8],
-    recovery_index: usize,
-    recovery: &[u8],
-    engine: E,
-) -> Result<DefaultRateDecoder<E>, Error>
-    ensures given { let c = configuration default_rate counts.original_count counts.recovery_count (length recovery.now) in
-        IfOk result (λ x. result_and_then (λ s. with_recovery s recovery_index recovery.now) (with_original (fresh_decoder c) index original.now)
-        ≡ Ok (⟦<DefaultRateDecoder<E> as RateDecoder<E>>⟧.state x)) }
-    ensures enough { IfOk result (λ x. IsOk (enough_given (⟦<DefaultRateDecoder<E> as RateDecoder<E>>⟧.state x))) }
-    ensures engine { IfOk result (λ x. ⟦<DefaultRateDecoder<E> as RateDecoder<E>>⟧.engine_of x ≡ engine) }
-{
-    let size = recovery.len();
-    let mut decoder = DefaultRateDecoder::with_counts(alloc, counts, size, (), None)?;
-    decoder.give_original_shard(index, original)?;
-    decoder.give_recovery_shard(recovery_index, recovery)?;
-    decoder.check_enough_given()?;
-    Ok(decoder.with_engine(engine))
 }
 
 /// An encoder of a rate, known by the rate alone: where the rate supports the counts it refuses to encode nothing.

@@ -2,7 +2,6 @@
 #![tactic(auto)]
 
 pub mod callers;
-pub mod giving;
 pub mod lent_rows;
 pub mod levels;
 pub mod one_call;

@@ -7,7 +7,7 @@ ghost use Rattle.reed_solomon_simd.specs.OneCall.{with_shards, with_originals, w
 ghost use Rattle.reed_solomon_simd.specs.ResultView.{recovery_shards};
 ghost use Rattle.rs_callers.specs.Losing.{lost_at, left_of, left_below};
 
-use crate::giving::{give_originals, give_recovery, give_shards};
+use rs_rate::rate::giving::{add_originals, add_recovery, add_shards};
 use crate::walking::restored_copies;
 use reed_solomon_simd::engine::{Engine, Steps};
 use reed_solomon_simd::rate::{Rate, RateDecoder, RateEncoder};
@@ -54,7 +54,7 @@ fn give_all<E: Engine, X: RateEncoder<E>>(
     ensures { Reaches (with_shards (X.state encoder.old) (map (λ shard. shard.items) originals.now)) result (λ s. X.state encoder.new ≡ s) }
 {
     let shards = originals.iter().map(|original| original.as_slice());
-    give_shards(encoder, shards)
+    add_shards(encoder, shards)
 }
 
 // Gives a decoder the originals that aren't lost.
@@ -70,7 +70,7 @@ fn give_kept<E: Engine, X: RateDecoder<E>>(
         .map(|original| original.as_slice())
         .enumerate()
         .filter(|item| !lost.contains(&item.0));
-    give_originals(decoder, kept)
+    add_originals(decoder, kept)
 }
 
 // Gives a decoder the recovery shards that aren't lost.
@@ -85,5 +85,5 @@ fn give_received<E: Engine, X: RateDecoder<E>>(
         .recovery_iter()
         .enumerate()
         .filter(|item| !lost.contains(&item.0));
-    give_recovery(decoder, received)
+    add_recovery(decoder, received)
 }

@@ -19,3 +19,6 @@ pub mod HighCoding
 pub mod Coded
 pub mod EncodeCounting
 pub mod ConfiguredLemmas
+pub mod Giving
+pub mod Noting
+pub mod OneCall

@@ -14,3 +14,5 @@ pub mod DecoderView
 pub mod SetUp
 pub mod RowsLaws
 pub mod Decoding
+pub mod Calls
+pub mod Giving

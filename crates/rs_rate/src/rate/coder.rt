@@ -91,17 +91,16 @@ pub trait CoderRows: Sized {
         (chunk_count n size * 64 < 2 ^ 64) × has_room (room x) n size };
 }
 
-/// An object of a rate: an engine, and rows set up for counts that the rate supports. Before it has an engine, `()` is in
-/// its place: shards can be given, and no round can end.
+/// An encoder or a decoder of a rate: it holds an engine, and rows that are set up for counts that the rate supports.
 #[derive(Drop)]
-pub struct Coder<E: Drop, C: Code, R: CoderRows> {
+pub struct Coder<E: Engine, C: Code, R: CoderRows> {
     pub(crate) engine: E,
     pub(crate) rows: R,
     code: PhantomData<C>,
     pub ghost set_up: { IsSetUp C.rate (R.configuration_of rows) },
 }
 
-impl<E: Drop, C: Code, R: CoderRows + Drop> Coder<E, C, R> {
+impl<E: Engine, C: Code, R: CoderRows + Drop> Coder<E, C, R> {
     ghost use Rattle.std.specs.Prelude.{◌≡◌, ◌≢◌, Err, IfOk, OnOk, OnErr};
     ghost use Rattle.rs_field.specs.code.Configuration.{configuration, started, UpToMemory, FitsWithin};
     ghost use Rattle.rs_field.specs.code.Outcome.{answer_of};
@@ -156,21 +155,5 @@ impl<E: Drop, C: Code, R: CoderRows + Drop> Coder<E, C, R> {
     {
         let configuration = Configuration::at::<C>(original_count, recovery_count, shard_bytes)?;
         self.rows.reset(configuration)
-    }
-}
-
-impl<C: Code, R: CoderRows + Drop> Coder<(), C, R> {
-    ghost use Rattle.std.specs.Prelude.{◌≡◌};
-
-    /// The object with its engine; what was given stays.
-    pub fn with_engine<E: Engine>(self, engine: E) -> Coder<E, C, R>
-        ensures rows { result.rows ≡ self.rows }
-        ensures engine { result.engine ≡ engine }
-    {
-        Coder {
-            engine,
-            rows: self.rows,
-            code: PhantomData,
-        }
     }
 }

@@ -27,39 +27,6 @@ pub type DefaultRateDecoder<E> = Decoder<E, DefaultCode>;
 /// The decoder of a rate.
 pub type Decoder<E, C> = Coder<E, C, DecoderRows>;
 
-impl<E: Drop, C: Code> Decoder<E, C> {
-    ghost use Rattle.std.specs.Prelude.{◌≡◌};
-    ghost use Rattle.rs_field.specs.code.Decoder.{with_original, with_recovery, enough_given};
-    ghost use Rattle.rs_field.specs.code.Outcome.{answer_of, state_after};
-
-    /// Gives an original, as `RateDecoder::add_original_shard` does, also before there is an engine.
-    pub fn give_original_shard(&mut self, index: usize, shard: &[u8]) -> Result<(), Error>
-        ensures answer { result ≡ answer_of (with_original (decoder_state C.rate self.old.rows) index shard.now) }
-        ensures left { decoder_state C.rate self.new.rows ≡ state_after (decoder_state C.rate self.old.rows) (with_original (decoder_state C.rate self.old.rows) index shard.now) }
-        ensures engine { self.new.engine ≡ self.old.engine }
-        ensures room { memory_room self.new.rows.memory ≡ memory_room self.old.rows.memory }
-    {
-        self.rows.add_shard(Side::Original, index, shard)
-    }
-
-    /// Gives a recovery shard, as `RateDecoder::add_recovery_shard` does, also before there is an engine.
-    pub fn give_recovery_shard(&mut self, index: usize, shard: &[u8]) -> Result<(), Error>
-        ensures answer { result ≡ answer_of (with_recovery (decoder_state C.rate self.old.rows) index shard.now) }
-        ensures left { decoder_state C.rate self.new.rows ≡ state_after (decoder_state C.rate self.old.rows) (with_recovery (decoder_state C.rate self.old.rows) index shard.now) }
-        ensures engine { self.new.engine ≡ self.old.engine }
-        ensures room { memory_room self.new.rows.memory ≡ memory_room self.old.rows.memory }
-    {
-        self.rows.add_shard(Side::Recovery, index, shard)
-    }
-
-    /// Refuses as `decode` does where too few shards are given.
-    pub fn check_enough_given(&self) -> Result<(), Error>
-        ensures { result ≡ enough_given (decoder_state C.rate self.now.rows) }
-    {
-        self.rows.check_enough_given()
-    }
-}
-
 impl<E: Engine, C: Code> RateDecoder<E> for Decoder<E, C> {
     ghost use Rattle.rs_rate.specs.ObjectLaws.{is_decoder, has_own_decoder_room};
 

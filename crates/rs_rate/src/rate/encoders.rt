@@ -26,29 +26,6 @@ pub type DefaultRateEncoder<E> = Encoder<E, DefaultCode>;
 /// The encoder of a rate.
 pub type Encoder<E, C> = Coder<E, C, EncoderRows>;
 
-impl<E: Drop, C: Code> Encoder<E, C> {
-    ghost use Rattle.std.specs.Prelude.{◌≡◌};
-    ghost use Rattle.rs_field.specs.code.Encoder.{with_shard, message_of};
-    ghost use Rattle.rs_field.specs.code.Outcome.{answer_of, state_after};
-
-    /// Gives the next original, as `RateEncoder::add_original_shard` does, also before there is an engine.
-    pub fn give_original_shard(&mut self, shard: &[u8]) -> Result<(), Error>
-        ensures answer { result ≡ answer_of (with_shard (encoder_state C.rate self.old.rows) shard.now) }
-        ensures left { encoder_state C.rate self.new.rows ≡ state_after (encoder_state C.rate self.old.rows) (with_shard (encoder_state C.rate self.old.rows) shard.now) }
-        ensures engine { self.new.engine ≡ self.old.engine }
-        ensures room { vec_capacity self.new.rows.chunks ≡ vec_capacity self.old.rows.chunks }
-    {
-        self.rows.add_original_shard(shard)
-    }
-
-    /// Refuses as `encode` does where originals are missing.
-    pub fn check_all_given(&self) -> Result<(), Error>
-        ensures { result ≡ answer_of (message_of (encoder_state C.rate self.now.rows)) }
-    {
-        self.rows.check_all_given()
-    }
-}
-
 impl<E: Engine, C: Code> RateEncoder<E> for Encoder<E, C> {
     ghost use Rattle.rs_rate.specs.ObjectLaws.{is_encoder, has_own_room};
 

@@ -2,8 +2,8 @@ use Rattle.std.proofs.Common.{rules, Ok, Err, sym, subst}
 use Rattle.rs_field.specs.code.OneCall.{OneDecodeAnswers}
 use Rattle.rs_rate.specs.ResultView.{restored_originals}
 use Rattle.reed_solomon_simd.proofs.Collecting.{shards_in-empty}
-use Rattle.reed_solomon_simd.proofs.Giving.{no-calls, always-both}
-use Rattle.reed_solomon_simd.proofs.OneCall.{decoding-uncounted, decoding-refused, decoding-nothing, decoding-answers, decoding-collected}
+use Rattle.rs_rate.proofs.Giving.{no-calls, always-both}
+use Rattle.rs_rate.proofs.OneCall.{decoding-uncounted, decoding-refused, decoding-nothing, decoding-answers, decoding-collected}
 use Rattle.reed_solomon_simd.proofs.one_call.decode.Goals as goal
 
 pub returns-in_err-counts-clause-calls : goal.returns-in_err-counts-clause-calls

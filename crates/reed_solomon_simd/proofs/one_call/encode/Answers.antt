@@ -4,8 +4,8 @@ use Rattle.rs_field.specs.code.RoundTrip.{AreCoded}
 use Rattle.rs_field.specs.code.OneCall.{collected}
 use Rattle.rs_rate.specs.ObjectLaws.{is_encoder}
 use Rattle.rs_rate.specs.ResultView.{recovery_shards}
-use Rattle.reed_solomon_simd.proofs.Giving.{no-calls, always-run}
-use Rattle.reed_solomon_simd.proofs.OneCall.{encoding-uncounted, encoding-refused, encoding-answers, encoding-collected, encoding-coded}
+use Rattle.rs_rate.proofs.Giving.{no-calls, always-run}
+use Rattle.rs_rate.proofs.OneCall.{encoding-uncounted, encoding-refused, encoding-answers, encoding-collected, encoding-coded}
 use Rattle.reed_solomon_simd.proofs.one_call.encode.Goals as goal
 
 pub returns-in_err-counts-clause-calls : goal.returns-in_err-counts-clause-calls

@@ -1,0 +1,133 @@
+//! A command carried out: the recovery shards or the restored originals that it asks for, as lines of text.
+ghost use Rattle.std.specs.Prelude.{◌≡◌, IfOk, MatchResult, map};
+ghost use Rattle.reed_solomon_simd.specs.Kind.{kind_of};
+ghost use Rattle.reed_solomon_simd.specs.OneCall.{shards_in};
+ghost use Rattle.rs.specs.Printed.{lines_of, concatenated, ListsShards, CodesLines, RestoresLines, OrLacksMemory};
+ghost use Rattle.rs.specs.Reading.{as_given};
+
+use crate::command::{Command, Counts, Given, Task};
+use crate::hexadecimal::line;
+use reed_solomon_simd::engine::tables::Tables;
+use reed_solomon_simd::engine::{DefaultEngine, EngineKind};
+use reed_solomon_simd::{Error, decode, encode};
+use std::alloc::Global;
+use std::collections::BTreeMap;
+
+/// The lines that carry out a command, and the kind of the engine that coded them. Only this module makes such a value.
+#[derive(Drop)]
+pub struct Lines {
+    texts: Vec<String>,
+    engine: EngineKind,
+}
+
+impl Lines {
+    ghost use Rattle.std.specs.Prelude.{◌≡◌, IfOk};
+    ghost use Rattle.rs.specs.Coding.{AnswersWith};
+    ghost use Rattle.rs.specs.Reading.{as_request};
+
+    /// Codes what the command asks for, with the engine that it names, and makes a line of text for each shard.
+    ///
+    /// # Errors
+    ///
+    /// The error of the one-call function, or `OutOfMemory` if a line cannot be allocated.
+    pub fn new(alloc: Global, tables: &Tables, command: &Command) -> Result<Lines, Error>
+        ensures engine { IfOk result (λ lines. lines.engine ≡ command.now.engine) }
+        ensures answer { AnswersWith (as_request command.now) result }
+    {
+        let engine = DefaultEngine::new(tables, command.engine);
+        let texts = match &command.task {
+            Task::Encode(original) => recovery_lines(alloc, command.counts, original, engine)?,
+            Task::Decode(given) => restored_lines(alloc, command.counts, given, engine)?,
+        };
+        Ok(Lines {
+            texts,
+            engine: kind(engine),
+        })
+    }
+
+    /// Returns the lines in order, each with its line end.
+    pub fn texts(&self) -> &[String]
+        ensures { result.now ≡ self.now.texts.items }
+    {
+        self.texts.as_slice()
+    }
+}
+
+// Returns the kind of an engine.
+fn kind(engine: DefaultEngine<'_>) -> EngineKind
+    ensures { result ≡ kind_of engine }
+{
+    match engine {
+        DefaultEngine::Naive(_) => EngineKind::Naive,
+        DefaultEngine::NoSimd(_) => EngineKind::NoSimd,
+        DefaultEngine::Avx2(_) => EngineKind::Avx2,
+        DefaultEngine::Ssse3(_) => EngineKind::Ssse3,
+    }
+}
+
+// Encodes the originals and makes a line for each recovery shard.
+fn recovery_lines(
+    alloc: Global,
+    counts: Counts,
+    original: &[Vec<u8>],
+    engine: DefaultEngine<'_>,
+) -> Result<Vec<String>, Error>
+    ensures { OrLacksMemory (CodesLines counts.original counts.recovery (map (λ v. v.items) original.now)) result }
+{
+    let shards = original.iter().map(|shard| shard.as_slice());
+    let recovery = encode(alloc, counts.original, counts.recovery, shards, engine)?;
+    lines(alloc, recovery.as_slice())
+}
+
+// Decodes the given shards and makes a line for each restored original.
+fn restored_lines(
+    alloc: Global,
+    counts: Counts,
+    given: &Given,
+    engine: DefaultEngine<'_>,
+) -> Result<Vec<String>, Error>
+    ensures { OrLacksMemory (RestoresLines counts.original counts.recovery (as_given given.now)) result }
+{
+    let original = given
+        .original
+        .iter()
+        .map(|item| (item.0, item.1.as_slice()));
+    let recovery = given
+        .recovery
+        .iter()
+        .map(|item| (item.0, item.1.as_slice()));
+    let restored = decode(
+        alloc,
+        counts.original,
+        counts.recovery,
+        original,
+        recovery,
+        engine,
+    )?;
+    indexed_lines(alloc, &restored)
+}
+
+// Makes a line for each shard.
+fn lines(alloc: Global, shards: &[Vec<u8>]) -> Result<Vec<String>, Error>
+    ensures { MatchResult result (λ texts. concatenated texts ≡ lines_of (map (λ v. v.items) shards.now))
+        (λ e. e ≡ Error.OutOfMemory) }
+{
+    let mut texts = Vec::new(alloc);
+    for shard in shards {
+        texts.push(line(alloc, shard.as_slice())?)?;
+    }
+    Ok(texts)
+}
+
+// Makes a line for each shard of a map: its index and the shard.
+fn indexed_lines(alloc: Global, shards: &BTreeMap<usize, Vec<u8>>) -> Result<Vec<String>, Error>
+    ensures { MatchResult result (λ texts. ListsShards (shards_in shards.now) (concatenated texts))
+        (λ e. e ≡ Error.OutOfMemory) }
+{
+    let mut texts = Vec::new(alloc);
+    for (index, shard) in shards {
+        texts.push(format!(in alloc; "{index} ")?)?;
+        texts.push(line(alloc, shard.as_slice())?)?;
+    }
+    Ok(texts)
+}

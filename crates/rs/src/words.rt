@@ -1,0 +1,29 @@
+//! The words of the command line.
+ghost use Rattle.std.specs.Prelude.{◌≡◌, drop, IfOk};
+
+use crate::fault::Fault;
+use reed_solomon_simd::Error;
+use std::alloc::{AllocError, Global};
+use std::env;
+use std::env::Args;
+use std::io::ErrorKind;
+
+/// Returns all words after the program's name, in order.
+///
+/// # Errors
+///
+/// `Usage` if a word is not UTF-8, and `OutOfMemory` if the words cannot be allocated.
+pub fn read_words(rt: &HostRuntime) -> Result<Vec<String>, Fault> {
+    match env::args(rt) {
+        Ok(arguments) => Ok(words_after_name(rt.alloc(), arguments)?),
+        Err(e) if e.kind() == ErrorKind::OutOfMemory => Err(Fault::Refused(Error::OutOfMemory)),
+        Err(_) => Err(Fault::Usage),
+    }
+}
+
+// Returns all arguments but the first one, which is the program's name.
+fn words_after_name(alloc: Global, arguments: Args) -> Result<Vec<String>, AllocError>
+    ensures { IfOk result (λ words. words.items ≡ drop 1 arguments) }
+{
+    arguments.skip(1).collect(alloc)
+}

@@ -1,0 +1,129 @@
+-- Noting indexes in places that are true or false.
+use Rattle.std.proofs.Common.{◌≡◌, ◌<◌, ◌≤◌, ◌+◌, ◌||◌, ℕ, Bool, true, false, List, [], ◌∷◌, length, if◌then◌else◌, cond, nat_le, nat_lt, nat_eq, replicate, Result, Ok, Err, refl, sym, ap, subst, ◌∙◌, inl, inr, arith}
+use Rattle.std.proofs.Math.ListN.{get_or, set, get_or-eq_default}
+use Rattle.std.proofs.lemmas.Bool.{cases_lt, cases_eq, eq-eqb, ne_eqb, leb-false}
+use Rattle.std.proofs.lemmas.Grind.{get_or-set_at}
+use Rattle.std.proofs.lemmas.List.{get_or-replicate, get_or-set_other, length-replicate}
+use Rattle.std.proofs.lemmas.List.Folds.{sum_by-replicate}
+use Rattle.std.proofs.lemmas.List.Sums.{sum_by-set}
+use Rattle.std.specs.List.{sum_by, count_by, list_any}
+use Rattle.rs_field.specs.declared.code.error.Error.{Error}
+use Rattle.rs_field.specs.declared.code.error.Error.TheVariants.{InvalidOriginalShardIndex, DuplicateOriginalShardIndex, NotEnoughShards}
+use Rattle.rs_field.specs.code.Outcome.{answer_of, result_and_then}
+use Rattle.rs_field.specs.code.OneCall.{Items, one_by_one, noted, originals_alone}
+use Rattle.rs_rate.specs.Giving.{Reaches, AreNoted}
+use Rattle.rs_rate.proofs.Giving.{outcome-err}
+
+-- before the first index no place is true
+pub noted-none : (n : ℕ) → AreNoted [] (replicate n false)
+noted-none n =
+    record {
+      places = λ i. elim (cases_lt i n) [ inl inside ↦ get_or-replicate n i false false inside | inr outside ↦ get_or-eq_default (replicate n false) false (subst (λ (m : ℕ). m ≤ i) (sym (length-replicate n false)) outside) ];
+      number = sum_by-replicate (λ (b : Bool). cond b 1 0) n false ∙ omega arith;
+    }
+
+-- what noting an index in places answers, by the tests of its range and of its place
+abbrev pub tested : ℕ → ℕ → Bool → Bool → Result (Unit {0}) Error
+tested count index outside taken =
+    if outside then Err (InvalidOriginalShardIndex count index) else if taken then Err (DuplicateOriginalShardIndex index) else Ok tt
+
+-- the outcome of noting it among the indexes, by the tests of its range and of whether it stands there
+abbrev pub noted_by : ℕ → List ℕ → ℕ → Bool → Bool → Result (List ℕ) Error
+noted_by count indexes index outside taken =
+    if outside then Err (InvalidOriginalShardIndex count index)
+    else if taken then Err (DuplicateOriginalShardIndex index)
+    else Ok (index ∷ indexes)
+
+-- tells the same
+noted-tested : (count : ℕ) (indexes : List ℕ) (given : List Bool) (index : ℕ) → length given ≡ count → AreNoted indexes given
+    → tested (length given) index (nat_le (length given) index) (get_or given index false) ≡ answer_of (noted count indexes index)
+noted-tested count indexes given index size are =
+    subst (λ (n : ℕ). tested n index (nat_le n index) (get_or given index false) ≡ answer_of (noted count indexes index)) (sym size)
+    (ap (tested count index (nat_le count index)) (are.places index) ∙ by_tests (nat_le count index) (list_any (nat_eq index) indexes))
+  where
+    by_tests : (outside taken : Bool) → tested count index outside taken ≡ answer_of (noted_by count indexes index outside taken)
+    by_tests true taken = refl
+    by_tests false true = refl
+    by_tests false false = refl
+
+-- so a refusal is the outcome's
+pub noted-refused : {count : ℕ} {indexes : List ℕ} {given : List Bool} (index : ℕ) {e : Error} → length given ≡ count → AreNoted indexes given
+    → Err e ≡ tested (length given) index (nat_le (length given) index) (get_or given index false) → noted count indexes index ≡ Err e
+noted-refused {count} {indexes} {given} index {e} size are told = outcome-err (noted count indexes index) e (told ∙ noted-tested count indexes given index size are)
+
+-- and a success notes the index
+pub noted-added : {count : ℕ} {indexes : List ℕ} {given : List Bool} (index : ℕ) → length given ≡ count → AreNoted indexes given
+    → Ok tt ≡ tested (length given) index (nat_le (length given) index) (get_or given index false) → noted count indexes index ≡ Ok (index ∷ indexes)
+noted-added {count} {indexes} {given} index size are told =
+    by_tests (nat_le count index) (list_any (nat_eq index) indexes) (told ∙ noted-tested count indexes given index size are)
+  where
+    by_tests : (outside taken : Bool) → Ok tt ≡ answer_of (noted_by count indexes index outside taken)
+        → noted_by count indexes index outside taken ≡ Ok (index ∷ indexes)
+    by_tests true taken answer = cc
+    by_tests false true answer = cc
+    by_tests false false answer = refl
+
+-- and says that its place is within and was free
+tested-free : (count index : ℕ) (taken : Bool) → Ok tt ≡ tested count index (nat_le count index) taken → (index < count) × (taken ≡ false)
+tested-free count index taken told =
+    let free = by_tests (nat_le count index) taken told in (leb-false count index free.0, free.1)
+  where
+    by_tests : (outside taken : Bool) → Ok tt ≡ tested count index outside taken → (outside ≡ false) × (taken ≡ false)
+    by_tests true taken told = cc
+    by_tests false true told = cc
+    by_tests false false told = (refl, refl)
+
+-- the place that becomes true is that of one more index
+pub noted-more : {indexes : List ℕ} {given new : List Bool} (index : ℕ) → AreNoted indexes given → Ok tt ≡ tested (length given) index (nat_le (length given) index) (get_or given index false)
+    → new ≡ set given index true → AreNoted (index ∷ indexes) new
+noted-more {indexes} {given} {new} index are told is =
+    let free = tested-free (length given) index (get_or given index false) told in
+    subst (AreNoted (index ∷ indexes)) (sym is)
+    (record {
+      places = λ i. elim (cases_eq i index) [
+        | inl same ↦ get_or-set_at given index i true false same free.0 ∙ sym (ap (λ (b : Bool). b || list_any (nat_eq i) indexes) (eq-eqb i index same))
+        | inr other ↦ get_or-set_other given index i true false other ∙ are.places i ∙ sym (ap (λ (b : Bool). b || list_any (nat_eq i) indexes) (ne_eqb i index other))
+      ];
+      number =
+          let one : Bool → ℕ = λ b. cond b 1 0 in
+          let more : sum_by one (set given index true) + one (get_or given index false) ≡ sum_by one given + 1 = sum_by-set one given index true false free.0 in
+          let none : one (get_or given index false) ≡ 0 = ap one free.1 in
+          let noted : sum_by one given ≡ length indexes = are.number in
+          omega arith;
+    })
+
+-- whether the indexes that were noted are enough
+abbrev enough : ℕ → Result (List ℕ) Error → Result (Unit {0}) Error
+enough k outcome = result_and_then (λ all. if nat_lt (length all) k then Err (NotEnoughShards k (length all) 0) else Ok tt) outcome
+
+-- where the indexes were noted in k places of which none was true, and that was answered so, the answer of all that are given
+module _ (k : ℕ) (items : Items) (places given : List Bool) (result : Result (Unit {0}) Error) (filled : places ≡ replicate k false)
+    (leads : Reaches (one_by_one (λ so_far item. noted (length places) so_far item.0) [] items) result (λ all. AreNoted all given)) where
+  outcome : Result (List ℕ) Error
+  outcome = one_by_one (λ so_far item. noted k so_far item.0) [] items
+
+  led : Reaches outcome result (λ all. AreNoted all given)
+  unfolding outcome
+  led =
+      subst (λ (n : ℕ). Reaches (one_by_one (λ so_far item. noted n so_far item.0) [] items) result (λ all. AreNoted all given)) (ap length filled ∙ length-replicate k false)
+      leads
+
+  -- is the same refusal
+  pub originals_alone-refused : (e : Error) → result ≡ Err e → result ≡ originals_alone k items
+  unfolding outcome
+  originals_alone-refused e refused = by_outcome outcome led
+    where
+      by_outcome : (o : Result (List ℕ) Error) → Reaches o result (λ all. AreNoted all given) → result ≡ enough k o
+      by_outcome (Ok all) made = let made : result ≡ Ok tt = made.0 in cc
+      by_outcome (Err f) same = same
+
+  -- is that these are too few, or else a success
+  pub originals_alone-counted : (received : ℕ) → result ≡ Ok tt → received ≡ count_by (λ b. b) given
+      → (if nat_lt received k then Err (NotEnoughShards k received 0) else Ok tt) ≡ originals_alone k items
+  unfolding outcome
+  originals_alone-counted received made number = by_outcome outcome led
+    where
+      by_outcome : (o : Result (List ℕ) Error) → Reaches o result (λ all. AreNoted all given)
+          → (if nat_lt received k then Err (NotEnoughShards k received 0) else Ok tt) ≡ enough k o
+      by_outcome (Ok all) led = ap (λ (m : ℕ). if nat_lt m k then Err (NotEnoughShards k m 0) else Ok tt) (number ∙ led.1.number)
+      by_outcome (Err f) refused = cc

@@ -1,0 +1,153 @@
+//! Shards added to encoders and decoders one after another, and objects of the default rate that were made for the shards
+//! of one message. One call and the calls from C use these functions.
+ghost use Rattle.std.specs.Prelude.{◌≡◌, List};
+ghost use Rattle.std.specs.Iterator.{IsFinite};
+ghost use Rattle.std.specs.Option.{option_map};
+ghost use Rattle.std.specs.Result.{result_map_both};
+ghost use Rattle.rs_field.specs.code.Column.{Shard};
+ghost use Rattle.rs_field.specs.code.Counts.{default_rate};
+ghost use Rattle.rs_field.specs.code.OneCall.{Items, with_shards, with_originals, with_recoveries};
+ghost use Rattle.rs_rate.specs.Calls.{Calls, BeginsWith, BeginsWithItems};
+ghost use Rattle.rs_rate.specs.DecoderView.{decoder_state};
+ghost use Rattle.rs_rate.specs.EncoderView.{encoder_state};
+ghost use Rattle.rs_rate.specs.Giving.{Reaches, IsEncoding, IsDecoding};
+
+use crate::rate::decoders::DefaultRateDecoder;
+use crate::rate::encoders::DefaultRateEncoder;
+use crate::rate::originals_alone::check_originals_alone;
+use crate::rate::supported_counts::DefaultRateCounts;
+use crate::rate::{RateDecoder, RateEncoder};
+use rs_field::engine::Engine;
+use rs_field::error::Error;
+use std::alloc::Global;
+
+/// Returns an encoder for these counts with all `original` shards added. The shard size is that of the first original.
+///
+/// # Errors
+///
+/// - `TooFewOriginalShards` with 0 received shards if no original comes.
+/// - `InvalidShardSize` or `OutOfMemory` for the size of the first original.
+/// - Otherwise the error of the first original that `add_original_shard` does not accept; no further original is asked
+///   for.
+pub fn given_encoder<'a, E: Engine, I: Iterator<Item = &'a [u8]> + Drop>(
+    alloc: Global,
+    counts: DefaultRateCounts,
+    mut original: I,
+    engine: E,
+) -> Result<DefaultRateEncoder<E>, Error>
+    requires can { I.can_next original }
+    requires ends { IsFinite (I.remaining original) }
+    ensures { (calls : Calls I.next_gives original) × ((items : List Shard) → BeginsWith items calls
+        → IsEncoding counts.original_count counts.recovery_count items
+        (result_map_both (λ x. encoder_state default_rate x.rows) (λ e. e) result)) }
+{
+    let Some(first) = original.next() else {
+        return Err(Error::TooFewOriginalShards {
+            original_count: counts.original_count,
+            original_received_count: 0,
+        });
+    };
+    let size = first.len();
+    let mut encoder = DefaultRateEncoder::with_counts(alloc, counts, size, engine, None)?;
+    encoder.add_original_shard(first)?;
+    add_shards(&mut encoder, original)?;
+    Ok(encoder)
+}
+
+/// Returns a decoder for these counts with all `original` and `recovery` shards added, or `None` if no recovery shard
+/// comes and every original is there. The shard size is that of the first recovery shard.
+///
+/// # Errors
+///
+/// If a recovery shard comes:
+///
+/// - `InvalidShardSize` or `OutOfMemory` for the size of the first recovery shard.
+/// - Otherwise the error of the first shard that `add_original_shard` or `add_recovery_shard` does not accept: all
+///   originals in order, then all recovery shards in order. No further shard is asked for.
+///
+/// If none comes: the errors of [`check_originals_alone`].
+pub fn given_decoder<'a, E: Engine, O, R>(
+    alloc: Global,
+    counts: DefaultRateCounts,
+    original: O,
+    mut recovery: R,
+    engine: E,
+) -> Result<Option<DefaultRateDecoder<E>>, Error>
+where
+    O: Iterator<Item = (usize, &'a [u8])> + Drop,
+    R: Iterator<Item = (usize, &'a [u8])> + Drop,
+    requires can { O.can_next original }
+    requires ends { IsFinite (O.remaining original) }
+    requires can_recovery { R.can_next recovery }
+    requires recovery_ends { IsFinite (R.remaining recovery) }
+    ensures { (calls : Calls O.next_gives original) × (further : Calls R.next_gives recovery) × ((originals recoveries : Items)
+        → BeginsWithItems originals calls → BeginsWithItems recoveries further
+        → IsDecoding counts.original_count counts.recovery_count originals recoveries
+        (result_map_both (λ o. option_map (λ x. decoder_state default_rate x.rows) o) (λ e. e) result)) }
+{
+    let Some((first_index, first_shard)) = recovery.next() else {
+        check_originals_alone(alloc, counts.original_count, original)?;
+        return Ok(None);
+    };
+    let size = first_shard.len();
+    let mut decoder = DefaultRateDecoder::with_counts(alloc, counts, size, engine, None)?;
+    add_originals(&mut decoder, original)?;
+    decoder.add_recovery_shard(first_index, first_shard)?;
+    add_recovery(&mut decoder, recovery)?;
+    Ok(Some(decoder))
+}
+
+/// Adds shards to an encoder in order. Fails with the error of the first shard that the encoder does not accept; no
+/// further shard is asked for.
+pub fn add_shards<'a, E: Engine, X: RateEncoder<E>, I: Iterator<Item = &'a [u8]> + Drop>(
+    encoder: &mut X,
+    shards: I,
+) -> Result<(), Error>
+    requires can { I.can_next shards }
+    requires ends { IsFinite (I.remaining shards) }
+    ensures { (calls : Calls I.next_gives shards) × ((items : List Shard) → BeginsWith items calls
+        → Reaches (with_shards (X.state encoder.old) items) result (λ s. X.state encoder.new ≡ s)) }
+{
+    for shard in shards {
+        encoder.add_original_shard(shard)?;
+    }
+    Ok(())
+}
+
+/// Adds originals to a decoder in order. Fails with the error of the first original that the decoder does not accept; no
+/// further original is asked for.
+pub fn add_originals<
+    'a,
+    E: Engine,
+    X: RateDecoder<E>,
+    I: Iterator<Item = (usize, &'a [u8])> + Drop,
+>(decoder: &mut X, originals: I) -> Result<(), Error>
+    requires can { I.can_next originals }
+    requires ends { IsFinite (I.remaining originals) }
+    ensures { (calls : Calls I.next_gives originals) × ((items : Items) → BeginsWithItems items calls
+        → Reaches (with_originals (X.state decoder.old) items) result (λ s. X.state decoder.new ≡ s)) }
+{
+    for (index, shard) in originals {
+        decoder.add_original_shard(index, shard)?;
+    }
+    Ok(())
+}
+
+/// Adds recovery shards to a decoder in order. Fails with the error of the first recovery shard that the decoder does not
+/// accept; no further recovery shard is asked for.
+pub fn add_recovery<
+    'a,
+    E: Engine,
+    X: RateDecoder<E>,
+    I: Iterator<Item = (usize, &'a [u8])> + Drop,
+>(decoder: &mut X, recovery: I) -> Result<(), Error>
+    requires can { I.can_next recovery }
+    requires ends { IsFinite (I.remaining recovery) }
+    ensures { (calls : Calls I.next_gives recovery) × ((items : Items) → BeginsWithItems items calls
+        → Reaches (with_recoveries (X.state decoder.old) items) result (λ s. X.state decoder.new ≡ s)) }
+{
+    for (index, shard) in recovery {
+        decoder.add_recovery_shard(index, shard)?;
+    }
+    Ok(())
+}
