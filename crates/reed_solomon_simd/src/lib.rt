@@ -137,7 +137,7 @@ pub mod engine {
         ///
         /// ```
         /// // quoted: crates/rs_callers/src/surface.rt
-        /// eval_poly(steps, entries, 0, get_log_walsh(tables));
+        /// eval_poly(steps, erasures, GF_ORDER, get_log_walsh(tables));
         /// ```
         ///
         /// ```

@@ -76,7 +76,7 @@ fn recovery_lines(
 {
     let shards = original.iter().map(|shard| shard.as_slice());
     let recovery = encode(alloc, counts.original, counts.recovery, shards, engine)?;
-    lines(alloc, recovery.as_slice())
+    shard_lines(alloc, recovery.as_slice())
 }
 
 // Decodes the given shards and makes a line for each restored original.
@@ -108,7 +108,7 @@ fn restored_lines(
 }
 
 // Makes a line for each shard.
-fn lines(alloc: Global, shards: &[Vec<u8>]) -> Result<Vec<String>, Error>
+fn shard_lines(alloc: Global, shards: &[Vec<u8>]) -> Result<Vec<String>, Error>
     ensures { MatchResult result (λ texts. concatenated texts ≡ lines_of (map (λ v. v.items) shards.now))
         (λ e. e ≡ Error.OutOfMemory) }
 {

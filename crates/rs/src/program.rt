@@ -64,3 +64,6 @@ pub fn run<O: Write, X: Write>(alloc: Global, words: &[String], out: &mut O, err
         }
     }
 }
+
+#[cfg(test)]
+mod tests;

@@ -1,10 +1,21 @@
-//! Every public path of the library, each used at its type: where a name stood for another item, this file would not
-//! compile or not be proved.
-ghost use Rattle.std.specs.Prelude.{◌≡◌, ℕ, ◌^◌, ◌<◌, ◌≤◌, true, [], ◌∷◌, length, slice_index, bit_xor, IfOk};
+//! Every public path of the library, each used with its type and with what it means: if a name were exported for another
+//! item, this file would not compile, or it would not be proved.
+ghost use Rattle.std.specs.Option.{option_copied, option_map};
+ghost use Rattle.std.specs.Prelude.{◌≡◌, ℕ, ◌^◌, ◌<◌, ◌≤◌, true, List, [], ◌∷◌, length, map, slice_get, slice_index, bit_xor};
+ghost use Rattle.std.specs.Prelude.{codes, Some, None, Result, Ok, Err, IfOk, IfSome, MatchResult};
+ghost use Rattle.reed_solomon_simd.specs.Column.{Shard};
 ghost use Rattle.reed_solomon_simd.specs.Counts.{low_rate, high_rate, default_rate, supports};
 ghost use Rattle.reed_solomon_simd.specs.Field.{product, power};
-ghost use Rattle.reed_solomon_simd.specs.Kind.{kind_of};
-ghost use Rattle.reed_solomon_simd.specs.Locator.{IsLocatorBelow};
+ghost use Rattle.reed_solomon_simd.specs.Decoder.{with_recovery};
+ghost use Rattle.reed_solomon_simd.specs.DecoderObject.{state_of as decoder_of};
+ghost use Rattle.reed_solomon_simd.specs.Encoder.{EncodeAnswers};
+ghost use Rattle.reed_solomon_simd.specs.EncoderObject.{state_of as encoder_of};
+ghost use Rattle.reed_solomon_simd.specs.Given.{Lists};
+ghost use Rattle.reed_solomon_simd.specs.Kind.{kind_of, engine_named};
+ghost use Rattle.reed_solomon_simd.specs.Locator.{IsLocator, IsLocatorBelow};
+ghost use Rattle.reed_solomon_simd.specs.OneCall.{Items, shards_in, OneEncodeAnswers, OneDecodeAnswers};
+ghost use Rattle.reed_solomon_simd.specs.Outcome.{answer_of};
+ghost use Rattle.reed_solomon_simd.specs.ResultView.{recovery_shards, restored_originals};
 ghost use Rattle.rs_field.specs.rows.MarkedRows.{is_marked, OthersAreZero};
 ghost use Rattle.reed_solomon_simd.specs.Rows.{chunk, symbol};
 ghost use Rattle.reed_solomon_simd.specs.View.{word, Fits};
@@ -21,7 +32,7 @@ use reed_solomon_simd::engine::tables::{
 use reed_solomon_simd::engine::utils::{eval_poly, locate, xor, xor_within};
 use reed_solomon_simd::engine::{
     Avx2, CANTOR_BASIS, DefaultEngine, Engine, EngineKind, GF_BITS, GF_MODULUS, GF_ORDER,
-    GF_POLYNOMIAL, GfElement, Naive, NoSimd, ShardsRefMut, Ssse3, Steps,
+    GF_POLYNOMIAL, GfElement, Naive, NoSimd, ShardsRefMut, Ssse3, Steps, UnknownEngine,
 };
 use reed_solomon_simd::rate::{
     DecoderWork, DefaultRate, DefaultRateCounts, DefaultRateDecoder, DefaultRateEncoder,
@@ -30,10 +41,11 @@ use reed_solomon_simd::rate::{
 };
 use reed_solomon_simd::{
     DecoderResult, EncoderResult, Error, Recovery, ReedSolomonDecoder, ReedSolomonEncoder,
-    RestoredOriginal, decode, decode_slice, encode, encode_slice,
+    RestoredOriginal, VERSION, decode, decode_slice, encode, encode_slice,
 };
 use std::alloc::Global;
 use std::collections::BTreeMap;
+use std::str::FromStr;
 
 /// The constants of the field: bits, elements, modulus, polynomial, and the first of the basis.
 pub fn constants() -> (usize, usize, GfElement, usize, GfElement)
@@ -60,8 +72,11 @@ pub fn products(tables: &Tables) -> (Mul16<'_>, Mul128<'_>)
     (get_mul16(tables), get_mul128(tables))
 }
 
-/// The numbers of an entry of the products, as bytes.
-pub fn numbers(entry: &Multiply128lutT) -> ([u128; 4], [u128; 4]) {
+/// Returns the numbers of an entry of the products as bytes: those of the low bytes, and those of the high bytes.
+pub fn numbers(entry: &Multiply128lutT) -> ([u128; 4], [u128; 4])
+    ensures low { result.0 ≡ entry.now.lo }
+    ensures high { result.1 ≡ entry.now.hi }
+{
     (entry.lo, entry.hi)
 }
 
@@ -90,10 +105,11 @@ pub fn add_rows(steps: &mut Steps, rows: &mut ShardsRefMut<'_>)
     xor_within(steps, rows, 0, 1, 1);
 }
 
-/// The locator of no point.
-pub fn locator_of_nothing(steps: &mut Steps, entries: &mut [GfElement; GF_ORDER], tables: &Tables) {
-    entries.fill(0);
-    eval_poly(steps, entries, 0, get_log_walsh(tables));
+/// Computes the locator of the marked points, at all points.
+pub fn locator(steps: &mut Steps, erasures: &mut [GfElement; GF_ORDER], tables: &Tables)
+    ensures { IsLocator (λ y. slice_index erasures.old y) (λ x. slice_index erasures.new x) }
+{
+    eval_poly(steps, erasures, GF_ORDER, get_log_walsh(tables));
 }
 
 /// The locator of points below 64, at these points.
@@ -143,6 +159,13 @@ pub fn chosen<'t>(
     [naive.into(), no_simd.into(), avx2.into(), ssse3.into()]
 }
 
+/// Returns the kind that a word names.
+pub fn kind_named(name: &str) -> Result<EngineKind, UnknownEngine>
+    ensures { MatchResult result (λ kind. engine_named name.now ≡ Some kind) (λ _. engine_named name.now ≡ None) }
+{
+    EngineKind::from_str(name)
+}
+
 /// The engine of a kind.
 pub fn engine_of_kind(tables: &Tables, kind: EngineKind) -> DefaultEngine<'_>
     ensures { kind_of result ≡ kind }
@@ -189,52 +212,75 @@ pub fn counts_at_each(
     ))
 }
 
-/// The first shards of the results of plain objects.
+/// Returns the first recovery shard of an encoder's result, and the first restored original of a decoder's.
 pub fn first_shards<'a>(
     encoded: &'a EncoderResult<'_>,
     decoded: &'a DecoderResult<'_>,
-) -> (Option<&'a [u8]>, Option<(usize, &'a [u8])>) {
+) -> (Option<&'a [u8]>, Option<(usize, &'a [u8])>)
+    ensures recovery { option_copied result.0 ≡ slice_get (recovery_shards encoded.now) 0 }
+    ensures restored { (items : Items) × Lists (restored_originals decoded.now) items
+        × (option_map (λ item. (item.0, item.1.now)) result.1 ≡ slice_get items 0) }
+{
     let mut recovery: Recovery<'a> = encoded.recovery_iter();
     let mut restored: RestoredOriginal<'a> = decoded.restored_original_iter();
     (recovery.next(), restored.next())
 }
 
-/// Gives a plain decoder the first recovery shard of a plain encoder.
-pub fn give_first(
+/// Adds the first recovery shard of a plain encoder to a plain decoder.
+pub fn add_first(
     encoder: &mut ReedSolomonEncoder<'_>,
     decoder: &mut ReedSolomonDecoder<'_>,
-) -> Result<(), Error> {
+) -> Result<(), Error>
+    ensures { (answer : Result (List Shard) Error) × EncodeAnswers (encoder_of encoder.old) answer
+        × MatchResult answer (λ shards. IfSome (slice_get shards 0)
+        (λ shard. result ≡ answer_of (with_recovery (decoder_of decoder.old) 0 shard))) (λ e. result ≡ Err e) }
+{
     match encoder.encode()?.recovery(0) {
         Some(shard) => decoder.add_recovery_shard(0, shard),
         None => Ok(()),
     }
 }
 
-/// The supported counts of the plain objects.
-pub fn both_support(original_count: usize, recovery_count: usize) -> bool {
+/// Returns whether the plain objects support these counts.
+pub fn both_support(original_count: usize, recovery_count: usize) -> bool
+    ensures { result ≡ supports default_rate original_count recovery_count }
+{
     ReedSolomonEncoder::supports(original_count, recovery_count)
         && ReedSolomonDecoder::supports(original_count, recovery_count)
 }
 
-/// A shard beside its copy in recovery: coded and decoded in one call each.
+/// Encodes one shard, and decodes it with nothing missing, in one call each.
 pub fn one_shard(
     alloc: Global,
     shard: &[u8],
     engine: DefaultEngine<'_>,
-) -> Result<(Vec<Vec<u8>>, BTreeMap<usize, Vec<u8>>), Error> {
+) -> Result<(Vec<Vec<u8>>, BTreeMap<usize, Vec<u8>>), Error>
+    ensures coded { IfOk result (λ both. OneEncodeAnswers 1 1 (shard.now ∷ []) (Ok (map (λ v. v.items) both.0.items))) }
+    ensures restored { IfOk result (λ both. OneDecodeAnswers 1 1 ((0, shard.now) ∷ []) [] (Ok (shards_in both.1))) }
+{
     let recovery = encode(alloc, 1, 1, [shard].into_iter(), engine)?;
     let given = [(0, shard)];
     let restored = decode(alloc, 1, 1, given.into_iter(), [].into_iter(), engine)?;
     Ok((recovery, restored))
 }
 
-/// The same of an array, over slices.
+/// Encodes one array, and decodes it with nothing missing, over slices.
 pub fn one_array(
     alloc: Global,
     shard: [u8; 64],
     engine: DefaultEngine<'_>,
-) -> Result<(Vec<Vec<u8>>, BTreeMap<usize, Vec<u8>>), Error> {
+) -> Result<(Vec<Vec<u8>>, BTreeMap<usize, Vec<u8>>), Error>
+    ensures coded { IfOk result (λ both. OneEncodeAnswers 1 1 (shard ∷ []) (Ok (map (λ v. v.items) both.0.items))) }
+    ensures restored { IfOk result (λ both. OneDecodeAnswers 1 1 ((0, shard) ∷ []) [] (Ok (shards_in both.1))) }
+{
     let recovery = encode_slice(alloc, 1, 1, &[shard], engine)?;
     let restored = decode_slice::<[u8; 64], &[u8]>(alloc, 1, 1, &[(0, shard)], &[], engine)?;
     Ok((recovery, restored))
+}
+
+/// Returns the version of the library.
+pub fn version() -> &'static str
+    ensures { result.now ≡ codes "1.2" }
+{
+    VERSION
 }
