@@ -55,7 +55,7 @@ impl Lines {
 
 // Returns the kind of an engine.
 fn kind(engine: DefaultEngine<'_>) -> EngineKind
-    ensures { result ≡ kind_of engine }
+    ensures { result ≡ kind_of engine.entry }
 {
     match engine {
         DefaultEngine::Naive(_) => EngineKind::Naive,

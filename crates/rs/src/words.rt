@@ -1,5 +1,6 @@
 //! The words of the command line.
 ghost use Rattle.std.specs.Prelude.{◌≡◌, drop, IfOk};
+ghost use Rattle.std.specs.Vec.Iter.{into_iter_items};
 
 use crate::fault::Fault;
 use reed_solomon_simd::Error;
@@ -22,8 +23,13 @@ pub fn read_words(rt: &HostRuntime) -> Result<Vec<String>, Fault> {
 }
 
 // Returns all arguments but the first one, which is the program's name.
-fn words_after_name(alloc: Global, arguments: Args) -> Result<Vec<String>, AllocError>
-    ensures { IfOk result (λ words. words.items ≡ drop 1 arguments) }
+fn words_after_name(alloc: Global, mut arguments: Args) -> Result<Vec<String>, AllocError>
+    ensures { IfOk result (λ words. words.items ≡ drop 1 (into_iter_items arguments)) }
 {
-    arguments.skip(1).collect(alloc)
+    drop(arguments.next());
+    let mut words = Vec::new(alloc);
+    for word in arguments {
+        words.push(word)?;
+    }
+    Ok(words)
 }

@@ -7,11 +7,11 @@ ghost use Rattle.reed_solomon_simd.specs.OneCall.{with_shards, with_originals, w
 ghost use Rattle.reed_solomon_simd.specs.ResultView.{recovery_shards};
 ghost use Rattle.rs_callers.specs.Losing.{lost_at, left_of, left_below};
 
-use rs_rate::rate::giving::{add_originals, add_recovery, add_shards};
 use crate::walking::restored_copies;
 use reed_solomon_simd::engine::{Engine, Steps};
 use reed_solomon_simd::rate::{Rate, RateDecoder, RateEncoder};
 use reed_solomon_simd::{EncoderResult, Error};
+use rs_rate::rate::giving::{add_originals, add_recovery, add_shards};
 use std::alloc::Global;
 
 /// Codes the originals by an encoder of a rate, loses the originals and the recovery shards of these indexes, and restores

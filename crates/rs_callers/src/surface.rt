@@ -1,5 +1,6 @@
 //! Every public path of the library, each used with its type and with what it means: if a name were exported for another
 //! item, this file would not compile, or it would not be proved.
+ghost use Rattle.std.specs.Iterator.{IsFinite};
 ghost use Rattle.std.specs.Option.{option_copied, option_map};
 ghost use Rattle.std.specs.Prelude.{◌≡◌, ℕ, ◌^◌, ◌<◌, ◌≤◌, true, List, [], ◌∷◌, length, map, slice_get, slice_index, bit_xor};
 ghost use Rattle.std.specs.Prelude.{codes, Some, None, Result, Ok, Err, IfOk, IfSome, MatchResult};
@@ -13,7 +14,8 @@ ghost use Rattle.reed_solomon_simd.specs.EncoderObject.{state_of as encoder_of};
 ghost use Rattle.reed_solomon_simd.specs.Given.{Lists};
 ghost use Rattle.reed_solomon_simd.specs.Kind.{kind_of, engine_named};
 ghost use Rattle.reed_solomon_simd.specs.Locator.{IsLocator, IsLocatorBelow};
-ghost use Rattle.reed_solomon_simd.specs.OneCall.{Items, shards_in, OneEncodeAnswers, OneDecodeAnswers};
+ghost use Rattle.reed_solomon_simd.specs.OneCall.{Items, Lends, LendsItems, shards_in, collected, collected_map};
+ghost use Rattle.reed_solomon_simd.specs.OneCall.{OneEncodeAnswers, OneDecodeAnswers};
 ghost use Rattle.reed_solomon_simd.specs.Outcome.{answer_of};
 ghost use Rattle.reed_solomon_simd.specs.ResultView.{recovery_shards, restored_originals};
 ghost use Rattle.rs_field.specs.rows.MarkedRows.{is_marked, OthersAreZero};
@@ -249,19 +251,50 @@ pub fn both_support(original_count: usize, recovery_count: usize) -> bool
         && ReedSolomonDecoder::supports(original_count, recovery_count)
 }
 
-/// Encodes one shard, and decodes it with nothing missing, in one call each.
-pub fn one_shard(
+/// Encodes the shards that an iterator lends, in one call.
+pub fn encoded<'a, I: Iterator<Item = &'a [u8]> + Drop>(
     alloc: Global,
-    shard: &[u8],
+    original_count: usize,
+    recovery_count: usize,
+    original: I,
     engine: DefaultEngine<'_>,
-) -> Result<(Vec<Vec<u8>>, BTreeMap<usize, Vec<u8>>), Error>
-    ensures coded { IfOk result (λ both. OneEncodeAnswers 1 1 (shard.now ∷ []) (Ok (map (λ v. v.items) both.0.items))) }
-    ensures restored { IfOk result (λ both. OneDecodeAnswers 1 1 ((0, shard.now) ∷ []) [] (Ok (shards_in both.1))) }
+) -> Result<Vec<Vec<u8>>, Error>
+    requires can { I.can_next original }
+    requires ends { IsFinite (I.remaining original) }
+    ensures { (items : List Shard) → Lends I.next_gives original items
+        → OneEncodeAnswers original_count recovery_count items (collected result) }
 {
-    let recovery = encode(alloc, 1, 1, [shard].into_iter(), engine)?;
-    let given = [(0, shard)];
-    let restored = decode(alloc, 1, 1, given.into_iter(), [].into_iter(), engine)?;
-    Ok((recovery, restored))
+    encode(alloc, original_count, recovery_count, original, engine)
+}
+
+/// Decodes the originals and the recovery shards that two iterators lend, in one call.
+pub fn decoded<'a, O, R>(
+    alloc: Global,
+    original_count: usize,
+    recovery_count: usize,
+    original: O,
+    recovery: R,
+    engine: DefaultEngine<'_>,
+) -> Result<BTreeMap<usize, Vec<u8>>, Error>
+where
+    O: Iterator<Item = (usize, &'a [u8])> + Drop,
+    R: Iterator<Item = (usize, &'a [u8])> + Drop,
+    requires can { O.can_next original }
+    requires ends { IsFinite (O.remaining original) }
+    requires can_recovery { R.can_next recovery }
+    requires recovery_ends { IsFinite (R.remaining recovery) }
+    ensures { (originals recoveries : Items) → LendsItems O.next_gives original originals
+        → LendsItems R.next_gives recovery recoveries
+        → OneDecodeAnswers original_count recovery_count originals recoveries (collected_map result) }
+{
+    decode(
+        alloc,
+        original_count,
+        recovery_count,
+        original,
+        recovery,
+        engine,
+    )
 }
 
 /// Encodes one array, and decodes it with nothing missing, over slices.

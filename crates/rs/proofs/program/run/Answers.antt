@@ -11,4 +11,4 @@ returns-in-Err-clause-refused g c = λ one.
 
 pub returns-in-Ok-2-clause-refused : goal.returns-in-Ok-2-clause-refused
 returns-in-Ok-2-clause-refused g c = λ _.
-    inr (concatenated c.in-Ok.texts, c.in-Ok.ensures.answer, refl, rw c.as_slice.ensures.value at (c.if-write_texts.ensures.cut refl))
+    inr (concatenated c.in-Ok.lines.texts, c.in-Ok.ensures.answer, refl, rw c.texts.ensures at (c.if-write_texts.ensures.cut refl))
