@@ -31,6 +31,10 @@ pub enum EngineKind {
 pub struct UnknownEngine;
 
 impl fmt::Display for UnknownEngine {
+    ghost use Rattle.std.specs.Prelude.{Some, codes};
+
+    ghost output = { λ _. Some (codes "unknown engine") };
+
     fn fmt<W: fmt::Write>(&self, f: &mut fmt::Formatter<W>) -> fmt::Result {
         write!(f, "unknown engine")
     }
@@ -240,7 +244,8 @@ impl Engine for DefaultEngine<'_> {
     fn locate(&self, steps: &mut Steps, erasures: &mut [GfElement])
         requires power { (d : ℕ) × (length erasures.old ≡ 2 ^ d) }
         requires few { length erasures.old ≤ 65536 }
-        ensures values { IsLocatorBelow (length erasures.old) (λ y. slice_index erasures.old y) (λ x. slice_index erasures.new x) }
+        ensures values { IsLocatorBelow (length erasures.old) (λ y. slice_index erasures.old y)
+            (λ x. slice_index erasures.new x) }
         ensures counts { LocatorCounts steps.old steps.new }
         ensures own_counts { LocatorCountsBelow (length erasures.old) steps.old steps.new }
     {

@@ -102,7 +102,8 @@ pub trait Engine: Drop {
         ensures extent { SameExtent «data».old «data».new }
         ensures others { SameRowsOutside pos (pos + length wanted.now) «data».old «data».new }
         ensures values { (k s i : ℕ) → k < «data».old.shard_len_64 → s < 32 → is_marked wanted.now i ≡ true
-            → word «data».new k s (pos + i) ≡ forward (length wanted.now) skew_delta (λ q. word «data».old k s (pos + q)) i }
+            → word «data».new k s (pos + i)
+            ≡ forward (length wanted.now) skew_delta (λ q. word «data».old k s (pos + q)) i }
         ensures counts { TransformCounts (length wanted.now) steps.old steps.new }
     {
         let end = marked_end(wanted);
@@ -131,7 +132,8 @@ pub trait Engine: Drop {
         ensures extent { SameExtent «data».old «data».new }
         ensures others { SameRowsOutside pos (pos + length given.now) «data».old «data».new }
         ensures values { (k s i : ℕ) → k < «data».old.shard_len_64 → s < 32 → i < length given.now
-            → word «data».old k s (pos + i) ≡ forward (length given.now) skew_delta (λ q. word «data».new k s (pos + q)) i }
+            → word «data».old k s (pos + i)
+            ≡ forward (length given.now) skew_delta (λ q. word «data».new k s (pos + q)) i }
         ensures counts { TransformCounts (length given.now) steps.old steps.new }
     {
         let end = marked_end(given);
@@ -165,7 +167,8 @@ pub trait Engine: Drop {
     fn locate(&self, steps: &mut Steps, erasures: &mut [GfElement])
         requires power { (d : ℕ) × (length erasures.old ≡ 2 ^ d) }
         requires few { length erasures.old ≤ 65536 }
-        ensures values { IsLocatorBelow (length erasures.old) (λ y. slice_index erasures.old y) (λ x. slice_index erasures.new x) }
+        ensures values { IsLocatorBelow (length erasures.old) (λ y. slice_index erasures.old y)
+            (λ x. slice_index erasures.new x) }
         ensures counts { LocatorCounts steps.old steps.new }
     {
         let count = erasures.len();

@@ -172,7 +172,8 @@ impl<K: Kernel> Engine for K {
     fn locate(&self, steps: &mut Steps, erasures: &mut [GfElement])
         requires power { (d : ℕ) × (length erasures.old ≡ 2 ^ d) }
         requires few { length erasures.old ≤ 65536 }
-        ensures values { IsLocatorBelow (length erasures.old) (λ y. slice_index erasures.old y) (λ x. slice_index erasures.new x) }
+        ensures values { IsLocatorBelow (length erasures.old) (λ y. slice_index erasures.old y)
+            (λ x. slice_index erasures.new x) }
         ensures counts { LocatorCounts steps.old steps.new }
         ensures own_counts { LocatorCountsBelow (length erasures.old) steps.old steps.new }
     {

@@ -62,7 +62,8 @@ pub fn locate(steps: &mut Steps, erasures: &mut [GfElement], log_walsh: LogWalsh
     requires power { (d : ℕ) × (length erasures.old ≡ 2 ^ d) }
     requires few { length erasures.old ≤ 65536 }
     requires table { IsLogWalshBelow (length erasures.old) log_walsh.now }
-    ensures values { IsLocatorBelow (length erasures.old) (λ y. slice_index erasures.old y) (λ x. slice_index erasures.new x) }
+    ensures values { IsLocatorBelow (length erasures.old) (λ y. slice_index erasures.old y)
+        (λ x. slice_index erasures.new x) }
     ensures counts { LocatorCountsBelow (length erasures.old) steps.old steps.new }
 {
     let count = erasures.len();
@@ -80,7 +81,8 @@ fn locate_marked(
     requires few { length erasures.old ≤ 65536 }
     requires zeros { (y : ℕ) → truncated_size ≤ y → y < length erasures.old → slice_index erasures.old y ≡ 0 }
     requires table { IsLogWalshBelow (length erasures.old) log_walsh.now }
-    ensures values { IsLocatorBelow (length erasures.old) (λ y. slice_index erasures.old y) (λ x. slice_index erasures.new x) }
+    ensures values { IsLocatorBelow (length erasures.old) (λ y. slice_index erasures.old y)
+        (λ x. slice_index erasures.new x) }
     ensures counts { LocatorCountsBelow (length erasures.old) steps.old steps.new }
 {
     let count = erasures.len();
