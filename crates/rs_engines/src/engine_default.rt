@@ -31,6 +31,10 @@ pub enum EngineKind {
 pub struct UnknownEngine;
 
 impl fmt::Display for UnknownEngine {
+    ghost use Rattle.std.specs.Prelude.{Some, codes};
+
+    ghost output = { λ _. Some (codes "unknown engine") };
+
     fn fmt<W: fmt::Write>(&self, f: &mut fmt::Formatter<W>) -> fmt::Result {
         write!(f, "unknown engine")
     }
@@ -156,66 +160,66 @@ impl Engine for DefaultEngine<'_> {
     fn fft(
         &self,
         steps: &mut Steps,
-        rows: &mut ShardsRefMut<'_>,
+        data: &mut ShardsRefMut<'_>,
         pos: usize,
         size: usize,
         truncated_size: usize,
         skew_delta: usize,
     ) {
         match self {
-            Self::Naive(engine) => engine.fft(steps, rows, pos, size, truncated_size, skew_delta),
-            Self::NoSimd(engine) => engine.fft(steps, rows, pos, size, truncated_size, skew_delta),
-            Self::Avx2(engine) => engine.fft(steps, rows, pos, size, truncated_size, skew_delta),
-            Self::Ssse3(engine) => engine.fft(steps, rows, pos, size, truncated_size, skew_delta),
+            Self::Naive(engine) => engine.fft(steps, data, pos, size, truncated_size, skew_delta),
+            Self::NoSimd(engine) => engine.fft(steps, data, pos, size, truncated_size, skew_delta),
+            Self::Avx2(engine) => engine.fft(steps, data, pos, size, truncated_size, skew_delta),
+            Self::Ssse3(engine) => engine.fft(steps, data, pos, size, truncated_size, skew_delta),
         }
     }
 
     fn ifft(
         &self,
         steps: &mut Steps,
-        rows: &mut ShardsRefMut<'_>,
+        data: &mut ShardsRefMut<'_>,
         pos: usize,
         size: usize,
         truncated_size: usize,
         skew_delta: usize,
     ) {
         match self {
-            Self::Naive(engine) => engine.ifft(steps, rows, pos, size, truncated_size, skew_delta),
-            Self::NoSimd(engine) => engine.ifft(steps, rows, pos, size, truncated_size, skew_delta),
-            Self::Avx2(engine) => engine.ifft(steps, rows, pos, size, truncated_size, skew_delta),
-            Self::Ssse3(engine) => engine.ifft(steps, rows, pos, size, truncated_size, skew_delta),
+            Self::Naive(engine) => engine.ifft(steps, data, pos, size, truncated_size, skew_delta),
+            Self::NoSimd(engine) => engine.ifft(steps, data, pos, size, truncated_size, skew_delta),
+            Self::Avx2(engine) => engine.ifft(steps, data, pos, size, truncated_size, skew_delta),
+            Self::Ssse3(engine) => engine.ifft(steps, data, pos, size, truncated_size, skew_delta),
         }
     }
 
     fn fft_wanted(
         &self,
         steps: &mut Steps,
-        rows: &mut ShardsRefMut<'_>,
+        data: &mut ShardsRefMut<'_>,
         pos: usize,
         wanted: &[bool],
         skew_delta: usize,
     ) {
         match self {
-            Self::Naive(engine) => engine.fft_wanted(steps, rows, pos, wanted, skew_delta),
-            Self::NoSimd(engine) => engine.fft_wanted(steps, rows, pos, wanted, skew_delta),
-            Self::Avx2(engine) => engine.fft_wanted(steps, rows, pos, wanted, skew_delta),
-            Self::Ssse3(engine) => engine.fft_wanted(steps, rows, pos, wanted, skew_delta),
+            Self::Naive(engine) => engine.fft_wanted(steps, data, pos, wanted, skew_delta),
+            Self::NoSimd(engine) => engine.fft_wanted(steps, data, pos, wanted, skew_delta),
+            Self::Avx2(engine) => engine.fft_wanted(steps, data, pos, wanted, skew_delta),
+            Self::Ssse3(engine) => engine.fft_wanted(steps, data, pos, wanted, skew_delta),
         }
     }
 
     fn ifft_given(
         &self,
         steps: &mut Steps,
-        rows: &mut ShardsRefMut<'_>,
+        data: &mut ShardsRefMut<'_>,
         pos: usize,
         given: &[bool],
         skew_delta: usize,
     ) {
         match self {
-            Self::Naive(engine) => engine.ifft_given(steps, rows, pos, given, skew_delta),
-            Self::NoSimd(engine) => engine.ifft_given(steps, rows, pos, given, skew_delta),
-            Self::Avx2(engine) => engine.ifft_given(steps, rows, pos, given, skew_delta),
-            Self::Ssse3(engine) => engine.ifft_given(steps, rows, pos, given, skew_delta),
+            Self::Naive(engine) => engine.ifft_given(steps, data, pos, given, skew_delta),
+            Self::NoSimd(engine) => engine.ifft_given(steps, data, pos, given, skew_delta),
+            Self::Avx2(engine) => engine.ifft_given(steps, data, pos, given, skew_delta),
+            Self::Ssse3(engine) => engine.ifft_given(steps, data, pos, given, skew_delta),
         }
     }
 
@@ -228,27 +232,28 @@ impl Engine for DefaultEngine<'_> {
         }
     }
 
-    fn eval_poly(&self, steps: &mut Steps, entries: &mut [GfElement], truncated_size: usize) {
+    fn eval_poly(&self, steps: &mut Steps, erasures: &mut [GfElement], truncated_size: usize) {
         match self {
-            Self::Naive(engine) => engine.eval_poly(steps, entries, truncated_size),
-            Self::NoSimd(engine) => engine.eval_poly(steps, entries, truncated_size),
-            Self::Avx2(engine) => engine.eval_poly(steps, entries, truncated_size),
-            Self::Ssse3(engine) => engine.eval_poly(steps, entries, truncated_size),
+            Self::Naive(engine) => engine.eval_poly(steps, erasures, truncated_size),
+            Self::NoSimd(engine) => engine.eval_poly(steps, erasures, truncated_size),
+            Self::Avx2(engine) => engine.eval_poly(steps, erasures, truncated_size),
+            Self::Ssse3(engine) => engine.eval_poly(steps, erasures, truncated_size),
         }
     }
 
-    fn locate(&self, steps: &mut Steps, entries: &mut [GfElement])
-        requires power { (d : ℕ) × (length entries.old ≡ 2 ^ d) }
-        requires few { length entries.old ≤ 65536 }
-        ensures values { IsLocatorBelow (length entries.old) (λ y. slice_index entries.old y) (λ x. slice_index entries.new x) }
+    fn locate(&self, steps: &mut Steps, erasures: &mut [GfElement])
+        requires power { (d : ℕ) × (length erasures.old ≡ 2 ^ d) }
+        requires few { length erasures.old ≤ 65536 }
+        ensures values { IsLocatorBelow (length erasures.old) (λ y. slice_index erasures.old y)
+            (λ x. slice_index erasures.new x) }
         ensures counts { LocatorCounts steps.old steps.new }
-        ensures own_counts { LocatorCountsBelow (length entries.old) steps.old steps.new }
+        ensures own_counts { LocatorCountsBelow (length erasures.old) steps.old steps.new }
     {
         match self {
-            Self::Naive(engine) => engine.locate(steps, entries),
-            Self::NoSimd(engine) => engine.locate(steps, entries),
-            Self::Avx2(engine) => engine.locate(steps, entries),
-            Self::Ssse3(engine) => engine.locate(steps, entries),
+            Self::Naive(engine) => engine.locate(steps, erasures),
+            Self::NoSimd(engine) => engine.locate(steps, erasures),
+            Self::Avx2(engine) => engine.locate(steps, erasures),
+            Self::Ssse3(engine) => engine.locate(steps, erasures),
         }
     }
 }

@@ -1,5 +1,5 @@
 //! The engines by shuffles: words in lanes, and their products by eight look-ups of nibbles, or by six.
-ghost use Rattle.std.specs.Prelude.{◌≡◌};
+ghost use Rattle.std.specs.Prelude.{◌≡◌, ℕ};
 ghost use Rattle.rs_engines.specs.Factors.{log_of};
 
 use crate::any_factor::{AnyFactor, factor_of};
@@ -30,15 +30,45 @@ pub type Ssse3<'t> = ByShuffles<'t, u8x16>;
 /// x86-64-v3.
 pub type Avx2<'t> = ByShuffles<'t, u8x32>;
 
-impl<'t, V: ByteVector> ByShuffles<'t, V> {
-    /// The engine over these tables.
+/// The width of the vectors of an engine.
+pub trait Lanes {
+    // The number of byte lanes of a vector.
+    ghost lanes: { ℕ };
+}
+
+impl<V: ByteVector> Lanes for ByShuffles<'_, V> {
+    ghost lanes = { V.LANES };
+}
+
+impl<'t> Ssse3<'t> {
+    /// Makes the engine of 16 byte lanes over these tables.
     ///
     /// ```
     /// // quoted: crates/rs_callers/src/levels.rt
     /// let tables = Tables::new(alloc)?;
     /// let engine = Ssse3::new(&tables);
     /// ```
-    pub fn new(tables: &'t Tables) -> ByShuffles<'t, V>
+    pub fn new(tables: &'t Tables) -> Ssse3<'t>
+        ensures tables { result.tables.now ≡ tables.now }
+        ensures lanes { ⟦<Ssse3<'static> as Lanes>⟧.lanes ≡ 16 }
+    {
+        ByShuffles::over(tables)
+    }
+}
+
+impl<'t> Avx2<'t> {
+    /// Makes the engine of 32 byte lanes over these tables.
+    pub fn new(tables: &'t Tables) -> Avx2<'t>
+        ensures tables { result.tables.now ≡ tables.now }
+        ensures lanes { ⟦<Avx2<'static> as Lanes>⟧.lanes ≡ 32 }
+    {
+        ByShuffles::over(tables)
+    }
+}
+
+impl<'t, V: ByteVector> ByShuffles<'t, V> {
+    // The engine over these tables.
+    fn over(tables: &'t Tables) -> ByShuffles<'t, V>
         ensures { result.tables.now ≡ tables.now }
     {
         ByShuffles {

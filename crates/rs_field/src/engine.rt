@@ -37,22 +37,22 @@ pub trait Engine: Drop {
     fn fft(
         &self,
         steps: &mut Steps,
-        rows: &mut ShardsRefMut<'_>,
+        data: &mut ShardsRefMut<'_>,
         pos: usize,
         size: usize,
         truncated_size: usize,
         skew_delta: usize,
     )
-        requires fits { Fits rows.old }
+        requires fits { Fits «data».old }
         requires power { (d : ℕ) × (size ≡ 2 ^ d) }
         requires truncated { truncated_size ≤ size }
-        requires within { pos + size ≤ rows.old.shard_count }
+        requires within { pos + size ≤ «data».old.shard_count }
         requires shift { skew_delta % size ≡ 0 }
         requires points { skew_delta + size ≤ 65536 }
-        ensures extent { SameExtent rows.old rows.new }
-        ensures others { SameRowsOutside pos (pos + size) rows.old rows.new }
-        ensures values { (k s i : ℕ) → k < rows.old.shard_len_64 → s < 32 → i < truncated_size
-            → word rows.new k s (pos + i) ≡ forward size skew_delta (λ q. word rows.old k s (pos + q)) i }
+        ensures extent { SameExtent «data».old «data».new }
+        ensures others { SameRowsOutside pos (pos + size) «data».old «data».new }
+        ensures values { (k s i : ℕ) → k < «data».old.shard_len_64 → s < 32 → i < truncated_size
+            → word «data».new k s (pos + i) ≡ forward size skew_delta (λ q. word «data».old k s (pos + q)) i }
         ensures counts { TransformCounts size steps.old steps.new };
 
     /// The backward transform of the `size` rows from `pos` on, at `skew_delta`.
@@ -62,23 +62,23 @@ pub trait Engine: Drop {
     fn ifft(
         &self,
         steps: &mut Steps,
-        rows: &mut ShardsRefMut<'_>,
+        data: &mut ShardsRefMut<'_>,
         pos: usize,
         size: usize,
         truncated_size: usize,
         skew_delta: usize,
     )
-        requires fits { Fits rows.old }
+        requires fits { Fits «data».old }
         requires power { (d : ℕ) × (size ≡ 2 ^ d) }
         requires truncated { truncated_size ≤ size }
-        requires within { pos + size ≤ rows.old.shard_count }
+        requires within { pos + size ≤ «data».old.shard_count }
         requires shift { skew_delta % size ≡ 0 }
         requires points { skew_delta + size ≤ 65536 }
-        requires zeros { AreZero (pos + truncated_size) (pos + size) rows.old }
-        ensures extent { SameExtent rows.old rows.new }
-        ensures others { SameRowsOutside pos (pos + size) rows.old rows.new }
-        ensures values { (k s i : ℕ) → k < rows.old.shard_len_64 → s < 32 → i < size
-            → word rows.old k s (pos + i) ≡ forward size skew_delta (λ q. word rows.new k s (pos + q)) i }
+        requires zeros { AreZero (pos + truncated_size) (pos + size) «data».old }
+        ensures extent { SameExtent «data».old «data».new }
+        ensures others { SameRowsOutside pos (pos + size) «data».old «data».new }
+        ensures values { (k s i : ℕ) → k < «data».old.shard_len_64 → s < 32 → i < size
+            → word «data».old k s (pos + i) ≡ forward size skew_delta (λ q. word «data».new k s (pos + q)) i }
         ensures counts { TransformCounts size steps.old steps.new };
 
     /// The forward transform of as many rows as there are marks, from `pos` on, at `skew_delta`.
@@ -89,24 +89,25 @@ pub trait Engine: Drop {
     fn fft_wanted(
         &self,
         steps: &mut Steps,
-        rows: &mut ShardsRefMut<'_>,
+        data: &mut ShardsRefMut<'_>,
         pos: usize,
         wanted: &[bool],
         skew_delta: usize,
     )
-        requires fits { Fits rows.old }
+        requires fits { Fits «data».old }
         requires power { (d : ℕ) × (length wanted.now ≡ 2 ^ d) }
-        requires within { pos + length wanted.now ≤ rows.old.shard_count }
+        requires within { pos + length wanted.now ≤ «data».old.shard_count }
         requires shift { skew_delta % length wanted.now ≡ 0 }
         requires points { skew_delta + length wanted.now ≤ 65536 }
-        ensures extent { SameExtent rows.old rows.new }
-        ensures others { SameRowsOutside pos (pos + length wanted.now) rows.old rows.new }
-        ensures values { (k s i : ℕ) → k < rows.old.shard_len_64 → s < 32 → is_marked wanted.now i ≡ true
-            → word rows.new k s (pos + i) ≡ forward (length wanted.now) skew_delta (λ q. word rows.old k s (pos + q)) i }
+        ensures extent { SameExtent «data».old «data».new }
+        ensures others { SameRowsOutside pos (pos + length wanted.now) «data».old «data».new }
+        ensures values { (k s i : ℕ) → k < «data».old.shard_len_64 → s < 32 → is_marked wanted.now i ≡ true
+            → word «data».new k s (pos + i)
+            ≡ forward (length wanted.now) skew_delta (λ q. word «data».old k s (pos + q)) i }
         ensures counts { TransformCounts (length wanted.now) steps.old steps.new }
     {
         let end = marked_end(wanted);
-        self.fft(steps, rows, pos, wanted.len(), end, skew_delta);
+        self.fft(steps, data, pos, wanted.len(), end, skew_delta);
     }
 
     /// The backward transform of as many rows as there are marks, from `pos` on, at `skew_delta`.
@@ -117,25 +118,26 @@ pub trait Engine: Drop {
     fn ifft_given(
         &self,
         steps: &mut Steps,
-        rows: &mut ShardsRefMut<'_>,
+        data: &mut ShardsRefMut<'_>,
         pos: usize,
         given: &[bool],
         skew_delta: usize,
     )
-        requires fits { Fits rows.old }
+        requires fits { Fits «data».old }
         requires power { (d : ℕ) × (length given.now ≡ 2 ^ d) }
-        requires within { pos + length given.now ≤ rows.old.shard_count }
+        requires within { pos + length given.now ≤ «data».old.shard_count }
         requires shift { skew_delta % length given.now ≡ 0 }
         requires points { skew_delta + length given.now ≤ 65536 }
-        requires zeros { OthersAreZero given.now pos rows.old }
-        ensures extent { SameExtent rows.old rows.new }
-        ensures others { SameRowsOutside pos (pos + length given.now) rows.old rows.new }
-        ensures values { (k s i : ℕ) → k < rows.old.shard_len_64 → s < 32 → i < length given.now
-            → word rows.old k s (pos + i) ≡ forward (length given.now) skew_delta (λ q. word rows.new k s (pos + q)) i }
+        requires zeros { OthersAreZero given.now pos «data».old }
+        ensures extent { SameExtent «data».old «data».new }
+        ensures others { SameRowsOutside pos (pos + length given.now) «data».old «data».new }
+        ensures values { (k s i : ℕ) → k < «data».old.shard_len_64 → s < 32 → i < length given.now
+            → word «data».old k s (pos + i)
+            ≡ forward (length given.now) skew_delta (λ q. word «data».new k s (pos + q)) i }
         ensures counts { TransformCounts (length given.now) steps.old steps.new }
     {
         let end = marked_end(given);
-        self.ifft(steps, rows, pos, given.len(), end, skew_delta);
+        self.ifft(steps, data, pos, given.len(), end, skew_delta);
     }
 
     /// Multiplies every symbol of every chunk of a row by the generator to the power `log_m`; 65535 is the factor one.
@@ -149,11 +151,11 @@ pub trait Engine: Drop {
     ///
     /// There are 65536 entries, and those from `truncated_size` on, at most 65536, are 0. Of a new entry the residue
     /// alone is fixed: 0 and 65535 both stand for zero. The locator is that of Leopard-RS.
-    fn eval_poly(&self, steps: &mut Steps, entries: &mut [GfElement], truncated_size: usize)
-        requires size { length entries.old ≡ 65536 }
+    fn eval_poly(&self, steps: &mut Steps, erasures: &mut [GfElement], truncated_size: usize)
+        requires size { length erasures.old ≡ 65536 }
         requires truncated { truncated_size ≤ 65536 }
-        requires zeros { (y : ℕ) → truncated_size ≤ y → y < 65536 → slice_index entries.old y ≡ 0 }
-        ensures values { IsLocator (λ y. slice_index entries.old y) (λ x. slice_index entries.new x) }
+        requires zeros { (y : ℕ) → truncated_size ≤ y → y < 65536 → slice_index erasures.old y ≡ 0 }
+        ensures values { IsLocator (λ y. slice_index erasures.old y) (λ x. slice_index erasures.new x) }
         ensures counts { LocatorCounts steps.old steps.new };
 
     /// The locator of the marked points among the first ones, as many as there are entries, at these points: entry x
@@ -162,16 +164,17 @@ pub trait Engine: Drop {
     /// There are a power of two of entries, at most 65536. Of a new entry the residue alone is fixed: 0 and 65535 both
     /// stand for zero. An engine that brings no such call makes one `eval_poly`, with no point past the entries marked,
     /// over 65536 entries on the stack.
-    fn locate(&self, steps: &mut Steps, entries: &mut [GfElement])
-        requires power { (d : ℕ) × (length entries.old ≡ 2 ^ d) }
-        requires few { length entries.old ≤ 65536 }
-        ensures values { IsLocatorBelow (length entries.old) (λ y. slice_index entries.old y) (λ x. slice_index entries.new x) }
+    fn locate(&self, steps: &mut Steps, erasures: &mut [GfElement])
+        requires power { (d : ℕ) × (length erasures.old ≡ 2 ^ d) }
+        requires few { length erasures.old ≤ 65536 }
+        ensures values { IsLocatorBelow (length erasures.old) (λ y. slice_index erasures.old y)
+            (λ x. slice_index erasures.new x) }
         ensures counts { LocatorCounts steps.old steps.new }
     {
-        let count = entries.len();
+        let count = erasures.len();
         let mut padded = [0; GF_ORDER];
-        padded[..count].copy_from_slice(entries);
+        padded[..count].copy_from_slice(erasures);
         self.eval_poly(steps, &mut padded, count);
-        entries.copy_from_slice(&padded[..count]);
+        erasures.copy_from_slice(&padded[..count]);
     }
 }

@@ -77,28 +77,28 @@ pub(crate) fn layers<K: Kernel>(
     direction: Direction,
     kernel: &K,
     steps: &mut Steps,
-    rows: &mut ShardsRefMut<'_>,
+    data: &mut ShardsRefMut<'_>,
     block: Block,
 )
-    requires fits { Fits rows.old }
+    requires fits { Fits «data».old }
     requires large { 1 < block.size }
-    requires within { block.pos + block.size ≤ rows.old.shard_count }
-    ensures extent { SameExtent rows.old rows.new }
-    ensures others { SameRowsOutside block.pos (block.pos + block.size) rows.old rows.new }
-    ensures parts { (k s : ℕ) → k < rows.old.shard_len_64 → s < 32
+    requires within { block.pos + block.size ≤ «data».old.shard_count }
+    ensures extent { SameExtent «data».old «data».new }
+    ensures others { SameRowsOutside block.pos (block.pos + block.size) «data».old «data».new }
+    ensures parts { (k s : ℕ) → k < «data».old.shard_len_64 → s < 32
         → AreLayers direction block.size (rows_of_part block.size) block.skew_delta
-        (λ q. word rows.old k s (block.pos + q)) (λ q. word rows.new k s (block.pos + q)) }
+        (λ q. word «data».old k s (block.pos + q)) (λ q. word «data».new k s (block.pos + q)) }
     ensures counts { CountsRows (layer_steps block.size) steps.old steps.new }
 {
     let skew = kernel.tables().skew;
-    let len = rows.shard_len_64;
+    let len = data.shard_len_64;
     let start = block.pos * len;
     let end = (block.pos + block.size) * len;
     if block.is_halved() {
         let half = block.size / 2;
         let log_m = skew[block.skew_delta + half - 1];
         steps.row_steps(half);
-        let chunks = &mut rows.chunks[start..end];
+        let chunks = &mut data.chunks[start..end];
         butterflies_of_halves(direction, kernel, chunks, half * len, log_m);
     } else {
         let quarter = block.size / 4;
@@ -109,7 +109,7 @@ pub(crate) fn layers<K: Kernel>(
             log_m23: skew[middle + quarter - 1],
         };
         steps.row_steps(block.size);
-        let chunks = &mut rows.chunks[start..end];
+        let chunks = &mut data.chunks[start..end];
         butterflies_of_quarters(direction, kernel, chunks, quarter * len, logs);
     }
 }

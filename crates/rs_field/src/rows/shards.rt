@@ -19,23 +19,23 @@ pub struct ShardsRefMut<'a> {
 }
 
 impl<'a> ShardsRefMut<'a> {
-    /// The first `shard_count * shard_len_64` chunks of `chunks` as rows of `shard_len_64` chunks. The others stay
+    /// The first `shard_count * shard_len_64` chunks of `data` as rows of `shard_len_64` chunks. The others stay
     /// as they are.
     pub fn new(
         shard_count: usize,
         shard_len_64: usize,
-        chunks: &'a mut [[u8; 64]],
+        data: &'a mut [[u8; 64]],
     ) -> ShardsRefMut<'a>
-        requires { shard_count * shard_len_64 ≤ length chunks.old }
-        ensures name { result.chunks.ghost_name ≡ chunks.entry.ghost_name }
-        ensures chunks { result.chunks.now ≡ chunks.old }
+        requires { shard_count * shard_len_64 ≤ length «data».old }
+        ensures name { result.chunks.ghost_name ≡ «data».entry.ghost_name }
+        ensures chunks { result.chunks.now ≡ «data».old }
         ensures count { result.shard_count ≡ shard_count }
         ensures len_64 { result.shard_len_64 ≡ shard_len_64 }
     {
         ShardsRefMut {
             shard_count,
             shard_len_64,
-            chunks,
+            chunks: data,
             marker: UnsafeCell::new(()),
         }
     }

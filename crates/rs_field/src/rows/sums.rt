@@ -49,18 +49,18 @@ fn xor_runs(chunks: &mut [[u8; 64]], a: usize, b: usize, n: usize)
 /// Rows `x` to `x + count - 1` become their sums with those from `y` on; a row step each.
 ///
 /// The two ranges lie among the rows and have no row in common; the second one is unchanged.
-pub fn xor_within(steps: &mut Steps, rows: &mut ShardsRefMut<'_>, x: usize, y: usize, count: usize)
-    requires fits { Fits rows.old }
+pub fn xor_within(steps: &mut Steps, data: &mut ShardsRefMut<'_>, x: usize, y: usize, count: usize)
+    requires fits { Fits «data».old }
     requires apart { (x + count ≤ y) ⊎ (y + count ≤ x) }
-    requires x_in { x + count ≤ rows.old.shard_count }
-    requires y_in { y + count ≤ rows.old.shard_count }
-    ensures extent { SameExtent rows.old rows.new }
-    ensures sums { (i k s : ℕ) → i < count → k < rows.old.shard_len_64 → s < 32
-        → word rows.new k s (x + i) ≡ bit_xor (word rows.old k s (x + i)) (word rows.old k s (y + i)) }
-    ensures others { SameRowsOutside x (x + count) rows.old rows.new }
+    requires x_in { x + count ≤ «data».old.shard_count }
+    requires y_in { y + count ≤ «data».old.shard_count }
+    ensures extent { SameExtent «data».old «data».new }
+    ensures sums { (i k s : ℕ) → i < count → k < «data».old.shard_len_64 → s < 32
+        → word «data».new k s (x + i) ≡ bit_xor (word «data».old k s (x + i)) (word «data».old k s (y + i)) }
+    ensures others { SameRowsOutside x (x + count) «data».old «data».new }
     ensures counts { CountsRows count steps.old steps.new }
 {
     steps.row_steps(count);
-    let len = rows.shard_len_64;
-    xor_runs(rows.chunks, x * len, y * len, count * len);
+    let len = data.shard_len_64;
+    xor_runs(data.chunks, x * len, y * len, count * len);
 }

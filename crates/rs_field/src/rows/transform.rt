@@ -32,32 +32,32 @@ pub(crate) fn transform<K: Kernel>(
     direction: Direction,
     kernel: &K,
     steps: &mut Steps,
-    rows: &mut ShardsRefMut<'_>,
+    data: &mut ShardsRefMut<'_>,
     block: Block,
     used: UsedRows<'_>,
 )
-    requires fits { Fits rows.old }
+    requires fits { Fits «data».old }
     requires marks { HasMarks used block.size }
-    requires within { block.pos + block.size ≤ rows.old.shard_count }
-    requires zeros { UnusedAreZeroBackward direction used block.pos block.size rows.old }
-    ensures extent { SameExtent rows.old rows.new }
-    ensures others { SameRowsOutside block.pos (block.pos + block.size) rows.old rows.new }
-    ensures values { (k s : ℕ) → k < rows.old.shard_len_64 → s < 32
+    requires within { block.pos + block.size ≤ «data».old.shard_count }
+    requires zeros { UnusedAreZeroBackward direction used block.pos block.size «data».old }
+    ensures extent { SameExtent «data».old «data».new }
+    ensures others { SameRowsOutside block.pos (block.pos + block.size) «data».old «data».new }
+    ensures values { (k s : ℕ) → k < «data».old.shard_len_64 → s < 32
         → AreTransformed direction (is_used used.entry) block.size block.skew_delta
-        (λ q. word rows.old k s (block.pos + q)) (λ q. word rows.new k s (block.pos + q)) }
+        (λ q. word «data».old k s (block.pos + q)) (λ q. word «data».new k s (block.pos + q)) }
     ensures counts { TransformCounts block.size steps.old steps.new }
 {
     if used.are_none() {
         return;
     }
     if block.size > 4 {
-        transform_many(direction, kernel, steps, rows, block, used);
+        transform_many(direction, kernel, steps, data, block, used);
         return;
     }
-    row_symbols_are_words(rows);
+    row_symbols_are_words(data);
     if block.size > 1 {
-        layers(direction, kernel, steps, rows, block);
-        row_symbols_are_words(rows);
+        layers(direction, kernel, steps, data, block);
+        row_symbols_are_words(data);
     }
 }
 
@@ -67,30 +67,30 @@ fn transform_many<K: Kernel>(
     direction: Direction,
     kernel: &K,
     steps: &mut Steps,
-    rows: &mut ShardsRefMut<'_>,
+    data: &mut ShardsRefMut<'_>,
     block: Block,
     used: UsedRows<'_>,
 )
-    requires fits { Fits rows.old }
+    requires fits { Fits «data».old }
     requires large { 1 < block.size }
     requires marks { HasMarks used block.size }
-    requires within { block.pos + block.size ≤ rows.old.shard_count }
-    requires zeros { UnusedAreZeroBackward direction used block.pos block.size rows.old }
-    ensures extent { SameExtent rows.old rows.new }
-    ensures others { SameRowsOutside block.pos (block.pos + block.size) rows.old rows.new }
-    ensures values { (k s : ℕ) → k < rows.old.shard_len_64 → s < 32
+    requires within { block.pos + block.size ≤ «data».old.shard_count }
+    requires zeros { UnusedAreZeroBackward direction used block.pos block.size «data».old }
+    ensures extent { SameExtent «data».old «data».new }
+    ensures others { SameRowsOutside block.pos (block.pos + block.size) «data».old «data».new }
+    ensures values { (k s : ℕ) → k < «data».old.shard_len_64 → s < 32
         → AreTransformed direction (is_used used.entry) block.size block.skew_delta
-        (λ q. word rows.old k s (block.pos + q)) (λ q. word rows.new k s (block.pos + q)) }
+        (λ q. word «data».old k s (block.pos + q)) (λ q. word «data».new k s (block.pos + q)) }
     ensures counts { TransformCounts block.size steps.old steps.new }
 {
     match direction {
         Direction::Forward => {
-            layers(direction, kernel, steps, rows, block);
-            transform_parts(direction, kernel, steps, rows, block, used);
+            layers(direction, kernel, steps, data, block);
+            transform_parts(direction, kernel, steps, data, block, used);
         }
         Direction::Backward => {
-            transform_parts(direction, kernel, steps, rows, block, used);
-            layers(direction, kernel, steps, rows, block);
+            transform_parts(direction, kernel, steps, data, block, used);
+            layers(direction, kernel, steps, data, block);
         }
     }
 }
@@ -102,18 +102,18 @@ fn transform_parts<K: Kernel>(
     direction: Direction,
     kernel: &K,
     steps: &mut Steps,
-    rows: &mut ShardsRefMut<'_>,
+    data: &mut ShardsRefMut<'_>,
     block: Block,
     used: UsedRows<'_>,
 )
-    requires fits { Fits rows.old }
+    requires fits { Fits «data».old }
     requires large { 1 < block.size }
     requires marks { HasMarks used block.size }
-    requires within { block.pos + block.size ≤ rows.old.shard_count }
-    requires zeros { UnusedAreZeroBackward direction used block.pos block.size rows.old }
-    ensures extent { SameExtent rows.old rows.new }
-    ensures others { SameRowsOutside block.pos (block.pos + block.size) rows.old rows.new }
-    ensures parts { ArePartsTransformed direction (is_used used.entry) block rows.old rows.new }
+    requires within { block.pos + block.size ≤ «data».old.shard_count }
+    requires zeros { UnusedAreZeroBackward direction used block.pos block.size «data».old }
+    ensures extent { SameExtent «data».old «data».new }
+    ensures others { SameRowsOutside block.pos (block.pos + block.size) «data».old «data».new }
+    ensures parts { ArePartsTransformed direction (is_used used.entry) block «data».old «data».new }
     ensures counts { PartCounts block.size steps.old steps.new }
 {
     let part = block.part_rows();
@@ -122,7 +122,7 @@ fn transform_parts<K: Kernel>(
             direction,
             kernel,
             steps,
-            rows,
+            data,
             block.part(j, part),
             used.part(j * part, part),
         );

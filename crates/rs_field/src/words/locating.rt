@@ -39,17 +39,17 @@ fn products(steps: &mut Steps, entries: &mut [GfElement], factors: &[GfElement])
 /// between them. No row step is counted, and at most 1048576 pair sums and 65536 products.
 pub fn eval_poly(
     steps: &mut Steps,
-    entries: &mut [GfElement],
+    erasures: &mut [GfElement],
     truncated_size: usize,
     log_walsh: LogWalsh<'_>,
 )
-    requires size { length entries.old ≡ 65536 }
-    requires zeros { (y : ℕ) → truncated_size ≤ y → y < 65536 → slice_index entries.old y ≡ 0 }
+    requires size { length erasures.old ≡ 65536 }
+    requires zeros { (y : ℕ) → truncated_size ≤ y → y < 65536 → slice_index erasures.old y ≡ 0 }
     requires table { IsLogWalsh log_walsh.now }
-    ensures values { IsLocator (λ y. slice_index entries.old y) (λ x. slice_index entries.new x) }
+    ensures values { IsLocator (λ y. slice_index erasures.old y) (λ x. slice_index erasures.new x) }
     ensures counts { LocatorCounts steps.old steps.new }
 {
-    locate_marked(steps, entries, truncated_size, log_walsh);
+    locate_marked(steps, erasures, truncated_size, log_walsh);
 }
 
 /// The locator of the marked points among the first ones, as many as there are entries, at these points: entry x becomes,
@@ -58,33 +58,35 @@ pub fn eval_poly(
 /// There are a power of two of entries, n, at most 65536; `log_walsh` is the table of `get_log_walsh_below` for n. Of a
 /// new entry the residue alone is fixed: 0 and 65535 both stand for zero. No row step is counted, and at most n * log2 n
 /// pair sums and n products.
-pub fn locate(steps: &mut Steps, entries: &mut [GfElement], log_walsh: LogWalsh<'_>)
-    requires power { (d : ℕ) × (length entries.old ≡ 2 ^ d) }
-    requires few { length entries.old ≤ 65536 }
-    requires table { IsLogWalshBelow (length entries.old) log_walsh.now }
-    ensures values { IsLocatorBelow (length entries.old) (λ y. slice_index entries.old y) (λ x. slice_index entries.new x) }
-    ensures counts { LocatorCountsBelow (length entries.old) steps.old steps.new }
+pub fn locate(steps: &mut Steps, erasures: &mut [GfElement], log_walsh: LogWalsh<'_>)
+    requires power { (d : ℕ) × (length erasures.old ≡ 2 ^ d) }
+    requires few { length erasures.old ≤ 65536 }
+    requires table { IsLogWalshBelow (length erasures.old) log_walsh.now }
+    ensures values { IsLocatorBelow (length erasures.old) (λ y. slice_index erasures.old y)
+        (λ x. slice_index erasures.new x) }
+    ensures counts { LocatorCountsBelow (length erasures.old) steps.old steps.new }
 {
-    let count = entries.len();
-    locate_marked(steps, entries, count, log_walsh);
+    let count = erasures.len();
+    locate_marked(steps, erasures, count, log_walsh);
 }
 
 // The locator of points of which none is marked from `truncated_size` on.
 fn locate_marked(
     steps: &mut Steps,
-    entries: &mut [GfElement],
+    erasures: &mut [GfElement],
     truncated_size: usize,
     log_walsh: LogWalsh<'_>,
 )
-    requires power { (d : ℕ) × (length entries.old ≡ 2 ^ d) }
-    requires few { length entries.old ≤ 65536 }
-    requires zeros { (y : ℕ) → truncated_size ≤ y → y < length entries.old → slice_index entries.old y ≡ 0 }
-    requires table { IsLogWalshBelow (length entries.old) log_walsh.now }
-    ensures values { IsLocatorBelow (length entries.old) (λ y. slice_index entries.old y) (λ x. slice_index entries.new x) }
-    ensures counts { LocatorCountsBelow (length entries.old) steps.old steps.new }
+    requires power { (d : ℕ) × (length erasures.old ≡ 2 ^ d) }
+    requires few { length erasures.old ≤ 65536 }
+    requires zeros { (y : ℕ) → truncated_size ≤ y → y < length erasures.old → slice_index erasures.old y ≡ 0 }
+    requires table { IsLogWalshBelow (length erasures.old) log_walsh.now }
+    ensures values { IsLocatorBelow (length erasures.old) (λ y. slice_index erasures.old y)
+        (λ x. slice_index erasures.new x) }
+    ensures counts { LocatorCountsBelow (length erasures.old) steps.old steps.new }
 {
-    let count = entries.len();
-    fwht(steps, entries, truncated_size);
-    products(steps, entries, log_walsh);
-    fwht(steps, entries, count);
+    let count = erasures.len();
+    fwht(steps, erasures, truncated_size);
+    products(steps, erasures, log_walsh);
+    fwht(steps, erasures, count);
 }

@@ -6,5 +6,5 @@ pub ifft-requires-clause-zeros : goal.ifft-requires-clause-zeros
 ifft-requires-clause-zeros g c i k hk from to =
     let r : ℕ = i - c.args.pos in
     let at : c.args.pos + r ≡ i = omega arith in
-    subst (λ (p : ℕ). cell c.args.rows.now k p ≡ replicate 64 0) at
+    subst (λ (p : ℕ). cell c.args.data.now k p ≡ replicate 64 0) at
     (c.requires.zeros r k hk (omega arith) (c.marked_end-end.ensures.past r (omega arith)))

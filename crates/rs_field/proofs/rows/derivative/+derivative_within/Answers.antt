@@ -18,7 +18,7 @@ derivative_within-requires-then-size-gt1 t c =
     let even = two_halves c.args.size c.if-size-gt1.true c.requires.power in
     let extent_low = c.derivative_within.ensures.extent in
     let extent_mid = c.xor_within.ensures.extent in
-    let fits = fits_kept c.derivative_within.new.rows c.xor_within.new.rows extent_mid (fits_kept c.args.rows.now c.derivative_within.new.rows extent_low c.requires.fits) in
+    let fits = fits_kept c.derivative_within.new.data c.xor_within.new.data extent_mid (fits_kept c.args.data.now c.derivative_within.new.data extent_low c.requires.fits) in
     (omega arith, (fits, ((p.0, p.2), (omega arith, omega arith))))
 
 pub returns-then-size-gt1-clause-derivative : goal.returns-then-size-gt1-clause-derivative
@@ -28,10 +28,10 @@ returns-then-size-gt1-clause-derivative t c k s hk hs =
     let extent_mid = c.xor_within.ensures.extent in
     let pos = c.args.pos in
     let half = c.args.size / 2 in
-    let kept_low = outside_cell pos (pos + half) c.args.rows.now c.derivative_within.new.rows extent_low c.derivative_within.ensures.others in
-    let kept_mid = outside_cell pos (pos + half) c.derivative_within.new.rows c.xor_within.new.rows extent_mid c.xor_within.ensures.others in
-    let kept_high = outside_cell (pos + half) (pos + half + half) c.xor_within.new.rows c.derivative_within-then-size-gt1.new.rows c.derivative_within-then-size-gt1.ensures.extent c.derivative_within-then-size-gt1.ensures.others in
-    derivative_rows c.args.rows.now c.derivative_within.new.rows c.xor_within.new.rows c.derivative_within-then-size-gt1.new.rows k s c.args.pos c.args.size
+    let kept_low = outside_cell pos (pos + half) c.args.data.now c.derivative_within.new.data extent_low c.derivative_within.ensures.others in
+    let kept_mid = outside_cell pos (pos + half) c.derivative_within.new.data c.xor_within.new.data extent_mid c.xor_within.ensures.others in
+    let kept_high = outside_cell (pos + half) (pos + half + half) c.xor_within.new.data c.derivative_within-then-size-gt1.new.data c.derivative_within-then-size-gt1.ensures.extent c.derivative_within-then-size-gt1.ensures.others in
+    derivative_rows c.args.data.now c.derivative_within.new.data c.xor_within.new.data c.derivative_within-then-size-gt1.new.data k s c.args.pos c.args.size
     c.if-size-gt1.true c.requires.power c.requires.words
     (c.derivative_within.ensures.derivative k s hk hs)
     (λ q hq. kept_low (c.args.pos + c.args.size / 2 + q) k hk (inr (omega arith)))
@@ -54,4 +54,4 @@ returns-else-size-gt1-clause-counts t c = let none = no_steps c.args.size (omega
 
 pub returns-else-size-gt1-clause-derivative : goal.returns-else-size-gt1-clause-derivative
 returns-else-size-gt1-clause-derivative t c k s hk hs =
-    derivative_one c.args.size (λ q. word c.args.rows.now k s (c.args.pos + q)) c.if-size-gt1.false c.requires.power
+    derivative_one c.args.size (λ q. word c.args.data.now k s (c.args.pos + q)) c.if-size-gt1.false c.requires.power

@@ -17,7 +17,7 @@ returns-clause-locator g c =
     let size : length c.mark_erased.new.entries ≡ c.args.shape.frame.row_count = c.mark_erased.auto.entries ∙ c.requires.entries in
     record {
       are_words = c.are_words.ensures;
-      values = locator_same frame.row_count (erased frame.zeros_from frame.zeros_to c.args.given.now) (λ y. slice_index c.mark_erased.new.entries y) (λ x. slice_index c.locate.new.entries x)
+      values = locator_same frame.row_count (erased frame.zeros_from frame.zeros_to c.args.given.now) (λ y. slice_index c.mark_erased.new.entries y) (λ x. slice_index c.locate.new.erasures x)
           c.mark_erased.ensures
-          (subst (λ (n : ℕ). IsLocatorBelow n (λ y. slice_index c.mark_erased.new.entries y) (λ x. slice_index c.locate.new.entries x)) size c.locate.ensures.values);
+          (subst (λ (n : ℕ). IsLocatorBelow n (λ y. slice_index c.mark_erased.new.entries y) (λ x. slice_index c.locate.new.erasures x)) size c.locate.ensures.values);
     }

@@ -44,7 +44,7 @@ returns-clause-words g c = λ k s inside symbols.
     let len : c.sum_blocks.new.rows.shard_len_64 ≡ c.args.rows.now.shard_len_64 = c.sum_blocks.ensures.extent.len_64 in
     let old : ℕ → ℕ = word c.args.rows.now k s in
     let mid : ℕ → ℕ = word c.sum_blocks.new.rows k s in
-    let new : ℕ → ℕ = word c.fft.new.rows k s in
+    let new : ℕ → ℕ = word c.fft.new.data k s in
     let sums = c.sum_blocks.ensures.sums in
     high_coded c.args.configuration.original_count c.args.configuration.recovery_count sums.0 old mid new c.requires.supported
     (subst (λ (m : ℕ). c.args.configuration.original_count ≤ sums.0 * m) block sums.1)

@@ -59,18 +59,18 @@ loop-start-preserved g c =
     let turn : ℕ = 2 * c.args.block + transform_steps c.args.block in
     let first : ℕ = c.args.block + transform_steps c.args.block in
     let next = further-next c.loop-start.start c.args.block (2 * c.args.block + transform_steps c.args.block) some loop.first in
-    let step = extent_then now passed c.xor_within.new.rows pass.extent c.xor_within.ensures.extent in
+    let step = extent_then now passed c.xor_within.new.data pass.extent c.xor_within.ensures.extent in
     record {
       first = omega arith;
       whole = add-mod_right c.loop-start.start c.args.block ∙ loop.whole;
       within = next_block c.loop-start.start c.args.rows.now.shard_count c.args.block (omega (arith, c.requires.enough)) loop.whole c.requires.whole;
-      fits = fits_kept now c.xor_within.new.rows step loop.fits;
-      extent = extent_then c.args.rows.now now c.xor_within.new.rows loop.extent step;
+      fits = fits_kept now c.xor_within.new.data step loop.fits;
+      extent = extent_then c.args.rows.now now c.xor_within.new.data loop.extent step;
       left = λ i k inside from.
-          outside_cell _ _ passed c.xor_within.new.rows c.xor_within.ensures.extent c.xor_within.ensures.others i k (omega arith) (inr (omega arith))
+          outside_cell _ _ passed c.xor_within.new.data c.xor_within.ensures.extent c.xor_within.ensures.others i k (omega arith) (inr (omega arith))
           ∙ outside_cell _ _ now passed pass.extent pass.others i k (omega arith) (inr from) ∙ loop.left i k inside (omega arith);
       sums = λ k s inside symbols.
-          sums-next c.args.block c.loop-start.start c.args.original_count (word c.args.rows.now k s) (word now k s) (word passed k s) (word c.xor_within.new.rows k s) some loop.whole
+          sums-next c.args.block c.loop-start.start c.args.original_count (word c.args.rows.now k s) (word now k s) (word passed k s) (word c.xor_within.new.data k s) some loop.whole
           (λ i from. ap (λ x. symbol x s) (loop.left i k inside from))
           (λ i few given. pass.values k s i (omega arith) symbols few given)
           (λ i few past. pass.zeros k s i (omega arith) symbols few past)

@@ -45,13 +45,13 @@ loop-start-preserved g c =
     let same_too : c.copy_rows.new.rows.shard_len_64 ≡ c.args.rows.now.shard_len_64 = c.copy_rows.ensures.extent.len_64 ∙ same in
     let kept_before : (i k : ℕ) → k < c.args.rows.now.shard_len_64 → i < c.loop-start.start → cell c.copy_rows.new.rows k i ≡ cell c.loop-start.rows k i
     = λ i k inside before. outside_cell _ _ c.loop-start.rows c.copy_rows.new.rows c.copy_rows.ensures.extent c.copy_rows.ensures.others i k (omega arith) (inl before) in
-    let kept_after : (i k : ℕ) → k < c.args.rows.now.shard_len_64 → i < c.loop-start.start → cell c.fft.new.rows k i ≡ cell c.copy_rows.new.rows k i
-    = λ i k inside before. outside_cell _ _ c.copy_rows.new.rows c.fft.new.rows c.fft.ensures.extent c.fft.ensures.others i k (omega arith) (inl before) in
+    let kept_after : (i k : ℕ) → k < c.args.rows.now.shard_len_64 → i < c.loop-start.start → cell c.fft.new.data k i ≡ cell c.copy_rows.new.rows k i
+    = λ i k inside before. outside_cell _ _ c.copy_rows.new.rows c.fft.new.data c.fft.ensures.extent c.fft.ensures.others i k (omega arith) (inl before) in
     record {
       first = omega arith;
       whole = add-mod_right c.loop-start.start c.args.block ∙ loop.whole;
       within = omega (arith, next);
-      fits = fits_kept c.copy_rows.new.rows c.fft.new.rows c.fft.ensures.extent (fits_kept c.loop-start.rows c.copy_rows.new.rows c.copy_rows.ensures.extent loop.fits);
+      fits = fits_kept c.copy_rows.new.rows c.fft.new.data c.fft.ensures.extent (fits_kept c.loop-start.rows c.copy_rows.new.rows c.copy_rows.ensures.extent loop.fits);
       extent = record {
         name = c.fft.ensures.extent.name ∙ c.copy_rows.ensures.extent.name ∙ loop.extent.name;
         count = c.fft.ensures.extent.count ∙ c.copy_rows.ensures.extent.count ∙ loop.extent.count;
@@ -61,7 +61,7 @@ loop-start-preserved g c =
       combination = λ i k inside small.
           kept_after i k inside (omega arith) ∙ kept_before i k inside (omega arith) ∙ loop.combination i k inside small;
       values = λ k s i inside symbols low high few.
-          further-more c.args.block c.loop-start.start c.args.recovery_count c.min-wanted.result (word c.args.rows.now k s) (word c.loop-start.rows k s) (word c.copy_rows.new.rows k s) (word c.fft.new.rows k s)
+          further-more c.args.block c.loop-start.start c.args.recovery_count c.min-wanted.result (word c.args.rows.now k s) (word c.loop-start.rows k s) (word c.copy_rows.new.rows k s) (word c.fft.new.data k s)
           c.min-wanted.ensures loop.first
           (λ q small. ap (λ x. symbol x s) (loop.combination q k inside small))
           (λ j from to below. loop.values k s j inside symbols from to below)

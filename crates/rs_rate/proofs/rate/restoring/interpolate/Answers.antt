@@ -12,7 +12,7 @@ pub returns-clause-coefficients : goal.returns-clause-coefficients
 returns-clause-coefficients g c =
     let s = c.args.tally.shape in
     let old = c.args.rows.now in
-    let passed = c.ifft_given.new.rows in
+    let passed = c.ifft_given.new.data in
     let located_extent = c.locate_rows.ensures.extent in
     let shape = c.ifft_given.ensures.extent in
     let rows = s.frame.row_count in
