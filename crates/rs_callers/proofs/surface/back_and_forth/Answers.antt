@@ -10,7 +10,7 @@ returns g c k s i hk hs marked =
     let len = c.ifft_given.ensures.extent.len_64 in
     elim (cases_lt i (length c.args.marks.now)) [
       | inl inside ↦
-          ap (word c.fft_wanted.new.rows k s) (sym at)
+          ap (word c.fft_wanted.new.data k s) (sym at)
           ∙ c.fft_wanted.ensures.values k s i (omega (arith, hk, len)) hs marked
           ∙ sym (c.ifft_given.ensures.values k s i hk hs inside)
           ∙ ap (word c.args.rows.now k s) at
