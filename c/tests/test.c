@@ -372,59 +372,6 @@ static void texts(void) {
         }
 }
 
-static void refusals(void) {
-    struct message m = made(3, 2, 4);
-    const size_t most = SIZE_MAX;
-    memset(m.originals, 7, 12);
-    memset(m.recovery, 9, 8);
-    for (int decodes = 0; decodes < 2; decodes++) {
-        struct message other = m;
-        other.k = 0;
-        refused(&other, decodes, 0, 8, 2, RS_UNSUPPORTED_SHARD_COUNT, 0, 2, 0);
-        other.k = 65536;
-        refused(&other, decodes, 12, 8, 5, RS_UNSUPPORTED_SHARD_COUNT, 65536, 2, 0);
-        other.k = most;
-        refused(&other, decodes, 12, 8, 5, RS_UNSUPPORTED_SHARD_COUNT, most, 2, 0);
-        other = m;
-        other.r = 0;
-        refused(&other, decodes, 12, 0, 3, RS_UNSUPPORTED_SHARD_COUNT, 3, 0, 0);
-        refused(&m, decodes, 11, 8, 5, RS_WRONG_LENGTH, 12, 11, 0);
-        refused(&m, decodes, 0, 8, 5, RS_WRONG_LENGTH, 12, 0, 0);
-        refused(&m, decodes, 12, 7, 5, RS_WRONG_LENGTH, 8, 7, 0);
-        refused(&m, decodes, 11, 7, 4, RS_WRONG_LENGTH, 12, 11, 0);
-        other = m;
-        other.size = 5;
-        refused(&other, decodes, 12, 8, 5, RS_WRONG_LENGTH, 15, 12, 0);
-        other.size = most / 2;
-        refused(&other, decodes, 12, 8, 5, RS_WRONG_LENGTH, most, 12, 0);
-        other.size = 0;
-        m.marks[3] = other.marks[3] = 1;
-        refused(&other, decodes, 0, 0, 5, RS_INVALID_SHARD_SIZE, 0, 0, 0);
-        other.size = 3;
-        refused(&other, decodes, 9, 6, 5, RS_INVALID_SHARD_SIZE, 3, 0, 0);
-        m.marks[3] = 0;
-    }
-    refused(&m, 1, 12, 8, 4, RS_WRONG_LENGTH, 5, 4, 0);
-    refused(&m, 1, 12, 8, 5, RS_NOT_ENOUGH_SHARDS, 3, 0, 0);
-    m.marks[1] = 1;
-    refused(&m, 1, 12, 8, 5, RS_NOT_ENOUGH_SHARDS, 3, 1, 0);
-    m.marks[4] = 1;
-    refused(&m, 1, 12, 8, 5, RS_NOT_ENOUGH_SHARDS, 3, 1, 1);
-    memset(m.marks, 1, 5);
-    refused(&m, 1, 12, 8, 5, RS_INCONSISTENT_SHARDS, 3, 2, 0);
-    m.marks[0] = 0;
-    refused(&m, 1, 12, 8, 5, RS_INCONSISTENT_SHARDS, 2, 2, 0);
-    if (rs_supports(0, 1) || rs_supports(1, 0) || rs_supports(most, most) || rs_supports(32769, 32768) || !rs_supports(32768, 32768) ||
-        !rs_supports(65535, 1) || !rs_supports(1, 65535) || rs_supports(65535, 2) || rs_version() / 65536 != RS_VERSION / 65536)
-        wrong("other counts or another version");
-    let_go(&m);
-    encodes_refused_anywhere();
-    decodes_refused_anywhere();
-    texts();
-    unmade();
-    puts("test: refusals");
-}
-
 /* Each call over tables that were not made: its fault, with all else as it was. */
 static void refused_unmade(const struct rs_tables *unmade) {
     struct rs_tables *made_tables = tables;
@@ -486,6 +433,59 @@ static void unmade(void) {
     refused_unmade(other);
     free(other);
     puts("test: tables that were not made");
+}
+
+static void refusals(void) {
+    struct message m = made(3, 2, 4);
+    const size_t most = SIZE_MAX;
+    memset(m.originals, 7, 12);
+    memset(m.recovery, 9, 8);
+    for (int decodes = 0; decodes < 2; decodes++) {
+        struct message other = m;
+        other.k = 0;
+        refused(&other, decodes, 0, 8, 2, RS_UNSUPPORTED_SHARD_COUNT, 0, 2, 0);
+        other.k = 65536;
+        refused(&other, decodes, 12, 8, 5, RS_UNSUPPORTED_SHARD_COUNT, 65536, 2, 0);
+        other.k = most;
+        refused(&other, decodes, 12, 8, 5, RS_UNSUPPORTED_SHARD_COUNT, most, 2, 0);
+        other = m;
+        other.r = 0;
+        refused(&other, decodes, 12, 0, 3, RS_UNSUPPORTED_SHARD_COUNT, 3, 0, 0);
+        refused(&m, decodes, 11, 8, 5, RS_WRONG_LENGTH, 12, 11, 0);
+        refused(&m, decodes, 0, 8, 5, RS_WRONG_LENGTH, 12, 0, 0);
+        refused(&m, decodes, 12, 7, 5, RS_WRONG_LENGTH, 8, 7, 0);
+        refused(&m, decodes, 11, 7, 4, RS_WRONG_LENGTH, 12, 11, 0);
+        other = m;
+        other.size = 5;
+        refused(&other, decodes, 12, 8, 5, RS_WRONG_LENGTH, 15, 12, 0);
+        other.size = most / 2;
+        refused(&other, decodes, 12, 8, 5, RS_WRONG_LENGTH, most, 12, 0);
+        other.size = 0;
+        m.marks[3] = other.marks[3] = 1;
+        refused(&other, decodes, 0, 0, 5, RS_INVALID_SHARD_SIZE, 0, 0, 0);
+        other.size = 3;
+        refused(&other, decodes, 9, 6, 5, RS_INVALID_SHARD_SIZE, 3, 0, 0);
+        m.marks[3] = 0;
+    }
+    refused(&m, 1, 12, 8, 4, RS_WRONG_LENGTH, 5, 4, 0);
+    refused(&m, 1, 12, 8, 5, RS_NOT_ENOUGH_SHARDS, 3, 0, 0);
+    m.marks[1] = 1;
+    refused(&m, 1, 12, 8, 5, RS_NOT_ENOUGH_SHARDS, 3, 1, 0);
+    m.marks[4] = 1;
+    refused(&m, 1, 12, 8, 5, RS_NOT_ENOUGH_SHARDS, 3, 1, 1);
+    memset(m.marks, 1, 5);
+    refused(&m, 1, 12, 8, 5, RS_INCONSISTENT_SHARDS, 3, 2, 0);
+    m.marks[0] = 0;
+    refused(&m, 1, 12, 8, 5, RS_INCONSISTENT_SHARDS, 2, 2, 0);
+    if (rs_supports(0, 1) || rs_supports(1, 0) || rs_supports(most, most) || rs_supports(32769, 32768) || !rs_supports(32768, 32768) ||
+        !rs_supports(65535, 1) || !rs_supports(1, 65535) || rs_supports(65535, 2) || rs_version() / 65536 != RS_VERSION / 65536)
+        wrong("other counts or another version");
+    let_go(&m);
+    encodes_refused_anywhere();
+    decodes_refused_anywhere();
+    texts();
+    unmade();
+    puts("test: refusals");
 }
 
 /* Encodes, loses shards, decodes; and, with a surplus shard, damages one. */

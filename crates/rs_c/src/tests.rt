@@ -82,15 +82,11 @@ fn shards_anywhere_come_back(rt: HostRuntime) -> Result<(), Fail> {
     let mut fault = NONE;
     let (mut first, mut second) = ([9; 2], [9; 2]);
     let originals: [&[u8]; 3] = [&[2, 0], &[0, 0], &[4, 0]];
-    let number = rs_encode_shards(
-        alloc,
-        tables,
-        3,
-        2,
-        &originals,
-        &mut [&mut first, &mut second],
-        &mut fault,
-    );
+    let mut rooms: Vec<&mut [u8]> = Vec::new(alloc);
+    rooms.push(&mut first)?;
+    rooms.push(&mut second)?;
+    let number = rs_encode_shards(alloc, tables, 3, 2, &originals, &mut rooms, &mut fault);
+    drop(rooms);
     assert_eq!(rt; number, 0);
     assert_eq!(rt; (first, second), ([3, 0], [5, 0]));
     let own = [RsShard {
@@ -107,16 +103,11 @@ fn shards_anywhere_come_back(rt: HostRuntime) -> Result<(), Fail> {
             bytes: &[3, 0],
         },
     ];
-    let number = rs_decode_shards(
-        alloc,
-        tables,
-        3,
-        2,
-        &own,
-        &other,
-        &mut [&mut first, &mut second],
-        &mut fault,
-    );
+    let mut rooms: Vec<&mut [u8]> = Vec::new(alloc);
+    rooms.push(&mut first)?;
+    rooms.push(&mut second)?;
+    let number = rs_decode_shards(alloc, tables, 3, 2, &own, &other, &mut rooms, &mut fault);
+    drop(rooms);
     assert_eq!(rt; number, 0);
     assert_eq!(rt; (first, second), ([2, 0], [4, 0]));
     Ok(())
