@@ -1,15 +1,28 @@
-/* Reed-Solomon erasure codes over GF(2^16), version 1 of the interface: docs/C.md.
+/* Reed-Solomon erasure codes over GF(2^16), version 1.2 of the interface. docs/C.md explains how to build and use the library.
  *
- * k originals of one even size become r recovery shards; any k of the k + r shards give back the missing originals.
+ * k original shards of one even size become r recovery shards. Any k of these k + r shards give back the missing originals.
  *
- * What the caller owes, and nothing else checks:
- *   - Each pointer leads to as many bytes or entries as the length beside it says, is aligned for its type, and none is NULL,
- *     also at length 0; nor is one in an array of shards or rooms.
- *   - What a call writes overlaps nothing else that it is given, and no other thread reads or writes it meanwhile.
- *   - struct rs_tables is as rs_tables_make of this same version left it, and was zeroed or written before that call.
- * For all else, whatever numbers and bytes are passed, the answer is stated here. Each call returns, keeps no pointer, leaves no
- * memory behind, and may run in any number of threads at once, over the same const tables. None may run in a signal handler, nor in
- * the forked child of a process with threads. */
+ * Bytes 64a to 64b of all shards are a message of their own: a caller can encode and decode shards piece by piece, where every piece
+ * but the last ends at a multiple of 64 bytes, and gets the same bytes as from whole shards. So a caller can read and write streams,
+ * use several threads for one message, show progress, and bound the memory that a call takes.
+ *
+ * What the caller must ensure. Nothing checks these rules:
+ *   - Pointers: each pointer leads to as many bytes or entries as the length beside it says, and is aligned for its type. No pointer is
+ *     NULL, not even with length 0. This holds for the pointers in arrays of shards and rooms too.
+ *   - While a call runs, nobody else writes to anything that it was given, whether the call reads or writes it: no other thread, no
+ *     signal handler, no other process and no device. Nobody else reads what the call writes. What a call writes overlaps nothing else
+ *     that it was given.
+ *   - What a call reads is initialised: shards that are there, marks, arrays, a fault that is turned into text, and tables. What a call
+ *     only writes need not be: the tables of rs_tables_make, recovery shards of an encode, the places of lost shards in rs_decode,
+ *     what rooms lead to, texts, and *fault.
+ *   - Nobody but rs_tables_make writes to tables that rs_tables_make has filled.
+ *   - The processor has the instructions of x86-64-v2, which SSE4.2 and POPCNT are part of. On an older processor, such as a Core 2, the
+ *     program stops with SIGILL.
+ *   - A program that brings an allocator of its own in place of c/heap.c keeps the rules for allocators in docs/C.md.
+ *
+ * For all other numbers and bytes that a caller can pass, this header states the result. Each call returns, keeps no pointer, and gives
+ * back all memory that it took. Any number of threads can make calls at once, over the same const tables. No call is safe in a signal
+ * handler, nor in the forked child of a process with threads. */
 #ifndef REED_SOLOMON_SIMD_H
 #define REED_SOLOMON_SIMD_H
 
@@ -20,74 +33,90 @@
 extern "C" {
 #endif
 
-/* The version of this header: rs_version() / 65536 is to be RS_VERSION / 65536. */
-#define RS_VERSION 65537u
+/* The version of this header. A library fits if rs_version() / 65536 equals RS_VERSION / 65536 and rs_version() is at least RS_VERSION. */
+#define RS_VERSION 65538u
 
-/* What calls answer. A number never gets another meaning. */
+/* What calls return. A number never gets another meaning. A later version can add numbers. */
 enum rs_status {
     RS_OK = 0,
     RS_OUT_OF_MEMORY = 1,
     RS_UNSUPPORTED_SHARD_COUNT = 2,      /* first: original_count, second: recovery_count */
-    RS_INVALID_SHARD_SIZE = 3,           /* first: the size, which is zero or odd */
-    RS_DIFFERENT_SHARD_SIZE = 4,         /* first: the size that is wanted, second: the one that is given */
-    RS_TOO_FEW_ORIGINAL_SHARDS = 5,      /* first: original_count, second: how many are given */
+    RS_INVALID_SHARD_SIZE = 3,           /* the size is zero or odd; first: the size */
+    RS_DIFFERENT_SHARD_SIZE = 4,         /* first: the size of the other shards, second: the size of this one */
+    RS_TOO_FEW_ORIGINAL_SHARDS = 5,      /* first: original_count, second: how many originals the caller gave */
     RS_TOO_MANY_ORIGINAL_SHARDS = 6,     /* first: original_count */
-    RS_NOT_ENOUGH_SHARDS = 7,            /* first: original_count, second: how many originals are given, third: recovery shards */
+    RS_NOT_ENOUGH_SHARDS = 7,            /* first: original_count, second: how many originals there are, third: how many recovery shards */
     RS_INVALID_ORIGINAL_SHARD_INDEX = 8, /* first: original_count, second: the index */
     RS_INVALID_RECOVERY_SHARD_INDEX = 9, /* first: recovery_count, second: the index */
     RS_DUPLICATE_ORIGINAL_SHARD_INDEX = 10, /* first: the index */
     RS_DUPLICATE_RECOVERY_SHARD_INDEX = 11, /* first: the index */
-    RS_INCONSISTENT_SHARDS = 12,         /* more than k shards, with which no message agrees; first: originals, second: recovery shards */
-    RS_WRONG_LENGTH = 13,                /* a buffer's length isn't count * size, or a room's isn't its shard's; first: the one
-                                            that is wanted, SIZE_MAX where it doesn't fit, second: its own */
-    RS_WRONG_NUMBER_OF_ROOMS = 14        /* first: how many shards are to be written, second: how many rooms are given */
+    RS_INCONSISTENT_SHARDS = 12,         /* there are more than k shards, and they belong to no message; first: how many originals there
+                                            are, second: how many recovery shards */
+    RS_WRONG_LENGTH = 13,                /* a buffer's length isn't count * size, or a room's length isn't its shard's; first: the length
+                                            that it must have, SIZE_MAX if that is larger than SIZE_MAX, second: its length */
+    RS_WRONG_NUMBER_OF_ROOMS = 14,       /* first: how many shards the call has to write, second: how many rooms there are */
+    RS_TABLES_NOT_MADE = 15              /* the tables don't carry the stamp that rs_tables_make writes last */
 };
 
-/* Why a call was refused: one of enum rs_status, and its counts; 0 where there are none. */
+/* Why a call failed: a number of enum rs_status and its counts. A count that the number doesn't have is 0. */
 struct rs_fault {
     uint32_t number;
     size_t first, second, third;
 };
 
-/* What all calls read. The caller allocates it, say by malloc (8.8 MB), never on a stack, and writes nothing into it. */
+/* The tables that all calls read. The caller provides the memory, 8.8 MB: from malloc or calloc, static or shared, never on a stack. */
 #define RS_TABLE_WORDS 1097728
 struct rs_tables {
     uint64_t words[RS_TABLE_WORDS];
 };
 
-/* Fills the tables, in 9 to 30 ms and with 17 MB of memory meanwhile. RS_OK, or RS_OUT_OF_MEMORY, and then they are as they were. */
+/* The library is for programs whose size_t has 64 bits. */
+#if defined(__cplusplus) && __cplusplus >= 201103L
+static_assert(sizeof(size_t) == 8, "reed_solomon_simd is for programs whose size_t has 64 bits");
+#elif defined(__STDC_VERSION__) && __STDC_VERSION__ >= 201112L
+_Static_assert(sizeof(size_t) == 8, "reed_solomon_simd is for programs whose size_t has 64 bits");
+#else
+typedef char rs_size_t_has_64_bits[sizeof(size_t) == 8 ? 1 : -1];
+#endif
+
+/* Fills the tables. It takes 9 to 30 ms, and 17 MB of memory while it runs. It returns RS_OK, or RS_OUT_OF_MEMORY and leaves the tables
+ * as they were. tables isn't NULL. */
 uint32_t rs_tables_make(struct rs_tables *tables);
 
-/* 1 where so many originals go with so many recovery shards, else 0. */
+/* Returns 1 if the library supports these counts, else 0. */
 uint32_t rs_supports(size_t original_count, size_t recovery_count);
 
-/* The four calls that encode and decode answer RS_OK or the number of the fault, and write it with its counts to *fault, zeros
- * with RS_OK. With a fault they write nothing else.
+/* The four calls that encode and decode return RS_OK or the number of the fault. They write the number with its counts to *fault, and
+ * zeros with RS_OK. With a fault they write nothing else. Each lists its faults in the order in which it checks for them. Before all
+ * others comes RS_TABLES_NOT_MADE, for tables that rs_tables_make of this version has not filled: they hold zeros, say, or were filled
+ * by another version. The stamp is no checksum: no call notices that other bytes of the tables were changed.
  *
- * First those over buffers, where shard i lies at byte i * shard_bytes. */
+ * The first two calls take buffers, where shard i begins at byte i * shard_bytes. Their pointers aren't NULL. */
 
 /* Writes the recovery shards of the originals.
  *
- * Refused with RS_UNSUPPORTED_SHARD_COUNT; then with RS_WRONG_LENGTH for originals, and for recovery shards; then with
- * RS_INVALID_SHARD_SIZE; then with RS_OUT_OF_MEMORY. */
+ * Fails with RS_UNSUPPORTED_SHARD_COUNT; with RS_WRONG_LENGTH for originals, and for recovery; with RS_INVALID_SHARD_SIZE; with
+ * RS_OUT_OF_MEMORY. */
 uint32_t rs_encode(const struct rs_tables *tables, size_t original_count, size_t recovery_count, size_t shard_bytes,
                    const uint8_t *originals, size_t originals_length,
                    uint8_t *recovery, size_t recovery_length, struct rs_fault *fault);
 
-/* Restores, in their places, the originals that are lost, from all shards that are there.
+/* Restores the lost originals in their places, from all shards that are there.
  *
- * marks has a byte for each original, and then for each recovery shard: 0 where it is lost, any other where it is there. What
- * lies at the place of a lost one isn't read.
- * Refused with RS_UNSUPPORTED_SHARD_COUNT; then with RS_WRONG_LENGTH for originals, for recovery shards, and for marks. Then,
- * where no recovery shard is there: RS_NOT_ENOUGH_SHARDS if an original is lost, else RS_OK, whatever the size and with no memory.
- * Where one is there: RS_INVALID_SHARD_SIZE, RS_OUT_OF_MEMORY, RS_NOT_ENOUGH_SHARDS, RS_INCONSISTENT_SHARDS. */
+ * marks has a byte for each original, and then a byte for each recovery shard: 0 if it is lost, any other if it is there. The call
+ * doesn't read the place of a lost shard, and writes nothing but the places of lost originals.
+ *
+ * Fails with RS_UNSUPPORTED_SHARD_COUNT; with RS_WRONG_LENGTH for originals, for recovery, and for marks. Then, if no recovery shard is
+ * there: with RS_NOT_ENOUGH_SHARDS if an original is lost. In this case the call accepts any size and needs no memory. If a recovery
+ * shard is there: with RS_INVALID_SHARD_SIZE, RS_OUT_OF_MEMORY, RS_NOT_ENOUGH_SHARDS, RS_INCONSISTENT_SHARDS. */
 uint32_t rs_decode(const struct rs_tables *tables, size_t original_count, size_t recovery_count, size_t shard_bytes,
                    uint8_t *originals, size_t originals_length,
                    const uint8_t *recovery, size_t recovery_length,
                    const uint8_t *marks, size_t marks_length, struct rs_fault *fault);
 
-/* Then those over shards that lie anywhere. struct rs_bytes and struct rs_room are laid out as POSIX's struct iovec. An array of rooms
- * is left as it was. */
+/* The other two calls take arrays of shards and rooms that lie anywhere. No array is NULL, not even an empty one, nor is a pointer in an
+ * array. A call leaves an array of rooms as it was, and writes to the memory that the rooms lead to. struct rs_bytes and struct rs_room
+ * are laid out as POSIX's struct iovec. */
 struct rs_bytes {
     const uint8_t *bytes;
     size_t length;
@@ -102,34 +131,36 @@ struct rs_shard {
     size_t length;
 };
 
-/* Writes the recovery shards of the originals, which come in order of index, into rooms: one for each, in order of index. The
- * shards' size is that of the first original.
+/* Writes the recovery shards of the originals into rooms. The originals come in order of index. There is one room for each recovery
+ * shard, in order of index. The size of the shards is that of the first original.
  *
- * Refused with RS_UNSUPPORTED_SHARD_COUNT; with RS_TOO_FEW_ORIGINAL_SHARDS where no original comes; with RS_INVALID_SHARD_SIZE and
+ * Fails with RS_UNSUPPORTED_SHARD_COUNT; with RS_TOO_FEW_ORIGINAL_SHARDS if there is no original; with RS_INVALID_SHARD_SIZE and
  * RS_OUT_OF_MEMORY; for each original in order with RS_TOO_MANY_ORIGINAL_SHARDS or RS_DIFFERENT_SHARD_SIZE; with
- * RS_TOO_FEW_ORIGINAL_SHARDS; then with RS_WRONG_NUMBER_OF_ROOMS, and for the first room that it goes for with RS_WRONG_LENGTH. */
+ * RS_TOO_FEW_ORIGINAL_SHARDS; with RS_OUT_OF_MEMORY; with RS_WRONG_NUMBER_OF_ROOMS; with RS_WRONG_LENGTH for the first room that has
+ * another length. */
 uint32_t rs_encode_shards(const struct rs_tables *tables, size_t original_count, size_t recovery_count,
                           const struct rs_bytes *originals, size_t originals_number,
                           struct rs_room *recovery, size_t recovery_number, struct rs_fault *fault);
 
-/* Restores the originals that aren't among the given shards, into rooms: one for each, in order of index. Shards come in any
- * order; their size is that of the first recovery shard. The index of a recovery shard counts from 0 too.
+/* Restores the originals that the caller doesn't give, into rooms. There is one room for each of them, in order of index. Shards come
+ * in any order. Their size is that of the first recovery shard. The index of a recovery shard counts from 0 too.
  *
- * Refused with RS_UNSUPPORTED_SHARD_COUNT. Then, where a recovery shard comes: RS_INVALID_SHARD_SIZE and RS_OUT_OF_MEMORY; for each
- * original in order RS_INVALID_ORIGINAL_SHARD_INDEX, RS_DUPLICATE_ORIGINAL_SHARD_INDEX or RS_DIFFERENT_SHARD_SIZE; for each recovery
- * shard likewise; RS_NOT_ENOUGH_SHARDS; RS_INCONSISTENT_SHARDS. Where none comes no size is looked at: RS_OUT_OF_MEMORY; for each
- * original in order RS_INVALID_ORIGINAL_SHARD_INDEX or RS_DUPLICATE_ORIGINAL_SHARD_INDEX; RS_NOT_ENOUGH_SHARDS. Last, in both cases,
- * RS_WRONG_NUMBER_OF_ROOMS, and for the first room that it goes for RS_WRONG_LENGTH. */
+ * Fails with RS_UNSUPPORTED_SHARD_COUNT. Then, if there is a recovery shard: with RS_INVALID_SHARD_SIZE and RS_OUT_OF_MEMORY; for each
+ * original in order with RS_INVALID_ORIGINAL_SHARD_INDEX, RS_DUPLICATE_ORIGINAL_SHARD_INDEX or RS_DIFFERENT_SHARD_SIZE; for each
+ * recovery shard in order with RS_INVALID_RECOVERY_SHARD_INDEX, RS_DUPLICATE_RECOVERY_SHARD_INDEX or RS_DIFFERENT_SHARD_SIZE; with
+ * RS_NOT_ENOUGH_SHARDS; with RS_INCONSISTENT_SHARDS. If there is none: for each original in order with RS_INVALID_ORIGINAL_SHARD_INDEX
+ * or RS_DUPLICATE_ORIGINAL_SHARD_INDEX; with RS_NOT_ENOUGH_SHARDS. In this case the call accepts any sizes and needs no memory. In both
+ * cases it last fails with RS_WRONG_NUMBER_OF_ROOMS, and with RS_WRONG_LENGTH for the first room that has another length. */
 uint32_t rs_decode_shards(const struct rs_tables *tables, size_t original_count, size_t recovery_count,
                           const struct rs_shard *originals, size_t originals_number,
                           const struct rs_shard *recovery, size_t recovery_number,
                           struct rs_room *restored, size_t restored_number, struct rs_fault *fault);
 
-/* Writes the text of a fault, in ASCII and without a NUL, as much as fits, and answers its whole length; 0 where the number is no
- * fault's, or there is no memory for the text. Bytes that the text doesn't reach are left. */
+/* Writes the text of a fault in ASCII, without a NUL at its end, as much as fits, and returns the length of the whole text. The length
+ * is 0 if the number is that of no fault. The call needs no memory and leaves the bytes after the text. fault and text aren't NULL. */
 size_t rs_fault_text(const struct rs_fault *fault, uint8_t *text, size_t text_length);
 
-/* The version of the library. */
+/* Returns the version of the library: the major number times 65536, plus the minor number. */
 uint32_t rs_version(void);
 
 #ifdef __cplusplus

@@ -1,4 +1,4 @@
-/* The library from C. Words: `rows FILE..` reads cases of rs_cases; `refusals`; `rounds SEED COUNT`; `threads`. */
+/* The library from C. Words: `rows FILE..` reads cases of rs_cases; `refusals`; `rounds SEED COUNT`; `pieces SEED COUNT`; `threads`. */
 #define _POSIX_C_SOURCE 200809L
 #include "reed_solomon_simd.h"
 
@@ -338,7 +338,8 @@ static void texts(void) {
     static const struct rs_fault faults[] = {{0, 0, 0, 0},  {1, 0, 0, 0},  {2, 70000, 7, 0}, {3, 5, 0, 0},  {4, 64, 66, 0},
                                              {5, 3, 1, 0},  {6, 3, 0, 0},  {7, 9, 4, 2},     {8, 3, 8, 0},  {9, 2, 6, 0},
                                              {10, 1, 0, 0}, {11, 4, 0, 0}, {12, 3, 2, 0},    {13, 12, 11, 0}, {14, 2, 3, 0},
-                                             {15, 1, 1, 1}};
+                                             {15, 1, 1, 1}, {16, 1, 1, 1},  {UINT32_MAX, 1, 1, 1},
+                                             {7, SIZE_MAX, SIZE_MAX, SIZE_MAX}, {8, 0, 10, 0}};
     static const char *const wanted[] = {
         "",
         "out of memory",
@@ -355,16 +356,83 @@ static void texts(void) {
         "inconsistent shards: 3 original + 2 recovery agree with no message",
         "wrong length: expected 12 bytes, got 11 bytes",
         "wrong number of rooms: expected 2, got 3",
-        ""};
+        "tables not made: rs_tables_make has not filled them",
+        "",
+        "",
+        "not enough shards: 18446744073709551615 original + 18446744073709551615 recovery < 18446744073709551615 original_count",
+        "invalid original shard index: 10 >= original_count 0"};
     for (size_t i = 0; i < sizeof faults / sizeof *faults; i++)
-        for (size_t length = 0; length < 80; length += 8) {
-            uint8_t text[80];
+        for (size_t length = 0; length < 130; length++) {
+            uint8_t text[130];
             size_t whole = strlen(wanted[i]), written = whole < length ? whole : length;
             memset(text, '#', sizeof text);
             if (rs_fault_text(&faults[i], text, length) != whole || memcmp(text, wanted[i], written)) wrong("another text");
             for (size_t n = written; n < sizeof text; n++)
                 if (text[n] != '#') wrong("a text has written past its end");
         }
+}
+
+/* Each call over tables that were not made: its fault, with all else as it was. */
+static void refused_unmade(const struct rs_tables *unmade) {
+    struct rs_tables *made_tables = tables;
+    struct message m = made(3, 2, 4);
+    struct rs_bytes from[3];
+    struct rs_shard own[3], other[2];
+    struct rs_room rooms[2];
+    uint8_t all[12], some[8];
+    memset(m.originals, 7, 12);
+    memset(m.recovery, 9, 8);
+    memset(m.marks, 1, 5);
+    memcpy(all, m.originals, 12);
+    memcpy(some, m.recovery, 8);
+    for (size_t i = 0; i < 3; i++) {
+        from[i].bytes = own[i].bytes = all + 4 * i;
+        from[i].length = own[i].length = 4;
+        own[i].index = i;
+    }
+    for (size_t i = 0; i < 2; i++) {
+        rooms[i].bytes = m.recovery + 4 * i;
+        other[i].bytes = some + 4 * i;
+        rooms[i].length = other[i].length = 4;
+        other[i].index = i;
+    }
+    tables = (struct rs_tables *)unmade;
+    /* Whatever else is wrong, and where all is right. */
+    for (int decodes = 0; decodes < 2; decodes++) {
+        struct message zero = m;
+        zero.k = 0;
+        m.marks[1] = 0;
+        refused(&m, decodes, 12, 8, 5, RS_TABLES_NOT_MADE, 0, 0, 0);
+        m.marks[1] = 1;
+        refused(&m, decodes, 12, 8, 5, RS_TABLES_NOT_MADE, 0, 0, 0);
+        refused(&m, decodes, 11, 8, 5, RS_TABLES_NOT_MADE, 0, 0, 0);
+        refused(&zero, decodes, 12, 8, 5, RS_TABLES_NOT_MADE, 0, 0, 0);
+    }
+    for (int call = 0; call < 4; call++) {
+        struct rs_fault fault = {99, 99, 99, 99};
+        uint32_t answer = call == 0   ? rs_encode_shards(unmade, 3, 2, from, 3, rooms, 2, &fault)
+                          : call == 1 ? rs_decode_shards(unmade, 3, 2, own, 1, other, 2, rooms, 2, &fault)
+                          : call == 2 ? rs_decode_shards(unmade, 3, 2, own, 3, other, 0, rooms, 0, &fault)
+                                      : rs_decode_shards(unmade, 0, 0, own, 0, other, 0, rooms, 2, &fault);
+        if (answer != RS_TABLES_NOT_MADE || !told(&fault, RS_TABLES_NOT_MADE, 0, 0, 0)) wrong("tables that were not made aren't noticed");
+        if (memcmp(m.recovery, some, 8) || memcmp(all, m.originals, 12)) wrong("a call over tables that were not made has written");
+    }
+    tables = made_tables;
+    let_go(&m);
+}
+
+/* Tables of zeros, of ones, and made ones whose last word was lost. */
+static void unmade(void) {
+    struct rs_tables *other = calloc(1, sizeof *other);
+    if (!other) wrong("no memory for the test");
+    refused_unmade(other);
+    memset(other, 255, sizeof *other);
+    refused_unmade(other);
+    memcpy(other, tables, sizeof *other);
+    other->words[RS_TABLE_WORDS - 1] = 0;
+    refused_unmade(other);
+    free(other);
+    puts("test: tables that were not made");
 }
 
 static void refusals(void) {
@@ -416,6 +484,7 @@ static void refusals(void) {
     encodes_refused_anywhere();
     decodes_refused_anywhere();
     texts();
+    unmade();
     puts("test: refusals");
 }
 
@@ -461,6 +530,60 @@ static void rounds(uint64_t seed, unsigned count) {
     printf("test: %u rounds\n", count);
 }
 
+/* Encodes a message in pieces that end at multiples of 64 bytes, the last one at the end; loses shards; decodes in other pieces. */
+static void pieces_round(uint64_t *state) {
+    size_t k = 1 + drawn(state) % 40, r = 1 + drawn(state) % 40, size = 2 + 2 * (drawn(state) % 600), most = k < r ? k : r;
+    size_t lost = drawn(state) % (most + 1), own = 0, others = 0, next = 0;
+    struct message m = made(k, r, size), whole = made(k, r, size);
+    struct rs_bytes *from = room(k * sizeof *from);
+    struct rs_room *to = room((k + r) * sizeof *to);
+    struct rs_shard *given = room(k * sizeof *given), *other = room(r * sizeof *other);
+    struct rs_fault fault;
+    for (size_t i = 0; i < k * size; i++) m.originals[i] = (uint8_t)drawn(state);
+    memcpy(whole.originals, m.originals, k * size);
+    if (encode(&whole, &fault)) wrong("a whole message isn't encoded");
+    for (size_t begin = 0, end; begin < size; begin = end) {
+        end = begin + 64 * (1 + drawn(state) % 5);
+        if (end > size) end = size;
+        for (size_t i = 0; i < k; i++) from[i].bytes = m.originals + i * size + begin, from[i].length = end - begin;
+        for (size_t i = 0; i < r; i++) to[i].bytes = m.recovery + i * size + begin, to[i].length = end - begin;
+        if (rs_encode_shards(tables, k, r, from, k, to, r, &fault)) wrong("a piece isn't encoded");
+    }
+    if (memcmp(m.recovery, whole.recovery, r * size)) wrong("pieces are encoded to other bytes than the whole");
+    /* The lost originals, and as many recovery shards as are needed, or one more. */
+    memset(m.marks, 1, k);
+    while (next < lost) {
+        size_t i = drawn(state) % k;
+        if (m.marks[i]) m.marks[i] = 0, memset(m.originals + i * size, '?', size), next++;
+    }
+    others = lost < r ? lost + drawn(state) % 2 : lost;
+    for (size_t begin = 0, end; begin < size; begin = end) {
+        end = begin + 64 * (1 + drawn(state) % 5);
+        if (end > size) end = size;
+        own = next = 0;
+        for (size_t i = 0; i < k; i++)
+            if (m.marks[i])
+                given[own].index = i, given[own].bytes = m.originals + i * size + begin, given[own++].length = end - begin;
+            else
+                to[next].bytes = m.originals + i * size + begin, to[next++].length = end - begin;
+        for (size_t i = 0; i < others; i++)
+            other[i].index = r - 1 - i, other[i].bytes = m.recovery + (r - 1 - i) * size + begin, other[i].length = end - begin;
+        if (rs_decode_shards(tables, k, r, given, own, other, others, to, next, &fault)) wrong("a piece isn't decoded");
+    }
+    if (memcmp(m.originals, whole.originals, k * size)) wrong("pieces are decoded to other bytes than the whole");
+    free(from);
+    free(to);
+    free(given);
+    free(other);
+    let_go(&m);
+    let_go(&whole);
+}
+
+static void pieces(uint64_t seed, unsigned count) {
+    for (unsigned n = 0; n < count; n++) pieces_round(&seed);
+    printf("test: %u messages in pieces\n", count);
+}
+
 static void *thread(void *seed) {
     uint64_t state = *(uint64_t *)seed;
     for (int n = 0; n < 200; n++) random_round(&state);
@@ -478,7 +601,6 @@ static void threads(void) {
 
 int main(int count, char **words) {
     tables = room(sizeof *tables);
-    memset(tables, 0, sizeof *tables);
     if (rs_tables_make(tables)) wrong("no memory for the tables");
     if (count > 2 && !strcmp(words[1], "rows"))
         for (int i = 2; i < count; i++) rows(words[i]);
@@ -486,6 +608,8 @@ int main(int count, char **words) {
         refusals();
     else if (count == 4 && !strcmp(words[1], "rounds"))
         rounds(strtoull(words[2], NULL, 10), (unsigned)strtoul(words[3], NULL, 10));
+    else if (count == 4 && !strcmp(words[1], "pieces"))
+        pieces(strtoull(words[2], NULL, 10), (unsigned)strtoul(words[3], NULL, 10));
     else if (count == 2 && !strcmp(words[1], "threads"))
         threads();
     else

@@ -3,3 +3,5 @@ mod DecodeLemmas
 mod EncodeLemmas
 mod MarkedLemmas
 mod RoomLemmas
+mod TextLemmas
+mod AloneLemmas

@@ -41,9 +41,13 @@ DecodesBuffer k r size marks recovery old new answer =
     × Writes decoded (λ restored. with_restored restored 0 size k old) old new answer)
     (λ fault. (answer ≡ Err fault) × (new ≡ old))
 
--- where no recovery shard is marked no memory is wanted
-abbrev pub WantsNoMemory : ℕ → List ℕ → Result (Unit {0}) Fault → Type 0
-WantsNoMemory k marks answer = count_by (λ mark. not (mark == 0)) (drop k marks) ≡ 0 → answer ≢ Err (Refused OutOfMemory)
+-- how many shards are there, by their marks
+abbrev pub marked_number : List ℕ → ℕ
+marked_number marks = count_by (λ mark. not (mark == 0)) marks
+
+-- a decode with this many recovery shards doesn't lack memory if they are none
+abbrev pub WantsNoMemory : ℕ → Result (Unit {0}) Fault → Type 0
+WantsNoMemory number answer = number ≡ 0 → answer ≢ Err (Refused OutOfMemory)
 
 -- whether all k originals are given, where so many are and no recovery shard
 abbrev pub all_or_refused : ℕ → ℕ → Result (Unit {0}) Error

@@ -4,7 +4,7 @@ use Rattle.std.specs.Result.{result_map_both}
 use Rattle.rs_field.specs.declared.code.error.Error.{Error}
 use Rattle.rs_field.specs.declared.code.error.Error.TheVariants.{OutOfMemory, UnsupportedShardCount, InvalidShardSize, DifferentShardSize, TooFewOriginalShards, TooManyOriginalShards, NotEnoughShards, InvalidOriginalShardIndex, InvalidRecoveryShardIndex, DuplicateOriginalShardIndex, DuplicateRecoveryShardIndex, InconsistentShards}
 use Rattle.rs_c.specs.declared.fault.Fault.{Fault}
-use Rattle.rs_c.specs.declared.fault.Fault.TheVariants.{Refused, WrongLength, WrongNumberOfRooms}
+use Rattle.rs_c.specs.declared.fault.Fault.TheVariants.{Refused, WrongLength, WrongNumberOfRooms, TablesNotMade}
 use Rattle.rs_c.specs.declared.fault.RsFault.{RsFault}
 
 -- a number and three counts
@@ -32,6 +32,7 @@ fault_of (Ok _) = numbers 0 0 0 0
 fault_of (Err (Refused error)) = numbers_of error
 fault_of (Err (WrongLength wanted got)) = numbers 13 wanted got 0
 fault_of (Err (WrongNumberOfRooms wanted got)) = numbers 14 wanted got 0
+fault_of (Err TablesNotMade) = numbers 15 0 0 0
 
 -- a refusal of the library as a fault
 abbrev pub refusing : {T : Type 0} → Result T Error → Result T Fault

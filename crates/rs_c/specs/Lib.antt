@@ -5,3 +5,4 @@ pub mod Answers
 pub mod Arrays
 pub mod FaultTexts
 pub mod Texts
+pub mod Alone

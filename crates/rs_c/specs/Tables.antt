@@ -1,10 +1,11 @@
 -- The tables in memory of a C program.
-use Rattle.std.specs.Prelude.{ℕ, ◌+◌, ◌*◌, ◌^◌, ◌<◌, List, [], ◌∷◌, slice_index, slice_index_or}
+use Rattle.std.specs.Prelude.{◌≡◌, ℕ, ◌+◌, ◌*◌, ◌^◌, ◌<◌, List, [], ◌∷◌, slice_index, slice_index_or}
 use Rattle.rs_field.specs.declared.words.tables.Multiply128lutT.{Multiply128lutT}
 use Rattle.rs_field.specs.words.Field.{power}
 use Rattle.rs_field.specs.words.Products.{IsNibbleBytes}
 use Rattle.rs_field.specs.words.Tables.{IsSkew, AreLogWalshes}
 use Rattle.rs_c.specs.declared.tables.RsTables.{RsTables}
+use Rattle.rs_c.specs.declared.tables.TheConstants.{STAMP}
 
 -- number n of numbers of 16 bytes, each from two halves, the lower first
 abbrev pub number : List ℕ → ℕ → ℕ
@@ -22,8 +23,13 @@ products_of halves =
 abbrev pub AreProducts : List (List ℕ) → Type 0
 AreProducts table = (m : ℕ) → m < 65536 → IsNibbleBytes (power m) (products_of (slice_index_or table m []))
 
--- the tables are those of the field, as the call that makes them leaves them
+-- the tables carry the stamp that the call that makes them writes last
+abbrev pub AreStamped : RsTables → Type 0
+AreStamped tables = tables.stamp ≡ STAMP
+
+-- the tables are those of the field, with the stamp, as the call that makes them leaves them
 pub record AreTables (tables : RsTables) : Type 0 where
   pub products : AreProducts tables.products
   pub skew : IsSkew tables.skew
   pub log_walsh : AreLogWalshes tables.log_walsh
+  pub stamp : AreStamped tables

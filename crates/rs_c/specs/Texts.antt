@@ -1,10 +1,10 @@
 -- The texts of faults.
-use Rattle.std.specs.Prelude.{◌≡◌, ℕ, ◌==◌, ◌⊎◌, List, [], ◌++◌, length, take, drop, Option, Some, None, if◌then◌else◌}
+use Rattle.std.specs.Prelude.{◌≡◌, ℕ, ◌==◌, List, [], ◌++◌, length, take, drop, Option, Some, None, if◌then◌else◌}
 use Rattle.std.specs.Option.{option_map}
 use Rattle.rs_field.specs.declared.code.error.Error.{Error}
 use Rattle.rs_field.specs.declared.code.error.Error.TheVariants.{OutOfMemory, UnsupportedShardCount, InvalidShardSize, DifferentShardSize, TooFewOriginalShards, TooManyOriginalShards, NotEnoughShards, InvalidOriginalShardIndex, InvalidRecoveryShardIndex, DuplicateOriginalShardIndex, DuplicateRecoveryShardIndex, InconsistentShards}
 use Rattle.rs_c.specs.declared.fault.Fault.{Fault}
-use Rattle.rs_c.specs.declared.fault.Fault.TheVariants.{Refused, WrongLength, WrongNumberOfRooms}
+use Rattle.rs_c.specs.declared.fault.Fault.TheVariants.{Refused, WrongLength, WrongNumberOfRooms, TablesNotMade}
 use Rattle.rs_c.specs.declared.fault.RsFault.{RsFault}
 use Rattle.rs_c.specs.FaultTexts.{text_of}
 
@@ -35,6 +35,7 @@ abbrev pub fault_with : RsFault → Option Fault
 fault_with fault =
     if fault.number == 13 then Some (WrongLength fault.first fault.second)
     else if fault.number == 14 then Some (WrongNumberOfRooms fault.first fault.second)
+    else if fault.number == 15 then Some TablesNotMade
     else option_map Refused (refusal_with fault)
 
 -- the text of a fault, and none where there is no fault
@@ -42,7 +43,10 @@ abbrev pub text_with : Option Fault → List ℕ
 text_with (Some fault) = text_of fault
 text_with None = []
 
--- a room has as much of a text as fits, and the rest as it was; or there was no memory for the text, and all is as it was
+-- a room with as much of a text as fits written from its first byte on, and the rest as it was
+abbrev pub over : List ℕ → List ℕ → List ℕ
+over text room = take (length room) text ++ drop (length text) room
+
+-- the text's length is returned, and the room has as much of it as fits
 abbrev pub WritesText : List ℕ → List ℕ → List ℕ → ℕ → Type 0
-WritesText text old new told =
-    ((told ≡ length text) × (new ≡ take (length old) text ++ drop (length text) old)) ⊎ ((told ≡ 0) × (new ≡ old))
+WritesText text old new told = (told ≡ length text) × (new ≡ over text old)

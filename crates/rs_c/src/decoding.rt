@@ -1,16 +1,17 @@
 //! Decoding, of shards in buffers and of shards anywhere.
-ghost use Rattle.std.specs.Prelude.{◌≡◌, ◌*◌, ◌==◌, not, length, count_by};
+ghost use Rattle.std.specs.Prelude.{◌≡◌, ◌*◌, drop, length};
 ghost use Rattle.rs_rate.specs.ResultView.{restored_originals};
 ghost use Rattle.rs_c.specs.Buffers.{with_restored, AreSized};
-ghost use Rattle.rs_c.specs.Answers.{DecodesBuffer, WantsNoMemory, all_or_refused};
+ghost use Rattle.rs_c.specs.Answers.{DecodesBuffer, marked_number, WantsNoMemory, all_or_refused};
 ghost use Rattle.rs_c.specs.Arrays.{items_of, DecodesArrays, KeepsRooms, bytes_in};
 
+use crate::alone::check_alone;
 use crate::buffers::check_length;
 use crate::engine::Borrowing;
 use crate::fault::Fault;
 use crate::layouts::{Marked, RsShard};
 use crate::rooms::{check_number, check_rooms, fill_rooms};
-use reed_solomon_simd::coders::given_decoder;
+use rs_rate::rate::giving::given_decoder;
 use rs_field::engine::Steps;
 use rs_field::error::Error;
 use rs_rate::DecoderResult;
@@ -29,7 +30,7 @@ pub fn decode_buffer(
     marks: &[u8],
 ) -> Result<(), Fault>
     ensures answer { DecodesBuffer original_count recovery_count shard_bytes marks.now recovery.now originals.old originals.new result }
-    ensures memory { WantsNoMemory original_count marks.now result }
+    ensures memory { WantsNoMemory (marked_number (drop original_count marks.now)) result }
 {
     let counts = DefaultRateCounts::new(original_count, recovery_count)?;
     check_length(original_count, shard_bytes, originals.len())?;
@@ -62,8 +63,13 @@ pub fn decode_arrays(
     ensures answer { DecodesArrays original_count recovery_count (items_of originals.now) (items_of recovery.now)
         (bytes_in restored.old) (bytes_in restored.new) result }
     ensures kept { KeepsRooms restored.old restored.new }
+    ensures memory { WantsNoMemory (length recovery.now) result }
 {
     let counts = DefaultRateCounts::new(original_count, recovery_count)?;
+    if recovery.is_empty() {
+        check_alone(original_count, originals)?;
+        return check_number(0, restored.len());
+    }
     let own = originals.iter().map(|shard| (shard.index, shard.bytes));
     let other = recovery.iter().map(|shard| (shard.index, shard.bytes));
     let Some(mut decoder) = given_decoder(alloc, counts, own, other, engine)? else {
@@ -77,14 +83,14 @@ pub fn decode_arrays(
 
 // How many marks aren't 0.
 fn count_marked(marks: &[u8]) -> usize
-    ensures { result ≡ count_by (λ mark. not (mark == 0)) marks.now }
+    ensures { result ≡ marked_number marks.now }
 {
     marks.iter().filter(|mark| **mark != 0).count()
 }
 
 // Whether all originals are marked, where no recovery shard is.
 fn check_all_marked(marks: &[u8]) -> Result<(), Error>
-    ensures { result ≡ all_or_refused (length marks.now) (count_by (λ mark. not (mark == 0)) marks.now) }
+    ensures { result ≡ all_or_refused (length marks.now) (marked_number marks.now) }
 {
     let original_received_count = count_marked(marks);
     if original_received_count < marks.len() {

@@ -1,10 +1,11 @@
 //! The engine over tables in memory of the caller.
+ghost use Rattle.std.specs.Prelude.{MatchOption};
 ghost use Rattle.rs_field.specs.words.Field.{power};
 ghost use Rattle.rs_field.specs.words.Products.{IsNibbleBytes};
-ghost use Rattle.rs_c.specs.Tables.{AreTables};
+ghost use Rattle.rs_c.specs.Tables.{AreStamped, AreTables};
 
 use crate::lanes::Lanes;
-use crate::tables::{RsTables, whole};
+use crate::tables::{RsTables, STAMP, whole};
 use rs_engines::any_factor::factor_of;
 use rs_engines::butterflies::{Backward, Forward};
 use rs_engines::factors::ThreeFactors;
@@ -22,11 +23,15 @@ pub struct Borrowing<'t> {
 }
 
 impl<'t> Borrowing<'t> {
-    /// The engine over these tables.
-    pub fn new(tables: &'t RsTables) -> Borrowing<'t>
-        requires { AreTables tables.now }
+    /// The engine over these tables, or None if they don't carry the stamp of made tables.
+    pub fn new(tables: &'t RsTables) -> Option<Borrowing<'t>>
+        requires stamped { AreStamped tables.now → AreTables tables.now }
+        ensures { MatchOption result (¬ AreStamped tables.now) (λ _. AreStamped tables.now) }
     {
-        Borrowing { tables }
+        if tables.stamp != STAMP {
+            return None;
+        }
+        Some(Borrowing { tables })
     }
 
     // The products with the generator to this power.

@@ -1,6 +1,5 @@
 //! Faults, and their numbers.
 use rs_field::error::Error;
-use std::fmt;
 
 /// Why a call was refused.
 #[derive(Clone, Copy, Debug, PartialEq, Eq, Hash)]
@@ -11,6 +10,8 @@ pub enum Fault {
     WrongLength { wanted: usize, got: usize },
     /// There are more rooms or fewer than shards to be written.
     WrongNumberOfRooms { wanted: usize, got: usize },
+    /// The tables don't carry the stamp of made tables.
+    TablesNotMade,
 }
 
 /// A refusal of the library as a fault.
@@ -22,27 +23,6 @@ impl From<Error> for Fault {
 
     fn from(error: Error) -> Fault {
         Fault::Refused(error)
-    }
-}
-
-impl fmt::Display for Fault {
-    ghost use Rattle.std.specs.Prelude.{Some};
-    ghost use Rattle.rs_c.specs.FaultTexts.{text_of};
-
-    ghost output = { λ fault. Some (text_of fault) };
-
-    fn fmt<W: fmt::Write>(&self, f: &mut fmt::Formatter<W>) -> fmt::Result {
-        match self {
-            Fault::Refused(error) => write!(f, "{error}"),
-            Fault::WrongLength { wanted, got } => write!(
-                f,
-                "wrong length: expected {wanted} bytes, got {got} bytes"
-            ),
-            Fault::WrongNumberOfRooms { wanted, got } => write!(
-                f,
-                "wrong number of rooms: expected {wanted}, got {got}"
-            ),
-        }
     }
 }
 
@@ -80,6 +60,7 @@ impl RsFault {
             Err(Fault::Refused(error)) => RsFault::of_refusal(error),
             Err(Fault::WrongLength { wanted, got }) => RsFault::new(13, wanted, got, 0),
             Err(Fault::WrongNumberOfRooms { wanted, got }) => RsFault::new(14, wanted, got, 0),
+            Err(Fault::TablesNotMade) => RsFault::new(15, 0, 0, 0),
         }
     }
 

@@ -1,6 +1,7 @@
 //! The coder for programs in C, and in languages that call C.
 #![tactic(auto)]
 
+mod alone;
 mod buffers;
 mod decoding;
 mod encoding;
@@ -10,14 +11,17 @@ mod lanes;
 mod layouts;
 mod rooms;
 mod tables;
+#[cfg(test)]
+mod tests;
 mod text;
+mod writing;
 
-ghost use Rattle.std.specs.Prelude.{◌≡◌, ◌≢◌, ◌↔◌, true, Result};
+ghost use Rattle.std.specs.Prelude.{◌≡◌, ◌≢◌, ◌↔◌, true, drop, length, Result};
 ghost use Rattle.rs_field.specs.code.Counts.{default_rate, supports};
 ghost use Rattle.rs_c.specs.declared.fault.Fault.{Fault as FaultOf};
-ghost use Rattle.rs_c.specs.Tables.{AreTables};
-ghost use Rattle.rs_c.specs.Faults.{fault_of};
-ghost use Rattle.rs_c.specs.Answers.{EncodesBuffer, DecodesBuffer, WantsNoMemory};
+ghost use Rattle.rs_c.specs.Tables.{AreStamped, AreTables};
+ghost use Rattle.rs_c.specs.Faults.{numbers, fault_of};
+ghost use Rattle.rs_c.specs.Answers.{EncodesBuffer, DecodesBuffer, marked_number, WantsNoMemory};
 ghost use Rattle.rs_c.specs.Arrays.{shards_of, items_of, bytes_in, KeepsRooms, EncodesArrays, DecodesArrays};
 ghost use Rattle.rs_c.specs.Texts.{fault_with, text_with, WritesText};
 
@@ -30,7 +34,7 @@ use rs_rate::rate::DefaultRateCounts;
 use std::alloc::Global;
 use tables::{RsTables, fill};
 
-/// Fills the tables: 0, or 1 where memory lacks, and then they are as they were.
+/// Fills the tables and returns 0, or returns 1 if it cannot allocate, and then leaves them as they were.
 #[unsafe(no_mangle)]
 pub extern "C" fn rs_tables_make(alloc: Global, tables: &mut RsTables) -> u32
     ensures made { result ≡ 0 → AreTables tables.new }
@@ -42,7 +46,7 @@ pub extern "C" fn rs_tables_make(alloc: Global, tables: &mut RsTables) -> u32
     }
 }
 
-/// 1 where the counts are supported, else 0.
+/// Returns 1 if the counts are supported, else 0.
 #[unsafe(no_mangle)]
 pub extern "C" fn rs_supports(original_count: usize, recovery_count: usize) -> u32
     ensures yes { (result ≡ 1) ↔ (supports default_rate original_count recovery_count ≡ true) }
@@ -54,10 +58,10 @@ pub extern "C" fn rs_supports(original_count: usize, recovery_count: usize) -> u
     }
 }
 
-/// The recovery shards of originals that lie one behind the other, written one behind the other.
+/// Writes the recovery shards of the originals. Shards lie one after the other in a buffer.
 ///
-/// Refused for counts that aren't supported, then for the length of `originals`, then for that of `recovery`, then as
-/// one call refuses the shards. With a fault nothing but the fault is written.
+/// It fails if the tables were not made, then for counts that aren't supported, then for the length of `originals`, then for that
+/// of `recovery`, then as one call does for these shards. With a fault it writes nothing but the fault.
 #[unsafe(no_mangle)]
 pub extern "C" fn rs_encode(
     alloc: Global,
@@ -69,29 +73,32 @@ pub extern "C" fn rs_encode(
     recovery: &mut [u8],
     fault: &mut RsFault,
 ) -> u32
-    requires { AreTables tables.now }
-    ensures answer { (answer : Result (Unit {0}) FaultOf) × (fault.new ≡ fault_of answer)
+    requires stamped { AreStamped tables.now → AreTables tables.now }
+    ensures not_made { ¬ AreStamped tables.now → (fault.new ≡ numbers 15 0 0 0) × (recovery.new ≡ recovery.old) }
+    ensures answer { AreStamped tables.now → (answer : Result (Unit {0}) FaultOf) × (fault.new ≡ fault_of answer)
         × EncodesBuffer original_count recovery_count shard_bytes originals.now recovery.old recovery.new answer }
     ensures told { result ≡ fault.new.number }
 {
-    let engine = Borrowing::new(tables);
-    let answer = encode_buffer(
-        alloc,
-        engine,
-        original_count,
-        recovery_count,
-        shard_bytes,
-        originals,
-        recovery,
-    );
+    let answer = match Borrowing::new(tables) {
+        Some(engine) => encode_buffer(
+            alloc,
+            engine,
+            original_count,
+            recovery_count,
+            shard_bytes,
+            originals,
+            recovery,
+        ),
+        None => Err(Fault::TablesNotMade),
+    };
     *fault = RsFault::of(answer);
     fault.number
 }
 
 /// Restores, in their places, the originals whose mark is 0.
 ///
-/// Refused for counts that aren't supported, then for the lengths of `originals`, of `recovery` and of `marks`, then as
-/// one call refuses the shards whose mark isn't 0. With a fault nothing but the fault is written.
+/// It fails if the tables were not made, then for counts that aren't supported, then for the lengths of `originals`, of `recovery`
+/// and of `marks`, then as one call does for the shards whose mark isn't 0. With a fault it writes nothing but the fault.
 #[unsafe(no_mangle)]
 pub extern "C" fn rs_decode(
     alloc: Global,
@@ -104,32 +111,35 @@ pub extern "C" fn rs_decode(
     marks: &[u8],
     fault: &mut RsFault,
 ) -> u32
-    requires { AreTables tables.now }
-    ensures answer { (answer : Result (Unit {0}) FaultOf) × (fault.new ≡ fault_of answer)
+    requires stamped { AreStamped tables.now → AreTables tables.now }
+    ensures not_made { ¬ AreStamped tables.now → (fault.new ≡ numbers 15 0 0 0) × (originals.new ≡ originals.old) }
+    ensures answer { AreStamped tables.now → (answer : Result (Unit {0}) FaultOf) × (fault.new ≡ fault_of answer)
         × DecodesBuffer original_count recovery_count shard_bytes marks.now recovery.now originals.old originals.new answer
-        × WantsNoMemory original_count marks.now answer }
+        × WantsNoMemory (marked_number (drop original_count marks.now)) answer }
     ensures told { result ≡ fault.new.number }
 {
-    let engine = Borrowing::new(tables);
-    let answer = decode_buffer(
-        alloc,
-        engine,
-        original_count,
-        recovery_count,
-        shard_bytes,
-        originals,
-        recovery,
-        marks,
-    );
+    let answer = match Borrowing::new(tables) {
+        Some(engine) => decode_buffer(
+            alloc,
+            engine,
+            original_count,
+            recovery_count,
+            shard_bytes,
+            originals,
+            recovery,
+            marks,
+        ),
+        None => Err(Fault::TablesNotMade),
+    };
     *fault = RsFault::of(answer);
     fault.number
 }
 
-/// The recovery shards of originals that lie anywhere, written into rooms that lie anywhere. The shards' size is that of the
-/// first original.
+/// Writes the recovery shards of the originals into rooms. Shards and rooms lie anywhere. The shards' size is that of the first
+/// original.
 ///
-/// Refused for counts that aren't supported, and as one call refuses the shards; then for another number of rooms than
-/// `recovery_count`, then for the length of a room. With a fault nothing but the fault is written.
+/// It fails if the tables were not made, then for counts that aren't supported, then as one call does for these shards, then for
+/// another number of rooms than `recovery_count`, then for the length of a room. With a fault it writes nothing but the fault.
 #[unsafe(no_mangle)]
 pub extern "C" fn rs_encode_shards(
     alloc: Global,
@@ -140,30 +150,34 @@ pub extern "C" fn rs_encode_shards(
     recovery: &mut [&mut [u8]],
     fault: &mut RsFault,
 ) -> u32
-    requires { AreTables tables.now }
-    ensures answer { (answer : Result (Unit {0}) FaultOf) × (fault.new ≡ fault_of answer)
+    requires stamped { AreStamped tables.now → AreTables tables.now }
+    ensures not_made { ¬ AreStamped tables.now → (fault.new ≡ numbers 15 0 0 0) × (bytes_in recovery.new ≡ bytes_in recovery.old) }
+    ensures answer { AreStamped tables.now → (answer : Result (Unit {0}) FaultOf) × (fault.new ≡ fault_of answer)
         × EncodesArrays original_count recovery_count (shards_of originals.now) (bytes_in recovery.old) (bytes_in recovery.new) answer }
     ensures kept { KeepsRooms recovery.old recovery.new }
     ensures told { result ≡ fault.new.number }
 {
-    let engine = Borrowing::new(tables);
-    let answer = encode_arrays(
-        alloc,
-        engine,
-        original_count,
-        recovery_count,
-        originals,
-        recovery,
-    );
+    let answer = match Borrowing::new(tables) {
+        Some(engine) => encode_arrays(
+            alloc,
+            engine,
+            original_count,
+            recovery_count,
+            originals,
+            recovery,
+        ),
+        None => Err(Fault::TablesNotMade),
+    };
     *fault = RsFault::of(answer);
     fault.number
 }
 
-/// The originals that aren't among the given shards, written into rooms in order of their index. The shards' size is that of
-/// the first recovery shard.
+/// Writes the originals that aren't among the given shards into rooms, in order of their index. The shards' size is that of the
+/// first recovery shard.
 ///
-/// Refused for counts that aren't supported, and as one call refuses the shards; then for another number of rooms than there
-/// are originals missing, then for the length of a room. With a fault nothing but the fault is written.
+/// It fails if the tables were not made, then for counts that aren't supported, then as one call does for these shards, then for
+/// another number of rooms than there are missing originals, then for the length of a room. With a fault it writes nothing but
+/// the fault. Without recovery shards it needs no memory.
 #[unsafe(no_mangle)]
 pub extern "C" fn rs_decode_shards(
     alloc: Global,
@@ -175,39 +189,43 @@ pub extern "C" fn rs_decode_shards(
     restored: &mut [&mut [u8]],
     fault: &mut RsFault,
 ) -> u32
-    requires { AreTables tables.now }
-    ensures answer { (answer : Result (Unit {0}) FaultOf) × (fault.new ≡ fault_of answer)
-        × DecodesArrays original_count recovery_count (items_of originals.now) (items_of recovery.now) (bytes_in restored.old) (bytes_in restored.new) answer }
+    requires stamped { AreStamped tables.now → AreTables tables.now }
+    ensures not_made { ¬ AreStamped tables.now → (fault.new ≡ numbers 15 0 0 0) × (bytes_in restored.new ≡ bytes_in restored.old) }
+    ensures answer { AreStamped tables.now → (answer : Result (Unit {0}) FaultOf) × (fault.new ≡ fault_of answer)
+        × DecodesArrays original_count recovery_count (items_of originals.now) (items_of recovery.now) (bytes_in restored.old) (bytes_in restored.new) answer
+        × WantsNoMemory (length recovery.now) answer }
     ensures kept { KeepsRooms restored.old restored.new }
     ensures told { result ≡ fault.new.number }
 {
-    let engine = Borrowing::new(tables);
-    let answer = decode_arrays(
-        alloc,
-        engine,
-        original_count,
-        recovery_count,
-        originals,
-        recovery,
-        restored,
-    );
+    let answer = match Borrowing::new(tables) {
+        Some(engine) => decode_arrays(
+            alloc,
+            engine,
+            original_count,
+            recovery_count,
+            originals,
+            recovery,
+            restored,
+        ),
+        None => Err(Fault::TablesNotMade),
+    };
     *fault = RsFault::of(answer);
     fault.number
 }
 
-/// Writes the text of a fault, as much as fits, and answers its whole length; 0 where the number is no fault's, or there is
-/// no memory for the text.
+/// Writes the text of a fault, as much as fits, and returns its whole length: 0 if the number is that of no fault. It needs no
+/// memory.
 #[unsafe(no_mangle)]
-pub extern "C" fn rs_fault_text(alloc: Global, fault: &RsFault, text: &mut [u8]) -> usize
+pub extern "C" fn rs_fault_text(fault: &RsFault, text: &mut [u8]) -> usize
     ensures { WritesText (text_with (fault_with fault.now)) text.old text.new result }
 {
-    text::write_text(alloc, *fault, text)
+    text::write_text(*fault, text)
 }
 
 /// The version of this interface: the major number times 65536, and the minor number.
 #[unsafe(no_mangle)]
 pub extern "C" fn rs_version() -> u32
-    ensures { result ≡ 65537 }
+    ensures { result ≡ 65538 }
 {
-    65537
+    65538
 }

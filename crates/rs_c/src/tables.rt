@@ -8,8 +8,17 @@ use rs_field::engine::{GF_ORDER, GfElement};
 use rs_field::error::Error;
 use std::alloc::Global;
 
+/// What made tables hold in their stamp: the letters RS, and the number of this layout. It changes with the layout.
+pub const STAMP: u32 = 0x5253_0001;
+
+/// How many words of 64 bits the tables take: `RS_TABLE_WORDS` of the header, which `c/build` compares.
+const TABLE_WORDS: usize = 1097728;
+
+const _: () = prove!(size_of::<RsTables>() == 8 * TABLE_WORDS);
+
 /// What the engine reads, as plain arrays. The caller allocates it, one call fills it, and all others borrow it.
 #[repr(C)]
+#[derive(Clone, Copy)]
 pub struct RsTables {
     /// Entry m has the products with the generator to the power m, by bytes, as halves of `Multiply128lutT`'s numbers.
     pub products: [[u64; 16]; 65536],
@@ -17,6 +26,8 @@ pub struct RsTables {
     pub skew: [GfElement; 65535],
     /// The transforms of logarithms that locators are made of.
     pub log_walsh: [GfElement; 131071],
+    /// `STAMP` once the tables are filled. It is written last.
+    pub stamp: u32,
 }
 
 // The lower half of a number.
@@ -101,7 +112,7 @@ fn fill_products(table: &mut [[u64; 16]], mul128: Mul128<'_>)
     }
 }
 
-/// Fills the tables, or answers `OutOfMemory` and leaves them as they were.
+/// Fills the tables, or fails with `OutOfMemory` and leaves them as they were.
 pub fn fill(alloc: Global, tables: &mut RsTables) -> Result<(), Error>
     ensures made { OnOk result (AreTables tables.new) }
     ensures err { OnErr result ((result ≡ Err Error.OutOfMemory) × (tables.new ≡ tables.old)) }
@@ -111,5 +122,6 @@ pub fn fill(alloc: Global, tables: &mut RsTables) -> Result<(), Error>
     fill_products(&mut tables.products, get_mul128(&made));
     tables.skew.copy_from_slice(lent.skew);
     tables.log_walsh.copy_from_slice(lent.log_walsh);
+    tables.stamp = STAMP;
     Ok(())
 }

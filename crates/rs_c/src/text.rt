@@ -1,10 +1,12 @@
 //! The texts of faults.
 ghost use Rattle.std.specs.Prelude.{◌≡◌};
+ghost use Rattle.rs_field.specs.code.Texts.{text_of as refusal_text};
+ghost use Rattle.rs_c.specs.FaultTexts.{text_of};
 ghost use Rattle.rs_c.specs.Texts.{shard_refusal_with, refusal_with, fault_with, text_with, WritesText};
 
 use crate::fault::{Fault, RsFault};
+use crate::writing::{write_one, write_three, write_two, write_words};
 use rs_field::error::Error;
-use std::alloc::Global;
 
 // The fault that has these numbers.
 fn read(fault: RsFault) -> Option<Fault>
@@ -20,6 +22,7 @@ fn read(fault: RsFault) -> Option<Fault>
             wanted: first,
             got: second,
         }),
+        15 => Some(Fault::TablesNotMade),
         _ => match read_refusal(fault) {
             Some(error) => Some(Fault::Refused(error)),
             None => None,
@@ -83,22 +86,128 @@ fn read_shard_refusal(fault: RsFault) -> Option<Error>
     }
 }
 
-/// Writes the text of a fault, as much as fits, and answers its whole length; 0 where the number is no fault's, or there is
-/// no memory for the text.
-pub fn write_text(alloc: Global, fault: RsFault, room: &mut [u8]) -> usize
+// Writes the text of a refusal of the library, as much as fits, and returns its whole length.
+fn write_refusal(error: Error, room: &mut [u8]) -> usize
+    ensures { WritesText (refusal_text error) room.old room.new result }
+{
+    match error {
+        Error::DifferentShardSize { shard_bytes, got } => write_two(
+            room,
+            ("different shard size: expected ", shard_bytes),
+            (" bytes, got ", got),
+            " bytes",
+        ),
+        Error::DuplicateOriginalShardIndex { index } => {
+            write_one(room, ("duplicate original shard index: ", index), "")
+        }
+        Error::DuplicateRecoveryShardIndex { index } => {
+            write_one(room, ("duplicate recovery shard index: ", index), "")
+        }
+        Error::InconsistentShards {
+            original_received_count,
+            recovery_received_count,
+        } => write_two(
+            room,
+            ("inconsistent shards: ", original_received_count),
+            (" original + ", recovery_received_count),
+            " recovery agree with no message",
+        ),
+        Error::InvalidOriginalShardIndex {
+            original_count,
+            index,
+        } => write_two(
+            room,
+            ("invalid original shard index: ", index),
+            (" >= original_count ", original_count),
+            "",
+        ),
+        Error::InvalidRecoveryShardIndex {
+            recovery_count,
+            index,
+        } => write_two(
+            room,
+            ("invalid recovery shard index: ", index),
+            (" >= recovery_count ", recovery_count),
+            "",
+        ),
+        Error::InvalidShardSize { shard_bytes } => write_one(
+            room,
+            ("invalid shard size: ", shard_bytes),
+            " bytes (must non-zero and multiple of 2)",
+        ),
+        Error::NotEnoughShards {
+            original_count,
+            original_received_count,
+            recovery_received_count,
+        } => write_three(
+            room,
+            ("not enough shards: ", original_received_count),
+            (" original + ", recovery_received_count),
+            (" recovery < ", original_count),
+            " original_count",
+        ),
+        Error::TooFewOriginalShards {
+            original_count,
+            original_received_count,
+        } => write_two(
+            room,
+            ("too few original shards: got ", original_received_count),
+            (" shards while original_count is ", original_count),
+            "",
+        ),
+        Error::TooManyOriginalShards { original_count } => write_one(
+            room,
+            (
+                "too many original shards: got more than original_count (",
+                original_count,
+            ),
+            ") shards",
+        ),
+        Error::UnsupportedShardCount {
+            original_count,
+            recovery_count,
+        } => write_two(
+            room,
+            ("unsupported shard count: ", original_count),
+            (" original shards with ", recovery_count),
+            " recovery shards",
+        ),
+        Error::OutOfMemory => write_words(room, "out of memory"),
+    }
+}
+
+// Writes the text of a fault, as much as fits, and returns its whole length.
+fn write_fault(fault: Fault, room: &mut [u8]) -> usize
+    ensures { WritesText (text_of fault) room.old room.new result }
+{
+    match fault {
+        Fault::Refused(error) => write_refusal(error, room),
+        Fault::WrongLength { wanted, got } => write_two(
+            room,
+            ("wrong length: expected ", wanted),
+            (" bytes, got ", got),
+            " bytes",
+        ),
+        Fault::WrongNumberOfRooms { wanted, got } => write_two(
+            room,
+            ("wrong number of rooms: expected ", wanted),
+            (", got ", got),
+            "",
+        ),
+        Fault::TablesNotMade => write_words(
+            room,
+            "tables not made: rs_tables_make has not filled them",
+        ),
+    }
+}
+
+/// Writes the text of the fault that has these numbers, as much as fits, and returns its whole length: 0 if the number is that
+/// of no fault.
+pub fn write_text(fault: RsFault, room: &mut [u8]) -> usize
     ensures { WritesText (text_with (fault_with fault)) room.old room.new result }
 {
-    let Some(fault) = read(fault) else {
-        return 0;
-    };
-    let Ok(text) = fault.to_string(alloc) else {
-        return 0;
-    };
-    let bytes = text.as_bytes();
-    if bytes.len() <= room.len() {
-        room[..bytes.len()].copy_from_slice(bytes);
-    } else {
-        room.copy_from_slice(&bytes[..room.len()]);
+    match read(fault) {
+        Some(fault) => write_fault(fault, room),
+        None => 0,
     }
-    bytes.len()
 }

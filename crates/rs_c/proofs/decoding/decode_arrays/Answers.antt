@@ -1,11 +1,15 @@
-use Rattle.std.proofs.Common.{rules, List, [], map, Ok, Err, sym, ap, ◌∙◌, refl}
+use Rattle.std.proofs.Common.{rules, ◌≡◌, List, [], map, length, Ok, Err, inl, sym, ap, subst, ◌∙◌, refl, arith}
 use Rattle.std.proofs.lemmas.Iterator.{YieldsList-from_slice, YieldsList-from_map_by}
+use Rattle.std.proofs.lemmas.List.{nil_from_length}
 use Rattle.rs_field.specs.code.Column.{Shard}
 use Rattle.rs_field.specs.code.Given.{nothing}
-use Rattle.rs_field.specs.code.OneCall.{Items}
+use Rattle.rs_field.specs.code.OneCall.{Items, OneDecodeAnswers}
+use Rattle.rs_field.proofs.of_code.SupportedCounts.{default_fits}
 use Rattle.rs_rate.specs.ResultView.{restored_originals}
 use Rattle.reed_solomon_simd.proofs.Giving.{always-both}
-use Rattle.reed_solomon_simd.proofs.OneCall.{decoding-uncounted, decoding-refused, decoding-nothing, decoding-answers, lists-none}
+use Rattle.reed_solomon_simd.proofs.OneCall.{decoding-uncounted, decoding-none, decoding-refused, decoding-nothing, decoding-answers, lists-none}
+use Rattle.rs_field.specs.declared.code.error.Error.TheVariants.{OutOfMemory}
+use Rattle.rs_c.specs.declared.fault.Fault.TheVariants.{Refused}
 use Rattle.rs_c.specs.Arrays.{items_of, bytes_in, rooms_fit, as_many}
 use Rattle.rs_c.proofs.RoomLemmas.{bytes-count, fills, fills-none, lists-same}
 use Rattle.rs_c.proofs.decoding.decode_arrays.Goals as goal
@@ -20,6 +24,37 @@ returns-in_err-counts-clause-answer c =
     let own = items_of c.args.originals.now in let other = items_of c.args.recovery.now in
     let e = c.in_err-counts.field-0.0 in (Err e, decoding-refused k r own other e (decoding-uncounted k r own other e c.in_err-counts.ensures), (search rules, refl))
 
+pub check_alone-requires : goal.check_alone-requires
+check_alone-requires c =
+    let fits = default_fits c.in_ok-counts.counts.original_count c.in_ok-counts.counts.recovery_count c.in_ok-counts.counts.supported in
+    omega (arith, fits, c.in_ok-counts.ensures.0, c.in_ok-counts.ensures.1)
+
+pub returns-in_err-check_alone-clause-answer : goal.returns-in_err-check_alone-clause-answer
+returns-in_err-check_alone-clause-answer c =
+    let k = c.args.original_count in let r = c.args.recovery_count in
+    let own = items_of c.args.originals.now in
+    let none : length c.args.recovery.now ≡ 0 = search rules in
+    let e = c.in_err-check_alone.field-0.0 in
+    let led = decoding-none k r own (Err e) (rw (c.in_ok-counts.ensures.0, c.in_ok-counts.ensures.1) at c.in_ok-counts.counts.supported) (inl c.in_err-check_alone.ensures.answer) in
+    (Err e, subst (λ l. OneDecodeAnswers k r own (items_of l) (Err e)) (sym (nil_from_length c.args.recovery.now none)) (decoding-refused k r own [] e led), (search rules, refl))
+
+pub returns-in_err-check_alone-clause-memory : goal.returns-in_err-check_alone-clause-memory
+returns-in_err-check_alone-clause-memory c none lacks =
+    let e = c.in_err-check_alone.field-0.0 in
+    let refused : c.from_residual-in_err-check_alone.result ≡ Err (Refused e) = search rules in
+    let same : e ≡ OutOfMemory = cc in c.in_err-check_alone.ensures.memory (ap Err same)
+
+pub returns-then-is_empty-clause-answer : goal.returns-then-is_empty-clause-answer
+returns-then-is_empty-clause-answer c =
+    let k = c.args.original_count in let r = c.args.recovery_count in
+    let own = items_of c.args.originals.now in
+    let none : length c.args.recovery.now ≡ 0 = search rules in
+    let led = decoding-none k r own (Ok tt) (rw (c.in_ok-counts.ensures.0, c.in_ok-counts.ensures.1) at c.in_ok-counts.counts.supported) (inl c.in_ok-check_alone.ensures.answer) in (
+      Ok nothing,
+      subst (λ l. OneDecodeAnswers k r own (items_of l) (Ok nothing)) (sym (nil_from_length c.args.recovery.now none)) (decoding-nothing k r own [] led),
+      ([], lists-none, fills-none (bytes_in c.args.restored.now) _ (c.check_number.ensures ∙ ap (as_many 0) (sym (bytes-count c.args.restored.now)))),
+    )
+
 pub returns-in_err-decoder-clause-answer : goal.returns-in_err-decoder-clause-answer
 returns-in_err-decoder-clause-answer c =
     let own = YieldsList-from_map_by _ (λ item. (item.0, item.1.now)) (λ shard. (shard.index, shard.bytes.now)) (YieldsList-from_slice c.args.originals.now cc) c.map-own.ensures.closure (λ x r q k. search rules) in
@@ -32,7 +67,7 @@ returns-in_default-clause-answer c =
     let own = YieldsList-from_map_by _ (λ item. (item.0, item.1.now)) (λ shard. (shard.index, shard.bytes.now)) (YieldsList-from_slice c.args.originals.now cc) c.map-own.ensures.closure (λ x r q k. search rules) in
     let other = YieldsList-from_map_by _ (λ item. (item.0, item.1.now)) (λ shard. (shard.index, shard.bytes.now)) (YieldsList-from_slice c.args.recovery.now cc) c.map-other.ensures.closure (λ x r q k. search rules) in
     let led = always-both (λ item. (item.0, item.1.now)) (λ item. (item.0, item.1.now)) _ (rw (c.in_ok-counts.ensures.0, c.in_ok-counts.ensures.1, c.in_default.is) at c.in_ok-decoder.ensures) (items_of c.args.originals.now) (items_of c.args.recovery.now) own.runs other.runs in
-    (Ok nothing, decoding-nothing c.args.original_count c.args.recovery_count _ _ led, ([], lists-none, fills-none (bytes_in c.args.restored.now) _ (c.check_number.ensures ∙ ap (as_many 0) (sym (bytes-count c.args.restored.now)))))
+    (Ok nothing, decoding-nothing c.args.original_count c.args.recovery_count _ _ led, ([], lists-none, fills-none (bytes_in c.args.restored.now) _ (c.check_number-in_default.ensures ∙ ap (as_many 0) (sym (bytes-count c.args.restored.now)))))
 
 pub returns-in_err-result-clause-answer : goal.returns-in_err-result-clause-answer
 returns-in_err-result-clause-answer c =

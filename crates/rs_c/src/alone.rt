@@ -1,0 +1,53 @@
+//! Decodes that are given no recovery shard: whether all originals are there.
+ghost use Rattle.std.specs.Prelude.{◌≡◌, ◌≢◌, ℕ, ◌≤◌, List, MatchResult};
+ghost use Rattle.rs_field.specs.code.OneCall.{noted, originals_alone};
+ghost use Rattle.rs_c.specs.Arrays.{items_of};
+ghost use Rattle.rs_c.specs.Alone.{AreNoted};
+
+use crate::layouts::RsShard;
+use rs_field::error::Error;
+
+// A bit for each index below 65536.
+type Bits = [u64; 1024];
+
+/// Checks that all originals are given: it notes the index of each in order, and then looks at their number. It needs no memory.
+pub fn check_alone(original_count: usize, originals: &[RsShard<'_>]) -> Result<(), Error>
+    requires { original_count ≤ 65536 }
+    ensures answer { result ≡ originals_alone original_count (items_of originals.now) }
+    ensures memory { result ≢ Err Error.OutOfMemory }
+{
+    let mut bits: Bits = [0; 1024];
+    for shard in originals {
+        note(&mut bits, original_count, shard.index)?;
+    }
+    let original_received_count = originals.len();
+    if original_received_count < original_count {
+        return Err(Error::NotEnoughShards {
+            original_count,
+            original_received_count,
+            recovery_received_count: 0,
+        });
+    }
+    Ok(())
+}
+
+// Notes that the original of this index is given: the index has to be below the count, and not noted yet.
+fn note(bits: &mut Bits, original_count: usize, index: usize) -> Result<(), Error>
+    requires { original_count ≤ 65536 }
+    ensures answer { (indexes : List ℕ) → AreNoted indexes bits.old → MatchResult (noted original_count indexes index)
+        (λ all. (result ≡ Ok tt) × AreNoted all bits.new) (λ e. result ≡ Err e) }
+    ensures memory { result ≢ Err Error.OutOfMemory }
+{
+    if index >= original_count {
+        return Err(Error::InvalidOriginalShardIndex {
+            original_count,
+            index,
+        });
+    }
+    let (word, bit) = (index / 64, index % 64);
+    if (bits[word] >> bit) & 1 == 1 {
+        return Err(Error::DuplicateOriginalShardIndex { index });
+    }
+    bits[word] |= 1 << bit;
+    Ok(())
+}

@@ -1,0 +1,86 @@
+//! Texts of words and decimal numbers, written into a room as far as they fit. They need no memory.
+ghost use Rattle.std.specs.Prelude.{◌≡◌, ℕ, ◌+◌, ◌≤◌, List, ◌++◌, length, decimal};
+ghost use Rattle.rs_c.specs.Texts.{over, WritesText};
+
+use itoa::Buffer;
+
+// Writes a piece after the first `at` bytes of a text, as much as fits, and returns where the piece ends.
+fn put(room: &mut [u8], at: usize, piece: &str) -> usize
+    requires { at + length piece.now ≤ 65536 }
+    ensures end { result ≡ at + length piece.now }
+    ensures written { (text old : List ℕ) → length text ≡ at → room.old ≡ over text old → room.new ≡ over (text ++ piece.now) old }
+{
+    let bytes = piece.as_bytes();
+    if at < room.len() {
+        let fits = bytes.len().min(room.len() - at);
+        room[at..at + fits].copy_from_slice(&bytes[..fits]);
+    }
+    at + bytes.len()
+}
+
+// Writes the decimal digits of a number, as `put` writes a piece.
+fn put_number(room: &mut [u8], at: usize, number: usize) -> usize
+    requires { at ≤ 65000 }
+    ensures end { (result ≡ at + length (decimal number)) × (result ≤ at + 20) }
+    ensures written { (text old : List ℕ) → length text ≡ at → room.old ≡ over text old → room.new ≡ over (text ++ decimal number) old }
+{
+    let mut buffer = Buffer::new();
+    put(room, at, buffer.format(number))
+}
+
+/// Writes words, and returns their length.
+pub fn write_words(room: &mut [u8], words: &str) -> usize
+    requires { length words.now ≤ 100 }
+    ensures { WritesText words.now room.old room.new result }
+{
+    put(room, 0, words)
+}
+
+/// Writes words, a number and words, and returns the length of the whole text.
+pub fn write_one(room: &mut [u8], first: (&str, usize), end: &str) -> usize
+    requires first { length first.0.now ≤ 100 }
+    requires end { length end.now ≤ 100 }
+    ensures { WritesText (first.entry.0.now ++ decimal first.entry.1 ++ end.now) room.old room.new result }
+{
+    let at = put(room, 0, first.0);
+    let at = put_number(room, at, first.1);
+    put(room, at, end)
+}
+
+/// Writes words with two numbers, and returns the length of the whole text.
+pub fn write_two(room: &mut [u8], first: (&str, usize), second: (&str, usize), end: &str) -> usize
+    requires first { length first.0.now ≤ 100 }
+    requires second { length second.0.now ≤ 100 }
+    requires end { length end.now ≤ 100 }
+    ensures { WritesText (first.entry.0.now ++ decimal first.entry.1 ++ second.entry.0.now ++ decimal second.entry.1 ++ end.now) room.old room.new result }
+{
+    let at = put(room, 0, first.0);
+    let at = put_number(room, at, first.1);
+    let at = put(room, at, second.0);
+    let at = put_number(room, at, second.1);
+    put(room, at, end)
+}
+
+/// Writes words with three numbers, and returns the length of the whole text.
+pub fn write_three(
+    room: &mut [u8],
+    first: (&str, usize),
+    second: (&str, usize),
+    third: (&str, usize),
+    end: &str,
+) -> usize
+    requires first { length first.0.now ≤ 100 }
+    requires second { length second.0.now ≤ 100 }
+    requires third { length third.0.now ≤ 100 }
+    requires end { length end.now ≤ 100 }
+    ensures { WritesText (first.entry.0.now ++ decimal first.entry.1 ++ second.entry.0.now ++ decimal second.entry.1 ++ third.entry.0.now ++ decimal third.entry.1 ++ end.now)
+        room.old room.new result }
+{
+    let at = put(room, 0, first.0);
+    let at = put_number(room, at, first.1);
+    let at = put(room, at, second.0);
+    let at = put_number(room, at, second.1);
+    let at = put(room, at, third.0);
+    let at = put_number(room, at, third.1);
+    put(room, at, end)
+}
