@@ -2,30 +2,40 @@
 ghost use Rattle.std.specs.Prelude.{◌≡◌, ℕ, ◌+◌, ◌≤◌, List, ◌++◌, length, decimal};
 ghost use Rattle.rs_c.specs.Texts.{over, WritesText};
 
-use itoa::Buffer;
-
 // Writes a piece after the first `at` bytes of a text, as much as fits, and returns where the piece ends.
-fn put(room: &mut [u8], at: usize, piece: &str) -> usize
+fn put_bytes(room: &mut [u8], at: usize, piece: &[u8]) -> usize
     requires { at + length piece.now ≤ 65536 }
     ensures end { result ≡ at + length piece.now }
     ensures written { (text old : List ℕ) → length text ≡ at → room.old ≡ over text old → room.new ≡ over (text ++ piece.now) old }
 {
-    let bytes = piece.as_bytes();
     if at < room.len() {
-        let fits = bytes.len().min(room.len() - at);
-        room[at..at + fits].copy_from_slice(&bytes[..fits]);
+        let fits = piece.len().min(room.len() - at);
+        room[at..at + fits].copy_from_slice(&piece[..fits]);
     }
-    at + bytes.len()
+    at + piece.len()
 }
 
-// Writes the decimal digits of a number, as `put` writes a piece.
+// Writes words, as `put_bytes` writes a piece.
+fn put(room: &mut [u8], at: usize, words: &str) -> usize
+    requires { at + length words.now ≤ 65536 }
+    ensures end { result ≡ at + length words.now }
+    ensures written { (text old : List ℕ) → length text ≡ at → room.old ≡ over text old → room.new ≡ over (text ++ words.now) old }
+{
+    put_bytes(room, at, words.as_bytes())
+}
+
+// Writes the decimal digits of a number, as `put_bytes` writes a piece: the digits before the last one first.
 fn put_number(room: &mut [u8], at: usize, number: usize) -> usize
     requires { at ≤ 65000 }
     ensures end { (result ≡ at + length (decimal number)) × (result ≤ at + 20) }
     ensures written { (text old : List ℕ) → length text ≡ at → room.old ≡ over text old → room.new ≡ over (text ++ decimal number) old }
 {
-    let mut buffer = Buffer::new();
-    put(room, at, buffer.format(number))
+    let digit = b'0' + (number % 10) as u8;
+    if number < 10 {
+        return put_bytes(room, at, &[digit]);
+    }
+    let end = put_number(room, at, number / 10);
+    put_bytes(room, end, &[digit])
 }
 
 /// Writes words, and returns their length.

@@ -1,7 +1,7 @@
 use Rattle.std.proofs.Common.{rules, ◌≡◌, ℕ, ◌+◌, ◌-◌, min, List, ◌++◌, length, take, drop, ap, sym, ◌∙◌, arith}
 use Rattle.rs_c.proofs.TextLemmas.{over-past, over-inside, length-over}
-use Rattle.rs_c.proofs.writing.put.Goals.{then-at-room, else-at-room}
-use Rattle.rs_c.proofs.writing.put.Goals as goal
+use Rattle.rs_c.proofs.writing.put_bytes.Goals.{then-at-room, else-at-room}
+use Rattle.rs_c.proofs.writing.put_bytes.Goals as goal
 
 pub returns-clause-written : goal.returns-clause-written
 returns-clause-written c text old sized is =
