@@ -18,15 +18,19 @@ use crate::{DecoderResult, Error};
 use rs_rate::rate::rounds::{decode_round, lent_originals};
 use std::alloc::Global;
 
-/// A decoder of the default rate over an engine chosen by name, as `DefaultRateDecoder` with a count of steps of its
-/// own.
+/// A decoder of the default rate, over an engine that is chosen by name. It decodes any number of messages with the same
+/// memory.
 ///
-/// A round is: shards are given by their index, at least `original_count` of all, then `decode` lends the originals
-/// that were not given. A refused call leaves the configuration and the given shards as they were, but for
-/// `InconsistentShards`, which ends the round. Memory is taken by `new` and by `reset` alone.
+/// A round is: add shards by their index, in any order, until at least `original_count` are there; then call `decode`, which
+/// lends the missing originals. Originals are numbered from 0 in the order in which they were encoded, and recovery shards
+/// are numbered from 0 on their own. A call that fails changes nothing, except for [`Error::InconsistentShards`], which ends
+/// the round. Only `new` and `reset` allocate.
+///
+/// It is [`DefaultRateDecoder`](crate::rate::DefaultRateDecoder) with a count of steps of its own.
+///
+/// # Examples
 ///
 /// ```
-/// // quoted: crates/rs_callers/src/levels.rt
 /// let mut decoder = ReedSolomonDecoder::new(alloc, 3, 2, 12, engine)?;
 /// decoder.add_original_shard(1, ORIGINAL[1])?;
 /// for (index, shard) in recovery.recovery_iter().enumerate() {
@@ -44,10 +48,11 @@ impl<'t> ReedSolomonDecoder<'t> {
     ghost use Rattle.reed_solomon_simd.specs.DecoderObject.{state_of, engine_of, room_of};
     ghost use Rattle.reed_solomon_simd.specs.contracts.decoder.ReedSolomonDecoder.{the_row};
 
-    /// Whether `original_count` originals with `recovery_count` recovery shards are supported.
+    /// Returns whether `original_count` originals with `recovery_count` recovery shards are supported.
+    ///
+    /// # Examples
     ///
     /// ```
-    /// // quoted: crates/rs_callers/src/surface.rt
     /// ReedSolomonDecoder::supports(original_count, recovery_count)
     /// ```
     pub fn supports(original_count: usize, recovery_count: usize) -> bool
@@ -56,13 +61,18 @@ impl<'t> ReedSolomonDecoder<'t> {
         DefaultRateDecoder::<DefaultEngine<'t>>::supports(original_count, recovery_count)
     }
 
-    /// A decoder with nothing given.
+    /// Makes a decoder for `original_count` originals, `recovery_count` recovery shards and shards of `shard_bytes` bytes, with
+    /// nothing added.
     ///
-    /// Refused with `UnsupportedShardCount`, then with `InvalidShardSize` where the size in bytes is zero or odd, then
-    /// with `OutOfMemory` where no memory is found or the rows' size in bytes passes `usize::MAX`.
+    /// # Errors
+    ///
+    /// - [`Error::UnsupportedShardCount`] if the counts are not supported.
+    /// - [`Error::InvalidShardSize`] if `shard_bytes` is zero or odd.
+    /// - [`Error::OutOfMemory`] if the rows cannot be allocated, or if their bytes exceed `usize::MAX`.
+    ///
+    /// # Examples
     ///
     /// ```
-    /// // quoted: crates/rs_callers/src/round_trip.rt
     /// let mut decoder = ReedSolomonDecoder::new(alloc, k, r, shard_bytes, engine)?;
     /// ```
     pub fn new(
@@ -89,14 +99,17 @@ impl<'t> ReedSolomonDecoder<'t> {
         })
     }
 
-    /// The decoder with another configuration and nothing given. Refused as `new`; a refusal leaves the configuration and
-    /// the given shards.
+    /// Sets the decoder up for other counts and another shard size, with nothing added.
     ///
-    /// `OutOfMemory` never comes where the rows fit the room that the decoder has: where they are its own and the size
-    /// is not above its own, and where it had room for as much before.
+    /// # Errors
+    ///
+    /// The errors of [`new`](Self::new), in the same order. After an error the configuration and the added shards are what they
+    /// were. `reset` never fails with [`Error::OutOfMemory`] if the decoder already holds enough memory. That is the case if
+    /// the counts are unchanged and the shard size is not larger, or if the decoder has been this large before.
+    ///
+    /// # Examples
     ///
     /// ```
-    /// // quoted: crates/rs_callers/src/plain_callers.rt
     /// decoder.reset(original_count, recovery_count, shard_bytes)
     /// ```
     pub fn reset(
@@ -118,13 +131,17 @@ impl<'t> ReedSolomonDecoder<'t> {
             .reset(original_count, recovery_count, shard_bytes)
     }
 
-    /// Gives the original of this index, of the decoder's size in bytes.
+    /// Adds the original with this index: its place among the originals, counted from 0.
     ///
-    /// Refused with `InvalidOriginalShardIndex` where there is none of this index, then with
-    /// `DuplicateOriginalShardIndex` where it was given, then with `DifferentShardSize`; a refusal changes nothing.
+    /// # Errors
+    ///
+    /// - [`Error::InvalidOriginalShardIndex`] if `index` is not below `original_count`.
+    /// - [`Error::DuplicateOriginalShardIndex`] if this original was added already.
+    /// - [`Error::DifferentShardSize`] if the shard does not have the decoder's size.
+    ///
+    /// # Examples
     ///
     /// ```
-    /// // quoted: crates/rs_callers/src/round_trip.rt
     /// for (index, original) in originals.iter().enumerate() {
     ///     if lost.contains(&index) {
     ///         continue;
@@ -141,13 +158,17 @@ impl<'t> ReedSolomonDecoder<'t> {
         self.decoder.add_original_shard(index, original_shard)
     }
 
-    /// Gives the recovery shard of this index, of the decoder's size in bytes.
+    /// Adds the recovery shard with this index: its place among the recovery shards, counted from 0.
     ///
-    /// Refused with `InvalidRecoveryShardIndex` where there is none of this index, then with
-    /// `DuplicateRecoveryShardIndex` where it was given, then with `DifferentShardSize`; a refusal changes nothing.
+    /// # Errors
+    ///
+    /// - [`Error::InvalidRecoveryShardIndex`] if `index` is not below `recovery_count`.
+    /// - [`Error::DuplicateRecoveryShardIndex`] if this recovery shard was added already.
+    /// - [`Error::DifferentShardSize`] if the shard does not have the decoder's size.
+    ///
+    /// # Examples
     ///
     /// ```
-    /// // quoted: crates/rs_callers/src/levels.rt
     /// for (index, shard) in recovery.recovery_iter().enumerate() {
     ///     decoder.add_recovery_shard(index, shard)?;
     /// }
@@ -161,17 +182,21 @@ impl<'t> ReedSolomonDecoder<'t> {
         self.decoder.add_recovery_shard(index, recovery_shard)
     }
 
-    /// Lends the originals that were not given, and ends the round.
+    /// Restores the originals that were not added, lends them, and ends the round: the decoder then has the same configuration
+    /// with nothing added, whether the result is dropped or forgotten.
     ///
-    /// Refused with `NotEnoughShards` where fewer shards are given than there are originals; that refusal changes
-    /// nothing. Refused with `InconsistentShards` where no message agrees with all that is given, which never comes with
-    /// exactly as many shards as there are originals; that refusal ends the round, so that nothing is given any more.
+    /// The restored originals are those of the only message that matches all added shards. If all originals were added, the
+    /// result is empty. The method is the decoding of Lin, Chung and Han, in the form of Leopard-RS.
     ///
-    /// Else the restored shards are, at exactly the indexes that were not given, those of the only message that agrees,
-    /// and the decoder has the same configuration with nothing given, whether the result was dropped or forgotten.
+    /// # Errors
+    ///
+    /// - [`Error::NotEnoughShards`] if fewer than `original_count` shards were added. The decoder then keeps what was added.
+    /// - [`Error::InconsistentShards`] if more than `original_count` shards were added and no message matches them all. This
+    ///   error ends the round.
+    ///
+    /// # Examples
     ///
     /// ```
-    /// // quoted: crates/rs_callers/src/round_trip.rt
     /// let restored = decoder.decode()?;
     /// restored_copies(alloc, &restored)
     /// ```

@@ -18,14 +18,18 @@ use crate::{EncoderResult, Error};
 use rs_rate::rate::rounds::{encode_round, lent_recovery};
 use std::alloc::Global;
 
-/// An encoder of the default rate over an engine chosen by name, as `DefaultRateEncoder` with a count of steps of its
-/// own.
+/// An encoder of the default rate, over an engine that is chosen by name. It codes any number of messages with the same
+/// memory.
 ///
-/// A round is: `original_count` originals are added in order, then `encode` lends the recovery shards. A refused call
-/// leaves the configuration and the given shards as they were. Memory is taken by `new` and by `reset` alone.
+/// A round is: add `original_count` originals in order, then call `encode`, which lends the recovery shards. The index of
+/// an original is its place in the order of adding, counted from 0. A call that fails changes nothing. Only `new` and
+/// `reset` allocate.
+///
+/// It is [`DefaultRateEncoder`](crate::rate::DefaultRateEncoder) with a count of steps of its own.
+///
+/// # Examples
 ///
 /// ```
-/// // quoted: crates/rs_callers/src/levels.rt
 /// let mut encoder = ReedSolomonEncoder::new(alloc, 3, 2, 12, engine)?;
 /// for shard in ORIGINAL {
 ///     encoder.add_original_shard(shard)?;
@@ -42,10 +46,11 @@ impl<'t> ReedSolomonEncoder<'t> {
     ghost use Rattle.reed_solomon_simd.specs.EncoderObject.{state_of, engine_of, room_of};
     ghost use Rattle.reed_solomon_simd.specs.contracts.encoder.ReedSolomonEncoder.{the_row};
 
-    /// Whether `original_count` originals with `recovery_count` recovery shards are supported.
+    /// Returns whether `original_count` originals with `recovery_count` recovery shards are supported.
+    ///
+    /// # Examples
     ///
     /// ```
-    /// // quoted: crates/rs_callers/src/surface.rt
     /// ReedSolomonEncoder::supports(original_count, recovery_count)
     /// ```
     pub fn supports(original_count: usize, recovery_count: usize) -> bool
@@ -54,13 +59,18 @@ impl<'t> ReedSolomonEncoder<'t> {
         DefaultRateEncoder::<DefaultEngine<'t>>::supports(original_count, recovery_count)
     }
 
-    /// An encoder with nothing given.
+    /// Makes an encoder for `original_count` originals, `recovery_count` recovery shards and shards of `shard_bytes` bytes,
+    /// with nothing added.
     ///
-    /// Refused with `UnsupportedShardCount`, then with `InvalidShardSize` where the size in bytes is zero or odd, then
-    /// with `OutOfMemory` where no memory is found or the rows' size in bytes passes `usize::MAX`.
+    /// # Errors
+    ///
+    /// - [`Error::UnsupportedShardCount`] if the counts are not supported.
+    /// - [`Error::InvalidShardSize`] if `shard_bytes` is zero or odd.
+    /// - [`Error::OutOfMemory`] if the rows cannot be allocated, or if their bytes exceed `usize::MAX`.
+    ///
+    /// # Examples
     ///
     /// ```
-    /// // quoted: crates/rs_callers/src/round_trip.rt
     /// let (k, r) = (originals.len(), recovery_count);
     /// let mut encoder = ReedSolomonEncoder::new(alloc, k, r, shard_bytes, engine)?;
     /// ```
@@ -88,14 +98,17 @@ impl<'t> ReedSolomonEncoder<'t> {
         })
     }
 
-    /// The encoder with another configuration and nothing given. Refused as `new`; a refusal leaves the configuration and
-    /// the given shards.
+    /// Sets the encoder up for other counts and another shard size, with nothing added.
     ///
-    /// `OutOfMemory` never comes where the rows fit the room that the encoder has: where they are its own and the size
-    /// is not above its own, and where it had room for as much before.
+    /// # Errors
+    ///
+    /// The errors of [`new`](Self::new), in the same order. After an error the configuration and the added shards are what they
+    /// were. `reset` never fails with [`Error::OutOfMemory`] if the encoder already holds enough memory. That is the case if
+    /// the counts are unchanged and the shard size is not larger, or if the encoder has been this large before.
+    ///
+    /// # Examples
     ///
     /// ```
-    /// // quoted: crates/rs_callers/src/plain_callers.rt
     /// encoder.reset(original_count, recovery_count, shard_bytes)
     /// ```
     pub fn reset(
@@ -117,13 +130,16 @@ impl<'t> ReedSolomonEncoder<'t> {
             .reset(original_count, recovery_count, shard_bytes)
     }
 
-    /// Gives the next original, of the encoder's size in bytes.
+    /// Adds the next original. The first original has index 0, the second index 1, and so on.
     ///
-    /// Refused with `TooManyOriginalShards` where all are given, then with `DifferentShardSize`; a refusal changes
-    /// nothing.
+    /// # Errors
+    ///
+    /// - [`Error::TooManyOriginalShards`] if all originals were added already.
+    /// - [`Error::DifferentShardSize`] if the shard does not have the encoder's size.
+    ///
+    /// # Examples
     ///
     /// ```
-    /// // quoted: crates/rs_callers/src/round_trip.rt
     /// for original in originals {
     ///     encoder.add_original_shard(original)?;
     /// }
@@ -137,13 +153,18 @@ impl<'t> ReedSolomonEncoder<'t> {
         self.encoder.add_original_shard(original_shard)
     }
 
-    /// Lends the recovery shards of the given originals, and ends the round.
+    /// Computes the recovery shards of the added originals, lends them, and ends the round: the encoder then has the same
+    /// configuration with nothing added, whether the result is dropped or forgotten. Recovery shards are numbered from 0.
     ///
-    /// Refused with `TooFewOriginalShards` where originals are missing; a refusal changes nothing. After a success the
-    /// encoder has the same configuration with nothing given, whether the result was dropped or forgotten.
+    /// The method is the transform of Lin, Chung and Han, in the form of Leopard-RS.
+    ///
+    /// # Errors
+    ///
+    /// [`Error::TooFewOriginalShards`] if originals are missing. The encoder then keeps what was added.
+    ///
+    /// # Examples
     ///
     /// ```
-    /// // quoted: crates/rs_callers/src/surface.rt
     /// match encoder.encode()?.recovery(0) {
     ///     Some(shard) => decoder.add_recovery_shard(0, shard),
     ///     None => Ok(()),

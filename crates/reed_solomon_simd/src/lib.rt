@@ -17,7 +17,6 @@ pub use one_call::{decode, encode};
 /// Why a call was refused.
 ///
 /// ```
-/// // quoted: crates/rs/src/fault.rt
 /// match format!(in alloc; "{refusal}\n") {
 ///     Ok(text) => write_text(err, text.as_str()),
 ///     Err(_) => write_text(err, "out of memory\n"),
@@ -28,7 +27,6 @@ pub use slices::{decode_slice, encode_slice};
 /// What a round lends, and the walks through it.
 ///
 /// ```
-/// // quoted: crates/rs_callers/src/walking.rt
 /// for (index, shard) in lent.restored_original_iter() {
 ///     originals.push((index, shard.to_vec(alloc)?))?;
 /// }
@@ -38,7 +36,6 @@ pub use rs_rate::{DecoderResult, EncoderResult, Recovery, RestoredOriginal};
 /// The field, its tables, and the engines that transform rows of symbols.
 ///
 /// ```
-/// // quoted: crates/rs_callers/src/levels.rt
 /// let tables = Tables::new(alloc)?;
 /// let engine = DefaultEngine::new(&tables, EngineKind::Ssse3);
 /// ```
@@ -47,21 +44,18 @@ pub mod engine {
     /// A word that names no engine.
     ///
     /// ```
-    /// // quoted: crates/rs/src/command.rt
     /// let Ok(engine) = EngineKind::from_str(engine.as_str()) else {
     /// ```
     pub use rs_engines::engine_default::UnknownEngine;
     /// The engine without vectors.
     ///
     /// ```
-    /// // quoted: crates/rs_tests/src/locators.rt
     /// check_engine(&rt, &NoSimd::new(&tables), log);
     /// ```
     pub use rs_engines::engine_nosimd::NoSimd;
     /// The engines of vectors of 16 bytes and of 32.
     ///
     /// ```
-    /// // quoted: crates/rs_tests/src/locators.rt
     /// check_engine(&rt, &Ssse3::new(&tables), log);
     /// check_engine(&rt, &Avx2::new(&tables), log);
     /// ```
@@ -69,7 +63,6 @@ pub mod engine {
     /// The field's constants.
     ///
     /// ```
-    /// // quoted: crates/rs_callers/src/surface.rt
     /// let first = CANTOR_BASIS[0];
     /// (GF_BITS, GF_ORDER, GF_MODULUS, GF_POLYNOMIAL, first)
     /// ```
@@ -79,21 +72,18 @@ pub mod engine {
     /// What each engine does.
     ///
     /// ```
-    /// // quoted: crates/rs_callers/src/surface.rt
     /// engine.locate(steps, entries);
     /// ```
     pub use rs_field::engine::Engine;
     /// The plain engine, which takes each product by logarithms.
     ///
     /// ```
-    /// // quoted: crates/rs_tests/src/locators.rt
     /// check_engine(&rt, &Naive::new(&tables), log);
     /// ```
     pub use rs_field::engine::Naive;
     /// The rows that an engine works on, and the count of its steps.
     ///
     /// ```
-    /// // quoted: crates/rs_tests/src/rows.rt
     /// let mut rows = ShardsRefMut::new(4, 1, &mut chunks);
     /// xor_within(&mut Steps::new(), &mut rows, 0, 2, 2);
     /// ```
@@ -102,14 +92,12 @@ pub mod engine {
     /// All tables, made once, and what engines read of them.
     ///
     /// ```
-    /// // quoted: crates/rs_callers/src/levels.rt
     /// let tables = Tables::new(alloc)?;
     /// ```
     pub mod tables {
         /// All tables, the powers of the generator and the logarithms, a product by these, and the factors of butterflies.
         ///
         /// ```
-        /// // quoted: crates/rs_callers/src/surface.rt
         /// mul(x, log_m, exp, log)
         /// ```
         pub use rs_field::engine::tables::{
@@ -118,14 +106,12 @@ pub mod engine {
         /// The transforms of the logarithms.
         ///
         /// ```
-        /// // quoted: crates/rs_callers/src/surface.rt
         /// (get_exp_log(tables), get_skew(tables), get_log_walsh(tables))
         /// ```
         pub use rs_field::engine::tables::{LogWalsh, get_log_walsh, get_log_walsh_below};
         /// The products by nibbles, as words and as bytes.
         ///
         /// ```
-        /// // quoted: crates/rs_callers/src/surface.rt
         /// (get_mul16(tables), get_mul128(tables))
         /// ```
         pub use rs_field::engine::tables::{Mul16, Mul128, Multiply128lutT, get_mul16, get_mul128};
@@ -136,24 +122,20 @@ pub mod engine {
         /// The locator of marked points.
         ///
         /// ```
-        /// // quoted: crates/rs_callers/src/surface.rt
         /// eval_poly(steps, erasures, GF_ORDER, get_log_walsh(tables));
         /// ```
         ///
         /// ```
-        /// // quoted: crates/rs_callers/src/surface.rt
         /// locate(steps, entries, get_log_walsh_below(tables, 64));
         /// ```
         pub use rs_field::engine::utils::{eval_poly, locate};
         /// Sums of chunks, and of ranges of rows.
         ///
         /// ```
-        /// // quoted: crates/rs_callers/src/surface.rt
         /// xor(first, second);
         /// ```
         ///
         /// ```
-        /// // quoted: crates/rs_callers/src/surface.rt
         /// xor_within(steps, rows, 0, 1, 1);
         /// ```
         pub use rs_field::engine::utils::{xor, xor_within};
@@ -163,7 +145,6 @@ pub mod engine {
 /// The rates of the code, their encoders and decoders.
 ///
 /// ```
-/// // quoted: crates/rs_callers/src/levels.rt
 /// let engine = Ssse3::new(&tables);
 /// let mut steps = Steps::new();
 /// let mut encoder = DefaultRateEncoder::new(alloc, 3, 2, 12, engine, None)?;
@@ -172,7 +153,6 @@ pub mod rate {
     /// Encoders and decoders, and what is common to those of all rates.
     ///
     /// ```
-    /// // quoted: crates/rs_callers/src/callers.rt
     /// let result = encoder.encode(steps)?;
     /// ```
     pub use rs_rate::rate::{
@@ -182,21 +162,18 @@ pub mod rate {
     /// Counts that a rate supports: asked for once, where a call begins.
     ///
     /// ```
-    /// // quoted: crates/reed_solomon_simd/src/one_call.rt
     /// let counts = DefaultRateCounts::new(original_count, recovery_count)?;
     /// ```
     pub use rs_rate::rate::{DefaultRateCounts, HighRateCounts, LowRateCounts};
     /// Memory that passes from object to object.
     ///
     /// ```
-    /// // quoted: crates/rs_callers/src/surface.rt
     /// (EncoderWork::new(), DecoderWork::new())
     /// ```
     pub use rs_rate::rate::{DecoderWork, EncoderWork};
     /// What a rate makes: its encoders and decoders.
     ///
     /// ```
-    /// // quoted: crates/rs_callers/src/callers.rt
     /// let (engine, work) = decoder.into_parts();
     /// R::decoder(
     ///     alloc,

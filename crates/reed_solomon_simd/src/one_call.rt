@@ -16,18 +16,30 @@ use rs_rate::{DecoderResult, EncoderResult};
 use std::alloc::Global;
 use std::collections::BTreeMap;
 
-/// The recovery shards of the originals, in order of index.
+/// Encodes the originals and returns the recovery shards, in order of their index.
 ///
-/// The shards' size is that of the first original. Refused, in this order: with `UnsupportedShardCount`; with
-/// `TooFewOriginalShards` where no original comes; with `InvalidShardSize` and `OutOfMemory` by the first original;
-/// as an encoder refuses each original, in order, with `TooManyOriginalShards` or `DifferentShardSize`; with
-/// `TooFewOriginalShards`; with `OutOfMemory` where the results can't be collected. After a refusal no further original
-/// is asked for, and after the iterator's end none at all.
+/// `original` gives the originals in order; the first one has index 0. All have the size of the first, an even number of
+/// bytes above zero. After an error no further original is asked for, and after the end of the iterator none at all.
+///
+/// # Errors
+///
+/// - [`Error::UnsupportedShardCount`] if the counts are not supported.
+/// - [`Error::TooFewOriginalShards`] with 0 received shards if no original comes.
+/// - [`Error::InvalidShardSize`] if the size of the first original is zero or odd.
+/// - [`Error::OutOfMemory`] if the rows cannot be allocated.
+/// - For each original in order: [`Error::TooManyOriginalShards`], then [`Error::DifferentShardSize`].
+/// - [`Error::TooFewOriginalShards`] if fewer than `original_count` originals came.
+/// - [`Error::OutOfMemory`] if the results cannot be allocated.
+///
+/// # Examples
+///
+/// One recovery shard of three originals is their XOR:
 ///
 /// ```
-/// // quoted: crates/rs_callers/src/one_call.rt
-/// let shards = original.iter().map(|shard| shard.as_slice());
-/// encode(alloc, original_count, recovery_count, shards, engine)
+/// let original: [&[u8]; 3] = [&[1, 2], &[4, 8], &[16, 32]];
+/// let recovery = encode(alloc, 3, 1, original.into_iter(), engine)?;
+/// assert_eq!(rt; recovery.len(), 1);
+/// assert_eq!(rt; recovery[0].as_slice(), [21, 42].as_slice());
 /// ```
 pub fn encode<'a, I: Iterator<Item = &'a [u8]> + Drop>(
     alloc: Global,
@@ -53,22 +65,45 @@ pub fn encode<'a, I: Iterator<Item = &'a [u8]> + Drop>(
     collect_recovery(alloc, &result)
 }
 
-/// The originals that are not among the given shards, by their index.
+/// Decodes the received shards and returns the missing originals, by their index.
 ///
-/// Shards come with their indexes; the size is that of the first recovery shard. Refused, in this order: with
-/// `UnsupportedShardCount`; with `InvalidShardSize` and `OutOfMemory` by the first recovery shard; as a decoder refuses
-/// each original, in order, and then each recovery shard, in order; with `NotEnoughShards`; with `InconsistentShards`;
-/// with `OutOfMemory` where the results can't be collected. After a refusal no further shard is asked for.
+/// `original` and `recovery` give the received shards with their indexes. Originals are numbered from 0 in the order in
+/// which they were encoded, and recovery shards are numbered from 0 on their own. All shards have the size of the first
+/// recovery shard. After an error no further shard is asked for.
 ///
-/// Where no recovery shard comes there is nothing to restore, and no size is looked at: the call is refused with
-/// `OutOfMemory` where the indexes can't be noted, then for each original in order with `InvalidOriginalShardIndex` or
-/// `DuplicateOriginalShardIndex`, then with `NotEnoughShards`, and else answers the empty map.
+/// If no recovery shard comes, nothing can be restored. Then only the indexes of the originals are looked at, and no size.
+///
+/// # Errors
+///
+/// If a recovery shard comes:
+///
+/// - [`Error::UnsupportedShardCount`] if the counts are not supported.
+/// - [`Error::InvalidShardSize`] if the size of the first recovery shard is zero or odd.
+/// - [`Error::OutOfMemory`] if the rows cannot be allocated.
+/// - For each original in order: [`Error::InvalidOriginalShardIndex`], [`Error::DuplicateOriginalShardIndex`],
+///   [`Error::DifferentShardSize`].
+/// - For each recovery shard in order: [`Error::InvalidRecoveryShardIndex`], [`Error::DuplicateRecoveryShardIndex`],
+///   [`Error::DifferentShardSize`].
+/// - [`Error::NotEnoughShards`] if fewer than `original_count` shards came.
+/// - [`Error::InconsistentShards`] if more came and no message matches them all.
+/// - [`Error::OutOfMemory`] if the results cannot be allocated.
+///
+/// If none comes:
+///
+/// - [`Error::UnsupportedShardCount`] if the counts are not supported.
+/// - [`Error::OutOfMemory`] if the marks of the indexes cannot be allocated.
+/// - For each original in order: [`Error::InvalidOriginalShardIndex`], [`Error::DuplicateOriginalShardIndex`].
+/// - [`Error::NotEnoughShards`] if originals are missing.
+///
+/// # Examples
+///
+/// Two recovery shards restore two lost originals:
 ///
 /// ```
-/// // quoted: crates/rs_callers/src/levels.rt
-/// let received = recovery.iter().map(|shard| shard.as_slice()).enumerate();
-/// let original = [(1, ORIGINAL[1])].into_iter();
-/// let restored = reed_solomon_simd::decode(alloc, 3, 2, original, received, engine)?;
+/// let received: [(usize, &[u8]); 2] = [(0, &[2, 0]), (1, &[3, 0])];
+/// let restored = decode(alloc, 2, 3, [].into_iter(), received.into_iter(), engine)?;
+/// assert_eq!(rt; restored.get(&0).ok_or("none")?.as_slice(), [0, 0].as_slice());
+/// assert_eq!(rt; restored.get(&1).ok_or("none")?.as_slice(), [1, 0].as_slice());
 /// ```
 pub fn decode<'a, O, R>(
     alloc: Global,

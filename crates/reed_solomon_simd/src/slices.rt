@@ -9,10 +9,16 @@ use std::alloc::Global;
 use std::collections::BTreeMap;
 use std::convert::AsSlice;
 
-/// `encode` of originals that lie in a slice: vectors, arrays or slices of bytes. Refused as `encode`.
+/// Encodes originals that lie in a slice, as [`encode`] does: vectors, arrays or slices of bytes. `original[i]` is the
+/// original with index i.
+///
+/// # Errors
+///
+/// The errors of [`encode`].
+///
+/// # Examples
 ///
 /// ```
-/// // quoted: crates/rs_callers/src/levels.rt
 /// let engine = DefaultEngine::new(&tables, EngineKind::Ssse3);
 /// let recovery = encode_slice(alloc, 3, 2, &ORIGINAL, engine)?;
 /// ```
@@ -30,11 +36,16 @@ pub fn encode_slice<T: AsSlice<u8>>(
     encode(alloc, original_count, recovery_count, shards, engine)
 }
 
-/// `decode` of shards that lie in slices, each with its index: originals, and recovery shards, each of them vectors,
-/// arrays or slices of bytes. Refused as `decode`.
+/// Decodes received shards that lie in slices, as [`decode`] does: originals and recovery shards, each with its index, and
+/// each a vector, an array or a slice of bytes. This call has no condition, so it is the shortest form of the main theorem.
+///
+/// # Errors
+///
+/// The errors of [`decode`].
+///
+/// # Examples
 ///
 /// ```
-/// // quoted: crates/rs_callers/src/levels.rt
 /// let received: Vec<(usize, Vec<u8>)> = recovery.into_iter().enumerate().collect(alloc)?;
 /// let restored = decode_slice(alloc, 3, 2, &[(1, ORIGINAL[1])], &received, engine)?;
 /// ```

@@ -6,10 +6,12 @@ use rs_field::engine::{Engine, GfElement, Naive, ShardsRefMut, Steps};
 use std::fmt;
 use std::str::FromStr;
 
-/// The kinds of engines. In lower case the name of each is read as the kind.
+/// The kinds of engines. [`FromStr`](std::str::FromStr) reads their names in lower case: `naive`, `nosimd`, `avx2` and
+/// `ssse3`.
+///
+/// # Examples
 ///
 /// ```
-/// // quoted: crates/rs/src/command.rt
 /// let Ok(engine) = EngineKind::from_str(engine.as_str()) else {
 ///     return Err(Fault::Usage);
 /// };
@@ -26,7 +28,7 @@ pub enum EngineKind {
     Ssse3,
 }
 
-/// What is read as a kind and isn't the name of one.
+/// The error of a word that names no engine.
 #[derive(Clone, Copy, Debug, PartialEq, Eq, Hash)]
 pub struct UnknownEngine;
 
@@ -62,10 +64,11 @@ impl FromStr for EngineKind {
     }
 }
 
-/// An engine of any kind. It borrows the tables and takes no memory of its own.
+/// An engine of any kind, chosen while the program runs. It borrows the tables and allocates nothing.
+///
+/// # Examples
 ///
 /// ```
-/// // quoted: crates/rs_callers/src/surface.rt
 /// [naive.into(), no_simd.into(), avx2.into(), ssse3.into()]
 /// ```
 #[derive(Clone, Copy)]
@@ -84,10 +87,11 @@ impl<'t> DefaultEngine<'t> {
     ghost use Rattle.std.specs.Prelude.{◌≡◌};
     ghost use Rattle.rs_engines.specs.Kind.{kind_of, tables_of};
 
-    /// The engine of this kind over these tables.
+    /// Makes the engine of this kind over these tables.
+    ///
+    /// # Examples
     ///
     /// ```
-    /// // quoted: crates/rs_callers/src/levels.rt
     /// let tables = Tables::new(alloc)?;
     /// let engine = DefaultEngine::new(&tables, EngineKind::Ssse3);
     /// ```

@@ -14,17 +14,18 @@ use rs_field::engine::symbols::{add_symbol, set_symbol};
 use rs_field::engine::tables::{Tables, get_mul16};
 use rs_field::engine::{GF_MODULUS, GfElement, utils};
 
-/// The engine by products of nibbles. It borrows the tables and takes no memory of its own.
+/// The engine without vectors: it looks up products by nibbles. It borrows the tables and allocates nothing.
 #[derive(Clone, Copy)]
 pub struct NoSimd<'t> {
     tables: &'t Tables,
 }
 
 impl<'t> NoSimd<'t> {
-    /// The engine over these tables.
+    /// Makes the engine without vectors over these tables.
+    ///
+    /// # Examples
     ///
     /// ```
-    /// // quoted: crates/rs_tests/src/locators.rt
     /// check_engine(&rt, &NoSimd::new(&tables), log);
     /// ```
     pub fn new(tables: &'t Tables) -> NoSimd<'t>

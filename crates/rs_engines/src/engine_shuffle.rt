@@ -14,20 +14,19 @@ use rs_field::engine::tables::{Tables, get_mul128};
 use std::marker::PhantomData;
 use std::simd::prelude::*;
 
-/// An engine by shuffles of vectors V. It borrows the tables and takes no memory of its own.
+/// An engine that looks up products by shuffles of byte vectors. It borrows the tables and allocates nothing.
 ///
-/// It runs on any machine, and is fast where a shuffle of bytes is one instruction.
+/// It runs on any machine, and is fast if the processor shuffles bytes with one instruction.
 #[derive(Clone, Copy)]
 pub struct ByShuffles<'t, V: ByteVector> {
     tables: &'t Tables,
     vectors: PhantomData<V>,
 }
 
-/// The engine by shuffles of 16 byte lanes, the width of SSSE3's vectors: the fastest one in a build for x86-64-v2.
+/// The engine with vectors of 16 bytes, the width of SSSE3. It is the fastest engine in the default build, x86-64-v2.
 pub type Ssse3<'t> = ByShuffles<'t, u8x16>;
 
-/// The engine by shuffles of 32 byte lanes, the width of AVX2's vectors: the fastest one in a build with AVX2, as for
-/// x86-64-v3.
+/// The engine with vectors of 32 bytes, the width of AVX2. It is the fastest engine in a build for AVX2, `--cpu=x86-64-v3`.
 pub type Avx2<'t> = ByShuffles<'t, u8x32>;
 
 /// The width of the vectors of an engine.
@@ -44,7 +43,6 @@ impl<'t> Ssse3<'t> {
     /// Makes the engine of 16 byte lanes over these tables.
     ///
     /// ```
-    /// // quoted: crates/rs_callers/src/levels.rt
     /// let tables = Tables::new(alloc)?;
     /// let engine = Ssse3::new(&tables);
     /// ```

@@ -24,16 +24,19 @@ pub mod utils {
     pub use crate::words::locating::{eval_poly, locate};
 }
 
-/// What the coder asks of an engine: transforms of rows, the product of a row, and the locator.
+/// An engine: the transforms of rows, the product of a row, and the locator that encoders and decoders need.
 ///
-/// The transforms are those of Lin, Chung and Han ("Novel polynomial basis and its application to Reed-Solomon
-/// erasure codes"), in the form of Leopard-RS: between coefficients in the basis of subspace polynomials and values
-/// on a coset, in each symbol by itself. All calls succeed always and take no memory.
+/// The transforms are those of Lin, Chung and Han ("Novel polynomial basis and its application to Reed-Solomon erasure
+/// codes"), in the form of Leopard-RS. They lead from coefficients in the basis of subspace polynomials to values on a coset,
+/// for each symbol by itself. Every call succeeds and allocates nothing.
+///
+/// A type that provides `fft`, `ifft`, `mul` and `eval_poly` is an engine. The other three calls have default bodies.
 pub trait Engine: Drop {
-    /// The forward transform of the `size` rows from `pos` on, at `skew_delta`.
+    /// Transforms the `size` rows from `pos` on forward, at `skew_delta`.
     ///
-    /// Row i of them, for i below `truncated_size`, becomes the sum over q of the old row q times the basis polynomial
-    /// q at the point `skew_delta + i`. The rows from `truncated_size` on are open; rows outside are unchanged.
+    /// For i below `truncated_size`, row i of them becomes the sum, over q below `size`, of the old row q times the basis
+    /// polynomial q at the point `skew_delta + i`. The rows from `truncated_size` on hold anything afterwards. All other rows
+    /// are unchanged. `size` is a power of two, and `skew_delta` a multiple of it.
     fn fft(
         &self,
         steps: &mut Steps,
@@ -55,10 +58,8 @@ pub trait Engine: Drop {
             → word «data».new k s (pos + i) ≡ forward size skew_delta (λ q. word «data».old k s (pos + q)) i }
         ensures counts { TransformCounts size steps.old steps.new };
 
-    /// The backward transform of the `size` rows from `pos` on, at `skew_delta`.
-    ///
-    /// The rows become those whose forward transform they were. The rows from `truncated_size` on are zero when the
-    /// call begins; rows outside are unchanged.
+    /// Transforms the `size` rows from `pos` on backward, at `skew_delta`: they become the rows whose forward transform they
+    /// were. The rows from `truncated_size` on must be zero before. All other rows are unchanged.
     fn ifft(
         &self,
         steps: &mut Steps,
@@ -81,11 +82,11 @@ pub trait Engine: Drop {
             → word «data».old k s (pos + i) ≡ forward size skew_delta (λ q. word «data».new k s (pos + q)) i }
         ensures counts { TransformCounts size steps.old steps.new };
 
-    /// The forward transform of as many rows as there are marks, from `pos` on, at `skew_delta`.
+    /// Transforms the rows from `pos` on forward, at `skew_delta`, as many as `wanted` has marks.
     ///
-    /// Row i of them, where it is marked as wanted, becomes the sum over q of the old row q times the basis polynomial q
-    /// at the point `skew_delta + i`. The rows that aren't wanted are open; rows outside are unchanged. An engine that
-    /// brings no such call makes one `fft`, truncated behind the last wanted row.
+    /// Row i of them, if it is marked as wanted, becomes the sum, over all q, of the old row q times the basis polynomial q at
+    /// the point `skew_delta + i`. Rows that are not wanted hold anything afterwards. All other rows are unchanged. The default
+    /// body makes one `fft` that is truncated after the last wanted row.
     fn fft_wanted(
         &self,
         steps: &mut Steps,
@@ -110,11 +111,9 @@ pub trait Engine: Drop {
         self.fft(steps, data, pos, wanted.len(), end, skew_delta);
     }
 
-    /// The backward transform of as many rows as there are marks, from `pos` on, at `skew_delta`.
-    ///
-    /// The rows become those whose forward transform they were. Those that aren't marked as given are zero when the call
-    /// begins; rows outside are unchanged. An engine that brings no such call makes one `ifft`, truncated behind the last
-    /// given row.
+    /// Transforms the rows from `pos` on backward, at `skew_delta`, as many as `given` has marks: they become the rows whose
+    /// forward transform they were. Rows that are not marked as given must be zero before. All other rows are unchanged. The
+    /// default body makes one `ifft` that is truncated after the last given row.
     fn ifft_given(
         &self,
         steps: &mut Steps,
@@ -140,17 +139,17 @@ pub trait Engine: Drop {
         self.ifft(steps, data, pos, given.len(), end, skew_delta);
     }
 
-    /// Multiplies every symbol of every chunk of a row by the generator to the power `log_m`; 65535 is the factor one.
+    /// Multiplies every symbol of every chunk of a row by the generator to the power `log_m`. 65535 is the factor one.
     fn mul(&self, steps: &mut Steps, x: &mut [[u8; 64]], log_m: GfElement)
         ensures products { (k s : ℕ) → k < length x.old → s < 32
             → symbol (chunk x.new k) s ≡ product (symbol (chunk x.old k) s) (power log_m) }
         ensures counts { RowProductCounts steps.old steps.new };
 
-    /// The locator of the marked points, at all points at once: entry x becomes, modulo 65535, the sum over all points y
-    /// other than x of entry y times the logarithm of `x XOR y`.
+    /// Computes the locator of the marked points, at all points at once: entry x becomes, modulo 65535, the sum over all
+    /// points y other than x of entry y times the logarithm of `x XOR y`.
     ///
-    /// There are 65536 entries, and those from `truncated_size` on, at most 65536, are 0. Of a new entry the residue
-    /// alone is fixed: 0 and 65535 both stand for zero. The locator is that of Leopard-RS.
+    /// There are 65536 entries, and those from `truncated_size` on are 0; `truncated_size` is at most 65536. Only the residue of
+    /// a new entry is fixed: 0 and 65535 both represent zero. The locator is that of Leopard-RS.
     fn eval_poly(&self, steps: &mut Steps, erasures: &mut [GfElement], truncated_size: usize)
         requires size { length erasures.old ≡ 65536 }
         requires truncated { truncated_size ≤ 65536 }
@@ -158,12 +157,12 @@ pub trait Engine: Drop {
         ensures values { IsLocator (λ y. slice_index erasures.old y) (λ x. slice_index erasures.new x) }
         ensures counts { LocatorCounts steps.old steps.new };
 
-    /// The locator of the marked points among the first ones, as many as there are entries, at these points: entry x
-    /// becomes, modulo 65535, the sum over these points y other than x of entry y times the logarithm of `x XOR y`.
+    /// Computes the locator of marked points among the first ones, at these points. There are as many points as entries, a
+    /// power of two and at most 65536: entry x becomes, modulo 65535, the sum over these points y other than x of entry y times
+    /// the logarithm of `x XOR y`.
     ///
-    /// There are a power of two of entries, at most 65536. Of a new entry the residue alone is fixed: 0 and 65535 both
-    /// stand for zero. An engine that brings no such call makes one `eval_poly`, with no point past the entries marked,
-    /// over 65536 entries on the stack.
+    /// Only the residue of a new entry is fixed: 0 and 65535 both represent zero. The default body makes one `eval_poly` over
+    /// 65536 entries on the stack, with no point after the entries marked.
     fn locate(&self, steps: &mut Steps, erasures: &mut [GfElement])
         requires power { (d : ℕ) × (length erasures.old ≡ 2 ^ d) }
         requires few { length erasures.old ≤ 65536 }

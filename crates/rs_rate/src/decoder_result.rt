@@ -33,14 +33,15 @@ impl<'a> DecoderResult<'a> {
         }
     }
 
-    /// The restored original at `index`; None where that original was given or there is none of this index.
+    /// Returns the restored original with this index, or `None` if that original was added to the decoder or no original has
+    /// this index.
     pub fn restored_original(&self, index: usize) -> Option<&[u8]>
         ensures { option_copied result ≡ restored_originals self.now index }
     {
         self.rows.restored_original(index)
     }
 
-    /// The restored originals with their indexes, in order of index. There are no more than a `usize` can count.
+    /// Returns an iterator over the restored originals with their indexes, in order of index. It knows its exact length.
     pub fn restored_original_iter(&self) -> RestoredOriginal<'_>
         ensures listed { Lists (restored_originals self.now) result }
         ensures few { length result < 2 ^ 64 }
@@ -53,8 +54,8 @@ impl<'a> DecoderResult<'a> {
     }
 }
 
-/// The restored originals of a round that are still to come, with their indexes, in order of index. They are lent from
-/// the rows.
+/// An iterator over the restored originals of a round, with their indexes, in order of index. Shards are lent from the
+/// rows.
 #[derive(Drop)]
 pub struct RestoredOriginal<'a> {
     rows: &'a DecoderRows,

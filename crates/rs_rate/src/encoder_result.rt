@@ -7,7 +7,7 @@ use crate::rate::encoder_work::EncoderRows;
 use std::iter::FusedIterator;
 use std::marker::Model;
 
-/// The recovery shards that `encode` made. They are lent from the rows, without copying.
+/// The recovery shards that `encode` computed. They are lent from the rows, without copying.
 #[derive(Drop)]
 pub struct EncoderResult<'a> {
     rows: &'a EncoderRows,
@@ -25,7 +25,7 @@ impl<'a> EncoderResult<'a> {
         EncoderResult { rows }
     }
 
-    /// The recovery shard at `index`; None exactly where `index` is not below the recovery count.
+    /// Returns the recovery shard with this index, or `None` if `index` is not below the number of recovery shards.
     pub fn recovery(&self, index: usize) -> Option<&[u8]>
         ensures { MatchOption result (length (recovery_shards self.now) ≤ index)
             (λ shard. (index < length (recovery_shards self.now)) × (shard.now ≡ shard_at (recovery_shards self.now) index)) }
@@ -33,7 +33,7 @@ impl<'a> EncoderResult<'a> {
         self.rows.recovery(index)
     }
 
-    /// The recovery shards in order of index. There are no more than a `usize` can count.
+    /// Returns an iterator over the recovery shards, in order of index. It knows its exact length.
     pub fn recovery_iter(&self) -> Recovery<'_>
         ensures shards { result ≡ recovery_shards self.now }
         ensures few { length (recovery_shards self.now) < 2 ^ 64 }
@@ -45,7 +45,7 @@ impl<'a> EncoderResult<'a> {
     }
 }
 
-/// The recovery shards of a round that are still to come, in order of index. They are lent from the rows.
+/// An iterator over the recovery shards of a round, in order of index. Shards are lent from the rows.
 #[derive(Drop)]
 pub struct Recovery<'a> {
     rows: &'a EncoderRows,

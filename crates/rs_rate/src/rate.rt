@@ -34,7 +34,7 @@ use rs_field::error::Error;
 use std::alloc::Global;
 pub use supported_counts::{DefaultRateCounts, HighRateCounts, LowRateCounts};
 
-/// A rate of the code, over an engine: the counts that it supports, its encoders and its decoders.
+/// A rate of the code over an engine: which counts it supports, and its encoders and decoders.
 pub trait Rate<E: Engine>: Sized {
     ghost use Rattle.std.specs.Prelude.{◌≡◌, ◌≤◌, IfOk, IfSome};
     ghost use Rattle.rs_field.specs.code.Counts.{Rate as WhichRate, supports as supports_counts};
@@ -55,14 +55,19 @@ pub trait Rate<E: Engine>: Sized {
 
     ghost rate: { WhichRate };
 
-    /// Whether the rate supports `original_count` originals with `recovery_count` recovery shards.
+    /// Returns whether the rate supports `original_count` originals with `recovery_count` recovery shards.
     fn supports(original_count: usize, recovery_count: usize) -> bool
         ensures { result ≡ supports_counts rate original_count recovery_count }
     {
         Self::RateEncoder::supports(original_count, recovery_count)
     }
 
-    /// `UnsupportedShardCount` where the counts aren't supported, else `InvalidShardSize` where the size is zero or odd.
+    /// Checks a configuration, without making anything.
+    ///
+    /// # Errors
+    ///
+    /// - [`Error::UnsupportedShardCount`] if the rate does not support the counts.
+    /// - [`Error::InvalidShardSize`] if `shard_bytes` is zero or odd.
     fn validate(
         original_count: usize,
         recovery_count: usize,
@@ -73,7 +78,11 @@ pub trait Rate<E: Engine>: Sized {
         Self::RateEncoder::validate(original_count, recovery_count, shard_bytes)
     }
 
-    /// An encoder of the rate, as `RateEncoder::new` makes it.
+    /// Makes an encoder of the rate, as [`RateEncoder::new`] does.
+    ///
+    /// # Errors
+    ///
+    /// The errors of [`RateEncoder::new`].
     fn encoder(
         alloc: Global,
         original_count: usize,
@@ -100,7 +109,11 @@ pub trait Rate<E: Engine>: Sized {
         )
     }
 
-    /// A decoder of the rate, as `RateDecoder::new` makes it.
+    /// Makes a decoder of the rate, as [`RateDecoder::new`] does.
+    ///
+    /// # Errors
+    ///
+    /// The errors of [`RateDecoder::new`].
     fn decoder(
         alloc: Global,
         original_count: usize,
@@ -127,18 +140,19 @@ pub trait Rate<E: Engine>: Sized {
         )
     }
 
-    /// Its encoders and decoders are of this rate.
+    /// The encoders of a rate are of this rate.
     ghost encoder_rate: { Self.RateEncoder.rate ≡ rate };
 
+    /// The decoders of a rate are of this rate.
     ghost decoder_rate: { Self.RateDecoder.rate ≡ rate };
 }
 
 /// The encoder of a rate, over an engine.
 ///
-/// A round is: `original_count` originals are added in order, then `encode` lends the recovery shards. The round ends
-/// inside `encode`: the encoder then has the same configuration with nothing given, whether the result was dropped or
-/// forgotten. A refused call leaves the configuration and the given shards as they were. Memory is taken by `new` and
-/// by `reset` alone.
+/// A round is: add `original_count` originals in order, then call `encode`, which lends the recovery shards. The round ends
+/// inside `encode`: the encoder then has the same configuration with nothing added, whether the result is dropped or
+/// forgotten. The index of an original is its place in the order of adding, counted from 0. A call that fails changes
+/// nothing. Only `new` and `reset` allocate.
 pub trait RateEncoder<E: Engine>: Sized {
     ghost use Rattle.std.specs.Prelude.{◌≡◌, ◌≢◌, ◌≤◌, ℕ, Err, IfOk, IfSome, OnOk, OnErr};
     ghost use Rattle.std.specs.Borrow.{sem};
@@ -164,11 +178,16 @@ pub trait RateEncoder<E: Engine>: Sized {
 
     ghost room: { Self → ℕ };
 
-    /// Whether the rate supports `original_count` originals with `recovery_count` recovery shards.
+    /// Returns whether the rate supports `original_count` originals with `recovery_count` recovery shards.
     fn supports(original_count: usize, recovery_count: usize) -> bool
         ensures { result ≡ supports_counts rate original_count recovery_count };
 
-    /// `UnsupportedShardCount` where the counts aren't supported, else `InvalidShardSize` where the size is zero or odd.
+    /// Checks a configuration, without making anything.
+    ///
+    /// # Errors
+    ///
+    /// - [`Error::UnsupportedShardCount`] if the rate does not support the counts.
+    /// - [`Error::InvalidShardSize`] if `shard_bytes` is zero or odd.
     fn validate(
         original_count: usize,
         recovery_count: usize,
@@ -176,10 +195,15 @@ pub trait RateEncoder<E: Engine>: Sized {
     ) -> Result<(), Error>
         ensures { result ≡ validated (configuration rate original_count recovery_count shard_bytes) };
 
-    /// An encoder with nothing given, in the memory of `work` where one is passed.
+    /// Makes an encoder with nothing added, for shards of `shard_bytes` bytes. If a `work` is passed, its memory is used.
     ///
-    /// Refused as by `validate`, then with `OutOfMemory` where no memory is found or the rows' size in bytes
-    /// passes `usize::MAX`. A refusal drops the engine and the work.
+    /// # Errors
+    ///
+    /// - [`Error::UnsupportedShardCount`] if the rate does not support the counts.
+    /// - [`Error::InvalidShardSize`] if `shard_bytes` is zero or odd.
+    /// - [`Error::OutOfMemory`] if the rows cannot be allocated, or if their bytes exceed `usize::MAX`.
+    ///
+    /// After an error the engine and the work are dropped.
     fn new(
         alloc: Global,
         original_count: usize,
@@ -195,11 +219,13 @@ pub trait RateEncoder<E: Engine>: Sized {
         ensures roomy { IfSome work (λ w. chunk_count (encoder_rows rate original_count recovery_count) shard_bytes ≤ work_room w
             → answer_of result ≡ started (encoder_rows rate original_count recovery_count) (configuration rate original_count recovery_count shard_bytes)) };
 
-    /// The encoder with another configuration and nothing given. Refused as `new`; a refusal leaves the configuration and
-    /// the given shards.
+    /// Sets the encoder up for other counts and another shard size, with nothing added.
     ///
-    /// `OutOfMemory` never comes where the rows fit the room that the encoder has: where they are its own and the size
-    /// is not above its own, and where it had room for as much before.
+    /// # Errors
+    ///
+    /// The errors of `new`, in the same order. After an error the configuration and the added shards are what they were.
+    /// `reset` never fails with [`Error::OutOfMemory`] if the encoder already holds enough memory. That is the case if the rows are
+    /// its own and the shard size is not larger, or if the encoder has been this large before.
     fn reset(
         &mut self,
         original_count: usize,
@@ -216,35 +242,41 @@ pub trait RateEncoder<E: Engine>: Sized {
         ensures engine { engine_of self.new ≡ engine_of self.old }
         ensures grown { room self.old ≤ room self.new };
 
-    /// Gives the next original, of the encoder's size in bytes.
+    /// Adds the next original. The first original has index 0, the second index 1, and so on.
     ///
-    /// Refused with `TooManyOriginalShards` where all are given, then with `DifferentShardSize`; a refusal changes
-    /// nothing.
+    /// # Errors
+    ///
+    /// - [`Error::TooManyOriginalShards`] if all originals were added already.
+    /// - [`Error::DifferentShardSize`] if the shard does not have the encoder's size.
     fn add_original_shard(&mut self, original_shard: &[u8]) -> Result<(), Error>
         ensures answer { result ≡ answer_of (with_shard (state self.old) original_shard.now) }
         ensures left { state self.new ≡ state_after (state self.old) (with_shard (state self.old) original_shard.now) }
         ensures engine { engine_of self.new ≡ engine_of self.old }
         ensures room { room self.new ≡ room self.old };
 
-    /// Lends the recovery shards of the given originals, and ends the round.
+    /// Computes the recovery shards of the added originals, lends them, and ends the round. Recovery shards are numbered
+    /// from 0.
     ///
-    /// Refused with `TooFewOriginalShards` where originals are missing; a refusal changes nothing. The method is that of
-    /// Lin, Chung and Han in the form of Leopard-RS. With c blocks of m rows at most
-    /// `(c + 1) * (m/2 * log2 m) + 2 * c * m` row steps are counted, no pair sum and no product.
+    /// The method is the transform of Lin, Chung and Han, in the form of Leopard-RS. With c blocks of m rows, it counts at most
+    /// `(c + 1) * (m/2 * log2 m) + 2 * c * m` row steps on `steps`, no pair sum and no product.
+    ///
+    /// # Errors
+    ///
+    /// [`Error::TooFewOriginalShards`] if originals are missing. The encoder then keeps what was added.
     fn encode(&mut self, steps: &mut Steps) -> Result<EncoderResult<'_>, Error>
         ensures answer { EncodeAnswers (state self.old) (answered_shards result) }
         ensures counts { let c = (state self.old).configuration in EncodeCountsAt rate c.original_count c.recovery_count steps.old steps.new }
         ensures* ends { sem 𝓛 (EndsWith Self.row self.entry
             (λ now. (state now ≡ after_encode (state self.old)) × (engine_of now ≡ engine_of self.old) × (room now ≡ room self.old))) };
 
-    /// The engine and the work, for another encoder: it has room for this one's configuration.
+    /// Returns the engine and the work. Another encoder can use the work, which has room for this encoder's configuration.
     fn into_parts(self) -> (E, EncoderWork)
         ensures engine { result.0 ≡ engine_of self }
         ensures room { work_room result.1 ≡ room self }
         ensures enough { let c = (state self).configuration in
             chunk_count (encoder_rows rate c.original_count c.recovery_count) c.shard_bytes ≤ work_room result.1 };
 
-    /// An encoder's configuration is a valid one of its rate, and no more is given than it takes.
+    /// An encoder's configuration is valid for its rate, and no more originals were added than it takes.
     ghost valid: { (x : Self) → IsEncoder rate (state x) };
 
     /// An encoder has room for its own rows.
@@ -254,10 +286,11 @@ pub trait RateEncoder<E: Engine>: Sized {
 
 /// The decoder of a rate, over an engine.
 ///
-/// A round is: shards are given by their index, at least `original_count` of all, then `decode` lends the originals
-/// that were not given. The round ends inside `decode`: the decoder then has the same configuration with nothing given,
-/// whether the result was dropped or forgotten. A refused call leaves the configuration and the given shards as they
-/// were, but for `InconsistentShards`, which ends the round. Memory is taken by `new` and by `reset` alone.
+/// A round is: add shards by their index, in any order, until at least `original_count` are there; then call `decode`, which
+/// lends the missing originals. The round ends inside `decode`: the decoder then has the same configuration with nothing
+/// added, whether the result is dropped or forgotten. Originals are numbered from 0 in the order in which they were encoded,
+/// and recovery shards are numbered from 0 on their own. A call that fails changes nothing, except for
+/// [`Error::InconsistentShards`], which ends the round. Only `new` and `reset` allocate.
 pub trait RateDecoder<E: Engine>: Sized {
     ghost use Rattle.std.specs.Prelude.{◌≡◌, ◌≢◌, ◌≤◌, ℕ, Err, IfOk, IfSome, OnOk, OnErr};
     ghost use Rattle.std.specs.Borrow.{sem};
@@ -282,11 +315,16 @@ pub trait RateDecoder<E: Engine>: Sized {
 
     ghost room: { Self → DecoderRoom };
 
-    /// Whether the rate supports `original_count` originals with `recovery_count` recovery shards.
+    /// Returns whether the rate supports `original_count` originals with `recovery_count` recovery shards.
     fn supports(original_count: usize, recovery_count: usize) -> bool
         ensures { result ≡ supports_counts rate original_count recovery_count };
 
-    /// `UnsupportedShardCount` where the counts aren't supported, else `InvalidShardSize` where the size is zero or odd.
+    /// Checks a configuration, without making anything.
+    ///
+    /// # Errors
+    ///
+    /// - [`Error::UnsupportedShardCount`] if the rate does not support the counts.
+    /// - [`Error::InvalidShardSize`] if `shard_bytes` is zero or odd.
     fn validate(
         original_count: usize,
         recovery_count: usize,
@@ -294,10 +332,15 @@ pub trait RateDecoder<E: Engine>: Sized {
     ) -> Result<(), Error>
         ensures { result ≡ validated (configuration rate original_count recovery_count shard_bytes) };
 
-    /// A decoder with nothing given, in the memory of `work` where one is passed.
+    /// Makes a decoder with nothing added, for shards of `shard_bytes` bytes. If a `work` is passed, its memory is used.
     ///
-    /// Refused as by `validate`, then with `OutOfMemory` where no memory is found or the rows' size in bytes
-    /// passes `usize::MAX`. A refusal drops the engine and the work.
+    /// # Errors
+    ///
+    /// - [`Error::UnsupportedShardCount`] if the rate does not support the counts.
+    /// - [`Error::InvalidShardSize`] if `shard_bytes` is zero or odd.
+    /// - [`Error::OutOfMemory`] if the rows cannot be allocated, or if their bytes exceed `usize::MAX`.
+    ///
+    /// After an error the engine and the work are dropped.
     fn new(
         alloc: Global,
         original_count: usize,
@@ -313,11 +356,13 @@ pub trait RateDecoder<E: Engine>: Sized {
         ensures roomy { IfSome work (λ w. HasRoom (work_room w) (decoder_rows rate original_count recovery_count) shard_bytes
             → answer_of result ≡ started (decoder_rows rate original_count recovery_count) (configuration rate original_count recovery_count shard_bytes)) };
 
-    /// The decoder with another configuration and nothing given. Refused as `new`; a refusal leaves the configuration and
-    /// the given shards.
+    /// Sets the decoder up for other counts and another shard size, with nothing added.
     ///
-    /// `OutOfMemory` never comes where the rows fit the room that the decoder has: where they are its own and the size
-    /// is not above its own, and where it had room for as much before.
+    /// # Errors
+    ///
+    /// The errors of `new`, in the same order. After an error the configuration and the added shards are what they were.
+    /// `reset` never fails with [`Error::OutOfMemory`] if the decoder already holds enough memory. That is the case if the rows are
+    /// its own and the shard size is not larger, or if the decoder has been this large before.
     fn reset(
         &mut self,
         original_count: usize,
@@ -334,49 +379,57 @@ pub trait RateDecoder<E: Engine>: Sized {
         ensures engine { engine_of self.new ≡ engine_of self.old }
         ensures grown { Grows (room self.old) (room self.new) };
 
-    /// Gives the original of this index, of the decoder's size in bytes.
+    /// Adds the original with this index: its place among the originals, counted from 0.
     ///
-    /// Refused with `InvalidOriginalShardIndex` where there is none of this index, then with
-    /// `DuplicateOriginalShardIndex` where it was given, then with `DifferentShardSize`; a refusal changes nothing.
+    /// # Errors
+    ///
+    /// - [`Error::InvalidOriginalShardIndex`] if `index` is not below `original_count`.
+    /// - [`Error::DuplicateOriginalShardIndex`] if this original was added already.
+    /// - [`Error::DifferentShardSize`] if the shard does not have the decoder's size.
     fn add_original_shard(&mut self, index: usize, original_shard: &[u8]) -> Result<(), Error>
         ensures answer { result ≡ answer_of (with_original (state self.old) index original_shard.now) }
         ensures left { state self.new ≡ state_after (state self.old) (with_original (state self.old) index original_shard.now) }
         ensures engine { engine_of self.new ≡ engine_of self.old }
         ensures room { room self.new ≡ room self.old };
 
-    /// Gives the recovery shard of this index, of the decoder's size in bytes.
+    /// Adds the recovery shard with this index: its place among the recovery shards, counted from 0.
     ///
-    /// Refused with `InvalidRecoveryShardIndex` where there is none of this index, then with
-    /// `DuplicateRecoveryShardIndex` where it was given, then with `DifferentShardSize`; a refusal changes nothing.
+    /// # Errors
+    ///
+    /// - [`Error::InvalidRecoveryShardIndex`] if `index` is not below `recovery_count`.
+    /// - [`Error::DuplicateRecoveryShardIndex`] if this recovery shard was added already.
+    /// - [`Error::DifferentShardSize`] if the shard does not have the decoder's size.
     fn add_recovery_shard(&mut self, index: usize, recovery_shard: &[u8]) -> Result<(), Error>
         ensures answer { result ≡ answer_of (with_recovery (state self.old) index recovery_shard.now) }
         ensures left { state self.new ≡ state_after (state self.old) (with_recovery (state self.old) index recovery_shard.now) }
         ensures engine { engine_of self.new ≡ engine_of self.old }
         ensures room { room self.new ≡ room self.old };
 
-    /// Lends the originals that were not given, and ends the round.
+    /// Restores the originals that were not added, lends them, and ends the round.
     ///
-    /// Refused with `NotEnoughShards` where fewer shards are given than there are originals; that refusal changes
-    /// nothing. Refused with `InconsistentShards` where no message agrees with all that is given, which never comes with
-    /// exactly as many shards as there are originals; that refusal ends the round, so that nothing is given any more.
+    /// The restored originals are those of the only message that matches all added shards. The method is the decoding of Lin,
+    /// Chung and Han, in the form of Leopard-RS. Over W rows, it counts at most `3 * W / 2 * log2(W) + 4 * W` row steps on
+    /// `steps`, and the pair sums and products of one locator.
     ///
-    /// Else the restored shards are, at exactly the indexes that were not given, those of the only message that agrees.
-    /// The method is that of Lin, Chung and Han in the form of Leopard-RS. Over W rows at most
-    /// `3 * W / 2 * log2(W) + 4 * W` row steps are counted, and the pair sums and products of one locator.
+    /// # Errors
+    ///
+    /// - [`Error::NotEnoughShards`] if fewer than `original_count` shards were added. The decoder then keeps what was added.
+    /// - [`Error::InconsistentShards`] if more than `original_count` shards were added and no message matches them all. This
+    ///   error ends the round.
     fn decode(&mut self, steps: &mut Steps) -> Result<DecoderResult<'_>, Error>
         ensures answer { DecodeAnswers (state self.old) (answered_originals result) }
         ensures counts { let c = (state self.old).configuration in DecodeCountsAt rate c.original_count c.recovery_count steps.old steps.new }
         ensures* ends { sem 𝓛 (EndsWith Self.row self.entry
             (λ now. (state now ≡ after_decode (state self.old)) × (engine_of now ≡ engine_of self.old) × (room now ≡ room self.old))) };
 
-    /// The engine and the work, for another decoder: it has room for this one's configuration.
+    /// Returns the engine and the work. Another decoder can use the work, which has room for this decoder's configuration.
     fn into_parts(self) -> (E, DecoderWork)
         ensures engine { result.0 ≡ engine_of self }
         ensures room { work_room result.1 ≡ room self }
         ensures enough { let c = (state self).configuration in
             HasRoom (work_room result.1) (decoder_rows rate c.original_count c.recovery_count) c.shard_bytes };
 
-    /// A decoder's configuration is a valid one of its rate, and what is given fits it.
+    /// A decoder's configuration is valid for its rate, and the added shards fit it.
     ghost valid: { (x : Self) → IsDecoder rate (state x) };
 
     /// A decoder has room for its own rows.

@@ -1,63 +1,82 @@
-//! What every call can be refused for.
+//! The errors of all calls.
 use std::alloc::{AllocError, AllocFailed};
 use std::fmt;
 
-/// Why a call was refused. All numbers are counts, indexes, or sizes in bytes.
+/// The reason why a call failed. All fields are counts, indexes, or sizes in bytes.
 #[derive(Clone, Copy, Debug, PartialEq, Eq, Hash)]
 pub enum Error {
-    /// A shard has another size than the one that was set up.
+    /// A shard has another size than the other shards.
     DifferentShardSize {
+        /// The size of the other shards, in bytes.
         shard_bytes: usize,
+        /// The size of this shard, in bytes.
         got: usize,
     },
-    /// An original shard was given twice.
+    /// An original was added twice.
     DuplicateOriginalShardIndex {
+        /// The index of the original.
         index: usize,
     },
-    /// A recovery shard was given twice.
+    /// A recovery shard was added twice.
     DuplicateRecoveryShardIndex {
+        /// The index of the recovery shard.
         index: usize,
     },
-    /// The shards that were given agree with no message.
+    /// More shards were given than there are originals, and they do not belong to one message.
     InconsistentShards {
+        /// The number of originals that were given.
         original_received_count: usize,
+        /// The number of recovery shards that were given.
         recovery_received_count: usize,
     },
-    /// An original shard's index is `original_count` or more.
+    /// The index of an original is not below `original_count`.
     InvalidOriginalShardIndex {
+        /// The number of originals of a message.
         original_count: usize,
+        /// The index that was given.
         index: usize,
     },
-    /// A recovery shard's index is `recovery_count` or more.
+    /// The index of a recovery shard is not below `recovery_count`.
     InvalidRecoveryShardIndex {
+        /// The number of recovery shards of a message.
         recovery_count: usize,
+        /// The index that was given.
         index: usize,
     },
-    /// A shard's size is zero or odd.
+    /// The size of a shard is zero or odd.
     InvalidShardSize {
+        /// The size, in bytes.
         shard_bytes: usize,
     },
-    /// Fewer than `original_count` shards were given in all.
+    /// Fewer shards were given than there are originals.
     NotEnoughShards {
+        /// The number of originals of a message.
         original_count: usize,
+        /// The number of originals that were given.
         original_received_count: usize,
+        /// The number of recovery shards that were given.
         recovery_received_count: usize,
     },
-    /// Fewer than `original_count` originals were given.
+    /// Fewer originals were given than a message has.
     TooFewOriginalShards {
+        /// The number of originals of a message.
         original_count: usize,
+        /// The number of originals that were given.
         original_received_count: usize,
     },
-    /// An original was given after all `original_count` were.
+    /// An original was added after all originals of the message.
     TooManyOriginalShards {
+        /// The number of originals of a message.
         original_count: usize,
     },
-    /// The rate doesn't support the counts.
+    /// The rate does not support these counts.
     UnsupportedShardCount {
+        /// The number of originals.
         original_count: usize,
+        /// The number of recovery shards.
         recovery_count: usize,
     },
-    /// No memory was found, or the rows' size in bytes passes `usize::MAX`.
+    /// Memory could not be allocated, or the bytes of all rows exceed `usize::MAX`.
     OutOfMemory,
 }
 

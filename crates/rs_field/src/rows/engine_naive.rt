@@ -11,14 +11,14 @@ use crate::words::lent_tables::LentTables;
 use crate::words::tables::{self, Exp, Log, Tables, get_exp_log};
 use crate::words::{GF_MODULUS, GfElement};
 
-/// The plain engine. It borrows the tables and takes no memory of its own.
+/// The plain engine, which computes each product with logarithms. It borrows the tables and allocates nothing.
 #[derive(Clone, Copy)]
 pub struct Naive<'t> {
     tables: &'t Tables,
 }
 
 impl<'t> Naive<'t> {
-    /// The plain engine over these tables.
+    /// Makes the plain engine over these tables.
     pub fn new(tables: &'t Tables) -> Naive<'t>
         ensures { result.tables.now ≡ tables.now }
     {

@@ -8,7 +8,7 @@ ghost use Rattle.rs_field.specs.rows.Lending.{LendsAll, LendsRun, LendsRow, Lend
 use std::cell::UnsafeCell;
 use std::ops::Range;
 
-/// A list of rows of equal length, each a list of chunks of 64 bytes, over one lent slice.
+/// A list of rows of equal length, over one lent slice. Each row is a list of chunks of 64 bytes.
 #[derive(Drop)]
 pub struct ShardsRefMut<'a> {
     pub(crate) shard_count: usize,
@@ -19,8 +19,8 @@ pub struct ShardsRefMut<'a> {
 }
 
 impl<'a> ShardsRefMut<'a> {
-    /// The first `shard_count * shard_len_64` chunks of `data` as rows of `shard_len_64` chunks. The others stay
-    /// as they are.
+    /// Makes a list of `shard_count` rows of `shard_len_64` chunks each, over the first `shard_count * shard_len_64` chunks of
+    /// `data`. Further chunks stay as they are.
     pub fn new(
         shard_count: usize,
         shard_len_64: usize,
@@ -40,22 +40,22 @@ impl<'a> ShardsRefMut<'a> {
         }
     }
 
-    /// How many rows there are.
+    /// Returns the number of rows.
     pub fn len(&self) -> usize
         ensures { result ≡ self.now.shard_count }
     {
         self.shard_count
     }
 
-    /// Whether there is no row.
+    /// Returns whether there is no row.
     pub fn is_empty(&self) -> bool
         ensures { IsTrue result ↔ (self.now.shard_count ≡ 0) }
     {
         self.len() == 0
     }
 
-    /// Rows `pos` and `pos + dist`, to be written: what is written to each stands in the list afterwards, and every
-    /// other row is unchanged. `dist` is not 0, and both rows are in the list.
+    /// Lends rows `pos` and `pos + dist` for writing. What is written to them is in the list afterwards, and every other row is
+    /// unchanged. `dist` is not 0, and both rows are in the list.
     pub fn dist2_mut(&mut self, pos: usize, dist: usize) -> (&mut [[u8; 64]], &mut [[u8; 64]])
         requires fits { Fits self.old }
         requires apart { 0 < dist }
@@ -70,8 +70,8 @@ impl<'a> ShardsRefMut<'a> {
         self.two_runs(a, len, b, len)
     }
 
-    /// Rows `pos`, `pos + dist`, `pos + 2 * dist` and `pos + 3 * dist`, to be written: what is written to each stands
-    /// in the list afterwards, and every other row is unchanged. `dist` is not 0, and the four rows are in the list.
+    /// Lends rows `pos`, `pos + dist`, `pos + 2 * dist` and `pos + 3 * dist` for writing. What is written to them is in the
+    /// list afterwards, and every other row is unchanged. `dist` is not 0, and the four rows are in the list.
     pub fn dist4_mut(
         &mut self,
         pos: usize,
@@ -99,8 +99,8 @@ impl<'a> ShardsRefMut<'a> {
         self.four_runs(first, second, third, fourth, len)
     }
 
-    /// The rows before `mid`, and those from `mid` on, as two lists: what becomes of each stands in this list
-    /// afterwards, and all that lies past the rows is unchanged. `mid` is at most the number of rows.
+    /// Lends the rows before `mid` and the rows from `mid` on as two lists. What is written to them is in this list afterwards,
+    /// and everything after the rows is unchanged. `mid` is at most the number of rows.
     pub fn split_at_mut(&mut self, mid: usize) -> (ShardsRefMut<'_>, ShardsRefMut<'_>)
         requires fits { Fits self.old }
         requires within { mid ≤ self.old.shard_count }
@@ -114,7 +114,7 @@ impl<'a> ShardsRefMut<'a> {
         two_lists(self.two_runs(0, a, a, rest * len), mid, rest, len)
     }
 
-    /// The rows of the range become zero bytes. It ends no earlier than it starts, and at most at the number of rows.
+    /// Fills the rows of the range with zero bytes. The range ends at most at the number of rows.
     pub fn zero(&mut self, range: Range<usize>)
         requires fits { Fits self.old }
         requires ordered { range.start ≤ range.end }
@@ -127,7 +127,7 @@ impl<'a> ShardsRefMut<'a> {
         zero_run(self.chunks, range.start * len, range.end * len);
     }
 
-    /// Row `index`, which is in the list.
+    /// Lends row `index`, which is in the list.
     pub fn row(&self, index: usize) -> &[[u8; 64]]
         requires fits { Fits self.now }
         requires within { index < self.now.shard_count }
@@ -137,8 +137,8 @@ impl<'a> ShardsRefMut<'a> {
         &self.chunks[start..start + self.shard_len_64]
     }
 
-    /// Row `index`, to be written: what is written stands in the list afterwards, and every other row is unchanged.
-    /// The row is in the list.
+    /// Lends row `index`, which is in the list, for writing. What is written to it is in the list afterwards, and every other
+    /// row is unchanged.
     pub fn row_mut(&mut self, index: usize) -> &mut [[u8; 64]]
         requires fits { Fits self.old }
         requires within { index < self.old.shard_count }

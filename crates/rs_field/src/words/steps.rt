@@ -4,11 +4,11 @@ ghost use Rattle.std.specs.Borrow.{ftrue};
 
 use std::marker::{Model, PhantomData};
 
-/// What was counted so far: row steps, pair sums and products, three whole numbers without an upper limit.
+/// Counts of row steps, pair sums and products, for proofs only: three whole numbers without an upper limit.
 ///
-/// A row step is one butterfly on two rows, or one sum, product, copy, clearing, tail move or test for zero of a row.
-/// A pair sum is one sum with its difference modulo 65535, a product one product modulo 65535.
-/// A running program can't read a count, and no call of `Steps` lowers one.
+/// A row step is one butterfly on two rows, or one sum, product, copy, clearing, tail move or test for zero of a row. A pair
+/// sum is one sum with its difference modulo 65535, and a product one product modulo 65535. A running program cannot read a
+/// count, and no call of `Steps` lowers one.
 #[derive(Drop)]
 pub struct Steps {
     marker: PhantomData<u8>,
@@ -32,7 +32,7 @@ impl Default for Steps {
 }
 
 impl Steps {
-    /// Nothing was counted yet.
+    /// Makes counts that are zero.
     pub fn new() -> Steps
         ensures { (result.row_steps ≡ 0) × (result.pair_sums ≡ 0) × (result.products ≡ 0) }
     {

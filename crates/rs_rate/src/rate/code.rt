@@ -31,13 +31,13 @@ pub struct HighCode;
 #[derive(Clone, Copy, Debug, PartialEq, Eq, Hash)]
 pub struct DefaultCode;
 
-/// The low rate, over an engine: made for few originals.
+/// The low rate over an engine. It is made for few originals.
 pub type LowRate<E> = RateOf<E, LowCode>;
 
-/// The high rate, over an engine: made for few recovery shards.
+/// The high rate over an engine. It is made for few recovery shards.
 pub type HighRate<E> = RateOf<E, HighCode>;
 
-/// The default rate, over an engine: at each pair of counts the low or the high rate.
+/// The default rate over an engine: for each pair of counts the low or the high rate.
 pub type DefaultRate<E> = RateOf<E, DefaultCode>;
 
 /// The rate of a code, over an engine.

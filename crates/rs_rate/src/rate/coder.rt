@@ -106,8 +106,12 @@ impl<E: Engine, C: Code, R: CoderRows + Drop> Coder<E, C, R> {
     ghost use Rattle.rs_field.specs.code.Outcome.{answer_of};
     ghost use Rattle.rs_rate.specs.Configured.{configuration_at};
 
-    /// An object with nothing given, at counts that its rate supports, over the memory of `work` where one is passed.
-    /// Refused as by `new`, but never for the counts.
+    /// Makes an object with nothing added, for counts that its rate supports. If a `work` is passed, its memory is used.
+    ///
+    /// # Errors
+    ///
+    /// - [`Error::InvalidShardSize`] if `shard_bytes` is zero or odd.
+    /// - [`Error::OutOfMemory`] if the rows cannot be allocated, or if their bytes exceed `usize::MAX`.
     #[inline(always)]
     pub fn with_counts(
         alloc: Global,

@@ -25,7 +25,7 @@ use rs_field::engine::GfElement;
 use rs_field::error::Error;
 use std::alloc::Global;
 
-/// The memory of a decoder. It can be handed from one decoder to the next, which then takes less memory anew.
+/// The memory of a decoder. It can pass from one decoder to the next, which then allocates only what is missing.
 #[derive(Drop)]
 pub struct DecoderWork {
     pub(crate) memory: Option<DecoderMemory>,
@@ -89,7 +89,7 @@ impl Frame {
 impl DecoderWork {
     ghost use Rattle.rs_rate.specs.DecoderRoom.{work_room};
 
-    /// A work that took no memory yet.
+    /// Makes a work that holds no memory.
     pub fn new() -> DecoderWork
         ensures { work_room result ≡ record { chunks = 0; rows = 0; entries = 0 } }
     {

@@ -15,7 +15,7 @@ use crate::rate::shard_rows::{chunk_count, insert_at, shard_at, shard_is_bytes};
 use rs_field::error::Error;
 use std::alloc::Global;
 
-/// The memory of an encoder. It can be handed from one encoder to the next, which then takes less memory anew.
+/// The memory of an encoder. It can pass from one encoder to the next, which then allocates only what is missing.
 #[derive(Drop)]
 pub struct EncoderWork {
     pub(crate) chunks: Option<Vec<[u8; 64]>>,
@@ -45,7 +45,7 @@ pub struct EncoderRows {
 impl EncoderWork {
     ghost use Rattle.rs_rate.specs.EncoderView.{work_room};
 
-    /// A work that took no memory yet.
+    /// Makes a work that holds no memory.
     pub fn new() -> EncoderWork
         ensures { work_room result ≡ 0 }
     {

@@ -20,8 +20,12 @@ use crate::rate::{RateDecoder, RateEncoder};
 use rs_field::engine::{Engine, Steps};
 use rs_field::error::Error;
 
-/// Codes the given originals and ends the round, as `RateEncoder::encode` does; the recovery shards then lie in the
+/// Encodes the added originals and ends the round, as `RateEncoder::encode` does. The recovery shards are then in the
 /// encoder.
+///
+/// # Errors
+///
+/// [`Error::TooFewOriginalShards`] if originals are missing.
 pub fn encode_round<E: Engine, C: Code>(
     encoder: &mut Encoder<E, C>,
     steps: &mut Steps,
@@ -42,16 +46,20 @@ pub fn encode_round<E: Engine, C: Code>(
     Ok(())
 }
 
-/// The recovery shards that lie in an encoder after a round. Before the first round of an encoder they are no recovery
-/// shards, but the bytes that stood in its work.
+/// Lends the recovery shards that are in an encoder after a round. Before the first round of an encoder they are no
+/// recovery shards, but the bytes that its work held.
 pub fn lent_recovery<E: Engine, C: Code>(encoder: &Encoder<E, C>) -> EncoderResult<'_>
     ensures { recovery_shards result ≡ lent_of encoder.now.rows }
 {
     EncoderResult::new(&encoder.rows)
 }
 
-/// Restores the originals that were not given and ends the round, as `RateDecoder::decode` does; the restored originals
-/// then lie in the decoder. Answers how many they are.
+/// Restores the originals that were not added and ends the round, as `RateDecoder::decode` does. The restored originals
+/// are then in the decoder. Returns their number.
+///
+/// # Errors
+///
+/// [`Error::NotEnoughShards`] or [`Error::InconsistentShards`], as `RateDecoder::decode`.
 pub fn decode_round<E: Engine, C: Code>(
     decoder: &mut Decoder<E, C>,
     steps: &mut Steps,
@@ -72,8 +80,8 @@ pub fn decode_round<E: Engine, C: Code>(
     decode_rows(&decoder.engine, steps, &mut decoder.rows)
 }
 
-/// The originals that lie restored in a decoder after a round that restored so many. Before the first round of a decoder
-/// there are none.
+/// Lends the originals that are in a decoder after a round that restored `restored_count` originals. Before the first
+/// round of a decoder there are none.
 pub fn lent_originals<E: Engine, C: Code>(
     decoder: &Decoder<E, C>,
     restored_count: usize,

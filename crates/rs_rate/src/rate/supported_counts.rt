@@ -9,16 +9,17 @@ use rs_field::error::Error;
 use std::alloc::AllocError;
 use std::marker::PhantomData;
 
-/// Counts that the low rate supports.
+/// Two counts that the low rate supports.
 pub type LowRateCounts = SupportedCounts<LowCode>;
 
-/// Counts that the high rate supports.
+/// Two counts that the high rate supports.
 pub type HighRateCounts = SupportedCounts<HighCode>;
 
-/// Counts that the default rate supports.
+/// Two counts that the default rate supports.
 pub type DefaultRateCounts = SupportedCounts<DefaultCode>;
 
-/// Counts that a rate supports, with what the rate is at them. A coder at these asks for neither again.
+/// Two counts that a rate supports, checked once. Encoders and decoders that are made by `with_counts` do not check them
+/// again.
 #[derive(Debug, PartialEq, Eq, Hash)]
 pub struct SupportedCounts<C: Code> {
     pub original_count: usize,
@@ -30,7 +31,11 @@ pub struct SupportedCounts<C: Code> {
 }
 
 impl<C: Code> SupportedCounts<C> {
-    /// These counts, or `UnsupportedShardCount` where the rate doesn't support them.
+    /// Checks two counts.
+    ///
+    /// # Errors
+    ///
+    /// [`Error::UnsupportedShardCount`] if the rate does not support them.
     #[inline(always)]
     pub fn new(original_count: usize, recovery_count: usize) -> Result<SupportedCounts<C>, Error>
         ensures { MatchResult result (λ c. (c.original_count ≡ original_count) × (c.recovery_count ≡ recovery_count))

@@ -1,0 +1,29 @@
+//! The examples of doc comments that show numbers.
+use reed_solomon_simd::engine::tables::Tables;
+use reed_solomon_simd::engine::{DefaultEngine, EngineKind};
+use reed_solomon_simd::{decode, encode};
+use std::test::Fail;
+
+#[test]
+fn a_recovery_shard_is_the_sum_of_all(rt: HostRuntime) -> Result<(), Fail> {
+    let alloc = rt.alloc();
+    let tables = Tables::new(alloc)?;
+    let engine = DefaultEngine::new(&tables, EngineKind::Ssse3);
+    let original: [&[u8]; 3] = [&[1, 2], &[4, 8], &[16, 32]];
+    let recovery = encode(alloc, 3, 1, original.into_iter(), engine)?;
+    assert_eq!(rt; recovery.len(), 1);
+    assert_eq!(rt; recovery[0].as_slice(), [21, 42].as_slice());
+    Ok(())
+}
+
+#[test]
+fn two_recovery_shards_restore_two_originals(rt: HostRuntime) -> Result<(), Fail> {
+    let alloc = rt.alloc();
+    let tables = Tables::new(alloc)?;
+    let engine = DefaultEngine::new(&tables, EngineKind::Ssse3);
+    let received: [(usize, &[u8]); 2] = [(0, &[2, 0]), (1, &[3, 0])];
+    let restored = decode(alloc, 2, 3, [].into_iter(), received.into_iter(), engine)?;
+    assert_eq!(rt; restored.get(&0).ok_or("none")?.as_slice(), [0, 0].as_slice());
+    assert_eq!(rt; restored.get(&1).ok_or("none")?.as_slice(), [1, 0].as_slice());
+    Ok(())
+}
