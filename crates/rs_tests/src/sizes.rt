@@ -9,7 +9,7 @@ mod rated;
 // The sizes of a shard, in bytes.
 const SIZES: [usize; 8] = [2, 62, 64, 66, 1024, 4098, 65536, 1_048_576];
 
-// Counts of originals and of recovery shards, and how many of the sizes take at most 512 MiB in all.
+// Counts of originals and of recovery shards, and at how many of the sizes a round takes at most 512 MiB.
 const COUNTS: [(usize, usize, usize); 8] = [
     (1, 1, 8),
     (2, 3, 8),
