@@ -12,11 +12,12 @@ enum { BEGIN = 10007, END = 10009, NOTED = 1024 };
 static unsigned long requests, signals;
 static size_t sizes[NOTED];
 static void *blocks[NOTED];
-static int watched;
+static int watched, ended;
 
 /* The number of the request if it is counted and granted, 0 if it isn't counted, -1 if it is refused. */
 static long number_of(size_t size) {
     const char *refused = getenv("REFUSED");
+    if (ended) return 0;
     if (getenv("WATCHED") && (size == BEGIN || size == END)) {
         signals++;
         watched = size == BEGIN;
@@ -71,6 +72,7 @@ void free(void *block) {
 
 __attribute__((destructor)) static void tell(void) {
     unsigned long left = 0;
+    ended = 1; /* What is written here takes memory too. */
     for (unsigned long i = 0; i < requests && i < NOTED; i++)
         if (blocks[i]) left += sizes[i];
     dprintf(3, "%lu %lu %lu\n", requests, signals, left);

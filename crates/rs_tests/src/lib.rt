@@ -10,4 +10,6 @@ mod locators;
 #[cfg(test)]
 mod rows;
 #[cfg(test)]
+mod sizes;
+#[cfg(test)]
 mod tables;

@@ -1,0 +1,22 @@
+//! Counts and sizes that users have, by each level of use: shards are coded, as many are lost as can be, and what is lost
+//! comes back. That these calls find memory where there is some, no contract states.
+mod losses;
+mod objects;
+mod one_call;
+mod plain;
+mod rated;
+
+// The sizes of a shard, in bytes.
+const SIZES: [usize; 8] = [2, 62, 64, 66, 1024, 4098, 65536, 1_048_576];
+
+// Counts of originals and of recovery shards, and at how many of the sizes a round takes at most 512 MiB.
+const COUNTS: [(usize, usize, usize); 8] = [
+    (1, 1, 8),
+    (2, 3, 8),
+    (3, 2, 8),
+    (10, 4, 8),
+    (33, 31, 8),
+    (100, 30, 8),
+    (1000, 200, 7),
+    (3000, 5000, 6),
+];
