@@ -4,6 +4,8 @@
 #[cfg(test)]
 mod counting;
 #[cfg(test)]
+mod examples;
+#[cfg(test)]
 mod levels;
 #[cfg(test)]
 mod locators;
