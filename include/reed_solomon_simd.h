@@ -19,7 +19,9 @@
  *     stamp of filled ones; zeros don't.
  *   - The processor has the instructions of x86-64-v2, which SSE4.2 and POPCNT are part of. On an older processor, such as a Core 2, the
  *     program stops with SIGILL.
- *   - A program that brings an allocator of its own in place of c/heap.c keeps the rules for allocators in docs/C.md.
+ *   - A program that links an allocator of its own in place of c/heap.c provides all of rattle_alloc, rattle_realloc and
+ *     rattle_dealloc. Blocks are aligned as the library asks, to at most 16 bytes. The pointer `at` is never NULL, not even in a
+ *     refusal. A refused rattle_realloc leaves the old block as it was.
  *
  * For all other numbers and bytes that a caller can pass, this header states the result. Each call returns, keeps no pointer, and gives
  * back all memory that it took. Any number of threads can make calls at once, over the same const tables. No call is safe in a signal
