@@ -8,7 +8,8 @@ use itoa::Buffer;
 fn put(room: &mut [u8], at: usize, piece: &str) -> usize
     requires { at + length piece.now ≤ 65536 }
     ensures end { result ≡ at + length piece.now }
-    ensures written { (text old : List ℕ) → length text ≡ at → room.old ≡ over text old → room.new ≡ over (text ++ piece.now) old }
+    ensures written { (text old : List ℕ) → length text ≡ at → room.old ≡ over text old
+        → room.new ≡ over (text ++ piece.now) old }
 {
     let bytes = piece.as_bytes();
     if at < room.len() {
@@ -22,7 +23,8 @@ fn put(room: &mut [u8], at: usize, piece: &str) -> usize
 fn put_number(room: &mut [u8], at: usize, number: usize) -> usize
     requires { at ≤ 65000 }
     ensures end { (result ≡ at + length (decimal number)) × (result ≤ at + 20) }
-    ensures written { (text old : List ℕ) → length text ≡ at → room.old ≡ over text old → room.new ≡ over (text ++ decimal number) old }
+    ensures written { (text old : List ℕ) → length text ≡ at → room.old ≡ over text old
+        → room.new ≡ over (text ++ decimal number) old }
 {
     let mut buffer = Buffer::new();
     put(room, at, buffer.format(number))
@@ -52,7 +54,9 @@ pub fn write_two(room: &mut [u8], first: (&str, usize), second: (&str, usize), e
     requires first { length first.0.now ≤ 100 }
     requires second { length second.0.now ≤ 100 }
     requires end { length end.now ≤ 100 }
-    ensures { WritesText (first.entry.0.now ++ decimal first.entry.1 ++ second.entry.0.now ++ decimal second.entry.1 ++ end.now) room.old room.new result }
+    ensures { WritesText
+        (first.entry.0.now ++ decimal first.entry.1 ++ second.entry.0.now ++ decimal second.entry.1 ++ end.now)
+        room.old room.new result }
 {
     let at = put(room, 0, first.0);
     let at = put_number(room, at, first.1);
@@ -73,7 +77,9 @@ pub fn write_three(
     requires second { length second.0.now ≤ 100 }
     requires third { length third.0.now ≤ 100 }
     requires end { length end.now ≤ 100 }
-    ensures { WritesText (first.entry.0.now ++ decimal first.entry.1 ++ second.entry.0.now ++ decimal second.entry.1 ++ third.entry.0.now ++ decimal third.entry.1 ++ end.now)
+    ensures { WritesText
+        (first.entry.0.now ++ decimal first.entry.1 ++ second.entry.0.now ++ decimal second.entry.1
+        ++ third.entry.0.now ++ decimal third.entry.1 ++ end.now)
         room.old room.new result }
 {
     let at = put(room, 0, first.0);
