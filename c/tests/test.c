@@ -508,6 +508,8 @@ static void random_round(uint64_t *state) {
     for (size_t i = 0; i < k; i++)
         if (!m.marks[i])
             for (size_t b = 0; b < size; b++) m.originals[i * size + b] = (uint8_t)drawn(state);
+    for (size_t i = 0; i < r; i++)
+        if (!m.marks[k + i]) memset(m.recovery + i * size, '!', size);
     memcpy(rubbish, m.originals, k * size);
     if (surplus) {
         size_t i;
