@@ -15,10 +15,13 @@
  *   - What a call reads is initialised: shards that are there, marks, arrays, a fault that is turned into text, and tables. What a call
  *     only writes need not be: the tables of rs_tables_make, recovery shards of an encode, the places of lost shards in rs_decode,
  *     what rooms lead to, texts, and *fault.
- *   - Nobody but rs_tables_make writes to tables that rs_tables_make has filled.
+ *   - Nobody but rs_tables_make writes to tables that it has filled. Other memory that is passed as tables doesn't happen to hold the
+ *     stamp of filled ones; zeros don't.
  *   - The processor has the instructions of x86-64-v2, which SSE4.2 and POPCNT are part of. On an older processor, such as a Core 2, the
  *     program stops with SIGILL.
- *   - A program that brings an allocator of its own in place of c/heap.c keeps the rules for allocators in docs/C.md.
+ *   - A program that links an allocator of its own in place of c/heap.c provides all of rattle_alloc, rattle_realloc and
+ *     rattle_dealloc. Blocks are aligned as the library asks, to at most 16 bytes. The pointer `at` is never NULL, not even in a
+ *     refusal. A refused rattle_realloc leaves the old block as it was.
  *
  * For all other numbers and bytes that a caller can pass, this header states the result. Each call returns, keeps no pointer, and gives
  * back all memory that it took. Any number of threads can make calls at once, over the same const tables. No call is safe in a signal
@@ -88,8 +91,8 @@ uint32_t rs_supports(size_t original_count, size_t recovery_count);
 
 /* The four calls that encode and decode return RS_OK or the number of the fault. They write the number with its counts to *fault, and
  * zeros with RS_OK. With a fault they write nothing else. Each lists its faults in the order in which it checks for them. Before all
- * others comes RS_TABLES_NOT_MADE, for tables that rs_tables_make of this version has not filled: they hold zeros, say, or were filled
- * by another version. The stamp is no checksum: no call notices that other bytes of the tables were changed.
+ * others comes RS_TABLES_NOT_MADE, for tables that rs_tables_make has not filled: tables of zeros, say, or those of a version with another
+ * layout, such as 1.1. The stamp is no checksum: no call notices that other bytes of the tables were changed.
  *
  * The first two calls take buffers, where shard i begins at byte i * shard_bytes. Their pointers aren't NULL. */
 
@@ -136,7 +139,7 @@ struct rs_shard {
  *
  * Fails with RS_UNSUPPORTED_SHARD_COUNT; with RS_TOO_FEW_ORIGINAL_SHARDS if there is no original; with RS_INVALID_SHARD_SIZE and
  * RS_OUT_OF_MEMORY; for each original in order with RS_TOO_MANY_ORIGINAL_SHARDS or RS_DIFFERENT_SHARD_SIZE; with
- * RS_TOO_FEW_ORIGINAL_SHARDS; with RS_OUT_OF_MEMORY; with RS_WRONG_NUMBER_OF_ROOMS; with RS_WRONG_LENGTH for the first room that has
+ * RS_TOO_FEW_ORIGINAL_SHARDS; with RS_WRONG_NUMBER_OF_ROOMS; with RS_WRONG_LENGTH for the first room that has
  * another length. */
 uint32_t rs_encode_shards(const struct rs_tables *tables, size_t original_count, size_t recovery_count,
                           const struct rs_bytes *originals, size_t originals_number,

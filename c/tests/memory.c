@@ -1,4 +1,5 @@
-/* The library over an allocator of this program's: each request for memory is refused in turn, and all that was taken comes back. */
+/* The library over an allocator of this program's. Each request for memory is refused in turn, a call makes as many requests as are
+   recorded here, and all that was taken comes back, after a refusal too. */
 #include "reed_solomon_simd.h"
 
 #include <stdbool.h>
@@ -10,6 +11,9 @@ struct tried {
     bool ok;
     void *at;
 };
+
+/* How many requests for memory the calls make. */
+enum { TABLES = 6, ENCODE = 1, DECODE = 3 };
 
 static long requests, refused, blocks;
 static char nowhere;
@@ -80,8 +84,15 @@ static uint32_t decode_shards(void) {
     return answer == fault.number ? answer : 99;
 }
 
-/* Nothing is lost and no recovery shard comes: the indexes of arrays are noted in memory. */
+/* Nothing is lost and no recovery shard comes: no memory is wanted. */
 static uint32_t decode_none(void) {
+    static const uint8_t all_there[5] = {1, 1, 1, 0, 0};
+    struct rs_fault fault;
+    uint32_t answer = rs_decode(tables, 3, 2, 1200, originals, sizeof originals, recovery, sizeof recovery, all_there, 5, &fault);
+    return answer == fault.number ? answer : 99;
+}
+
+static uint32_t decode_none_anywhere(void) {
     struct rs_shard all[3] = {{2, originals, 1200}, {0, originals, 1200}, {1, originals, 1200}};
     struct rs_room none[1];
     struct rs_fault fault;
@@ -93,16 +104,62 @@ static uint32_t make(void) {
     return rs_tables_make(tables);
 }
 
-/* The text of a fault, which is 0 long without memory. */
 static uint8_t text[40];
 static uint32_t text_made(void) {
     const struct rs_fault fault = {RS_INVALID_SHARD_SIZE, 3, 0, 0};
-    size_t length = rs_fault_text(&fault, text, sizeof text);
-    return length == 0 ? RS_OUT_OF_MEMORY : length == 61 ? RS_OK : 99;
+    return rs_fault_text(&fault, text, sizeof text) == 61 ? RS_OK : 99;
 }
 
-/* A call with each of its requests refused in turn, until one isn't refused any more. */
-static void each(const char *name, uint32_t (*call)(void), void *written, size_t size) {
+static uint32_t supports(void) {
+    return rs_supports(3, 2) == 1 && rs_supports(0, 2) == 0 ? RS_OK : 99;
+}
+
+/* A call that is refused: it has given back all memory. */
+static void refused_call(uint32_t answer, uint32_t wanted) {
+    if (answer != wanted) wrong("a call is refused otherwise");
+    if (blocks) wrong("a refused call keeps memory");
+}
+
+/* Refusals before and after a call has taken memory. */
+static void refusals(void) {
+    static const uint8_t few[5] = {0, 1, 0, 1, 0}, all[5] = {1, 1, 1, 1, 1};
+    struct rs_shard own[4] = {{1, originals, 1200}, {1, originals, 1200}, {0, originals, 1202}, {3, originals, 1200}};
+    struct rs_shard other[3] = {{1, recovery, 1200}, {2, recovery, 1200}, {1, recovery, 1200}};
+    struct rs_bytes from[4] = {{originals, 1200}, {originals, 1200}, {originals, 1202}, {originals, 1200}};
+    struct rs_room to[2] = {{recovery, 1200}, {recovery + 1200, 1198}};
+    struct rs_tables *unmade = calloc(1, sizeof *unmade);
+    struct rs_fault fault;
+    if (!unmade) wrong("no memory for the test");
+    refused = 0;
+    memset(originals, 7, sizeof originals);
+    memset(recovery, 9, sizeof recovery);
+    refused_call(rs_encode(unmade, 3, 2, 1200, originals, 3600, recovery, 2400, &fault), RS_TABLES_NOT_MADE);
+    refused_call(rs_encode(tables, 3, 2, 1201, originals, 3600, recovery, 2400, &fault), RS_WRONG_LENGTH);
+    refused_call(rs_encode(tables, 3, 2, 3, originals, 9, recovery, 6, &fault), RS_INVALID_SHARD_SIZE);
+    refused_call(rs_decode(tables, 3, 2, 1200, originals, 3600, recovery, 2400, few, 5, &fault), RS_NOT_ENOUGH_SHARDS);
+    refused_call(rs_decode(tables, 3, 2, 1200, originals, 3600, recovery, 2400, all, 5, &fault), RS_INCONSISTENT_SHARDS);
+    refused_call(rs_encode_shards(tables, 3, 2, from, 0, to, 2, &fault), RS_TOO_FEW_ORIGINAL_SHARDS);
+    refused_call(rs_encode_shards(tables, 3, 2, from, 2, to, 2, &fault), RS_TOO_FEW_ORIGINAL_SHARDS);
+    refused_call(rs_encode_shards(tables, 3, 2, from, 3, to, 2, &fault), RS_DIFFERENT_SHARD_SIZE);
+    refused_call(rs_encode_shards(tables, 1, 2, from, 2, to, 2, &fault), RS_TOO_MANY_ORIGINAL_SHARDS);
+    refused_call(rs_encode_shards(tables, 2, 2, from, 2, to, 1, &fault), RS_WRONG_NUMBER_OF_ROOMS);
+    refused_call(rs_encode_shards(tables, 2, 2, from, 2, to, 2, &fault), RS_WRONG_LENGTH);
+    refused_call(rs_decode_shards(tables, 3, 2, own, 2, other, 1, to, 2, &fault), RS_DUPLICATE_ORIGINAL_SHARD_INDEX);
+    refused_call(rs_decode_shards(tables, 3, 2, own + 2, 1, other, 1, to, 2, &fault), RS_DIFFERENT_SHARD_SIZE);
+    refused_call(rs_decode_shards(tables, 3, 2, own + 3, 1, other, 1, to, 2, &fault), RS_INVALID_ORIGINAL_SHARD_INDEX);
+    refused_call(rs_decode_shards(tables, 3, 2, own, 1, other, 2, to, 2, &fault), RS_INVALID_RECOVERY_SHARD_INDEX);
+    refused_call(rs_decode_shards(tables, 3, 3, own, 1, other, 3, to, 2, &fault), RS_DUPLICATE_RECOVERY_SHARD_INDEX);
+    refused_call(rs_decode_shards(tables, 3, 2, own, 1, other, 1, to, 2, &fault), RS_NOT_ENOUGH_SHARDS);
+    refused_call(rs_decode_shards(tables, 2, 2, own, 1, other, 1, to, 2, &fault), RS_WRONG_NUMBER_OF_ROOMS);
+    refused_call(rs_decode_shards(tables, 2, 2, own, 1, other, 1, to + 1, 1, &fault), RS_WRONG_LENGTH);
+    refused_call(rs_decode_shards(tables, 3, 2, own, 2, other, 0, to, 0, &fault), RS_DUPLICATE_ORIGINAL_SHARD_INDEX);
+    refused_call(rs_decode_shards(tables, 3, 2, own, 1, other, 0, to, 0, &fault), RS_NOT_ENOUGH_SHARDS);
+    printf("memory: all is given back after a refusal\n");
+    free(unmade);
+}
+
+/* A call that makes so many requests, with each of them refused in turn. */
+static void each(const char *name, uint32_t (*call)(void), void *written, size_t size, long number) {
     uint8_t *before = malloc(size);
     if (!before) wrong("no memory for the test");
     memcpy(before, written, size);
@@ -113,6 +170,7 @@ static void each(const char *name, uint32_t (*call)(void), void *written, size_t
         if (blocks) wrong("memory is kept");
         if (requests < refused) {
             if (answer) wrong("a call with memory is refused");
+            if (requests != number) wrong("a call makes another number of requests");
             break;
         }
         if (answer != RS_OUT_OF_MEMORY) wrong("another answer");
@@ -129,20 +187,23 @@ int main(void) {
     if (!tables) wrong("no memory for the test");
     for (size_t i = 0; i < sizeof images; i++) {
         memset(tables, images[i], sizeof *tables);
-        each("rs_tables_make", make, tables, sizeof *tables);
+        each("rs_tables_make", make, tables, sizeof *tables, TABLES);
         memset(originals, 7, sizeof originals);
         for (int anywhere = 0; anywhere < 2; anywhere++) {
             memset(recovery, 1, sizeof recovery);
-            each(anywhere ? "rs_encode_shards" : "rs_encode", anywhere ? encode_shards : encode, recovery, sizeof recovery);
+            each(anywhere ? "rs_encode_shards" : "rs_encode", anywhere ? encode_shards : encode, recovery, sizeof recovery, ENCODE);
             memset(originals, 1, 1200);
             memset(originals + 2400, 1, 1200);
-            each(anywhere ? "rs_decode_shards" : "rs_decode", anywhere ? decode_shards : decode, originals, sizeof originals);
+            each(anywhere ? "rs_decode_shards" : "rs_decode", anywhere ? decode_shards : decode, originals, sizeof originals, DECODE);
             for (size_t n = 0; n < sizeof originals; n++)
                 if (originals[n] != 7) wrong("not what was encoded");
         }
     }
-    each("rs_decode_shards without recovery shards", decode_none, originals, sizeof originals);
-    each("rs_fault_text", text_made, text, sizeof text);
+    each("rs_decode without recovery shards", decode_none, originals, sizeof originals, 0);
+    each("rs_decode_shards without recovery shards", decode_none_anywhere, originals, sizeof originals, 0);
+    each("rs_fault_text", text_made, text, sizeof text, 0);
+    each("rs_supports", supports, text, sizeof text, 0);
+    refusals();
     free(tables);
     return 0;
 }

@@ -478,7 +478,7 @@ static void refusals(void) {
     m.marks[0] = 0;
     refused(&m, 1, 12, 8, 5, RS_INCONSISTENT_SHARDS, 2, 2, 0);
     if (rs_supports(0, 1) || rs_supports(1, 0) || rs_supports(most, most) || rs_supports(32769, 32768) || !rs_supports(32768, 32768) ||
-        !rs_supports(65535, 1) || !rs_supports(1, 65535) || rs_supports(65535, 2) || rs_version() / 65536 != RS_VERSION / 65536)
+        !rs_supports(65535, 1) || !rs_supports(1, 65535) || rs_supports(65535, 2) || rs_version() != RS_VERSION)
         wrong("other counts or another version");
     let_go(&m);
     encodes_refused_anywhere();
@@ -508,6 +508,8 @@ static void random_round(uint64_t *state) {
     for (size_t i = 0; i < k; i++)
         if (!m.marks[i])
             for (size_t b = 0; b < size; b++) m.originals[i * size + b] = (uint8_t)drawn(state);
+    for (size_t i = 0; i < r; i++)
+        if (!m.marks[k + i]) memset(m.recovery + i * size, '!', size);
     memcpy(rubbish, m.originals, k * size);
     if (surplus) {
         size_t i;

@@ -125,6 +125,11 @@ for line in open(sys.argv[2]):
             assert decode_shards(k, r, left) == originals
             count += 1
 assert count > 10
+
+# Tables of zeros are noticed.
+unmade, fault, recovery = ctypes.create_string_buffer(8 * 1097728), Fault(), ctypes.create_string_buffer(b"####", 4)
+assert library.rs_encode(unmade, 3, 2, 2, bytes(6), 6, recovery, 4, fault) == fault.number == 15
+assert recovery.raw == b"####"
 for call in encode, encode_shards:
     try:
         call([b"odd"], 1)

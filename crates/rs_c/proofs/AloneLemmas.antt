@@ -19,11 +19,13 @@ pub noted-none : (n : ℕ) → AreNoted [] (replicate n 0)
 noted-none n i =
     ap (λ word. bit_at word (i % 64)) (elim (cases_lt (i / 64) n) [
       | inl inside ↦ get_or-replicate n (i / 64) 0 0 inside
-      | inr outside ↦ get_or-eq_default (replicate n 0) 0 (subst (λ (m : ℕ). m ≤ i / 64) (sym (length-replicate n 0)) outside)
+      | inr outside ↦
+          get_or-eq_default (replicate n 0) 0 (subst (λ (m : ℕ). m ≤ i / 64) (sym (length-replicate n 0)) outside)
     ])
     ∙ bit_at-zero (i % 64)
 
-module _ (k index : ℕ) (indexes words : List ℕ) (inside : index < k) (few : k ≤ 65536) (size : length words ≡ 1024) (are : AreNoted indexes words)
+module _ (k index : ℕ) (indexes words : List ℕ) (inside : index < k) (few : k ≤ 65536) (size : length words ≡ 1024)
+    (are : AreNoted indexes words)
     (free : bit_at (get_or words (index / 64) 0) (index % 64) ≢ 1) where
   -- an index whose bit is 0 is new
   is-new : list_any (nat_eq index) indexes ≡ false
@@ -38,15 +40,19 @@ module _ (k index : ℕ) (indexes words : List ℕ) (inside : index < k) (few : 
   noted-next = rw (lt-leb k index inside, is-new) refl
 
   -- by its bit
-  pub noted-more : AreNoted (index ∷ indexes) (set words (index / 64) (bit_or (get_or words (index / 64) 0) (1 * 2 ^ (index % 64) % 2 ^ 64)))
+  pub noted-more : AreNoted (index ∷ indexes)
+      (set words (index / 64) (bit_or (get_or words (index / 64) 0) (1 * 2 ^ (index % 64) % 2 ^ 64)))
   noted-more i = elim (cases_eq (i / 64) (index / 64)) [
     | inl word ↦ elim (cases_eq (i % 64) (index % 64)) [
       | inl bit ↦
-          ap (λ n. bit_at (get_or (set words (index / 64) new) n 0) (i % 64)) word ∙ ap (λ w. bit_at w (i % 64)) (get_or-set_same words (index / 64) new 0 within)
+          ap (λ n. bit_at (get_or (set words (index / 64) new) n 0) (i % 64)) word
+          ∙ ap (λ w. bit_at w (i % 64)) (get_or-set_same words (index / 64) new 0 within)
           ∙ ap (bit_at new) bit ∙ bit_at_set_same w64 old (index % 64) (omega arith)
-          ∙ sym (ap (λ b. if b || list_any (nat_eq i) indexes then 1 else 0) (eq-eqb i index (omega (arith, word, bit))))
+          ∙ sym (ap (λ b. if b || list_any (nat_eq i) indexes then 1 else 0)
+          (eq-eqb i index (omega (arith, word, bit))))
       | inr bit ↦
-          ap (λ n. bit_at (get_or (set words (index / 64) new) n 0) (i % 64)) word ∙ ap (λ w. bit_at w (i % 64)) (get_or-set_same words (index / 64) new 0 within)
+          ap (λ n. bit_at (get_or (set words (index / 64) new) n 0) (i % 64)) word
+          ∙ ap (λ w. bit_at w (i % 64)) (get_or-set_same words (index / 64) new 0 within)
           ∙ bit_at_set_other w64 old (index % 64) (omega arith) (i % 64) bit
           ∙ ap (λ n. bit_at (get_or words n 0) (i % 64)) (sym word) ∙ other (λ same. bit (ap (λ n. n % 64) same))
     ]
@@ -64,41 +70,51 @@ module _ (k index : ℕ) (indexes words : List ℕ) (inside : index < k) (few : 
       within : index / 64 < length words
       within = omega (arith, inside, few, size)
 
-      other : (i ≡ index → ⊥) → bit_at (get_or words (i / 64) 0) (i % 64) ≡ (if list_any (nat_eq i) (index ∷ indexes) then 1 else 0)
+      other : (i ≡ index → ⊥)
+          → bit_at (get_or words (i / 64) 0) (i % 64) ≡ (if list_any (nat_eq i) (index ∷ indexes) then 1 else 0)
       other apart = are i ∙ sym (ap (λ b. if b || list_any (nat_eq i) indexes then 1 else 0) (ne_eqb i index apart))
 
--- what noting an index answers, by the tests of its range and of whether it was noted
+-- what noting an index returns, by the tests of its range and of whether it was noted
 abbrev noted_by : ℕ → List ℕ → ℕ → Bool → Bool → Result (List ℕ) Error
 noted_by k indexes index outside taken =
     if outside then Err (InvalidOriginalShardIndex k index)
     else if taken then Err (DuplicateOriginalShardIndex index)
     else Ok (index ∷ indexes)
 
+-- what an outcome of noting leads to
+abbrev pub Leads : Result (List ℕ) Error → List ℕ → Result (Unit {0}) Error → Type 0
+Leads outcome new result = MatchResult outcome (λ all. (result ≡ Ok tt) × AreNoted all new) (λ e. result ≡ Err e)
+
 -- what noting an index leads to
 abbrev pub Notes : ℕ → List ℕ → ℕ → List ℕ → Result (Unit {0}) Error → Type 0
-Notes k indexes index new result = MatchResult (noted k indexes index) (λ all. (result ≡ Ok tt) × AreNoted all new) (λ e. result ≡ Err e)
+Notes k indexes index new result = Leads (noted k indexes index) new result
 
 -- an index that is noted leads to its bit
-pub notes : (k index : ℕ) (indexes new : List ℕ) (result : Result (Unit {0}) Error) → noted k indexes index ≡ Ok (index ∷ indexes) → result ≡ Ok tt → AreNoted (index ∷ indexes) new → Notes k indexes index new result
+pub notes : (k index : ℕ) (indexes new : List ℕ) (result : Result (Unit {0}) Error)
+    → noted k indexes index ≡ Ok (index ∷ indexes) → result ≡ Ok tt → AreNoted (index ∷ indexes) new
+    → Notes k indexes index new result
 notes k index indexes new result is done are =
-    subst (λ (o : Result (List ℕ) Error). MatchResult o (λ all. (result ≡ Ok tt) × AreNoted all new) (λ e. result ≡ Err e)) (sym is) (done, are)
+    subst (λ (o : Result (List ℕ) Error). Leads o new result) (sym is) (done, are)
 
 -- a success says that the index was noted
-pub notes-ok : (k index : ℕ) (indexes new : List ℕ) (result : Result (Unit {0}) Error) → Notes k indexes index new result → result ≡ Ok tt
+pub notes-ok : (k index : ℕ) (indexes new : List ℕ) (result : Result (Unit {0}) Error)
+    → Notes k indexes index new result → result ≡ Ok tt
     → (noted k indexes index ≡ Ok (index ∷ indexes)) × AreNoted (index ∷ indexes) new
 notes-ok k index indexes new result leads done = by_tests (nat_le k index) (list_any (nat_eq index) indexes) leads
   where
-    by_tests : (outside taken : Bool) → MatchResult (noted_by k indexes index outside taken) (λ all. (result ≡ Ok tt) × AreNoted all new) (λ e. result ≡ Err e)
+    by_tests : (outside taken : Bool)
+        → Leads (noted_by k indexes index outside taken) new result
         → (noted_by k indexes index outside taken ≡ Ok (index ∷ indexes)) × AreNoted (index ∷ indexes) new
     by_tests true taken refused = absurd (let no : ⊥ = cc in no)
     by_tests false true refused = absurd (let no : ⊥ = cc in no)
     by_tests false false led = (refl, led.1)
 
 -- a refusal is that of the index
-pub notes-err : (k index : ℕ) (indexes new : List ℕ) (result : Result (Unit {0}) Error) (e : Error) → Notes k indexes index new result → result ≡ Err e → noted k indexes index ≡ Err e
+pub notes-err : (k index : ℕ) (indexes new : List ℕ) (result : Result (Unit {0}) Error) (e : Error)
+    → Notes k indexes index new result → result ≡ Err e → noted k indexes index ≡ Err e
 notes-err k index indexes new result e leads refused = by_outcome (noted k indexes index) leads
   where
-    by_outcome : (o : Result (List ℕ) Error) → MatchResult o (λ all. (result ≡ Ok tt) × AreNoted all new) (λ e. result ≡ Err e) → o ≡ Err e
+    by_outcome : (o : Result (List ℕ) Error) → Leads o new result → o ≡ Err e
     by_outcome (Ok all) led = let done = led.0 in absurd (let no : ⊥ = cc in no)
     by_outcome (Err f) same = let is : f ≡ e = cc in ap Err is
 
@@ -108,17 +124,23 @@ noting k indexes shards = one_by_one (λ given item. noted k given item.0) index
 
 -- the next shard decides first
 pub noting-next : (k i : ℕ) (indexes : List ℕ) (shards : List RsShard) (d : RsShard) → i < length shards
-    → noting k indexes (drop i shards) ≡ result_and_then (λ next. noting k next (drop (i + 1) shards)) (noted k indexes (get_or shards i d).index)
+    → noting k indexes (drop i shards)
+    ≡ result_and_then (λ next. noting k next (drop (i + 1) shards)) (noted k indexes (get_or shards i d).index)
 noting-next k i indexes shards d inside = ap (noting k indexes) (drop_more shards i d inside)
 
 -- after the last shard those that were noted are counted
-pub noting-done : (k : ℕ) (indexes : List ℕ) (shards : List RsShard) → noting k [] shards ≡ noting k indexes (drop (length shards) shards) → length indexes ≡ length shards
-    → originals_alone k (items_of shards) ≡ (if nat_lt (length shards) k then Err (NotEnoughShards k (length shards) 0) else Ok tt)
+pub noting-done : (k : ℕ) (indexes : List ℕ) (shards : List RsShard)
+    → noting k [] shards ≡ noting k indexes (drop (length shards) shards) → length indexes ≡ length shards
+    → originals_alone k (items_of shards)
+    ≡ (if nat_lt (length shards) k then Err (NotEnoughShards k (length shards) 0) else Ok tt)
 noting-done k indexes shards leads number =
     ap (result_and_then (λ given. if nat_lt (length given) k then Err (NotEnoughShards k (length given) 0) else Ok tt))
     (leads ∙ ap (noting k indexes) (drop_all (length shards) shards (omega arith)))
     ∙ ap (λ (n : ℕ). if nat_lt n k then Err (NotEnoughShards k n 0) else Ok tt) number
 
 -- a refused index is the answer
-pub noting-refused : (k : ℕ) (shards : List RsShard) (e : Error) → noting k [] shards ≡ Err e → originals_alone k (items_of shards) ≡ Err e
-noting-refused k shards e refused = ap (result_and_then (λ given. if nat_lt (length given) k then Err (NotEnoughShards k (length given) 0) else Ok tt)) refused
+pub noting-refused : (k : ℕ) (shards : List RsShard) (e : Error)
+    → noting k [] shards ≡ Err e → originals_alone k (items_of shards) ≡ Err e
+noting-refused k shards e refused =
+    ap (result_and_then (λ given. if nat_lt (length given) k then Err (NotEnoughShards k (length given) 0) else Ok tt))
+    refused

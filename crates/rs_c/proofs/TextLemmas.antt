@@ -13,41 +13,56 @@ over-nothing room = ap (λ l. l ++ room) (take-nil (length room))
 pub over-past : (text piece old : List ℕ) → length old ≤ length text → over (text ++ piece) old ≡ over text old
 over-past text piece old past =
     ap (λ l. l ++ drop (length (text ++ piece)) old) (take-append-le (length old) text piece past)
-    ∙ ap (λ l. take (length old) text ++ l) (drop_all (length (text ++ piece)) old (let long = length-append text piece in omega (arith, past, long)) ∙ sym (drop_all (length text) old past))
+    ∙ ap (λ l. take (length old) text ++ l)
+    (drop_all (length (text ++ piece)) old (let long = length-append text piece in omega (arith, past, long))
+    ∙ sym (drop_all (length text) old past))
 
 -- a piece that begins inside the room is written as far as it fits
-module _ (text piece old room : List ℕ) (at fits : ℕ) (sized : length text ≡ at) (is : room ≡ over text old) (inside : at < length old)
+module _ (text piece old room : List ℕ) (at fits : ℕ) (sized : length text ≡ at) (is : room ≡ over text old)
+    (inside : at < length old)
     (fit : fits ≡ min (length piece) (length old - at)) where
   begins : room ≡ text ++ drop at old
-  begins = is ∙ ap (λ l. l ++ drop (length text) old) (take_all (length old) text (omega (arith, sized, inside))) ∙ ap (λ n. text ++ drop n old) sized
+  begins =
+      is ∙ ap (λ l. l ++ drop (length text) old) (take_all (length old) text (omega (arith, sized, inside)))
+      ∙ ap (λ n. text ++ drop n old) sized
 
   front : take at room ≡ text
   front = ap (take at) begins ∙ ap (λ n. take n (text ++ drop at old)) (sym sized) ∙ take-append_seam text (drop at old)
 
   back : drop fits (drop at room) ≡ drop (at + fits) old
-  back = ap (λ l. drop fits (drop at l)) begins ∙ ap (λ n. drop fits (drop n (text ++ drop at old))) (sym sized) ∙ ap (drop fits) (drop-append_seam text (drop at old)) ∙ drop-drop fits at old
+  back =
+      ap (λ l. drop fits (drop at l)) begins ∙ ap (λ n. drop fits (drop n (text ++ drop at old))) (sym sized)
+      ∙ ap (drop fits) (drop-append_seam text (drop at old)) ∙ drop-drop fits at old
 
   middle : take fits piece ++ drop (at + fits) old ≡ take (length old - at) piece ++ drop (at + length piece) old
   middle = elim (cases_lt (length piece) (length old - at)) [
     | inl short ↦
         let all : fits ≡ length piece = fit ∙ omega (arith, short) in
         ap (λ n. take n piece ++ drop (at + n) old) all
-        ∙ ap (λ l. l ++ drop (at + length piece) old) (take_all (length piece) piece (omega arith) ∙ sym (take_all (length old - at) piece (omega (arith, short))))
+        ∙ ap (λ l. l ++ drop (at + length piece) old)
+        (take_all (length piece) piece (omega arith) ∙ sym (take_all (length old - at) piece (omega (arith, short))))
     | inr long ↦
         let most : fits ≡ length old - at = fit ∙ omega (arith, long) in
         ap (λ n. take n piece ++ drop (at + n) old) most
-        ∙ ap (λ l. take (length old - at) piece ++ l) (drop_all (at + (length old - at)) old (omega arith) ∙ sym (drop_all (at + length piece) old (omega (arith, long, inside))))
+        ∙ ap (λ l. take (length old - at) piece ++ l)
+        (drop_all (at + (length old - at)) old (omega arith)
+        ∙ sym (drop_all (at + length piece) old (omega (arith, long, inside))))
   ]
 
   pub over-inside : take at room ++ (take fits piece ++ drop fits (drop at room)) ≡ over (text ++ piece) old
   over-inside =
-      ap (λ l. l ++ (take fits piece ++ drop fits (drop at room))) front ∙ ap (λ l. text ++ (take fits piece ++ l)) back ∙ ap (λ l. text ++ l) middle
+      ap (λ l. l ++ (take fits piece ++ drop fits (drop at room))) front
+      ∙ ap (λ l. text ++ (take fits piece ++ l)) back ∙ ap (λ l. text ++ l) middle
       ∙ sym (append_assoc text (take (length old - at) piece) (drop (at + length piece) old))
-      ∙ ap (λ l. l ++ drop (at + length piece) old) (sym (take-append-add text piece (length old - at)) ∙ ap (λ n. take n (text ++ piece)) (omega (arith, sized, inside)))
-      ∙ ap (λ n. take (length old) (text ++ piece) ++ drop n old) (let long = length-append text piece in omega (arith, sized, long))
+      ∙ ap (λ l. l ++ drop (at + length piece) old)
+      (sym (take-append-add text piece (length old - at))
+      ∙ ap (λ n. take n (text ++ piece)) (omega (arith, sized, inside)))
+      ∙ ap (λ n. take (length old) (text ++ piece) ++ drop n old)
+      (let long = length-append text piece in omega (arith, sized, long))
 
 -- a text with one more piece ends where the piece does
-pub longer : (text piece : List ℕ) (at end : ℕ) → length text ≡ at → end ≡ at + length piece → length (text ++ piece) ≡ end
+pub longer : (text piece : List ℕ) (at end : ℕ) → length text ≡ at → end ≡ at + length piece
+    → length (text ++ piece) ≡ end
 longer text piece at end sized is = length-append text piece ∙ ap (λ n. n + length piece) sized ∙ sym is
 
 -- no words at the end of a text change nothing
@@ -57,5 +72,6 @@ ended text old new told writes = subst (λ whole. WritesText whole old new told)
 -- a room keeps its length
 pub length-over : (text old : List ℕ) → length (over text old) ≡ length old
 length-over text old =
-    length-append (take (length old) text) (drop (length text) old)
-    ∙ (let front = length-take (length old) text in let back = length-drop (length text) old in omega (arith, front, back))
+    let front = length-take (length old) text in
+    let back = length-drop (length text) old in
+    length-append (take (length old) text) (drop (length text) old) ∙ omega (arith, front, back)

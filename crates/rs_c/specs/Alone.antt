@@ -5,4 +5,5 @@ use Rattle.std.specs.List.{list_any}
 
 -- bit i of the words is 1 exactly where index i was noted
 abbrev pub AreNoted : List ℕ → List ℕ → Type 0
-AreNoted indexes words = (i : ℕ) → bit_at (slice_index_or words (i / 64) 0) (i % 64) ≡ (if list_any (nat_eq i) indexes then 1 else 0)
+AreNoted indexes words =
+    (i : ℕ) → bit_at (slice_index_or words (i / 64) 0) (i % 64) ≡ (if list_any (nat_eq i) indexes then 1 else 0)

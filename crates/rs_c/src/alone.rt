@@ -10,7 +10,7 @@ use rs_field::error::Error;
 // A bit for each index below 65536.
 type Bits = [u64; 1024];
 
-/// Checks that all originals are given: it notes the index of each in order, and then looks at their number. It needs no memory.
+/// Checks that all originals are given. It notes the index of each in order, and then compares their number. It needs no memory.
 pub fn check_alone(original_count: usize, originals: &[RsShard<'_>]) -> Result<(), Error>
     requires { original_count ≤ 65536 }
     ensures answer { result ≡ originals_alone original_count (items_of originals.now) }

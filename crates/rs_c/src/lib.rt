@@ -74,9 +74,12 @@ pub extern "C" fn rs_encode(
     fault: &mut RsFault,
 ) -> u32
     requires stamped { AreStamped tables.now → AreTables tables.now }
-    ensures not_made { ¬ AreStamped tables.now → (fault.new ≡ numbers 15 0 0 0) × (recovery.new ≡ recovery.old) }
-    ensures answer { AreStamped tables.now → (answer : Result (Unit {0}) FaultOf) × (fault.new ≡ fault_of answer)
-        × EncodesBuffer original_count recovery_count shard_bytes originals.now recovery.old recovery.new answer }
+    ensures not_made { ¬ AreStamped tables.now
+        → (fault.new ≡ numbers 15 0 0 0) × (recovery.new ≡ recovery.old) }
+    ensures answer { AreStamped tables.now
+        → (answer : Result (Unit {0}) FaultOf) × (fault.new ≡ fault_of answer)
+        × EncodesBuffer original_count recovery_count shard_bytes
+        originals.now recovery.old recovery.new answer }
     ensures told { result ≡ fault.new.number }
 {
     let answer = match Borrowing::new(tables) {
@@ -112,9 +115,12 @@ pub extern "C" fn rs_decode(
     fault: &mut RsFault,
 ) -> u32
     requires stamped { AreStamped tables.now → AreTables tables.now }
-    ensures not_made { ¬ AreStamped tables.now → (fault.new ≡ numbers 15 0 0 0) × (originals.new ≡ originals.old) }
-    ensures answer { AreStamped tables.now → (answer : Result (Unit {0}) FaultOf) × (fault.new ≡ fault_of answer)
-        × DecodesBuffer original_count recovery_count shard_bytes marks.now recovery.now originals.old originals.new answer
+    ensures not_made { ¬ AreStamped tables.now
+        → (fault.new ≡ numbers 15 0 0 0) × (originals.new ≡ originals.old) }
+    ensures answer { AreStamped tables.now
+        → (answer : Result (Unit {0}) FaultOf) × (fault.new ≡ fault_of answer)
+        × DecodesBuffer original_count recovery_count shard_bytes
+        marks.now recovery.now originals.old originals.new answer
         × WantsNoMemory (marked_number (drop original_count marks.now)) answer }
     ensures told { result ≡ fault.new.number }
 {
@@ -151,9 +157,12 @@ pub extern "C" fn rs_encode_shards(
     fault: &mut RsFault,
 ) -> u32
     requires stamped { AreStamped tables.now → AreTables tables.now }
-    ensures not_made { ¬ AreStamped tables.now → (fault.new ≡ numbers 15 0 0 0) × (bytes_in recovery.new ≡ bytes_in recovery.old) }
-    ensures answer { AreStamped tables.now → (answer : Result (Unit {0}) FaultOf) × (fault.new ≡ fault_of answer)
-        × EncodesArrays original_count recovery_count (shards_of originals.now) (bytes_in recovery.old) (bytes_in recovery.new) answer }
+    ensures not_made { ¬ AreStamped tables.now
+        → (fault.new ≡ numbers 15 0 0 0) × (bytes_in recovery.new ≡ bytes_in recovery.old) }
+    ensures answer { AreStamped tables.now
+        → (answer : Result (Unit {0}) FaultOf) × (fault.new ≡ fault_of answer)
+        × EncodesArrays original_count recovery_count (shards_of originals.now)
+        (bytes_in recovery.old) (bytes_in recovery.new) answer }
     ensures kept { KeepsRooms recovery.old recovery.new }
     ensures told { result ≡ fault.new.number }
 {
@@ -190,9 +199,12 @@ pub extern "C" fn rs_decode_shards(
     fault: &mut RsFault,
 ) -> u32
     requires stamped { AreStamped tables.now → AreTables tables.now }
-    ensures not_made { ¬ AreStamped tables.now → (fault.new ≡ numbers 15 0 0 0) × (bytes_in restored.new ≡ bytes_in restored.old) }
-    ensures answer { AreStamped tables.now → (answer : Result (Unit {0}) FaultOf) × (fault.new ≡ fault_of answer)
-        × DecodesArrays original_count recovery_count (items_of originals.now) (items_of recovery.now) (bytes_in restored.old) (bytes_in restored.new) answer
+    ensures not_made { ¬ AreStamped tables.now
+        → (fault.new ≡ numbers 15 0 0 0) × (bytes_in restored.new ≡ bytes_in restored.old) }
+    ensures answer { AreStamped tables.now
+        → (answer : Result (Unit {0}) FaultOf) × (fault.new ≡ fault_of answer)
+        × DecodesArrays original_count recovery_count (items_of originals.now) (items_of recovery.now)
+        (bytes_in restored.old) (bytes_in restored.new) answer
         × WantsNoMemory (length recovery.now) answer }
     ensures kept { KeepsRooms restored.old restored.new }
     ensures told { result ≡ fault.new.number }

@@ -11,6 +11,9 @@ use std::alloc::Global;
 /// What made tables hold in their stamp: the letters RS, and the number of this layout. It changes with the layout.
 pub const STAMP: u32 = 0x5253_0001;
 
+// Tables of zeros don't carry it.
+const _: () = prove!(STAMP != 0);
+
 /// How many words of 64 bits the tables take: `RS_TABLE_WORDS` of the header, which `c/build` compares.
 const TABLE_WORDS: usize = 1097728;
 

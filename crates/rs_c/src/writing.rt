@@ -6,7 +6,8 @@ ghost use Rattle.rs_c.specs.Texts.{over, WritesText};
 fn put_bytes(room: &mut [u8], at: usize, piece: &[u8]) -> usize
     requires { at + length piece.now ≤ 65536 }
     ensures end { result ≡ at + length piece.now }
-    ensures written { (text old : List ℕ) → length text ≡ at → room.old ≡ over text old → room.new ≡ over (text ++ piece.now) old }
+    ensures written { (text old : List ℕ) → length text ≡ at → room.old ≡ over text old
+        → room.new ≡ over (text ++ piece.now) old }
 {
     if at < room.len() {
         let fits = piece.len().min(room.len() - at);
@@ -28,7 +29,8 @@ fn put(room: &mut [u8], at: usize, words: &str) -> usize
 fn put_number(room: &mut [u8], at: usize, number: usize) -> usize
     requires { at ≤ 65000 }
     ensures end { (result ≡ at + length (decimal number)) × (result ≤ at + 20) }
-    ensures written { (text old : List ℕ) → length text ≡ at → room.old ≡ over text old → room.new ≡ over (text ++ decimal number) old }
+    ensures written { (text old : List ℕ) → length text ≡ at → room.old ≡ over text old
+        → room.new ≡ over (text ++ decimal number) old }
 {
     let digit = b'0' + (number % 10) as u8;
     if number < 10 {
@@ -62,7 +64,9 @@ pub fn write_two(room: &mut [u8], first: (&str, usize), second: (&str, usize), e
     requires first { length first.0.now ≤ 100 }
     requires second { length second.0.now ≤ 100 }
     requires end { length end.now ≤ 100 }
-    ensures { WritesText (first.entry.0.now ++ decimal first.entry.1 ++ second.entry.0.now ++ decimal second.entry.1 ++ end.now) room.old room.new result }
+    ensures { WritesText
+        (first.entry.0.now ++ decimal first.entry.1 ++ second.entry.0.now ++ decimal second.entry.1 ++ end.now)
+        room.old room.new result }
 {
     let at = put(room, 0, first.0);
     let at = put_number(room, at, first.1);
@@ -83,7 +87,9 @@ pub fn write_three(
     requires second { length second.0.now ≤ 100 }
     requires third { length third.0.now ≤ 100 }
     requires end { length end.now ≤ 100 }
-    ensures { WritesText (first.entry.0.now ++ decimal first.entry.1 ++ second.entry.0.now ++ decimal second.entry.1 ++ third.entry.0.now ++ decimal third.entry.1 ++ end.now)
+    ensures { WritesText
+        (first.entry.0.now ++ decimal first.entry.1 ++ second.entry.0.now ++ decimal second.entry.1
+        ++ third.entry.0.now ++ decimal third.entry.1 ++ end.now)
         room.old room.new result }
 {
     let at = put(room, 0, first.0);

@@ -3,6 +3,8 @@ use Rattle.rs_c.proofs.rs_decode_shards.Goals as goal
 
 pub returns-clause-answer : goal.returns-clause-answer
 returns-clause-answer c stamped = elim c.match-new.branch [
-  | in-Some w ↦ (c.match-new.answer, c.of.ensures, rw (w.answer-is, w.restored-is) w.decode_arrays-answer.ensures.answer, rw w.answer-is w.decode_arrays-answer.ensures.memory)
+  | in-Some w ↦
+      let does = w.decode_arrays-answer.ensures in
+      (c.match-new.answer, c.of.ensures, rw (w.answer-is, w.restored-is) does.answer, rw w.answer-is does.memory)
   | in-None w ↦ absurd (w.in-None.ensures stamped)
 ]

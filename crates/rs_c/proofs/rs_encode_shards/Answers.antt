@@ -3,6 +3,7 @@ use Rattle.rs_c.proofs.rs_encode_shards.Goals as goal
 
 pub returns-clause-answer : goal.returns-clause-answer
 returns-clause-answer c stamped = elim c.match-new.branch [
-  | in-Some w ↦ (c.match-new.answer, c.of.ensures, rw (w.answer-is, w.recovery-is) w.encode_arrays-answer.ensures.answer)
+  | in-Some w ↦
+      (c.match-new.answer, c.of.ensures, rw (w.answer-is, w.recovery-is) w.encode_arrays-answer.ensures.answer)
   | in-None w ↦ absurd (w.in-None.ensures stamped)
 ]

@@ -21,7 +21,8 @@ loop-shard-preserved c =
     let shards : List RsShard = c.args.originals.now in
     let so_far : List ℕ = c.loop-shard.invariant.0 in
     let index : ℕ = (get_or shards i nothing).index in
-    let led = notes-ok k index so_far c.note.new.bits c.note.result (c.note.ensures.answer so_far c.loop-shard.invariant.1) c.in_ok-note.was in (
+    let leads = c.note.ensures.answer so_far c.loop-shard.invariant.1 in
+    let led = notes-ok k index so_far c.note.new.bits c.note.result leads c.in_ok-note.was in (
       index ∷ so_far,
       led.1,
       omega (arith, c.loop-shard.invariant.2),
@@ -38,21 +39,25 @@ returns-in_err-note-clause-answer c =
     let so_far : List ℕ = c.loop-shard.invariant.0 in
     let index : ℕ = (get_or shards i nothing).index in
     let e = c.in_err-note.field-0.0 in
-    let refused = notes-err k index so_far c.note.new.bits c.note.result e (c.note.ensures.answer so_far c.loop-shard.invariant.1) c.in_err-note.was in
+    let leads = c.note.ensures.answer so_far c.loop-shard.invariant.1 in
+    let refused = notes-err k index so_far c.note.new.bits c.note.result e leads c.in_err-note.was in
     let told : c.from_residual.result ≡ Err e = search rules in
     told
     ∙ sym (noting-refused k shards e
     (c.loop-shard.invariant.3 ∙ noting-next k i so_far shards nothing c.loop-shard-test.true
     ∙ ap (result_and_then (λ next. noting k next (drop (i + 1) shards))) refused))
 
-pub returns-then-original_received_count-original_count-clause-answer : goal.returns-then-original_received_count-original_count-clause-answer
+pub returns-then-original_received_count-original_count-clause-answer :
+    goal.returns-then-original_received_count-original_count-clause-answer
 returns-then-original_received_count-original_count-clause-answer c =
     let k : ℕ = c.args.original_count in
     let shards : List RsShard = c.args.originals.now in
     let so_far : List ℕ = c.loop-shard.invariant.0 in
-    let all : c.loop-shard.shard-index ≡ length shards = omega (arith, c.loop-shard-test.false, c.loop-shard.auto.shard-index-end) in
+    let all : c.loop-shard.shard-index ≡ length shards =
+    omega (arith, c.loop-shard-test.false, c.loop-shard.auto.shard-index-end) in
     let led = c.loop-shard.invariant.3 ∙ ap (λ n. noting k so_far (drop n shards)) all in
-    cond_below (length shards) k (Err (NotEnoughShards k (length shards) 0)) (Ok tt) c.if-original_received_count-original_count.true
+    let few = Err (NotEnoughShards k (length shards) 0) in
+    cond_below (length shards) k few (Ok tt) c.if-original_received_count-original_count.true
     ∙ sym (noting-done k so_far shards led (c.loop-shard.invariant.2 ∙ all))
 
 pub returns-clause-answer : goal.returns-clause-answer
@@ -60,7 +65,9 @@ returns-clause-answer c =
     let k : ℕ = c.args.original_count in
     let shards : List RsShard = c.args.originals.now in
     let so_far : List ℕ = c.loop-shard.invariant.0 in
-    let all : c.loop-shard.shard-index ≡ length shards = omega (arith, c.loop-shard-test.false, c.loop-shard.auto.shard-index-end) in
+    let all : c.loop-shard.shard-index ≡ length shards =
+    omega (arith, c.loop-shard-test.false, c.loop-shard.auto.shard-index-end) in
     let led = c.loop-shard.invariant.3 ∙ ap (λ n. noting k so_far (drop n shards)) all in
-    cond_above (length shards) k (Err (NotEnoughShards k (length shards) 0)) (Ok tt) (Ok tt) c.if-original_received_count-original_count.false refl
+    let few = Err (NotEnoughShards k (length shards) 0) in
+    cond_above (length shards) k few (Ok tt) (Ok tt) c.if-original_received_count-original_count.false refl
     ∙ sym (noting-done k so_far shards led (c.loop-shard.invariant.2 ∙ all))

@@ -9,7 +9,10 @@ returns-clause-answer c indexes are =
     let k = c.args.original_count in
     let index = c.args.index in
     let words = c.args.bits.now in
-    let free : bit_at (get_or words (index / 64) 0) (index % 64) ≢ 1 = λ taken. c.if-bits-word-eq1.false (shr_and_one (get_or words (index / 64) 0) (index % 64) ∙ taken) in
-    notes k index indexes (set words (index / 64) (bit_or (get_or words (index / 64) 0) (1 * 2 ^ (index % 64) % 2 ^ 64))) (Ok tt)
-    (noted-next k index indexes words c.if-index-original_count.false c.requires c.told-bits are free) refl
-    (noted-more k index indexes words c.if-index-original_count.false c.requires c.told-bits are free)
+    let old = get_or words (index / 64) 0 in
+    let free : bit_at old (index % 64) ≢ 1 =
+    λ taken. c.if-bits-word-eq1.false (shr_and_one old (index % 64) ∙ taken) in
+    let below = c.if-index-original_count.false in
+    notes k index indexes (set words (index / 64) (bit_or old (1 * 2 ^ (index % 64) % 2 ^ 64))) (Ok tt)
+    (noted-next k index indexes words below c.requires c.told-bits are free) refl
+    (noted-more k index indexes words below c.requires c.told-bits are free)

@@ -19,5 +19,8 @@ returns c =
     let third = c.put-at-3.ensures.written (a ++ d ++ b ++ f) old at3 two in
     let at4 = longer (a ++ d ++ b ++ f) g c.put_number-at-2.result c.put-at-3.result at3 c.put-at-3.ensures.end in
     let three = c.put_number-at-3.ensures.written (a ++ d ++ b ++ f ++ g) old at4 third in
-    let at5 = longer (a ++ d ++ b ++ f ++ g) h c.put-at-3.result c.put_number-at-3.result at4 c.put_number-at-3.ensures.end.0 in
-    (sym (longer (a ++ d ++ b ++ f ++ g ++ h) e c.put_number-at-3.result c.put.result at5 c.put.ensures.end), c.put.ensures.written (a ++ d ++ b ++ f ++ g ++ h) old at5 three)
+    let at5 =
+    longer (a ++ d ++ b ++ f ++ g) h c.put-at-3.result c.put_number-at-3.result at4 c.put_number-at-3.ensures.end.0 in
+    let whole =
+    longer (a ++ d ++ b ++ f ++ g ++ h) e c.put_number-at-3.result c.put.result at5 c.put.ensures.end in
+    (sym whole, c.put.ensures.written (a ++ d ++ b ++ f ++ g ++ h) old at5 three)

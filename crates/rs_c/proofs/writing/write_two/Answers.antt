@@ -15,4 +15,6 @@ returns c =
     let at2 = longer (a ++ d) b c.put_number-at.result c.put-at-2.result at1 c.put-at-2.ensures.end in
     let two = c.put_number-at-2.ensures.written (a ++ d ++ b) old at2 second in
     let at3 = longer (a ++ d ++ b) f c.put-at-2.result c.put_number-at-2.result at2 c.put_number-at-2.ensures.end.0 in
-    (sym (longer (a ++ d ++ b ++ f) e c.put_number-at-2.result c.put.result at3 c.put.ensures.end), c.put.ensures.written (a ++ d ++ b ++ f) old at3 two)
+    let whole =
+    longer (a ++ d ++ b ++ f) e c.put_number-at-2.result c.put.result at3 c.put.ensures.end in
+    (sym whole, c.put.ensures.written (a ++ d ++ b ++ f) old at3 two)

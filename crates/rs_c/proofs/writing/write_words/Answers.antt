@@ -3,4 +3,7 @@ use Rattle.rs_c.proofs.TextLemmas.{over-nothing}
 use Rattle.rs_c.proofs.writing.write_words.Goals as goal
 
 pub returns : goal.returns
-returns c = (c.put.ensures.end ∙ zero-add (length c.args.words.now), c.put.ensures.written [] c.args.room.now refl (sym (over-nothing c.args.room.now)))
+returns c =
+    let room = c.args.room.now in
+    let sized = c.put.ensures.end ∙ zero-add (length c.args.words.now) in
+    (sized, c.put.ensures.written [] room refl (sym (over-nothing room)))
