@@ -1,6 +1,11 @@
-//! Reed-Solomon erasure codes over the field of 65536 elements, with the paths of the crate reed-solomon-simd.
+//! Reed-Solomon erasure codes over GF(2^16) in n log n, with the paths of the crate reed-solomon-simd.
 //!
-//! A message of `original_count` shards of one size is coded into `recovery_count` recovery shards.
+//! A message of `original_count` shards of one even size is encoded into `recovery_count` recovery shards. Any
+//! `original_count` of all these shards give back every original. Originals are numbered from 0 in their order, and
+//! recovery shards are numbered from 0 on their own.
+//!
+//! [`encode`] and [`decode`] do a whole round in one call. [`ReedSolomonEncoder`] and [`ReedSolomonDecoder`] code many
+//! messages with the same memory. The module [`rate`] has objects whose rate, engine and memory the caller chooses.
 #![tactic(auto)]
 
 mod decoder;
@@ -14,7 +19,7 @@ pub const VERSION: &str = "1.2";
 pub use decoder::ReedSolomonDecoder;
 pub use encoder::ReedSolomonEncoder;
 pub use one_call::{decode, encode};
-/// Why a call was refused.
+/// The error of every call.
 ///
 /// ```
 /// match format!(in alloc; "{refusal}\n") {
@@ -24,7 +29,7 @@ pub use one_call::{decode, encode};
 /// ```
 pub use rs_field::error::Error;
 pub use slices::{decode_slice, encode_slice};
-/// What a round lends, and the walks through it.
+/// The results of a round, and iterators over them. They lend shards and copy nothing.
 ///
 /// ```
 /// for (index, shard) in lent.restored_original_iter() {
@@ -33,7 +38,7 @@ pub use slices::{decode_slice, encode_slice};
 /// ```
 pub use rs_rate::{DecoderResult, EncoderResult, Recovery, RestoredOriginal};
 
-/// The field, its tables, and the engines that transform rows of symbols.
+/// The field, its tables, and the engines, which transform rows of symbols.
 ///
 /// ```
 /// let tables = Tables::new(alloc)?;
@@ -41,26 +46,26 @@ pub use rs_rate::{DecoderResult, EncoderResult, Recovery, RestoredOriginal};
 /// ```
 pub mod engine {
     pub use rs_engines::engine_default::{DefaultEngine, EngineKind};
-    /// A word that names no engine.
+    /// The error of a word that names no engine.
     ///
     /// ```
     /// let Ok(engine) = EngineKind::from_str(engine.as_str()) else {
     /// ```
     pub use rs_engines::engine_default::UnknownEngine;
-    /// The engine without vectors.
+    /// The engine without vectors: it looks up products by nibbles.
     ///
     /// ```
     /// check_engine(&rt, &NoSimd::new(&tables), log);
     /// ```
     pub use rs_engines::engine_nosimd::NoSimd;
-    /// The engines of vectors of 16 bytes and of 32.
+    /// The engines with vectors of 32 bytes and of 16 bytes.
     ///
     /// ```
     /// check_engine(&rt, &Ssse3::new(&tables), log);
     /// check_engine(&rt, &Avx2::new(&tables), log);
     /// ```
     pub use rs_engines::engine_shuffle::{Avx2, Ssse3};
-    /// The field's constants.
+    /// The constants of the field.
     ///
     /// ```
     /// let first = CANTOR_BASIS[0];
@@ -69,13 +74,13 @@ pub mod engine {
     pub use rs_field::engine::{
         CANTOR_BASIS, GF_BITS, GF_MODULUS, GF_ORDER, GF_POLYNOMIAL, GfElement,
     };
-    /// What each engine does.
+    /// The trait of engines: what an engine must do, and what encoders and decoders may rely on.
     ///
     /// ```
     /// engine.locate(steps, entries);
     /// ```
     pub use rs_field::engine::Engine;
-    /// The plain engine, which takes each product by logarithms.
+    /// The plain engine: it computes each product with logarithms.
     ///
     /// ```
     /// check_engine(&rt, &Naive::new(&tables), log);
@@ -89,13 +94,13 @@ pub mod engine {
     /// ```
     pub use rs_field::engine::{ShardsRefMut, Steps};
 
-    /// All tables, made once, and what engines read of them.
+    /// The tables, which are made once and lent to engines.
     ///
     /// ```
     /// let tables = Tables::new(alloc)?;
     /// ```
     pub mod tables {
-        /// All tables, the powers of the generator and the logarithms, a product by these, and the factors of butterflies.
+        /// All tables; the powers and logarithms, the product of two words with them, and the factors of butterflies.
         ///
         /// ```
         /// mul(x, log_m, exp, log)
@@ -103,7 +108,7 @@ pub mod engine {
         pub use rs_field::engine::tables::{
             Exp, ExpLog, Log, Skew, Tables, get_exp_log, get_skew, mul,
         };
-        /// The transforms of the logarithms.
+        /// The transforms of the logarithms, for locators.
         ///
         /// ```
         /// (get_exp_log(tables), get_skew(tables), get_log_walsh(tables))
@@ -117,9 +122,9 @@ pub mod engine {
         pub use rs_field::engine::tables::{Mul16, Mul128, Multiply128lutT, get_mul16, get_mul128};
     }
 
-    /// Row functions and the locator, which engines share.
+    /// Functions of rows, and locators, which engines share.
     pub mod utils {
-        /// The locator of marked points.
+        /// Locators of marked points.
         ///
         /// ```
         /// eval_poly(steps, erasures, GF_ORDER, get_log_walsh(tables));
@@ -129,7 +134,7 @@ pub mod engine {
         /// locate(steps, entries, get_log_walsh_below(tables, 64));
         /// ```
         pub use rs_field::engine::utils::{eval_poly, locate};
-        /// Sums of chunks, and of ranges of rows.
+        /// Sums of chunks and of ranges of rows.
         ///
         /// ```
         /// xor(first, second);
@@ -142,7 +147,7 @@ pub mod engine {
     }
 }
 
-/// The rates of the code, their encoders and decoders.
+/// The rates of the code, and their encoders and decoders.
 ///
 /// ```
 /// let engine = Ssse3::new(&tables);
@@ -150,7 +155,7 @@ pub mod engine {
 /// let mut encoder = DefaultRateEncoder::new(alloc, 3, 2, 12, engine, None)?;
 /// ```
 pub mod rate {
-    /// Encoders and decoders, and what is common to those of all rates.
+    /// The encoders and decoders of each rate, and the traits that they share.
     ///
     /// ```
     /// let result = encoder.encode(steps)?;
@@ -159,19 +164,19 @@ pub mod rate {
         DefaultRateDecoder, DefaultRateEncoder, HighRateDecoder, HighRateEncoder, LowRateDecoder,
         LowRateEncoder, RateDecoder, RateEncoder,
     };
-    /// Counts that a rate supports: asked for once, where a call begins.
+    /// Two counts that a rate supports, checked once.
     ///
     /// ```
     /// let counts = DefaultRateCounts::new(original_count, recovery_count)?;
     /// ```
     pub use rs_rate::rate::{DefaultRateCounts, HighRateCounts, LowRateCounts};
-    /// Memory that passes from object to object.
+    /// Memory that passes from one object to the next.
     ///
     /// ```
     /// (EncoderWork::new(), DecoderWork::new())
     /// ```
     pub use rs_rate::rate::{DecoderWork, EncoderWork};
-    /// What a rate makes: its encoders and decoders.
+    /// The rates, and the trait that makes their encoders and decoders.
     ///
     /// ```
     /// let (engine, work) = decoder.into_parts();

@@ -135,12 +135,10 @@ pub fn add_originals<
 
 /// Adds recovery shards to a decoder in order. Fails with the error of the first recovery shard that the decoder does not
 /// accept; no further recovery shard is asked for.
-pub fn add_recovery<
-    'a,
-    E: Engine,
-    X: RateDecoder<E>,
-    I: Iterator<Item = (usize, &'a [u8])> + Drop,
->(decoder: &mut X, recovery: I) -> Result<(), Error>
+pub fn add_recovery<'a, E: Engine, X: RateDecoder<E>, I: Iterator<Item = (usize, &'a [u8])> + Drop>(
+    decoder: &mut X,
+    recovery: I,
+) -> Result<(), Error>
     requires can { I.can_next recovery }
     requires ends { IsFinite (I.remaining recovery) }
     ensures { (calls : Calls I.next_gives recovery) × ((items : Items) → BeginsWithItems items calls
