@@ -1,4 +1,4 @@
-use Rattle.std.proofs.Common.{rules, ◌≡◌, ◌≢◌, ◌*◌, ◌/◌, ◌%◌, ◌^◌, ◌∷◌, ◌∙◌, bit_or, get_or, set, Ok, sym, ap, refl}
+use Rattle.std.proofs.Common.{◌≢◌, ◌*◌, ◌/◌, ◌%◌, ◌^◌, ◌∙◌, bit_or, get_or, set, Ok, refl}
 use Rattle.std.specs.Int.{bit_at}
 use Rattle.std.proofs.lemmas.Nat.Bits.{shr_and_one}
 use Rattle.rs_c.proofs.AloneLemmas.{notes, noted-next, noted-more}
