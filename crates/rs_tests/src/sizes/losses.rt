@@ -32,10 +32,19 @@ pub const LOSSES: [Loss; 5] = [
 pub struct Message<'a> {
     pub originals: &'a [Vec<u8>],
     pub recovery_count: usize,
-    pub loss: Loss,
+    loss: Loss,
 }
 
-impl Message<'_> {
+impl<'a> Message<'a> {
+    /// A message of these originals.
+    pub fn new(originals: &'a [Vec<u8>], recovery_count: usize, loss: Loss) -> Message<'a> {
+        Message {
+            originals,
+            recovery_count,
+            loss,
+        }
+    }
+
     /// Whether the original of this index is lost.
     pub fn loses_original(&self, index: usize) -> bool {
         let (k, r) = (self.originals.len(), self.recovery_count);

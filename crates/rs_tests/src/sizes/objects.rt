@@ -34,28 +34,28 @@ pub trait Objects {
 // How many originals the objects hold when they are reset, in turn.
 const ADDED: [usize; 4] = [3, usize::MAX, 0, 1];
 
-/// Codes messages of all counts and sizes with new objects and with objects that are reset from size to size.
+/// Codes messages of all counts and sizes with new objects, and with objects that are reset from size to size, which lose other
+/// shards.
 pub fn check_objects<X: Objects, A: Abort + AllocGlobal>(
     rt: &A,
     fresh: &mut X,
     kept: &mut X,
 ) -> Result<(), Fail> {
     let mut losses = LOSSES.into_iter().cycle();
+    let mut others = LOSSES.into_iter().cycle().skip(1);
     let mut added = ADDED.into_iter().cycle();
     for (k, r, sizes) in COUNTS {
         kept.start((k, r, 2))?;
         for shard_bytes in SIZES.into_iter().take(sizes) {
             let originals = drawn(rt.alloc(), k, shard_bytes)?;
             let loss = losses.next().unwrap_or(Loss::First);
-            let message = Message {
-                originals: &originals,
-                recovery_count: r,
-                loss,
-            };
+            let message = Message::new(&originals, r, loss);
             fresh.start((k, r, shard_bytes))?;
             let back = fresh.comes_back(&message)?;
             assert!(rt; back, "{k}:{r} of {shard_bytes} bytes, {loss:?} lost, new");
             fresh.start((1, 1, 2))?;
+            let loss = others.next().unwrap_or(Loss::First);
+            let message = Message::new(&originals, r, loss);
             kept.reset((k, r, shard_bytes))?;
             let back = kept.comes_back(&message)?;
             assert!(rt;

@@ -72,19 +72,16 @@ fn one_call_at_counts_and_sizes_of_users(rt: HostRuntime) -> Result<(), Fail> {
     let alloc = rt.alloc();
     let tables = Tables::new(alloc)?;
     let mut losses = LOSSES.into_iter().cycle();
+    let mut others = LOSSES.into_iter().cycle().skip(1);
     for (k, r, sizes) in COUNTS {
         for shard_bytes in SIZES.into_iter().take(sizes) {
             let originals = drawn(alloc, k, shard_bytes)?;
-            let loss = losses.next().unwrap_or(Loss::First);
-            let message = Message {
-                originals: &originals,
-                recovery_count: r,
-                loss,
-            };
             let engine = engine_for(&tables, shard_bytes);
-            let back = comes_back(alloc, &message, engine)?;
+            let loss = losses.next().unwrap_or(Loss::First);
+            let back = comes_back(alloc, &Message::new(&originals, r, loss), engine)?;
             assert!(rt; back, "{k}:{r} of {shard_bytes} bytes, {loss:?} lost");
-            let back = comes_back_in_slices(alloc, &message, engine)?;
+            let loss = others.next().unwrap_or(Loss::First);
+            let back = comes_back_in_slices(alloc, &Message::new(&originals, r, loss), engine)?;
             assert!(rt;
                 back,
                 "{k}:{r} of {shard_bytes} bytes in slices, {loss:?} lost"
