@@ -11,10 +11,10 @@ use crate::engine::Borrowing;
 use crate::fault::Fault;
 use crate::layouts::{Marked, RsShard};
 use crate::rooms::{check_number, check_rooms, fill_rooms};
-use rs_rate::rate::giving::given_decoder;
 use rs_field::engine::Steps;
 use rs_field::error::Error;
 use rs_rate::DecoderResult;
+use rs_rate::rate::giving::given_decoder;
 use rs_rate::rate::{DefaultRateCounts, RateDecoder};
 use std::alloc::Global;
 

@@ -10,9 +10,9 @@ use crate::engine::Borrowing;
 use crate::fault::Fault;
 use crate::layouts::Joined;
 use crate::rooms::{check_rooms, fill_rooms};
-use rs_rate::rate::giving::given_encoder;
 use rs_field::engine::Steps;
 use rs_rate::EncoderResult;
+use rs_rate::rate::giving::given_encoder;
 use rs_rate::rate::{DefaultRateCounts, RateEncoder};
 use std::alloc::Global;
 
