@@ -23,7 +23,13 @@ fn two_recovery_shards_restore_two_originals(rt: HostRuntime) -> Result<(), Fail
     let engine = DefaultEngine::new(&tables, EngineKind::Ssse3);
     let received: [(usize, &[u8]); 2] = [(0, &[2, 0]), (1, &[3, 0])];
     let restored = decode(alloc, 2, 3, [].into_iter(), received.into_iter(), engine)?;
-    assert_eq!(rt; restored.get(&0).ok_or("none")?.as_slice(), [0, 0].as_slice());
-    assert_eq!(rt; restored.get(&1).ok_or("none")?.as_slice(), [1, 0].as_slice());
+    assert_eq!(rt;
+        restored.get(&0).ok_or("none")?.as_slice(),
+        [0, 0].as_slice()
+    );
+    assert_eq!(rt;
+        restored.get(&1).ok_or("none")?.as_slice(),
+        [1, 0].as_slice()
+    );
     Ok(())
 }
