@@ -112,6 +112,7 @@ int main(void) {
             swept(counts[i][0], counts[i][1], sizes[n]);
             cases++;
         }
+    if (cases != 52) wrong("another number of counts and sizes", 0, 0, cases);
     printf("sweep: %u counts and sizes\n", cases);
     free(tables);
     return 0;

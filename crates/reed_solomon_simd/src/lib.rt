@@ -77,7 +77,7 @@ pub mod engine {
     /// The trait of engines: what an engine must do, and what encoders and decoders may rely on.
     ///
     /// ```
-    /// engine.locate(steps, entries);
+    /// engine.locate(steps, erasures);
     /// ```
     pub use rs_field::engine::Engine;
     /// The plain engine: it computes each product with logarithms.
@@ -131,7 +131,7 @@ pub mod engine {
         /// ```
         ///
         /// ```
-        /// locate(steps, entries, get_log_walsh_below(tables, 64));
+        /// locate(steps, erasures, get_log_walsh_below(tables, 64));
         /// ```
         pub use rs_field::engine::utils::{eval_poly, locate};
         /// Sums of chunks and of ranges of rows.

@@ -7,7 +7,6 @@ ghost use Rattle.rs.specs.Reading.{as_given};
 
 use crate::command::{Command, Counts, Given, Task};
 use crate::hexadecimal::line;
-use reed_solomon_simd::engine::tables::Tables;
 use reed_solomon_simd::engine::{DefaultEngine, EngineKind};
 use reed_solomon_simd::{Error, decode, encode};
 use std::alloc::Global;
@@ -22,19 +21,20 @@ pub struct Lines {
 
 impl Lines {
     ghost use Rattle.std.specs.Prelude.{◌≡◌, IfOk};
+    ghost use Rattle.reed_solomon_simd.specs.Kind.{kind_of};
     ghost use Rattle.rs.specs.Coding.{AnswersWith};
     ghost use Rattle.rs.specs.Reading.{as_request};
 
-    /// Codes what the command asks for, with the engine that it names, and makes a line of text for each shard.
+    /// Codes what the command asks for with this engine, and makes a line of text for each shard. It has no tables, so it
+    /// can make no other engine.
     ///
     /// # Errors
     ///
     /// The error of the one-call function, or `OutOfMemory` if a line cannot be allocated.
-    pub fn new(alloc: Global, tables: &Tables, command: &Command) -> Result<Lines, Error>
-        ensures engine { IfOk result (λ lines. lines.engine ≡ command.now.engine) }
+    pub fn new(alloc: Global, engine: DefaultEngine<'_>, command: &Command) -> Result<Lines, Error>
+        ensures engine { IfOk result (λ lines. lines.engine ≡ kind_of engine.entry) }
         ensures answer { AnswersWith (as_request command.now) result }
     {
-        let engine = DefaultEngine::new(tables, command.engine);
         let texts = match &command.task {
             Task::Encode(original) => recovery_lines(alloc, command.counts, original, engine)?,
             Task::Decode(given) => restored_lines(alloc, command.counts, given, engine)?,
@@ -72,7 +72,8 @@ fn recovery_lines(
     original: &[Vec<u8>],
     engine: DefaultEngine<'_>,
 ) -> Result<Vec<String>, Error>
-    ensures { OrLacksMemory (CodesLines counts.original counts.recovery (map (λ v. v.items) original.now)) result }
+    ensures { let shards = map (λ v. v.items) original.now in
+        OrLacksMemory (CodesLines counts.original counts.recovery shards) result }
 {
     let shards = original.iter().map(|shard| shard.as_slice());
     let recovery = encode(alloc, counts.original, counts.recovery, shards, engine)?;
@@ -86,7 +87,8 @@ fn restored_lines(
     given: &Given,
     engine: DefaultEngine<'_>,
 ) -> Result<Vec<String>, Error>
-    ensures { OrLacksMemory (RestoresLines counts.original counts.recovery (as_given given.now)) result }
+    ensures { OrLacksMemory (RestoresLines counts.original counts.recovery (as_given given.now))
+        result }
 {
     let original = given
         .original
@@ -109,8 +111,8 @@ fn restored_lines(
 
 // Makes a line for each shard.
 fn shard_lines(alloc: Global, shards: &[Vec<u8>]) -> Result<Vec<String>, Error>
-    ensures { MatchResult result (λ texts. concatenated texts ≡ lines_of (map (λ v. v.items) shards.now))
-        (λ e. e ≡ Error.OutOfMemory) }
+    ensures { let wanted = lines_of (map (λ v. v.items) shards.now) in
+        MatchResult result (λ texts. concatenated texts ≡ wanted) (λ e. e ≡ Error.OutOfMemory) }
 {
     let mut texts = Vec::new(alloc);
     for shard in shards {

@@ -13,6 +13,7 @@ use crate::command::read_command;
 use crate::fault::Fault;
 use crate::writing::write_texts;
 use reed_solomon_simd::Error;
+use reed_solomon_simd::engine::DefaultEngine;
 use reed_solomon_simd::engine::tables::Tables;
 use std::alloc::Global;
 use std::io::Write;
@@ -20,13 +21,14 @@ use std::io::Write;
 // Reads the words, makes the tables, and codes what the words ask for.
 fn answer(alloc: Global, words: &[String]) -> Result<Lines, Fault>
     ensures begun { request_of (take 4 (map string_bytes words.now)) ≡ None → result ≡ Err Usage }
-    ensures answer { MatchResult result (λ lines. Prints (map string_bytes words.now) (concatenated lines.texts))
-        (λ fault. HasFault (map string_bytes words.now) fault) }
+    ensures answer { let given = map string_bytes words.now in
+        MatchResult result (λ lines. Prints given (concatenated lines.texts)) (HasFault given) }
     ensures engine { IfOk result (λ lines. CodesAsAsked (map string_bytes words.now) lines.engine) }
 {
     let command = read_command(alloc, words)?;
     let tables = Tables::new(alloc)?;
-    Ok(Lines::new(alloc, &tables, &command)?)
+    let engine = DefaultEngine::new(&tables, command.engine);
+    Ok(Lines::new(alloc, engine, &command)?)
 }
 
 /// Does what the words ask for, and returns the exit status.

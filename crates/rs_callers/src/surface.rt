@@ -115,19 +115,21 @@ pub fn locator(steps: &mut Steps, erasures: &mut [GfElement; GF_ORDER], tables: 
 }
 
 /// The locator of points below 64, at these points.
-pub fn locator_below(steps: &mut Steps, entries: &mut [GfElement; 64], tables: &Tables)
-    ensures { IsLocatorBelow 64 (λ y. slice_index entries.old y) (λ x. slice_index entries.new x) }
+pub fn locator_below(steps: &mut Steps, erasures: &mut [GfElement; 64], tables: &Tables)
+    ensures { IsLocatorBelow 64 (λ y. slice_index erasures.old y) (λ x. slice_index erasures.new x) }
 {
-    locate(steps, entries, get_log_walsh_below(tables, 64));
+    locate(steps, erasures, get_log_walsh_below(tables, 64));
 }
 
 /// The locator of as many points as there are entries, by the library's own engine: within the bound for so many.
-pub fn locator_by_engine(engine: DefaultEngine<'_>, steps: &mut Steps, entries: &mut [GfElement])
-    requires power { (d : ℕ) × (length entries.old ≡ 2 ^ d) }
-    requires few { length entries.old ≤ 65536 }
-    ensures { LocatorCountsBelow (length entries.old) steps.old steps.new }
+pub fn locator_by_engine(engine: DefaultEngine<'_>, steps: &mut Steps, erasures: &mut [GfElement])
+    requires power { (d : ℕ) × (length erasures.old ≡ 2 ^ d) }
+    requires few { length erasures.old ≤ 65536 }
+    ensures values { IsLocatorBelow (length erasures.old) (λ y. slice_index erasures.old y)
+        (λ x. slice_index erasures.new x) }
+    ensures counts { LocatorCountsBelow (length erasures.old) steps.old steps.new }
 {
-    engine.locate(steps, entries);
+    engine.locate(steps, erasures);
 }
 
 /// The transforms of marked rows, one after the other: each marked row is what it was.
@@ -204,6 +206,10 @@ pub fn counts_at_each(
     ensures low { IfOk result (λ _. supports low_rate original_count recovery_count ≡ true) }
     ensures high { IfOk result (λ _. supports high_rate original_count recovery_count ≡ true) }
     ensures default { IfOk result (λ _. supports default_rate original_count recovery_count ≡ true) }
+    ensures original { IfOk result (λ c. (c.0.original_count ≡ original_count)
+        × (c.1.original_count ≡ original_count) × (c.2.original_count ≡ original_count)) }
+    ensures recovery { IfOk result (λ c. (c.0.recovery_count ≡ recovery_count)
+        × (c.1.recovery_count ≡ recovery_count) × (c.2.recovery_count ≡ recovery_count)) }
 {
     let low = LowRateCounts::new(original_count, recovery_count)?;
     let high = HighRateCounts::new(original_count, recovery_count)?;
@@ -303,8 +309,10 @@ pub fn one_array(
     shard: [u8; 64],
     engine: DefaultEngine<'_>,
 ) -> Result<(Vec<Vec<u8>>, BTreeMap<usize, Vec<u8>>), Error>
-    ensures coded { IfOk result (λ both. OneEncodeAnswers 1 1 (shard ∷ []) (Ok (map (λ v. v.items) both.0.items))) }
-    ensures restored { IfOk result (λ both. OneDecodeAnswers 1 1 ((0, shard) ∷ []) [] (Ok (shards_in both.1))) }
+    ensures coded { IfOk result (λ both.
+        OneEncodeAnswers 1 1 (shard ∷ []) (Ok (map (λ v. v.items) both.0.items))) }
+    ensures restored { IfOk result (λ both.
+        OneDecodeAnswers 1 1 ((0, shard) ∷ []) [] (Ok (shards_in both.1))) }
 {
     let recovery = encode_slice(alloc, 1, 1, &[shard], engine)?;
     let restored = decode_slice::<[u8; 64], &[u8]>(alloc, 1, 1, &[(0, shard)], &[], engine)?;
