@@ -1,5 +1,5 @@
-// Preloaded into a program: the stream STREAM (1 or 2) takes one byte a call, is interrupted before each, and has room for
-// ROOM bytes: a call after these fails.
+// Loaded before a program (LD_PRELOAD): the stream STREAM (1 or 2) accepts one byte in each call and is interrupted before each
+// byte. After ROOM bytes every call fails.
 #define _GNU_SOURCE
 #include <errno.h>
 #include <stdlib.h>

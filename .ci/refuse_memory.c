@@ -1,7 +1,9 @@
-/* Loaded before a program (LD_PRELOAD). Requests for memory are counted: all of them, or with WATCHED set those between two
-   signals, which are requests of BEGIN and of END bytes, and are refused themselves. REFUSED is the number of the request that is
-   refused. At the end two lines go to file descriptor 3: the number of requests, that of signals, and how many bytes of what was
-   taken weren't given back; and the sizes of the requests, as many as there is room for. */
+/* Loaded before a program (LD_PRELOAD): counts requests for memory, and refuses one of them.
+
+   It counts all requests. If WATCHED is set, it counts only those between two signals. The signals are requests of BEGIN and of END
+   bytes, and are refused themselves. REFUSED is the number of the request that is refused. At the end it writes two lines to file
+   descriptor 3. The first has the number of requests, the number of signals, and the number of bytes that were not given back. The
+   second has the sizes of the requests, of the first NOTED ones. */
 #define _GNU_SOURCE
 #include <dlfcn.h>
 #include <stdio.h>
@@ -14,7 +16,7 @@ static size_t sizes[NOTED];
 static void *blocks[NOTED];
 static int watched, ended;
 
-/* The number of the request if it is counted and granted, 0 if it isn't counted, -1 if it is refused. */
+/* Returns the number of the request if it is counted and granted, 0 if it is not counted, and -1 if it is refused. */
 static long number_of(size_t size) {
     const char *refused = getenv("REFUSED");
     if (ended) return 0;
@@ -34,7 +36,7 @@ static void *taken(long number, void *block) {
     return block;
 }
 
-/* What is given back may be so at any time, watched or not. */
+/* Notes that a block was given back. This may happen at any time, watched or not. */
 static void given_back(void *block) {
     for (unsigned long i = 0; block && i < requests && i < NOTED; i++)
         if (blocks[i] == block) blocks[i] = NULL;
@@ -72,7 +74,7 @@ void free(void *block) {
 
 __attribute__((destructor)) static void tell(void) {
     unsigned long left = 0;
-    ended = 1; /* What is written here takes memory too. */
+    ended = 1; /* Writing requests memory too, which is not counted. */
     for (unsigned long i = 0; i < requests && i < NOTED; i++)
         if (blocks[i]) left += sizes[i];
     dprintf(3, "%lu %lu %lu\n", requests, signals, left);

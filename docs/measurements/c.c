@@ -1,4 +1,4 @@
-/* The library from C beside ISA-L, whose code is over GF(2^8): docs/measurements/c prints the table. */
+/* Measures the library from C and ISA-L, whose code is over GF(2^8), and prints the table. docs/measurements/c builds and runs it. */
 #define _POSIX_C_SOURCE 200809L
 #include "reed_solomon_simd.h"
 #include "thread_time.h"
@@ -31,7 +31,7 @@ static void their_encode(void) {
     ec_encode_data(SIZE, (int)k, (int)r, coding, from, to);
 }
 
-/* The first originals are lost, as many as can be, and the first recovery shards stand for them. */
+/* As many of the first originals as possible are lost, and the first recovery shards take their places. */
 static void their_decode(void) {
     size_t gone = k < r ? k : r;
     for (size_t i = 0; i < k; i++) {

@@ -1,5 +1,5 @@
-/* How long a round of small shards takes from C: an encode and a decode with all originals lost that can be, over buffers and over
- * arrays. The best of many, each of a thousand rounds. docs/measurements/c runs it. */
+/* Measures how long a round with small shards takes from C, over buffers and over arrays: an encode, and a decode with as many
+ * originals lost as possible. Each figure is the best of 25 measurements of a thousand rounds. docs/measurements/c builds and runs it. */
 #define _POSIX_C_SOURCE 200809L
 #include "reed_solomon_simd.h"
 #include "thread_time.h"

@@ -1,4 +1,4 @@
-/* The processor time of this thread in seconds, for the programs beside it. */
+/* Returns the processor time of this thread in seconds. The programs in this folder use it. */
 #include <time.h>
 
 static double now(void) {
