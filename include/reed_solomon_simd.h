@@ -1,31 +1,33 @@
 /* Reed-Solomon erasure codes over GF(2^16), version 1.2 of the interface. docs/C.md explains how to build and use the library.
  *
- * k original shards of one even size become r recovery shards. Any k of these k + r shards give back the missing originals.
+ * The library turns k original shards of the same even size into r recovery shards. Any k of these k + r shards give back the missing
+ * originals.
  *
- * Bytes 64a to 64b of all shards are a message of their own: a caller can encode and decode shards piece by piece, where every piece
- * but the last ends at a multiple of 64 bytes, and gets the same bytes as from whole shards. So a caller can read and write streams,
- * use several threads for one message, show progress, and bound the memory that a call takes.
+ * For whole numbers a < b, the bytes from 64a up to, but not including, 64b of all shards form a message of their own. A caller can
+ * encode and decode shards piece by piece, where every piece but the last ends at a multiple of 64 bytes, and gets the same bytes as
+ * from whole shards. So a caller can read and write streams, use several threads for one message, show progress, and bound the memory
+ * that a call takes.
  *
  * What the caller must ensure. Nothing checks these rules:
- *   - Pointers: each pointer leads to as many bytes or entries as the length beside it says, and is aligned for its type. No pointer is
- *     NULL, not even with length 0. This holds for the pointers in arrays of shards and rooms too.
- *   - While a call runs, nobody else writes to anything that it was given, whether the call reads or writes it: no other thread, no
- *     signal handler, no other process and no device. Nobody else reads what the call writes. What a call writes overlaps nothing else
- *     that it was given.
- *   - What a call reads is initialised: shards that are there, marks, arrays, a fault that is turned into text, and tables. What a call
- *     only writes need not be: the tables of rs_tables_make, recovery shards of an encode, the places of lost shards in rs_decode,
- *     what rooms lead to, texts, and *fault.
- *   - Nobody but rs_tables_make writes to tables that it has filled. Other memory that is passed as tables doesn't happen to hold the
- *     stamp of filled ones; zeros don't.
- *   - The processor has the instructions of x86-64-v2, which SSE4.2 and POPCNT are part of. On an older processor, such as a Core 2, the
+ *   - Pointers: each pointer points to as many bytes or entries as the length that belongs to it says, and is aligned for its type. No
+ *     pointer is NULL, not even with length 0. This holds for the pointers in arrays of shards and rooms too.
+ *   - While a call runs, nobody else writes to memory that was passed to the call, whether the call reads or writes it: no other
+ *     thread, no signal handler, no other process and no device. Nobody else reads memory that the call writes. Memory that a call
+ *     writes overlaps no other memory that was passed to it.
+ *   - Memory that a call reads is initialised: shards that are there, marks, arrays, a fault that is turned into text, and tables.
+ *     Memory that a call only writes need not be initialised: the tables of rs_tables_make, recovery shards of an encode, the places
+ *     of lost shards in rs_decode, the memory that rooms point to, texts, and *fault.
+ *   - Nobody but rs_tables_make writes to tables that rs_tables_make has filled. Other memory that is passed as tables must not hold
+ *     the stamp of filled tables by chance. Memory full of zeros doesn't hold it.
+ *   - The processor has the instructions of x86-64-v2, which include SSE4.2 and POPCNT. On an older processor, such as a Core 2, the
  *     program stops with SIGILL.
- *   - A program that links an allocator of its own in place of c/heap.c provides all of rattle_alloc, rattle_realloc and
- *     rattle_dealloc. Blocks are aligned as the library asks, to at most 16 bytes. The pointer `at` is never NULL, not even in a
- *     refusal. A refused rattle_realloc leaves the old block as it was.
+ *   - A program that links its own allocator instead of c/heap.c provides all of rattle_alloc, rattle_realloc and rattle_dealloc.
+ *     Blocks are aligned as the library asks, to at most 16 bytes. The returned pointer `at` is never NULL, not even if memory cannot
+ *     be allocated. If rattle_realloc fails, it leaves the old block as it was.
  *
  * For all other numbers and bytes that a caller can pass, this header states the result. Each call returns, keeps no pointer, and gives
- * back all memory that it took. Any number of threads can make calls at once, over the same const tables. No call is safe in a signal
- * handler, nor in the forked child of a process with threads. */
+ * back all memory that it took. Any number of threads can make calls at the same time, with the same const tables. No call is safe in a
+ * signal handler, nor in the forked child of a process with threads. */
 #ifndef REED_SOLOMON_SIMD_H
 #define REED_SOLOMON_SIMD_H
 
@@ -39,7 +41,7 @@ extern "C" {
 /* The version of this header. A library fits if rs_version() / 65536 equals RS_VERSION / 65536 and rs_version() is at least RS_VERSION. */
 #define RS_VERSION 65538u
 
-/* What calls return. A number never gets another meaning. A later version can add numbers. */
+/* The numbers that calls return. A number never gets another meaning. A later version can add numbers. */
 enum rs_status {
     RS_OK = 0,
     RS_OUT_OF_MEMORY = 1,
@@ -61,13 +63,15 @@ enum rs_status {
     RS_TABLES_NOT_MADE = 15              /* the tables don't carry the stamp that rs_tables_make writes last */
 };
 
-/* Why a call failed: a number of enum rs_status and its counts. A count that the number doesn't have is 0. */
+/* Describes why a call failed: number is a number of enum rs_status, and first, second and third are the values that the comment of this
+ * number lists. A value that it doesn't list is 0. */
 struct rs_fault {
     uint32_t number;
     size_t first, second, third;
 };
 
-/* The tables that all calls read. The caller provides the memory, 8.8 MB: from malloc or calloc, static or shared, never on a stack. */
+/* The tables that the calls below read to encode and decode. The caller provides the memory, 8.8 MB. It may come from malloc or calloc, or be static
+ * or shared, but is never on a stack. */
 #define RS_TABLE_WORDS 1097728
 struct rs_tables {
     uint64_t words[RS_TABLE_WORDS];
@@ -82,17 +86,18 @@ _Static_assert(sizeof(size_t) == 8, "reed_solomon_simd is for programs whose siz
 typedef char rs_size_t_has_64_bits[sizeof(size_t) == 8 ? 1 : -1];
 #endif
 
-/* Fills the tables. It takes 9 to 30 ms, and 17 MB of memory while it runs. It returns RS_OK, or RS_OUT_OF_MEMORY and leaves the tables
- * as they were. tables isn't NULL. */
+/* Fills the tables. It takes 9 to 30 ms, and 17 MB of memory while it runs. It returns RS_OK. If it cannot allocate, it returns
+ * RS_OUT_OF_MEMORY and leaves the tables as they were. tables isn't NULL. */
 uint32_t rs_tables_make(struct rs_tables *tables);
 
 /* Returns 1 if the library supports these counts, else 0. */
 uint32_t rs_supports(size_t original_count, size_t recovery_count);
 
-/* The four calls that encode and decode return RS_OK or the number of the fault. They write the number with its counts to *fault, and
- * zeros with RS_OK. With a fault they write nothing else. Each lists its faults in the order in which it checks for them. Before all
- * others comes RS_TABLES_NOT_MADE, for tables that rs_tables_make has not filled: tables of zeros, say, or those of a version with another
- * layout, such as 1.1. The stamp is no checksum: no call notices that other bytes of the tables were changed.
+/* The four calls that encode and decode return RS_OK or the number of the fault. They write the number and its values to *fault. If
+ * they return RS_OK, they write zeros to *fault. If they fail, they write nothing else. The comment of each call lists its faults in the
+ * order in which the call checks for them. Before all of these, each call checks the tables, and fails with RS_TABLES_NOT_MADE if
+ * rs_tables_make has not filled them: for example, if they hold only zeros, or if a version with another layout, such as 1.1, filled them.
+ * The stamp is no checksum: no call notices that other bytes of the tables were changed.
  *
  * The first two calls take buffers, where shard i begins at byte i * shard_bytes. Their pointers aren't NULL. */
 
@@ -104,22 +109,22 @@ uint32_t rs_encode(const struct rs_tables *tables, size_t original_count, size_t
                    const uint8_t *originals, size_t originals_length,
                    uint8_t *recovery, size_t recovery_length, struct rs_fault *fault);
 
-/* Restores the lost originals in their places, from all shards that are there.
+/* Restores the lost originals from all shards that are there, and writes them to their places in originals.
  *
- * marks has a byte for each original, and then a byte for each recovery shard: 0 if it is lost, any other if it is there. The call
- * doesn't read the place of a lost shard, and writes nothing but the places of lost originals.
+ * marks has a byte for each original, and then a byte for each recovery shard: 0 if the shard is lost, any other value if it is there. The
+ * call doesn't read the place of a lost shard, and writes nothing but the places of lost originals.
  *
  * Fails with RS_UNSUPPORTED_SHARD_COUNT; with RS_WRONG_LENGTH for originals, for recovery, and for marks. Then, if no recovery shard is
- * there: with RS_NOT_ENOUGH_SHARDS if an original is lost. In this case the call accepts any size and needs no memory. If a recovery
- * shard is there: with RS_INVALID_SHARD_SIZE, RS_OUT_OF_MEMORY, RS_NOT_ENOUGH_SHARDS, RS_INCONSISTENT_SHARDS. */
+ * there, the call fails with RS_NOT_ENOUGH_SHARDS if an original is lost; it accepts any size and needs no memory. If a recovery shard
+ * is there, it fails with RS_INVALID_SHARD_SIZE, RS_OUT_OF_MEMORY, RS_NOT_ENOUGH_SHARDS, RS_INCONSISTENT_SHARDS. */
 uint32_t rs_decode(const struct rs_tables *tables, size_t original_count, size_t recovery_count, size_t shard_bytes,
                    uint8_t *originals, size_t originals_length,
                    const uint8_t *recovery, size_t recovery_length,
                    const uint8_t *marks, size_t marks_length, struct rs_fault *fault);
 
-/* The other two calls take arrays of shards and rooms that lie anywhere. No array is NULL, not even an empty one, nor is a pointer in an
- * array. A call leaves an array of rooms as it was, and writes to the memory that the rooms lead to. struct rs_bytes and struct rs_room
- * are laid out as POSIX's struct iovec. */
+/* The other two calls take arrays of shards and of rooms. A room is a place for a shard that the call writes. Shards and rooms can lie
+ * anywhere in memory. No array is NULL, not even an empty one, and no pointer in an array is NULL. A call leaves an array of rooms as it
+ * was, and writes to the memory that the rooms point to. struct rs_bytes and struct rs_room have the layout of POSIX's struct iovec. */
 struct rs_bytes {
     const uint8_t *bytes;
     size_t length;
@@ -146,7 +151,7 @@ uint32_t rs_encode_shards(const struct rs_tables *tables, size_t original_count,
                           struct rs_room *recovery, size_t recovery_number, struct rs_fault *fault);
 
 /* Restores the originals that the caller doesn't give, into rooms. There is one room for each of them, in order of index. Shards come
- * in any order. Their size is that of the first recovery shard. The index of a recovery shard counts from 0 too.
+ * in any order. Their size is that of the first recovery shard. Recovery shards are numbered from 0 on their own, like originals.
  *
  * Fails with RS_UNSUPPORTED_SHARD_COUNT. Then, if there is a recovery shard: with RS_INVALID_SHARD_SIZE and RS_OUT_OF_MEMORY; for each
  * original in order with RS_INVALID_ORIGINAL_SHARD_INDEX, RS_DUPLICATE_ORIGINAL_SHARD_INDEX or RS_DIFFERENT_SHARD_SIZE; for each
@@ -160,7 +165,8 @@ uint32_t rs_decode_shards(const struct rs_tables *tables, size_t original_count,
                           struct rs_room *restored, size_t restored_number, struct rs_fault *fault);
 
 /* Writes the text of a fault in ASCII, without a NUL at its end, as much as fits, and returns the length of the whole text. The length
- * is 0 if the number is that of no fault. The call needs no memory and leaves the bytes after the text. fault and text aren't NULL. */
+ * is 0 if fault->number is not the number of a fault. The call needs no memory, and doesn't change the bytes after the text.
+ * fault and text aren't NULL. */
 size_t rs_fault_text(const struct rs_fault *fault, uint8_t *text, size_t text_length);
 
 /* Returns the version of the library: the major number times 65536, plus the minor number. */
