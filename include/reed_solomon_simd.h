@@ -70,8 +70,8 @@ struct rs_fault {
     size_t first, second, third;
 };
 
-/* The tables that the calls below read to encode and decode. The caller provides the memory, 8.8 MB. It may come from malloc or calloc, or be static
- * or shared, but is never on a stack. */
+/* The tables that the calls below read to encode and decode. The caller provides the memory, 8.8 MB. It may come from malloc or calloc,
+ * or be static or shared, but is never on a stack. */
 #define RS_TABLE_WORDS 1097728
 struct rs_tables {
     uint64_t words[RS_TABLE_WORDS];
