@@ -25,9 +25,9 @@
  *     Blocks are aligned as the library asks, to at most 16 bytes. The returned pointer `at` is never NULL, not even if memory cannot
  *     be allocated. If rattle_realloc fails, it leaves the old block as it was.
  *
- * For all other numbers and bytes that a caller can pass, this header states the result. Each call returns, keeps no pointer, and gives
- * back all memory that it took. Any number of threads can make calls at the same time, with the same const tables. No call is safe in a
- * signal handler, nor in the forked child of a process with threads. */
+ * As long as the caller keeps these rules, this header states the result for all numbers and bytes that can be passed. Each call
+ * returns, keeps no pointer, and gives back all memory that it took. Any number of threads can make calls at the same time, with the
+ * same const tables. No call is safe in a signal handler, nor in the forked child of a process with threads. */
 #ifndef REED_SOLOMON_SIMD_H
 #define REED_SOLOMON_SIMD_H
 
@@ -158,7 +158,8 @@ uint32_t rs_encode_shards(const struct rs_tables *tables, size_t original_count,
  * recovery shard in order with RS_INVALID_RECOVERY_SHARD_INDEX, RS_DUPLICATE_RECOVERY_SHARD_INDEX or RS_DIFFERENT_SHARD_SIZE; with
  * RS_NOT_ENOUGH_SHARDS; with RS_INCONSISTENT_SHARDS. If there is none: for each original in order with RS_INVALID_ORIGINAL_SHARD_INDEX
  * or RS_DUPLICATE_ORIGINAL_SHARD_INDEX; with RS_NOT_ENOUGH_SHARDS. In this case the call accepts any sizes and needs no memory. In both
- * cases it last fails with RS_WRONG_NUMBER_OF_ROOMS, and with RS_WRONG_LENGTH for the first room that has another length. */
+ * cases it checks the rooms last: it fails with RS_WRONG_NUMBER_OF_ROOMS; with RS_WRONG_LENGTH for the first room that has another
+ * length. */
 uint32_t rs_decode_shards(const struct rs_tables *tables, size_t original_count, size_t recovery_count,
                           const struct rs_shard *originals, size_t originals_number,
                           const struct rs_shard *recovery, size_t recovery_number,
