@@ -3,12 +3,12 @@
  * The library turns k original shards of the same even size into r recovery shards. Any k of these k + r shards give back the missing
  * originals.
  *
- * For whole numbers a < b, the bytes from 64a up to, but not including, 64b of all shards form a message of their own. A caller can
- * encode and decode shards piece by piece, where every piece but the last ends at a multiple of 64 bytes, and gets the same bytes as
- * from whole shards. So a caller can read and write streams, use several threads for one message, show progress, and bound the memory
- * that a call takes.
+ * You can cut the shards of a message into pieces, and encode or decode each piece by itself. Cut all shards at the same places, and let
+ * every piece but the last end at a multiple of 64 bytes. Then you get the same bytes as from whole shards. The reason is this: for
+ * whole numbers a < b, the bytes from 64a up to, but not including, 64b of all shards form a message of their own. So a program can read
+ * and write streams, use several threads for one message, show progress, and bound the memory that a call takes.
  *
- * What the caller must ensure. Nothing checks these rules:
+ * The caller must keep these rules. Nothing checks them:
  *   - Pointers: each pointer points to as many bytes or entries as the length that belongs to it says, and is aligned for its type. No
  *     pointer is NULL, not even with length 0. This holds for the pointers in arrays of shards and rooms too.
  *   - While a call runs, nobody else writes to memory that was passed to the call, whether the call reads or writes it: no other
@@ -17,13 +17,14 @@
  *   - Memory that a call reads is initialised: shards that are there, marks, arrays, a fault that is turned into text, and tables.
  *     Memory that a call only writes need not be initialised: the tables of rs_tables_make, recovery shards of an encode, the places
  *     of lost shards in rs_decode, the memory that rooms point to, texts, and *fault.
- *   - Nobody but rs_tables_make writes to tables that rs_tables_make has filled. Other memory that is passed as tables must not hold
- *     the stamp of filled tables by chance. Memory full of zeros doesn't hold it.
+ *   - Nobody but rs_tables_make writes to tables that rs_tables_make has filled. The last thing that rs_tables_make writes is a stamp.
+ *     Other memory that is passed as tables must not hold this stamp by chance. Memory full of zeros doesn't hold it.
  *   - The processor has the instructions of x86-64-v2, which include SSE4.2 and POPCNT. On an older processor, such as a Core 2, the
  *     program stops with SIGILL.
- *   - A program that links its own allocator instead of c/heap.c provides all of rattle_alloc, rattle_realloc and rattle_dealloc.
- *     Blocks are aligned as the library asks, to at most 16 bytes. The returned pointer `at` is never NULL, not even if memory cannot
- *     be allocated. If rattle_realloc fails, it leaves the old block as it was.
+ *   - A program that links its own allocator instead of c/heap.c must provide all three functions of c/heap.c: rattle_alloc,
+ *     rattle_realloc and rattle_dealloc. Each block must have the alignment that the library asks for, which is at most 16 bytes. The
+ *     first two functions return a struct with a pointer `at`. This pointer must never be NULL, not even if memory cannot be allocated.
+ *     If rattle_realloc fails, it must leave the old block as it was.
  *
  * As long as the caller keeps these rules, this header states the result for all numbers and bytes that can be passed. Each call
  * returns, keeps no pointer, and gives back all memory that it took. Any number of threads can make calls at the same time, with the
@@ -38,7 +39,8 @@
 extern "C" {
 #endif
 
-/* The version of this header. A library fits if rs_version() / 65536 equals RS_VERSION / 65536 and rs_version() is at least RS_VERSION. */
+/* The version of this header. A library can be used with this header if rs_version() / 65536 equals RS_VERSION / 65536, and rs_version()
+ * is at least RS_VERSION. */
 #define RS_VERSION 65538u
 
 /* The numbers that calls return. A number never gets another meaning. A later version can add numbers. */
@@ -47,31 +49,33 @@ enum rs_status {
     RS_OUT_OF_MEMORY = 1,
     RS_UNSUPPORTED_SHARD_COUNT = 2,      /* first: original_count, second: recovery_count */
     RS_INVALID_SHARD_SIZE = 3,           /* the size is zero or odd; first: the size */
-    RS_DIFFERENT_SHARD_SIZE = 4,         /* first: the size of the other shards, second: the size of this one */
+    RS_DIFFERENT_SHARD_SIZE = 4,         /* first: the size that all shards must have, second: the size of the first one that differs */
     RS_TOO_FEW_ORIGINAL_SHARDS = 5,      /* first: original_count, second: how many originals the caller gave */
     RS_TOO_MANY_ORIGINAL_SHARDS = 6,     /* first: original_count */
-    RS_NOT_ENOUGH_SHARDS = 7,            /* first: original_count, second: how many originals there are, third: how many recovery shards */
+    RS_NOT_ENOUGH_SHARDS = 7,            /* first: original_count, second: how many originals were received, third: how many recovery
+                                            shards were received */
     RS_INVALID_ORIGINAL_SHARD_INDEX = 8, /* first: original_count, second: the index */
     RS_INVALID_RECOVERY_SHARD_INDEX = 9, /* first: recovery_count, second: the index */
     RS_DUPLICATE_ORIGINAL_SHARD_INDEX = 10, /* first: the index */
     RS_DUPLICATE_RECOVERY_SHARD_INDEX = 11, /* first: the index */
-    RS_INCONSISTENT_SHARDS = 12,         /* there are more than k shards, and they belong to no message; first: how many originals there
-                                            are, second: how many recovery shards */
-    RS_WRONG_LENGTH = 13,                /* a buffer's length isn't count * size, or a room's length isn't its shard's; first: the length
-                                            that it must have, SIZE_MAX if that is larger than SIZE_MAX, second: its length */
+    RS_INCONSISTENT_SHARDS = 12,         /* more than k shards were received, and they belong to no message; first: how many originals
+                                            were received, second: how many recovery shards were received */
+    RS_WRONG_LENGTH = 13,                /* a buffer doesn't have count * size bytes, or a room (the place for one shard) isn't as long
+                                            as its shard; first: the length that it must have, or SIZE_MAX if that is larger than
+                                            SIZE_MAX, second: the length that it has */
     RS_WRONG_NUMBER_OF_ROOMS = 14,       /* first: how many shards the call has to write, second: how many rooms there are */
     RS_TABLES_NOT_MADE = 15              /* the tables don't carry the stamp that rs_tables_make writes last */
 };
 
-/* Describes why a call failed: number is a number of enum rs_status, and first, second and third are the values that the comment of this
- * number lists. A value that it doesn't list is 0. */
+/* Describes why a call failed. number is a number of enum rs_status. The comment of this number says what first, second and third hold.
+ * A field that the comment doesn't mention is 0. */
 struct rs_fault {
     uint32_t number;
     size_t first, second, third;
 };
 
 /* The tables that the calls below read to encode and decode. The caller provides the memory, 8.8 MB. It may come from malloc or calloc,
- * or be static or shared, but is never on a stack. */
+ * or be static or shared, but it must not be on a stack. */
 #define RS_TABLE_WORDS 1097728
 struct rs_tables {
     uint64_t words[RS_TABLE_WORDS];
@@ -86,25 +90,31 @@ _Static_assert(sizeof(size_t) == 8, "reed_solomon_simd is for programs whose siz
 typedef char rs_size_t_has_64_bits[sizeof(size_t) == 8 ? 1 : -1];
 #endif
 
-/* Fills the tables. It takes 9 to 30 ms, and 17 MB of memory while it runs. It returns RS_OK. If it cannot allocate, it returns
- * RS_OUT_OF_MEMORY and leaves the tables as they were. tables isn't NULL. */
+/* Fills the tables. This takes 9 to 30 ms, and 17 MB of memory while the call runs. The call returns RS_OK. If it cannot allocate, it
+ * returns RS_OUT_OF_MEMORY and leaves the tables as they were. tables must not be NULL. */
 uint32_t rs_tables_make(struct rs_tables *tables);
 
 /* Returns 1 if the library supports these counts, else 0. */
 uint32_t rs_supports(size_t original_count, size_t recovery_count);
 
-/* The four calls that encode and decode return RS_OK or the number of the fault. They write the number and its values to *fault. If
- * they return RS_OK, they write zeros to *fault. If they fail, they write nothing else. The comment of each call lists its faults in the
- * order in which the call checks for them. Before all of these, each call checks the tables, and fails with RS_TABLES_NOT_MADE if
- * rs_tables_make has not filled them: for example, if they hold only zeros, or if a version with another layout, such as 1.1, filled them.
- * The stamp is no checksum: no call notices that other bytes of the tables were changed.
+/* Four calls encode and decode: rs_encode, rs_decode, rs_encode_shards and rs_decode_shards. They return RS_OK or the number of the
+ * fault. They write the number and its values to *fault. If they return RS_OK, they write zeros to *fault. If they fail, they write
+ * nothing but *fault. The comment of each call lists its faults in the order in which the call checks for them.
  *
- * The first two calls take buffers, where shard i begins at byte i * shard_bytes. Their pointers aren't NULL. */
+ * Before all checks that these comments list, each call checks the tables. It fails with RS_TABLES_NOT_MADE if rs_tables_make has not
+ * filled them: for example, if they hold only zeros, or if a version with another layout, such as 1.1, filled them. The stamp is no
+ * checksum: no call notices that other bytes of the tables were changed.
+ *
+ * rs_encode and rs_decode take buffers, where shard i begins at byte i * shard_bytes. No pointer that is passed to them may be NULL. */
 
 /* Writes the recovery shards of the originals.
  *
- * Fails with RS_UNSUPPORTED_SHARD_COUNT; with RS_WRONG_LENGTH for originals, and for recovery; with RS_INVALID_SHARD_SIZE; with
- * RS_OUT_OF_MEMORY. */
+ * Faults, in order:
+ *   - RS_UNSUPPORTED_SHARD_COUNT
+ *   - RS_WRONG_LENGTH for originals_length
+ *   - RS_WRONG_LENGTH for recovery_length
+ *   - RS_INVALID_SHARD_SIZE
+ *   - RS_OUT_OF_MEMORY */
 uint32_t rs_encode(const struct rs_tables *tables, size_t original_count, size_t recovery_count, size_t shard_bytes,
                    const uint8_t *originals, size_t originals_length,
                    uint8_t *recovery, size_t recovery_length, struct rs_fault *fault);
@@ -114,17 +124,23 @@ uint32_t rs_encode(const struct rs_tables *tables, size_t original_count, size_t
  * marks has a byte for each original, and then a byte for each recovery shard: 0 if the shard is lost, any other value if it is there. The
  * call doesn't read the place of a lost shard, and writes nothing but the places of lost originals.
  *
- * Fails with RS_UNSUPPORTED_SHARD_COUNT; with RS_WRONG_LENGTH for originals, for recovery, and for marks. Then, if no recovery shard is
- * there, the call fails with RS_NOT_ENOUGH_SHARDS if an original is lost; it accepts any size and needs no memory. If a recovery shard
- * is there, it fails with RS_INVALID_SHARD_SIZE, RS_OUT_OF_MEMORY, RS_NOT_ENOUGH_SHARDS, RS_INCONSISTENT_SHARDS. */
+ * Faults, in order:
+ *   - RS_UNSUPPORTED_SHARD_COUNT
+ *   - RS_WRONG_LENGTH for originals_length
+ *   - RS_WRONG_LENGTH for recovery_length
+ *   - RS_WRONG_LENGTH for marks_length
+ *   - If a recovery shard is there: RS_INVALID_SHARD_SIZE, RS_OUT_OF_MEMORY, RS_NOT_ENOUGH_SHARDS, RS_INCONSISTENT_SHARDS.
+ *   - If no recovery shard is there: RS_NOT_ENOUGH_SHARDS if an original is lost. Without recovery shards, the call accepts any size
+ *     and needs no memory. */
 uint32_t rs_decode(const struct rs_tables *tables, size_t original_count, size_t recovery_count, size_t shard_bytes,
                    uint8_t *originals, size_t originals_length,
                    const uint8_t *recovery, size_t recovery_length,
                    const uint8_t *marks, size_t marks_length, struct rs_fault *fault);
 
-/* The other two calls take arrays of shards and of rooms. A room is a place for a shard that the call writes. Shards and rooms can lie
- * anywhere in memory. No array is NULL, not even an empty one, and no pointer in an array is NULL. A call leaves an array of rooms as it
- * was, and writes to the memory that the rooms point to. struct rs_bytes and struct rs_room have the layout of POSIX's struct iovec. */
+/* rs_encode_shards and rs_decode_shards take arrays of shards and of rooms. A room is a place for a shard that the call writes. Shards
+ * and rooms can lie anywhere in memory. No array may be NULL, not even an empty one, and no pointer in an array may be NULL. A call leaves
+ * an array of rooms as it was, and writes to the memory that the rooms point to. struct rs_bytes and struct rs_room have the layout of
+ * POSIX's struct iovec. */
 struct rs_bytes {
     const uint8_t *bytes;
     size_t length;
@@ -139,35 +155,52 @@ struct rs_shard {
     size_t length;
 };
 
-/* Writes the recovery shards of the originals into rooms. The originals come in order of index. There is one room for each recovery
- * shard, in order of index. The size of the shards is that of the first original.
+/* Writes the recovery shards of the originals into rooms. The array originals holds the originals in order of index. The array recovery
+ * holds one room for each recovery shard, in order of index. The size of all shards is that of the first original.
  *
- * Fails with RS_UNSUPPORTED_SHARD_COUNT; with RS_TOO_FEW_ORIGINAL_SHARDS if there is no original; with RS_INVALID_SHARD_SIZE and
- * RS_OUT_OF_MEMORY; for each original in order with RS_TOO_MANY_ORIGINAL_SHARDS or RS_DIFFERENT_SHARD_SIZE; with
- * RS_TOO_FEW_ORIGINAL_SHARDS; with RS_WRONG_NUMBER_OF_ROOMS; with RS_WRONG_LENGTH for the first room that has
- * another length. */
+ * Faults, in order:
+ *   - RS_UNSUPPORTED_SHARD_COUNT
+ *   - RS_TOO_FEW_ORIGINAL_SHARDS if there is no original
+ *   - RS_INVALID_SHARD_SIZE
+ *   - RS_OUT_OF_MEMORY
+ *   - For each original in order: RS_TOO_MANY_ORIGINAL_SHARDS or RS_DIFFERENT_SHARD_SIZE.
+ *   - RS_TOO_FEW_ORIGINAL_SHARDS if there are fewer than original_count originals
+ *   - RS_WRONG_NUMBER_OF_ROOMS
+ *   - RS_WRONG_LENGTH for the first room that isn't as long as a shard */
 uint32_t rs_encode_shards(const struct rs_tables *tables, size_t original_count, size_t recovery_count,
                           const struct rs_bytes *originals, size_t originals_number,
                           struct rs_room *recovery, size_t recovery_number, struct rs_fault *fault);
 
-/* Restores the originals that the caller doesn't give, into rooms. There is one room for each of them, in order of index. Shards come
- * in any order. Their size is that of the first recovery shard. Recovery shards are numbered from 0 on their own, like originals.
+/* Restores the originals that are not in the array originals, and writes them into rooms. The array restored holds one room for each of
+ * these originals, in order of index. Shards can be in any order in the other two arrays. The size of all shards is that of the first
+ * recovery shard. The indexes of originals begin at 0. Recovery shards have indexes of their own, which also begin at 0.
  *
- * Fails with RS_UNSUPPORTED_SHARD_COUNT. Then, if there is a recovery shard: with RS_INVALID_SHARD_SIZE and RS_OUT_OF_MEMORY; for each
- * original in order with RS_INVALID_ORIGINAL_SHARD_INDEX, RS_DUPLICATE_ORIGINAL_SHARD_INDEX or RS_DIFFERENT_SHARD_SIZE; for each
- * recovery shard in order with RS_INVALID_RECOVERY_SHARD_INDEX, RS_DUPLICATE_RECOVERY_SHARD_INDEX or RS_DIFFERENT_SHARD_SIZE; with
- * RS_NOT_ENOUGH_SHARDS; with RS_INCONSISTENT_SHARDS. If there is none: for each original in order with RS_INVALID_ORIGINAL_SHARD_INDEX
- * or RS_DUPLICATE_ORIGINAL_SHARD_INDEX; with RS_NOT_ENOUGH_SHARDS. In this case the call accepts any sizes and needs no memory. In both
- * cases it checks the rooms last: it fails with RS_WRONG_NUMBER_OF_ROOMS; with RS_WRONG_LENGTH for the first room that has another
- * length. */
+ * Faults, in order:
+ *   - RS_UNSUPPORTED_SHARD_COUNT
+ *   - If there is a recovery shard: the faults of the first list below.
+ *   - If there is no recovery shard: the faults of the second list below.
+ *   - RS_WRONG_NUMBER_OF_ROOMS
+ *   - RS_WRONG_LENGTH for the first room that isn't as long as a shard
+ *
+ * The faults if there is a recovery shard, in order:
+ *   - RS_INVALID_SHARD_SIZE
+ *   - RS_OUT_OF_MEMORY
+ *   - For each original in order: RS_INVALID_ORIGINAL_SHARD_INDEX, RS_DUPLICATE_ORIGINAL_SHARD_INDEX or RS_DIFFERENT_SHARD_SIZE.
+ *   - For each recovery shard in order: RS_INVALID_RECOVERY_SHARD_INDEX, RS_DUPLICATE_RECOVERY_SHARD_INDEX or RS_DIFFERENT_SHARD_SIZE.
+ *   - RS_NOT_ENOUGH_SHARDS
+ *   - RS_INCONSISTENT_SHARDS
+ *
+ * The faults if there is no recovery shard, in order. In this case the call accepts any sizes and needs no memory:
+ *   - For each original in order: RS_INVALID_ORIGINAL_SHARD_INDEX or RS_DUPLICATE_ORIGINAL_SHARD_INDEX.
+ *   - RS_NOT_ENOUGH_SHARDS */
 uint32_t rs_decode_shards(const struct rs_tables *tables, size_t original_count, size_t recovery_count,
                           const struct rs_shard *originals, size_t originals_number,
                           const struct rs_shard *recovery, size_t recovery_number,
                           struct rs_room *restored, size_t restored_number, struct rs_fault *fault);
 
-/* Writes the text of a fault in ASCII, without a NUL at its end, as much as fits, and returns the length of the whole text. The length
- * is 0 if fault->number is not the number of a fault. The call needs no memory, and doesn't change the bytes after the text.
- * fault and text aren't NULL. */
+/* Writes the text of a fault in ASCII, without a NUL at its end, and returns the length of the whole text. If the text has more than
+ * text_length bytes, the call writes only its beginning. The length is 0 if fault->number is not the number of a fault. The call needs no
+ * memory, and doesn't change the bytes after the text. fault and text must not be NULL. */
 size_t rs_fault_text(const struct rs_fault *fault, uint8_t *text, size_t text_length);
 
 /* Returns the version of the library: the major number times 65536, plus the minor number. */
