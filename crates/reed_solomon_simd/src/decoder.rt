@@ -1,5 +1,4 @@
 //! The plain decoder: the default rate over an engine chosen by name.
-ghost use mir.Syntax.{named};
 ghost use Rattle.std.specs.Prelude.{◌≡◌, ◌≢◌, [], Err, IfOk, OnOk, OnErr};
 ghost use Rattle.std.specs.Borrow.{sem};
 ghost use Rattle.rs_field.specs.code.Configuration.{start_outcome, UpToMemory, FitsWithin};
@@ -9,7 +8,6 @@ ghost use Rattle.rs_field.specs.code.OneCall.{default_of};
 ghost use Rattle.rs_field.specs.code.Outcome.{answer_of, state_after};
 ghost use Rattle.rs_field.specs.code.Placement.{decoder_rows};
 ghost use Rattle.rs_rate.specs.DecoderRoom.{HasRoom, Grows};
-ghost use Rattle.rs_rate.specs.Loan.{AfterLoan};
 ghost use Rattle.rs_rate.specs.ResultView.{answered_originals};
 
 use crate::engine::{DefaultEngine, Steps};
@@ -45,8 +43,7 @@ pub struct ReedSolomonDecoder<'t> {
 }
 
 impl<'t> ReedSolomonDecoder<'t> {
-    ghost use Rattle.reed_solomon_simd.specs.DecoderObject.{state_of, engine_of, room_of};
-    ghost use Rattle.reed_solomon_simd.specs.contracts.decoder.ReedSolomonDecoder.{the_row};
+    ghost use Rattle.reed_solomon_simd.specs.DecoderObject.{state_of, engine_of, room_of, EndsDecode};
 
     /// Returns whether `original_count` originals with `recovery_count` recovery shards are supported.
     ///
@@ -202,8 +199,7 @@ impl<'t> ReedSolomonDecoder<'t> {
     /// ```
     pub fn decode(&mut self) -> Result<DecoderResult<'_>, Error>
         ensures answer { DecodeAnswers (state_of self.old) (answered_originals result) }
-        ensures* ends { sem 𝓛 (AfterLoan (the_row (record { mir = named 1; lft = [] })) self.entry
-            (λ now. (state_of now ≡ after_decode (state_of self.old)) × (engine_of now ≡ engine_of self.old) × (room_of now ≡ room_of self.old))) }
+        ensures* ends { sem 𝓛 (EndsDecode self.entry self.old) }
     {
         let restored_count = decode_round(&mut self.decoder, &mut self.steps)?;
         Ok(lent_originals(&self.decoder, restored_count))

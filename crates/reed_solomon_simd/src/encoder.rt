@@ -1,5 +1,4 @@
 //! The plain encoder: the default rate over an engine chosen by name.
-ghost use mir.Syntax.{named};
 ghost use Rattle.std.specs.Prelude.{◌≡◌, ◌≢◌, ◌≤◌, [], Err, IfOk, OnOk, OnErr};
 ghost use Rattle.std.specs.Borrow.{sem};
 ghost use Rattle.rs_field.specs.code.Configuration.{start_outcome, UpToMemory, FitsWithin};
@@ -8,7 +7,6 @@ ghost use Rattle.rs_field.specs.code.Encoder.{fresh_encoder, with_shard, EncodeA
 ghost use Rattle.rs_field.specs.code.OneCall.{default_of};
 ghost use Rattle.rs_field.specs.code.Outcome.{answer_of, state_after};
 ghost use Rattle.rs_field.specs.code.Placement.{encoder_rows};
-ghost use Rattle.rs_rate.specs.Loan.{AfterLoan};
 ghost use Rattle.rs_rate.specs.ResultView.{answered_shards};
 ghost use Rattle.rs_rate.specs.ShardRows.{chunk_count};
 
@@ -43,8 +41,7 @@ pub struct ReedSolomonEncoder<'t> {
 }
 
 impl<'t> ReedSolomonEncoder<'t> {
-    ghost use Rattle.reed_solomon_simd.specs.EncoderObject.{state_of, engine_of, room_of};
-    ghost use Rattle.reed_solomon_simd.specs.contracts.encoder.ReedSolomonEncoder.{the_row};
+    ghost use Rattle.reed_solomon_simd.specs.EncoderObject.{state_of, engine_of, room_of, EndsEncode};
 
     /// Returns whether `original_count` originals with `recovery_count` recovery shards are supported.
     ///
@@ -172,8 +169,7 @@ impl<'t> ReedSolomonEncoder<'t> {
     /// ```
     pub fn encode(&mut self) -> Result<EncoderResult<'_>, Error>
         ensures answer { EncodeAnswers (state_of self.old) (answered_shards result) }
-        ensures* ends { sem 𝓛 (AfterLoan (the_row (record { mir = named 1; lft = [] })) self.entry
-            (λ now. (state_of now ≡ after_encode (state_of self.old)) × (engine_of now ≡ engine_of self.old) × (room_of now ≡ room_of self.old))) }
+        ensures* ends { sem 𝓛 (EndsEncode self.entry self.old) }
     {
         encode_round(&mut self.encoder, &mut self.steps)?;
         Ok(lent_recovery(&self.encoder))
