@@ -1,18 +1,20 @@
 //! Round trips: shards are coded, some are lost, and just the lost originals come back, each as it was.
-ghost use Rattle.std.specs.Prelude.{◌≡◌, ◌+◌, ◌≤◌, ℕ, length, map, All, Ok, IfOk, IfErr};
+ghost use Rattle.std.specs.Prelude.{◌≡◌, ◌+◌, ◌≤◌, ℕ, List, length, map, All, Ok, IfOk, IfErr};
+ghost use Rattle.reed_solomon_simd.specs.Column.{Shard};
 ghost use Rattle.reed_solomon_simd.specs.Configuration.{validation_outcome};
 ghost use Rattle.reed_solomon_simd.specs.DecoderObject.{state_of as decoder_state};
 ghost use Rattle.reed_solomon_simd.specs.EncoderObject.{state_of as encoder_state};
 ghost use Rattle.reed_solomon_simd.specs.Given.{Lists};
 ghost use Rattle.reed_solomon_simd.specs.Giving.{Reaches};
-ghost use Rattle.reed_solomon_simd.specs.OneCall.{default_of, shards_in, with_shards, with_originals, with_recoveries};
+ghost use Rattle.reed_solomon_simd.specs.OneCall.{collected_map, default_of, shards_in, with_shards, with_originals, with_recoveries};
 ghost use Rattle.reed_solomon_simd.specs.ResultView.{recovery_shards};
-ghost use Rattle.rs_callers.specs.Losing.{lost_at, left_of, left_below};
+ghost use Rattle.reed_solomon_simd.specs.RoundTrip.{AreCoded, AreLeft, OneBringsBack};
+ghost use Rattle.rs_callers.specs.Losing.{items_in, lost_at, left_of, left_below};
 
 use crate::walking::restored_copies;
 use reed_solomon_simd::engine::DefaultEngine;
 use reed_solomon_simd::{
-    EncoderResult, Error, ReedSolomonDecoder, ReedSolomonEncoder, decode, encode,
+    EncoderResult, Error, ReedSolomonDecoder, ReedSolomonEncoder, decode, decode_slice, encode,
 };
 use std::alloc::Global;
 use std::collections::BTreeMap;
@@ -48,6 +50,30 @@ pub fn round_trip_in_one_call(
         .enumerate()
         .filter(|item| !recovery_lost.contains(&item.0));
     decode(alloc, k, r, kept, received, engine)
+}
+
+/// Restores the lost originals of a message from the originals and the recovery shards that are left. If each comes with
+/// its own index, and none twice, a success is exactly the lost originals, each as it was.
+pub fn restore_what_is_left(
+    alloc: Global,
+    original_count: usize,
+    recovery_count: usize,
+    kept: &[(usize, Vec<u8>)],
+    received: &[(usize, Vec<u8>)],
+    engine: DefaultEngine<'_>,
+) -> Result<BTreeMap<usize, Vec<u8>>, Error>
+    ensures { (originals recovery : List Shard) → AreCoded original_count recovery_count originals recovery
+        → AreLeft originals (items_in kept.now) → AreLeft recovery (items_in received.now)
+        → OneBringsBack originals (items_in kept.now) (items_in received.now) (collected_map result) }
+{
+    decode_slice(
+        alloc,
+        original_count,
+        recovery_count,
+        kept,
+        received,
+        engine,
+    )
 }
 
 /// Codes the originals by a plain encoder, loses the originals and the recovery shards of these indexes, and restores
