@@ -1,4 +1,4 @@
--- What a plain decoder stands for.
+-- The abstract state, the engine and the room of a plain decoder.
 use mir.Syntax.{named}
 use Rattle.std.specs.Prelude.{◌≡◌, []}
 use Rattle.std.specs.Borrow.{MutBor, Fml}
@@ -11,15 +11,15 @@ use Rattle.rs_rate.specs.Loan.{AfterLoan}
 use Rattle.reed_solomon_simd.specs.contracts.decoder.ReedSolomonDecoder.{the_row}
 use Rattle.reed_solomon_simd.specs.declared.decoder.ReedSolomonDecoder.{ReedSolomonDecoder}
 
--- its configuration, and the shards given so far
+-- the configuration of a decoder, and the shards added so far
 abbrev pub state_of : ReedSolomonDecoder → DecoderState
 state_of object = decoder_state default_rate object.decoder.rows
 
--- its engine
+-- the engine of a decoder
 abbrev pub engine_of : ReedSolomonDecoder → DefaultEngine
 engine_of object = object.decoder.engine
 
--- its room
+-- the room of a decoder
 abbrev pub room_of : ReedSolomonDecoder → DecoderRoom
 room_of object = memory_room object.decoder.rows.memory
 

@@ -1,4 +1,4 @@
--- What a plain encoder stands for.
+-- The abstract state, the engine and the room of a plain encoder.
 use mir.Syntax.{named}
 use Rattle.std.specs.Prelude.{◌≡◌, ℕ, []}
 use Rattle.std.specs.Borrow.{MutBor, Fml}
@@ -11,15 +11,15 @@ use Rattle.rs_rate.specs.Loan.{AfterLoan}
 use Rattle.reed_solomon_simd.specs.contracts.encoder.ReedSolomonEncoder.{the_row}
 use Rattle.reed_solomon_simd.specs.declared.encoder.ReedSolomonEncoder.{ReedSolomonEncoder}
 
--- its configuration, and the originals given so far
+-- the configuration of an encoder, and the originals added so far
 abbrev pub state_of : ReedSolomonEncoder → EncoderState
 state_of object = encoder_state default_rate object.encoder.rows
 
--- its engine
+-- the engine of an encoder
 abbrev pub engine_of : ReedSolomonEncoder → DefaultEngine
 engine_of object = object.encoder.engine
 
--- the chunks that it has room for
+-- the number of chunks for which an encoder has room
 abbrev pub room_of : ReedSolomonEncoder → ℕ
 room_of object = vec_capacity object.encoder.rows.chunks
 

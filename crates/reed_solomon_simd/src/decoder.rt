@@ -24,7 +24,7 @@ use std::alloc::Global;
 /// are numbered from 0 on their own. A call that fails changes nothing, except for [`Error::InconsistentShards`], which ends
 /// the round. Only `new` and `reset` allocate.
 ///
-/// It is [`DefaultRateDecoder`](crate::rate::DefaultRateDecoder) with a count of steps of its own.
+/// A plain decoder is a [`DefaultRateDecoder`](crate::rate::DefaultRateDecoder) with a count of steps of its own.
 ///
 /// # Examples
 ///

@@ -23,7 +23,7 @@ use std::alloc::Global;
 /// an original is its place in the order of adding, counted from 0. A call that fails changes nothing. Only `new` and
 /// `reset` allocate.
 ///
-/// It is [`DefaultRateEncoder`](crate::rate::DefaultRateEncoder) with a count of steps of its own.
+/// A plain encoder is a [`DefaultRateEncoder`](crate::rate::DefaultRateEncoder) with a count of steps of its own.
 ///
 /// # Examples
 ///

@@ -6,7 +6,7 @@ use Rattle.reed_solomon_simd.specs.Texts.{text_of}
 use Rattle.rs.specs.declared.fault.Fault.{Fault}
 use Rattle.rs.specs.declared.fault.Fault.TheVariants.{Usage, Refused}
 
--- the text that tells a fault: `usage` or the refusal's text, and a line end
+-- the message of a fault: `usage` or the text of the error, and a line end
 abbrev pub fault_message : Fault → List ℕ
 fault_message Usage = codes "usage" ++ 10 ∷ []
 fault_message (Refused e) = text_of e ++ 10 ∷ []
@@ -16,7 +16,7 @@ abbrev pub status_of : Fault → ℕ
 status_of Usage = 2
 status_of (Refused e) = 1
 
--- a fault is told: as it is, or a refusal as want of memory
+-- a fault is reported as it is, or an error as `OutOfMemory`
 abbrev pub IsReportedAs : Fault → Fault → Type 0
 IsReportedAs Usage told = told ≡ Usage
 IsReportedAs (Refused e) told = (told ≡ Refused e) ⊎ (told ≡ Refused OutOfMemory)

@@ -33,7 +33,7 @@ fn answer(alloc: Global, words: &[String]) -> Result<Lines, Fault>
 
 /// Does what the words ask for, and returns the exit status.
 ///
-/// It reads all words, makes the tables, codes in one call, makes every line, and only then writes the first line.
+/// The function reads all words, makes the tables, codes in one call, makes every line, and only then writes the first line.
 ///
 /// - Status 0: all lines were written to `out`, and nothing to `err`.
 /// - Status 1: the words ask for something that is refused, or memory could not be allocated. The error's text was written

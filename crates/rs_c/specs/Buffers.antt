@@ -1,4 +1,4 @@
--- Shards one behind the other in a buffer.
+-- Shards that lie one after the other in a buffer.
 use Rattle.std.specs.Prelude.{◌≡◌, ℕ, zero, suc, ◌+◌, ◌*◌, ◌-◌, ◌^◌, ◌==◌, List, [], ◌∷◌, ◌++◌, take, drop, nat_lt, if◌then◌else◌, Result, Ok, Err, unwrap_or, Some, length}
 use Rattle.std.specs.List.{flat_map}
 use Rattle.rs_field.specs.code.Column.{Shard}
@@ -13,7 +13,7 @@ length_outcome count size got =
     if count * size == got then Ok tt
     else Err (WrongLength (if nat_lt (count * size) (2 ^ 64) then count * size else 2 ^ 64 - 1) got)
 
--- the first shards of this size, so many
+-- the first n shards of this size in a buffer
 abbrev pub shards_in_buffer : ℕ → ℕ → List ℕ → List Shard
 shards_in_buffer zero size bytes = []
 shards_in_buffer (suc n) size bytes = take size bytes ∷ shards_in_buffer n size (drop size bytes)
@@ -25,7 +25,7 @@ marked_shards i size (mark ∷ marks) bytes =
     if mark == 0 then marked_shards (i + 1) size marks (drop size bytes)
     else (i, take size bytes) ∷ marked_shards (i + 1) size marks (drop size bytes)
 
--- shards one behind the other
+-- the bytes of shards, one shard after the other
 abbrev pub concatenation : List Shard → List ℕ
 concatenation shards = flat_map (λ shard. shard) shards
 

@@ -59,7 +59,7 @@ pub fn encode_arrays(
     Ok(())
 }
 
-// Writes the recovery shards of a result one behind the other.
+// Writes the recovery shards of a result one after the other.
 fn write_recovery(lent: &EncoderResult<'_>, recovery: &mut [u8])
     requires { length recovery.old ≡ length (concatenation (recovery_shards lent.now)) }
     ensures { recovery.new ≡ concatenation (recovery_shards lent.now) }

@@ -97,7 +97,8 @@ fn mul_add_chunks(x: &mut [[u8; 64]], y: &[[u8; 64]], lists: &[[GfElement; 16]; 
 }
 
 impl NoSimd<'_> {
-    // The same by the factor of a butterfly, where 65535 marks the factor zero, whose product is left out.
+    // Adds a row times the factor of a butterfly to another row. The logarithm 65535 marks the factor zero, whose product is left
+    // out.
     fn mul_add(&self, x: &mut [[u8; 64]], y: &[[u8; 64]], log_m: GfElement)
         requires { length x.old ≡ length y.now }
         ensures { (k s : ℕ) → k < length x.old → s < 32

@@ -15,7 +15,7 @@ use rs_field::engine::tables::Multiply128lutT;
 
 /// The factor of a butterfly.
 pub trait Factor: Copy + Drop {
-    // Its logarithm; 65535 marks the factor zero.
+    // The logarithm of a factor; 65535 marks the factor zero.
     ghost log: { Self → ℕ };
 
     /// The sums of the words x and the products of the words y.

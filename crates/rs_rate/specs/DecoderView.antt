@@ -1,4 +1,4 @@
--- What a decoder's rows and work stand for.
+-- The abstract state and the room of a decoder's rows and work.
 use Rattle.std.specs.Prelude.{◌-◌, ℕ, Bool, List}
 use Rattle.rs_field.specs.code.Column.{Shard}
 use Rattle.rs_field.specs.code.Counts.{Rate}

@@ -31,7 +31,7 @@ pub record AreRowsOf (shape : DecoderShape) (rows : ShardsRefMut) : Type 0 where
   pub count : rows.shard_count ≡ shape.frame.row_count
   pub len : rows.shard_len_64 ≡ row_len shape.configuration.shard_bytes
 
--- what a decode goes by: a shape that can be laid, as many marks as rows, which tell of given shards; so many originals missing, and so many surplus shards, no more than rows
+-- what a decode depends on: a shape that can be laid out, a mark of given shards for each row, the number of missing originals, and the number of surplus shards, at most that of the rows
 pub record CanBeRestored (tally : Tally) (marks : Marks) : Type 0 where
   pub laid : DecoderCanBeLaid tally.shape
   pub marked : mark_count marks ≡ tally.shape.frame.row_count

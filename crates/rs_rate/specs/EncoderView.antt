@@ -1,4 +1,4 @@
--- What an encoder's rows and work stand for.
+-- The abstract state and the room of an encoder's rows and work.
 use Rattle.std.specs.Prelude.{ℕ, List}
 use Rattle.rs_field.specs.code.Column.{Shard}
 use Rattle.rs_field.specs.code.Counts.{Rate}

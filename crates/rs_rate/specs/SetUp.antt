@@ -1,4 +1,4 @@
--- What rows are set up for at a rate, and what asking for their memory answers.
+-- What rows are set up for, and the outcome of allocating them.
 use Rattle.std.specs.Prelude.{◌≡◌, ℕ, Result, Ok}
 use Rattle.rs_field.specs.declared.code.error.Error.{Error}
 use Rattle.rs_field.specs.code.Configuration.{validation_outcome}
@@ -18,10 +18,10 @@ pub record IsSetUp (rate : Rate) (c : Configuration) : Type 0 where
 abbrev pub rows_of : (Rate → ℕ → ℕ → ℕ) → Configuration → ℕ
 rows_of row_count c = row_count (low_or_high c.is_low) c.original_count c.recovery_count
 
--- what setting up answers
+-- the outcome of setting up
 abbrev pub Answer : Type 0
 Answer = Result (Unit {0}) Error
 
--- what asking for memory for the rows of a configuration answers
+-- the outcome of allocating the rows of a configuration
 abbrev pub set_up_outcome : (Rate → ℕ → ℕ → ℕ) → Configuration → Answer
 set_up_outcome row_count c = memory_outcome (chunk_count (rows_of row_count c) c.shard_bytes)

@@ -22,7 +22,7 @@ impl<'a> DecoderResult<'a> {
     ghost use Rattle.rs_rate.specs.DecoderView.{restored_by_rows};
     ghost use Rattle.rs_rate.specs.ResultView.{restored_originals};
 
-    // The result over the rows, in which so many originals lie restored.
+    // The result over the rows, with the number of restored originals in them.
     pub(crate) fn new(rows: &'a DecoderRows, restored_count: usize) -> DecoderResult<'a>
         requires { restored_count ≡ length (restored_from rows.now 0) }
         ensures { restored_originals result ≡ restored_by_rows rows.now }

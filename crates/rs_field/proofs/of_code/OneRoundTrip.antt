@@ -145,7 +145,7 @@ encoded_all rate c shards recovery s is made h =
       subst (λ (d : Configuration). AreRecovery d shards recovery) all.of (subst (λ (m : List Shard). AreRecovery s.configuration m recovery) given out.1),
     )
 
--- the same in one call, by the size of the first
+-- what an encoder of the default rate codes is what one call codes, with the size of the first shard
 pub coded_by : (k r : ℕ) (x : Shard) (xs recovery : List Shard) (s : EncoderState) → IsEncoder default_rate s → with_shards (fresh_encoder (default_of k r (length x))) (x ∷ xs) ≡ Ok s
     → EncodeAnswers s (Ok recovery) → AreCoded k r (x ∷ xs) recovery
 coded_by k r x xs recovery s is made h =

@@ -8,7 +8,7 @@ use Rattle.rs_field.specs.code.Configuration.{Configuration, validation_outcome,
 use Rattle.rs_field.specs.code.Placement.{decoder_rows}
 use Rattle.rs_field.specs.code.Given.{Shards, AreWithin, nothing, with_entry, count_below, Agrees, Consistent}
 
--- a configuration, and the shards given so far
+-- a configuration, and the shards added so far
 pub record DecoderState : Type 0 where
   pub configuration : Configuration
   pub originals : Shards
@@ -84,7 +84,7 @@ pub record NoneAgrees (s : DecoderState) (e : Error) : Type 0 where
   pub surplus : s.configuration.original_count < originals_given s + recovery_given s
   pub none : IsConsistent s → ⊥
 
--- what `decode` answers: where too few shards are given that refusal, where no message agrees with them this one, else the restored originals
+-- what `decode` returns: `NotEnoughShards` for too few shards, `InconsistentShards` if no message agrees with them, else the restored originals
 abbrev pub DecodeAnswers : DecoderState → Result Shards Error → Type 0
 DecodeAnswers s result = MatchResult (enough_given s) (λ _. MatchResult result (Restored s) (NoneAgrees s)) (λ e. result ≡ Err e)
 

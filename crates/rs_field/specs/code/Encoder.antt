@@ -8,7 +8,7 @@ use Rattle.rs_field.specs.code.Configuration.{Configuration, validation_outcome,
 use Rattle.rs_field.specs.code.Placement.{encoder_rows}
 use Rattle.rs_field.specs.code.Code.{AreRecovery}
 
--- a configuration, and the originals given so far
+-- a configuration, and the originals added so far
 pub record EncoderState : Type 0 where
   pub configuration : Configuration
   pub given : List Shard
@@ -39,7 +39,7 @@ message_of s =
     let k = s.configuration.original_count in
     if nat_lt (length s.given) k then Err (TooFewOriginalShards k (length s.given)) else Ok s.given
 
--- what `encode` answers: a refusal, or the message's recovery shards
+-- what `encode` returns: an error, or the recovery shards of the message
 abbrev pub EncodeAnswers : EncoderState → Result (List Shard) Error → Type 0
 EncodeAnswers s result =
     MatchResult (message_of s) (λ message. IsOkAnd result (AreRecovery s.configuration message)) (λ e. result ≡ Err e)

@@ -7,13 +7,13 @@ unfoldable pub combine : List ℕ → ℕ → ℕ
 combine [] x = 0
 combine (b ∷ bs) x = bit_xor (x % 2 * b) (combine bs (x / 2))
 
--- what the words 1, 2, 4, .., 0x8000 stand for
+-- the polynomials that the words 1, 2, 4, .., 0x8000 represent
 unfoldable pub cantor_basis : List ℕ
 cantor_basis =
     0x0001 ∷ 0xACCA ∷ 0x3C0E ∷ 0x163E ∷ 0xC582 ∷ 0xED2E ∷ 0x914C ∷ 0x4012
     ∷ 0x6C98 ∷ 0x10D8 ∷ 0x6A72 ∷ 0xB900 ∷ 0xFDB8 ∷ 0xFB34 ∷ 0xFF38 ∷ 0x991E ∷ []
 
--- what a word stands for: a polynomial over the field of two elements, as the word of its coefficients
+-- the polynomial over the field of two elements that a word represents, as the word of its coefficients
 unfoldable pub bits : ℕ → ℕ
 bits x = combine cantor_basis x
 

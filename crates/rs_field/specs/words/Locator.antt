@@ -12,7 +12,7 @@ log_sum (suc y) e x = log_sum y e x + (if x == y then 0 else e y * log (bit_xor 
 abbrev pub IsLocatorBelow : ℕ → (ℕ → ℕ) → (ℕ → ℕ) → Type 0
 IsLocatorBelow n old new = (x : ℕ) → x < n → new x % 65535 ≡ log_sum n old x % 65535
 
--- the same over all 65536 points
+-- the locator over all 65536 points
 abbrev pub IsLocator : (ℕ → ℕ) → (ℕ → ℕ) → Type 0
 IsLocator old new = IsLocatorBelow 65536 old new
 

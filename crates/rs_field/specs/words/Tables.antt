@@ -40,7 +40,7 @@ pub record IsLogWalshBelow (n : ℕ) (log_walsh : List ℕ) : Type 0 where
   pub below_length : length log_walsh ≡ n
   pub below_entry : IsWalsh n (λ z. 65536 / n * log_or_zero z) (λ w. slice_index log_walsh w)
 
--- those for all powers of two up to 65536, one behind the other: that for n entries from entry n - 1 on
+-- the tables for all powers of two up to 65536, one after the other: the table for n entries begins at entry n - 1
 pub record AreLogWalshes (all : List ℕ) : Type 0 where
   pub all_length : length all ≡ 131071
   pub all_entry : (d : ℕ) → d ≤ 16 → IsWalsh (2 ^ d) (λ z. 65536 / 2 ^ d * log_or_zero z) (λ w. slice_index all (2 ^ d - 1 + w))

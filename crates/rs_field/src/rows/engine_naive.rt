@@ -61,7 +61,7 @@ fn mul_add(xs: &mut [[u8; 64]], ys: &[[u8; 64]], log_m: GfElement, exp: Exp<'_>,
 }
 
 impl Naive<'_> {
-    // The same, where 65535 marks the factor zero, whose product is left out.
+    // Adds a row times a factor to another row. The logarithm 65535 marks the factor zero, whose product is left out.
     fn mul_add_row(&self, xs: &mut [[u8; 64]], ys: &[[u8; 64]], log_m: GfElement)
         requires { length xs.old ≡ length ys.now }
         ensures { (k s : ℕ) → k < length xs.old → s < 32

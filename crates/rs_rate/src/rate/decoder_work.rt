@@ -110,7 +110,7 @@ impl Default for DecoderWork {
 impl DecoderMemory {
     ghost use Rattle.rs_rate.specs.DecoderRoom.{HasRoom, Grows, memory_room, shape_chunks, work_room, IsLaidOut};
 
-    // The memory that is handed on, where there is some.
+    // The memory that another object passes on, if there is any.
     fn of(work: Option<DecoderWork>) -> Option<DecoderMemory>
         ensures { IfSome work (λ w. w.memory ≡ result) }
     {
@@ -164,7 +164,7 @@ impl DecoderMemory {
         }
     }
 
-    // Makes room for so many chunks and rows; nothing else changes.
+    // Makes room for a number of chunks and of rows; nothing else changes.
     fn grow(&mut self, chunks: usize, rows: usize) -> Result<(), Error>
         ensures kept { (self.new.chunks.items ≡ self.old.chunks.items) × AreSameMarks self.old.marks self.new.marks
             × (self.new.entries.items ≡ self.old.entries.items) }
@@ -317,7 +317,7 @@ impl DecoderRows {
         Ok(())
     }
 
-    // What a decode of the rows goes by.
+    // What a decode of the rows depends on.
     pub(crate) fn tally(&self) -> Tally
         requires { self.now.shape.configuration.original_count ≤ self.now.originals_given + self.now.recovery_given }
         ensures shape { result.shape ≡ self.now.shape }

@@ -25,7 +25,7 @@ use rs_field::engine::layout::row_len;
 use rs_field::engine::{Engine, GfElement, ShardsRefMut, Steps};
 use rs_field::error::Error;
 
-// Restores the missing originals and answers how many they are, or refuses where no message agrees with all that is
+// Restores the missing originals and returns their number, or fails if no message agrees with all shards that are
 // given; ends the round.
 pub(crate) fn decode_rows<E: Engine>(
     engine: &E,
@@ -61,7 +61,7 @@ pub(crate) fn decode_rows<E: Engine>(
     answer
 }
 
-// Restores the missing originals in their rows where some message agrees with all that is given, and answers whether
+// Restores the missing originals in their rows if some message agrees with all that is given, and returns whether
 // one does. With all originals and nothing else given there is nothing to restore. The marks of given rows become those
 // of restored ones.
 fn restore<E: Engine>(

@@ -23,7 +23,7 @@ use rs_field::engine::layout::is_zero_row;
 use rs_field::engine::rows::{clear_rows, mul_row_at};
 use rs_field::engine::{Engine, GF_MODULUS, GfElement, ShardsRefMut, Steps};
 
-// What a decode goes by: what its rows are set up for, how many originals are missing, and the number of the surplus.
+// What a decode depends on: what its rows are set up for, the number of missing originals, and the number of surplus shards.
 #[derive(Clone, Copy)]
 pub(crate) struct Tally {
     pub(crate) shape: DecoderShape,
@@ -31,7 +31,7 @@ pub(crate) struct Tally {
     pub(crate) surplus: usize,
 }
 
-// Restores the words of the missing originals where some message agrees with all that is given, and answers whether
+// Restores the words of the missing originals if some message agrees with all that is given, and returns whether
 // one does. The marks of given rows become those of restored ones.
 pub(crate) fn restore_rows<E: Engine>(
     engine: &E,
@@ -60,7 +60,7 @@ pub(crate) fn restore_rows<E: Engine>(
     agrees
 }
 
-// Makes of the given words the coefficients of the polynomial through the located ones, and answers whether the last
+// Replaces the given words by the coefficients of the polynomial through the located ones, and returns whether the last
 // of them, as many as surplus shards, are zero.
 fn interpolate<E: Engine>(
     engine: &E,
