@@ -13,7 +13,7 @@ use Rattle.rs_field.specs.code.OneCall.{Items, default_of, counts_outcome, origi
 use Rattle.rs_field.specs.code.Outcome.{result_and_then}
 use Rattle.rs_field.specs.code.Placement.{encoder_rows, decoder_rows}
 use Rattle.rs_field.specs.code.RoundTrip.{AreCoded}
-use Rattle.rs_field.proofs.of_code.Listed.{listing_from-zero}
+use Rattle.rs_field.proofs.of_code.Listed.{items_from-zero}
 use Rattle.rs_field.proofs.of_code.OneRoundTrip.{coded_by}
 use Rattle.rs_rate.specs.Giving.{IsEncoding, IsDecoding, decoding_any}
 
@@ -170,7 +170,7 @@ decoding-refused k r originals (first ∷ rest) e (inl same) = inl (leads-off De
 
 -- the map with no shard lists none
 pub lists-none : Lists nothing []
-lists-none = record { count = 0; none_past = λ i h. refl; in_order = sym (listing_from-zero 0 nothing) }
+lists-none = record { count = 0; none_past = λ i h. refl; in_order = sym (items_from-zero 0 nothing) }
 
 -- where there is no decoder there is nothing to restore
 pub decoding-nothing : (k r : ℕ) (originals recovery : Items) → IsDecoding k r originals recovery (Ok None) → OneDecodeAnswers k r originals recovery (Ok nothing)

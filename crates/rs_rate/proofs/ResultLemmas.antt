@@ -6,12 +6,12 @@ use Rattle.std.proofs.lemmas.List.{length-drop, drop_all}
 use Rattle.std.specs.Borrow.{Bor}
 use Rattle.std.specs.Prelude.{Option, Some, None, is_some, not, option_copied}
 use Rattle.rs_field.specs.code.Column.{Shard}
-use Rattle.rs_field.specs.code.Given.{Lists, listing, listing_from, count_below}
+use Rattle.rs_field.specs.code.Given.{Lists, items_below, items_from, count_below}
 use Rattle.rs_field.specs.rows.Rows.{Chunks}
 use Rattle.rs_field.specs.rows.MarkedRows.{is_marked}
 use Rattle.rs_field.proofs.of_code.Given.{count_below-zero, count_below-suc}
 use Rattle.rs_field.proofs.of_words.UpTo.{length-up_to, get-up_to}
-use Rattle.rs_field.proofs.of_code.Listed.{listing_from-none, listing_from-some, listing_from-past, length-listed}
+use Rattle.rs_field.proofs.of_code.Listed.{items_from-none, items_from-some, items_from-past, length-listed}
 use Rattle.rs_rate.specs.declared.rate.decoder_work.DecoderRows.{DecoderRows}
 use Rattle.rs_rate.specs.declared.rate.encoder_work.EncoderRows.{EncoderRows}
 use Rattle.rs_rate.specs.DecoderView.{restored_by_rows, restored_from}
@@ -42,21 +42,21 @@ lends_next rows i shard inside lends =
 
 -- the restored originals from an index on
 pub restored_from-past : (rows : DecoderRows) (i : ℕ) → rows.shape.configuration.original_count ≤ i → restored_from rows i ≡ []
-restored_from-past rows i past = listing_from-past i rows.shape.configuration.original_count (restored_by_rows rows) past
+restored_from-past rows i past = items_from-past i rows.shape.configuration.original_count (restored_by_rows rows) past
 
 pub restored_from-none : (rows : DecoderRows) (i : ℕ) (r : Option (Bor Shard)) → i < rows.shape.configuration.original_count → r ≡ None → option_copied r ≡ restored_by_rows rows i
     → restored_from rows i ≡ restored_from rows (i + 1)
 restored_from-none rows i r inside none lends =
-    listing_from-none i rows.shape.configuration.original_count (restored_by_rows rows) inside (sym lends ∙ ap option_copied none)
+    items_from-none i rows.shape.configuration.original_count (restored_by_rows rows) inside (sym lends ∙ ap option_copied none)
 
 pub restored_from-some : (rows : DecoderRows) (i : ℕ) (r : Option (Bor Shard)) (shard : Bor Shard) → i < rows.shape.configuration.original_count → r ≡ Some shard
     → option_copied r ≡ restored_by_rows rows i → restored_from rows i ≡ (i, shard.now) ∷ restored_from rows (i + 1)
 restored_from-some rows i r shard inside some lends =
-    listing_from-some i rows.shape.configuration.original_count (restored_by_rows rows) shard.now inside (sym lends ∙ ap option_copied some)
+    items_from-some i rows.shape.configuration.original_count (restored_by_rows rows) shard.now inside (sym lends ∙ ap option_copied some)
 
 -- all restored originals
-restored_from-all : (rows : DecoderRows) → restored_from rows 0 ≡ listing rows.shape.configuration.original_count (restored_by_rows rows)
-restored_from-all rows = ap (λ n. listing_from 0 n (restored_by_rows rows)) (sub-zero rows.shape.configuration.original_count)
+restored_from-all : (rows : DecoderRows) → restored_from rows 0 ≡ items_below rows.shape.configuration.original_count (restored_by_rows rows)
+restored_from-all rows = ap (λ n. items_from 0 n (restored_by_rows rows)) (sub-zero rows.shape.configuration.original_count)
 
 pub lists-restored : (rows : DecoderRows) → Lists (restored_by_rows rows) (restored_from rows 0)
 lists-restored rows = record {
@@ -87,7 +87,7 @@ count-restored old new chunks size from m (suc n) fits marked =
 
 pub length-restored : (old new : List Bool) (chunks : Chunks) (size from n : ℕ)
     → ((i : ℕ) → i < n → is_marked new (from + i) ≡ not (is_marked old (from + i)))
-    → length (listing n (restored_shards new chunks size from n)) + given_row_count old from n ≡ n
+    → length (items_below n (restored_shards new chunks size from n)) + given_row_count old from n ≡ n
 length-restored old new chunks size from n marked =
     let counted = length-listed n (restored_shards new chunks size from n) in
     omega (arith, counted, count-restored old new chunks size from n n (omega arith) marked)

@@ -2,7 +2,7 @@
 use Rattle.std.specs.Prelude.{◌-◌, ℕ, Bool, List}
 use Rattle.rs_field.specs.code.Column.{Shard}
 use Rattle.rs_field.specs.code.Counts.{Rate}
-use Rattle.rs_field.specs.code.Given.{Shards, listing_from}
+use Rattle.rs_field.specs.code.Given.{Shards, items_from}
 use Rattle.rs_field.specs.code.Decoder.{DecoderState}
 use Rattle.rs_field.specs.rows.Rows.{Chunks}
 use Rattle.rs_rate.specs.declared.rate.decoder_work.DecoderShape.{DecoderShape}
@@ -33,7 +33,7 @@ restored_by_rows rows = restored_over rows.shape (restored_marks rows.memory.mar
 
 -- the originals that lie restored in the rows from an index on, with their indexes, in order of index
 abbrev pub restored_from : DecoderRows → ℕ → List (ℕ × Shard)
-restored_from rows index = listing_from index (rows.shape.configuration.original_count - index) (restored_by_rows rows)
+restored_from rows index = items_from index (rows.shape.configuration.original_count - index) (restored_by_rows rows)
 
 -- what a decoder of this rate is set up for at these counts and this size
 abbrev pub decoder_shape : Rate → ℕ → ℕ → ℕ → DecoderShape

@@ -27,24 +27,24 @@ count_below zero given = 0
 count_below (suc n) given = count_below n given + (if is_some (given n) then 1 else 0)
 
 -- the shard of an entry with this index, if it has one
-abbrev pub listing_of_one : ℕ → Option Shard → List (ℕ × Shard)
-listing_of_one i None = []
-listing_of_one i (Some shard) = (i, shard) ∷ []
+abbrev pub items_at : ℕ → Option Shard → List (ℕ × Shard)
+items_at i None = []
+items_at i (Some shard) = (i, shard) ∷ []
 
 -- the shards of a map at the n indexes from one on, with their indexes, in order of index
-unfoldable pub listing_from : ℕ → ℕ → Shards → List (ℕ × Shard)
-listing_from from zero given = []
-listing_from from (suc n) given = listing_of_one from (given from) ++ listing_from (suc from) n given
+unfoldable pub items_from : ℕ → ℕ → Shards → List (ℕ × Shard)
+items_from from zero given = []
+items_from from (suc n) given = items_at from (given from) ++ items_from (suc from) n given
 
 -- the shards of a map at the indexes below n, with their indexes, in order of index
-abbrev pub listing : ℕ → Shards → List (ℕ × Shard)
-listing n given = listing_from 0 n given
+abbrev pub items_below : ℕ → Shards → List (ℕ × Shard)
+items_below n given = items_from 0 n given
 
 -- a list has all the shards of a map, with their indexes, in order of index
 pub record Lists (given : Shards) (items : List (ℕ × Shard)) : Type 0 where
   pub count : ℕ
   pub none_past : (i : ℕ) → count ≤ i → given i ≡ None
-  pub in_order : items ≡ listing count given
+  pub in_order : items ≡ items_below count given
 
 -- each given shard is the one that stands at its index in the list
 abbrev pub AreAmong : Shards → List Shard → Type 0
