@@ -1,20 +1,30 @@
--- What a plain encoder stands for.
-use Rattle.std.specs.Prelude.{ℕ}
+-- The abstract state, the engine and the room of a plain encoder.
+use mir.Syntax.{named}
+use Rattle.std.specs.Prelude.{◌≡◌, ℕ, []}
+use Rattle.std.specs.Borrow.{MutBor, Fml}
 use Rattle.std.specs.Vec.{vec_capacity}
 use Rattle.rs_field.specs.code.Counts.{default_rate}
-use Rattle.rs_field.specs.code.Encoder.{EncoderState}
+use Rattle.rs_field.specs.code.Encoder.{EncoderState, after_encode}
 use Rattle.rs_engines.specs.declared.engine_default.DefaultEngine.{DefaultEngine}
 use Rattle.rs_rate.specs.EncoderView.{encoder_state}
+use Rattle.rs_rate.specs.Loan.{AfterLoan}
+use Rattle.reed_solomon_simd.specs.contracts.encoder.ReedSolomonEncoder.{the_row}
 use Rattle.reed_solomon_simd.specs.declared.encoder.ReedSolomonEncoder.{ReedSolomonEncoder}
 
--- its configuration, and the originals given so far
+-- the configuration of an encoder, and the originals added so far
 abbrev pub state_of : ReedSolomonEncoder → EncoderState
 state_of object = encoder_state default_rate object.encoder.rows
 
--- its engine
+-- the engine of an encoder
 abbrev pub engine_of : ReedSolomonEncoder → DefaultEngine
 engine_of object = object.encoder.engine
 
--- the chunks that it has room for
+-- the number of chunks for which an encoder has room
 abbrev pub room_of : ReedSolomonEncoder → ℕ
 room_of object = vec_capacity object.encoder.rows.chunks
+
+-- once the loan of the recovery shards ends, the encoder is as after an encode, with its engine and its room
+abbrev pub EndsEncode : MutBor ReedSolomonEncoder → ReedSolomonEncoder → Fml
+EndsEncode object old =
+    AfterLoan (the_row (record { mir = named 1; lft = [] })) object
+    (λ now. (state_of now ≡ after_encode (state_of old)) × (engine_of now ≡ engine_of old) × (room_of now ≡ room_of old))

@@ -1,14 +1,12 @@
 //! The plain encoder: the default rate over an engine chosen by name.
-ghost use mir.Syntax.{named};
 ghost use Rattle.std.specs.Prelude.{◌≡◌, ◌≢◌, ◌≤◌, [], Err, IfOk, OnOk, OnErr};
 ghost use Rattle.std.specs.Borrow.{sem};
-ghost use Rattle.rs_field.specs.code.Configuration.{started, UpToMemory, FitsWithin};
+ghost use Rattle.rs_field.specs.code.Configuration.{start_outcome, UpToMemory, FitsWithin};
 ghost use Rattle.rs_field.specs.code.Counts.{default_rate, supports as supports_counts};
 ghost use Rattle.rs_field.specs.code.Encoder.{fresh_encoder, with_shard, EncodeAnswers, after_encode};
 ghost use Rattle.rs_field.specs.code.OneCall.{default_of};
 ghost use Rattle.rs_field.specs.code.Outcome.{answer_of, state_after};
 ghost use Rattle.rs_field.specs.code.Placement.{encoder_rows};
-ghost use Rattle.rs_rate.specs.Loan.{EndsWith};
 ghost use Rattle.rs_rate.specs.ResultView.{answered_shards};
 ghost use Rattle.rs_rate.specs.ShardRows.{chunk_count};
 
@@ -25,7 +23,7 @@ use std::alloc::Global;
 /// an original is its place in the order of adding, counted from 0. A call that fails changes nothing. Only `new` and
 /// `reset` allocate.
 ///
-/// It is [`DefaultRateEncoder`](crate::rate::DefaultRateEncoder) with a count of steps of its own.
+/// A plain encoder is a [`DefaultRateEncoder`](crate::rate::DefaultRateEncoder) with a count of steps of its own.
 ///
 /// # Examples
 ///
@@ -43,8 +41,7 @@ pub struct ReedSolomonEncoder<'t> {
 }
 
 impl<'t> ReedSolomonEncoder<'t> {
-    ghost use Rattle.reed_solomon_simd.specs.EncoderObject.{state_of, engine_of, room_of};
-    ghost use Rattle.reed_solomon_simd.specs.contracts.encoder.ReedSolomonEncoder.{the_row};
+    ghost use Rattle.reed_solomon_simd.specs.EncoderObject.{state_of, engine_of, room_of, EndsEncode};
 
     /// Returns whether `original_count` originals with `recovery_count` recovery shards are supported.
     ///
@@ -81,7 +78,7 @@ impl<'t> ReedSolomonEncoder<'t> {
         shard_bytes: usize,
         engine: DefaultEngine<'t>,
     ) -> Result<ReedSolomonEncoder<'t>, Error>
-        ensures answer { UpToMemory (started (encoder_rows default_rate original_count recovery_count) (default_of original_count recovery_count shard_bytes)) (answer_of result) }
+        ensures answer { UpToMemory (start_outcome (encoder_rows default_rate original_count recovery_count) (default_of original_count recovery_count shard_bytes)) (answer_of result) }
         ensures made { IfOk result (λ x. (state_of x ≡ fresh_encoder (default_of original_count recovery_count shard_bytes)) × (engine_of x ≡ engine.entry)) }
     {
         let encoder = DefaultRateEncoder::new(
@@ -117,11 +114,11 @@ impl<'t> ReedSolomonEncoder<'t> {
         recovery_count: usize,
         shard_bytes: usize,
     ) -> Result<(), Error>
-        ensures answer { UpToMemory (started (encoder_rows default_rate original_count recovery_count) (default_of original_count recovery_count shard_bytes)) result }
+        ensures answer { UpToMemory (start_outcome (encoder_rows default_rate original_count recovery_count) (default_of original_count recovery_count shard_bytes)) result }
         ensures ok { OnOk result (state_of self.new ≡ fresh_encoder (default_of original_count recovery_count shard_bytes)) }
         ensures err { OnErr result (state_of self.new ≡ state_of self.old) }
         ensures roomy { chunk_count (encoder_rows default_rate original_count recovery_count) shard_bytes ≤ room_of self.old
-            → result ≡ started (encoder_rows default_rate original_count recovery_count) (default_of original_count recovery_count shard_bytes) }
+            → result ≡ start_outcome (encoder_rows default_rate original_count recovery_count) (default_of original_count recovery_count shard_bytes) }
         ensures own { FitsWithin (state_of self.old).configuration (default_of original_count recovery_count shard_bytes) → result ≢ Err Error.OutOfMemory }
         ensures engine { engine_of self.new ≡ engine_of self.old }
         ensures grown { room_of self.old ≤ room_of self.new }
@@ -172,8 +169,7 @@ impl<'t> ReedSolomonEncoder<'t> {
     /// ```
     pub fn encode(&mut self) -> Result<EncoderResult<'_>, Error>
         ensures answer { EncodeAnswers (state_of self.old) (answered_shards result) }
-        ensures* ends { sem 𝓛 (EndsWith (the_row (record { mir = named 1; lft = [] })) self.entry
-            (λ now. (state_of now ≡ after_encode (state_of self.old)) × (engine_of now ≡ engine_of self.old) × (room_of now ≡ room_of self.old))) }
+        ensures* ends { sem 𝓛 (EndsEncode self.entry self.old) }
     {
         encode_round(&mut self.encoder, &mut self.steps)?;
         Ok(lent_recovery(&self.encoder))

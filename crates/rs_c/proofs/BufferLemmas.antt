@@ -6,7 +6,7 @@ use Rattle.std.proofs.Math.Seq.{take-add}
 use Rattle.std.proofs.lemmas.List.{append_assoc, length-append, length-drop, length-take-le, drop-drop}
 use Rattle.rs_field.specs.code.Column.{Shard, IsShard}
 use Rattle.rs_field.specs.code.Given.{Shards}
-use Rattle.rs_c.specs.Buffers.{joined, with_restored, AreSized}
+use Rattle.rs_c.specs.Buffers.{concatenation, with_restored, AreSized}
 
 -- the bytes before a place, with what is to be written behind them, are the whole, for which there is just room
 pub record IsWritten (whole : List ℕ) (at : ℕ) (bytes rest : List ℕ) : Type 0 where
@@ -30,7 +30,7 @@ written-next whole at end old new x rest w same ends now =
     }
 
 -- shards of one size one behind the other have so many bytes
-pub length-joined : (size : ℕ) (shards : List Shard) → All (IsShard size) shards → length (joined shards) ≡ length shards * size
+pub length-joined : (size : ℕ) (shards : List Shard) → All (IsShard size) shards → length (concatenation shards) ≡ length shards * size
 length-joined size [] sized = omega arith
 length-joined size (x ∷ xs) sized =
     let first = (sized 0 x (omega arith)).length_is in let others = length-joined size xs (λ k d h. sized (suc k) d (omega (arith, h))) in

@@ -46,13 +46,13 @@ abbrev pub Fills : List Shard → List (List ℕ) → List (List ℕ) → Result
 Fills shards old new answer =
     MatchResult (rooms_fit shards old) (λ _. (answer ≡ Ok tt) × (new ≡ shards)) (λ fault. (answer ≡ Err fault) × (new ≡ old))
 
--- what an encode over arrays answers: what the library's one call answers to the originals, written into the rooms
+-- what an encode over arrays returns: the result of one-call `encode` for these originals, written into the rooms
 abbrev pub EncodesArrays : ℕ → ℕ → List Shard → List (List ℕ) → List (List ℕ) → Result (Unit {0}) Fault → Type 0
 EncodesArrays k r originals old new answer =
     (coded : Result (List Shard) Error) × OneEncodeAnswers k r originals coded
     × MatchResult coded (λ shards. Fills shards old new answer) (λ e. (answer ≡ Err (Refused e)) × (new ≡ old))
 
--- what a decode over arrays answers: what the library's one call answers to the shards, the restored originals written into the rooms in order of index
+-- what a decode over arrays returns: the result of one-call `decode` for these shards, the restored originals written into the rooms in order of index
 abbrev pub DecodesArrays : ℕ → ℕ → Items → Items → List (List ℕ) → List (List ℕ) → Result (Unit {0}) Fault → Type 0
 DecodesArrays k r originals recovery old new answer =
     (decoded : Result Shards Error) × OneDecodeAnswers k r originals recovery decoded

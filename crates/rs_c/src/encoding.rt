@@ -1,7 +1,7 @@
 //! Encoding, of shards in a buffer and of shards anywhere.
 ghost use Rattle.std.specs.Prelude.{◌≡◌, length};
 ghost use Rattle.rs_rate.specs.ResultView.{recovery_shards};
-ghost use Rattle.rs_c.specs.Buffers.{joined};
+ghost use Rattle.rs_c.specs.Buffers.{concatenation};
 ghost use Rattle.rs_c.specs.Answers.{EncodesBuffer};
 ghost use Rattle.rs_c.specs.Arrays.{shards_of, EncodesArrays, KeepsRooms, bytes_in};
 
@@ -59,10 +59,10 @@ pub fn encode_arrays(
     Ok(())
 }
 
-// Writes the recovery shards of a result one behind the other.
+// Writes the recovery shards of a result one after the other.
 fn write_recovery(lent: &EncoderResult<'_>, recovery: &mut [u8])
-    requires { length recovery.old ≡ length (joined (recovery_shards lent.now)) }
-    ensures { recovery.new ≡ joined (recovery_shards lent.now) }
+    requires { length recovery.old ≡ length (concatenation (recovery_shards lent.now)) }
+    ensures { recovery.new ≡ concatenation (recovery_shards lent.now) }
 {
     let mut at = 0;
     for shard in lent.recovery_iter() {

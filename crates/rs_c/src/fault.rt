@@ -72,7 +72,7 @@ impl RsFault {
         RsFault::new(RsFault::number_of(error), first, second, third)
     }
 
-    // Its number.
+    // The number of an error.
     fn number_of(error: Error) -> u32
         ensures { result ≡ (numbers_of error).number }
     {
@@ -92,7 +92,7 @@ impl RsFault {
         }
     }
 
-    // Its counts, indexes or sizes.
+    // The counts, indexes or sizes of an error.
     fn counts_of(error: Error) -> (usize, usize, usize)
         ensures { let n = numbers_of error in (result.0 ≡ n.first) × (result.1 ≡ n.second) × (result.2 ≡ n.third) }
     {

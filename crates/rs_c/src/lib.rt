@@ -60,8 +60,8 @@ pub extern "C" fn rs_supports(original_count: usize, recovery_count: usize) -> u
 
 /// Writes the recovery shards of the originals. Shards lie one after the other in a buffer.
 ///
-/// It fails if the tables were not made, then for counts that aren't supported, then for the length of `originals`, then for that
-/// of `recovery`, then as one call does for these shards. With a fault it writes nothing but the fault.
+/// The call fails if the tables were not made, then for counts that are not supported, then for the length of `originals`, then for
+/// the length of `recovery`, then as one call does for these shards. With a fault it writes nothing but the fault.
 #[unsafe(no_mangle)]
 pub extern "C" fn rs_encode(
     alloc: Global,
@@ -100,8 +100,8 @@ pub extern "C" fn rs_encode(
 
 /// Restores, in their places, the originals whose mark is 0.
 ///
-/// It fails if the tables were not made, then for counts that aren't supported, then for the lengths of `originals`, of `recovery`
-/// and of `marks`, then as one call does for the shards whose mark isn't 0. With a fault it writes nothing but the fault.
+/// The call fails if the tables were not made, then for counts that are not supported, then for the lengths of `originals`, of
+/// `recovery` and of `marks`, then as one call does for the shards whose mark is not 0. With a fault it writes nothing but the fault.
 #[unsafe(no_mangle)]
 pub extern "C" fn rs_decode(
     alloc: Global,
@@ -144,8 +144,8 @@ pub extern "C" fn rs_decode(
 /// Writes the recovery shards of the originals into rooms. Shards and rooms lie anywhere. The shards' size is that of the first
 /// original.
 ///
-/// It fails if the tables were not made, then for counts that aren't supported, then as one call does for these shards, then for
-/// another number of rooms than `recovery_count`, then for the length of a room. With a fault it writes nothing but the fault.
+/// The call fails if the tables were not made, then for counts that are not supported, then as one call does for these shards, then
+/// for another number of rooms than `recovery_count`, then for the length of a room. With a fault it writes nothing but the fault.
 #[unsafe(no_mangle)]
 pub extern "C" fn rs_encode_shards(
     alloc: Global,
@@ -184,8 +184,8 @@ pub extern "C" fn rs_encode_shards(
 /// Writes the originals that aren't among the given shards into rooms, in order of their index. The shards' size is that of the
 /// first recovery shard.
 ///
-/// It fails if the tables were not made, then for counts that aren't supported, then as one call does for these shards, then for
-/// another number of rooms than there are missing originals, then for the length of a room. With a fault it writes nothing but
+/// The call fails if the tables were not made, then for counts that are not supported, then as one call does for these shards, then
+/// for another number of rooms than there are missing originals, then for the length of a room. With a fault it writes nothing but
 /// the fault. Without recovery shards it needs no memory.
 #[unsafe(no_mangle)]
 pub extern "C" fn rs_decode_shards(

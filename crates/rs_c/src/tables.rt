@@ -41,7 +41,7 @@ fn low(number: u128) -> u64
     (number & 0xFFFF_FFFF_FFFF_FFFF) as u64
 }
 
-// Its upper half.
+// The upper half of a number of 128 bits.
 #[inline(always)]
 fn high(number: u128) -> u64
     ensures { result ≡ number / 2 ^ 64 }

@@ -1,9 +1,14 @@
 -- Shards that are lost.
-use Rattle.std.specs.Prelude.{ℕ, zero, suc, ◌+◌, Bool, ◌&&◌, not, List, length, nat_lt, nat_eq, Some, None, if◌then◌else◌}
+use Rattle.std.specs.Prelude.{ℕ, zero, suc, ◌+◌, Bool, ◌&&◌, not, List, length, map, nat_lt, nat_eq, Some, None, if◌then◌else◌}
 use Rattle.std.specs.List.{list_any, filter, enumerate_from}
+use Rattle.std.specs.declared.vec.Vec.{Vec}
 use Rattle.reed_solomon_simd.specs.Column.{Shard, shard_at}
 use Rattle.reed_solomon_simd.specs.Given.{Shards}
 use Rattle.reed_solomon_simd.specs.OneCall.{Items}
+
+-- vectors with their indexes, as shards with their indexes
+abbrev pub items_in : {Y : Type 0} → List (ℕ × Vec ℕ Y) → Items
+items_in vectors = map (λ item. (item.0, item.1.items)) vectors
 
 -- an index is among those lost
 abbrev pub is_lost : List ℕ → ℕ → Bool

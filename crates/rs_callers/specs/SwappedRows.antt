@@ -19,7 +19,7 @@ pub record AreSwapped (i j : ℕ) (old new : ShardsRefMut) : Type 0 where
 abbrev pub AreSwappedTwice : ℕ → ℕ → ℕ → ℕ → ShardsRefMut → ShardsRefMut → Type 0
 AreSwappedTwice i j k l old new = (mid : ShardsRefMut) × AreSwapped i j old mid × AreSwapped k l mid new
 
--- the same loan, over chunks of which these are the first, in place of as many as a row has
+-- the loan of the rows has these chunks instead of its first row, and the name that it had
 pub record HasFirstRow (old : ShardsRefMut) (row : Chunks) (new : ShardsRefMut) : Type 0 where
   pub name : new.chunks.ghost_name ≡ old.chunks.ghost_name
   pub chunks : new.chunks.now ≡ row ++ drop old.shard_len_64 old.chunks.now

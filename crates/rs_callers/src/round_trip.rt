@@ -1,18 +1,20 @@
 //! Round trips: shards are coded, some are lost, and just the lost originals come back, each as it was.
-ghost use Rattle.std.specs.Prelude.{◌≡◌, ◌+◌, ◌≤◌, ℕ, length, map, All, Ok, IfOk, IfErr};
-ghost use Rattle.reed_solomon_simd.specs.Configuration.{validated};
+ghost use Rattle.std.specs.Prelude.{◌≡◌, ◌+◌, ◌≤◌, ℕ, List, length, map, All, Ok, IfOk, IfErr};
+ghost use Rattle.reed_solomon_simd.specs.Column.{Shard};
+ghost use Rattle.reed_solomon_simd.specs.Configuration.{validation_outcome};
 ghost use Rattle.reed_solomon_simd.specs.DecoderObject.{state_of as decoder_state};
 ghost use Rattle.reed_solomon_simd.specs.EncoderObject.{state_of as encoder_state};
 ghost use Rattle.reed_solomon_simd.specs.Given.{Lists};
 ghost use Rattle.reed_solomon_simd.specs.Giving.{Reaches};
-ghost use Rattle.reed_solomon_simd.specs.OneCall.{default_of, shards_in, with_shards, with_originals, with_recoveries};
+ghost use Rattle.reed_solomon_simd.specs.OneCall.{collected_map, default_of, shards_in, with_shards, with_originals, with_recoveries};
 ghost use Rattle.reed_solomon_simd.specs.ResultView.{recovery_shards};
-ghost use Rattle.rs_callers.specs.Losing.{lost_at, left_of, left_below};
+ghost use Rattle.reed_solomon_simd.specs.RoundTrip.{AreCoded, AreLeft, OneBringsBack};
+ghost use Rattle.rs_callers.specs.Losing.{items_in, lost_at, left_of, left_below};
 
 use crate::walking::restored_copies;
 use reed_solomon_simd::engine::DefaultEngine;
 use reed_solomon_simd::{
-    EncoderResult, Error, ReedSolomonDecoder, ReedSolomonEncoder, decode, encode,
+    EncoderResult, Error, ReedSolomonDecoder, ReedSolomonEncoder, decode, decode_slice, encode,
 };
 use std::alloc::Global;
 use std::collections::BTreeMap;
@@ -29,7 +31,7 @@ pub fn round_trip_in_one_call(
     engine: DefaultEngine<'_>,
 ) -> Result<BTreeMap<usize, Vec<u8>>, Error>
     ensures restored { IfOk result (λ restored. (i : ℕ) → shards_in restored i ≡ lost_at (map (λ shard. shard.items) originals.now) lost.now i) }
-    ensures enough { (size : ℕ) → validated (default_of (length originals.now) recovery_count size) ≡ Ok tt → All (λ shard. length shard.items ≡ size) originals.now
+    ensures enough { (size : ℕ) → validation_outcome (default_of (length originals.now) recovery_count size) ≡ Ok tt → All (λ shard. length shard.items ≡ size) originals.now
         → length originals.now ≤ left_below (length originals.now) lost.now + left_below recovery_count recovery_lost.now
         → IfErr result (λ e. e ≡ Error.OutOfMemory) }
 {
@@ -50,6 +52,30 @@ pub fn round_trip_in_one_call(
     decode(alloc, k, r, kept, received, engine)
 }
 
+/// Restores the lost originals of a message from the originals and the recovery shards that are left. If each comes with
+/// its own index, and none twice, a success is exactly the lost originals, each as it was.
+pub fn restore_what_is_left(
+    alloc: Global,
+    original_count: usize,
+    recovery_count: usize,
+    kept: &[(usize, Vec<u8>)],
+    received: &[(usize, Vec<u8>)],
+    engine: DefaultEngine<'_>,
+) -> Result<BTreeMap<usize, Vec<u8>>, Error>
+    ensures { (originals recovery : List Shard) → AreCoded original_count recovery_count originals recovery
+        → AreLeft originals (items_in kept.now) → AreLeft recovery (items_in received.now)
+        → OneBringsBack originals (items_in kept.now) (items_in received.now) (collected_map result) }
+{
+    decode_slice(
+        alloc,
+        original_count,
+        recovery_count,
+        kept,
+        received,
+        engine,
+    )
+}
+
 /// Codes the originals by a plain encoder, loses the originals and the recovery shards of these indexes, and restores
 /// what is lost by a plain decoder: just the lost originals come back, each as it was, in order of index. It is never
 /// refused where one call isn't.
@@ -64,7 +90,7 @@ pub fn round_trip_by_plain_objects(
 ) -> Result<Vec<(usize, Vec<u8>)>, Error>
     ensures restored { IfOk result (λ restored. Lists (lost_at (map (λ shard. shard.items) originals.now) lost.now)
         (map (λ item. (item.0, item.1.items)) restored.items)) }
-    ensures enough { validated (default_of (length originals.now) recovery_count shard_bytes) ≡ Ok tt → All (λ shard. length shard.items ≡ shard_bytes) originals.now
+    ensures enough { validation_outcome (default_of (length originals.now) recovery_count shard_bytes) ≡ Ok tt → All (λ shard. length shard.items ≡ shard_bytes) originals.now
         → length originals.now ≤ left_below (length originals.now) lost.now + left_below recovery_count recovery_lost.now
         → IfErr result (λ e. e ≡ Error.OutOfMemory) }
 {

@@ -57,7 +57,7 @@ fn configuration_of(action: &str) -> Result<Configuration> {
     Ok((k, r, number(words.next())?))
 }
 
-// Those of the shards that have the indexes A to B-1, for a range A..B.
+// The shards with the indexes A to B-1, for a range A..B.
 fn slice_of<'a>(items: &'a [Item], range: &str) -> Result<&'a [Item]> {
     let (start, end) = range.split_once("..").context("a range is A..B")?;
     let range = start.parse::<usize>()?..end.parse::<usize>()?;

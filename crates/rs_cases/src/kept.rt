@@ -8,9 +8,9 @@ use std::mem;
 /// From where a case gets its object.
 #[derive(Clone, Copy, Debug)]
 pub enum Way {
-    /// It is made, over no memory.
+    /// The object is made without memory of another one.
     New,
-    /// That of the case before is reset.
+    /// The object of the case before is reset.
     Reset,
     /// That of the case before is taken apart, and it is made over its memory.
     HandedOn,
@@ -96,7 +96,7 @@ fn recovery_agrees(lent: &EncoderResult<'_>) -> bool {
     agrees && lent.recovery(usize::MAX).is_none()
 }
 
-// The same of a decoder's: of all indexes that any counts allow, and of the last, just as many have a shard.
+// Returns whether the result of a decoder agrees with its iterator: of all indexes, as many have a shard as the iterator says.
 fn restored_agrees(lent: &DecoderResult<'_>) -> bool {
     let mut walk = lent.restored_original_iter();
     let all = walk.len();

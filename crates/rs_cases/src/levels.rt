@@ -13,7 +13,7 @@ use std::alloc::{AllocError, Global};
 /// The words that name the levels: the one-call functions, the plain objects, and the objects of each rate.
 pub const LEVELS: &[&str] = &["call", "plain", "low", "high", "default"];
 
-/// Those of the objects of the rates, which are over any engine.
+/// The levels of objects of a rate. These objects work with any engine.
 pub const RATES: &[&str] = &["low", "high", "default"];
 
 /// The levels: those of the rates over any engine, the others over one that is chosen by name.

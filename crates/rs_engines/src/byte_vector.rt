@@ -13,7 +13,7 @@ pub trait ByteVector: Copy + Drop {
 
     ghost LANES: { ℕ };
 
-    // Its bytes, lane by lane.
+    // The bytes of a vector, lane by lane.
     ghost bytes: { Self → List ℕ };
 
     /// The bytes of a chunk from `at` on.
@@ -72,7 +72,7 @@ fn table(t: u128) -> u8x16
     u64x2::from_array([(t & 0xFFFF_FFFF_FFFF_FFFF) as u64, (t >> 64) as u64]).to_le_bytes()
 }
 
-// The same twice.
+// The bytes of a number of 128 bits, twice.
 #[inline(always)]
 fn table_twice(t: u128) -> u8x32
     ensures { (i : ℕ) → i < 32 → slice_index result i ≡ byte_at t (i % 16) }

@@ -16,7 +16,7 @@ use std::simd::prelude::*;
 
 /// An engine that looks up products by shuffles of byte vectors. It borrows the tables and allocates nothing.
 ///
-/// It runs on any machine, and is fast if the processor shuffles bytes with one instruction.
+/// The engine runs on any machine, and is fast if the processor shuffles bytes with one instruction.
 #[derive(Clone, Copy)]
 pub struct ByShuffles<'t, V: ByteVector> {
     tables: &'t Tables,

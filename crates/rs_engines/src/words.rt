@@ -71,7 +71,7 @@ pub fn times<V: ByteVector>(words: Words<V>, factor: &Multiply128lutT) -> Words<
     }
 }
 
-/// The same where the products of low bytes have no high byte: six look-ups in the place of eight.
+/// Products of words if the products of low bytes have no high byte: six look-ups instead of eight.
 #[inline(always)]
 pub fn times_small<V: ByteVector>(words: Words<V>, factor: &Multiply128lutT) -> Words<V>
     requires first { slice_index factor.now.hi 0 ≡ 0 }

@@ -14,14 +14,14 @@ use Rattle.rs_rate.specs.Coding.{CodesWords}
 use Rattle.rs_rate.specs.ShardRows.{word_in}
 use Rattle.rs_rate.specs.ObjectLaws.{all-up_to}
 
--- the same coding, of words that are read in another way
+-- words that are read in another way are coded as well
 pub words-read : (rate : Rate) (k r : ℕ) (old new old_read new_read : ℕ → ℕ) → ((i : ℕ) → i < k → old_read i ≡ old i) → ((i : ℕ) → i < r → new_read i ≡ new i)
     → CodesWords rate k r old new → CodesWords rate k r old_read new_read
 words-read rate k r old new old_read new_read same_old same_new coded =
     subst (λ (words : List ℕ). AreRecoveryWords rate k r words (up_to r new_read)) (sym (up_to-same k old_read old same_old))
     (subst (λ (words : List ℕ). AreRecoveryWords rate k r (up_to k old) words) (sym (up_to-same r new_read new same_new)) coded)
 
--- the same coding, of the words of rows that are read from their chunks
+-- words of rows that are read from the chunks are coded as well
 pub rows-read : (rate : Rate) (k r n c s : ℕ) (before after : Chunks) (old new : ShardsRefMut) → old.shard_len_64 ≡ n → new.shard_len_64 ≡ n
     → old.chunks.now ≡ before → after ≡ new.chunks.now
     → CodesWords rate k r (word old c s) (word new c s) → CodesWords rate k r (word_in before n c s) (word_in after n c s)

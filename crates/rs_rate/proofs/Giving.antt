@@ -164,7 +164,7 @@ pub always-run : {I A T : Type 0} {steps : I → Option A → I → Type 0} {vie
     → (calls : Calls steps iterator) × ((list : List T) → Begins view calls list → P list) → (list : List T) → AlwaysYields steps view iterator list → P list
 always-run {steps = steps} {view} {iterator} run list yields = run.1 list (begins-always steps view iterator run.0 list yields)
 
--- the same of the lists of two iterators
+-- what holds for the calls of two iterators holds for the lists that they lend
 module _ {I J A B T U : Type 0} {own : I → Option A → I → Type 0} {steps : J → Option B → J → Type 0} (see : A → T) (view : B → U) (P : List T → List U → Type 0) {start : I} where
   -- where no item came from the second
   pub ended-both : (iterator after : J) → steps iterator None after → (calls : Calls own start) × ((list : List T) → Begins see calls list → P list [])

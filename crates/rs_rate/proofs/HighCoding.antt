@@ -79,7 +79,7 @@ sums-more m n k old sums one more values zeros added (those, those_values, those
         ap (λ v. forward m (v * m + m) (extended n those one v) i) e
         ∙ forward-same m (n * m + m) (extended n those one n) one i (λ q hq. extended-last n those one q)
 
--- the same of rows: the first block has passed to its combination
+-- the sum of blocks begins with the first block, transformed backward
 pub sums-start : (m k : ℕ) (old passed : ℕ → ℕ) → 0 < m
     → ((i : ℕ) → i < m → 0 + i < k → forward m (0 + m) (λ q. passed (0 + q)) i ≡ old (0 + i)) → ((i : ℕ) → i < m → k ≤ 0 + i → forward m (0 + m) (λ q. passed (0 + q)) i ≡ 0)
     → SumsBlocks m (m / m) k old passed

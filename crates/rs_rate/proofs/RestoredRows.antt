@@ -14,7 +14,7 @@ use Rattle.rs_rate.specs.declared.rate.decoder_work.DecoderShape.{DecoderShape}
 use Rattle.rs_rate.specs.Decoding.{RestoresWords}
 use Rattle.rs_rate.specs.ShardRows.{word_in, row_chunk, shard_laid_out, shard_in_order}
 
--- the same of words that are read in another way
+-- words that are read in another way are restored as well
 restores_alike : (shape : DecoderShape) (marks : List Bool) (locator : List ℕ) (surplus : ℕ) (old new old_too new_too : ℕ → ℕ → ℕ → ℕ) (agrees : Bool)
     → ((k s i : ℕ) → old k s i ≡ old_too k s i) → ((k s i : ℕ) → new k s i ≡ new_too k s i)
     → RestoresWords shape marks locator surplus old new agrees → RestoresWords shape marks locator surplus old_too new_too agrees

@@ -19,6 +19,6 @@ Begins {T = T} view calls list = (more : List T) × (list ≡ map view calls.ite
 abbrev pub BeginsWith : {I : Type 0} {steps : I → Option (Bor Shard) → I → Type 0} {iterator : I} → List Shard → Calls steps iterator → Type 0
 BeginsWith shards calls = Begins (λ shard. shard.now) calls shards
 
--- the same of shards with their indexes
+-- a list begins with the shards and indexes that calls yielded, and ends where the iterator ended
 abbrev pub BeginsWithItems : {I : Type 0} {steps : I → Option (ℕ × Bor Shard) → I → Type 0} {iterator : I} → Items → Calls steps iterator → Type 0
 BeginsWithItems items calls = Begins (λ item. (item.0, item.1.now)) calls items

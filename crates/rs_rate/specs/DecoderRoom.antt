@@ -22,7 +22,7 @@ abbrev pub memory_room : DecoderMemory → DecoderRoom
 memory_room memory =
     record { chunks = vec_capacity memory.chunks; rows = mark_room memory.marks; entries = vec_capacity memory.entries }
 
--- the room of memory that is handed on, if there is any
+-- the room of memory that another object passes on, if there is any
 abbrev pub room_if : Option DecoderMemory → DecoderRoom
 room_if None = record { chunks = 0; rows = 0; entries = 0 }
 room_if (Some memory) = memory_room memory
@@ -31,7 +31,7 @@ room_if (Some memory) = memory_room memory
 abbrev pub work_room : DecoderWork → DecoderRoom
 work_room work = room_if work.memory
 
--- there is room for so many rows of shards of this size, so that no memory is taken
+-- there is room for n rows of shards of this size, so that nothing is allocated
 pub record HasRoom (room : DecoderRoom) (count size : ℕ) : Type 0 where
   pub chunks : chunk_count count size ≤ room.chunks
   pub rows : count ≤ room.rows

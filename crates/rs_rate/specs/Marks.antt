@@ -13,22 +13,22 @@ use Rattle.rs_rate.specs.Shapes.{original_row}
 use Rattle.rs_rate.specs.ShardRows.{shard_laid_out, shard_in_order}
 
 -- marks, where they tell of given shards; else none
-abbrev pub if_given : MarkedShards → List Bool → List Bool
-if_given Given rows = rows
-if_given Restored rows = []
+abbrev pub marks_of_given : MarkedShards → List Bool → List Bool
+marks_of_given Given rows = rows
+marks_of_given Restored rows = []
 
 -- marks, where they tell of restored shards; else none
-abbrev pub if_restored : MarkedShards → List Bool → List Bool
-if_restored Given rows = []
-if_restored Restored rows = rows
+abbrev pub marks_of_restored : MarkedShards → List Bool → List Bool
+marks_of_restored Given rows = []
+marks_of_restored Restored rows = rows
 
 -- which rows hold given shards
 abbrev pub given_marks : Marks → List Bool
-given_marks marks = if_given marks.shards marks.rows.items
+given_marks marks = marks_of_given marks.shards marks.rows.items
 
 -- which rows hold restored shards, or are to
 abbrev pub restored_marks : Marks → List Bool
-restored_marks marks = if_restored marks.shards marks.rows.items
+restored_marks marks = marks_of_restored marks.shards marks.rows.items
 
 -- how many rows have a mark
 abbrev pub mark_count : Marks → ℕ
@@ -38,7 +38,7 @@ mark_count marks = vec_len marks.rows
 abbrev pub mark_room : Marks → ℕ
 mark_room marks = vec_capacity marks.rows
 
--- the same marks, which tell of the same shards
+-- two vectors of marks are equal, and mark the same kind of shards
 abbrev pub AreSameMarks : Marks → Marks → Type 0
 AreSameMarks old new = (new.rows.items ≡ old.rows.items) × (new.shards ≡ old.shards)
 
@@ -71,7 +71,7 @@ abbrev pub ArePlaced : ℕ → ℕ → ℕ → ℕ → List Bool → Type 0
 ArePlaced originals_from k recovery_from r marks =
     (p : ℕ) → (p < originals_from) ⊎ (originals_from + k ≤ p) → (p < recovery_from) ⊎ (recovery_from + r ≤ p) → is_marked marks p ≡ false
 
--- so many originals and recovery shards are given in their rows of a shape, each of its size, and no shard in another row
+-- the marks say that these numbers of originals and of recovery shards are given, in their rows of a shape, and no shard in another row
 pub record HoldGiven (shape : DecoderShape) (originals recovery : ℕ) (marks : List Bool) (chunks : Chunks) : Type 0 where
   pub originals_counted : originals ≡ given_row_count marks shape.frame.originals_from shape.configuration.original_count
   pub recovery_counted : recovery ≡ given_row_count marks shape.frame.recovery_from shape.configuration.recovery_count

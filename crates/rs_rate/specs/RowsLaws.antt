@@ -25,7 +25,7 @@ encoder_rows_alike one other k r same = ap (λ b. if b then rounded_up r (next_p
 pub encoder_rows_set_up : (rate : Rate) (c : Configuration) → IsSetUp rate c → rows_of encoder_rows c ≡ encoder_rows rate c.original_count c.recovery_count
 encoder_rows_set_up rate c is = encoder_rows_alike (low_or_high c.is_low) rate c.original_count c.recovery_count is.alike
 
--- the same of a decoder's rows
+-- the rows that a decoder is set up with are those of its rate
 pub decoder_rows_set_up : (rate : Rate) (c : Configuration) → IsSetUp rate c → rows_of decoder_rows c ≡ decoder_rows rate c.original_count c.recovery_count
 unfolding decoder_rows
 decoder_rows_set_up rate c is =
@@ -43,7 +43,7 @@ chunks_within n rows size own room same less sized roomy =
     let within : chunk_count n size ≤ chunk_count rows own = rw same (chunk_count-size n size own less) in
     (omega (arith, within, sized), omega (arith, within, roomy))
 
--- the same of all that a decoder has room for
+-- a decoder that has room for its own rows has room for as many rows of no larger a size
 pub room_within : (n rows size own : ℕ) (room : DecoderRoom) → rows ≡ n → size ≤ own → chunk_count rows own * 64 < 2 ^ 64 → HasRoom room rows own
     → (chunk_count n size * 64 < 2 ^ 64) × HasRoom room n size
 room_within n rows size own room same less sized roomy =

@@ -6,13 +6,13 @@ use Rattle.rs_field.specs.code.Column.{Shard}
 use Rattle.rs_field.specs.rows.Rows.{Chunks, chunk, symbol}
 use Rattle.rs_field.specs.rows.Layout.{row_len, laid_out, in_order}
 
--- the chunks of so many rows for shards of this size
+-- the number of chunks of n rows for shards of this size
 unfoldable pub chunk_count : ℕ → ℕ → ℕ
 chunk_count rows size = rows * row_len size
 
--- what asking for memory for so many chunks answers while memory is found; memory of more than `usize::MAX` bytes is never found
-abbrev pub asked : ℕ → Result (Unit {0}) Error
-asked chunks = if nat_le (2 ^ 64) (chunks * 64) then Err OutOfMemory else Ok tt
+-- the outcome of allocating n chunks if memory can be allocated; memory of more than `usize::MAX` bytes never can
+abbrev pub memory_outcome : ℕ → Result (Unit {0}) Error
+memory_outcome chunks = if nat_le (2 ^ 64) (chunks * 64) then Err OutOfMemory else Ok tt
 
 -- chunk k of row i, in rows for shards of this size
 unfoldable pub row_chunk : Chunks → ℕ → ℕ → ℕ → List ℕ

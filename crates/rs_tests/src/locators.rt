@@ -44,7 +44,7 @@ fn check_locators<E: Engine>(rt: &impl Abort, engine: &E, log: &[GfElement])
     }
 }
 
-// The same of four points alone, at these.
+// Checks the locator of an engine over the first four points.
 fn check_first_points<E: Engine>(rt: &impl Abort, engine: &E, log: &[GfElement])
     requires { length log.now ≡ 65536 }
 {

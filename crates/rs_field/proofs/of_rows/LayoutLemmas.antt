@@ -76,7 +76,7 @@ pub shard-laid_out : (size : ℕ) (chunks : ℕ → List ℕ) → ((k b : ℕ) �
     → IsShard size (laid_out size chunks)
 shard-laid_out size chunks small = record { length_is = length-laid_out size chunks; bytes = bytes-laid_out size chunks small }
 
--- the same of the shard whose tail was moved
+-- a shard whose tail was moved is a shard of the size
 pub shard-in_order : (size : ℕ) (chunks : ℕ → List ℕ) → ((k b : ℕ) → k < row_len size → b < 64 → slice_index (chunks k) b < 256)
     → IsShard size (in_order size chunks)
 unfolding in_order

@@ -93,7 +93,7 @@ from_bits-bits x hx =
     (record { xor = λ a b ha hb. ap from_bits (bits_xor a b) ∙ from_bits_xor (bits a) (bits b) })
     (record { xor = λ a b ha hb. refl }) refl x hx
 
--- the same for maps of two words, by 256 products of powers of two
+-- two maps that are additive in both words are equal if they agree at the 256 pairs of powers of two
 pub same_on_pairs : (f g : ℕ → ℕ → ℕ)
     → ((y : ℕ) → IsAdditive 16 (λ x. f x y)) → ((x : ℕ) → IsAdditive 16 (f x))
     → ((y : ℕ) → IsAdditive 16 (λ x. g x y)) → ((x : ℕ) → IsAdditive 16 (g x))

@@ -6,7 +6,7 @@ use Rattle.rs_field.specs.declared.code.error.Error.TheVariants.{NotEnoughShards
 use Rattle.rs_field.specs.code.Column.{Shard, AreShards, shard_at}
 use Rattle.rs_field.specs.code.Counts.{Rate}
 use Rattle.rs_field.specs.code.Outcome.{answer_of}
-use Rattle.rs_field.specs.code.Configuration.{Configuration, validated}
+use Rattle.rs_field.specs.code.Configuration.{Configuration, validation_outcome}
 use Rattle.rs_field.specs.code.Code.{AreRecovery}
 use Rattle.rs_field.specs.code.Given.{Shards, AreAmong}
 use Rattle.rs_field.specs.code.Encoder.{EncoderState, IsEncoder, EncodeAnswers}
@@ -15,7 +15,7 @@ use Rattle.rs_field.specs.code.OneCall.{Items, default_of, with_both, OneEncodeA
 
 -- ---- decoders, by what they were given
 
--- what a decoder answers where the message is known: a success where shards enough are given, with the message's own at exactly the missing indexes, else that refusal
+-- what a decoder returns for shards of a known message: with enough shards the message's own at exactly the missing indexes, else `NotEnoughShards`
 pub record BringsBack (s : DecoderState) (message : List Shard) (result : Result Shards Error) : Type 0 where
   pub answer : answer_of result ≡ enough_given s
   pub restored : IfOk result (λ out. (i : ℕ) → out i ≡ missing_of s message i)
@@ -27,7 +27,7 @@ RestoresLost =
     → AreShards s.configuration.original_count s.configuration.shard_bytes message → AreRecovery s.configuration message recovery
     → AreAmong s.originals message → AreAmong s.recovery recovery → DecodeAnswers s result → BringsBack s message result
 
--- the same of what an encoder of any rate was given and answered, and a decoder of its configuration
+-- a decoder that received some of an encoder's originals and of the recovery shards that it returned restores the lost originals
 abbrev pub RestoresEncoded : Type 0
 RestoresEncoded =
     (rate : Rate) (encoder : EncoderState) (recovery : List Shard) (s : DecoderState) (result : Result Shards Error)
@@ -50,7 +50,7 @@ enough_left k originals recovery =
 unfoldable pub lost_of : List Shard → Items → Shards
 lost_of shards items i = if nat_lt i (length shards) && not (list_any (λ item. nat_eq i item.0) items) then Some (shard_at shards i) else None
 
--- what a decoder answers where the originals are known: a success where shards enough are left, with exactly the lost originals, else that refusal
+-- what a decoder returns for known originals: with enough shards exactly the lost originals, else `NotEnoughShards`
 pub record GivesBack (originals : List Shard) (kept received : Items) (result : Result Shards Error) : Type 0 where
   pub answer : answer_of result ≡ enough_left (length originals) kept received
   pub restored : IfOk result (λ out. (i : ℕ) → out i ≡ lost_of originals kept i)
@@ -67,7 +67,7 @@ RestoresLeft =
 -- what one call of `encode` coded: k shards of one valid size, and these are their recovery shards at the default rate
 pub record AreCoded (k r : ℕ) (originals recovery : List Shard) : Type 0 where
   pub size : ℕ
-  pub valid : validated (default_of k r size) ≡ Ok tt
+  pub valid : validation_outcome (default_of k r size) ≡ Ok tt
   pub shards : AreShards k size originals
   pub coded : AreRecovery (default_of k r size) originals recovery
 
@@ -79,15 +79,15 @@ CodesInOneCall =
 -- one-call `encode` of k shards of a valid size is never refused, but for want of memory
 abbrev pub EncodesInOneCall : Type 0
 EncodesInOneCall =
-    (k r size : ℕ) (originals : List Shard) (result : Result (List Shard) Error) → validated (default_of k r size) ≡ Ok tt
+    (k r size : ℕ) (originals : List Shard) (result : Result (List Shard) Error) → validation_outcome (default_of k r size) ≡ Ok tt
     → length originals ≡ k → All (λ shard. length shard ≡ size) originals → OneEncodeAnswers k r originals result → IfErr result (λ e. e ≡ OutOfMemory)
 
--- what one-call `decode` answers where the originals are known: a success where shards enough are left, with exactly the lost originals, else that refusal; or out of memory
+-- what one-call `decode` returns for known originals: with enough shards exactly the lost originals, else `NotEnoughShards`; or `OutOfMemory`
 pub record OneBringsBack (originals : List Shard) (kept received : Items) (result : Result Shards Error) : Type 0 where
   pub answer : (answer_of result ≡ enough_left (length originals) kept received) ⊎ (result ≡ Err OutOfMemory)
   pub restored : IfOk result (λ out. (i : ℕ) → out i ≡ lost_of originals kept i)
 
--- from what is left of the originals and of what one-call `encode` made of them, one-call `decode` brings the lost originals back
+-- from the originals and recovery shards that are left, one-call `decode` restores the lost originals
 abbrev pub RestoresInOneCall : Type 0
 RestoresInOneCall =
     (k r : ℕ) (originals recovery : List Shard) (kept received : Items) (result : Result Shards Error)

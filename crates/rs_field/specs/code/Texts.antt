@@ -1,4 +1,4 @@
--- What a refusal is told by.
+-- The texts of errors.
 use Rattle.std.specs.Prelude.{ℕ, List, ◌++◌, codes}
 use Rattle.std.specs.Fmt.{decimal}
 use Rattle.rs_field.specs.declared.code.error.Error.{Error}

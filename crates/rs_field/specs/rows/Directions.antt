@@ -28,7 +28,7 @@ abbrev pub AreLayers : Direction → ℕ → ℕ → ℕ → (ℕ → ℕ) → (
 AreLayers Direction.Forward size n shift old new = ArePartsOf size n shift old new
 AreLayers Direction.Backward size n shift old new = ArePartsOf size n shift new old
 
--- the new words are the transform of the old ones; of a forward one only the used words are told
+-- the new words are the transform of the old ones; a forward transform fixes only the used words
 abbrev pub AreTransformed : Direction → (ℕ → Bool) → ℕ → ℕ → (ℕ → ℕ) → (ℕ → ℕ) → Type 0
 AreTransformed Direction.Forward used size shift old new = (i : ℕ) → i < size → used i ≡ true → new i ≡ forward size shift old i
 AreTransformed Direction.Backward used size shift old new = IsBackward size shift old new

@@ -2,7 +2,7 @@
 use Rattle.std.specs.Prelude.{◌≡◌, ℕ, ◌+◌, ◌*◌, ◌/◌, ◌<◌, Bool, ◌||◌, ◌==◌, if◌then◌else◌}
 use Rattle.rs_field.specs.words.Transform.{forward}
 
--- the layers of so many rows are one, between their halves; of others they are two, between their quarters
+-- whether the next layers of this many rows are one layer, between their halves, and not two, between their quarters
 unfoldable pub is_halved : ℕ → Bool
 is_halved size = size == 2 || (size == 8 || size == 32)
 

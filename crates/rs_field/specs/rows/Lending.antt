@@ -8,7 +8,7 @@ use Rattle.rs_field.specs.rows.Rows.{Chunks}
 use Rattle.rs_field.specs.declared.rows.shards.ShardsRefMut.{ShardsRefMut}
 use Rattle.rs_field.specs.contracts.rows.shards.ShardsRefMut.{the_row}
 
--- the list with other chunks in the place of the n chunks from a on
+-- the list with other chunks instead of the n chunks from a on
 abbrev pub with_run : Chunks → ℕ → ℕ → Chunks → Chunks
 with_run chunks a n run = take a chunks ++ (run ++ drop n (drop a chunks))
 
@@ -20,7 +20,7 @@ between a b chunks = take (b - a) (drop a chunks)
 abbrev pub with_two : Chunks → ℕ → ℕ → ℕ → ℕ → Chunks → Chunks → Chunks
 with_two chunks a n b m first second = take a chunks ++ (first ++ (between (a + n) b chunks ++ (second ++ drop (b + m) chunks)))
 
--- the same with the n chunks from each of four places on
+-- the list with other chunks instead of the n chunks from each of four places on
 abbrev pub with_four : Chunks → ℕ → ℕ → ℕ → ℕ → ℕ → Chunks → Chunks → Chunks → Chunks → Chunks
 with_four chunks a b c d n first second third fourth =
     take a chunks ++ (first ++ (between (a + n) b chunks ++ (second ++ (between (b + n) c chunks

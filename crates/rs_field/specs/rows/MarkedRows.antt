@@ -21,7 +21,7 @@ abbrev pub is_used : UsedRows → ℕ → Bool
 is_used (UsedRows.First count) i = nat_lt i count
 is_used (UsedRows.Marked marks) i = is_marked marks.now i
 
--- there is a mark for each of so many rows, if there are marks
+-- if there are marks, there is one for each of the n rows
 abbrev pub HasMarks : UsedRows → ℕ → Type 0
 HasMarks (UsedRows.First count) size = 0 ≤ size
 HasMarks (UsedRows.Marked marks) size = size ≤ length marks.now

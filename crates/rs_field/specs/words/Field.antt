@@ -7,13 +7,13 @@ unfoldable pub combine : List ℕ → ℕ → ℕ
 combine [] x = 0
 combine (b ∷ bs) x = bit_xor (x % 2 * b) (combine bs (x / 2))
 
--- what the words 1, 2, 4, .., 0x8000 stand for
+-- the polynomials that the words 1, 2, 4, .., 0x8000 represent
 unfoldable pub cantor_basis : List ℕ
 cantor_basis =
     0x0001 ∷ 0xACCA ∷ 0x3C0E ∷ 0x163E ∷ 0xC582 ∷ 0xED2E ∷ 0x914C ∷ 0x4012
     ∷ 0x6C98 ∷ 0x10D8 ∷ 0x6A72 ∷ 0xB900 ∷ 0xFDB8 ∷ 0xFB34 ∷ 0xFF38 ∷ 0x991E ∷ []
 
--- what a word stands for: a polynomial over the field of two elements, as the word of its coefficients
+-- the polynomial over the field of two elements that a word represents, as the word of its coefficients
 unfoldable pub bits : ℕ → ℕ
 bits x = combine cantor_basis x
 
@@ -46,9 +46,9 @@ unfoldable pub product : ℕ → ℕ → ℕ
 product x y = from_bits (reduce 16 (carryless 16 (bits x) (bits y)))
 
 -- x times itself, n times
-unfoldable pub raised : ℕ → ℕ → ℕ
-raised x zero = 1
-raised x (suc n) = product (raised x n) x
+unfoldable pub nth_power : ℕ → ℕ → ℕ
+nth_power x zero = 1
+nth_power x (suc n) = product (nth_power x n) x
 
 -- the word whose `bits` are 2
 unfoldable pub generator : ℕ
@@ -56,7 +56,7 @@ generator = 0x4690
 
 -- the generator to the power n
 unfoldable pub power : ℕ → ℕ
-power n = raised generator n
+power n = nth_power generator n
 
 -- the logarithm of a word that is not zero: the only n below 65535 whose power is the word
 unfoldable pub log : ℕ → ℕ

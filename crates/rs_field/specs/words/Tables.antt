@@ -27,8 +27,8 @@ pub record IsSkew (skew_table : List ℕ) : Type 0 where
   pub skew_entry : (d u j : ℕ) → j ≡ (2 * u + 1) * 2 ^ d → j < 65536 → slice_index skew_table (j - 1) ≡ log_or_mark (subspace d (j - 2 ^ d))
 
 -- a word times the factor with this logarithm, where 65535 marks the factor zero
-abbrev pub scaled : ℕ → ℕ → ℕ
-scaled log_m w = if log_m == 65535 then 0 else product w (power log_m)
+abbrev pub times_factor : ℕ → ℕ → ℕ
+times_factor log_m w = if log_m == 65535 then 0 else product w (power log_m)
 
 -- the Walsh-Hadamard transform of the logarithms, as residues modulo 65535, where that of 0 counts as 0
 pub record IsLogWalsh (log_walsh : List ℕ) : Type 0 where
@@ -40,7 +40,7 @@ pub record IsLogWalshBelow (n : ℕ) (log_walsh : List ℕ) : Type 0 where
   pub below_length : length log_walsh ≡ n
   pub below_entry : IsWalsh n (λ z. 65536 / n * log_or_zero z) (λ w. slice_index log_walsh w)
 
--- those for all powers of two up to 65536, one behind the other: that for n entries from entry n - 1 on
+-- the tables for all powers of two up to 65536, one after the other: the table for n entries begins at entry n - 1
 pub record AreLogWalshes (all : List ℕ) : Type 0 where
   pub all_length : length all ≡ 131071
   pub all_entry : (d : ℕ) → d ≤ 16 → IsWalsh (2 ^ d) (λ z. 65536 / 2 ^ d * log_or_zero z) (λ w. slice_index all (2 ^ d - 1 + w))

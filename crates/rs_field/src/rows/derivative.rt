@@ -27,7 +27,7 @@ pub fn formal_derivative(steps: &mut Steps, data: &mut ShardsRefMut<'_>)
     derivative_within(steps, data, 0, size);
 }
 
-// The same of the `size` rows from `pos` on, depth first. The rows of the second half are added to the first half's
+// Adds the derivative to the `size` rows from `pos` on, depth first. The rows of the second half are added to the first half's
 // sums before they are changed: they then are still the polynomial's own.
 fn derivative_within(steps: &mut Steps, data: &mut ShardsRefMut<'_>, pos: usize, size: usize)
     requires fits { Fits «data».old }

@@ -96,7 +96,7 @@ fn load_32(bytes: &[u8]) -> u8x32
     u8x32::from_slice(bytes)
 }
 
-// These places hold the bytes of a vector.
+// Stores the bytes of a vector.
 #[inline(always)]
 fn store_32(v: u8x32, places: &mut [u8])
     requires { length places.old ≡ 32 }
@@ -115,7 +115,7 @@ fn put_32(chunk: &mut [u8; 64], start: usize, v: u8x32)
     store_32(v, &mut chunk[start..start + 32]);
 }
 
-// These bytes stand from byte `start` on.
+// Writes bytes into a chunk, from byte `start` on.
 fn put_bytes(chunk: &mut [u8; 64], start: usize, bytes: &[u8])
     requires { start + length bytes.now ≤ 64 }
     ensures here { (b : ℕ) → b < length bytes.now → slice_index «chunk».new (start + b) ≡ slice_index bytes.now b }
@@ -168,7 +168,7 @@ pub fn is_zero_row(row: &[[u8; 64]], shard_bytes: usize) -> bool
         && (half == 0 || are_zero_bytes(&bytes[tail + 32..tail + 32 + half]))
 }
 
-// No way out before the last byte: so many bytes are taken at a time.
+// The loop has no way out before the last byte, so that many bytes are taken at a time.
 fn are_zero_bytes(bytes: &[u8]) -> bool
     ensures { IsTrue result ↔ EachIndex bytes.now (λ b. slice_index bytes.now b ≡ 0) }
 {

@@ -6,9 +6,9 @@ ghost use Rattle.rs_field.specs.rows.MarkedRows.{is_marked, is_used, HasMarks};
 /// hold anything but zeros.
 #[derive(Clone, Copy, Debug, PartialEq, Eq, Hash)]
 pub enum UsedRows<'a> {
-    /// The first ones, so many.
+    /// The first rows; the value is their number.
     First(usize),
-    /// Those that are marked.
+    /// The marked rows: row i is used if mark i is true.
     Marked(&'a [bool]),
 }
 
@@ -24,7 +24,7 @@ impl<'a> UsedRows<'a> {
         }
     }
 
-    /// Those among the `rows` rows from row `start` on. There are marks for all of these, if there are marks.
+    /// The used rows among the `rows` rows from row `start` on. If there are marks, there is one for each of these rows.
     pub fn part(self, start: usize, rows: usize) -> UsedRows<'a>
         requires end { start + rows < 2 ^ 64 }
         requires marks { HasMarks self (start + rows) }

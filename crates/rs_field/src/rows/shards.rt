@@ -14,7 +14,7 @@ pub struct ShardsRefMut<'a> {
     pub(crate) shard_count: usize,
     pub(crate) shard_len_64: usize,
     pub(crate) chunks: &'a mut [[u8; 64]],
-    // It takes no bytes. With it the checker reads from a row's loan what becomes of the list.
+    // The marker takes no bytes. With it, the checker reads from the loan of a row what becomes of the list of rows.
     marker: UnsafeCell<()>,
 }
 

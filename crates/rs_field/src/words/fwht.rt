@@ -58,7 +58,7 @@ fn four_sums(steps: &mut Steps, entries: [GfElement; 4]) -> [GfElement; 4]
     [first, second, third, fourth]
 }
 
-// The same for four quarters, entry by entry: one load and one store of each, where layer by layer there are two.
+// Two layers of sums and differences over four quarters, entry by entry: one load and one store of each entry instead of two.
 #[inline(always)]
 fn quarter_sums(
     steps: &mut Steps,

@@ -41,7 +41,7 @@ impl Steps {
         }
     }
 
-    // Counts so many of each.
+    // Counts these numbers of row steps, pair sums and products.
     #[inline(always)]
     fn count(&mut self, row_steps: usize, pair_sums: usize, products: usize)
         ensures { (self.new.row_steps ≡ self.old.row_steps + row_steps) × (self.new.pair_sums ≡ self.old.pair_sums + pair_sums)

@@ -191,7 +191,7 @@ fn skew_table(alloc: Global, exp_log: &ExpLog) -> Result<Vec<GfElement>, AllocEr
     Ok(table)
 }
 
-// The transforms of the logarithms of the words below each power of two, one behind the other; nothing is counted for them.
+// The transforms of the logarithms of the words below each power of two, one after the other; no step is counted for them.
 fn log_walsh_table(alloc: Global, log: Log<'_>) -> Result<Vec<GfElement>, AllocError>
     requires { IsLog log.now }
     ensures { IfOk result (λ v. AreLogWalshes v.items) }
@@ -203,7 +203,7 @@ fn log_walsh_table(alloc: Global, log: Log<'_>) -> Result<Vec<GfElement>, AllocE
     Ok(table)
 }
 
-// Puts the transform of the logarithms of the words below `points` behind those of fewer words.
+// Appends the transform of the logarithms of the words below `points` to those of fewer words.
 fn push_log_walsh(table: &mut Vec<GfElement>, log: Log<'_>, points: usize) -> Result<(), AllocError>
     requires log { IsLog log.now }
     requires power { (d : ℕ) × (points ≡ 2 ^ d) }
@@ -220,7 +220,7 @@ fn push_log_walsh(table: &mut Vec<GfElement>, log: Log<'_>, points: usize) -> Re
     Ok(())
 }
 
-// Puts the logarithms of the words below `points` behind the table's entries, each times 65536 / points: the two transforms
+// Appends the logarithms of the words below `points` to the entries of the table, each times 65536 / points: the two transforms
 // of a locator multiply by `points`, and 65536 is one modulo 65535.
 fn push_logs(table: &mut Vec<GfElement>, log: Log<'_>, points: usize) -> Result<(), AllocError>
     requires log { IsLog log.now }

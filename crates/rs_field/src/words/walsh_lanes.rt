@@ -52,7 +52,7 @@ fn layer_1(v: u16x16) -> u16x16
     )
 }
 
-// The same at distance 2.
+// Sums and differences of lanes at distance 2.
 #[inline(always)]
 fn layer_2(v: u16x16) -> u16x16
     ensures { IsLayer 2 v result }
@@ -66,7 +66,7 @@ fn layer_2(v: u16x16) -> u16x16
     )
 }
 
-// The same at distance 4.
+// Sums and differences of lanes at distance 4.
 #[inline(always)]
 fn layer_4(v: u16x16) -> u16x16
     ensures { IsLayer 4 v result }
@@ -80,7 +80,7 @@ fn layer_4(v: u16x16) -> u16x16
     )
 }
 
-// The same at distance 8.
+// Sums and differences of lanes at distance 8.
 #[inline(always)]
 fn layer_8(v: u16x16) -> u16x16
     ensures { IsLayer 8 v result }

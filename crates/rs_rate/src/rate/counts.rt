@@ -32,7 +32,7 @@ fn are_in_field(original_count: usize, recovery_count: usize) -> bool
     originals_fit && recovery_fits
 }
 
-// A choice, where a block and so many shards are no more than the points.
+// A choice of a rate, if a block and the shards beside it are no more than the points.
 fn fitting(is_low: bool, block_rows: usize, count: usize) -> Option<Choice>
     requires block { block_rows ≤ 65536 }
     requires count { count ≤ 65536 }
@@ -54,7 +54,7 @@ pub(crate) fn low_choice(original_count: usize, recovery_count: usize) -> Option
     fitting(true, power_of_two(original_count), recovery_count)
 }
 
-// The same of the high rate: blocks of the recovery shards' power of two.
+// The choice of the high rate: the rows of a block are the power of the number of recovery shards.
 pub(crate) fn high_choice(original_count: usize, recovery_count: usize) -> Option<Choice>
     ensures { result ≡ choice_of high_rate original_count recovery_count }
 {
@@ -64,7 +64,7 @@ pub(crate) fn high_choice(original_count: usize, recovery_count: usize) -> Optio
     fitting(false, power_of_two(recovery_count), original_count)
 }
 
-// The same of the default rate: the rate of the smaller blocks and, where both are the same, of the fewer shards.
+// The choice of the default rate: the rate with the smaller blocks, and if these are equal, the one made for the smaller count.
 pub(crate) fn default_choice(original_count: usize, recovery_count: usize) -> Option<Choice>
     ensures { result ≡ choice_of default_rate original_count recovery_count }
 {

@@ -9,7 +9,7 @@ ghost use Rattle.rs_field.specs.code.Decoder.{fresh_decoder, Restored, NoneAgree
 ghost use Rattle.rs_field.specs.rows.MarkedRows.{is_marked};
 ghost use Rattle.rs_rate.specs.DecoderRoom.{memory_room};
 ghost use Rattle.rs_rate.specs.Configured.{configuration_at};
-ghost use Rattle.rs_rate.specs.DecoderView.{decoder_state, restored_of, restored_from};
+ghost use Rattle.rs_rate.specs.DecoderView.{decoder_state, restored_by_rows, restored_from};
 ghost use Rattle.rs_rate.specs.Decoding.{CanBeRestored, IsLocatorOf, RestoresShards};
 ghost use Rattle.rs_rate.specs.Marks.{erased, given_marks, restored_marks, mark_count, WantsMissing};
 ghost use Rattle.rs_rate.specs.SetUp.{IsSetUp};
@@ -25,7 +25,7 @@ use rs_field::engine::layout::row_len;
 use rs_field::engine::{Engine, GfElement, ShardsRefMut, Steps};
 use rs_field::error::Error;
 
-// Restores the missing originals and answers how many they are, or refuses where no message agrees with all that is
+// Restores the missing originals and returns their number, or fails if no message agrees with all shards that are
 // given; ends the round.
 pub(crate) fn decode_rows<E: Engine>(
     engine: &E,
@@ -35,7 +35,7 @@ pub(crate) fn decode_rows<E: Engine>(
     requires enough { rows.old.shape.configuration.original_count ≤ rows.old.originals_given + rows.old.recovery_given }
     ensures state { (rate : Rate) → decoder_state rate rows.new ≡ fresh_decoder (configuration_at rate rows.old.shape.configuration) }
     ensures answer { (rate : Rate) → IsSetUp rate rows.old.shape.configuration
-        → MatchResult result (λ _. Restored (decoder_state rate rows.old) (restored_of rows.new)) (NoneAgrees (decoder_state rate rows.old)) }
+        → MatchResult result (λ _. Restored (decoder_state rate rows.old) (restored_by_rows rows.new)) (NoneAgrees (decoder_state rate rows.old)) }
     ensures counted { IfOk result (λ count. count ≡ length (restored_from rows.new 0)) }
     ensures shape { rows.new.shape ≡ rows.old.shape }
     ensures room { memory_room rows.new.memory ≡ memory_room rows.old.memory }
@@ -61,7 +61,7 @@ pub(crate) fn decode_rows<E: Engine>(
     answer
 }
 
-// Restores the missing originals in their rows where some message agrees with all that is given, and answers whether
+// Restores the missing originals in their rows if some message agrees with all that is given, and returns whether
 // one does. With all originals and nothing else given there is nothing to restore. The marks of given rows become those
 // of restored ones.
 fn restore<E: Engine>(

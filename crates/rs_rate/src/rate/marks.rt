@@ -25,7 +25,7 @@ pub struct Marks {
 }
 
 impl Marks {
-    // Of so many rows, none of them with a given shard, or `OutOfMemory`.
+    // Marks of n rows without a given shard, or `OutOfMemory`.
     pub(crate) fn new(alloc: Global, rows: usize) -> Result<Marks, Error>
         ensures empty { IfOk result (λ marks. (p : ℕ) → is_marked (given_marks marks) p ≡ false) }
         ensures length { IfOk result (λ marks. mark_count marks ≡ rows) }
@@ -38,7 +38,7 @@ impl Marks {
         })
     }
 
-    // Makes room for the marks of so many rows in all; no mark changes.
+    // Makes room for the marks of n rows in all; no mark changes.
     pub(crate) fn make_room(&mut self, rows: usize) -> Result<(), Error>
         ensures same { AreSameMarks self.old self.new }
         ensures room { OnOk result (rows ≤ mark_room self.new) }
@@ -48,7 +48,7 @@ impl Marks {
         make_room(&mut self.rows, rows)
     }
 
-    // Has so many rows, none of them with a given shard, for which there is room.
+    // Sets the marks to n rows without a given shard; there is room for them.
     #[inline(always)]
     pub(crate) fn set_empty(&mut self, rows: usize)
         requires { rows ≤ mark_room self.old }

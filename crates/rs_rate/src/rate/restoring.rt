@@ -11,7 +11,7 @@ ghost use Rattle.rs_field.specs.words.Field.{product, power};
 ghost use Rattle.rs_field.specs.rows.Layout.{row_len};
 ghost use Rattle.rs_field.specs.rows.View.{cell, word, Fits, SameExtent};
 ghost use Rattle.rs_field.specs.rows.MarkedRows.{is_marked};
-ghost use Rattle.rs_rate.specs.Decoding.{located, AreRowsOf, AreCoefficients, CanBeRestored, restore_steps, RestoresWords};
+ghost use Rattle.rs_rate.specs.Decoding.{located_word, AreRowsOf, AreCoefficients, CanBeRestored, restore_steps, RestoresWords};
 ghost use Rattle.rs_rate.specs.Marks.{given_marks, restored_marks, mark_count, WantsMissing};
 ghost use Rattle.rs_rate.specs.Shapes.{DecoderCanBeLaid, original_row};
 
@@ -23,7 +23,7 @@ use rs_field::engine::layout::is_zero_row;
 use rs_field::engine::rows::{clear_rows, mul_row_at};
 use rs_field::engine::{Engine, GF_MODULUS, GfElement, ShardsRefMut, Steps};
 
-// What a decode goes by: what its rows are set up for, how many originals are missing, and the number of the surplus.
+// What a decode depends on: what its rows are set up for, the number of missing originals, and the number of surplus shards.
 #[derive(Clone, Copy)]
 pub(crate) struct Tally {
     pub(crate) shape: DecoderShape,
@@ -31,7 +31,7 @@ pub(crate) struct Tally {
     pub(crate) surplus: usize,
 }
 
-// Restores the words of the missing originals where some message agrees with all that is given, and answers whether
+// Restores the words of the missing originals if some message agrees with all that is given, and returns whether
 // one does. The marks of given rows become those of restored ones.
 pub(crate) fn restore_rows<E: Engine>(
     engine: &E,
@@ -60,7 +60,7 @@ pub(crate) fn restore_rows<E: Engine>(
     agrees
 }
 
-// Makes of the given words the coefficients of the polynomial through the located ones, and answers whether the last
+// Replaces the given words by the coefficients of the polynomial through the located ones, and returns whether the last
 // of them, as many as surplus shards, are zero.
 fn interpolate<E: Engine>(
     engine: &E,
@@ -99,7 +99,7 @@ fn locate_rows<E: Engine>(
     requires located { length locator.now ≡ rows.old.shard_count }
     ensures extent { SameExtent rows.old rows.new }
     ensures located { (k s p : ℕ) → k < rows.old.shard_len_64 → s < 32 → p < rows.old.shard_count
-        → word rows.new k s p ≡ located given.now locator.now (word rows.old k s) p }
+        → word rows.new k s p ≡ located_word given.now locator.now (word rows.old k s) p }
     ensures cleared { (k p : ℕ) → k < rows.old.shard_len_64 → p < rows.old.shard_count → is_marked given.now p ≡ false
         → cell rows.new k p ≡ replicate 64 0 }
     ensures counts { CountsUpTo rows.old.shard_count 0 0 steps.old steps.new }

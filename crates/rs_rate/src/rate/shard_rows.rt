@@ -10,7 +10,7 @@ use rs_field::engine::Steps;
 use rs_field::engine::layout::{insert, row_len, shard_of, undo_last_chunk_encoding};
 use rs_field::error::Error;
 
-// The chunks of so many rows, where their size in bytes is a `usize`.
+// The number of chunks of n rows, if their size in bytes fits a `usize`.
 pub(crate) fn chunk_count(row_count: usize, shard_bytes: usize) -> Result<usize, Error>
     ensures { MatchResult result
         (λ n. (n ≡ chunk_count row_count shard_bytes) × (n * 64 < 2 ^ 64))
@@ -88,7 +88,7 @@ pub(crate) fn laid_out_are_bytes(chunks: &[[u8; 64]], count: usize, shard_bytes:
     are_bytes(chunks.as_flattened());
 }
 
-// The same of shards whose tails were moved.
+// Shards whose tails were moved consist of bytes.
 pub(crate) fn in_order_are_bytes(chunks: &[[u8; 64]], count: usize, shard_bytes: usize)
     requires room { chunk_count count shard_bytes ≤ length chunks.now }
     ensures { (i : ℕ) → i < count → IsShard shard_bytes (shard_in_order chunks.now shard_bytes i) }
@@ -96,7 +96,7 @@ pub(crate) fn in_order_are_bytes(chunks: &[[u8; 64]], count: usize, shard_bytes:
     are_bytes(chunks.as_flattened());
 }
 
-// The same of a shard that is given.
+// A shard that a caller passes consists of bytes.
 pub(crate) fn shard_is_bytes(shard: &[u8])
     ensures { IsShard (length shard.now) shard.now }
 {

@@ -3,25 +3,25 @@ ghost use Rattle.std.specs.Prelude.{◌≡◌, ⊤, true, false, MatchResult};
 ghost use Rattle.rs_field.specs.code.Counts.{supports};
 ghost use Rattle.rs_rate.specs.Configured.{choice_at};
 
-use crate::rate::code::{Code, DefaultCode, HighCode, LowCode};
 use crate::rate::counts::Choice;
+use crate::rate::rate_marker::{DefaultRateMarker, HighRateMarker, LowRateMarker, RateMarker};
 use rs_field::error::Error;
 use std::alloc::AllocError;
 use std::marker::PhantomData;
 
 /// Two counts that the low rate supports.
-pub type LowRateCounts = SupportedCounts<LowCode>;
+pub type LowRateCounts = SupportedCounts<LowRateMarker>;
 
 /// Two counts that the high rate supports.
-pub type HighRateCounts = SupportedCounts<HighCode>;
+pub type HighRateCounts = SupportedCounts<HighRateMarker>;
 
 /// Two counts that the default rate supports.
-pub type DefaultRateCounts = SupportedCounts<DefaultCode>;
+pub type DefaultRateCounts = SupportedCounts<DefaultRateMarker>;
 
 /// Two counts that a rate supports, checked once. Encoders and decoders that are made by `with_counts` do not check them
 /// again.
 #[derive(Debug, PartialEq, Eq, Hash)]
-pub struct SupportedCounts<C: Code> {
+pub struct SupportedCounts<C: RateMarker> {
     pub original_count: usize,
     pub recovery_count: usize,
     pub(crate) choice: Choice,
@@ -30,7 +30,7 @@ pub struct SupportedCounts<C: Code> {
     pub ghost chosen: { choice ≡ choice_at C.rate original_count recovery_count },
 }
 
-impl<C: Code> SupportedCounts<C> {
+impl<C: RateMarker> SupportedCounts<C> {
     /// Checks two counts.
     ///
     /// # Errors
@@ -56,7 +56,7 @@ impl<C: Code> SupportedCounts<C> {
     }
 }
 
-impl<C: Code> Clone for SupportedCounts<C> {
+impl<C: RateMarker> Clone for SupportedCounts<C> {
     ghost is_clone = { λ counts cloned. cloned ≡ counts };
 
     ghost is_infallible = { λ _. ⊤ };
@@ -66,4 +66,4 @@ impl<C: Code> Clone for SupportedCounts<C> {
     }
 }
 
-impl<C: Code> Copy for SupportedCounts<C> {}
+impl<C: RateMarker> Copy for SupportedCounts<C> {}

@@ -1,7 +1,7 @@
 use Rattle.std.proofs.Common.{rules, Err, IfOk}
 use Rattle.rs_field.specs.code.Counts.{default_rate}
 use Rattle.rs_field.specs.code.RoundTrip.{AreCoded}
-use Rattle.rs_field.specs.code.OneCall.{collected}
+use Rattle.rs_field.specs.code.OneCall.{collected_shards}
 use Rattle.rs_rate.specs.ObjectLaws.{is_encoder}
 use Rattle.rs_rate.specs.ResultView.{recovery_shards}
 use Rattle.rs_rate.proofs.Giving.{no-calls, always-run}
@@ -46,7 +46,7 @@ pub returns-clause-coded : goal.returns-clause-coded
 returns-clause-coded g c =
     let run = rw (c.in_ok-counts.ensures.0, c.in_ok-counts.ensures.1) at c.in_ok-encoder.ensures in
     let object = c.in_ok-encoder.encoder in
-    always-run {P = λ items. IfOk (collected c.collect_recovery.result) (AreCoded c.args.original_count c.args.recovery_count items)} (
+    always-run {P = λ items. IfOk (collected_shards c.collect_recovery.result) (AreCoded c.args.original_count c.args.recovery_count items)} (
       run.0,
       λ items begins. encoding-coded c.args.original_count c.args.recovery_count items _ (run.1 items begins) (is_encoder default_rate object.rows object.set_up)
           (recovery_shards c.in_ok-result.result) _ c.in_ok-result.ensures.answer c.collect_recovery.ensures,

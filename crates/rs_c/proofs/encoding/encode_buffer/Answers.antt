@@ -4,14 +4,14 @@ use Rattle.rs_rate.specs.ObjectLaws.{is_encoder}
 use Rattle.rs_rate.specs.ResultView.{recovery_shards}
 use Rattle.reed_solomon_simd.proofs.Giving.{always-run, lends-left}
 use Rattle.reed_solomon_simd.proofs.OneCall.{encoding-refused, encoding-answers, encoding-coded}
-use Rattle.rs_c.specs.Buffers.{cut}
+use Rattle.rs_c.specs.Buffers.{shards_in_buffer}
 use Rattle.rs_c.proofs.EncodeLemmas.{fits-length, recovery-length, encodes}
 use Rattle.rs_c.proofs.encoding.encode_buffer.Goals as goal
 
 pub returns-in_err-encoder : goal.returns-in_err-encoder
 returns-in_err-encoder c =
     let k = c.args.original_count in let r = c.args.recovery_count in
-    let shards = cut k c.args.shard_bytes c.args.originals.now in
+    let shards = shards_in_buffer k c.args.shard_bytes c.args.originals.now in
     let e = c.in_err-encoder.field-0.0 in
     encodes k r c.args.shard_bytes c.args.originals.now c.args.recovery.now _ _ (Err e) (rw (c.in_ok-counts.ensures.0, c.in_ok-counts.ensures.1) at c.in_ok-counts.counts.supported) c.in_ok-check_length.ensures c.in_ok-check_length-2.ensures
     (encoding-refused k r shards e (always-run (rw (c.in_ok-counts.ensures.0, c.in_ok-counts.ensures.1) at c.in_err-encoder.ensures) shards (lends-left (λ shard. shard.now) _ shards c.new-shards.ensures))) (search rules, refl)
@@ -19,7 +19,7 @@ returns-in_err-encoder c =
 pub returns-in_err-result : goal.returns-in_err-result
 returns-in_err-result c =
     let k = c.args.original_count in let r = c.args.recovery_count in
-    let shards = cut k c.args.shard_bytes c.args.originals.now in
+    let shards = shards_in_buffer k c.args.shard_bytes c.args.originals.now in
     let e = c.in_err-result.field-0.0 in
     let led = always-run (rw (c.in_ok-counts.ensures.0, c.in_ok-counts.ensures.1) at c.in_ok-encoder.ensures) shards (lends-left (λ shard. shard.now) _ shards c.new-shards.ensures) in
     encodes k r c.args.shard_bytes c.args.originals.now c.args.recovery.now _ _ (Err e) (rw (c.in_ok-counts.ensures.0, c.in_ok-counts.ensures.1) at c.in_ok-counts.counts.supported) c.in_ok-check_length.ensures c.in_ok-check_length-2.ensures
@@ -28,7 +28,7 @@ returns-in_err-result c =
 pub write_recovery-requires : goal.write_recovery-requires
 write_recovery-requires c =
     let k = c.args.original_count in let r = c.args.recovery_count in let size = c.args.shard_bytes in
-    let shards = cut k size c.args.originals.now in
+    let shards = shards_in_buffer k size c.args.originals.now in
     let object = c.in_ok-encoder.encoder in
     let recovery = recovery_shards c.in_ok-result.result in
     let led = always-run (rw (c.in_ok-counts.ensures.0, c.in_ok-counts.ensures.1) at c.in_ok-encoder.ensures) shards (lends-left (λ shard. shard.now) _ shards c.new-shards.ensures) in
@@ -39,7 +39,7 @@ write_recovery-requires c =
 pub returns : goal.returns
 returns c =
     let k = c.args.original_count in let r = c.args.recovery_count in
-    let shards = cut k c.args.shard_bytes c.args.originals.now in
+    let shards = shards_in_buffer k c.args.shard_bytes c.args.originals.now in
     let recovery = recovery_shards c.in_ok-result.result in
     let led = always-run (rw (c.in_ok-counts.ensures.0, c.in_ok-counts.ensures.1) at c.in_ok-encoder.ensures) shards (lends-left (λ shard. shard.now) _ shards c.new-shards.ensures) in
     encodes k r c.args.shard_bytes c.args.originals.now c.args.recovery.now _ _ (Ok recovery) (rw (c.in_ok-counts.ensures.0, c.in_ok-counts.ensures.1) at c.in_ok-counts.counts.supported) c.in_ok-check_length.ensures c.in_ok-check_length-2.ensures

@@ -3,7 +3,7 @@ use Rattle.std.proofs.lemmas.Slice.{take-put_mid}
 use Rattle.std.proofs.lemmas.List.{places}
 use Rattle.rs_field.specs.code.Column.{Shard}
 use Rattle.rs_rate.specs.ResultView.{recovery_shards}
-use Rattle.rs_c.specs.Buffers.{joined}
+use Rattle.rs_c.specs.Buffers.{concatenation}
 use Rattle.rs_c.proofs.BufferLemmas.{IsWritten, written-room, written-next}
 use Rattle.rs_c.proofs.encoding.write_recovery.Goals as goal
 
@@ -14,11 +14,11 @@ loop-shard-preserved c =
     let shard : List ℕ = c.in-Some.shard.now in
     let next : List Shard = c.next.new.self in
     let taken : c.loop-shard.shard-iterator ≡ shard ∷ next = search rules in
-    let w : IsWritten (joined (recovery_shards c.args.lent.now)) at old (shard ++ joined next) =
-    subst (λ (shards : List Shard). IsWritten (joined (recovery_shards c.args.lent.now)) at old (joined shards)) taken c.loop-shard.invariant
+    let w : IsWritten (concatenation (recovery_shards c.args.lent.now)) at old (shard ++ concatenation next) =
+    subst (λ (shards : List Shard). IsWritten (concatenation (recovery_shards c.args.lent.now)) at old (concatenation shards)) taken c.loop-shard.invariant
     in
-    let room : at + length shard ≤ length old = written-room _ at old shard (joined next) w in
+    let room : at + length shard ≤ length old = written-room _ at old shard (concatenation next) w in
     let copied : c.copy_from_slice.new.self ≡ shard = search rules in
-    written-next (joined (recovery_shards c.args.lent.now)) at (at + length shard) old _ shard (joined next) w
+    written-next (concatenation (recovery_shards c.args.lent.now)) at (at + length shard) old _ shard (concatenation next) w
     (search (rules, places)) refl
     (take-put_mid at _ old c.copy_from_slice.new.self (at + length shard) (ap (λ (x : List ℕ). at + length x) (sym copied)) w.inside ∙ ap (λ (x : List ℕ). take at old ++ x) copied)

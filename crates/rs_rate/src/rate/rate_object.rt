@@ -1,0 +1,163 @@
+//! An object over a rate and its rows. An encoder and a decoder differ in what their rows bring, and in what a round does.
+ghost use Rattle.rs_rate.specs.SetUp.{IsSetUp};
+
+use crate::rate::configuration::Configuration;
+use crate::rate::rate_marker::RateMarker;
+use crate::rate::supported_counts::SupportedCounts;
+use rs_field::engine::Engine;
+use rs_field::error::Error;
+use std::alloc::Global;
+use std::marker::PhantomData;
+
+/// What the rows of an object bring: how many they are, the state that they stand for, and the room for them.
+pub trait ObjectRows: Sized {
+    ghost use Rattle.std.specs.Prelude.{◌≡◌, ◌*◌, ◌^◌, ◌<◌, ◌≤◌, ℕ, IfOk, OnOk, OnErr};
+    ghost use Rattle.rs_field.specs.code.Configuration.{Configuration as AsDefined, UpToMemory};
+    ghost use Rattle.rs_field.specs.code.Counts.{Rate};
+    ghost use Rattle.rs_field.specs.code.Outcome.{answer_of};
+    ghost use Rattle.rs_rate.specs.declared.rate.configuration.Configuration.{Configuration};
+    ghost use Rattle.rs_rate.specs.Configured.{configuration_at, IsConfigured};
+    ghost use Rattle.rs_rate.specs.SetUp.{Answer, rows_of, set_up_outcome};
+    ghost use Rattle.rs_rate.specs.ShardRows.{chunk_count};
+
+    /// The memory that is handed on from an object before, where there is one.
+    type Work: Drop;
+
+    /// What rows can stand for.
+    ghost State: { Type 0 };
+
+    /// How much there is memory for.
+    ghost Room: { Type 0 };
+
+    /// How many rows a rate has at counts of originals and of recovery shards.
+    ghost row_count: { Rate → ℕ → ℕ → ℕ };
+
+    /// What rows are set up for.
+    ghost configuration_of: { Self → Configuration };
+
+    /// What rows stand for at a rate.
+    ghost state: { Rate → Self → State };
+
+    /// The state of a configuration with nothing given.
+    ghost fresh: { AsDefined → State };
+
+    /// The room that rows have.
+    ghost room: { Self → Room };
+
+    /// There is room for so many rows of shards of a size.
+    ghost has_room: { Room → ℕ → ℕ → Type 0 };
+
+    /// The second room is no less than the first.
+    ghost grows: { Room → Room → Type 0 };
+
+    /// The room is no less than that of the work, where one is passed.
+    ghost grows_from: { Self.Work → Room → Type 0 };
+
+    /// Where a work is passed that has room for so many rows of a size, the answer is the wanted one.
+    ghost where_roomy: { Self.Work → ℕ → ℕ → Answer → Answer → Type 0 };
+
+    /// Rows with nothing given, in the memory of `work` where one is passed.
+    fn new(alloc: Global, configuration: Configuration, work: Self::Work) -> Result<Self, Error>
+        requires { IsConfigured configuration }
+        ensures configuration { IfOk result (λ x. configuration_of x ≡ configuration) }
+        ensures state { IfOk result (λ x. (rate : Rate) → state rate x ≡ fresh (configuration_at rate configuration)) }
+        ensures answer { UpToMemory (set_up_outcome row_count configuration) (answer_of result) }
+        ensures grown { IfOk result (λ x. grows_from work (room x)) }
+        ensures roomy { where_roomy work (rows_of row_count configuration) configuration.shard_bytes (answer_of result) (set_up_outcome row_count configuration) };
+
+    /// The rows of another configuration, with nothing given: every growth first, so that a refusal leaves what was set up
+    /// and given.
+    fn reset(&mut self, configuration: Configuration) -> Result<(), Error>
+        requires { IsConfigured configuration }
+        ensures ok { OnOk result ((rate : Rate) → state rate self.new ≡ fresh (configuration_at rate configuration)) }
+        ensures err { OnErr result ((rate : Rate) → state rate self.new ≡ state rate self.old) }
+        ensures configuration { OnOk result (configuration_of self.new ≡ configuration) }
+        ensures kept { OnErr result (configuration_of self.new ≡ configuration_of self.old) }
+        ensures answer { UpToMemory (set_up_outcome row_count configuration) result }
+        ensures grown { grows (room self.old) (room self.new) }
+        ensures roomy { has_room (room self.old) (rows_of row_count configuration) configuration.shard_bytes → result ≡ set_up_outcome row_count configuration };
+
+    /// Room that stays is no less.
+    ghost stays: { (room : Room) → grows room room };
+
+    /// What is answered anyway is answered where there is room.
+    ghost anyway: { (work : Self.Work) (n size : ℕ) (answer wanted : Answer) → answer ≡ wanted → where_roomy work n size answer wanted };
+
+    /// What is set up has as many rows as the rate has.
+    ghost rows_set_up: { (rate : Rate) (c : Configuration) → IsSetUp rate c → rows_of row_count c ≡ row_count rate c.original_count c.recovery_count };
+
+    /// There is room for as many rows of no larger a size.
+    ghost own_room: { (x : Self) (size : ℕ) → size ≤ (configuration_of x).shard_bytes → let n = rows_of row_count (configuration_of x) in
+        (chunk_count n size * 64 < 2 ^ 64) × has_room (room x) n size };
+}
+
+/// An encoder or a decoder of a rate: it holds an engine, and rows that are set up for counts that the rate supports.
+#[derive(Drop)]
+pub struct RateObject<E: Engine, C: RateMarker, R: ObjectRows> {
+    pub(crate) engine: E,
+    pub(crate) rows: R,
+    code: PhantomData<C>,
+    pub ghost set_up: { IsSetUp C.rate (R.configuration_of rows) },
+}
+
+impl<E: Engine, C: RateMarker, R: ObjectRows + Drop> RateObject<E, C, R> {
+    ghost use Rattle.std.specs.Prelude.{◌≡◌, ◌≢◌, Err, IfOk, OnOk, OnErr};
+    ghost use Rattle.rs_field.specs.code.Configuration.{configuration, start_outcome, UpToMemory, FitsWithin};
+    ghost use Rattle.rs_field.specs.code.Outcome.{answer_of};
+    ghost use Rattle.rs_rate.specs.Configured.{configuration_at};
+
+    /// Makes an object with nothing added, for counts that its rate supports. If a `work` is passed, its memory is used.
+    ///
+    /// # Errors
+    ///
+    /// - [`Error::InvalidShardSize`] if `shard_bytes` is zero or odd.
+    /// - [`Error::OutOfMemory`] if the rows cannot be allocated, or if their bytes exceed `usize::MAX`.
+    #[inline(always)]
+    pub fn with_counts(
+        alloc: Global,
+        counts: SupportedCounts<C>,
+        shard_bytes: usize,
+        engine: E,
+        work: R::Work,
+    ) -> Result<RateObject<E, C, R>, Error>
+        ensures answer { let c = configuration C.rate counts.original_count counts.recovery_count shard_bytes in
+            UpToMemory (start_outcome (R.row_count C.rate c.original_count c.recovery_count) c) (answer_of result) }
+        ensures made { let c = configuration C.rate counts.original_count counts.recovery_count shard_bytes in
+            IfOk result (λ x. (R.state C.rate x.rows ≡ R.fresh c) × (x.engine ≡ engine)) }
+        ensures grown { IfOk result (λ x. R.grows_from work (R.room x.rows)) }
+        ensures roomy { let c = configuration C.rate counts.original_count counts.recovery_count shard_bytes in
+            R.where_roomy work (R.row_count C.rate c.original_count c.recovery_count) shard_bytes
+            (answer_of result) (start_outcome (R.row_count C.rate c.original_count c.recovery_count) c) }
+    {
+        let configuration = Configuration::new(counts, shard_bytes)?;
+        let rows = R::new(alloc, configuration, work)?;
+        Ok(RateObject {
+            engine,
+            rows,
+            code: PhantomData,
+        })
+    }
+
+    // The object at other counts and another size, with nothing given, or as it was.
+    #[inline(always)]
+    pub(crate) fn set_up_anew(
+        &mut self,
+        original_count: usize,
+        recovery_count: usize,
+        shard_bytes: usize,
+    ) -> Result<(), Error>
+        ensures answer { let c = configuration C.rate original_count recovery_count shard_bytes in
+            UpToMemory (start_outcome (R.row_count C.rate original_count recovery_count) c) result }
+        ensures ok { OnOk result (R.state C.rate self.new.rows ≡ R.fresh (configuration C.rate original_count recovery_count shard_bytes)) }
+        ensures err { OnErr result (R.state C.rate self.new.rows ≡ R.state C.rate self.old.rows) }
+        ensures roomy { R.has_room (R.room self.old.rows) (R.row_count C.rate original_count recovery_count) shard_bytes
+            → result ≡ start_outcome (R.row_count C.rate original_count recovery_count) (configuration C.rate original_count recovery_count shard_bytes) }
+        ensures own { FitsWithin (configuration_at C.rate (R.configuration_of self.old.rows)) (configuration C.rate original_count recovery_count shard_bytes)
+            → result ≢ Err Error.OutOfMemory }
+        ensures engine { self.new.engine ≡ self.old.engine }
+        ensures grown { R.grows (R.room self.old.rows) (R.room self.new.rows) }
+    {
+        let configuration = Configuration::at::<C>(original_count, recovery_count, shard_bytes)?;
+        self.rows.reset(configuration)
+    }
+}
