@@ -1,4 +1,4 @@
-/* Reed-Solomon erasure codes over GF(2^16), version 1.2 of the interface. docs/C.md explains how to build and use the library.
+/* Reed-Solomon erasure codes over GF(2^16), version 1.3 of the interface. docs/C.md explains how to build and use the library.
  *
  * The library turns k original shards of the same even size into r recovery shards. Any k of these k + r shards give back the missing
  * originals.
@@ -41,7 +41,7 @@ extern "C" {
 
 /* The version of this header. A library can be used with this header if rs_version() / 65536 equals RS_VERSION / 65536, and rs_version()
  * is at least RS_VERSION. */
-#define RS_VERSION 65538u
+#define RS_VERSION 65539u
 
 /* The numbers that calls return. A number never gets another meaning. A later version can add numbers. */
 enum rs_status {

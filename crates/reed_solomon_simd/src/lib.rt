@@ -14,7 +14,7 @@ mod one_call;
 mod slices;
 
 /// The version of this library.
-pub const VERSION: &str = "1.2";
+pub const VERSION: &str = "1.3";
 
 pub use decoder::ReedSolomonDecoder;
 pub use encoder::ReedSolomonEncoder;

@@ -237,7 +237,7 @@ pub extern "C" fn rs_fault_text(fault: &RsFault, text: &mut [u8]) -> usize
 /// The version of this interface: the major number times 65536, and the minor number.
 #[unsafe(no_mangle)]
 pub extern "C" fn rs_version() -> u32
-    ensures { result ≡ 65538 }
+    ensures { result ≡ 65539 }
 {
-    65538
+    65539
 }

@@ -321,7 +321,7 @@ pub fn one_array(
 
 /// Returns the version of the library.
 pub fn version() -> &'static str
-    ensures { result.now ≡ codes "1.2" }
+    ensures { result.now ≡ codes "1.3" }
 {
     VERSION
 }
