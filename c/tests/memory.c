@@ -16,6 +16,8 @@ struct tried {
 enum { TABLES = 6, ENCODE = 1, DECODE = 3 };
 
 static long requests, refused, blocks;
+/* How many bytes the blocks have, and the most that they had. */
+static size_t held, most_held;
 static char nowhere;
 
 static struct tried told(void *at) {
@@ -27,21 +29,36 @@ struct tried rattle_alloc(size_t size, size_t align);
 struct tried rattle_realloc(void *old, size_t kept, size_t size, size_t align);
 void rattle_dealloc(void *at);
 
+/* A block has its size in the 64 bytes before it. */
+static void *block_of(char *from, size_t size) {
+    if (!from) return NULL;
+    *(size_t *)from = size;
+    held += size;
+    if (held > most_held) most_held = held;
+    return from + 64;
+}
+
 struct tried rattle_alloc(size_t size, size_t align) {
     if (++requests == refused) return told(NULL);
     blocks++;
-    return told(malloc(size ? size : align));
+    size = size ? size : align;
+    return told(block_of(malloc(64 + size), size));
 }
 
 struct tried rattle_realloc(void *old, size_t kept, size_t size, size_t align) {
+    char *from = (char *)old - 64;
     (void)kept;
     if (++requests == refused) return told(NULL);
-    return told(realloc(old, size ? size : align));
+    held -= *(size_t *)from;
+    size = size ? size : align;
+    return told(block_of(realloc(from, 64 + size), size));
 }
 
 void rattle_dealloc(void *at) {
+    char *from = (char *)at - 64;
     blocks--;
-    free(at);
+    held -= *(size_t *)from;
+    free(from);
 }
 
 static void wrong(const char *what) {
@@ -158,6 +175,38 @@ static void refusals(void) {
     free(unmade);
 }
 
+/* 100 originals of 1 MiB, 30 recovery shards, and 30 originals lost: beside the tables and the shards, a call holds 4 MiB at most. */
+static void bounded(void) {
+    enum { K = 100, R = 30, SIZE = 1 << 20, MOST = 4 << 20 };
+    uint8_t *shards = malloc((size_t)(K + R) * SIZE), *restored = malloc((size_t)R * SIZE);
+    struct rs_bytes from[K];
+    struct rs_room to[R], back[R];
+    struct rs_shard own[K - R], other[R];
+    struct rs_fault fault;
+    if (!shards || !restored) wrong("no memory for the test");
+    for (size_t i = 0; i < (size_t)K * SIZE; i++) shards[i] = (uint8_t)(i * 2654435761u >> 11);
+    for (size_t i = 0; i < K; i++) from[i].bytes = shards + i * SIZE, from[i].length = SIZE;
+    for (size_t i = 0; i < R; i++) {
+        to[i].bytes = shards + (K + i) * SIZE, to[i].length = SIZE;
+        back[i].bytes = restored + i * SIZE, back[i].length = SIZE;
+        other[i].index = i, other[i].bytes = to[i].bytes, other[i].length = SIZE;
+    }
+    for (size_t i = R; i < K; i++) own[i - R].index = i, own[i - R].bytes = from[i].bytes, own[i - R].length = SIZE;
+    most_held = held;
+    if (rs_encode_shards(tables, K, R, from, K, to, R, &fault)) wrong("a long encode fails");
+    if (most_held - held > MOST) wrong("rs_encode_shards holds more than 4 MiB");
+    most_held = held;
+    if (rs_encode(tables, K, R, SIZE, shards, (size_t)K * SIZE, shards + (size_t)K * SIZE, (size_t)R * SIZE, &fault)) wrong("a long encode fails");
+    if (most_held - held > MOST) wrong("rs_encode holds more than 4 MiB");
+    most_held = held;
+    if (rs_decode_shards(tables, K, R, own, K - R, other, R, back, R, &fault)) wrong("a long decode fails");
+    if (most_held - held > MOST) wrong("rs_decode_shards holds more than 4 MiB");
+    if (memcmp(shards, restored, (size_t)R * SIZE)) wrong("a long decode restores other bytes");
+    printf("memory: calls over shards of 1 MiB hold 4 MiB at most\n");
+    free(shards);
+    free(restored);
+}
+
 /* A call that makes so many requests, with each of them refused in turn. */
 static void each(const char *name, uint32_t (*call)(void), void *written, size_t size, long number) {
     uint8_t *before = malloc(size);
@@ -204,6 +253,7 @@ int main(void) {
     each("rs_fault_text", text_made, text, sizeof text, 0);
     each("rs_supports", supports, text, sizeof text, 0);
     refusals();
+    bounded();
     free(tables);
     return 0;
 }

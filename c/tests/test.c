@@ -488,10 +488,9 @@ static void refusals(void) {
     puts("test: refusals");
 }
 
-/* Encodes, loses shards, decodes; and, with a surplus shard, damages one. */
-static void random_round(uint64_t *state) {
-    size_t k = 1 + drawn(state) % (drawn(state) % 8 ? 20 : 200), r = 1 + drawn(state) % (drawn(state) % 8 ? 20 : 200);
-    size_t size = 2 + 2 * (drawn(state) % 100), left, surplus;
+/* Encodes, loses shards, decodes. With a surplus shard it also damages one, at byte `from` or after it. */
+static void round_of(uint64_t *state, size_t k, size_t r, size_t size, size_t from) {
+    size_t left, surplus;
     struct message m = made(k, r, size);
     uint8_t *originals = room(k * size), *rubbish = room(k * size);
     struct rs_fault fault;
@@ -515,7 +514,7 @@ static void random_round(uint64_t *state) {
         size_t i;
         do i = drawn(state) % (k + r);
         while (!m.marks[i]);
-        uint8_t *byte = (i < k ? m.originals + i * size : m.recovery + (i - k) * size) + drawn(state) % size;
+        uint8_t *byte = (i < k ? m.originals + i * size : m.recovery + (i - k) * size) + from + drawn(state) % (size - from);
         *byte ^= 1;
         if (decode(&m, &fault) != RS_INCONSISTENT_SHARDS || fault.first + fault.second != left) wrong("a damaged shard isn't noticed");
         *byte ^= 1;
@@ -525,6 +524,22 @@ static void random_round(uint64_t *state) {
     free(originals);
     free(rubbish);
     let_go(&m);
+}
+
+static void random_round(uint64_t *state) {
+    size_t k = 1 + drawn(state) % (drawn(state) % 8 ? 20 : 200), r = 1 + drawn(state) % (drawn(state) % 8 ? 20 : 200);
+    round_of(state, k, r, 2 + 2 * (drawn(state) % 100), 0);
+}
+
+/* Shards about as long as the strips in which a call codes them: 4096 bytes in an encode, 2048 bytes in a decode. Surplus shards
+   are damaged in the last strip of a decode alone. */
+static void strips(uint64_t seed) {
+    static const size_t counts[][2] = {{1, 1}, {1, 5}, {5, 1}, {2, 3}, {10, 4}, {33, 31}};
+    static const size_t sizes[] = {2046, 2048, 2050, 2082, 4094, 4096, 4098, 4130, 6144, 8192, 8194, 8226};
+    for (size_t c = 0; c < sizeof counts / sizeof *counts; c++)
+        for (size_t s = 0; s < sizeof sizes / sizeof *sizes; s++)
+            for (int n = 0; n < 4; n++) round_of(&seed, counts[c][0], counts[c][1], sizes[s], (sizes[s] - 1) / 2048 * 2048);
+    puts("test: shards about as long as strips");
 }
 
 static void rounds(uint64_t seed, unsigned count) {
@@ -612,6 +627,8 @@ int main(int count, char **words) {
         rounds(strtoull(words[2], NULL, 10), (unsigned)strtoul(words[3], NULL, 10));
     else if (count == 4 && !strcmp(words[1], "pieces"))
         pieces(strtoull(words[2], NULL, 10), (unsigned)strtoul(words[3], NULL, 10));
+    else if (count == 3 && !strcmp(words[1], "strips"))
+        strips(strtoull(words[2], NULL, 10));
     else if (count == 2 && !strcmp(words[1], "threads"))
         threads();
     else
