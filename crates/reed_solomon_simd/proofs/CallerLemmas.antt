@@ -1,4 +1,4 @@
--- What a configuration is known to be, and what a decoder answers by how many shards it has.
+-- What holds of a valid configuration, and what a decoder returns for the number of shards that it has.
 use Rattle.std.proofs.Common.{◌≡◌, ℕ, ◌+◌, ◌<◌, Bool, true, cond, ap, ap₂, ◌∙◌, min, max, Ok}
 use Rattle.std.specs.Prelude.{nat_le, nat_lt, ◌&&◌, Result, Err, is_ok, IfOk, IfErr}
 use Rattle.std.proofs.lemmas.Bool.{and_parts, ltb-true, lt-ltb}
@@ -25,7 +25,7 @@ pub valid-some : (c : Configuration) → validation_outcome c ≡ Ok tt → 0 < 
 valid-some c valid =
     some_originals c.rate c.original_count c.recovery_count (valid-supported c valid)
 
--- what a decoder answers by the numbers of shards given
+-- what a decoder returns for the numbers of shards that were added
 abbrev by_counts : ℕ → ℕ → ℕ → Result (Unit {0}) Error
 by_counts k originals recovery = cond (nat_lt (originals + recovery) k) (Err (NotEnoughShards k originals recovery)) (Ok tt)
 

@@ -79,7 +79,7 @@ with-nothing i size (suc n) bytes sized =
     let more = suc-mul n size in
     ap (λ (l : List ℕ). take size bytes ++ l) (with-nothing (i + 1) size n (drop size bytes) (length-drop size bytes ∙ omega (arith, sized, more))) ∙ take-append-drop size bytes
 
--- where counts and lengths go, what one call answers is answered
+-- if counts and lengths are right, the call returns what one call returns
 pub decodes : (k r size : ℕ) (marks recovery old new : List ℕ) (answer : Result (Unit {0}) Fault) (decoded : Result Shards Error) → supports default_rate k r ≡ true → Ok tt ≡ length_outcome k size (length old)
     → Ok tt ≡ length_outcome r size (length recovery) → Ok tt ≡ length_outcome (k + r) 1 (length marks) → OneDecodeAnswers k r (marked_shards 0 size (take k marks) old) (marked_shards 0 size (drop k marks) recovery) decoded
     → Writes decoded (λ restored. with_restored restored 0 size k old) old new answer → DecodesBuffer k r size marks recovery old new answer

@@ -34,7 +34,7 @@ recovery-length (suc n) r size bytes recovery whole coded =
     let same : coded.size ≡ size = sym (coded.shards.each 0 (take size bytes) (omega arith)).length_is ∙ length-take-le size bytes (omega (arith, whole, more)) in
     length-joined coded.size recovery coded.coded.shards.each ∙ ap (λ (m : ℕ). m * coded.size) coded.coded.shards.length_is ∙ ap (λ (m : ℕ). r * m) same
 
--- where counts and lengths go, what one call answers is answered
+-- if counts and lengths are right, the call returns what one call returns
 pub encodes : (k r size : ℕ) (originals old new : List ℕ) (answer : Result (Unit {0}) Fault) (coded : Result (List Shard) Error) → supports default_rate k r ≡ true → Ok tt ≡ length_outcome k size (length originals)
     → Ok tt ≡ length_outcome r size (length old) → OneEncodeAnswers k r (shards_in_buffer k size originals) coded → Writes coded concatenation old new answer → EncodesBuffer k r size originals old new answer
 encodes k r size originals old new answer coded supported own other answers writes = rw (lengths-ok k r size (length originals) (length old) supported own other) (coded, answers, writes)

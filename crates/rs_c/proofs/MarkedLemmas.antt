@@ -29,7 +29,7 @@ note_outcome-next k i given inside below = rw (lt-leb k i inside, below i (omega
 below-next : (i : ℕ) (given : List ℕ) → IsBelow i given → IsBelow (i + 1) (i ∷ given)
 below-next i given below j h = ap (λ (b : Bool). b || list_any (nat_eq j) given) (ne_eqb j i (λ same. omega (arith, same, h))) ∙ below j (omega (arith, h))
 
--- items are noted, so many
+-- this many items are noted
 abbrev NotesAll : ℕ → List ℕ → Items → ℕ → Type 0
 NotesAll k given items count =
     (all : List ℕ) × (one_by_one (λ so_far item. note_outcome k so_far item.0) given items ≡ Ok all) × (length all ≡ length given + count)

@@ -28,7 +28,7 @@ module _ (i : ℕ) (shard : Shard) (shards left : List Shard) (rooms : List (Lis
     | inr other ↦ let told = fit-other other in absurd (let no : ⊥ = cc in no)
   ]
 
--- with no room left nothing is told
+-- without rooms there is no fault
 pub fit-end : (i : ℕ) (left : List Shard) (rooms : List (List ℕ)) → length rooms ≤ i → lengths_fit left (drop i rooms) ≡ Ok tt
 fit-end i left rooms h = ap (lengths_fit left) (drop_all i rooms h) ∙ with_none left
   where
@@ -65,7 +65,7 @@ fills-none [] answer is = (is, refl)
 fills-none (room ∷ rooms) answer is =
     let some : (0 == length (room ∷ rooms)) ≡ false = ne_eqb 0 (length (room ∷ rooms)) (λ none. omega (arith, none)) in rw some (rw some at is, refl)
 
--- behind the last shard of a map nothing is listed
+-- after the last shard of a map, the list ends
 items_below-none : (n from : ℕ) (given : Shards) → ((i : ℕ) → from ≤ i → given i ≡ None) → items_from from n given ≡ []
 items_below-none zero from given none = items_from-zero from given
 items_below-none (suc n) from given none =
@@ -79,7 +79,7 @@ items_below-longer (suc n) m from given none =
     ap (λ (l : ℕ). items_from from l given) (let e : suc n + m ≡ suc (n + m) = omega arith in e) ∙ items_from-suc from (n + m) given
     ∙ ap (λ rest. items_at from (given from) ++ rest) (items_below-longer n m (suc from) given (λ i h. none i (omega (arith, h)))) ∙ sym (items_from-suc from n given)
 
--- what a map lists is told by the map
+-- two lists of one map are equal
 pub lists-same : (given : Shards) (one other : Items) → Lists given one → Lists given other → one ≡ other
 lists-same given one other first second = elim (cases_lt first.count second.count) [
   | inl less ↦ first.in_order ∙ sym (longer first.count second.count (omega arith) first.none_past) ∙ sym second.in_order

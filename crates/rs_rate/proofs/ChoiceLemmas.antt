@@ -41,7 +41,7 @@ supported-in_field high_rate k r is = let fits = high_fits k r is in (fits.0, om
 supported-in_field default_rate k r is =
     let fits = default_fits k r is in (fits.0, omega (arith, fits.2), fits.1, omega (arith, fits.2))
 
--- a choice tells whether the counts are supported, and what the rate is at them
+-- a choice says whether the counts are supported, and whether the rate is the low rate for them
 pub choice-some : (rate : Rate) (k r : ℕ) (x : Choice) → Some x ≡ choice_of rate k r
     → (supports rate k r ≡ true) × (x ≡ choice_at rate k r)
 choice-some rate k r x some = by_support (supports rate k r) some

@@ -38,7 +38,7 @@ pub rate_configuration-by : (c : Configuration) (low : Bool) → IsConfigured c 
 rate_configuration-by c low is choice =
     (rw choice at is.supported, rw choice at is.block ∙ block-is low c.original_count c.recovery_count)
 
--- the blocks that an encoder codes: they hold so many shards, and are few
+-- the blocks that an encoder codes have places for all shards, and are few
 pub record HasBlocks (c : Configuration) (coded : ℕ) : Type 0 where
   pub some : 0 < c.block_rows
   pub few : c.block_rows + coded ≤ 65536

@@ -1,4 +1,4 @@
--- What a decode answers: by what it made of the rows, the missing originals of the only message that agrees, or that none agrees.
+-- What a decode returns, from what it made of the rows: the missing originals of the only message that agrees, or that none agrees.
 use Rattle.std.proofs.Common.{◌≡◌, ℕ, ◌+◌, ◌-◌, ◌/◌, ◌%◌, ◌^◌, ◌<◌, ◌≤◌, ◌⊎◌, List, Bool, true, false, cond, refl, sym, ap, ap₂, ◌∙◌, arith, inl, inr, subst, true≢false}
 use Rattle.std.specs.Prelude.{slice_index, Option, Some, None, is_some, not, ◌&&◌, ◌↔◌, [], Result, Ok, Err, MatchResult}
 use Rattle.std.proofs.lemmas.Bool.{cases_lt, cases_eq, lt-ltb, le-ltb}
@@ -117,7 +117,7 @@ located_at rate k r x marks locator f l hx =
     same_residue (slice_index locator x) (log_sum (2 ^ f.exponent) (erased (placement rate k r).zeros_from (placement rate k r).zeros_to marks) x)
     (subst (λ (n : ℕ). IsLocatorBelow n (erased (placement rate k r).zeros_from (placement rate k r).zeros_to marks) (λ y. slice_index locator y)) f.rows l.values x hx)
 
--- whether the last rows were zero tells whether some message agrees
+-- some message agrees exactly if the last rows are zero
 told : (rate : Rate) (k r size surplus : ℕ) (marks new : List Bool) (locator : List ℕ) (before after : Chunks) (agrees : Bool) → supports rate k r ≡ true
     → IsDecoded (decoder_shape rate k r size) marks new locator surplus before after agrees
     → IsConsistent (state_over rate (decoder_shape rate k r size) marks before) ↔ (agrees ≡ true)
@@ -188,7 +188,7 @@ agreeing rate k r size surplus marks new locator before after supported d (messa
           (λ i inside none. restored_shard rate k r size surplus i marks new locator before after message supported d agrees inside none);
     }
 
--- what a decode answers over the rows of a rate's shape
+-- what a decode returns for the rows of a rate's shape
 abbrev pub AnswersOver : Rate → DecoderShape → List Bool → List Bool → Chunks → Chunks → Bool → Type 0
 AnswersOver rate s marks new before after true = Restored (state_over rate s marks before) (restored_over s new after)
 AnswersOver rate s marks new before after false =
@@ -264,7 +264,7 @@ complete rate k r size marks new before after supported even shards all none mar
           );
         }
 
--- a decode answers by what it made of the rows
+-- what a decode returns follows from what it made of the rows
 pub decode_answers : (rate : Rate) (s : DecoderShape) (marks new : List Bool) (locator : List ℕ) (surplus : ℕ) (before after : Chunks) (agrees : Bool)
     → validation_outcome (configuration_at rate s.configuration) ≡ Ok tt → s ≡ decoder_shape rate s.configuration.original_count s.configuration.recovery_count s.configuration.shard_bytes
     → IsDecoded s marks new locator surplus before after agrees → AnswersOver rate s marks new before after agrees
@@ -288,7 +288,7 @@ complete_answers rate s marks new before after valid shaped even shards all none
     (subst (λ (t : DecoderShape). given_row_count marks t.frame.recovery_from s.configuration.recovery_count ≡ 0) shaped none)
     (subst (λ (t : DecoderShape). (i : ℕ) → i < s.configuration.original_count → is_marked new (t.frame.originals_from + i) ≡ not (is_marked marks (t.frame.originals_from + i))) shaped marked))
 
--- the answer that is told: that it is done where some message agrees, else the refusal
+-- the result: success if some message agrees, else the error
 pub told_answer : {T : Type 0} (done : T) (rate : Rate) (s : DecoderShape) (marks new : List Bool) (before after : Chunks) (o r : ℕ) (agrees : Bool) (answer : Result T Error)
     → ((agrees ≡ true) × (answer ≡ Ok done)) ⊎ ((agrees ≡ false) × (answer ≡ Err (InconsistentShards o r)))
     → o ≡ given_row_count marks s.frame.originals_from s.configuration.original_count → r ≡ given_row_count marks s.frame.recovery_from s.configuration.recovery_count

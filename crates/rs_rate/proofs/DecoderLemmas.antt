@@ -1,4 +1,4 @@
--- The shards that a decoder's rows stand for.
+-- The shards that a decoder's rows represent.
 use Rattle.std.proofs.Common.{◌≡◌, ◌≢◌, ℕ, zero, suc, ◌+◌, ◌<◌, ◌≤◌, List, [], Bool, true, false, cond, refl, sym, ap, ap₂, ◌∙◌, subst, arith, rules, inl, inr, ◌^◌}
 use Rattle.std.specs.Prelude.{◌≤◌, Option, Some, None, IfSome, is_some, nat_eq}
 use Rattle.std.proofs.lemmas.Nat.{pow_pos}
@@ -151,7 +151,7 @@ pub tally_counts : (s : DecoderShape) (tally : Tally) (marks : Marks) → tally.
     ≡ s.configuration.original_count + tally.surplus)
 tally_counts s tally marks same facts = rw (← same) (facts.missing_counted, facts.surplus_counted)
 
--- rows that hold the same shards stand for the same shards
+-- rows that hold the same chunks represent the same shards
 given-same : (old new : List Bool) (before after : Chunks) (size from n i : ℕ) → (i < n → shard_of_row new after size (from + i) ≡ shard_of_row old before size (from + i))
     → given_shards new after size from n i ≡ given_shards old before size from n i
 given-same old new before after size from n i same =

@@ -1,4 +1,4 @@
--- The rows of a decoder, and what `decode` answers and leaves.
+-- The rows of a decoder, and what `decode` returns and leaves.
 use Rattle.std.proofs.Common.{◌≡◌, ℕ, ◌+◌, refl, sym, ap, subst}
 use Rattle.std.specs.Prelude.{Result, Ok, Err, is_ok, cond, MatchResult}
 use Rattle.std.specs.Result.{result_map_both}

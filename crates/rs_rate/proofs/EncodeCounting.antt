@@ -18,7 +18,7 @@ use Rattle.rs_rate.proofs.RateLemmas.{chooses, chosen, block-is, block_alike}
 pub counts_both : (m n whole : ℕ) (a b c : Steps) → m + n ≤ whole → CountsUpTo m 0 0 a b → CountsUpTo n 0 0 b c → CountsUpTo whole 0 0 a c
 counts_both m n whole a b c le p q = counts_within (m + n) whole a c le (counts_then m n a b c p q)
 
--- so many steps for each block, and for one block more
+-- n steps for each block, and for one block more
 pub further-next : (start m step : ℕ) → 0 < m → m ≤ start → further_blocks m start * step + step ≤ further_blocks m (start + m) * step
 further-next start m step some from =
     let moved : start + m - m ≡ start - m + m = omega arith in
@@ -31,7 +31,7 @@ further-within start rows m step some within =
     let below : (start - m) / m * m ≤ start - m = div-mul-le_self (start - m) m in
     mul-le-mul_right step (le-div ((start - m) / m) (rows - m) m some (omega arith))
 
--- the rows are whole blocks, and the row steps of an encode are told by those after the first
+-- the rows are whole blocks, and the row steps of an encode follow from the number of blocks after the first
 bound-is : (low : Bool) (k r m rows : ℕ) → supports (low_or_high low) k r ≡ true → m ≡ next_power (cond low k r) → rows ≡ encoder_rows (low_or_high low) k r
     → let f = further_blocks m rows in (encode_steps_at (low_or_high low) k r ≡ (f + 2) * transform_steps m + 2 * (f * m + m)) × (rows ≡ f * m + m)
 unfolding encode_steps

@@ -81,12 +81,12 @@ Yields-further : {I A : Type 0} (steps : I → Option A → I → Type 0) (items
 Yields-further steps [] item begin iterator after gave gives = (after, subst (λ s. steps s (Some item) after) (sym gave) gives, refl)
 Yields-further steps (x ∷ items) item begin iterator after gave gives = (gave.0, gave.1, Yields-further steps items item gave.0 iterator after gave.2 gives)
 
--- an outcome of which the caller is told a success is the state that it left
+-- if the caller gets a success, the outcome is the state that was left
 pub outcome-ok : {S : Type 0} (old new : S) (outcome : Result S Error) → Ok tt ≡ answer_of outcome → new ≡ state_after old outcome → outcome ≡ Ok new
 outcome-ok old new (Ok s) told left = ap Ok (sym left)
 outcome-ok old new (Err e) told left = cc
 
--- an outcome of which the caller is told a refusal is that refusal
+-- if the caller gets an error, the outcome is this error
 pub outcome-err : {S : Type 0} (outcome : Result S Error) (e : Error) → Err e ≡ answer_of outcome → outcome ≡ Err e
 outcome-err (Ok s) e told = cc
 outcome-err (Err f) e told = cc
@@ -111,7 +111,7 @@ module _ {I A S T : Type 0} {steps : I → Option A → I → Type 0} {view : A 
             ap (one_by_one add first) (map-further view leads.taken item more) ∙ leads.led (view item ∷ more) ∙ ap (result_and_then (λ s. one_by_one add s more)) taken;
       }
 
-  -- an item that is refused decides, whatever would come after it
+  -- the first item that is refused decides the outcome, whatever comes after it
   pub leads-refused : {begin iterator after : I} {first now : S} {item : A} {e : Error} {result : Result (Unit {0}) Error} (P : S → Type 0)
       → LeadsOn steps view add begin first iterator now → steps iterator (Some item) after → add now (view item) ≡ Err e → result ≡ Err e
       → (calls : Calls steps begin) × ((items : List T) → Begins view calls items → Reaches (one_by_one add first items) result P)
@@ -155,7 +155,7 @@ module _ {S T : Type 0} (add : S → T → Result S Error) where
   pub adds-ok : (s t : S) (x : T) (xs : List T) (o : Result S Error) → add s x ≡ Ok t → one_by_one add t xs ≡ o → one_by_one add s (x ∷ xs) ≡ o
   adds-ok s t x xs o taken led = ap (result_and_then (λ next. one_by_one add next xs)) taken ∙ led
 
-  -- an add that is refused decides
+  -- an add that fails decides the outcome
   pub adds-err : (s : S) (x : T) (xs : List T) (e : Error) → add s x ≡ Err e → one_by_one add s (x ∷ xs) ≡ Err e
   adds-err s x xs e refused = ap (result_and_then (λ next. one_by_one add next xs)) refused
 
@@ -184,7 +184,7 @@ module _ {I J A B T U : Type 0} {own : I → Option A → I → Type 0} {steps :
       → (list : List T) (more : List U) → AlwaysYields own see start list → AlwaysYields steps view iterator more → P list more
   always-both {iterator} run list more yields further = run.2 list more (begins-always own see start run.0 list yields) (begins-always steps view iterator run.1 more further)
 
--- an iterator that stands for the list of what is left lends that list
+-- an iterator whose model is the list of what is left yields this list
 pub lends-left : {A B : Type 0} (view : A → B) (own list : List B) → own ≡ list → AlwaysYields (YieldsFirstBy view (λ (left : List B). left)) view own list
 lends-left view own [] is = λ item after gives. let no : ⊥ = cc in no
 lends-left view own (x ∷ xs) is = (

@@ -22,7 +22,7 @@ note_outcome-none n =
       number = sum_by-replicate (λ (b : Bool). cond b 1 0) n false ∙ omega arith;
     }
 
--- what noting an index in places answers, by the tests of its range and of its place
+-- the outcome of noting an index, by the tests of its range and of its place
 abbrev pub tested : ℕ → ℕ → Bool → Bool → Result (Unit {0}) Error
 tested count index outside taken =
     if outside then Err (InvalidOriginalShardIndex count index) else if taken then Err (DuplicateOriginalShardIndex index) else Ok tt

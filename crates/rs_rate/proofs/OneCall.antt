@@ -1,4 +1,4 @@
--- From coders that were given shards to what one call answers.
+-- From objects to which shards were added, to what one call returns.
 use Rattle.std.proofs.Common.{◌≡◌, ℕ, true, false, List, [], ◌∷◌, length, Some, None, Result, Ok, Err, IsOk, IfOk, MatchResult, inl, inr, refl, sym, ap, subst, ◌⊎◌, ◌∙◌, arith}
 use Rattle.std.proofs.lemmas.Grind.{common_steps}
 use Rattle.rs_field.specs.declared.code.error.Error.{Error}
@@ -84,7 +84,7 @@ module _ (k r : ℕ) (shards : List Shard) (s : EncoderState) (is : IsEncoding k
   led : encoding k r shards ≡ Ok s
   led = elim is [ inl same ↦ sym same | inr lacks ↦ let refused = lacks.1 in cc ]
 
-  -- what the encoder answers is that of one call
+  -- what the encoder returns is what one call returns
   pub encoding-answers : (result : Result (List Shard) Error) → EncodeAnswers s result → OneEncodeAnswers k r shards result
   encoding-answers result answers = inl (leads-on EncodeAnswers (encoding k r shards) s result led answers)
 
@@ -187,7 +187,7 @@ module _ (k r : ℕ) (originals recovery : Items) (s : DecoderState) (is : IsDec
       by_recovery [] same = let none = first-ok {S = Unit {0}} (λ _. Ok None) _ (Some s) same in let other = none.2 in absurd (let no : ⊥ = cc in no)
       by_recovery (first ∷ rest) same = let one = first-ok _ (decoding k r originals first rest) (Some s) same in let own = one.2 in (first, rest, refl, one.1 ∙ ap Ok (let e : one.0 ≡ s = cc in e))
 
-  -- what the decoder answers is that of one call
+  -- what the decoder returns is what one call returns
   pub decoding-answers : (result : Result Shards Error) → DecodeAnswers s result → OneDecodeAnswers k r originals recovery result
   decoding-answers result answers =
       let led = decoding-led in

@@ -1,4 +1,4 @@
--- A shard of either side that is added to a decoder's rows: the outcomes by the tests, and what the rows stand for then.
+-- A shard of either side that is added to a decoder's rows: the outcomes by the tests, and what the rows represent then.
 use Rattle.std.proofs.Common.{◌≡◌, ◌≢◌, ℕ, ◌+◌, ◌<◌, ◌≤◌, ◌⊎◌, List, Bool, true, false, length, refl, sym, ap, ap₂, ◌∙◌, arith, inl, inr}
 use Rattle.std.specs.Prelude.{Ok, Err, Some, is_some}
 use Rattle.std.proofs.lemmas.Bool.{lt-leb, eq-eqb, ne_eqb}
@@ -27,7 +27,7 @@ pub side-within : (w : DecoderRows) (side : Side) → side_from side w.shape + s
 side-within w Original = w.laid.places.originals
 side-within w Recovery = w.laid.places.recovery
 
--- an index of a side tells whether its row is marked
+-- a shard with this index of a side is given exactly if its row is marked
 given-at : (w : DecoderRows) (side : Side) (index row : ℕ) (given : Bool) → row ≡ side_row side w.shape index → index < side_count side w.shape
     → is_marked (given_marks w.memory.marks) row ≡ given
     → is_some (given_shards (given_marks w.memory.marks) w.memory.chunks.items w.shape.configuration.shard_bytes (side_from side w.shape) (side_count side w.shape) index) ≡ given

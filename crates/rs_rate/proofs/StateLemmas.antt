@@ -1,4 +1,4 @@
--- Outcomes of an encoder's calls, and what setting up answers.
+-- Outcomes of an encoder's calls, and of setting up.
 use Rattle.std.proofs.Common.{◌≡◌, ℕ, ◌<◌, ◌≤◌, ◌*◌, ◌^◌, ◌%◌, ◌++◌, ◌∷◌, [], length, refl, sym, ap, ap₂, ◌∙◌, subst, Bool, true, false, cond}
 use Rattle.std.specs.Prelude.{nat_le, Result, Ok, Err, OnOk, OnErr, not, ◌||◌, ◌==◌, List, nat_lt, is_ok, IsOkAnd, MatchResult}
 use Rattle.std.proofs.lemmas.Bool.{lt-leb, eq-eqb, ltb-false}
@@ -23,7 +23,7 @@ pub with_shard-added : (s : EncoderState) (shard : Shard) → length s.given < s
 with_shard-added s shard room same =
     rw (lt-leb s.configuration.original_count (length s.given) room, eq-eqb (length shard) s.configuration.shard_bytes same) refl
 
--- what setting up a valid configuration answers is what asking for memory for its chunks does
+-- the outcome of setting up a valid configuration is the outcome of allocating its chunks
 pub start_outcome-by : (rows : ℕ) (c : Configuration) (chunks : ℕ) → validation_outcome c ≡ Ok tt → chunks ≡ chunk_count rows c.shard_bytes → start_outcome rows c ≡ memory_outcome chunks
 unfolding chunk_count
 start_outcome-by rows c chunks valid is =
@@ -61,7 +61,7 @@ valid-supported c valid = by_support (supports c.rate c.original_count c.recover
     by_support true h = refl
     by_support false h = absurd (let no : ⊥ = cc in no)
 
--- an encoder that lacks originals keeps its state
+-- an encoder with missing originals keeps its state
 pub after_encode-refused : (s : EncoderState) (e : Error) → Err e ≡ answer_of (message_of s) → s ≡ after_encode s
 after_encode-refused s e refused = by_message (message_of s) refused
   where
@@ -69,11 +69,11 @@ after_encode-refused s e refused = by_message (message_of s) refused
     by_message (Ok message) h = absurd (let no : ⊥ = cc in no)
     by_message (Err f) h = refl
 
--- what `encode` answers, by the message that an encoder holds
+-- what `encode` returns for the message that an encoder holds
 abbrev AnswersOf : EncoderState → Result (List Shard) Error → Result (List Shard) Error → Type 0
 AnswersOf s m result = MatchResult m (λ message. IsOkAnd result (AreRecovery s.configuration message)) (λ e. result ≡ Err e)
 
--- and answers the refusal
+-- and returns the error
 pub encode_answers-refused : (s : EncoderState) (e : Error) → Err e ≡ answer_of (message_of s) → EncodeAnswers s (Err e)
 encode_answers-refused s e refused = by_message (message_of s) refused
   where

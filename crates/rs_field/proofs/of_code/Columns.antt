@@ -79,7 +79,7 @@ column-none j = refl
 pub columns-at : (j : ℕ) (xs : List Shard) (i : ℕ) → slice_index (columns j xs) i ≡ column j (shard_at xs i)
 columns-at j xs i = ap (λ d. get_or (columns j xs) i d) (sym (column-none j)) ∙ get_or-map (column j) xs i []
 
--- shard i of so many
+-- shard i of a list of n shards
 pub shard_in : (count size : ℕ) (shards : List Shard) → AreShards count size shards → (i : ℕ) → i < count → IsShard size (shard_at shards i)
 shard_in count size shards h i hi = h.each i [] (subst (λ (n : ℕ). i < n) (sym h.length_is) hi)
 
@@ -91,7 +91,7 @@ column_lt size s j h = grind (arith, common_steps)
 pub columns_lt : (n size : ℕ) (shards : List Shard) → AreShards n size shards → (j i : ℕ) → i < n → slice_index (columns j shards) i < 65536
 columns_lt n size shards h j i hi = search (rules, columns-at, column_lt, shard_in)
 
--- lists of so many shards of one even size with the same columns are equal
+-- two lists of n shards of one even size are equal if they have the same columns
 pub shards_from_columns : (count size : ℕ) (a b : List Shard) → AreShards count size a → AreShards count size b → size % 2 ≡ 0
     → ((i j : ℕ) → i < count → j < size / 2 → slice_index (columns j a) i ≡ slice_index (columns j b) i) → a ≡ b
 shards_from_columns count size a b ha hb even same =

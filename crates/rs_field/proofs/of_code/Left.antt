@@ -1,4 +1,4 @@
--- What is left of a list of shards, each with its index, where a test tells which are lost.
+-- What is left of a list of shards, each with its index, if a test says which ones are lost.
 use Rattle.std.proofs.Common.{rules, ◌≡◌, ℕ, ◌+◌, ◌<◌, ◌&&◌, Bool, true, false, cond, not, List, [], ◌∷◌, length, refl, sym, ap, subst, ◌∙◌, arith, nat_eq, nat_lt, Some, None, Result, IfOk, IfErr, ◌≤◌}
 use Rattle.std.specs.List.{AllByRecursion, IsDistinct, enumerate_from, filter, list_any}
 use Rattle.std.proofs.lemmas.Bool.{eqb-true, ne_eqb, eq-eqb, le-ltb, ltb-true}

@@ -1,4 +1,4 @@
--- What one-call `encode` coded, and what one-call `decode` brings back of it.
+-- What one-call `encode` coded, and what one-call `decode` restores of it.
 use Rattle.std.proofs.Common.{rules, ◌≡◌, ℕ, ◌+◌, ◌<◌, ◌≤◌, ◌++◌, ◌∷◌, ◌^◌, [], Bool, true, false, cond, not, ◌&&◌, List, length, refl, sym, ap, subst, ◌∙◌, inl, inr, arith, append_assoc, append-nil, length-append, All, nat_eq, add-zero, zero-add}
 use Rattle.std.specs.Prelude.{Result, Ok, Err, Some, None, IfOk, IfErr, IsOkAnd, MatchResult, nat_le, nat_lt}
 use Rattle.std.specs.List.{AllByRecursion, IsDistinct, list_any}
@@ -267,7 +267,7 @@ module _ (k r : ℕ) (originals recovery : List Shard) (kept : Items) (was : Are
   Begun received result begun =
       MatchResult (result_and_then (λ _. with_both (fresh_decoder (default_of k r was.size)) kept received) begun) (λ s. DecodeAnswers s result) (λ e. result ≡ Err e)
 
-  -- so it brings back what is lost, where memory can be had
+  -- so it restores what is lost, if memory can be allocated
   by_start : (received : Items) (result : Result Shards Error) → AreLeft recovery received → Begun received result (start_outcome (decoder_rows default_rate k r) (default_of k r was.size))
       → OneBringsBack originals kept received result
   by_start received result got answers =

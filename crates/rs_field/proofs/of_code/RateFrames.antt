@@ -19,7 +19,7 @@ high_frame k r fit most =
     let n = next_power-small (next_power r + k) fit in
     let room : 2 ^ n.0 ≤ 2 ^ 16 = pow_mono n.1 in (n.0, n.2, grind (arith, n.2, n.3, n.1))
 
--- what stands for the rate at these counts
+-- the rate that is used for these counts
 pub record HasFrame (rate : Rate) (k r : ℕ) : Type 0 where
   pub exponent : ℕ
   pub bound : ℕ

@@ -11,7 +11,7 @@ use Rattle.rs_field.specs.code.Decoder.{DecoderState, IsAgreeing, DecodeAnswers}
 use Rattle.rs_field.specs.code.RoundTrip.{BringsBack}
 use Rattle.std.proofs.lemmas.Grind.{common_steps}
 
--- what a decoder answers that some message agrees with
+-- what a decoder returns if some message agrees with its shards
 pub brings_back : (s : DecoderState) (message : List Shard) (result : Result Shards Error) → IsAgreeing s message → DecodeAnswers s result → BringsBack s message result
 brings_back s message result agrees answers = grind (arith, common_steps)
 

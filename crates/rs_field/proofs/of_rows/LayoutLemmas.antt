@@ -149,7 +149,7 @@ in_order-is size new old even whole low high = up_to-same size _ _ byte
               ]
         ]
 
--- byte i of what stands in a list from place a on
+-- byte i of the bytes that a list has from place a on
 pub get-rest : (s : List ℕ) (a i : ℕ) → i < length s - a → slice_index (take (length s - a) (drop a s)) i ≡ slice_index s (a + i)
 get-rest s a i h = get_or-take (length s - a) (drop a s) i 0 h ∙ get_or-drop a s i 0
 

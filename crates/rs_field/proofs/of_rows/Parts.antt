@@ -102,7 +102,7 @@ part_aligned size n shift j p aligned =
 
 -- ---- the parts one by one
 
--- a block has so many
+-- a block has this many rows
 pub parts_number : (size n : ℕ) (p : IsPart size n) → size / n ≡ p.count
 parts_number size n p = ap (λ v. v / n) p.whole ∙ mul-div_cancel p.count p.positive
 

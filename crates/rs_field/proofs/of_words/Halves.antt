@@ -1,4 +1,4 @@
--- How a transform goes by halves: the sizes, the factor in the table, and the row steps.
+-- How a transform consists of halves: the sizes, the factor in the table, and the row steps.
 use Rattle.std.proofs.lemmas.Grind.{common_steps}
 use Rattle.std.proofs.lemmas.Bool.{cases_eq, cases_lt}
 use Rattle.std.proofs.lemmas.Nat.{pow_pos, pow_below}
@@ -53,7 +53,7 @@ pub mark_word : (z : ℕ) → eqb z 0 ≡ false → log_or_mark z ≡ log z
 unfolding log_or_mark
 mark_word z e = ap (λ (b : Bool). cond b 65535 (log z)) e
 
--- what the entry of a factor stands for
+-- what the table entry of a factor represents
 pub scaled_by : (c w : ℕ) → c < 2 ^ 16 → times_factor (log_or_mark c) w ≡ product w c
 scaled_by c w hc = grind (arith, common_steps, cases_eq, mark_zero, product_zero, log_lt, mark_word, ne_eqb, power-log)
 

@@ -1,4 +1,4 @@
--- The tables of transformed logarithms: one behind the other, and that of each size.
+-- The tables of transformed logarithms: one after the other, and the table of each size.
 use Rattle.std.proofs.Common.{◌≡◌, ℕ, ◌+◌, ◌-◌, ◌*◌, ◌/◌, ◌%◌, ◌^◌, ◌<◌, ◌≤◌, List, length, take, drop, get_or, cond, sym, ap, ◌∙◌, subst, arith, inl, inr, pow-suc, pow_mono, add-one, ne_eqb, eq-eqb}
 use Rattle.std.proofs.lemmas.Bool.{cases_eq}
 use Rattle.std.proofs.lemmas.List.{length-drop, length-take-le, get_or-take, get_or-drop}
@@ -30,12 +30,12 @@ unfolding log_or_zero
 log_or_zero-some logs z h some hz =
     h.log_entry z some hz ∙ sym (ap (λ b. cond b 0 (log z)) (ne_eqb z 0 (λ none. let no : ⊥ = omega arith in no)))
 
--- the tables for so many sizes, one behind the other
+-- the tables for n sizes, one after the other
 pub record AreFirst (sizes : ℕ) (all : List ℕ) : Type 0 where
   pub first_length : length all ≡ 2 ^ sizes - 1
   pub first_entry : (d : ℕ) → d < sizes → IsWalsh (2 ^ d) (λ z. 65536 / 2 ^ d * log_or_zero z) (λ w. get_or all (2 ^ d - 1 + w) 0)
 
--- one more behind them
+-- one more table after them
 pub first-more : (sizes n : ℕ) (old new : List ℕ) → n ≡ 2 ^ sizes → AreFirst sizes old → length new ≡ length old + n
     → ((i : ℕ) → i < length old → get_or new i 0 ≡ get_or old i 0)
     → IsWalsh n (λ z. 65536 / n * log_or_zero z) (λ w. get_or new (length old + w) 0) → AreFirst (sizes + 1) new

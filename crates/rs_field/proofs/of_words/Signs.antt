@@ -1,4 +1,4 @@
--- The signs of a Walsh-Hadamard transform: how they go by halves, and that they are characters of XOR.
+-- The signs of a Walsh-Hadamard transform: the signs of its halves, and that they are characters of XOR.
 use Rattle.std.proofs.Common.{◌≡◌, ℕ, zero, suc, ◌+◌, ◌*◌, ◌/◌, ◌%◌, ◌^◌, ◌<◌, min, cond, eqb, bit_and, bit_xor, count_ones, refl, sym, ap, ◌∙◌, arith, zero-add, mod-lt, ap₂}
 use Rattle.std.proofs.lemmas.Nat.{and_comm, and_block, ones_cat, ones_le_self, xor_shr}
 use Rattle.std.proofs.lemmas.Grind.{common_steps}

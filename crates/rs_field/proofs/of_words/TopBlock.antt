@@ -11,7 +11,7 @@ use Rattle.rs_field.specs.words.Transform.{sum_below, forward}
 use Rattle.rs_field.proofs.of_words.Combination.{sum_below-suc, sum_below-zero, sum_below-add, sum_below-same, lower_half, upper_half}
 use Rattle.rs_field.proofs.of_words.Halves.{shift_half, few_halves, xor_undo}
 
--- ---- the coefficients behind many blocks
+-- ---- the coefficients after many blocks
 
 -- from coefficients of both halves of a block of points those of the block, where the subspace polynomial is c on the first half
 paired : ℕ → ℕ → (ℕ → ℕ) → (ℕ → ℕ) → ℕ → ℕ

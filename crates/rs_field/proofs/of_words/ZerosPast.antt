@@ -1,4 +1,4 @@
--- The points below 2 ^ e stand for all points: the zeros past them are divided out, or put in.
+-- The points below 2 ^ e are enough: the zeros at larger points are divided out, or put in.
 use Rattle.std.proofs.Common.{◌≡◌, ℕ, zero, suc, ◌+◌, ◌-◌, ◌^◌, ◌<◌, ◌≤◌, List, length, bit_xor, sym, ap, ◌∙◌, arith, inl, inr, pow_mono, subst}
 use Rattle.std.specs.Int.Bits.{xor_self}
 use Rattle.std.proofs.lemmas.Bool.{cases_eq}

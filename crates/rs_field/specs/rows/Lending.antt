@@ -34,7 +34,7 @@ with_chunks rows chunks = record rows { chunks = at_last rows.chunks chunks }
 abbrev pub LendsAll : MutBor ShardsRefMut → MutBor Chunks → Fml
 LendsAll rows lent = Lends (the_row (record { mir = named 1; lft = [] })) (Array (Array u8 64) 0) rows lent (with_chunks rows.now)
 
--- the n chunks from a on are lent: the last value written stands in their place, and all else is as it was
+-- the n chunks from a on are lent: afterwards they hold what was last written, and all other chunks are as before
 abbrev pub LendsRun : MutBor ShardsRefMut → ℕ → ℕ → MutBor Chunks → Fml
 LendsRun rows a n lent =
     Lends (the_row (record { mir = named 1; lft = [] })) (Array (Array u8 64) 0) rows lent
@@ -44,7 +44,7 @@ LendsRun rows a n lent =
 abbrev pub LendsRow : MutBor ShardsRefMut → ℕ → MutBor Chunks → Fml
 LendsRow rows i lent = LendsRun rows (i * rows.now.shard_len_64) rows.now.shard_len_64 lent
 
--- the n chunks from a on and the m chunks from b on are lent: what is written to each stands in its place, and all else is as it was
+-- the n chunks from a on and the m chunks from b on are lent: afterwards they hold what was written to them, and all other chunks are as before
 abbrev pub LendsTwoRuns : MutBor ShardsRefMut → ℕ → ℕ → ℕ → ℕ → MutBor Chunks × MutBor Chunks → Fml
 LendsTwoRuns rows a n b m lent =
     LendsBoth (the_row (record { mir = named 1; lft = [] })) (Array (Array u8 64) 0) (Array (Array u8 64) 0) rows lent
@@ -54,12 +54,12 @@ LendsTwoRuns rows a n b m lent =
 abbrev pub LendsTwoRows : MutBor ShardsRefMut → ℕ → ℕ → MutBor Chunks × MutBor Chunks → Fml
 LendsTwoRows rows i j lent = let n = rows.now.shard_len_64 in LendsTwoRuns rows (i * n) n (j * n) n lent
 
--- the rows before row mid are lent as a list of their own, and so are those from row mid on: what becomes of the chunks of each stands in its place
+-- the rows before row mid and the rows from row mid on are lent as two lists: afterwards the rows hold what was written to these lists
 abbrev pub LendsHalves : MutBor ShardsRefMut → ℕ → ShardsRefMut × ShardsRefMut → Fml
 LendsHalves rows mid lent =
     let n = rows.now.shard_len_64 in LendsTwoRuns rows 0 (mid * n) (mid * n) ((rows.now.shard_count - mid) * n) (lent.0.chunks, lent.1.chunks)
 
--- s ends as F v w x y, where these are the last values behind the four parts of r: `LendsBoth` for four
+-- s ends as F v w x y, where v, w, x and y are the last values of the four parts of r: `LendsBoth` for four parts
 abbrev pub LendsFour : (R T : RattleType) → MutBor R.Denot → MutBor T.Denot × MutBor T.Denot × MutBor T.Denot × MutBor T.Denot
     → (T.Denot → T.Denot → T.Denot → T.Denot → R.Denot) → Fml
 LendsFour R T s r F =

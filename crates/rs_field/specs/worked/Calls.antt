@@ -72,7 +72,7 @@ LargestIndex =
     (answer_of (with_original (fresh_decoder (default_of 1 1 2)) 18446744073709551615 (zeros 2)) ≡ Err (InvalidOriginalShardIndex 1 18446744073709551615))
     × (answer_of (with_recovery (fresh_decoder (default_of 1 1 2)) 18446744073709551615 (zeros 2)) ≡ Err (InvalidRecoveryShardIndex 1 18446744073709551615))
 
--- a want of memory stands in the place of a success, or of a later refusal of a one-call function, but never of a first refusal
+-- `OutOfMemory` can replace a success or a later error of a one-call function, but never its first errors
 abbrev pub MemoryOrder : Type 0
 MemoryOrder =
     (UpToMemory (validation_outcome (default_of 2 3 3)) (Err OutOfMemory) → ⊥) × UpToMemory (validation_outcome (default_of 2 3 2)) (Err OutOfMemory)

@@ -104,7 +104,7 @@ pair a b (suc (suc i)) = 0
 abbrev pub TransformOfTwo : Type 0
 TransformOfTwo = IsForward 2 2 4 (pair 2 4) (pair 4 0) × IsBackward 2 4 (pair 4 0) (pair 2 4)
 
--- the row steps that transforms of so many rows, and encodes and decodes at these counts, may count
+-- the row steps that transforms of these numbers of rows, and encodes and decodes for these counts, may count
 abbrev pub StepBounds : Type 0
 StepBounds =
     (map transform_steps (1 ∷ 2 ∷ 8 ∷ 65536 ∷ []) ≡ 0 ∷ 1 ∷ 12 ∷ 524288 ∷ [])

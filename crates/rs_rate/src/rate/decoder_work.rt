@@ -120,7 +120,7 @@ impl DecoderMemory {
         }
     }
 
-    // New memory that is laid out for a shape, with nothing given. Not inlined: behind the branches of its callers the
+    // New memory that is laid out for a shape, with nothing given. Not inlined: after the branches of its callers the
     // compiler takes the clearing for rare, and makes no `memset` of it. The chunks come last, since their clearing drives
     // from the cache what other requests for memory read.
     #[inline(never)]
