@@ -13,4 +13,5 @@ pub mod OneCall
 pub mod Bounds
 pub mod CodeLaws
 pub mod CountLaws
+pub mod Pieces
 pub mod RoundTrip
