@@ -11,7 +11,7 @@ pub mod Encoder
 pub mod Decoder
 pub mod OneCall
 pub mod Bounds
+pub mod Pieces
 pub mod CodeLaws
 pub mod CountLaws
-pub mod Pieces
 pub mod RoundTrip
