@@ -28,6 +28,7 @@ pub use Rattle.rs_rate.specs.DecoderRoom
 pub use Rattle.rs_rate.specs.DecoderView
 pub use Rattle.rs_rate.specs.ResultView
 pub use Rattle.rs_rate.specs.Loan
+pub mod Rooms
 pub mod EncoderObject
 pub mod DecoderObject
 pub use Rattle.rs_field.specs.code.OneCall

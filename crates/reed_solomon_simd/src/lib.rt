@@ -11,6 +11,7 @@
 mod decoder;
 mod encoder;
 mod one_call;
+pub mod rooms;
 mod slices;
 
 /// The version of this library.

@@ -11,7 +11,7 @@ use Rattle.std.proofs.lemmas.List.Elements.{All-map, All-append, All-nil, recurs
 use Rattle.std.specs.List.{AllByRecursion}
 use Rattle.rs_field.specs.declared.code.error.Error.{Error}
 use Rattle.rs_field.specs.declared.code.error.Error.TheVariants.{TooFewOriginalShards}
-use Rattle.rs_field.specs.code.Column.{Shard, column, columns, chunk_words}
+use Rattle.rs_field.specs.code.Column.{Shard, AreShards, column, columns, chunk_words}
 use Rattle.rs_field.specs.code.Encoder.{EncoderState, fresh_encoder, with_shard, after_encode}
 use Rattle.rs_field.specs.code.OneCall.{with_shards}
 use Rattle.rs_field.specs.code.Outcome.{result_and_then}
@@ -98,6 +98,34 @@ coded-further rate k r start end originals old new own before after whole kept c
           (subst (λ (words : List ℕ). AreRecoveryWords rate k r (columns (j - start / 2) (pieces start end originals)) words) (columns-pieces start end (j - start / 2) new after here)
           (further.words (j - start / 2) here)))
     ]
+
+-- where each byte is in a strip that is coded, all is coded
+pub strips-join : (c : Configuration) (message all : List Shard) → AreShards c.original_count c.shard_bytes message → AreShards c.recovery_count c.shard_bytes all
+    → ((byte : ℕ) → byte < c.shard_bytes → (start : ℕ) × (end : ℕ) × IsStrip start end c.shard_bytes × (start ≤ byte) × (byte < end)
+    × AreRecovery (configuration c.rate c.original_count c.recovery_count (end - start)) (pieces start end message) (pieces start end all))
+    → AreRecovery c message all
+strips-join c message all own made strips =
+    record {
+      shards = made;
+      words = λ j inside.
+          let found = strips (2 * j) (omega (arith, inside)) in
+          let start : ℕ = found.0 in
+          let end : ℕ = found.1 in
+          let strip : IsStrip start end c.shard_bytes = found.2 in
+          let after : start ≤ 2 * j = found.3 in
+          let before : 2 * j < end = found.4 in
+          let coded : AreRecovery (configuration c.rate c.original_count c.recovery_count (end - start)) (pieces start end message) (pieces start end all) = found.5 in
+          let whole : start % 64 ≡ 0 = strip.begins in
+          let ends : j < end / 2 = elim strip.ends [ inl even ↦ omega (arith, even, before) | inr last ↦ omega (arith, last, inside) ] in
+          let here : j - start / 2 < (end - start) / 2 = omega (arith, whole, after, ends) in
+          let place : start / 2 + (j - start / 2) ≡ j = omega (arith, whole, after) in
+          subst (λ (i : ℕ). AreRecoveryWords c.rate c.original_count c.recovery_count (columns i message) (columns i all)) place
+          (subst (λ (words : List ℕ). AreRecoveryWords c.rate c.original_count c.recovery_count words (columns (start / 2 + (j - start / 2)) all))
+          (columns-pieces start end (j - start / 2) message (λ i d h. subst (λ (n : ℕ). IsStrip start end n) (sym (own.each i d h).length_is) strip) here)
+          (subst (λ (words : List ℕ). AreRecoveryWords c.rate c.original_count c.recovery_count (columns (j - start / 2) (pieces start end message)) words)
+          (columns-pieces start end (j - start / 2) all (λ i d h. subst (λ (n : ℕ). IsStrip start end n) (sym (made.each i d h).length_is) strip) here)
+          (coded.words (j - start / 2) here)));
+    }
 
 -- ---- rooms
 

@@ -4,7 +4,7 @@ use Rattle.std.specs.Prelude.{Some, None, is_some, unwrap_or, not, ◌&&◌, nat
 use Rattle.std.specs.List.{between}
 use Rattle.std.specs.Option.{option_map}
 use Rattle.std.proofs.Math.Path.{fun_ext}
-use Rattle.std.proofs.Math.Seq.{take-add}
+use Rattle.std.proofs.Math.Seq.{take-add, take-append-add, take-append_seam}
 use Rattle.std.proofs.lemmas.Bool.{cases_lt, lt-ltb, le-ltb, le-leb, lt-leb}
 use Rattle.std.proofs.lemmas.List.{get_or-map, length-map, length-append, length-take, length-take-le, take_all}
 use Rattle.rs_field.specs.declared.code.error.Error.{Error}
@@ -15,8 +15,8 @@ use Rattle.rs_field.specs.code.Counts.{Rate, supports}
 use Rattle.rs_field.specs.code.Decoder.{DecoderState, IsDecoder, IsAgreeing, originals_given, recovery_given, enough_given, missing_of, Restored, NoneAgrees}
 use Rattle.rs_field.specs.code.Given.{Shards, AreWithin, Consistent, Lists, listed, count_below}
 use Rattle.rs_field.specs.code.OneCall.{Items}
-use Rattle.rs_field.specs.code.Pieces.{pieces, IsStrip}
-use Rattle.rs_field.specs.code.PieceStates.{pieces_of, state_of_pieces, shards_listed, ArePutFrom, HoldRestored}
+use Rattle.rs_field.specs.code.Pieces.{pieces, IsStrip, ArePut}
+use Rattle.rs_field.specs.code.PieceStates.{pieces_of, state_of_pieces, shards_listed, HoldRestored}
 use Rattle.rs_field.specs.code.Placement.{Placement, placement}
 use Rattle.rs_field.proofs.of_code.Agreement.{one_message}
 use Rattle.rs_field.proofs.of_code.AgreeingMessages.{AreSized, HasWords}
@@ -188,6 +188,15 @@ pub record IsRestoredBelow (s : DecoderState) (bound : ℕ) (rooms : List Shard)
   pub long : (i : ℕ) → i < length rooms → bound ≤ length (get_or rooms i [])
   pub held : (message : List Shard) → IsAgreeing s message → (i : ℕ) → i < length rooms → take bound (get_or rooms i []) ≡ take bound (get_or (missing_shards s message) i [])
 
+-- the first bytes and a piece after them, once both are joined
+take-joined : (start : ℕ) (old piece rest : Shard) → start ≤ length old
+    → take (start + length piece) (take start old ++ (piece ++ rest)) ≡ take start old ++ piece
+take-joined start old piece rest inside =
+    let front = length-take-le start old inside in
+    ap (λ (n : ℕ). take (n + length piece) (take start old ++ (piece ++ rest))) (sym front)
+    ∙ take-append-add (take start old) (piece ++ rest) (length piece)
+    ∙ ap (λ (l : Shard). take start old ++ l) (take-append_seam piece rest)
+
 -- at first no strip is
 pub restored-none : (s : DecoderState) (rooms : List Shard) → length rooms + originals_given s ≡ s.configuration.original_count → IsRestoredBelow s 0 rooms
 restored-none s rooms number =
@@ -228,7 +237,7 @@ module _ (s : DecoderState) (start end : ℕ) (out : Shards) (items : Items) (st
       ∙ listed-changed (λ x. between start end x) k 0 (missing_of s message)
 
   -- so once they are put, one strip more is restored
-  pub restored-further : (old new : List Shard) → ArePutFrom start (shards_listed items) old new → IsRestoredBelow s start old → IsRestoredBelow s end new
+  pub restored-further : (old new : List Shard) → ArePut start end (shards_listed items) old new → IsRestoredBelow s start old → IsRestoredBelow s end new
   restored-further old new put before =
       let c = s.configuration in
       let number = length-map items (λ item. item.1) in
@@ -236,15 +245,16 @@ module _ (s : DecoderState) (start end : ℕ) (out : Shards) (items : Items) (st
       let size : (i : ℕ) → i < length old → start + length (get_or (shards_listed items) i []) ≡ end = (λ i h.
       let piece = pieces-sized i [] (omega (arith, number, all, before.number, h)) in omega (arith, piece, strip.order)) in
       let at : (i : ℕ) → i < length old → take end (get_or new i []) ≡ take start (get_or old i []) ++ get_or (shards_listed items) i [] =
-      (λ i h. ap (λ (n : ℕ). take n (get_or new i [])) (sym (size i h)) ∙ put.put i h) in
+      (λ i h. ap₂ (λ (n : ℕ) (x : Shard). take n x) (sym (size i h)) (put.1 i h)
+      ∙ take-joined start (get_or old i []) (get_or (shards_listed items) i []) (drop end (get_or old i [])) (before.long i h)) in
       record {
         consistent = λ j inside. elim (cases_lt j (start / 2)) [
           | inl low ↦ before.consistent j low
           | inr high ↦ (start, end, strip, high, inside, (restored.message, restored.agrees))
         ];
-        number = ap (λ (n : ℕ). n + originals_given s) put.number ∙ before.number;
+        number = ap (λ (n : ℕ). n + originals_given s) put.0 ∙ before.number;
         long = λ i h.
-            let here : i < length old = omega (arith, h, put.number) in
+            let here : i < length old = omega (arith, h, put.0) in
             let long = before.long i here in
             let front = length-take-le start (get_or old i []) long in
             let both = length-append (take start (get_or old i [])) (get_or (shards_listed items) i []) in
@@ -253,7 +263,7 @@ module _ (s : DecoderState) (start end : ℕ) (out : Shards) (items : Items) (st
             let e = size i here in
             omega (arith, front, both, whole, most, e);
         held = λ message agrees i h.
-            let here : i < length old = omega (arith, h, put.number) in
+            let here : i < length old = omega (arith, h, put.0) in
             let n = missing-number s message in
             let shard : Shard = get_or (missing_shards s message) i [] in
             let cut : get_or (shards_listed items) i [] ≡ take (end - start) (drop start (get_or (missing_shards s message) i [])) =

@@ -1,5 +1,5 @@
 -- Decoders that are given pieces of shards, and rooms for what they restore.
-use Rattle.std.specs.Prelude.{◌≡◌, ℕ, ◌+◌, ◌-◌, ◌<◌, ◌++◌, List, [], length, map, take, slice_index_or}
+use Rattle.std.specs.Prelude.{◌≡◌, ℕ, ◌-◌, ◌<◌, List, [], length, map, take, slice_index_or}
 use Rattle.std.specs.List.{between}
 use Rattle.std.specs.Option.{option_map}
 use Rattle.rs_field.specs.code.Column.{Shard}
@@ -24,12 +24,6 @@ state_of_pieces start end s =
 -- the shards of listed items
 abbrev pub shards_listed : Items → List Shard
 shards_listed items = map (λ item. item.1) items
-
--- a piece was put into each room from a byte on; the bytes before it are as they were
-pub record ArePutFrom (start : ℕ) (made old new : List Shard) : Type 0 where
-  pub number : length new ≡ length old
-  pub put : (i : ℕ) → i < length old
-      → take (start + length (slice_index_or made i [])) (slice_index_or new i []) ≡ take start (slice_index_or old i []) ++ slice_index_or made i []
 
 -- rooms hold the restored originals in order of index, each in the room's first bytes
 pub record HoldRestored (s : DecoderState) (rooms : List Shard) : Type 0 where
