@@ -6,6 +6,7 @@ pub mod ObjectLaws
 pub use Rattle.rs_rate.proofs.Giving
 pub use Rattle.rs_rate.proofs.OneCall
 pub mod Collecting
+pub mod ReceivedLemmas
 pub mod CallerLemmas
 pub mod ObjectRoundTrip
 pub use Rattle.rs_field.proofs.of_code.Given

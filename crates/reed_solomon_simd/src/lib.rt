@@ -11,6 +11,8 @@
 mod decoder;
 mod encoder;
 mod one_call;
+pub mod received_shards;
+pub mod receiving;
 pub mod rooms;
 mod slices;
 
