@@ -13,6 +13,7 @@ mod encoder;
 mod one_call;
 pub mod rooms;
 mod slices;
+pub mod strip_encoder;
 
 /// The version of this library.
 pub const VERSION: &str = "1.2";
