@@ -8,6 +8,7 @@ pub use Rattle.rs_rate.proofs.OneCall
 pub mod Collecting
 pub mod CallerLemmas
 pub mod ObjectRoundTrip
+pub mod StripLemmas
 pub use Rattle.rs_field.proofs.of_code.Given
 pub use Rattle.rs_field.proofs.of_code.Listed
 pub use Rattle.rs_field.proofs.of_code.Entries
