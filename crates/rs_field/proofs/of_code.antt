@@ -20,6 +20,8 @@ pub mod EqualPowers
 pub mod AgreeingMessages
 pub mod Pieces
 pub mod PieceStates
+pub mod ListedMaps
+pub mod RestoredBelow
 pub mod Agreement
 pub mod Changes
 pub mod Entries

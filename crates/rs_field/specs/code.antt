@@ -14,4 +14,5 @@ pub mod Bounds
 pub mod Pieces
 pub mod CodeLaws
 pub mod CountLaws
+pub mod PieceStates
 pub mod RoundTrip

@@ -15,7 +15,7 @@ mod low_encoding;
 mod marks;
 mod memory;
 pub mod names;
-mod originals_alone;
+pub mod originals_alone;
 mod restoring;
 pub mod rounds;
 mod shard_rows;

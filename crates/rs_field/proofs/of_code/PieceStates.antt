@@ -15,20 +15,8 @@ use Rattle.rs_field.specs.code.Given.{Shards, Agrees, Consistent}
 use Rattle.rs_field.specs.code.Placement.{placement}
 use Rattle.rs_field.proofs.of_code.AgreeingMessages.{AreSized, HasWords, IsTaken, column_taken, consistent}
 use Rattle.rs_field.specs.code.Pieces.{pieces, IsStrip}
+use Rattle.rs_field.specs.code.PieceStates.{pieces_of, state_of_pieces}
 use Rattle.rs_field.proofs.of_code.Pieces.{column-piece, columns-pieces}
-
--- the pieces of given shards
-abbrev pub pieces_of : ℕ → ℕ → Shards → Shards
-pieces_of start end given = λ i. option_map (λ s. between start end s) (given i)
-
--- a decoder that was given the pieces
-abbrev pub state_of_pieces : ℕ → ℕ → DecoderState → DecoderState
-state_of_pieces start end s =
-    record {
-      configuration = configuration s.configuration.rate s.configuration.original_count s.configuration.recovery_count (end - start);
-      originals = pieces_of start end s.originals;
-      recovery = pieces_of start end s.recovery;
-    }
 
 module _ (start end : ℕ) where
   none : ◌≡◌ {A = Shard} (between start end []) []
@@ -92,7 +80,7 @@ module _ (start end : ℕ) where
         );
       }
 
-  is_some-map : (o : Option Shard) → is_some (option_map (λ s. between start end s) o) ≡ is_some o
+  pub is_some-map : (o : Option Shard) → is_some (option_map (λ s. between start end s) o) ≡ is_some o
   is_some-map (Some s) = refl
   is_some-map None = refl
 
