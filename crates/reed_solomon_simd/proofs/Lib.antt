@@ -9,6 +9,7 @@ pub mod Collecting
 pub mod ReceivedLemmas
 pub mod CallerLemmas
 pub mod ObjectRoundTrip
+pub mod StripLemmas
 pub use Rattle.rs_field.proofs.of_code.Given
 pub use Rattle.rs_field.proofs.of_code.Listed
 pub use Rattle.rs_field.proofs.of_code.Entries

@@ -1,11 +1,7 @@
 -- Rooms for shards that are written strip by strip.
-use Rattle.std.specs.Prelude.{ℕ, Bool, if◌then◌else◌, List, map}
+use Rattle.std.specs.Prelude.{ℕ, List, map}
 use Rattle.std.specs.Borrow.{Bor, MutBor}
 use Rattle.rs_field.specs.code.Column.{Shard}
-
--- how long a room is that has the first bytes of a shard: as long as they are where rooms grow, else as long as the shard
-abbrev pub room_length : Bool → ℕ → ℕ → ℕ
-room_length grows written size = if grows then written else size
 
 -- the shards that an array leads to
 abbrev pub shards_of : List (Bor Shard) → List Shard

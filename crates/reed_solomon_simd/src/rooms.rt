@@ -7,7 +7,7 @@ use rs_field::error::Error;
 pub trait Rooms {
     ghost use Rattle.std.specs.Prelude.{◌≡◌, ◌≢◌, ℕ, Bool, true, List, [], ◌++◌, ◌<◌, ◌≤◌, ◌+◌, length, take, drop, Err, OnOk, OnErr, slice_index_or};
     ghost use Rattle.rs_field.specs.code.Column.{Shard};
-    ghost use Rattle.reed_solomon_simd.specs.Rooms.{room_length};
+    ghost use Rattle.rs_field.specs.code.Pieces.{room_length};
 
     /// What each room holds.
     ghost held: { Self → List Shard };

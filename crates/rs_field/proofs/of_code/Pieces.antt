@@ -1,5 +1,5 @@
 -- Pieces of shards: their columns are columns of the shards, so what codes each piece codes the shards.
-use Rattle.std.proofs.Common.{◌≡◌, ◌⊎◌, ℕ, suc, ◌+◌, ◌-◌, ◌*◌, ◌/◌, ◌%◌, ◌<◌, ◌≤◌, List, [], ◌∷◌, ◌++◌, length, take, drop, map, get_or, min, Bool, cond, refl, sym, ap, ap₂, ◌∙◌, subst, inl, inr, arith, All}
+use Rattle.std.proofs.Common.{◌≡◌, ◌⊎◌, ℕ, suc, ◌+◌, ◌-◌, ◌*◌, ◌/◌, ◌%◌, ◌<◌, ◌≤◌, List, [], ◌∷◌, ◌++◌, length, take, drop, map, get_or, min, Bool, true, false, cond, refl, sym, ap, ap₂, ◌∙◌, subst, inl, inr, arith, All}
 use Rattle.std.specs.List.{between}
 use Rattle.std.proofs.Math.Nat.{min-eq_left, min-eq_right}
 use Rattle.std.proofs.lemmas.Bool.{cases_lt}
@@ -19,7 +19,7 @@ use Rattle.rs_field.specs.code.Configuration.{Configuration, configuration}
 use Rattle.rs_field.specs.code.Counts.{Rate}
 use Rattle.rs_field.specs.code.Code.{AreRecovery, AreRecoveryWords}
 use Rattle.rs_field.proofs.of_code.Columns.{column-at, column-chunk}
-use Rattle.rs_field.specs.code.Pieces.{pieces, heads, IsStrip, AreCodedBelow, ArePut}
+use Rattle.rs_field.specs.code.Pieces.{pieces, heads, IsStrip, AreCodedBelow, ArePut, room_length}
 
 -- a column of the first chunks
 pub column-head : (a j : ℕ) (s : Shard) → a % 64 ≡ 0 → a ≤ length s → j < a / 2 → column j (take a s) ≡ column j s
@@ -80,14 +80,14 @@ columns-heads a j (s ∷ xs) whole room inside =
 
 -- where the heads are as they were, and the strips behind them are coded, more is coded
 pub coded-further : (rate : Rate) (k r start end : ℕ) (originals old new : List Shard) → All (λ s. IsStrip start end (length s)) originals
-    → All (λ s. IsStrip start end (length s)) old → All (λ s. IsStrip start end (length s)) new → start % 64 ≡ 0 → heads start new ≡ heads start old
+    → All (λ s. start ≤ length s) old → All (λ s. IsStrip start end (length s)) new → start % 64 ≡ 0 → heads start new ≡ heads start old
     → AreCodedBelow rate k r start originals old → AreRecovery (configuration rate k r (end - start)) (pieces start end originals) (pieces start end new)
     → AreCodedBelow rate k r end originals new
 coded-further rate k r start end originals old new own before after whole kept coded further j inside =
     elim (cases_lt j (start / 2)) [
       | inl low ↦
           let same : columns j old ≡ columns j new =
-          sym (columns-heads start j old whole (λ i d h. (let s = before i d h in omega (arith, s.order, s.inside))) low) ∙ sym (ap (columns j) kept)
+          sym (columns-heads start j old whole before low) ∙ sym (ap (columns j) kept)
           ∙ columns-heads start j new whole (λ i d h. (let s = after i d h in omega (arith, s.order, s.inside))) low in
           subst (λ (words : List ℕ). AreRecoveryWords rate k r (columns j originals) words) same (coded j low)
       | inr high ↦
@@ -129,7 +129,7 @@ strips-join c message all own made strips =
 
 -- ---- rooms
 
-module _ (start end : ℕ) (made old new : List Shard) (put : ArePut start end made old new) (order : start ≤ end) (inside : All (λ s. end ≤ length s) old)
+module _ (start end : ℕ) (made old new : List Shard) (put : ArePut start end made old new) (order : start ≤ end) (inside : All (λ s. start ≤ length s) old)
     (number : length made ≡ length old) (sized : All (λ s. length s ≡ end - start) made) where
   at : (i : ℕ) → i < length old → get_or new i [] ≡ take start (get_or old i []) ++ (get_or made i [] ++ drop end (get_or old i []))
   at = put.1
@@ -138,17 +138,16 @@ module _ (start end : ℕ) (made old new : List Shard) (put : ArePut start end m
   long i h = sized i [] (omega (arith, number, h))
 
   front : (i : ℕ) → i < length old → length (take start (get_or old i [])) ≡ start
-  front i h = length-take-le start (get_or old i []) (let room = inside i [] h in omega (arith, room, order))
+  front i h = length-take-le start (get_or old i []) (inside i [] h)
 
-  -- each room is as long as it was
-  pub put-length : (i : ℕ) → i < length old → length (get_or new i []) ≡ length (get_or old i [])
+  -- each room ends where it did, or with the piece
+  pub put-length : (i : ℕ) → i < length old → length (get_or new i []) ≡ end + (length (get_or old i []) - end)
   put-length i h =
-      let room = inside i [] h in
       let first = front i h in
       let piece = long i h in
       let back = length-drop end (get_or old i []) in
       let all = simp length-append at (ap length (at i h)) in
-      omega (arith, all, first, piece, back, room, order)
+      omega (arith, all, first, piece, back, order)
 
   -- before the pieces rooms hold what they held
   pub put-heads : heads start new ≡ heads start old
@@ -211,31 +210,53 @@ is_last start size begins less =
       ends = inr refl;
     }
 
--- as many rooms as recovery shards, each of the size, hold the recovery shards' first bytes
-pub record IsDone (k r size end : ℕ) (rate : Rate) (originals rooms : List Shard) : Type 0 where
+-- a room that holds more than what it is to hold holds that
+pub room-from : (grows : Bool) (written size : ℕ) → written ≤ size → written ≤ room_length grows written size
+room-from true written size inside = omega arith
+room-from false written size inside = inside
+
+-- what a room's length becomes by a strip
+pub room-further : (grows : Bool) (start end size : ℕ) → start ≤ end → end ≤ size → end + (room_length grows start size - end) ≡ room_length grows end size
+room-further true start end size order inside = omega (arith, order)
+room-further false start end size order inside = omega (arith, inside)
+
+-- a strip of a shard is one of a room that ends with it
+pub room-strip : (grows : Bool) (start end size : ℕ) → IsStrip start end size → IsStrip start end (room_length grows end size)
+room-strip true start end size strip = record { order = strip.order; inside = omega arith; begins = strip.begins; ends = inr refl }
+room-strip false start end size strip = strip
+
+-- at the end a room is as long as its shard
+pub room-whole : (grows : Bool) (size : ℕ) → room_length grows size size ≡ size
+room-whole true size = refl
+room-whole false size = refl
+
+-- as many rooms as recovery shards hold the recovery shards' first bytes
+pub record IsDone (k r size end : ℕ) (grows : Bool) (rate : Rate) (originals rooms : List Shard) : Type 0 where
   pub number : length rooms ≡ r
-  pub fit : All (λ s. length s ≡ size) rooms
+  pub fit : All (λ s. length s ≡ room_length grows end size) rooms
   pub coded : AreCodedBelow rate k r end originals rooms
   pub bytes : All (All (λ b. b < 256)) (heads end rooms)
 
 -- a strip more is done
-pub done-further : (rate : Rate) (k r size start end : ℕ) (originals made old new : List Shard) → IsStrip start end size → All (λ s. length s ≡ size) originals
-    → IsDone k r size start rate originals old → AreRecovery (configuration rate k r (end - start)) (pieces start end originals) made → ArePut start end made old new
-    → IsDone k r size end rate originals new
-done-further rate k r size start end originals made old new strip sized done recovery put =
-    let inside : All (λ s. end ≤ length s) old = (λ i d h. let n = done.fit i d h in omega (arith, n, strip.inside)) in
+pub done-further : (grows : Bool) (rate : Rate) (k r size start end : ℕ) (originals made old new : List Shard) → IsStrip start end size → All (λ s. length s ≡ size) originals
+    → IsDone k r size start grows rate originals old → AreRecovery (configuration rate k r (end - start)) (pieces start end originals) made → ArePut start end made old new
+    → IsDone k r size end grows rate originals new
+done-further grows rate k r size start end originals made old new strip sized done recovery put =
+    let inside : All (λ s. start ≤ length s) old = (λ i d h.
+    let n = done.fit i d h in let from = room-from grows start size (let le : start ≤ size = omega (arith, strip.order, strip.inside) in le) in omega (arith, n, from)) in
     let number : length made ≡ length old = recovery.shards.length_is ∙ sym done.number in
     let long : All (λ s. length s ≡ end - start) made = (λ i d h. (recovery.shards.each i d h).length_is) in
-    let fit : All (λ s. length s ≡ size) new = (λ i d h.
+    let fit : All (λ s. length s ≡ room_length grows end size) new = (λ i d h.
     let here : i < length old = omega (arith, h, put.0) in
-    ap length (get_or_default new i d [] h) ∙ put-length start end made old new put strip.order inside number long i here ∙ done.fit i [] here) in
+    ap length (get_or_default new i d [] h) ∙ put-length start end made old new put strip.order inside number long i here
+    ∙ ap (λ (n : ℕ). end + (n - end)) (done.fit i [] here) ∙ room-further grows start end size strip.order strip.inside) in
     record {
       number = put.0 ∙ done.number;
       fit = fit;
       coded = coded-further rate k r start end originals old new
           (λ i d h. subst (λ (n : ℕ). IsStrip start end n) (sym (sized i d h)) strip)
-          (λ i d h. subst (λ (n : ℕ). IsStrip start end n) (sym (done.fit i d h)) strip)
-          (λ i d h. subst (λ (n : ℕ). IsStrip start end n) (sym (fit i d h)) strip)
+          inside
+          (λ i d h. subst (λ (n : ℕ). IsStrip start end n) (sym (fit i d h)) (room-strip grows start end size strip))
           strip.begins (put-heads start end made old new put strip.order inside number long) done.coded
           (subst (λ (l : List Shard). AreRecovery (configuration rate k r (end - start)) (pieces start end originals) l)
           (sym (put-pieces start end made old new put strip.order inside number long)) recovery);
@@ -243,8 +264,9 @@ done-further rate k r size start end originals made old new strip sized done rec
     }
 
 -- at first nothing is to be done
-pub done-none : (rate : Rate) (k r size : ℕ) (originals rooms : List Shard) → length rooms ≡ r → All (λ s. length s ≡ size) rooms → IsDone k r size 0 rate originals rooms
-done-none rate k r size originals rooms number fit =
+pub done-none : (grows : Bool) (rate : Rate) (k r size : ℕ) (originals rooms : List Shard) → length rooms ≡ r → All (λ s. length s ≡ room_length grows 0 size) rooms
+    → IsDone k r size 0 grows rate originals rooms
+done-none grows rate k r size originals rooms number fit =
     record {
       number = number;
       fit = fit;
@@ -253,17 +275,71 @@ done-none rate k r size originals rooms number fit =
     }
 
 -- where all is done the rooms hold the recovery shards
-pub done-all : (rate : Rate) (k r size : ℕ) (originals rooms : List Shard) → IsDone k r size size rate originals rooms → AreRecovery (configuration rate k r size) originals rooms
-done-all rate k r size originals rooms done =
+pub done-all : (grows : Bool) (rate : Rate) (k r size : ℕ) (originals rooms : List Shard) → IsDone k r size size grows rate originals rooms
+    → AreRecovery (configuration rate k r size) originals rooms
+done-all grows rate k r size originals rooms done =
     record {
       shards = record {
         length_is = done.number;
-        each = λ i d h. record {
-          length_is = done.fit i d h;
-          bytes = subst (λ (s : Shard). All (λ b. b < 256) s)
-              (get_or-map (λ (s : Shard). take size s) rooms i d d h ∙ take_all size (get_or rooms i d) (let n = done.fit i d h in omega (arith, n)))
-              (done.bytes i d (let n = length-map rooms (λ (s : Shard). take size s) in omega (arith, h, n)));
-        };
+        each = λ i d h.
+            let long : length (get_or rooms i d) ≡ size = done.fit i d h ∙ room-whole grows size in
+            record {
+              length_is = long;
+              bytes = subst (λ (s : Shard). All (λ b. b < 256) s)
+                  (get_or-map (λ (s : Shard). take size s) rooms i d d h ∙ take_all size (get_or rooms i d) (omega (arith, long)))
+                  (done.bytes i d (let n = length-map rooms (λ (s : Shard). take size s) in omega (arith, h, n)));
+            };
       };
       words = done.coded;
     }
+
+-- ---- pieces that are given
+
+pub pieces-count : (start end : ℕ) (xs : List (Bor Shard)) → length (pieces start end (map (λ x. x.now) xs)) ≡ length xs
+pieces-count start end xs = length-map (map (λ (x : Bor Shard). x.now) xs) (λ (s : Shard). between start end s) ∙ length-map xs (λ (x : Bor Shard). x.now)
+
+pub pieces-sized : (start end : ℕ) (xs : List (Bor Shard)) → start ≤ end → All (λ x. end ≤ length x.now) xs
+    → All (λ s. length s ≡ end - start) (pieces start end (map (λ x. x.now) xs))
+pieces-sized start end xs order inside =
+    All-map (λ s. length s ≡ end - start) (λ s. between start end s) (map (λ (x : Bor Shard). x.now) xs)
+    (All-map (λ s. length (between start end s) ≡ end - start) (λ (x : Bor Shard). x.now) xs (λ i d h.
+    let room = inside i d h in
+    let left = length-drop start (get_or xs i d).now in
+    length-take-le (end - start) (drop start (get_or xs i d).now) (omega (arith, left, room, order))))
+
+pieces-append : (start end : ℕ) (xs ys : List (Bor Shard))
+    → pieces start end (map (λ x. x.now) (xs ++ ys)) ≡ pieces start end (map (λ x. x.now) xs) ++ pieces start end (map (λ x. x.now) ys)
+pieces-append start end xs ys =
+    ap (λ (l : List Shard). map (λ (s : Shard). between start end s) l) (map-append (λ (x : Bor Shard). x.now) xs ys)
+    ∙ map-append (λ (s : Shard). between start end s) (map (λ (x : Bor Shard). x.now) xs) (map (λ (x : Bor Shard). x.now) ys)
+
+-- shards that are taken, and then others
+adds-append : (s t : EncoderState) (xs ys : List Shard) → with_shards s xs ≡ Ok t → with_shards s (xs ++ ys) ≡ with_shards t ys
+adds-append s t [] ys is = (let same : s ≡ t = cc in ap (λ (u : EncoderState). with_shards u ys) same)
+adds-append s t (x ∷ xs) ys is = by_outcome (with_shard s x) (λ n led. adds-append n t xs ys led) is
+  where
+    by_outcome : (o : Result EncoderState Error) → ((n : EncoderState) → with_shards n xs ≡ Ok t → with_shards n (xs ++ ys) ≡ with_shards t ys)
+        → result_and_then (λ n. with_shards n xs) o ≡ Ok t → result_and_then (λ n. with_shards n (xs ++ ys)) o ≡ with_shards t ys
+    by_outcome (Ok n) more is = more n is
+    by_outcome (Err e) more is = absurd (let no : ⊥ = cc in no)
+
+module _ (start end i : ℕ) (xs : List (Bor Shard)) (d : Bor Shard) (first now : EncoderState) (inside : i < length xs)
+    (led : with_shards first (pieces start end (map (λ x. x.now) (take i xs))) ≡ Ok now) where
+  -- one more
+  pub given-next : (next : EncoderState) → with_shard now (between start end (get_or xs i d).now) ≡ Ok next
+      → with_shards first (pieces start end (map (λ x. x.now) (take (i + 1) xs))) ≡ Ok next
+  given-next next taken =
+      ap (λ (l : List (Bor Shard)). with_shards first (pieces start end (map (λ x. x.now) l))) (take_more xs i d inside)
+      ∙ ap (with_shards first) (pieces-append start end (take i xs) (get_or xs i d ∷ []))
+      ∙ adds-append first now (pieces start end (map (λ x. x.now) (take i xs))) (pieces start end (map (λ x. x.now) (get_or xs i d ∷ []))) led
+      ∙ ap (result_and_then (λ (s : EncoderState). Ok s)) taken
+
+  -- one that is refused decides
+  pub given-refused : (e : Error) → with_shard now (between start end (get_or xs i d).now) ≡ Err e
+      → with_shards first (pieces start end (map (λ x. x.now) xs)) ≡ Err e
+  given-refused e refused =
+      ap (λ (l : List (Bor Shard)). with_shards first (pieces start end (map (λ x. x.now) l)))
+      (sym (take-append-drop i xs) ∙ ap (λ (l : List (Bor Shard)). take i xs ++ l) (drop_more xs i d inside))
+      ∙ ap (with_shards first) (pieces-append start end (take i xs) (get_or xs i d ∷ drop (i + 1) xs))
+      ∙ adds-append first now (pieces start end (map (λ x. x.now) (take i xs))) (pieces start end (map (λ x. x.now) (get_or xs i d ∷ drop (i + 1) xs))) led
+      ∙ ap (result_and_then (λ (s : EncoderState). with_shards s (pieces start end (map (λ x. x.now) (drop (i + 1) xs))))) refused

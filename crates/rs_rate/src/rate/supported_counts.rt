@@ -2,7 +2,7 @@
 ghost use Rattle.std.specs.Prelude.{◌≡◌, ⊤, true, false, MatchResult};
 ghost use Rattle.rs_field.specs.code.Configuration.{configuration, started};
 ghost use Rattle.rs_field.specs.code.Counts.{supports};
-ghost use Rattle.rs_field.specs.code.Placement.{decoder_rows};
+ghost use Rattle.rs_field.specs.code.Placement.{encoder_rows, decoder_rows};
 ghost use Rattle.rs_rate.specs.Configured.{choice_at};
 
 use crate::rate::code::{Code, DefaultCode, HighCode, LowCode};
@@ -57,6 +57,21 @@ impl<C: Code> SupportedCounts<C> {
             choice,
             code: PhantomData,
         })
+    }
+
+    /// Checks a shard size for an encoder of these counts, without allocating anything.
+    ///
+    /// # Errors
+    ///
+    /// - [`Error::InvalidShardSize`] if `shard_bytes` is zero or odd.
+    /// - [`Error::OutOfMemory`] if the bytes of an encoder's rows exceed `usize::MAX`.
+    pub fn check_encoder_rows(self, shard_bytes: usize) -> Result<(), Error>
+        ensures { let c = configuration C.rate self.original_count self.recovery_count shard_bytes in
+            result ≡ started (encoder_rows C.rate c.original_count c.recovery_count) c }
+    {
+        let shape = Configuration::new(self, shard_bytes)?.encoder_shape();
+        chunk_count(shape.row_count, shard_bytes)?;
+        Ok(())
     }
 
     /// Checks a shard size for a decoder of these counts, without allocating anything.
