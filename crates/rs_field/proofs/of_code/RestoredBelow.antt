@@ -6,7 +6,8 @@ use Rattle.std.specs.Option.{option_map}
 use Rattle.std.proofs.Math.Path.{fun_ext}
 use Rattle.std.proofs.Math.Seq.{take-add, take-append-add, take-append_seam}
 use Rattle.std.proofs.lemmas.Bool.{cases_lt, lt-ltb, le-ltb, le-leb, lt-leb}
-use Rattle.std.proofs.lemmas.List.{get_or-map, length-map, length-append, length-take, length-take-le, take_all}
+use Rattle.std.proofs.lemmas.List.{get_or-map, get_or_default, length-map, length-take-le, take_all, ext_get_or}
+use Rattle.std.proofs.lemmas.Option.{none-some}
 use Rattle.rs_field.specs.declared.code.error.Error.{Error}
 use Rattle.rs_field.specs.declared.code.error.Error.TheVariants.{InconsistentShards, NotEnoughShards}
 use Rattle.rs_field.specs.code.Column.{Shard, IsShard, column}
@@ -15,7 +16,7 @@ use Rattle.rs_field.specs.code.Counts.{Rate, supports}
 use Rattle.rs_field.specs.code.Decoder.{DecoderState, IsDecoder, IsAgreeing, originals_given, recovery_given, enough_given, missing_of, Restored, NoneAgrees}
 use Rattle.rs_field.specs.code.Given.{Shards, AreWithin, Consistent, Lists, listed, count_below}
 use Rattle.rs_field.specs.code.OneCall.{Items}
-use Rattle.rs_field.specs.code.Pieces.{pieces, IsStrip, ArePut}
+use Rattle.rs_field.specs.code.Pieces.{pieces, IsStrip, ArePut, room_length}
 use Rattle.rs_field.specs.code.PieceStates.{pieces_of, state_of_pieces, shards_listed, HoldRestored}
 use Rattle.rs_field.specs.code.Placement.{Placement, placement}
 use Rattle.rs_field.proofs.of_code.Agreement.{one_message}
@@ -24,6 +25,7 @@ use Rattle.rs_field.proofs.of_code.Frame.{IsFrame}
 use Rattle.rs_field.proofs.of_code.Given.{count_below-zero, count_below-suc}
 use Rattle.rs_field.proofs.of_code.Listed.{length-listed}
 use Rattle.rs_field.proofs.of_code.ListedMaps.{lists-same, listed-changed, listed-all}
+use Rattle.rs_field.proofs.of_code.Pieces.{put-length, room-from, room-further, room-whole}
 use Rattle.rs_field.proofs.of_code.PieceStates.{is_some-map, agrees-cut, restored-cut, consistent-whole, AreConsistentBelow}
 use Rattle.rs_field.proofs.of_code.RateFrames.{has_frame}
 
@@ -108,6 +110,16 @@ has-words p k r e bound zeros_end size j originals recovery frame own_sized code
     by_first true i s place is past = rw (le-ltb (p.recovery_from + i) (p.originals_from + k) past, place, is) refl
     by_first false i s place is past = rw (place, is) refl
 
+-- given shards that are within bounds have indexes below the count
+sized-within : (count size : ℕ) (given : Shards) → AreWithin count size given → AreSized count size given
+sized-within count size given within =
+    record {
+      each = λ i shard is. (
+          elim (cases_lt i count) [ inl inside ↦ inside | inr past ↦ absurd (none-some shard (sym (within.none_past i past) ∙ is)) ],
+          within.sized i shard is,
+        );
+    }
+
 -- where the pieces in all strips are consistent, so are the shards
 all-consistent : (s : DecoderState) → supports s.configuration.rate s.configuration.original_count s.configuration.recovery_count ≡ true
     → s.configuration.shard_bytes % 2 ≡ 0 → AreSized s.configuration.original_count s.configuration.shard_bytes s.originals
@@ -182,10 +194,10 @@ missing-sized s message agrees =
     by_test i x (inr past) b found = absurd (let found = rw (le-ltb i s.configuration.original_count past) at found in let no : ⊥ = cc in no)
 
 -- The strips below a byte are restored: their pieces are consistent, and in each room stand the first bytes of the shard of each message that agrees with what is given.
-pub record IsRestoredBelow (s : DecoderState) (bound : ℕ) (rooms : List Shard) : Type 0 where
+pub record IsRestoredBelow (s : DecoderState) (grows : Bool) (bound : ℕ) (rooms : List Shard) : Type 0 where
   pub consistent : AreConsistentBelow s.configuration.rate s.configuration.original_count s.configuration.recovery_count s.configuration.shard_bytes s.originals s.recovery bound
   pub number : length rooms + originals_given s ≡ s.configuration.original_count
-  pub long : (i : ℕ) → i < length rooms → bound ≤ length (get_or rooms i [])
+  pub fit : All (λ room. length room ≡ room_length grows bound s.configuration.shard_bytes) rooms
   pub held : (message : List Shard) → IsAgreeing s message → (i : ℕ) → i < length rooms → take bound (get_or rooms i []) ≡ take bound (get_or (missing_shards s message) i [])
 
 -- the first bytes and a piece after them, once both are joined
@@ -198,16 +210,17 @@ take-joined start old piece rest inside =
     ∙ ap (λ (l : Shard). take start old ++ l) (take-append_seam piece rest)
 
 -- at first no strip is
-pub restored-none : (s : DecoderState) (rooms : List Shard) → length rooms + originals_given s ≡ s.configuration.original_count → IsRestoredBelow s 0 rooms
-restored-none s rooms number =
+pub restored-none : (s : DecoderState) (grows : Bool) (rooms : List Shard) → length rooms + originals_given s ≡ s.configuration.original_count
+    → All (λ room. length room ≡ room_length grows 0 s.configuration.shard_bytes) rooms → IsRestoredBelow s grows 0 rooms
+restored-none s grows rooms number fit =
     record {
       consistent = λ j h. absurd (let no : ⊥ = omega (arith, h) in no);
       number = number;
-      long = λ i h. omega arith;
+      fit = fit;
       held = λ message agrees i h. refl;
     }
 
-module _ (s : DecoderState) (start end : ℕ) (out : Shards) (items : Items) (strip : IsStrip start end s.configuration.shard_bytes)
+module _ (s : DecoderState) (grows : Bool) (start end : ℕ) (out : Shards) (items : Items) (strip : IsStrip start end s.configuration.shard_bytes)
     (restored : Restored (state_of_pieces start end s) out) (listing : Lists out items) where
   -- what is listed are the missing pieces
   items-are : shards_listed items ≡ missing_shards (state_of_pieces start end s) restored.message
@@ -237,31 +250,31 @@ module _ (s : DecoderState) (start end : ℕ) (out : Shards) (items : Items) (st
       ∙ listed-changed (λ x. between start end x) k 0 (missing_of s message)
 
   -- so once they are put, one strip more is restored
-  pub restored-further : (old new : List Shard) → ArePut start end (shards_listed items) old new → IsRestoredBelow s start old → IsRestoredBelow s end new
+  pub restored-further : (old new : List Shard) → ArePut start end (shards_listed items) old new → IsRestoredBelow s grows start old → IsRestoredBelow s grows end new
   restored-further old new put before =
       let c = s.configuration in
       let number = length-map items (λ item. item.1) in
       let all = pieces-number in
+      let inside : All (λ x. start ≤ length x) old = (λ i d h.
+      let n = before.fit i d h in
+      let from = room-from grows start c.shard_bytes (let le : start ≤ s.configuration.shard_bytes = omega (arith, strip.order, strip.inside) in le) in
+      omega (arith, n, from)) in
+      let as_many : length (shards_listed items) ≡ length old = omega (arith, number, all, before.number) in
       let size : (i : ℕ) → i < length old → start + length (get_or (shards_listed items) i []) ≡ end = (λ i h.
       let piece = pieces-sized i [] (omega (arith, number, all, before.number, h)) in omega (arith, piece, strip.order)) in
       let at : (i : ℕ) → i < length old → take end (get_or new i []) ≡ take start (get_or old i []) ++ get_or (shards_listed items) i [] =
       (λ i h. ap₂ (λ (n : ℕ) (x : Shard). take n x) (sym (size i h)) (put.1 i h)
-      ∙ take-joined start (get_or old i []) (get_or (shards_listed items) i []) (drop end (get_or old i [])) (before.long i h)) in
+      ∙ take-joined start (get_or old i []) (get_or (shards_listed items) i []) (drop end (get_or old i [])) (inside i [] h)) in
       record {
         consistent = λ j inside. elim (cases_lt j (start / 2)) [
           | inl low ↦ before.consistent j low
           | inr high ↦ (start, end, strip, high, inside, (restored.message, restored.agrees))
         ];
         number = ap (λ (n : ℕ). n + originals_given s) put.0 ∙ before.number;
-        long = λ i h.
+        fit = λ i d h.
             let here : i < length old = omega (arith, h, put.0) in
-            let long = before.long i here in
-            let front = length-take-le start (get_or old i []) long in
-            let both = length-append (take start (get_or old i [])) (get_or (shards_listed items) i []) in
-            let whole = ap length (at i here) in
-            let most = length-take end (get_or new i []) in
-            let e = size i here in
-            omega (arith, front, both, whole, most, e);
+            ap length (get_or_default new i d [] h) ∙ put-length start end (shards_listed items) old new put strip.order inside as_many pieces-sized i here
+            ∙ ap (λ (n : ℕ). end + (n - end)) (before.fit i [] here) ∙ room-further grows start end c.shard_bytes strip.order strip.inside;
         held = λ message agrees i h.
             let here : i < length old = omega (arith, h, put.0) in
             let n = missing-number s message in
@@ -275,16 +288,19 @@ module _ (s : DecoderState) (start end : ℕ) (out : Shards) (items : Items) (st
       }
 
 -- once all strips are restored, rooms hold the restored originals
-pub restored-all : (s : DecoderState) (rooms : List Shard) → supports s.configuration.rate s.configuration.original_count s.configuration.recovery_count ≡ true
-    → s.configuration.shard_bytes % 2 ≡ 0 → AreSized s.configuration.original_count s.configuration.shard_bytes s.originals
-    → AreSized s.configuration.recovery_count s.configuration.shard_bytes s.recovery
+pub restored-all : (s : DecoderState) (grows : Bool) (rooms : List Shard)
+    → supports s.configuration.rate s.configuration.original_count s.configuration.recovery_count ≡ true
+    → s.configuration.shard_bytes % 2 ≡ 0 → AreWithin s.configuration.original_count s.configuration.shard_bytes s.originals
+    → AreWithin s.configuration.recovery_count s.configuration.shard_bytes s.recovery
     → s.configuration.original_count ≤ originals_given s + recovery_given s
-    → IsRestoredBelow s s.configuration.shard_bytes rooms → HoldRestored s rooms
-restored-all s rooms supported even own_sized coded_sized enough done =
+    → IsRestoredBelow s grows s.configuration.shard_bytes rooms → HoldRestored s rooms
+restored-all s grows rooms supported even own_within coded_within enough done =
     let c = s.configuration in
-    let (message, agrees) = all-consistent s supported even own_sized coded_sized done.consistent in
+    let (message, agrees) =
+    all-consistent s supported even (sized-within c.original_count c.shard_bytes s.originals own_within)
+    (sized-within c.recovery_count c.shard_bytes s.recovery coded_within) done.consistent in
     let number = missing-number s message in
-    let as_many = length-map (listed c.original_count (missing_of s message)) (λ item. item.1) in
+    let sized = missing-sized s message agrees in
     record {
       out = missing_of s message;
       restored = record {
@@ -295,8 +311,9 @@ restored-all s rooms supported even own_sized coded_sized enough done =
       };
       items = listed c.original_count (missing_of s message);
       listed = missing-lists s message;
-      number = omega (arith, number, as_many, done.number);
-      held = λ i h.
-          let sized = missing-sized s message agrees i [] (omega (arith, number, done.number, h)) in
-          done.held message agrees i h ∙ take_all c.shard_bytes (get_or (missing_shards s message) i []) (omega (arith, sized));
+      held = ext_get_or [] rooms (missing_shards s message) (omega (arith, number, done.number)) (λ i h.
+      let long = sized i [] (omega (arith, number, done.number, h)) in
+      let room = done.fit i [] h ∙ room-whole grows c.shard_bytes in
+      sym (take_all c.shard_bytes (get_or rooms i []) (omega (arith, room))) ∙ done.held message agrees i h
+      ∙ take_all c.shard_bytes (get_or (missing_shards s message) i []) (omega (arith, long)));
     }

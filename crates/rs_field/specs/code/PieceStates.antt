@@ -1,5 +1,5 @@
 -- Decoders that are given pieces of shards, and rooms for what they restore.
-use Rattle.std.specs.Prelude.{◌≡◌, ℕ, ◌-◌, ◌<◌, List, [], length, map, take, slice_index_or}
+use Rattle.std.specs.Prelude.{◌≡◌, ℕ, ◌-◌, List, map}
 use Rattle.std.specs.List.{between}
 use Rattle.std.specs.Option.{option_map}
 use Rattle.rs_field.specs.code.Column.{Shard}
@@ -25,12 +25,10 @@ state_of_pieces start end s =
 abbrev pub shards_listed : Items → List Shard
 shards_listed items = map (λ item. item.1) items
 
--- rooms hold the restored originals in order of index, each in the room's first bytes
+-- rooms hold the restored originals in order of index
 pub record HoldRestored (s : DecoderState) (rooms : List Shard) : Type 0 where
   pub out : Shards
   pub restored : Restored s out
   pub items : Items
   pub listed : Lists out items
-  pub number : length rooms ≡ length items
-  pub held : (i : ℕ) → i < length rooms
-      → take s.configuration.shard_bytes (slice_index_or rooms i []) ≡ slice_index_or (shards_listed items) i []
+  pub held : rooms ≡ shards_listed items
