@@ -7,6 +7,7 @@ pub use Rattle.rs_rate.proofs.Giving
 pub use Rattle.rs_rate.proofs.OneCall
 pub mod Collecting
 pub mod ReceivedLemmas
+pub mod StripDecodeLemmas
 pub mod CallerLemmas
 pub mod ObjectRoundTrip
 pub mod StripLemmas

@@ -15,6 +15,7 @@ pub mod received_shards;
 pub mod receiving;
 pub mod rooms;
 mod slices;
+pub mod strip_decoder;
 pub mod strip_encoder;
 
 /// The version of this library.
