@@ -8,6 +8,7 @@ pub use Rattle.rs_rate.proofs.OneCall
 pub mod Collecting
 pub mod ReceivedLemmas
 pub mod StripDecodeLemmas
+pub mod ReceivedLaws
 pub mod CallerLemmas
 pub mod ObjectRoundTrip
 pub mod StripLemmas

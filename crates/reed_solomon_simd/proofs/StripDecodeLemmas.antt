@@ -1,6 +1,6 @@
 -- A round of a decoder over a strip of each received shard.
-use Rattle.std.proofs.Common.{◌≡◌, ℕ, suc, ◌+◌, ◌-◌, ◌<◌, ◌≤◌, ◌==◌, Bool, true, false, cond, List, [], ◌∷◌, length, drop, get_or, Bor, Result, Ok, Err, Option, Some, None, refl, sym, ap, ◌∙◌, subst, inl, inr, arith}
-use Rattle.std.specs.Prelude.{is_some, nat_lt, unwrap_or}
+use Rattle.std.proofs.Common.{◌≡◌, ℕ, suc, ◌+◌, ◌-◌, ◌<◌, ◌≤◌, ◌==◌, Bool, true, false, cond, List, [], ◌∷◌, length, drop, get_or, Bor, Result, Ok, Err, Option, Some, None, refl, sym, ap, ap₂, ◌∙◌, subst, inl, inr, arith}
+use Rattle.std.specs.Prelude.{is_some, nat_lt, unwrap_or, MatchResult}
 use Rattle.std.specs.List.{between}
 use Rattle.std.specs.Option.{option_map}
 use Rattle.std.proofs.lemmas.Option.{none-some}
@@ -9,13 +9,16 @@ use Rattle.std.proofs.Math.Path.{fun_ext}
 use Rattle.std.proofs.lemmas.Bool.{cases_eq, cases_lt, lt-ltb, le-ltb, lt-leb, eq-eqb}
 use Rattle.rs_field.specs.declared.code.error.Error.{Error}
 use Rattle.rs_field.specs.code.Column.{Shard}
-use Rattle.rs_field.specs.code.Decoder.{DecoderState, with_original, with_recovery}
+use Rattle.rs_field.specs.code.Configuration.{configuration}
+use Rattle.rs_field.specs.code.Decoder.{DecoderState, fresh_decoder, with_original, with_recovery, enough_given, Restored, NoneAgrees, DecodeAnswers, after_decode}
 use Rattle.rs_field.specs.code.Given.{Shards, nothing, entered}
-use Rattle.rs_field.specs.code.PieceStates.{pieces_of, shards_listed}
+use Rattle.rs_field.specs.code.PieceStates.{pieces_of, state_of_pieces, shards_listed}
 use Rattle.rs_field.specs.code.OneCall.{Items}
 use Rattle.reed_solomon_simd.specs.Received.{given_in}
 use Rattle.rs_field.specs.code.Outcome.{answer_of, state_after}
 use Rattle.rs_field.proofs.of_code.Given.{entered_cases}
+use Rattle.rs_field.proofs.of_code.RestoredBelow.{enough-pieces}
+use Rattle.reed_solomon_simd.proofs.CallerLemmas.{ended}
 
 -- the shards of a map at the indexes below a number
 abbrev pub first : ℕ → Shards → Shards
@@ -122,3 +125,38 @@ left-next n items rest item most left =
 -- where none is left all were taken
 pub left-none : (n : ℕ) (items : Items) → n ≤ length items → drop n items ≡ [] → n ≡ length items
 left-none n items most left = let long = length-drop n items in let none : length (drop n items) ≡ 0 = ap length left in omega (arith, long, none, most)
+
+-- ---- a round
+
+-- what is added piece by piece
+pub pieces-added : (start end : ℕ) (x zero one two : DecoderState) (own other : List (Option (Bor Shard)))
+    → zero ≡ fresh_decoder (configuration x.configuration.rate x.configuration.original_count x.configuration.recovery_count (end - start))
+    → one ≡ record zero { originals = pieces_of start end (given_in own) } → two ≡ record one { recovery = pieces_of start end (given_in other) }
+    → given_in own ≡ x.originals → given_in other ≡ x.recovery → two ≡ state_of_pieces start end x
+pieces-added start end x zero one two own other fresh first second originals recovery =
+    second
+    ∙ ap₂ (λ (s : DecoderState) (g : Shards). record s { recovery = pieces_of start end g })
+    (first ∙ ap₂ (λ (s : DecoderState) (g : Shards). record s { originals = pieces_of start end g }) fresh originals) recovery
+
+module _ (start end : ℕ) (x state : DecoderState) (is : state ≡ state_of_pieces start end x) (enough : enough_given x ≡ Ok tt) where
+  enough-here : enough_given (state_of_pieces start end x) ≡ Ok tt
+  enough-here = enough-pieces start end x ∙ enough
+
+  answers-here : (result : Result Shards Error) → DecodeAnswers state result
+      → MatchResult result (Restored (state_of_pieces start end x)) (NoneAgrees (state_of_pieces start end x))
+  answers-here result answers =
+      let here = subst (λ (s : DecoderState). DecodeAnswers s result) is answers in
+      subst (λ (o : Result (Unit {0}) Error). MatchResult o (λ _. MatchResult result (Restored (state_of_pieces start end x)) (NoneAgrees (state_of_pieces start end x)))
+      (λ e. result ≡ Err e)) enough-here here
+
+  -- what a round restores of the pieces
+  pub round-made : (out : Shards) → DecodeAnswers state (Ok out) → Restored (state_of_pieces start end x) out
+  round-made out answers = answers-here (Ok out) answers
+
+  -- its refusal is that no message agrees
+  pub round-refused : (e : Error) → DecodeAnswers state (Err e) → NoneAgrees (state_of_pieces start end x) e
+  round-refused e answers = answers-here (Err e) answers
+
+  -- it leaves nothing added
+  pub round-ends : after_decode state ≡ fresh_decoder (state_of_pieces start end x).configuration
+  round-ends = ap after_decode is ∙ ended (state_of_pieces start end x) enough-here
