@@ -10,7 +10,10 @@
 
 mod decoder;
 mod encoder;
+mod into;
+pub mod lent_originals;
 mod one_call;
+mod room_error;
 pub mod rooms;
 mod slices;
 pub mod strip_encoder;
@@ -20,6 +23,7 @@ pub const VERSION: &str = "1.2";
 
 pub use decoder::ReedSolomonDecoder;
 pub use encoder::ReedSolomonEncoder;
+pub use into::encode_into;
 pub use one_call::{decode, encode};
 /// The error of every call.
 ///
@@ -30,6 +34,7 @@ pub use one_call::{decode, encode};
 /// }
 /// ```
 pub use rs_field::error::Error;
+pub use room_error::RoomError;
 pub use slices::{decode_slice, encode_slice};
 /// The results of a round, and iterators over them. They lend shards and copy nothing.
 ///
