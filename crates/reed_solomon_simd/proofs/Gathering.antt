@@ -1,19 +1,22 @@
 -- Gathered originals: the encoder that they stand for, and what encoding them answers.
-use Rattle.std.proofs.Common.{◌≡◌, ℕ, ◌<◌, ◌^◌, Bool, true, false, cond, List, [], length, map, All, Bor, Ok, Err, Result, MatchResult, IfOk, inl, inr, refl, sym, ap, ◌∙◌, arith}
-use Rattle.std.specs.Prelude.{nat_le, nat_lt}
+use Rattle.std.proofs.Common.{◌≡◌, ℕ, ◌<◌, ◌^◌, ◌%◌, Bool, true, false, cond, List, [], length, All, Bor, Ok, Err, Result, MatchResult, IfOk, inl, inr, refl, sym, ap, ◌∙◌, arith}
+use Rattle.std.specs.Prelude.{nat_le}
 use Rattle.std.proofs.lemmas.Bool.{cases_lt, le-leb}
+use Rattle.std.proofs.lemmas.Grind.{common_steps}
 use Rattle.std.proofs.lemmas.List.{get_or-map, length-map}
 use Rattle.rs_field.specs.declared.code.error.Error.{Error}
-use Rattle.rs_field.specs.declared.code.error.Error.TheVariants.{TooFewOriginalShards, OutOfMemory}
+use Rattle.rs_field.specs.declared.code.error.Error.TheVariants.{OutOfMemory}
 use Rattle.rs_field.specs.code.Code.{AreRecovery}
 use Rattle.rs_field.specs.code.Column.{Shard, IsShard}
 use Rattle.rs_field.specs.code.Configuration.{Configuration, validated, started, bytes_of_rows}
 use Rattle.rs_field.specs.code.Counts.{default_rate}
-use Rattle.rs_field.specs.code.Encoder.{EncoderState, IsEncoder, EncodeAnswers, message_of}
+use Rattle.rs_field.specs.code.Encoder.{EncoderState, IsEncoder, message_of}
 use Rattle.rs_field.specs.code.OneCall.{OneEncodeAnswers}
 use Rattle.rs_field.specs.code.Outcome.{result_and_then, answer_of}
 use Rattle.rs_field.specs.code.RoundTrip.{AreCoded}
 use Rattle.rs_rate.specs.Giving.{IsEncoding}
+use Rattle.rs_field.proofs.of_code.MadeShards.{has_recovery}
+use Rattle.rs_rate.proofs.StateLemmas.{valid-supported, message-whole, encode_answers-refused, encode_answers-made}
 use Rattle.rs_rate.proofs.OneCall.{encoding-answers, encoding-opened, encoding-coded}
 use Rattle.reed_solomon_simd.specs.declared.lent_originals.LentOriginals.{LentOriginals}
 use Rattle.reed_solomon_simd.specs.Gathered.{gathered}
@@ -54,34 +57,31 @@ gathered-is x =
       sized = x.sized;
     }
 
--- what is encoded once all are given
-answered : (s : EncoderState) (recovery : List Shard) → answer_of (message_of s) ≡ Ok tt → AreRecovery s.configuration s.given recovery → EncodeAnswers s (Ok recovery)
-answered s recovery all coded = by_test (nat_lt (length s.given) s.configuration.original_count) all
-  where
-    by_test : (few : Bool) → answer_of (cond few (Err (TooFewOriginalShards s.configuration.original_count (length s.given))) (Ok s.given)) ≡ Ok tt
-        → MatchResult (cond few (Err (TooFewOriginalShards s.configuration.original_count (length s.given))) (Ok s.given))
-        (λ message. AreRecovery s.configuration message recovery) (λ e. ◌≡◌ {A = Result (List Shard) Error} (Ok recovery) (Err e))
-    by_test true all = absurd (let no : ⊥ = cc in no)
-    by_test false all = coded
+-- a valid size is even
+valid-even : (c : Configuration) → validated c ≡ Ok tt → c.shard_bytes % 2 ≡ 0
+valid-even c valid = grind (arith, common_steps)
+
+-- once all are given they have recovery shards
+pub has-made : (s : EncoderState) → IsEncoder default_rate s → Ok tt ≡ answer_of (message_of s) → (recovery : List Shard) × AreRecovery s.configuration s.given recovery
+has-made s is all =
+    let whole = message-whole s all in
+    let few = is.no_more in
+    has_recovery s.configuration s.given (valid-supported s.configuration is.valid) (valid-even s.configuration is.valid)
+    (record { length_is = omega (arith, few, whole.0); each = is.sized })
 
 module _ (k r : ℕ) (shards : List Shard) (s : EncoderState) (is : IsEncoding k r shards (Ok s)) where
   -- too few are refused
   pub encoded-few : (e : Error) → Err e ≡ answer_of (message_of s) → OneEncodeAnswers k r shards (Err e)
-  encoded-few e few = encoding-answers k r shards s is (Err e) (by_message (message_of s) few)
-    where
-      by_message : (m : Result (List Shard) Error) → Err e ≡ answer_of m
-          → MatchResult m (λ message. ⊥) (λ f. ◌≡◌ {A = Result (List Shard) Error} (Err e) (Err f))
-      by_message (Ok message) few = cc
-      by_message (Err f) few = let same : e ≡ f = cc in ap Err same
+  encoded-few e few = encoding-answers k r shards s is (Err e) (encode_answers-refused s e few)
 
   -- and else it is what one call answers
   pub encoded-all : Ok tt ≡ answer_of (message_of s) → (result : Result (List Shard) Error)
       → MatchResult result (λ recovery. AreRecovery s.configuration s.given recovery) (λ e. e ≡ OutOfMemory) → OneEncodeAnswers k r shards result
-  encoded-all all (Ok recovery) coded = encoding-answers k r shards s is (Ok recovery) (answered s recovery (sym all) coded)
+  encoded-all all (Ok recovery) coded = encoding-answers k r shards s is (Ok recovery) (encode_answers-made s recovery all coded)
   encoded-all all (Err e) lacks = inr (encoding-opened k r shards s is, ap Err lacks)
 
   -- which is coded
   pub encoded-coded : IsEncoder default_rate s → Ok tt ≡ answer_of (message_of s) → (result : Result (List Shard) Error)
       → MatchResult result (λ recovery. AreRecovery s.configuration s.given recovery) (λ e. e ≡ OutOfMemory) → IfOk result (AreCoded k r shards)
-  encoded-coded valid all (Ok recovery) coded = encoding-coded k r shards s is valid recovery (Ok recovery) (answered s recovery (sym all) coded) refl
+  encoded-coded valid all (Ok recovery) coded = encoding-coded k r shards s is valid recovery (Ok recovery) (encode_answers-made s recovery all coded) refl
   encoded-coded valid all (Err e) lacks = tt

@@ -1,9 +1,10 @@
 -- Rooms that are to be as long as shards of one size.
-use Rattle.std.proofs.Common.{◌≡◌, ℕ, zero, suc, ◌<◌, List, [], ◌∷◌, length, get_or, All, Ok, Err, refl, ap, ◌∙◌, sym, arith}
+use Rattle.std.proofs.Common.{◌≡◌, ℕ, zero, suc, ◌<◌, List, [], ◌∷◌, length, get_or, All, Result, Ok, Err, MatchResult, subst, refl, ◌∙◌, sym, arith}
 use Rattle.std.proofs.lemmas.Bool.{eq-eqb, ne_eqb}
 use Rattle.rs_field.specs.code.Column.{Shard}
+use Rattle.reed_solomon_simd.specs.declared.room_error.RoomError.{RoomError}
 use Rattle.reed_solomon_simd.specs.declared.room_error.RoomError.TheVariants.{WrongLength}
-use Rattle.reed_solomon_simd.specs.Into.{lengths_fit, rooms_fit}
+use Rattle.reed_solomon_simd.specs.Into.{lengths_fit, rooms_fit, Fills}
 
 -- where there are as many, lengths decide
 pub fits-many : (shards : List Shard) (rooms : List (List ℕ)) → length shards ≡ length rooms → rooms_fit shards rooms ≡ lengths_fit shards rooms
@@ -33,3 +34,8 @@ fits-first size (suc i) (shard ∷ shards) (room ∷ rooms) number sized inside 
     rw (eq-eqb (length room) (length shard) same)
     (fits-first size i shards rooms (omega (arith, number)) (λ k d h. sized (suc k) d (omega (arith, h))) (omega (arith, inside))
     (λ j h. before (suc j) (omega (arith, h))) other)
+
+-- what a call does where rooms fit, and where they don't
+pub fills : (shards : List Shard) (old new : List (List ℕ)) (answer : Result (Unit {0}) RoomError) (o : Result (Unit {0}) RoomError) → o ≡ rooms_fit shards old
+    → MatchResult o (λ _. (answer ≡ Ok tt) × (new ≡ shards)) (λ e. (answer ≡ Err e) × (new ≡ old)) → Fills shards old new answer
+fills shards old new answer o fit does = subst (λ (o : Result (Unit {0}) RoomError). MatchResult o (λ _. (answer ≡ Ok tt) × (new ≡ shards)) (λ e. (answer ≡ Err e) × (new ≡ old))) fit does

@@ -1,6 +1,4 @@
 -- What gathered originals stand for.
-use Rattle.std.specs.Prelude.{ℕ, List}
-use Rattle.rs_field.specs.code.Column.{Shard}
 use Rattle.rs_field.specs.code.Encoder.{EncoderState}
 use Rattle.rs_field.specs.code.OneCall.{default_of}
 use Rattle.reed_solomon_simd.specs.Rooms.{shards_of}

@@ -1,5 +1,5 @@
 //! Rooms that shards are written into, strip by strip.
-ghost use Rattle.std.specs.Prelude.{◌≡◌, ◌+◌, ◌≤◌, ◌++◌, List, All, length, take, drop};
+ghost use Rattle.std.specs.Prelude.{◌≡◌, ◌+◌, ◌≤◌, ◌++◌, List, All, OnOk, length, take, drop};
 ghost use Rattle.rs_field.specs.code.Column.{Shard};
 ghost use Rattle.reed_solomon_simd.specs.Into.{rooms_fit};
 ghost use Rattle.reed_solomon_simd.specs.Rooms.{bytes_in};
@@ -112,8 +112,10 @@ pub fn check_rooms(
     shard_bytes: usize,
     rooms: &[&mut [u8]],
 ) -> Result<(), RoomError>
-    ensures { (shards : List Shard) → length shards ≡ count → All (λ shard. length shard ≡ shard_bytes) shards
+    ensures answer { (shards : List Shard) → length shards ≡ count → All (λ shard. length shard ≡ shard_bytes) shards
         → result ≡ rooms_fit shards (bytes_in rooms.now) }
+    ensures number { OnOk result (length rooms.now ≡ count) }
+    ensures fit { OnOk result (All (λ room. length room ≡ shard_bytes) (bytes_in rooms.now)) }
 {
     if rooms.len() != count {
         return Err(RoomError::WrongNumberOfRooms {

@@ -1,7 +1,6 @@
-use Rattle.std.proofs.Common.{rules, ◌≡◌, ℕ, ◌<◌, List, [], length, get_or, MutBor, Err, inl, inr, sym, ap, subst, ◌∙◌, arith}
+use Rattle.std.proofs.Common.{rules, ◌≡◌, ℕ, ◌<◌, List, [], length, get_or, MutBor, Err, inl, inr, sym, ap, ◌∙◌, arith}
 use Rattle.std.proofs.lemmas.Bool.{cases_lt}
 use Rattle.std.proofs.lemmas.List.{get_or-map, length-map}
-use Rattle.rs_field.specs.code.Column.{Shard}
 use Rattle.reed_solomon_simd.specs.declared.room_error.RoomError.TheVariants.{WrongLength}
 use Rattle.reed_solomon_simd.specs.Rooms.{bytes_in}
 use Rattle.reed_solomon_simd.proofs.RoomFits.{fits-many, fits-all, fits-first}
@@ -11,8 +10,8 @@ use Rattle.reed_solomon_simd.proofs.rooms.check_rooms.Goals as goal
 bytes-at : (i : ℕ) (rooms : List (MutBor (List ℕ))) (d : MutBor (List ℕ)) → i < length rooms → get_or (bytes_in rooms) i [] ≡ (get_or rooms i d).now
 bytes-at i rooms d h = get_or-map (λ room. room.now) rooms i d [] h
 
-pub returns-then-rooms-index : goal.returns-then-rooms-index
-returns-then-rooms-index c = λ shards number sized.
+pub returns-then-rooms-index-clause-answer : goal.returns-then-rooms-index-clause-answer
+returns-then-rooms-index-clause-answer c = λ shards number sized.
     let i : ℕ = c.loop-index.index in
     let d : MutBor (List ℕ) = record { ref_ptr = (0, 0); ghost_name = 0; now = [] } in
     let all = length-map c.args.rooms.now (λ room. room.now) in
@@ -37,8 +36,8 @@ loop-index-preserved c = λ i h.
           ∙ ap length (bytes-at c.loop-index.index c.args.rooms.now d c.loop-index-test.true) ∙ long
     ]
 
-pub returns : goal.returns
-returns c = λ shards number sized.
+pub returns-clause-answer : goal.returns-clause-answer
+returns-clause-answer c = λ shards number sized.
     let all = length-map c.args.rooms.now (λ room. room.now) in
     let many : length c.args.rooms.now ≡ c.args.count = search rules in
     let done = c.loop-index-test.false in

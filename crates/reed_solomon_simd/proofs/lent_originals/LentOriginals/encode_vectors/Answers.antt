@@ -1,4 +1,4 @@
-use Rattle.std.proofs.Common.{◌≡◌, ℕ, List, [], length, map, All, Vec, ap}
+use Rattle.std.proofs.Common.{◌≡◌, length, ap}
 use Rattle.std.proofs.lemmas.List.Elements.{All-map}
 use Rattle.reed_solomon_simd.proofs.lent_originals.LentOriginals.encode_vectors.Goals as goal
 
