@@ -12,6 +12,8 @@ pub mod ReceivedLaws
 pub mod CallerLemmas
 pub mod ObjectRoundTrip
 pub mod StripLemmas
+pub mod RoomFits
+pub mod Gathering
 pub use Rattle.rs_field.proofs.of_code.Given
 pub use Rattle.rs_field.proofs.of_code.Listed
 pub use Rattle.rs_field.proofs.of_code.Entries

@@ -31,6 +31,9 @@ pub use Rattle.rs_rate.specs.Loan
 pub mod Rooms
 pub mod Received
 pub mod ReceivedState
+pub mod RoomTexts
+pub mod Into
+pub mod Gathered
 pub mod EncoderObject
 pub mod DecoderObject
 pub use Rattle.rs_field.specs.code.OneCall

@@ -10,9 +10,12 @@
 
 mod decoder;
 mod encoder;
+mod into;
+pub mod lent_originals;
 mod one_call;
 pub mod received_shards;
 pub mod receiving;
+mod room_error;
 pub mod rooms;
 mod slices;
 pub mod strip_decoder;
@@ -23,6 +26,7 @@ pub const VERSION: &str = "1.2";
 
 pub use decoder::ReedSolomonDecoder;
 pub use encoder::ReedSolomonEncoder;
+pub use into::encode_into;
 pub use one_call::{decode, encode};
 /// The error of every call.
 ///
@@ -33,6 +37,7 @@ pub use one_call::{decode, encode};
 /// }
 /// ```
 pub use rs_field::error::Error;
+pub use room_error::RoomError;
 pub use slices::{decode_slice, encode_slice};
 /// The results of a round, and iterators over them. They lend shards and copy nothing.
 ///

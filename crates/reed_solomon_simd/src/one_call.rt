@@ -5,14 +5,15 @@ ghost use Rattle.rs_field.specs.code.Column.{Shard};
 ghost use Rattle.rs_field.specs.code.OneCall.{Items, Lends, LendsItems, counted, collected, collected_map, OneEncodeAnswers, OneDecodeAnswers};
 ghost use Rattle.rs_field.specs.code.RoundTrip.{AreCoded};
 ghost use Rattle.rs_rate.specs.Calls.{Calls, BeginsWith, BeginsWithItems};
-ghost use Rattle.rs_rate.specs.ResultView.{recovery_shards, restored_originals};
+ghost use Rattle.rs_rate.specs.ResultView.{restored_originals};
 
+use crate::lent_originals::LentOriginals;
 use rs_engines::engine_default::DefaultEngine;
 use rs_field::engine::Steps;
 use rs_field::error::Error;
-use rs_rate::rate::giving::{given_decoder, given_encoder};
-use rs_rate::rate::{DefaultRateCounts, RateDecoder, RateEncoder};
-use rs_rate::{DecoderResult, EncoderResult};
+use rs_rate::DecoderResult;
+use rs_rate::rate::giving::given_decoder;
+use rs_rate::rate::{DefaultRateCounts, RateDecoder};
 use std::alloc::Global;
 use std::collections::BTreeMap;
 
@@ -59,10 +60,9 @@ pub fn encode<'a, I: Iterator<Item = &'a [u8]> + Drop>(
         → IfOk (collected result) (AreCoded original_count recovery_count items) }
 {
     let counts = DefaultRateCounts::new(original_count, recovery_count)?;
-    let mut encoder = given_encoder(alloc, counts, original, engine)?;
-    let mut steps = Steps::new();
-    let result = encoder.encode(&mut steps)?;
-    collect_recovery(alloc, &result)
+    let originals = LentOriginals::gather(alloc, counts, original)?;
+    originals.check_all_given()?;
+    originals.encode_vectors(alloc, engine)
 }
 
 /// Decodes the received shards and returns the missing originals, by their index.
@@ -133,18 +133,6 @@ where
     let mut steps = Steps::new();
     let result = decoder.decode(&mut steps)?;
     collect_originals(alloc, &result)
-}
-
-// The recovery shards of a result, as vectors.
-fn collect_recovery(alloc: Global, lent: &EncoderResult<'_>) -> Result<Vec<Vec<u8>>, Error>
-    ensures { MatchResult (collected result)
-        (λ shards. shards ≡ recovery_shards lent.now) (λ e. e ≡ Error.OutOfMemory) }
-{
-    let mut vectors = Vec::new(alloc);
-    for shard in lent.recovery_iter() {
-        vectors.push(shard.to_vec(alloc)?)?;
-    }
-    Ok(vectors)
 }
 
 // The restored originals of a result, as vectors by their index.

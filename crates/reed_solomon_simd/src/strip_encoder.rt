@@ -47,6 +47,7 @@ pub fn encode_strips<E: Engine, R: Rooms>(
     ensures refused { OnErr result (result ≡ Err Error.OutOfMemory) }
     ensures untouched { R.grows ≡ false → OnErr result (R.held rooms.new ≡ R.held rooms.old) }
     ensures places { R.places rooms.new ≡ R.places rooms.old }
+    ensures loan { R.loan rooms.new ≡ R.loan rooms.old }
 {
     let width = STRIP_BYTES.min(shard_bytes);
     let mut encoder = DefaultRateEncoder::with_counts(alloc, counts, width, engine, None)?;
@@ -82,6 +83,7 @@ fn encode_strip<E: Engine, R: Rooms>(
         × AreRecovery (default_of (length originals.now) (length (R.held rooms.old)) (end - start)) (pieces start end (shards_of originals.now)) made
         × ArePut start end made (R.held rooms.old) (R.held rooms.new)) }
     ensures places { R.places rooms.new ≡ R.places rooms.old }
+    ensures loan { R.loan rooms.new ≡ R.loan rooms.old }
 {
     add_pieces(encoder, originals, start, end)?;
     encode_round(encoder, &mut Steps::new())?;
@@ -115,6 +117,7 @@ fn put_pieces<R: Rooms>(lent: &EncoderResult<'_>, start: usize, end: usize, room
     ensures put { OnOk result (ArePut start end (recovery_shards lent.now) (R.held rooms.old) (R.held rooms.new)) }
     ensures refused { OnErr result ((R.grows ≡ true) × (result ≡ Err Error.OutOfMemory)) }
     ensures places { R.places rooms.new ≡ R.places rooms.old }
+    ensures loan { R.loan rooms.new ≡ R.loan rooms.old }
 {
     for index in 0..lent.recovery_iter().len() {
         if let Some(piece) = lent.recovery(index) {

@@ -88,8 +88,9 @@ module _ (k r : ℕ) (shards : List Shard) (s : EncoderState) (is : IsEncoding k
   pub encoding-answers : (result : Result (List Shard) Error) → EncodeAnswers s result → OneEncodeAnswers k r shards result
   encoding-answers result answers = inl (leads-on EncodeAnswers (encoding k r shards) s result led answers)
 
-  opened : IsOk (encode_opening k r shards)
-  opened = by_shards shards led
+  -- so nothing was refused before memory was wanted
+  pub encoding-opened : IsOk (encode_opening k r shards)
+  encoding-opened = by_shards shards led
     where
       by_shards : (shards : List Shard) → encoding k r shards ≡ Ok s → IsOk (encode_opening k r shards)
       by_shards [] is = let two = first-ok {T = EncoderState} _ (counted k r) s (sym is) in let refused = two.2 in absurd (let no : ⊥ = cc in no)
@@ -99,7 +100,7 @@ module _ (k r : ℕ) (shards : List Shard) (s : EncoderState) (is : IsEncoding k
   pub encoding-collected : (recovery : List Shard) (result : Result (List Shard) Error) → EncodeAnswers s (Ok recovery) → MatchResult result (λ shards. shards ≡ recovery) (λ e. e ≡ OutOfMemory)
       → OneEncodeAnswers k r shards result
   encoding-collected recovery (Ok out) answers same = encoding-answers (Ok out) (subst (λ l. EncodeAnswers s (Ok l)) (sym same) answers)
-  encoding-collected recovery (Err e) answers short = inr (opened, ap Err short)
+  encoding-collected recovery (Err e) answers short = inr (encoding-opened, ap Err short)
 
   -- and it is coded
   pub encoding-coded : IsEncoder default_rate s → (recovery : List Shard) (result : Result (List Shard) Error) → EncodeAnswers s (Ok recovery)

@@ -31,6 +31,7 @@ loop-start-init g c =
       done = done-none g.R.Rooms.grows default_rate c.args.counts.original_count c.args.counts.recovery_count c.args.shard_bytes (shards_of c.args.originals.now)
           (g.R.Rooms.held c.args.rooms.now) c.requires.number c.requires.fit;
       places = refl;
+      loan = refl;
     }
 
 pub encode_strip-requires-clause-fit : goal.encode_strip-requires-clause-fit
@@ -58,6 +59,7 @@ loop-start-preserved g c =
       done = further g.R.Rooms.grows c.args.counts.original_count c.args.counts.recovery_count size start (start + width) c.args.originals.now now.coded.0
           (g.R.Rooms.held c.loop-start.rooms) (g.R.Rooms.held c.encode_strip.new.rooms) c.requires.originals strip c.requires.sized held.done now.coded.1 now.coded.2;
       places = now.places ∙ held.places;
+      loan = now.loan ∙ held.loan;
     }
 
 pub returns-clause-coded : goal.returns-clause-coded

@@ -16,6 +16,7 @@ invariant-loop-start g l =
       fresh : encoder_state default_rate l.encoder.rows ≡ fresh_encoder (default_of l.counts.original_count l.counts.recovery_count l.width);
       done : IsDone l.counts.original_count l.counts.recovery_count l.shard_bytes l.start g.R.Rooms.grows default_rate (shards_of l.originals) (g.R.Rooms.held l.rooms);
       places : g.R.Rooms.places l.rooms ≡ g.R.Rooms.places l.initial.rooms;
+      loan : g.R.Rooms.loan l.rooms ≡ g.R.Rooms.loan l.initial.rooms;
     }
 
 abbrev pub decreases-loop-start : goal.decreases-loop-start
