@@ -1,7 +1,9 @@
 -- What the calls that write into memory of the caller answer.
-use Rattle.std.specs.Prelude.{◌≡◌, ℕ, ◌==◌, List, [], ◌∷◌, length, map, if◌then◌else◌, Result, Ok, Err, MatchResult}
+use Rattle.std.specs.Prelude.{◌≡◌, ◌⊎◌, ℕ, ◌==◌, List, [], ◌∷◌, length, map, if◌then◌else◌, Result, Ok, Err, MatchResult}
 use Rattle.rs_field.specs.declared.code.error.Error.{Error}
 use Rattle.rs_field.specs.code.Column.{Shard}
+use Rattle.rs_field.specs.declared.code.error.Error.TheVariants.{OutOfMemory}
+use Rattle.rs_field.specs.code.Decoder.{DecoderState, DecodeAnswers}
 use Rattle.rs_field.specs.code.Outcome.{result_and_then}
 use Rattle.rs_field.specs.code.Given.{Shards, Lists}
 use Rattle.rs_field.specs.code.OneCall.{Items, OneEncodeAnswers, OneDecodeAnswers}
@@ -38,5 +40,12 @@ EncodesInto k r originals old new answer =
 abbrev pub DecodesInto : ℕ → ℕ → Items → Items → List (List ℕ) → List (List ℕ) → Result (Unit {0}) RoomError → Type 0
 DecodesInto k r originals recovery old new answer =
     (decoded : Result Shards Error) × OneDecodeAnswers k r originals recovery decoded
+    × MatchResult decoded (λ restored. (items : Items) × Lists restored items × Fills (map (λ item. item.1) items) old new answer)
+    (λ e. (answer ≡ Err (Refused e)) × (new ≡ old))
+
+-- what writing the missing originals of a decoder into rooms answers: what the decoder does, or out of memory
+abbrev pub RestoresInto : DecoderState → List (List ℕ) → List (List ℕ) → Result (Unit {0}) RoomError → Type 0
+RestoresInto s old new answer =
+    (decoded : Result Shards Error) × (DecodeAnswers s decoded ⊎ (decoded ≡ Err OutOfMemory))
     × MatchResult decoded (λ restored. (items : Items) × Lists restored items × Fills (map (λ item. item.1) items) old new answer)
     (λ e. (answer ≡ Err (Refused e)) × (new ≡ old))

@@ -15,6 +15,7 @@ pub mod lent_originals;
 mod one_call;
 pub mod received_shards;
 pub mod receiving;
+pub mod restoring;
 mod room_error;
 pub mod rooms;
 mod slices;

@@ -144,6 +144,13 @@ impl<'a> ReceivedShards<'a> {
         }
         Ok(received - self.counts.original_count)
     }
+
+    /// Returns how many originals are missing.
+    pub fn missing(&self) -> usize
+        ensures { result + originals_given (received_state self.now) ≡ self.now.counts.original_count }
+    {
+        self.counts.original_count - self.originals.number
+    }
 }
 
 // `DifferentShardSize` for a shard of another size.

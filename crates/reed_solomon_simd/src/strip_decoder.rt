@@ -45,6 +45,7 @@ pub fn decode_strips<E: Engine, R: Rooms>(
     ensures refused { IfErr result (λ e. NoneAgrees (received_state received.now) e ⊎ (e ≡ Error.OutOfMemory)) }
     ensures untouched { R.grows ≡ false → IfErr result (λ e. e ≡ Error.OutOfMemory → R.held rooms.new ≡ R.held rooms.old) }
     ensures places { R.places rooms.new ≡ R.places rooms.old }
+    ensures loan { R.loan rooms.new ≡ R.loan rooms.old }
 {
     let counts = received.counts;
     let shard_bytes = received.shard_bytes;
@@ -83,6 +84,7 @@ fn decode_strip<E: Engine, R: Rooms>(
     ensures put { OnOk result ((out : Shards) × Restored (state_of_pieces start end (received_state received.now)) out
         × (items : Items) × Lists out items × ArePut start end (shards_listed items) (R.held rooms.old) (R.held rooms.new)) }
     ensures places { R.places rooms.new ≡ R.places rooms.old }
+    ensures loan { R.loan rooms.new ≡ R.loan rooms.old }
 {
     add_original_pieces(decoder, received.originals.shards.as_slice(), start, end)?;
     add_recovery_pieces(decoder, received.recovery.shards.as_slice(), start, end)?;
@@ -178,6 +180,7 @@ fn put_pieces<R: Rooms>(
         × ArePut start end (shards_listed items) (R.held rooms.old) (R.held rooms.new)) }
     ensures refused { IfErr result (λ e. (R.grows ≡ true) × (e ≡ Error.OutOfMemory)) }
     ensures places { R.places rooms.new ≡ R.places rooms.old }
+    ensures loan { R.loan rooms.new ≡ R.loan rooms.old }
 {
     let mut room = 0;
     for (_, piece) in lent.restored_original_iter() {

@@ -58,6 +58,7 @@ loop-start-preserved g c =
       done = restored-further x g.R.Rooms.grows start (start + width) out items strip restored listing
           (g.R.Rooms.held c.loop-start.rooms) (g.R.Rooms.held c.decode_strip.new.rooms) put held.done;
       places = now.places ∙ held.places;
+      loan = now.loan ∙ held.loan;
     }
 
 pub returns-clause-restored : goal.returns-clause-restored

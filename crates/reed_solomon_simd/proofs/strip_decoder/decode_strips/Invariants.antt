@@ -16,6 +16,7 @@ invariant-loop-start g l =
       fresh : decoder_state default_rate l.decoder.rows ≡ fresh_decoder (default_of l.received.counts.original_count l.received.counts.recovery_count l.width);
       done : IsRestoredBelow (received_state l.received) g.R.Rooms.grows l.start (g.R.Rooms.held l.rooms);
       places : g.R.Rooms.places l.rooms ≡ g.R.Rooms.places l.initial.rooms;
+      loan : g.R.Rooms.loan l.rooms ≡ g.R.Rooms.loan l.initial.rooms;
     }
 
 abbrev pub decreases-loop-start : goal.decreases-loop-start

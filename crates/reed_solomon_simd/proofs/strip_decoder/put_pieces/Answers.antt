@@ -52,6 +52,7 @@ loop-piece-preserved g c =
       ];
       others = λ i h. c.in_ok-put.ensures.others i (λ here. let e : i ≡ n = here in omega (arith, h, e)) ∙ held.others i (omega (arith, h));
       places = c.in_ok-put.ensures.places ∙ held.places;
+      loan = c.in_ok-put.ensures.loan ∙ held.loan;
     }
 
 pub returns-clause-put : goal.returns-clause-put
