@@ -9,6 +9,7 @@ pub mod Collecting
 pub mod ReceivedLemmas
 pub mod StripDecodeLemmas
 pub mod ReceivedLaws
+pub mod RestoringLemmas
 pub mod CallerLemmas
 pub mod ObjectRoundTrip
 pub mod StripLemmas

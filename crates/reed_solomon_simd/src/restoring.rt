@@ -84,13 +84,52 @@ pub fn restore_into<E: Engine>(
     ensures kept { loans_of rooms.new ≡ loans_of rooms.old }
 {
     let surplus = received.surplus()?;
-    let checked = check_rooms(received.missing(), received.shard_bytes, rooms);
-    if surplus == 0 && checked.is_ok() {
-        restore_lent(alloc, received, engine, rooms)?;
-        return Ok(());
+    if can_be_written(surplus, received, rooms) {
+        return restore_directly(alloc, received, engine, rooms);
     }
+    restore_by_vectors(alloc, received, engine, rooms)
+}
+
+// Whether no message is needed to know that the shards have one, and each missing original has a room of its size.
+fn can_be_written(surplus: usize, received: &ReceivedShards<'_>, rooms: &[&mut [u8]]) -> bool
+    ensures exact { result ≡ true → surplus ≡ 0 }
+    ensures number { result ≡ true → length rooms.now + originals_given (received_state received.now) ≡ received.now.counts.original_count }
+    ensures fit { result ≡ true → All (λ room. length room ≡ received.now.shard_bytes) (bytes_in rooms.now) }
+{
+    surplus == 0 && check_rooms(received.missing(), received.shard_bytes, rooms).is_ok()
+}
+
+// Writes the missing originals into rooms strip by strip.
+fn restore_directly<E: Engine>(
+    alloc: Global,
+    received: &ReceivedShards<'_>,
+    engine: E,
+    rooms: &mut [&mut [u8]],
+) -> Result<(), RoomError>
+    requires enough { enough_given (received_state received.now) ≡ Ok tt }
+    requires exact { originals_given (received_state received.now) + recovery_given (received_state received.now) ≡ received.now.counts.original_count }
+    requires number { length rooms.old + originals_given (received_state received.now) ≡ received.now.counts.original_count }
+    requires fit { All (λ room. length room ≡ received.now.shard_bytes) (bytes_in rooms.old) }
+    ensures answer { RestoresInto (received_state received.now) (bytes_in rooms.old) (bytes_in rooms.new) result }
+    ensures kept { loans_of rooms.new ≡ loans_of rooms.old }
+{
+    restore_lent(alloc, received, engine, rooms)?;
+    Ok(())
+}
+
+// Writes the missing originals into rooms, once all of them are restored.
+fn restore_by_vectors<E: Engine>(
+    alloc: Global,
+    received: &ReceivedShards<'_>,
+    engine: E,
+    rooms: &mut [&mut [u8]],
+) -> Result<(), RoomError>
+    requires enough { enough_given (received_state received.now) ≡ Ok tt }
+    ensures answer { RestoresInto (received_state received.now) (bytes_in rooms.old) (bytes_in rooms.new) result }
+    ensures kept { loans_of rooms.new ≡ loans_of rooms.old }
+{
     let vectors = restore_vectors(alloc, received, engine)?;
-    checked?;
+    check_rooms(received.missing(), received.shard_bytes, rooms)?;
     fill_rooms(vectors.as_slice(), received.shard_bytes, rooms);
     Ok(())
 }

@@ -317,3 +317,20 @@ restored-all s grows rooms supported even own_within coded_within enough done =
       sym (take_all c.shard_bytes (get_or rooms i []) (omega (arith, room))) ∙ done.held message agrees i h
       ∙ take_all c.shard_bytes (get_or (missing_shards s message) i []) (omega (arith, long)));
     }
+
+module _ (s : DecoderState) (rooms : List Shard) (holds : HoldRestored s rooms) where
+  held-are : rooms ≡ missing_shards s holds.restored.message
+  held-are =
+      holds.held
+      ∙ ap shards_listed (lists-same (missing_of s holds.restored.message) holds.items (listed s.configuration.original_count (missing_of s holds.restored.message))
+      (subst (λ (g : Shards). Lists g holds.items) (fun_ext holds.restored.missing) holds.listed) (missing-lists s holds.restored.message))
+
+  -- rooms that hold the restored originals are as many as originals are missing
+  pub held-number : length rooms + originals_given s ≡ s.configuration.original_count
+  held-number = ap (λ (l : List Shard). length l + originals_given s) held-are ∙ missing-number s holds.restored.message
+
+  -- and each of their size
+  pub held-sized : All (λ x. length x ≡ s.configuration.shard_bytes) rooms
+  held-sized =
+      subst (λ (l : List Shard). All (λ x. length x ≡ s.configuration.shard_bytes) l) (sym held-are)
+      (missing-sized s holds.restored.message holds.restored.agrees)
