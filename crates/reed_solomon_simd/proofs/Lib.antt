@@ -10,6 +10,7 @@ pub mod ReceivedLemmas
 pub mod StripDecodeLemmas
 pub mod ReceivedLaws
 pub mod RestoringLemmas
+pub mod ByIndex
 pub mod CallerLemmas
 pub mod ObjectRoundTrip
 pub mod StripLemmas
