@@ -1,12 +1,20 @@
 -- From rooms that hold the restored originals to what a decode into rooms answers.
-use Rattle.std.proofs.Common.{◌≡◌, ℕ, ◌+◌, List, [], ◌++◌, length, take, drop, get_or, All, Result, Ok, Err, MatchResult, true, false, true≢false, refl, sym, ap, ◌∙◌, subst, inl, inr, arith}
+use Rattle.std.proofs.Common.{◌≡◌, ℕ, ◌+◌, List, [], ◌++◌, length, take, drop, get_or, All, Some, Result, Ok, Err, MatchResult, true, false, true≢false, refl, sym, ap, ◌∙◌, subst, inl, inr, arith}
 use Rattle.std.proofs.lemmas.List.{append-nil, drop_all, length-map, ext_get_or}
-use Rattle.std.specs.Prelude.{◌⊎◌, OnOk, OnErr}
+use Rattle.std.specs.Prelude.{◌⊎◌, OnOk, OnErr, is_ok}
 use Rattle.rs_field.specs.declared.code.error.Error.{Error}
 use Rattle.rs_field.specs.declared.code.error.Error.TheVariants.{OutOfMemory}
 use Rattle.rs_field.specs.code.Column.{Shard}
 use Rattle.rs_field.specs.code.Decoder.{DecoderState, enough_given, originals_given, Restored, NoneAgrees, DecodeAnswers}
 use Rattle.rs_field.specs.code.Given.{Shards}
+use Rattle.rs_field.specs.code.Configuration.{Configuration, started}
+use Rattle.rs_field.specs.code.Counts.{default_rate}
+use Rattle.rs_field.specs.code.OneCall.{Items, default_of, decode_opening, LacksMemory, OneDecodeAnswers}
+use Rattle.rs_field.specs.code.Outcome.{result_and_then}
+use Rattle.rs_field.specs.code.Placement.{decoder_rows}
+use Rattle.rs_rate.specs.Giving.{IsDecoding}
+use Rattle.rs_rate.proofs.OneCall.{decoding-led, decoding-answers}
+use Rattle.reed_solomon_simd.proofs.ReceivedLaws.{started-valid}
 use Rattle.rs_field.specs.code.Pieces.{ArePut}
 use Rattle.rs_field.specs.code.PieceStates.{HoldRestored, shards_listed}
 use Rattle.reed_solomon_simd.specs.declared.room_error.RoomError.{RoomError}
@@ -73,3 +81,37 @@ pub restored-fit : (s : DecoderState) (made old : List Shard) → HoldRestored s
 restored-fit s made old holds number fit =
     let many = held-number s made holds in
     fits-many made old (omega (arith, many, number)) ∙ fits-all s.configuration.shard_bytes made old (held-sized s made holds) (λ i h. fit i [] h)
+
+-- ---- one call
+
+module _ (k r : ℕ) (originals recovery : Items) (s : DecoderState) (is : IsDecoding k r originals recovery (Ok (Some s))) where
+  -- once a decoder is set up, memory may lack
+  pub decoding-short : {T : Type 0} (result : Result T Error) → result ≡ Err OutOfMemory → LacksMemory (decode_opening k r recovery) result
+  decoding-short result lacks =
+      let (first, rest, same, led) = decoding-led k r originals recovery s is in
+      let c : Configuration = default_of k r (length first.1) in
+      let valid = started-valid (decoder_rows default_rate k r) c (started-of (started (decoder_rows default_rate k r) c) _ s led) in
+      subst (λ (items : Items). LacksMemory (decode_opening k r items) result) (sym same) (ap is_ok valid, lacks)
+    where
+      started-of : (o : Result (Unit {0}) Error) (f : Unit {0} → Result DecoderState Error) (s : DecoderState) → result_and_then f o ≡ Ok s → o ≡ Ok tt
+      started-of (Ok u) f s made = refl
+      started-of (Err e) f s made = absurd (let no : ⊥ = cc in no)
+
+  -- what a decoder answers, or a want of memory, is that of one call
+  pub decoding-answered : (result : Result Shards Error) → DecodeAnswers s result ⊎ (result ≡ Err OutOfMemory) → OneDecodeAnswers k r originals recovery result
+  decoding-answered result (inl answers) = decoding-answers k r originals recovery s is result answers
+  decoding-answered result (inr lacks) = inr (decoding-short result lacks)
+
+  -- too few shards
+  pub decoding-few : (e : Error) → Err e ≡ enough_given s → OneDecodeAnswers k r originals recovery (Err e)
+  decoding-few e few = decoding-answered (Err e) (inl (few-answers s e few))
+
+  -- no message agrees, or memory lacks
+  pub decoding-none-agrees : enough_given s ≡ Ok tt → (e : Error) → NoneAgrees s e ⊎ (e ≡ OutOfMemory) → OneDecodeAnswers k r originals recovery (Err e)
+  decoding-none-agrees enough e (inl none) = decoding-answered (Err e) (inl (enough-answers s enough (Err e) none))
+  decoding-none-agrees enough e (inr lacks) = decoding-answered (Err e) (inr (ap Err lacks))
+
+  -- the restored originals, or memory lacks for them
+  pub decoding-restored : enough_given s ≡ Ok tt → (result : Result Shards Error) → MatchResult result (Restored s) (λ e. e ≡ OutOfMemory) → OneDecodeAnswers k r originals recovery result
+  decoding-restored enough (Ok out) restored = decoding-answered (Ok out) (inl (enough-answers s enough (Ok out) restored))
+  decoding-restored enough (Err e) lacks = decoding-answered (Err e) (inr (ap Err lacks))
