@@ -5,3 +5,4 @@ mod MarkedLemmas
 mod RoomLemmas
 mod TextLemmas
 mod AloneLemmas
+mod RoomFaults

@@ -9,7 +9,7 @@ use crate::buffers::check_length;
 use crate::engine::Borrowing;
 use crate::fault::Fault;
 use crate::layouts::Joined;
-use crate::rooms::{check_rooms, fill_rooms};
+use reed_solomon_simd::encode_into;
 use rs_field::engine::Steps;
 use rs_rate::EncoderResult;
 use rs_rate::rate::giving::given_encoder;
@@ -50,12 +50,14 @@ pub fn encode_arrays(
     ensures answer { EncodesArrays original_count recovery_count (shards_of originals.now) (bytes_in recovery.old) (bytes_in recovery.new) result }
     ensures kept { KeepsRooms recovery.old recovery.new }
 {
-    let counts = DefaultRateCounts::new(original_count, recovery_count)?;
-    let shards = originals.iter().map(|shard| *shard);
-    let mut encoder = given_encoder(alloc, counts, shards, engine)?;
-    let result = encoder.encode(&mut Steps::new())?;
-    check_rooms(result.recovery_iter(), recovery)?;
-    fill_rooms(result.recovery_iter(), recovery);
+    encode_into(
+        alloc,
+        original_count,
+        recovery_count,
+        originals,
+        recovery,
+        engine,
+    )?;
     Ok(())
 }
 
