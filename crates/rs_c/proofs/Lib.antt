@@ -6,3 +6,4 @@ mod RoomLemmas
 mod TextLemmas
 mod AloneLemmas
 mod RoomFaults
+mod CutLemmas

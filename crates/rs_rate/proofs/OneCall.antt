@@ -7,7 +7,7 @@ use Rattle.rs_field.specs.code.Column.{Shard}
 use Rattle.rs_field.specs.code.Configuration.{Configuration, validated, started, UpToMemory}
 use Rattle.rs_field.specs.code.Counts.{default_rate, supports}
 use Rattle.rs_field.specs.code.Decoder.{DecoderState, fresh_decoder, with_original, with_recovery, DecodeAnswers}
-use Rattle.rs_field.specs.code.Encoder.{EncoderState, IsEncoder, fresh_encoder, EncodeAnswers}
+use Rattle.rs_field.specs.code.Encoder.{EncoderState, IsEncoder, fresh_encoder, with_shard, EncodeAnswers}
 use Rattle.rs_field.specs.code.Given.{Shards, nothing, Lists}
 use Rattle.rs_field.specs.code.OneCall.{Items, default_of, counted, originals_alone, encode_opening, one_by_one, with_shards, with_originals, with_recoveries, with_both, encoding, decoding, OneEncodeAnswers, OneDecodeAnswers}
 use Rattle.rs_field.specs.code.Outcome.{result_and_then}
@@ -216,3 +216,13 @@ module _ (k r : ℕ) (originals recovery : Items) (s : DecoderState) (is : IsDec
         kept-by-all (λ s item. with_recovery s item.0 item.1) (λ s. s.configuration) kept-recovery (led.0 ∷ led.1) one.0 s one.2
             ∙ kept-by-all (λ s item. with_original s item.0 item.1) (λ s. s.configuration) kept-original originals _ one.0 one.1,
       )
+
+-- a shard that is added leaves an encoder's configuration
+kept-shard : (s t : EncoderState) (x : Shard) → with_shard s x ≡ Ok t → t.configuration ≡ s.configuration
+kept-shard s t x is = grind (arith, common_steps)
+
+-- the encoder that shards lead to has the first one's size
+pub encoding-size : (k r : ℕ) (first : Shard) (rest : List Shard) (s : EncoderState) → IsEncoding k r (first ∷ rest) (Ok s) → s.configuration ≡ default_of k r (length first)
+encoding-size k r first rest s is =
+    let one = first-ok _ (started (encoder_rows default_rate k r) (default_of k r (length first))) s (sym (led k r (first ∷ rest) s is)) in
+    kept-by-all with_shard (λ t. t.configuration) kept-shard (first ∷ rest) (fresh_encoder (default_of k r (length first))) s one.2
