@@ -1,9 +1,10 @@
 -- Shards that are cut from a buffer, and a piece that is written into one of them.
-use Rattle.std.proofs.Common.{◌≡◌, ℕ, zero, suc, ◌+◌, ◌-◌, ◌*◌, ◌<◌, ◌≤◌, List, [], ◌∷◌, ◌++◌, length, take, drop, get_or, refl, sym, ap, ap₂, subst, ◌∙◌, inl, inr, arith, min}
+use Rattle.std.proofs.Common.{◌≡◌, ℕ, zero, suc, ◌+◌, ◌-◌, ◌*◌, ◌<◌, ◌≤◌, List, [], ◌∷◌, ◌++◌, length, take, drop, get_or, refl, sym, ap, ap₂, subst, ◌∙◌, inl, inr, arith, All}
 use Rattle.std.proofs.Math.Nat.{suc-mul, mul-le-mul_right}
 use Rattle.std.proofs.Math.Seq.{take-append-add}
 use Rattle.std.proofs.lemmas.Bool.{cases_lt, cases_order}
 use Rattle.std.proofs.lemmas.List.{append_assoc, length-append, length-take-le, length-drop, take-take, take-append-le, drop-append-le, drop-take, drop-drop, drop_at, get_or_past, take-append-drop, take_all}
+use Rattle.std.proofs.lemmas.List.Elements.{All-cons}
 use Rattle.rs_field.specs.code.Column.{Shard}
 use Rattle.rs_c.specs.Buffers.{cut, joined}
 
@@ -28,6 +29,18 @@ joined-cut zero size (b ∷ bytes) whole = absurd (let no : ⊥ = omega (arith, 
 joined-cut (suc n) size bytes whole =
     let more = suc-mul n size in let left = length-drop size bytes in
     ap (λ (l : List ℕ). take size bytes ++ l) (joined-cut n size (drop size bytes) (omega (arith, whole, more, left))) ∙ take-append-drop size bytes
+
+-- shards that are cut from a whole buffer have the size
+pub cut-sized : (n size : ℕ) (bytes : List ℕ) → length bytes ≡ n * size → All (λ s. length s ≡ size) (cut n size bytes)
+cut-sized zero size bytes whole k d h = absurd (let no : ⊥ = omega (arith, h) in no)
+cut-sized (suc n) size bytes whole k d h =
+    let more = suc-mul n size in let left = length-drop size bytes in
+    All-cons (λ s. length s ≡ size) (take size bytes) (cut n size (drop size bytes)) (length-take-le size bytes (omega (arith, whole, more)))
+    (cut-sized n size (drop size bytes) (omega (arith, whole, more, left))) k d h
+
+-- whole buffers of the same shards are the same
+pub cut-same : (n size : ℕ) (one other : List ℕ) → length one ≡ n * size → length one ≡ length other → cut n size one ≡ cut n size other → one ≡ other
+cut-same n size one other whole long same = sym (joined-cut n size one whole) ∙ ap joined same ∙ joined-cut n size other (sym long ∙ whole)
 
 -- a shard that is long enough for some bytes lies in the buffer that far
 pub room-inside : (size i start m whole : ℕ) (bytes : List ℕ) → 0 < m → start + m ≤ whole → length (take size (drop (i * size) bytes)) ≡ whole
