@@ -96,12 +96,6 @@ module _ (k r : ℕ) (shards : List Shard) (s : EncoderState) (is : IsEncoding k
       by_shards [] is = let two = first-ok {T = EncoderState} _ (counted k r) s (sym is) in let refused = two.2 in absurd (let no : ⊥ = cc in no)
       by_shards (x ∷ xs) is = let one = first-ok _ (started (encoder_rows default_rate k r) (default_of k r (length x))) s (sym is) in started-valid (encoder_rows default_rate k r) (default_of k r (length x)) (subst (λ (o : Result (Unit {0}) Error). IsOk o) (sym one.1) refl)
 
-  -- collected, or not for want of memory, it still is
-  pub encoding-collected : (recovery : List Shard) (result : Result (List Shard) Error) → EncodeAnswers s (Ok recovery) → MatchResult result (λ shards. shards ≡ recovery) (λ e. e ≡ OutOfMemory)
-      → OneEncodeAnswers k r shards result
-  encoding-collected recovery (Ok out) answers same = encoding-answers (Ok out) (subst (λ l. EncodeAnswers s (Ok l)) (sym same) answers)
-  encoding-collected recovery (Err e) answers short = inr (encoding-opened, ap Err short)
-
   -- and it is coded
   pub encoding-coded : IsEncoder default_rate s → (recovery : List Shard) (result : Result (List Shard) Error) → EncodeAnswers s (Ok recovery)
       → MatchResult result (λ shards. shards ≡ recovery) (λ e. e ≡ OutOfMemory) → IfOk result (AreCoded k r shards)
