@@ -50,7 +50,7 @@ loop-start-preserved g c =
     let width : ℕ = c.min-width.result in
     let same : c.loop-start.encoder.rows.shape.configuration.shard_bytes ≡ c.min-width.result = ap (λ (s : EncoderState). s.configuration.shard_bytes) held.fresh in
     let some : 0 < c.min-width.result = omega (arith, same, c.loop-start.encoder.set_up.configured.positive) in
-    let strip = is_strip start 4096 size width c.min-width.ensures refl held.begins some c.loop-start-test.true in
+    let strip = is_strip start _ size width c.min-width.ensures refl held.begins some c.loop-start-test.true in
     let now = c.in_ok-encode_strip.ensures in
     record {
       inside = strip.inside;
