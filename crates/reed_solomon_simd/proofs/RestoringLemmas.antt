@@ -1,25 +1,26 @@
 -- From rooms that hold the restored originals to what a decode into rooms answers.
-use Rattle.std.proofs.Common.{◌≡◌, ℕ, ◌+◌, List, [], ◌++◌, length, take, drop, get_or, All, Some, Result, Ok, Err, MatchResult, true, false, true≢false, refl, sym, ap, ◌∙◌, subst, inl, inr, arith}
+use Rattle.std.proofs.Common.{◌≡◌, ℕ, ◌+◌, ◌==◌, List, [], ◌∷◌, ◌++◌, length, take, drop, get_or, All, Some, None, Result, Ok, Err, MatchResult, true, false, true≢false, refl, sym, ap, ◌∙◌, subst, inl, inr, arith}
 use Rattle.std.proofs.lemmas.List.{append-nil, drop_all, length-map, ext_get_or}
+use Rattle.std.proofs.lemmas.Bool.{ne_eqb}
 use Rattle.std.specs.Prelude.{◌⊎◌, OnOk, OnErr, is_ok}
 use Rattle.rs_field.specs.declared.code.error.Error.{Error}
 use Rattle.rs_field.specs.declared.code.error.Error.TheVariants.{OutOfMemory}
 use Rattle.rs_field.specs.code.Column.{Shard}
 use Rattle.rs_field.specs.code.Decoder.{DecoderState, enough_given, originals_given, Restored, NoneAgrees, DecodeAnswers}
-use Rattle.rs_field.specs.code.Given.{Shards}
+use Rattle.rs_field.specs.code.Given.{Shards, nothing}
 use Rattle.rs_field.specs.code.Configuration.{Configuration, started}
 use Rattle.rs_field.specs.code.Counts.{default_rate}
 use Rattle.rs_field.specs.code.OneCall.{Items, default_of, decode_opening, LacksMemory, OneDecodeAnswers}
 use Rattle.rs_field.specs.code.Outcome.{result_and_then}
 use Rattle.rs_field.specs.code.Placement.{decoder_rows}
 use Rattle.rs_rate.specs.Giving.{IsDecoding}
-use Rattle.rs_rate.proofs.OneCall.{decoding-led, decoding-answers}
+use Rattle.rs_rate.proofs.OneCall.{decoding-led, decoding-answers, decoding-nothing, lists-none}
 use Rattle.reed_solomon_simd.proofs.ReceivedLaws.{started-valid}
 use Rattle.rs_field.specs.code.Pieces.{ArePut}
 use Rattle.rs_field.specs.code.PieceStates.{HoldRestored, shards_listed}
 use Rattle.reed_solomon_simd.specs.declared.room_error.RoomError.{RoomError}
 use Rattle.reed_solomon_simd.specs.declared.room_error.RoomError.TheVariants.{Refused}
-use Rattle.reed_solomon_simd.specs.Into.{RestoresInto, rooms_fit}
+use Rattle.reed_solomon_simd.specs.Into.{RestoresInto, DecodesInto, rooms_fit}
 use Rattle.reed_solomon_simd.proofs.RoomFits.{fills, fits-many, fits-all}
 use Rattle.rs_field.proofs.of_code.RestoredBelow.{held-number, held-sized}
 
@@ -115,3 +116,26 @@ module _ (k r : ℕ) (originals recovery : Items) (s : DecoderState) (is : IsDec
   pub decoding-restored : enough_given s ≡ Ok tt → (result : Result Shards Error) → MatchResult result (Restored s) (λ e. e ≡ OutOfMemory) → OneDecodeAnswers k r originals recovery result
   decoding-restored enough (Ok out) restored = decoding-answered (Ok out) (inl (enough-answers s enough (Ok out) restored))
   decoding-restored enough (Err e) lacks = decoding-answered (Err e) (inr (ap Err lacks))
+
+-- ---- into rooms
+
+-- what a call that was refused answers
+pub decodes-refused : (k r : ℕ) (originals recovery : Items) (e : Error) (old : List Shard) (answer : Result (Unit {0}) RoomError)
+    → OneDecodeAnswers k r originals recovery (Err e) → answer ≡ Err (Refused e) → DecodesInto k r originals recovery old old answer
+decodes-refused k r originals recovery e old answer one refused = (Err e, one, (refused, refl))
+
+-- where nothing is to be restored there is to be no room
+pub decodes-nothing : (k r : ℕ) (originals recovery : Items) (old : List Shard) (answer : Result (Unit {0}) RoomError) → IsDecoding k r originals recovery (Ok None)
+    → answer ≡ rooms_fit [] old → DecodesInto k r originals recovery old old answer
+decodes-nothing k r originals recovery old answer is fit =
+    (Ok nothing, decoding-nothing k r originals recovery is, ([], lists-none, fills [] old old answer (rooms_fit [] old) refl (by_rooms old fit)))
+  where
+    by_rooms : (old : List Shard) → answer ≡ rooms_fit [] old → MatchResult (rooms_fit [] old) (λ _. (answer ≡ Ok tt) × (old ≡ [])) (λ e. (answer ≡ Err e) × (old ≡ old))
+    by_rooms [] fit = (fit, refl)
+    by_rooms (room ∷ rooms) fit =
+        let some : (0 == length (room ∷ rooms)) ≡ false = ne_eqb 0 (length (room ∷ rooms)) (λ none. omega (arith, none)) in rw some (rw some at fit, refl)
+
+-- what is restored into rooms is what one call restores
+pub decodes-restored : (k r : ℕ) (originals recovery : Items) (s : DecoderState) (old new : List Shard) (answer : Result (Unit {0}) RoomError)
+    → IsDecoding k r originals recovery (Ok (Some s)) → RestoresInto s old new answer → DecodesInto k r originals recovery old new answer
+decodes-restored k r originals recovery s old new answer is (decoded, either, rest) = (decoded, decoding-answered k r originals recovery s is decoded either, rest)

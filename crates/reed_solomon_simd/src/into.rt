@@ -1,10 +1,12 @@
-//! Encoding in one call, into memory of the caller.
-ghost use Rattle.std.specs.Prelude.{◌≡◌};
-ghost use Rattle.reed_solomon_simd.specs.Into.{EncodesInto};
+//! Encoding and decoding in one call, into memory of the caller.
+ghost use Rattle.std.specs.Prelude.{◌≡◌, map};
+ghost use Rattle.reed_solomon_simd.specs.Into.{EncodesInto, DecodesInto};
 ghost use Rattle.reed_solomon_simd.specs.Rooms.{shards_of, bytes_in, loans_of};
 
 use crate::RoomError;
 use crate::lent_originals::LentOriginals;
+use crate::receiving::received_shards;
+use crate::restoring::restore_into;
 use crate::rooms::check_rooms;
 use rs_field::engine::Engine;
 use rs_rate::rate::DefaultRateCounts;
@@ -47,4 +49,48 @@ pub fn encode_into<E: Engine>(
     check_rooms(recovery_count, originals.shard_bytes(), recovery)?;
     originals.encode_lent(alloc, engine, recovery)?;
     Ok(())
+}
+
+/// Decodes the received shards, and writes the missing originals into `restored`, in order of their index.
+///
+/// `original` and `recovery` have the received shards with their indexes, each numbered from 0 on their own. All shards and
+/// rooms have the size of the first recovery shard. The call allocates a work area for a part of each shard, whatever the
+/// size of the shards. If it is given more shards than originals, it allocates memory for the missing originals as well,
+/// since only the last bytes may show that no message matches. After an error the rooms hold what they held.
+///
+/// If no recovery shard comes, nothing can be restored. Then only the indexes of the originals are looked at, and no size.
+///
+/// # Errors
+///
+/// The errors of [`decode`](crate::decode), as [`RoomError::Refused`], and then:
+///
+/// - [`RoomError::WrongNumberOfRooms`] if there are not as many rooms as missing originals.
+/// - [`RoomError::WrongLength`] for the first room that does not have the size of the shards.
+///
+/// # Examples
+///
+/// ```
+/// let mut restored: Vec<&mut [u8]> = room.chunks_mut(shard_bytes).collect(alloc)?;
+/// decode_into(alloc, 3, 2, &[(1, ORIGINAL[1])], &received, restored.as_mut_slice(), engine)?;
+/// ```
+pub fn decode_into<E: Engine>(
+    alloc: Global,
+    original_count: usize,
+    recovery_count: usize,
+    original: &[(usize, &[u8])],
+    recovery: &[(usize, &[u8])],
+    restored: &mut [&mut [u8]],
+    engine: E,
+) -> Result<(), RoomError>
+    ensures answer { DecodesInto original_count recovery_count (map (λ item. (item.0, item.1.now)) original.now)
+        (map (λ item. (item.0, item.1.now)) recovery.now) (bytes_in restored.old) (bytes_in restored.new) result }
+    ensures kept { loans_of restored.new ≡ loans_of restored.old }
+{
+    let counts = DefaultRateCounts::new(original_count, recovery_count)?;
+    let own = original.iter().map(|item| *item);
+    let other = recovery.iter().map(|item| *item);
+    let Some(received) = received_shards(alloc, counts, own, other)? else {
+        return check_rooms(0, 0, restored);
+    };
+    restore_into(alloc, &received, engine, restored)
 }

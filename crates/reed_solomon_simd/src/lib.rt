@@ -27,7 +27,7 @@ pub const VERSION: &str = "1.2";
 
 pub use decoder::ReedSolomonDecoder;
 pub use encoder::ReedSolomonEncoder;
-pub use into::encode_into;
+pub use into::{decode_into, encode_into};
 pub use one_call::{decode, encode};
 /// The error of every call.
 ///
