@@ -4,9 +4,9 @@ use Rattle.std.proofs.lemmas.Bool.{cases_eq, cases_lt, eq-eqb, ne_eqb}
 use Rattle.std.proofs.lemmas.List.{append_assoc, length-append, length-take-le, length-map, get_or-map, drop_more, drop_all}
 use Rattle.std.proofs.lemmas.Grind.{take-set_at}
 use Rattle.rs_field.specs.code.Column.{Shard}
-use Rattle.rs_field.specs.code.Given.{Shards, listed, listed_one, listed_from, Lists}
+use Rattle.rs_field.specs.code.Given.{Shards, items_below, items_at, items_from, Lists}
 use Rattle.rs_field.specs.code.OneCall.{Items}
-use Rattle.rs_field.proofs.of_code.Listed.{listed_from-zero, listed_from-suc}
+use Rattle.rs_field.proofs.of_code.Listed.{items_from-zero, items_from-suc}
 use Rattle.rs_c.specs.declared.fault.Fault.{Fault}
 use Rattle.rs_c.specs.declared.fault.Fault.TheVariants.{WrongLength}
 use Rattle.rs_c.specs.Arrays.{bytes_in, lengths_fit, rooms_fit, as_many, Fills}
@@ -66,18 +66,18 @@ fills-none (room ∷ rooms) answer is =
     let some : (0 == length (room ∷ rooms)) ≡ false = ne_eqb 0 (length (room ∷ rooms)) (λ none. omega (arith, none)) in rw some (rw some at is, refl)
 
 -- behind the last shard of a map nothing is listed
-listed-none : (n from : ℕ) (given : Shards) → ((i : ℕ) → from ≤ i → given i ≡ None) → listed_from from n given ≡ []
-listed-none zero from given none = listed_from-zero from given
-listed-none (suc n) from given none =
-    listed_from-suc from n given ∙ ap (λ o. listed_one from o ++ listed_from (suc from) n given) (none from (omega arith))
-    ∙ listed-none n (suc from) given (λ i h. none i (omega (arith, h)))
+items_below-none : (n from : ℕ) (given : Shards) → ((i : ℕ) → from ≤ i → given i ≡ None) → items_from from n given ≡ []
+items_below-none zero from given none = items_from-zero from given
+items_below-none (suc n) from given none =
+    items_from-suc from n given ∙ ap (λ o. items_at from o ++ items_from (suc from) n given) (none from (omega arith))
+    ∙ items_below-none n (suc from) given (λ i h. none i (omega (arith, h)))
 
 -- so a longer list is the same
-listed-longer : (n m from : ℕ) (given : Shards) → ((i : ℕ) → from + n ≤ i → given i ≡ None) → listed_from from (n + m) given ≡ listed_from from n given
-listed-longer zero m from given none = listed-none (0 + m) from given (λ i h. none i (omega (arith, h))) ∙ sym (listed_from-zero from given)
-listed-longer (suc n) m from given none =
-    ap (λ (l : ℕ). listed_from from l given) (let e : suc n + m ≡ suc (n + m) = omega arith in e) ∙ listed_from-suc from (n + m) given
-    ∙ ap (λ rest. listed_one from (given from) ++ rest) (listed-longer n m (suc from) given (λ i h. none i (omega (arith, h)))) ∙ sym (listed_from-suc from n given)
+items_below-longer : (n m from : ℕ) (given : Shards) → ((i : ℕ) → from + n ≤ i → given i ≡ None) → items_from from (n + m) given ≡ items_from from n given
+items_below-longer zero m from given none = items_below-none (0 + m) from given (λ i h. none i (omega (arith, h))) ∙ sym (items_from-zero from given)
+items_below-longer (suc n) m from given none =
+    ap (λ (l : ℕ). items_from from l given) (let e : suc n + m ≡ suc (n + m) = omega arith in e) ∙ items_from-suc from (n + m) given
+    ∙ ap (λ rest. items_at from (given from) ++ rest) (items_below-longer n m (suc from) given (λ i h. none i (omega (arith, h)))) ∙ sym (items_from-suc from n given)
 
 -- what a map lists is told by the map
 pub lists-same : (given : Shards) (one other : Items) → Lists given one → Lists given other → one ≡ other
@@ -86,6 +86,6 @@ lists-same given one other first second = elim (cases_lt first.count second.coun
   | inr more ↦ first.in_order ∙ longer second.count first.count more second.none_past ∙ sym second.in_order
 ]
   where
-    longer : (n m : ℕ) → n ≤ m → ((i : ℕ) → n ≤ i → given i ≡ None) → listed m given ≡ listed n given
+    longer : (n m : ℕ) → n ≤ m → ((i : ℕ) → n ≤ i → given i ≡ None) → items_below m given ≡ items_below n given
     longer n m h none =
-        ap (λ (l : ℕ). listed_from 0 l given) (let e : m ≡ n + (m - n) = omega (arith, h) in e) ∙ listed-longer n (m - n) 0 given (λ i past. none i (omega (arith, past)))
+        ap (λ (l : ℕ). items_from 0 l given) (let e : m ≡ n + (m - n) = omega (arith, h) in e) ∙ items_below-longer n (m - n) 0 given (λ i past. none i (omega (arith, past)))
