@@ -6,8 +6,16 @@ pub mod ObjectLaws
 pub use Rattle.rs_rate.proofs.Giving
 pub use Rattle.rs_rate.proofs.OneCall
 pub mod Collecting
+pub mod ReceivedLemmas
+pub mod StripDecodeLemmas
+pub mod ReceivedLaws
+pub mod RestoringLemmas
+pub mod ByIndex
 pub mod CallerLemmas
 pub mod ObjectRoundTrip
+pub mod StripLemmas
+pub mod RoomFits
+pub mod Gathering
 pub use Rattle.rs_field.proofs.of_code.Given
 pub use Rattle.rs_field.proofs.of_code.Listed
 pub use Rattle.rs_field.proofs.of_code.Entries

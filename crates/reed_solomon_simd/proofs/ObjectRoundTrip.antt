@@ -1,7 +1,7 @@
 -- The round trip by an encoder and a decoder: shards are given one after another, some are lost, and just the lost originals come back.
 use Rattle.std.proofs.Common.{◌≡◌, ℕ, ◌+◌, ◌≤◌, ◌&&◌, ◌++◌, ◌∷◌, [], Bool, true, false, cond, List, All, length, refl, sym, ap, subst, ◌∙◌, nat_lt, Some, None, Result, Ok, Err, IfOk, inl, arith, append_assoc, append-nil, length-append}
 use Rattle.std.specs.List.{AllByRecursion}
-use Rattle.std.specs.Prelude.{MatchResult, IsOkAnd}
+use Rattle.std.specs.Prelude.{MatchResult, IsOkAnd, is_ok}
 use Rattle.std.proofs.lemmas.Bool.{lt-leb, eq-eqb, le-ltb}
 use Rattle.std.proofs.lemmas.List.Elements.{recursion_from_All}
 use Rattle.std.proofs.Math.Path.{fun_ext}
@@ -12,7 +12,7 @@ use Rattle.rs_field.specs.code.Column.{Shard, AreShards, shard_at}
 use Rattle.rs_field.specs.code.Counts.{Rate}
 use Rattle.rs_field.specs.code.Configuration.{Configuration, start_outcome}
 use Rattle.rs_field.specs.code.Decoder.{DecoderState, fresh_decoder, DecodeAnswers}
-use Rattle.rs_field.specs.code.Encoder.{EncoderState, IsEncoder, fresh_encoder, with_shard, EncodeAnswers}
+use Rattle.rs_field.specs.code.Encoder.{EncoderState, IsEncoder, fresh_encoder, with_shard, EncodeAnswers, after_encode}
 use Rattle.rs_field.specs.code.Given.{Shards, Lists}
 use Rattle.rs_field.specs.code.OneCall.{Items, with_shards, with_originals, with_recoveries}
 use Rattle.rs_field.specs.code.Outcome.{result_and_then}
@@ -50,7 +50,7 @@ copies-lost shards lost received out result items back copies =
 -- ---- what isn't refused
 
 -- an encoder takes shards of its size, as many as there is room for
-takes-all : (shards : List Shard) (s : EncoderState) → length s.given + length shards ≤ s.configuration.original_count → AllByRecursion (λ x. length x ≡ s.configuration.shard_bytes) shards
+pub takes-all : (shards : List Shard) (s : EncoderState) → length s.given + length shards ≤ s.configuration.original_count → AllByRecursion (λ x. length x ≡ s.configuration.shard_bytes) shards
     → with_shards s shards ≡ Ok (record s { given = s.given ++ shards })
 takes-all [] s room sized = ap (λ given. Ok (record s { given = given })) (sym (append-nil s.given))
 takes-all (x ∷ xs) s room sized =
@@ -64,7 +64,7 @@ takes-all (x ∷ xs) s room sized =
 module _ (c : Configuration) (shards : List Shard) (new_encoder : EncoderState) (fresh : new_encoder ≡ fresh_encoder c) (count : length shards ≡ c.original_count)
     (sized : All (λ shard. length shard ≡ c.shard_bytes) shards) where
   -- a new encoder takes a message
-  takes-message : with_shards new_encoder shards ≡ Ok (record { configuration = c; given = shards })
+  pub takes-message : with_shards new_encoder shards ≡ Ok (record { configuration = c; given = shards })
   takes-message =
       ap (λ s. with_shards s shards) fresh ∙ takes-all shards (fresh_encoder c) (omega (arith, count)) (recursion_from_All (λ x. length x ≡ c.shard_bytes) shards sized)
 
@@ -83,6 +83,16 @@ module _ (c : Configuration) (shards : List Shard) (new_encoder : EncoderState) 
           (λ message. IsOkAnd {T = List Shard} {E = Error} (Err e) (AreRecovery c message)) (λ f. ◌≡◌ {A = Result (List Shard) Error} (Err e) (Err f)) → ⊥
       by_test true whole h = absurd (let no : ⊥ = cc in no)
       by_test false whole h = h
+
+  -- after the round it is as it was before
+  pub round-ends : (encoder : EncoderState) → with_shards new_encoder shards ≡ Ok encoder → after_encode encoder ≡ new_encoder
+  round-ends encoder given =
+      let taken = takes-message in
+      let is : encoder ≡ record { configuration = c; given = shards } = cc in
+      ap after_encode is
+      ∙ ap (λ (few : Bool). cond (is_ok (cond few (Err (TooFewOriginalShards c.original_count (length shards))) (Ok shards))) (fresh_encoder c) (record { configuration = c; given = shards }))
+      (le-ltb (length shards) c.original_count (omega (arith, count)))
+      ∙ sym fresh
 
 module _ (c : Configuration) (shards recovery : List Shard) (lost recovery_lost : ℕ → Bool) (new_decoder : DecoderState) (fresh : new_decoder ≡ fresh_decoder c)
     (all : AreShards c.original_count c.shard_bytes shards × AreRecovery c shards recovery) where

@@ -10,14 +10,24 @@
 
 mod decoder;
 mod encoder;
+mod into;
+pub mod lent_originals;
 mod one_call;
+pub mod received_shards;
+pub mod receiving;
+pub mod restoring;
+mod room_error;
+pub mod rooms;
 mod slices;
+pub mod strip_decoder;
+pub mod strip_encoder;
 
 /// The version of this library.
 pub const VERSION: &str = "1.3";
 
 pub use decoder::ReedSolomonDecoder;
 pub use encoder::ReedSolomonEncoder;
+pub use into::{decode_into, encode_into};
 pub use one_call::{decode, encode};
 /// The error of every call.
 ///
@@ -27,6 +37,7 @@ pub use one_call::{decode, encode};
 ///     Err(_) => write_text(err, "out of memory\n"),
 /// }
 /// ```
+pub use room_error::RoomError;
 pub use rs_field::error::Error;
 pub use slices::{decode_slice, encode_slice};
 /// The results of a round, and iterators over them. They lend shards and copy nothing.

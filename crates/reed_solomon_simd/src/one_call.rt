@@ -1,18 +1,17 @@
 //! Encoding and decoding in one call, over iterators of shards.
-ghost use Rattle.std.specs.Prelude.{◌≡◌, List, Err, IfOk, IfErr, MatchResult};
+ghost use Rattle.std.specs.Prelude.{◌≡◌, List, Err, IfOk, IfErr};
 ghost use Rattle.std.specs.Iterator.{IsFinite};
 ghost use Rattle.rs_field.specs.code.Column.{Shard};
 ghost use Rattle.rs_field.specs.code.OneCall.{Items, Lends, LendsItems, counts_outcome, collected_shards, collected_map, OneEncodeAnswers, OneDecodeAnswers};
 ghost use Rattle.rs_field.specs.code.RoundTrip.{AreCoded};
 ghost use Rattle.rs_rate.specs.Calls.{Calls, BeginsWith, BeginsWithItems};
-ghost use Rattle.rs_rate.specs.ResultView.{recovery_shards, restored_originals};
 
+use crate::lent_originals::LentOriginals;
+use crate::receiving::received_shards;
+use crate::restoring::{by_index, restore_vectors};
 use rs_engines::engine_default::DefaultEngine;
-use rs_field::engine::Steps;
 use rs_field::error::Error;
-use rs_rate::rate::giving::{given_decoder, given_encoder};
-use rs_rate::rate::{DefaultRateCounts, RateDecoder, RateEncoder};
-use rs_rate::{DecoderResult, EncoderResult};
+use rs_rate::rate::DefaultRateCounts;
 use std::alloc::Global;
 use std::collections::BTreeMap;
 
@@ -59,10 +58,9 @@ pub fn encode<'a, I: Iterator<Item = &'a [u8]> + Drop>(
         → IfOk (collected_shards result) (AreCoded original_count recovery_count items) }
 {
     let counts = DefaultRateCounts::new(original_count, recovery_count)?;
-    let mut encoder = given_encoder(alloc, counts, original, engine)?;
-    let mut steps = Steps::new();
-    let result = encoder.encode(&mut steps)?;
-    collect_recovery(alloc, &result)
+    let originals = LentOriginals::gather(alloc, counts, original)?;
+    originals.check_all_given()?;
+    originals.encode_vectors(alloc, engine)
 }
 
 /// Decodes the received shards and returns the missing originals, by their index.
@@ -127,37 +125,10 @@ where
         → LendsItems R.next_gives recovery recoveries → OneDecodeAnswers original_count recovery_count originals recoveries (collected_map result) }
 {
     let counts = DefaultRateCounts::new(original_count, recovery_count)?;
-    let Some(mut decoder) = given_decoder(alloc, counts, original, recovery, engine)? else {
+    let Some(received) = received_shards(alloc, counts, original, recovery)? else {
         return Ok(BTreeMap::new(alloc));
     };
-    let mut steps = Steps::new();
-    let result = decoder.decode(&mut steps)?;
-    collect_originals(alloc, &result)
-}
-
-// The recovery shards of a result, as vectors.
-fn collect_recovery(alloc: Global, lent: &EncoderResult<'_>) -> Result<Vec<Vec<u8>>, Error>
-    ensures { MatchResult (collected_shards result)
-        (λ shards. shards ≡ recovery_shards lent.now) (λ e. e ≡ Error.OutOfMemory) }
-{
-    let mut vectors = Vec::new(alloc);
-    for shard in lent.recovery_iter() {
-        vectors.push(shard.to_vec(alloc)?)?;
-    }
-    Ok(vectors)
-}
-
-// The restored originals of a result, as vectors by their index.
-fn collect_originals(
-    alloc: Global,
-    lent: &DecoderResult<'_>,
-) -> Result<BTreeMap<usize, Vec<u8>>, Error>
-    ensures { MatchResult (collected_map result)
-        (λ shards. shards ≡ restored_originals lent.now) (λ e. e ≡ Error.OutOfMemory) }
-{
-    let mut vectors = BTreeMap::new(alloc);
-    for (index, shard) in lent.restored_original_iter() {
-        vectors.insert(index, shard.to_vec(alloc)?)?;
-    }
-    Ok(vectors)
+    received.surplus()?;
+    let restored = restore_vectors(alloc, &received, engine)?;
+    by_index(alloc, &received, restored)
 }

@@ -29,13 +29,6 @@ written-next whole at end old new x rest w same ends now =
       is_whole = ap (λ (l : List ℕ). l ++ rest) now ∙ append_assoc (take at old) x rest ∙ w.is_whole;
     }
 
--- the number of bytes of shards of one size, one after the other
-pub length-joined : (size : ℕ) (shards : List Shard) → All (IsShard size) shards → length (concatenation shards) ≡ length shards * size
-length-joined size [] sized = omega arith
-length-joined size (x ∷ xs) sized =
-    let first = (sized 0 x (omega arith)).length_is in let others = length-joined size xs (λ k d h. sized (suc k) d (omega (arith, h))) in
-    let more = suc-mul (length xs) size in simp length-append (omega (arith, first, others, more))
-
 -- the bytes in a place of the size
 length-placed : (size : ℕ) (o : Option Shard) (own : List ℕ) → ((x : Shard) → o ≡ Some x → length x ≡ size) → length own ≡ size → length (unwrap_or o own) ≡ size
 length-placed size (Some x) own sized h = sized x refl

@@ -5,3 +5,5 @@ mod MarkedLemmas
 mod RoomLemmas
 mod TextLemmas
 mod AloneLemmas
+mod RoomFaults
+mod CutLemmas

@@ -21,7 +21,7 @@ abbrev pub encode_lengths : ℕ → ℕ → ℕ → ℕ → ℕ → Result (Unit
 encode_lengths k r size originals recovery =
     result_and_then (λ _. result_and_then (λ _. length_outcome r size recovery) (length_outcome k size originals)) (as_fault (counts_outcome k r))
 
--- what an encode over buffers answers: where counts and lengths go, what the library's one call answers to the shards, written one behind the other
+-- what an encode over buffers answers: where counts and lengths go, what the library's one call answers to the shards, written one after the other
 abbrev pub EncodesBuffer : ℕ → ℕ → ℕ → List ℕ → List ℕ → List ℕ → Result (Unit {0}) Fault → Type 0
 EncodesBuffer k r size originals old new answer =
     MatchResult (encode_lengths k r size (length originals) (length old))

@@ -1,3 +1,4 @@
+pub mod RoomFaults
 pub mod Tables
 pub mod Faults
 pub mod Buffers

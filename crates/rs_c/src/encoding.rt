@@ -1,22 +1,24 @@
 //! Encoding, of shards in a buffer and of shards anywhere.
-ghost use Rattle.std.specs.Prelude.{◌≡◌, length};
-ghost use Rattle.rs_rate.specs.ResultView.{recovery_shards};
-ghost use Rattle.rs_c.specs.Buffers.{concatenation};
+ghost use Rattle.std.specs.Prelude.{◌≡◌, ◌*◌, length, Ok, Err, OnOk, OnErr};
+ghost use Rattle.rs_field.specs.code.Code.{AreRecovery};
+ghost use Rattle.rs_field.specs.code.Encoder.{message_of};
+ghost use Rattle.rs_field.specs.code.Outcome.{answer_of};
+ghost use Rattle.reed_solomon_simd.specs.Gathered.{gathered};
+ghost use Rattle.rs_c.specs.Buffers.{shards_in_buffer};
 ghost use Rattle.rs_c.specs.Answers.{EncodesBuffer};
 ghost use Rattle.rs_c.specs.Arrays.{shards_of, EncodesArrays, KeepsRooms, bytes_in};
 
+use crate::buffer_rooms::BufferRooms;
 use crate::buffers::check_length;
 use crate::engine::Borrowing;
 use crate::fault::Fault;
 use crate::layouts::Joined;
-use crate::rooms::{check_rooms, fill_rooms};
-use rs_field::engine::Steps;
-use rs_rate::EncoderResult;
-use rs_rate::rate::giving::given_encoder;
-use rs_rate::rate::{DefaultRateCounts, RateEncoder};
+use reed_solomon_simd::lent_originals::LentOriginals;
+use reed_solomon_simd::{Error, encode_into};
+use rs_rate::rate::DefaultRateCounts;
 use std::alloc::Global;
 
-/// Writes the recovery shards of the originals, one behind the other.
+/// Writes the recovery shards of the originals, one after the other.
 pub fn encode_buffer(
     alloc: Global,
     engine: Borrowing<'_>,
@@ -32,9 +34,16 @@ pub fn encode_buffer(
     check_length(original_count, shard_bytes, originals.len())?;
     check_length(recovery_count, shard_bytes, recovery.len())?;
     let shards = Joined::new(original_count, shard_bytes, originals);
-    let mut encoder = given_encoder(alloc, counts, shards, engine)?;
-    let result = encoder.encode(&mut Steps::new())?;
-    write_recovery(&result, recovery);
+    let gathered = LentOriginals::gather(alloc, counts, shards)?;
+    gathered.check_all_given()?;
+    write_recovery(
+        alloc,
+        engine,
+        &gathered,
+        recovery_count,
+        shard_bytes,
+        recovery,
+    )?;
     Ok(())
 }
 
@@ -50,24 +59,39 @@ pub fn encode_arrays(
     ensures answer { EncodesArrays original_count recovery_count (shards_of originals.now) (bytes_in recovery.old) (bytes_in recovery.new) result }
     ensures kept { KeepsRooms recovery.old recovery.new }
 {
-    let counts = DefaultRateCounts::new(original_count, recovery_count)?;
-    let shards = originals.iter().map(|shard| *shard);
-    let mut encoder = given_encoder(alloc, counts, shards, engine)?;
-    let result = encoder.encode(&mut Steps::new())?;
-    check_rooms(result.recovery_iter(), recovery)?;
-    fill_rooms(result.recovery_iter(), recovery);
+    encode_into(
+        alloc,
+        original_count,
+        recovery_count,
+        originals,
+        recovery,
+        engine,
+    )?;
     Ok(())
 }
 
-// Writes the recovery shards of a result one after the other.
-fn write_recovery(lent: &EncoderResult<'_>, recovery: &mut [u8])
-    requires { length recovery.old ≡ length (concatenation (recovery_shards lent.now)) }
-    ensures { recovery.new ≡ concatenation (recovery_shards lent.now) }
+// Writes the recovery shards of gathered originals one after the other.
+fn write_recovery(
+    alloc: Global,
+    engine: Borrowing<'_>,
+    originals: &LentOriginals<'_>,
+    recovery_count: usize,
+    shard_bytes: usize,
+    recovery: &mut [u8],
+) -> Result<(), Error>
+    requires all { answer_of (message_of (gathered originals.now)) ≡ Ok tt }
+    requires counts { (gathered originals.now).configuration.recovery_count ≡ recovery_count }
+    requires size { (gathered originals.now).configuration.shard_bytes ≡ shard_bytes }
+    requires whole { length recovery.old ≡ recovery_count * shard_bytes }
+    ensures coded { OnOk result (AreRecovery (gathered originals.now).configuration (gathered originals.now).given (shards_in_buffer recovery_count shard_bytes recovery.new)) }
+    ensures whole { length recovery.new ≡ length recovery.old }
+    ensures refused { OnErr result (result ≡ Err Error.OutOfMemory) }
+    ensures untouched { OnErr result (shards_in_buffer recovery_count shard_bytes recovery.new ≡ shards_in_buffer recovery_count shard_bytes recovery.old) }
 {
-    let mut at = 0;
-    for shard in lent.recovery_iter() {
-        let end = at + shard.len();
-        recovery[at..end].copy_from_slice(shard);
-        at = end;
-    }
+    let mut rooms = BufferRooms {
+        count: recovery_count,
+        size: shard_bytes,
+        bytes: recovery,
+    };
+    originals.encode(alloc, engine, &mut rooms)
 }

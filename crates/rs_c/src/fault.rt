@@ -1,4 +1,5 @@
 //! Faults, and their numbers.
+use reed_solomon_simd::RoomError;
 use rs_field::error::Error;
 
 /// Why a call was refused.
@@ -23,6 +24,24 @@ impl From<Error> for Fault {
 
     fn from(error: Error) -> Fault {
         Fault::Refused(error)
+    }
+}
+
+/// An error of a call that writes into memory of the caller, as a fault.
+impl From<RoomError> for Fault {
+    ghost use Rattle.std.specs.Prelude.{◌≡◌};
+    ghost use Rattle.rs_c.specs.RoomFaults.{fault_of_room};
+
+    ghost from_gives = { λ error result. result ≡ fault_of_room error };
+
+    fn from(error: RoomError) -> Fault {
+        match error {
+            RoomError::Refused(refusal) => Fault::Refused(refusal),
+            RoomError::WrongNumberOfRooms { wanted, got } => {
+                Fault::WrongNumberOfRooms { wanted, got }
+            }
+            RoomError::WrongLength { wanted, got } => Fault::WrongLength { wanted, got },
+        }
     }
 }
 

@@ -1,11 +1,11 @@
-//! How shards lie in memory: one behind the other in a buffer, or anywhere, as an array tells.
+//! How shards lie in memory: one after the other in a buffer, or anywhere, as an array tells.
 ghost use Rattle.std.specs.Prelude.{◌≡◌, ◌≢◌, ℕ, ◌*◌, ◌<◌, ◌≤◌, List, length, drop, slice_index};
 ghost use Rattle.std.specs.Iterator.{YieldsFirstRef, YieldsFirstBy, item_count};
 ghost use Rattle.rs_c.specs.Buffers.{shards_in_buffer, marked_shards};
 
 use std::marker::Model;
 
-/// The shards of a buffer that are still to come, one behind the other.
+/// The shards of a buffer that are still to come, one after the other.
 #[derive(Drop)]
 pub struct Joined<'a> {
     bytes: &'a [u8],

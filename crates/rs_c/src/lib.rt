@@ -2,6 +2,7 @@
 #![tactic(auto)]
 
 mod alone;
+mod buffer_rooms;
 mod buffers;
 mod decoding;
 mod encoding;

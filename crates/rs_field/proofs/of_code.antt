@@ -18,6 +18,10 @@ pub mod CodedWords
 pub mod MadeShards
 pub mod EqualPowers
 pub mod AgreeingMessages
+pub mod Pieces
+pub mod PieceStates
+pub mod ListedMaps
+pub mod RestoredBelow
 pub mod Agreement
 pub mod Changes
 pub mod Entries

@@ -11,6 +11,8 @@ pub mod Encoder
 pub mod Decoder
 pub mod OneCall
 pub mod Bounds
+pub mod Pieces
 pub mod CodeLaws
 pub mod CountLaws
+pub mod PieceStates
 pub mod RoundTrip

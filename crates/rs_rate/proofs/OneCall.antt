@@ -7,7 +7,7 @@ use Rattle.rs_field.specs.code.Column.{Shard}
 use Rattle.rs_field.specs.code.Configuration.{Configuration, validation_outcome, start_outcome, UpToMemory}
 use Rattle.rs_field.specs.code.Counts.{default_rate, supports}
 use Rattle.rs_field.specs.code.Decoder.{DecoderState, fresh_decoder, with_original, with_recovery, DecodeAnswers}
-use Rattle.rs_field.specs.code.Encoder.{EncoderState, IsEncoder, fresh_encoder, EncodeAnswers}
+use Rattle.rs_field.specs.code.Encoder.{EncoderState, IsEncoder, fresh_encoder, with_shard, EncodeAnswers}
 use Rattle.rs_field.specs.code.Given.{Shards, nothing, Lists}
 use Rattle.rs_field.specs.code.OneCall.{Items, default_of, counts_outcome, originals_alone, encode_opening, one_by_one, with_shards, with_originals, with_recoveries, with_both, encoding, decoding, OneEncodeAnswers, OneDecodeAnswers}
 use Rattle.rs_field.specs.code.Outcome.{result_and_then}
@@ -88,18 +88,13 @@ module _ (k r : ℕ) (shards : List Shard) (s : EncoderState) (is : IsEncoding k
   pub encoding-answers : (result : Result (List Shard) Error) → EncodeAnswers s result → OneEncodeAnswers k r shards result
   encoding-answers result answers = inl (leads-on EncodeAnswers (encoding k r shards) s result led answers)
 
-  opened : IsOk (encode_opening k r shards)
-  opened = by_shards shards led
+  -- so nothing was refused before memory was wanted
+  pub encoding-opened : IsOk (encode_opening k r shards)
+  encoding-opened = by_shards shards led
     where
       by_shards : (shards : List Shard) → encoding k r shards ≡ Ok s → IsOk (encode_opening k r shards)
       by_shards [] is = let two = first-ok {T = EncoderState} _ (counts_outcome k r) s (sym is) in let refused = two.2 in absurd (let no : ⊥ = cc in no)
       by_shards (x ∷ xs) is = let one = first-ok _ (start_outcome (encoder_rows default_rate k r) (default_of k r (length x))) s (sym is) in start_outcome-valid (encoder_rows default_rate k r) (default_of k r (length x)) (subst (λ (o : Result (Unit {0}) Error). IsOk o) (sym one.1) refl)
-
-  -- collected, or not for want of memory, it still is
-  pub encoding-collected : (recovery : List Shard) (result : Result (List Shard) Error) → EncodeAnswers s (Ok recovery) → MatchResult result (λ shards. shards ≡ recovery) (λ e. e ≡ OutOfMemory)
-      → OneEncodeAnswers k r shards result
-  encoding-collected recovery (Ok out) answers same = encoding-answers (Ok out) (subst (λ l. EncodeAnswers s (Ok l)) (sym same) answers)
-  encoding-collected recovery (Err e) answers short = inr (opened, ap Err short)
 
   -- and it is coded
   pub encoding-coded : IsEncoder default_rate s → (recovery : List Shard) (result : Result (List Shard) Error) → EncodeAnswers s (Ok recovery)
@@ -215,3 +210,13 @@ module _ (k r : ℕ) (originals recovery : Items) (s : DecoderState) (is : IsDec
         kept-by-all (λ s item. with_recovery s item.0 item.1) (λ s. s.configuration) kept-recovery (led.0 ∷ led.1) one.0 s one.2
             ∙ kept-by-all (λ s item. with_original s item.0 item.1) (λ s. s.configuration) kept-original originals _ one.0 one.1,
       )
+
+-- a shard that is added leaves an encoder's configuration
+kept-shard : (s t : EncoderState) (x : Shard) → with_shard s x ≡ Ok t → t.configuration ≡ s.configuration
+kept-shard s t x is = grind (arith, common_steps)
+
+-- the encoder that shards lead to has the first one's size
+pub encoding-size : (k r : ℕ) (first : Shard) (rest : List Shard) (s : EncoderState) → IsEncoding k r (first ∷ rest) (Ok s) → s.configuration ≡ default_of k r (length first)
+encoding-size k r first rest s is =
+    let one = first-ok _ (start_outcome (encoder_rows default_rate k r) (default_of k r (length first))) s (sym (led k r (first ∷ rest) s is)) in
+    kept-by-all with_shard (λ t. t.configuration) kept-shard (first ∷ rest) (fresh_encoder (default_of k r (length first))) s one.2

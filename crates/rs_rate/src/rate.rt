@@ -13,7 +13,7 @@ mod low_encoding;
 mod marks;
 mod memory;
 pub mod names;
-mod originals_alone;
+pub mod originals_alone;
 mod rate_marker;
 pub(crate) mod rate_object;
 mod restoring;

@@ -5,6 +5,7 @@ mod objects;
 mod one_call;
 mod plain;
 mod rated;
+mod strips;
 
 // The sizes of a shard, in bytes.
 const SIZES: [usize; 8] = [2, 62, 64, 66, 1024, 4098, 65536, 1_048_576];

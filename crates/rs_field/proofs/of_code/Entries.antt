@@ -94,7 +94,7 @@ some-entered_all (item ∷ items) given i =
     ∙ ap (λ b. b || list_any (λ item. nat_eq i item.0) items) (some-entered given item.0 i item.1)
     ∙ or_assoc (is_some (given i)) (nat_eq i item.0) (list_any (λ item. nat_eq i item.0) items)
 
-count_most : (n : ℕ) (given : Shards) → count_below n given ≤ n
+pub count_most : (n : ℕ) (given : Shards) → count_below n given ≤ n
 count_most zero given = omega (arith, count_below-zero given)
 count_most (suc n) given = search (rules, count_below-suc, count_most n given)
 

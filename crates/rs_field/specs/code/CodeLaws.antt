@@ -1,11 +1,12 @@
 -- Laws of the code: each message has recovery shards, XOR and columns pass through the coding, and k shards of a codeword fix it.
-use Rattle.std.specs.Prelude.{◌≡◌, ◌↔◌, ℕ, ◌+◌, ◌/◌, ◌%◌, ◌<◌, ◌≤◌, List, [], ◌++◌, map, zip, bit_xor, true, None, unwrap_or, bytes_eq, if◌then◌else◌}
+use Rattle.std.specs.Prelude.{◌≡◌, ◌↔◌, ℕ, ◌+◌, ◌-◌, ◌/◌, ◌%◌, ◌<◌, ◌≤◌, List, [], ◌++◌, map, zip, bit_xor, true, None, unwrap_or, bytes_eq, if◌then◌else◌}
 use Rattle.rs_field.specs.code.Column.{Shard, AreShards, shard_at, columns}
 use Rattle.rs_field.specs.code.Counts.{Rate, low_rate, high_rate, next_power, supports}
 use Rattle.rs_field.specs.code.Configuration.{Configuration, configuration}
 use Rattle.rs_field.specs.code.Code.{AreRecovery}
 use Rattle.rs_field.specs.code.Given.{Shards, count_below, Consistent}
 use Rattle.rs_field.specs.code.Decoder.{DecoderState, Restored}
+use Rattle.rs_field.specs.code.Pieces.{pieces, IsStrip}
 
 -- every message has recovery shards, at supported counts and an even size
 abbrev pub HasRecovery : Type 0
@@ -35,6 +36,21 @@ IsColumnwise =
     (rate : Rate) (k r size other_size j i : ℕ) (one other one_recovery other_recovery : List Shard) → k ≤ 65536 → j < size / 2 → i < other_size / 2
     → AreRecovery (configuration rate k r size) one one_recovery → AreRecovery (configuration rate k r other_size) other other_recovery
     → columns j one ≡ columns i other → columns j one_recovery ≡ columns i other_recovery
+
+-- the strips of a message are coded as the strips of its recovery shards: a strip begins at a multiple of 64 bytes, and ends at one or with the shard
+abbrev pub IsCodedByStrips : Type 0
+IsCodedByStrips =
+    (c : Configuration) (start end : ℕ) (message all : List Shard) → IsStrip start end c.shard_bytes → AreShards c.original_count c.shard_bytes message
+    → AreRecovery c message all
+    → AreRecovery (configuration c.rate c.original_count c.recovery_count (end - start)) (pieces start end message) (pieces start end all)
+
+-- shards are a message's recovery shards where each of their bytes is in a strip that is the message's strip, coded
+abbrev pub CodesWhereStripsDo : Type 0
+CodesWhereStripsDo =
+    (c : Configuration) (message all : List Shard) → AreShards c.original_count c.shard_bytes message → AreShards c.recovery_count c.shard_bytes all
+    → ((byte : ℕ) → byte < c.shard_bytes → (start : ℕ) × (end : ℕ) × IsStrip start end c.shard_bytes × (start ≤ byte) × (byte < end)
+    × AreRecovery (configuration c.rate c.original_count c.recovery_count (end - start)) (pieces start end message) (pieces start end all))
+    → AreRecovery c message all
 
 -- where both counts have one power and both rates support them, a message has the same recovery shards at the low and at the high rate
 abbrev pub HasOneCodeAtOnePower : Type 0

@@ -1,7 +1,7 @@
 //! Laws of the definitions, as contracts of functions that do nothing.
 ghost use Rattle.std.specs.Prelude.{◌≡◌, ◌+◌, ◌^◌, length};
 ghost use Rattle.rs_field.specs.code.Code.{HasOnePolynomial, HasOneRecovery};
-ghost use Rattle.rs_field.specs.code.CodeLaws.{HasRecovery, IsLinear, IsColumnwise, HasOneCodeAtOnePower, IsFixedByPlaces, HasOneRestoration, NoticesChanges};
+ghost use Rattle.rs_field.specs.code.CodeLaws.{HasRecovery, IsLinear, IsColumnwise, IsCodedByStrips, CodesWhereStripsDo, HasOneCodeAtOnePower, IsFixedByPlaces, HasOneRestoration, NoticesChanges};
 ghost use Rattle.rs_field.specs.code.Column.{ColumnsTellShard, IsColumn};
 ghost use Rattle.rs_field.specs.code.CountLaws.{SupportsRanges};
 ghost use Rattle.rs_field.specs.words.Field.{cantor_basis, polynomial};
@@ -46,11 +46,14 @@ pub fn code_laws()
 {}
 
 /// Every message has recovery shards. The XOR of messages has the XOR of their recovery shards, columns are coded each by
-/// itself, and at counts of one power the low and the high rate are one code.
+/// itself, and at counts of one power the low and the high rate are one code. A message may be coded strip by strip: strips
+/// that begin at multiples of 64 bytes are coded as the strips of the codeword, and shards whose strips are all coded are.
 pub fn recovery_laws()
     ensures some { HasRecovery }
     ensures linear { IsLinear }
     ensures columns { IsColumnwise }
+    ensures strips { IsCodedByStrips }
+    ensures joined { CodesWhereStripsDo }
     ensures one_code { HasOneCodeAtOnePower }
 {}
 

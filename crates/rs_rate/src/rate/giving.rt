@@ -9,50 +9,15 @@ ghost use Rattle.rs_field.specs.code.Counts.{default_rate};
 ghost use Rattle.rs_field.specs.code.OneCall.{Items, with_shards, with_originals, with_recoveries};
 ghost use Rattle.rs_rate.specs.Calls.{Calls, BeginsWith, BeginsWithItems};
 ghost use Rattle.rs_rate.specs.DecoderView.{decoder_state};
-ghost use Rattle.rs_rate.specs.EncoderView.{encoder_state};
-ghost use Rattle.rs_rate.specs.Giving.{Reaches, IsEncoding, IsDecoding};
+ghost use Rattle.rs_rate.specs.Giving.{Reaches, IsDecoding};
 
 use crate::rate::decoders::DefaultRateDecoder;
-use crate::rate::encoders::DefaultRateEncoder;
 use crate::rate::originals_alone::check_originals_alone;
 use crate::rate::supported_counts::DefaultRateCounts;
 use crate::rate::{RateDecoder, RateEncoder};
 use rs_field::engine::Engine;
 use rs_field::error::Error;
 use std::alloc::Global;
-
-/// Returns an encoder for these counts with all `original` shards added. The shard size is that of the first original.
-///
-/// # Errors
-///
-/// - `TooFewOriginalShards` with 0 received shards if no original comes.
-/// - `InvalidShardSize` or `OutOfMemory` for the size of the first original.
-/// - Otherwise the error of the first original that `add_original_shard` does not accept; no further original is asked
-///   for.
-pub fn given_encoder<'a, E: Engine, I: Iterator<Item = &'a [u8]> + Drop>(
-    alloc: Global,
-    counts: DefaultRateCounts,
-    mut original: I,
-    engine: E,
-) -> Result<DefaultRateEncoder<E>, Error>
-    requires can { I.can_next original }
-    requires ends { IsFinite (I.remaining original) }
-    ensures { (calls : Calls I.next_gives original) × ((items : List Shard) → BeginsWith items calls
-        → IsEncoding counts.original_count counts.recovery_count items
-        (result_map_both (λ x. encoder_state default_rate x.rows) (λ e. e) result)) }
-{
-    let Some(first) = original.next() else {
-        return Err(Error::TooFewOriginalShards {
-            original_count: counts.original_count,
-            original_received_count: 0,
-        });
-    };
-    let size = first.len();
-    let mut encoder = DefaultRateEncoder::with_counts(alloc, counts, size, engine, None)?;
-    encoder.add_original_shard(first)?;
-    add_shards(&mut encoder, original)?;
-    Ok(encoder)
-}
 
 /// Returns a decoder for these counts with all `original` and `recovery` shards added, or `None` if no recovery shard
 /// comes and every original is there. The shard size is that of the first recovery shard.

@@ -1,10 +1,14 @@
 //! Counts that a rate supports, asked for once, where a call begins.
 ghost use Rattle.std.specs.Prelude.{◌≡◌, ⊤, true, false, MatchResult};
+ghost use Rattle.rs_field.specs.code.Configuration.{configuration, start_outcome};
 ghost use Rattle.rs_field.specs.code.Counts.{supports};
+ghost use Rattle.rs_field.specs.code.Placement.{encoder_rows, decoder_rows};
 ghost use Rattle.rs_rate.specs.Configured.{choice_at};
 
+use crate::rate::configuration::Configuration;
 use crate::rate::counts::Choice;
 use crate::rate::rate_marker::{DefaultRateMarker, HighRateMarker, LowRateMarker, RateMarker};
+use crate::rate::shard_rows::chunk_count;
 use rs_field::error::Error;
 use std::alloc::AllocError;
 use std::marker::PhantomData;
@@ -53,6 +57,36 @@ impl<C: RateMarker> SupportedCounts<C> {
             choice,
             code: PhantomData,
         })
+    }
+
+    /// Checks a shard size for an encoder of these counts, without allocating anything.
+    ///
+    /// # Errors
+    ///
+    /// - [`Error::InvalidShardSize`] if `shard_bytes` is zero or odd.
+    /// - [`Error::OutOfMemory`] if the bytes of an encoder's rows exceed `usize::MAX`.
+    pub fn check_encoder_rows(self, shard_bytes: usize) -> Result<(), Error>
+        ensures { let c = configuration C.rate self.original_count self.recovery_count shard_bytes in
+            result ≡ start_outcome (encoder_rows C.rate c.original_count c.recovery_count) c }
+    {
+        let shape = Configuration::new(self, shard_bytes)?.encoder_shape();
+        chunk_count(shape.row_count, shard_bytes)?;
+        Ok(())
+    }
+
+    /// Checks a shard size for a decoder of these counts, without allocating anything.
+    ///
+    /// # Errors
+    ///
+    /// - [`Error::InvalidShardSize`] if `shard_bytes` is zero or odd.
+    /// - [`Error::OutOfMemory`] if the bytes of a decoder's rows exceed `usize::MAX`.
+    pub fn check_decoder_rows(self, shard_bytes: usize) -> Result<(), Error>
+        ensures { let c = configuration C.rate self.original_count self.recovery_count shard_bytes in
+            result ≡ start_outcome (decoder_rows C.rate c.original_count c.recovery_count) c }
+    {
+        let shape = Configuration::new(self, shard_bytes)?.decoder_shape();
+        chunk_count(shape.frame.row_count, shard_bytes)?;
+        Ok(())
     }
 }
 

@@ -1,9 +1,9 @@
 use Rattle.std.proofs.Common.{rules, Ok, Err, sym, subst}
 use Rattle.rs_field.specs.code.OneCall.{OneDecodeAnswers}
-use Rattle.rs_rate.specs.ResultView.{restored_originals}
 use Rattle.reed_solomon_simd.proofs.Collecting.{shards_in-empty}
 use Rattle.rs_rate.proofs.Giving.{no-calls, always-both}
-use Rattle.rs_rate.proofs.OneCall.{decoding-uncounted, decoding-refused, decoding-nothing, decoding-answers, decoding-collected}
+use Rattle.rs_rate.proofs.OneCall.{decoding-uncounted, decoding-refused, decoding-nothing}
+use Rattle.reed_solomon_simd.proofs.RestoringLemmas.{decoding-few, decoding-none-agrees, decoding-restored}
 use Rattle.reed_solomon_simd.proofs.one_call.decode.Goals as goal
 
 pub returns-in_err-counts-clause-calls : goal.returns-in_err-counts-clause-calls
@@ -17,17 +17,17 @@ returns-in_err-counts-clause-calls g c = (
 pub returns-in_err-counts-clause-answer : goal.returns-in_err-counts-clause-answer
 returns-in_err-counts-clause-answer g c = always-both (λ item. (item.0, item.1.now)) (λ item. (item.0, item.1.now)) _ (returns-in_err-counts-clause-calls g c)
 
-pub returns-in_err-decoder-clause-calls : goal.returns-in_err-decoder-clause-calls
-returns-in_err-decoder-clause-calls g c =
-    let run = rw (c.in_ok-counts.ensures.0, c.in_ok-counts.ensures.1) at c.in_err-decoder.ensures in
+pub returns-in_err-received-clause-calls : goal.returns-in_err-received-clause-calls
+returns-in_err-received-clause-calls g c =
+    let run = rw (c.in_ok-counts.ensures.0, c.in_ok-counts.ensures.1) at c.in_err-received.ensures in
     (run.0, run.1, λ originals recoveries begins further. let led = decoding-refused c.args.original_count c.args.recovery_count originals recoveries _ (run.2 originals recoveries begins further) in search rules)
 
-pub returns-in_err-decoder-clause-answer : goal.returns-in_err-decoder-clause-answer
-returns-in_err-decoder-clause-answer g c = always-both (λ item. (item.0, item.1.now)) (λ item. (item.0, item.1.now)) _ (returns-in_err-decoder-clause-calls g c)
+pub returns-in_err-received-clause-answer : goal.returns-in_err-received-clause-answer
+returns-in_err-received-clause-answer g c = always-both (λ item. (item.0, item.1.now)) (λ item. (item.0, item.1.now)) _ (returns-in_err-received-clause-calls g c)
 
 pub returns-in_default-clause-calls : goal.returns-in_default-clause-calls
 returns-in_default-clause-calls g c =
-    let run = rw (c.in_ok-counts.ensures.0, c.in_ok-counts.ensures.1, c.in_default.is) at c.in_ok-decoder.ensures in (
+    let run = rw (c.in_ok-counts.ensures.0, c.in_ok-counts.ensures.1, c.in_default.is) at c.in_ok-received.ensures in (
       run.0,
       run.1,
       λ originals recoveries begins further.
@@ -38,25 +38,37 @@ returns-in_default-clause-calls g c =
 pub returns-in_default-clause-answer : goal.returns-in_default-clause-answer
 returns-in_default-clause-answer g c = always-both (λ item. (item.0, item.1.now)) (λ item. (item.0, item.1.now)) _ (returns-in_default-clause-calls g c)
 
-pub returns-in_err-result-clause-calls : goal.returns-in_err-result-clause-calls
-returns-in_err-result-clause-calls g c =
-    let run = rw (c.in_ok-counts.ensures.0, c.in_ok-counts.ensures.1, c.in-Some.is) at c.in_ok-decoder.ensures in (
+pub returns-in_err-surplus-clause-calls : goal.returns-in_err-surplus-clause-calls
+returns-in_err-surplus-clause-calls g c =
+    let run = rw (c.in_ok-counts.ensures.0, c.in_ok-counts.ensures.1, c.in-Some.is) at c.in_ok-received.ensures in (
       run.0,
       run.1,
       λ originals recoveries begins further.
-          let led = decoding-answers c.args.original_count c.args.recovery_count originals recoveries _ (run.2 originals recoveries begins further) (Err c.in_err-result.field-0.0) c.in_err-result.ensures.answer in search rules,
+          let led = decoding-few c.args.original_count c.args.recovery_count originals recoveries _ (run.2 originals recoveries begins further) c.in_err-surplus.field-0.0 c.in_err-surplus.ensures.answer in search rules,
     )
 
-pub returns-in_err-result-clause-answer : goal.returns-in_err-result-clause-answer
-returns-in_err-result-clause-answer g c = always-both (λ item. (item.0, item.1.now)) (λ item. (item.0, item.1.now)) _ (returns-in_err-result-clause-calls g c)
+pub returns-in_err-surplus-clause-answer : goal.returns-in_err-surplus-clause-answer
+returns-in_err-surplus-clause-answer g c = always-both (λ item. (item.0, item.1.now)) (λ item. (item.0, item.1.now)) _ (returns-in_err-surplus-clause-calls g c)
+
+pub returns-in_err-restored-clause-calls : goal.returns-in_err-restored-clause-calls
+returns-in_err-restored-clause-calls g c =
+    let run = rw (c.in_ok-counts.ensures.0, c.in_ok-counts.ensures.1, c.in-Some.is) at c.in_ok-received.ensures in (
+      run.0,
+      run.1,
+      λ originals recoveries begins further.
+          let led = decoding-none-agrees c.args.original_count c.args.recovery_count originals recoveries _ (run.2 originals recoveries begins further) (sym c.in_ok-surplus.ensures.answer) c.in_err-restored.field-0.0 c.in_err-restored.ensures in search rules,
+    )
+
+pub returns-in_err-restored-clause-answer : goal.returns-in_err-restored-clause-answer
+returns-in_err-restored-clause-answer g c = always-both (λ item. (item.0, item.1.now)) (λ item. (item.0, item.1.now)) _ (returns-in_err-restored-clause-calls g c)
 
 pub returns-clause-calls : goal.returns-clause-calls
 returns-clause-calls g c =
-    let run = rw (c.in_ok-counts.ensures.0, c.in_ok-counts.ensures.1, c.in-Some.is) at c.in_ok-decoder.ensures in (
+    let run = rw (c.in_ok-counts.ensures.0, c.in_ok-counts.ensures.1, c.in-Some.is) at c.in_ok-received.ensures in (
       run.0,
       run.1,
       λ originals recoveries begins further.
-          decoding-collected c.args.original_count c.args.recovery_count originals recoveries _ (run.2 originals recoveries begins further) (restored_originals c.in_ok-result.result) _ c.in_ok-result.ensures.answer c.collect_originals.ensures,
+          decoding-restored c.args.original_count c.args.recovery_count originals recoveries _ (run.2 originals recoveries begins further) (sym c.in_ok-surplus.ensures.answer) _ c.by_index.ensures,
     )
 
 pub returns-clause-answer : goal.returns-clause-answer

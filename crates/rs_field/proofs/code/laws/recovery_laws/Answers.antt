@@ -1,8 +1,18 @@
 use Rattle.rs_field.proofs.of_code.EqualPowers.{one_code as one}
 use Rattle.rs_field.proofs.of_code.Linearity.{recovery-xor}
 use Rattle.rs_field.proofs.of_code.MadeShards.{has_recovery}
+use Rattle.rs_field.proofs.of_code.Pieces.{strips-join}
+use Rattle.rs_field.proofs.of_code.PieceStates.{recovery-cut}
 use Rattle.rs_field.proofs.of_code.Unique.{columns_unique}
 use Rattle.rs_field.proofs.code.laws.recovery_laws.Goals as goal
 
 pub returns : goal.returns
-returns c = record { some = has_recovery; linear = recovery-xor; columns = columns_unique; one_code = one }
+returns c = record {
+  some = has_recovery;
+  linear = recovery-xor;
+  columns = columns_unique;
+  strips = λ c start end message all strip are coded.
+      recovery-cut start end c.rate c.original_count c.recovery_count c.shard_bytes message all strip are coded;
+  joined = strips-join;
+  one_code = one;
+}

@@ -1,0 +1,87 @@
+-- Gathered originals: the encoder that they stand for, and what encoding them answers.
+use Rattle.std.proofs.Common.{◌≡◌, ℕ, ◌<◌, ◌^◌, ◌%◌, Bool, true, false, cond, List, [], length, All, Bor, Ok, Err, Result, MatchResult, IfOk, inl, inr, refl, sym, ap, ◌∙◌, arith}
+use Rattle.std.specs.Prelude.{nat_le}
+use Rattle.std.proofs.lemmas.Bool.{cases_lt, le-leb}
+use Rattle.std.proofs.lemmas.Grind.{common_steps}
+use Rattle.std.proofs.lemmas.List.{get_or-map, length-map}
+use Rattle.rs_field.specs.declared.code.error.Error.{Error}
+use Rattle.rs_field.specs.declared.code.error.Error.TheVariants.{OutOfMemory}
+use Rattle.rs_field.specs.code.Code.{AreRecovery}
+use Rattle.rs_field.specs.code.Column.{Shard, IsShard}
+use Rattle.rs_field.specs.code.Configuration.{Configuration, validation_outcome, start_outcome, bytes_of_rows}
+use Rattle.rs_field.specs.code.Counts.{default_rate}
+use Rattle.rs_field.specs.code.Encoder.{EncoderState, IsEncoder, message_of}
+use Rattle.rs_field.specs.code.OneCall.{OneEncodeAnswers}
+use Rattle.rs_field.specs.code.Outcome.{result_and_then, answer_of}
+use Rattle.rs_field.specs.code.RoundTrip.{AreCoded}
+use Rattle.rs_rate.specs.Giving.{IsEncoding}
+use Rattle.rs_field.proofs.of_code.MadeShards.{has_recovery}
+use Rattle.rs_rate.proofs.StateLemmas.{valid-supported, message-whole, encode_answers-refused, encode_answers-made}
+use Rattle.rs_rate.proofs.OneCall.{encoding-answers, encoding-opened, encoding-coded}
+use Rattle.reed_solomon_simd.specs.declared.lent_originals.LentOriginals.{LentOriginals}
+use Rattle.reed_solomon_simd.specs.Gathered.{gathered}
+use Rattle.reed_solomon_simd.specs.Rooms.{shards_of}
+
+-- shards of a size are of that length
+pub shards-long : (size : ℕ) (xs : List (Bor (List ℕ))) → All (IsShard size) (shards_of xs) → All (λ x. length x.now ≡ size) xs
+shards-long size xs sized k d h =
+    ap length (sym (get_or-map (λ (x : Bor (List ℕ)). x.now) xs k d [] h)) ∙ (sized k [] (let n = length-map xs (λ (x : Bor (List ℕ)). x.now) in omega (arith, h, n))).length_is
+
+-- what is set up is valid, and its rows' bytes are a `usize`
+pub started-parts : (rows : ℕ) (c : Configuration) → start_outcome rows c ≡ Ok tt → (validation_outcome c ≡ Ok tt) × (bytes_of_rows rows c.shard_bytes < 2 ^ 64)
+started-parts rows c is = by_outcome (validation_outcome c) is
+  where
+    by_test : (many : Bool) → nat_le (2 ^ 64) (bytes_of_rows rows c.shard_bytes) ≡ many → ◌≡◌ {A = Result (Unit {0}) Error} (cond many (Err OutOfMemory) (Ok tt)) (Ok tt)
+        → bytes_of_rows rows c.shard_bytes < 2 ^ 64
+    by_test true same is = absurd (let no : ⊥ = cc in no)
+    by_test false same is = elim (cases_lt (bytes_of_rows rows c.shard_bytes) (2 ^ 64)) [
+      | inl few ↦ few
+      | inr many ↦ let other = le-leb (2 ^ 64) (bytes_of_rows rows c.shard_bytes) many in absurd (let no : ⊥ = cc in no)
+    ]
+
+    by_outcome : (o : Result (Unit {0}) Error)
+        → ◌≡◌ {A = Result (Unit {0}) Error} (result_and_then (λ _. cond (nat_le (2 ^ 64) (bytes_of_rows rows c.shard_bytes)) (Err OutOfMemory) (Ok tt)) o) (Ok tt)
+        → (◌≡◌ {A = Result (Unit {0}) Error} o (Ok tt)) × (bytes_of_rows rows c.shard_bytes < 2 ^ 64)
+    by_outcome (Ok u) is = (refl, by_test (nat_le (2 ^ 64) (bytes_of_rows rows c.shard_bytes)) refl is)
+    by_outcome (Err e) is = absurd (let no : ⊥ = cc in no)
+
+-- gathered originals stand for a state that an encoder can be in
+pub gathered-is : (x : LentOriginals) → IsEncoder default_rate (gathered x)
+gathered-is x =
+    let parts = started-parts _ (gathered x).configuration x.set_up in
+    record {
+      of_rate = refl;
+      valid = parts.0;
+      fits = parts.1;
+      no_more = (let n = length-map x.shards.items (λ (shard : Bor (List ℕ)). shard.now) in let long = x.no_more in let all = x.shards.ok.0 in omega (arith, n, long, all));
+      sized = x.sized;
+    }
+
+-- a valid size is even
+valid-even : (c : Configuration) → validation_outcome c ≡ Ok tt → c.shard_bytes % 2 ≡ 0
+valid-even c valid = grind (arith, common_steps)
+
+-- once all are given they have recovery shards
+pub has-made : (s : EncoderState) → IsEncoder default_rate s → Ok tt ≡ answer_of (message_of s) → (recovery : List Shard) × AreRecovery s.configuration s.given recovery
+has-made s is all =
+    let whole = message-whole s all in
+    let few = is.no_more in
+    has_recovery s.configuration s.given (valid-supported s.configuration is.valid) (valid-even s.configuration is.valid)
+    (record { length_is = omega (arith, few, whole.0); each = is.sized })
+
+module _ (k r : ℕ) (shards : List Shard) (s : EncoderState) (is : IsEncoding k r shards (Ok s)) where
+  -- too few are refused
+  pub encoded-few : (e : Error) → Err e ≡ answer_of (message_of s) → OneEncodeAnswers k r shards (Err e)
+  encoded-few e few = encoding-answers k r shards s is (Err e) (encode_answers-refused s e few)
+
+  -- and else it is what one call answers
+  pub encoded-all : Ok tt ≡ answer_of (message_of s) → (result : Result (List Shard) Error)
+      → MatchResult result (λ recovery. AreRecovery s.configuration s.given recovery) (λ e. e ≡ OutOfMemory) → OneEncodeAnswers k r shards result
+  encoded-all all (Ok recovery) coded = encoding-answers k r shards s is (Ok recovery) (encode_answers-made s recovery all coded)
+  encoded-all all (Err e) lacks = inr (encoding-opened k r shards s is, ap Err lacks)
+
+  -- which is coded
+  pub encoded-coded : IsEncoder default_rate s → Ok tt ≡ answer_of (message_of s) → (result : Result (List Shard) Error)
+      → MatchResult result (λ recovery. AreRecovery s.configuration s.given recovery) (λ e. e ≡ OutOfMemory) → IfOk result (AreCoded k r shards)
+  encoded-coded valid all (Ok recovery) coded = encoding-coded k r shards s is valid recovery (Ok recovery) (encode_answers-made s recovery all coded) refl
+  encoded-coded valid all (Err e) lacks = tt

@@ -1,0 +1,141 @@
+-- From rooms that hold the restored originals to what a decode into rooms answers.
+use Rattle.std.proofs.Common.{◌≡◌, ℕ, ◌+◌, ◌==◌, List, [], ◌∷◌, ◌++◌, length, take, drop, get_or, All, Some, None, Result, Ok, Err, MatchResult, true, false, true≢false, refl, sym, ap, ◌∙◌, subst, inl, inr, arith}
+use Rattle.std.proofs.lemmas.List.{append-nil, drop_all, length-map, ext_get_or}
+use Rattle.std.proofs.lemmas.Bool.{ne_eqb}
+use Rattle.std.specs.Prelude.{◌⊎◌, OnOk, OnErr, is_ok}
+use Rattle.rs_field.specs.declared.code.error.Error.{Error}
+use Rattle.rs_field.specs.declared.code.error.Error.TheVariants.{OutOfMemory}
+use Rattle.rs_field.specs.code.Column.{Shard}
+use Rattle.rs_field.specs.code.Decoder.{DecoderState, enough_given, originals_given, Restored, NoneAgrees, DecodeAnswers}
+use Rattle.rs_field.specs.code.Given.{Shards, nothing}
+use Rattle.rs_field.specs.code.Configuration.{Configuration, start_outcome}
+use Rattle.rs_field.specs.code.Counts.{default_rate}
+use Rattle.rs_field.specs.code.OneCall.{Items, default_of, decode_opening, LacksMemory, OneDecodeAnswers}
+use Rattle.rs_field.specs.code.Outcome.{result_and_then}
+use Rattle.rs_field.specs.code.Placement.{decoder_rows}
+use Rattle.rs_rate.specs.Giving.{IsDecoding}
+use Rattle.rs_rate.proofs.OneCall.{decoding-led, decoding-answers, decoding-nothing, lists-none}
+use Rattle.reed_solomon_simd.proofs.ReceivedLaws.{start_outcome-valid}
+use Rattle.rs_field.specs.code.Pieces.{ArePut}
+use Rattle.rs_field.specs.code.PieceStates.{HoldRestored, shards_listed}
+use Rattle.reed_solomon_simd.specs.declared.room_error.RoomError.{RoomError}
+use Rattle.reed_solomon_simd.specs.declared.room_error.RoomError.TheVariants.{Refused}
+use Rattle.reed_solomon_simd.specs.Into.{RestoresInto, DecodesInto, rooms_fit}
+use Rattle.reed_solomon_simd.proofs.RoomFits.{fills, fits-many, fits-all}
+use Rattle.rs_field.proofs.of_code.RestoredBelow.{held-number, held-sized}
+
+-- rooms that are wholly written hold what was written
+pub put-whole : (size : ℕ) (made old new : List Shard) → ArePut 0 size made old new → length made ≡ length old → All (λ x. length x ≡ size) old → new ≡ made
+put-whole size made old new put number fit =
+    ext_get_or [] new made (put.0 ∙ sym number) (λ i h.
+    let long = fit i [] (omega (arith, h, put.0)) in
+    put.1 i (omega (arith, h, put.0))
+    ∙ ap (λ (rest : Shard). get_or made i [] ++ rest) (drop_all size (get_or old i []) (omega (arith, long)))
+    ∙ append-nil (get_or made i []))
+
+module _ (s : DecoderState) (enough : enough_given s ≡ Ok tt) where
+  -- what a decoder with shards enough answers
+  pub enough-answers : (result : Result Shards Error) → MatchResult result (Restored s) (NoneAgrees s) → DecodeAnswers s result
+  enough-answers result is = subst (λ (o : Result (Unit {0}) Error). MatchResult o (λ _. MatchResult result (Restored s) (NoneAgrees s)) (λ e. result ≡ Err e)) (sym enough) is
+
+  -- rooms do not fit what is restored, or hold it
+  pub restores-filled : (made old new : List Shard) (answer : Result (Unit {0}) RoomError) → HoldRestored s made
+      → (o : Result (Unit {0}) RoomError) → o ≡ rooms_fit made old → MatchResult o (λ _. (answer ≡ Ok tt) × (new ≡ made)) (λ e. (answer ≡ Err e) × (new ≡ old))
+      → RestoresInto s old new answer
+  restores-filled made old new answer holds o fit does = (
+    Ok holds.out,
+    inl (enough-answers (Ok holds.out) holds.restored),
+    (
+      holds.items,
+      holds.listed,
+      fills (shards_listed holds.items) old new answer o (fit ∙ ap (λ (l : List Shard). rooms_fit l old) holds.held)
+          (subst (λ (l : List Shard). MatchResult o (λ _. (answer ≡ Ok tt) × (new ≡ l)) (λ e. (answer ≡ Err e) × (new ≡ old))) holds.held does),
+    ),
+  )
+
+  -- no message agrees, or memory lacks
+  pub restores-refused : (e : Error) (old new : List Shard) (answer : Result (Unit {0}) RoomError) → NoneAgrees s e ⊎ (e ≡ OutOfMemory)
+      → answer ≡ Err (Refused e) → new ≡ old → RestoresInto s old new answer
+  restores-refused e old new answer why refused same = (
+    Err e,
+    elim why [ inl none ↦ inl (enough-answers (Err e) none) | inr lacks ↦ inr (ap Err lacks) ],
+    (refused, same),
+  )
+
+-- shards are too few
+pub few-answers : (s : DecoderState) (e : Error) → Err e ≡ enough_given s → DecodeAnswers s (Err e)
+few-answers s e few =
+    subst (λ (o : Result (Unit {0}) Error). MatchResult o (λ _. MatchResult {T = Shards} (Err e) (Restored s) (NoneAgrees s)) (λ f. ◌≡◌ {A = Result Shards Error} (Err e) (Err f))) few refl
+
+pub restores-few : (s : DecoderState) (e : Error) (old new : List Shard) (answer : Result (Unit {0}) RoomError) → Err e ≡ enough_given s
+    → answer ≡ Err (Refused e) → new ≡ old → RestoresInto s old new answer
+restores-few s e old new answer few refused same = (Err e, inl (few-answers s e few), (refused, same))
+
+-- a call that cannot be refused was done
+pub was-done : {P : Type 0} (Q : Type 0) (result : Result (Unit {0}) Error) → OnOk result P → OnErr result ((false ≡ true) × Q) → P
+was-done Q (Ok u) done refused = done
+was-done Q (Err e) done refused = absurd (true≢false (sym refused.0))
+
+-- rooms of the size fit restored originals
+pub restored-fit : (s : DecoderState) (made old : List Shard) → HoldRestored s made → length old + originals_given s ≡ s.configuration.original_count
+    → All (λ x. length x ≡ s.configuration.shard_bytes) old → rooms_fit made old ≡ Ok tt
+restored-fit s made old holds number fit =
+    let many = held-number s made holds in
+    fits-many made old (omega (arith, many, number)) ∙ fits-all s.configuration.shard_bytes made old (held-sized s made holds) (λ i h. fit i [] h)
+
+-- ---- one call
+
+module _ (k r : ℕ) (originals recovery : Items) (s : DecoderState) (is : IsDecoding k r originals recovery (Ok (Some s))) where
+  -- once a decoder is set up, memory may lack
+  pub decoding-short : {T : Type 0} (result : Result T Error) → result ≡ Err OutOfMemory → LacksMemory (decode_opening k r recovery) result
+  decoding-short result lacks =
+      let (first, rest, same, led) = decoding-led k r originals recovery s is in
+      let c : Configuration = default_of k r (length first.1) in
+      let valid = start_outcome-valid (decoder_rows default_rate k r) c (started-of (start_outcome (decoder_rows default_rate k r) c) _ s led) in
+      subst (λ (items : Items). LacksMemory (decode_opening k r items) result) (sym same) (ap is_ok valid, lacks)
+    where
+      started-of : (o : Result (Unit {0}) Error) (f : Unit {0} → Result DecoderState Error) (s : DecoderState) → result_and_then f o ≡ Ok s → o ≡ Ok tt
+      started-of (Ok u) f s made = refl
+      started-of (Err e) f s made = absurd (let no : ⊥ = cc in no)
+
+  -- what a decoder answers, or a want of memory, is that of one call
+  pub decoding-answered : (result : Result Shards Error) → DecodeAnswers s result ⊎ (result ≡ Err OutOfMemory) → OneDecodeAnswers k r originals recovery result
+  decoding-answered result (inl answers) = decoding-answers k r originals recovery s is result answers
+  decoding-answered result (inr lacks) = inr (decoding-short result lacks)
+
+  -- too few shards
+  pub decoding-few : (e : Error) → Err e ≡ enough_given s → OneDecodeAnswers k r originals recovery (Err e)
+  decoding-few e few = decoding-answered (Err e) (inl (few-answers s e few))
+
+  -- no message agrees, or memory lacks
+  pub decoding-none-agrees : enough_given s ≡ Ok tt → (e : Error) → NoneAgrees s e ⊎ (e ≡ OutOfMemory) → OneDecodeAnswers k r originals recovery (Err e)
+  decoding-none-agrees enough e (inl none) = decoding-answered (Err e) (inl (enough-answers s enough (Err e) none))
+  decoding-none-agrees enough e (inr lacks) = decoding-answered (Err e) (inr (ap Err lacks))
+
+  -- the restored originals, or memory lacks for them
+  pub decoding-restored : enough_given s ≡ Ok tt → (result : Result Shards Error) → MatchResult result (Restored s) (λ e. e ≡ OutOfMemory) → OneDecodeAnswers k r originals recovery result
+  decoding-restored enough (Ok out) restored = decoding-answered (Ok out) (inl (enough-answers s enough (Ok out) restored))
+  decoding-restored enough (Err e) lacks = decoding-answered (Err e) (inr (ap Err lacks))
+
+-- ---- into rooms
+
+-- what a call that was refused answers
+pub decodes-refused : (k r : ℕ) (originals recovery : Items) (e : Error) (old : List Shard) (answer : Result (Unit {0}) RoomError)
+    → OneDecodeAnswers k r originals recovery (Err e) → answer ≡ Err (Refused e) → DecodesInto k r originals recovery old old answer
+decodes-refused k r originals recovery e old answer one refused = (Err e, one, (refused, refl))
+
+-- where nothing is to be restored there is to be no room
+pub decodes-nothing : (k r : ℕ) (originals recovery : Items) (old : List Shard) (answer : Result (Unit {0}) RoomError) → IsDecoding k r originals recovery (Ok None)
+    → answer ≡ rooms_fit [] old → DecodesInto k r originals recovery old old answer
+decodes-nothing k r originals recovery old answer is fit =
+    (Ok nothing, decoding-nothing k r originals recovery is, ([], lists-none, fills [] old old answer (rooms_fit [] old) refl (by_rooms old fit)))
+  where
+    by_rooms : (old : List Shard) → answer ≡ rooms_fit [] old → MatchResult (rooms_fit [] old) (λ _. (answer ≡ Ok tt) × (old ≡ [])) (λ e. (answer ≡ Err e) × (old ≡ old))
+    by_rooms [] fit = (fit, refl)
+    by_rooms (room ∷ rooms) fit =
+        let some : (0 == length (room ∷ rooms)) ≡ false = ne_eqb 0 (length (room ∷ rooms)) (λ none. omega (arith, none)) in rw some (rw some at fit, refl)
+
+-- what is restored into rooms is what one call restores
+pub decodes-restored : (k r : ℕ) (originals recovery : Items) (s : DecoderState) (old new : List Shard) (answer : Result (Unit {0}) RoomError)
+    → IsDecoding k r originals recovery (Ok (Some s)) → RestoresInto s old new answer → DecodesInto k r originals recovery old new answer
+decodes-restored k r originals recovery s old new answer is (decoded, either, rest) = (decoded, decoding-answered k r originals recovery s is decoded either, rest)

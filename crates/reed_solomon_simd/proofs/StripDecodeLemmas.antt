@@ -1,0 +1,162 @@
+-- A round of a decoder over a strip of each received shard.
+use Rattle.std.proofs.Common.{◌≡◌, ℕ, suc, ◌+◌, ◌-◌, ◌<◌, ◌≤◌, ◌==◌, Bool, true, false, cond, List, [], ◌∷◌, length, drop, get_or, Bor, Result, Ok, Err, Option, Some, None, refl, sym, ap, ap₂, ◌∙◌, subst, inl, inr, arith}
+use Rattle.std.specs.Prelude.{is_some, nat_lt, unwrap_or, MatchResult}
+use Rattle.std.specs.List.{between}
+use Rattle.std.specs.Option.{option_map}
+use Rattle.std.proofs.lemmas.Option.{none-some}
+use Rattle.std.proofs.lemmas.List.{length-take-le, length-drop, get_or_past, get_or-map, drop_more}
+use Rattle.std.proofs.Math.Path.{fun_ext}
+use Rattle.std.proofs.lemmas.Bool.{cases_eq, cases_lt, lt-ltb, le-ltb, lt-leb, eq-eqb}
+use Rattle.rs_field.specs.declared.code.error.Error.{Error}
+use Rattle.rs_field.specs.code.Column.{Shard}
+use Rattle.rs_field.specs.code.Configuration.{configuration}
+use Rattle.rs_field.specs.code.Decoder.{DecoderState, fresh_decoder, with_original, with_recovery, enough_given, Restored, NoneAgrees, DecodeAnswers, after_decode}
+use Rattle.rs_field.specs.code.Given.{Shards, nothing, with_entry}
+use Rattle.rs_field.specs.code.PieceStates.{pieces_of, state_of_pieces, shards_listed}
+use Rattle.rs_field.specs.code.OneCall.{Items}
+use Rattle.reed_solomon_simd.specs.Received.{given_in}
+use Rattle.rs_field.specs.code.Outcome.{answer_of, state_after}
+use Rattle.rs_field.proofs.of_code.Given.{entered_cases}
+use Rattle.rs_field.proofs.of_code.RestoredBelow.{enough-pieces}
+use Rattle.reed_solomon_simd.proofs.CallerLemmas.{ended}
+
+-- the shards of a map at the indexes below a number
+abbrev pub first : ℕ → Shards → Shards
+first n given i = cond (nat_lt i n) (given i) None
+
+first-inside : (n i : ℕ) (given : Shards) → i < n → first n given i ≡ given i
+first-inside n i given inside = ap (λ (b : Bool). cond b (given i) None) (lt-ltb i n inside)
+
+first-outside : (n i : ℕ) (given : Shards) → n ≤ i → first n given i ≡ None
+first-outside n i given outside = ap (λ (b : Bool). cond b (given i) None) (le-ltb i n outside)
+
+-- at first there are none
+pub first-none : (given : Shards) → nothing ≡ first 0 given
+first-none given = fun_ext (λ i. sym (first-outside 0 i given (omega arith)))
+
+-- in the end all
+pub first-all : (n : ℕ) (given : Shards) → ((i : ℕ) → n ≤ i → given i ≡ None) → first n given ≡ given
+first-all n given none = fun_ext (λ i. elim (cases_lt i n) [
+  | inl inside ↦ first-inside n i given inside
+  | inr outside ↦ first-outside n i given outside ∙ sym (none i outside)
+])
+
+-- an index with no shard is passed over
+pub first-skipped : (n : ℕ) (given : Shards) → given n ≡ None → first n given ≡ first (n + 1) given
+first-skipped n given free = fun_ext (λ i. elim (cases_lt i n) [
+  | inl inside ↦ first-inside n i given inside ∙ sym (first-inside (n + 1) i given (omega (arith, inside)))
+  | inr outside ↦ first-outside n i given outside ∙ elim (cases_eq i n) [
+    | inl same ↦ sym (first-inside (n + 1) i given (omega (arith, same)) ∙ ap given same ∙ free)
+    | inr other ↦ sym (first-outside (n + 1) i given (omega (arith, outside, other)))
+  ]
+])
+
+-- one with a shard is entered
+first-entered : (n : ℕ) (given : Shards) (shard : Shard) → given n ≡ Some shard → with_entry (first n given) n shard ≡ first (n + 1) given
+first-entered n given shard found = fun_ext (λ i. elim (entered_cases (first n given) n i shard) [
+  | inl here ↦ here.1 ∙ sym found ∙ sym (ap given here.0) ∙ sym (first-inside (n + 1) i given (omega (arith, here.0)))
+  | inr other ↦ other.1 ∙ elim (cases_lt i n) [
+    | inl inside ↦ first-inside n i given inside ∙ sym (first-inside (n + 1) i given (omega (arith, inside)))
+    | inr outside ↦ first-outside n i given outside ∙ sym (first-outside (n + 1) i given (omega (arith, outside, other.0)))
+  ]
+])
+
+-- a piece is as long as the strip
+pub piece-sized : (start end i : ℕ) (given : Shards) (piece : Shard) → start ≤ end → ((i : ℕ) (shard : Shard) → given i ≡ Some shard → end ≤ length shard)
+    → pieces_of start end given i ≡ Some piece → length piece ≡ end - start
+piece-sized start end i given piece order inside found = by_shard (given i) refl found
+  where
+    by_shard : (o : Option Shard) → given i ≡ o → option_map (λ s. between start end s) o ≡ Some piece → length piece ≡ end - start
+    by_shard (Some shard) is found =
+        let room = inside i shard is in
+        ap length (ap (λ o. unwrap_or o piece) (sym found))
+        ∙ length-take-le (end - start) (drop start shard) (omega (arith, length-drop start shard, room, order))
+    by_shard None is found = absurd (none-some piece found)
+
+-- after the last place there is none
+pub places-past : (start end n : ℕ) (places : List (Option (Bor Shard))) → length places ≤ n → (i : ℕ) → n ≤ i → pieces_of start end (given_in places) i ≡ None
+places-past start end n places past i outside =
+    ap (λ o. option_map (λ s. between start end s) (option_map (λ (s : Bor Shard). s.now) o)) (get_or_past places i None (omega (arith, past, outside)))
+
+module _ (s now : DecoderState) (n : ℕ) (given : Shards) (shard : Shard) (found : given n ≡ Some shard) (sized : length shard ≡ s.configuration.shard_bytes) where
+  module _ (is : now ≡ record s { originals = first n given }) (inside : n < s.configuration.original_count) where
+    -- a decoder with the originals below an index takes the next one
+    original-taken : with_original now n shard ≡ Ok (record s { originals = first (n + 1) given })
+    original-taken =
+        ap (λ (t : DecoderState). with_original t n shard) is
+        ∙ rw (lt-leb s.configuration.original_count n inside, first-outside n n given (let e : n ≤ n = omega arith in e), eq-eqb (length shard) s.configuration.shard_bytes sized)
+        (ap (λ (g : Shards). Ok (record s { originals = g })) (first-entered n given shard found))
+
+    pub original-next : (next : DecoderState) → next ≡ state_after now (with_original now n shard) → next ≡ record s { originals = first (n + 1) given }
+    original-next next left = left ∙ ap (state_after now) original-taken
+
+    pub original-refused : (e : Error) → Err e ≡ answer_of (with_original now n shard) → ⊥
+    original-refused e refused = let answer = refused ∙ ap answer_of original-taken in let no : ⊥ = cc in no
+
+  module _ (is : now ≡ record s { recovery = first n given }) (inside : n < s.configuration.recovery_count) where
+    -- a decoder with the recovery shards below an index takes the next one
+    recovery-taken : with_recovery now n shard ≡ Ok (record s { recovery = first (n + 1) given })
+    recovery-taken =
+        ap (λ (t : DecoderState). with_recovery t n shard) is
+        ∙ rw (lt-leb s.configuration.recovery_count n inside, first-outside n n given (let e : n ≤ n = omega arith in e), eq-eqb (length shard) s.configuration.shard_bytes sized)
+        (ap (λ (g : Shards). Ok (record s { recovery = g })) (first-entered n given shard found))
+
+    pub recovery-next : (next : DecoderState) → next ≡ state_after now (with_recovery now n shard) → next ≡ record s { recovery = first (n + 1) given }
+    recovery-next next left = left ∙ ap (state_after now) recovery-taken
+
+    pub recovery-refused : (e : Error) → Err e ≡ answer_of (with_recovery now n shard) → ⊥
+    recovery-refused e refused = let answer = refused ∙ ap answer_of recovery-taken in let no : ⊥ = cc in no
+
+-- ---- pieces that are put, one after another
+
+-- the first of the items that are left, and those after it
+pub left-next : (n : ℕ) (items rest : Items) (item : ℕ × Shard) → n ≤ length items → drop n items ≡ item ∷ rest
+    → (n < length items) × (get_or (shards_listed items) n [] ≡ item.1) × (drop (n + 1) items ≡ rest)
+left-next n items rest item most left =
+    let long = length-drop n items in
+    let some : length (drop n items) ≡ suc (length rest) = ap length left in
+    let inside : n < length items = omega (arith, long, some, most) in
+    let both : get_or items n item ∷ drop (n + 1) items ≡ item ∷ rest = sym (drop_more items n item inside) ∙ left in (
+      inside,
+      get_or-map (λ (x : ℕ × Shard). x.1) items n item [] inside ∙ (let same : get_or items n item ≡ item = cc in ap (λ (x : ℕ × Shard). x.1) same),
+      (let same : drop (n + 1) items ≡ rest = cc in same),
+    )
+
+-- where none is left all were taken
+pub left-none : (n : ℕ) (items : Items) → n ≤ length items → drop n items ≡ [] → n ≡ length items
+left-none n items most left = let long = length-drop n items in let none : length (drop n items) ≡ 0 = ap length left in omega (arith, long, none, most)
+
+-- ---- a round
+
+-- what is added piece by piece
+pub pieces-added : (start end : ℕ) (x zero one two : DecoderState) (own other : List (Option (Bor Shard)))
+    → zero ≡ fresh_decoder (configuration x.configuration.rate x.configuration.original_count x.configuration.recovery_count (end - start))
+    → one ≡ record zero { originals = pieces_of start end (given_in own) } → two ≡ record one { recovery = pieces_of start end (given_in other) }
+    → given_in own ≡ x.originals → given_in other ≡ x.recovery → two ≡ state_of_pieces start end x
+pieces-added start end x zero one two own other fresh first second originals recovery =
+    second
+    ∙ ap₂ (λ (s : DecoderState) (g : Shards). record s { recovery = pieces_of start end g })
+    (first ∙ ap₂ (λ (s : DecoderState) (g : Shards). record s { originals = pieces_of start end g }) fresh originals) recovery
+
+module _ (start end : ℕ) (x state : DecoderState) (is : state ≡ state_of_pieces start end x) (enough : enough_given x ≡ Ok tt) where
+  enough-here : enough_given (state_of_pieces start end x) ≡ Ok tt
+  enough-here = enough-pieces start end x ∙ enough
+
+  answers-here : (result : Result Shards Error) → DecodeAnswers state result
+      → MatchResult result (Restored (state_of_pieces start end x)) (NoneAgrees (state_of_pieces start end x))
+  answers-here result answers =
+      let here = subst (λ (s : DecoderState). DecodeAnswers s result) is answers in
+      subst (λ (o : Result (Unit {0}) Error). MatchResult o (λ _. MatchResult result (Restored (state_of_pieces start end x)) (NoneAgrees (state_of_pieces start end x)))
+      (λ e. result ≡ Err e)) enough-here here
+
+  -- what a round restores of the pieces
+  pub round-made : (out : Shards) → DecodeAnswers state (Ok out) → Restored (state_of_pieces start end x) out
+  round-made out answers = answers-here (Ok out) answers
+
+  -- its refusal is that no message agrees
+  pub round-refused : (e : Error) → DecodeAnswers state (Err e) → NoneAgrees (state_of_pieces start end x) e
+  round-refused e answers = answers-here (Err e) answers
+
+  -- it leaves nothing added
+  pub round-ends : after_decode state ≡ fresh_decoder (state_of_pieces start end x).configuration
+  round-ends = ap after_decode is ∙ ended (state_of_pieces start end x) enough-here

@@ -1,0 +1,11 @@
+use Rattle.std.proofs.Common.{rules, ◌<◌, subst, sym, arith}
+use Rattle.rs_field.specs.code.Given.{Shards, AreWithin}
+use Rattle.reed_solomon_simd.proofs.ReceivedLemmas.{entered-within}
+use Rattle.reed_solomon_simd.proofs.received_shards.ReceivedShards.add_original.Goals as goal
+
+pub invariant_of-self-clause-originals_within : goal.invariant_of-self-clause-originals_within
+invariant_of-self-clause-originals_within c =
+    let x = c.args.self.now in
+    let inside : c.args.index < x.counts.original_count = omega (arith, c.if-index-original_count.false) in
+    subst (AreWithin x.counts.original_count x.shard_bytes) (sym c.enter.ensures.entered)
+    (entered-within x.counts.original_count x.shard_bytes _ c.args.index c.args.shard.now inside c.in_ok-check_size.ensures.shard x.originals_within)

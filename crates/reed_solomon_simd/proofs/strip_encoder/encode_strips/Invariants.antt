@@ -1,0 +1,23 @@
+use Rattle.std.proofs.Common.{◌≡◌, ◌⊎◌, ◌-◌, ◌%◌, ◌≤◌}
+use Rattle.rs_field.specs.code.Counts.{default_rate}
+use Rattle.rs_field.specs.code.Encoder.{fresh_encoder}
+use Rattle.rs_field.specs.code.OneCall.{default_of}
+use Rattle.rs_field.proofs.of_code.Pieces.{IsDone}
+use Rattle.rs_rate.specs.EncoderView.{encoder_state}
+use Rattle.reed_solomon_simd.specs.Rooms.{shards_of}
+use Rattle.reed_solomon_simd.proofs.strip_encoder.encode_strips.Given as goal
+
+-- whole strips are coded up to a byte, where a chunk begins or the shards end
+abbrev pub invariant-loop-start : goal.invariant-loop-start
+invariant-loop-start g l =
+    record {
+      inside : l.start ≤ l.shard_bytes;
+      begins : (l.start % 64 ≡ 0) ⊎ (l.start ≡ l.shard_bytes);
+      fresh : encoder_state default_rate l.encoder.rows ≡ fresh_encoder (default_of l.counts.original_count l.counts.recovery_count l.width);
+      done : IsDone l.counts.original_count l.counts.recovery_count l.shard_bytes l.start g.R.Rooms.grows default_rate (shards_of l.originals) (g.R.Rooms.held l.rooms);
+      places : g.R.Rooms.places l.rooms ≡ g.R.Rooms.places l.initial.rooms;
+      loan : g.R.Rooms.loan l.rooms ≡ g.R.Rooms.loan l.initial.rooms;
+    }
+
+abbrev pub decreases-loop-start : goal.decreases-loop-start
+decreases-loop-start g l = l.shard_bytes - l.start

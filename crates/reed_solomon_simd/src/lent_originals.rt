@@ -1,0 +1,242 @@
+//! The originals of one message, which are gathered without copying them.
+ghost use Rattle.std.specs.Prelude.{◌≡◌, ◌≤◌, [], All, Ok, IfOk, IfErr, vec_len};
+ghost use Rattle.std.specs.Vec.{vec_capacity};
+ghost use Rattle.rs_field.specs.code.Column.{IsShard};
+ghost use Rattle.rs_field.specs.code.Configuration.{start_outcome};
+ghost use Rattle.rs_field.specs.code.Counts.{default_rate};
+ghost use Rattle.rs_field.specs.code.OneCall.{default_of};
+ghost use Rattle.rs_field.specs.code.Placement.{encoder_rows};
+ghost use Rattle.reed_solomon_simd.specs.Rooms.{shards_of};
+
+use crate::rooms::{LentRooms, Rooms};
+use crate::strip_encoder::encode_strips;
+use rs_field::bytes::are_bytes;
+use rs_field::engine::Engine;
+use rs_field::error::Error;
+use rs_rate::rate::DefaultRateCounts;
+use std::alloc::Global;
+
+/// The originals of one message, in order.
+#[derive(Drop)]
+pub struct LentOriginals<'a> {
+    counts: DefaultRateCounts,
+    shard_bytes: usize,
+    shards: Vec<&'a [u8]>,
+    pub ghost no_more: { vec_len shards ≤ counts.original_count },
+    pub ghost room: { counts.original_count ≤ vec_capacity shards },
+    pub ghost sized: { All (IsShard shard_bytes) (shards_of shards.items) },
+    pub ghost set_up: { start_outcome (encoder_rows default_rate counts.original_count counts.recovery_count)
+        (default_of counts.original_count counts.recovery_count shard_bytes) ≡ Ok tt },
+}
+
+impl<'a> LentOriginals<'a> {
+    ghost use Rattle.std.specs.Prelude.{◌≡◌, ◌≤◌, List, All, IfOk, MatchResult, OnOk, OnErr, Err, true, false, length};
+    ghost use Rattle.std.specs.Iterator.{IsFinite};
+    ghost use Rattle.std.specs.Result.{result_map_both};
+    ghost use Rattle.rs_field.specs.code.Code.{AreRecovery};
+    ghost use Rattle.rs_field.specs.code.Column.{Shard};
+    ghost use Rattle.rs_field.specs.code.Configuration.{UpToMemory};
+    ghost use Rattle.rs_field.specs.code.Encoder.{fresh_encoder, with_shard, message_of};
+    ghost use Rattle.rs_field.specs.code.OneCall.{with_shards, collected_shards};
+    ghost use Rattle.rs_field.specs.code.Outcome.{answer_of, state_after};
+    ghost use Rattle.rs_field.specs.code.Pieces.{room_length};
+    ghost use Rattle.rs_rate.specs.Calls.{Calls, BeginsWith};
+    ghost use Rattle.rs_rate.specs.Giving.{Reaches, IsEncoding};
+    ghost use Rattle.reed_solomon_simd.specs.Gathered.{gathered};
+    ghost use Rattle.reed_solomon_simd.specs.Rooms.{bytes_in, loans_of};
+
+    // No originals, for these counts and this size.
+    fn new(
+        alloc: Global,
+        counts: DefaultRateCounts,
+        shard_bytes: usize,
+    ) -> Result<LentOriginals<'a>, Error>
+        ensures answer { let c = default_of counts.original_count counts.recovery_count shard_bytes in
+            UpToMemory (start_outcome (encoder_rows default_rate c.original_count c.recovery_count) c) (answer_of result) }
+        ensures counts { IfOk result (λ x. x.counts ≡ counts) }
+        ensures made { IfOk result (λ x. gathered x ≡ fresh_encoder (default_of counts.original_count counts.recovery_count shard_bytes)) }
+    {
+        counts.check_encoder_rows(shard_bytes)?;
+        Ok(LentOriginals {
+            counts,
+            shard_bytes,
+            shards: Vec::with_capacity(alloc, counts.original_count)?,
+        })
+    }
+
+    /// Gathers all `original` shards for these counts. The shard size is that of the first original.
+    ///
+    /// # Errors
+    ///
+    /// - [`Error::TooFewOriginalShards`] with 0 received shards if no original comes.
+    /// - [`Error::InvalidShardSize`] or [`Error::OutOfMemory`] for the size of the first original.
+    /// - For each original in order: [`Error::TooManyOriginalShards`], then [`Error::DifferentShardSize`]. No further
+    ///   original is asked for.
+    pub fn gather<I: Iterator<Item = &'a [u8]> + Drop>(
+        alloc: Global,
+        counts: DefaultRateCounts,
+        mut original: I,
+    ) -> Result<LentOriginals<'a>, Error>
+        requires can { I.can_next original }
+        requires ends { IsFinite (I.remaining original) }
+        ensures gathered { (calls : Calls I.next_gives original) × ((items : List Shard) → BeginsWith items calls
+            → IsEncoding counts.original_count counts.recovery_count items (result_map_both gathered (λ e. e) result)) }
+        ensures counts { IfOk result (λ x. x.counts ≡ counts) }
+    {
+        let Some(first) = original.next() else {
+            return Err(Error::TooFewOriginalShards {
+                original_count: counts.original_count,
+                original_received_count: 0,
+            });
+        };
+        let mut originals: LentOriginals<'a> = LentOriginals::new(alloc, counts, first.len())?;
+        originals.add(first)?;
+        originals.add_all(original)?;
+        Ok(originals)
+    }
+
+    // Adds the next original.
+    fn add(&mut self, shard: &'a [u8]) -> Result<(), Error>
+        ensures answer { result ≡ answer_of (with_shard (gathered self.old) shard.now) }
+        ensures left { gathered self.new ≡ state_after (gathered self.old) (with_shard (gathered self.old) shard.now) }
+        ensures counts { self.new.counts ≡ self.old.counts }
+    {
+        let original_count = self.counts.original_count;
+        if self.shards.len() == original_count {
+            return Err(Error::TooManyOriginalShards { original_count });
+        }
+        if shard.len() != self.shard_bytes {
+            return Err(Error::DifferentShardSize {
+                shard_bytes: self.shard_bytes,
+                got: shard.len(),
+            });
+        }
+        are_bytes(shard);
+        self.shards.push_reserved(shard);
+        Ok(())
+    }
+
+    // Adds originals in order, up to the first that is refused.
+    fn add_all<I: Iterator<Item = &'a [u8]> + Drop>(&mut self, originals: I) -> Result<(), Error>
+        requires can { I.can_next originals }
+        requires ends { IsFinite (I.remaining originals) }
+        ensures reaches { (calls : Calls I.next_gives originals) × ((items : List Shard) → BeginsWith items calls
+            → Reaches (with_shards (gathered self.old) items) result (λ s. gathered self.new ≡ s)) }
+        ensures counts { self.new.counts ≡ self.old.counts }
+    {
+        for shard in originals {
+            self.add(shard)?;
+        }
+        Ok(())
+    }
+
+    /// Returns the size of the originals, in bytes.
+    pub fn shard_bytes(&self) -> usize
+        ensures { result ≡ self.now.shard_bytes }
+    {
+        self.shard_bytes
+    }
+
+    /// Checks that all originals were gathered.
+    ///
+    /// # Errors
+    ///
+    /// [`Error::TooFewOriginalShards`] if originals are missing.
+    pub fn check_all_given(&self) -> Result<(), Error>
+        ensures { result ≡ answer_of (message_of (gathered self.now)) }
+    {
+        let original_count = self.counts.original_count;
+        if self.shards.len() < original_count {
+            return Err(Error::TooFewOriginalShards {
+                original_count,
+                original_received_count: self.shards.len(),
+            });
+        }
+        Ok(())
+    }
+
+    /// Writes the recovery shards into rooms.
+    ///
+    /// # Errors
+    ///
+    /// [`Error::OutOfMemory`] if the work area cannot be allocated, or if a room cannot grow.
+    pub fn encode<E: Engine, R: Rooms>(
+        &self,
+        alloc: Global,
+        engine: E,
+        rooms: &mut R,
+    ) -> Result<(), Error>
+        requires all { answer_of (message_of (gathered self.now)) ≡ Ok tt }
+        requires number { length (R.held rooms.old) ≡ self.now.counts.recovery_count }
+        requires fit { All (λ room. length room ≡ room_length R.grows 0 self.now.shard_bytes) (R.held rooms.old) }
+        ensures coded { OnOk result (AreRecovery (gathered self.now).configuration (gathered self.now).given (R.held rooms.new)) }
+        ensures refused { OnErr result (result ≡ Err Error.OutOfMemory) }
+        ensures untouched { R.grows ≡ false → OnErr result (R.held rooms.new ≡ R.held rooms.old) }
+        ensures places { R.places rooms.new ≡ R.places rooms.old }
+        ensures loan { R.loan rooms.new ≡ R.loan rooms.old }
+    {
+        encode_strips(
+            alloc,
+            self.counts,
+            self.shard_bytes,
+            engine,
+            self.shards.as_slice(),
+            rooms,
+        )
+    }
+
+    /// Writes the recovery shards into memory of the caller.
+    ///
+    /// # Errors
+    ///
+    /// [`Error::OutOfMemory`] if the work area cannot be allocated.
+    pub fn encode_lent<E: Engine>(
+        &self,
+        alloc: Global,
+        engine: E,
+        recovery: &mut [&mut [u8]],
+    ) -> Result<(), Error>
+        requires all { answer_of (message_of (gathered self.now)) ≡ Ok tt }
+        requires number { length recovery.old ≡ self.now.counts.recovery_count }
+        requires fit { All (λ room. length room ≡ self.now.shard_bytes) (bytes_in recovery.old) }
+        ensures coded { OnOk result (AreRecovery (gathered self.now).configuration (gathered self.now).given (bytes_in recovery.new)) }
+        ensures refused { OnErr result (result ≡ Err Error.OutOfMemory) }
+        ensures untouched { OnErr result (bytes_in recovery.new ≡ bytes_in recovery.old) }
+        ensures kept { loans_of recovery.new ≡ loans_of recovery.old }
+    {
+        let mut rooms = LentRooms { rooms: recovery };
+        self.encode(alloc, engine, &mut rooms)
+    }
+
+    /// Returns the recovery shards as vectors.
+    ///
+    /// # Errors
+    ///
+    /// [`Error::OutOfMemory`] if the work area or the vectors cannot be allocated.
+    pub fn encode_vectors<E: Engine>(&self, alloc: Global, engine: E) -> Result<Vec<Vec<u8>>, Error>
+        requires all { answer_of (message_of (gathered self.now)) ≡ Ok tt }
+        ensures { MatchResult (collected_shards result)
+            (λ recovery. AreRecovery (gathered self.now).configuration (gathered self.now).given recovery) (λ e. e ≡ Error.OutOfMemory) }
+    {
+        let mut vectors = empty_vectors(alloc, self.counts.recovery_count, self.shard_bytes)?;
+        self.encode(alloc, engine, &mut vectors)?;
+        Ok(vectors)
+    }
+}
+
+// Empty vectors with memory for so many bytes each.
+pub(crate) fn empty_vectors(
+    alloc: Global,
+    count: usize,
+    bytes: usize,
+) -> Result<Vec<Vec<u8>>, Error>
+    ensures number { IfOk result (λ vectors. vec_len vectors ≡ count) }
+    ensures empty { IfOk result (λ vectors. All (λ vector. vector.items ≡ []) vectors.items) }
+    ensures refused { IfErr result (λ e. e ≡ Error.OutOfMemory) }
+{
+    let mut vectors = Vec::with_capacity(alloc, count)?;
+    while vectors.len() < count {
+        vectors.push(Vec::with_capacity(alloc, bytes)?)?;
+    }
+    Ok(vectors)
+}

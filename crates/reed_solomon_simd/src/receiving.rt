@@ -1,0 +1,82 @@
+//! Collecting the shards that were received of a message.
+ghost use Rattle.std.specs.Prelude.{◌≡◌};
+ghost use Rattle.std.specs.Iterator.{IsFinite};
+ghost use Rattle.std.specs.Option.{option_map};
+ghost use Rattle.std.specs.Result.{result_map_both};
+ghost use Rattle.rs_field.specs.code.OneCall.{Items, with_originals, with_recoveries};
+ghost use Rattle.rs_rate.specs.Calls.{Calls, BeginsWithItems};
+ghost use Rattle.rs_rate.specs.Giving.{Reaches, IsDecoding};
+ghost use Rattle.reed_solomon_simd.specs.ReceivedState.{received_state};
+
+use crate::received_shards::ReceivedShards;
+use rs_field::error::Error;
+use rs_rate::rate::DefaultRateCounts;
+use rs_rate::rate::originals_alone::check_originals_alone;
+use std::alloc::Global;
+
+/// Returns the received shards, or `None` if no recovery shard comes and every original is there. The shard size is that
+/// of the first recovery shard.
+///
+/// # Errors
+///
+/// The errors of `given_decoder`, in the same order. No further shard is asked for.
+pub fn received_shards<'a, O, R>(
+    alloc: Global,
+    counts: DefaultRateCounts,
+    original: O,
+    mut recovery: R,
+) -> Result<Option<ReceivedShards<'a>>, Error>
+where
+    O: Iterator<Item = (usize, &'a [u8])> + Drop,
+    R: Iterator<Item = (usize, &'a [u8])> + Drop,
+    requires can { O.can_next original }
+    requires ends { IsFinite (O.remaining original) }
+    requires can_recovery { R.can_next recovery }
+    requires recovery_ends { IsFinite (R.remaining recovery) }
+    ensures { (calls : Calls O.next_gives original) × (further : Calls R.next_gives recovery) × ((originals recoveries : Items)
+        → BeginsWithItems originals calls → BeginsWithItems recoveries further
+        → IsDecoding counts.original_count counts.recovery_count originals recoveries
+        (result_map_both (λ o. option_map received_state o) (λ e. e) result)) }
+{
+    let Some((first_index, first_shard)) = recovery.next() else {
+        check_originals_alone(alloc, counts.original_count, original)?;
+        return Ok(None);
+    };
+    let mut received: ReceivedShards<'a> = ReceivedShards::new(alloc, counts, first_shard.len())?;
+    add_originals(&mut received, original)?;
+    received.add_recovery(first_index, first_shard)?;
+    add_recovery(&mut received, recovery)?;
+    Ok(Some(received))
+}
+
+// Adds originals in order, up to the first that is not accepted.
+fn add_originals<'a, I: Iterator<Item = (usize, &'a [u8])> + Drop>(
+    received: &mut ReceivedShards<'a>,
+    originals: I,
+) -> Result<(), Error>
+    requires can { I.can_next originals }
+    requires ends { IsFinite (I.remaining originals) }
+    ensures { (calls : Calls I.next_gives originals) × ((items : Items) → BeginsWithItems items calls
+        → Reaches (with_originals (received_state received.old) items) result (λ s. received_state received.new ≡ s)) }
+{
+    for (index, shard) in originals {
+        received.add_original(index, shard)?;
+    }
+    Ok(())
+}
+
+// Adds recovery shards in order, up to the first that is not accepted.
+fn add_recovery<'a, I: Iterator<Item = (usize, &'a [u8])> + Drop>(
+    received: &mut ReceivedShards<'a>,
+    recovery: I,
+) -> Result<(), Error>
+    requires can { I.can_next recovery }
+    requires ends { IsFinite (I.remaining recovery) }
+    ensures { (calls : Calls I.next_gives recovery) × ((items : Items) → BeginsWithItems items calls
+        → Reaches (with_recoveries (received_state received.old) items) result (λ s. received_state received.new ≡ s)) }
+{
+    for (index, shard) in recovery {
+        received.add_recovery(index, shard)?;
+    }
+    Ok(())
+}

@@ -1,0 +1,188 @@
+//! The missing originals of received shards: as vectors, and in memory of the caller.
+ghost use Rattle.std.specs.Prelude.{◌≡◌, ◌⊎◌, ◌+◌, All, true, Ok, Err, List, length, map, MatchResult, OnOk, OnErr};
+ghost use Rattle.rs_field.specs.code.Column.{Shard};
+ghost use Rattle.rs_field.specs.code.Decoder.{enough_given, originals_given, recovery_given, Restored, NoneAgrees};
+ghost use Rattle.rs_field.specs.code.OneCall.{collected_shards, collected_map};
+ghost use Rattle.rs_field.specs.code.Pieces.{ArePut, room_length};
+ghost use Rattle.rs_field.specs.code.PieceStates.{HoldRestored};
+ghost use Rattle.reed_solomon_simd.specs.Into.{RestoresInto};
+ghost use Rattle.reed_solomon_simd.specs.ReceivedState.{received_state};
+ghost use Rattle.reed_solomon_simd.specs.Rooms.{bytes_in, loans_of};
+
+use crate::RoomError;
+use crate::lent_originals::empty_vectors;
+use crate::received_shards::ReceivedShards;
+use crate::rooms::{LentRooms, Rooms, check_rooms};
+use crate::strip_decoder::decode_strips;
+use rs_field::engine::Engine;
+use rs_field::error::Error;
+use std::alloc::Global;
+use std::collections::BTreeMap;
+
+/// Returns the missing originals as vectors, in order of index.
+///
+/// # Errors
+///
+/// - [`Error::InconsistentShards`] if no message matches all received shards.
+/// - [`Error::OutOfMemory`] if the work area or the vectors cannot be allocated.
+pub fn restore_vectors<E: Engine>(
+    alloc: Global,
+    received: &ReceivedShards<'_>,
+    engine: E,
+) -> Result<Vec<Vec<u8>>, Error>
+    requires { enough_given (received_state received.now) ≡ Ok tt }
+    ensures { MatchResult (collected_shards result) (HoldRestored (received_state received.now))
+        (λ e. NoneAgrees (received_state received.now) e ⊎ (e ≡ Error.OutOfMemory)) }
+{
+    let mut vectors = empty_vectors(alloc, received.missing(), received.shard_bytes)?;
+    decode_strips(alloc, received, engine, &mut vectors)?;
+    Ok(vectors)
+}
+
+/// Writes the missing originals into rooms of their size, in order of index, where as many shards as originals were
+/// received. Any such shards have a message.
+///
+/// # Errors
+///
+/// [`Error::OutOfMemory`] if the work area cannot be allocated. The rooms then hold what they held.
+pub fn restore_lent<E: Engine>(
+    alloc: Global,
+    received: &ReceivedShards<'_>,
+    engine: E,
+    rooms: &mut [&mut [u8]],
+) -> Result<(), Error>
+    requires enough { enough_given (received_state received.now) ≡ Ok tt }
+    requires exact { originals_given (received_state received.now) + recovery_given (received_state received.now) ≡ received.now.counts.original_count }
+    requires number { length rooms.old + originals_given (received_state received.now) ≡ received.now.counts.original_count }
+    requires fit { All (λ room. length room ≡ received.now.shard_bytes) (bytes_in rooms.old) }
+    ensures restored { OnOk result (HoldRestored (received_state received.now) (bytes_in rooms.new)) }
+    ensures refused { OnErr result (result ≡ Err Error.OutOfMemory) }
+    ensures untouched { OnErr result (bytes_in rooms.new ≡ bytes_in rooms.old) }
+    ensures kept { loans_of rooms.new ≡ loans_of rooms.old }
+{
+    let mut lent = LentRooms { rooms };
+    decode_strips(alloc, received, engine, &mut lent)
+}
+
+/// Writes the missing originals into rooms of the caller, in order of index. With surplus shards they go to vectors first,
+/// since a later strip may show that no message matches.
+///
+/// # Errors
+///
+/// - [`RoomError::Refused`] with [`Error::NotEnoughShards`], [`Error::InconsistentShards`] or [`Error::OutOfMemory`].
+/// - [`RoomError::WrongNumberOfRooms`] if the rooms are more or fewer than the missing originals.
+/// - [`RoomError::WrongLength`] for the first room that does not have the size of the shards.
+///
+/// After an error the rooms hold what they held.
+pub fn restore_into<E: Engine>(
+    alloc: Global,
+    received: &ReceivedShards<'_>,
+    engine: E,
+    rooms: &mut [&mut [u8]],
+) -> Result<(), RoomError>
+    ensures answer { RestoresInto (received_state received.now) (bytes_in rooms.old) (bytes_in rooms.new) result }
+    ensures kept { loans_of rooms.new ≡ loans_of rooms.old }
+{
+    let surplus = received.surplus()?;
+    if can_be_written(surplus, received, rooms) {
+        return restore_directly(alloc, received, engine, rooms);
+    }
+    restore_by_vectors(alloc, received, engine, rooms)
+}
+
+// Whether no message is needed to know that the shards have one, and each missing original has a room of its size.
+fn can_be_written(surplus: usize, received: &ReceivedShards<'_>, rooms: &[&mut [u8]]) -> bool
+    ensures exact { result ≡ true → surplus ≡ 0 }
+    ensures number { result ≡ true → length rooms.now + originals_given (received_state received.now) ≡ received.now.counts.original_count }
+    ensures fit { result ≡ true → All (λ room. length room ≡ received.now.shard_bytes) (bytes_in rooms.now) }
+{
+    surplus == 0 && check_rooms(received.missing(), received.shard_bytes, rooms).is_ok()
+}
+
+// Writes the missing originals into rooms strip by strip.
+fn restore_directly<E: Engine>(
+    alloc: Global,
+    received: &ReceivedShards<'_>,
+    engine: E,
+    rooms: &mut [&mut [u8]],
+) -> Result<(), RoomError>
+    requires enough { enough_given (received_state received.now) ≡ Ok tt }
+    requires exact { originals_given (received_state received.now) + recovery_given (received_state received.now) ≡ received.now.counts.original_count }
+    requires number { length rooms.old + originals_given (received_state received.now) ≡ received.now.counts.original_count }
+    requires fit { All (λ room. length room ≡ received.now.shard_bytes) (bytes_in rooms.old) }
+    ensures answer { RestoresInto (received_state received.now) (bytes_in rooms.old) (bytes_in rooms.new) result }
+    ensures kept { loans_of rooms.new ≡ loans_of rooms.old }
+{
+    restore_lent(alloc, received, engine, rooms)?;
+    Ok(())
+}
+
+// Writes the missing originals into rooms, once all of them are restored.
+fn restore_by_vectors<E: Engine>(
+    alloc: Global,
+    received: &ReceivedShards<'_>,
+    engine: E,
+    rooms: &mut [&mut [u8]],
+) -> Result<(), RoomError>
+    requires enough { enough_given (received_state received.now) ≡ Ok tt }
+    ensures answer { RestoresInto (received_state received.now) (bytes_in rooms.old) (bytes_in rooms.new) result }
+    ensures kept { loans_of rooms.new ≡ loans_of rooms.old }
+{
+    let vectors = restore_vectors(alloc, received, engine)?;
+    check_rooms(received.missing(), received.shard_bytes, rooms)?;
+    fill_rooms(vectors.as_slice(), received.shard_bytes, rooms);
+    Ok(())
+}
+
+// Writes vectors into rooms of their size.
+fn fill_rooms(vectors: &[Vec<u8>], shard_bytes: usize, rooms: &mut [&mut [u8]])
+    requires number { length vectors.now ≡ length rooms.old }
+    requires sized { All (λ vector. length vector.items ≡ shard_bytes) vectors.now }
+    requires fit { All (λ room. length room ≡ shard_bytes) (bytes_in rooms.old) }
+    ensures filled { bytes_in rooms.new ≡ map (λ vector. vector.items) vectors.now }
+    ensures kept { loans_of rooms.new ≡ loans_of rooms.old }
+{
+    let mut lent = LentRooms { rooms };
+    let _ = put_all(vectors, shard_bytes, &mut lent);
+}
+
+// Puts each vector into its room, from the first byte on.
+fn put_all<R: Rooms>(vectors: &[Vec<u8>], shard_bytes: usize, rooms: &mut R) -> Result<(), Error>
+    requires number { length vectors.now ≡ length (R.held rooms.old) }
+    requires sized { All (λ vector. length vector.items ≡ shard_bytes) vectors.now }
+    requires fit { All (λ room. length room ≡ room_length R.grows 0 shard_bytes) (R.held rooms.old) }
+    ensures put { OnOk result (ArePut 0 shard_bytes (map (λ vector. vector.items) vectors.now) (R.held rooms.old) (R.held rooms.new)) }
+    ensures refused { OnErr result ((R.grows ≡ true) × (result ≡ Err Error.OutOfMemory)) }
+    ensures places { R.places rooms.new ≡ R.places rooms.old }
+    ensures loan { R.loan rooms.new ≡ R.loan rooms.old }
+{
+    for index in 0..vectors.len() {
+        rooms.put(index, 0, vectors[index].as_slice())?;
+    }
+    Ok(())
+}
+
+/// Returns restored originals by their index.
+///
+/// # Errors
+///
+/// [`Error::OutOfMemory`] if the map cannot be allocated.
+pub fn by_index(
+    alloc: Global,
+    received: &ReceivedShards<'_>,
+    restored: Vec<Vec<u8>>,
+) -> Result<BTreeMap<usize, Vec<u8>>, Error>
+    requires { HoldRestored (received_state received.now) (map (λ vector. vector.items) restored.items) }
+    ensures { MatchResult (collected_map result) (Restored (received_state received.now)) (λ e. e ≡ Error.OutOfMemory) }
+{
+    let mut vectors = BTreeMap::new(alloc);
+    let mut left = restored.into_iter();
+    for index in 0..received.counts.original_count {
+        if received.originals.shards[index].is_none() {
+            if let Some(shard) = left.next() {
+                vectors.insert(index, shard)?;
+            }
+        }
+    }
+    Ok(vectors)
+}

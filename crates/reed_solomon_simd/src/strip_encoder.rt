@@ -1,0 +1,133 @@
+//! Encoding strip by strip. The work area has room for one strip of each shard, so it stays in the cache. A strip of each
+//! original goes into it, and a strip of each recovery shard goes from it into the rooms.
+ghost use Rattle.std.specs.Prelude.{◌≡◌, ℕ, List, ◌-◌, ◌+◌, ◌≤◌, All, true, false, length, Ok, Err, OnOk, OnErr};
+ghost use Rattle.rs_field.specs.code.Code.{AreRecovery};
+ghost use Rattle.rs_field.specs.code.Column.{Shard};
+ghost use Rattle.rs_field.specs.code.Configuration.{validation_outcome};
+ghost use Rattle.rs_field.specs.code.Counts.{default_rate};
+ghost use Rattle.rs_field.specs.code.Encoder.{fresh_encoder};
+ghost use Rattle.rs_field.specs.code.OneCall.{default_of, with_shards};
+ghost use Rattle.rs_field.specs.code.Pieces.{pieces, ArePut, room_length};
+ghost use Rattle.rs_rate.specs.EncoderView.{encoder_state};
+ghost use Rattle.rs_rate.specs.Giving.{Reaches};
+ghost use Rattle.rs_rate.specs.ResultView.{recovery_shards};
+ghost use Rattle.reed_solomon_simd.specs.Rooms.{shards_of};
+
+use crate::rooms::Rooms;
+use rs_field::engine::{Engine, Steps};
+use rs_field::error::Error;
+use rs_rate::EncoderResult;
+use rs_rate::rate::rounds::{encode_round, lent_recovery};
+use rs_rate::rate::{DefaultRateCounts, DefaultRateEncoder, RateEncoder};
+use std::alloc::Global;
+
+/// How many bytes of each shard are encoded at a time.
+const STRIP_BYTES: usize = 4096;
+
+/// Writes the recovery shards of originals of one size into rooms.
+///
+/// # Errors
+///
+/// [`Error::OutOfMemory`] if the work area cannot be allocated, or if a room cannot grow.
+pub fn encode_strips<E: Engine, R: Rooms>(
+    alloc: Global,
+    counts: DefaultRateCounts,
+    shard_bytes: usize,
+    engine: E,
+    originals: &[&[u8]],
+    rooms: &mut R,
+) -> Result<(), Error>
+    requires originals { length originals.now ≡ counts.original_count }
+    requires number { length (R.held rooms.old) ≡ counts.recovery_count }
+    requires valid { validation_outcome (default_of counts.original_count counts.recovery_count shard_bytes) ≡ Ok tt }
+    requires sized { All (λ shard. length shard.now ≡ shard_bytes) originals.now }
+    requires fit { All (λ room. length room ≡ room_length R.grows 0 shard_bytes) (R.held rooms.old) }
+    ensures coded { OnOk result
+        (AreRecovery (default_of counts.original_count counts.recovery_count shard_bytes) (shards_of originals.now) (R.held rooms.new)) }
+    ensures refused { OnErr result (result ≡ Err Error.OutOfMemory) }
+    ensures untouched { R.grows ≡ false → OnErr result (R.held rooms.new ≡ R.held rooms.old) }
+    ensures places { R.places rooms.new ≡ R.places rooms.old }
+    ensures loan { R.loan rooms.new ≡ R.loan rooms.old }
+{
+    let width = STRIP_BYTES.min(shard_bytes);
+    let mut encoder = DefaultRateEncoder::with_counts(alloc, counts, width, engine, None)?;
+    let mut start = 0;
+    while shard_bytes - start >= width {
+        encode_strip(&mut encoder, originals, start, start + width, rooms)?;
+        start += width;
+    }
+    if start < shard_bytes {
+        let left = shard_bytes - start;
+        encoder.reset(counts.original_count, counts.recovery_count, left)?;
+        encode_strip(&mut encoder, originals, start, shard_bytes, rooms)?;
+    }
+    Ok(())
+}
+
+// Encodes one strip of the originals, and writes the recovery shards' strip into the rooms.
+fn encode_strip<E: Engine, R: Rooms>(
+    encoder: &mut DefaultRateEncoder<E>,
+    originals: &[&[u8]],
+    start: usize,
+    end: usize,
+    rooms: &mut R,
+) -> Result<(), Error>
+    requires fresh { encoder_state default_rate encoder.old.rows
+        ≡ fresh_encoder (default_of (length originals.now) (length (R.held rooms.old)) (end - start)) }
+    requires order { start ≤ end }
+    requires originals { All (λ shard. end ≤ length shard.now) originals.now }
+    requires fit { (size : ℕ) × (end ≤ size) × All (λ room. length room ≡ room_length R.grows start size) (R.held rooms.old) }
+    ensures refused { OnErr result ((R.grows ≡ true) × (result ≡ Err Error.OutOfMemory)) }
+    ensures fresh { encoder_state default_rate encoder.new.rows ≡ encoder_state default_rate encoder.old.rows }
+    ensures coded { OnOk result ((made : List Shard)
+        × AreRecovery (default_of (length originals.now) (length (R.held rooms.old)) (end - start)) (pieces start end (shards_of originals.now)) made
+        × ArePut start end made (R.held rooms.old) (R.held rooms.new)) }
+    ensures places { R.places rooms.new ≡ R.places rooms.old }
+    ensures loan { R.loan rooms.new ≡ R.loan rooms.old }
+{
+    add_pieces(encoder, originals, start, end)?;
+    encode_round(encoder, &mut Steps::new())?;
+    put_pieces(&lent_recovery(encoder), start, end, rooms)
+}
+
+// Adds a strip of each original to an encoder.
+fn add_pieces<E: Engine>(
+    encoder: &mut DefaultRateEncoder<E>,
+    originals: &[&[u8]],
+    start: usize,
+    end: usize,
+) -> Result<(), Error>
+    requires order { start ≤ end }
+    requires inside { All (λ shard. end ≤ length shard.now) originals.now }
+    ensures { Reaches (with_shards (encoder_state default_rate encoder.old.rows) (pieces start end (shards_of originals.now))) result
+        (λ s. encoder_state default_rate encoder.new.rows ≡ s) }
+{
+    for shard in originals {
+        encoder.add_original_shard(&shard[start..end])?;
+    }
+    Ok(())
+}
+
+// Writes the recovery shards of a result into rooms, after the first `start` bytes.
+fn put_pieces<R: Rooms>(
+    lent: &EncoderResult<'_>,
+    start: usize,
+    end: usize,
+    rooms: &mut R,
+) -> Result<(), Error>
+    requires order { start ≤ end }
+    requires number { length (recovery_shards lent.now) ≡ length (R.held rooms.old) }
+    requires sized { All (λ shard. length shard ≡ end - start) (recovery_shards lent.now) }
+    requires fit { (size : ℕ) × (end ≤ size) × All (λ room. length room ≡ room_length R.grows start size) (R.held rooms.old) }
+    ensures put { OnOk result (ArePut start end (recovery_shards lent.now) (R.held rooms.old) (R.held rooms.new)) }
+    ensures refused { OnErr result ((R.grows ≡ true) × (result ≡ Err Error.OutOfMemory)) }
+    ensures places { R.places rooms.new ≡ R.places rooms.old }
+    ensures loan { R.loan rooms.new ≡ R.loan rooms.old }
+{
+    for index in 0..lent.recovery_iter().len() {
+        if let Some(piece) = lent.recovery(index) {
+            rooms.put(index, start, piece)?;
+        }
+    }
+    Ok(())
+}

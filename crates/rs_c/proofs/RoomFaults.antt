@@ -1,0 +1,67 @@
+-- What calls of the library over rooms answer, in terms of faults.
+use Rattle.std.proofs.Common.{◌≡◌, ℕ, ◌==◌, Bool, true, false, cond, List, [], ◌∷◌, length, map, Result, Ok, Err, MatchResult, MutBor, refl, sym, ap, subst, ◌∙◌}
+use Rattle.rs_field.specs.declared.code.error.Error.{Error}
+use Rattle.rs_field.specs.code.Column.{Shard}
+use Rattle.rs_field.specs.code.Outcome.{result_and_then}
+use Rattle.reed_solomon_simd.specs.declared.room_error.RoomError.{RoomError}
+use Rattle.reed_solomon_simd.specs.declared.room_error.RoomError.TheVariants.{Refused as refused, WrongLength as wrong_length, WrongNumberOfRooms as wrong_number}
+use Rattle.reed_solomon_simd.specs.Into.{EncodesInto, Fills as fills_rooms, rooms_fit as fit_rooms, lengths_fit as fit_lengths}
+use Rattle.reed_solomon_simd.specs.Rooms.{loans_of}
+use Rattle.rs_c.specs.declared.fault.Fault.{Fault}
+use Rattle.rs_c.specs.declared.fault.Fault.TheVariants.{Refused}
+use Rattle.rs_c.specs.Arrays.{EncodesArrays, Fills, rooms_fit, lengths_fit, KeepsRooms}
+use Rattle.rs_c.specs.RoomFaults.{fault_of_room}
+
+-- an answer in terms of faults
+abbrev pub told : Result (Unit {0}) RoomError → Result (Unit {0}) Fault
+told (Ok u) = Ok tt
+told (Err e) = Err (fault_of_room e)
+
+lengths-told : (shards : List Shard) (rooms : List (List ℕ)) → lengths_fit shards rooms ≡ told (fit_lengths shards rooms)
+lengths-told [] rooms = refl
+lengths-told (shard ∷ shards) [] = refl
+lengths-told (shard ∷ shards) (room ∷ rooms) = by_test (lengths-told shards rooms) (length room == length shard)
+  where
+    by_test : lengths_fit shards rooms ≡ told (fit_lengths shards rooms) → (same : Bool)
+        → cond same (lengths_fit shards rooms) (Err (fault_of_room (wrong_length (length shard) (length room))))
+        ≡ told (cond same (fit_lengths shards rooms) (Err (wrong_length (length shard) (length room))))
+    by_test others true = others
+    by_test others false = refl
+
+fit-told : (shards : List Shard) (rooms : List (List ℕ)) → rooms_fit shards rooms ≡ told (fit_rooms shards rooms)
+fit-told shards rooms = by_test (length shards == length rooms)
+  where
+    by_test : (same : Bool) → ◌≡◌ {A = Result (Unit {0}) Fault}
+        (result_and_then (λ _. lengths_fit shards rooms) (cond {A = Result (Unit {0}) Fault} same (Ok tt) (Err (fault_of_room (wrong_number (length shards) (length rooms))))))
+        (told (result_and_then (λ _. fit_lengths shards rooms) (cond {A = Result (Unit {0}) RoomError} same (Ok tt) (Err (wrong_number (length shards) (length rooms))))))
+    by_test true = lengths-told shards rooms
+    by_test false = refl
+
+fills-told : (shards : List Shard) (old new : List (List ℕ)) (answer : Result (Unit {0}) RoomError) → fills_rooms shards old new answer → Fills shards old new (told answer)
+fills-told shards old new answer fills =
+    subst (λ (o : Result (Unit {0}) Fault). MatchResult o (λ _. (told answer ≡ Ok tt) × (new ≡ shards)) (λ fault. (told answer ≡ Err fault) × (new ≡ old)))
+    (sym (fit-told shards old)) (by_outcome (fit_rooms shards old) fills)
+  where
+    by_outcome : (o : Result (Unit {0}) RoomError) → MatchResult o (λ _. (answer ≡ Ok tt) × (new ≡ shards)) (λ e. (answer ≡ Err e) × (new ≡ old))
+        → MatchResult (told o) (λ _. (told answer ≡ Ok tt) × (new ≡ shards)) (λ fault. (told answer ≡ Err fault) × (new ≡ old))
+    by_outcome (Ok u) does = (ap told does.0, does.1)
+    by_outcome (Err e) does = (ap told does.0, does.1)
+
+-- an encode into rooms is one over arrays
+pub encodes-told : (k r : ℕ) (originals : List Shard) (old new : List (List ℕ)) (answer : Result (Unit {0}) RoomError) (other : Result (Unit {0}) Fault)
+    → other ≡ told answer → EncodesInto k r originals old new answer → EncodesArrays k r originals old new other
+encodes-told k r originals old new answer other is encodes =
+    subst (λ (o : Result (Unit {0}) Fault). EncodesArrays k r originals old new o) (sym is) (encodes.0, encodes.1, by_coded encodes.0 encodes.2)
+  where
+    by_coded : (coded : Result (List Shard) Error) → MatchResult coded (λ shards. fills_rooms shards old new answer) (λ e. (answer ≡ Err (refused e)) × (new ≡ old))
+        → MatchResult coded (λ shards. Fills shards old new (told answer)) (λ e. (told answer ≡ Err (Refused e)) × (new ≡ old))
+    by_coded (Ok shards) fills = fills-told shards old new answer fills
+    by_coded (Err e) does = (ap told does.0, does.1)
+
+-- rooms that are held by the same loans are where they were
+pub keeps-rooms : (old new : List (MutBor (List ℕ))) → loans_of new ≡ loans_of old → KeepsRooms old new
+keeps-rooms old new same = first new ∙ ap (map (λ loan. loan.0)) same ∙ sym (first old)
+  where
+    first : (rooms : List (MutBor (List ℕ))) → map (λ room. room.ref_ptr) rooms ≡ map (λ loan. loan.0) (loans_of rooms)
+    first [] = refl
+    first (room ∷ rooms) = ap (λ others. room.ref_ptr ∷ others) (first rooms)

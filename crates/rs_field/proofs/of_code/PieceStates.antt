@@ -1,0 +1,157 @@
+-- What holds of a message and of given shards holds of their pieces: the half of a decode by strips that needs no joining.
+use Rattle.std.proofs.Common.{◌≡◌, ℕ, ◌+◌, ◌-◌, ◌/◌, ◌%◌, ◌<◌, ◌≤◌, Bool, true, false, cond, List, [], length, take, drop, get_or, refl, sym, ap, ap₂, ◌∙◌, subst, inl, inr, arith, All}
+use Rattle.std.specs.Prelude.{Option, Some, None, is_some, unwrap_or, not, ◌&&◌, nat_lt}
+use Rattle.std.specs.List.{between}
+use Rattle.std.specs.Option.{option_map}
+use Rattle.std.proofs.lemmas.Bool.{cases_lt}
+use Rattle.std.proofs.lemmas.List.{get_or-map, get_or_past, length-map, length-drop, length-take-le, take_all, drop_all}
+use Rattle.std.proofs.lemmas.List.Elements.{All-map, All-take, All-drop}
+use Rattle.rs_field.specs.code.Column.{Shard, IsShard, AreShards, shard_at, column, columns}
+use Rattle.rs_field.specs.code.Configuration.{configuration}
+use Rattle.rs_field.specs.code.Counts.{Rate}
+use Rattle.rs_field.specs.code.Code.{AreRecovery, AreRecoveryWords}
+use Rattle.rs_field.specs.code.Decoder.{DecoderState, missing_of, Restored}
+use Rattle.rs_field.specs.code.Given.{Shards, Agrees, Consistent}
+use Rattle.rs_field.specs.code.Placement.{placement}
+use Rattle.rs_field.proofs.of_code.AgreeingMessages.{AreSized, HasWords, IsTaken, column_taken, consistent}
+use Rattle.rs_field.specs.code.Pieces.{pieces, IsStrip}
+use Rattle.rs_field.specs.code.PieceStates.{pieces_of, state_of_pieces}
+use Rattle.rs_field.proofs.of_code.Pieces.{column-piece, columns-pieces}
+
+module _ (start end : ℕ) where
+  none : ◌≡◌ {A = Shard} (between start end []) []
+  none = ap (take (end - start)) (drop_all start [] (omega arith)) ∙ take_all (end - start) [] (omega arith)
+
+  -- a piece of a list's shard
+  pub shard_at-pieces : (i : ℕ) (xs : List Shard) → shard_at (pieces start end xs) i ≡ between start end (shard_at xs i)
+  shard_at-pieces i xs =
+      let long = length-map xs (λ (s : Shard). between start end s) in
+      elim (cases_lt i (length xs)) [
+        | inl inside ↦ get_or-map (λ (s : Shard). between start end s) xs i [] [] inside
+        | inr past ↦ get_or_past (pieces start end xs) i [] (omega (arith, past, long)) ∙ sym (ap (λ (s : Shard). between start end s) (get_or_past xs i [] past) ∙ none)
+      ]
+
+  -- pieces of shards are shards
+  pub shards-cut : (count size : ℕ) (xs : List Shard) → IsStrip start end size → AreShards count size xs → AreShards count (end - start) (pieces start end xs)
+  shards-cut count size xs strip are =
+      record {
+        length_is = length-map xs (λ (s : Shard). between start end s) ∙ are.length_is;
+        each = All-map (IsShard (end - start)) (λ s. between start end s) xs (λ i d h.
+            let s = are.each i d h in
+            let left = length-drop start (get_or xs i d) in
+            record {
+              length_is = length-take-le (end - start) (drop start (get_or xs i d)) (omega (arith, left, s.length_is, strip.inside));
+              bytes = All-take (λ b. b < 256) (end - start) (drop start (get_or xs i d)) (All-drop (λ b. b < 256) start (get_or xs i d) s.bytes);
+            });
+      }
+
+  -- pieces of recovery shards are those of the message's pieces
+  pub recovery-cut : (rate : Rate) (k r size : ℕ) (message all : List Shard) → IsStrip start end size → AreShards k size message
+      → AreRecovery (configuration rate k r size) message all → AreRecovery (configuration rate k r (end - start)) (pieces start end message) (pieces start end all)
+  recovery-cut rate k r size message all strip are coded =
+      record {
+        shards = shards-cut r size all strip coded.shards;
+        words = λ j inside.
+            subst (λ (words : List ℕ). AreRecoveryWords rate k r words (columns j (pieces start end all)))
+            (sym (columns-pieces start end j message (λ i d h. subst (λ (n : ℕ). IsStrip start end n) (sym (are.each i d h).length_is) strip) inside))
+            (subst (λ (words : List ℕ). AreRecoveryWords rate k r (columns (start / 2 + j) message) words)
+            (sym (columns-pieces start end j all (λ i d h. subst (λ (n : ℕ). IsStrip start end n) (sym (coded.shards.each i d h).length_is) strip) inside))
+            (coded.words (start / 2 + j) (omega (arith, inside, strip.order, strip.inside, strip.begins))));
+      }
+
+  -- the shard of a piece
+  whole_of : (o : Option Shard) (p : Shard) → option_map (λ s. between start end s) o ≡ Some p → (s : Shard) × (o ≡ Some s) × (between start end s ≡ p)
+  whole_of (Some s) p is = (s, refl, ap (λ o. unwrap_or o p) is)
+  whole_of None p is = absurd (let no : ⊥ = cc in no)
+
+  -- the pieces of a message that agrees agree
+  pub agrees-cut : (rate : Rate) (k r size : ℕ) (originals recovery : Shards) (message : List Shard) → IsStrip start end size → Agrees (configuration rate k r size) originals recovery message
+      → Agrees (configuration rate k r (end - start)) (pieces_of start end originals) (pieces_of start end recovery) (pieces start end message)
+  agrees-cut rate k r size originals recovery message strip agrees =
+      record {
+        shards = shards-cut k size message strip agrees.shards;
+        own = λ i p is.
+            let s = whole_of (originals i) p is in shard_at-pieces i message ∙ ap (λ (x : Shard). between start end x) (agrees.own i s.0 s.1) ∙ s.2;
+        coded = (
+          pieces start end agrees.coded.0,
+          recovery-cut rate k r size message agrees.coded.0 strip agrees.shards agrees.coded.1,
+          λ i p is.
+              let s = whole_of (recovery i) p is in shard_at-pieces i agrees.coded.0 ∙ ap (λ (x : Shard). between start end x) (agrees.coded.2 i s.0 s.1) ∙ s.2,
+        );
+      }
+
+  pub is_some-map : (o : Option Shard) → is_some (option_map (λ s. between start end s) o) ≡ is_some o
+  is_some-map (Some s) = refl
+  is_some-map None = refl
+
+  -- a missing piece is the piece of the missing shard
+  missing-cut : (s : DecoderState) (message : List Shard) (i : ℕ) → missing_of (state_of_pieces start end s) (pieces start end message) i ≡ option_map (λ x. between start end x) (missing_of s message i)
+  unfolding missing_of
+  missing-cut s message i =
+      ap₂ (λ (b : Bool) (x : Shard). cond (nat_lt i s.configuration.original_count && not b) (Some x) None) (is_some-map (s.originals i)) (shard_at-pieces i message)
+      ∙ by_test (nat_lt i s.configuration.original_count && not (is_some (s.originals i)))
+    where
+      by_test : (b : Bool) → cond b (Some (between start end (shard_at message i))) None ≡ option_map (λ x. between start end x) (cond b (Some (shard_at message i)) None)
+      by_test true = refl
+      by_test false = refl
+
+  -- what is restored of the pieces are the pieces of what is missing of any message that agrees
+  pub restored-cut : (s : DecoderState) (message : List Shard) (out : Shards) → IsStrip start end s.configuration.shard_bytes
+      → Agrees s.configuration s.originals s.recovery message → Restored (state_of_pieces start end s) out
+      → (i : ℕ) → out i ≡ option_map (λ x. between start end x) (missing_of s message i)
+  restored-cut s message out strip agrees restored i =
+      let c = s.configuration in
+      let cut = agrees-cut c.rate c.original_count c.recovery_count c.shard_bytes s.originals s.recovery message strip agrees in
+      restored.missing i ∙ ap (λ (m : List Shard). missing_of (state_of_pieces start end s) m i) (sym (restored.only (pieces start end message) cut)) ∙ missing-cut s message i
+
+  -- the other half: where the pieces are consistent, each of their columns is one of a message's, as the shards' own column is
+  has-cut : (rate : Rate) (k r size j : ℕ) (originals recovery : Shards) (words : ℕ → ℕ) → IsStrip start end size → j < (end - start) / 2
+      → AreSized k size originals → AreSized r size recovery → HasWords (placement rate k r) originals recovery (start / 2 + j) words
+      → HasWords (placement rate k r) (pieces_of start end originals) (pieces_of start end recovery) j words
+  has-cut rate k r size j originals recovery words strip inside own_sized coded_sized has =
+      record {
+        own = λ i p is.
+            let s = whole_of (originals i) p is in
+            has.own i s.0 s.1 ∙ sym (column-piece start end j s.0 (subst (λ (n : ℕ). IsStrip start end n) (sym (own_sized.each i s.0 s.1).1.length_is) strip) inside) ∙ ap (column j) s.2;
+        coded = λ i p is.
+            let s = whole_of (recovery i) p is in
+            has.coded i s.0 s.1 ∙ sym (column-piece start end j s.0 (subst (λ (n : ℕ). IsStrip start end n) (sym (coded_sized.each i s.0 s.1).1.length_is) strip) inside) ∙ ap (column j) s.2;
+      }
+
+  pub taken-whole : (rate : Rate) (k r size j : ℕ) (originals recovery : Shards) (words : ℕ → ℕ → ℕ) → IsStrip start end size → j < (end - start) / 2
+      → AreSized k size originals → AreSized r size recovery → HasWords (placement rate k r) originals recovery (start / 2 + j) (words (start / 2 + j))
+      → Consistent (configuration rate k r (end - start)) (pieces_of start end originals) (pieces_of start end recovery)
+      → (p : List ℕ) × IsTaken (configuration rate k r size) originals recovery words (start / 2 + j) p
+  taken-whole rate k r size j originals recovery words strip inside own_sized coded_sized has (message, agrees) =
+      let (p, codes, takes) = column_taken (configuration rate k r (end - start)) (pieces_of start end originals) (pieces_of start end recovery) message j (words (start / 2 + j)) inside agrees
+      (has-cut rate k r size j originals recovery (words (start / 2 + j)) strip inside own_sized coded_sized has) in (
+        p,
+        (
+          columns j message,
+          codes,
+          record {
+            own = λ i below some. takes.own i below (is_some-map (originals i) ∙ some);
+            coded = λ i below some. takes.coded i below (is_some-map (recovery i) ∙ some);
+          },
+        ),
+      )
+
+-- each column lies in a strip whose pieces are consistent
+abbrev pub AreConsistentBelow : (rate : Rate) (k r size : ℕ) (originals recovery : Shards) → ℕ → Type 0
+AreConsistentBelow rate k r size originals recovery bound =
+    (j : ℕ) → j < bound / 2 → (start end : ℕ) × IsStrip start end size × (start / 2 ≤ j) × (j < end / 2)
+    × Consistent (configuration rate k r (end - start)) (pieces_of start end originals) (pieces_of start end recovery)
+
+-- so the shards are consistent
+pub consistent-whole : (rate : Rate) (k r size : ℕ) (originals recovery : Shards) (words : ℕ → ℕ → ℕ) → size % 2 ≡ 0
+    → AreSized k size originals → AreSized r size recovery
+    → ((j : ℕ) → j < size / 2 → HasWords (placement rate k r) originals recovery j (words j))
+    → AreConsistentBelow rate k r size originals recovery size → Consistent (configuration rate k r size) originals recovery
+consistent-whole rate k r size originals recovery words even own_sized coded_sized has each =
+    consistent (configuration rate k r size) originals recovery words even own_sized coded_sized has (λ j inside.
+    let (start, end, strip, from, to, pieces_agree) = each j inside in
+    let place : start / 2 + (j - start / 2) ≡ j = omega (arith, from) in
+    let here : j - start / 2 < (end - start) / 2 = omega (arith, from, to, strip.begins, strip.order) in
+    subst (λ (i : ℕ). (p : List ℕ) × IsTaken (configuration rate k r size) originals recovery words i p) place
+    (taken-whole start end rate k r size (j - start / 2) originals recovery words strip here own_sized coded_sized
+    (subst (λ (i : ℕ). HasWords (placement rate k r) originals recovery i (words i)) (sym place) (has j inside)) pieces_agree))

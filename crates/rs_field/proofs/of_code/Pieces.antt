@@ -1,0 +1,345 @@
+-- Pieces of shards: their columns are columns of the shards, so what codes each piece codes the shards.
+use Rattle.std.proofs.Common.{◌≡◌, ◌⊎◌, ℕ, suc, ◌+◌, ◌-◌, ◌*◌, ◌/◌, ◌%◌, ◌<◌, ◌≤◌, List, [], ◌∷◌, ◌++◌, length, take, drop, map, get_or, min, Bool, true, false, cond, refl, sym, ap, ap₂, ◌∙◌, subst, inl, inr, arith, All}
+use Rattle.std.specs.List.{between}
+use Rattle.std.proofs.Math.Nat.{min-eq_left, min-eq_right}
+use Rattle.std.proofs.lemmas.Bool.{cases_lt}
+use Rattle.std.proofs.lemmas.List.{get_or-take, get_or-drop, get_or-map, get_or_default, length-take-le, length-drop, length-map, length-append, take_all, take_at, drop_at, take_more, drop_more, take-append-drop, map-append, append_assoc, append-nil, ext_get_or as same_from}
+use Rattle.std.specs.Prelude.{Result, Ok, Err, is_ok}
+use Rattle.std.specs.Borrow.{Bor}
+use Rattle.std.proofs.lemmas.Bool.{lt-leb, eq-eqb, le-ltb}
+use Rattle.std.proofs.lemmas.List.Elements.{All-map, All-append, All-nil, recursion_from_All}
+use Rattle.std.specs.List.{AllByRecursion}
+use Rattle.rs_field.specs.declared.code.error.Error.{Error}
+use Rattle.rs_field.specs.declared.code.error.Error.TheVariants.{TooFewOriginalShards}
+use Rattle.rs_field.specs.code.Column.{Shard, AreShards, column, columns, chunk_words}
+use Rattle.rs_field.specs.code.Encoder.{EncoderState, fresh_encoder, with_shard, after_encode}
+use Rattle.rs_field.specs.code.OneCall.{with_shards}
+use Rattle.rs_field.specs.code.Outcome.{result_and_then}
+use Rattle.rs_field.specs.code.Configuration.{Configuration, configuration}
+use Rattle.rs_field.specs.code.Counts.{Rate}
+use Rattle.rs_field.specs.code.Code.{AreRecovery, AreRecoveryWords}
+use Rattle.rs_field.proofs.of_code.Columns.{column-at, column-chunk}
+use Rattle.rs_field.specs.code.Pieces.{pieces, heads, IsStrip, AreCodedBelow, ArePut, room_length}
+
+-- a column of the first chunks
+pub column-head : (a j : ℕ) (s : Shard) → a % 64 ≡ 0 → a ≤ length s → j < a / 2 → column j (take a s) ≡ column j s
+column-head a j s whole room inside =
+    let parts : j ≡ j / 32 * 32 + j % 32 = omega arith in
+    let long : length (take a s) ≡ a = length-take-le a s room in
+    ap (λ (c : ℕ). column c (take a s)) parts
+    ∙ column-chunk (j / 32) (j % 32) (take a s) (omega arith) (omega (arith, long))
+    ∙ ap₂ (λ (x y : ℕ). x + 256 * y) (get_or-take a s (j / 32 * 64 + j % 32) 0 (omega arith)) (get_or-take a s (j / 32 * 64 + j % 32 + 32) 0 (omega arith))
+    ∙ sym (column-chunk (j / 32) (j % 32) s (omega arith) (omega arith))
+    ∙ ap (λ (c : ℕ). column c s) (sym parts)
+
+-- a column behind the first chunks
+pub column-rest : (a j : ℕ) (s : Shard) → a % 64 ≡ 0 → column j (drop a s) ≡ column (a / 2 + j) s
+column-rest a j s whole =
+    let parts : j ≡ j / 32 * 32 + j % 32 = omega arith in
+    let place : (a / 64 + j / 32) * 32 + j % 32 ≡ a / 2 + j = omega arith in
+    let low : a + (j / 32 * 64 + j % 32) ≡ (a / 64 + j / 32) * 64 + j % 32 = omega arith in
+    let left : length (drop a s) ≡ length s - a = length-drop a s in
+    let words : chunk_words (drop a s) (j / 32 * 64) ≡ chunk_words s ((a / 64 + j / 32) * 64) =
+    ap (λ (n : ℕ). min 64 n / 2) (let e : length (drop a s) - j / 32 * 64 ≡ length s - (a / 64 + j / 32) * 64 = omega (arith, left) in e) in
+    ap (λ (c : ℕ). column c (drop a s)) parts
+    ∙ column-at (j / 32) (j % 32) (drop a s) (omega arith)
+    ∙ ap₂ (λ (x y : ℕ). x + 256 * y)
+    (get_or-drop a s (j / 32 * 64 + j % 32) 0 ∙ ap (λ (i : ℕ). get_or s i 0) low)
+    (get_or-drop a s (j / 32 * 64 + j % 32 + chunk_words (drop a s) (j / 32 * 64)) 0
+    ∙ ap (λ (i : ℕ). get_or s i 0) (let e : a + (j / 32 * 64 + j % 32 + chunk_words (drop a s) (j / 32 * 64)) ≡ (a / 64 + j / 32) * 64 + j % 32 + chunk_words (drop a s) (j / 32 * 64) = omega arith in e)
+    ∙ ap (λ (w : ℕ). get_or s ((a / 64 + j / 32) * 64 + j % 32 + w) 0) words)
+    ∙ sym (column-at (a / 64 + j / 32) (j % 32) s (omega arith))
+    ∙ ap (λ (c : ℕ). column c s) place
+
+-- a column of a strip
+pub column-piece : (start end j : ℕ) (s : Shard) → IsStrip start end (length s) → j < (end - start) / 2 → column j (between start end s) ≡ column (start / 2 + j) s
+column-piece start end j s strip inside =
+    let left : length (drop start s) ≡ length s - start = length-drop start s in
+    elim strip.ends [
+      | inl whole ↦
+          column-head (end - start) j (drop start s) (omega (arith, whole, strip.begins, strip.order)) (omega (arith, left, strip.inside)) inside
+          ∙ column-rest start j s strip.begins
+      | inr last ↦
+          ap (column j) (take_all (end - start) (drop start s) (omega (arith, left, last)))
+          ∙ column-rest start j s strip.begins
+    ]
+
+-- a column of strips
+pub columns-pieces : (start end j : ℕ) (xs : List Shard) → All (λ s. IsStrip start end (length s)) xs → j < (end - start) / 2 → columns j (pieces start end xs) ≡ columns (start / 2 + j) xs
+columns-pieces start end j [] strips inside = refl
+columns-pieces start end j (s ∷ xs) strips inside =
+    ap₂ (λ (x : ℕ) (l : List ℕ). x ∷ l) (column-piece start end j s (strips 0 s (omega arith)) inside)
+    (columns-pieces start end j xs (λ i d h. strips (suc i) d (omega (arith, h))) inside)
+
+-- a column of heads
+pub columns-heads : (a j : ℕ) (xs : List Shard) → a % 64 ≡ 0 → All (λ s. a ≤ length s) xs → j < a / 2 → columns j (heads a xs) ≡ columns j xs
+columns-heads a j [] whole room inside = refl
+columns-heads a j (s ∷ xs) whole room inside =
+    ap₂ (λ (x : ℕ) (l : List ℕ). x ∷ l) (column-head a j s whole (room 0 s (omega arith)) inside)
+    (columns-heads a j xs whole (λ i d h. room (suc i) d (omega (arith, h))) inside)
+
+-- where the heads are as they were, and the strips behind them are coded, more is coded
+pub coded-further : (rate : Rate) (k r start end : ℕ) (originals old new : List Shard) → All (λ s. IsStrip start end (length s)) originals
+    → All (λ s. start ≤ length s) old → All (λ s. IsStrip start end (length s)) new → start % 64 ≡ 0 → heads start new ≡ heads start old
+    → AreCodedBelow rate k r start originals old → AreRecovery (configuration rate k r (end - start)) (pieces start end originals) (pieces start end new)
+    → AreCodedBelow rate k r end originals new
+coded-further rate k r start end originals old new own before after whole kept coded further j inside =
+    elim (cases_lt j (start / 2)) [
+      | inl low ↦
+          let same : columns j old ≡ columns j new =
+          sym (columns-heads start j old whole before low) ∙ sym (ap (columns j) kept)
+          ∙ columns-heads start j new whole (λ i d h. (let s = after i d h in omega (arith, s.order, s.inside))) low in
+          subst (λ (words : List ℕ). AreRecoveryWords rate k r (columns j originals) words) same (coded j low)
+      | inr high ↦
+          let here : j - start / 2 < (end - start) / 2 = omega (arith, high) in
+          let place : start / 2 + (j - start / 2) ≡ j = omega (arith, high) in
+          subst (λ (i : ℕ). AreRecoveryWords rate k r (columns i originals) (columns i new)) place
+          (subst (λ (words : List ℕ). AreRecoveryWords rate k r words (columns (start / 2 + (j - start / 2)) new)) (columns-pieces start end (j - start / 2) originals own here)
+          (subst (λ (words : List ℕ). AreRecoveryWords rate k r (columns (j - start / 2) (pieces start end originals)) words) (columns-pieces start end (j - start / 2) new after here)
+          (further.words (j - start / 2) here)))
+    ]
+
+-- where each byte is in a strip that is coded, all is coded
+pub strips-join : (c : Configuration) (message all : List Shard) → AreShards c.original_count c.shard_bytes message → AreShards c.recovery_count c.shard_bytes all
+    → ((byte : ℕ) → byte < c.shard_bytes → (start : ℕ) × (end : ℕ) × IsStrip start end c.shard_bytes × (start ≤ byte) × (byte < end)
+    × AreRecovery (configuration c.rate c.original_count c.recovery_count (end - start)) (pieces start end message) (pieces start end all))
+    → AreRecovery c message all
+strips-join c message all own made strips =
+    record {
+      shards = made;
+      words = λ j inside.
+          let found = strips (2 * j) (omega (arith, inside)) in
+          let start : ℕ = found.0 in
+          let end : ℕ = found.1 in
+          let strip : IsStrip start end c.shard_bytes = found.2 in
+          let after : start ≤ 2 * j = found.3 in
+          let before : 2 * j < end = found.4 in
+          let coded : AreRecovery (configuration c.rate c.original_count c.recovery_count (end - start)) (pieces start end message) (pieces start end all) = found.5 in
+          let whole : start % 64 ≡ 0 = strip.begins in
+          let ends : j < end / 2 = elim strip.ends [ inl even ↦ omega (arith, even, before) | inr last ↦ omega (arith, last, inside) ] in
+          let here : j - start / 2 < (end - start) / 2 = omega (arith, whole, after, ends) in
+          let place : start / 2 + (j - start / 2) ≡ j = omega (arith, whole, after) in
+          subst (λ (i : ℕ). AreRecoveryWords c.rate c.original_count c.recovery_count (columns i message) (columns i all)) place
+          (subst (λ (words : List ℕ). AreRecoveryWords c.rate c.original_count c.recovery_count words (columns (start / 2 + (j - start / 2)) all))
+          (columns-pieces start end (j - start / 2) message (λ i d h. subst (λ (n : ℕ). IsStrip start end n) (sym (own.each i d h).length_is) strip) here)
+          (subst (λ (words : List ℕ). AreRecoveryWords c.rate c.original_count c.recovery_count (columns (j - start / 2) (pieces start end message)) words)
+          (columns-pieces start end (j - start / 2) all (λ i d h. subst (λ (n : ℕ). IsStrip start end n) (sym (made.each i d h).length_is) strip) here)
+          (coded.words (j - start / 2) here)));
+    }
+
+-- ---- rooms
+
+module _ (start end : ℕ) (made old new : List Shard) (put : ArePut start end made old new) (order : start ≤ end) (inside : All (λ s. start ≤ length s) old)
+    (number : length made ≡ length old) (sized : All (λ s. length s ≡ end - start) made) where
+  at : (i : ℕ) → i < length old → get_or new i [] ≡ take start (get_or old i []) ++ (get_or made i [] ++ drop end (get_or old i []))
+  at = put.1
+
+  long : (i : ℕ) → i < length old → length (get_or made i []) ≡ end - start
+  long i h = sized i [] (omega (arith, number, h))
+
+  front : (i : ℕ) → i < length old → length (take start (get_or old i [])) ≡ start
+  front i h = length-take-le start (get_or old i []) (inside i [] h)
+
+  -- each room ends where it did, or with the piece
+  pub put-length : (i : ℕ) → i < length old → length (get_or new i []) ≡ end + (length (get_or old i []) - end)
+  put-length i h =
+      let first = front i h in
+      let piece = long i h in
+      let back = length-drop end (get_or old i []) in
+      let all = simp length-append at (ap length (at i h)) in
+      omega (arith, all, first, piece, back, order)
+
+  -- before the pieces rooms hold what they held
+  pub put-heads : heads start new ≡ heads start old
+  put-heads =
+      same_from [] (heads start new) (heads start old) (simp length-map put.0) (λ i h.
+      let here : i < length old = (let n = length-map new (λ (s : Shard). take start s) in omega (arith, h, n, put.0)) in
+      get_or-map (λ (s : Shard). take start s) new i [] [] (omega (arith, here, put.0))
+      ∙ ap (take start) (at i here) ∙ take_at (take start (get_or old i [])) _ start (front i here)
+      ∙ sym (get_or-map (λ (s : Shard). take start s) old i [] [] here))
+
+  -- and behind them the pieces
+  pub put-pieces : pieces start end new ≡ made
+  put-pieces =
+      same_from [] (pieces start end new) made (simp length-map (put.0 ∙ sym number)) (λ i h.
+      let here : i < length old = (let n = length-map new (λ (s : Shard). between start end s) in omega (arith, h, n, put.0)) in
+      get_or-map (λ (s : Shard). between start end s) new i [] [] (omega (arith, here, put.0))
+      ∙ ap (λ (s : Shard). take (end - start) (drop start s)) (at i here)
+      ∙ ap (take (end - start)) (drop_at (take start (get_or old i [])) _ start (front i here))
+      ∙ take_at (get_or made i []) _ (end - start) (long i here))
+
+  -- what was put into the heads are bytes
+  pub put-bytes : All (All (λ b. b < 256)) (heads start old) → All (All (λ b. b < 256)) made → All (All (λ b. b < 256)) (heads end new)
+  put-bytes before bytes i d h =
+      let here : i < length old = (let n = length-map new (λ (s : Shard). take end s) in omega (arith, h, n, put.0)) in
+      let first = front i here in
+      let piece = long i here in
+      let head : All (λ b. b < 256) (take start (get_or old i [])) =
+      subst (λ (s : Shard). All (λ b. b < 256) s) (get_or-map (λ (s : Shard). take start s) old i [] [] here)
+      (before i [] (let n = length-map old (λ (s : Shard). take start s) in omega (arith, here, n))) in
+      let both = length-append (take start (get_or old i [])) (get_or made i []) in
+      subst (λ (s : Shard). All (λ b. b < 256) s)
+      (sym (get_or-map (λ (s : Shard). take end s) new i [] d (omega (arith, here, put.0))
+      ∙ ap (take end) (at i here ∙ sym (append_assoc (take start (get_or old i [])) (get_or made i []) (drop end (get_or old i []))))
+      ∙ take_at (take start (get_or old i []) ++ get_or made i []) _ end (omega (arith, both, first, piece, order))))
+      (All-append (λ b. b < 256) (take start (get_or old i [])) (get_or made i []) head (bytes i [] (omega (arith, here, number))))
+
+-- ---- what is done up to a byte
+
+-- a strip of the least of two widths, where so much is left
+pub is_strip : (start strip size width : ℕ) → width ≡ min strip size → strip % 64 ≡ 0 → (start % 64 ≡ 0) ⊎ (start ≡ size) → 0 < width → width ≤ size - start → IsStrip start (start + width) size
+is_strip start strip size width is chunks begins some left =
+    let from : start % 64 ≡ 0 = elim begins [ inl whole ↦ whole | inr last ↦ absurd (let no : ⊥ = omega (arith, last, some, left) in no) ] in
+    record {
+      order = omega arith;
+      inside = omega (arith, some, left);
+      begins = from;
+      ends = elim (cases_lt strip size) [
+        | inl less ↦ let all : width ≡ strip = is ∙ min-eq_left (let le : strip ≤ size = omega (arith, less) in le) in inl (omega (arith, all, from, chunks))
+        | inr more ↦ let all : width ≡ size = is ∙ min-eq_right more in inr (omega (arith, all, some, left))
+      ];
+    }
+
+-- the last one
+pub is_last : (start size : ℕ) → (start % 64 ≡ 0) ⊎ (start ≡ size) → start < size → IsStrip start size size
+is_last start size begins less =
+    record {
+      order = omega (arith, less);
+      inside = omega arith;
+      begins = elim begins [ inl whole ↦ whole | inr last ↦ absurd (let no : ⊥ = omega (arith, last, less) in no) ];
+      ends = inr refl;
+    }
+
+-- a room that holds more than what it is to hold holds that
+pub room-from : (grows : Bool) (written size : ℕ) → written ≤ size → written ≤ room_length grows written size
+room-from true written size inside = omega arith
+room-from false written size inside = inside
+
+-- what a room's length becomes by a strip
+pub room-further : (grows : Bool) (start end size : ℕ) → start ≤ end → end ≤ size → end + (room_length grows start size - end) ≡ room_length grows end size
+room-further true start end size order inside = omega (arith, order)
+room-further false start end size order inside = omega (arith, inside)
+
+-- a strip of a shard is one of a room that ends with it
+pub room-strip : (grows : Bool) (start end size : ℕ) → IsStrip start end size → IsStrip start end (room_length grows end size)
+room-strip true start end size strip = record { order = strip.order; inside = omega arith; begins = strip.begins; ends = inr refl }
+room-strip false start end size strip = strip
+
+-- at the end a room is as long as its shard
+pub room-whole : (grows : Bool) (size : ℕ) → room_length grows size size ≡ size
+room-whole true size = refl
+room-whole false size = refl
+
+-- as many rooms as recovery shards hold the recovery shards' first bytes
+pub record IsDone (k r size end : ℕ) (grows : Bool) (rate : Rate) (originals rooms : List Shard) : Type 0 where
+  pub number : length rooms ≡ r
+  pub fit : All (λ s. length s ≡ room_length grows end size) rooms
+  pub coded : AreCodedBelow rate k r end originals rooms
+  pub bytes : All (All (λ b. b < 256)) (heads end rooms)
+
+-- a strip more is done
+pub done-further : (grows : Bool) (rate : Rate) (k r size start end : ℕ) (originals made old new : List Shard) → IsStrip start end size → All (λ s. length s ≡ size) originals
+    → IsDone k r size start grows rate originals old → AreRecovery (configuration rate k r (end - start)) (pieces start end originals) made → ArePut start end made old new
+    → IsDone k r size end grows rate originals new
+done-further grows rate k r size start end originals made old new strip sized done recovery put =
+    let inside : All (λ s. start ≤ length s) old = (λ i d h.
+    let n = done.fit i d h in let from = room-from grows start size (let le : start ≤ size = omega (arith, strip.order, strip.inside) in le) in omega (arith, n, from)) in
+    let number : length made ≡ length old = recovery.shards.length_is ∙ sym done.number in
+    let long : All (λ s. length s ≡ end - start) made = (λ i d h. (recovery.shards.each i d h).length_is) in
+    let fit : All (λ s. length s ≡ room_length grows end size) new = (λ i d h.
+    let here : i < length old = omega (arith, h, put.0) in
+    ap length (get_or_default new i d [] h) ∙ put-length start end made old new put strip.order inside number long i here
+    ∙ ap (λ (n : ℕ). end + (n - end)) (done.fit i [] here) ∙ room-further grows start end size strip.order strip.inside) in
+    record {
+      number = put.0 ∙ done.number;
+      fit = fit;
+      coded = coded-further rate k r start end originals old new
+          (λ i d h. subst (λ (n : ℕ). IsStrip start end n) (sym (sized i d h)) strip)
+          inside
+          (λ i d h. subst (λ (n : ℕ). IsStrip start end n) (sym (fit i d h)) (room-strip grows start end size strip))
+          strip.begins (put-heads start end made old new put strip.order inside number long) done.coded
+          (subst (λ (l : List Shard). AreRecovery (configuration rate k r (end - start)) (pieces start end originals) l)
+          (sym (put-pieces start end made old new put strip.order inside number long)) recovery);
+      bytes = put-bytes start end made old new put strip.order inside number long done.bytes (λ i d h. (recovery.shards.each i d h).bytes);
+    }
+
+-- at first nothing is to be done
+pub done-none : (grows : Bool) (rate : Rate) (k r size : ℕ) (originals rooms : List Shard) → length rooms ≡ r → All (λ s. length s ≡ room_length grows 0 size) rooms
+    → IsDone k r size 0 grows rate originals rooms
+done-none grows rate k r size originals rooms number fit =
+    record {
+      number = number;
+      fit = fit;
+      coded = λ j h. absurd (let no : ⊥ = omega (arith, h) in no);
+      bytes = All-map (λ s. All (λ b. b < 256) s) (λ s. take 0 s) rooms (λ i d h. All-nil (λ b. b < 256));
+    }
+
+-- where all is done the rooms hold the recovery shards
+pub done-all : (grows : Bool) (rate : Rate) (k r size : ℕ) (originals rooms : List Shard) → IsDone k r size size grows rate originals rooms
+    → AreRecovery (configuration rate k r size) originals rooms
+done-all grows rate k r size originals rooms done =
+    record {
+      shards = record {
+        length_is = done.number;
+        each = λ i d h.
+            let long : length (get_or rooms i d) ≡ size = done.fit i d h ∙ room-whole grows size in
+            record {
+              length_is = long;
+              bytes = subst (λ (s : Shard). All (λ b. b < 256) s)
+                  (get_or-map (λ (s : Shard). take size s) rooms i d d h ∙ take_all size (get_or rooms i d) (omega (arith, long)))
+                  (done.bytes i d (let n = length-map rooms (λ (s : Shard). take size s) in omega (arith, h, n)));
+            };
+      };
+      words = done.coded;
+    }
+
+-- ---- pieces that are given
+
+pub pieces-count : (start end : ℕ) (xs : List (Bor Shard)) → length (pieces start end (map (λ x. x.now) xs)) ≡ length xs
+pieces-count start end xs = length-map (map (λ (x : Bor Shard). x.now) xs) (λ (s : Shard). between start end s) ∙ length-map xs (λ (x : Bor Shard). x.now)
+
+pub pieces-sized : (start end : ℕ) (xs : List (Bor Shard)) → start ≤ end → All (λ x. end ≤ length x.now) xs
+    → All (λ s. length s ≡ end - start) (pieces start end (map (λ x. x.now) xs))
+pieces-sized start end xs order inside =
+    All-map (λ s. length s ≡ end - start) (λ s. between start end s) (map (λ (x : Bor Shard). x.now) xs)
+    (All-map (λ s. length (between start end s) ≡ end - start) (λ (x : Bor Shard). x.now) xs (λ i d h.
+    let room = inside i d h in
+    let left = length-drop start (get_or xs i d).now in
+    length-take-le (end - start) (drop start (get_or xs i d).now) (omega (arith, left, room, order))))
+
+pieces-append : (start end : ℕ) (xs ys : List (Bor Shard))
+    → pieces start end (map (λ x. x.now) (xs ++ ys)) ≡ pieces start end (map (λ x. x.now) xs) ++ pieces start end (map (λ x. x.now) ys)
+pieces-append start end xs ys =
+    ap (λ (l : List Shard). map (λ (s : Shard). between start end s) l) (map-append (λ (x : Bor Shard). x.now) xs ys)
+    ∙ map-append (λ (s : Shard). between start end s) (map (λ (x : Bor Shard). x.now) xs) (map (λ (x : Bor Shard). x.now) ys)
+
+-- shards that are taken, and then others
+adds-append : (s t : EncoderState) (xs ys : List Shard) → with_shards s xs ≡ Ok t → with_shards s (xs ++ ys) ≡ with_shards t ys
+adds-append s t [] ys is = (let same : s ≡ t = cc in ap (λ (u : EncoderState). with_shards u ys) same)
+adds-append s t (x ∷ xs) ys is = by_outcome (with_shard s x) (λ n led. adds-append n t xs ys led) is
+  where
+    by_outcome : (o : Result EncoderState Error) → ((n : EncoderState) → with_shards n xs ≡ Ok t → with_shards n (xs ++ ys) ≡ with_shards t ys)
+        → result_and_then (λ n. with_shards n xs) o ≡ Ok t → result_and_then (λ n. with_shards n (xs ++ ys)) o ≡ with_shards t ys
+    by_outcome (Ok n) more is = more n is
+    by_outcome (Err e) more is = absurd (let no : ⊥ = cc in no)
+
+module _ (start end i : ℕ) (xs : List (Bor Shard)) (d : Bor Shard) (first now : EncoderState) (inside : i < length xs)
+    (led : with_shards first (pieces start end (map (λ x. x.now) (take i xs))) ≡ Ok now) where
+  -- one more
+  pub given-next : (next : EncoderState) → with_shard now (between start end (get_or xs i d).now) ≡ Ok next
+      → with_shards first (pieces start end (map (λ x. x.now) (take (i + 1) xs))) ≡ Ok next
+  given-next next taken =
+      ap (λ (l : List (Bor Shard)). with_shards first (pieces start end (map (λ x. x.now) l))) (take_more xs i d inside)
+      ∙ ap (with_shards first) (pieces-append start end (take i xs) (get_or xs i d ∷ []))
+      ∙ adds-append first now (pieces start end (map (λ x. x.now) (take i xs))) (pieces start end (map (λ x. x.now) (get_or xs i d ∷ []))) led
+      ∙ ap (result_and_then (λ (s : EncoderState). Ok s)) taken
+
+  -- one that is refused decides
+  pub given-refused : (e : Error) → with_shard now (between start end (get_or xs i d).now) ≡ Err e
+      → with_shards first (pieces start end (map (λ x. x.now) xs)) ≡ Err e
+  given-refused e refused =
+      ap (λ (l : List (Bor Shard)). with_shards first (pieces start end (map (λ x. x.now) l)))
+      (sym (take-append-drop i xs) ∙ ap (λ (l : List (Bor Shard)). take i xs ++ l) (drop_more xs i d inside))
+      ∙ ap (with_shards first) (pieces-append start end (take i xs) (get_or xs i d ∷ drop (i + 1) xs))
+      ∙ adds-append first now (pieces start end (map (λ x. x.now) (take i xs))) (pieces start end (map (λ x. x.now) (get_or xs i d ∷ drop (i + 1) xs))) led
+      ∙ ap (result_and_then (λ (s : EncoderState). with_shards s (pieces start end (map (λ x. x.now) (drop (i + 1) xs))))) refused

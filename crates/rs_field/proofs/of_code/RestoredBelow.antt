@@ -1,0 +1,336 @@
+-- A decode by strips: what rooms hold after some strips, and that they hold the restored originals after all.
+use Rattle.std.proofs.Common.{◌≡◌, ℕ, zero, suc, ◌+◌, ◌-◌, ◌/◌, ◌%◌, ◌<◌, ◌≤◌, ◌⊎◌, Bool, true, false, cond, List, [], ◌++◌, length, map, take, drop, get_or, All, min, refl, sym, ap, ap₂, ◌∙◌, subst, inl, inr, arith}
+use Rattle.std.specs.Prelude.{Some, None, is_some, unwrap_or, not, ◌&&◌, nat_le, nat_lt, Result, Ok, Err}
+use Rattle.std.specs.List.{between}
+use Rattle.std.specs.Option.{option_map}
+use Rattle.std.proofs.Math.Path.{fun_ext}
+use Rattle.std.proofs.Math.Seq.{take-add, take-append-add, take-append_seam}
+use Rattle.std.proofs.lemmas.Bool.{cases_lt, lt-ltb, le-ltb, le-leb, lt-leb}
+use Rattle.std.proofs.lemmas.List.{get_or-map, get_or_default, length-map, length-take-le, take_all, ext_get_or}
+use Rattle.std.proofs.lemmas.Option.{none-some}
+use Rattle.rs_field.specs.declared.code.error.Error.{Error}
+use Rattle.rs_field.specs.declared.code.error.Error.TheVariants.{InconsistentShards, NotEnoughShards}
+use Rattle.rs_field.specs.code.Column.{Shard, IsShard, column}
+use Rattle.rs_field.specs.code.Configuration.{configuration, validation_outcome}
+use Rattle.rs_field.specs.code.Counts.{Rate, supports}
+use Rattle.rs_field.specs.code.Decoder.{DecoderState, IsDecoder, IsAgreeing, originals_given, recovery_given, enough_given, missing_of, Restored, NoneAgrees}
+use Rattle.rs_field.specs.code.Given.{Shards, AreWithin, Consistent, Lists, items_below, count_below}
+use Rattle.rs_field.specs.code.OneCall.{Items}
+use Rattle.rs_field.specs.code.Pieces.{pieces, IsStrip, ArePut, room_length}
+use Rattle.rs_field.specs.code.PieceStates.{pieces_of, state_of_pieces, shards_listed, HoldRestored}
+use Rattle.rs_field.specs.code.Placement.{Placement, placement}
+use Rattle.rs_field.proofs.of_code.Agreement.{one_message}
+use Rattle.rs_field.proofs.of_code.AgreeingMessages.{AreSized, HasWords}
+use Rattle.rs_field.proofs.of_code.Frame.{IsFrame}
+use Rattle.rs_field.proofs.of_code.Given.{count_below-zero, count_below-suc}
+use Rattle.rs_field.proofs.of_code.Listed.{length-listed}
+use Rattle.rs_field.proofs.of_code.ListedMaps.{lists-same, listed-changed, listed-all}
+use Rattle.rs_field.proofs.of_code.Pieces.{put-length, room-from, room-further, room-whole}
+use Rattle.rs_field.proofs.of_code.PieceStates.{is_some-map, agrees-cut, restored-cut, consistent-whole, AreConsistentBelow}
+use Rattle.rs_field.proofs.of_code.RateFrames.{has_frame}
+
+-- ---- numbers of pieces
+
+-- what a decoder answers by the numbers of shards given
+abbrev by_counts : ℕ → ℕ → ℕ → Result (Unit {0}) Error
+by_counts k originals recovery = cond (nat_lt (originals + recovery) k) (Err (NotEnoughShards k originals recovery)) (Ok tt)
+
+module _ (start end : ℕ) where
+  -- as many pieces are given as shards
+  pub count-pieces : (n : ℕ) (given : Shards) → count_below n (pieces_of start end given) ≡ count_below n given
+  count-pieces zero given = count_below-zero (pieces_of start end given) ∙ sym (count_below-zero given)
+  count-pieces (suc n) given =
+      count_below-suc n (pieces_of start end given)
+      ∙ ap₂ (λ (m : ℕ) (b : Bool). m + cond b 1 0) (count-pieces n given) (is_some-map start end (given n)) ∙ sym (count_below-suc n given)
+
+  -- so pieces are enough where shards are
+  pub enough-pieces : (s : DecoderState) → enough_given (state_of_pieces start end s) ≡ enough_given s
+  enough-pieces s =
+      ap₂ (by_counts s.configuration.original_count) (count-pieces s.configuration.original_count s.originals)
+      (count-pieces s.configuration.recovery_count s.recovery)
+
+  -- where no message agrees with pieces, none agrees with the shards
+  pub none-pieces : (s : DecoderState) (e : Error) → IsStrip start end s.configuration.shard_bytes
+      → NoneAgrees (state_of_pieces start end s) e → NoneAgrees s e
+  none-pieces s e strip none =
+      let c = s.configuration in
+      let own = count-pieces c.original_count s.originals in
+      let other = count-pieces c.recovery_count s.recovery in
+      record {
+        refusal = none.refusal ∙ ap₂ InconsistentShards own other;
+        surplus = omega (arith, none.surplus, own, other);
+        none = λ some. none.none (
+          pieces start end some.0,
+          agrees-cut start end c.rate c.original_count c.recovery_count c.shard_bytes s.originals s.recovery some.0 strip some.1,
+        );
+      }
+
+-- ---- the words at the points of given shards
+
+-- the word of column j at a point: that of the original whose point it is, else that of the recovery shard
+word_at : Placement → ℕ → Shards → Shards → ℕ → ℕ → ℕ
+word_at p k originals recovery j x =
+    cond (nat_le p.originals_from x && nat_lt x (p.originals_from + k)) (column j (unwrap_or (originals (x - p.originals_from)) []))
+    (column j (unwrap_or (recovery (x - p.recovery_from)) []))
+
+-- they are words of the given shards
+has-words : (p : Placement) (k r e bound zeros_end size j : ℕ) (originals recovery : Shards) → IsFrame p k r e bound zeros_end
+    → AreSized k size originals → AreSized r size recovery → HasWords p originals recovery j (word_at p k originals recovery j)
+unfolding word_at
+has-words p k r e bound zeros_end size j originals recovery frame own_sized coded_sized =
+    record {
+      own = λ i s is.
+          let below = (own_sized.each i s is).0 in
+          let from : p.originals_from ≤ p.originals_from + i = omega arith in
+          let to : p.originals_from + i < p.originals_from + k = omega (arith, below) in
+          let place : p.originals_from + i - p.originals_from ≡ i = omega arith in
+          rw (le-leb p.originals_from (p.originals_from + i) from, lt-ltb (p.originals_from + i) (p.originals_from + k) to, place, is) refl;
+      coded = λ i s is.
+          let below = (coded_sized.each i s is).0 in
+          let place : p.recovery_from + i - p.recovery_from ≡ i = omega arith in
+          elim (cases_lt (p.recovery_from + i) (p.originals_from + k)) [
+            | inl less ↦
+                let outside : p.recovery_from + i < p.originals_from = apart i below less in
+                rw (lt-leb p.originals_from (p.recovery_from + i) outside, place, is) refl
+            | inr past ↦
+                by_first (nat_le p.originals_from (p.recovery_from + i)) i s place is past
+          ];
+    }
+  where
+    apart : (i : ℕ) → i < r → p.recovery_from + i < p.originals_from + k → p.recovery_from + i < p.originals_from
+    apart i below less =
+        elim frame.order [
+          | inl first ↦ absurd (let zeros = frame.zeros in let no : ⊥ = omega (arith, first.0, first.1, zeros.0, frame.follow, less) in no)
+          | inr later ↦ omega (arith, later.0, later.1, below)
+        ]
+
+    by_first : (b : Bool) (i : ℕ) (s : Shard) → p.recovery_from + i - p.recovery_from ≡ i → recovery i ≡ Some s → p.originals_from + k ≤ p.recovery_from + i
+        → cond (b && nat_lt (p.recovery_from + i) (p.originals_from + k)) (column j (unwrap_or (originals (p.recovery_from + i - p.originals_from)) []))
+        (column j (unwrap_or (recovery (p.recovery_from + i - p.recovery_from)) [])) ≡ column j s
+    by_first true i s place is past = rw (le-ltb (p.recovery_from + i) (p.originals_from + k) past, place, is) refl
+    by_first false i s place is past = rw (place, is) refl
+
+-- given shards that are within bounds have indexes below the count
+sized-within : (count size : ℕ) (given : Shards) → AreWithin count size given → AreSized count size given
+sized-within count size given within =
+    record {
+      each = λ i shard is. (
+        elim (cases_lt i count) [ inl inside ↦ inside | inr past ↦ absurd (none-some shard (sym (within.none_past i past) ∙ is)) ],
+        within.sized i shard is,
+      );
+    }
+
+-- where the pieces in all strips are consistent, so are the shards
+all-consistent : (s : DecoderState) → supports s.configuration.rate s.configuration.original_count s.configuration.recovery_count ≡ true
+    → s.configuration.shard_bytes % 2 ≡ 0 → AreSized s.configuration.original_count s.configuration.shard_bytes s.originals
+    → AreSized s.configuration.recovery_count s.configuration.shard_bytes s.recovery
+    → AreConsistentBelow s.configuration.rate s.configuration.original_count s.configuration.recovery_count s.configuration.shard_bytes s.originals s.recovery s.configuration.shard_bytes
+    → Consistent s.configuration s.originals s.recovery
+all-consistent s supported even own_sized coded_sized each =
+    let c = s.configuration in
+    let p = placement c.rate c.original_count c.recovery_count in
+    let h = has_frame c.rate c.original_count c.recovery_count supported in
+    consistent-whole c.rate c.original_count c.recovery_count c.shard_bytes s.originals s.recovery (word_at p c.original_count s.originals s.recovery) even own_sized coded_sized
+    (λ j inside. has-words p c.original_count c.recovery_count h.exponent h.bound h.zeros_end c.shard_bytes j s.originals s.recovery h.frame own_sized coded_sized) each
+
+-- ---- rooms
+
+some-missing : (s : DecoderState) (message : List Shard) (i : ℕ) → i < s.configuration.original_count → is_some (missing_of s message i) ≡ not (is_some (s.originals i))
+unfolding missing_of
+some-missing s message i inside =
+    ap (λ b. is_some (cond (b && not (is_some (s.originals i))) (Some (get_or message i [])) None)) (lt-ltb i s.configuration.original_count inside)
+    ∙ by_test (is_some (s.originals i))
+  where
+    by_test : (b : Bool) → is_some (cond (not b) (Some (get_or message i [])) None) ≡ not b
+    by_test true = refl
+    by_test false = refl
+
+pub missing-past : (s : DecoderState) (message : List Shard) (i : ℕ) → s.configuration.original_count ≤ i → missing_of s message i ≡ None
+unfolding missing_of
+missing-past s message i outside = ap (λ a. cond (a && not (is_some (s.originals i))) (Some (get_or message i [])) None) (le-ltb i s.configuration.original_count outside)
+
+-- each original is missing or given
+pub count-missing : (s : DecoderState) (message : List Shard) → count_below s.configuration.original_count (missing_of s message) + originals_given s ≡ s.configuration.original_count
+count-missing s message = below s.configuration.original_count (omega arith)
+  where
+    by_test : (a b n : ℕ) → a + b ≡ n → (given : Bool) → (a + cond (not given) 1 0) + (b + cond given 1 0) ≡ suc n
+    by_test a b n is true = omega (arith, is)
+    by_test a b n is false = omega (arith, is)
+
+    below : (n : ℕ) → n ≤ s.configuration.original_count → count_below n (missing_of s message) + count_below n s.originals ≡ n
+    below zero h = ap₂ (λ (a b : ℕ). a + b) (count_below-zero (missing_of s message)) (count_below-zero s.originals)
+    below (suc n) h =
+        ap₂ (λ (a b : ℕ). a + b)
+        (count_below-suc n (missing_of s message) ∙ ap (λ b. count_below n (missing_of s message) + cond b 1 0) (some-missing s message n (omega arith)))
+        (count_below-suc n s.originals)
+        ∙ by_test (count_below n (missing_of s message)) (count_below n s.originals) n (below n (omega arith)) (is_some (s.originals n))
+
+-- a message's missing shards, in order of index
+abbrev pub missing_shards : DecoderState → List Shard → List Shard
+missing_shards s message = shards_listed (items_below s.configuration.original_count (missing_of s message))
+
+missing-lists : (s : DecoderState) (message : List Shard) → Lists (missing_of s message) (items_below s.configuration.original_count (missing_of s message))
+missing-lists s message = record { count = s.configuration.original_count; none_past = missing-past s message; in_order = refl }
+
+-- they are as many as originals are missing
+missing-number : (s : DecoderState) (message : List Shard) → length (missing_shards s message) + originals_given s ≡ s.configuration.original_count
+missing-number s message =
+    let k = s.configuration.original_count in
+    ap (λ (n : ℕ). n + originals_given s) (length-map (items_below k (missing_of s message)) (λ item. item.1) ∙ length-listed k (missing_of s message)) ∙ count-missing s message
+
+-- and each has its size
+missing-sized : (s : DecoderState) (message : List Shard) → IsAgreeing s message → All (λ x. length x ≡ s.configuration.shard_bytes) (missing_shards s message)
+unfolding missing_of
+missing-sized s message agrees =
+    listed-all (λ x. length x ≡ s.configuration.shard_bytes) s.configuration.original_count 0 (missing_of s message)
+    (λ i x is. by_test i x (cases_lt i s.configuration.original_count) (is_some (s.originals i)) is)
+  where
+    by_test : (i : ℕ) (x : Shard) → (i < s.configuration.original_count) ⊎ (s.configuration.original_count ≤ i) → (b : Bool)
+        → cond (nat_lt i s.configuration.original_count && not b) (Some (get_or message i [])) None ≡ Some x → length x ≡ s.configuration.shard_bytes
+    by_test i x (inl inside) true found = absurd (let found = rw (lt-ltb i s.configuration.original_count inside) at found in let no : ⊥ = cc in no)
+    by_test i x (inl inside) false found =
+        let found = rw (lt-ltb i s.configuration.original_count inside) at found in
+        ap length (sym (ap (λ o. unwrap_or o x) found)) ∙ (agrees.shards.each i [] (omega (arith, inside, agrees.shards.length_is))).length_is
+    by_test i x (inr past) b found = absurd (let found = rw (le-ltb i s.configuration.original_count past) at found in let no : ⊥ = cc in no)
+
+-- The strips below a byte are restored: their pieces are consistent, and in each room stand the first bytes of the shard of each message that agrees with what is given.
+pub record IsRestoredBelow (s : DecoderState) (grows : Bool) (bound : ℕ) (rooms : List Shard) : Type 0 where
+  pub consistent : AreConsistentBelow s.configuration.rate s.configuration.original_count s.configuration.recovery_count s.configuration.shard_bytes s.originals s.recovery bound
+  pub number : length rooms + originals_given s ≡ s.configuration.original_count
+  pub fit : All (λ room. length room ≡ room_length grows bound s.configuration.shard_bytes) rooms
+  pub held : (message : List Shard) → IsAgreeing s message → (i : ℕ) → i < length rooms → take bound (get_or rooms i []) ≡ take bound (get_or (missing_shards s message) i [])
+
+-- the first bytes and a piece after them, once both are joined
+take-joined : (start : ℕ) (old piece rest : Shard) → start ≤ length old
+    → take (start + length piece) (take start old ++ (piece ++ rest)) ≡ take start old ++ piece
+take-joined start old piece rest inside =
+    let front = length-take-le start old inside in
+    ap (λ (n : ℕ). take (n + length piece) (take start old ++ (piece ++ rest))) (sym front)
+    ∙ take-append-add (take start old) (piece ++ rest) (length piece)
+    ∙ ap (λ (l : Shard). take start old ++ l) (take-append_seam piece rest)
+
+-- at first no strip is
+pub restored-none : (s : DecoderState) (grows : Bool) (rooms : List Shard) → length rooms + originals_given s ≡ s.configuration.original_count
+    → All (λ room. length room ≡ room_length grows 0 s.configuration.shard_bytes) rooms → IsRestoredBelow s grows 0 rooms
+restored-none s grows rooms number fit =
+    record {
+      consistent = λ j h. absurd (let no : ⊥ = omega (arith, h) in no);
+      number = number;
+      fit = fit;
+      held = λ message agrees i h. refl;
+    }
+
+module _ (s : DecoderState) (grows : Bool) (start end : ℕ) (out : Shards) (items : Items) (strip : IsStrip start end s.configuration.shard_bytes)
+    (restored : Restored (state_of_pieces start end s) out) (listing : Lists out items) where
+  -- what is listed are the missing pieces
+  items-are : shards_listed items ≡ missing_shards (state_of_pieces start end s) restored.message
+  items-are =
+      ap shards_listed (lists-same (missing_of (state_of_pieces start end s) restored.message) items _
+      (subst (λ (g : Shards). Lists g items) (fun_ext restored.missing) listing) (missing-lists (state_of_pieces start end s) restored.message))
+
+  -- as many as originals are missing
+  pub pieces-number : length items + originals_given s ≡ s.configuration.original_count
+  pieces-number =
+      ap₂ (λ (a b : ℕ). a + b) (sym (length-map items (λ item. item.1)) ∙ ap length items-are) (sym (count-pieces start end s.configuration.original_count s.originals))
+      ∙ missing-number (state_of_pieces start end s) restored.message
+
+  pub pieces-sized : All (λ x. length x ≡ end - start) (shards_listed items)
+  pieces-sized =
+      subst (λ (l : List Shard). All (λ x. length x ≡ end - start) l) (sym items-are)
+      (missing-sized (state_of_pieces start end s) restored.message restored.agrees)
+
+  -- they are the pieces of the missing shards of each message that agrees
+  items-cut : (message : List Shard) → IsAgreeing s message → shards_listed items ≡ pieces start end (missing_shards s message)
+  items-cut message agrees =
+      let k = s.configuration.original_count in
+      let same : out ≡ (λ i. option_map (λ x. between start end x) (missing_of s message i)) = fun_ext (restored-cut start end s message out strip agrees restored) in
+      ap shards_listed (lists-same (missing_of (state_of_pieces start end s) restored.message) items (items_below k (missing_of (state_of_pieces start end s) restored.message))
+      (subst (λ (g : Shards). Lists g items) (fun_ext restored.missing) listing) (missing-lists (state_of_pieces start end s) restored.message))
+      ∙ ap (λ (g : Shards). shards_listed (items_below k g)) (sym (fun_ext restored.missing) ∙ same)
+      ∙ listed-changed (λ x. between start end x) k 0 (missing_of s message)
+
+  -- so once they are put, one strip more is restored
+  pub restored-further : (old new : List Shard) → ArePut start end (shards_listed items) old new → IsRestoredBelow s grows start old → IsRestoredBelow s grows end new
+  restored-further old new put before =
+      let c = s.configuration in
+      let number = length-map items (λ item. item.1) in
+      let all = pieces-number in
+      let inside : All (λ x. start ≤ length x) old = (λ i d h.
+      let n = before.fit i d h in
+      let from = room-from grows start c.shard_bytes (let le : start ≤ s.configuration.shard_bytes = omega (arith, strip.order, strip.inside) in le) in
+      omega (arith, n, from)) in
+      let as_many : length (shards_listed items) ≡ length old = omega (arith, number, all, before.number) in
+      let size : (i : ℕ) → i < length old → start + length (get_or (shards_listed items) i []) ≡ end = (λ i h.
+      let piece = pieces-sized i [] (omega (arith, number, all, before.number, h)) in omega (arith, piece, strip.order)) in
+      let at : (i : ℕ) → i < length old → take end (get_or new i []) ≡ take start (get_or old i []) ++ get_or (shards_listed items) i [] =
+      (λ i h. ap₂ (λ (n : ℕ) (x : Shard). take n x) (sym (size i h)) (put.1 i h)
+      ∙ take-joined start (get_or old i []) (get_or (shards_listed items) i []) (drop end (get_or old i [])) (inside i [] h)) in
+      record {
+        consistent = λ j inside. elim (cases_lt j (start / 2)) [
+          | inl low ↦ before.consistent j low
+          | inr high ↦ (start, end, strip, high, inside, (restored.message, restored.agrees))
+        ];
+        number = ap (λ (n : ℕ). n + originals_given s) put.0 ∙ before.number;
+        fit = λ i d h.
+            let here : i < length old = omega (arith, h, put.0) in
+            ap length (get_or_default new i d [] h) ∙ put-length start end (shards_listed items) old new put strip.order inside as_many pieces-sized i here
+            ∙ ap (λ (n : ℕ). end + (n - end)) (before.fit i [] here) ∙ room-further grows start end c.shard_bytes strip.order strip.inside;
+        held = λ message agrees i h.
+            let here : i < length old = omega (arith, h, put.0) in
+            let n = missing-number s message in
+            let shard : Shard = get_or (missing_shards s message) i [] in
+            let cut : get_or (shards_listed items) i [] ≡ take (end - start) (drop start (get_or (missing_shards s message) i [])) =
+            ap (λ (l : List Shard). get_or l i []) (items-cut message agrees)
+            ∙ get_or-map (λ x. between start end x) (missing_shards s message) i [] [] (omega (arith, here, before.number, n)) in
+            at i here ∙ ap₂ (λ (a b : Shard). a ++ b) (before.held message agrees i here) cut
+            ∙ sym (take-add start (end - start) (get_or (missing_shards s message) i []))
+            ∙ ap (λ (n : ℕ). take n (get_or (missing_shards s message) i [])) (let e : start + (end - start) ≡ end = omega (arith, strip.order) in e);
+      }
+
+-- once all strips are restored, rooms hold the restored originals
+pub restored-all : (s : DecoderState) (grows : Bool) (rooms : List Shard)
+    → supports s.configuration.rate s.configuration.original_count s.configuration.recovery_count ≡ true
+    → s.configuration.shard_bytes % 2 ≡ 0 → AreWithin s.configuration.original_count s.configuration.shard_bytes s.originals
+    → AreWithin s.configuration.recovery_count s.configuration.shard_bytes s.recovery
+    → s.configuration.original_count ≤ originals_given s + recovery_given s
+    → IsRestoredBelow s grows s.configuration.shard_bytes rooms → HoldRestored s rooms
+restored-all s grows rooms supported even own_within coded_within enough done =
+    let c = s.configuration in
+    let (message, agrees) =
+    all-consistent s supported even (sized-within c.original_count c.shard_bytes s.originals own_within)
+    (sized-within c.recovery_count c.shard_bytes s.recovery coded_within) done.consistent in
+    let number = missing-number s message in
+    let sized = missing-sized s message agrees in
+    record {
+      out = missing_of s message;
+      restored = record {
+        message = message;
+        agrees = agrees;
+        only = λ other also. one_message c s.originals s.recovery other message supported even enough also agrees;
+        missing = λ i. refl;
+      };
+      items = items_below c.original_count (missing_of s message);
+      listed = missing-lists s message;
+      held = ext_get_or [] rooms (missing_shards s message) (omega (arith, number, done.number)) (λ i h.
+          let long = sized i [] (omega (arith, number, done.number, h)) in
+          let room = done.fit i [] h ∙ room-whole grows c.shard_bytes in
+          sym (take_all c.shard_bytes (get_or rooms i []) (omega (arith, room))) ∙ done.held message agrees i h
+          ∙ take_all c.shard_bytes (get_or (missing_shards s message) i []) (omega (arith, long)));
+    }
+
+module _ (s : DecoderState) (rooms : List Shard) (holds : HoldRestored s rooms) where
+  held-are : rooms ≡ missing_shards s holds.restored.message
+  held-are =
+      holds.held
+      ∙ ap shards_listed (lists-same (missing_of s holds.restored.message) holds.items (items_below s.configuration.original_count (missing_of s holds.restored.message))
+      (subst (λ (g : Shards). Lists g holds.items) (fun_ext holds.restored.missing) holds.listed) (missing-lists s holds.restored.message))
+
+  -- rooms that hold the restored originals are as many as originals are missing
+  pub held-number : length rooms + originals_given s ≡ s.configuration.original_count
+  held-number = ap (λ (l : List Shard). length l + originals_given s) held-are ∙ missing-number s holds.restored.message
+
+  -- and each of their size
+  pub held-sized : All (λ x. length x ≡ s.configuration.shard_bytes) rooms
+  held-sized =
+      subst (λ (l : List Shard). All (λ x. length x ≡ s.configuration.shard_bytes) l) (sym held-are)
+      (missing-sized s holds.restored.message holds.restored.agrees)
