@@ -10,9 +10,9 @@ ghost use Rattle.reed_solomon_simd.specs.Rooms.{shards_of};
 
 use crate::rooms::{LentRooms, Rooms};
 use crate::strip_encoder::encode_strips;
+use rs_field::bytes::are_bytes;
 use rs_field::engine::Engine;
 use rs_field::error::Error;
-use rs_field::bytes::are_bytes;
 use rs_rate::rate::DefaultRateCounts;
 use std::alloc::Global;
 
@@ -46,7 +46,11 @@ impl<'a> LentOriginals<'a> {
     ghost use Rattle.reed_solomon_simd.specs.Rooms.{bytes_in, loans_of};
 
     // No originals, for these counts and this size.
-    fn new(alloc: Global, counts: DefaultRateCounts, shard_bytes: usize) -> Result<LentOriginals<'a>, Error>
+    fn new(
+        alloc: Global,
+        counts: DefaultRateCounts,
+        shard_bytes: usize,
+    ) -> Result<LentOriginals<'a>, Error>
         ensures answer { let c = default_of counts.original_count counts.recovery_count shard_bytes in
             UpToMemory (started (encoder_rows default_rate c.original_count c.recovery_count) c) (answer_of result) }
         ensures counts { IfOk result (λ x. x.counts ≡ counts) }
@@ -156,7 +160,12 @@ impl<'a> LentOriginals<'a> {
     /// # Errors
     ///
     /// [`Error::OutOfMemory`] if the work area cannot be allocated, or if a room cannot grow.
-    pub fn encode<E: Engine, R: Rooms>(&self, alloc: Global, engine: E, rooms: &mut R) -> Result<(), Error>
+    pub fn encode<E: Engine, R: Rooms>(
+        &self,
+        alloc: Global,
+        engine: E,
+        rooms: &mut R,
+    ) -> Result<(), Error>
         requires all { answer_of (message_of (gathered self.now)) ≡ Ok tt }
         requires number { length (R.held rooms.old) ≡ self.now.counts.recovery_count }
         requires fit { All (λ room. length room ≡ room_length R.grows 0 self.now.shard_bytes) (R.held rooms.old) }
@@ -164,7 +173,7 @@ impl<'a> LentOriginals<'a> {
         ensures refused { OnErr result (result ≡ Err Error.OutOfMemory) }
         ensures untouched { R.grows ≡ false → OnErr result (R.held rooms.new ≡ R.held rooms.old) }
         ensures places { R.places rooms.new ≡ R.places rooms.old }
-    ensures loan { R.loan rooms.new ≡ R.loan rooms.old }
+        ensures loan { R.loan rooms.new ≡ R.loan rooms.old }
     {
         encode_strips(
             alloc,
@@ -181,7 +190,12 @@ impl<'a> LentOriginals<'a> {
     /// # Errors
     ///
     /// [`Error::OutOfMemory`] if the work area cannot be allocated.
-    pub fn encode_lent<E: Engine>(&self, alloc: Global, engine: E, recovery: &mut [&mut [u8]]) -> Result<(), Error>
+    pub fn encode_lent<E: Engine>(
+        &self,
+        alloc: Global,
+        engine: E,
+        recovery: &mut [&mut [u8]],
+    ) -> Result<(), Error>
         requires all { answer_of (message_of (gathered self.now)) ≡ Ok tt }
         requires number { length recovery.old ≡ self.now.counts.recovery_count }
         requires fit { All (λ room. length room ≡ self.now.shard_bytes) (bytes_in recovery.old) }

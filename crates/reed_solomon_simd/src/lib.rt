@@ -37,8 +37,8 @@ pub use one_call::{decode, encode};
 ///     Err(_) => write_text(err, "out of memory\n"),
 /// }
 /// ```
-pub use rs_field::error::Error;
 pub use room_error::RoomError;
+pub use rs_field::error::Error;
 pub use slices::{decode_slice, encode_slice};
 /// The results of a round, and iterators over them. They lend shards and copy nothing.
 ///

@@ -107,11 +107,7 @@ fn put(room: &mut [u8], start: usize, piece: &[u8])
 ///
 /// - [`RoomError::WrongNumberOfRooms`] if there are more or fewer rooms.
 /// - [`RoomError::WrongLength`] for the first room of another size.
-pub fn check_rooms(
-    count: usize,
-    shard_bytes: usize,
-    rooms: &[&mut [u8]],
-) -> Result<(), RoomError>
+pub fn check_rooms(count: usize, shard_bytes: usize, rooms: &[&mut [u8]]) -> Result<(), RoomError>
     ensures answer { (shards : List Shard) → length shards ≡ count → All (λ shard. length shard ≡ shard_bytes) shards
         → result ≡ rooms_fit shards (bytes_in rooms.now) }
     ensures number { OnOk result (length rooms.now ≡ count) }

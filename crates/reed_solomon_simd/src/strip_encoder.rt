@@ -109,7 +109,12 @@ fn add_pieces<E: Engine>(
 }
 
 // Writes the recovery shards of a result into rooms, after the first `start` bytes.
-fn put_pieces<R: Rooms>(lent: &EncoderResult<'_>, start: usize, end: usize, rooms: &mut R) -> Result<(), Error>
+fn put_pieces<R: Rooms>(
+    lent: &EncoderResult<'_>,
+    start: usize,
+    end: usize,
+    rooms: &mut R,
+) -> Result<(), Error>
     requires order { start ≤ end }
     requires number { length (recovery_shards lent.now) ≡ length (R.held rooms.old) }
     requires sized { All (λ shard. length shard ≡ end - start) (recovery_shards lent.now) }

@@ -29,8 +29,13 @@ fn encoded_whole(
     shard_bytes: usize,
     engine: DefaultEngine<'_>,
 ) -> Result<Vec<u8>, Error> {
-    let mut encoder =
-        ReedSolomonEncoder::new(alloc, originals.len(), recovery_count, shard_bytes, engine)?;
+    let mut encoder = ReedSolomonEncoder::new(
+        alloc,
+        originals.len(),
+        recovery_count,
+        shard_bytes,
+        engine,
+    )?;
     for shard in originals {
         encoder.add_original_shard(shard)?;
     }
@@ -63,15 +68,27 @@ fn check_encodes(
     let wanted = encoded_whole(alloc, originals, r, shard_bytes, engine)?;
     let shards = originals.iter().map(|shard| shard.as_slice());
     let made = encode(alloc, k, r, shards, engine)?;
-    assert!(rt; joined(alloc, &made)? == wanted, "{k}:{r} of {shard_bytes} bytes");
+    assert!(rt;
+        joined(alloc, &made)? == wanted,
+        "{k}:{r} of {shard_bytes} bytes"
+    );
     let made = encode_slice(alloc, k, r, originals, engine)?;
-    assert!(rt; joined(alloc, &made)? == wanted, "{k}:{r} of {shard_bytes} bytes in slices");
-    let lent: Vec<&[u8]> = originals.iter().map(|shard| shard.as_slice()).collect(alloc)?;
+    assert!(rt;
+        joined(alloc, &made)? == wanted,
+        "{k}:{r} of {shard_bytes} bytes in slices"
+    );
+    let lent: Vec<&[u8]> = originals
+        .iter()
+        .map(|shard| shard.as_slice())
+        .collect(alloc)?;
     let mut room = vec![in alloc; 9; wanted.len()]?;
     let mut rooms: Vec<&mut [u8]> = room.chunks_mut(shard_bytes.max(1)).collect(alloc)?;
     encode_into(alloc, k, r, &lent, &mut rooms, engine)?;
     drop(rooms);
-    assert!(rt; room == wanted, "{k}:{r} of {shard_bytes} bytes into memory of the caller");
+    assert!(rt;
+        room == wanted,
+        "{k}:{r} of {shard_bytes} bytes into memory of the caller"
+    );
     Ok(())
 }
 

@@ -75,6 +75,6 @@ returns-clause-coded g c =
     on_ok_weaker c.put_pieces.result (λ put. (
       recovery_shards c.lent_recovery.result,
       subst (λ (l : List Shard). AreRecovery (default_of (length c.args.originals.now) (length (g.R.Rooms.held c.args.rooms.now)) (c.args.end - c.args.start))
-      (pieces c.args.start c.args.end (shards_of c.args.originals.now)) l) (sym c.lent_recovery.ensures) coded,
+          (pieces c.args.start c.args.end (shards_of c.args.originals.now)) l) (sym c.lent_recovery.ensures) coded,
       put,
     )) c.put_pieces.ensures.put
