@@ -6,7 +6,7 @@ use Rattle.std.proofs.Math.Seq.{take-add}
 use Rattle.std.proofs.lemmas.List.{append_assoc, length-append, length-drop, length-take-le, drop-drop}
 use Rattle.rs_field.specs.code.Column.{Shard, IsShard}
 use Rattle.rs_field.specs.code.Given.{Shards}
-use Rattle.rs_c.specs.Buffers.{joined, with_restored, AreSized}
+use Rattle.rs_c.specs.Buffers.{concatenation, with_restored, AreSized}
 
 -- the bytes before a place, with what is to be written behind them, are the whole, for which there is just room
 pub record IsWritten (whole : List ℕ) (at : ℕ) (bytes rest : List ℕ) : Type 0 where
