@@ -1,4 +1,4 @@
-//! Encoding and decoding in one call, into memory of the caller.
+//! Encoding and decoding in one call into memory of the caller.
 ghost use Rattle.std.specs.Prelude.{◌≡◌, map};
 ghost use Rattle.reed_solomon_simd.specs.Into.{EncodesInto, DecodesInto};
 ghost use Rattle.reed_solomon_simd.specs.Rooms.{shards_of, bytes_in, loans_of};
@@ -12,24 +12,31 @@ use rs_field::engine::Engine;
 use rs_rate::rate::DefaultRateCounts;
 use std::alloc::Global;
 
-/// Encodes the originals, and writes the recovery shards into `recovery`, in order of their index.
+/// Encodes the originals and writes the recovery shards into `recovery`, in order of their index.
 ///
 /// `original[i]` is the original with index i, and `recovery[i]` is the memory for the recovery shard with index i. Every
-/// original and every room has the size of the first original, an even number of bytes above zero. The call allocates a
-/// work area for a part of each shard, whatever the size of the shards. After an error the rooms hold what they held.
+/// original and every piece of memory has the size of the first original, an even number of bytes above zero. Besides
+/// pointers to the originals the call allocates a work area for 4096 bytes of each shard at most. After an error the memory
+/// holds what it held.
 ///
 /// # Errors
 ///
-/// The errors of [`encode`](crate::encode), as [`RoomError::Refused`], and before a want of memory for the work area:
-///
-/// - [`RoomError::WrongNumberOfRooms`] if there are not `recovery_count` rooms.
-/// - [`RoomError::WrongLength`] for the first room that does not have the size of the originals.
+/// - The errors of [`encode`](crate::encode) as [`RoomError::Refused`]: the counts, then the originals.
+/// - [`RoomError::WrongNumberOfRooms`] if `recovery` does not have `recovery_count` items.
+/// - [`RoomError::WrongLength`] for the first item that does not have the size of the originals.
+/// - [`Error::OutOfMemory`](crate::Error::OutOfMemory) as [`RoomError::Refused`] if the work area cannot be allocated.
 ///
 /// # Examples
 ///
 /// ```
-/// let mut recovery: Vec<&mut [u8]> = room.chunks_mut(shard_bytes).collect(alloc)?;
-/// encode_into(alloc, 3, 2, &ORIGINAL, recovery.as_mut_slice(), engine)?;
+/// let original: [&[u8]; 3] = [&[2, 0], &[0, 0], &[4, 0]];
+/// let (mut first, mut second) = ([0; 2], [0; 2]);
+/// let mut recovery: Vec<&mut [u8]> = Vec::new(alloc);
+/// recovery.push(&mut first)?;
+/// recovery.push(&mut second)?;
+/// encode_into(alloc, 3, 2, &original, &mut recovery, engine)?;
+/// drop(recovery);
+/// assert_eq!(rt; (first, second), ([3, 0], [5, 0]));
 /// ```
 pub fn encode_into<E: Engine>(
     alloc: Global,

@@ -2,14 +2,16 @@
 use Rattle.std.proofs.Common.{◌≡◌, ℕ, ◌==◌, Bool, true, false, cond, List, [], ◌∷◌, length, map, Result, Ok, Err, MatchResult, MutBor, refl, sym, ap, subst, ◌∙◌}
 use Rattle.rs_field.specs.declared.code.error.Error.{Error}
 use Rattle.rs_field.specs.code.Column.{Shard}
+use Rattle.rs_field.specs.code.Given.{Shards, Lists}
+use Rattle.rs_field.specs.code.OneCall.{Items}
 use Rattle.rs_field.specs.code.Outcome.{result_and_then}
 use Rattle.reed_solomon_simd.specs.declared.room_error.RoomError.{RoomError}
 use Rattle.reed_solomon_simd.specs.declared.room_error.RoomError.TheVariants.{Refused as refused, WrongLength as wrong_length, WrongNumberOfRooms as wrong_number}
-use Rattle.reed_solomon_simd.specs.Into.{EncodesInto, Fills as fills_rooms, rooms_fit as fit_rooms, lengths_fit as fit_lengths}
+use Rattle.reed_solomon_simd.specs.Into.{EncodesInto, DecodesInto, Fills as fills_rooms, rooms_fit as fit_rooms, lengths_fit as fit_lengths}
 use Rattle.reed_solomon_simd.specs.Rooms.{loans_of}
 use Rattle.rs_c.specs.declared.fault.Fault.{Fault}
 use Rattle.rs_c.specs.declared.fault.Fault.TheVariants.{Refused}
-use Rattle.rs_c.specs.Arrays.{EncodesArrays, Fills, rooms_fit, lengths_fit, KeepsRooms}
+use Rattle.rs_c.specs.Arrays.{EncodesArrays, DecodesArrays, Fills, rooms_fit, lengths_fit, KeepsRooms}
 use Rattle.rs_c.specs.RoomFaults.{fault_of_room}
 
 -- an answer in terms of faults
@@ -57,6 +59,19 @@ encodes-told k r originals old new answer other is encodes =
         → MatchResult coded (λ shards. Fills shards old new (told answer)) (λ e. (told answer ≡ Err (Refused e)) × (new ≡ old))
     by_coded (Ok shards) fills = fills-told shards old new answer fills
     by_coded (Err e) does = (ap told does.0, does.1)
+
+-- a decode into rooms is one over arrays
+pub decodes-told : (k r : ℕ) (originals recovery : Items) (old new : List (List ℕ)) (answer : Result (Unit {0}) RoomError) (other : Result (Unit {0}) Fault)
+    → other ≡ told answer → DecodesInto k r originals recovery old new answer → DecodesArrays k r originals recovery old new other
+decodes-told k r originals recovery old new answer other is decodes =
+    subst (λ (o : Result (Unit {0}) Fault). DecodesArrays k r originals recovery old new o) (sym is) (decodes.0, decodes.1, by_decoded decodes.0 decodes.2)
+  where
+    by_decoded : (decoded : Result Shards Error) → MatchResult decoded (λ restored. (items : Items) × Lists restored items × fills_rooms (map (λ item. item.1) items) old new answer)
+        (λ e. (answer ≡ Err (refused e)) × (new ≡ old))
+        → MatchResult decoded (λ restored. (items : Items) × Lists restored items × Fills (map (λ item. item.1) items) old new (told answer))
+        (λ e. (told answer ≡ Err (Refused e)) × (new ≡ old))
+    by_decoded (Ok restored) (items, listing, fills) = (items, listing, fills-told (map (λ (item : ℕ × Shard). item.1) items) old new answer fills)
+    by_decoded (Err e) does = (ap told does.0, does.1)
 
 -- rooms that are held by the same loans are where they were
 pub keeps-rooms : (old new : List (MutBor (List ℕ))) → loans_of new ≡ loans_of old → KeepsRooms old new

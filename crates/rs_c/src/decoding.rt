@@ -10,7 +10,9 @@ use crate::buffers::check_length;
 use crate::engine::Borrowing;
 use crate::fault::Fault;
 use crate::layouts::{Marked, RsShard};
-use crate::rooms::{check_number, check_rooms, fill_rooms};
+use crate::rooms::check_number;
+use reed_solomon_simd::receiving::received_shards;
+use reed_solomon_simd::restoring::restore_into;
 use rs_field::engine::Steps;
 use rs_field::error::Error;
 use rs_rate::DecoderResult;
@@ -72,12 +74,10 @@ pub fn decode_arrays(
     }
     let own = originals.iter().map(|shard| (shard.index, shard.bytes));
     let other = recovery.iter().map(|shard| (shard.index, shard.bytes));
-    let Some(mut decoder) = given_decoder(alloc, counts, own, other, engine)? else {
+    let Some(received) = received_shards(alloc, counts, own, other)? else {
         return check_number(0, restored.len());
     };
-    let result = decoder.decode(&mut Steps::new())?;
-    check_rooms(result.restored_original_iter(), restored)?;
-    fill_rooms(result.restored_original_iter(), restored);
+    restore_into(alloc, &received, engine, restored)?;
     Ok(())
 }
 

@@ -1,7 +1,7 @@
 //! The examples of doc comments that show numbers.
 use reed_solomon_simd::engine::tables::Tables;
 use reed_solomon_simd::engine::{DefaultEngine, EngineKind};
-use reed_solomon_simd::{decode, encode};
+use reed_solomon_simd::{decode, encode, encode_into};
 use std::test::Fail;
 
 #[test]
@@ -13,6 +13,22 @@ fn a_recovery_shard_is_the_sum_of_all(rt: HostRuntime) -> Result<(), Fail> {
     let recovery = encode(alloc, 3, 1, original.into_iter(), engine)?;
     assert_eq!(rt; recovery.len(), 1);
     assert_eq!(rt; recovery[0].as_slice(), [21, 42].as_slice());
+    Ok(())
+}
+
+#[test]
+fn recovery_shards_are_written_into_arrays(rt: HostRuntime) -> Result<(), Fail> {
+    let alloc = rt.alloc();
+    let tables = Tables::new(alloc)?;
+    let engine = DefaultEngine::new(&tables, EngineKind::Ssse3);
+    let original: [&[u8]; 3] = [&[2, 0], &[0, 0], &[4, 0]];
+    let (mut first, mut second) = ([0; 2], [0; 2]);
+    let mut recovery: Vec<&mut [u8]> = Vec::new(alloc);
+    recovery.push(&mut first)?;
+    recovery.push(&mut second)?;
+    encode_into(alloc, 3, 2, &original, &mut recovery, engine)?;
+    drop(recovery);
+    assert_eq!(rt; (first, second), ([3, 0], [5, 0]));
     Ok(())
 }
 

@@ -10,7 +10,7 @@ use super::{GF_ORDER, GfElement};
 pub struct LentTables<'t> {
     /// The factors of the butterflies.
     pub skew: Skew<'t>,
-    /// The transforms of the logarithms of the words below each power of two, one behind the other.
+    /// The transforms of the logarithms of the words below each power of two, one after the other.
     pub log_walsh: &'t [GfElement],
     pub ghost skew_entries: { IsSkew skew.now },
     pub ghost log_walsh_entries: { AreLogWalshes log_walsh.now },

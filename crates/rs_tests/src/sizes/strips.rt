@@ -21,7 +21,7 @@ const COUNTS: [(usize, usize); 7] = [
     (100, 30),
 ];
 
-// The recovery shards one behind the other, by an encoder of whole shards.
+// The recovery shards one after the other, by an encoder of whole shards.
 fn encoded_whole(
     alloc: Global,
     originals: &[Vec<u8>],
@@ -46,7 +46,7 @@ fn encoded_whole(
     Ok(joined)
 }
 
-// Shards one behind the other.
+// Shards one after the other.
 fn joined(alloc: Global, shards: &[Vec<u8>]) -> Result<Vec<u8>, Error> {
     let mut joined = Vec::new(alloc);
     for shard in shards {

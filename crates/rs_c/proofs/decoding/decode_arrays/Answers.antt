@@ -5,18 +5,16 @@ use Rattle.rs_field.specs.code.Column.{Shard}
 use Rattle.rs_field.specs.code.Given.{nothing}
 use Rattle.rs_field.specs.code.OneCall.{Items, OneDecodeAnswers}
 use Rattle.rs_field.proofs.of_code.SupportedCounts.{default_fits}
-use Rattle.rs_rate.specs.ResultView.{restored_originals}
+use Rattle.reed_solomon_simd.specs.ReceivedState.{received_state}
+use Rattle.reed_solomon_simd.proofs.RestoringLemmas.{decodes-restored}
+use Rattle.rs_c.proofs.RoomFaults.{decodes-told, keeps-rooms}
 use Rattle.reed_solomon_simd.proofs.Giving.{always-both}
-use Rattle.reed_solomon_simd.proofs.OneCall.{decoding-uncounted, decoding-none, decoding-refused, decoding-nothing, decoding-answers, lists-none}
+use Rattle.reed_solomon_simd.proofs.OneCall.{decoding-uncounted, decoding-none, decoding-refused, decoding-nothing, lists-none}
 use Rattle.rs_field.specs.declared.code.error.Error.TheVariants.{OutOfMemory}
 use Rattle.rs_c.specs.declared.fault.Fault.TheVariants.{Refused}
-use Rattle.rs_c.specs.Arrays.{items_of, bytes_in, rooms_fit, as_many}
-use Rattle.rs_c.proofs.RoomLemmas.{bytes-count, fills, fills-none, lists-same}
+use Rattle.rs_c.specs.Arrays.{items_of, bytes_in, as_many}
+use Rattle.rs_c.proofs.RoomLemmas.{bytes-count, fills-none}
 use Rattle.rs_c.proofs.decoding.decode_arrays.Goals as goal
-
--- the shards of listed items
-abbrev shards_in_items : Items → List Shard
-shards_in_items items = map (λ item. item.1) items
 
 pub returns-in_err-counts-clause-answer : goal.returns-in_err-counts-clause-answer
 returns-in_err-counts-clause-answer c =
@@ -55,62 +53,40 @@ returns-then-is_empty-clause-answer c =
       ([], lists-none, fills-none (bytes_in c.args.restored.now) _ (c.check_number.ensures ∙ ap (as_many 0) (sym (bytes-count c.args.restored.now)))),
     )
 
-pub returns-in_err-decoder-clause-answer : goal.returns-in_err-decoder-clause-answer
-returns-in_err-decoder-clause-answer c =
+pub returns-in_err-received-clause-answer : goal.returns-in_err-received-clause-answer
+returns-in_err-received-clause-answer c =
     let own = YieldsList-from_map_by _ (λ item. (item.0, item.1.now)) (λ shard. (shard.index, shard.bytes.now)) (YieldsList-from_slice c.args.originals.now cc) c.map-own.ensures.closure (λ x r q k. search rules) in
     let other = YieldsList-from_map_by _ (λ item. (item.0, item.1.now)) (λ shard. (shard.index, shard.bytes.now)) (YieldsList-from_slice c.args.recovery.now cc) c.map-other.ensures.closure (λ x r q k. search rules) in
-    let led = always-both (λ item. (item.0, item.1.now)) (λ item. (item.0, item.1.now)) _ (rw (c.in_ok-counts.ensures.0, c.in_ok-counts.ensures.1) at c.in_err-decoder.ensures) (items_of c.args.originals.now) (items_of c.args.recovery.now) own.runs other.runs in
-    let e = c.in_err-decoder.field-0.0 in (Err e, decoding-refused c.args.original_count c.args.recovery_count _ _ e led, (search rules, refl))
+    let led = always-both (λ item. (item.0, item.1.now)) (λ item. (item.0, item.1.now)) _ (rw (c.in_ok-counts.ensures.0, c.in_ok-counts.ensures.1) at c.in_err-received.ensures) (items_of c.args.originals.now) (items_of c.args.recovery.now) own.runs other.runs in
+    let e = c.in_err-received.field-0.0 in (Err e, decoding-refused c.args.original_count c.args.recovery_count _ _ e led, (search rules, refl))
 
 pub returns-in_default-clause-answer : goal.returns-in_default-clause-answer
 returns-in_default-clause-answer c =
     let own = YieldsList-from_map_by _ (λ item. (item.0, item.1.now)) (λ shard. (shard.index, shard.bytes.now)) (YieldsList-from_slice c.args.originals.now cc) c.map-own.ensures.closure (λ x r q k. search rules) in
     let other = YieldsList-from_map_by _ (λ item. (item.0, item.1.now)) (λ shard. (shard.index, shard.bytes.now)) (YieldsList-from_slice c.args.recovery.now cc) c.map-other.ensures.closure (λ x r q k. search rules) in
-    let led = always-both (λ item. (item.0, item.1.now)) (λ item. (item.0, item.1.now)) _ (rw (c.in_ok-counts.ensures.0, c.in_ok-counts.ensures.1, c.in_default.is) at c.in_ok-decoder.ensures) (items_of c.args.originals.now) (items_of c.args.recovery.now) own.runs other.runs in
+    let led = always-both (λ item. (item.0, item.1.now)) (λ item. (item.0, item.1.now)) _ (rw (c.in_ok-counts.ensures.0, c.in_ok-counts.ensures.1, c.in_default.is) at c.in_ok-received.ensures) (items_of c.args.originals.now) (items_of c.args.recovery.now) own.runs other.runs in
     (Ok nothing, decoding-nothing c.args.original_count c.args.recovery_count _ _ led, ([], lists-none, fills-none (bytes_in c.args.restored.now) _ (c.check_number-in_default.ensures ∙ ap (as_many 0) (sym (bytes-count c.args.restored.now)))))
 
-pub returns-in_err-result-clause-answer : goal.returns-in_err-result-clause-answer
-returns-in_err-result-clause-answer c =
+pub returns-in_err-restore_into-clause-answer : goal.returns-in_err-restore_into-clause-answer
+returns-in_err-restore_into-clause-answer c =
     let own = YieldsList-from_map_by _ (λ item. (item.0, item.1.now)) (λ shard. (shard.index, shard.bytes.now)) (YieldsList-from_slice c.args.originals.now cc) c.map-own.ensures.closure (λ x r q k. search rules) in
     let other = YieldsList-from_map_by _ (λ item. (item.0, item.1.now)) (λ shard. (shard.index, shard.bytes.now)) (YieldsList-from_slice c.args.recovery.now cc) c.map-other.ensures.closure (λ x r q k. search rules) in
-    let led = always-both (λ item. (item.0, item.1.now)) (λ item. (item.0, item.1.now)) _ (rw (c.in_ok-counts.ensures.0, c.in_ok-counts.ensures.1, c.in-Some.is) at c.in_ok-decoder.ensures) (items_of c.args.originals.now) (items_of c.args.recovery.now) own.runs other.runs in
-    let e = c.in_err-result.field-0.0 in (Err e, decoding-answers c.args.original_count c.args.recovery_count _ _ _ led (Err e) c.in_err-result.ensures.answer, (search rules, refl))
+    let led = always-both (λ item. (item.0, item.1.now)) (λ item. (item.0, item.1.now)) _ (rw (c.in_ok-counts.ensures.0, c.in_ok-counts.ensures.1, c.in-Some.is) at c.in_ok-received.ensures) (items_of c.args.originals.now) (items_of c.args.recovery.now) own.runs other.runs in
+    decodes-told c.args.original_count c.args.recovery_count (items_of c.args.originals.now) (items_of c.args.recovery.now) (bytes_in c.args.restored.now) _ _ _ (search rules)
+    (decodes-restored c.args.original_count c.args.recovery_count (items_of c.args.originals.now) (items_of c.args.recovery.now) (received_state c.in-Some.received) (bytes_in c.args.restored.now) _ _ led
+    c.in_err-restore_into.ensures.answer)
 
-pub returns-in_err-check_rooms-clause-answer : goal.returns-in_err-check_rooms-clause-answer
-returns-in_err-check_rooms-clause-answer c =
-    let own = YieldsList-from_map_by _ (λ item. (item.0, item.1.now)) (λ shard. (shard.index, shard.bytes.now)) (YieldsList-from_slice c.args.originals.now cc) c.map-own.ensures.closure (λ x r q k. search rules) in
-    let other = YieldsList-from_map_by _ (λ item. (item.0, item.1.now)) (λ shard. (shard.index, shard.bytes.now)) (YieldsList-from_slice c.args.recovery.now cc) c.map-other.ensures.closure (λ x r q k. search rules) in
-    let led = always-both (λ item. (item.0, item.1.now)) (λ item. (item.0, item.1.now)) _ (rw (c.in_ok-counts.ensures.0, c.in_ok-counts.ensures.1, c.in-Some.is) at c.in_ok-decoder.ensures) (items_of c.args.originals.now) (items_of c.args.recovery.now) own.runs other.runs in
-    let restored = restored_originals c.in_ok-result.result in
-    let old = bytes_in c.args.restored.now in
-    let items : Items = c.restored_original_iter.result in (
-      Ok restored,
-      decoding-answers c.args.original_count c.args.recovery_count _ _ _ led (Ok restored) c.in_ok-result.ensures.answer,
-      (items, c.restored_original_iter.ensures.listed, fills (shards_in_items items) old old _ (Err c.in_err-check_rooms.field-0.0) c.in_err-check_rooms.ensures (search rules, refl)),
-    )
-
-pub fill_rooms-requires : goal.fill_rooms-requires
-fill_rooms-requires c lifetimes = (
-  (refl, tt),
-  ap (λ l. rooms_fit (shards_in_items l) (bytes_in c.args.restored.now))
-      (lists-same (restored_originals c.in_ok-result.result) c.restored_original_iter-2.result c.restored_original_iter.result c.restored_original_iter-2.ensures.listed c.restored_original_iter.ensures.listed)
-      ∙ sym c.in_ok-check_rooms.ensures,
-)
+pub returns-in_err-restore_into-clause-kept : goal.returns-in_err-restore_into-clause-kept
+returns-in_err-restore_into-clause-kept c = keeps-rooms c.args.restored.now _ c.in_err-restore_into.ensures.kept
 
 pub returns-clause-answer : goal.returns-clause-answer
 returns-clause-answer c =
     let own = YieldsList-from_map_by _ (λ item. (item.0, item.1.now)) (λ shard. (shard.index, shard.bytes.now)) (YieldsList-from_slice c.args.originals.now cc) c.map-own.ensures.closure (λ x r q k. search rules) in
     let other = YieldsList-from_map_by _ (λ item. (item.0, item.1.now)) (λ shard. (shard.index, shard.bytes.now)) (YieldsList-from_slice c.args.recovery.now cc) c.map-other.ensures.closure (λ x r q k. search rules) in
-    let led = always-both (λ item. (item.0, item.1.now)) (λ item. (item.0, item.1.now)) _ (rw (c.in_ok-counts.ensures.0, c.in_ok-counts.ensures.1, c.in-Some.is) at c.in_ok-decoder.ensures) (items_of c.args.originals.now) (items_of c.args.recovery.now) own.runs other.runs in
-    let restored = restored_originals c.in_ok-result.result in
-    let old = bytes_in c.args.restored.now in
-    let items : Items = c.restored_original_iter-2.result in
-    let same = lists-same restored c.restored_original_iter.result items c.restored_original_iter.ensures.listed c.restored_original_iter-2.ensures.listed in (
-      Ok restored,
-      decoding-answers c.args.original_count c.args.recovery_count _ _ _ led (Ok restored) c.in_ok-result.ensures.answer,
-      (
-        items,
-        c.restored_original_iter-2.ensures.listed,
-        fills (shards_in_items items) old _ _ (Ok tt) (c.in_ok-check_rooms.ensures ∙ ap (λ l. rooms_fit (shards_in_items l) old) same) (refl, c.fill_rooms.ensures.filled),
-      ),
-    )
+    let led = always-both (λ item. (item.0, item.1.now)) (λ item. (item.0, item.1.now)) _ (rw (c.in_ok-counts.ensures.0, c.in_ok-counts.ensures.1, c.in-Some.is) at c.in_ok-received.ensures) (items_of c.args.originals.now) (items_of c.args.recovery.now) own.runs other.runs in
+    decodes-told c.args.original_count c.args.recovery_count (items_of c.args.originals.now) (items_of c.args.recovery.now) (bytes_in c.args.restored.now) _ (Ok tt) (Ok tt) refl
+    (decodes-restored c.args.original_count c.args.recovery_count (items_of c.args.originals.now) (items_of c.args.recovery.now) (received_state c.in-Some.received) (bytes_in c.args.restored.now) _ (Ok tt) led
+    c.in_ok-restore_into.ensures.answer)
+
+pub returns-clause-kept : goal.returns-clause-kept
+returns-clause-kept c = keeps-rooms c.args.restored.now _ c.in_ok-restore_into.ensures.kept
