@@ -60,10 +60,11 @@ pub fn encode_into<E: Engine>(
 
 /// Decodes the received shards, and writes the missing originals into `restored`, in order of their index.
 ///
-/// `original` and `recovery` have the received shards with their indexes, each numbered from 0 on their own. All shards and
-/// rooms have the size of the first recovery shard. The call allocates a work area for a part of each shard, whatever the
-/// size of the shards. If it is given more shards than originals, it allocates memory for the missing originals as well,
-/// since only the last bytes may show that no message matches. After an error the rooms hold what they held.
+/// `original` and `recovery` have the received shards with their indexes. Originals are numbered from 0 in the order in which
+/// they were encoded, and recovery shards are numbered from 0 on their own. All shards and rooms have the size of the first
+/// recovery shard. Besides pointers to the shards, the call allocates a work area for at most 2048 bytes of each shard. If
+/// it gets more shards than originals, it also allocates memory for the missing originals, because the last bytes of the
+/// shards may show that no message matches. After an error the rooms hold what they held.
 ///
 /// If no recovery shard comes, nothing can be restored. Then only the indexes of the originals are looked at, and no size.
 ///
@@ -77,8 +78,14 @@ pub fn encode_into<E: Engine>(
 /// # Examples
 ///
 /// ```
-/// let mut restored: Vec<&mut [u8]> = room.chunks_mut(shard_bytes).collect(alloc)?;
-/// decode_into(alloc, 3, 2, &[(1, ORIGINAL[1])], &received, restored.as_mut_slice(), engine)?;
+/// let received: [(usize, &[u8]); 2] = [(0, &[2, 0]), (1, &[3, 0])];
+/// let (mut first, mut second) = ([9; 2], [9; 2]);
+/// let mut restored: Vec<&mut [u8]> = Vec::new(alloc);
+/// restored.push(&mut first)?;
+/// restored.push(&mut second)?;
+/// decode_into(alloc, 2, 3, &[], &received, &mut restored, engine)?;
+/// drop(restored);
+/// assert_eq!(rt; (first, second), ([0, 0], [1, 0]));
 /// ```
 pub fn decode_into<E: Engine>(
     alloc: Global,
