@@ -225,7 +225,11 @@ impl<'a> LentOriginals<'a> {
 }
 
 // Empty vectors with memory for so many bytes each.
-pub(crate) fn empty_vectors(alloc: Global, count: usize, bytes: usize) -> Result<Vec<Vec<u8>>, Error>
+pub(crate) fn empty_vectors(
+    alloc: Global,
+    count: usize,
+    bytes: usize,
+) -> Result<Vec<Vec<u8>>, Error>
     ensures number { IfOk result (λ vectors. vec_len vectors ≡ count) }
     ensures empty { IfOk result (λ vectors. All (λ vector. vector.items ≡ []) vectors.items) }
     ensures refused { IfErr result (λ e. e ≡ Error.OutOfMemory) }

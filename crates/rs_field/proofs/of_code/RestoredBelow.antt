@@ -60,9 +60,9 @@ module _ (start end : ℕ) where
         refusal = none.refusal ∙ ap₂ InconsistentShards own other;
         surplus = omega (arith, none.surplus, own, other);
         none = λ some. none.none (
-            pieces start end some.0,
-            agrees-cut start end c.rate c.original_count c.recovery_count c.shard_bytes s.originals s.recovery some.0 strip some.1,
-          );
+          pieces start end some.0,
+          agrees-cut start end c.rate c.original_count c.recovery_count c.shard_bytes s.originals s.recovery some.0 strip some.1,
+        );
       }
 
 -- ---- the words at the points of given shards
@@ -115,9 +115,9 @@ sized-within : (count size : ℕ) (given : Shards) → AreWithin count size give
 sized-within count size given within =
     record {
       each = λ i shard is. (
-          elim (cases_lt i count) [ inl inside ↦ inside | inr past ↦ absurd (none-some shard (sym (within.none_past i past) ∙ is)) ],
-          within.sized i shard is,
-        );
+        elim (cases_lt i count) [ inl inside ↦ inside | inr past ↦ absurd (none-some shard (sym (within.none_past i past) ∙ is)) ],
+        within.sized i shard is,
+      );
     }
 
 -- where the pieces in all strips are consistent, so are the shards
@@ -312,10 +312,10 @@ restored-all s grows rooms supported even own_within coded_within enough done =
       items = listed c.original_count (missing_of s message);
       listed = missing-lists s message;
       held = ext_get_or [] rooms (missing_shards s message) (omega (arith, number, done.number)) (λ i h.
-      let long = sized i [] (omega (arith, number, done.number, h)) in
-      let room = done.fit i [] h ∙ room-whole grows c.shard_bytes in
-      sym (take_all c.shard_bytes (get_or rooms i []) (omega (arith, room))) ∙ done.held message agrees i h
-      ∙ take_all c.shard_bytes (get_or (missing_shards s message) i []) (omega (arith, long)));
+          let long = sized i [] (omega (arith, number, done.number, h)) in
+          let room = done.fit i [] h ∙ room-whole grows c.shard_bytes in
+          sym (take_all c.shard_bytes (get_or rooms i []) (omega (arith, room))) ∙ done.held message agrees i h
+          ∙ take_all c.shard_bytes (get_or (missing_shards s message) i []) (omega (arith, long)));
     }
 
 module _ (s : DecoderState) (rooms : List Shard) (holds : HoldRestored s rooms) where

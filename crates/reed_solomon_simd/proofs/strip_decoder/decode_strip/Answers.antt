@@ -45,7 +45,7 @@ put_pieces-requires-clause-pieces g c =
     (ap given_in c.as_slice.ensures.value) (ap given_in c.as_slice-2.ensures.value) in
     let made = round-made start end x state is c.requires.enough (restored_of c.decode_round.new.decoder.rows) c.in_ok-restored_count.ensures.answer in
     λ items listing.
-        let here : Lists (restored_of c.decode_round.new.decoder.rows) items = subst (λ (out : Shards). Lists out items) c.lent_originals.ensures listing in
-        let grows = g.R.Rooms.grows in
-        let number = pieces-number x grows start end (restored_of c.decode_round.new.decoder.rows) items c.requires.strip made here in
-        (omega (arith, number, c.requires.number), pieces-sized x grows start end (restored_of c.decode_round.new.decoder.rows) items c.requires.strip made here)
+    let here : Lists (restored_of c.decode_round.new.decoder.rows) items = subst (λ (out : Shards). Lists out items) c.lent_originals.ensures listing in
+    let grows = g.R.Rooms.grows in
+    let number = pieces-number x grows start end (restored_of c.decode_round.new.decoder.rows) items c.requires.strip made here in
+    (omega (arith, number, c.requires.number), pieces-sized x grows start end (restored_of c.decode_round.new.decoder.rows) items c.requires.strip made here)

@@ -16,7 +16,7 @@ invariant-loop-piece g l =
       number : length (g.R.Rooms.held l.rooms) ≡ length (g.R.Rooms.held l.initial.rooms);
       put : (i : ℕ) → i < l.room → get_or (g.R.Rooms.held l.rooms) i []
           ≡ take l.start (get_or (g.R.Rooms.held l.initial.rooms) i [])
-              ++ (get_or (shards_listed items) i [] ++ drop l.end (get_or (g.R.Rooms.held l.initial.rooms) i []));
+          ++ (get_or (shards_listed items) i [] ++ drop l.end (get_or (g.R.Rooms.held l.initial.rooms) i []));
       others : (i : ℕ) → l.room ≤ i → get_or (g.R.Rooms.held l.rooms) i [] ≡ get_or (g.R.Rooms.held l.initial.rooms) i [];
       places : g.R.Rooms.places l.rooms ≡ g.R.Rooms.places l.initial.rooms;
       loan : g.R.Rooms.loan l.rooms ≡ g.R.Rooms.loan l.initial.rooms;
