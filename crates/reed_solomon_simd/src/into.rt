@@ -1,13 +1,17 @@
 //! Encoding and decoding in one call into memory of the caller.
-ghost use Rattle.std.specs.Prelude.{◌≡◌, map};
+ghost use Rattle.std.specs.Prelude.{◌≡◌, All, length, map, Ok, Err, OnOk, OnErr};
+ghost use Rattle.rs_field.specs.code.Code.{AreRecovery};
+ghost use Rattle.rs_field.specs.code.Configuration.{validated};
+ghost use Rattle.rs_field.specs.code.OneCall.{default_of};
 ghost use Rattle.reed_solomon_simd.specs.Into.{EncodesInto, DecodesInto};
 ghost use Rattle.reed_solomon_simd.specs.Rooms.{shards_of, bytes_in, loans_of};
 
-use crate::RoomError;
-use crate::lent_originals::LentOriginals;
+use crate::checked_originals::check_originals;
 use crate::receiving::received_shards;
 use crate::restoring::restore_into;
-use crate::rooms::check_rooms;
+use crate::rooms::{LentRooms, check_rooms};
+use crate::strip_encoder::encode_strips;
+use crate::{Error, RoomError};
 use rs_field::engine::Engine;
 use rs_rate::rate::DefaultRateCounts;
 use std::alloc::Global;
@@ -15,9 +19,8 @@ use std::alloc::Global;
 /// Encodes the originals and writes the recovery shards into `recovery`, in order of their index.
 ///
 /// `original[i]` is the original with index i, and `recovery[i]` is the memory for the recovery shard with index i. Every
-/// original and every piece of memory has the size of the first original, an even number of bytes above zero. Besides
-/// pointers to the originals the call allocates a work area for 4096 bytes of each shard at most. After an error the memory
-/// holds what it held.
+/// original and every piece of memory has the size of the first original, an even number of bytes above zero. The call
+/// allocates a work area for at most 4096 bytes of each shard and nothing else. After an error the memory holds what it held.
 ///
 /// # Errors
 ///
@@ -50,12 +53,34 @@ pub fn encode_into<E: Engine>(
     ensures kept { loans_of recovery.new ≡ loans_of recovery.old }
 {
     let counts = DefaultRateCounts::new(original_count, recovery_count)?;
-    let shards = original.iter().map(|shard| *shard);
-    let originals = LentOriginals::gather(alloc, counts, shards)?;
-    originals.check_all_given()?;
-    check_rooms(recovery_count, originals.shard_bytes(), recovery)?;
-    originals.encode_lent(alloc, engine, recovery)?;
+    let shard_bytes = check_originals(counts, original)?;
+    check_rooms(recovery_count, shard_bytes, recovery)?;
+    encode_lent(alloc, counts, shard_bytes, engine, original, recovery)?;
     Ok(())
+}
+
+// Encodes originals of this size into rooms of their size.
+fn encode_lent<E: Engine>(
+    alloc: Global,
+    counts: DefaultRateCounts,
+    shard_bytes: usize,
+    engine: E,
+    originals: &[&[u8]],
+    recovery: &mut [&mut [u8]],
+) -> Result<(), Error>
+    requires originals { length originals.now ≡ counts.original_count }
+    requires number { length recovery.old ≡ counts.recovery_count }
+    requires valid { validated (default_of counts.original_count counts.recovery_count shard_bytes) ≡ Ok tt }
+    requires sized { All (λ shard. length shard.now ≡ shard_bytes) originals.now }
+    requires fit { All (λ room. length room ≡ shard_bytes) (bytes_in recovery.old) }
+    ensures coded { OnOk result
+        (AreRecovery (default_of counts.original_count counts.recovery_count shard_bytes) (shards_of originals.now) (bytes_in recovery.new)) }
+    ensures refused { OnErr result (result ≡ Err Error.OutOfMemory) }
+    ensures untouched { OnErr result (bytes_in recovery.new ≡ bytes_in recovery.old) }
+    ensures kept { loans_of recovery.new ≡ loans_of recovery.old }
+{
+    let mut rooms = LentRooms { rooms: recovery };
+    encode_strips(alloc, counts, shard_bytes, engine, originals, &mut rooms)
 }
 
 /// Decodes the received shards, and writes the missing originals into `restored`, in order of their index.
