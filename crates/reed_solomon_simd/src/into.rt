@@ -102,8 +102,14 @@ fn encode_lent<E: Engine>(
 /// # Examples
 ///
 /// ```
-/// let mut restored: Vec<&mut [u8]> = room.chunks_mut(shard_bytes).collect(alloc)?;
-/// decode_into(alloc, 3, 2, &[(1, ORIGINAL[1])], &received, restored.as_mut_slice(), engine)?;
+/// let recovery: [(usize, &[u8]); 2] = [(0, &[2, 0]), (1, &[3, 0])];
+/// let (mut first, mut second) = ([9; 2], [9; 2]);
+/// let mut restored: Vec<&mut [u8]> = Vec::new(alloc);
+/// restored.push(&mut first)?;
+/// restored.push(&mut second)?;
+/// decode_into(alloc, 2, 3, &[], &recovery, &mut restored, engine)?;
+/// drop(restored);
+/// assert_eq!(rt; (first, second), ([0, 0], [1, 0]));
 /// ```
 pub fn decode_into<E: Engine>(
     alloc: Global,

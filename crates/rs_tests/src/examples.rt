@@ -1,7 +1,7 @@
 //! The examples of doc comments that show numbers.
 use reed_solomon_simd::engine::tables::Tables;
 use reed_solomon_simd::engine::{DefaultEngine, EngineKind};
-use reed_solomon_simd::{decode, encode, encode_into};
+use reed_solomon_simd::{decode, decode_into, encode, encode_into};
 use std::test::Fail;
 
 #[test]
@@ -47,5 +47,21 @@ fn two_recovery_shards_restore_two_originals(rt: HostRuntime) -> Result<(), Fail
         restored.get(&1).ok_or("none")?.as_slice(),
         [1, 0].as_slice()
     );
+    Ok(())
+}
+
+#[test]
+fn missing_originals_are_written_into_arrays(rt: HostRuntime) -> Result<(), Fail> {
+    let alloc = rt.alloc();
+    let tables = Tables::new(alloc)?;
+    let engine = DefaultEngine::new(&tables, EngineKind::Ssse3);
+    let recovery: [(usize, &[u8]); 2] = [(0, &[2, 0]), (1, &[3, 0])];
+    let (mut first, mut second) = ([9; 2], [9; 2]);
+    let mut restored: Vec<&mut [u8]> = Vec::new(alloc);
+    restored.push(&mut first)?;
+    restored.push(&mut second)?;
+    decode_into(alloc, 2, 3, &[], &recovery, &mut restored, engine)?;
+    drop(restored);
+    assert_eq!(rt; (first, second), ([0, 0], [1, 0]));
     Ok(())
 }
