@@ -7,10 +7,10 @@ use Rattle.std.proofs.lemmas.List.{get_or_default}
 use Rattle.reed_solomon_simd.specs.Received.{given_in}
 use Rattle.rs_field.specs.code.Column.{Shard, shard_at}
 use Rattle.rs_field.specs.code.Decoder.{DecoderState, missing_of, Restored}
-use Rattle.rs_field.specs.code.Given.{Shards, nothing, listed, listed_from, Lists}
+use Rattle.rs_field.specs.code.Given.{Shards, nothing, items_below, items_from, Lists}
 use Rattle.rs_field.specs.code.OneCall.{Items}
 use Rattle.rs_field.specs.code.PieceStates.{HoldRestored, shards_listed}
-use Rattle.rs_field.proofs.of_code.Listed.{listed_from-some, listed_from-none, listed_from-past}
+use Rattle.rs_field.proofs.of_code.Listed.{items_from-some, items_from-none, items_from-past}
 use Rattle.rs_field.proofs.of_code.ListedMaps.{lists-same}
 use Rattle.rs_field.proofs.of_code.RestoredBelow.{missing-past}
 use Rattle.reed_solomon_simd.proofs.Collecting.{with_entries, with_entries-lists}
@@ -19,18 +19,18 @@ use Rattle.reed_solomon_simd.proofs.Collecting.{with_entries, with_entries-lists
 pub record AreEntered (s : DecoderState) (index : ℕ) (left : List Shard) (vectors : Shards) : Type 0 where
   pub out : Shards
   pub restored : Restored s out
-  pub left_is : left ≡ shards_listed (listed_from index (s.configuration.original_count - index) out)
-  pub whole : with_entries vectors (listed_from index (s.configuration.original_count - index) out) ≡ out
+  pub left_is : left ≡ shards_listed (items_from index (s.configuration.original_count - index) out)
+  pub whole : with_entries vectors (items_from index (s.configuration.original_count - index) out) ≡ out
 
 -- at first all are left
 pub entered-none : (s : DecoderState) (rooms left : List Shard) (vectors : Shards) → HoldRestored s rooms → left ≡ rooms → vectors ≡ nothing → AreEntered s 0 left vectors
 entered-none s rooms left vectors holds is empty =
     let k = s.configuration.original_count in
     let m = holds.restored.message in
-    let here : Lists holds.out (listed s.configuration.original_count holds.out) =
+    let here : Lists holds.out (items_below s.configuration.original_count holds.out) =
     record { count = k; none_past = λ i past. holds.restored.missing i ∙ missing-past s m i past; in_order = refl } in
-    let items : holds.items ≡ listed_from 0 (s.configuration.original_count - 0) holds.out =
-    lists-same holds.out holds.items (listed k holds.out) holds.listed here ∙ ap (λ (n : ℕ). listed_from 0 n holds.out) (let e : k ≡ k - 0 = omega arith in e) in
+    let items : holds.items ≡ items_from 0 (s.configuration.original_count - 0) holds.out =
+    lists-same holds.out holds.items (items_below k holds.out) holds.listed here ∙ ap (λ (n : ℕ). items_from 0 n holds.out) (let e : k ≡ k - 0 = omega arith in e) in
     record {
       out = holds.out;
       restored = holds.restored;
@@ -46,14 +46,14 @@ module _ (s : DecoderState) (i : ℕ) (left : List Shard) (vectors : Shards) (ar
         are.restored.missing i
         ∙ ap₂ (λ (a b : Bool). cond (a && not b) (Some (shard_at are.restored.message i)) None) (lt-ltb i s.configuration.original_count inside) (ap is_some free)
 
-    begins : listed_from i (s.configuration.original_count - i) are.out
-        ≡ (i, shard_at are.restored.message i) ∷ listed_from (i + 1) (s.configuration.original_count - (i + 1)) are.out
-    begins = listed_from-some i s.configuration.original_count are.out (shard_at are.restored.message i) inside some-here
+    begins : items_from i (s.configuration.original_count - i) are.out
+        ≡ (i, shard_at are.restored.message i) ∷ items_from (i + 1) (s.configuration.original_count - (i + 1)) are.out
+    begins = items_from-some i s.configuration.original_count are.out (shard_at are.restored.message i) inside some-here
 
     -- where an original is missing, a shard is left
     pub entered-short : left ≡ [] → ⊥
     entered-short none =
-        let both : [] ≡ shard_at are.restored.message i ∷ shards_listed (listed_from (i + 1) (s.configuration.original_count - (i + 1)) are.out) =
+        let both : [] ≡ shard_at are.restored.message i ∷ shards_listed (items_from (i + 1) (s.configuration.original_count - (i + 1)) are.out) =
         sym none ∙ are.left_is ∙ ap shards_listed begins in
         let no : ⊥ = cc in no
 
@@ -61,15 +61,15 @@ module _ (s : DecoderState) (i : ℕ) (left : List Shard) (vectors : Shards) (ar
     pub entered-next : (x : Shard) (rest : List Shard) (new : Shards) → left ≡ x ∷ rest
         → ((items others : Items) → items ≡ (i, x) ∷ others → with_entries new others ≡ with_entries vectors items) → AreEntered s (i + 1) rest new
     entered-next x rest new is step =
-        let both : x ∷ rest ≡ shard_at are.restored.message i ∷ shards_listed (listed_from (i + 1) (s.configuration.original_count - (i + 1)) are.out) =
+        let both : x ∷ rest ≡ shard_at are.restored.message i ∷ shards_listed (items_from (i + 1) (s.configuration.original_count - (i + 1)) are.out) =
         sym is ∙ are.left_is ∙ ap shards_listed begins in
         let same : shard_at are.restored.message i ≡ x = cc in
         record {
           out = are.out;
           restored = are.restored;
           left_is = cc;
-          whole = step (listed_from i (s.configuration.original_count - i) are.out) (listed_from (i + 1) (s.configuration.original_count - (i + 1)) are.out)
-              (begins ∙ ap (λ (y : Shard). (i, y) ∷ listed_from (i + 1) (s.configuration.original_count - (i + 1)) are.out) same)
+          whole = step (items_from i (s.configuration.original_count - i) are.out) (items_from (i + 1) (s.configuration.original_count - (i + 1)) are.out)
+              (begins ∙ ap (λ (y : Shard). (i, y) ∷ items_from (i + 1) (s.configuration.original_count - (i + 1)) are.out) same)
               ∙ are.whole;
         }
 
@@ -80,13 +80,13 @@ module _ (s : DecoderState) (i : ℕ) (left : List Shard) (vectors : Shards) (ar
       let none : are.out i ≡ None =
       are.restored.missing i
       ∙ ap₂ (λ (a b : Bool). cond (a && not b) (Some (shard_at are.restored.message i)) None) (lt-ltb i s.configuration.original_count inside) some in
-      let same = listed_from-none i s.configuration.original_count are.out inside none in
+      let same = items_from-none i s.configuration.original_count are.out inside none in
       record { out = are.out; restored = are.restored; left_is = are.left_is ∙ ap shards_listed same; whole = ap (with_entries vectors) (sym same) ∙ are.whole }
 
   -- in the end the map has all
   pub entered-all : s.configuration.original_count ≤ i → Restored s vectors
   entered-all past =
-      subst (Restored s) (sym are.whole ∙ ap (with_entries vectors) (listed_from-past i s.configuration.original_count are.out past)) are.restored
+      subst (Restored s) (sym are.whole ∙ ap (with_entries vectors) (items_from-past i s.configuration.original_count are.out past)) are.restored
 
 -- a place that has a shard
 pub some-place : (places : List (Option (Bor Shard))) (i : ℕ) (found : Option (Bor Shard)) → get_or places i found ≡ found → i < length places → is_some found ≡ true

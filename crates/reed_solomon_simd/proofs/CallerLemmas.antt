@@ -10,7 +10,7 @@ use Rattle.rs_field.specs.code.Given.{Shards}
 use Rattle.rs_field.specs.code.Decoder.{DecoderState, fresh_decoder, enough_given, after_decode}
 use Rattle.rs_field.specs.code.OneCall.{collected_map, shards_in}
 use Rattle.rs_field.specs.code.Counts.{Rate, low_rate, high_rate, default_rate, next_power, supports}
-use Rattle.rs_field.specs.code.Configuration.{Configuration, validated}
+use Rattle.rs_field.specs.code.Configuration.{Configuration, validation_outcome}
 use Rattle.rs_field.proofs.of_code.Entries.{count-nothing}
 use Rattle.rs_rate.proofs.StateLemmas.{valid-supported}
 
@@ -21,7 +21,7 @@ some_originals high_rate k r is = ltb-true 0 k (and_parts (nat_lt 0 k) (nat_lt 0
 some_originals default_rate k r is = ltb-true 0 k (and_parts (nat_lt 0 k) (nat_lt 0 r) (and_parts (nat_lt 0 k && nat_lt 0 r) (nat_le (min (next_power k) (next_power r) + max k r) 65536) is).0).0
 
 -- a valid configuration has at least one original
-pub valid-some : (c : Configuration) → validated c ≡ Ok tt → 0 < c.original_count
+pub valid-some : (c : Configuration) → validation_outcome c ≡ Ok tt → 0 < c.original_count
 valid-some c valid =
     some_originals c.rate c.original_count c.recovery_count (valid-supported c valid)
 
@@ -30,7 +30,7 @@ abbrev by_counts : ℕ → ℕ → ℕ → Result (Unit {0}) Error
 by_counts k originals recovery = cond (nat_lt (originals + recovery) k) (Err (NotEnoughShards k originals recovery)) (Ok tt)
 
 -- a decoder with nothing given has too few shards
-pub fresh-too_few : (c : Configuration) → validated c ≡ Ok tt → enough_given (fresh_decoder c) ≡ Err (NotEnoughShards c.original_count 0 0)
+pub fresh-too_few : (c : Configuration) → validation_outcome c ≡ Ok tt → enough_given (fresh_decoder c) ≡ Err (NotEnoughShards c.original_count 0 0)
 fresh-too_few c valid =
     ap₂ (λ (o r : ℕ). by_counts c.original_count o r) (count-nothing c.original_count) (count-nothing c.recovery_count)
     ∙ ap (λ (b : Bool). cond b (Err (NotEnoughShards c.original_count 0 0)) (Ok tt)) (lt-ltb 0 c.original_count (valid-some c valid))
@@ -40,11 +40,11 @@ pub ended : (s : DecoderState) → enough_given s ≡ Ok tt → after_decode s �
 ended s enough = ap (λ (m : Result (Unit {0}) Error). cond (is_ok m) (fresh_decoder s.configuration) s) enough
 
 -- what holds of the shards that one-call `decode` collected holds of its map
-pub collected-holds : {Y : Type 0} (result : Result (BTreeMap ℕ (Vec ℕ Y)) Error) (P : Shards → Type 0) → IfOk (collected_map result) P → IfOk result (λ m. P (shards_in m))
-collected-holds (Ok m) P h = h
-collected-holds (Err e) P h = tt
+pub collected_shards-holds : {Y : Type 0} (result : Result (BTreeMap ℕ (Vec ℕ Y)) Error) (P : Shards → Type 0) → IfOk (collected_map result) P → IfOk result (λ m. P (shards_in m))
+collected_shards-holds (Ok m) P h = h
+collected_shards-holds (Err e) P h = tt
 
 -- and what holds of its refusal
-pub collected-refused : {Y : Type 0} (result : Result (BTreeMap ℕ (Vec ℕ Y)) Error) (P : Error → Type 0) → IfErr (collected_map result) P → IfErr result P
-collected-refused (Ok m) P h = tt
-collected-refused (Err e) P h = h
+pub collected_shards-refused : {Y : Type 0} (result : Result (BTreeMap ℕ (Vec ℕ Y)) Error) (P : Error → Type 0) → IfErr (collected_map result) P → IfErr result P
+collected_shards-refused (Ok m) P h = tt
+collected_shards-refused (Err e) P h = h

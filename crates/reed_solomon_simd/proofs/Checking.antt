@@ -6,7 +6,7 @@ use Rattle.rs_field.specs.declared.code.error.Error.{Error}
 use Rattle.rs_field.specs.declared.code.error.Error.TheVariants.{TooFewOriginalShards, OutOfMemory}
 use Rattle.rs_field.specs.code.Code.{AreRecovery}
 use Rattle.rs_field.specs.code.Column.{Shard}
-use Rattle.rs_field.specs.code.Configuration.{started, validated}
+use Rattle.rs_field.specs.code.Configuration.{start_outcome, validation_outcome}
 use Rattle.rs_field.specs.code.Counts.{default_rate}
 use Rattle.rs_field.specs.code.Encoder.{EncoderState, fresh_encoder, with_shard, message_of}
 use Rattle.rs_field.specs.code.OneCall.{default_of, with_shards, OneEncodeAnswers}
@@ -39,34 +39,34 @@ refused-at s (x ∷ xs) (suc i) e inside room sized refused =
 
 module _ (k r size : ℕ) (shards : List Shard) (some : 0 < length shards) (first : length (get_or shards 0 []) ≡ size) where
   -- a size that is refused decides
-  pub checked-unset : (e : Error) → Err e ≡ started (encoder_rows default_rate k r) (default_of k r size) → OneEncodeAnswers k r shards (Err e)
+  pub checked-unset : (e : Error) → Err e ≡ start_outcome (encoder_rows default_rate k r) (default_of k r size) → OneEncodeAnswers k r shards (Err e)
   checked-unset e refused = by_shards shards some first
     where
       by_shards : (shards : List Shard) → 0 < length shards → length (get_or shards 0 []) ≡ size → OneEncodeAnswers k r shards (Err e)
       by_shards [] some first = absurd (let no : ⊥ = omega (arith, some) in no)
       by_shards (x ∷ xs) some first =
           encoding-refused k r (x ∷ xs) e (encoding-unset k r x xs e
-          (inl (subst (λ (n : ℕ). Err e ≡ started (encoder_rows default_rate k r) (default_of k r n)) (sym first) refused)))
+          (inl (subst (λ (n : ℕ). Err e ≡ start_outcome (encoder_rows default_rate k r) (default_of k r n)) (sym first) refused)))
 
   -- and where it isn't, the shards do
-  pub checked-led : Ok tt ≡ started (encoder_rows default_rate k r) (default_of k r size) → (o : Result EncoderState Error)
+  pub checked-led : Ok tt ≡ start_outcome (encoder_rows default_rate k r) (default_of k r size) → (o : Result EncoderState Error)
       → with_shards (fresh_encoder (default_of k r size)) shards ≡ o → IsEncoding k r shards o
   checked-led made o is = by_shards shards some first is
     where
       by_shards : (shards : List Shard) → 0 < length shards → length (get_or shards 0 []) ≡ size → with_shards (fresh_encoder (default_of k r size)) shards ≡ o → IsEncoding k r shards o
       by_shards [] some first is = absurd (let no : ⊥ = omega (arith, some) in no)
       by_shards (x ∷ xs) some first is =
-          encoding-given k r x xs (fresh_encoder (default_of k r size)) (inl (subst (λ (n : ℕ). Ok tt ≡ started (encoder_rows default_rate k r) (default_of k r n)) (sym first) made))
+          encoding-given k r x xs (fresh_encoder (default_of k r size)) (inl (subst (λ (n : ℕ). Ok tt ≡ start_outcome (encoder_rows default_rate k r) (default_of k r n)) (sym first) made))
           (ap (λ (n : ℕ). fresh_encoder (default_of k r n)) (sym first)) o is
 
   -- one of them that is refused decides
-  pub checked-refused : Ok tt ≡ started (encoder_rows default_rate k r) (default_of k r size) → (i : ℕ) (e : Error) → i < length shards → i ≤ k
+  pub checked-refused : Ok tt ≡ start_outcome (encoder_rows default_rate k r) (default_of k r size) → (i : ℕ) (e : Error) → i < length shards → i ≤ k
       → ((j : ℕ) → j < i → length (get_or shards j []) ≡ size)
       → Err e ≡ answer_of (with_shard (record { configuration = default_of k r size; given = take i shards }) (get_or shards i [])) → OneEncodeAnswers k r shards (Err e)
   checked-refused made i e inside room sized refused =
       encoding-refused k r shards e (checked-led made (Err e) (refused-at (fresh_encoder (default_of k r size)) shards i e inside (omega (arith, room)) sized refused))
 
-  module _ (made : Ok tt ≡ started (encoder_rows default_rate k r) (default_of k r size)) (few : length shards ≤ k) (sized : All (λ s. length s ≡ size) shards) where
+  module _ (made : Ok tt ≡ start_outcome (encoder_rows default_rate k r) (default_of k r size)) (few : length shards ≤ k) (sized : All (λ s. length s ≡ size) shards) where
     -- where none is refused, an encoder has them all
     pub checked-all : IsEncoding k r shards (Ok (record { configuration = default_of k r size; given = shards }))
     checked-all = checked-led made _ (takes-all shards (fresh_encoder (default_of k r size)) (omega (arith, few)) (recursion_from_All (λ s. length s ≡ size) shards sized))
@@ -83,7 +83,7 @@ module _ (k r size : ℕ) (shards : List Shard) (is : AreChecked k r size shards
   checked = record { configuration = default_of k r size; given = shards }
 
   -- counts and size are valid
-  pub checked-valid : validated (default_of k r size) ≡ Ok tt
+  pub checked-valid : validation_outcome (default_of k r size) ≡ Ok tt
   checked-valid = (started-parts (encoder_rows default_rate k r) (default_of k r size) is.set_up).0
 
   whole : Ok tt ≡ answer_of (message_of checked)

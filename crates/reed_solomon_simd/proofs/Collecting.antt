@@ -10,22 +10,22 @@ use Rattle.std.specs.Ordering.{nat_cmp, is_eq}
 use Rattle.std.specs.declared.cmp.Ordering.TheVariants.{Less, Equal, Greater}
 use Rattle.std.specs.declared.vec.Vec.{Vec}
 use Rattle.rs_field.specs.code.Column.{Shard}
-use Rattle.rs_field.specs.code.Given.{Shards, nothing, entered, listed_one, listed_from, Lists}
+use Rattle.rs_field.specs.code.Given.{Shards, nothing, with_entry, items_at, items_from, Lists}
 use Rattle.rs_field.specs.code.OneCall.{Items, shards_in}
-use Rattle.rs_field.proofs.of_code.Listed.{listed_from-zero, listed_from-suc}
+use Rattle.rs_field.proofs.of_code.Listed.{items_from-zero, items_from-suc}
 
 -- a map with the items entered, one after another
 abbrev pub with_entries : Shards → Items → Shards
 with_entries given [] = given
-with_entries given (item ∷ items) = with_entries (entered given item.0 item.1) items
+with_entries given (item ∷ items) = with_entries (with_entry given item.0 item.1) items
 
-entered-at : (given : Shards) (index : ℕ) (shard : Shard) (i : ℕ) → i ≡ index → entered given index shard i ≡ Some shard
-unfolding entered
-entered-at given index shard i same = ap (λ (b : Bool). cond b (Some shard) (given i)) (eq-eqb i index same)
+with_entry-at : (given : Shards) (index : ℕ) (shard : Shard) (i : ℕ) → i ≡ index → with_entry given index shard i ≡ Some shard
+unfolding with_entry
+with_entry-at given index shard i same = ap (λ (b : Bool). cond b (Some shard) (given i)) (eq-eqb i index same)
 
-entered-other : (given : Shards) (index : ℕ) (shard : Shard) (i : ℕ) → (i ≡ index → ⊥) → entered given index shard i ≡ given i
-unfolding entered
-entered-other given index shard i other = ap (λ (b : Bool). cond b (Some shard) (given i)) (ne_eqb i index other)
+with_entry-other : (given : Shards) (index : ℕ) (shard : Shard) (i : ℕ) → (i ≡ index → ⊥) → with_entry given index shard i ≡ given i
+unfolding with_entry
+with_entry-other given index shard i other = ap (λ (b : Bool). cond b (Some shard) (given i)) (ne_eqb i index other)
 
 -- a map has what another has below an index, and nothing from there on
 record IsBelow (from : ℕ) (given part : Shards) : Type 0 where
@@ -33,7 +33,7 @@ record IsBelow (from : ℕ) (given part : Shards) : Type 0 where
   none : (i : ℕ) → from ≤ i → part i ≡ None
 
 -- entering the shard of the next index, if it has one
-below-next : (from : ℕ) (given part : Shards) (o : Option Shard) → given from ≡ o → IsBelow from given part → IsBelow (suc from) given (with_entries part (listed_one from o))
+below-next : (from : ℕ) (given part : Shards) (o : Option Shard) → given from ≡ o → IsBelow from given part → IsBelow (suc from) given (with_entries part (items_at from o))
 below-next from given part None is below =
     record {
       same = λ i inside. elim (cases_lt i from) [
@@ -45,25 +45,25 @@ below-next from given part None is below =
 below-next from given part (Some shard) is below =
     record {
       same = λ i inside. elim (cases_lt i from) [
-        | inl under ↦ entered-other part from shard i (λ same. let e : i ≡ from = same in omega arith) ∙ below.same i under
-        | inr over ↦ let last : i ≡ from = omega arith in entered-at part from shard i last ∙ sym is ∙ ap given (sym last)
+        | inl under ↦ with_entry-other part from shard i (λ same. let e : i ≡ from = same in omega arith) ∙ below.same i under
+        | inr over ↦ let last : i ≡ from = omega arith in with_entry-at part from shard i last ∙ sym is ∙ ap given (sym last)
       ];
-      none = λ i outside. entered-other part from shard i (λ same. let e : i ≡ from = same in omega arith) ∙ below.none i (omega arith);
+      none = λ i outside. with_entry-other part from shard i (λ same. let e : i ≡ from = same in omega arith) ∙ below.none i (omega arith);
     }
 
 with_entries-append : (given : Shards) (items others : Items) → with_entries given (items ++ others) ≡ with_entries (with_entries given items) others
 with_entries-append given [] others = refl
-with_entries-append given (item ∷ items) others = with_entries-append (entered given item.0 item.1) items others
+with_entries-append given (item ∷ items) others = with_entries-append (with_entry given item.0 item.1) items others
 
 -- and those of all further ones
-below-listed : (n from : ℕ) (given part : Shards) → IsBelow from given part → IsBelow (from + n) given (with_entries part (listed_from from n given))
+below-listed : (n from : ℕ) (given part : Shards) → IsBelow from given part → IsBelow (from + n) given (with_entries part (items_from from n given))
 below-listed zero from given part below =
-    subst (λ (m : ℕ). IsBelow m given (with_entries part (listed_from from 0 given))) (let m : from ≡ from + 0 = omega arith in m)
-    (subst (λ items. IsBelow from given (with_entries part items)) (sym (listed_from-zero from given)) below)
+    subst (λ (m : ℕ). IsBelow m given (with_entries part (items_from from 0 given))) (let m : from ≡ from + 0 = omega arith in m)
+    (subst (λ items. IsBelow from given (with_entries part items)) (sym (items_from-zero from given)) below)
 below-listed (suc n) from given part below =
     let next = below-listed n (suc from) given _ (below-next from given part (given from) refl below) in
-    let joined = ap (with_entries part) (listed_from-suc from n given) ∙ with_entries-append part (listed_one from (given from)) (listed_from (suc from) n given) in
-    subst (λ (m : ℕ). IsBelow m given (with_entries part (listed_from from (suc n) given))) (let m : suc from + n ≡ from + suc n = omega arith in m)
+    let joined = ap (with_entries part) (items_from-suc from n given) ∙ with_entries-append part (items_at from (given from)) (items_from (suc from) n given) in
+    subst (λ (m : ℕ). IsBelow m given (with_entries part (items_from from (suc n) given))) (let m : suc from + n ≡ from + suc n = omega arith in m)
     (subst (IsBelow (suc from + n) given) (sym joined) next)
 
 -- what a map lists, entered where nothing was, is the map
@@ -72,7 +72,7 @@ with_entries-lists given items lists =
     let start : IsBelow 0 given nothing = record { same = λ i inside. absurd (omega arith); none = λ i outside. refl } in
     let all : IsBelow lists.count given (with_entries nothing items) =
     subst (λ xs. IsBelow lists.count given (with_entries nothing xs)) (sym lists.in_order)
-    (subst (λ (m : ℕ). IsBelow m given (with_entries nothing (listed_from 0 lists.count given))) (let m : 0 + lists.count ≡ lists.count = omega arith in m) (below-listed lists.count 0 given nothing start))
+    (subst (λ (m : ℕ). IsBelow m given (with_entries nothing (items_from 0 lists.count given))) (let m : 0 + lists.count ≡ lists.count = omega arith in m) (below-listed lists.count 0 given nothing start))
     in
     fun_ext (λ i. elim (cases_lt i lists.count) [ inl inside ↦ all.same i inside | inr outside ↦ all.none i outside ∙ sym (lists.none_past i outside) ])
 
@@ -92,8 +92,8 @@ module _ {Y : Type 0} where
 
   -- a vector that is inserted is entered
   shards_in-inserted : (old new : BTreeMap ℕ (Vec ℕ Y)) (index : ℕ) (vector : Vec ℕ Y) (shard : Shard) → vector.items ≡ shard → Updates nat_cmp old new index (Some vector)
-      → shards_in new ≡ entered (shards_in old) index shard
-  unfolding entered
+      → shards_in new ≡ with_entry (shards_in old) index shard
+  unfolding with_entry
   shards_in-inserted old new index vector shard same updates =
       fun_ext (λ i.
       ap (option_map (λ v. v.items)) (updates.0 i)

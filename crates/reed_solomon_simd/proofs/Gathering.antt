@@ -8,7 +8,7 @@ use Rattle.rs_field.specs.declared.code.error.Error.{Error}
 use Rattle.rs_field.specs.declared.code.error.Error.TheVariants.{OutOfMemory}
 use Rattle.rs_field.specs.code.Code.{AreRecovery}
 use Rattle.rs_field.specs.code.Column.{Shard, IsShard}
-use Rattle.rs_field.specs.code.Configuration.{Configuration, validated, started, bytes_of_rows}
+use Rattle.rs_field.specs.code.Configuration.{Configuration, validation_outcome, start_outcome, bytes_of_rows}
 use Rattle.rs_field.specs.code.Counts.{default_rate}
 use Rattle.rs_field.specs.code.Encoder.{EncoderState, IsEncoder, message_of}
 use Rattle.rs_field.specs.code.OneCall.{OneEncodeAnswers}
@@ -28,8 +28,8 @@ shards-long size xs sized k d h =
     ap length (sym (get_or-map (λ (x : Bor (List ℕ)). x.now) xs k d [] h)) ∙ (sized k [] (let n = length-map xs (λ (x : Bor (List ℕ)). x.now) in omega (arith, h, n))).length_is
 
 -- what is set up is valid, and its rows' bytes are a `usize`
-pub started-parts : (rows : ℕ) (c : Configuration) → started rows c ≡ Ok tt → (validated c ≡ Ok tt) × (bytes_of_rows rows c.shard_bytes < 2 ^ 64)
-started-parts rows c is = by_outcome (validated c) is
+pub started-parts : (rows : ℕ) (c : Configuration) → start_outcome rows c ≡ Ok tt → (validation_outcome c ≡ Ok tt) × (bytes_of_rows rows c.shard_bytes < 2 ^ 64)
+started-parts rows c is = by_outcome (validation_outcome c) is
   where
     by_test : (many : Bool) → nat_le (2 ^ 64) (bytes_of_rows rows c.shard_bytes) ≡ many → ◌≡◌ {A = Result (Unit {0}) Error} (cond many (Err OutOfMemory) (Ok tt)) (Ok tt)
         → bytes_of_rows rows c.shard_bytes < 2 ^ 64
@@ -58,7 +58,7 @@ gathered-is x =
     }
 
 -- a valid size is even
-valid-even : (c : Configuration) → validated c ≡ Ok tt → c.shard_bytes % 2 ≡ 0
+valid-even : (c : Configuration) → validation_outcome c ≡ Ok tt → c.shard_bytes % 2 ≡ 0
 valid-even c valid = grind (arith, common_steps)
 
 -- once all are given they have recovery shards

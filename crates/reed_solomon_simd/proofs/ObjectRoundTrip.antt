@@ -10,7 +10,7 @@ use Rattle.rs_field.specs.declared.code.error.Error.TheVariants.{TooFewOriginalS
 use Rattle.rs_field.specs.code.Code.{AreRecovery}
 use Rattle.rs_field.specs.code.Column.{Shard, AreShards, shard_at}
 use Rattle.rs_field.specs.code.Counts.{Rate}
-use Rattle.rs_field.specs.code.Configuration.{Configuration, started}
+use Rattle.rs_field.specs.code.Configuration.{Configuration, start_outcome}
 use Rattle.rs_field.specs.code.Decoder.{DecoderState, fresh_decoder, DecodeAnswers}
 use Rattle.rs_field.specs.code.Encoder.{EncoderState, IsEncoder, fresh_encoder, with_shard, EncodeAnswers, after_encode}
 use Rattle.rs_field.specs.code.Given.{Shards, Lists}
@@ -31,10 +31,10 @@ codes-given rate c shards recovery new_encoder encoder fresh given is encoded = 
 pub gives-back : (c : Configuration) (shards recovery : List Shard) (lost recovery_lost : ℕ → Bool) (new_decoder half decoder : DecoderState) (result : Result Shards Error)
     → AreShards c.original_count c.shard_bytes shards × AreRecovery c shards recovery → new_decoder ≡ fresh_decoder c → with_originals new_decoder (kept_of shards lost) ≡ Ok half
     → with_recoveries half (kept_of recovery recovery_lost) ≡ Ok decoder → DecodeAnswers decoder result → GivesBack shards (kept_of shards lost) (kept_of recovery recovery_lost) result
-gives-back c shards recovery lost recovery_lost new_decoder half decoder result all started own coded answers =
+gives-back c shards recovery lost recovery_lost new_decoder half decoder result all start_outcome own coded answers =
     taken_gives_back c shards recovery (kept_of shards lost) (kept_of recovery recovery_lost) decoder result all.0 all.1 (kept-left shards lost) (kept-left recovery recovery_lost)
     (
-    ap (λ s. result_and_then (λ now. with_recoveries now (kept_of recovery recovery_lost)) (with_originals s (kept_of shards lost))) (sym started)
+    ap (λ s. result_and_then (λ now. with_recoveries now (kept_of recovery recovery_lost)) (with_originals s (kept_of shards lost))) (sym start_outcome)
     ∙ ap (result_and_then (λ now. with_recoveries now (kept_of recovery recovery_lost))) own
     ∙ coded
     )

@@ -7,15 +7,15 @@ use Rattle.std.proofs.lemmas.Option.{none-some}
 use Rattle.std.specs.Option.{option_map}
 use Rattle.std.specs.Prelude.{unwrap_or}
 use Rattle.rs_field.specs.code.Column.{Shard, IsShard}
-use Rattle.rs_field.specs.code.Given.{Shards, AreWithin, nothing, entered, count_below}
+use Rattle.rs_field.specs.code.Given.{Shards, AreWithin, nothing, with_entry, count_below}
 use Rattle.rs_field.proofs.of_code.Given.{entered_cases}
 use Rattle.rs_field.proofs.of_code.Entries.{count-nothing, count-entered, count_most}
 use Rattle.reed_solomon_simd.specs.Received.{given_in}
 
 -- a shard that is put in a place is entered
 pub places-entered : (places : List (Option (Bor Shard))) (index : ℕ) (shard : Bor Shard) → index < length places
-    → given_in (set places index (Some shard)) ≡ entered (given_in places) index shard.now
-unfolding entered
+    → given_in (set places index (Some shard)) ≡ with_entry (given_in places) index shard.now
+unfolding with_entry
 places-entered places index shard inside = fun_ext (λ i. elim (cases_eq i index) [
   | inl same ↦
       ap (λ (n : ℕ). given_in (set places index (Some shard)) n) same
@@ -61,7 +61,7 @@ none-within count size given none =
 
 -- and one that is entered stays so
 pub entered-within : (count size : ℕ) (given : Shards) (index : ℕ) (shard : Shard) → index < count → IsShard size shard
-    → AreWithin count size given → AreWithin count size (entered given index shard)
+    → AreWithin count size given → AreWithin count size (with_entry given index shard)
 entered-within count size given index shard inside is within =
     record {
       none_past = λ i past. elim (entered_cases given index i shard) [

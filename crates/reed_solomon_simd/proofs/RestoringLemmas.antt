@@ -8,14 +8,14 @@ use Rattle.rs_field.specs.declared.code.error.Error.TheVariants.{OutOfMemory}
 use Rattle.rs_field.specs.code.Column.{Shard}
 use Rattle.rs_field.specs.code.Decoder.{DecoderState, enough_given, originals_given, Restored, NoneAgrees, DecodeAnswers}
 use Rattle.rs_field.specs.code.Given.{Shards, nothing}
-use Rattle.rs_field.specs.code.Configuration.{Configuration, started}
+use Rattle.rs_field.specs.code.Configuration.{Configuration, start_outcome}
 use Rattle.rs_field.specs.code.Counts.{default_rate}
 use Rattle.rs_field.specs.code.OneCall.{Items, default_of, decode_opening, LacksMemory, OneDecodeAnswers}
 use Rattle.rs_field.specs.code.Outcome.{result_and_then}
 use Rattle.rs_field.specs.code.Placement.{decoder_rows}
 use Rattle.rs_rate.specs.Giving.{IsDecoding}
 use Rattle.rs_rate.proofs.OneCall.{decoding-led, decoding-answers, decoding-nothing, lists-none}
-use Rattle.reed_solomon_simd.proofs.ReceivedLaws.{started-valid}
+use Rattle.reed_solomon_simd.proofs.ReceivedLaws.{start_outcome-valid}
 use Rattle.rs_field.specs.code.Pieces.{ArePut}
 use Rattle.rs_field.specs.code.PieceStates.{HoldRestored, shards_listed}
 use Rattle.reed_solomon_simd.specs.declared.room_error.RoomError.{RoomError}
@@ -91,7 +91,7 @@ module _ (k r : ℕ) (originals recovery : Items) (s : DecoderState) (is : IsDec
   decoding-short result lacks =
       let (first, rest, same, led) = decoding-led k r originals recovery s is in
       let c : Configuration = default_of k r (length first.1) in
-      let valid = started-valid (decoder_rows default_rate k r) c (started-of (started (decoder_rows default_rate k r) c) _ s led) in
+      let valid = start_outcome-valid (decoder_rows default_rate k r) c (started-of (start_outcome (decoder_rows default_rate k r) c) _ s led) in
       subst (λ (items : Items). LacksMemory (decode_opening k r items) result) (sym same) (ap is_ok valid, lacks)
     where
       started-of : (o : Result (Unit {0}) Error) (f : Unit {0} → Result DecoderState Error) (s : DecoderState) → result_and_then f o ≡ Ok s → o ≡ Ok tt

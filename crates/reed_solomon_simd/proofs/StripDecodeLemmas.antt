@@ -11,7 +11,7 @@ use Rattle.rs_field.specs.declared.code.error.Error.{Error}
 use Rattle.rs_field.specs.code.Column.{Shard}
 use Rattle.rs_field.specs.code.Configuration.{configuration}
 use Rattle.rs_field.specs.code.Decoder.{DecoderState, fresh_decoder, with_original, with_recovery, enough_given, Restored, NoneAgrees, DecodeAnswers, after_decode}
-use Rattle.rs_field.specs.code.Given.{Shards, nothing, entered}
+use Rattle.rs_field.specs.code.Given.{Shards, nothing, with_entry}
 use Rattle.rs_field.specs.code.PieceStates.{pieces_of, state_of_pieces, shards_listed}
 use Rattle.rs_field.specs.code.OneCall.{Items}
 use Rattle.reed_solomon_simd.specs.Received.{given_in}
@@ -52,7 +52,7 @@ first-skipped n given free = fun_ext (λ i. elim (cases_lt i n) [
 ])
 
 -- one with a shard is entered
-first-entered : (n : ℕ) (given : Shards) (shard : Shard) → given n ≡ Some shard → entered (first n given) n shard ≡ first (n + 1) given
+first-entered : (n : ℕ) (given : Shards) (shard : Shard) → given n ≡ Some shard → with_entry (first n given) n shard ≡ first (n + 1) given
 first-entered n given shard found = fun_ext (λ i. elim (entered_cases (first n given) n i shard) [
   | inl here ↦ here.1 ∙ sym found ∙ sym (ap given here.0) ∙ sym (first-inside (n + 1) i given (omega (arith, here.0)))
   | inr other ↦ other.1 ∙ elim (cases_lt i n) [

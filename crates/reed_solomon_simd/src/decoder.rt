@@ -2,14 +2,14 @@
 ghost use mir.Syntax.{named};
 ghost use Rattle.std.specs.Prelude.{◌≡◌, ◌≢◌, [], Err, IfOk, OnOk, OnErr};
 ghost use Rattle.std.specs.Borrow.{sem};
-ghost use Rattle.rs_field.specs.code.Configuration.{started, UpToMemory, FitsWithin};
+ghost use Rattle.rs_field.specs.code.Configuration.{start_outcome, UpToMemory, FitsWithin};
 ghost use Rattle.rs_field.specs.code.Counts.{default_rate, supports as supports_counts};
 ghost use Rattle.rs_field.specs.code.Decoder.{fresh_decoder, with_original, with_recovery, DecodeAnswers, after_decode};
 ghost use Rattle.rs_field.specs.code.OneCall.{default_of};
 ghost use Rattle.rs_field.specs.code.Outcome.{answer_of, state_after};
 ghost use Rattle.rs_field.specs.code.Placement.{decoder_rows};
 ghost use Rattle.rs_rate.specs.DecoderRoom.{HasRoom, Grows};
-ghost use Rattle.rs_rate.specs.Loan.{EndsWith};
+ghost use Rattle.rs_rate.specs.Loan.{AfterLoan};
 ghost use Rattle.rs_rate.specs.ResultView.{answered_originals};
 
 use crate::engine::{DefaultEngine, Steps};
@@ -82,7 +82,7 @@ impl<'t> ReedSolomonDecoder<'t> {
         shard_bytes: usize,
         engine: DefaultEngine<'t>,
     ) -> Result<ReedSolomonDecoder<'t>, Error>
-        ensures answer { UpToMemory (started (decoder_rows default_rate original_count recovery_count) (default_of original_count recovery_count shard_bytes)) (answer_of result) }
+        ensures answer { UpToMemory (start_outcome (decoder_rows default_rate original_count recovery_count) (default_of original_count recovery_count shard_bytes)) (answer_of result) }
         ensures made { IfOk result (λ x. (state_of x ≡ fresh_decoder (default_of original_count recovery_count shard_bytes)) × (engine_of x ≡ engine.entry)) }
     {
         let decoder = DefaultRateDecoder::new(
@@ -118,11 +118,11 @@ impl<'t> ReedSolomonDecoder<'t> {
         recovery_count: usize,
         shard_bytes: usize,
     ) -> Result<(), Error>
-        ensures answer { UpToMemory (started (decoder_rows default_rate original_count recovery_count) (default_of original_count recovery_count shard_bytes)) result }
+        ensures answer { UpToMemory (start_outcome (decoder_rows default_rate original_count recovery_count) (default_of original_count recovery_count shard_bytes)) result }
         ensures ok { OnOk result (state_of self.new ≡ fresh_decoder (default_of original_count recovery_count shard_bytes)) }
         ensures err { OnErr result (state_of self.new ≡ state_of self.old) }
         ensures roomy { HasRoom (room_of self.old) (decoder_rows default_rate original_count recovery_count) shard_bytes
-            → result ≡ started (decoder_rows default_rate original_count recovery_count) (default_of original_count recovery_count shard_bytes) }
+            → result ≡ start_outcome (decoder_rows default_rate original_count recovery_count) (default_of original_count recovery_count shard_bytes) }
         ensures own { FitsWithin (state_of self.old).configuration (default_of original_count recovery_count shard_bytes) → result ≢ Err Error.OutOfMemory }
         ensures engine { engine_of self.new ≡ engine_of self.old }
         ensures grown { Grows (room_of self.old) (room_of self.new) }
@@ -202,7 +202,7 @@ impl<'t> ReedSolomonDecoder<'t> {
     /// ```
     pub fn decode(&mut self) -> Result<DecoderResult<'_>, Error>
         ensures answer { DecodeAnswers (state_of self.old) (answered_originals result) }
-        ensures* ends { sem 𝓛 (EndsWith (the_row (record { mir = named 1; lft = [] })) self.entry
+        ensures* ends { sem 𝓛 (AfterLoan (the_row (record { mir = named 1; lft = [] })) self.entry
             (λ now. (state_of now ≡ after_decode (state_of self.old)) × (engine_of now ≡ engine_of self.old) × (room_of now ≡ room_of self.old))) }
     {
         let restored_count = decode_round(&mut self.decoder, &mut self.steps)?;

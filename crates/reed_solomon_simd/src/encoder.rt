@@ -2,13 +2,13 @@
 ghost use mir.Syntax.{named};
 ghost use Rattle.std.specs.Prelude.{◌≡◌, ◌≢◌, ◌≤◌, [], Err, IfOk, OnOk, OnErr};
 ghost use Rattle.std.specs.Borrow.{sem};
-ghost use Rattle.rs_field.specs.code.Configuration.{started, UpToMemory, FitsWithin};
+ghost use Rattle.rs_field.specs.code.Configuration.{start_outcome, UpToMemory, FitsWithin};
 ghost use Rattle.rs_field.specs.code.Counts.{default_rate, supports as supports_counts};
 ghost use Rattle.rs_field.specs.code.Encoder.{fresh_encoder, with_shard, EncodeAnswers, after_encode};
 ghost use Rattle.rs_field.specs.code.OneCall.{default_of};
 ghost use Rattle.rs_field.specs.code.Outcome.{answer_of, state_after};
 ghost use Rattle.rs_field.specs.code.Placement.{encoder_rows};
-ghost use Rattle.rs_rate.specs.Loan.{EndsWith};
+ghost use Rattle.rs_rate.specs.Loan.{AfterLoan};
 ghost use Rattle.rs_rate.specs.ResultView.{answered_shards};
 ghost use Rattle.rs_rate.specs.ShardRows.{chunk_count};
 
@@ -81,7 +81,7 @@ impl<'t> ReedSolomonEncoder<'t> {
         shard_bytes: usize,
         engine: DefaultEngine<'t>,
     ) -> Result<ReedSolomonEncoder<'t>, Error>
-        ensures answer { UpToMemory (started (encoder_rows default_rate original_count recovery_count) (default_of original_count recovery_count shard_bytes)) (answer_of result) }
+        ensures answer { UpToMemory (start_outcome (encoder_rows default_rate original_count recovery_count) (default_of original_count recovery_count shard_bytes)) (answer_of result) }
         ensures made { IfOk result (λ x. (state_of x ≡ fresh_encoder (default_of original_count recovery_count shard_bytes)) × (engine_of x ≡ engine.entry)) }
     {
         let encoder = DefaultRateEncoder::new(
@@ -117,11 +117,11 @@ impl<'t> ReedSolomonEncoder<'t> {
         recovery_count: usize,
         shard_bytes: usize,
     ) -> Result<(), Error>
-        ensures answer { UpToMemory (started (encoder_rows default_rate original_count recovery_count) (default_of original_count recovery_count shard_bytes)) result }
+        ensures answer { UpToMemory (start_outcome (encoder_rows default_rate original_count recovery_count) (default_of original_count recovery_count shard_bytes)) result }
         ensures ok { OnOk result (state_of self.new ≡ fresh_encoder (default_of original_count recovery_count shard_bytes)) }
         ensures err { OnErr result (state_of self.new ≡ state_of self.old) }
         ensures roomy { chunk_count (encoder_rows default_rate original_count recovery_count) shard_bytes ≤ room_of self.old
-            → result ≡ started (encoder_rows default_rate original_count recovery_count) (default_of original_count recovery_count shard_bytes) }
+            → result ≡ start_outcome (encoder_rows default_rate original_count recovery_count) (default_of original_count recovery_count shard_bytes) }
         ensures own { FitsWithin (state_of self.old).configuration (default_of original_count recovery_count shard_bytes) → result ≢ Err Error.OutOfMemory }
         ensures engine { engine_of self.new ≡ engine_of self.old }
         ensures grown { room_of self.old ≤ room_of self.new }
@@ -172,7 +172,7 @@ impl<'t> ReedSolomonEncoder<'t> {
     /// ```
     pub fn encode(&mut self) -> Result<EncoderResult<'_>, Error>
         ensures answer { EncodeAnswers (state_of self.old) (answered_shards result) }
-        ensures* ends { sem 𝓛 (EndsWith (the_row (record { mir = named 1; lft = [] })) self.entry
+        ensures* ends { sem 𝓛 (AfterLoan (the_row (record { mir = named 1; lft = [] })) self.entry
             (λ now. (state_of now ≡ after_encode (state_of self.old)) × (engine_of now ≡ engine_of self.old) × (room_of now ≡ room_of self.old))) }
     {
         encode_round(&mut self.encoder, &mut self.steps)?;

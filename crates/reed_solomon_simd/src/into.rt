@@ -1,7 +1,7 @@
 //! Encoding and decoding in one call into memory of the caller.
 ghost use Rattle.std.specs.Prelude.{◌≡◌, All, length, map, Ok, Err, OnOk, OnErr};
 ghost use Rattle.rs_field.specs.code.Code.{AreRecovery};
-ghost use Rattle.rs_field.specs.code.Configuration.{validated};
+ghost use Rattle.rs_field.specs.code.Configuration.{validation_outcome};
 ghost use Rattle.rs_field.specs.code.OneCall.{default_of};
 ghost use Rattle.reed_solomon_simd.specs.Into.{EncodesInto, DecodesInto};
 ghost use Rattle.reed_solomon_simd.specs.Rooms.{shards_of, bytes_in, loans_of};
@@ -70,7 +70,7 @@ fn encode_lent<E: Engine>(
 ) -> Result<(), Error>
     requires originals { length originals.now ≡ counts.original_count }
     requires number { length recovery.old ≡ counts.recovery_count }
-    requires valid { validated (default_of counts.original_count counts.recovery_count shard_bytes) ≡ Ok tt }
+    requires valid { validation_outcome (default_of counts.original_count counts.recovery_count shard_bytes) ≡ Ok tt }
     requires sized { All (λ shard. length shard.now ≡ shard_bytes) originals.now }
     requires fit { All (λ room. length room ≡ shard_bytes) (bytes_in recovery.old) }
     ensures coded { OnOk result

@@ -2,7 +2,7 @@
 ghost use Rattle.std.specs.Prelude.{◌≡◌, ◌≤◌, [], All, Ok, IfOk, IfErr, vec_len};
 ghost use Rattle.std.specs.Vec.{vec_capacity};
 ghost use Rattle.rs_field.specs.code.Column.{IsShard};
-ghost use Rattle.rs_field.specs.code.Configuration.{started};
+ghost use Rattle.rs_field.specs.code.Configuration.{start_outcome};
 ghost use Rattle.rs_field.specs.code.Counts.{default_rate};
 ghost use Rattle.rs_field.specs.code.OneCall.{default_of};
 ghost use Rattle.rs_field.specs.code.Placement.{encoder_rows};
@@ -25,7 +25,7 @@ pub struct LentOriginals<'a> {
     pub ghost no_more: { vec_len shards ≤ counts.original_count },
     pub ghost room: { counts.original_count ≤ vec_capacity shards },
     pub ghost sized: { All (IsShard shard_bytes) (shards_of shards.items) },
-    pub ghost set_up: { started (encoder_rows default_rate counts.original_count counts.recovery_count)
+    pub ghost set_up: { start_outcome (encoder_rows default_rate counts.original_count counts.recovery_count)
         (default_of counts.original_count counts.recovery_count shard_bytes) ≡ Ok tt },
 }
 
@@ -37,7 +37,7 @@ impl<'a> LentOriginals<'a> {
     ghost use Rattle.rs_field.specs.code.Column.{Shard};
     ghost use Rattle.rs_field.specs.code.Configuration.{UpToMemory};
     ghost use Rattle.rs_field.specs.code.Encoder.{fresh_encoder, with_shard, message_of};
-    ghost use Rattle.rs_field.specs.code.OneCall.{with_shards, collected};
+    ghost use Rattle.rs_field.specs.code.OneCall.{with_shards, collected_shards};
     ghost use Rattle.rs_field.specs.code.Outcome.{answer_of, state_after};
     ghost use Rattle.rs_field.specs.code.Pieces.{room_length};
     ghost use Rattle.rs_rate.specs.Calls.{Calls, BeginsWith};
@@ -51,7 +51,7 @@ impl<'a> LentOriginals<'a> {
         shard_bytes: usize,
     ) -> Result<LentOriginals<'a>, Error>
         ensures answer { let c = default_of counts.original_count counts.recovery_count shard_bytes in
-            UpToMemory (started (encoder_rows default_rate c.original_count c.recovery_count) c) (answer_of result) }
+            UpToMemory (start_outcome (encoder_rows default_rate c.original_count c.recovery_count) c) (answer_of result) }
         ensures counts { IfOk result (λ x. x.counts ≡ counts) }
         ensures made { IfOk result (λ x. gathered x ≡ fresh_encoder (default_of counts.original_count counts.recovery_count shard_bytes)) }
     {
@@ -184,7 +184,7 @@ impl<'a> LentOriginals<'a> {
     /// [`Error::OutOfMemory`] if the work area or the vectors cannot be allocated.
     pub fn encode_vectors<E: Engine>(&self, alloc: Global, engine: E) -> Result<Vec<Vec<u8>>, Error>
         requires all { answer_of (message_of (gathered self.now)) ≡ Ok tt }
-        ensures { MatchResult (collected result)
+        ensures { MatchResult (collected_shards result)
             (λ recovery. AreRecovery (gathered self.now).configuration (gathered self.now).given recovery) (λ e. e ≡ Error.OutOfMemory) }
     {
         let mut vectors = empty_vectors(alloc, self.counts.recovery_count, self.shard_bytes)?;

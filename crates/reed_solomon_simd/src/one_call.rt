@@ -2,7 +2,7 @@
 ghost use Rattle.std.specs.Prelude.{◌≡◌, List, Err, IfOk, IfErr};
 ghost use Rattle.std.specs.Iterator.{IsFinite};
 ghost use Rattle.rs_field.specs.code.Column.{Shard};
-ghost use Rattle.rs_field.specs.code.OneCall.{Items, Lends, LendsItems, counted, collected, collected_map, OneEncodeAnswers, OneDecodeAnswers};
+ghost use Rattle.rs_field.specs.code.OneCall.{Items, Lends, LendsItems, counts_outcome, collected_shards, collected_map, OneEncodeAnswers, OneDecodeAnswers};
 ghost use Rattle.rs_field.specs.code.RoundTrip.{AreCoded};
 ghost use Rattle.rs_rate.specs.Calls.{Calls, BeginsWith, BeginsWithItems};
 
@@ -49,13 +49,13 @@ pub fn encode<'a, I: Iterator<Item = &'a [u8]> + Drop>(
 ) -> Result<Vec<Vec<u8>>, Error>
     requires can { I.can_next original }
     requires ends { IsFinite (I.remaining original) }
-    ensures counts { IfErr (counted original_count recovery_count) (λ e. result ≡ Err e) }
+    ensures counts { IfErr (counts_outcome original_count recovery_count) (λ e. result ≡ Err e) }
     ensures calls { (calls : Calls I.next_gives original) × ((items : List Shard) → BeginsWith items calls
-        → OneEncodeAnswers original_count recovery_count items (collected result)) }
+        → OneEncodeAnswers original_count recovery_count items (collected_shards result)) }
     ensures answer { (items : List Shard) → Lends I.next_gives original items
-        → OneEncodeAnswers original_count recovery_count items (collected result) }
+        → OneEncodeAnswers original_count recovery_count items (collected_shards result) }
     ensures coded { (items : List Shard) → Lends I.next_gives original items
-        → IfOk (collected result) (AreCoded original_count recovery_count items) }
+        → IfOk (collected_shards result) (AreCoded original_count recovery_count items) }
 {
     let counts = DefaultRateCounts::new(original_count, recovery_count)?;
     let originals = LentOriginals::gather(alloc, counts, original)?;
@@ -118,7 +118,7 @@ where
     requires ends { IsFinite (O.remaining original) }
     requires can_recovery { R.can_next recovery }
     requires recovery_ends { IsFinite (R.remaining recovery) }
-    ensures counts { IfErr (counted original_count recovery_count) (λ e. result ≡ Err e) }
+    ensures counts { IfErr (counts_outcome original_count recovery_count) (λ e. result ≡ Err e) }
     ensures calls { (calls : Calls O.next_gives original) × (further : Calls R.next_gives recovery) × ((originals recoveries : Items)
         → BeginsWithItems originals calls → BeginsWithItems recoveries further → OneDecodeAnswers original_count recovery_count originals recoveries (collected_map result)) }
     ensures answer { (originals recoveries : Items) → LendsItems O.next_gives original originals

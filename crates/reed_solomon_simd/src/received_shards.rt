@@ -1,10 +1,10 @@
 //! The shards of a message that were received, as slices of the caller's memory.
 ghost use Rattle.std.specs.Prelude.{◌≡◌, ◌<◌, ◌==◌, if◌then◌else◌, ℕ, None, Ok, Err, length, MatchResult, OnOk};
 ghost use Rattle.rs_field.specs.code.Column.{IsShard};
-ghost use Rattle.rs_field.specs.code.Configuration.{started};
+ghost use Rattle.rs_field.specs.code.Configuration.{start_outcome};
 ghost use Rattle.rs_field.specs.code.Counts.{default_rate};
 ghost use Rattle.rs_field.specs.code.Decoder.{fresh_decoder, with_original, with_recovery, enough_given};
-ghost use Rattle.rs_field.specs.code.Given.{AreWithin, nothing, entered, count_below};
+ghost use Rattle.rs_field.specs.code.Given.{AreWithin, nothing, with_entry, count_below};
 ghost use Rattle.rs_field.specs.code.OneCall.{default_of};
 ghost use Rattle.rs_field.specs.code.Outcome.{answer_of, state_after};
 ghost use Rattle.rs_field.specs.code.Placement.{decoder_rows};
@@ -37,7 +37,7 @@ impl<'a> Places<'a> {
     fn enter(&mut self, index: usize, shard: &'a [u8])
         requires inside { index < length self.old.shards.items }
         requires free { given_in self.old.shards.items index ≡ None }
-        ensures entered { given_in self.new.shards.items ≡ entered (given_in self.old.shards.items) index shard.now }
+        ensures entered { given_in self.new.shards.items ≡ with_entry (given_in self.old.shards.items) index shard.now }
         ensures length { length self.new.shards.items ≡ length self.old.shards.items }
     {
         self.shards[index] = Some(shard);
@@ -53,7 +53,7 @@ pub struct ReceivedShards<'a> {
     pub(crate) originals: Places<'a>,
     pub(crate) recovery: Places<'a>,
     pub ghost set_up: { let c = default_of counts.original_count counts.recovery_count shard_bytes in
-        started (decoder_rows default_rate c.original_count c.recovery_count) c ≡ Ok tt },
+        start_outcome (decoder_rows default_rate c.original_count c.recovery_count) c ≡ Ok tt },
     pub ghost original_places: { length originals.shards.items ≡ counts.original_count },
     pub ghost recovery_places: { length recovery.shards.items ≡ counts.recovery_count },
     pub ghost originals_within: { AreWithin counts.original_count shard_bytes (given_in originals.shards.items) },
@@ -73,7 +73,7 @@ impl<'a> ReceivedShards<'a> {
         shard_bytes: usize,
     ) -> Result<ReceivedShards<'a>, Error>
         ensures answer { let c = default_of counts.original_count counts.recovery_count shard_bytes in
-            UpToMemory (started (decoder_rows default_rate c.original_count c.recovery_count) c) (answer_of result) }
+            UpToMemory (start_outcome (decoder_rows default_rate c.original_count c.recovery_count) c) (answer_of result) }
         ensures made { IfOk result (λ x. received_state x ≡ fresh_decoder (default_of counts.original_count counts.recovery_count shard_bytes)) }
     {
         counts.check_decoder_rows(shard_bytes)?;

@@ -2,7 +2,7 @@
 ghost use Rattle.std.specs.Prelude.{◌≡◌, ◌⊎◌, ◌+◌, All, true, Ok, Err, List, length, map, MatchResult, OnOk, OnErr};
 ghost use Rattle.rs_field.specs.code.Column.{Shard};
 ghost use Rattle.rs_field.specs.code.Decoder.{enough_given, originals_given, recovery_given, Restored, NoneAgrees};
-ghost use Rattle.rs_field.specs.code.OneCall.{collected, collected_map};
+ghost use Rattle.rs_field.specs.code.OneCall.{collected_shards, collected_map};
 ghost use Rattle.rs_field.specs.code.Pieces.{ArePut, room_length};
 ghost use Rattle.rs_field.specs.code.PieceStates.{HoldRestored};
 ghost use Rattle.reed_solomon_simd.specs.Into.{RestoresInto};
@@ -31,7 +31,7 @@ pub fn restore_vectors<E: Engine>(
     engine: E,
 ) -> Result<Vec<Vec<u8>>, Error>
     requires { enough_given (received_state received.now) ≡ Ok tt }
-    ensures { MatchResult (collected result) (HoldRestored (received_state received.now))
+    ensures { MatchResult (collected_shards result) (HoldRestored (received_state received.now))
         (λ e. NoneAgrees (received_state received.now) e ⊎ (e ≡ Error.OutOfMemory)) }
 {
     let mut vectors = empty_vectors(alloc, received.missing(), received.shard_bytes)?;

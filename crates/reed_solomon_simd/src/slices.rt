@@ -1,6 +1,6 @@
 //! Encoding and decoding in one call, over slices of shards.
 ghost use Rattle.std.specs.Prelude.{map, IfOk};
-ghost use Rattle.rs_field.specs.code.OneCall.{OneEncodeAnswers, OneDecodeAnswers, collected, collected_map};
+ghost use Rattle.rs_field.specs.code.OneCall.{OneEncodeAnswers, OneDecodeAnswers, collected_shards, collected_map};
 ghost use Rattle.rs_field.specs.code.RoundTrip.{AreCoded};
 
 use crate::engine::DefaultEngine;
@@ -29,8 +29,8 @@ pub fn encode_slice<T: AsSlice<u8>>(
     original: &[T],
     engine: DefaultEngine<'_>,
 ) -> Result<Vec<Vec<u8>>, Error>
-    ensures answer { OneEncodeAnswers original_count recovery_count (map T.items original.now) (collected result) }
-    ensures coded { IfOk (collected result) (AreCoded original_count recovery_count (map T.items original.now)) }
+    ensures answer { OneEncodeAnswers original_count recovery_count (map T.items original.now) (collected_shards result) }
+    ensures coded { IfOk (collected_shards result) (AreCoded original_count recovery_count (map T.items original.now)) }
 {
     let shards = original.iter().map(|shard| shard.as_slice());
     encode(alloc, original_count, recovery_count, shards, engine)

@@ -3,7 +3,7 @@
 ghost use Rattle.std.specs.Prelude.{◌≡◌, ℕ, List, ◌-◌, ◌+◌, ◌≤◌, All, true, false, length, Ok, Err, OnOk, OnErr};
 ghost use Rattle.rs_field.specs.code.Code.{AreRecovery};
 ghost use Rattle.rs_field.specs.code.Column.{Shard};
-ghost use Rattle.rs_field.specs.code.Configuration.{validated};
+ghost use Rattle.rs_field.specs.code.Configuration.{validation_outcome};
 ghost use Rattle.rs_field.specs.code.Counts.{default_rate};
 ghost use Rattle.rs_field.specs.code.Encoder.{fresh_encoder};
 ghost use Rattle.rs_field.specs.code.OneCall.{default_of, with_shards};
@@ -39,7 +39,7 @@ pub fn encode_strips<E: Engine, R: Rooms>(
 ) -> Result<(), Error>
     requires originals { length originals.now ≡ counts.original_count }
     requires number { length (R.held rooms.old) ≡ counts.recovery_count }
-    requires valid { validated (default_of counts.original_count counts.recovery_count shard_bytes) ≡ Ok tt }
+    requires valid { validation_outcome (default_of counts.original_count counts.recovery_count shard_bytes) ≡ Ok tt }
     requires sized { All (λ shard. length shard.now ≡ shard_bytes) originals.now }
     requires fit { All (λ room. length room ≡ room_length R.grows 0 shard_bytes) (R.held rooms.old) }
     ensures coded { OnOk result

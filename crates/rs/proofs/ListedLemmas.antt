@@ -7,9 +7,9 @@ use Rattle.std.specs.Map.{keys_of, lookup}
 use Rattle.std.specs.Ordering.{nat_cmp}
 use Rattle.std.proofs.lemmas.Bool.Decides.{nat_tests}
 use Rattle.reed_solomon_simd.specs.Column.{Shard}
-use Rattle.reed_solomon_simd.specs.Given.{Shards, listed_one, listed_from, Lists}
+use Rattle.reed_solomon_simd.specs.Given.{Shards, items_at, items_from, Lists}
 use Rattle.reed_solomon_simd.specs.OneCall.{Items}
-use Rattle.reed_solomon_simd.proofs.Listed.{listed_from-zero, listed_from-suc}
+use Rattle.reed_solomon_simd.proofs.Listed.{items_from-zero, items_from-suc}
 
 -- the indexes ascend, from one on
 abbrev Ascends : ℕ → Items → Type 0
@@ -46,11 +46,11 @@ AgreesFrom from given items = (i : ℕ) → from ≤ i → given i ≡ lookup (n
 
 -- one index more: the first entry has it, or none
 ascending_more : (n from : ℕ) (given : Shards) (item : ℕ × Shard) (items : Items) → Ascends from (item ∷ items) → AgreesFrom from given (item ∷ items)
-    → ((others : Items) → Ascends (suc from) others → AgreesFrom (suc from) given others → others ≡ listed_from (suc from) n given)
-    → item ∷ items ≡ listed_from from (suc n) given
+    → ((others : Items) → Ascends (suc from) others → AgreesFrom (suc from) given others → others ≡ items_from (suc from) n given)
+    → item ∷ items ≡ items_from from (suc n) given
 ascending_more n from given item items up agrees others = by_first (nat_eq from item.0) refl
   where
-    by_first : (first : Bool) → nat_eq from item.0 ≡ first → item ∷ items ≡ listed_from from (suc n) given
+    by_first : (first : Bool) → nat_eq from item.0 ≡ first → item ∷ items ≡ items_from from (suc n) given
     by_first true same =
         let here : item.0 ≡ from = grind (arith, nat_tests, same) in
         let rest : AgreesFrom (suc from) given items =
@@ -58,27 +58,27 @@ ascending_more n from given item items up agrees others = by_first (nat_eq from 
         ∙ ap (λ b. cond b (Some item.1) (lookup (nat_eq i) items)) (unequal i item.0 (λ e. omega (arith, above, here, e))) in
         let some : given from ≡ Some item.1 = agrees from (omega arith) ∙ ap (λ b. cond b (Some item.1) (lookup (nat_eq from) items)) same in
         ap₂ (λ k xs. (k, item.1) ∷ xs) here (others items (rw here at up.1) rest)
-        ∙ ap (λ o. listed_one from o ++ listed_from (suc from) n given) (sym some)
-        ∙ sym (listed_from-suc from n given)
+        ∙ ap (λ o. items_at from o ++ items_from (suc from) n given) (sym some)
+        ∙ sym (items_from-suc from n given)
     by_first false apart =
         let later : suc from ≤ item.0 = grind (arith, nat_tests, apart, up.0) in
         let none : given from ≡ None = agrees from (omega arith) ∙ none_below (suc from) from (item ∷ items) (later, up.1) (omega arith) in
         others (item ∷ items) (later, up.1) (λ i above. agrees i (omega (arith, above)))
-        ∙ ap (λ o. listed_one from o ++ listed_from (suc from) n given) (sym none)
-        ∙ sym (listed_from-suc from n given)
+        ∙ ap (λ o. items_at from o ++ items_from (suc from) n given) (sym none)
+        ∙ sym (items_from-suc from n given)
 
 -- entries that ascend and make a map are its list
 ascending_from : (n from : ℕ) (given : Shards) (items : Items) → Ascends from items → AgreesFrom from given items
-    → ((i : ℕ) → from + n ≤ i → given i ≡ None) → items ≡ listed_from from n given
-ascending_from zero from given [] up agrees past = sym (listed_from-zero from given)
+    → ((i : ℕ) → from + n ≤ i → given i ≡ None) → items ≡ items_from from n given
+ascending_from zero from given [] up agrees past = sym (items_from-zero from given)
 ascending_from zero from given (item ∷ items) up agrees past =
     let some : None ≡ Some item.1 = sym (past item.0 (omega (arith, up.0))) ∙ agrees item.0 up.0
     ∙ ap (λ b. cond b (Some item.1) (lookup (nat_eq item.0) items)) (equal item.0) in
     absurd (let no : ⊥ = cc in no)
 ascending_from (suc n) from given [] up agrees past =
     ascending_from n (suc from) given [] up (λ i above. agrees i (omega (arith, above))) (λ i above. past i (omega (arith, above)))
-    ∙ ap (λ o. listed_one from o ++ listed_from (suc from) n given) (sym (agrees from (omega arith)))
-    ∙ sym (listed_from-suc from n given)
+    ∙ ap (λ o. items_at from o ++ items_from (suc from) n given) (sym (agrees from (omega arith)))
+    ∙ sym (items_from-suc from n given)
 ascending_from (suc n) from given (item ∷ items) up agrees past =
     ascending_more n from given item items up agrees
     (λ others rest same. ascending_from n (suc from) given others rest same (λ i above. past i (omega (arith, above))))

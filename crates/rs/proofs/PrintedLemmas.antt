@@ -18,8 +18,8 @@ use Rattle.reed_solomon_simd.specs.Given.{Shards, Lists}
 use Rattle.rs.specs.declared.fault.Fault.{Fault}
 use Rattle.rs.specs.declared.fault.Fault.TheVariants.{Usage, Refused}
 use Rattle.rs.specs.CommandLine.{GivenItems}
-use Rattle.rs.specs.Printed.{ListsShards, lines_of, concatenated, CodesLines, RestoresLines, OrLacksMemory, Refuses, HasFault}
-use Rattle.rs.specs.Told.{status_of, IsToldAs}
+use Rattle.rs.specs.Printed.{ListsShards, lines_of, concatenation, CodesLines, RestoresLines, OrLacksMemory, Refuses, HasFault}
+use Rattle.rs.specs.Told.{status_of, IsReportedAs}
 use Rattle.rs.proofs.ListedLemmas.{lists-sorted}
 
 compared_equal : (x y : ℕ) → is_eq (nat_cmp x y) ≡ nat_eq x y
@@ -39,19 +39,19 @@ entries_in_order vectors ordered =
 
 -- the lines of recovery shards, or want of memory
 pub codes-lines : {Y Z : Type 0} (k r : ℕ) (shards recovery : List Shard) (result : Result (Vec (String Y) Z) Error) → OneEncodeAnswers k r shards (Ok recovery)
-    → MatchResult result (λ texts. concatenated texts ≡ lines_of recovery) (λ e. e ≡ OutOfMemory) → OrLacksMemory (CodesLines k r shards) result
+    → MatchResult result (λ texts. concatenation texts ≡ lines_of recovery) (λ e. e ≡ OutOfMemory) → OrLacksMemory (CodesLines k r shards) result
 codes-lines k r shards recovery (Ok texts) answered lines = (recovery, answered, lines)
 codes-lines k r shards recovery (Err e) answered lacking = inr lacking
 
 -- the lines of restored originals, or want of memory
 pub restores-lines : {Y Z : Type 0} (k r : ℕ) (given : GivenItems) (restored : Shards) (result : Result (Vec (String Y) Z) Error)
     → OneDecodeAnswers k r given.originals given.recovery (Ok restored)
-    → MatchResult result (λ texts. ListsShards restored (concatenated texts)) (λ e. e ≡ OutOfMemory) → OrLacksMemory (RestoresLines k r given) result
+    → MatchResult result (λ texts. ListsShards restored (concatenation texts)) (λ e. e ≡ OutOfMemory) → OrLacksMemory (RestoresLines k r given) result
 restores-lines k r given restored (Ok texts) answered lines = (restored, answered, lines)
 restores-lines k r given restored (Err e) answered lacking = inr lacking
 
 -- with status 1 what is told of an answer is a refusal of the words
-pub refusal-told : (words : List (List ℕ)) (fault told : Fault) → status_of fault ≡ 1 → HasFault words fault → IsToldAs fault told
+pub refusal-told : (words : List (List ℕ)) (fault told : Fault) → status_of fault ≡ 1 → HasFault words fault → IsReportedAs fault told
     → (e : Error) × Refuses words e × (told ≡ Refused e)
 refusal-told words Usage told one bad same = absurd (let two : 2 ≡ 1 = one in omega arith)
 refusal-told words (Refused e) told one refused (inl same) = (e, refused, same)

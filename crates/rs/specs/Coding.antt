@@ -5,11 +5,11 @@ use Rattle.reed_solomon_simd.specs.declared.Error.TheVariants.{OutOfMemory}
 use Rattle.reed_solomon_simd.specs.declared.engine.EngineKind.{EngineKind}
 use Rattle.rs.specs.declared.coding.Lines.{Lines}
 use Rattle.rs.specs.CommandLine.{Request, request_of}
-use Rattle.rs.specs.Printed.{IsAnswered, concatenated}
+use Rattle.rs.specs.Printed.{IsAnswered, concatenation}
 
 -- the lines, or the error, are those of the request; or memory could not be allocated
 abbrev pub AnswersWith : Request → Result Lines Error → Type 0
-AnswersWith request (Ok lines) = IsAnswered request (Ok (concatenated lines.texts))
+AnswersWith request (Ok lines) = IsAnswered request (Ok (concatenation lines.texts))
 AnswersWith request (Err e) = IsAnswered request (Err e) ⊎ (e ≡ OutOfMemory)
 
 -- the words are a command line, and this engine is the one that they name

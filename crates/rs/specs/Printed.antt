@@ -62,12 +62,12 @@ abbrev pub Refuses : List (List ℕ) → Error → Type 0
 Refuses words e = ((request : Request) × (request_of words ≡ Some request) × IsAnswered request (Err e)) ⊎ (e ≡ OutOfMemory)
 
 -- texts one after another
-abbrev pub concatenated : {Y Z : Type 0} → Vec (String Y) Z → List ℕ
-concatenated texts = flat_map string_bytes texts.items
+abbrev pub concatenation : {Y Z : Type 0} → Vec (String Y) Z → List ℕ
+concatenation texts = flat_map string_bytes texts.items
 
 -- an answer of which P holds, or want of memory
 abbrev pub OrLacksMemory : {Y Z : Type 0} → (Result (List ℕ) Error → Type 0) → Result (Vec (String Y) Z) Error → Type 0
-OrLacksMemory P (Ok texts) = P (Ok (concatenated texts))
+OrLacksMemory P (Ok texts) = P (Ok (concatenation texts))
 OrLacksMemory P (Err e) = P (Err e) ⊎ (e ≡ OutOfMemory)
 
 -- why there are no lines for words: they are no command line, or are refused

@@ -38,8 +38,8 @@ abbrev pub as_given : Given → GivenItems
 as_given given = record { originals = as_items given.original; recovery = as_items given.recovery }
 
 -- given shards with others behind them
-abbrev pub joined : GivenItems → GivenItems → GivenItems
-joined given others = record { originals = given.originals ++ others.originals; recovery = given.recovery ++ others.recovery }
+abbrev pub with_items : GivenItems → GivenItems → GivenItems
+with_items given others = record { originals = given.originals ++ others.originals; recovery = given.recovery ++ others.recovery }
 
 -- an item as that of a command line
 abbrev pub as_item_of_line : Item → Line.Item

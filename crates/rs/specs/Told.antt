@@ -7,9 +7,9 @@ use Rattle.rs.specs.declared.fault.Fault.{Fault}
 use Rattle.rs.specs.declared.fault.Fault.TheVariants.{Usage, Refused}
 
 -- the text that tells a fault: `usage` or the refusal's text, and a line end
-abbrev pub told_text : Fault → List ℕ
-told_text Usage = codes "usage" ++ 10 ∷ []
-told_text (Refused e) = text_of e ++ 10 ∷ []
+abbrev pub fault_message : Fault → List ℕ
+fault_message Usage = codes "usage" ++ 10 ∷ []
+fault_message (Refused e) = text_of e ++ 10 ∷ []
 
 -- the status that a fault ends with
 abbrev pub status_of : Fault → ℕ
@@ -17,9 +17,9 @@ status_of Usage = 2
 status_of (Refused e) = 1
 
 -- a fault is told: as it is, or a refusal as want of memory
-abbrev pub IsToldAs : Fault → Fault → Type 0
-IsToldAs Usage told = told ≡ Usage
-IsToldAs (Refused e) told = (told ≡ Refused e) ⊎ (told ≡ Refused OutOfMemory)
+abbrev pub IsReportedAs : Fault → Fault → Type 0
+IsReportedAs Usage told = told ≡ Usage
+IsReportedAs (Refused e) told = (told ≡ Refused e) ⊎ (told ≡ Refused OutOfMemory)
 
 -- known bytes grow by a text, or by the front of it that was written before a write failed
 abbrev pub AppendsFront : Option (List ℕ) → Option (List ℕ) → List ℕ → Type 0

@@ -2,7 +2,7 @@
 ghost use Rattle.std.specs.Prelude.{◌≡◌, IfOk, MatchResult, map};
 ghost use Rattle.reed_solomon_simd.specs.Kind.{kind_of};
 ghost use Rattle.reed_solomon_simd.specs.OneCall.{shards_in};
-ghost use Rattle.rs.specs.Printed.{lines_of, concatenated, ListsShards, CodesLines, RestoresLines, OrLacksMemory};
+ghost use Rattle.rs.specs.Printed.{lines_of, concatenation, ListsShards, CodesLines, RestoresLines, OrLacksMemory};
 ghost use Rattle.rs.specs.Reading.{as_given};
 
 use crate::command::{Command, Counts, Given, Task};
@@ -112,7 +112,7 @@ fn restored_lines(
 // Makes a line for each shard.
 fn shard_lines(alloc: Global, shards: &[Vec<u8>]) -> Result<Vec<String>, Error>
     ensures { let wanted = lines_of (map (λ v. v.items) shards.now) in
-        MatchResult result (λ texts. concatenated texts ≡ wanted) (λ e. e ≡ Error.OutOfMemory) }
+        MatchResult result (λ texts. concatenation texts ≡ wanted) (λ e. e ≡ Error.OutOfMemory) }
 {
     let mut texts = Vec::new(alloc);
     for shard in shards {
@@ -123,7 +123,7 @@ fn shard_lines(alloc: Global, shards: &[Vec<u8>]) -> Result<Vec<String>, Error>
 
 // Makes a line for each shard of a map: its index and the shard.
 fn indexed_lines(alloc: Global, shards: &BTreeMap<usize, Vec<u8>>) -> Result<Vec<String>, Error>
-    ensures { MatchResult result (λ texts. ListsShards (shards_in shards.now) (concatenated texts))
+    ensures { MatchResult result (λ texts. ListsShards (shards_in shards.now) (concatenation texts))
         (λ e. e ≡ Error.OutOfMemory) }
 {
     let mut texts = Vec::new(alloc);

@@ -56,11 +56,11 @@ enum Item {
 
 impl Given {
     ghost use Rattle.rs.specs.CommandLine.{GivenItems, with_item};
-    ghost use Rattle.rs.specs.Reading.{joined, as_given, as_item_of_line};
+    ghost use Rattle.rs.specs.Reading.{with_items, as_given, as_item_of_line};
 
     // Adds an item behind those of its kind.
     fn push(&mut self, item: Item) -> Result<(), AllocError>
-        ensures { OnOk result ((left : GivenItems) → joined (as_given self.new) left ≡ joined (as_given self.old) (with_item (as_item_of_line item) left)) }
+        ensures { OnOk result ((left : GivenItems) → with_items (as_given self.new) left ≡ with_items (as_given self.old) (with_item (as_item_of_line item) left)) }
     {
         match item {
             Item::Original(indexed) => self.original.push(indexed)?,

@@ -15,7 +15,7 @@ pub enum Fault {
 impl Fault {
     ghost use Rattle.std.specs.Prelude.{◌≡◌, IsTrue};
     ghost use Rattle.std.specs.Io.KnownBytes.{Appends};
-    ghost use Rattle.rs.specs.Told.{told_text, status_of, IsToldAs, AppendsFront};
+    ghost use Rattle.rs.specs.Told.{fault_message, status_of, IsReportedAs, AppendsFront};
 
     /// The status that the program ends with.
     pub fn status(&self) -> u8
@@ -29,8 +29,8 @@ impl Fault {
 
     /// Tells the fault, or that there is no memory for a refusal's text; answers whether all of it was written.
     pub fn tell<X: Write>(&self, alloc: Global, err: &mut X) -> bool
-        ensures { (told : Fault) × IsToldAs self.now told × AppendsFront (X.contents err.old) (X.contents err.new) (told_text told)
-            × (IsTrue result → Appends (X.contents err.old) (X.contents err.new) (told_text told)) }
+        ensures { (told : Fault) × IsReportedAs self.now told × AppendsFront (X.contents err.old) (X.contents err.new) (fault_message told)
+            × (IsTrue result → Appends (X.contents err.old) (X.contents err.new) (fault_message told)) }
     {
         match self {
             Fault::Usage => write_text(err, "usage\n"),

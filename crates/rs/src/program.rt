@@ -4,8 +4,8 @@ ghost use Rattle.std.specs.Io.KnownBytes.{Appends};
 ghost use Rattle.std.specs.String.{string_bytes};
 ghost use Rattle.rs.specs.CommandLine.{request_of};
 ghost use Rattle.rs.specs.Coding.{CodesAsAsked};
-ghost use Rattle.rs.specs.Printed.{concatenated, Prints, Refuses, HasFault};
-ghost use Rattle.rs.specs.Told.{told_text, AppendsFront, CutShort};
+ghost use Rattle.rs.specs.Printed.{concatenation, Prints, Refuses, HasFault};
+ghost use Rattle.rs.specs.Told.{fault_message, AppendsFront, CutShort};
 ghost use Rattle.rs.specs.declared.fault.Fault.TheVariants.{Usage, Refused};
 
 use crate::coding::Lines;
@@ -22,7 +22,7 @@ use std::io::Write;
 fn answer(alloc: Global, words: &[String]) -> Result<Lines, Fault>
     ensures begun { request_of (take 4 (map string_bytes words.now)) ≡ None → result ≡ Err Usage }
     ensures answer { let given = map string_bytes words.now in
-        MatchResult result (λ lines. Prints given (concatenated lines.texts)) (HasFault given) }
+        MatchResult result (λ lines. Prints given (concatenation lines.texts)) (HasFault given) }
     ensures engine { IfOk result (λ lines. CodesAsAsked (map string_bytes words.now) lines.engine) }
 {
     let command = read_command(alloc, words)?;
@@ -49,13 +49,13 @@ pub fn run<O: Write, X: Write>(alloc: Global, words: &[String], out: &mut O, err
     ensures quiet { result ≡ 0 → err.new ≡ err.old }
     ensures refused { result ≡ 1
         → ((e : Error) × Refuses (map string_bytes words.now) e × (out.new ≡ out.old)
-        × AppendsFront (X.contents err.old) (X.contents err.new) (told_text (Refused e)))
+        × AppendsFront (X.contents err.old) (X.contents err.new) (fault_message (Refused e)))
         ⊎ ((text : List ℕ) × Prints (map string_bytes words.now) text × (err.new ≡ err.old)
         × CutShort (O.contents out.old) (O.contents out.new) text) }
     ensures begun { request_of (take 4 (map string_bytes words.now)) ≡ None → result ≡ 2 }
     ensures usage { result ≡ 2
         → (request_of (map string_bytes words.now) ≡ None) × (out.new ≡ out.old)
-        × AppendsFront (X.contents err.old) (X.contents err.new) (told_text Usage) }
+        × AppendsFront (X.contents err.old) (X.contents err.new) (fault_message Usage) }
 {
     match answer(alloc, words) {
         Ok(lines) if write_texts(out, lines.texts()) => 0,

@@ -9,14 +9,14 @@ use Rattle.std.proofs.lemmas.Nat.Bits.{bit_at-zero, bit_at_set_same, bit_at_set_
 use Rattle.rs_field.specs.declared.code.error.Error.{Error}
 use Rattle.rs_field.specs.declared.code.error.Error.TheVariants.{InvalidOriginalShardIndex, DuplicateOriginalShardIndex, NotEnoughShards}
 use Rattle.rs_field.specs.code.Outcome.{result_and_then}
-use Rattle.rs_field.specs.code.OneCall.{one_by_one, noted, originals_alone}
+use Rattle.rs_field.specs.code.OneCall.{one_by_one, note_outcome, originals_alone}
 use Rattle.rs_c.specs.declared.layouts.RsShard.{RsShard}
 use Rattle.rs_c.specs.Alone.{AreNoted}
 use Rattle.rs_c.specs.Arrays.{items_of}
 
 -- before the first index no bit is 1
-pub noted-none : (n : ℕ) → AreNoted [] (replicate n 0)
-noted-none n i =
+pub note_outcome-none : (n : ℕ) → AreNoted [] (replicate n 0)
+note_outcome-none n i =
     ap (λ word. bit_at word (i % 64)) (elim (cases_lt (i / 64) n) [
       | inl inside ↦ get_or-replicate n (i / 64) 0 0 inside
       | inr outside ↦
@@ -36,13 +36,13 @@ module _ (k index : ℕ) (indexes words : List ℕ) (inside : index < k) (few : 
       by_test false none = refl
 
   -- and is noted
-  pub noted-next : noted k indexes index ≡ Ok (index ∷ indexes)
-  noted-next = rw (lt-leb k index inside, is-new) refl
+  pub note_outcome-next : note_outcome k indexes index ≡ Ok (index ∷ indexes)
+  note_outcome-next = rw (lt-leb k index inside, is-new) refl
 
   -- by its bit
-  pub noted-more : AreNoted (index ∷ indexes)
+  pub note_outcome-more : AreNoted (index ∷ indexes)
       (set words (index / 64) (bit_or (get_or words (index / 64) 0) (1 * 2 ^ (index % 64) % 2 ^ 64)))
-  noted-more i = elim (cases_eq (i / 64) (index / 64)) [
+  note_outcome-more i = elim (cases_eq (i / 64) (index / 64)) [
     | inl word ↦ elim (cases_eq (i % 64) (index % 64)) [
       | inl bit ↦
           ap (λ n. bit_at (get_or (set words (index / 64) new) n 0) (i % 64)) word
@@ -87,11 +87,11 @@ Leads outcome new result = MatchResult outcome (λ all. (result ≡ Ok tt) × Ar
 
 -- what noting an index leads to
 abbrev pub Notes : ℕ → List ℕ → ℕ → List ℕ → Result (Unit {0}) Error → Type 0
-Notes k indexes index new result = Leads (noted k indexes index) new result
+Notes k indexes index new result = Leads (note_outcome k indexes index) new result
 
 -- an index that is noted leads to its bit
 pub notes : (k index : ℕ) (indexes new : List ℕ) (result : Result (Unit {0}) Error)
-    → noted k indexes index ≡ Ok (index ∷ indexes) → result ≡ Ok tt → AreNoted (index ∷ indexes) new
+    → note_outcome k indexes index ≡ Ok (index ∷ indexes) → result ≡ Ok tt → AreNoted (index ∷ indexes) new
     → Notes k indexes index new result
 notes k index indexes new result is done are =
     subst (λ (o : Result (List ℕ) Error). Leads o new result) (sym is) (done, are)
@@ -99,7 +99,7 @@ notes k index indexes new result is done are =
 -- a success says that the index was noted
 pub notes-ok : (k index : ℕ) (indexes new : List ℕ) (result : Result (Unit {0}) Error)
     → Notes k indexes index new result → result ≡ Ok tt
-    → (noted k indexes index ≡ Ok (index ∷ indexes)) × AreNoted (index ∷ indexes) new
+    → (note_outcome k indexes index ≡ Ok (index ∷ indexes)) × AreNoted (index ∷ indexes) new
 notes-ok k index indexes new result leads done = by_tests (nat_le k index) (list_any (nat_eq index) indexes) leads
   where
     by_tests : (outside taken : Bool)
@@ -111,8 +111,8 @@ notes-ok k index indexes new result leads done = by_tests (nat_le k index) (list
 
 -- a refusal is that of the index
 pub notes-err : (k index : ℕ) (indexes new : List ℕ) (result : Result (Unit {0}) Error) (e : Error)
-    → Notes k indexes index new result → result ≡ Err e → noted k indexes index ≡ Err e
-notes-err k index indexes new result e leads refused = by_outcome (noted k indexes index) leads
+    → Notes k indexes index new result → result ≡ Err e → note_outcome k indexes index ≡ Err e
+notes-err k index indexes new result e leads refused = by_outcome (note_outcome k indexes index) leads
   where
     by_outcome : (o : Result (List ℕ) Error) → Leads o new result → o ≡ Err e
     by_outcome (Ok all) led = let done = led.0 in absurd (let no : ⊥ = cc in no)
@@ -120,12 +120,12 @@ notes-err k index indexes new result e leads refused = by_outcome (noted k index
 
 -- the outcome of noting the indexes of shards after those that were noted
 abbrev pub noting : ℕ → List ℕ → List RsShard → Result (List ℕ) Error
-noting k indexes shards = one_by_one (λ given item. noted k given item.0) indexes (items_of shards)
+noting k indexes shards = one_by_one (λ given item. note_outcome k given item.0) indexes (items_of shards)
 
 -- the next shard decides first
 pub noting-next : (k i : ℕ) (indexes : List ℕ) (shards : List RsShard) (d : RsShard) → i < length shards
     → noting k indexes (drop i shards)
-    ≡ result_and_then (λ next. noting k next (drop (i + 1) shards)) (noted k indexes (get_or shards i d).index)
+    ≡ result_and_then (λ next. noting k next (drop (i + 1) shards)) (note_outcome k indexes (get_or shards i d).index)
 noting-next k i indexes shards d inside = ap (noting k indexes) (drop_more shards i d inside)
 
 -- after the last shard those that were noted are counted

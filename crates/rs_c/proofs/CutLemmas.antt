@@ -5,15 +5,15 @@ use Rattle.std.proofs.Math.Seq.{take-append-add}
 use Rattle.std.proofs.lemmas.Bool.{cases_lt, cases_order}
 use Rattle.std.proofs.lemmas.List.{append_assoc, length-append, length-take-le, length-drop, take-take, take-append-le, drop-append-le, drop-take, drop-drop, drop_at, take-append-drop, take_all}
 use Rattle.std.proofs.lemmas.List.Elements.{All-cons}
-use Rattle.rs_c.specs.Buffers.{cut, joined}
+use Rattle.rs_c.specs.Buffers.{shards_in_buffer, concatenation}
 
 -- so many shards
-pub cut-length : (n size : ℕ) (bytes : List ℕ) → length (cut n size bytes) ≡ n
+pub cut-length : (n size : ℕ) (bytes : List ℕ) → length (shards_in_buffer n size bytes) ≡ n
 cut-length zero size bytes = refl
 cut-length (suc n) size bytes = ap suc (cut-length n size (drop size bytes))
 
 -- one of them
-pub cut-at : (n size : ℕ) (bytes : List ℕ) (i : ℕ) → i < n → get_or (cut n size bytes) i [] ≡ take size (drop (i * size) bytes)
+pub cut-at : (n size : ℕ) (bytes : List ℕ) (i : ℕ) → i < n → get_or (shards_in_buffer n size bytes) i [] ≡ take size (drop (i * size) bytes)
 cut-at zero size bytes i inside = absurd (let no : ⊥ = omega (arith, inside) in no)
 cut-at (suc n) size bytes zero inside = ap (λ (m : ℕ). take size (drop m bytes)) (let e : 0 ≡ 0 * size = omega arith in e)
 cut-at (suc n) size bytes (suc i) inside =
@@ -22,7 +22,7 @@ cut-at (suc n) size bytes (suc i) inside =
     ∙ ap (take size) (drop-drop (i * size) size bytes ∙ ap (λ (m : ℕ). drop m bytes) (let e : size + i * size ≡ suc i * size = omega (arith, more) in e))
 
 -- shards that are cut from a whole buffer are the buffer
-pub joined-cut : (n size : ℕ) (bytes : List ℕ) → length bytes ≡ n * size → joined (cut n size bytes) ≡ bytes
+pub joined-cut : (n size : ℕ) (bytes : List ℕ) → length bytes ≡ n * size → concatenation (shards_in_buffer n size bytes) ≡ bytes
 joined-cut zero size [] whole = refl
 joined-cut zero size (b ∷ bytes) whole = absurd (let no : ⊥ = omega (arith, whole) in no)
 joined-cut (suc n) size bytes whole =
@@ -30,16 +30,16 @@ joined-cut (suc n) size bytes whole =
     ap (λ (l : List ℕ). take size bytes ++ l) (joined-cut n size (drop size bytes) (omega (arith, whole, more, left))) ∙ take-append-drop size bytes
 
 -- shards that are cut from a whole buffer have the size
-pub cut-sized : (n size : ℕ) (bytes : List ℕ) → length bytes ≡ n * size → All (λ s. length s ≡ size) (cut n size bytes)
+pub cut-sized : (n size : ℕ) (bytes : List ℕ) → length bytes ≡ n * size → All (λ s. length s ≡ size) (shards_in_buffer n size bytes)
 cut-sized zero size bytes whole k d h = absurd (let no : ⊥ = omega (arith, h) in no)
 cut-sized (suc n) size bytes whole k d h =
     let more = suc-mul n size in let left = length-drop size bytes in
-    All-cons (λ s. length s ≡ size) (take size bytes) (cut n size (drop size bytes)) (length-take-le size bytes (omega (arith, whole, more)))
+    All-cons (λ s. length s ≡ size) (take size bytes) (shards_in_buffer n size (drop size bytes)) (length-take-le size bytes (omega (arith, whole, more)))
     (cut-sized n size (drop size bytes) (omega (arith, whole, more, left))) k d h
 
 -- whole buffers of the same shards are the same
-pub cut-same : (n size : ℕ) (one other : List ℕ) → length one ≡ n * size → length one ≡ length other → cut n size one ≡ cut n size other → one ≡ other
-cut-same n size one other whole long same = sym (joined-cut n size one whole) ∙ ap joined same ∙ joined-cut n size other (sym long ∙ whole)
+pub cut-same : (n size : ℕ) (one other : List ℕ) → length one ≡ n * size → length one ≡ length other → shards_in_buffer n size one ≡ shards_in_buffer n size other → one ≡ other
+cut-same n size one other whole long same = sym (joined-cut n size one whole) ∙ ap concatenation same ∙ joined-cut n size other (sym long ∙ whole)
 
 -- a shard that is long enough for some bytes lies in the buffer that far
 pub room-inside : (size i start m whole : ℕ) (bytes : List ℕ) → 0 < m → start + m ≤ whole → length (take size (drop (i * size) bytes)) ≡ whole

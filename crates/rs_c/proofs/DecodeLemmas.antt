@@ -15,7 +15,7 @@ use Rattle.rs_field.specs.code.OneCall.{Items, OneDecodeAnswers}
 use Rattle.reed_solomon_simd.specs.Giving.{IsDecoding}
 use Rattle.reed_solomon_simd.proofs.OneCall.{decoding-none, decoding-kept}
 use Rattle.rs_c.specs.declared.fault.Fault.{Fault}
-use Rattle.rs_c.specs.Buffers.{fitting, marked, with_restored, AreSized}
+use Rattle.rs_c.specs.Buffers.{length_outcome, marked_shards, with_restored, AreSized}
 use Rattle.rs_c.specs.Answers.{DecodesBuffer, Writes, all_or_refused}
 use Rattle.rs_c.proofs.EncodeLemmas.{lengths-ok}
 use Rattle.rs_c.proofs.MarkedLemmas.{present, count-present, originals_alone-marked}
@@ -32,7 +32,7 @@ missing-sized k size o message i x are is = by_tests (nat_lt i k) refl o is
     by_tests false below c same = absurd (let no : ⊥ = cc in no)
 
 -- the first of the marked shards has the size
-marked-sized : (i size : ℕ) (marks bytes : List ℕ) (first : ℕ × Shard) (rest : Items) → length bytes ≡ length marks * size → marked i size marks bytes ≡ first ∷ rest → length first.1 ≡ size
+marked-sized : (i size : ℕ) (marks bytes : List ℕ) (first : ℕ × Shard) (rest : Items) → length bytes ≡ length marks * size → marked_shards i size marks bytes ≡ first ∷ rest → length first.1 ≡ size
 marked-sized i size [] bytes first rest sized is = absurd (let no : ⊥ = cc in no)
 marked-sized i size (mark ∷ marks) bytes first rest sized is =
     let more = suc-mul (length marks) size in
@@ -45,10 +45,10 @@ marked-sized i size (mark ∷ marks) bytes first rest sized is =
 
 -- what a decoder of marked shards restores has their size
 pub restored-sized : (k r size : ℕ) (originals : Items) (marks bytes : List ℕ) (given : DecoderState) (restored : Shards) → length bytes ≡ length marks * size
-    → IsDecoding k r originals (marked 0 size marks bytes) (Ok (Some given)) → DecodeAnswers given (Ok restored) → AreSized size restored
+    → IsDecoding k r originals (marked_shards 0 size marks bytes) (Ok (Some given)) → DecodeAnswers given (Ok restored) → AreSized size restored
 unfolding missing_of
 restored-sized k r size originals marks bytes given restored whole is answers i x there =
-    let kept = decoding-kept k r originals (marked 0 size marks bytes) given is in
+    let kept = decoding-kept k r originals (marked_shards 0 size marks bytes) given is in
     let done : Restored given restored = by_outcome (enough_given given) answers in
     missing-sized given.configuration.original_count given.configuration.shard_bytes (not (is_some (given.originals i))) done.message i x done.agrees.shards (sym (done.missing i) ∙ there)
     ∙ ap (λ (d : Configuration). d.shard_bytes) kept.3 ∙ marked-sized 0 size marks bytes kept.0 kept.1 whole kept.2
@@ -58,7 +58,7 @@ restored-sized k r size originals marks bytes given restored whole is answers i 
     by_outcome (Err e) h = absurd (let no : ⊥ = cc in no)
 
 -- where none is, none comes
-pub marked-none : (i size : ℕ) (marks bytes : List ℕ) → present marks ≡ 0 → marked i size marks bytes ≡ []
+pub marked-none : (i size : ℕ) (marks bytes : List ℕ) → present marks ≡ 0 → marked_shards i size marks bytes ≡ []
 marked-none i size [] bytes none = refl
 marked-none i size (mark ∷ marks) bytes none = elim (cases_eq mark 0) [
   | inl lost ↦ rw (eq-eqb mark 0 lost) (marked-none (i + 1) size marks (drop size bytes) (rw (eq-eqb mark 0 lost) at none))
@@ -67,10 +67,10 @@ marked-none i size (mark ∷ marks) bytes none = elim (cases_eq mark 0) [
 
 -- where no recovery shard is marked, whether all originals are
 pub decodes-unmarked : (k r size : ℕ) (own other old recovery : List ℕ) (o : Result (Unit {0}) Error) → supports default_rate k r ≡ true → length own ≡ k → count_by (λ mark. not (mark == 0)) other ≡ 0
-    → o ≡ all_or_refused (length own) (count_by (λ mark. not (mark == 0)) own) → IsDecoding k r (marked 0 size own old) (marked 0 size other recovery) (result_and_then (λ _. Ok None) o)
+    → o ≡ all_or_refused (length own) (count_by (λ mark. not (mark == 0)) own) → IsDecoding k r (marked_shards 0 size own old) (marked_shards 0 size other recovery) (result_and_then (λ _. Ok None) o)
 decodes-unmarked k r size own other old recovery o supported many none is =
     rw (marked-none 0 size other recovery (count-present other ∙ none))
-    (decoding-none k r (marked 0 size own old) o supported (inl (is ∙ ap (λ (n : ℕ). all_or_refused n (count_by (λ mark. not (mark == 0)) own)) many ∙ sym (originals_alone-marked k size own old many))))
+    (decoding-none k r (marked_shards 0 size own old) o supported (inl (is ∙ ap (λ (n : ℕ). all_or_refused n (count_by (λ mark. not (mark == 0)) own)) many ∙ sym (originals_alone-marked k size own old many))))
 
 -- where nothing is restored the buffer stays
 pub with-nothing : (i size n : ℕ) (bytes : List ℕ) → length bytes ≡ n * size → with_restored nothing i size n bytes ≡ bytes
@@ -80,8 +80,8 @@ with-nothing i size (suc n) bytes sized =
     ap (λ (l : List ℕ). take size bytes ++ l) (with-nothing (i + 1) size n (drop size bytes) (length-drop size bytes ∙ omega (arith, sized, more))) ∙ take-append-drop size bytes
 
 -- where counts and lengths go, what one call answers is answered
-pub decodes : (k r size : ℕ) (marks recovery old new : List ℕ) (answer : Result (Unit {0}) Fault) (decoded : Result Shards Error) → supports default_rate k r ≡ true → Ok tt ≡ fitting k size (length old)
-    → Ok tt ≡ fitting r size (length recovery) → Ok tt ≡ fitting (k + r) 1 (length marks) → OneDecodeAnswers k r (marked 0 size (take k marks) old) (marked 0 size (drop k marks) recovery) decoded
+pub decodes : (k r size : ℕ) (marks recovery old new : List ℕ) (answer : Result (Unit {0}) Fault) (decoded : Result Shards Error) → supports default_rate k r ≡ true → Ok tt ≡ length_outcome k size (length old)
+    → Ok tt ≡ length_outcome r size (length recovery) → Ok tt ≡ length_outcome (k + r) 1 (length marks) → OneDecodeAnswers k r (marked_shards 0 size (take k marks) old) (marked_shards 0 size (drop k marks) recovery) decoded
     → Writes decoded (λ restored. with_restored restored 0 size k old) old new answer → DecodesBuffer k r size marks recovery old new answer
 decodes k r size marks recovery old new answer decoded supported own other all answers writes =
     rw (lengths-ok k r size (length old) (length recovery) supported own other, ← all) (decoded, answers, writes)

@@ -11,30 +11,30 @@ use Rattle.rs_field.specs.code.Encoder.{EncoderState}
 use Rattle.rs_rate.specs.Giving.{IsEncoding}
 use Rattle.rs_rate.proofs.OneCall.{encoding-size}
 use Rattle.rs_c.specs.declared.fault.Fault.{Fault}
-use Rattle.rs_c.specs.Buffers.{fitting, cut, joined}
+use Rattle.rs_c.specs.Buffers.{length_outcome, shards_in_buffer, concatenation}
 use Rattle.rs_c.specs.Answers.{EncodesBuffer, Writes, encode_lengths}
 
 -- a length that isn't refused is right
-pub fits-length : (count size got : ℕ) → Ok tt ≡ fitting count size got → got ≡ count * size
+pub fits-length : (count size got : ℕ) → Ok tt ≡ length_outcome count size got → got ≡ count * size
 fits-length count size got is = elim (cases_eq (count * size) got) [
   | inl same ↦ sym same
   | inr other ↦ let refused = rw (ne_eqb (count * size) got other) at is in absurd (let no : ⊥ = cc in no)
 ]
 
 -- lengths that aren't refused
-pub lengths-ok : (k r size originals recovery : ℕ) → supports default_rate k r ≡ true → Ok tt ≡ fitting k size originals → Ok tt ≡ fitting r size recovery
+pub lengths-ok : (k r size originals recovery : ℕ) → supports default_rate k r ≡ true → Ok tt ≡ length_outcome k size originals → Ok tt ≡ length_outcome r size recovery
     → encode_lengths k r size originals recovery ≡ Ok tt
 lengths-ok k r size originals recovery supported own other = rw (supported, ← own, ← other) refl
 
 -- the encoder that a buffer's shards lead to has their size
-pub gathered-size : (k r size : ℕ) (bytes : List ℕ) (s : EncoderState) → 0 < k → length bytes ≡ k * size → IsEncoding k r (cut k size bytes) (Ok s) → s.configuration ≡ default_of k r size
+pub gathered-size : (k r size : ℕ) (bytes : List ℕ) (s : EncoderState) → 0 < k → length bytes ≡ k * size → IsEncoding k r (shards_in_buffer k size bytes) (Ok s) → s.configuration ≡ default_of k r size
 gathered-size zero r size bytes s some whole is = absurd (let no : ⊥ = omega (arith, some) in no)
 gathered-size (suc n) r size bytes s some whole is =
     let more = suc-mul n size in
-    encoding-size (suc n) r (take size bytes) (cut n size (drop size bytes)) s is
+    encoding-size (suc n) r (take size bytes) (shards_in_buffer n size (drop size bytes)) s is
     ∙ ap (λ (m : ℕ). default_of (suc n) r m) (length-take-le size bytes (omega (arith, whole, more)))
 
 -- where counts and lengths go, what one call answers is answered
-pub encodes : (k r size : ℕ) (originals old new : List ℕ) (answer : Result (Unit {0}) Fault) (coded : Result (List Shard) Error) → supports default_rate k r ≡ true → Ok tt ≡ fitting k size (length originals)
-    → Ok tt ≡ fitting r size (length old) → OneEncodeAnswers k r (cut k size originals) coded → Writes coded joined old new answer → EncodesBuffer k r size originals old new answer
+pub encodes : (k r size : ℕ) (originals old new : List ℕ) (answer : Result (Unit {0}) Fault) (coded : Result (List Shard) Error) → supports default_rate k r ≡ true → Ok tt ≡ length_outcome k size (length originals)
+    → Ok tt ≡ length_outcome r size (length old) → OneEncodeAnswers k r (shards_in_buffer k size originals) coded → Writes coded concatenation old new answer → EncodesBuffer k r size originals old new answer
 encodes k r size originals old new answer coded supported own other answers writes = rw (lengths-ok k r size (length originals) (length old) supported own other) (coded, answers, writes)

@@ -4,9 +4,9 @@ use Rattle.std.proofs.lemmas.Bool.{cases_eq, eq-eqb, ne_eqb, lt-leb}
 use Rattle.std.proofs.lemmas.List.Recursion.{is_count_by}
 use Rattle.std.specs.List.{count_by, list_any}
 use Rattle.rs_field.specs.code.Outcome.{result_and_then}
-use Rattle.rs_field.specs.code.OneCall.{Items, one_by_one, noted, originals_alone}
+use Rattle.rs_field.specs.code.OneCall.{Items, one_by_one, note_outcome, originals_alone}
 use Rattle.rs_c.specs.Answers.{all_or_refused}
-use Rattle.rs_c.specs.Buffers.{marked}
+use Rattle.rs_c.specs.Buffers.{marked_shards}
 
 -- how many marks aren't 0
 abbrev pub present : List ℕ → ℕ
@@ -22,8 +22,8 @@ abbrev IsBelow : ℕ → List ℕ → Type 0
 IsBelow i given = (j : ℕ) → i ≤ j → list_any (nat_eq j) given ≡ false
 
 -- an index that is in range and new is noted
-noted-next : (k i : ℕ) (given : List ℕ) → i < k → IsBelow i given → noted k given i ≡ Ok (i ∷ given)
-noted-next k i given inside below = rw (lt-leb k i inside, below i (omega arith)) refl
+note_outcome-next : (k i : ℕ) (given : List ℕ) → i < k → IsBelow i given → note_outcome k given i ≡ Ok (i ∷ given)
+note_outcome-next k i given inside below = rw (lt-leb k i inside, below i (omega arith)) refl
 
 -- and then none from the next one on is among them
 below-next : (i : ℕ) (given : List ℕ) → IsBelow i given → IsBelow (i + 1) (i ∷ given)
@@ -32,21 +32,21 @@ below-next i given below j h = ap (λ (b : Bool). b || list_any (nat_eq j) given
 -- items are noted, so many
 abbrev NotesAll : ℕ → List ℕ → Items → ℕ → Type 0
 NotesAll k given items count =
-    (all : List ℕ) × (one_by_one (λ so_far item. noted k so_far item.0) given items ≡ Ok all) × (length all ≡ length given + count)
+    (all : List ℕ) × (one_by_one (λ so_far item. note_outcome k so_far item.0) given items ≡ Ok all) × (length all ≡ length given + count)
 
 -- the marked originals from index i on, as many as there are marks
-notes-all : (k i size : ℕ) (marks bytes given : List ℕ) → i + length marks ≡ k → IsBelow i given → NotesAll k given (marked i size marks bytes) (present marks)
+notes-all : (k i size : ℕ) (marks bytes given : List ℕ) → i + length marks ≡ k → IsBelow i given → NotesAll k given (marked_shards i size marks bytes) (present marks)
 notes-all k i size [] bytes given ends below = (given, refl, omega arith)
 notes-all k i size (mark ∷ marks) bytes given ends below = elim (cases_eq mark 0) [
   | inl lost ↦ rw (eq-eqb mark 0 lost) (notes-all k (i + 1) size marks (drop size bytes) given (omega (arith, ends)) (λ j h. below j (omega (arith, h))))
   | inr kept ↦
       let others = notes-all k (i + 1) size marks (drop size bytes) (i ∷ given) (omega (arith, ends)) (below-next i given below) in
-      rw (ne_eqb mark 0 kept) (others.0, rw (noted-next k i given (omega (arith, ends)) below) others.1, others.2 ∙ omega arith)
+      rw (ne_eqb mark 0 kept) (others.0, rw (note_outcome-next k i given (omega (arith, ends)) below) others.1, others.2 ∙ omega arith)
 ]
 
 -- whether all marked originals are given, by the number of marks
 pub originals_alone-marked : (k size : ℕ) (marks bytes : List ℕ) → length marks ≡ k
-    → originals_alone k (marked 0 size marks bytes) ≡ all_or_refused k (count_by (λ mark. not (mark == 0)) marks)
+    → originals_alone k (marked_shards 0 size marks bytes) ≡ all_or_refused k (count_by (λ mark. not (mark == 0)) marks)
 originals_alone-marked k size marks bytes many =
     let notes = notes-all k 0 size marks bytes [] (omega (arith, many)) (λ j h. refl) in
     let counted : length notes.0 ≡ count_by (λ mark. not (mark == 0)) marks =

@@ -5,11 +5,11 @@ use Rattle.rs_field.specs.declared.code.error.Error.TheVariants.{NotEnoughShards
 use Rattle.rs_field.specs.code.Outcome.{result_and_then}
 use Rattle.reed_solomon_simd.specs.Column.{Shard}
 use Rattle.reed_solomon_simd.specs.Given.{Shards}
-use Rattle.reed_solomon_simd.specs.OneCall.{OneEncodeAnswers, OneDecodeAnswers, counted}
+use Rattle.reed_solomon_simd.specs.OneCall.{OneEncodeAnswers, OneDecodeAnswers, counts_outcome}
 use Rattle.rs_c.specs.declared.fault.Fault.{Fault}
 use Rattle.rs_c.specs.declared.fault.Fault.TheVariants.{Refused}
-use Rattle.rs_c.specs.Faults.{refusing}
-use Rattle.rs_c.specs.Buffers.{fitting, cut, marked, joined, with_restored}
+use Rattle.rs_c.specs.Faults.{as_fault}
+use Rattle.rs_c.specs.Buffers.{length_outcome, shards_in_buffer, marked_shards, concatenation, with_restored}
 
 -- a call is done, and its buffer holds this, or it tells the refusal, and the buffer is as it was
 abbrev pub Writes : {T : Type 0} → Result T Error → (T → List ℕ) → List ℕ → List ℕ → Result (Unit {0}) Fault → Type 0
@@ -19,25 +19,25 @@ Writes outcome bytes old new answer =
 -- the refusals of an encode that the library doesn't come to: the counts, then the lengths of originals and of recovery shards
 abbrev pub encode_lengths : ℕ → ℕ → ℕ → ℕ → ℕ → Result (Unit {0}) Fault
 encode_lengths k r size originals recovery =
-    result_and_then (λ _. result_and_then (λ _. fitting r size recovery) (fitting k size originals)) (refusing (counted k r))
+    result_and_then (λ _. result_and_then (λ _. length_outcome r size recovery) (length_outcome k size originals)) (as_fault (counts_outcome k r))
 
 -- what an encode over buffers answers: where counts and lengths go, what the library's one call answers to the shards, written one behind the other
 abbrev pub EncodesBuffer : ℕ → ℕ → ℕ → List ℕ → List ℕ → List ℕ → Result (Unit {0}) Fault → Type 0
 EncodesBuffer k r size originals old new answer =
     MatchResult (encode_lengths k r size (length originals) (length old))
-    (λ _. (coded : Result (List Shard) Error) × OneEncodeAnswers k r (cut k size originals) coded × Writes coded joined old new answer)
+    (λ _. (coded : Result (List Shard) Error) × OneEncodeAnswers k r (shards_in_buffer k size originals) coded × Writes coded concatenation old new answer)
     (λ fault. (answer ≡ Err fault) × (new ≡ old))
 
 -- the refusals of a decode that the library doesn't come to: the counts, then the lengths of originals, of recovery shards and of marks
 abbrev pub decode_lengths : ℕ → ℕ → ℕ → ℕ → ℕ → ℕ → Result (Unit {0}) Fault
 decode_lengths k r size originals recovery marks =
-    result_and_then (λ _. fitting (k + r) 1 marks) (encode_lengths k r size originals recovery)
+    result_and_then (λ _. length_outcome (k + r) 1 marks) (encode_lengths k r size originals recovery)
 
 -- what a decode over buffers answers: where counts and lengths go, what the library's one call answers to the marked shards, written to their places
 abbrev pub DecodesBuffer : ℕ → ℕ → ℕ → List ℕ → List ℕ → List ℕ → List ℕ → Result (Unit {0}) Fault → Type 0
 DecodesBuffer k r size marks recovery old new answer =
     MatchResult (decode_lengths k r size (length old) (length recovery) (length marks))
-    (λ _. (decoded : Result Shards Error) × OneDecodeAnswers k r (marked 0 size (take k marks) old) (marked 0 size (drop k marks) recovery) decoded
+    (λ _. (decoded : Result Shards Error) × OneDecodeAnswers k r (marked_shards 0 size (take k marks) old) (marked_shards 0 size (drop k marks) recovery) decoded
     × Writes decoded (λ restored. with_restored restored 0 size k old) old new answer)
     (λ fault. (answer ≡ Err fault) × (new ≡ old))
 

@@ -8,26 +8,26 @@ use Rattle.rs_c.specs.declared.fault.Fault.{Fault}
 use Rattle.rs_c.specs.declared.fault.Fault.TheVariants.{WrongLength}
 
 -- a buffer has count * size bytes, or the fault, with the wanted length, as far as a number of 64 bits goes, and its own
-abbrev pub fitting : ℕ → ℕ → ℕ → Result (Unit {0}) Fault
-fitting count size got =
+abbrev pub length_outcome : ℕ → ℕ → ℕ → Result (Unit {0}) Fault
+length_outcome count size got =
     if count * size == got then Ok tt
     else Err (WrongLength (if nat_lt (count * size) (2 ^ 64) then count * size else 2 ^ 64 - 1) got)
 
 -- the first shards of this size, so many
-abbrev pub cut : ℕ → ℕ → List ℕ → List Shard
-cut zero size bytes = []
-cut (suc n) size bytes = take size bytes ∷ cut n size (drop size bytes)
+abbrev pub shards_in_buffer : ℕ → ℕ → List ℕ → List Shard
+shards_in_buffer zero size bytes = []
+shards_in_buffer (suc n) size bytes = take size bytes ∷ shards_in_buffer n size (drop size bytes)
 
 -- the shards whose marks aren't 0, with their indexes, the first of which is i
-abbrev pub marked : ℕ → ℕ → List ℕ → List ℕ → Items
-marked i size [] bytes = []
-marked i size (mark ∷ marks) bytes =
-    if mark == 0 then marked (i + 1) size marks (drop size bytes)
-    else (i, take size bytes) ∷ marked (i + 1) size marks (drop size bytes)
+abbrev pub marked_shards : ℕ → ℕ → List ℕ → List ℕ → Items
+marked_shards i size [] bytes = []
+marked_shards i size (mark ∷ marks) bytes =
+    if mark == 0 then marked_shards (i + 1) size marks (drop size bytes)
+    else (i, take size bytes) ∷ marked_shards (i + 1) size marks (drop size bytes)
 
 -- shards one behind the other
-abbrev pub joined : List Shard → List ℕ
-joined shards = flat_map (λ shard. shard) shards
+abbrev pub concatenation : List Shard → List ℕ
+concatenation shards = flat_map (λ shard. shard) shards
 
 -- the n shards of a buffer, the first of which has index i, each replaced by the one that a map has at its index, if it has one
 abbrev pub with_restored : Shards → ℕ → ℕ → ℕ → List ℕ → List ℕ

@@ -35,5 +35,5 @@ fault_of (Err (WrongNumberOfRooms wanted got)) = numbers 14 wanted got 0
 fault_of (Err TablesNotMade) = numbers 15 0 0 0
 
 -- a refusal of the library as a fault
-abbrev pub refusing : {T : Type 0} → Result T Error → Result T Fault
-refusing result = result_map_both (λ x. x) Refused result
+abbrev pub as_fault : {T : Type 0} → Result T Error → Result T Fault
+as_fault result = result_map_both (λ x. x) Refused result

@@ -44,9 +44,9 @@ text_with (Some fault) = text_of fault
 text_with None = []
 
 -- a room with as much of a text as fits written from its first byte on, and the rest as it was
-abbrev pub over : List ℕ → List ℕ → List ℕ
-over text room = take (length room) text ++ drop (length text) room
+abbrev pub written_over : List ℕ → List ℕ → List ℕ
+written_over text room = take (length room) text ++ drop (length text) room
 
 -- the text's length is returned, and the room has as much of it as fits
 abbrev pub WritesText : List ℕ → List ℕ → List ℕ → ℕ → Type 0
-WritesText text old new told = (told ≡ length text) × (new ≡ over text old)
+WritesText text old new told = (told ≡ length text) × (new ≡ written_over text old)

@@ -1,6 +1,6 @@
 //! Decodes that are given no recovery shard: whether all originals are there.
 ghost use Rattle.std.specs.Prelude.{◌≡◌, ◌≢◌, ℕ, ◌≤◌, List, MatchResult};
-ghost use Rattle.rs_field.specs.code.OneCall.{noted, originals_alone};
+ghost use Rattle.rs_field.specs.code.OneCall.{note_outcome, originals_alone};
 ghost use Rattle.rs_c.specs.Arrays.{items_of};
 ghost use Rattle.rs_c.specs.Alone.{AreNoted};
 
@@ -34,7 +34,7 @@ pub fn check_alone(original_count: usize, originals: &[RsShard<'_>]) -> Result<(
 // Notes that the original of this index is given: the index has to be below the count, and not noted yet.
 fn note(bits: &mut Bits, original_count: usize, index: usize) -> Result<(), Error>
     requires { original_count ≤ 65536 }
-    ensures answer { (indexes : List ℕ) → AreNoted indexes bits.old → MatchResult (noted original_count indexes index)
+    ensures answer { (indexes : List ℕ) → AreNoted indexes bits.old → MatchResult (note_outcome original_count indexes index)
         (λ all. (result ≡ Ok tt) × AreNoted all bits.new) (λ e. result ≡ Err e) }
     ensures memory { result ≢ Err Error.OutOfMemory }
 {

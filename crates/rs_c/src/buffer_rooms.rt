@@ -14,9 +14,9 @@ pub struct BufferRooms<'a> {
 
 impl Rooms for BufferRooms<'_> {
     ghost use Rattle.std.specs.Prelude.{ℕ, false, length};
-    ghost use Rattle.rs_c.specs.Buffers.{cut};
+    ghost use Rattle.rs_c.specs.Buffers.{shards_in_buffer};
 
-    ghost held = { λ x. cut x.count x.size x.bytes.now };
+    ghost held = { λ x. shards_in_buffer x.count x.size x.bytes.now };
 
     ghost grows = { false };
 

@@ -4,7 +4,7 @@ ghost use Rattle.rs_field.specs.code.Code.{AreRecovery};
 ghost use Rattle.rs_field.specs.code.Encoder.{message_of};
 ghost use Rattle.rs_field.specs.code.Outcome.{answer_of};
 ghost use Rattle.reed_solomon_simd.specs.Gathered.{gathered};
-ghost use Rattle.rs_c.specs.Buffers.{cut};
+ghost use Rattle.rs_c.specs.Buffers.{shards_in_buffer};
 ghost use Rattle.rs_c.specs.Answers.{EncodesBuffer};
 ghost use Rattle.rs_c.specs.Arrays.{shards_of, EncodesArrays, KeepsRooms, bytes_in};
 
@@ -83,10 +83,10 @@ fn write_recovery(
     requires counts { (gathered originals.now).configuration.recovery_count ≡ recovery_count }
     requires size { (gathered originals.now).configuration.shard_bytes ≡ shard_bytes }
     requires whole { length recovery.old ≡ recovery_count * shard_bytes }
-    ensures coded { OnOk result (AreRecovery (gathered originals.now).configuration (gathered originals.now).given (cut recovery_count shard_bytes recovery.new)) }
+    ensures coded { OnOk result (AreRecovery (gathered originals.now).configuration (gathered originals.now).given (shards_in_buffer recovery_count shard_bytes recovery.new)) }
     ensures whole { length recovery.new ≡ length recovery.old }
     ensures refused { OnErr result (result ≡ Err Error.OutOfMemory) }
-    ensures untouched { OnErr result (cut recovery_count shard_bytes recovery.new ≡ cut recovery_count shard_bytes recovery.old) }
+    ensures untouched { OnErr result (shards_in_buffer recovery_count shard_bytes recovery.new ≡ shards_in_buffer recovery_count shard_bytes recovery.old) }
 {
     let mut rooms = BufferRooms {
         count: recovery_count,

@@ -1,7 +1,7 @@
 //! How shards lie in memory: one behind the other in a buffer, or anywhere, as an array tells.
 ghost use Rattle.std.specs.Prelude.{◌≡◌, ◌≢◌, ℕ, ◌*◌, ◌<◌, ◌≤◌, List, length, drop, slice_index};
 ghost use Rattle.std.specs.Iterator.{YieldsFirstRef, YieldsFirstBy, item_count};
-ghost use Rattle.rs_c.specs.Buffers.{cut, marked};
+ghost use Rattle.rs_c.specs.Buffers.{shards_in_buffer, marked_shards};
 
 use std::marker::Model;
 
@@ -16,11 +16,11 @@ pub struct Joined<'a> {
 impl<'a> Model for Joined<'a> {
     ghost use Rattle.std.specs.Prelude.{◌≡◌, ◌*◌, List, length};
     ghost use Rattle.rs_field.specs.code.Column.{Shard};
-    ghost use Rattle.rs_c.specs.Buffers.{cut};
+    ghost use Rattle.rs_c.specs.Buffers.{shards_in_buffer};
 
     ghost Value = { List Shard };
 
-    ghost view = { λ x. cut x.left x.size x.bytes.now };
+    ghost view = { λ x. shards_in_buffer x.left x.size x.bytes.now };
 
     ghost invariant = { λ x. length x.bytes.now ≡ x.left * x.size };
 }
@@ -29,7 +29,7 @@ impl<'a> Joined<'a> {
     /// So many shards of this size.
     pub fn new(count: usize, size: usize, bytes: &'a [u8]) -> Joined<'a>
         requires { length bytes.now ≡ count * size }
-        ensures { result ≡ cut count size bytes.now }
+        ensures { result ≡ shards_in_buffer count size bytes.now }
     {
         Joined {
             bytes,
@@ -69,11 +69,11 @@ pub struct Marked<'a> {
 impl<'a> Model for Marked<'a> {
     ghost use Rattle.std.specs.Prelude.{◌≡◌, ◌*◌, ◌≤◌, drop, length};
     ghost use Rattle.rs_field.specs.code.OneCall.{Items};
-    ghost use Rattle.rs_c.specs.Buffers.{marked};
+    ghost use Rattle.rs_c.specs.Buffers.{marked_shards};
 
     ghost Value = { Items };
 
-    ghost view = { λ x. marked x.place x.size (drop x.place x.marks.now) (drop (x.place * x.size) x.bytes.now) };
+    ghost view = { λ x. marked_shards x.place x.size (drop x.place x.marks.now) (drop (x.place * x.size) x.bytes.now) };
 
     ghost invariant = { λ x. (x.place ≤ length x.marks.now) × (length x.bytes.now ≡ length x.marks.now * x.size) };
 }
@@ -82,7 +82,7 @@ impl<'a> Marked<'a> {
     /// The shards of these marks, one of each size behind the other.
     pub fn new(marks: &'a [u8], size: usize, bytes: &'a [u8]) -> Marked<'a>
         requires { length bytes.now ≡ length marks.now * size }
-        ensures { result ≡ marked 0 size marks.now bytes.now }
+        ensures { result ≡ marked_shards 0 size marks.now bytes.now }
     {
         Marked {
             marks,
@@ -118,8 +118,8 @@ fn first_marked(marks: &[u8], from: usize) -> usize
     requires { from ≤ length marks.now }
     ensures within { result ≤ length marks.now }
     ensures there { result < length marks.now → slice_index marks.now result ≢ 0 }
-    ensures left { (size : ℕ) (bytes : List ℕ) → marked from size (drop from marks.now) (drop (from * size) bytes)
-        ≡ marked result size (drop result marks.now) (drop (result * size) bytes) }
+    ensures left { (size : ℕ) (bytes : List ℕ) → marked_shards from size (drop from marks.now) (drop (from * size) bytes)
+        ≡ marked_shards result size (drop result marks.now) (drop (result * size) bytes) }
 {
     for place in from..marks.len() {
         if marks[place] != 0 {

@@ -2,7 +2,7 @@
 ghost use Rattle.std.specs.Prelude.{◌≡◌, ◌<◌, ◌+◌, ◌⊎◌, length, Ok, IfOk, IfErr, OnOk, OnErr, MatchResult, Err};
 ghost use Rattle.reed_solomon_simd.specs.Counts.{default_rate};
 ghost use Rattle.reed_solomon_simd.specs.Placement.{encoder_rows, decoder_rows};
-ghost use Rattle.reed_solomon_simd.specs.Configuration.{configuration, validated, started, UpToMemory};
+ghost use Rattle.reed_solomon_simd.specs.Configuration.{configuration, validation_outcome, start_outcome, UpToMemory};
 ghost use Rattle.reed_solomon_simd.specs.Outcome.{answer_of};
 ghost use Rattle.reed_solomon_simd.specs.Encoder.{fresh_encoder};
 ghost use Rattle.reed_solomon_simd.specs.Decoder.{fresh_decoder, originals_given};
@@ -54,7 +54,7 @@ pub fn encode_too_early<E: Engine, X: RateEncoder<E> + Drop>(
 /// A decoder of the default rate passes from any configuration to one of the high rate; a refusal, also for memory,
 /// leaves all as it was.
 pub fn pass_to_high<E: Engine>(decoder: &mut DefaultRateDecoder<E>) -> Result<(), Error>
-    ensures answer { UpToMemory (started (decoder_rows default_rate 3 2) (configuration default_rate 3 2 2)) result }
+    ensures answer { UpToMemory (start_outcome (decoder_rows default_rate 3 2) (configuration default_rate 3 2 2)) result }
     ensures ok { OnOk result (⟦<DefaultRateDecoder<E> as RateDecoder<E>>⟧.state decoder.new ≡ fresh_decoder (configuration default_rate 3 2 2)) }
     ensures err { OnErr result (⟦<DefaultRateDecoder<E> as RateDecoder<E>>⟧.state decoder.new ≡ ⟦<DefaultRateDecoder<E> as RateDecoder<E>>⟧.state decoder.old) }
     ensures engine { ⟦<DefaultRateDecoder<E> as RateDecoder<E>>⟧.engine_of decoder.new ≡ ⟦<DefaultRateDecoder<E> as RateDecoder<E>>⟧.engine_of decoder.old }
@@ -71,7 +71,7 @@ pub fn both_sides<E: Engine>(
     engine: E,
     other: E,
 ) -> Result<(DefaultRateEncoder<E>, DefaultRateDecoder<E>), Error>
-    ensures refused { IfErr (validated (configuration default_rate original_count recovery_count shard_bytes)) (λ e. result ≡ Err e) }
+    ensures refused { IfErr (validation_outcome (configuration default_rate original_count recovery_count shard_bytes)) (λ e. result ≡ Err e) }
     ensures made { let c = configuration default_rate original_count recovery_count shard_bytes in
         IfOk result (λ sides. (⟦<DefaultRateEncoder<E> as RateEncoder<E>>⟧.state sides.0 ≡ fresh_encoder c)
         × (⟦<DefaultRateDecoder<E> as RateDecoder<E>>⟧.state sides.1 ≡ fresh_decoder c)) }
@@ -88,7 +88,7 @@ pub fn encode_nothing<E: Engine, R: Rate<E>>(
     engine: E,
     steps: &mut Steps,
 ) -> Result<(), Error>
-    ensures { MatchResult (started (encoder_rows R.rate 2 3) (configuration R.rate 2 3 2))
+    ensures { MatchResult (start_outcome (encoder_rows R.rate 2 3) (configuration R.rate 2 3 2))
         (λ _. (result ≡ Err Error.OutOfMemory) ⊎ (result ≡ Err (Error.TooFewOriginalShards 2 0))) (λ e. result ≡ Err e) }
 {
     let mut encoder = R::encoder(alloc, 2, 3, 2, engine, None)?;

@@ -1,6 +1,6 @@
 //! Callers of the one-call functions: what they answer for shards that lie in memory.
 ghost use Rattle.std.specs.Prelude.{map};
-ghost use Rattle.reed_solomon_simd.specs.OneCall.{OneEncodeAnswers, OneDecodeAnswers, collected, collected_map};
+ghost use Rattle.reed_solomon_simd.specs.OneCall.{OneEncodeAnswers, OneDecodeAnswers, collected_shards, collected_map};
 
 use reed_solomon_simd::engine::DefaultEngine;
 use reed_solomon_simd::{Error, decode_slice, encode, encode_slice};
@@ -15,7 +15,7 @@ pub fn encode_vectors(
     original: &[Vec<u8>],
     engine: DefaultEngine<'_>,
 ) -> Result<Vec<Vec<u8>>, Error>
-    ensures { OneEncodeAnswers original_count recovery_count (map (λ shard. shard.items) original.now) (collected result) }
+    ensures { OneEncodeAnswers original_count recovery_count (map (λ shard. shard.items) original.now) (collected_shards result) }
 {
     let shards = original.iter().map(|shard| shard.as_slice());
     encode(alloc, original_count, recovery_count, shards, engine)
@@ -28,7 +28,7 @@ pub fn encode_arrays<const K: usize, const N: usize>(
     original: &[[u8; N]; K],
     engine: DefaultEngine<'_>,
 ) -> Result<Vec<Vec<u8>>, Error>
-    ensures { OneEncodeAnswers K recovery_count original.now (collected result) }
+    ensures { OneEncodeAnswers K recovery_count original.now (collected_shards result) }
 {
     encode_slice(alloc, K, recovery_count, original, engine)
 }

@@ -1,6 +1,6 @@
 //! Callers of the plain objects, which know them by their contracts alone.
 ghost use Rattle.std.specs.Prelude.{◌≡◌, length, Ok, Err, MatchResult};
-ghost use Rattle.reed_solomon_simd.specs.Configuration.{validated, FitsWithin};
+ghost use Rattle.reed_solomon_simd.specs.Configuration.{validation_outcome, FitsWithin};
 ghost use Rattle.reed_solomon_simd.specs.Decoder.{fresh_decoder, enough_given, after_decode, IsConsistent, NoneAgrees};
 ghost use Rattle.reed_solomon_simd.specs.DecoderObject.{state_of as decoder_state};
 ghost use Rattle.reed_solomon_simd.specs.Encoder.{fresh_encoder};
@@ -29,7 +29,7 @@ pub fn encoder_reset_and_back(
     shard_bytes: usize,
     between: (usize, usize, usize),
 ) -> Result<(), Error>
-    requires valid { validated (default_of original_count recovery_count shard_bytes) ≡ Ok tt }
+    requires valid { validation_outcome (default_of original_count recovery_count shard_bytes) ≡ Ok tt }
     requires within { FitsWithin (encoder_state encoder.old).configuration (default_of original_count recovery_count shard_bytes) }
     ensures answer { result ≡ Ok tt }
     ensures state { encoder_state encoder.new ≡ fresh_encoder (default_of original_count recovery_count shard_bytes) }
@@ -46,7 +46,7 @@ pub fn decoder_reset_and_back(
     shard_bytes: usize,
     between: (usize, usize, usize),
 ) -> Result<(), Error>
-    requires valid { validated (default_of original_count recovery_count shard_bytes) ≡ Ok tt }
+    requires valid { validation_outcome (default_of original_count recovery_count shard_bytes) ≡ Ok tt }
     requires within { FitsWithin (decoder_state decoder.old).configuration (default_of original_count recovery_count shard_bytes) }
     ensures answer { result ≡ Ok tt }
     ensures state { decoder_state decoder.new ≡ fresh_decoder (default_of original_count recovery_count shard_bytes) }

@@ -1,6 +1,6 @@
 //! A round trip at any rate, over any lawful engine: just the lost originals come back, each as it was.
 ghost use Rattle.std.specs.Prelude.{◌≡◌, ◌+◌, ◌≤◌, length, map, All, Ok, IfOk, IfErr};
-ghost use Rattle.reed_solomon_simd.specs.Configuration.{configuration, validated};
+ghost use Rattle.reed_solomon_simd.specs.Configuration.{configuration, validation_outcome};
 ghost use Rattle.reed_solomon_simd.specs.Given.{Lists};
 ghost use Rattle.reed_solomon_simd.specs.Giving.{Reaches};
 ghost use Rattle.reed_solomon_simd.specs.OneCall.{with_shards, with_originals, with_recoveries};
@@ -30,7 +30,7 @@ pub fn round_trip_at_a_rate<E: Engine + Copy, R: Rate<E>>(
 ) -> Result<Vec<(usize, Vec<u8>)>, Error>
     ensures restored { IfOk result (λ restored. Lists (lost_at (map (λ shard. shard.items) originals.now) lost.now)
         (map (λ item. (item.0, item.1.items)) restored.items)) }
-    ensures enough { validated (configuration R.rate (length originals.now) recovery_count shard_bytes) ≡ Ok tt → All (λ shard. length shard.items ≡ shard_bytes) originals.now
+    ensures enough { validation_outcome (configuration R.rate (length originals.now) recovery_count shard_bytes) ≡ Ok tt → All (λ shard. length shard.items ≡ shard_bytes) originals.now
         → length originals.now ≤ left_below (length originals.now) lost.now + left_below recovery_count recovery_lost.now
         → IfErr result (λ e. e ≡ Error.OutOfMemory) }
 {

@@ -1,6 +1,6 @@
 //! Round trips: shards are coded, some are lost, and just the lost originals come back, each as it was.
 ghost use Rattle.std.specs.Prelude.{◌≡◌, ◌+◌, ◌≤◌, ℕ, length, map, All, Ok, IfOk, IfErr};
-ghost use Rattle.reed_solomon_simd.specs.Configuration.{validated};
+ghost use Rattle.reed_solomon_simd.specs.Configuration.{validation_outcome};
 ghost use Rattle.reed_solomon_simd.specs.DecoderObject.{state_of as decoder_state};
 ghost use Rattle.reed_solomon_simd.specs.EncoderObject.{state_of as encoder_state};
 ghost use Rattle.reed_solomon_simd.specs.Given.{Lists};
@@ -29,7 +29,7 @@ pub fn round_trip_in_one_call(
     engine: DefaultEngine<'_>,
 ) -> Result<BTreeMap<usize, Vec<u8>>, Error>
     ensures restored { IfOk result (λ restored. (i : ℕ) → shards_in restored i ≡ lost_at (map (λ shard. shard.items) originals.now) lost.now i) }
-    ensures enough { (size : ℕ) → validated (default_of (length originals.now) recovery_count size) ≡ Ok tt → All (λ shard. length shard.items ≡ size) originals.now
+    ensures enough { (size : ℕ) → validation_outcome (default_of (length originals.now) recovery_count size) ≡ Ok tt → All (λ shard. length shard.items ≡ size) originals.now
         → length originals.now ≤ left_below (length originals.now) lost.now + left_below recovery_count recovery_lost.now
         → IfErr result (λ e. e ≡ Error.OutOfMemory) }
 {
@@ -64,7 +64,7 @@ pub fn round_trip_by_plain_objects(
 ) -> Result<Vec<(usize, Vec<u8>)>, Error>
     ensures restored { IfOk result (λ restored. Lists (lost_at (map (λ shard. shard.items) originals.now) lost.now)
         (map (λ item. (item.0, item.1.items)) restored.items)) }
-    ensures enough { validated (default_of (length originals.now) recovery_count shard_bytes) ≡ Ok tt → All (λ shard. length shard.items ≡ shard_bytes) originals.now
+    ensures enough { validation_outcome (default_of (length originals.now) recovery_count shard_bytes) ≡ Ok tt → All (λ shard. length shard.items ≡ shard_bytes) originals.now
         → length originals.now ≤ left_below (length originals.now) lost.now + left_below recovery_count recovery_lost.now
         → IfErr result (λ e. e ≡ Error.OutOfMemory) }
 {

@@ -14,7 +14,7 @@ ghost use Rattle.reed_solomon_simd.specs.EncoderObject.{state_of as encoder_of};
 ghost use Rattle.reed_solomon_simd.specs.Given.{Lists};
 ghost use Rattle.reed_solomon_simd.specs.Kind.{kind_of, engine_named};
 ghost use Rattle.reed_solomon_simd.specs.Locator.{IsLocator, IsLocatorBelow};
-ghost use Rattle.reed_solomon_simd.specs.OneCall.{Items, Lends, LendsItems, shards_in, collected, collected_map};
+ghost use Rattle.reed_solomon_simd.specs.OneCall.{Items, Lends, LendsItems, shards_in, collected_shards, collected_map};
 ghost use Rattle.reed_solomon_simd.specs.OneCall.{OneEncodeAnswers, OneDecodeAnswers};
 ghost use Rattle.reed_solomon_simd.specs.Outcome.{answer_of};
 ghost use Rattle.reed_solomon_simd.specs.ResultView.{recovery_shards, restored_originals};
@@ -268,7 +268,7 @@ pub fn encoded<'a, I: Iterator<Item = &'a [u8]> + Drop>(
     requires can { I.can_next original }
     requires ends { IsFinite (I.remaining original) }
     ensures { (items : List Shard) → Lends I.next_gives original items
-        → OneEncodeAnswers original_count recovery_count items (collected result) }
+        → OneEncodeAnswers original_count recovery_count items (collected_shards result) }
 {
     encode(alloc, original_count, recovery_count, original, engine)
 }

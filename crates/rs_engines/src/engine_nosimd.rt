@@ -4,7 +4,7 @@
 //! of a word is the sum of its nibbles'.
 ghost use Rattle.std.specs.Prelude.{◌≡◌, ℕ, ◌+◌, ◌*◌, ◌<◌, length, bit_xor};
 ghost use Rattle.rs_field.specs.words.Field.{product};
-ghost use Rattle.rs_field.specs.words.Tables.{scaled};
+ghost use Rattle.rs_field.specs.words.Tables.{times_factor};
 ghost use Rattle.rs_field.specs.rows.Rows.{chunk, symbol};
 ghost use Rattle.rs_field.specs.words.Products.{IsNibbles};
 
@@ -101,7 +101,7 @@ impl NoSimd<'_> {
     fn mul_add(&self, x: &mut [[u8; 64]], y: &[[u8; 64]], log_m: GfElement)
         requires { length x.old ≡ length y.now }
         ensures { (k s : ℕ) → k < length x.old → s < 32
-            → symbol (chunk x.new k) s ≡ bit_xor (symbol (chunk x.old k) s) (scaled log_m (symbol (chunk y.now k) s)) }
+            → symbol (chunk x.new k) s ≡ bit_xor (symbol (chunk x.old k) s) (times_factor log_m (symbol (chunk y.now k) s)) }
     {
         if log_m != GF_MODULUS {
             mul_add_chunks(x, y, &get_mul16(self.tables)[log_m as usize]);

@@ -4,7 +4,7 @@
 //! left out.
 ghost use Rattle.std.specs.Prelude.{◌≡◌, ◌≢◌, ℕ, ◌<◌, slice_index, bit_xor};
 ghost use Rattle.rs_field.specs.words.Field.{power};
-ghost use Rattle.rs_field.specs.words.Tables.{scaled};
+ghost use Rattle.rs_field.specs.words.Tables.{times_factor};
 ghost use Rattle.rs_field.specs.words.Products.{IsNibbleBytes};
 ghost use Rattle.rs_engines.specs.Lanes.{lane};
 
@@ -22,7 +22,7 @@ pub trait Factor: Copy + Drop {
     fn add_product<V: ByteVector>(self, x: Words<V>, y: Words<V>) -> Words<V>
         ensures { (i : ℕ) → i < V.LANES
             → lane (V.bytes result.low) (V.bytes result.high) i
-            ≡ bit_xor (lane (V.bytes x.low) (V.bytes x.high) i) (scaled (log self) (lane (V.bytes y.low) (V.bytes y.high) i)) };
+            ≡ bit_xor (lane (V.bytes x.low) (V.bytes x.high) i) (times_factor (log self) (lane (V.bytes y.low) (V.bytes y.high) i)) };
 }
 
 /// The factor zero.

@@ -3,7 +3,7 @@ use Rattle.std.proofs.Common.{◌≡◌, ℕ, ◌+◌, ◌%◌, ◌^◌, ◌<◌
 use Rattle.std.specs.Prelude.{cond, Result, Ok, Err, OnOk, OnErr}
 use Rattle.std.proofs.lemmas.Nat.{pow_pos}
 use Rattle.rs_field.specs.declared.code.error.Error.{Error}
-use Rattle.rs_field.specs.code.Configuration.{Configuration as AsDefined, configuration, validated, started}
+use Rattle.rs_field.specs.code.Configuration.{Configuration as AsDefined, configuration, validation_outcome, start_outcome}
 use Rattle.rs_field.specs.code.Counts.{Rate, next_power, supports, is_low, low_rate}
 use Rattle.rs_field.specs.code.Placement.{encoder_rows, rounded_up}
 use Rattle.rs_field.proofs.of_code.NextPower.{next_power-small, power_is_own}
@@ -11,20 +11,20 @@ use Rattle.rs_field.proofs.of_code.SupportedCounts.{low_fits}
 use Rattle.rs_rate.specs.declared.rate.configuration.Configuration.{Configuration}
 use Rattle.rs_rate.specs.declared.rate.decoder_work.Frame.{Frame}
 use Rattle.rs_rate.specs.declared.rate.decoder_work.DecoderShape.{DecoderShape}
-use Rattle.rs_rate.specs.Configured.{configuration_at, configured, low_or_high, frame_of, shape_of_encoder, shape_of_decoder, IsConfigured}
+use Rattle.rs_rate.specs.Configured.{configuration_at, rate_configuration, low_or_high, frame_of, shape_of_encoder, shape_of_decoder, IsConfigured}
 use Rattle.rs_rate.specs.DecoderView.{decoder_shape}
-use Rattle.rs_rate.specs.ShardRows.{asked, chunk_count}
+use Rattle.rs_rate.specs.ShardRows.{memory_outcome, chunk_count}
 use Rattle.rs_rate.specs.SetUp.{IsSetUp, rows_of}
 use Rattle.rs_rate.specs.Shapes.{EncoderCanBeLaid, DecoderCanBeLaid, HasPlaces}
 use Rattle.rs_rate.proofs.DecoderRows.{low_frame-is}
 use Rattle.rs_rate.proofs.HighCounts.{high_turned, rows-fit}
 use Rattle.rs_rate.proofs.PowerLemmas.{low_small, rounded_up-by}
-use Rattle.rs_rate.proofs.StateLemmas.{started-by}
+use Rattle.rs_rate.proofs.StateLemmas.{start_outcome-by}
 use Rattle.rs_rate.proofs.RateLemmas.{chooses, chosen, block-is, block_alike, frame_alike, high_frame-is}
 
 -- a rate's configuration is one
-pub configured-is : (rate : Rate) (k r size : ℕ) → supports rate k r ≡ true → 0 < size → size % 2 ≡ 0 → IsConfigured (configured rate k r size)
-configured-is rate k r size is some even =
+pub rate_configuration-is : (rate : Rate) (k r size : ℕ) → supports rate k r ≡ true → 0 < size → size % 2 ≡ 0 → IsConfigured (rate_configuration rate k r size)
+rate_configuration-is rate k r size is some even =
     record {
       positive = some;
       even = even;
@@ -33,9 +33,9 @@ configured-is rate k r size is some even =
     }
 
 -- what a configuration of the low and of the high rate is
-pub configured-by : (c : Configuration) (low : Bool) → IsConfigured c → c.is_low ≡ low
+pub rate_configuration-by : (c : Configuration) (low : Bool) → IsConfigured c → c.is_low ≡ low
     → (supports (low_or_high low) c.original_count c.recovery_count ≡ true) × (c.block_rows ≡ next_power (cond low c.original_count c.recovery_count))
-configured-by c low is choice =
+rate_configuration-by c low is choice =
     (rw choice at is.supported, rw choice at is.block ∙ block-is low c.original_count c.recovery_count)
 
 -- the blocks that an encoder codes: they hold so many shards, and are few
@@ -46,7 +46,7 @@ pub record HasBlocks (c : Configuration) (coded : ℕ) : Type 0 where
 
 pub blocks-known : (c : Configuration) → IsConfigured c → (low : Bool) → c.is_low ≡ low → HasBlocks c (cond low c.recovery_count c.original_count)
 blocks-known c is low choice =
-    let known = configured-by c low is choice in
+    let known = rate_configuration-by c low is choice in
     let fit = rows-fit low c.original_count c.recovery_count known.0 in
     let positive = pow_pos fit.power.0 in
     record {
@@ -61,17 +61,17 @@ pub record IsAsked (row_count : Rate → ℕ → ℕ → ℕ) (rate : Rate) (k r
   pub own : configuration_at rate c ≡ configuration rate k r size
   pub count : rows_of row_count c ≡ row_count rate k r
   pub bytes : c.shard_bytes ≡ size
-  pub answer : started (row_count rate k r) (configuration rate k r size) ≡ asked (chunk_count (row_count rate k r) size)
+  pub answer : start_outcome (row_count rate k r) (configuration rate k r size) ≡ memory_outcome (chunk_count (row_count rate k r) size)
 
 pub is_asked : (row_count : Rate → ℕ → ℕ → ℕ) → ((rate : Rate) (c : Configuration) → IsSetUp rate c → rows_of row_count c ≡ row_count rate c.original_count c.recovery_count)
-    → (rate : Rate) (k r size : ℕ) (c : Configuration) → (c ≡ configured rate k r size) × IsSetUp rate c → IsAsked row_count rate k r size c
+    → (rate : Rate) (k r size : ℕ) (c : Configuration) → (c ≡ rate_configuration rate k r size) × IsSetUp rate c → IsAsked row_count rate k r size c
 is_asked row_count rows rate k r size c (same, is) =
     let own = ap (configuration_at rate) same in
     record {
       own = own;
       count = rows rate c is ∙ ap (λ (x : AsDefined). row_count rate x.original_count x.recovery_count) own;
       bytes = ap (λ (x : AsDefined). x.shard_bytes) own;
-      answer = started-by (row_count rate k r) (configuration rate k r size) (chunk_count (row_count rate k r) size) (subst (λ (x : AsDefined). validated x ≡ Ok tt) own is.valid) refl;
+      answer = start_outcome-by (row_count rate k r) (configuration rate k r size) (chunk_count (row_count rate k r) size) (subst (λ (x : AsDefined). validation_outcome x ≡ Ok tt) own is.valid) refl;
     }
 
 -- a decoder's frame is that of the rate

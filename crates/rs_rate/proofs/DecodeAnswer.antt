@@ -7,7 +7,7 @@ use Rattle.rs_field.specs.declared.code.error.Error.TheVariants.{InconsistentSha
 use Rattle.rs_field.specs.code.Column.{Shard, IsShard, AreShards, shard_at, column}
 use Rattle.rs_field.specs.code.Counts.{Rate, supports}
 use Rattle.rs_field.specs.code.Placement.{placement, decoder_rows}
-use Rattle.rs_field.specs.code.Configuration.{configuration, validated}
+use Rattle.rs_field.specs.code.Configuration.{configuration, validation_outcome}
 use Rattle.rs_field.specs.code.Decoder.{DecoderState, originals_given, recovery_given, IsConsistent, missing_of, Restored, NoneAgrees}
 use Rattle.rs_field.specs.code.Given.{count_below, Agrees, Consistent}
 use Rattle.rs_field.specs.rows.Layout.{row_len}
@@ -27,7 +27,7 @@ use Rattle.rs_field.proofs.of_words.LocatorProduct.{same_residue}
 use Rattle.rs_rate.specs.declared.rate.decoder_work.DecoderShape.{DecoderShape}
 use Rattle.rs_rate.specs.DecoderView.{decoder_shape, restored_over, state_over}
 use Rattle.rs_rate.specs.Configured.{configuration_at, frame_of}
-use Rattle.rs_rate.specs.Decoding.{IsLocatorOf, RestoresShards, located}
+use Rattle.rs_rate.specs.Decoding.{IsLocatorOf, RestoresShards, located_word}
 use Rattle.rs_rate.specs.Marks.{erased, given_row_count, given_shards, ArePlaced}
 use Rattle.rs_rate.specs.ObjectLaws.{all-up_to}
 use Rattle.rs_rate.specs.ShardRows.{word_in, shard_laid_out, shard_in_order}
@@ -92,14 +92,14 @@ columns_of : (rate : Rate) (k r size surplus : ℕ) (marks new : List Bool) (loc
     → (d : IsDecoded (decoder_shape rate k r size) marks new locator surplus before after agrees)
     → AreColumns (configuration rate k r size) (given_shards marks before size (placement rate k r).originals_from k) (given_shards marks before size (placement rate k r).recovery_from r)
     f.exponent f.bound f.zeros_end (erased (placement rate k r).zeros_from (placement rate k r).zeros_to marks) (words_given marks before size)
-    (λ j. located marks locator (word_in before (row_len size) (j / 32) (j % 32))) (λ j. d.restores.restored.coefficients (j / 32) (j % 32))
+    (λ j. located_word marks locator (word_in before (row_len size) (j / 32) (j % 32))) (λ j. d.restores.restored.coefficients (j / 32) (j % 32))
 unfolding frame_of
 columns_of rate k r size surplus marks new locator before after agrees f d =
     let words = d.restores.restored in
     are_columns rate k r size f.exponent f.bound f.zeros_end marks before locator words.coefficients d.even f.frame d.placed d.shards
     (subst (λ (n : ℕ). IsLocatorBelow n (erased (placement rate k r).zeros_from (placement rate k r).zeros_to marks) (λ x. slice_index locator x)) f.rows d.is_locator.values)
     (λ j s i hj hs hi. words.found.are_words j s i hj hs (omega (arith, f.rows, hi)))
-    (λ j s hj hs. subst (λ (n : ℕ). IsBackward n 0 (located marks locator (word_in before (row_len size) j s)) (words.coefficients j s)) f.rows (words.found.of_located j s hj hs))
+    (λ j s hj hs. subst (λ (n : ℕ). IsBackward n 0 (located_word marks locator (word_in before (row_len size) j s)) (words.coefficients j s)) f.rows (words.found.of_located j s hj hs))
 
 -- a marked entry at a missing original
 entry_of : (rate : Rate) (k r i : ℕ) (marks : List Bool) (f : HasFrame rate k r) → i < k → is_marked marks ((placement rate k r).originals_from + i) ≡ false
@@ -126,7 +126,7 @@ told rate k r size surplus marks new locator before after agrees supported d =
     let f = has_frame rate k r supported in
     let exact = consistent_exactly (configuration rate k r size) (given_shards marks before size (placement rate k r).originals_from k) (given_shards marks before size (placement rate k r).recovery_from r)
     f.exponent f.bound f.zeros_end surplus (erased (placement rate k r).zeros_from (placement rate k r).zeros_to marks) (words_given marks before size)
-    (λ j. located marks locator (word_in before (row_len size) (j / 32) (j % 32))) (λ j. d.restores.restored.coefficients (j / 32) (j % 32))
+    (λ j. located_word marks locator (word_in before (row_len size) (j / 32) (j % 32))) (λ j. d.restores.restored.coefficients (j / 32) (j % 32))
     (columns_of rate k r size surplus marks new locator before after agrees f d) (given_count rate (decoder_shape rate k r size) marks before (k + surplus) d.counted) in (
       λ some. d.restores.restored.found.checked.0 (λ i j past below inside. exact.0 some j i inside (omega (arith, f.rows, past)) (omega (arith, f.rows, below))),
       λ yes. exact.1 (λ j i inside past below. d.restores.restored.found.checked.1 yes i j (omega (arith, f.rows, past)) (omega (arith, f.rows, below)) inside),
@@ -163,7 +163,7 @@ restored_shard rate k r size surplus i marks new locator before after message su
         ∙ ap (λ n. product (forward n 0 added ((placement rate k r).originals_from + i)) (power (65535 - slice_index locator ((placement rate k r).originals_from + i)))) f.rows
         ∙ restored_column (configuration rate k r size) (given_shards marks before size (placement rate k r).originals_from k) (given_shards marks before size (placement rate k r).recovery_from r)
         f.exponent f.bound f.zeros_end (erased (placement rate k r).zeros_from (placement rate k r).zeros_to marks) (words_given marks before size)
-        (λ c. located marks locator (word_in before (row_len size) (c / 32) (c % 32))) (λ c. d.restores.restored.coefficients (c / 32) (c % 32))
+        (λ c. located_word marks locator (word_in before (row_len size) (c / 32) (c % 32))) (λ c. d.restores.restored.coefficients (c / 32) (c % 32))
         message added i j (slice_index locator ((placement rate k r).originals_from + i))
         (columns_of rate k r size surplus marks new locator before after true f d) enough a inside hj
         (subst (λ (n : ℕ). IsDerivativeAdded n (d.restores.restored.coefficients (j / 32) (j % 32)) added) f.rows step)
@@ -266,7 +266,7 @@ complete rate k r size marks new before after supported even shards all none mar
 
 -- a decode answers by what it made of the rows
 pub decode_answers : (rate : Rate) (s : DecoderShape) (marks new : List Bool) (locator : List ℕ) (surplus : ℕ) (before after : Chunks) (agrees : Bool)
-    → validated (configuration_at rate s.configuration) ≡ Ok tt → s ≡ decoder_shape rate s.configuration.original_count s.configuration.recovery_count s.configuration.shard_bytes
+    → validation_outcome (configuration_at rate s.configuration) ≡ Ok tt → s ≡ decoder_shape rate s.configuration.original_count s.configuration.recovery_count s.configuration.shard_bytes
     → IsDecoded s marks new locator surplus before after agrees → AnswersOver rate s marks new before after agrees
 decode_answers rate s marks new locator surplus before after agrees valid shaped d =
     subst (λ (t : DecoderShape). AnswersOver rate t marks new before after agrees) (sym shaped)
@@ -274,7 +274,7 @@ decode_answers rate s marks new locator surplus before after agrees valid shaped
     (subst (λ (t : DecoderShape). IsDecoded t marks new locator surplus before after agrees) shaped d))
 
 -- and where all originals and nothing else are given, nothing is restored
-pub complete_answers : (rate : Rate) (s : DecoderShape) (marks new : List Bool) (before after : Chunks) → validated (configuration_at rate s.configuration) ≡ Ok tt
+pub complete_answers : (rate : Rate) (s : DecoderShape) (marks new : List Bool) (before after : Chunks) → validation_outcome (configuration_at rate s.configuration) ≡ Ok tt
     → s ≡ decoder_shape rate s.configuration.original_count s.configuration.recovery_count s.configuration.shard_bytes → s.configuration.shard_bytes % 2 ≡ 0
     → ((p : ℕ) → is_marked marks p ≡ true → IsShard s.configuration.shard_bytes (shard_laid_out before s.configuration.shard_bytes p))
     → given_row_count marks s.frame.originals_from s.configuration.original_count ≡ s.configuration.original_count → given_row_count marks s.frame.recovery_from s.configuration.recovery_count ≡ 0

@@ -20,10 +20,10 @@ use Rattle.rs_field.proofs.of_code.AgreeingMessages.{AreSized, HasWords}
 use Rattle.rs_field.proofs.of_code.Agreement.{AreColumns}
 use Rattle.rs_rate.specs.Marks.{erased, given_shards, ArePlaced}
 use Rattle.rs_rate.specs.ShardRows.{word_in, shard_laid_out}
-use Rattle.rs_rate.specs.Decoding.{located}
+use Rattle.rs_rate.specs.Decoding.{located_word}
 use Rattle.rs_rate.proofs.ShardRowsLemmas.{column-put}
 use Rattle.rs_rate.proofs.DecoderLemmas.{given_shards-in, given_shards-out, given-marked}
-use Rattle.rs_rate.proofs.RestoringRows.{located-at}
+use Rattle.rs_rate.proofs.RestoringRows.{located_word-at}
 use Rattle.rs_rate.proofs.Erased.{erased-given, are_erased}
 
 -- column j at point x: that of the shard that is given there, else zero
@@ -78,22 +78,22 @@ given_words p k r marks chunks size j = record {
 located_words : (n j size : ℕ) (marks : List Bool) (chunks : Chunks) (locator : List ℕ) (marked : ℕ → ℕ) → size % 2 ≡ 0 → j < size / 2
     → ((x : ℕ) → x < n → is_marked marks x ≡ true → marked x ≡ 0)
     → ((x : ℕ) → x < n → power (slice_index locator x) ≡ power (log_sum n marked x))
-    → AreLocated n marked (words_given marks chunks size j) (located marks locator (word_in chunks (row_len size) (j / 32) (j % 32)))
+    → AreLocated n marked (words_given marks chunks size j) (located_word marks locator (word_in chunks (row_len size) (j / 32) (j % 32)))
 located_words n j size marks chunks locator marked even inside kept same =
-    are_located n marked (words_given marks chunks size j) (located marks locator (word_in chunks (row_len size) (j / 32) (j % 32)))
+    are_located n marked (words_given marks chunks size j) (located_word marks locator (word_in chunks (row_len size) (j / 32) (j % 32)))
     (λ x hx one. erased_at x hx one (is_marked marks x) refl) (λ x hx none. other_at x hx (is_marked marks x) refl)
   where
-    erased_at : (x : ℕ) → x < n → marked x ≡ 1 → (given : Bool) → is_marked marks x ≡ given → located marks locator (word_in chunks (row_len size) (j / 32) (j % 32)) x ≡ 0
+    erased_at : (x : ℕ) → x < n → marked x ≡ 1 → (given : Bool) → is_marked marks x ≡ given → located_word marks locator (word_in chunks (row_len size) (j / 32) (j % 32)) x ≡ 0
     erased_at x hx one true is = absurd (let none : marked x ≡ 0 = kept x hx is in let no : ⊥ = omega arith in no)
-    erased_at x hx one false is = located-at marks locator (word_in chunks (row_len size) (j / 32) (j % 32)) x false is
+    erased_at x hx one false is = located_word-at marks locator (word_in chunks (row_len size) (j / 32) (j % 32)) x false is
 
     other_at : (x : ℕ) → x < n → (given : Bool) → is_marked marks x ≡ given
-        → ((words_given marks chunks size j x ≡ 0) × (located marks locator (word_in chunks (row_len size) (j / 32) (j % 32)) x ≡ 0))
-        ⊎ (located marks locator (word_in chunks (row_len size) (j / 32) (j % 32)) x ≡ product (words_given marks chunks size j x) (power (log_sum n marked x)))
+        → ((words_given marks chunks size j x ≡ 0) × (located_word marks locator (word_in chunks (row_len size) (j / 32) (j % 32)) x ≡ 0))
+        ⊎ (located_word marks locator (word_in chunks (row_len size) (j / 32) (j % 32)) x ≡ product (words_given marks chunks size j x) (power (log_sum n marked x)))
     other_at x hx true is =
-        inr (located-at marks locator (word_in chunks (row_len size) (j / 32) (j % 32)) x true is
+        inr (located_word-at marks locator (word_in chunks (row_len size) (j / 32) (j % 32)) x true is
         ∙ ap₂ product (sym (words_given-at marks chunks size j x true is ∙ column-put chunks size x j even inside)) (same x hx))
-    other_at x hx false is = inl (words_given-at marks chunks size j x false is, located-at marks locator (word_in chunks (row_len size) (j / 32) (j % 32)) x false is)
+    other_at x hx false is = inl (words_given-at marks chunks size j x false is, located_word-at marks locator (word_in chunks (row_len size) (j / 32) (j % 32)) x false is)
 
 -- what is given at a point is a word
 given_lt : (marks : List Bool) (chunks : Chunks) (size j x : ℕ) → ((p : ℕ) → is_marked marks p ≡ true → IsShard size (shard_laid_out chunks size p))
@@ -110,10 +110,10 @@ pub are_columns : (rate : Rate) (k r size e bound zeros_end : ℕ) (marks : List
     → ((p : ℕ) → is_marked marks p ≡ true → IsShard size (shard_laid_out chunks size p))
     → IsLocatorBelow (2 ^ e) (erased (placement rate k r).zeros_from (placement rate k r).zeros_to marks) (λ x. slice_index locator x)
     → ((j s i : ℕ) → j < row_len size → s < 32 → i < 2 ^ e → coefficients j s i < 65536)
-    → ((j s : ℕ) → j < row_len size → s < 32 → IsBackward (2 ^ e) 0 (located marks locator (word_in chunks (row_len size) j s)) (coefficients j s))
+    → ((j s : ℕ) → j < row_len size → s < 32 → IsBackward (2 ^ e) 0 (located_word marks locator (word_in chunks (row_len size) j s)) (coefficients j s))
     → AreColumns (configuration rate k r size) (given_shards marks chunks size (placement rate k r).originals_from k) (given_shards marks chunks size (placement rate k r).recovery_from r)
     e bound zeros_end (erased (placement rate k r).zeros_from (placement rate k r).zeros_to marks) (words_given marks chunks size)
-    (λ j. located marks locator (word_in chunks (row_len size) (j / 32) (j % 32))) (λ j. coefficients (j / 32) (j % 32))
+    (λ j. located_word marks locator (word_in chunks (row_len size) (j / 32) (j % 32))) (λ j. coefficients (j / 32) (j % 32))
 are_columns rate k r size e bound zeros_end marks chunks locator coefficients even frame placed shards is_locator words back =
     let few : 2 ^ e ≤ 2 ^ 16 = pow_mono frame.few in
     record {

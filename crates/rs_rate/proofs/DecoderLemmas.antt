@@ -7,7 +7,7 @@ use mathlib.Core.Path.{fun_ext}
 use Rattle.rs_field.specs.code.Column.{Shard}
 use Rattle.rs_field.specs.code.Counts.{Rate}
 use Rattle.rs_field.specs.code.Decoder.{DecoderState, fresh_decoder}
-use Rattle.rs_field.specs.code.Given.{Shards, nothing, entered, count_below}
+use Rattle.rs_field.specs.code.Given.{Shards, nothing, with_entry, count_below}
 use Rattle.rs_field.specs.rows.Rows.{Chunks}
 use Rattle.rs_field.specs.rows.MarkedRows.{is_marked}
 use Rattle.rs_field.proofs.of_code.Given.{count_below-suc, count_below-zero}
@@ -24,7 +24,7 @@ use Rattle.rs_rate.specs.Decoding.{CanBeRestored}
 use Rattle.rs_rate.specs.declared.rate.marks.Marks.{Marks}
 use Rattle.rs_rate.specs.declared.rate.marks.MarkedShards.{MarkedShards}
 use Rattle.rs_rate.specs.declared.rate.marks.MarkedShards.TheVariants.{Given, Restored}
-use Rattle.rs_rate.specs.Marks.{if_given, given_marks, given_row_count, given_shards, restored_shards, HoldGiven}
+use Rattle.rs_rate.specs.Marks.{marks_of_given, given_marks, given_row_count, given_shards, restored_shards, HoldGiven}
 use Rattle.rs_rate.specs.ShardRows.{shard_laid_out, shard_in_order}
 
 -- the rows of a shape that can be laid are a power of two
@@ -41,7 +41,7 @@ no_room P s laid (Some work) none = λ room.
     absurd (omega (arith, positive, power.1, rows))
 
 pub none_told : (marks : Marks) → marks.shards ≡ Restored → (p : ℕ) → is_marked (given_marks marks) p ≡ false
-none_told marks told p = ap (λ t. is_marked (if_given t marks.rows.items) p) told
+none_told marks told p = ap (λ t. is_marked (marks_of_given t marks.rows.items) p) told
 
 -- the shard that a row holds, by its mark
 abbrev pub shard_of_row : List Bool → Chunks → ℕ → ℕ → Option Shard
@@ -137,11 +137,11 @@ hold_nothing s marks chunks empty =
 pub given_if_some : (marks : Marks) (from n from_too m : ℕ) → 0 < given_row_count (given_marks marks) from n + given_row_count (given_marks marks) from_too m → marks.shards ≡ Given
 given_if_some marks from n from_too m some = by_kind marks.shards some
   where
-    by_kind : (told : MarkedShards) → 0 < given_row_count (if_given told marks.rows.items) from n + given_row_count (if_given told marks.rows.items) from_too m → told ≡ Given
+    by_kind : (told : MarkedShards) → 0 < given_row_count (marks_of_given told marks.rows.items) from n + given_row_count (marks_of_given told marks.rows.items) from_too m → told ≡ Given
     by_kind Given some = refl
     by_kind Restored some =
-        let none = given_row_count-nothing (if_given Restored marks.rows.items) from n (λ i h. refl) in
-        let none_too = given_row_count-nothing (if_given Restored marks.rows.items) from_too m (λ i h. refl) in
+        let none = given_row_count-nothing (marks_of_given Restored marks.rows.items) from n (λ i h. refl) in
+        let none_too = given_row_count-nothing (marks_of_given Restored marks.rows.items) from_too m (λ i h. refl) in
         absurd (let no : ⊥ = omega (arith, some, none, none_too) in no)
 
 -- how many originals a round of a shape has missing, and how many surplus shards
@@ -166,20 +166,20 @@ given-kept old new before after size from n same =
     let kept : given_shards new after size from n ≡ given_shards old before size from n = fun_ext (λ i. given-same old new before after size from n i (same i)) in
     (kept, sym (count-given new after size from n) ∙ ap (count_below n) kept ∙ count-given old before size from n)
 
-entered-is : (given : Shards) (index i : ℕ) (shard : Shard) → entered given index shard i ≡ cond (nat_eq i index) (Some shard) (given i)
-unfolding entered
-entered-is given index i shard = refl
+with_entry-is : (given : Shards) (index i : ℕ) (shard : Shard) → with_entry given index shard i ≡ cond (nat_eq i index) (Some shard) (given i)
+unfolding with_entry
+with_entry-is given index i shard = refl
 
 -- one more shard, in a row that held none
 pub given-entered : (old new : List Bool) (before after : Chunks) (size from n index : ℕ) (shard : Shard) → index < n → is_marked old (from + index) ≡ false
     → shard_of_row new after size (from + index) ≡ Some shard → ((i : ℕ) → i ≢ index → shard_of_row new after size (from + i) ≡ shard_of_row old before size (from + i))
-    → (given_shards new after size from n ≡ entered (given_shards old before size from n) index shard) × (given_row_count new from n ≡ given_row_count old from n + 1)
+    → (given_shards new after size from n ≡ with_entry (given_shards old before size from n) index shard) × (given_row_count new from n ≡ given_row_count old from n + 1)
 given-entered old new before after size from n index shard inside free here others =
     let own : ℕ → Option Shard = given_shards old before size from n in
-    let more : given_shards new after size from n ≡ entered (given_shards old before size from n) index shard = fun_ext (λ i. elim (cases_eq i index) [
+    let more : given_shards new after size from n ≡ with_entry (given_shards old before size from n) index shard = fun_ext (λ i. elim (cases_eq i index) [
       | inl same ↦
-          ap (given_shards new after size from n) same ∙ given_shards-in new after size from n index inside ∙ here ∙ sym (rw (entered-is own index i shard, eq-eqb i index same) refl)
-      | inr apart ↦ given-same old new before after size from n i (λ _. others i apart) ∙ sym (rw (entered-is own index i shard, ne_eqb i index apart) refl)
+          ap (given_shards new after size from n) same ∙ given_shards-in new after size from n index inside ∙ here ∙ sym (rw (with_entry-is own index i shard, eq-eqb i index same) refl)
+      | inr apart ↦ given-same old new before after size from n i (λ _. others i apart) ∙ sym (rw (with_entry-is own index i shard, ne_eqb i index apart) refl)
     ]) in (
       more,
       sym (count-given new after size from n) ∙ ap (count_below n) more

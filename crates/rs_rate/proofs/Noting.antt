@@ -10,13 +10,13 @@ use Rattle.std.specs.List.{sum_by, count_by, list_any}
 use Rattle.rs_field.specs.declared.code.error.Error.{Error}
 use Rattle.rs_field.specs.declared.code.error.Error.TheVariants.{InvalidOriginalShardIndex, DuplicateOriginalShardIndex, NotEnoughShards}
 use Rattle.rs_field.specs.code.Outcome.{answer_of, result_and_then}
-use Rattle.rs_field.specs.code.OneCall.{Items, one_by_one, noted, originals_alone}
+use Rattle.rs_field.specs.code.OneCall.{Items, one_by_one, note_outcome, originals_alone}
 use Rattle.rs_rate.specs.Giving.{Reaches, AreNoted}
 use Rattle.rs_rate.proofs.Giving.{outcome-err}
 
 -- before the first index no place is true
-pub noted-none : (n : ℕ) → AreNoted [] (replicate n false)
-noted-none n =
+pub note_outcome-none : (n : ℕ) → AreNoted [] (replicate n false)
+note_outcome-none n =
     record {
       places = λ i. elim (cases_lt i n) [ inl inside ↦ get_or-replicate n i false false inside | inr outside ↦ get_or-eq_default (replicate n false) false (subst (λ (m : ℕ). m ≤ i) (sym (length-replicate n false)) outside) ];
       number = sum_by-replicate (λ (b : Bool). cond b 1 0) n false ∙ omega arith;
@@ -35,10 +35,10 @@ noted_by count indexes index outside taken =
     else Ok (index ∷ indexes)
 
 -- tells the same
-noted-tested : (count : ℕ) (indexes : List ℕ) (given : List Bool) (index : ℕ) → length given ≡ count → AreNoted indexes given
-    → tested (length given) index (nat_le (length given) index) (get_or given index false) ≡ answer_of (noted count indexes index)
-noted-tested count indexes given index size are =
-    subst (λ (n : ℕ). tested n index (nat_le n index) (get_or given index false) ≡ answer_of (noted count indexes index)) (sym size)
+note_outcome-tested : (count : ℕ) (indexes : List ℕ) (given : List Bool) (index : ℕ) → length given ≡ count → AreNoted indexes given
+    → tested (length given) index (nat_le (length given) index) (get_or given index false) ≡ answer_of (note_outcome count indexes index)
+note_outcome-tested count indexes given index size are =
+    subst (λ (n : ℕ). tested n index (nat_le n index) (get_or given index false) ≡ answer_of (note_outcome count indexes index)) (sym size)
     (ap (tested count index (nat_le count index)) (are.places index) ∙ by_tests (nat_le count index) (list_any (nat_eq index) indexes))
   where
     by_tests : (outside taken : Bool) → tested count index outside taken ≡ answer_of (noted_by count indexes index outside taken)
@@ -47,15 +47,15 @@ noted-tested count indexes given index size are =
     by_tests false false = refl
 
 -- so a refusal is the outcome's
-pub noted-refused : {count : ℕ} {indexes : List ℕ} {given : List Bool} (index : ℕ) {e : Error} → length given ≡ count → AreNoted indexes given
-    → Err e ≡ tested (length given) index (nat_le (length given) index) (get_or given index false) → noted count indexes index ≡ Err e
-noted-refused {count} {indexes} {given} index {e} size are told = outcome-err (noted count indexes index) e (told ∙ noted-tested count indexes given index size are)
+pub note_outcome-refused : {count : ℕ} {indexes : List ℕ} {given : List Bool} (index : ℕ) {e : Error} → length given ≡ count → AreNoted indexes given
+    → Err e ≡ tested (length given) index (nat_le (length given) index) (get_or given index false) → note_outcome count indexes index ≡ Err e
+note_outcome-refused {count} {indexes} {given} index {e} size are told = outcome-err (note_outcome count indexes index) e (told ∙ note_outcome-tested count indexes given index size are)
 
 -- and a success notes the index
-pub noted-added : {count : ℕ} {indexes : List ℕ} {given : List Bool} (index : ℕ) → length given ≡ count → AreNoted indexes given
-    → Ok tt ≡ tested (length given) index (nat_le (length given) index) (get_or given index false) → noted count indexes index ≡ Ok (index ∷ indexes)
-noted-added {count} {indexes} {given} index size are told =
-    by_tests (nat_le count index) (list_any (nat_eq index) indexes) (told ∙ noted-tested count indexes given index size are)
+pub note_outcome-added : {count : ℕ} {indexes : List ℕ} {given : List Bool} (index : ℕ) → length given ≡ count → AreNoted indexes given
+    → Ok tt ≡ tested (length given) index (nat_le (length given) index) (get_or given index false) → note_outcome count indexes index ≡ Ok (index ∷ indexes)
+note_outcome-added {count} {indexes} {given} index size are told =
+    by_tests (nat_le count index) (list_any (nat_eq index) indexes) (told ∙ note_outcome-tested count indexes given index size are)
   where
     by_tests : (outside taken : Bool) → Ok tt ≡ answer_of (noted_by count indexes index outside taken)
         → noted_by count indexes index outside taken ≡ Ok (index ∷ indexes)
@@ -74,9 +74,9 @@ tested-free count index taken told =
     by_tests false false told = (refl, refl)
 
 -- the place that becomes true is that of one more index
-pub noted-more : {indexes : List ℕ} {given new : List Bool} (index : ℕ) → AreNoted indexes given → Ok tt ≡ tested (length given) index (nat_le (length given) index) (get_or given index false)
+pub note_outcome-more : {indexes : List ℕ} {given new : List Bool} (index : ℕ) → AreNoted indexes given → Ok tt ≡ tested (length given) index (nat_le (length given) index) (get_or given index false)
     → new ≡ set given index true → AreNoted (index ∷ indexes) new
-noted-more {indexes} {given} {new} index are told is =
+note_outcome-more {indexes} {given} {new} index are told is =
     let free = tested-free (length given) index (get_or given index false) told in
     subst (AreNoted (index ∷ indexes)) (sym is)
     (record {
@@ -98,14 +98,14 @@ enough k outcome = result_and_then (λ all. if nat_lt (length all) k then Err (N
 
 -- where the indexes were noted in k places of which none was true, and that was answered so, the answer of all that are given
 module _ (k : ℕ) (items : Items) (places given : List Bool) (result : Result (Unit {0}) Error) (filled : places ≡ replicate k false)
-    (leads : Reaches (one_by_one (λ so_far item. noted (length places) so_far item.0) [] items) result (λ all. AreNoted all given)) where
+    (leads : Reaches (one_by_one (λ so_far item. note_outcome (length places) so_far item.0) [] items) result (λ all. AreNoted all given)) where
   outcome : Result (List ℕ) Error
-  outcome = one_by_one (λ so_far item. noted k so_far item.0) [] items
+  outcome = one_by_one (λ so_far item. note_outcome k so_far item.0) [] items
 
   led : Reaches outcome result (λ all. AreNoted all given)
   unfolding outcome
   led =
-      subst (λ (n : ℕ). Reaches (one_by_one (λ so_far item. noted n so_far item.0) [] items) result (λ all. AreNoted all given)) (ap length filled ∙ length-replicate k false)
+      subst (λ (n : ℕ). Reaches (one_by_one (λ so_far item. note_outcome n so_far item.0) [] items) result (λ all. AreNoted all given)) (ap length filled ∙ length-replicate k false)
       leads
 
   -- is the same refusal

@@ -4,25 +4,25 @@ use Rattle.std.proofs.lemmas.Grind.{common_steps}
 use Rattle.rs_field.specs.declared.code.error.Error.{Error}
 use Rattle.rs_field.specs.declared.code.error.Error.TheVariants.{OutOfMemory, UnsupportedShardCount}
 use Rattle.rs_field.specs.code.Column.{Shard}
-use Rattle.rs_field.specs.code.Configuration.{Configuration, validated, started, UpToMemory}
+use Rattle.rs_field.specs.code.Configuration.{Configuration, validation_outcome, start_outcome, UpToMemory}
 use Rattle.rs_field.specs.code.Counts.{default_rate, supports}
 use Rattle.rs_field.specs.code.Decoder.{DecoderState, fresh_decoder, with_original, with_recovery, DecodeAnswers}
 use Rattle.rs_field.specs.code.Encoder.{EncoderState, IsEncoder, fresh_encoder, with_shard, EncodeAnswers}
 use Rattle.rs_field.specs.code.Given.{Shards, nothing, Lists}
-use Rattle.rs_field.specs.code.OneCall.{Items, default_of, counted, originals_alone, encode_opening, one_by_one, with_shards, with_originals, with_recoveries, with_both, encoding, decoding, OneEncodeAnswers, OneDecodeAnswers}
+use Rattle.rs_field.specs.code.OneCall.{Items, default_of, counts_outcome, originals_alone, encode_opening, one_by_one, with_shards, with_originals, with_recoveries, with_both, encoding, decoding, OneEncodeAnswers, OneDecodeAnswers}
 use Rattle.rs_field.specs.code.Outcome.{result_and_then}
 use Rattle.rs_field.specs.code.Placement.{encoder_rows, decoder_rows}
 use Rattle.rs_field.specs.code.RoundTrip.{AreCoded}
-use Rattle.rs_field.proofs.of_code.Listed.{listed_from-zero}
+use Rattle.rs_field.proofs.of_code.Listed.{items_from-zero}
 use Rattle.rs_field.proofs.of_code.OneRoundTrip.{coded_by}
 use Rattle.rs_rate.specs.Giving.{IsEncoding, IsDecoding, decoding_any}
 
 -- ---- calls one after another
 
 -- what set up a coder was a success
-started-made : (o : Result (Unit {0}) Error) → UpToMemory o (Ok tt) → o ≡ Ok tt
-started-made o (inl same) = sym same
-started-made o (inr lacks) = let refused = lacks.1 in cc
+start_outcome-made : (o : Result (Unit {0}) Error) → UpToMemory o (Ok tt) → o ≡ Ok tt
+start_outcome-made o (inl same) = sym same
+start_outcome-made o (inr lacks) = let refused = lacks.1 in cc
 
 -- where a second call succeeded so did the first
 first-ok : {S T : Type 0} (f : S → Result T Error) (o : Result S Error) (t : T) → Ok t ≡ result_and_then f o → (s : S) × (o ≡ Ok s) × (f s ≡ Ok t)
@@ -35,8 +35,8 @@ first-err f (Ok s) e is = absurd (let no : ⊥ = cc in no)
 first-err f (Err x) e is = let same : e ≡ x = cc in ap Err (sym same)
 
 -- where a coder is set up nothing was refused before memory was wanted
-started-valid : (rows : ℕ) (c : Configuration) → IsOk (started rows c) → IsOk (validated c)
-started-valid rows c made = by_outcome (validated c) _ made
+start_outcome-valid : (rows : ℕ) (c : Configuration) → IsOk (start_outcome rows c) → IsOk (validation_outcome c)
+start_outcome-valid rows c made = by_outcome (validation_outcome c) _ made
   where
     by_outcome : (o : Result (Unit {0}) Error) (f : Unit {0} → Result (Unit {0}) Error) → IsOk (result_and_then f o) → IsOk o
     by_outcome (Ok u) f is = refl
@@ -64,16 +64,16 @@ encoding-uncounted k r (x ∷ xs) e refused = rw (refused.0, refused.1) (inl ref
 
 module _ (k r : ℕ) (first : Shard) (rest : List Shard) where
   -- an encoder that isn't set up decides
-  pub encoding-unset : (e : Error) → UpToMemory (started (encoder_rows default_rate k r) (default_of k r (length first))) (Err e) → IsEncoding k r (first ∷ rest) (Err e)
+  pub encoding-unset : (e : Error) → UpToMemory (start_outcome (encoder_rows default_rate k r) (default_of k r (length first))) (Err e) → IsEncoding k r (first ∷ rest) (Err e)
   encoding-unset e (inl same) = inl (ap (result_and_then (λ _. with_shards (fresh_encoder (default_of k r (length first))) (first ∷ rest))) same)
-  encoding-unset e (inr lacks) = inr (started-valid (encoder_rows default_rate k r) (default_of k r (length first)) lacks.0, as-lacking e lacks.1)
+  encoding-unset e (inr lacks) = inr (start_outcome-valid (encoder_rows default_rate k r) (default_of k r (length first)) lacks.0, as-lacking e lacks.1)
 
   -- else it is one with all shards given, or the refusal of one
-  pub encoding-given : (start : EncoderState) → UpToMemory (started (encoder_rows default_rate k r) (default_of k r (length first))) (Ok tt)
+  pub encoding-given : (start : EncoderState) → UpToMemory (start_outcome (encoder_rows default_rate k r) (default_of k r (length first))) (Ok tt)
       → start ≡ fresh_encoder (default_of k r (length first)) → (o : Result EncoderState Error) → with_shards start (first ∷ rest) ≡ o → IsEncoding k r (first ∷ rest) o
   encoding-given start made fresh o is =
       inl (sym is ∙ ap (λ s. with_shards s (first ∷ rest)) fresh
-      ∙ ap (result_and_then (λ _. with_shards (fresh_encoder (default_of k r (length first))) (first ∷ rest))) (sym (started-made _ made)))
+      ∙ ap (result_and_then (λ _. with_shards (fresh_encoder (default_of k r (length first))) (first ∷ rest))) (sym (start_outcome-made _ made)))
 
 -- a refusal of the shards is that of one call
 pub encoding-refused : (k r : ℕ) (shards : List Shard) (e : Error) → IsEncoding k r shards (Err e) → OneEncodeAnswers k r shards (Err e)
@@ -93,8 +93,8 @@ module _ (k r : ℕ) (shards : List Shard) (s : EncoderState) (is : IsEncoding k
   encoding-opened = by_shards shards led
     where
       by_shards : (shards : List Shard) → encoding k r shards ≡ Ok s → IsOk (encode_opening k r shards)
-      by_shards [] is = let two = first-ok {T = EncoderState} _ (counted k r) s (sym is) in let refused = two.2 in absurd (let no : ⊥ = cc in no)
-      by_shards (x ∷ xs) is = let one = first-ok _ (started (encoder_rows default_rate k r) (default_of k r (length x))) s (sym is) in started-valid (encoder_rows default_rate k r) (default_of k r (length x)) (subst (λ (o : Result (Unit {0}) Error). IsOk o) (sym one.1) refl)
+      by_shards [] is = let two = first-ok {T = EncoderState} _ (counts_outcome k r) s (sym is) in let refused = two.2 in absurd (let no : ⊥ = cc in no)
+      by_shards (x ∷ xs) is = let one = first-ok _ (start_outcome (encoder_rows default_rate k r) (default_of k r (length x))) s (sym is) in start_outcome-valid (encoder_rows default_rate k r) (default_of k r (length x)) (subst (λ (o : Result (Unit {0}) Error). IsOk o) (sym one.1) refl)
 
   -- and it is coded
   pub encoding-coded : IsEncoder default_rate s → (recovery : List Shard) (result : Result (List Shard) Error) → EncodeAnswers s (Ok recovery)
@@ -103,9 +103,9 @@ module _ (k r : ℕ) (shards : List Shard) (s : EncoderState) (is : IsEncoding k
   encoding-coded valid recovery (Ok out) answers same = by_shards shards led
     where
       by_shards : (shards : List Shard) → encoding k r shards ≡ Ok s → AreCoded k r shards out
-      by_shards [] is = let two = first-ok {T = EncoderState} _ (counted k r) s (sym is) in let refused = two.2 in absurd (let no : ⊥ = cc in no)
+      by_shards [] is = let two = first-ok {T = EncoderState} _ (counts_outcome k r) s (sym is) in let refused = two.2 in absurd (let no : ⊥ = cc in no)
       by_shards (x ∷ xs) is =
-          let one = first-ok _ (started (encoder_rows default_rate k r) (default_of k r (length x))) s (sym is) in
+          let one = first-ok _ (start_outcome (encoder_rows default_rate k r) (default_of k r (length x))) s (sym is) in
           coded_by k r x xs out s valid one.2 (subst (λ l. EncodeAnswers s (Ok l)) (sym same) answers)
 
 -- ---- decoders
@@ -144,18 +144,18 @@ decoding-none k r originals o supported (inr lacks) = rw supported (inr (refl, a
 
 module _ (k r : ℕ) (originals : Items) (first : ℕ × Shard) (rest : Items) where
   -- a decoder that isn't set up decides
-  pub decoding-unset : (e : Error) → UpToMemory (started (decoder_rows default_rate k r) (default_of k r (length first.1))) (Err e) → IsDecoding k r originals (first ∷ rest) (Err e)
+  pub decoding-unset : (e : Error) → UpToMemory (start_outcome (decoder_rows default_rate k r) (default_of k r (length first.1))) (Err e) → IsDecoding k r originals (first ∷ rest) (Err e)
   decoding-unset e (inl same) =
       inl (ap (λ o. result_and_then (λ s. Ok (Some s)) (result_and_then (λ _. with_both (fresh_decoder (default_of k r (length first.1))) originals (first ∷ rest)) o)) same)
-  decoding-unset e (inr lacks) = inr (started-valid (decoder_rows default_rate k r) (default_of k r (length first.1)) lacks.0, as-lacking e lacks.1)
+  decoding-unset e (inr lacks) = inr (start_outcome-valid (decoder_rows default_rate k r) (default_of k r (length first.1)) lacks.0, as-lacking e lacks.1)
 
   -- else it is one with all shards given, or the refusal of one
-  pub decoding-given : (start : DecoderState) → UpToMemory (started (decoder_rows default_rate k r) (default_of k r (length first.1))) (Ok tt)
+  pub decoding-given : (start : DecoderState) → UpToMemory (start_outcome (decoder_rows default_rate k r) (default_of k r (length first.1))) (Ok tt)
       → start ≡ fresh_decoder (default_of k r (length first.1)) → (o : Result DecoderState Error) → with_both start originals (first ∷ rest) ≡ o
       → IsDecoding k r originals (first ∷ rest) (result_and_then (λ s. Ok (Some s)) o)
   decoding-given start made fresh o is =
       inl (ap (result_and_then (λ s. Ok (Some s))) (sym is ∙ ap (λ s. with_both s originals (first ∷ rest)) fresh
-      ∙ ap (result_and_then (λ _. with_both (fresh_decoder (default_of k r (length first.1))) originals (first ∷ rest))) (sym (started-made _ made))))
+      ∙ ap (result_and_then (λ _. with_both (fresh_decoder (default_of k r (length first.1))) originals (first ∷ rest))) (sym (start_outcome-made _ made))))
 
 -- a refusal of the shards is that of one call
 pub decoding-refused : (k r : ℕ) (originals recovery : Items) (e : Error) → IsDecoding k r originals recovery (Err e) → OneDecodeAnswers k r originals recovery (Err e)
@@ -165,7 +165,7 @@ decoding-refused k r originals (first ∷ rest) e (inl same) = inl (leads-off De
 
 -- the map with no shard lists none
 pub lists-none : Lists nothing []
-lists-none = record { count = 0; none_past = λ i h. refl; in_order = sym (listed_from-zero 0 nothing) }
+lists-none = record { count = 0; none_past = λ i h. refl; in_order = sym (items_from-zero 0 nothing) }
 
 -- where there is no decoder there is nothing to restore
 pub decoding-nothing : (k r : ℕ) (originals recovery : Items) → IsDecoding k r originals recovery (Ok None) → OneDecodeAnswers k r originals recovery (Ok nothing)
@@ -194,15 +194,15 @@ module _ (k r : ℕ) (originals recovery : Items) (s : DecoderState) (is : IsDec
   decoding-collected restored (Ok out) answers same = decoding-answers (Ok out) (subst (λ l. DecodeAnswers s (Ok l)) (sym same) answers)
   decoding-collected restored (Err e) answers short =
       let led = decoding-led in
-      let one = first-ok _ (started (decoder_rows default_rate k r) (default_of k r (length led.0.1))) s (sym led.3) in
-      let opened = started-valid (decoder_rows default_rate k r) (default_of k r (length led.0.1)) (subst (λ (o : Result (Unit {0}) Error). IsOk o) (sym one.1) refl) in
+      let one = first-ok _ (start_outcome (decoder_rows default_rate k r) (default_of k r (length led.0.1))) s (sym led.3) in
+      let opened = start_outcome-valid (decoder_rows default_rate k r) (default_of k r (length led.0.1)) (subst (λ (o : Result (Unit {0}) Error). IsOk o) (sym one.1) refl) in
       subst (λ items. OneDecodeAnswers k r originals items (Err e)) (sym led.2) (inr (opened, ap Err short))
 
   -- it is set up for the size of the first recovery shard
   pub decoding-kept : (first : ℕ × Shard) × (rest : Items) × (recovery ≡ first ∷ rest) × (s.configuration ≡ default_of k r (length first.1))
   decoding-kept =
       let led = decoding-led in
-      let set_up = first-ok _ (started (decoder_rows default_rate k r) (default_of k r (length led.0.1))) s (sym led.3) in
+      let set_up = first-ok _ (start_outcome (decoder_rows default_rate k r) (default_of k r (length led.0.1))) s (sym led.3) in
       let one = first-ok (λ now. with_recoveries now (led.0 ∷ led.1)) (with_originals (fresh_decoder (default_of k r (length led.0.1))) originals) s (sym set_up.2) in (
         led.0,
         led.1,
@@ -218,5 +218,5 @@ kept-shard s t x is = grind (arith, common_steps)
 -- the encoder that shards lead to has the first one's size
 pub encoding-size : (k r : ℕ) (first : Shard) (rest : List Shard) (s : EncoderState) → IsEncoding k r (first ∷ rest) (Ok s) → s.configuration ≡ default_of k r (length first)
 encoding-size k r first rest s is =
-    let one = first-ok _ (started (encoder_rows default_rate k r) (default_of k r (length first))) s (sym (led k r (first ∷ rest) s is)) in
+    let one = first-ok _ (start_outcome (encoder_rows default_rate k r) (default_of k r (length first))) s (sym (led k r (first ∷ rest) s is)) in
     kept-by-all with_shard (λ t. t.configuration) kept-shard (first ∷ rest) (fresh_encoder (default_of k r (length first))) s one.2

@@ -11,7 +11,7 @@ use Rattle.rs_field.specs.declared.rows.shards.ShardsRefMut.{ShardsRefMut}
 use Rattle.rs_field.specs.declared.words.steps.Steps.{Steps}
 use Rattle.rs_field.specs.rows.MarkedRows.{is_marked}
 use Rattle.rs_field.proofs.of_rows.RowOffsets.{row_ends}
-use Rattle.rs_rate.specs.Decoding.{located}
+use Rattle.rs_rate.specs.Decoding.{located_word}
 use Rattle.rs_rate.proofs.ShardRowsLemmas.{part-read}
 
 -- a chunk of a row that is read
@@ -25,19 +25,19 @@ row-read r i k fits hi hk =
 pub record RowLocated (marks : List Bool) (locator : List ℕ) (p : ℕ) (old new : ShardsRefMut) (before after : Steps) : Type 0 where
   pub extent : SameExtent old new
   pub others : SameRowsOutside p (p + 1) old new
-  pub located_here : (k s : ℕ) → k < old.shard_len_64 → s < 32 → word new k s p ≡ located marks locator (word old k s) p
+  pub located_here : (k s : ℕ) → k < old.shard_len_64 → s < 32 → word new k s p ≡ located_word marks locator (word old k s) p
   pub cleared : (k : ℕ) → k < old.shard_len_64 → is_marked marks p ≡ false → cell new k p ≡ replicate 64 0
   pub counts : CountsUpTo 1 0 0 before after
 
-pub located-at : (marks : List Bool) (locator : List ℕ) (words : ℕ → ℕ) (p : ℕ) (given : Bool) → is_marked marks p ≡ given
-    → located marks locator words p ≡ cond given (product (words p) (power (slice_index locator p))) 0
-unfolding located
-located-at marks locator words p given is = ap (λ b. cond b (product (words p) (power (slice_index locator p))) 0) is
+pub located_word-at : (marks : List Bool) (locator : List ℕ) (words : ℕ → ℕ) (p : ℕ) (given : Bool) → is_marked marks p ≡ given
+    → located_word marks locator words p ≡ cond given (product (words p) (power (slice_index locator p))) 0
+unfolding located_word
+located_word-at marks locator words p given is = ap (λ b. cond b (product (words p) (power (slice_index locator p))) 0) is
 
 -- a located row is that of the word there before
-pub located-same : (marks : List Bool) (locator : List ℕ) (old new : ℕ → ℕ) (p : ℕ) → new p ≡ old p → located marks locator new p ≡ located marks locator old p
-unfolding located
-located-same marks locator old new p same = ap (λ w. cond (is_marked marks p) (product w (power (slice_index locator p))) 0) same
+pub located_word-same : (marks : List Bool) (locator : List ℕ) (old new : ℕ → ℕ) (p : ℕ) → new p ≡ old p → located_word marks locator new p ≡ located_word marks locator old p
+unfolding located_word
+located_word-same marks locator old new p same = ap (λ w. cond (is_marked marks p) (product w (power (slice_index locator p))) 0) same
 
 -- one row was revealed where it is to be restored, in one row step at most, and no other row was changed
 pub record RowRevealed (marks : List Bool) (locator : List ℕ) (p : ℕ) (old new : ShardsRefMut) (before after : Steps) : Type 0 where

@@ -5,7 +5,7 @@ use Rattle.std.proofs.lemmas.Bool.{lt-leb, eq-eqb, ne_eqb}
 use Rattle.rs_field.specs.declared.code.error.Error.TheVariants.{DifferentShardSize}
 use Rattle.rs_field.specs.code.Column.{Shard}
 use Rattle.rs_field.specs.code.Counts.{Rate}
-use Rattle.rs_field.specs.code.Given.{Shards, entered}
+use Rattle.rs_field.specs.code.Given.{Shards, with_entry}
 use Rattle.rs_field.specs.rows.MarkedRows.{is_marked}
 use Rattle.rs_field.specs.rows.Rows.{Chunks}
 use Rattle.rs_rate.specs.declared.rate.decoder_work.DecoderRows.{DecoderRows}
@@ -14,7 +14,7 @@ use Rattle.rs_rate.specs.declared.rate.side.Side.TheVariants.{Original, Recovery
 use Rattle.rs_rate.specs.Configured.{configuration_at}
 use Rattle.rs_rate.specs.DecoderView.{decoder_state, state_over}
 use Rattle.rs_rate.specs.Marks.{given_marks, given_row_count, given_shards}
-use Rattle.rs_rate.specs.Sides.{side_count, side_from, side_row, side_originals, side_recovery, repeat_refused, with_given}
+use Rattle.rs_rate.specs.Sides.{side_count, side_from, side_row, side_originals, side_recovery, repeat_refused, with_shard_of_side}
 use Rattle.rs_rate.proofs.DecoderLemmas.{shard_of_row, given-marked, given-kept, given-entered}
 
 -- the other side
@@ -37,7 +37,7 @@ given-at w side index row given at inside is =
 
 -- the refusals
 pub add-repeated : (rate : Rate) (w : DecoderRows) (side : Side) (index row : ℕ) (shard : Shard) → row ≡ side_row side w.shape index → index < side_count side w.shape
-    → is_marked (given_marks w.memory.marks) row ≡ true → with_given side (decoder_state rate w) index shard ≡ Err (repeat_refused side index)
+    → is_marked (given_marks w.memory.marks) row ≡ true → with_shard_of_side side (decoder_state rate w) index shard ≡ Err (repeat_refused side index)
 add-repeated rate w Original index row shard at inside given =
     rw (lt-leb w.shape.configuration.original_count index inside, given-at w Original index row true at inside given) refl
 add-repeated rate w Recovery index row shard at inside given =
@@ -45,7 +45,7 @@ add-repeated rate w Recovery index row shard at inside given =
 
 pub add-sized : (rate : Rate) (w : DecoderRows) (side : Side) (index row : ℕ) (shard : Shard) → row ≡ side_row side w.shape index → index < side_count side w.shape
     → is_marked (given_marks w.memory.marks) row ≡ false → length shard ≢ w.shape.configuration.shard_bytes
-    → with_given side (decoder_state rate w) index shard ≡ Err (DifferentShardSize w.shape.configuration.shard_bytes (length shard))
+    → with_shard_of_side side (decoder_state rate w) index shard ≡ Err (DifferentShardSize w.shape.configuration.shard_bytes (length shard))
 add-sized rate w Original index row shard at inside free other =
     rw (lt-leb w.shape.configuration.original_count index inside, given-at w Original index row false at inside free, ne_eqb (length shard) w.shape.configuration.shard_bytes other) refl
 add-sized rate w Recovery index row shard at inside free other =
@@ -69,7 +69,7 @@ other-apart w Recovery index i row at inside within same = w.laid.places.apart i
 -- the side has one shard more
 own-entered : (w : DecoderRows) (side : Side) (index row : ℕ) (shard : Shard) (marks : List Bool) (chunks : Chunks) → RowEntered w side index row shard marks chunks
     → let from = side_from side w.shape in let n = side_count side w.shape in
-    (given_shards marks chunks w.shape.configuration.shard_bytes from n ≡ entered (given_shards (given_marks w.memory.marks) w.memory.chunks.items w.shape.configuration.shard_bytes from n) index shard)
+    (given_shards marks chunks w.shape.configuration.shard_bytes from n ≡ with_entry (given_shards (given_marks w.memory.marks) w.memory.chunks.items w.shape.configuration.shard_bytes from n) index shard)
     × (given_row_count marks from n ≡ given_row_count (given_marks w.memory.marks) from n + 1)
 own-entered w side index row shard marks chunks e =
     let from = side_from side w.shape in
@@ -88,7 +88,7 @@ other-kept w side index row shard marks chunks e =
 
 -- the outcome is the state of the rows then
 pub add-entered : (rate : Rate) (w : DecoderRows) (side : Side) (index row : ℕ) (shard : Shard) (marks : List Bool) (chunks : Chunks) → RowEntered w side index row shard marks chunks
-    → with_given side (decoder_state rate w) index shard ≡ Ok (state_over rate w.shape marks chunks)
+    → with_shard_of_side side (decoder_state rate w) index shard ≡ Ok (state_over rate w.shape marks chunks)
 add-entered rate w Original index row shard marks chunks e =
     rw (lt-leb w.shape.configuration.original_count index e.inside, given-at w Original index row false e.at e.inside e.free, eq-eqb (length shard) w.shape.configuration.shard_bytes e.size)
     (ap₂ (λ (o r : Shards). Ok (record { configuration = configuration_at rate w.shape.configuration; originals = o; recovery = r }))

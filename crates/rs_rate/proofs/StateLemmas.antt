@@ -7,7 +7,7 @@ use Rattle.rs_field.specs.declared.code.error.Error.TheVariants.{OutOfMemory, Un
 use Rattle.rs_field.specs.code.Column.{Shard}
 use Rattle.rs_field.specs.code.Counts.{Rate, supports}
 use Rattle.rs_field.specs.code.Outcome.{answer_of, state_after, result_and_then}
-use Rattle.rs_field.specs.code.Configuration.{Configuration, validated, bytes_of_rows, started}
+use Rattle.rs_field.specs.code.Configuration.{Configuration, validation_outcome, bytes_of_rows, start_outcome}
 use Rattle.rs_field.specs.code.Encoder.{EncoderState, fresh_encoder, with_shard, message_of, EncodeAnswers, after_encode}
 use Rattle.rs_field.specs.code.Code.{AreRecovery}
 use Rattle.rs_field.specs.words.UpTo.{up_to}
@@ -15,7 +15,7 @@ use Rattle.rs_rate.specs.declared.rate.encoder_work.EncoderRows.{EncoderRows}
 use Rattle.rs_rate.specs.declared.rate.encoder_work.EncoderShape.{EncoderShape}
 use Rattle.rs_rate.specs.Configured.{configuration_at}
 use Rattle.rs_rate.specs.EncoderView.{encoder_state}
-use Rattle.rs_rate.specs.ShardRows.{asked, chunk_count, shard_laid_out}
+use Rattle.rs_rate.specs.ShardRows.{memory_outcome, chunk_count, shard_laid_out}
 
 -- a shard of the size is added where there is room
 pub with_shard-added : (s : EncoderState) (shard : Shard) → length s.given < s.configuration.original_count → length shard ≡ s.configuration.shard_bytes
@@ -24,20 +24,20 @@ with_shard-added s shard room same =
     rw (lt-leb s.configuration.original_count (length s.given) room, eq-eqb (length shard) s.configuration.shard_bytes same) refl
 
 -- what setting up a valid configuration answers is what asking for memory for its chunks does
-pub started-by : (rows : ℕ) (c : Configuration) (chunks : ℕ) → validated c ≡ Ok tt → chunks ≡ chunk_count rows c.shard_bytes → started rows c ≡ asked chunks
+pub start_outcome-by : (rows : ℕ) (c : Configuration) (chunks : ℕ) → validation_outcome c ≡ Ok tt → chunks ≡ chunk_count rows c.shard_bytes → start_outcome rows c ≡ memory_outcome chunks
 unfolding chunk_count
-started-by rows c chunks valid is =
-    ap (result_and_then (λ _. cond (nat_le (2 ^ 64) (bytes_of_rows rows c.shard_bytes)) (Err OutOfMemory) (Ok tt))) valid ∙ ap asked (sym is)
+start_outcome-by rows c chunks valid is =
+    ap (result_and_then (λ _. cond (nat_le (2 ^ 64) (bytes_of_rows rows c.shard_bytes)) (Err OutOfMemory) (Ok tt))) valid ∙ ap memory_outcome (sym is)
 
 -- which is a success where they are a `usize` in bytes, and no want of memory
-asked-fits : (chunks : ℕ) → chunks * 64 < 2 ^ 64 → asked chunks ≡ Ok tt
-asked-fits chunks fits = ap (λ (b : Bool). cond b (Err OutOfMemory) (Ok tt)) (lt-leb (2 ^ 64) (chunks * 64) fits)
+memory_outcome-fits : (chunks : ℕ) → chunks * 64 < 2 ^ 64 → memory_outcome chunks ≡ Ok tt
+memory_outcome-fits chunks fits = ap (λ (b : Bool). cond b (Err OutOfMemory) (Ok tt)) (lt-leb (2 ^ 64) (chunks * 64) fits)
 
-pub started-roomy : (rows : ℕ) (c : Configuration) → validated c ≡ Ok tt → chunk_count rows c.shard_bytes * 64 < 2 ^ 64 → started rows c ≡ Ok tt
-started-roomy rows c valid fits = started-by rows c (chunk_count rows c.shard_bytes) valid refl ∙ asked-fits (chunk_count rows c.shard_bytes) fits
+pub start_outcome-roomy : (rows : ℕ) (c : Configuration) → validation_outcome c ≡ Ok tt → chunk_count rows c.shard_bytes * 64 < 2 ^ 64 → start_outcome rows c ≡ Ok tt
+start_outcome-roomy rows c valid fits = start_outcome-by rows c (chunk_count rows c.shard_bytes) valid refl ∙ memory_outcome-fits (chunk_count rows c.shard_bytes) fits
 
-pub asked-made : (chunks : ℕ) (result : Result (Unit {0}) Error) → chunks * 64 < 2 ^ 64 → result ≡ asked chunks → result ≡ Err OutOfMemory → ⊥
-asked-made chunks result fits is short = let no = sym short ∙ is ∙ asked-fits chunks fits in cc
+pub memory_outcome-made : (chunks : ℕ) (result : Result (Unit {0}) Error) → chunks * 64 < 2 ^ 64 → result ≡ memory_outcome chunks → result ≡ Err OutOfMemory → ⊥
+memory_outcome-made chunks result fits is short = let no = sym short ∙ is ∙ memory_outcome-fits chunks fits in cc
 
 -- what holds at each rate after a success, or after a refusal, holds at one
 pub on_ok-at : {S : Type 0} (rate : Rate) (result : Result S Error) (P : Rate → Type 0) → OnOk result ((each : Rate) → P each) → OnOk result (P rate)
@@ -54,7 +54,7 @@ tested c supported none odd =
     cond (not supported) (Err (UnsupportedShardCount c.original_count c.recovery_count)) (cond (none || odd) (Err (InvalidShardSize c.shard_bytes)) (Ok tt))
 
 -- a valid configuration has counts that its rate supports
-pub valid-supported : (c : Configuration) → validated c ≡ Ok tt → supports c.rate c.original_count c.recovery_count ≡ true
+pub valid-supported : (c : Configuration) → validation_outcome c ≡ Ok tt → supports c.rate c.original_count c.recovery_count ≡ true
 valid-supported c valid = by_support (supports c.rate c.original_count c.recovery_count) valid
   where
     by_support : (b : Bool) → tested c b (c.shard_bytes == 0) (c.shard_bytes % 2 == 1) ≡ Ok tt → b ≡ true

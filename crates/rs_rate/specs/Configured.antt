@@ -22,8 +22,8 @@ abbrev pub configuration_at : Rate → Configuration → AsDefined
 configuration_at rate c = configuration rate c.original_count c.recovery_count c.shard_bytes
 
 -- a rate's configuration at counts and a size
-abbrev pub configured : Rate → ℕ → ℕ → ℕ → Configuration
-configured rate k r size =
+abbrev pub rate_configuration : Rate → ℕ → ℕ → ℕ → Configuration
+rate_configuration rate k r size =
     record { original_count = k; recovery_count = r; shard_bytes = size; is_low = is_low rate k r; block_rows = block_rows rate k r }
 
 -- the low rate or the high rate

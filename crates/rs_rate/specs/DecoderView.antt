@@ -2,12 +2,12 @@
 use Rattle.std.specs.Prelude.{◌-◌, ℕ, Bool, List}
 use Rattle.rs_field.specs.code.Column.{Shard}
 use Rattle.rs_field.specs.code.Counts.{Rate}
-use Rattle.rs_field.specs.code.Given.{Shards, listed_from}
+use Rattle.rs_field.specs.code.Given.{Shards, items_from}
 use Rattle.rs_field.specs.code.Decoder.{DecoderState}
 use Rattle.rs_field.specs.rows.Rows.{Chunks}
 use Rattle.rs_rate.specs.declared.rate.decoder_work.DecoderShape.{DecoderShape}
 use Rattle.rs_rate.specs.declared.rate.decoder_work.DecoderRows.{DecoderRows}
-use Rattle.rs_rate.specs.Configured.{configuration_at, configured, frame_of}
+use Rattle.rs_rate.specs.Configured.{configuration_at, rate_configuration, frame_of}
 use Rattle.rs_rate.specs.Marks.{given_marks, restored_marks, given_shards, restored_shards}
 
 -- the state that the rows of a shape stand for at this rate, by the marks of given shards
@@ -28,13 +28,13 @@ abbrev pub restored_over : DecoderShape → List Bool → Chunks → Shards
 restored_over s marks chunks = restored_shards marks chunks s.configuration.shard_bytes s.frame.originals_from s.configuration.original_count
 
 -- the originals that lie restored in a decoder's rows after a round
-abbrev pub restored_of : DecoderRows → Shards
-restored_of rows = restored_over rows.shape (restored_marks rows.memory.marks) rows.memory.chunks.items
+abbrev pub restored_by_rows : DecoderRows → Shards
+restored_by_rows rows = restored_over rows.shape (restored_marks rows.memory.marks) rows.memory.chunks.items
 
 -- the originals that lie restored in the rows from an index on, with their indexes, in order of index
 abbrev pub restored_from : DecoderRows → ℕ → List (ℕ × Shard)
-restored_from rows index = listed_from index (rows.shape.configuration.original_count - index) (restored_of rows)
+restored_from rows index = items_from index (rows.shape.configuration.original_count - index) (restored_by_rows rows)
 
 -- what a decoder of this rate is set up for at these counts and this size
 abbrev pub decoder_shape : Rate → ℕ → ℕ → ℕ → DecoderShape
-decoder_shape rate k r size = record { configuration = configured rate k r size; frame = frame_of rate k r }
+decoder_shape rate k r size = record { configuration = rate_configuration rate k r size; frame = frame_of rate k r }

@@ -47,8 +47,8 @@ restore_steps shape surplus =
     let w = shape.frame.row_count in w + (transform_steps w + (surplus + (2 * transform_steps w + shape.configuration.original_count)))
 
 -- the located word of row p: where a shard is given, its word times the locator's power there, else zero
-unfoldable pub located : List Bool → List ℕ → (ℕ → ℕ) → ℕ → ℕ
-located marks locator words p = if is_marked marks p then product (words p) (power (slice_index locator p)) else 0
+unfoldable pub located_word : List Bool → List ℕ → (ℕ → ℕ) → ℕ → ℕ
+located_word marks locator words p = if is_marked marks p then product (words p) (power (slice_index locator p)) else 0
 
 -- the row of each original that wasn't given has the value of the polynomial plus its derivative, times the locator's inverse power
 abbrev pub AreRevealed : DecoderShape → List Bool → List ℕ → (ℕ → ℕ) → (ℕ → ℕ) → Type 0
@@ -60,7 +60,7 @@ AreRevealed shape marks locator coefficients new =
 -- in each column (symbol s of chunk k): words, the coefficients of the polynomial through the located words; whether the last of them, as many as surplus shards, are zero is answered
 pub record AreCoefficients (shape : DecoderShape) (marks : List Bool) (locator : List ℕ) (surplus : ℕ) (old coefficients : ℕ → ℕ → ℕ → ℕ) (agrees : Bool) : Type 0 where
   pub are_words : (k s i : ℕ) → k < row_len shape.configuration.shard_bytes → s < 32 → i < shape.frame.row_count → coefficients k s i < 65536
-  pub of_located : (k s : ℕ) → k < row_len shape.configuration.shard_bytes → s < 32 → IsBackward shape.frame.row_count 0 (located marks locator (old k s)) (coefficients k s)
+  pub of_located : (k s : ℕ) → k < row_len shape.configuration.shard_bytes → s < 32 → IsBackward shape.frame.row_count 0 (located_word marks locator (old k s)) (coefficients k s)
   pub checked : ((i j : ℕ) → shape.frame.row_count ≤ i + surplus → i < shape.frame.row_count → j < shape.configuration.shard_bytes / 2 → coefficients (j / 32) (j % 32) i ≡ 0) ↔ (agrees ≡ true)
 
 -- in each column: the located words are values of a polynomial; whether its last coefficients are zero is answered, and if so the missing words are revealed

@@ -11,16 +11,16 @@ use Rattle.rs_rate.specs.Memory.{room_of}
 use Rattle.rs_rate.specs.ShardRows.{shard_laid_out, shard_in_order}
 
 -- the originals that were given, in order
-abbrev pub given_of : EncoderRows → List Shard
-given_of rows = up_to rows.originals_given (shard_laid_out rows.chunks.items rows.shape.configuration.shard_bytes)
+abbrev pub given_originals : EncoderRows → List Shard
+given_originals rows = up_to rows.originals_given (shard_laid_out rows.chunks.items rows.shape.configuration.shard_bytes)
 
 -- the state of an encoder of this rate over the rows
 abbrev pub encoder_state : Rate → EncoderRows → EncoderState
-encoder_state rate rows = record { configuration = configuration_at rate rows.shape.configuration; given = given_of rows }
+encoder_state rate rows = record { configuration = configuration_at rate rows.shape.configuration; given = given_originals rows }
 
 -- the recovery shards that lie in the rows after a round
-abbrev pub lent_of : EncoderRows → List Shard
-lent_of rows = up_to rows.shape.configuration.recovery_count (shard_in_order rows.chunks.items rows.shape.configuration.shard_bytes)
+abbrev pub lent_shards : EncoderRows → List Shard
+lent_shards rows = up_to rows.shape.configuration.recovery_count (shard_in_order rows.chunks.items rows.shape.configuration.shard_bytes)
 
 -- the chunks that there is room for in a work
 abbrev pub work_room : EncoderWork → ℕ

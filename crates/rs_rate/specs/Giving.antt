@@ -5,7 +5,7 @@ use Rattle.rs_field.specs.declared.code.error.Error.{Error}
 use Rattle.rs_field.specs.code.Column.{Shard}
 use Rattle.rs_field.specs.code.Decoder.{DecoderState}
 use Rattle.rs_field.specs.code.Encoder.{EncoderState}
-use Rattle.rs_field.specs.code.OneCall.{Items, LacksMemory, counted, originals_alone, encode_opening, encoding, decode_opening, decoding}
+use Rattle.rs_field.specs.code.OneCall.{Items, LacksMemory, counts_outcome, originals_alone, encode_opening, encoding, decode_opening, decoding}
 use Rattle.rs_field.specs.code.Outcome.{result_and_then}
 
 -- a call answered as the outcome says: a success, with such a state as the outcome names, or the refusal
@@ -23,7 +23,7 @@ IsEncoding k r shards result = (result ≡ encoding k r shards) ⊎ LacksMemory 
 
 -- the decoder that originals and recovery shards lead to, none where no recovery shard is given and all originals are, or their refusal
 abbrev pub decoding_any : ℕ → ℕ → Items → Items → Result (Option DecoderState) Error
-decoding_any k r originals [] = result_and_then (λ _. Ok None) (result_and_then (λ _. originals_alone k originals) (counted k r))
+decoding_any k r originals [] = result_and_then (λ _. Ok None) (result_and_then (λ _. originals_alone k originals) (counts_outcome k r))
 decoding_any k r originals (first ∷ rest) = result_and_then (λ s. Ok (Some s)) (decoding k r originals first rest)
 
 -- it, or out of memory, where nothing was refused before memory was wanted

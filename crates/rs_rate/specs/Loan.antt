@@ -4,5 +4,5 @@ use Rattle.std.specs.Borrow.{MutBor, Fml, RattleType, follows_so}
 use mathlib.Core.Option.{none}
 
 -- once the loan ends, whether the result was dropped or forgotten, the object has the property P
-abbrev pub EndsWith : (R : RattleType) → MutBor R.Denot → (R.Denot → Type 0) → Fml
-EndsWith R object P = follows_so R R object.ghost_name none (λ _ _. ⊤) P
+abbrev pub AfterLoan : (R : RattleType) → MutBor R.Denot → (R.Denot → Type 0) → Fml
+AfterLoan R object P = follows_so R R object.ghost_name none (λ _ _. ⊤) P

@@ -13,22 +13,22 @@ use Rattle.rs_rate.specs.Shapes.{original_row}
 use Rattle.rs_rate.specs.ShardRows.{shard_laid_out, shard_in_order}
 
 -- marks, where they tell of given shards; else none
-abbrev pub if_given : MarkedShards → List Bool → List Bool
-if_given Given rows = rows
-if_given Restored rows = []
+abbrev pub marks_of_given : MarkedShards → List Bool → List Bool
+marks_of_given Given rows = rows
+marks_of_given Restored rows = []
 
 -- marks, where they tell of restored shards; else none
-abbrev pub if_restored : MarkedShards → List Bool → List Bool
-if_restored Given rows = []
-if_restored Restored rows = rows
+abbrev pub marks_of_restored : MarkedShards → List Bool → List Bool
+marks_of_restored Given rows = []
+marks_of_restored Restored rows = rows
 
 -- which rows hold given shards
 abbrev pub given_marks : Marks → List Bool
-given_marks marks = if_given marks.shards marks.rows.items
+given_marks marks = marks_of_given marks.shards marks.rows.items
 
 -- which rows hold restored shards, or are to
 abbrev pub restored_marks : Marks → List Bool
-restored_marks marks = if_restored marks.shards marks.rows.items
+restored_marks marks = marks_of_restored marks.shards marks.rows.items
 
 -- how many rows have a mark
 abbrev pub mark_count : Marks → ℕ

@@ -6,12 +6,12 @@ use Rattle.rs_field.specs.code.Given.{Shards}
 use Rattle.rs_field.specs.declared.code.error.Error.{Error}
 use Rattle.rs_rate.specs.declared.encoder_result.EncoderResult.{EncoderResult}
 use Rattle.rs_rate.specs.declared.decoder_result.DecoderResult.{DecoderResult}
-use Rattle.rs_rate.specs.EncoderView.{lent_of}
-use Rattle.rs_rate.specs.DecoderView.{restored_of}
+use Rattle.rs_rate.specs.EncoderView.{lent_shards}
+use Rattle.rs_rate.specs.DecoderView.{restored_by_rows}
 
 -- the recovery shards of a result, in order of index
 abbrev pub recovery_shards : EncoderResult → List Shard
-recovery_shards result = lent_of result.rows.now
+recovery_shards result = lent_shards result.rows.now
 
 -- the recovery shards, or the refusal
 abbrev pub answered_shards : Result EncoderResult Error → Result (List Shard) Error
@@ -19,7 +19,7 @@ answered_shards result = result_map_both recovery_shards (λ e. e) result
 
 -- the restored originals of a result, by their index
 abbrev pub restored_originals : DecoderResult → Shards
-restored_originals result = restored_of result.rows.now
+restored_originals result = restored_by_rows result.rows.now
 
 -- the restored originals, or the refusal
 abbrev pub answered_originals : Result DecoderResult Error → Result Shards Error

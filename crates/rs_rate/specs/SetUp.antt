@@ -1,16 +1,16 @@
 -- What rows are set up for at a rate, and what asking for their memory answers.
 use Rattle.std.specs.Prelude.{◌≡◌, ℕ, Result, Ok}
 use Rattle.rs_field.specs.declared.code.error.Error.{Error}
-use Rattle.rs_field.specs.code.Configuration.{validated}
+use Rattle.rs_field.specs.code.Configuration.{validation_outcome}
 use Rattle.rs_field.specs.code.Counts.{Rate, is_low}
 use Rattle.rs_rate.specs.declared.rate.configuration.Configuration.{Configuration}
-use Rattle.rs_rate.specs.Configured.{configuration_at, configured, low_or_high, IsConfigured}
-use Rattle.rs_rate.specs.ShardRows.{asked, chunk_count}
+use Rattle.rs_rate.specs.Configured.{configuration_at, rate_configuration, low_or_high, IsConfigured}
+use Rattle.rs_rate.specs.ShardRows.{memory_outcome, chunk_count}
 
 -- a configuration is a valid one of this rate, which chooses as the low or the high rate that it tells
 pub record IsSetUp (rate : Rate) (c : Configuration) : Type 0 where
-  pub valid : validated (configuration_at rate c) ≡ Ok tt
-  pub chosen : c ≡ configured rate c.original_count c.recovery_count c.shard_bytes
+  pub valid : validation_outcome (configuration_at rate c) ≡ Ok tt
+  pub chosen : c ≡ rate_configuration rate c.original_count c.recovery_count c.shard_bytes
   pub alike : is_low (low_or_high c.is_low) c.original_count c.recovery_count ≡ is_low rate c.original_count c.recovery_count
   pub configured : IsConfigured c
 
@@ -23,5 +23,5 @@ abbrev pub Answer : Type 0
 Answer = Result (Unit {0}) Error
 
 -- what asking for memory for the rows of a configuration answers
-abbrev pub asked_for : (Rate → ℕ → ℕ → ℕ) → Configuration → Answer
-asked_for row_count c = asked (chunk_count (rows_of row_count c) c.shard_bytes)
+abbrev pub set_up_outcome : (Rate → ℕ → ℕ → ℕ) → Configuration → Answer
+set_up_outcome row_count c = memory_outcome (chunk_count (rows_of row_count c) c.shard_bytes)

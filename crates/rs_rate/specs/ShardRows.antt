@@ -11,8 +11,8 @@ unfoldable pub chunk_count : ℕ → ℕ → ℕ
 chunk_count rows size = rows * row_len size
 
 -- what asking for memory for so many chunks answers while memory is found; memory of more than `usize::MAX` bytes is never found
-abbrev pub asked : ℕ → Result (Unit {0}) Error
-asked chunks = if nat_le (2 ^ 64) (chunks * 64) then Err OutOfMemory else Ok tt
+abbrev pub memory_outcome : ℕ → Result (Unit {0}) Error
+memory_outcome chunks = if nat_le (2 ^ 64) (chunks * 64) then Err OutOfMemory else Ok tt
 
 -- chunk k of row i, in rows for shards of this size
 unfoldable pub row_chunk : Chunks → ℕ → ℕ → ℕ → List ℕ

@@ -43,6 +43,6 @@ repeat_refused Original index = DuplicateOriginalShardIndex index
 repeat_refused Recovery index = DuplicateRecoveryShardIndex index
 
 -- the outcome of adding a shard of a side
-abbrev pub with_given : Side → DecoderState → ℕ → Shard → Result DecoderState Error
-with_given Original s index shard = with_original s index shard
-with_given Recovery s index shard = with_recovery s index shard
+abbrev pub with_shard_of_side : Side → DecoderState → ℕ → Shard → Result DecoderState Error
+with_shard_of_side Original s index shard = with_original s index shard
+with_shard_of_side Recovery s index shard = with_recovery s index shard

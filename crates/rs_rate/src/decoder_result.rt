@@ -19,13 +19,13 @@ pub struct DecoderResult<'a> {
 impl<'a> DecoderResult<'a> {
     ghost use Rattle.std.specs.Prelude.{◌^◌, ◌<◌, option_copied};
     ghost use Rattle.rs_field.specs.code.Given.{Lists};
-    ghost use Rattle.rs_rate.specs.DecoderView.{restored_of};
+    ghost use Rattle.rs_rate.specs.DecoderView.{restored_by_rows};
     ghost use Rattle.rs_rate.specs.ResultView.{restored_originals};
 
     // The result over the rows, in which so many originals lie restored.
     pub(crate) fn new(rows: &'a DecoderRows, restored_count: usize) -> DecoderResult<'a>
         requires { restored_count ≡ length (restored_from rows.now 0) }
-        ensures { restored_originals result ≡ restored_of rows.now }
+        ensures { restored_originals result ≡ restored_by_rows rows.now }
     {
         DecoderResult {
             rows,

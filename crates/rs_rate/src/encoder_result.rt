@@ -16,11 +16,11 @@ pub struct EncoderResult<'a> {
 impl<'a> EncoderResult<'a> {
     ghost use Rattle.std.specs.Prelude.{◌≡◌, ◌^◌, ◌<◌, ◌≤◌, length, MatchOption};
     ghost use Rattle.rs_field.specs.code.Column.{shard_at};
-    ghost use Rattle.rs_rate.specs.EncoderView.{lent_of};
+    ghost use Rattle.rs_rate.specs.EncoderView.{lent_shards};
     ghost use Rattle.rs_rate.specs.ResultView.{recovery_shards};
 
     pub(crate) fn new(rows: &'a EncoderRows) -> EncoderResult<'a>
-        ensures { recovery_shards result ≡ lent_of rows.now }
+        ensures { recovery_shards result ≡ lent_shards rows.now }
     {
         EncoderResult { rows }
     }
@@ -55,11 +55,11 @@ pub struct Recovery<'a> {
 impl<'a> Model for Recovery<'a> {
     ghost use Rattle.std.specs.Prelude.{◌≤◌, List, drop};
     ghost use Rattle.rs_field.specs.code.Column.{Shard};
-    ghost use Rattle.rs_rate.specs.EncoderView.{lent_of};
+    ghost use Rattle.rs_rate.specs.EncoderView.{lent_shards};
 
     ghost Value = { List Shard };
 
-    ghost view = { λ x. drop x.next_index (lent_of x.rows.now) };
+    ghost view = { λ x. drop x.next_index (lent_shards x.rows.now) };
 
     ghost invariant = { λ x. x.next_index ≤ x.rows.now.shape.configuration.recovery_count };
 }

@@ -1,6 +1,4 @@
 //! The traits of a rate, its encoder and its decoder.
-mod code;
-pub(crate) mod coder;
 pub(crate) mod configuration;
 pub(crate) mod counts;
 pub(crate) mod decoder_work;
@@ -16,6 +14,8 @@ mod marks;
 mod memory;
 pub mod names;
 pub mod originals_alone;
+mod rate_marker;
+pub(crate) mod rate_object;
 mod restoring;
 pub mod rounds;
 mod shard_rows;
@@ -24,11 +24,11 @@ mod supported_counts;
 
 use crate::decoder_result::DecoderResult;
 use crate::encoder_result::EncoderResult;
-pub use code::{DefaultRate, HighRate, LowRate};
 pub use decoder_work::DecoderWork;
 pub use decoders::{DefaultRateDecoder, HighRateDecoder, LowRateDecoder};
 pub use encoder_work::EncoderWork;
 pub use encoders::{DefaultRateEncoder, HighRateEncoder, LowRateEncoder};
+pub use rate_marker::{DefaultRate, HighRate, LowRate};
 use rs_field::engine::{Engine, Steps};
 use rs_field::error::Error;
 use std::alloc::Global;
@@ -40,7 +40,7 @@ pub trait Rate<E: Engine>: Sized {
     ghost use Rattle.rs_field.specs.code.Counts.{Rate as WhichRate, supports as supports_counts};
     ghost use Rattle.rs_field.specs.code.Placement.{encoder_rows, decoder_rows};
     ghost use Rattle.rs_field.specs.code.Outcome.{answer_of};
-    ghost use Rattle.rs_field.specs.code.Configuration.{configuration, validated, started, UpToMemory};
+    ghost use Rattle.rs_field.specs.code.Configuration.{configuration, validation_outcome, start_outcome, UpToMemory};
     ghost use Rattle.rs_field.specs.code.Encoder.{fresh_encoder};
     ghost use Rattle.rs_field.specs.code.Decoder.{fresh_decoder};
     ghost use Rattle.rs_rate.specs.ShardRows.{chunk_count};
@@ -73,7 +73,7 @@ pub trait Rate<E: Engine>: Sized {
         recovery_count: usize,
         shard_bytes: usize,
     ) -> Result<(), Error>
-        ensures { result ≡ validated (configuration rate original_count recovery_count shard_bytes) }
+        ensures { result ≡ validation_outcome (configuration rate original_count recovery_count shard_bytes) }
     {
         Self::RateEncoder::validate(original_count, recovery_count, shard_bytes)
     }
@@ -92,12 +92,12 @@ pub trait Rate<E: Engine>: Sized {
         work: Option<EncoderWork>,
     ) -> Result<Self::RateEncoder, Error>
         ensures answer { let c = configuration rate original_count recovery_count shard_bytes in
-            UpToMemory (started (encoder_rows rate original_count recovery_count) c) (answer_of result) }
+            UpToMemory (start_outcome (encoder_rows rate original_count recovery_count) c) (answer_of result) }
         ensures made { let c = configuration rate original_count recovery_count shard_bytes in
             IfOk result (λ x. (Self.RateEncoder.state x ≡ fresh_encoder c) × (Self.RateEncoder.engine_of x ≡ engine)) }
         ensures grown { IfOk result (λ x. IfSome work (λ w. work_room w ≤ Self.RateEncoder.room x)) }
         ensures roomy { IfSome work (λ w. chunk_count (encoder_rows rate original_count recovery_count) shard_bytes ≤ work_room w
-            → answer_of result ≡ started (encoder_rows rate original_count recovery_count) (configuration rate original_count recovery_count shard_bytes)) }
+            → answer_of result ≡ start_outcome (encoder_rows rate original_count recovery_count) (configuration rate original_count recovery_count shard_bytes)) }
     {
         Self::RateEncoder::new(
             alloc,
@@ -123,12 +123,12 @@ pub trait Rate<E: Engine>: Sized {
         work: Option<DecoderWork>,
     ) -> Result<Self::RateDecoder, Error>
         ensures answer { let c = configuration rate original_count recovery_count shard_bytes in
-            UpToMemory (started (decoder_rows rate original_count recovery_count) c) (answer_of result) }
+            UpToMemory (start_outcome (decoder_rows rate original_count recovery_count) c) (answer_of result) }
         ensures made { let c = configuration rate original_count recovery_count shard_bytes in
             IfOk result (λ x. (Self.RateDecoder.state x ≡ fresh_decoder c) × (Self.RateDecoder.engine_of x ≡ engine)) }
         ensures grown { IfOk result (λ x. IfSome work (λ w. Grows (decoder_work_room w) (Self.RateDecoder.room x))) }
         ensures roomy { IfSome work (λ w. HasRoom (decoder_work_room w) (decoder_rows rate original_count recovery_count) shard_bytes
-            → answer_of result ≡ started (decoder_rows rate original_count recovery_count) (configuration rate original_count recovery_count shard_bytes)) }
+            → answer_of result ≡ start_outcome (decoder_rows rate original_count recovery_count) (configuration rate original_count recovery_count shard_bytes)) }
     {
         Self::RateDecoder::new(
             alloc,
@@ -160,12 +160,12 @@ pub trait RateEncoder<E: Engine>: Sized {
     ghost use Rattle.rs_field.specs.code.Counts.{Rate as WhichRate, supports as supports_counts};
     ghost use Rattle.rs_field.specs.code.Placement.{encoder_rows};
     ghost use Rattle.rs_field.specs.code.Outcome.{answer_of, state_after};
-    ghost use Rattle.rs_field.specs.code.Configuration.{configuration, validated, started, UpToMemory, FitsWithin};
+    ghost use Rattle.rs_field.specs.code.Configuration.{configuration, validation_outcome, start_outcome, UpToMemory, FitsWithin};
     ghost use Rattle.rs_field.specs.code.Encoder.{EncoderState, IsEncoder, fresh_encoder, with_shard, EncodeAnswers, after_encode};
     ghost use Rattle.rs_rate.specs.ShardRows.{chunk_count};
     ghost use Rattle.rs_rate.specs.EncoderView.{work_room};
     ghost use Rattle.rs_rate.specs.ResultView.{answered_shards};
-    ghost use Rattle.rs_rate.specs.Loan.{EndsWith};
+    ghost use Rattle.rs_rate.specs.Loan.{AfterLoan};
 
     /// The rate.
     type Rate;
@@ -193,7 +193,7 @@ pub trait RateEncoder<E: Engine>: Sized {
         recovery_count: usize,
         shard_bytes: usize,
     ) -> Result<(), Error>
-        ensures { result ≡ validated (configuration rate original_count recovery_count shard_bytes) };
+        ensures { result ≡ validation_outcome (configuration rate original_count recovery_count shard_bytes) };
 
     /// Makes an encoder with nothing added, for shards of `shard_bytes` bytes. If a `work` is passed, its memory is used.
     ///
@@ -213,11 +213,11 @@ pub trait RateEncoder<E: Engine>: Sized {
         work: Option<EncoderWork>,
     ) -> Result<Self, Error>
         ensures answer { let c = configuration rate original_count recovery_count shard_bytes in
-            UpToMemory (started (encoder_rows rate original_count recovery_count) c) (answer_of result) }
+            UpToMemory (start_outcome (encoder_rows rate original_count recovery_count) c) (answer_of result) }
         ensures made { IfOk result (λ x. (state x ≡ fresh_encoder (configuration rate original_count recovery_count shard_bytes)) × (engine_of x ≡ engine)) }
         ensures grown { IfOk result (λ x. IfSome work (λ w. work_room w ≤ room x)) }
         ensures roomy { IfSome work (λ w. chunk_count (encoder_rows rate original_count recovery_count) shard_bytes ≤ work_room w
-            → answer_of result ≡ started (encoder_rows rate original_count recovery_count) (configuration rate original_count recovery_count shard_bytes)) };
+            → answer_of result ≡ start_outcome (encoder_rows rate original_count recovery_count) (configuration rate original_count recovery_count shard_bytes)) };
 
     /// Sets the encoder up for other counts and another shard size, with nothing added.
     ///
@@ -233,11 +233,11 @@ pub trait RateEncoder<E: Engine>: Sized {
         shard_bytes: usize,
     ) -> Result<(), Error>
         ensures answer { let c = configuration rate original_count recovery_count shard_bytes in
-            UpToMemory (started (encoder_rows rate original_count recovery_count) c) result }
+            UpToMemory (start_outcome (encoder_rows rate original_count recovery_count) c) result }
         ensures ok { OnOk result (state self.new ≡ fresh_encoder (configuration rate original_count recovery_count shard_bytes)) }
         ensures err { OnErr result (state self.new ≡ state self.old) }
         ensures roomy { chunk_count (encoder_rows rate original_count recovery_count) shard_bytes ≤ room self.old
-            → result ≡ started (encoder_rows rate original_count recovery_count) (configuration rate original_count recovery_count shard_bytes) }
+            → result ≡ start_outcome (encoder_rows rate original_count recovery_count) (configuration rate original_count recovery_count shard_bytes) }
         ensures own { FitsWithin (state self.old).configuration (configuration rate original_count recovery_count shard_bytes) → result ≢ Err Error.OutOfMemory }
         ensures engine { engine_of self.new ≡ engine_of self.old }
         ensures grown { room self.old ≤ room self.new };
@@ -266,7 +266,7 @@ pub trait RateEncoder<E: Engine>: Sized {
     fn encode(&mut self, steps: &mut Steps) -> Result<EncoderResult<'_>, Error>
         ensures answer { EncodeAnswers (state self.old) (answered_shards result) }
         ensures counts { let c = (state self.old).configuration in EncodeCountsAt rate c.original_count c.recovery_count steps.old steps.new }
-        ensures* ends { sem 𝓛 (EndsWith Self.row self.entry
+        ensures* ends { sem 𝓛 (AfterLoan Self.row self.entry
             (λ now. (state now ≡ after_encode (state self.old)) × (engine_of now ≡ engine_of self.old) × (room now ≡ room self.old))) };
 
     /// Returns the engine and the work. Another encoder can use the work, which has room for this encoder's configuration.
@@ -297,12 +297,12 @@ pub trait RateDecoder<E: Engine>: Sized {
     ghost use Rattle.rs_field.specs.code.Counts.{Rate as WhichRate, supports as supports_counts};
     ghost use Rattle.rs_field.specs.code.Placement.{decoder_rows};
     ghost use Rattle.rs_field.specs.code.Outcome.{answer_of, state_after};
-    ghost use Rattle.rs_field.specs.code.Configuration.{configuration, validated, started, UpToMemory, FitsWithin};
+    ghost use Rattle.rs_field.specs.code.Configuration.{configuration, validation_outcome, start_outcome, UpToMemory, FitsWithin};
     ghost use Rattle.rs_field.specs.code.Bounds.{DecodeCountsAt};
     ghost use Rattle.rs_field.specs.code.Decoder.{DecoderState, IsDecoder, fresh_decoder, with_original, with_recovery, DecodeAnswers, after_decode};
     ghost use Rattle.rs_rate.specs.DecoderRoom.{DecoderRoom, HasRoom, Grows, work_room};
     ghost use Rattle.rs_rate.specs.ResultView.{answered_originals};
-    ghost use Rattle.rs_rate.specs.Loan.{EndsWith};
+    ghost use Rattle.rs_rate.specs.Loan.{AfterLoan};
 
     /// The rate.
     type Rate;
@@ -330,7 +330,7 @@ pub trait RateDecoder<E: Engine>: Sized {
         recovery_count: usize,
         shard_bytes: usize,
     ) -> Result<(), Error>
-        ensures { result ≡ validated (configuration rate original_count recovery_count shard_bytes) };
+        ensures { result ≡ validation_outcome (configuration rate original_count recovery_count shard_bytes) };
 
     /// Makes a decoder with nothing added, for shards of `shard_bytes` bytes. If a `work` is passed, its memory is used.
     ///
@@ -350,11 +350,11 @@ pub trait RateDecoder<E: Engine>: Sized {
         work: Option<DecoderWork>,
     ) -> Result<Self, Error>
         ensures answer { let c = configuration rate original_count recovery_count shard_bytes in
-            UpToMemory (started (decoder_rows rate original_count recovery_count) c) (answer_of result) }
+            UpToMemory (start_outcome (decoder_rows rate original_count recovery_count) c) (answer_of result) }
         ensures made { IfOk result (λ x. (state x ≡ fresh_decoder (configuration rate original_count recovery_count shard_bytes)) × (engine_of x ≡ engine)) }
         ensures grown { IfOk result (λ x. IfSome work (λ w. Grows (work_room w) (room x))) }
         ensures roomy { IfSome work (λ w. HasRoom (work_room w) (decoder_rows rate original_count recovery_count) shard_bytes
-            → answer_of result ≡ started (decoder_rows rate original_count recovery_count) (configuration rate original_count recovery_count shard_bytes)) };
+            → answer_of result ≡ start_outcome (decoder_rows rate original_count recovery_count) (configuration rate original_count recovery_count shard_bytes)) };
 
     /// Sets the decoder up for other counts and another shard size, with nothing added.
     ///
@@ -370,11 +370,11 @@ pub trait RateDecoder<E: Engine>: Sized {
         shard_bytes: usize,
     ) -> Result<(), Error>
         ensures answer { let c = configuration rate original_count recovery_count shard_bytes in
-            UpToMemory (started (decoder_rows rate original_count recovery_count) c) result }
+            UpToMemory (start_outcome (decoder_rows rate original_count recovery_count) c) result }
         ensures ok { OnOk result (state self.new ≡ fresh_decoder (configuration rate original_count recovery_count shard_bytes)) }
         ensures err { OnErr result (state self.new ≡ state self.old) }
         ensures roomy { HasRoom (room self.old) (decoder_rows rate original_count recovery_count) shard_bytes
-            → result ≡ started (decoder_rows rate original_count recovery_count) (configuration rate original_count recovery_count shard_bytes) }
+            → result ≡ start_outcome (decoder_rows rate original_count recovery_count) (configuration rate original_count recovery_count shard_bytes) }
         ensures own { FitsWithin (state self.old).configuration (configuration rate original_count recovery_count shard_bytes) → result ≢ Err Error.OutOfMemory }
         ensures engine { engine_of self.new ≡ engine_of self.old }
         ensures grown { Grows (room self.old) (room self.new) };
@@ -419,7 +419,7 @@ pub trait RateDecoder<E: Engine>: Sized {
     fn decode(&mut self, steps: &mut Steps) -> Result<DecoderResult<'_>, Error>
         ensures answer { DecodeAnswers (state self.old) (answered_originals result) }
         ensures counts { let c = (state self.old).configuration in DecodeCountsAt rate c.original_count c.recovery_count steps.old steps.new }
-        ensures* ends { sem 𝓛 (EndsWith Self.row self.entry
+        ensures* ends { sem 𝓛 (AfterLoan Self.row self.entry
             (λ now. (state now ≡ after_decode (state self.old)) × (engine_of now ≡ engine_of self.old) × (room now ≡ room self.old))) };
 
     /// Returns the engine and the work. Another decoder can use the work, which has room for this decoder's configuration.

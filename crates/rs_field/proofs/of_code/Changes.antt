@@ -9,7 +9,7 @@ use Rattle.rs_field.specs.code.Counts.{supports}
 use Rattle.rs_field.specs.code.Configuration.{Configuration}
 use Rattle.rs_field.specs.code.Code.{AreRecovery}
 use Rattle.rs_field.specs.code.Given.{Shards, count_below, AreAmong, Agrees, Consistent}
-use Rattle.rs_field.specs.code.CodeLaws.{changed}
+use Rattle.rs_field.specs.code.CodeLaws.{changed_shards}
 use Rattle.rs_field.proofs.of_code.Given.{count_below-zero, count_below-suc}
 use Rattle.rs_field.proofs.of_code.Unique.{recovery_unique}
 use Rattle.rs_field.proofs.of_code.RateFrames.{few_originals}
@@ -20,8 +20,8 @@ kept : Shards → List Shard → Shards
 kept given shards i = cond (bytes_eq (unwrap_or (given i) []) (shard_at shards i)) (given i) None
 
 -- an entry is kept or changed
-count-kept : (n : ℕ) (given : Shards) (shards : List Shard) → count_below n (changed given shards) + count_below n (kept given shards) ≡ count_below n given
-unfolding changed kept
+count-kept : (n : ℕ) (given : Shards) (shards : List Shard) → count_below n (changed_shards given shards) + count_below n (kept given shards) ≡ count_below n given
+unfolding changed_shards kept
 count-kept zero given shards = grind (arith, common_steps, count_below-zero)
 count-kept (suc n) given shards = grind (arith, common_steps, count_below-suc, count-kept n given shards)
 
@@ -31,17 +31,17 @@ unfolding kept
 kept_given given shards i shard e = grind (arith, common_steps, bytes_eq-Decides, none-some)
 
 -- where all given shards are the list's, none is changed
-none_changed : (n : ℕ) (given : Shards) (shards : List Shard) → AreAmong given shards → count_below n (changed given shards) ≡ 0
-unfolding changed
-none_changed zero given shards are = count_below-zero (changed given shards)
+none_changed : (n : ℕ) (given : Shards) (shards : List Shard) → AreAmong given shards → count_below n (changed_shards given shards) ≡ 0
+unfolding changed_shards
+none_changed zero given shards are = count_below-zero (changed_shards given shards)
 none_changed (suc n) given shards are = search (rules, count_below-suc, bytes_eq-Decides, none_changed n given shards are)
 
 -- with at least one shard changed and k that are not, no message agrees
 pub changes_noticed : (c : Configuration) (message all : List Shard) (originals recovery : Shards)
     → supports c.rate c.original_count c.recovery_count ≡ true → c.shard_bytes % 2 ≡ 0
     → AreShards c.original_count c.shard_bytes message → AreRecovery c message all
-    → 0 < count_below c.original_count (changed originals message) + count_below c.recovery_count (changed recovery all)
-    → count_below c.original_count (changed originals message) + count_below c.recovery_count (changed recovery all) + c.original_count
+    → 0 < count_below c.original_count (changed_shards originals message) + count_below c.recovery_count (changed_shards recovery all)
+    → count_below c.original_count (changed_shards originals message) + count_below c.recovery_count (changed_shards recovery all) + c.original_count
     ≤ count_below c.original_count originals + count_below c.recovery_count recovery
     → Consistent c originals recovery → ⊥
 changes_noticed c message all originals recovery is even are own some few (other, a) =

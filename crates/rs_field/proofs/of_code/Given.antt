@@ -4,11 +4,11 @@ use Rattle.std.specs.Prelude.{Option, Some, is_some}
 use Rattle.std.proofs.lemmas.Option.{none-some}
 use Rattle.std.proofs.lemmas.Grind.{common_steps}
 use Rattle.rs_field.specs.code.Column.{Shard, shard_at}
-use Rattle.rs_field.specs.code.Given.{Shards, nothing, entered, count_below, AreAmong}
+use Rattle.rs_field.specs.code.Given.{Shards, nothing, with_entry, count_below, AreAmong}
 
 -- an entry of a map with a shard entered is that shard, or an earlier entry
-pub entered_cases : (g : Shards) (k i : ℕ) (s : Shard) → ((i ≡ k) × (entered g k s i ≡ Some s)) ⊎ ((i ≢ k) × (entered g k s i ≡ g i))
-unfolding entered
+pub entered_cases : (g : Shards) (k i : ℕ) (s : Shard) → ((i ≡ k) × (with_entry g k s i ≡ Some s)) ⊎ ((i ≢ k) × (with_entry g k s i ≡ g i))
+unfolding with_entry
 entered_cases g k i s = grind (arith, common_steps)
 
 -- the map with no shard is among any shards
@@ -16,7 +16,7 @@ pub nothing_among : (xs : List Shard) → AreAmong nothing xs
 nothing_among xs i shard e = absurd (none-some shard e)
 
 -- a shard of the list may be entered at its index
-pub entered_among : (g : Shards) (k : ℕ) (s : Shard) (xs : List Shard) → AreAmong g xs → shard_at xs k ≡ s → AreAmong (entered g k s) xs
+pub entered_among : (g : Shards) (k : ℕ) (s : Shard) (xs : List Shard) → AreAmong g xs → shard_at xs k ≡ s → AreAmong (with_entry g k s) xs
 entered_among g k s xs h is i shard e = grind (arith, common_steps, entered_cases)
 
 pub count_below-zero : (given : Shards) → count_below 0 given ≡ 0

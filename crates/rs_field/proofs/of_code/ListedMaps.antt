@@ -6,28 +6,28 @@ use Rattle.std.proofs.lemmas.Bool.{cases_lt}
 use Rattle.std.proofs.lemmas.List.{map-append, length-map}
 use Rattle.std.proofs.lemmas.List.Elements.{All-append, All-nil, All-cons}
 use Rattle.rs_field.specs.code.Column.{Shard}
-use Rattle.rs_field.specs.code.Given.{Shards, listed, listed_one, listed_from, Lists}
+use Rattle.rs_field.specs.code.Given.{Shards, items_below, items_at, items_from, Lists}
 use Rattle.rs_field.specs.code.OneCall.{Items}
 use Rattle.rs_field.specs.code.PieceStates.{shards_listed}
-use Rattle.rs_field.proofs.of_code.Listed.{listed_from-zero, listed_from-suc}
+use Rattle.rs_field.proofs.of_code.Listed.{items_from-zero, items_from-suc}
 
 -- after the last shard of a map nothing is listed
-listed-none : (n from : ℕ) (given : Shards) → ((i : ℕ) → from ≤ i → given i ≡ None) → listed_from from n given ≡ []
-listed-none zero from given none = listed_from-zero from given
-listed-none (suc n) from given none =
-    listed_from-suc from n given ∙ ap (λ o. listed_one from o ++ listed_from (suc from) n given) (none from (omega arith))
-    ∙ listed-none n (suc from) given (λ i h. none i (omega (arith, h)))
+items_below-none : (n from : ℕ) (given : Shards) → ((i : ℕ) → from ≤ i → given i ≡ None) → items_from from n given ≡ []
+items_below-none zero from given none = items_from-zero from given
+items_below-none (suc n) from given none =
+    items_from-suc from n given ∙ ap (λ o. items_at from o ++ items_from (suc from) n given) (none from (omega arith))
+    ∙ items_below-none n (suc from) given (λ i h. none i (omega (arith, h)))
 
 -- so a longer list is the same
-listed-longer : (n m from : ℕ) (given : Shards) → ((i : ℕ) → from + n ≤ i → given i ≡ None)
-    → listed_from from (n + m) given ≡ listed_from from n given
-listed-longer zero m from given none =
-    listed-none (0 + m) from given (λ i h. none i (omega (arith, h))) ∙ sym (listed_from-zero from given)
-listed-longer (suc n) m from given none =
-    ap (λ (l : ℕ). listed_from from l given) (let e : suc n + m ≡ suc (n + m) = omega arith in e)
-    ∙ listed_from-suc from (n + m) given
-    ∙ ap (λ rest. listed_one from (given from) ++ rest) (listed-longer n m (suc from) given (λ i h. none i (omega (arith, h))))
-    ∙ sym (listed_from-suc from n given)
+items_below-longer : (n m from : ℕ) (given : Shards) → ((i : ℕ) → from + n ≤ i → given i ≡ None)
+    → items_from from (n + m) given ≡ items_from from n given
+items_below-longer zero m from given none =
+    items_below-none (0 + m) from given (λ i h. none i (omega (arith, h))) ∙ sym (items_from-zero from given)
+items_below-longer (suc n) m from given none =
+    ap (λ (l : ℕ). items_from from l given) (let e : suc n + m ≡ suc (n + m) = omega arith in e)
+    ∙ items_from-suc from (n + m) given
+    ∙ ap (λ rest. items_at from (given from) ++ rest) (items_below-longer n m (suc from) given (λ i h. none i (omega (arith, h))))
+    ∙ sym (items_from-suc from n given)
 
 -- the map fixes what it lists
 pub lists-same : (given : Shards) (one other : Items) → Lists given one → Lists given other → one ≡ other
@@ -36,38 +36,38 @@ lists-same given one other first second = elim (cases_lt first.count second.coun
   | inr more ↦ first.in_order ∙ longer second.count first.count more second.none_past ∙ sym second.in_order
 ]
   where
-    longer : (n m : ℕ) → n ≤ m → ((i : ℕ) → n ≤ i → given i ≡ None) → listed m given ≡ listed n given
+    longer : (n m : ℕ) → n ≤ m → ((i : ℕ) → n ≤ i → given i ≡ None) → items_below m given ≡ items_below n given
     longer n m h none =
-        ap (λ (l : ℕ). listed_from 0 l given) (let e : m ≡ n + (m - n) = omega (arith, h) in e)
-        ∙ listed-longer n (m - n) 0 given (λ i past. none i (omega (arith, past)))
+        ap (λ (l : ℕ). items_from 0 l given) (let e : m ≡ n + (m - n) = omega (arith, h) in e)
+        ∙ items_below-longer n (m - n) 0 given (λ i past. none i (omega (arith, past)))
 
 -- where each shard of a map is changed, so is each listed one
 pub listed-changed : (f : Shard → Shard) (n from : ℕ) (given : Shards)
-    → shards_listed (listed_from from n (λ i. option_map f (given i))) ≡ map f (shards_listed (listed_from from n given))
+    → shards_listed (items_from from n (λ i. option_map f (given i))) ≡ map f (shards_listed (items_from from n given))
 listed-changed f zero from given =
-    ap shards_listed (listed_from-zero from (λ i. option_map f (given i))) ∙ sym (ap (λ l. map f (shards_listed l)) (listed_from-zero from given))
+    ap shards_listed (items_from-zero from (λ i. option_map f (given i))) ∙ sym (ap (λ l. map f (shards_listed l)) (items_from-zero from given))
 listed-changed f (suc n) from given =
-    ap shards_listed (listed_from-suc from n (λ i. option_map f (given i)))
-    ∙ map-append (λ item. item.1) (listed_one from (option_map f (given from))) (listed_from (suc from) n (λ i. option_map f (given i)))
+    ap shards_listed (items_from-suc from n (λ i. option_map f (given i)))
+    ∙ map-append (λ item. item.1) (items_at from (option_map f (given from))) (items_from (suc from) n (λ i. option_map f (given i)))
     ∙ ap₂ (λ (a b : List Shard). a ++ b) (by_option (given from)) (listed-changed f n (suc from) given)
-    ∙ sym (map-append f (shards_listed (listed_one from (given from))) (shards_listed (listed_from (suc from) n given)))
-    ∙ sym (ap (map f) (map-append (λ item. item.1) (listed_one from (given from)) (listed_from (suc from) n given)))
-    ∙ sym (ap (λ l. map f (shards_listed l)) (listed_from-suc from n given))
+    ∙ sym (map-append f (shards_listed (items_at from (given from))) (shards_listed (items_from (suc from) n given)))
+    ∙ sym (ap (map f) (map-append (λ item. item.1) (items_at from (given from)) (items_from (suc from) n given)))
+    ∙ sym (ap (λ l. map f (shards_listed l)) (items_from-suc from n given))
   where
-    by_option : (o : Option Shard) → shards_listed (listed_one from (option_map f o)) ≡ map f (shards_listed (listed_one from o))
+    by_option : (o : Option Shard) → shards_listed (items_at from (option_map f o)) ≡ map f (shards_listed (items_at from o))
     by_option (Some s) = refl
     by_option None = refl
 
 -- what holds of each shard of a map holds of each listed one
 pub listed-all : (P : Shard → Type 0) (n from : ℕ) (given : Shards) → ((i : ℕ) (shard : Shard) → given i ≡ Some shard → P shard)
-    → All P (shards_listed (listed_from from n given))
-listed-all P zero from given each = subst (λ (l : Items). All P (shards_listed l)) (sym (listed_from-zero from given)) (All-nil P)
+    → All P (shards_listed (items_from from n given))
+listed-all P zero from given each = subst (λ (l : Items). All P (shards_listed l)) (sym (items_from-zero from given)) (All-nil P)
 listed-all P (suc n) from given each =
     subst (λ (l : List Shard). All P l)
-    (sym (ap shards_listed (listed_from-suc from n given) ∙ map-append (λ item. item.1) (listed_one from (given from)) (listed_from (suc from) n given)))
-    (All-append P (shards_listed (listed_one from (given from))) (shards_listed (listed_from (suc from) n given))
+    (sym (ap shards_listed (items_from-suc from n given) ∙ map-append (λ item. item.1) (items_at from (given from)) (items_from (suc from) n given)))
+    (All-append P (shards_listed (items_at from (given from))) (shards_listed (items_from (suc from) n given))
     (by_option (given from) refl) (listed-all P n (suc from) given each))
   where
-    by_option : (o : Option Shard) → given from ≡ o → All P (shards_listed (listed_one from o))
+    by_option : (o : Option Shard) → given from ≡ o → All P (shards_listed (items_at from o))
     by_option (Some s) is = All-cons P s [] (each from s is) (All-nil P)
     by_option None is = All-nil P

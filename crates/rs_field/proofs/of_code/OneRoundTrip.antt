@@ -12,12 +12,12 @@ use Rattle.rs_field.specs.code.Column.{Shard, IsShard, AreShards, shard_at}
 use Rattle.rs_field.specs.code.Counts.{Rate, default_rate, supports}
 use Rattle.rs_field.specs.code.Placement.{encoder_rows, decoder_rows}
 use Rattle.rs_field.specs.code.Outcome.{result_and_then}
-use Rattle.rs_field.specs.code.Configuration.{Configuration, validated, bytes_of_rows, started}
+use Rattle.rs_field.specs.code.Configuration.{Configuration, validation_outcome, bytes_of_rows, start_outcome}
 use Rattle.rs_field.specs.code.Code.{AreRecovery}
-use Rattle.rs_field.specs.code.Given.{Shards, nothing, entered, count_below}
+use Rattle.rs_field.specs.code.Given.{Shards, nothing, with_entry, count_below}
 use Rattle.rs_field.specs.code.Encoder.{EncoderState, IsEncoder, fresh_encoder, with_shard, EncodeAnswers}
 use Rattle.rs_field.specs.code.Decoder.{DecoderState, fresh_decoder, with_original, with_recovery, missing_of, DecodeAnswers}
-use Rattle.rs_field.specs.code.OneCall.{Items, default_of, counted, one_by_one, with_shards, with_originals, with_recoveries, with_both, encoding, noted, originals_alone, OneEncodeAnswers, OneDecodes, OneDecodeAnswers}
+use Rattle.rs_field.specs.code.OneCall.{Items, default_of, counts_outcome, one_by_one, with_shards, with_originals, with_recoveries, with_both, encoding, note_outcome, originals_alone, OneEncodeAnswers, OneDecodes, OneDecodeAnswers}
 use Rattle.rs_field.specs.code.RoundTrip.{AreCoded, AreLeft, enough_left, lost_of, GivesBack, OneBringsBack}
 use Rattle.rs_field.proofs.of_code.Given.{nothing_among}
 use Rattle.rs_field.proofs.of_code.Entries.{entered_all, count-nothing, AreFree, indexes, free-next, count-entered_all, among-entered_all, some-entered_all, all_some}
@@ -66,11 +66,11 @@ codes_in_one_call k r originals recovery bytes (inl answers) = by_outcome origin
   where
     by_shards : (shards : List Shard) → All (All (λ b. b < 256)) shards → (s : EncoderState) → encoding k r shards ≡ Ok s → EncodeAnswers s (Ok recovery) → AreCoded k r shards recovery
     by_shards [] small s same h =
-        let e = (then_ok (λ _. Err (TooFewOriginalShards k 0)) (counted k r) s same).2 in absurd (let no : ⊥ = cc in no)
+        let e = (then_ok (λ _. Err (TooFewOriginalShards k 0)) (counts_outcome k r) s same).2 in absurd (let no : ⊥ = cc in no)
     by_shards (x ∷ xs) small s same h =
         let c = default_of k r (length x) in
-        let begun = then_ok (λ _. with_shards (fresh_encoder c) (x ∷ xs)) (started (encoder_rows default_rate k r) c) s same in
-        let valid = then_ok _ (validated c) begun.0 begun.1 in
+        let begun = then_ok (λ _. with_shards (fresh_encoder c) (x ∷ xs)) (start_outcome (encoder_rows default_rate k r) c) s same in
+        let valid = then_ok _ (validation_outcome c) begun.0 begun.1 in
         let all = taken (x ∷ xs) (fresh_encoder c) s begun.2 in
         let out = answered s recovery h in
         let least : k ≤ length s.given = subst (λ (d : Configuration). d.original_count ≤ length s.given) all.of out.0 in
@@ -92,10 +92,10 @@ abbrev made : Result (Unit {0}) Error
 made = Ok tt
 
 -- counts of a valid configuration are supported
-supported_valid : (k r size : ℕ) → validated (default_of k r size) ≡ Ok tt → supports default_rate k r ≡ true
+supported_valid : (k r size : ℕ) → validation_outcome (default_of k r size) ≡ Ok tt → supports default_rate k r ≡ true
 supported_valid k r size valid = grind (arith, common_steps)
 
-counted_valid : (k r size : ℕ) → validated (default_of k r size) ≡ Ok tt → counted k r ≡ Ok tt
+counted_valid : (k r size : ℕ) → validation_outcome (default_of k r size) ≡ Ok tt → counts_outcome k r ≡ Ok tt
 counted_valid k r size valid = ap (λ (b : Bool). cond b made (Err (UnsupportedShardCount k r))) (supported_valid k r size valid)
 
 -- an encoder takes shards of its size, as many as there is room for
@@ -110,23 +110,23 @@ all_given (x ∷ xs) s room sized =
     ∙ all_given xs (record s { given = s.given ++ x ∷ [] }) (omega arith) sized.1
     ∙ ap (λ given. Ok (record s { given = given })) (append_assoc s.given (x ∷ []) xs)
 
-module _ (k r size : ℕ) (shards : List Shard) (result : Result (List Shard) Error) (valid : validated (default_of k r size) ≡ Ok tt) (count : length shards ≡ k)
+module _ (k r size : ℕ) (shards : List Shard) (result : Result (List Shard) Error) (valid : validation_outcome (default_of k r size) ≡ Ok tt) (count : length shards ≡ k)
     (sized : All (λ shard. length shard ≡ size) shards) where
   -- what is answered by what setting up an encoder answered
   abbrev Set : Result (Unit {0}) Error → Type 0
   Set set = MatchResult (result_and_then (λ _. with_shards (fresh_encoder (default_of k r size)) shards) set) (λ s. EncodeAnswers s result) (λ e. result ≡ Err e)
 
-  whole_by_start : Set (started (encoder_rows default_rate k r) (default_of k r size)) → IfErr result (λ e. e ≡ OutOfMemory)
+  whole_by_start : Set (start_outcome (encoder_rows default_rate k r) (default_of k r size)) → IfErr result (λ e. e ≡ OutOfMemory)
   whole_by_start answers = search (rules, all_given, recursion_from_All)
 
-pub encodes_in_one_call : (k r size : ℕ) (originals : List Shard) (result : Result (List Shard) Error) → validated (default_of k r size) ≡ Ok tt
+pub encodes_in_one_call : (k r size : ℕ) (originals : List Shard) (result : Result (List Shard) Error) → validation_outcome (default_of k r size) ≡ Ok tt
     → length originals ≡ k → All (λ shard. length shard ≡ size) originals → OneEncodeAnswers k r originals result → IfErr result (λ e. e ≡ OutOfMemory)
 encodes_in_one_call k r size originals result valid count sized (inr lacks) = subst (λ (o : Result (List Shard) Error). IfErr o (λ e. e ≡ OutOfMemory)) (sym lacks.1) refl
 encodes_in_one_call k r size [] result valid count sized (inl answers) =
     absurd (let no : ⊥ = omega (arith, (default_fits k r (supported_valid k r size valid)).0) in no)
 encodes_in_one_call k r size (x ∷ xs) result valid count sized (inl answers) =
     whole_by_start k r size (x ∷ xs) result valid count sized
-    (subst (λ (n : ℕ). MatchResult (result_and_then (λ _. with_shards (fresh_encoder (default_of k r n)) (x ∷ xs)) (started (encoder_rows default_rate k r) (default_of k r n)))
+    (subst (λ (n : ℕ). MatchResult (result_and_then (λ _. with_shards (fresh_encoder (default_of k r n)) (x ∷ xs)) (start_outcome (encoder_rows default_rate k r) (default_of k r n)))
     (λ s. EncodeAnswers s result) (λ e. result ≡ Err e)) (sized 0 x (omega arith)) answers)
 
 -- shards that an encoder took one after another are a message, and what it answered are their recovery shards
@@ -152,7 +152,7 @@ coded_by k r x xs recovery s is made h =
     let all = encoded_all default_rate (default_of k r (length x)) (x ∷ xs) recovery s is made h in
     record {
       size = length x;
-      valid = subst (λ (d : Configuration). validated d ≡ Ok tt) (taken (x ∷ xs) (fresh_encoder (default_of k r (length x))) s made).of is.valid;
+      valid = subst (λ (d : Configuration). validation_outcome d ≡ Ok tt) (taken (x ∷ xs) (fresh_encoder (default_of k r (length x))) s made).of is.valid;
       shards = all.0;
       coded = all.1;
     }
@@ -164,11 +164,11 @@ abbrev AreFitting : ℕ → ℕ → Items → Type 0
 AreFitting count size items = AllByRecursion (λ item. (item.0 < count) × (length item.1 ≡ size)) items
 
 original_taken : (s : DecoderState) (i : ℕ) (x : Shard) → i < s.configuration.original_count → length x ≡ s.configuration.shard_bytes → s.originals i ≡ None
-    → with_original s i x ≡ Ok (record s { originals = entered s.originals i x })
+    → with_original s i x ≡ Ok (record s { originals = with_entry s.originals i x })
 original_taken s i x inside same free = search (rules, lt-leb, eq-eqb)
 
 recovery_taken : (s : DecoderState) (i : ℕ) (x : Shard) → i < s.configuration.recovery_count → length x ≡ s.configuration.shard_bytes → s.recovery i ≡ None
-    → with_recovery s i x ≡ Ok (record s { recovery = entered s.recovery i x })
+    → with_recovery s i x ≡ Ok (record s { recovery = with_entry s.recovery i x })
 recovery_taken s i x inside same free = search (rules, lt-leb, eq-eqb)
 
 originals_taken : (items : Items) (s : DecoderState) → AreFitting s.configuration.original_count s.configuration.shard_bytes items → AreFree s.originals items
@@ -176,14 +176,14 @@ originals_taken : (items : Items) (s : DecoderState) → AreFitting s.configurat
 originals_taken [] s fit free once = refl
 originals_taken (item ∷ items) s fit free once =
     ap (result_and_then (λ next. with_originals next items)) (original_taken s item.0 item.1 fit.0.0 fit.0.1 free.0)
-    ∙ originals_taken items (record s { originals = entered s.originals item.0 item.1 }) fit.1 (free-next s.originals item items once free) (IsDistinct-tail nat_eq item.0 (indexes items) once)
+    ∙ originals_taken items (record s { originals = with_entry s.originals item.0 item.1 }) fit.1 (free-next s.originals item items once free) (IsDistinct-tail nat_eq item.0 (indexes items) once)
 
 recoveries_taken : (items : Items) (s : DecoderState) → AreFitting s.configuration.recovery_count s.configuration.shard_bytes items → AreFree s.recovery items
     → IsDistinct nat_eq (indexes items) → with_recoveries s items ≡ Ok (record s { recovery = entered_all s.recovery items })
 recoveries_taken [] s fit free once = refl
 recoveries_taken (item ∷ items) s fit free once =
     ap (result_and_then (λ next. with_recoveries next items)) (recovery_taken s item.0 item.1 fit.0.0 fit.0.1 free.0)
-    ∙ recoveries_taken items (record s { recovery = entered s.recovery item.0 item.1 }) fit.1 (free-next s.recovery item items once free) (IsDistinct-tail nat_eq item.0 (indexes items) once)
+    ∙ recoveries_taken items (record s { recovery = with_entry s.recovery item.0 item.1 }) fit.1 (free-next s.recovery item items once free) (IsDistinct-tail nat_eq item.0 (indexes items) once)
 
 all_free : (items : Items) → AreFree nothing items
 all_free [] = tt
@@ -202,13 +202,13 @@ absent_next k given (item ∷ items) apart absent = search (rules, or_from, ne_e
 
 -- indexes below k, none of which comes twice, are all noted
 all_noted : (k : ℕ) (items : Items) (given : List ℕ) → AllByRecursion (λ item. item.0 < k) items → AllByRecursion (λ item. list_any (nat_eq item.0) given ≡ false) items
-    → IsDistinct nat_eq (indexes items) → (all : List ℕ) × (one_by_one (λ so_far item. noted k so_far item.0) given items ≡ Ok all) × (length all ≡ length given + length items)
+    → IsDistinct nat_eq (indexes items) → (all : List ℕ) × (one_by_one (λ so_far item. note_outcome k so_far item.0) given items ≡ Ok all) × (length all ≡ length given + length items)
 all_noted k [] given below absent once = (given, refl, sym (add-zero (length given)))
 all_noted k (item ∷ items) given below absent once =
     let rest = all_noted k items (item.0 ∷ given) below.1 (absent_next item.0 given items (IsDistinct-head nat_eq item.0 (indexes items) once) absent.1)
     (IsDistinct-tail nat_eq item.0 (indexes items) once) in
-    let first : noted k given item.0 ≡ Ok (item.0 ∷ given) = rw (lt-leb k item.0 below.0, absent.0) refl in
-    (rest.0, ap (result_and_then (λ next. one_by_one (λ so_far one. noted k so_far one.0) next items)) first ∙ rest.1, omega (arith, rest.2))
+    let first : note_outcome k given item.0 ≡ Ok (item.0 ∷ given) = rw (lt-leb k item.0 below.0, absent.0) refl in
+    (rest.0, ap (result_and_then (λ next. one_by_one (λ so_far one. note_outcome k so_far one.0) next items)) first ∙ rest.1, omega (arith, rest.2))
 
 none_noted : (items : Items) → AllByRecursion (λ item. list_any (nat_eq item.0) [] ≡ false) items
 none_noted [] = tt
@@ -268,7 +268,7 @@ module _ (k r : ℕ) (originals recovery : List Shard) (kept : Items) (was : Are
       MatchResult (result_and_then (λ _. with_both (fresh_decoder (default_of k r was.size)) kept received) begun) (λ s. DecodeAnswers s result) (λ e. result ≡ Err e)
 
   -- so it brings back what is lost, where memory can be had
-  by_start : (received : Items) (result : Result Shards Error) → AreLeft recovery received → Begun received result (started (decoder_rows default_rate k r) (default_of k r was.size))
+  by_start : (received : Items) (result : Result Shards Error) → AreLeft recovery received → Begun received result (start_outcome (decoder_rows default_rate k r) (default_of k r was.size))
       → OneBringsBack originals kept received result
   by_start received result got answers =
       by_bytes (nat_le (2 ^ 64) (bytes_of_rows (decoder_rows default_rate k r) was.size))
@@ -293,7 +293,7 @@ module _ (k r : ℕ) (originals recovery : List Shard) (kept : Items) (was : Are
       let own = got.own 0 first (omega arith) in
       let size : length first.1 ≡ was.size = sym (ap length own.1) ∙ (was.coded.shards.each first.0 [] own.0).length_is in
       by_start (first ∷ rest) result got
-      (subst (λ (n : ℕ). MatchResult (result_and_then (λ _. with_both (fresh_decoder (default_of k r n)) kept (first ∷ rest)) (started (decoder_rows default_rate k r) (default_of k r n)))
+      (subst (λ (n : ℕ). MatchResult (result_and_then (λ _. with_both (fresh_decoder (default_of k r n)) kept (first ∷ rest)) (start_outcome (decoder_rows default_rate k r) (default_of k r n)))
       (λ s. DecodeAnswers s result) (λ e. result ≡ Err e)) size answers)
 
 pub restores_in_one_call : (k r : ℕ) (originals recovery : List Shard) (kept received : Items) (result : Result Shards Error)

@@ -11,10 +11,10 @@ use Rattle.std.proofs.lemmas.Option.{none-some}
 use Rattle.rs_field.specs.declared.code.error.Error.{Error}
 use Rattle.rs_field.specs.declared.code.error.Error.TheVariants.{InconsistentShards, NotEnoughShards}
 use Rattle.rs_field.specs.code.Column.{Shard, IsShard, column}
-use Rattle.rs_field.specs.code.Configuration.{configuration, validated}
+use Rattle.rs_field.specs.code.Configuration.{configuration, validation_outcome}
 use Rattle.rs_field.specs.code.Counts.{Rate, supports}
 use Rattle.rs_field.specs.code.Decoder.{DecoderState, IsDecoder, IsAgreeing, originals_given, recovery_given, enough_given, missing_of, Restored, NoneAgrees}
-use Rattle.rs_field.specs.code.Given.{Shards, AreWithin, Consistent, Lists, listed, count_below}
+use Rattle.rs_field.specs.code.Given.{Shards, AreWithin, Consistent, Lists, items_below, count_below}
 use Rattle.rs_field.specs.code.OneCall.{Items}
 use Rattle.rs_field.specs.code.Pieces.{pieces, IsStrip, ArePut, room_length}
 use Rattle.rs_field.specs.code.PieceStates.{pieces_of, state_of_pieces, shards_listed, HoldRestored}
@@ -167,16 +167,16 @@ count-missing s message = below s.configuration.original_count (omega arith)
 
 -- a message's missing shards, in order of index
 abbrev pub missing_shards : DecoderState → List Shard → List Shard
-missing_shards s message = shards_listed (listed s.configuration.original_count (missing_of s message))
+missing_shards s message = shards_listed (items_below s.configuration.original_count (missing_of s message))
 
-missing-lists : (s : DecoderState) (message : List Shard) → Lists (missing_of s message) (listed s.configuration.original_count (missing_of s message))
+missing-lists : (s : DecoderState) (message : List Shard) → Lists (missing_of s message) (items_below s.configuration.original_count (missing_of s message))
 missing-lists s message = record { count = s.configuration.original_count; none_past = missing-past s message; in_order = refl }
 
 -- they are as many as originals are missing
 missing-number : (s : DecoderState) (message : List Shard) → length (missing_shards s message) + originals_given s ≡ s.configuration.original_count
 missing-number s message =
     let k = s.configuration.original_count in
-    ap (λ (n : ℕ). n + originals_given s) (length-map (listed k (missing_of s message)) (λ item. item.1) ∙ length-listed k (missing_of s message)) ∙ count-missing s message
+    ap (λ (n : ℕ). n + originals_given s) (length-map (items_below k (missing_of s message)) (λ item. item.1) ∙ length-listed k (missing_of s message)) ∙ count-missing s message
 
 -- and each has its size
 missing-sized : (s : DecoderState) (message : List Shard) → IsAgreeing s message → All (λ x. length x ≡ s.configuration.shard_bytes) (missing_shards s message)
@@ -244,9 +244,9 @@ module _ (s : DecoderState) (grows : Bool) (start end : ℕ) (out : Shards) (ite
   items-cut message agrees =
       let k = s.configuration.original_count in
       let same : out ≡ (λ i. option_map (λ x. between start end x) (missing_of s message i)) = fun_ext (restored-cut start end s message out strip agrees restored) in
-      ap shards_listed (lists-same (missing_of (state_of_pieces start end s) restored.message) items (listed k (missing_of (state_of_pieces start end s) restored.message))
+      ap shards_listed (lists-same (missing_of (state_of_pieces start end s) restored.message) items (items_below k (missing_of (state_of_pieces start end s) restored.message))
       (subst (λ (g : Shards). Lists g items) (fun_ext restored.missing) listing) (missing-lists (state_of_pieces start end s) restored.message))
-      ∙ ap (λ (g : Shards). shards_listed (listed k g)) (sym (fun_ext restored.missing) ∙ same)
+      ∙ ap (λ (g : Shards). shards_listed (items_below k g)) (sym (fun_ext restored.missing) ∙ same)
       ∙ listed-changed (λ x. between start end x) k 0 (missing_of s message)
 
   -- so once they are put, one strip more is restored
@@ -309,7 +309,7 @@ restored-all s grows rooms supported even own_within coded_within enough done =
         only = λ other also. one_message c s.originals s.recovery other message supported even enough also agrees;
         missing = λ i. refl;
       };
-      items = listed c.original_count (missing_of s message);
+      items = items_below c.original_count (missing_of s message);
       listed = missing-lists s message;
       held = ext_get_or [] rooms (missing_shards s message) (omega (arith, number, done.number)) (λ i h.
           let long = sized i [] (omega (arith, number, done.number, h)) in
@@ -322,7 +322,7 @@ module _ (s : DecoderState) (rooms : List Shard) (holds : HoldRestored s rooms) 
   held-are : rooms ≡ missing_shards s holds.restored.message
   held-are =
       holds.held
-      ∙ ap shards_listed (lists-same (missing_of s holds.restored.message) holds.items (listed s.configuration.original_count (missing_of s holds.restored.message))
+      ∙ ap shards_listed (lists-same (missing_of s holds.restored.message) holds.items (items_below s.configuration.original_count (missing_of s holds.restored.message))
       (subst (λ (g : Shards). Lists g holds.items) (fun_ext holds.restored.missing) holds.listed) (missing-lists s holds.restored.message))
 
   -- rooms that hold the restored originals are as many as originals are missing

@@ -5,7 +5,7 @@ use Rattle.std.proofs.lemmas.Grind.{common_steps}
 use Rattle.rs_field.specs.words.Field.{product}
 use Rattle.rs_field.specs.words.Subspace.{subspace}
 use Rattle.rs_field.specs.words.Transform.{forward}
-use Rattle.rs_field.specs.words.Tables.{IsSkew, scaled}
+use Rattle.rs_field.specs.words.Tables.{IsSkew, times_factor}
 use Rattle.rs_field.specs.rows.Pairs.{IsForwardTwo, IsBackwardTwo}
 use Rattle.rs_field.specs.rows.TwoLayers.{forward_first, forward_second, backward_first, backward_second, IsForwardFour, IsBackwardFour}
 use Rattle.rs_field.specs.rows.Layers.{ArePartsOf}
@@ -42,7 +42,7 @@ factor skew half shift = get_or skew (shift + half - 1) 0
 
 -- the words g come of the words f by one layer of butterflies between the halves
 pub record IsLayer (skew : List ℕ) (half shift : ℕ) (f g : ℕ → ℕ) : Type 0 where
-  pub first : (q : ℕ) → q < half → g q ≡ bit_xor (f q) (scaled (factor skew half shift) (f (half + q)))
+  pub first : (q : ℕ) → q < half → g q ≡ bit_xor (f q) (times_factor (factor skew half shift) (f (half + q)))
   pub second : (q : ℕ) → q < half → g (half + q) ≡ bit_xor (f (half + q)) (g q)
 
 made : (skew : List ℕ) (n e shift : ℕ) (f g : ℕ → ℕ) → IsBlock skew (n + n) shift → n + n ≡ 2 ^ suc e → n ≡ 2 ^ e → IsLayer skew n shift f g

@@ -8,7 +8,7 @@ use Rattle.std.proofs.Math.Nat.{mul-mod_left, add-mod_right}
 use Rattle.std.specs.Int.Bits.{xor_assoc, xor_self, xor_zero_r}
 use Rattle.rs_field.specs.words.Field.{product, power, log}
 use Rattle.rs_field.specs.words.Subspace.{subspace}
-use Rattle.rs_field.specs.words.Tables.{IsSkew, log_or_mark, scaled}
+use Rattle.rs_field.specs.words.Tables.{IsSkew, log_or_mark, times_factor}
 use Rattle.rs_field.specs.words.StepBounds.{log2, transform_steps}
 use Rattle.rs_field.proofs.of_words.Search.{first_below-is}
 use Rattle.rs_field.proofs.of_words.Product.{product_zero}
@@ -54,7 +54,7 @@ unfolding log_or_mark
 mark_word z e = ap (λ (b : Bool). cond b 65535 (log z)) e
 
 -- what the entry of a factor stands for
-pub scaled_by : (c w : ℕ) → c < 2 ^ 16 → scaled (log_or_mark c) w ≡ product w c
+pub scaled_by : (c w : ℕ) → c < 2 ^ 16 → times_factor (log_or_mark c) w ≡ product w c
 scaled_by c w hc = grind (arith, common_steps, cases_eq, mark_zero, product_zero, log_lt, mark_word, ne_eqb, power-log)
 
 pub subspace_lt : (d x : ℕ) → subspace d x < 2 ^ 16
@@ -63,7 +63,7 @@ subspace_lt d x = product_below_lt (2 ^ d) (λ y. bit_xor x y)
 
 -- the table's entry for the butterflies between the halves of a block
 pub table_factor : (skew : List ℕ) (e half shift w : ℕ) → IsSkew skew → half ≡ 2 ^ e → shift % 2 ^ suc e ≡ 0 → shift + 2 ^ suc e ≤ 65536
-    → scaled (get_or skew (shift + half - 1) 0) w ≡ product w (subspace e shift)
+    → times_factor (get_or skew (shift + half - 1) 0) w ≡ product w (subspace e shift)
 table_factor skew e half shift w table is whole fits =
     let u : ℕ = shift / 2 ^ suc e in
     let p : 2 ^ suc e ≡ 2 ^ e * 2 = pow-suc 2 e in
@@ -71,8 +71,8 @@ table_factor skew e half shift w table is whole fits =
     let even : shift ≡ u * 2 * 2 ^ e = aligned_parts (2 ^ suc e) 2 (2 ^ e) shift (omega arith) whole in
     let odd : shift + 2 ^ e ≡ (2 * u + 1) * 2 ^ e = omega arith in
     let back : shift + 2 ^ e - 2 ^ e ≡ shift = omega arith in
-    ap (λ v. scaled (get_or skew (shift + v - 1) 0) w) is
-    ∙ ap (λ m. scaled m w) (table.skew_entry e u (shift + 2 ^ e) odd (omega arith) ∙ ap (λ v. log_or_mark (subspace e v)) back)
+    ap (λ v. times_factor (get_or skew (shift + v - 1) 0) w) is
+    ∙ ap (λ m. times_factor m w) (table.skew_entry e u (shift + 2 ^ e) odd (omega arith) ∙ ap (λ v. log_or_mark (subspace e v)) back)
     ∙ scaled_by (subspace e shift) w (subspace_lt e shift)
 
 pub xor_undo : (a b : ℕ) → bit_xor (bit_xor a b) b ≡ a

@@ -4,51 +4,51 @@ use Rattle.std.proofs.Math.Nat.{mod-add-div}
 use Rattle.std.proofs.lemmas.Nat.{shr_below, mul-mod_first}
 use Rattle.std.proofs.lemmas.Bool.{cases_eq, cases_order}
 use Rattle.std.proofs.lemmas.Grind.{common_steps}
-use Rattle.rs_field.specs.words.Field.{combine, cantor_basis, bits, monomials, from_bits, carryless, reduce, product, raised, power, generator, log}
+use Rattle.rs_field.specs.words.Field.{combine, cantor_basis, bits, monomials, from_bits, carryless, reduce, product, nth_power, power, generator, log}
 use Rattle.rs_field.proofs.of_words.Search.{first_below-passes, first_below_most}
 use Rattle.rs_field.proofs.of_words.Linear.{passes_below, from_passes_below}
 use Rattle.rs_field.proofs.of_words.Product.{product_lt, product_comm, product_assoc, product_one, one_product}
 use Rattle.rs_field.proofs.of_words.Onto.{onto}
 use Rattle.rs_field.proofs.of_words.Inverse.{product_cancel, product_pos}
 
-pub raised_lt : (x n : ℕ) → raised x n < 2 ^ 16
-unfolding raised
+pub raised_lt : (x n : ℕ) → nth_power x n < 2 ^ 16
+unfolding nth_power
 raised_lt x zero = omega arith
 raised_lt x (suc n) = product_lt _ x
 
-pub raised-add : (x m n : ℕ) → x < 2 ^ 16 → raised x (m + n) ≡ product (raised x m) (raised x n)
-unfolding raised
-raised-add x m zero hx = ap (raised x) (add-zero m) ∙ sym (product_one (raised x m) (raised_lt x m))
-raised-add x m (suc n) hx =
-    ap (raised x) (add-suc m n) ∙ ap (λ v. product v x) (raised-add x m n hx) ∙ product_assoc (raised x m) (raised x n) x (raised_lt x m) (raised_lt x n) hx
+pub nth_power-add : (x m n : ℕ) → x < 2 ^ 16 → nth_power x (m + n) ≡ product (nth_power x m) (nth_power x n)
+unfolding nth_power
+nth_power-add x m zero hx = ap (nth_power x) (add-zero m) ∙ sym (product_one (nth_power x m) (raised_lt x m))
+nth_power-add x m (suc n) hx =
+    ap (nth_power x) (add-suc m n) ∙ ap (λ v. product v x) (nth_power-add x m n hx) ∙ product_assoc (nth_power x m) (nth_power x n) x (raised_lt x m) (raised_lt x n) hx
 
-pub raised-mul : (x m n : ℕ) → x < 2 ^ 16 → raised (raised x m) n ≡ raised x (m * n)
-unfolding raised
-raised-mul x m zero hx = ap (raised x) (sym (mul-zero m))
-raised-mul x m (suc n) hx =
-    ap (λ v. product v (raised x m)) (raised-mul x m n hx) ∙ sym (raised-add x (m * n) m hx) ∙ ap (raised x) (sym (mul-suc m n))
+pub nth_power-mul : (x m n : ℕ) → x < 2 ^ 16 → nth_power (nth_power x m) n ≡ nth_power x (m * n)
+unfolding nth_power
+nth_power-mul x m zero hx = ap (nth_power x) (sym (mul-zero m))
+nth_power-mul x m (suc n) hx =
+    ap (λ v. product v (nth_power x m)) (nth_power-mul x m n hx) ∙ sym (nth_power-add x (m * n) m hx) ∙ ap (nth_power x) (sym (mul-suc m n))
 
-pub one_raised : (n : ℕ) → raised 1 n ≡ 1
-unfolding raised
+pub one_raised : (n : ℕ) → nth_power 1 n ≡ 1
+unfolding nth_power
 one_raised zero = refl
 one_raised (suc n) = ap (λ v. product v 1) (one_raised n) ∙ product_one 1 (omega arith)
 
-raised_two : (x : ℕ) → x < 2 ^ 16 → raised x 2 ≡ product x x
-unfolding raised
+raised_two : (x : ℕ) → x < 2 ^ 16 → nth_power x 2 ≡ product x x
+unfolding nth_power
 raised_two x hx = ap (λ v. product v x) (one_product x hx)
 
 -- by repeated squaring, for n of k bits
 unfoldable fast : ℕ → ℕ → ℕ → ℕ
 fast zero x n = 1
-fast (suc k) x n = product (raised x (n % 2)) (fast k (product x x) (n / 2))
+fast (suc k) x n = product (nth_power x (n % 2)) (fast k (product x x) (n / 2))
 
-fast_is : (k x n : ℕ) → x < 2 ^ 16 → n < 2 ^ k → fast k x n ≡ raised x n
-unfolding fast raised
-fast_is zero x n hx hn = let z : 0 ≡ n = omega arith in ap (raised x) z
+fast_is : (k x n : ℕ) → x < 2 ^ 16 → n < 2 ^ k → fast k x n ≡ nth_power x n
+unfolding fast nth_power
+fast_is zero x n hx hn = let z : 0 ≡ n = omega arith in ap (nth_power x) z
 fast_is (suc k) x n hx hn =
     let half : n / 2 < 2 ^ k = shr_below n k 1 (subst (λ (j : ℕ). n < 2 ^ j) (sym (add-one k)) hn) in
     let whole : n % 2 + 2 * (n / 2) ≡ n = omega arith in
-    cc (fast_is k (product x x) (n / 2) (product_lt x x) half, raised_two x hx, raised-mul x 2 (n / 2) hx, raised-add x (n % 2) (2 * (n / 2)) hx)
+    cc (fast_is k (product x x) (n / 2) (product_lt x x) half, raised_two x hx, nth_power-mul x 2 (n / 2) hx, nth_power-add x (n % 2) (2 * (n / 2)) hx)
 
 pub generator_lt : generator < 2 ^ 16
 unfolding generator
@@ -64,7 +64,7 @@ generator_pos = omega arith
 -- at 65535, and without one of its prime factors
 check_powers : (fast 16 generator 65535 ≡ 1) × (eqb (fast 16 generator 21845) 1 ≡ false) × (eqb (fast 16 generator 13107) 1 ≡ false)
     × (eqb (fast 16 generator 3855) 1 ≡ false) × (eqb (fast 16 generator 255) 1 ≡ false)
-unfolding fast raised generator combine bits from_bits cantor_basis monomials carryless reduce product
+unfolding fast nth_power generator combine bits from_bits cantor_basis monomials carryless reduce product
 check_powers = (refl, refl, refl, refl, refl)
 
 power_is : (n : ℕ) → n < 2 ^ 16 → fast 16 generator n ≡ power n
@@ -93,12 +93,12 @@ unfolding power
 unit_from p q k m t whole bezout one =
     let exponent : k * (m * q) ≡ q + 65535 * t =
     sym (mul_assoc k m q) ∙ ap (λ v. v * q) bezout ∙ expand p q t ∙ ap (λ v. q + v * t) whole in
-    let left : raised generator (k * (m * q)) ≡ 1 = sym (raised-mul generator k (m * q) generator_lt) ∙ ap (λ v. raised v (m * q)) one ∙ one_raised (m * q) in
-    let right : raised generator (q + 65535 * t) ≡ raised generator q =
-    raised-add generator q (65535 * t) generator_lt
-    ∙ ap (product (raised generator q)) (sym (raised-mul generator 65535 t generator_lt) ∙ ap (λ v. raised v t) power_turn ∙ one_raised t)
-    ∙ product_one (raised generator q) (raised_lt generator q) in
-    sym right ∙ ap (raised generator) (sym exponent) ∙ left
+    let left : nth_power generator (k * (m * q)) ≡ 1 = sym (nth_power-mul generator k (m * q) generator_lt) ∙ ap (λ v. nth_power v (m * q)) one ∙ one_raised (m * q) in
+    let right : nth_power generator (q + 65535 * t) ≡ nth_power generator q =
+    nth_power-add generator q (65535 * t) generator_lt
+    ∙ ap (product (nth_power generator q)) (sym (nth_power-mul generator 65535 t generator_lt) ∙ ap (λ v. nth_power v t) power_turn ∙ one_raised t)
+    ∙ product_one (nth_power generator q) (raised_lt generator q) in
+    sym right ∙ ap (nth_power generator) (sym exponent) ∙ left
 
 dividend : (n p : ℕ) → n % p ≡ 1 → n ≡ 1 + p * (n / p)
 dividend n p e = sym (mod-add-div n p) ∙ ap (λ v. v + p * (n / p)) e
@@ -136,18 +136,18 @@ power_lt n = raised_lt generator n
 
 pub power-add : (m n : ℕ) → power (m + n) ≡ product (power m) (power n)
 unfolding power
-power-add m n = raised-add generator m n generator_lt
+power-add m n = nth_power-add generator m n generator_lt
 
 pub power_zero : power 0 ≡ 1
-unfolding power raised
+unfolding power nth_power
 power_zero = refl
 
 pub power-suc : (n : ℕ) → power (suc n) ≡ product (power n) generator
-unfolding power raised
+unfolding power nth_power
 power-suc n = refl
 
 pub power_pos : (n : ℕ) → 0 < power n
-unfolding power raised
+unfolding power nth_power
 power_pos zero = lit< tt
 power_pos (suc n) = product_pos (power n) generator (power_pos n) generator_pos (power_lt n) generator_lt
 
@@ -193,7 +193,7 @@ power-log z pos hz = eqb-true (power (log z)) z ((log_found z pos hz).1)
 
 turns : (t : ℕ) → power (65535 * t) ≡ 1
 unfolding power
-turns t = sym (raised-mul generator 65535 t generator_lt) ∙ ap (λ v. raised v t) power_turn ∙ one_raised t
+turns t = sym (nth_power-mul generator 65535 t generator_lt) ∙ ap (λ v. nth_power v t) power_turn ∙ one_raised t
 
 -- an exponent may be taken modulo 65535
 pub power-mod : (n : ℕ) → power (n % 65535) ≡ power n

@@ -78,8 +78,8 @@ abbrev pub HasOneRestoration : Type 0
 HasOneRestoration = (s : DecoderState) (one other : Shards) → Restored s one → Restored s other → one ≡ other
 
 -- those of the given shards that are other than the list's
-unfoldable pub changed : Shards → List Shard → Shards
-changed given shards i = if bytes_eq (unwrap_or (given i) []) (shard_at shards i) then None else given i
+unfoldable pub changed_shards : Shards → List Shard → Shards
+changed_shards given shards i = if bytes_eq (unwrap_or (given i) []) (shard_at shards i) then None else given i
 
 -- where n shards are given at places of a codeword, and at least one but at most n - k of them are other than the codeword's, of any size, no message agrees
 abbrev pub NoticesChanges : Type 0
@@ -87,7 +87,7 @@ NoticesChanges =
     (c : Configuration) (message all : List Shard) (originals recovery : Shards)
     → supports c.rate c.original_count c.recovery_count ≡ true → c.shard_bytes % 2 ≡ 0
     → AreShards c.original_count c.shard_bytes message → AreRecovery c message all
-    → 0 < count_below c.original_count (changed originals message) + count_below c.recovery_count (changed recovery all)
-    → count_below c.original_count (changed originals message) + count_below c.recovery_count (changed recovery all) + c.original_count
+    → 0 < count_below c.original_count (changed_shards originals message) + count_below c.recovery_count (changed_shards recovery all)
+    → count_below c.original_count (changed_shards originals message) + count_below c.recovery_count (changed_shards recovery all) + c.original_count
     ≤ count_below c.original_count originals + count_below c.recovery_count recovery
     → Consistent c originals recovery → ⊥

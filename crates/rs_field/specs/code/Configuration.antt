@@ -17,8 +17,8 @@ abbrev pub configuration : Rate → ℕ → ℕ → ℕ → Configuration
 configuration rate k r size = record { rate = rate; original_count = k; recovery_count = r; shard_bytes = size }
 
 -- the first refusal of a configuration: its counts, then its size
-abbrev pub validated : Configuration → Result (Unit {0}) Error
-validated c =
+abbrev pub validation_outcome : Configuration → Result (Unit {0}) Error
+validation_outcome c =
     if not (supports c.rate c.original_count c.recovery_count) then Err (UnsupportedShardCount c.original_count c.recovery_count)
     else if c.shard_bytes == 0 || c.shard_bytes % 2 == 1 then Err (InvalidShardSize c.shard_bytes)
     else Ok tt
@@ -28,8 +28,8 @@ abbrev pub bytes_of_rows : ℕ → ℕ → ℕ
 bytes_of_rows rows size = rows * ((size + 63) / 64) * 64
 
 -- what setting up with this many rows answers while memory is found; memory of more than `usize::MAX` bytes is never found
-abbrev pub started : ℕ → Configuration → Result (Unit {0}) Error
-started rows c = result_and_then (λ _. if nat_le (2 ^ 64) (bytes_of_rows rows c.shard_bytes) then Err OutOfMemory else Ok tt) (validated c)
+abbrev pub start_outcome : ℕ → Configuration → Result (Unit {0}) Error
+start_outcome rows c = result_and_then (λ _. if nat_le (2 ^ 64) (bytes_of_rows rows c.shard_bytes) then Err OutOfMemory else Ok tt) (validation_outcome c)
 
 -- a result is the wanted one, or out of memory in place of a success
 abbrev pub UpToMemory : {T : Type 0} → Result T Error → Result T Error → Type 0

@@ -4,9 +4,9 @@ use Rattle.rs_field.specs.declared.code.error.Error.{Error}
 use Rattle.rs_field.specs.declared.code.error.Error.TheVariants.{InvalidOriginalShardIndex, InvalidRecoveryShardIndex, DuplicateOriginalShardIndex, DuplicateRecoveryShardIndex, DifferentShardSize, NotEnoughShards, InconsistentShards}
 use Rattle.rs_field.specs.code.Column.{Shard, shard_at}
 use Rattle.rs_field.specs.code.Counts.{Rate}
-use Rattle.rs_field.specs.code.Configuration.{Configuration, validated, bytes_of_rows}
+use Rattle.rs_field.specs.code.Configuration.{Configuration, validation_outcome, bytes_of_rows}
 use Rattle.rs_field.specs.code.Placement.{decoder_rows}
-use Rattle.rs_field.specs.code.Given.{Shards, AreWithin, nothing, entered, count_below, Agrees, Consistent}
+use Rattle.rs_field.specs.code.Given.{Shards, AreWithin, nothing, with_entry, count_below, Agrees, Consistent}
 
 -- a configuration, and the shards given so far
 pub record DecoderState : Type 0 where
@@ -17,7 +17,7 @@ pub record DecoderState : Type 0 where
 -- a state that a decoder of this rate can be in: a valid configuration whose rows' bytes are a `usize`, and shards of the size given at indexes below the counts
 pub record IsDecoder (rate : Rate) (s : DecoderState) : Type 0 where
   pub of_rate : s.configuration.rate ≡ rate
-  pub valid : validated s.configuration ≡ Ok tt
+  pub valid : validation_outcome s.configuration ≡ Ok tt
   pub fits : bytes_of_rows (decoder_rows rate s.configuration.original_count s.configuration.recovery_count) s.configuration.shard_bytes < 2 ^ 64
   pub originals_within : AreWithin s.configuration.original_count s.configuration.shard_bytes s.originals
   pub recovery_within : AreWithin s.configuration.recovery_count s.configuration.shard_bytes s.recovery
@@ -33,7 +33,7 @@ with_original s index shard =
     if nat_le c.original_count index then Err (InvalidOriginalShardIndex c.original_count index)
     else if is_some (s.originals index) then Err (DuplicateOriginalShardIndex index)
     else if not (length shard == c.shard_bytes) then Err (DifferentShardSize c.shard_bytes (length shard))
-    else Ok (record s { originals = entered s.originals index shard })
+    else Ok (record s { originals = with_entry s.originals index shard })
 
 -- the outcome of adding a recovery shard: the refusals come in the same order
 abbrev pub with_recovery : DecoderState → ℕ → Shard → Result DecoderState Error
@@ -42,7 +42,7 @@ with_recovery s index shard =
     if nat_le c.recovery_count index then Err (InvalidRecoveryShardIndex c.recovery_count index)
     else if is_some (s.recovery index) then Err (DuplicateRecoveryShardIndex index)
     else if not (length shard == c.shard_bytes) then Err (DifferentShardSize c.shard_bytes (length shard))
-    else Ok (record s { recovery = entered s.recovery index shard })
+    else Ok (record s { recovery = with_entry s.recovery index shard })
 
 -- how many originals are given
 abbrev pub originals_given : DecoderState → ℕ

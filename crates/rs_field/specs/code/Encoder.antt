@@ -4,7 +4,7 @@ use Rattle.rs_field.specs.declared.code.error.Error.{Error}
 use Rattle.rs_field.specs.declared.code.error.Error.TheVariants.{TooManyOriginalShards, TooFewOriginalShards, DifferentShardSize}
 use Rattle.rs_field.specs.code.Column.{Shard, IsShard}
 use Rattle.rs_field.specs.code.Counts.{Rate}
-use Rattle.rs_field.specs.code.Configuration.{Configuration, validated, bytes_of_rows}
+use Rattle.rs_field.specs.code.Configuration.{Configuration, validation_outcome, bytes_of_rows}
 use Rattle.rs_field.specs.code.Placement.{encoder_rows}
 use Rattle.rs_field.specs.code.Code.{AreRecovery}
 
@@ -16,7 +16,7 @@ pub record EncoderState : Type 0 where
 -- a state that an encoder of this rate can be in: a valid configuration whose rows' bytes are a `usize`, and no more originals given than it takes, each of the size
 pub record IsEncoder (rate : Rate) (s : EncoderState) : Type 0 where
   pub of_rate : s.configuration.rate ≡ rate
-  pub valid : validated s.configuration ≡ Ok tt
+  pub valid : validation_outcome s.configuration ≡ Ok tt
   pub fits : bytes_of_rows (encoder_rows rate s.configuration.original_count s.configuration.recovery_count) s.configuration.shard_bytes < 2 ^ 64
   pub no_more : length s.given ≤ s.configuration.original_count
   pub sized : All (IsShard s.configuration.shard_bytes) s.given

@@ -13,8 +13,8 @@ abbrev pub nothing : Shards
 nothing i = None
 
 -- the map with a shard entered at an index
-unfoldable pub entered : Shards → ℕ → Shard → Shards
-entered given index shard i = if i == index then Some shard else given i
+unfoldable pub with_entry : Shards → ℕ → Shard → Shards
+with_entry given index shard i = if i == index then Some shard else given i
 
 -- every shard that is given is of the size, and its index is below the count
 pub record AreWithin (count size : ℕ) (given : Shards) : Type 0 where
@@ -27,24 +27,24 @@ count_below zero given = 0
 count_below (suc n) given = count_below n given + (if is_some (given n) then 1 else 0)
 
 -- the shard of an entry with this index, if it has one
-abbrev pub listed_one : ℕ → Option Shard → List (ℕ × Shard)
-listed_one i None = []
-listed_one i (Some shard) = (i, shard) ∷ []
+abbrev pub items_at : ℕ → Option Shard → List (ℕ × Shard)
+items_at i None = []
+items_at i (Some shard) = (i, shard) ∷ []
 
 -- the shards of a map at the n indexes from one on, with their indexes, in order of index
-unfoldable pub listed_from : ℕ → ℕ → Shards → List (ℕ × Shard)
-listed_from from zero given = []
-listed_from from (suc n) given = listed_one from (given from) ++ listed_from (suc from) n given
+unfoldable pub items_from : ℕ → ℕ → Shards → List (ℕ × Shard)
+items_from from zero given = []
+items_from from (suc n) given = items_at from (given from) ++ items_from (suc from) n given
 
 -- the shards of a map at the indexes below n, with their indexes, in order of index
-abbrev pub listed : ℕ → Shards → List (ℕ × Shard)
-listed n given = listed_from 0 n given
+abbrev pub items_below : ℕ → Shards → List (ℕ × Shard)
+items_below n given = items_from 0 n given
 
 -- a list has all the shards of a map, with their indexes, in order of index
 pub record Lists (given : Shards) (items : List (ℕ × Shard)) : Type 0 where
   pub count : ℕ
   pub none_past : (i : ℕ) → count ≤ i → given i ≡ None
-  pub in_order : items ≡ listed count given
+  pub in_order : items ≡ items_below count given
 
 -- each given shard is the one that stands at its index in the list
 abbrev pub AreAmong : Shards → List Shard → Type 0

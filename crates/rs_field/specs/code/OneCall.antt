@@ -14,7 +14,7 @@ use Rattle.rs_field.specs.code.Column.{Shard}
 use Rattle.rs_field.specs.code.Counts.{default_rate, supports}
 use Rattle.rs_field.specs.code.Placement.{encoder_rows, decoder_rows}
 use Rattle.rs_field.specs.code.Outcome.{result_and_then}
-use Rattle.rs_field.specs.code.Configuration.{Configuration, configuration, validated, started}
+use Rattle.rs_field.specs.code.Configuration.{Configuration, configuration, validation_outcome, start_outcome}
 use Rattle.rs_field.specs.code.Given.{Shards, nothing}
 use Rattle.rs_field.specs.code.Encoder.{EncoderState, fresh_encoder, with_shard, EncodeAnswers}
 use Rattle.rs_field.specs.code.Decoder.{DecoderState, fresh_decoder, with_original, with_recovery, DecodeAnswers}
@@ -28,8 +28,8 @@ abbrev pub default_of : ℕ → ℕ → ℕ → Configuration
 default_of k r size = configuration default_rate k r size
 
 -- nothing, or the refusal of these counts
-abbrev pub counted : ℕ → ℕ → Result (Unit {0}) Error
-counted k r = if supports default_rate k r then Ok tt else Err (UnsupportedShardCount k r)
+abbrev pub counts_outcome : ℕ → ℕ → Result (Unit {0}) Error
+counts_outcome k r = if supports default_rate k r then Ok tt else Err (UnsupportedShardCount k r)
 
 -- the outcome of a call for each item in order, the first refused one deciding
 abbrev pub one_by_one : {S T : Type 0} → (S → T → Result S Error) → S → List T → Result S Error
@@ -54,15 +54,15 @@ with_both s originals recoveries = result_and_then (λ now. with_recoveries now 
 
 -- the refusals of `encode` that come before any want of memory: the counts, no shard at all, the first shard's size
 abbrev pub encode_opening : ℕ → ℕ → List Shard → Result (Unit {0}) Error
-encode_opening k r [] = result_and_then (λ _. Err (TooFewOriginalShards k 0)) (counted k r)
-encode_opening k r (shard ∷ _) = validated (default_of k r (length shard))
+encode_opening k r [] = result_and_then (λ _. Err (TooFewOriginalShards k 0)) (counts_outcome k r)
+encode_opening k r (shard ∷ _) = validation_outcome (default_of k r (length shard))
 
 -- the encoder that the shards lead to, or the refusal
 abbrev pub encoding : ℕ → ℕ → List Shard → Result EncoderState Error
-encoding k r [] = result_and_then (λ _. Err (TooFewOriginalShards k 0)) (counted k r)
+encoding k r [] = result_and_then (λ _. Err (TooFewOriginalShards k 0)) (counts_outcome k r)
 encoding k r (shard ∷ shards) =
     let c = default_of k r (length shard) in
-    result_and_then (λ _. with_shards (fresh_encoder c) (shard ∷ shards)) (started (encoder_rows default_rate k r) c)
+    result_and_then (λ _. with_shards (fresh_encoder c) (shard ∷ shards)) (start_outcome (encoder_rows default_rate k r) c)
 
 -- a result is out of memory, where nothing was refused before memory was wanted
 abbrev pub LacksMemory : {T : Type 0} → Result (Unit {0}) Error → Result T Error → Type 0
@@ -75,8 +75,8 @@ OneEncodeAnswers k r shards result =
     ⊎ LacksMemory (encode_opening k r shards) result
 
 -- the outcome of noting an original's index with those that were given before it: it is to be below k, and not among them
-abbrev pub noted : ℕ → List ℕ → ℕ → Result (List ℕ) Error
-noted k given index =
+abbrev pub note_outcome : ℕ → List ℕ → ℕ → Result (List ℕ) Error
+note_outcome k given index =
     if nat_le k index then Err (InvalidOriginalShardIndex k index)
     else if list_any (nat_eq index) given then Err (DuplicateOriginalShardIndex index)
     else Ok (index ∷ given)
@@ -85,23 +85,23 @@ noted k given index =
 abbrev pub originals_alone : ℕ → Items → Result (Unit {0}) Error
 originals_alone k originals =
     result_and_then (λ given. if nat_lt (length given) k then Err (NotEnoughShards k (length given) 0) else Ok tt)
-    (one_by_one (λ given item. noted k given item.0) [] originals)
+    (one_by_one (λ given item. note_outcome k given item.0) [] originals)
 
 -- the refusals of `decode` that come before any want of memory: the counts, the first recovery shard's size
 abbrev pub decode_opening : ℕ → ℕ → Items → Result (Unit {0}) Error
-decode_opening k r [] = counted k r
-decode_opening k r (item ∷ _) = validated (default_of k r (length item.1))
+decode_opening k r [] = counts_outcome k r
+decode_opening k r (item ∷ _) = validation_outcome (default_of k r (length item.1))
 
 -- the decoder that the originals and then the recovery shards lead to, or the refusal
 abbrev pub decoding : ℕ → ℕ → Items → ℕ × Shard → Items → Result DecoderState Error
 decoding k r originals first rest =
     let c = default_of k r (length first.1) in
-    result_and_then (λ _. with_both (fresh_decoder c) originals (first ∷ rest)) (started (decoder_rows default_rate k r) c)
+    result_and_then (λ _. with_both (fresh_decoder c) originals (first ∷ rest)) (start_outcome (decoder_rows default_rate k r) c)
 
 -- what one-call `decode` answers while memory is found
 abbrev pub OneDecodes : ℕ → ℕ → Items → Items → Result Shards Error → Type 0
 OneDecodes k r originals [] result =
-    MatchResult (result_and_then (λ _. originals_alone k originals) (counted k r))
+    MatchResult (result_and_then (λ _. originals_alone k originals) (counts_outcome k r))
     (λ _. result ≡ Ok nothing) (λ e. result ≡ Err e)
 OneDecodes k r originals (first ∷ rest) result =
     MatchResult (decoding k r originals first rest) (λ s. DecodeAnswers s result) (λ e. result ≡ Err e)
@@ -120,8 +120,8 @@ abbrev pub LendsItems : {I : Type 0} → (I → Option (ℕ × Bor Shard) → I 
 LendsItems next iterator items = AlwaysYields next (λ item. (item.0, item.1.now)) iterator items
 
 -- the vectors of a result as shards, or the refusal
-abbrev pub collected : {Y Z : Type 0} → Result (Vec (Vec ℕ Y) Z) Error → Result (List Shard) Error
-collected result = result_map_both (λ vectors. map (λ v. v.items) vectors.items) (λ e. e) result
+abbrev pub collected_shards : {Y Z : Type 0} → Result (Vec (Vec ℕ Y) Z) Error → Result (List Shard) Error
+collected_shards result = result_map_both (λ vectors. map (λ v. v.items) vectors.items) (λ e. e) result
 
 -- the vectors of a map as shards, by their index
 abbrev pub shards_in : {Y : Type 0} → BTreeMap ℕ (Vec ℕ Y) → Shards

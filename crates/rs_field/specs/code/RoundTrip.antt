@@ -6,7 +6,7 @@ use Rattle.rs_field.specs.declared.code.error.Error.TheVariants.{NotEnoughShards
 use Rattle.rs_field.specs.code.Column.{Shard, AreShards, shard_at}
 use Rattle.rs_field.specs.code.Counts.{Rate}
 use Rattle.rs_field.specs.code.Outcome.{answer_of}
-use Rattle.rs_field.specs.code.Configuration.{Configuration, validated}
+use Rattle.rs_field.specs.code.Configuration.{Configuration, validation_outcome}
 use Rattle.rs_field.specs.code.Code.{AreRecovery}
 use Rattle.rs_field.specs.code.Given.{Shards, AreAmong}
 use Rattle.rs_field.specs.code.Encoder.{EncoderState, IsEncoder, EncodeAnswers}
@@ -67,7 +67,7 @@ RestoresLeft =
 -- what one call of `encode` coded: k shards of one valid size, and these are their recovery shards at the default rate
 pub record AreCoded (k r : ℕ) (originals recovery : List Shard) : Type 0 where
   pub size : ℕ
-  pub valid : validated (default_of k r size) ≡ Ok tt
+  pub valid : validation_outcome (default_of k r size) ≡ Ok tt
   pub shards : AreShards k size originals
   pub coded : AreRecovery (default_of k r size) originals recovery
 
@@ -79,7 +79,7 @@ CodesInOneCall =
 -- one-call `encode` of k shards of a valid size is never refused, but for want of memory
 abbrev pub EncodesInOneCall : Type 0
 EncodesInOneCall =
-    (k r size : ℕ) (originals : List Shard) (result : Result (List Shard) Error) → validated (default_of k r size) ≡ Ok tt
+    (k r size : ℕ) (originals : List Shard) (result : Result (List Shard) Error) → validation_outcome (default_of k r size) ≡ Ok tt
     → length originals ≡ k → All (λ shard. length shard ≡ size) originals → OneEncodeAnswers k r originals result → IfErr result (λ e. e ≡ OutOfMemory)
 
 -- what one-call `decode` answers where the originals are known: a success where shards enough are left, with exactly the lost originals, else that refusal; or out of memory

@@ -1,7 +1,7 @@
 -- What a butterfly of two rows makes of a chunk of each, and a butterfly of two words.
 use Rattle.std.specs.Prelude.{◌≡◌, ℕ, List, ◌<◌, bit_xor}
 use Rattle.rs_field.specs.rows.Rows.{symbol}
-use Rattle.rs_field.specs.words.Tables.{scaled}
+use Rattle.rs_field.specs.words.Tables.{times_factor}
 
 -- a relation of two old words and the two new ones
 abbrev pub OnTwoWords : Type 1
@@ -13,11 +13,11 @@ OnTwoChunks = List ℕ → List ℕ → List ℕ → List ℕ → Type 0
 
 -- y times the factor was added to x, and then the new x to y
 abbrev pub IsForwardTwo : ℕ → OnTwoWords
-IsForwardTwo log_m x y x' y' = (x' ≡ bit_xor x (scaled log_m y)) × (y' ≡ bit_xor y x')
+IsForwardTwo log_m x y x' y' = (x' ≡ bit_xor x (times_factor log_m y)) × (y' ≡ bit_xor y x')
 
 -- x was added to y, and then the new y times the factor to x
 abbrev pub IsBackwardTwo : ℕ → OnTwoWords
-IsBackwardTwo log_m x y x' y' = (x' ≡ bit_xor x (scaled log_m y')) × (y' ≡ bit_xor y x)
+IsBackwardTwo log_m x y x' y' = (x' ≡ bit_xor x (times_factor log_m y')) × (y' ≡ bit_xor y x)
 
 -- a relation of symbol s of two old chunks and of the two new ones
 abbrev pub at_two_symbols : ℕ → OnTwoWords → OnTwoChunks

@@ -1,11 +1,11 @@
 -- Butterflies of two words, and what two layers of them make of a chunk of each of four rows.
 use Rattle.std.specs.Prelude.{◌≡◌, ℕ, List, ◌<◌, bit_xor}
 use Rattle.rs_field.specs.rows.Rows.{symbol}
-use Rattle.rs_field.specs.words.Tables.{scaled}
+use Rattle.rs_field.specs.words.Tables.{times_factor}
 
 -- the first word after a forward butterfly
 abbrev pub forward_first : ℕ → ℕ → ℕ → ℕ
-forward_first log_m x y = bit_xor x (scaled log_m y)
+forward_first log_m x y = bit_xor x (times_factor log_m y)
 
 -- the second word after it
 abbrev pub forward_second : ℕ → ℕ → ℕ → ℕ
@@ -17,7 +17,7 @@ backward_second x y = bit_xor y x
 
 -- the first word after it
 abbrev pub backward_first : ℕ → ℕ → ℕ → ℕ
-backward_first log_m x y = bit_xor x (scaled log_m (backward_second x y))
+backward_first log_m x y = bit_xor x (times_factor log_m (backward_second x y))
 
 -- a relation of four old words and the four new ones
 abbrev pub OnFourWords : Type 1

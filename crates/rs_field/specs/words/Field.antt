@@ -46,9 +46,9 @@ unfoldable pub product : ℕ → ℕ → ℕ
 product x y = from_bits (reduce 16 (carryless 16 (bits x) (bits y)))
 
 -- x times itself, n times
-unfoldable pub raised : ℕ → ℕ → ℕ
-raised x zero = 1
-raised x (suc n) = product (raised x n) x
+unfoldable pub nth_power : ℕ → ℕ → ℕ
+nth_power x zero = 1
+nth_power x (suc n) = product (nth_power x n) x
 
 -- the word whose `bits` are 2
 unfoldable pub generator : ℕ
@@ -56,7 +56,7 @@ generator = 0x4690
 
 -- the generator to the power n
 unfoldable pub power : ℕ → ℕ
-power n = raised generator n
+power n = nth_power generator n
 
 -- the logarithm of a word that is not zero: the only n below 65535 whose power is the word
 unfoldable pub log : ℕ → ℕ

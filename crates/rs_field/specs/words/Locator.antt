@@ -1,6 +1,6 @@
 -- The locator of marked points, by its logarithms.
 use Rattle.std.specs.Prelude.{◌≡◌, ℕ, zero, suc, ◌+◌, ◌*◌, ◌%◌, ◌<◌, ◌≤◌, ◌==◌, if◌then◌else◌, bit_xor}
-use Rattle.rs_field.specs.words.Field.{raised, power, log}
+use Rattle.rs_field.specs.words.Field.{nth_power, power, log}
 use Rattle.rs_field.specs.words.Subspace.{product_below}
 
 -- the sum of e y * log (x + y) over the points y below n other than x
@@ -20,4 +20,4 @@ IsLocator old new = IsLocatorBelow 65536 old new
 abbrev pub LocatesByProduct : Type 0
 LocatesByProduct =
     (n : ℕ) (e : ℕ → ℕ) (x : ℕ) → n ≤ 65536 → x < 65536
-    → power (log_sum n e x) ≡ product_below n (λ y. if x == y then 1 else raised (bit_xor x y) (e y))
+    → power (log_sum n e x) ≡ product_below n (λ y. if x == y then 1 else nth_power (bit_xor x y) (e y))

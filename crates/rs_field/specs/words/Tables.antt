@@ -27,8 +27,8 @@ pub record IsSkew (skew_table : List ℕ) : Type 0 where
   pub skew_entry : (d u j : ℕ) → j ≡ (2 * u + 1) * 2 ^ d → j < 65536 → slice_index skew_table (j - 1) ≡ log_or_mark (subspace d (j - 2 ^ d))
 
 -- a word times the factor with this logarithm, where 65535 marks the factor zero
-abbrev pub scaled : ℕ → ℕ → ℕ
-scaled log_m w = if log_m == 65535 then 0 else product w (power log_m)
+abbrev pub times_factor : ℕ → ℕ → ℕ
+times_factor log_m w = if log_m == 65535 then 0 else product w (power log_m)
 
 -- the Walsh-Hadamard transform of the logarithms, as residues modulo 65535, where that of 0 counts as 0
 pub record IsLogWalsh (log_walsh : List ℕ) : Type 0 where

@@ -4,8 +4,8 @@ use Rattle.rs_field.specs.declared.code.error.Error.{Error}
 use Rattle.rs_field.specs.declared.code.error.Error.TheVariants.{DifferentShardSize, DuplicateOriginalShardIndex, DuplicateRecoveryShardIndex, InvalidOriginalShardIndex, InvalidRecoveryShardIndex, InvalidShardSize, NotEnoughShards, OutOfMemory, TooFewOriginalShards, TooManyOriginalShards, UnsupportedShardCount}
 use Rattle.rs_field.specs.code.Column.{Shard}
 use Rattle.rs_field.specs.code.Outcome.{result_and_then, answer_of, state_after}
-use Rattle.rs_field.specs.code.Configuration.{validated, UpToMemory}
-use Rattle.rs_field.specs.code.Given.{Shards, nothing, entered}
+use Rattle.rs_field.specs.code.Configuration.{validation_outcome, UpToMemory}
+use Rattle.rs_field.specs.code.Given.{Shards, nothing, with_entry}
 use Rattle.rs_field.specs.code.Encoder.{EncoderState, fresh_encoder, with_shard, message_of, after_encode}
 use Rattle.rs_field.specs.code.Decoder.{fresh_decoder, with_original, with_recovery, enough_given, after_decode}
 use Rattle.rs_field.specs.code.OneCall.{default_of, encoding, decoding, OneEncodeAnswers, OneDecodes, OneDecodeAnswers}
@@ -51,7 +51,7 @@ encoder_with given = record { configuration = default_of 2 3 2; given = given }
 -- a refused add leaves the encoder as it was, an added shard comes last, and `encode` leaves nothing given
 abbrev pub EncoderRound : Type 0
 EncoderRound =
-    (validated (default_of 2 3 3) ≡ Err (InvalidShardSize 3))
+    (validation_outcome (default_of 2 3 3) ≡ Err (InvalidShardSize 3))
     × (state_after (encoder_with (zeros 2 ∷ [])) (with_shard (encoder_with (zeros 2 ∷ [])) []) ≡ encoder_with (zeros 2 ∷ []))
     × (with_shard (encoder_with (zeros 2 ∷ [])) (1 ∷ 0 ∷ []) ≡ Ok (encoder_with (zeros 2 ∷ (1 ∷ 0 ∷ []) ∷ [])))
     × (message_of (encoder_with (zeros 2 ∷ (1 ∷ 0 ∷ []) ∷ [])) ≡ Ok (zeros 2 ∷ (1 ∷ 0 ∷ []) ∷ []))
@@ -61,7 +61,7 @@ EncoderRound =
 -- two recovery shards are enough for two originals, one isn't, and `decode` leaves nothing given, also where no message agrees
 abbrev pub DecoderRound : Type 0
 DecoderRound =
-    (enough_given (record { configuration = default_of 2 3 2; originals = nothing; recovery = entered nothing 2 (zeros 2) }) ≡ Err (NotEnoughShards 2 0 1))
+    (enough_given (record { configuration = default_of 2 3 2; originals = nothing; recovery = with_entry nothing 2 (zeros 2) }) ≡ Err (NotEnoughShards 2 0 1))
     × (enough_given two_given ≡ Ok tt) × (after_decode two_given ≡ fresh_decoder (default_of 2 3 2))
     × (after_decode (surplus_given (7 ∷ 8 ∷ [])) ≡ fresh_decoder (default_of 1 2 2))
     × (enough_given (fresh_decoder (default_of 2 3 2)) ≡ Err (NotEnoughShards 2 0 0))
@@ -75,7 +75,7 @@ LargestIndex =
 -- a want of memory stands in the place of a success, or of a later refusal of a one-call function, but never of a first refusal
 abbrev pub MemoryOrder : Type 0
 MemoryOrder =
-    (UpToMemory (validated (default_of 2 3 3)) (Err OutOfMemory) → ⊥) × UpToMemory (validated (default_of 2 3 2)) (Err OutOfMemory)
+    (UpToMemory (validation_outcome (default_of 2 3 3)) (Err OutOfMemory) → ⊥) × UpToMemory (validation_outcome (default_of 2 3 2)) (Err OutOfMemory)
     × (OneEncodeAnswers 0 1 [] (Err OutOfMemory) → ⊥) × (OneEncodeAnswers 1 1 [] (Err OutOfMemory) → ⊥)
     × (OneEncodeAnswers 1 1 (zeros 3 ∷ []) (Err OutOfMemory) → ⊥) × OneEncodeAnswers 1 1 (zeros 64 ∷ zeros 128 ∷ []) (Err OutOfMemory)
     × (OneDecodeAnswers 0 1 [] [] (Err OutOfMemory) → ⊥) × (OneDecodeAnswers 1 1 ((0, zeros 64) ∷ []) ((0, []) ∷ []) (Err OutOfMemory) → ⊥)

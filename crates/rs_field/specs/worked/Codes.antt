@@ -6,7 +6,7 @@ use Rattle.rs_field.specs.code.Counts.{Rate, default_rate}
 use Rattle.rs_field.specs.code.Configuration.{configuration}
 use Rattle.rs_field.specs.code.Code.{Codes, AreRecovery}
 use Rattle.rs_field.specs.code.CodeLaws.{xor_shards}
-use Rattle.rs_field.specs.code.Given.{nothing, entered}
+use Rattle.rs_field.specs.code.Given.{nothing, with_entry}
 use Rattle.rs_field.specs.code.Decoder.{DecoderState, IsAgreeing, Restored, DecodeAnswers}
 
 -- shards of two bytes, of which the second is zero
@@ -90,7 +90,7 @@ abbrev pub two_given : DecoderState
 two_given = record {
   configuration = configuration default_rate 2 3 2;
   originals = nothing;
-  recovery = entered (entered nothing 0 (2 ∷ 0 ∷ [])) 1 (3 ∷ 0 ∷ []);
+  recovery = with_entry (with_entry nothing 0 (2 ∷ 0 ∷ [])) 1 (3 ∷ 0 ∷ []);
 }
 
 -- one message agrees with the two recovery shards, no other does, and it is restored
@@ -98,7 +98,7 @@ abbrev pub RestoredExample : Type 0
 RestoredExample =
     IsAgreeing two_given (low_bytes (0 ∷ 1 ∷ []))
     × ((message : List Shard) → IsAgreeing two_given message → message ≡ low_bytes (0 ∷ 1 ∷ []))
-    × Restored two_given (entered (entered nothing 0 (0 ∷ 0 ∷ [])) 1 (1 ∷ 0 ∷ []))
+    × Restored two_given (with_entry (with_entry nothing 0 (0 ∷ 0 ∷ [])) 1 (1 ∷ 0 ∷ []))
 
 -- two originals and two recovery shards, given out of order, agree with a message of four shards
 abbrev pub MixtureExample : Type 0
@@ -106,8 +106,8 @@ MixtureExample =
     IsAgreeing
     (record {
       configuration = configuration default_rate 4 4 2;
-      originals = entered (entered nothing 3 (3 ∷ 0 ∷ [])) 1 (0 ∷ 0 ∷ []);
-      recovery = entered (entered nothing 2 (14 ∷ 0 ∷ [])) 0 (11 ∷ 0 ∷ []);
+      originals = with_entry (with_entry nothing 3 (3 ∷ 0 ∷ [])) 1 (0 ∷ 0 ∷ []);
+      recovery = with_entry (with_entry nothing 2 (14 ∷ 0 ∷ [])) 0 (11 ∷ 0 ∷ []);
     })
     (low_bytes (0 ∷ 0 ∷ 2 ∷ 3 ∷ []))
 
@@ -115,8 +115,8 @@ MixtureExample =
 abbrev pub surplus_given : Shard → DecoderState
 surplus_given recovery = record {
   configuration = configuration default_rate 1 2 2;
-  originals = entered nothing 0 (7 ∷ 9 ∷ []);
-  recovery = entered nothing 0 recovery;
+  originals = with_entry nothing 0 (7 ∷ 9 ∷ []);
+  recovery = with_entry nothing 0 recovery;
 }
 
 -- with a copy of the original nothing is missing, and with another shard no message agrees

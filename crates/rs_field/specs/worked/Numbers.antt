@@ -7,7 +7,7 @@ use Rattle.rs_field.specs.words.StepBounds.{transform_steps}
 use Rattle.rs_field.specs.code.Column.{column}
 use Rattle.rs_field.specs.code.Counts.{low_rate, high_rate, default_rate, next_power, supports, is_low}
 use Rattle.rs_field.specs.code.Placement.{block_rows, encoder_rows, decoder_rows}
-use Rattle.rs_field.specs.code.Configuration.{configuration, validated, started}
+use Rattle.rs_field.specs.code.Configuration.{configuration, validation_outcome, start_outcome}
 use Rattle.rs_field.specs.code.Bounds.{encode_steps_at, decode_steps_at}
 
 -- products of small words
@@ -62,19 +62,19 @@ Choices =
 -- a wrong size is refused, and counts that aren't supported are refused first
 abbrev pub Validated : Type 0
 Validated =
-    (validated (configuration low_rate 1 1 123) ≡ Err (InvalidShardSize 123)) × (validated (configuration low_rate 1 1 0) ≡ Err (InvalidShardSize 0))
-    × (validated (configuration high_rate 1 1 123) ≡ Err (InvalidShardSize 123))
-    × (validated (configuration low_rate 61440 4096 64) ≡ Err (UnsupportedShardCount 61440 4096))
-    × (validated (configuration low_rate 61440 4096 123) ≡ Err (UnsupportedShardCount 61440 4096))
-    × (validated (configuration high_rate 61440 4096 64) ≡ Ok tt)
+    (validation_outcome (configuration low_rate 1 1 123) ≡ Err (InvalidShardSize 123)) × (validation_outcome (configuration low_rate 1 1 0) ≡ Err (InvalidShardSize 0))
+    × (validation_outcome (configuration high_rate 1 1 123) ≡ Err (InvalidShardSize 123))
+    × (validation_outcome (configuration low_rate 61440 4096 64) ≡ Err (UnsupportedShardCount 61440 4096))
+    × (validation_outcome (configuration low_rate 61440 4096 123) ≡ Err (UnsupportedShardCount 61440 4096))
+    × (validation_outcome (configuration high_rate 61440 4096 64) ≡ Ok tt)
 
 -- at the largest size one row has more bytes than a `usize` counts; 62 bytes below it two rows have, and one hasn't
 abbrev pub TooManyBytes : Type 0
 TooManyBytes =
-    (started (encoder_rows default_rate 1 1) (configuration default_rate 1 1 18446744073709551614) ≡ Err OutOfMemory)
-    × (started (decoder_rows default_rate 1 1) (configuration default_rate 1 1 18446744073709551614) ≡ Err OutOfMemory)
-    × (started (encoder_rows default_rate 1 1) (configuration default_rate 1 1 18446744073709551552) ≡ Ok tt)
-    × (started (decoder_rows default_rate 1 1) (configuration default_rate 1 1 18446744073709551552) ≡ Err OutOfMemory)
+    (start_outcome (encoder_rows default_rate 1 1) (configuration default_rate 1 1 18446744073709551614) ≡ Err OutOfMemory)
+    × (start_outcome (decoder_rows default_rate 1 1) (configuration default_rate 1 1 18446744073709551614) ≡ Err OutOfMemory)
+    × (start_outcome (encoder_rows default_rate 1 1) (configuration default_rate 1 1 18446744073709551552) ≡ Ok tt)
+    × (start_outcome (decoder_rows default_rate 1 1) (configuration default_rate 1 1 18446744073709551552) ≡ Err OutOfMemory)
 
 -- rows of encoders
 abbrev pub EncoderRowsExamples : Type 0

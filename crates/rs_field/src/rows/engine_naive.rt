@@ -1,7 +1,7 @@
 //! The plain engine: each product by the tables of powers and logarithms, symbol by symbol.
 ghost use Rattle.std.specs.Prelude.{◌≡◌, ℕ, ◌<◌, length, bit_xor};
 ghost use Rattle.rs_field.specs.words.Field.{product, power};
-ghost use Rattle.rs_field.specs.words.Tables.{IsExpLog, scaled};
+ghost use Rattle.rs_field.specs.words.Tables.{IsExpLog, times_factor};
 ghost use Rattle.rs_field.specs.rows.Rows.{chunk, symbol};
 
 use super::kernel::Kernel;
@@ -65,7 +65,7 @@ impl Naive<'_> {
     fn mul_add_row(&self, xs: &mut [[u8; 64]], ys: &[[u8; 64]], log_m: GfElement)
         requires { length xs.old ≡ length ys.now }
         ensures { (k s : ℕ) → k < length xs.old → s < 32
-            → symbol (chunk xs.new k) s ≡ bit_xor (symbol (chunk xs.old k) s) (scaled log_m (symbol (chunk ys.now k) s)) }
+            → symbol (chunk xs.new k) s ≡ bit_xor (symbol (chunk xs.old k) s) (times_factor log_m (symbol (chunk ys.now k) s)) }
     {
         if log_m != GF_MODULUS {
             let t = get_exp_log(self.tables);

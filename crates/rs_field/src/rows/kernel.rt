@@ -3,7 +3,7 @@ ghost use Rattle.std.specs.Prelude.{◌≡◌, ℕ, ◌^◌, ◌<◌, ◌≤◌,
 ghost use Rattle.rs_field.specs.words.StepBounds.{LocatorCounts, LocatorCountsBelow};
 ghost use Rattle.rs_field.specs.words.Field.{product, power};
 ghost use Rattle.rs_field.specs.words.Locator.{IsLocatorBelow};
-ghost use Rattle.rs_field.specs.words.Tables.{scaled};
+ghost use Rattle.rs_field.specs.words.Tables.{times_factor};
 ghost use Rattle.rs_field.specs.rows.Rows.{chunk, symbol};
 ghost use Rattle.rs_field.specs.rows.TwoLayers.{IsForwardTwoLayers, IsBackwardTwoLayers};
 
@@ -38,7 +38,7 @@ pub trait Kernel: Drop {
     fn fft_butterfly(&self, x: &mut [[u8; 64]], y: &mut [[u8; 64]], log_m: GfElement)
         requires { length x.old ≡ length y.old }
         ensures first { (k s : ℕ) → k < length x.old → s < 32
-            → symbol (chunk x.new k) s ≡ bit_xor (symbol (chunk x.old k) s) (scaled log_m (symbol (chunk y.old k) s)) }
+            → symbol (chunk x.new k) s ≡ bit_xor (symbol (chunk x.old k) s) (times_factor log_m (symbol (chunk y.old k) s)) }
         ensures second { (k s : ℕ) → k < length x.old → s < 32
             → symbol (chunk y.new k) s ≡ bit_xor (symbol (chunk y.old k) s) (symbol (chunk x.new k) s) };
 
@@ -46,7 +46,7 @@ pub trait Kernel: Drop {
     fn ifft_butterfly(&self, x: &mut [[u8; 64]], y: &mut [[u8; 64]], log_m: GfElement)
         requires { length x.old ≡ length y.old }
         ensures first { (k s : ℕ) → k < length x.old → s < 32
-            → symbol (chunk x.new k) s ≡ bit_xor (symbol (chunk x.old k) s) (scaled log_m (symbol (chunk y.new k) s)) }
+            → symbol (chunk x.new k) s ≡ bit_xor (symbol (chunk x.old k) s) (times_factor log_m (symbol (chunk y.new k) s)) }
         ensures second { (k s : ℕ) → k < length x.old → s < 32
             → symbol (chunk y.new k) s ≡ bit_xor (symbol (chunk y.old k) s) (symbol (chunk x.old k) s) };
 

@@ -1,14 +1,14 @@
 //! What a coder is set up for, validated once: from it come the rows of an encoder and the frame of a decoder.
 ghost use Rattle.std.specs.Prelude.{◌≡◌, Err, MatchResult};
-ghost use Rattle.rs_field.specs.code.Configuration.{configuration, validated};
-ghost use Rattle.rs_rate.specs.Configured.{configured, shape_of_encoder, shape_of_decoder, IsConfigured};
+ghost use Rattle.rs_field.specs.code.Configuration.{configuration, validation_outcome};
+ghost use Rattle.rs_rate.specs.Configured.{rate_configuration, shape_of_encoder, shape_of_decoder, IsConfigured};
 ghost use Rattle.rs_rate.specs.SetUp.{IsSetUp};
 ghost use Rattle.rs_rate.specs.Shapes.{EncoderCanBeLaid, DecoderCanBeLaid};
 
-use crate::rate::code::Code;
 use crate::rate::counts::power_of_two;
 use crate::rate::decoder_work::{DecoderShape, Frame};
 use crate::rate::encoder_work::EncoderShape;
+use crate::rate::rate_marker::RateMarker;
 use crate::rate::supported_counts::SupportedCounts;
 use rs_field::engine::GF_ORDER;
 use rs_field::error::Error;
@@ -27,12 +27,12 @@ pub struct Configuration {
 impl Configuration {
     // The configuration of a rate at counts that it supports, or the refusal of the size.
     #[inline(always)]
-    pub(crate) fn new<C: Code>(
+    pub(crate) fn new<C: RateMarker>(
         counts: SupportedCounts<C>,
         shard_bytes: usize,
     ) -> Result<Configuration, Error>
-        ensures { MatchResult result (λ c. (c ≡ configured C.rate counts.original_count counts.recovery_count shard_bytes) × IsSetUp C.rate c)
-            (λ e. validated (configuration C.rate counts.original_count counts.recovery_count shard_bytes) ≡ Err e) }
+        ensures { MatchResult result (λ c. (c ≡ rate_configuration C.rate counts.original_count counts.recovery_count shard_bytes) × IsSetUp C.rate c)
+            (λ e. validation_outcome (configuration C.rate counts.original_count counts.recovery_count shard_bytes) ≡ Err e) }
     {
         if shard_bytes == 0 || shard_bytes % 2 == 1 {
             return Err(Error::InvalidShardSize { shard_bytes });
@@ -48,13 +48,13 @@ impl Configuration {
 
     // The configuration of a rate at counts and a size, or the first refusal.
     #[inline(always)]
-    pub(crate) fn at<C: Code>(
+    pub(crate) fn at<C: RateMarker>(
         original_count: usize,
         recovery_count: usize,
         shard_bytes: usize,
     ) -> Result<Configuration, Error>
-        ensures { MatchResult result (λ c. (c ≡ configured C.rate original_count recovery_count shard_bytes) × IsSetUp C.rate c)
-            (λ e. validated (configuration C.rate original_count recovery_count shard_bytes) ≡ Err e) }
+        ensures { MatchResult result (λ c. (c ≡ rate_configuration C.rate original_count recovery_count shard_bytes) × IsSetUp C.rate c)
+            (λ e. validation_outcome (configuration C.rate original_count recovery_count shard_bytes) ≡ Err e) }
     {
         let counts = SupportedCounts::<C>::new(original_count, recovery_count)?;
         Configuration::new(counts, shard_bytes)

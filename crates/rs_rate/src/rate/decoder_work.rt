@@ -9,15 +9,15 @@ ghost use Rattle.rs_field.specs.code.Configuration.{UpToMemory};
 ghost use Rattle.rs_field.specs.code.Decoder.{fresh_decoder, enough_given};
 ghost use Rattle.rs_field.specs.rows.MarkedRows.{is_marked};
 ghost use Rattle.rs_rate.specs.Shapes.{DecoderCanBeLaid, original_row, recovery_row};
-ghost use Rattle.rs_rate.specs.ShardRows.{asked, chunk_count, shard_laid_out};
+ghost use Rattle.rs_rate.specs.ShardRows.{memory_outcome, chunk_count, shard_laid_out};
 ghost use Rattle.rs_rate.specs.Marks.{given_marks, mark_count, mark_room, AreSameMarks, HoldGiven};
 ghost use Rattle.rs_rate.specs.DecoderRoom.{IsLaidOut};
-ghost use Rattle.rs_rate.specs.Sides.{with_given};
+ghost use Rattle.rs_rate.specs.Sides.{with_shard_of_side};
 
-use crate::rate::coder::CoderRows;
 use crate::rate::configuration::Configuration;
 use crate::rate::marks::Marks;
 use crate::rate::memory::{make_room, set_chunks, set_length};
+use crate::rate::rate_object::ObjectRows;
 use crate::rate::restoring::Tally;
 use crate::rate::shard_rows::{chunk_count, insert_at, shard_at, shard_is_bytes};
 use crate::rate::side::Side;
@@ -127,7 +127,7 @@ impl DecoderMemory {
     fn new(alloc: Global, shape: DecoderShape) -> Result<DecoderMemory, Error>
         ensures laid_out { IfOk result (IsLaidOut shape) }
         ensures empty { IfOk result (λ m. (p : ℕ) → is_marked (given_marks m.marks) p ≡ false) }
-        ensures answer { UpToMemory (asked (shape_chunks shape)) (answer_of result) }
+        ensures answer { UpToMemory (memory_outcome (shape_chunks shape)) (answer_of result) }
     {
         let row_count = shape.frame.row_count;
         let chunk_count = chunk_count(row_count, shape.configuration.shard_bytes)?;
@@ -150,10 +150,10 @@ impl DecoderMemory {
         requires { DecoderCanBeLaid shape }
         ensures laid_out { IfOk result (IsLaidOut shape) }
         ensures empty { IfOk result (λ m. (p : ℕ) → is_marked (given_marks m.marks) p ≡ false) }
-        ensures answer { UpToMemory (asked (shape_chunks shape)) (answer_of result) }
+        ensures answer { UpToMemory (memory_outcome (shape_chunks shape)) (answer_of result) }
         ensures grown { IfOk result (λ m. IfSome work (λ w. Grows (work_room w) (memory_room m))) }
         ensures roomy { IfSome work (λ w. HasRoom (work_room w) shape.frame.row_count shape.configuration.shard_bytes
-            → answer_of result ≡ asked (shape_chunks shape)) }
+            → answer_of result ≡ memory_outcome (shape_chunks shape)) }
     {
         match DecoderMemory::of(work) {
             Some(mut memory) => {
@@ -185,9 +185,9 @@ impl DecoderMemory {
         ensures empty { OnOk result ((p : ℕ) → is_marked (given_marks self.new.marks) p ≡ false) }
         ensures kept { OnErr result ((self.new.chunks.items ≡ self.old.chunks.items) × AreSameMarks self.old.marks self.new.marks
             × (self.new.entries.items ≡ self.old.entries.items)) }
-        ensures answer { UpToMemory (asked (shape_chunks shape)) result }
+        ensures answer { UpToMemory (memory_outcome (shape_chunks shape)) result }
         ensures grown { Grows (memory_room self.old) (memory_room self.new) }
-        ensures roomy { HasRoom (memory_room self.old) shape.frame.row_count shape.configuration.shard_bytes → result ≡ asked (shape_chunks shape) }
+        ensures roomy { HasRoom (memory_room self.old) shape.frame.row_count shape.configuration.shard_bytes → result ≡ memory_outcome (shape_chunks shape) }
     {
         let rows = shape.frame.row_count;
         let chunks = chunk_count(rows, shape.configuration.shard_bytes)?;
@@ -218,7 +218,7 @@ impl DecoderMemory {
     }
 }
 
-impl CoderRows for DecoderRows {
+impl ObjectRows for DecoderRows {
     ghost use Rattle.std.proofs.Common.{le_refl};
     ghost use Rattle.rs_field.specs.code.Decoder.{DecoderState};
     ghost use Rattle.rs_field.specs.code.Placement.{decoder_rows};
@@ -287,14 +287,14 @@ impl CoderRows for DecoderRows {
 
 impl DecoderRows {
     ghost use Rattle.rs_rate.specs.DecoderRoom.{memory_room};
-    ghost use Rattle.rs_rate.specs.DecoderView.{decoder_state, restored_of, restored_from};
+    ghost use Rattle.rs_rate.specs.DecoderView.{decoder_state, restored_by_rows, restored_from};
     ghost use Rattle.rs_rate.specs.Decoding.{CanBeRestored};
 
     // Enters a shard of a side in its row, where the row is free.
     pub(crate) fn add_shard(&mut self, side: Side, index: usize, shard: &[u8]) -> Result<(), Error>
-        ensures answer { (rate : Rate) → result ≡ answer_of (with_given side (decoder_state rate self.old) index shard.now) }
+        ensures answer { (rate : Rate) → result ≡ answer_of (with_shard_of_side side (decoder_state rate self.old) index shard.now) }
         ensures left { (rate : Rate) → decoder_state rate self.new
-            ≡ state_after (decoder_state rate self.old) (with_given side (decoder_state rate self.old) index shard.now) }
+            ≡ state_after (decoder_state rate self.old) (with_shard_of_side side (decoder_state rate self.old) index shard.now) }
         ensures shape { self.new.shape ≡ self.old.shape }
         ensures room { memory_room self.new.memory ≡ memory_room self.old.memory }
     {
@@ -346,7 +346,7 @@ impl DecoderRows {
     }
 
     pub(crate) fn restored_original(&self, index: usize) -> Option<&[u8]>
-        ensures { option_copied result ≡ restored_of self.now index }
+        ensures { option_copied result ≡ restored_by_rows self.now index }
     {
         if index >= self.shape.configuration.original_count {
             return None;

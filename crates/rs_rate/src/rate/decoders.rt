@@ -3,10 +3,12 @@ ghost use Rattle.rs_rate.specs.DecoderRoom.{memory_room};
 ghost use Rattle.rs_rate.specs.DecoderView.{decoder_state};
 
 use crate::decoder_result::DecoderResult;
-use crate::rate::code::{Code, DefaultCode, HighCode, LowCode, RateOf};
-use crate::rate::coder::Coder;
 use crate::rate::configuration::Configuration;
 use crate::rate::decoder_work::DecoderRows;
+use crate::rate::rate_marker::{
+    DefaultRateMarker, HighRateMarker, LowRateMarker, RateMarker, RateOf,
+};
+use crate::rate::rate_object::RateObject;
 use crate::rate::rounds::{decode_round, lent_originals};
 use crate::rate::side::Side;
 use crate::rate::supported_counts::SupportedCounts;
@@ -16,18 +18,18 @@ use rs_field::error::Error;
 use std::alloc::Global;
 
 /// The decoder of the low rate.
-pub type LowRateDecoder<E> = Decoder<E, LowCode>;
+pub type LowRateDecoder<E> = Decoder<E, LowRateMarker>;
 
 /// The decoder of the high rate.
-pub type HighRateDecoder<E> = Decoder<E, HighCode>;
+pub type HighRateDecoder<E> = Decoder<E, HighRateMarker>;
 
 /// The decoder of the default rate.
-pub type DefaultRateDecoder<E> = Decoder<E, DefaultCode>;
+pub type DefaultRateDecoder<E> = Decoder<E, DefaultRateMarker>;
 
 /// The decoder of a rate.
-pub type Decoder<E, C> = Coder<E, C, DecoderRows>;
+pub type Decoder<E, C> = RateObject<E, C, DecoderRows>;
 
-impl<E: Engine, C: Code> RateDecoder<E> for Decoder<E, C> {
+impl<E: Engine, C: RateMarker> RateDecoder<E> for Decoder<E, C> {
     ghost use Rattle.rs_rate.specs.ObjectLaws.{is_decoder, has_own_decoder_room};
 
     type Rate = RateOf<E, C>;

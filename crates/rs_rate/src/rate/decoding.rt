@@ -9,7 +9,7 @@ ghost use Rattle.rs_field.specs.code.Decoder.{fresh_decoder, Restored, NoneAgree
 ghost use Rattle.rs_field.specs.rows.MarkedRows.{is_marked};
 ghost use Rattle.rs_rate.specs.DecoderRoom.{memory_room};
 ghost use Rattle.rs_rate.specs.Configured.{configuration_at};
-ghost use Rattle.rs_rate.specs.DecoderView.{decoder_state, restored_of, restored_from};
+ghost use Rattle.rs_rate.specs.DecoderView.{decoder_state, restored_by_rows, restored_from};
 ghost use Rattle.rs_rate.specs.Decoding.{CanBeRestored, IsLocatorOf, RestoresShards};
 ghost use Rattle.rs_rate.specs.Marks.{erased, given_marks, restored_marks, mark_count, WantsMissing};
 ghost use Rattle.rs_rate.specs.SetUp.{IsSetUp};
@@ -35,7 +35,7 @@ pub(crate) fn decode_rows<E: Engine>(
     requires enough { rows.old.shape.configuration.original_count ≤ rows.old.originals_given + rows.old.recovery_given }
     ensures state { (rate : Rate) → decoder_state rate rows.new ≡ fresh_decoder (configuration_at rate rows.old.shape.configuration) }
     ensures answer { (rate : Rate) → IsSetUp rate rows.old.shape.configuration
-        → MatchResult result (λ _. Restored (decoder_state rate rows.old) (restored_of rows.new)) (NoneAgrees (decoder_state rate rows.old)) }
+        → MatchResult result (λ _. Restored (decoder_state rate rows.old) (restored_by_rows rows.new)) (NoneAgrees (decoder_state rate rows.old)) }
     ensures counted { IfOk result (λ count. count ≡ length (restored_from rows.new 0)) }
     ensures shape { rows.new.shape ≡ rows.old.shape }
     ensures room { memory_room rows.new.memory ≡ memory_room rows.old.memory }

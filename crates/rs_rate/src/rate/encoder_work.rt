@@ -8,9 +8,9 @@ ghost use Rattle.rs_field.specs.code.Encoder.{fresh_encoder, with_shard, message
 ghost use Rattle.rs_rate.specs.Shapes.{EncoderCanBeLaid};
 ghost use Rattle.rs_rate.specs.ShardRows.{chunk_count, shard_laid_out, shard_in_order};
 
-use crate::rate::coder::CoderRows;
 use crate::rate::configuration::Configuration;
 use crate::rate::memory::{make_room, set_chunks, vec_of};
+use crate::rate::rate_object::ObjectRows;
 use crate::rate::shard_rows::{chunk_count, insert_at, shard_at, shard_is_bytes};
 use rs_field::error::Error;
 use std::alloc::Global;
@@ -63,7 +63,7 @@ impl Default for EncoderWork {
     }
 }
 
-impl CoderRows for EncoderRows {
+impl ObjectRows for EncoderRows {
     ghost use Rattle.std.proofs.Common.{le_refl};
     ghost use Rattle.rs_field.specs.code.Encoder.{EncoderState};
     ghost use Rattle.rs_field.specs.code.Placement.{encoder_rows};

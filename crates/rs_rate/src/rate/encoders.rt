@@ -3,10 +3,12 @@ ghost use Rattle.std.specs.Vec.{vec_capacity};
 ghost use Rattle.rs_rate.specs.EncoderView.{encoder_state};
 
 use crate::encoder_result::EncoderResult;
-use crate::rate::code::{Code, DefaultCode, HighCode, LowCode, RateOf};
-use crate::rate::coder::Coder;
 use crate::rate::configuration::Configuration;
 use crate::rate::encoder_work::EncoderRows;
+use crate::rate::rate_marker::{
+    DefaultRateMarker, HighRateMarker, LowRateMarker, RateMarker, RateOf,
+};
+use crate::rate::rate_object::RateObject;
 use crate::rate::rounds::{encode_round, lent_recovery};
 use crate::rate::supported_counts::SupportedCounts;
 use crate::rate::{EncoderWork, RateEncoder};
@@ -15,18 +17,18 @@ use rs_field::error::Error;
 use std::alloc::Global;
 
 /// The encoder of the low rate.
-pub type LowRateEncoder<E> = Encoder<E, LowCode>;
+pub type LowRateEncoder<E> = Encoder<E, LowRateMarker>;
 
 /// The encoder of the high rate.
-pub type HighRateEncoder<E> = Encoder<E, HighCode>;
+pub type HighRateEncoder<E> = Encoder<E, HighRateMarker>;
 
 /// The encoder of the default rate.
-pub type DefaultRateEncoder<E> = Encoder<E, DefaultCode>;
+pub type DefaultRateEncoder<E> = Encoder<E, DefaultRateMarker>;
 
 /// The encoder of a rate.
-pub type Encoder<E, C> = Coder<E, C, EncoderRows>;
+pub type Encoder<E, C> = RateObject<E, C, EncoderRows>;
 
-impl<E: Engine, C: Code> RateEncoder<E> for Encoder<E, C> {
+impl<E: Engine, C: RateMarker> RateEncoder<E> for Encoder<E, C> {
     ghost use Rattle.rs_rate.specs.ObjectLaws.{is_encoder, has_own_room};
 
     type Rate = RateOf<E, C>;

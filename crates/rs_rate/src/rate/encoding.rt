@@ -6,7 +6,7 @@ ghost use Rattle.rs_field.specs.code.Code.{AreRecovery};
 ghost use Rattle.rs_field.specs.rows.Layout.{row_len};
 ghost use Rattle.rs_rate.specs.Coding.{CodesWords, CodingCounts};
 ghost use Rattle.rs_rate.specs.Configured.{configuration_at, low_or_high};
-ghost use Rattle.rs_rate.specs.EncoderView.{given_of, lent_of};
+ghost use Rattle.rs_rate.specs.EncoderView.{given_originals, lent_shards};
 ghost use Rattle.rs_rate.specs.Shapes.{EncoderCanBeLaid};
 ghost use Rattle.rs_rate.specs.ShardRows.{chunk_count, word_in};
 
@@ -22,7 +22,7 @@ pub(crate) fn encode_rows<E: Engine>(engine: &E, steps: &mut Steps, rows: &mut E
     requires full { rows.old.originals_given ≡ rows.old.shape.configuration.original_count }
     ensures shape { rows.new.shape ≡ rows.old.shape }
     ensures none { rows.new.originals_given ≡ 0 }
-    ensures recovery { AreRecovery (configuration_at (low_or_high rows.old.shape.configuration.is_low) rows.old.shape.configuration) (given_of rows.old) (lent_of rows.new) }
+    ensures recovery { AreRecovery (configuration_at (low_or_high rows.old.shape.configuration.is_low) rows.old.shape.configuration) (given_originals rows.old) (lent_shards rows.new) }
     ensures room { vec_capacity rows.new.chunks ≡ vec_capacity rows.old.chunks }
     ensures counts { let c = rows.old.shape.configuration in EncodeCountsAt (low_or_high c.is_low) c.original_count c.recovery_count steps.old steps.new }
 {

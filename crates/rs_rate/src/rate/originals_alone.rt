@@ -2,7 +2,7 @@
 ghost use Rattle.std.specs.Prelude.{◌≡◌, ◌⊎◌, if◌then◌else◌, ℕ, nat_le, true, false, List, length, count_by};
 ghost use Rattle.std.specs.Prelude.{slice_index_or, slice_set, Err, Ok, OnOk};
 ghost use Rattle.std.specs.Iterator.{IsFinite};
-ghost use Rattle.rs_field.specs.code.OneCall.{Items, one_by_one, noted, originals_alone};
+ghost use Rattle.rs_field.specs.code.OneCall.{Items, one_by_one, note_outcome, originals_alone};
 ghost use Rattle.rs_rate.specs.Calls.{Calls, BeginsWithItems};
 ghost use Rattle.rs_rate.specs.Giving.{Reaches, AreNoted};
 
@@ -41,7 +41,7 @@ fn note_all<'a, I: Iterator<Item = (usize, &'a [u8])> + Drop>(
     requires can { I.can_next originals }
     requires ends { IsFinite (I.remaining originals) }
     ensures { (indexes : List ℕ) → AreNoted indexes given.old → (calls : Calls I.next_gives originals) × ((items : Items) → BeginsWithItems items calls
-        → Reaches (one_by_one (λ so_far item. noted (length given.old) so_far item.0) indexes items)
+        → Reaches (one_by_one (λ so_far item. note_outcome (length given.old) so_far item.0) indexes items)
         result (λ all. AreNoted all given.new)) }
 {
     for (index, _) in originals {
@@ -72,7 +72,7 @@ fn note(given: &mut [bool], index: usize) -> Result<(), Error>
 
 // How many indexes were noted.
 fn count_noted(given: &[bool]) -> usize
-    ensures { result ≡ count_by (λ noted. noted) given.now }
+    ensures { result ≡ count_by (λ note_outcome. note_outcome) given.now }
 {
-    given.iter().filter(|noted| **noted).count()
+    given.iter().filter(|note_outcome| **note_outcome).count()
 }

@@ -11,7 +11,7 @@ ghost use Rattle.rs_field.specs.words.Field.{product, power};
 ghost use Rattle.rs_field.specs.rows.Layout.{row_len};
 ghost use Rattle.rs_field.specs.rows.View.{cell, word, Fits, SameExtent};
 ghost use Rattle.rs_field.specs.rows.MarkedRows.{is_marked};
-ghost use Rattle.rs_rate.specs.Decoding.{located, AreRowsOf, AreCoefficients, CanBeRestored, restore_steps, RestoresWords};
+ghost use Rattle.rs_rate.specs.Decoding.{located_word, AreRowsOf, AreCoefficients, CanBeRestored, restore_steps, RestoresWords};
 ghost use Rattle.rs_rate.specs.Marks.{given_marks, restored_marks, mark_count, WantsMissing};
 ghost use Rattle.rs_rate.specs.Shapes.{DecoderCanBeLaid, original_row};
 
@@ -99,7 +99,7 @@ fn locate_rows<E: Engine>(
     requires located { length locator.now ≡ rows.old.shard_count }
     ensures extent { SameExtent rows.old rows.new }
     ensures located { (k s p : ℕ) → k < rows.old.shard_len_64 → s < 32 → p < rows.old.shard_count
-        → word rows.new k s p ≡ located given.now locator.now (word rows.old k s) p }
+        → word rows.new k s p ≡ located_word given.now locator.now (word rows.old k s) p }
     ensures cleared { (k p : ℕ) → k < rows.old.shard_len_64 → p < rows.old.shard_count → is_marked given.now p ≡ false
         → cell rows.new k p ≡ replicate 64 0 }
     ensures counts { CountsUpTo rows.old.shard_count 0 0 steps.old steps.new }

@@ -5,17 +5,17 @@ ghost use Rattle.std.specs.Result.{result_map_both};
 ghost use Rattle.rs_field.specs.code.Bounds.{EncodeCountsAt, DecodeCountsAt};
 ghost use Rattle.rs_field.specs.code.Decoder.{DecodeAnswers, after_decode};
 ghost use Rattle.rs_field.specs.code.Encoder.{EncodeAnswers, after_encode};
-ghost use Rattle.rs_rate.specs.DecoderView.{restored_of, restored_from};
-ghost use Rattle.rs_rate.specs.EncoderView.{lent_of};
+ghost use Rattle.rs_rate.specs.DecoderView.{restored_by_rows, restored_from};
+ghost use Rattle.rs_rate.specs.EncoderView.{lent_shards};
 ghost use Rattle.rs_rate.specs.ResultView.{recovery_shards, restored_originals};
 
 use crate::decoder_result::DecoderResult;
 use crate::encoder_result::EncoderResult;
-use crate::rate::code::Code;
 use crate::rate::decoders::Decoder;
 use crate::rate::decoding::decode_rows;
 use crate::rate::encoders::Encoder;
 use crate::rate::encoding::encode_rows;
+use crate::rate::rate_marker::RateMarker;
 use crate::rate::{RateDecoder, RateEncoder};
 use rs_field::engine::{Engine, Steps};
 use rs_field::error::Error;
@@ -26,12 +26,12 @@ use rs_field::error::Error;
 /// # Errors
 ///
 /// [`Error::TooFewOriginalShards`] if originals are missing.
-pub fn encode_round<E: Engine, C: Code>(
+pub fn encode_round<E: Engine, C: RateMarker>(
     encoder: &mut Encoder<E, C>,
     steps: &mut Steps,
 ) -> Result<(), Error>
     ensures answer { EncodeAnswers (⟦<Encoder<E, C> as RateEncoder<E>>⟧.state encoder.old)
-        (result_map_both (λ _. lent_of encoder.new.rows) (λ e. e) result) }
+        (result_map_both (λ _. lent_shards encoder.new.rows) (λ e. e) result) }
     ensures counts { let c = (⟦<Encoder<E, C> as RateEncoder<E>>⟧.state encoder.old).configuration in
         EncodeCountsAt C.rate c.original_count c.recovery_count steps.old steps.new }
     ensures state { ⟦<Encoder<E, C> as RateEncoder<E>>⟧.state encoder.new
@@ -48,8 +48,8 @@ pub fn encode_round<E: Engine, C: Code>(
 
 /// Lends the recovery shards that are in an encoder after a round. Before the first round of an encoder they are no
 /// recovery shards, but the bytes that its work held.
-pub fn lent_recovery<E: Engine, C: Code>(encoder: &Encoder<E, C>) -> EncoderResult<'_>
-    ensures { recovery_shards result ≡ lent_of encoder.now.rows }
+pub fn lent_recovery<E: Engine, C: RateMarker>(encoder: &Encoder<E, C>) -> EncoderResult<'_>
+    ensures { recovery_shards result ≡ lent_shards encoder.now.rows }
 {
     EncoderResult::new(&encoder.rows)
 }
@@ -60,12 +60,12 @@ pub fn lent_recovery<E: Engine, C: Code>(encoder: &Encoder<E, C>) -> EncoderResu
 /// # Errors
 ///
 /// [`Error::NotEnoughShards`] or [`Error::InconsistentShards`], as `RateDecoder::decode`.
-pub fn decode_round<E: Engine, C: Code>(
+pub fn decode_round<E: Engine, C: RateMarker>(
     decoder: &mut Decoder<E, C>,
     steps: &mut Steps,
 ) -> Result<usize, Error>
     ensures answer { DecodeAnswers (⟦<Decoder<E, C> as RateDecoder<E>>⟧.state decoder.old)
-        (result_map_both (λ _. restored_of decoder.new.rows) (λ e. e) result) }
+        (result_map_both (λ _. restored_by_rows decoder.new.rows) (λ e. e) result) }
     ensures counted { IfOk result (λ count. count ≡ length (restored_from decoder.new.rows 0)) }
     ensures counts { let c = (⟦<Decoder<E, C> as RateDecoder<E>>⟧.state decoder.old).configuration in
         DecodeCountsAt C.rate c.original_count c.recovery_count steps.old steps.new }
@@ -82,12 +82,12 @@ pub fn decode_round<E: Engine, C: Code>(
 
 /// Lends the originals that are in a decoder after a round that restored `restored_count` originals. Before the first
 /// round of a decoder there are none.
-pub fn lent_originals<E: Engine, C: Code>(
+pub fn lent_originals<E: Engine, C: RateMarker>(
     decoder: &Decoder<E, C>,
     restored_count: usize,
 ) -> DecoderResult<'_>
     requires { restored_count ≡ length (restored_from decoder.now.rows 0) }
-    ensures { restored_originals result ≡ restored_of decoder.now.rows }
+    ensures { restored_originals result ≡ restored_by_rows decoder.now.rows }
 {
     DecoderResult::new(&decoder.rows, restored_count)
 }

@@ -1,31 +1,31 @@
 //! Counts that a rate supports, asked for once, where a call begins.
 ghost use Rattle.std.specs.Prelude.{◌≡◌, ⊤, true, false, MatchResult};
-ghost use Rattle.rs_field.specs.code.Configuration.{configuration, started};
+ghost use Rattle.rs_field.specs.code.Configuration.{configuration, start_outcome};
 ghost use Rattle.rs_field.specs.code.Counts.{supports};
 ghost use Rattle.rs_field.specs.code.Placement.{encoder_rows, decoder_rows};
 ghost use Rattle.rs_rate.specs.Configured.{choice_at};
 
-use crate::rate::code::{Code, DefaultCode, HighCode, LowCode};
 use crate::rate::configuration::Configuration;
 use crate::rate::counts::Choice;
+use crate::rate::rate_marker::{DefaultRateMarker, HighRateMarker, LowRateMarker, RateMarker};
 use crate::rate::shard_rows::chunk_count;
 use rs_field::error::Error;
 use std::alloc::AllocError;
 use std::marker::PhantomData;
 
 /// Two counts that the low rate supports.
-pub type LowRateCounts = SupportedCounts<LowCode>;
+pub type LowRateCounts = SupportedCounts<LowRateMarker>;
 
 /// Two counts that the high rate supports.
-pub type HighRateCounts = SupportedCounts<HighCode>;
+pub type HighRateCounts = SupportedCounts<HighRateMarker>;
 
 /// Two counts that the default rate supports.
-pub type DefaultRateCounts = SupportedCounts<DefaultCode>;
+pub type DefaultRateCounts = SupportedCounts<DefaultRateMarker>;
 
 /// Two counts that a rate supports, checked once. Encoders and decoders that are made by `with_counts` do not check them
 /// again.
 #[derive(Debug, PartialEq, Eq, Hash)]
-pub struct SupportedCounts<C: Code> {
+pub struct SupportedCounts<C: RateMarker> {
     pub original_count: usize,
     pub recovery_count: usize,
     pub(crate) choice: Choice,
@@ -34,7 +34,7 @@ pub struct SupportedCounts<C: Code> {
     pub ghost chosen: { choice ≡ choice_at C.rate original_count recovery_count },
 }
 
-impl<C: Code> SupportedCounts<C> {
+impl<C: RateMarker> SupportedCounts<C> {
     /// Checks two counts.
     ///
     /// # Errors
@@ -67,7 +67,7 @@ impl<C: Code> SupportedCounts<C> {
     /// - [`Error::OutOfMemory`] if the bytes of an encoder's rows exceed `usize::MAX`.
     pub fn check_encoder_rows(self, shard_bytes: usize) -> Result<(), Error>
         ensures { let c = configuration C.rate self.original_count self.recovery_count shard_bytes in
-            result ≡ started (encoder_rows C.rate c.original_count c.recovery_count) c }
+            result ≡ start_outcome (encoder_rows C.rate c.original_count c.recovery_count) c }
     {
         let shape = Configuration::new(self, shard_bytes)?.encoder_shape();
         chunk_count(shape.row_count, shard_bytes)?;
@@ -82,7 +82,7 @@ impl<C: Code> SupportedCounts<C> {
     /// - [`Error::OutOfMemory`] if the bytes of a decoder's rows exceed `usize::MAX`.
     pub fn check_decoder_rows(self, shard_bytes: usize) -> Result<(), Error>
         ensures { let c = configuration C.rate self.original_count self.recovery_count shard_bytes in
-            result ≡ started (decoder_rows C.rate c.original_count c.recovery_count) c }
+            result ≡ start_outcome (decoder_rows C.rate c.original_count c.recovery_count) c }
     {
         let shape = Configuration::new(self, shard_bytes)?.decoder_shape();
         chunk_count(shape.frame.row_count, shard_bytes)?;
@@ -90,7 +90,7 @@ impl<C: Code> SupportedCounts<C> {
     }
 }
 
-impl<C: Code> Clone for SupportedCounts<C> {
+impl<C: RateMarker> Clone for SupportedCounts<C> {
     ghost is_clone = { λ counts cloned. cloned ≡ counts };
 
     ghost is_infallible = { λ _. ⊤ };
@@ -100,4 +100,4 @@ impl<C: Code> Clone for SupportedCounts<C> {
     }
 }
 
-impl<C: Code> Copy for SupportedCounts<C> {}
+impl<C: RateMarker> Copy for SupportedCounts<C> {}

@@ -1,6 +1,6 @@
 use Rattle.std.proofs.Common.{rules, IfOk}
 use Rattle.rs_field.specs.code.RoundTrip.{AreCoded}
-use Rattle.rs_field.specs.code.OneCall.{collected}
+use Rattle.rs_field.specs.code.OneCall.{collected_shards}
 use Rattle.rs_rate.proofs.Giving.{no-calls, always-run}
 use Rattle.rs_rate.proofs.OneCall.{encoding-uncounted, encoding-refused}
 use Rattle.reed_solomon_simd.proofs.Gathering.{gathered-is, encoded-few, encoded-all, encoded-coded}
@@ -43,7 +43,7 @@ returns-clause-answer g c = always-run (returns-clause-calls g c)
 pub returns-clause-coded : goal.returns-clause-coded
 returns-clause-coded g c =
     let run = rw (c.in_ok-counts.ensures.0, c.in_ok-counts.ensures.1) at c.in_ok-originals.ensures.gathered in
-    always-run {P = λ items. IfOk (collected c.encode_vectors.result) (AreCoded c.args.original_count c.args.recovery_count items)} (
+    always-run {P = λ items. IfOk (collected_shards c.encode_vectors.result) (AreCoded c.args.original_count c.args.recovery_count items)} (
       run.0,
       λ items begins.
           encoded-coded c.args.original_count c.args.recovery_count items _ (run.1 items begins) (gathered-is c.in_ok-originals.originals) c.in_ok-check_all_given.ensures _ c.encode_vectors.ensures,

@@ -3,7 +3,7 @@ use Rattle.rs_field.specs.code.Counts.{default_rate}
 use Rattle.rs_field.specs.code.Decoder.{DecoderState}
 use Rattle.rs_field.specs.code.Given.{Shards, Lists}
 use Rattle.rs_field.proofs.of_code.RestoredBelow.{pieces-number, pieces-sized}
-use Rattle.rs_rate.specs.DecoderView.{decoder_state, restored_of}
+use Rattle.rs_rate.specs.DecoderView.{decoder_state, restored_by_rows}
 use Rattle.reed_solomon_simd.specs.Received.{given_in}
 use Rattle.reed_solomon_simd.specs.ReceivedState.{received_state}
 use Rattle.reed_solomon_simd.proofs.StripDecodeLemmas.{pieces-added, round-made, round-refused, round-ends}
@@ -39,9 +39,9 @@ put_pieces-requires-clause-pieces g c =
     let is = pieces-added start end x (decoder_state default_rate c.args.decoder.now.rows) (decoder_state default_rate c.add_original_pieces.new.decoder.rows) state
     c.as_slice.result.now c.as_slice-2.result.now c.requires.fresh c.in_ok-add_original_pieces.ensures.added c.in_ok-add_recovery_pieces.ensures.added
     (ap given_in c.as_slice.ensures.value) (ap given_in c.as_slice-2.ensures.value) in
-    let made = round-made start end x state is c.requires.enough (restored_of c.decode_round.new.decoder.rows) c.in_ok-restored_count.ensures.answer in
+    let made = round-made start end x state is c.requires.enough (restored_by_rows c.decode_round.new.decoder.rows) c.in_ok-restored_count.ensures.answer in
     λ items listing.
-    let here : Lists (restored_of c.decode_round.new.decoder.rows) items = subst (λ (out : Shards). Lists out items) c.lent_originals.ensures listing in
+    let here : Lists (restored_by_rows c.decode_round.new.decoder.rows) items = subst (λ (out : Shards). Lists out items) c.lent_originals.ensures listing in
     let grows = g.R.Rooms.grows in
-    let number = pieces-number x grows start end (restored_of c.decode_round.new.decoder.rows) items c.requires.strip made here in
-    (omega (arith, number, c.requires.number), pieces-sized x grows start end (restored_of c.decode_round.new.decoder.rows) items c.requires.strip made here)
+    let number = pieces-number x grows start end (restored_by_rows c.decode_round.new.decoder.rows) items c.requires.strip made here in
+    (omega (arith, number, c.requires.number), pieces-sized x grows start end (restored_by_rows c.decode_round.new.decoder.rows) items c.requires.strip made here)

@@ -6,7 +6,7 @@ use Rattle.rs_field.specs.code.Counts.{default_rate}
 use Rattle.rs_field.specs.code.OneCall.{default_of}
 use Rattle.rs_field.specs.code.Pieces.{pieces}
 use Rattle.rs_rate.proofs.Giving.{reached-ok}
-use Rattle.rs_rate.specs.EncoderView.{encoder_state, lent_of}
+use Rattle.rs_rate.specs.EncoderView.{encoder_state, lent_shards}
 use Rattle.rs_rate.specs.ObjectLaws.{is_encoder}
 use Rattle.rs_rate.specs.ResultView.{recovery_shards}
 use Rattle.reed_solomon_simd.specs.Rooms.{shards_of}
@@ -45,7 +45,7 @@ put_pieces-requires-clause-number g c =
     let object = c.add_pieces.new.encoder in
     let coded = strip-codes c.args.start c.args.end (length (g.R.Rooms.held c.args.rooms.now)) c.args.originals.now c.requires.order c.requires.originals
     (encoder_state default_rate c.args.encoder.now.rows) c.requires.fresh (encoder_state default_rate c.add_pieces.new.encoder.rows) led
-    (lent_of c.encode_round.new.encoder.rows) (is_encoder default_rate object.rows object.set_up) c.in_ok-encode_round.ensures.answer in
+    (lent_shards c.encode_round.new.encoder.rows) (is_encoder default_rate object.rows object.set_up) c.in_ok-encode_round.ensures.answer in
     ap length c.lent_recovery.ensures ∙ coded.shards.length_is
 
 pub put_pieces-requires-clause-sized : goal.put_pieces-requires-clause-sized
@@ -54,7 +54,7 @@ put_pieces-requires-clause-sized g c =
     let object = c.add_pieces.new.encoder in
     let coded = strip-codes c.args.start c.args.end (length (g.R.Rooms.held c.args.rooms.now)) c.args.originals.now c.requires.order c.requires.originals
     (encoder_state default_rate c.args.encoder.now.rows) c.requires.fresh (encoder_state default_rate c.add_pieces.new.encoder.rows) led
-    (lent_of c.encode_round.new.encoder.rows) (is_encoder default_rate object.rows object.set_up) c.in_ok-encode_round.ensures.answer in
+    (lent_shards c.encode_round.new.encoder.rows) (is_encoder default_rate object.rows object.set_up) c.in_ok-encode_round.ensures.answer in
     subst (λ (l : List Shard). All (λ s. length s ≡ c.args.end - c.args.start) l) (sym c.lent_recovery.ensures)
     (λ i d h. (coded.shards.each i d h).length_is)
 
@@ -71,7 +71,7 @@ returns-clause-coded g c =
     let object = c.add_pieces.new.encoder in
     let coded = strip-codes c.args.start c.args.end (length (g.R.Rooms.held c.args.rooms.now)) c.args.originals.now c.requires.order c.requires.originals
     (encoder_state default_rate c.args.encoder.now.rows) c.requires.fresh (encoder_state default_rate c.add_pieces.new.encoder.rows) led
-    (lent_of c.encode_round.new.encoder.rows) (is_encoder default_rate object.rows object.set_up) c.in_ok-encode_round.ensures.answer in
+    (lent_shards c.encode_round.new.encoder.rows) (is_encoder default_rate object.rows object.set_up) c.in_ok-encode_round.ensures.answer in
     on_ok_weaker c.put_pieces.result (λ put. (
       recovery_shards c.lent_recovery.result,
       subst (λ (l : List Shard). AreRecovery (default_of (length c.args.originals.now) (length (g.R.Rooms.held c.args.rooms.now)) (c.args.end - c.args.start))

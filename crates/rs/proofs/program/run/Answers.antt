@@ -1,6 +1,6 @@
 use Rattle.std.proofs.Common.{map, inl, inr, refl, sym, ◌∙◌}
 use Rattle.std.specs.String.{string_bytes}
-use Rattle.rs.specs.Printed.{concatenated}
+use Rattle.rs.specs.Printed.{concatenation}
 use Rattle.rs.proofs.PrintedLemmas.{refusal-told}
 use Rattle.rs.proofs.program.run.Goals as goal
 
@@ -11,4 +11,4 @@ returns-in-Err-clause-refused g c = λ one.
 
 pub returns-in-Ok-2-clause-refused : goal.returns-in-Ok-2-clause-refused
 returns-in-Ok-2-clause-refused g c = λ _.
-    inr (concatenated c.in-Ok.lines.texts, c.in-Ok.ensures.answer, refl, rw c.texts.ensures at (c.if-write_texts.ensures.cut refl))
+    inr (concatenation c.in-Ok.lines.texts, c.in-Ok.ensures.answer, refl, rw c.texts.ensures at (c.if-write_texts.ensures.cut refl))

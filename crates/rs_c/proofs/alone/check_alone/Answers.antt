@@ -3,7 +3,7 @@ use Rattle.std.proofs.lemmas.Bool.{cond_below, cond_above}
 use Rattle.rs_field.specs.declared.code.error.Error.TheVariants.{NotEnoughShards}
 use Rattle.rs_field.specs.code.Outcome.{result_and_then}
 use Rattle.rs_c.specs.declared.layouts.RsShard.{RsShard}
-use Rattle.rs_c.proofs.AloneLemmas.{noted-none, notes-ok, notes-err, noting, noting-next, noting-done, noting-refused}
+use Rattle.rs_c.proofs.AloneLemmas.{note_outcome-none, notes-ok, notes-err, noting, noting-next, noting-done, noting-refused}
 use Rattle.rs_c.proofs.alone.check_alone.Goals as goal
 
 -- an array's entry past its end
@@ -11,7 +11,7 @@ nothing : RsShard
 nothing = record { index = 0; bytes = record { ref_ptr = (0, 0); now = [] } }
 
 pub loop-shard-init : goal.loop-shard-init
-loop-shard-init c = ([], noted-none 1024, refl, refl)
+loop-shard-init c = ([], note_outcome-none 1024, refl, refl)
 
 pub loop-shard-preserved : goal.loop-shard-preserved
 unfolding nothing

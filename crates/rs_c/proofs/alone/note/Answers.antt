@@ -1,7 +1,7 @@
 use Rattle.std.proofs.Common.{◌≢◌, ◌*◌, ◌/◌, ◌%◌, ◌^◌, ◌∙◌, bit_or, get_or, set, Ok, refl}
 use Rattle.std.specs.Int.{bit_at}
 use Rattle.std.proofs.lemmas.Nat.Bits.{shr_and_one}
-use Rattle.rs_c.proofs.AloneLemmas.{notes, noted-next, noted-more}
+use Rattle.rs_c.proofs.AloneLemmas.{notes, note_outcome-next, note_outcome-more}
 use Rattle.rs_c.proofs.alone.note.Goals as goal
 
 pub returns-clause-answer : goal.returns-clause-answer
@@ -14,5 +14,5 @@ returns-clause-answer c indexes are =
     λ taken. c.if-bits-word-eq1.false (shr_and_one old (index % 64) ∙ taken) in
     let below = c.if-index-original_count.false in
     notes k index indexes (set words (index / 64) (bit_or old (1 * 2 ^ (index % 64) % 2 ^ 64))) (Ok tt)
-    (noted-next k index indexes words below c.requires c.told-bits are free) refl
-    (noted-more k index indexes words below c.requires c.told-bits are free)
+    (note_outcome-next k index indexes words below c.requires c.told-bits are free) refl
+    (note_outcome-more k index indexes words below c.requires c.told-bits are free)

@@ -9,7 +9,7 @@ use Rattle.reed_solomon_simd.specs.Placement.{decoder_rows}
 use Rattle.reed_solomon_simd.specs.ShardRows.{chunk_count}
 use Rattle.reed_solomon_simd.proofs.ObjectLaws.{valid-decoder, own_room-decoder}
 use Rattle.reed_solomon_simd.proofs.ShardRowsLemmas.{chunk_count-size}
-use Rattle.reed_solomon_simd.proofs.StateLemmas.{started-roomy}
+use Rattle.reed_solomon_simd.proofs.StateLemmas.{start_outcome-roomy}
 use Rattle.rs_callers.proofs.plain_callers.decoder_reset_and_back.Goals as goal
 
 pub returns-clause-answer : goal.returns-clause-answer
@@ -30,7 +30,7 @@ returns-clause-answer c =
     } in
     let fits = (valid-decoder c.args.decoder.now).fits in
     c.reset-2.ensures.roomy has
-    ∙ started-roomy rows (default_of c.args.original_count c.args.recovery_count c.args.shard_bytes) c.requires.valid (omega (arith, chunks, less, fits))
+    ∙ start_outcome-roomy rows (default_of c.args.original_count c.args.recovery_count c.args.shard_bytes) c.requires.valid (omega (arith, chunks, less, fits))
 
 pub returns-clause-state : goal.returns-clause-state
 returns-clause-state c =

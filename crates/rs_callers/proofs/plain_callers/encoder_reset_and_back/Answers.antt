@@ -8,7 +8,7 @@ use Rattle.reed_solomon_simd.specs.Placement.{encoder_rows}
 use Rattle.reed_solomon_simd.specs.ShardRows.{chunk_count}
 use Rattle.reed_solomon_simd.proofs.ObjectLaws.{valid-encoder, own_room-encoder}
 use Rattle.reed_solomon_simd.proofs.ShardRowsLemmas.{chunk_count-size}
-use Rattle.reed_solomon_simd.proofs.StateLemmas.{started-roomy}
+use Rattle.reed_solomon_simd.proofs.StateLemmas.{start_outcome-roomy}
 use Rattle.rs_callers.proofs.plain_callers.encoder_reset_and_back.Goals as goal
 
 pub returns-clause-answer : goal.returns-clause-answer
@@ -22,7 +22,7 @@ returns-clause-answer c =
     let room = own_room-encoder c.args.encoder.now in
     let fits = (valid-encoder c.args.encoder.now).fits in
     c.reset-2.ensures.roomy (omega (arith, chunks, less, room, c.reset.ensures.grown))
-    ∙ started-roomy rows (default_of c.args.original_count c.args.recovery_count c.args.shard_bytes) c.requires.valid (omega (arith, chunks, less, fits))
+    ∙ start_outcome-roomy rows (default_of c.args.original_count c.args.recovery_count c.args.shard_bytes) c.requires.valid (omega (arith, chunks, less, fits))
 
 pub returns-clause-state : goal.returns-clause-state
 returns-clause-state c =

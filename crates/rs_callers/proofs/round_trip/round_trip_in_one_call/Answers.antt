@@ -4,7 +4,7 @@ use Rattle.std.proofs.lemmas.List.Elements.{All-map}
 use Rattle.std.proofs.lemmas.Iterator.{YieldsList-from_slice, YieldsList-from_map_by}
 use Rattle.reed_solomon_simd.specs.declared.Error.TheVariants.{OutOfMemory}
 use Rattle.reed_solomon_simd.specs.OneCall.{collected_map}
-use Rattle.reed_solomon_simd.proofs.CallerLemmas.{collected-holds, collected-refused}
+use Rattle.reed_solomon_simd.proofs.CallerLemmas.{collected_shards-holds, collected_shards-refused}
 use Rattle.reed_solomon_simd.proofs.Left.{kept_of, kept-left, just-lost, enough-left}
 use Rattle.reed_solomon_simd.proofs.OneRoundTrip.{encodes_in_one_call, restores_in_one_call}
 use Rattle.rs_callers.specs.Losing.{is_lost, left_below}
@@ -42,11 +42,11 @@ returns c =
     c.filter-received.ensures.source c.filter-received.ensures.closure (λ x b q k. search rules)).runs in
     let back = restores_in_one_call _ _ originals recovery _ _ (collected_map c.decode.result) was (kept-left originals lost) (kept-left recovery recovery_lost) answer in
     record {
-      restored = collected-holds c.decode.result _ (just-lost originals lost (collected_map c.decode.result) back.restored);
+      restored = collected_shards-holds c.decode.result _ (just-lost originals lost (collected_map c.decode.result) back.restored);
       enough = λ size valid sized many.
           let long : length originals ≡ length c.args.originals.now = length-map c.args.originals.now (λ vector. vector.items) in
           let own = left-count 0 c.args.lost.now originals ∙ ap (λ n. left_below n c.args.lost.now) long in
           let coded = left-count 0 c.args.recovery_lost.now recovery ∙ ap (λ n. left_below n c.args.recovery_lost.now) was.coded.shards.length_is in
-          collected-refused c.decode.result (λ e. e ≡ OutOfMemory)
+          collected_shards-refused c.decode.result (λ e. e ≡ OutOfMemory)
           (enough-left originals (kept_of originals lost) (kept_of recovery recovery_lost) (collected_map c.decode.result) back (omega (arith, long, own, coded, many)));
     }

@@ -11,8 +11,8 @@ use Rattle.rs_field.specs.code.Counts.{next_power, supports, is_low, default_rat
 use Rattle.rs_field.specs.code.Placement.{placement, low_placement, high_placement}
 use Rattle.rs_field.specs.code.Configuration.{configuration}
 use Rattle.rs_field.specs.code.Code.{AreRecovery}
-use Rattle.rs_field.specs.code.CodeLaws.{changed}
-use Rattle.rs_field.specs.code.Given.{Shards, nothing, entered, count_below}
+use Rattle.rs_field.specs.code.CodeLaws.{changed_shards}
+use Rattle.rs_field.specs.code.Given.{Shards, nothing, with_entry, count_below}
 use Rattle.rs_field.specs.code.Decoder.{IsAgreeing, IsConsistent, missing_of, Restored, DecodeAnswers}
 use Rattle.rs_field.specs.worked.Codes.{low_bytes, two_given, surplus_given, MixtureExample}
 use Rattle.rs_field.proofs.of_words.Linear.{passes_below}
@@ -54,22 +54,22 @@ agrees = record {
 
 -- two shards fix a message of two
 only : (m : List Shard) → IsAgreeing two_given m → m ≡ message
-unfolding supports next_power first_below entered count_below
+unfolding supports next_power first_below with_entry count_below
 only m a = one_message two_given.configuration two_given.originals two_given.recovery m message refl refl (lit≤ tt) a agrees
 
 -- the originals that are restored
 abbrev out : Shards
-out = entered (entered nothing 0 (0 ∷ 0 ∷ [])) 1 (1 ∷ 0 ∷ [])
+out = with_entry (with_entry nothing 0 (0 ∷ 0 ∷ [])) 1 (1 ∷ 0 ∷ [])
 
 -- both originals are restored, and nothing else
 out_missing : (i : ℕ) → out i ≡ missing_of two_given message i
-unfolding entered missing_of
+unfolding with_entry missing_of
 out_missing zero = refl
 out_missing (suc zero) = refl
 out_missing (suc (suc i)) = none ∙ sym (ap (λ (b : Bool). cond (b && true) (Some (shard_at message (suc (suc i)))) None) (le-ltb (suc (suc i)) 2 (omega arith)))
   where
     none : out (suc (suc i)) ≡ None
-    none = elim (entered_cases (entered nothing 0 (0 ∷ 0 ∷ [])) 1 (suc (suc i)) (1 ∷ 0 ∷ [])) [
+    none = elim (entered_cases (with_entry nothing 0 (0 ∷ 0 ∷ [])) 1 (suc (suc i)) (1 ∷ 0 ∷ [])) [
       | inl one ↦ absurd (omega (arith, one.0))
       | inr other ↦ elim (entered_cases nothing 0 (suc (suc i)) (0 ∷ 0 ∷ [])) [ inl first ↦ absurd (omega (arith, first.0)) | inr last ↦ other.1 ∙ last.1 ]
     ]
@@ -117,33 +117,33 @@ original_agrees = record {
 
 -- one of the two shards is other than the message's
 inconsistent : IsConsistent (surplus_given (7 ∷ 8 ∷ [])) → ⊥
-unfolding supports next_power first_below entered count_below changed
+unfolding supports next_power first_below with_entry count_below changed_shards
 inconsistent =
     let given = surplus_given (7 ∷ 8 ∷ []) in
     changes_noticed given.configuration original copied given.originals given.recovery refl refl (shards_from 1 2 original refl) copies (lit< tt) (lit≤ tt)
 
 -- one shard fixes a message of one
 only_original : (m : List Shard) → IsAgreeing (surplus_given (7 ∷ 9 ∷ [])) m → m ≡ original
-unfolding supports next_power first_below entered count_below
+unfolding supports next_power first_below with_entry count_below
 only_original m a =
     let given = surplus_given (7 ∷ 9 ∷ []) in
     one_message given.configuration given.originals given.recovery m original refl refl (lit≤ tt) a original_agrees
 
 -- no original is missing
 none_missing : (i : ℕ) → nothing i ≡ missing_of (surplus_given (7 ∷ 9 ∷ [])) original i
-unfolding entered missing_of
+unfolding with_entry missing_of
 none_missing zero = refl
 none_missing (suc i) =
     sym (ap (λ (b : Bool). cond (b && not (is_some ((surplus_given (7 ∷ 9 ∷ [])).originals (suc i)))) (Some (shard_at original (suc i))) None) (le-ltb (suc i) 1 (omega arith)))
 
 -- so nothing is restored
 agreed : DecodeAnswers (surplus_given (7 ∷ 9 ∷ [])) (Ok nothing)
-unfolding entered count_below
+unfolding with_entry count_below
 agreed = record { message = original; agrees = original_agrees; only = only_original; missing = none_missing }
 
 -- and where none agrees that is answered
 refused : DecodeAnswers (surplus_given (7 ∷ 8 ∷ [])) (Err (InconsistentShards 1 1))
-unfolding entered count_below
+unfolding with_entry count_below
 refused = record { refusal = refl; surplus = omega arith; none = inconsistent }
 
 pub returns : goal.returns

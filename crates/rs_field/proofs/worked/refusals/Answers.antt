@@ -2,7 +2,7 @@ use Rattle.std.proofs.Common.{inl, inr, refl}
 use Rattle.rs_field.specs.words.Search.{first_below}
 use Rattle.rs_field.specs.code.Counts.{next_power, supports, is_low}
 use Rattle.rs_field.specs.code.Placement.{encoder_rows, decoder_rows}
-use Rattle.rs_field.specs.code.Given.{entered, count_below}
+use Rattle.rs_field.specs.code.Given.{with_entry, count_below}
 use Rattle.rs_field.specs.worked.Calls.{EncodeOrder, DecodeOrder, NoRecoveryOrder, EncoderRound, DecoderRound, LargestIndex, MemoryOrder}
 use Rattle.rs_field.proofs.worked.refusals.Goals as goal
 
@@ -11,7 +11,7 @@ unfolding supports encoder_rows is_low next_power first_below
 encode = (refl, refl, refl, refl, refl, refl, refl)
 
 decode : DecodeOrder
-unfolding entered count_below supports decoder_rows is_low next_power first_below
+unfolding with_entry count_below supports decoder_rows is_low next_power first_below
 decode = (refl, refl, refl, refl, refl, refl, refl, refl)
 
 no_recovery : NoRecoveryOrder
@@ -23,7 +23,7 @@ unfolding supports next_power first_below
 encoder = (refl, refl, refl, refl, refl, refl)
 
 decoder : DecoderRound
-unfolding entered count_below
+unfolding with_entry count_below
 decoder = (refl, refl, refl, refl, refl)
 
 index : LargestIndex

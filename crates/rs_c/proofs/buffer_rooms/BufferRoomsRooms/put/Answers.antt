@@ -1,7 +1,7 @@
 use Rattle.std.proofs.Common.{rules, ℕ, ◌+◌, ◌*◌, ◌<◌, List, [], ◌++◌, length, take, drop, sym, ap, ◌∙◌, inl, inr, arith}
 use Rattle.std.proofs.lemmas.Bool.{cases_lt}
 use Rattle.std.proofs.lemmas.List.{get_or_past}
-use Rattle.rs_c.specs.Buffers.{cut}
+use Rattle.rs_c.specs.Buffers.{shards_in_buffer}
 use Rattle.rs_c.proofs.CutLemmas.{cut-length, cut-at, room-inside, put-here, put-other}
 use Rattle.rs_c.proofs.buffer_rooms.BufferRoomsRooms.put.Goals as goal
 
@@ -47,5 +47,5 @@ returns-then-not-is_empty-clause-others c = λ i other.
           ∙ ap (λ (l : List ℕ). take c.args.self.now.size (drop (i * c.args.self.now.size) l)) c.put.ensures
           ∙ put-other size c.args.index c.args.start bytes c.args.piece.now room.0 room.1 i other
           ∙ sym (cut-at n size bytes i below)
-      | inr past ↦ get_or_past (cut n size c.put.new.buffer) i [] (omega (arith, now, past)) ∙ sym (get_or_past (cut n size bytes) i [] (omega (arith, all, past)))
+      | inr past ↦ get_or_past (shards_in_buffer n size c.put.new.buffer) i [] (omega (arith, now, past)) ∙ sym (get_or_past (shards_in_buffer n size bytes) i [] (omega (arith, all, past)))
     ]

@@ -5,11 +5,11 @@ use Rattle.rs_rate.specs.Coding.{CodesWords}
 use Rattle.rs_rate.specs.Configured.{low_or_high}
 use Rattle.rs_rate.specs.ShardRows.{word_in}
 use Rattle.rs_rate.proofs.Coded.{rows-read}
-use Rattle.rs_rate.proofs.ConfiguredLemmas.{configured-by}
+use Rattle.rs_rate.proofs.ConfiguredLemmas.{rate_configuration-by}
 use Rattle.rs_rate.proofs.rate.encoding.code_chunks.Goals as goal
 
 pub code_low-requires-clause-block : goal.code_low-requires-clause-block
-code_low-requires-clause-block g c = (configured-by c.args.shape.configuration true c.requires.laid.configured c.if-configuration.true).1
+code_low-requires-clause-block g c = (rate_configuration-by c.args.shape.configuration true c.requires.laid.configured c.if-configuration.true).1
 
 pub returns-then-configuration-clause-words : goal.returns-then-configuration-clause-words
 returns-then-configuration-clause-words g c = λ k s inside symbols.
@@ -21,7 +21,7 @@ returns-then-configuration-clause-words g c = λ k s inside symbols.
     len (c.code_low.ensures.extent.len_64 ∙ len) c.new-rows.ensures.chunks (search rules) (c.code_low.ensures.words k s (omega arith) symbols))
 
 pub code_high-requires-clause-block : goal.code_high-requires-clause-block
-code_high-requires-clause-block g c = (configured-by c.args.shape.configuration false c.requires.laid.configured c.if-configuration.false).1
+code_high-requires-clause-block g c = (rate_configuration-by c.args.shape.configuration false c.requires.laid.configured c.if-configuration.false).1
 
 pub returns-else-configuration-clause-words : goal.returns-else-configuration-clause-words
 returns-else-configuration-clause-words g c = λ k s inside symbols.

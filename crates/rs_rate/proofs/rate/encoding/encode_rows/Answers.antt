@@ -8,7 +8,7 @@ use Rattle.rs_field.specs.rows.Layout.{row_len}
 use Rattle.rs_field.specs.words.UpTo.{up_to}
 use Rattle.rs_field.proofs.of_words.Counting.{counts_rows}
 use Rattle.rs_rate.specs.Configured.{configuration_at, low_or_high}
-use Rattle.rs_rate.specs.EncoderView.{given_of}
+use Rattle.rs_rate.specs.EncoderView.{given_originals}
 use Rattle.rs_rate.specs.ShardRows.{word_in, shard_laid_out, shard_in_order}
 use Rattle.rs_rate.proofs.ShardRowsLemmas.{chunk_count-more, column-put}
 use Rattle.rs_rate.proofs.Coded.{are_recovery, words-read}
@@ -45,7 +45,7 @@ returns-clause-recovery g c =
     (λ i few. read before i)
     (λ i few. ap (column j) (c.move_tails.ensures.moved i (omega arith)) ∙ read c.code_chunks.new.chunks i)
     (c.code_chunks.ensures.words (j / 32) (j % 32) (omega (arith, inside)) (omega arith))) in
-    subst (λ (xs : Chunks). AreRecovery (configuration_at rate w.shape.configuration) (given_of w) (up_to own.recovery_count (shard_in_order xs size)))
+    subst (λ (xs : Chunks). AreRecovery (configuration_at rate w.shape.configuration) (given_originals w) (up_to own.recovery_count (shard_in_order xs size)))
     (sym (with_items_is w.chunks c.move_tails.new.chunks (omega (arith, c.move_tails.auto.chunks, c.code_chunks.auto.chunks, c.as_mut_slice-chunks.ensures.len))))
     (subst (λ (n : ℕ). AreRecovery (configuration_at rate w.shape.configuration) (up_to n (shard_laid_out w.chunks.items size)) (up_to own.recovery_count (shard_in_order c.move_tails.new.chunks size))) (sym c.requires.full)
     (subst (λ (xs : Chunks). AreRecovery (configuration_at rate w.shape.configuration) (up_to own.original_count (shard_laid_out xs size)) (up_to own.recovery_count (shard_in_order c.move_tails.new.chunks size)))

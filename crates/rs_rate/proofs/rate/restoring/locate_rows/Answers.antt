@@ -10,8 +10,8 @@ use Rattle.rs_field.proofs.of_words.Counting.{counts_rows, counts_then}
 use Rattle.rs_field.proofs.of_rows.Recursion.{fits_kept}
 use Rattle.rs_field.proofs.of_rows.RowOffsets.{outside_cell, extent_then}
 use Rattle.rs_field.proofs.of_rows.Symbols.{symbol-zero}
-use Rattle.rs_rate.specs.Decoding.{located}
-use Rattle.rs_rate.proofs.RestoringRows.{RowLocated, located-at, located-same}
+use Rattle.rs_rate.specs.Decoding.{located_word}
+use Rattle.rs_rate.proofs.RestoringRows.{RowLocated, located_word-at, located_word-same}
 use Rattle.rs_rate.proofs.rate.restoring.locate_rows.Goals as goal
 use Rattle.rs_rate.proofs.rate.restoring.locate_rows.Goals.{then-given-p, else-given-p}
 
@@ -34,7 +34,7 @@ loop-p-preserved g c =
           (record {
             extent = w.mul_row_at.ensures.extent;
             others = w.mul_row_at.ensures.others;
-            located_here = λ k s hk hs. w.mul_row_at.ensures.products k s hk hs ∙ sym (located-at marks locator (word mid k s) p true given);
+            located_here = λ k s hk hs. w.mul_row_at.ensures.products k s hk hs ∙ sym (located_word-at marks locator (word mid k s) p true given);
             cleared = λ k hk none. absurd (true≢false (sym given ∙ none));
             counts = w.mul_row_at.ensures.counts;
           }))
@@ -47,7 +47,7 @@ loop-p-preserved g c =
             extent = w.clear_rows.ensures.extent;
             others = w.clear_rows.ensures.others;
             located_here = λ k s hk hs.
-                ap (λ x. symbol x s) (w.clear_rows.ensures.zeros p k (omega (arith, hk, cleared_len)) (omega arith) (omega arith)) ∙ symbol-zero s hs ∙ sym (located-at marks locator (word mid k s) p false none);
+                ap (λ x. symbol x s) (w.clear_rows.ensures.zeros p k (omega (arith, hk, cleared_len)) (omega arith) (omega arith)) ∙ symbol-zero s hs ∙ sym (located_word-at marks locator (word mid k s) p false none);
             cleared = λ k hk _. w.clear_rows.ensures.zeros p k (omega (arith, hk, cleared_len)) (omega arith) (omega arith);
             counts = counts_rows 1 c.loop-p.steps w.clear_rows.new.steps (subst (λ (n : ℕ). CountsRows n c.loop-p.steps w.clear_rows.new.steps) (let one : c.loop-p.p + 1 - c.loop-p.p ≡ 1 = omega arith in one) w.clear_rows.ensures.counts);
           }))
@@ -61,8 +61,8 @@ loop-p-preserved g c =
         | inl low ↦ ap (λ x. symbol x s) (kept q k (omega arith) (inl low)) ∙ before.located k s q hk hs low
         | inr high ↦
             let here : c.loop-p.p ≡ q = omega arith in
-            subst (λ (i : ℕ). word new k s i ≡ located marks locator (word old k s) i) here
-            (step.located_here k s (omega arith) hs ∙ located-same marks locator (word old k s) (word mid k s) p (ap (λ x. symbol x s) (before.left k p hk (omega arith))))
+            subst (λ (i : ℕ). word new k s i ≡ located_word marks locator (word old k s) i) here
+            (step.located_here k s (omega arith) hs ∙ located_word-same marks locator (word old k s) (word mid k s) p (ap (λ x. symbol x s) (before.left k p hk (omega arith))))
       ];
       cleared = λ k q hk hq none. elim (cases_lt q p) [
         | inl low ↦ kept q k (omega arith) (inl low) ∙ before.cleared k q hk low none

@@ -1,6 +1,6 @@
 use Rattle.std.proofs.Common.{true, false, refl, sym, subst, arith}
 use Rattle.rs_rate.specs.Shapes.{DecoderCanBeLaid}
-use Rattle.rs_rate.proofs.ConfiguredLemmas.{configured-by, blocks-known, decoder-laid}
+use Rattle.rs_rate.proofs.ConfiguredLemmas.{rate_configuration-by, blocks-known, decoder-laid}
 use Rattle.rs_rate.proofs.DecoderRows.{low_frame-is}
 use Rattle.rs_rate.proofs.RateLemmas.{high_frame-is}
 use Rattle.rs_rate.proofs.rate.configuration.Configuration.decoder_shape.Goals as goal
@@ -14,7 +14,7 @@ power_of_two-requires c = (blocks-known c.args.self c.requires true c.if-self.tr
 pub returns-then-self-clause-shape : goal.returns-then-self-clause-shape
 returns-then-self-clause-shape c =
     let own = c.args.self in
-    let known = configured-by own true c.requires c.if-self.true in
+    let known = rate_configuration-by own true c.requires c.if-self.true in
     rw (c.power_of_two.ensures.value, known.1, c.if-self.true, low_frame-is own.original_count own.recovery_count) refl
 
 pub returns-then-self-clause-laid : goal.returns-then-self-clause-laid
@@ -29,7 +29,7 @@ power_of_two-requires-else-self c = (blocks-known c.args.self c.requires false c
 pub returns-else-self-clause-shape : goal.returns-else-self-clause-shape
 returns-else-self-clause-shape c =
     let own = c.args.self in
-    let known = configured-by own false c.requires c.if-self.false in
+    let known = rate_configuration-by own false c.requires c.if-self.false in
     rw (c.power_of_two-else-self.ensures.value, known.1, c.if-self.false, high_frame-is own.original_count own.recovery_count) refl
 
 pub returns-else-self-clause-laid : goal.returns-else-self-clause-laid

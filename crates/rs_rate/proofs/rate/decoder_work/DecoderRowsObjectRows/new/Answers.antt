@@ -1,5 +1,5 @@
 use Rattle.rs_rate.proofs.DecoderLemmas.{hold_nothing, nothing-given}
-use Rattle.rs_rate.proofs.rate.decoder_work.DecoderRowsCoderRows.new.Goals as goal
+use Rattle.rs_rate.proofs.rate.decoder_work.DecoderRowsObjectRows.new.Goals as goal
 
 pub invariant_of-result : goal.invariant_of-result
 invariant_of-result c =

@@ -1,8 +1,8 @@
 //! An object over a rate and its rows. An encoder and a decoder differ in what their rows bring, and in what a round does.
 ghost use Rattle.rs_rate.specs.SetUp.{IsSetUp};
 
-use crate::rate::code::Code;
 use crate::rate::configuration::Configuration;
+use crate::rate::rate_marker::RateMarker;
 use crate::rate::supported_counts::SupportedCounts;
 use rs_field::engine::Engine;
 use rs_field::error::Error;
@@ -10,14 +10,14 @@ use std::alloc::Global;
 use std::marker::PhantomData;
 
 /// What the rows of an object bring: how many they are, the state that they stand for, and the room for them.
-pub trait CoderRows: Sized {
+pub trait ObjectRows: Sized {
     ghost use Rattle.std.specs.Prelude.{◌≡◌, ◌*◌, ◌^◌, ◌<◌, ◌≤◌, ℕ, IfOk, OnOk, OnErr};
     ghost use Rattle.rs_field.specs.code.Configuration.{Configuration as AsDefined, UpToMemory};
     ghost use Rattle.rs_field.specs.code.Counts.{Rate};
     ghost use Rattle.rs_field.specs.code.Outcome.{answer_of};
     ghost use Rattle.rs_rate.specs.declared.rate.configuration.Configuration.{Configuration};
     ghost use Rattle.rs_rate.specs.Configured.{configuration_at, IsConfigured};
-    ghost use Rattle.rs_rate.specs.SetUp.{Answer, rows_of, asked_for};
+    ghost use Rattle.rs_rate.specs.SetUp.{Answer, rows_of, set_up_outcome};
     ghost use Rattle.rs_rate.specs.ShardRows.{chunk_count};
 
     /// The memory that is handed on from an object before, where there is one.
@@ -61,9 +61,9 @@ pub trait CoderRows: Sized {
         requires { IsConfigured configuration }
         ensures configuration { IfOk result (λ x. configuration_of x ≡ configuration) }
         ensures state { IfOk result (λ x. (rate : Rate) → state rate x ≡ fresh (configuration_at rate configuration)) }
-        ensures answer { UpToMemory (asked_for row_count configuration) (answer_of result) }
+        ensures answer { UpToMemory (set_up_outcome row_count configuration) (answer_of result) }
         ensures grown { IfOk result (λ x. grows_from work (room x)) }
-        ensures roomy { where_roomy work (rows_of row_count configuration) configuration.shard_bytes (answer_of result) (asked_for row_count configuration) };
+        ensures roomy { where_roomy work (rows_of row_count configuration) configuration.shard_bytes (answer_of result) (set_up_outcome row_count configuration) };
 
     /// The rows of another configuration, with nothing given: every growth first, so that a refusal leaves what was set up
     /// and given.
@@ -73,9 +73,9 @@ pub trait CoderRows: Sized {
         ensures err { OnErr result ((rate : Rate) → state rate self.new ≡ state rate self.old) }
         ensures configuration { OnOk result (configuration_of self.new ≡ configuration) }
         ensures kept { OnErr result (configuration_of self.new ≡ configuration_of self.old) }
-        ensures answer { UpToMemory (asked_for row_count configuration) result }
+        ensures answer { UpToMemory (set_up_outcome row_count configuration) result }
         ensures grown { grows (room self.old) (room self.new) }
-        ensures roomy { has_room (room self.old) (rows_of row_count configuration) configuration.shard_bytes → result ≡ asked_for row_count configuration };
+        ensures roomy { has_room (room self.old) (rows_of row_count configuration) configuration.shard_bytes → result ≡ set_up_outcome row_count configuration };
 
     /// Room that stays is no less.
     ghost stays: { (room : Room) → grows room room };
@@ -93,16 +93,16 @@ pub trait CoderRows: Sized {
 
 /// An encoder or a decoder of a rate: it holds an engine, and rows that are set up for counts that the rate supports.
 #[derive(Drop)]
-pub struct Coder<E: Engine, C: Code, R: CoderRows> {
+pub struct RateObject<E: Engine, C: RateMarker, R: ObjectRows> {
     pub(crate) engine: E,
     pub(crate) rows: R,
     code: PhantomData<C>,
     pub ghost set_up: { IsSetUp C.rate (R.configuration_of rows) },
 }
 
-impl<E: Engine, C: Code, R: CoderRows + Drop> Coder<E, C, R> {
+impl<E: Engine, C: RateMarker, R: ObjectRows + Drop> RateObject<E, C, R> {
     ghost use Rattle.std.specs.Prelude.{◌≡◌, ◌≢◌, Err, IfOk, OnOk, OnErr};
-    ghost use Rattle.rs_field.specs.code.Configuration.{configuration, started, UpToMemory, FitsWithin};
+    ghost use Rattle.rs_field.specs.code.Configuration.{configuration, start_outcome, UpToMemory, FitsWithin};
     ghost use Rattle.rs_field.specs.code.Outcome.{answer_of};
     ghost use Rattle.rs_rate.specs.Configured.{configuration_at};
 
@@ -119,19 +119,19 @@ impl<E: Engine, C: Code, R: CoderRows + Drop> Coder<E, C, R> {
         shard_bytes: usize,
         engine: E,
         work: R::Work,
-    ) -> Result<Coder<E, C, R>, Error>
+    ) -> Result<RateObject<E, C, R>, Error>
         ensures answer { let c = configuration C.rate counts.original_count counts.recovery_count shard_bytes in
-            UpToMemory (started (R.row_count C.rate c.original_count c.recovery_count) c) (answer_of result) }
+            UpToMemory (start_outcome (R.row_count C.rate c.original_count c.recovery_count) c) (answer_of result) }
         ensures made { let c = configuration C.rate counts.original_count counts.recovery_count shard_bytes in
             IfOk result (λ x. (R.state C.rate x.rows ≡ R.fresh c) × (x.engine ≡ engine)) }
         ensures grown { IfOk result (λ x. R.grows_from work (R.room x.rows)) }
         ensures roomy { let c = configuration C.rate counts.original_count counts.recovery_count shard_bytes in
             R.where_roomy work (R.row_count C.rate c.original_count c.recovery_count) shard_bytes
-            (answer_of result) (started (R.row_count C.rate c.original_count c.recovery_count) c) }
+            (answer_of result) (start_outcome (R.row_count C.rate c.original_count c.recovery_count) c) }
     {
         let configuration = Configuration::new(counts, shard_bytes)?;
         let rows = R::new(alloc, configuration, work)?;
-        Ok(Coder {
+        Ok(RateObject {
             engine,
             rows,
             code: PhantomData,
@@ -147,11 +147,11 @@ impl<E: Engine, C: Code, R: CoderRows + Drop> Coder<E, C, R> {
         shard_bytes: usize,
     ) -> Result<(), Error>
         ensures answer { let c = configuration C.rate original_count recovery_count shard_bytes in
-            UpToMemory (started (R.row_count C.rate original_count recovery_count) c) result }
+            UpToMemory (start_outcome (R.row_count C.rate original_count recovery_count) c) result }
         ensures ok { OnOk result (R.state C.rate self.new.rows ≡ R.fresh (configuration C.rate original_count recovery_count shard_bytes)) }
         ensures err { OnErr result (R.state C.rate self.new.rows ≡ R.state C.rate self.old.rows) }
         ensures roomy { R.has_room (R.room self.old.rows) (R.row_count C.rate original_count recovery_count) shard_bytes
-            → result ≡ started (R.row_count C.rate original_count recovery_count) (configuration C.rate original_count recovery_count shard_bytes) }
+            → result ≡ start_outcome (R.row_count C.rate original_count recovery_count) (configuration C.rate original_count recovery_count shard_bytes) }
         ensures own { FitsWithin (configuration_at C.rate (R.configuration_of self.old.rows)) (configuration C.rate original_count recovery_count shard_bytes)
             → result ≢ Err Error.OutOfMemory }
         ensures engine { self.new.engine ≡ self.old.engine }

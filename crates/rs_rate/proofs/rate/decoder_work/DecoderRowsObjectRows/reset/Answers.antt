@@ -1,5 +1,5 @@
 use Rattle.rs_rate.proofs.DecoderLemmas.{hold_nothing, nothing-given}
-use Rattle.rs_rate.proofs.rate.decoder_work.DecoderRowsCoderRows.reset.Goals as goal
+use Rattle.rs_rate.proofs.rate.decoder_work.DecoderRowsObjectRows.reset.Goals as goal
 
 pub invariant_of-self-2 : goal.invariant_of-self-2
 invariant_of-self-2 c =

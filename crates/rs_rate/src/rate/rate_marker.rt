@@ -11,7 +11,7 @@ use rs_field::engine::Engine;
 use std::marker::PhantomData;
 
 /// What a rate brings. At each pair of counts it is the low rate or the high rate.
-pub trait Code {
+pub trait RateMarker {
     ghost rate: { WhichRate };
 
     /// Which of both the rate is at these counts, with its blocks there; none where it doesn't support them.
@@ -21,33 +21,33 @@ pub trait Code {
 
 /// The code of the low rate.
 #[derive(Clone, Copy, Debug, PartialEq, Eq, Hash)]
-pub struct LowCode;
+pub struct LowRateMarker;
 
 /// The code of the high rate.
 #[derive(Clone, Copy, Debug, PartialEq, Eq, Hash)]
-pub struct HighCode;
+pub struct HighRateMarker;
 
 /// The code of the default rate.
 #[derive(Clone, Copy, Debug, PartialEq, Eq, Hash)]
-pub struct DefaultCode;
+pub struct DefaultRateMarker;
 
 /// The low rate over an engine. It is made for few originals.
-pub type LowRate<E> = RateOf<E, LowCode>;
+pub type LowRate<E> = RateOf<E, LowRateMarker>;
 
 /// The high rate over an engine. It is made for few recovery shards.
-pub type HighRate<E> = RateOf<E, HighCode>;
+pub type HighRate<E> = RateOf<E, HighRateMarker>;
 
 /// The default rate over an engine: for each pair of counts the low or the high rate.
-pub type DefaultRate<E> = RateOf<E, DefaultCode>;
+pub type DefaultRate<E> = RateOf<E, DefaultRateMarker>;
 
 /// The rate of a code, over an engine.
 #[derive(Drop)]
-pub struct RateOf<E: Engine, C: Code> {
+pub struct RateOf<E: Engine, C: RateMarker> {
     engine: PhantomData<E>,
     code: PhantomData<C>,
 }
 
-impl Code for LowCode {
+impl RateMarker for LowRateMarker {
     ghost rate = { low_rate };
 
     fn choose(original_count: usize, recovery_count: usize) -> Option<Choice> {
@@ -55,7 +55,7 @@ impl Code for LowCode {
     }
 }
 
-impl Code for HighCode {
+impl RateMarker for HighRateMarker {
     ghost rate = { high_rate };
 
     fn choose(original_count: usize, recovery_count: usize) -> Option<Choice> {
@@ -63,7 +63,7 @@ impl Code for HighCode {
     }
 }
 
-impl Code for DefaultCode {
+impl RateMarker for DefaultRateMarker {
     ghost rate = { default_rate };
 
     fn choose(original_count: usize, recovery_count: usize) -> Option<Choice> {
@@ -71,7 +71,7 @@ impl Code for DefaultCode {
     }
 }
 
-impl<E: Engine, C: Code + Drop> Rate<E> for RateOf<E, C> {
+impl<E: Engine, C: RateMarker + Drop> Rate<E> for RateOf<E, C> {
     ghost use Rattle.std.specs.Prelude.{refl};
 
     type RateEncoder = Encoder<E, C>;
