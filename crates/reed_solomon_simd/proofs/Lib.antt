@@ -16,6 +16,7 @@ pub mod ObjectRoundTrip
 pub mod StripLemmas
 pub mod RoomFits
 pub mod Gathering
+pub mod Checking
 pub use Rattle.rs_field.proofs.of_code.Given
 pub use Rattle.rs_field.proofs.of_code.Listed
 pub use Rattle.rs_field.proofs.of_code.Entries

@@ -1,6 +1,6 @@
 -- From rooms that hold the restored originals to what a decode into rooms answers.
-use Rattle.std.proofs.Common.{◌≡◌, ℕ, ◌+◌, ◌==◌, List, [], ◌∷◌, ◌++◌, length, take, drop, get_or, All, Some, None, Result, Ok, Err, MatchResult, true, false, true≢false, refl, sym, ap, ◌∙◌, subst, inl, inr, arith}
-use Rattle.std.proofs.lemmas.List.{append-nil, drop_all, length-map, ext_get_or}
+use Rattle.std.proofs.Common.{◌≡◌, ℕ, ◌+◌, ◌==◌, List, [], ◌∷◌, ◌++◌, length, get_or, All, Some, None, Result, Ok, Err, MatchResult, true, false, true≢false, refl, sym, ap, ◌∙◌, subst, inl, inr, arith}
+use Rattle.std.proofs.lemmas.List.{append-nil, drop_all, ext_get_or}
 use Rattle.std.proofs.lemmas.Bool.{ne_eqb}
 use Rattle.std.specs.Prelude.{◌⊎◌, OnOk, OnErr, is_ok}
 use Rattle.rs_field.specs.declared.code.error.Error.{Error}

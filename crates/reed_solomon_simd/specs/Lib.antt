@@ -34,6 +34,7 @@ pub mod ReceivedState
 pub mod RoomTexts
 pub mod Into
 pub mod Gathered
+pub mod Checked
 pub mod EncoderObject
 pub mod DecoderObject
 pub use Rattle.rs_field.specs.code.OneCall

@@ -1,5 +1,5 @@
 -- Shards that were received, each in the place of its index.
-use Rattle.std.specs.Prelude.{ℕ, List, Option, None, slice_index_or}
+use Rattle.std.specs.Prelude.{List, Option, None, slice_index_or}
 use Rattle.std.specs.Borrow.{Bor}
 use Rattle.std.specs.Option.{option_map}
 use Rattle.rs_field.specs.code.Column.{Shard}

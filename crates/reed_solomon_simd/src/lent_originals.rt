@@ -8,7 +8,7 @@ ghost use Rattle.rs_field.specs.code.OneCall.{default_of};
 ghost use Rattle.rs_field.specs.code.Placement.{encoder_rows};
 ghost use Rattle.reed_solomon_simd.specs.Rooms.{shards_of};
 
-use crate::rooms::{LentRooms, Rooms};
+use crate::rooms::Rooms;
 use crate::strip_encoder::encode_strips;
 use rs_field::bytes::are_bytes;
 use rs_field::engine::Engine;
@@ -43,7 +43,6 @@ impl<'a> LentOriginals<'a> {
     ghost use Rattle.rs_rate.specs.Calls.{Calls, BeginsWith};
     ghost use Rattle.rs_rate.specs.Giving.{Reaches, IsEncoding};
     ghost use Rattle.reed_solomon_simd.specs.Gathered.{gathered};
-    ghost use Rattle.reed_solomon_simd.specs.Rooms.{bytes_in, loans_of};
 
     // No originals, for these counts and this size.
     fn new(
@@ -130,13 +129,6 @@ impl<'a> LentOriginals<'a> {
         Ok(())
     }
 
-    /// Returns the size of the originals, in bytes.
-    pub fn shard_bytes(&self) -> usize
-        ensures { result ≡ self.now.shard_bytes }
-    {
-        self.shard_bytes
-    }
-
     /// Checks that all originals were gathered.
     ///
     /// # Errors
@@ -183,29 +175,6 @@ impl<'a> LentOriginals<'a> {
             self.shards.as_slice(),
             rooms,
         )
-    }
-
-    /// Writes the recovery shards into memory of the caller.
-    ///
-    /// # Errors
-    ///
-    /// [`Error::OutOfMemory`] if the work area cannot be allocated.
-    pub fn encode_lent<E: Engine>(
-        &self,
-        alloc: Global,
-        engine: E,
-        recovery: &mut [&mut [u8]],
-    ) -> Result<(), Error>
-        requires all { answer_of (message_of (gathered self.now)) ≡ Ok tt }
-        requires number { length recovery.old ≡ self.now.counts.recovery_count }
-        requires fit { All (λ room. length room ≡ self.now.shard_bytes) (bytes_in recovery.old) }
-        ensures coded { OnOk result (AreRecovery (gathered self.now).configuration (gathered self.now).given (bytes_in recovery.new)) }
-        ensures refused { OnErr result (result ≡ Err Error.OutOfMemory) }
-        ensures untouched { OnErr result (bytes_in recovery.new ≡ bytes_in recovery.old) }
-        ensures kept { loans_of recovery.new ≡ loans_of recovery.old }
-    {
-        let mut rooms = LentRooms { rooms: recovery };
-        self.encode(alloc, engine, &mut rooms)
     }
 
     /// Returns the recovery shards as vectors.

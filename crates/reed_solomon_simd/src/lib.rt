@@ -8,6 +8,7 @@
 //! messages with the same memory. The module [`rate`] has objects whose rate, engine and memory the caller chooses.
 #![tactic(auto)]
 
+mod checked_originals;
 mod decoder;
 mod encoder;
 mod into;

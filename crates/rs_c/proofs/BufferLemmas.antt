@@ -1,12 +1,12 @@
 -- Shards one after the other, one at a time.
-use Rattle.std.proofs.Common.{◌≡◌, ℕ, zero, suc, ◌+◌, ◌-◌, ◌*◌, ◌<◌, ◌≤◌, List, [], ◌∷◌, ◌++◌, length, take, drop, Option, Some, None, All, sym, ap, subst, ◌∙◌, refl, arith}
+use Rattle.std.proofs.Common.{◌≡◌, ℕ, zero, suc, ◌+◌, ◌-◌, ◌*◌, ◌<◌, ◌≤◌, List, ◌++◌, length, take, drop, Option, Some, None, sym, ap, subst, ◌∙◌, refl, arith}
 use Rattle.std.specs.Prelude.{unwrap_or}
 use Rattle.std.proofs.Math.Nat.{suc-mul, mul-le-mul_right}
 use Rattle.std.proofs.Math.Seq.{take-add}
 use Rattle.std.proofs.lemmas.List.{append_assoc, length-append, length-drop, length-take-le, drop-drop}
-use Rattle.rs_field.specs.code.Column.{Shard, IsShard}
+use Rattle.rs_field.specs.code.Column.{Shard}
 use Rattle.rs_field.specs.code.Given.{Shards}
-use Rattle.rs_c.specs.Buffers.{concatenation, with_restored, AreSized}
+use Rattle.rs_c.specs.Buffers.{with_restored, AreSized}
 
 -- the bytes before a place, with what is to be written behind them, are the whole, for which there is just room
 pub record IsWritten (whole : List ℕ) (at : ℕ) (bytes rest : List ℕ) : Type 0 where
@@ -29,7 +29,7 @@ written-next whole at end old new x rest w same ends now =
       is_whole = ap (λ (l : List ℕ). l ++ rest) now ∙ append_assoc (take at old) x rest ∙ w.is_whole;
     }
 
--- the bytes in a place of the size
+-- what stands in a place of the size
 length-placed : (size : ℕ) (o : Option Shard) (own : List ℕ) → ((x : Shard) → o ≡ Some x → length x ≡ size) → length own ≡ size → length (unwrap_or o own) ≡ size
 length-placed size (Some x) own sized h = sized x refl
 length-placed size None own sized h = h

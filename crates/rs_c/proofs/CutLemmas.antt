@@ -1,11 +1,10 @@
 -- Shards that are cut from a buffer, and a piece that is written into one of them.
-use Rattle.std.proofs.Common.{◌≡◌, ℕ, zero, suc, ◌+◌, ◌-◌, ◌*◌, ◌<◌, ◌≤◌, List, [], ◌∷◌, ◌++◌, length, take, drop, get_or, refl, sym, ap, ap₂, subst, ◌∙◌, inl, inr, arith, All}
+use Rattle.std.proofs.Common.{◌≡◌, ℕ, zero, suc, ◌+◌, ◌-◌, ◌*◌, ◌<◌, ◌≤◌, List, [], ◌∷◌, ◌++◌, length, take, drop, get_or, refl, sym, ap, ap₂, ◌∙◌, inl, inr, arith, All}
 use Rattle.std.proofs.Math.Nat.{suc-mul, mul-le-mul_right}
 use Rattle.std.proofs.Math.Seq.{take-append-add}
 use Rattle.std.proofs.lemmas.Bool.{cases_lt, cases_order}
-use Rattle.std.proofs.lemmas.List.{append_assoc, length-append, length-take-le, length-drop, take-take, take-append-le, drop-append-le, drop-take, drop-drop, drop_at, get_or_past, take-append-drop, take_all}
+use Rattle.std.proofs.lemmas.List.{append_assoc, length-append, length-take-le, length-drop, take-take, take-append-le, drop-append-le, drop-take, drop-drop, drop_at, take-append-drop, take_all}
 use Rattle.std.proofs.lemmas.List.Elements.{All-cons}
-use Rattle.rs_field.specs.code.Column.{Shard}
 use Rattle.rs_c.specs.Buffers.{shards_in_buffer, concatenation}
 
 -- so many shards

@@ -51,16 +51,16 @@ fn two_recovery_shards_restore_two_originals(rt: HostRuntime) -> Result<(), Fail
 }
 
 #[test]
-fn originals_are_restored_into_arrays(rt: HostRuntime) -> Result<(), Fail> {
+fn missing_originals_are_written_into_arrays(rt: HostRuntime) -> Result<(), Fail> {
     let alloc = rt.alloc();
     let tables = Tables::new(alloc)?;
     let engine = DefaultEngine::new(&tables, EngineKind::Ssse3);
-    let received: [(usize, &[u8]); 2] = [(0, &[2, 0]), (1, &[3, 0])];
+    let recovery: [(usize, &[u8]); 2] = [(0, &[2, 0]), (1, &[3, 0])];
     let (mut first, mut second) = ([9; 2], [9; 2]);
     let mut restored: Vec<&mut [u8]> = Vec::new(alloc);
     restored.push(&mut first)?;
     restored.push(&mut second)?;
-    decode_into(alloc, 2, 3, &[], &received, &mut restored, engine)?;
+    decode_into(alloc, 2, 3, &[], &recovery, &mut restored, engine)?;
     drop(restored);
     assert_eq!(rt; (first, second), ([0, 0], [1, 0]));
     Ok(())

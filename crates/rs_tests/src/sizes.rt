@@ -5,6 +5,7 @@ mod objects;
 mod one_call;
 mod plain;
 mod rated;
+mod strip_decodes;
 mod strips;
 
 // The sizes of a shard, in bytes.

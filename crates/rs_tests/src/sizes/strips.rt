@@ -1,4 +1,6 @@
 //! Sizes of shards about the ends of strips. Every way to encode in one call gives what an encoder of whole shards gives.
+ghost use Rattle.std.specs.Prelude.{◌≤◌};
+
 use super::losses::drawn;
 use reed_solomon_simd::engine::tables::Tables;
 use reed_solomon_simd::engine::{DefaultEngine, EngineKind};
@@ -106,27 +108,27 @@ fn strips_are_encoded_as_whole_shards(rt: HostRuntime) -> Result<(), Fail> {
     Ok(())
 }
 
-// Encodes into rooms, which hold what they held after an error.
-fn check_refused(
+// Encodes into two rooms, which hold what they held after an error.
+fn check_refused<const SECOND_BYTES: usize>(
     rt: &impl Abort,
     alloc: Global,
     originals: &[&[u8]],
-    sizes: &[usize],
+    recovery_count: usize,
     engine: DefaultEngine<'_>,
     wanted: RoomError,
-) -> Result<(), Fail> {
-    let mut memory: Vec<Vec<u8>> = Vec::new(alloc);
-    for size in sizes {
-        memory.push(vec![in alloc; 9; *size]?)?;
-    }
+) -> Result<(), Fail>
+    requires { SECOND_BYTES ≤ 64 }
+{
+    let mut first = [9; 4];
+    let mut second = [9; SECOND_BYTES];
     let mut rooms: Vec<&mut [u8]> = Vec::new(alloc);
-    for room in memory.iter_mut() {
-        rooms.push(room.as_mut_slice())?;
-    }
-    let answer = encode_into(alloc, 2, 2, originals, &mut rooms, engine);
+    rooms.push(&mut first)?;
+    rooms.push(&mut second)?;
+    let answer = encode_into(alloc, 2, recovery_count, originals, &mut rooms, engine);
     drop(rooms);
     assert_eq!(rt; answer.err(), Some(wanted));
-    assert!(rt; memory.iter().all(|room| room.iter().all(|byte| *byte == 9)));
+    assert_eq!(rt; first, [9; 4]);
+    assert!(rt; second.iter().all(|byte| *byte == 9));
     Ok(())
 }
 
@@ -136,14 +138,14 @@ fn rooms_that_do_not_fit_are_refused(rt: HostRuntime) -> Result<(), Fail> {
     let tables = Tables::new(alloc)?;
     let engine = DefaultEngine::new(&tables, EngineKind::Ssse3);
     let originals: [&[u8]; 2] = [&[1, 2, 3, 4], &[5, 6, 7, 8]];
-    let number = RoomError::WrongNumberOfRooms { wanted: 2, got: 1 };
-    check_refused(&rt, alloc, &originals, &[4], engine, number)?;
+    let number = RoomError::WrongNumberOfRooms { wanted: 3, got: 2 };
+    check_refused::<4>(&rt, alloc, &originals, 3, engine, number)?;
     let length = RoomError::WrongLength { wanted: 4, got: 6 };
-    check_refused(&rt, alloc, &originals, &[4, 6], engine, length)?;
+    check_refused::<6>(&rt, alloc, &originals, 2, engine, length)?;
     let few = RoomError::Refused(Error::TooFewOriginalShards {
         original_count: 2,
         original_received_count: 1,
     });
-    check_refused(&rt, alloc, &originals[..1], &[4, 4], engine, few)?;
+    check_refused::<4>(&rt, alloc, &originals[..1], 2, engine, few)?;
     Ok(())
 }

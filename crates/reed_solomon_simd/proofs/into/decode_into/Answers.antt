@@ -1,4 +1,4 @@
-use Rattle.std.proofs.Common.{rules, ◌≡◌, ℕ, List, [], length, map, Err, Bor, refl}
+use Rattle.std.proofs.Common.{rules, ◌≡◌, ℕ, List, [], length, map, Bor, refl}
 use Rattle.std.proofs.lemmas.Iterator.{YieldsList-from_slice, YieldsList-from_map_by}
 use Rattle.std.proofs.lemmas.List.Elements.{All-nil}
 use Rattle.rs_field.specs.code.Column.{Shard}

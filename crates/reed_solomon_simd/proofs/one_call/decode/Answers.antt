@@ -1,4 +1,4 @@
-use Rattle.std.proofs.Common.{rules, Ok, Err, sym, subst}
+use Rattle.std.proofs.Common.{rules, Ok, sym, subst}
 use Rattle.rs_field.specs.code.OneCall.{OneDecodeAnswers}
 use Rattle.reed_solomon_simd.proofs.Collecting.{shards_in-empty}
 use Rattle.rs_rate.proofs.Giving.{no-calls, always-both}

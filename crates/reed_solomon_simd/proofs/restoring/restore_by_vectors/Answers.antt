@@ -1,8 +1,7 @@
-use Rattle.std.proofs.Common.{rules, ◌≡◌, ◌+◌, List, [], length, map, All, Ok, Err, ap, subst, ◌∙◌, sym, refl, arith}
+use Rattle.std.proofs.Common.{rules, ◌≡◌, List, [], length, map, All, Ok, Err, ap, subst, ◌∙◌, sym, refl, arith}
 use Rattle.std.proofs.lemmas.List.{length-map, get_or-map}
-use Rattle.std.proofs.lemmas.List.Elements.{All-map}
 use Rattle.rs_field.specs.code.Column.{Shard}
-use Rattle.rs_field.specs.code.Decoder.{DecoderState, originals_given}
+use Rattle.rs_field.specs.code.Decoder.{DecoderState}
 use Rattle.rs_field.proofs.of_code.RestoredBelow.{held-number, held-sized}
 use Rattle.reed_solomon_simd.specs.ReceivedState.{received_state}
 use Rattle.reed_solomon_simd.specs.Rooms.{bytes_in}

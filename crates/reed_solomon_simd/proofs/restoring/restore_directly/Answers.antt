@@ -1,4 +1,4 @@
-use Rattle.std.proofs.Common.{rules, ◌≡◌, ◌+◌, List, length, Ok, ap, ◌∙◌, sym, refl, inl, inr}
+use Rattle.std.proofs.Common.{rules, ◌≡◌, ◌+◌, List, length, Ok, ap, ◌∙◌, sym, refl, inr}
 use Rattle.std.proofs.lemmas.List.{length-map}
 use Rattle.rs_field.specs.declared.code.error.Error.TheVariants.{OutOfMemory}
 use Rattle.rs_field.specs.code.Column.{Shard}

@@ -1,13 +1,11 @@
-use Rattle.std.proofs.Common.{rules, ◌≡◌, ◌-◌, ◌<◌, ◌≤◌, ℕ, length, Some, None, sym, ap, ◌∙◌, arith}
-use Rattle.std.specs.List.{between}
-use Rattle.rs_field.specs.code.Column.{Shard}
+use Rattle.std.proofs.Common.{◌≡◌, ◌<◌, ℕ, Some, sym, ap, ◌∙◌, arith}
 use Rattle.rs_field.specs.code.Counts.{default_rate}
 use Rattle.rs_field.specs.code.Decoder.{DecoderState}
 use Rattle.rs_field.specs.code.Given.{Shards}
 use Rattle.rs_field.specs.code.PieceStates.{pieces_of}
 use Rattle.rs_rate.specs.DecoderView.{decoder_state}
 use Rattle.reed_solomon_simd.specs.Received.{given_in}
-use Rattle.reed_solomon_simd.proofs.StripDecodeLemmas.{first, first-none, first-all, first-skipped, recovery-next, recovery-refused, piece-sized, places-past}
+use Rattle.reed_solomon_simd.proofs.StripDecodeLemmas.{first-none, first-all, first-skipped, recovery-next, recovery-refused, piece-sized, places-past}
 use Rattle.reed_solomon_simd.proofs.strip_decoder.add_recovery_pieces.Goals.{in-Some+in_ok-add_recovery_shard, in_default}
 use Rattle.reed_solomon_simd.proofs.strip_decoder.add_recovery_pieces.Goals as goal
 

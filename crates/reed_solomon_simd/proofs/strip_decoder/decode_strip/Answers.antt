@@ -1,13 +1,9 @@
-use Rattle.std.proofs.Common.{rules, ◌≡◌, ℕ, ◌-◌, List, length, All, Err, sym, ap, subst, ◌∙◌, inl, inr, arith}
-use Rattle.std.proofs.lemmas.Result.{on_ok_weaker}
+use Rattle.std.proofs.Common.{rules, ◌≡◌, ℕ, Err, sym, ap, subst, ◌∙◌, inl, arith}
 use Rattle.rs_field.specs.code.Counts.{default_rate}
-use Rattle.rs_field.specs.code.Decoder.{DecoderState, Restored}
+use Rattle.rs_field.specs.code.Decoder.{DecoderState}
 use Rattle.rs_field.specs.code.Given.{Shards, Lists}
-use Rattle.rs_field.specs.code.OneCall.{Items}
-use Rattle.rs_field.specs.code.PieceStates.{state_of_pieces}
 use Rattle.rs_field.proofs.of_code.RestoredBelow.{pieces-number, pieces-sized}
 use Rattle.rs_rate.specs.DecoderView.{decoder_state, restored_by_rows}
-use Rattle.rs_rate.specs.ResultView.{restored_originals}
 use Rattle.reed_solomon_simd.specs.Received.{given_in}
 use Rattle.reed_solomon_simd.specs.ReceivedState.{received_state}
 use Rattle.reed_solomon_simd.proofs.StripDecodeLemmas.{pieces-added, round-made, round-refused, round-ends}

@@ -1,11 +1,9 @@
 use Rattle.std.proofs.Common.{rules, ◌≡◌, ℕ, ◌+◌, ◌<◌, List, Err, sym, ap, subst, ◌∙◌, refl, inl, inr, arith}
-use Rattle.rs_field.specs.declared.code.error.Error.{Error}
-use Rattle.rs_field.specs.declared.code.error.Error.TheVariants.{OutOfMemory}
 use Rattle.rs_field.specs.code.Column.{Shard}
-use Rattle.rs_field.specs.code.Decoder.{DecoderState, NoneAgrees}
+use Rattle.rs_field.specs.code.Decoder.{DecoderState}
 use Rattle.rs_field.specs.code.PieceStates.{HoldRestored}
 use Rattle.rs_field.proofs.of_code.Pieces.{is_strip, is_last}
-use Rattle.rs_field.proofs.of_code.RestoredBelow.{IsRestoredBelow, restored-none, restored-further, none-pieces}
+use Rattle.rs_field.proofs.of_code.RestoredBelow.{IsRestoredBelow, restored-further, none-pieces}
 use Rattle.reed_solomon_simd.specs.ReceivedState.{received_state}
 use Rattle.reed_solomon_simd.proofs.ReceivedLaws.{received-restored}
 use Rattle.reed_solomon_simd.proofs.strip_decoder.decode_strips.Goals.{then-start-shard_bytes+in_ok-reset+in_ok-decode_strip-2, else-start-shard_bytes}

@@ -1,7 +1,6 @@
-use Rattle.std.proofs.Common.{rules, ◌≡◌, ℕ, ◌*◌, ◌<◌, List, length, Ok, Err, sym, ap, subst, ◌∙◌, refl}
+use Rattle.std.proofs.Common.{rules, ◌≡◌, ℕ, ◌<◌, length, Ok, Err, sym, ap, subst, ◌∙◌, refl}
 use Rattle.rs_field.specs.declared.code.error.Error.TheVariants.{OutOfMemory}
 use Rattle.rs_field.specs.code.Configuration.{Configuration}
-use Rattle.rs_field.specs.code.OneCall.{default_of}
 use Rattle.reed_solomon_simd.proofs.Giving.{always-run, lends-left}
 use Rattle.reed_solomon_simd.proofs.OneCall.{encoding-refused}
 use Rattle.reed_solomon_simd.proofs.CallerLemmas.{valid-some}

@@ -1,4 +1,4 @@
-use Rattle.std.proofs.Common.{rules, ◌≡◌, ◌+◌, sym, ap, ◌∙◌, arith}
+use Rattle.std.proofs.Common.{◌+◌, sym, ap, ◌∙◌, arith}
 use Rattle.reed_solomon_simd.proofs.ReceivedLemmas.{places-entered, places-counted, places-most}
 use Rattle.reed_solomon_simd.proofs.received_shards.Places.enter.Goals as goal
 

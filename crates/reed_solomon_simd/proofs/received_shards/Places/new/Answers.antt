@@ -1,6 +1,4 @@
-use Rattle.std.proofs.Common.{rules, ◌≡◌, sym}
-use Rattle.rs_field.specs.code.Given.{nothing}
-use Rattle.reed_solomon_simd.specs.Received.{given_in}
+use Rattle.std.proofs.Common.{rules, sym}
 use Rattle.reed_solomon_simd.proofs.ReceivedLemmas.{places-none, places-empty}
 use Rattle.reed_solomon_simd.proofs.received_shards.Places.new.Goals as goal
 

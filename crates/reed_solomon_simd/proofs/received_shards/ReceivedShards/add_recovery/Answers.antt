@@ -1,5 +1,5 @@
-use Rattle.std.proofs.Common.{rules, ◌<◌, subst, sym, arith}
-use Rattle.rs_field.specs.code.Given.{Shards, AreWithin}
+use Rattle.std.proofs.Common.{◌<◌, subst, sym, arith}
+use Rattle.rs_field.specs.code.Given.{AreWithin}
 use Rattle.reed_solomon_simd.proofs.ReceivedLemmas.{entered-within}
 use Rattle.reed_solomon_simd.proofs.received_shards.ReceivedShards.add_recovery.Goals as goal
 

@@ -1,4 +1,4 @@
-use Rattle.std.proofs.Common.{◌≡◌, ◌≤◌, length, ap, ◌∙◌, arith}
+use Rattle.std.proofs.Common.{length, ap, ◌∙◌, arith}
 use Rattle.rs_field.specs.code.Given.{count_below}
 use Rattle.rs_field.proofs.of_code.Entries.{count_most}
 use Rattle.reed_solomon_simd.specs.Received.{given_in}

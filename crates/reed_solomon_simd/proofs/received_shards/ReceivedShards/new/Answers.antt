@@ -1,4 +1,3 @@
-use Rattle.std.proofs.Common.{rules}
 use Rattle.reed_solomon_simd.proofs.ReceivedLemmas.{none-within}
 use Rattle.reed_solomon_simd.proofs.received_shards.ReceivedShards.new.Goals as goal
 

@@ -1,0 +1,106 @@
+-- Originals that lie in a list, checked one after another.
+use Rattle.std.proofs.Common.{◌≡◌, ℕ, zero, suc, ◌+◌, ◌<◌, ◌≤◌, List, [], ◌∷◌, ◌++◌, length, take, get_or, All, Result, Ok, Err, MatchResult, inl, refl, sym, ap, subst, arith, append_assoc, append-nil, length-append}
+use Rattle.std.proofs.lemmas.Bool.{lt-leb, lt-ltb, le-ltb, eq-eqb}
+use Rattle.std.proofs.lemmas.List.Elements.{recursion_from_All}
+use Rattle.rs_field.specs.declared.code.error.Error.{Error}
+use Rattle.rs_field.specs.declared.code.error.Error.TheVariants.{TooFewOriginalShards, OutOfMemory}
+use Rattle.rs_field.specs.code.Code.{AreRecovery}
+use Rattle.rs_field.specs.code.Column.{Shard}
+use Rattle.rs_field.specs.code.Configuration.{start_outcome, validation_outcome}
+use Rattle.rs_field.specs.code.Counts.{default_rate}
+use Rattle.rs_field.specs.code.Encoder.{EncoderState, fresh_encoder, with_shard, message_of}
+use Rattle.rs_field.specs.code.OneCall.{default_of, with_shards, OneEncodeAnswers}
+use Rattle.rs_field.specs.code.Outcome.{answer_of}
+use Rattle.rs_field.specs.code.Placement.{encoder_rows}
+use Rattle.rs_rate.specs.Giving.{IsEncoding}
+use Rattle.rs_rate.proofs.Giving.{adds-ok, adds-err, outcome-err}
+use Rattle.rs_rate.proofs.OneCall.{encoding-unset, encoding-given, encoding-refused, encoding-answers}
+use Rattle.rs_rate.proofs.StateLemmas.{encode_answers-refused}
+use Rattle.reed_solomon_simd.proofs.ObjectRoundTrip.{takes-all}
+use Rattle.reed_solomon_simd.proofs.Gathering.{started-parts, has-made, encoded-all}
+use Rattle.reed_solomon_simd.specs.Checked.{AreChecked}
+
+-- the first original that is refused decides
+refused-at : (s : EncoderState) (shards : List Shard) (i : ℕ) (e : Error) → i < length shards → length s.given + i ≤ s.configuration.original_count
+    → ((j : ℕ) → j < i → length (get_or shards j []) ≡ s.configuration.shard_bytes)
+    → Err e ≡ answer_of (with_shard (record s { given = s.given ++ take i shards }) (get_or shards i [])) → with_shards s shards ≡ Err e
+refused-at s [] i e inside room sized refused = absurd (let no : ⊥ = omega (arith, inside) in no)
+refused-at s (x ∷ xs) zero e inside room sized refused =
+    let same : record s { given = s.given ++ [] } ≡ s = ap (λ (given : List Shard). record s { given = given }) (append-nil s.given) in
+    adds-err with_shard s x xs e (outcome-err _ e (subst (λ (t : EncoderState). Err e ≡ answer_of (with_shard t x)) same refused))
+refused-at s (x ∷ xs) (suc i) e inside room sized refused =
+    let next : EncoderState = record s { given = s.given ++ x ∷ [] } in
+    let long : length (s.given ++ x ∷ []) ≡ length s.given + 1 = length-append s.given (x ∷ []) in
+    let taken : with_shard s x ≡ Ok (record s { given = s.given ++ x ∷ [] }) =
+    rw (lt-leb s.configuration.original_count (length s.given) (omega (arith, room)), eq-eqb (length x) s.configuration.shard_bytes (sized 0 (omega arith))) refl in
+    adds-ok with_shard s next x xs (Err e) taken
+    (refused-at next xs i e (omega (arith, inside)) (omega (arith, long, room)) (λ j h. sized (suc j) (omega (arith, h)))
+    (subst (λ (given : List Shard). Err e ≡ answer_of (with_shard (record s { given = given }) (get_or xs i []))) (sym (append_assoc s.given (x ∷ []) (take i xs))) refused))
+
+module _ (k r size : ℕ) (shards : List Shard) (some : 0 < length shards) (first : length (get_or shards 0 []) ≡ size) where
+  -- a size that is refused decides
+  pub checked-unset : (e : Error) → Err e ≡ start_outcome (encoder_rows default_rate k r) (default_of k r size) → OneEncodeAnswers k r shards (Err e)
+  checked-unset e refused = by_shards shards some first
+    where
+      by_shards : (shards : List Shard) → 0 < length shards → length (get_or shards 0 []) ≡ size → OneEncodeAnswers k r shards (Err e)
+      by_shards [] some first = absurd (let no : ⊥ = omega (arith, some) in no)
+      by_shards (x ∷ xs) some first =
+          encoding-refused k r (x ∷ xs) e (encoding-unset k r x xs e
+          (inl (subst (λ (n : ℕ). Err e ≡ start_outcome (encoder_rows default_rate k r) (default_of k r n)) (sym first) refused)))
+
+  -- and where it isn't, the shards do
+  pub checked-led : Ok tt ≡ start_outcome (encoder_rows default_rate k r) (default_of k r size) → (o : Result EncoderState Error)
+      → with_shards (fresh_encoder (default_of k r size)) shards ≡ o → IsEncoding k r shards o
+  checked-led made o is = by_shards shards some first is
+    where
+      by_shards : (shards : List Shard) → 0 < length shards → length (get_or shards 0 []) ≡ size → with_shards (fresh_encoder (default_of k r size)) shards ≡ o → IsEncoding k r shards o
+      by_shards [] some first is = absurd (let no : ⊥ = omega (arith, some) in no)
+      by_shards (x ∷ xs) some first is =
+          encoding-given k r x xs (fresh_encoder (default_of k r size)) (inl (subst (λ (n : ℕ). Ok tt ≡ start_outcome (encoder_rows default_rate k r) (default_of k r n)) (sym first) made))
+          (ap (λ (n : ℕ). fresh_encoder (default_of k r n)) (sym first)) o is
+
+  -- one of them that is refused decides
+  pub checked-refused : Ok tt ≡ start_outcome (encoder_rows default_rate k r) (default_of k r size) → (i : ℕ) (e : Error) → i < length shards → i ≤ k
+      → ((j : ℕ) → j < i → length (get_or shards j []) ≡ size)
+      → Err e ≡ answer_of (with_shard (record { configuration = default_of k r size; given = take i shards }) (get_or shards i [])) → OneEncodeAnswers k r shards (Err e)
+  checked-refused made i e inside room sized refused =
+      encoding-refused k r shards e (checked-led made (Err e) (refused-at (fresh_encoder (default_of k r size)) shards i e inside (omega (arith, room)) sized refused))
+
+  module _ (made : Ok tt ≡ start_outcome (encoder_rows default_rate k r) (default_of k r size)) (few : length shards ≤ k) (sized : All (λ s. length s ≡ size) shards) where
+    -- where none is refused, an encoder has them all
+    pub checked-all : IsEncoding k r shards (Ok (record { configuration = default_of k r size; given = shards }))
+    checked-all = checked-led made _ (takes-all shards (fresh_encoder (default_of k r size)) (omega (arith, few)) (recursion_from_All (λ s. length s ≡ size) shards sized))
+
+    -- and too few are refused
+    pub checked-few : length shards < k → OneEncodeAnswers k r shards (Err (TooFewOriginalShards k (length shards)))
+    checked-few less =
+        encoding-answers k r shards (record { configuration = default_of k r size; given = shards }) checked-all (Err (TooFewOriginalShards k (length shards)))
+        (encode_answers-refused (record { configuration = default_of k r size; given = shards }) (TooFewOriginalShards k (length shards)) (rw (lt-ltb (length shards) k less) refl))
+
+module _ (k r size : ℕ) (shards : List Shard) (is : AreChecked k r size shards) where
+  -- an encoder to which checked originals were added
+  abbrev checked : EncoderState
+  checked = record { configuration = default_of k r size; given = shards }
+
+  -- counts and size are valid
+  pub checked-valid : validation_outcome (default_of k r size) ≡ Ok tt
+  checked-valid = (started-parts (encoder_rows default_rate k r) (default_of k r size) is.set_up).0
+
+  whole : Ok tt ≡ answer_of (message_of checked)
+  whole = let number = is.number in rw (le-ltb (length shards) k (omega (arith, number))) refl
+
+  -- they have recovery shards
+  pub checked-made : (recovery : List Shard) × AreRecovery (default_of k r size) shards recovery
+  checked-made =
+      has-made checked (record {
+        of_rate = refl;
+        valid = checked-valid;
+        fits = (started-parts (encoder_rows default_rate k r) (default_of k r size) is.set_up).1;
+        no_more = let number = is.number in omega (arith, number);
+        sized = is.sized;
+      }) whole
+
+  -- which are what one call answers
+  pub checked-encodes : (result : Result (List Shard) Error) → MatchResult result (λ recovery. AreRecovery (default_of k r size) shards recovery) (λ e. e ≡ OutOfMemory)
+      → OneEncodeAnswers k r shards result
+  checked-encodes = encoded-all k r shards checked is.led whole
