@@ -13,7 +13,7 @@ struct tried {
 };
 
 /* How many requests for memory the calls make. */
-enum { TABLES = 6, ENCODE = 2, DECODE = 3, DECODE_SHARDS = 5 };
+enum { TABLES = 6, ENCODE = 2, ENCODE_SHARDS = 1, DECODE = 3, DECODE_SHARDS = 5 };
 
 static long requests, refused, blocks;
 /* How many bytes the blocks have, and the most that they had. */
@@ -240,7 +240,8 @@ int main(void) {
         memset(originals, 7, sizeof originals);
         for (int anywhere = 0; anywhere < 2; anywhere++) {
             memset(recovery, 1, sizeof recovery);
-            each(anywhere ? "rs_encode_shards" : "rs_encode", anywhere ? encode_shards : encode, recovery, sizeof recovery, ENCODE);
+            each(anywhere ? "rs_encode_shards" : "rs_encode", anywhere ? encode_shards : encode, recovery, sizeof recovery,
+                 anywhere ? ENCODE_SHARDS : ENCODE);
             memset(originals, 1, 1200);
             memset(originals + 2400, 1, 1200);
             each(anywhere ? "rs_decode_shards" : "rs_decode", anywhere ? decode_shards : decode, originals, sizeof originals,
