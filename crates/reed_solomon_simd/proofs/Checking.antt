@@ -17,7 +17,8 @@ use Rattle.rs_rate.proofs.Giving.{adds-ok, adds-err, outcome-err}
 use Rattle.rs_rate.proofs.OneCall.{encoding-unset, encoding-given, encoding-refused, encoding-answers}
 use Rattle.rs_rate.proofs.StateLemmas.{encode_answers-refused}
 use Rattle.reed_solomon_simd.proofs.ObjectRoundTrip.{takes-all}
-use Rattle.reed_solomon_simd.proofs.Gathering.{started-parts, has-made, encoded-all}
+use Rattle.reed_solomon_simd.proofs.Gathering.{has-made, encoded-all}
+use Rattle.reed_solomon_simd.proofs.SetUp.{started-parts}
 use Rattle.reed_solomon_simd.specs.Checked.{AreChecked}
 
 -- the first original that is refused decides

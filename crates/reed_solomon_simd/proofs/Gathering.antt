@@ -21,29 +21,12 @@ use Rattle.rs_rate.proofs.OneCall.{encoding-answers, encoding-opened, encoding-c
 use Rattle.reed_solomon_simd.specs.declared.lent_originals.LentOriginals.{LentOriginals}
 use Rattle.reed_solomon_simd.specs.Gathered.{gathered}
 use Rattle.reed_solomon_simd.specs.Rooms.{shards_of}
+use Rattle.reed_solomon_simd.proofs.SetUp.{started-parts, valid-even}
 
 -- shards of a size are of that length
 pub shards-long : (size : ℕ) (xs : List (Bor (List ℕ))) → All (IsShard size) (shards_of xs) → All (λ x. length x.now ≡ size) xs
 shards-long size xs sized k d h =
     ap length (sym (get_or-map (λ (x : Bor (List ℕ)). x.now) xs k d [] h)) ∙ (sized k [] (let n = length-map xs (λ (x : Bor (List ℕ)). x.now) in omega (arith, h, n))).length_is
-
--- what is set up is valid, and its rows' bytes are a `usize`
-pub started-parts : (rows : ℕ) (c : Configuration) → start_outcome rows c ≡ Ok tt → (validation_outcome c ≡ Ok tt) × (bytes_of_rows rows c.shard_bytes < 2 ^ 64)
-started-parts rows c is = by_outcome (validation_outcome c) is
-  where
-    by_test : (many : Bool) → nat_le (2 ^ 64) (bytes_of_rows rows c.shard_bytes) ≡ many → ◌≡◌ {A = Result (Unit {0}) Error} (cond many (Err OutOfMemory) (Ok tt)) (Ok tt)
-        → bytes_of_rows rows c.shard_bytes < 2 ^ 64
-    by_test true same is = absurd (let no : ⊥ = cc in no)
-    by_test false same is = elim (cases_lt (bytes_of_rows rows c.shard_bytes) (2 ^ 64)) [
-      | inl few ↦ few
-      | inr many ↦ let other = le-leb (2 ^ 64) (bytes_of_rows rows c.shard_bytes) many in absurd (let no : ⊥ = cc in no)
-    ]
-
-    by_outcome : (o : Result (Unit {0}) Error)
-        → ◌≡◌ {A = Result (Unit {0}) Error} (result_and_then (λ _. cond (nat_le (2 ^ 64) (bytes_of_rows rows c.shard_bytes)) (Err OutOfMemory) (Ok tt)) o) (Ok tt)
-        → (◌≡◌ {A = Result (Unit {0}) Error} o (Ok tt)) × (bytes_of_rows rows c.shard_bytes < 2 ^ 64)
-    by_outcome (Ok u) is = (refl, by_test (nat_le (2 ^ 64) (bytes_of_rows rows c.shard_bytes)) refl is)
-    by_outcome (Err e) is = absurd (let no : ⊥ = cc in no)
 
 -- gathered originals stand for a state that an encoder can be in
 pub gathered-is : (x : LentOriginals) → IsEncoder default_rate (gathered x)
@@ -56,10 +39,6 @@ gathered-is x =
       no_more = (let n = length-map x.shards.items (λ (shard : Bor (List ℕ)). shard.now) in let long = x.no_more in let all = x.shards.ok.0 in omega (arith, n, long, all));
       sized = x.sized;
     }
-
--- a valid size is even
-valid-even : (c : Configuration) → validation_outcome c ≡ Ok tt → c.shard_bytes % 2 ≡ 0
-valid-even c valid = grind (arith, common_steps)
 
 -- once all are given they have recovery shards
 pub has-made : (s : EncoderState) → IsEncoder default_rate s → Ok tt ≡ answer_of (message_of s) → (recovery : List Shard) × AreRecovery s.configuration s.given recovery

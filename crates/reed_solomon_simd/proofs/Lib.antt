@@ -8,6 +8,7 @@ pub use Rattle.rs_rate.proofs.OneCall
 pub mod Collecting
 pub mod ReceivedLemmas
 pub mod StripDecodeLemmas
+pub mod SetUp
 pub mod ReceivedLaws
 pub mod RestoringLemmas
 pub mod ByIndex

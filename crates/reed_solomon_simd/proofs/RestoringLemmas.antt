@@ -15,7 +15,7 @@ use Rattle.rs_field.specs.code.Outcome.{result_and_then}
 use Rattle.rs_field.specs.code.Placement.{decoder_rows}
 use Rattle.rs_rate.specs.Giving.{IsDecoding}
 use Rattle.rs_rate.proofs.OneCall.{decoding-led, decoding-answers, decoding-nothing, lists-none}
-use Rattle.reed_solomon_simd.proofs.ReceivedLaws.{start_outcome-valid}
+use Rattle.reed_solomon_simd.proofs.SetUp.{started-parts}
 use Rattle.rs_field.specs.code.Pieces.{ArePut}
 use Rattle.rs_field.specs.code.PieceStates.{HoldRestored, shards_listed}
 use Rattle.reed_solomon_simd.specs.declared.room_error.RoomError.{RoomError}
@@ -76,6 +76,11 @@ pub was-done : {P : Type 0} (Q : Type 0) (result : Result (Unit {0}) Error) → 
 was-done Q (Ok u) done refused = done
 was-done Q (Err e) done refused = absurd (true≢false (sym refused.0))
 
+-- what follows from what a call does if it succeeds
+pub was-done-if : {P Q : Type 0} (result : Result (Unit {0}) Error) → (P → Q) → OnOk result P → OnOk result Q
+was-done-if (Ok u) then done = then done
+was-done-if (Err e) then done = done
+
 -- rooms of the size fit restored originals
 pub restored-fit : (s : DecoderState) (made old : List Shard) → HoldRestored s made → length old + originals_given s ≡ s.configuration.original_count
     → All (λ x. length x ≡ s.configuration.shard_bytes) old → rooms_fit made old ≡ Ok tt
@@ -91,7 +96,7 @@ module _ (k r : ℕ) (originals recovery : Items) (s : DecoderState) (is : IsDec
   decoding-short result lacks =
       let (first, rest, same, led) = decoding-led k r originals recovery s is in
       let c : Configuration = default_of k r (length first.1) in
-      let valid = start_outcome-valid (decoder_rows default_rate k r) c (started-of (start_outcome (decoder_rows default_rate k r) c) _ s led) in
+      let (valid, fits) = started-parts (decoder_rows default_rate k r) c (started-of (start_outcome (decoder_rows default_rate k r) c) _ s led) in
       subst (λ (items : Items). LacksMemory (decode_opening k r items) result) (sym same) (ap is_ok valid, lacks)
     where
       started-of : (o : Result (Unit {0}) Error) (f : Unit {0} → Result DecoderState Error) (s : DecoderState) → result_and_then f o ≡ Ok s → o ≡ Ok tt

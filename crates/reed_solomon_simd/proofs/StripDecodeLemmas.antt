@@ -1,6 +1,6 @@
 -- A round of a decoder over a strip of each received shard.
-use Rattle.std.proofs.Common.{◌≡◌, ℕ, suc, ◌+◌, ◌-◌, ◌<◌, ◌≤◌, Bool, cond, List, [], ◌∷◌, length, drop, get_or, Bor, Result, Ok, Err, Option, Some, None, refl, sym, ap, ap₂, ◌∙◌, subst, inl, inr, arith}
-use Rattle.std.specs.Prelude.{nat_lt, unwrap_or, MatchResult}
+use Rattle.std.proofs.Common.{◌≡◌, ℕ, suc, ◌+◌, ◌-◌, ◌<◌, ◌≤◌, Bool, true, cond, List, [], ◌∷◌, length, drop, get_or, Bor, Result, Ok, Err, Option, Some, None, refl, sym, ap, ap₂, ◌∙◌, subst, inl, inr, arith}
+use Rattle.std.specs.Prelude.{◌⊎◌, nat_lt, unwrap_or, MatchResult}
 use Rattle.std.specs.List.{between}
 use Rattle.std.specs.Option.{option_map}
 use Rattle.std.proofs.lemmas.Option.{none-some}
@@ -8,16 +8,17 @@ use Rattle.std.proofs.lemmas.List.{length-take-le, length-drop, get_or_past, get
 use Rattle.std.proofs.Math.Path.{fun_ext}
 use Rattle.std.proofs.lemmas.Bool.{cases_eq, cases_lt, lt-ltb, le-ltb, lt-leb, eq-eqb}
 use Rattle.rs_field.specs.declared.code.error.Error.{Error}
+use Rattle.rs_field.specs.declared.code.error.Error.TheVariants.{OutOfMemory}
 use Rattle.rs_field.specs.code.Column.{Shard}
 use Rattle.rs_field.specs.code.Configuration.{configuration}
 use Rattle.rs_field.specs.code.Decoder.{DecoderState, fresh_decoder, with_original, with_recovery, enough_given, Restored, NoneAgrees, DecodeAnswers, after_decode}
-use Rattle.rs_field.specs.code.Given.{Shards, nothing, with_entry}
+use Rattle.rs_field.specs.code.Given.{Shards, AreWithin, Lists, nothing, with_entry}
+use Rattle.rs_field.specs.code.Pieces.{IsStrip, ArePut}
 use Rattle.rs_field.specs.code.PieceStates.{pieces_of, state_of_pieces, shards_listed}
 use Rattle.rs_field.specs.code.OneCall.{Items}
-use Rattle.reed_solomon_simd.specs.Received.{given_in}
 use Rattle.rs_field.specs.code.Outcome.{answer_of, state_after}
 use Rattle.rs_field.proofs.of_code.Given.{entered_cases}
-use Rattle.rs_field.proofs.of_code.RestoredBelow.{enough-pieces}
+use Rattle.rs_field.proofs.of_code.RestoredBelow.{IsRestoredBelow, enough-pieces, none-pieces, restored-further}
 use Rattle.reed_solomon_simd.proofs.CallerLemmas.{ended}
 
 -- the shards of a map at the indexes below a number
@@ -73,10 +74,17 @@ piece-sized start end i given piece order inside found = by_shard (given i) refl
         ∙ length-take-le (end - start) (drop start shard) (omega (arith, length-drop start shard, room, order))
     by_shard None is found = absurd (none-some piece found)
 
--- after the last place there is none
-pub places-past : (start end n : ℕ) (places : List (Option (Bor Shard))) → length places ≤ n → (i : ℕ) → n ≤ i → pieces_of start end (given_in places) i ≡ None
-places-past start end n places past i outside =
-    ap (λ o. option_map (λ s. between start end s) (option_map (λ (s : Bor Shard). s.now) o)) (get_or_past places i None (omega (arith, past, outside)))
+-- pieces of shards that are within bounds lie inside their shards
+pub long-enough : (end count size : ℕ) (given : Shards) → AreWithin count size given → end ≤ size
+    → (i : ℕ) (shard : Shard) → given i ≡ Some shard → end ≤ length shard
+long-enough end count size given within inside i shard found =
+    let long = (within.sized i shard found).length_is in omega (arith, long, inside)
+
+-- at indexes from the count on there is no piece
+pub pieces-past : (start end n count size : ℕ) (given : Shards) → AreWithin count size given → count ≤ n
+    → (i : ℕ) → n ≤ i → pieces_of start end given i ≡ None
+pieces-past start end n count size given within all i past =
+    ap (λ o. option_map (λ s. between start end s) o) (within.none_past i (omega (arith, all, past)))
 
 module _ (s now : DecoderState) (n : ℕ) (given : Shards) (shard : Shard) (found : given n ≡ Some shard) (sized : length shard ≡ s.configuration.shard_bytes) where
   module _ (is : now ≡ record s { originals = first n given }) (inside : n < s.configuration.original_count) where
@@ -129,14 +137,14 @@ left-none n items most left = let long = length-drop n items in let none : lengt
 -- ---- a round
 
 -- what is added piece by piece
-pub pieces-added : (start end : ℕ) (x zero one two : DecoderState) (own other : List (Option (Bor Shard)))
+pub pieces-added : (start end : ℕ) (x zero one two : DecoderState)
     → zero ≡ fresh_decoder (configuration x.configuration.rate x.configuration.original_count x.configuration.recovery_count (end - start))
-    → one ≡ record zero { originals = pieces_of start end (given_in own) } → two ≡ record one { recovery = pieces_of start end (given_in other) }
-    → given_in own ≡ x.originals → given_in other ≡ x.recovery → two ≡ state_of_pieces start end x
-pieces-added start end x zero one two own other fresh first second originals recovery =
+    → one ≡ record zero { originals = pieces_of start end x.originals } → two ≡ record one { recovery = pieces_of start end x.recovery }
+    → two ≡ state_of_pieces start end x
+pieces-added start end x zero one two fresh first second =
     second
-    ∙ ap₂ (λ (s : DecoderState) (g : Shards). record s { recovery = pieces_of start end g })
-    (first ∙ ap₂ (λ (s : DecoderState) (g : Shards). record s { originals = pieces_of start end g }) fresh originals) recovery
+    ∙ ap (λ (s : DecoderState). record s { recovery = pieces_of start end x.recovery })
+    (first ∙ ap (λ (s : DecoderState). record s { originals = pieces_of start end x.originals }) fresh)
 
 module _ (start end : ℕ) (x state : DecoderState) (is : state ≡ state_of_pieces start end x) (enough : enough_given x ≡ Ok tt) where
   enough-here : enough_given (state_of_pieces start end x) ≡ Ok tt
@@ -160,3 +168,24 @@ module _ (start end : ℕ) (x state : DecoderState) (is : state ≡ state_of_pie
   -- it leaves nothing added
   pub round-ends : after_decode state ≡ fresh_decoder (state_of_pieces start end x).configuration
   round-ends = ap after_decode is ∙ ended (state_of_pieces start end x) enough-here
+
+-- ---- a strip of a store that was not changed but for its rooms
+
+module _ (start end size : ℕ) (x now : DecoderState) (grows : Bool) (same : now ≡ x) (long : size ≡ x.configuration.shard_bytes) (strip : IsStrip start end size) where
+  here : IsStrip start end x.configuration.shard_bytes
+  here = subst (λ (n : ℕ). IsStrip start end n) long strip
+
+  -- if no message agrees with the pieces, none agrees with the shards
+  pub strip-refused : (e : Error) → NoneAgrees (state_of_pieces start end now) e ⊎ ((grows ≡ true) × (e ≡ OutOfMemory)) → NoneAgrees x e ⊎ (e ≡ OutOfMemory)
+  strip-refused e (inl none) = inl (none-pieces start end x e here (subst (λ (s : DecoderState). NoneAgrees (state_of_pieces start end s) e) same none))
+  strip-refused e (inr short) = inr short.1
+
+  -- what a round restored of the pieces, and put into the rooms
+  abbrev pub ArePiecesPut : DecoderState → List Shard → List Shard → Type 0
+  ArePiecesPut s old new = (out : Shards) × Restored (state_of_pieces start end s) out × (items : Items) × Lists out items × ArePut start end (shards_listed items) old new
+
+  -- one strip more is restored
+  pub strip-restored : (old new : List Shard) → ArePiecesPut now old new → IsRestoredBelow x grows start old → IsRestoredBelow x grows end new
+  strip-restored old new made done =
+      let (out, restored, items, listing, put) = subst (λ (s : DecoderState). ArePiecesPut s old new) same made in
+      restored-further x grows start end out items here restored listing old new put done

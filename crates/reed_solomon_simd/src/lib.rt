@@ -8,12 +8,14 @@
 //! messages with the same memory. The module [`rate`] has objects whose rate, engine and memory the caller chooses.
 #![tactic(auto)]
 
+pub mod apart;
 mod checked_originals;
 mod decoder;
 mod encoder;
 mod into;
 pub mod lent_originals;
 mod one_call;
+pub mod pieces;
 pub mod received_shards;
 pub mod receiving;
 pub mod restoring;

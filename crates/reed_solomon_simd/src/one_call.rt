@@ -129,6 +129,6 @@ where
         return Ok(BTreeMap::new(alloc));
     };
     received.surplus()?;
-    let restored = restore_vectors(alloc, &received, engine)?;
+    let restored = restore_vectors(alloc, engine, received.missing(), &received)?;
     by_index(alloc, &received, restored)
 }

@@ -1,7 +1,8 @@
 //! The missing originals of received shards: as vectors, and in memory of the caller.
-ghost use Rattle.std.specs.Prelude.{◌≡◌, ◌⊎◌, ◌+◌, All, true, Ok, Err, List, length, map, MatchResult, OnOk, OnErr};
+ghost use Rattle.std.specs.Prelude.{◌≡◌, ◌⊎◌, ◌+◌, All, true, false, IfErr, Ok, Err, List, length, map, MatchResult, OnOk, OnErr};
 ghost use Rattle.rs_field.specs.code.Column.{Shard};
-ghost use Rattle.rs_field.specs.code.Decoder.{enough_given, originals_given, recovery_given, Restored, NoneAgrees};
+ghost use Rattle.rs_field.specs.code.Counts.{default_rate};
+ghost use Rattle.rs_field.specs.code.Decoder.{IsDecoder, enough_given, originals_given, recovery_given, Restored, NoneAgrees};
 ghost use Rattle.rs_field.specs.code.OneCall.{collected_shards, collected_map};
 ghost use Rattle.rs_field.specs.code.Pieces.{ArePut, room_length};
 ghost use Rattle.rs_field.specs.code.PieceStates.{HoldRestored};
@@ -10,7 +11,9 @@ ghost use Rattle.reed_solomon_simd.specs.ReceivedState.{received_state};
 ghost use Rattle.reed_solomon_simd.specs.Rooms.{bytes_in, loans_of};
 
 use crate::RoomError;
+use crate::apart::Apart;
 use crate::lent_originals::empty_vectors;
+use crate::pieces::Pieces;
 use crate::received_shards::ReceivedShards;
 use crate::rooms::{LentRooms, Rooms, check_rooms};
 use crate::strip_decoder::decode_strips;
@@ -19,24 +22,53 @@ use rs_field::error::Error;
 use std::alloc::Global;
 use std::collections::BTreeMap;
 
-/// Returns the missing originals as vectors, in order of index.
+/// Returns the missing originals as vectors, in order of index. There must be `missing` of them.
 ///
 /// # Errors
 ///
 /// - [`Error::InconsistentShards`] if no message matches all received shards.
 /// - [`Error::OutOfMemory`] if the work area or the vectors cannot be allocated.
-pub fn restore_vectors<E: Engine>(
+pub fn restore_vectors<E: Engine, P: Pieces>(
     alloc: Global,
-    received: &ReceivedShards<'_>,
     engine: E,
+    missing: usize,
+    received: &P,
 ) -> Result<Vec<Vec<u8>>, Error>
-    requires { enough_given (received_state received.now) ≡ Ok tt }
-    ensures { MatchResult (collected_shards result) (HoldRestored (received_state received.now))
-        (λ e. NoneAgrees (received_state received.now) e ⊎ (e ≡ Error.OutOfMemory)) }
+    requires set_up { IsDecoder default_rate (P.received received.now) }
+    requires enough { enough_given (P.received received.now) ≡ Ok tt }
+    requires missing { missing + originals_given (P.received received.now) ≡ (P.received received.now).configuration.original_count }
+    ensures { MatchResult (collected_shards result) (HoldRestored (P.received received.now))
+        (λ e. NoneAgrees (P.received received.now) e ⊎ (e ≡ Error.OutOfMemory)) }
 {
-    let mut vectors = empty_vectors(alloc, received.missing(), received.shard_bytes)?;
-    decode_strips(alloc, received, engine, &mut vectors)?;
+    let mut vectors = empty_vectors(alloc, missing, received.shard_bytes())?;
+    restore_apart(alloc, engine, received, &mut vectors)?;
     Ok(vectors)
+}
+
+// Writes the missing originals into rooms that share no memory with the received shards, in order of index.
+fn restore_apart<E: Engine, P: Pieces, R: Rooms>(
+    alloc: Global,
+    engine: E,
+    received: &P,
+    rooms: &mut R,
+) -> Result<(), Error>
+    requires set_up { IsDecoder default_rate (P.received received.now) }
+    requires enough { enough_given (P.received received.now) ≡ Ok tt }
+    requires number { length (R.held rooms.old) + originals_given (P.received received.now)
+        ≡ (P.received received.now).configuration.original_count }
+    requires fit { All (λ room. length room ≡ room_length R.grows 0 (P.received received.now).configuration.shard_bytes)
+        (R.held rooms.old) }
+    ensures restored { OnOk result (HoldRestored (P.received received.now) (R.held rooms.new)) }
+    ensures refused { IfErr result (λ e. NoneAgrees (P.received received.now) e ⊎ (e ≡ Error.OutOfMemory)) }
+    ensures untouched { R.grows ≡ false → IfErr result (λ e. e ≡ Error.OutOfMemory → R.held rooms.new ≡ R.held rooms.old) }
+    ensures places { R.places rooms.new ≡ R.places rooms.old }
+    ensures loan { R.loan rooms.new ≡ R.loan rooms.old }
+{
+    let mut store = Apart {
+        pieces: received,
+        rooms,
+    };
+    decode_strips(alloc, engine, &mut store)
 }
 
 /// Writes the missing originals into rooms of their size, in order of index, where as many shards as originals were
@@ -61,7 +93,46 @@ pub fn restore_lent<E: Engine>(
     ensures kept { loans_of rooms.new ≡ loans_of rooms.old }
 {
     let mut lent = LentRooms { rooms };
-    decode_strips(alloc, received, engine, &mut lent)
+    restore_apart(alloc, engine, received, &mut lent)
+}
+
+/// Writes the missing originals into rooms that are part of the store. If `surplus` is above zero, they go to vectors
+/// first, since a later strip may show that no message matches. There must be `missing` missing originals, and `surplus`
+/// more received shards than originals.
+///
+/// # Errors
+///
+/// - [`Error::InconsistentShards`] if no message matches all received shards.
+/// - [`Error::OutOfMemory`] if the work area or the vectors cannot be allocated.
+///
+/// After an error the rooms hold what they held.
+pub fn restore_in_place<E: Engine, S: Pieces + Rooms>(
+    alloc: Global,
+    engine: E,
+    missing: usize,
+    surplus: usize,
+    store: &mut S,
+) -> Result<(), Error>
+    requires kept { (x y : S) → S.places x ≡ S.places y → S.received x ≡ S.received y }
+    requires set_up { IsDecoder default_rate (S.received store.old) }
+    requires enough { originals_given (S.received store.old) + recovery_given (S.received store.old)
+        ≡ (S.received store.old).configuration.original_count + surplus }
+    requires missing { missing + originals_given (S.received store.old) ≡ (S.received store.old).configuration.original_count }
+    requires number { length (S.held store.old) ≡ missing }
+    requires fixed { S.grows ≡ false }
+    requires fit { All (λ room. length room ≡ (S.received store.old).configuration.shard_bytes) (S.held store.old) }
+    ensures restored { OnOk result (HoldRestored (S.received store.old) (S.held store.new)) }
+    ensures refused { IfErr result (λ e. NoneAgrees (S.received store.old) e ⊎ (e ≡ Error.OutOfMemory)) }
+    ensures untouched { OnErr result (S.held store.new ≡ S.held store.old) }
+    ensures places { S.places store.new ≡ S.places store.old }
+    ensures loan { S.loan store.new ≡ S.loan store.old }
+{
+    if surplus == 0 {
+        return decode_strips(alloc, engine, store);
+    }
+    let vectors = restore_vectors(alloc, engine, missing, &*store)?;
+    let shard_bytes = store.shard_bytes();
+    put_all(vectors.as_slice(), shard_bytes, store)
 }
 
 /// Writes the missing originals into rooms of the caller, in order of index. With surplus shards they go to vectors first,
@@ -128,8 +199,9 @@ fn restore_by_vectors<E: Engine>(
     ensures answer { RestoresInto (received_state received.now) (bytes_in rooms.old) (bytes_in rooms.new) result }
     ensures kept { loans_of rooms.new ≡ loans_of rooms.old }
 {
-    let vectors = restore_vectors(alloc, received, engine)?;
-    check_rooms(received.missing(), received.shard_bytes, rooms)?;
+    let missing = received.missing();
+    let vectors = restore_vectors(alloc, engine, missing, received)?;
+    check_rooms(missing, received.shard_bytes, rooms)?;
     fill_rooms(vectors.as_slice(), received.shard_bytes, rooms);
     Ok(())
 }

@@ -1,20 +1,17 @@
 //! Decoding strip by strip. The work area has room for one strip of each shard, so it stays in the cache. A strip of each
 //! received shard goes into it, and a strip of each restored original goes from it into the rooms.
-ghost use Rattle.std.specs.Prelude.{◌≡◌, ◌⊎◌, ℕ, ◌-◌, ◌+◌, ◌<◌, ◌≤◌, All, true, false, length, Ok, Some, OnOk, IfErr, option_copied};
-ghost use Rattle.std.specs.List.{between};
-ghost use Rattle.rs_field.specs.code.Column.{Shard};
+ghost use Rattle.std.specs.Prelude.{◌≡◌, ◌⊎◌, ◌-◌, ◌+◌, ◌≤◌, ℕ, All, true, false, length, Ok, OnOk, IfErr};
+ghost use Rattle.rs_field.specs.code.Configuration.{configuration};
 ghost use Rattle.rs_field.specs.code.Counts.{default_rate};
-ghost use Rattle.rs_field.specs.code.Decoder.{fresh_decoder, enough_given, originals_given, Restored, NoneAgrees};
+ghost use Rattle.rs_field.specs.code.Decoder.{IsDecoder, fresh_decoder, enough_given, originals_given, Restored, NoneAgrees};
 ghost use Rattle.rs_field.specs.code.Given.{Shards, Lists, nothing};
 ghost use Rattle.rs_field.specs.code.OneCall.{Items, default_of};
 ghost use Rattle.rs_field.specs.code.Pieces.{ArePut, IsStrip, room_length};
 ghost use Rattle.rs_field.specs.code.PieceStates.{pieces_of, state_of_pieces, shards_listed, HoldRestored};
 ghost use Rattle.rs_rate.specs.DecoderView.{decoder_state};
 ghost use Rattle.rs_rate.specs.ResultView.{restored_originals};
-ghost use Rattle.reed_solomon_simd.specs.Received.{given_in};
-ghost use Rattle.reed_solomon_simd.specs.ReceivedState.{received_state};
 
-use crate::received_shards::ReceivedShards;
+use crate::pieces::Pieces;
 use crate::rooms::Rooms;
 use rs_field::engine::{Engine, Steps};
 use rs_field::error::Error;
@@ -26,90 +23,98 @@ use std::alloc::Global;
 /// How many bytes of each shard are decoded at a time.
 const STRIP_BYTES: usize = 2048;
 
-/// Writes the missing originals into rooms, in order of index.
+/// Writes the missing originals into rooms, in order of index. The store has the received shards and the rooms.
 ///
 /// # Errors
 ///
 /// - [`Error::InconsistentShards`] if no message matches all received shards. The rooms may then hold some strips.
 /// - [`Error::OutOfMemory`] if the work area cannot be allocated, or if a room cannot grow.
-pub fn decode_strips<E: Engine, R: Rooms>(
+pub fn decode_strips<E: Engine, S: Pieces + Rooms>(
     alloc: Global,
-    received: &ReceivedShards<'_>,
     engine: E,
-    rooms: &mut R,
+    store: &mut S,
 ) -> Result<(), Error>
-    requires enough { enough_given (received_state received.now) ≡ Ok tt }
-    requires number { length (R.held rooms.old) + originals_given (received_state received.now) ≡ received.now.counts.original_count }
-    requires fit { All (λ room. length room ≡ room_length R.grows 0 received.now.shard_bytes) (R.held rooms.old) }
-    ensures restored { OnOk result (HoldRestored (received_state received.now) (R.held rooms.new)) }
-    ensures refused { IfErr result (λ e. NoneAgrees (received_state received.now) e ⊎ (e ≡ Error.OutOfMemory)) }
-    ensures untouched { R.grows ≡ false → IfErr result (λ e. e ≡ Error.OutOfMemory → R.held rooms.new ≡ R.held rooms.old) }
-    ensures places { R.places rooms.new ≡ R.places rooms.old }
-    ensures loan { R.loan rooms.new ≡ R.loan rooms.old }
+    requires kept { (x y : S) → S.places x ≡ S.places y → S.received x ≡ S.received y }
+    requires set_up { IsDecoder default_rate (S.received store.old) }
+    requires enough { enough_given (S.received store.old) ≡ Ok tt }
+    requires number { length (S.held store.old) + originals_given (S.received store.old)
+        ≡ (S.received store.old).configuration.original_count }
+    requires fit { All (λ room. length room ≡ room_length S.grows 0 (S.received store.old).configuration.shard_bytes)
+        (S.held store.old) }
+    ensures restored { OnOk result (HoldRestored (S.received store.old) (S.held store.new)) }
+    ensures refused { IfErr result (λ e. NoneAgrees (S.received store.old) e ⊎ (e ≡ Error.OutOfMemory)) }
+    ensures untouched { S.grows ≡ false → IfErr result (λ e. e ≡ Error.OutOfMemory → S.held store.new ≡ S.held store.old) }
+    ensures places { S.places store.new ≡ S.places store.old }
+    ensures loan { S.loan store.new ≡ S.loan store.old }
 {
-    let counts = received.counts;
-    let shard_bytes = received.shard_bytes;
+    let counts = store.counts();
+    let shard_bytes = store.shard_bytes();
     let width = STRIP_BYTES.min(shard_bytes);
     let mut decoder = DefaultRateDecoder::with_counts(alloc, counts, width, engine, None)?;
     let mut start = 0;
     while shard_bytes - start >= width {
-        decode_strip(&mut decoder, received, start, start + width, rooms)?;
+        decode_strip(&mut decoder, start, start + width, store)?;
         start += width;
     }
     if start < shard_bytes {
         let left = shard_bytes - start;
         decoder.reset(counts.original_count, counts.recovery_count, left)?;
-        decode_strip(&mut decoder, received, start, shard_bytes, rooms)?;
+        decode_strip(&mut decoder, start, shard_bytes, store)?;
     }
     Ok(())
 }
 
 // Decodes one strip of the received shards, and writes the missing originals' strip into the rooms.
-fn decode_strip<E: Engine, R: Rooms>(
+fn decode_strip<E: Engine, S: Pieces + Rooms>(
     decoder: &mut DefaultRateDecoder<E>,
-    received: &ReceivedShards<'_>,
     start: usize,
     end: usize,
-    rooms: &mut R,
+    store: &mut S,
 ) -> Result<(), Error>
+    requires set_up { IsDecoder default_rate (S.received store.old) }
     requires fresh { decoder_state default_rate decoder.old.rows
-        ≡ fresh_decoder (default_of received.now.counts.original_count received.now.counts.recovery_count (end - start)) }
-    requires strip { IsStrip start end received.now.shard_bytes }
-    requires enough { enough_given (received_state received.now) ≡ Ok tt }
-    requires number { length (R.held rooms.old) + originals_given (received_state received.now) ≡ received.now.counts.original_count }
-    requires fit { All (λ room. length room ≡ room_length R.grows start received.now.shard_bytes) (R.held rooms.old) }
-    ensures refused { IfErr result (λ e. NoneAgrees (state_of_pieces start end (received_state received.now)) e
-        ⊎ ((R.grows ≡ true) × (e ≡ Error.OutOfMemory))) }
+        ≡ fresh_decoder (state_of_pieces start end (S.received store.old)).configuration }
+    requires strip { IsStrip start end (S.received store.old).configuration.shard_bytes }
+    requires enough { enough_given (S.received store.old) ≡ Ok tt }
+    requires number { length (S.held store.old) + originals_given (S.received store.old)
+        ≡ (S.received store.old).configuration.original_count }
+    requires fit { All (λ room. length room ≡ room_length S.grows start (S.received store.old).configuration.shard_bytes)
+        (S.held store.old) }
+    ensures refused { IfErr result (λ e. NoneAgrees (state_of_pieces start end (S.received store.old)) e
+        ⊎ ((S.grows ≡ true) × (e ≡ Error.OutOfMemory))) }
     ensures fresh { decoder_state default_rate decoder.new.rows ≡ decoder_state default_rate decoder.old.rows }
-    ensures put { OnOk result ((out : Shards) × Restored (state_of_pieces start end (received_state received.now)) out
-        × (items : Items) × Lists out items × ArePut start end (shards_listed items) (R.held rooms.old) (R.held rooms.new)) }
-    ensures places { R.places rooms.new ≡ R.places rooms.old }
-    ensures loan { R.loan rooms.new ≡ R.loan rooms.old }
+    ensures put { OnOk result ((out : Shards) × Restored (state_of_pieces start end (S.received store.old)) out
+        × (items : Items) × Lists out items × ArePut start end (shards_listed items) (S.held store.old) (S.held store.new)) }
+    ensures places { S.places store.new ≡ S.places store.old }
+    ensures loan { S.loan store.new ≡ S.loan store.old }
 {
-    add_original_pieces(decoder, received.originals.shards.as_slice(), start, end)?;
-    add_recovery_pieces(decoder, received.recovery.shards.as_slice(), start, end)?;
+    add_original_pieces(decoder, store, start, end)?;
+    add_recovery_pieces(decoder, store, start, end)?;
     let restored_count = decode_round(decoder, &mut Steps::new())?;
-    put_pieces(&lent_originals(decoder, restored_count), start, end, rooms)
+    put_pieces(&lent_originals(decoder, restored_count), start, end, store)
 }
 
 // Adds a strip of each received original to a decoder that has no original. It never fails.
-fn add_original_pieces<E: Engine>(
+fn add_original_pieces<E: Engine, P: Pieces>(
     decoder: &mut DefaultRateDecoder<E>,
-    places: &[Option<&[u8]>],
+    received: &P,
     start: usize,
     end: usize,
 ) -> Result<(), Error>
+    requires set_up { IsDecoder default_rate (P.received received.now) }
     requires none { (decoder_state default_rate decoder.old.rows).originals ≡ nothing }
-    requires number { length places.now ≡ (decoder_state default_rate decoder.old.rows).configuration.original_count }
-    requires size { (decoder_state default_rate decoder.old.rows).configuration.shard_bytes ≡ end - start }
+    requires configured { (decoder_state default_rate decoder.old.rows).configuration
+        ≡ (state_of_pieces start end (P.received received.now)).configuration }
     requires order { start ≤ end }
-    requires inside { (i : ℕ) (shard : Shard) → given_in places.now i ≡ Some shard → end ≤ length shard }
+    requires inside { end ≤ (P.received received.now).configuration.shard_bytes }
     ensures answer { result ≡ Ok tt }
     ensures added { decoder_state default_rate decoder.new.rows
-        ≡ record (decoder_state default_rate decoder.old.rows) { originals = pieces_of start end (given_in places.now) } }
+        ≡ record (decoder_state default_rate decoder.old.rows) {
+          originals = pieces_of start end (P.received received.now).originals;
+        } }
 {
-    for index in 0..places.len() {
-        if let Some(piece) = piece_at(places, index, start, end) {
+    for index in 0..received.counts().original_count {
+        if let Some(piece) = received.original_piece(index, start, end) {
             decoder.add_original_shard(index, piece)?;
         }
     }
@@ -117,52 +122,30 @@ fn add_original_pieces<E: Engine>(
 }
 
 // Adds a strip of each received recovery shard to a decoder that has no recovery shard. It never fails.
-fn add_recovery_pieces<E: Engine>(
+fn add_recovery_pieces<E: Engine, P: Pieces>(
     decoder: &mut DefaultRateDecoder<E>,
-    places: &[Option<&[u8]>],
+    received: &P,
     start: usize,
     end: usize,
 ) -> Result<(), Error>
+    requires set_up { IsDecoder default_rate (P.received received.now) }
     requires none { (decoder_state default_rate decoder.old.rows).recovery ≡ nothing }
-    requires number { length places.now ≡ (decoder_state default_rate decoder.old.rows).configuration.recovery_count }
-    requires size { (decoder_state default_rate decoder.old.rows).configuration.shard_bytes ≡ end - start }
+    requires configured { (decoder_state default_rate decoder.old.rows).configuration
+        ≡ (state_of_pieces start end (P.received received.now)).configuration }
     requires order { start ≤ end }
-    requires inside { (i : ℕ) (shard : Shard) → given_in places.now i ≡ Some shard → end ≤ length shard }
+    requires inside { end ≤ (P.received received.now).configuration.shard_bytes }
     ensures answer { result ≡ Ok tt }
     ensures added { decoder_state default_rate decoder.new.rows
-        ≡ record (decoder_state default_rate decoder.old.rows) { recovery = pieces_of start end (given_in places.now) } }
+        ≡ record (decoder_state default_rate decoder.old.rows) {
+          recovery = pieces_of start end (P.received received.now).recovery;
+        } }
 {
-    for index in 0..places.len() {
-        if let Some(piece) = piece_at(places, index, start, end) {
+    for index in 0..received.counts().recovery_count {
+        if let Some(piece) = received.recovery_piece(index, start, end) {
             decoder.add_recovery_shard(index, piece)?;
         }
     }
     Ok(())
-}
-
-// The strip of the shard in a place.
-fn piece_at<'a>(
-    places: &[Option<&'a [u8]>],
-    index: usize,
-    start: usize,
-    end: usize,
-) -> Option<&'a [u8]>
-    requires index { index < length places.now }
-    requires order { start ≤ end }
-    requires inside { (i : ℕ) (shard : Shard) → given_in places.now i ≡ Some shard → end ≤ length shard }
-    ensures { option_copied result ≡ pieces_of start end (given_in places.now) index }
-{
-    let shard = places[index]?;
-    Some(strip_of(shard, start, end))
-}
-
-// A strip of a shard.
-fn strip_of(shard: &[u8], start: usize, end: usize) -> &[u8]
-    requires order { start ≤ end }
-    requires inside { end ≤ length shard.now }
-    ensures { result.now ≡ between start end shard.now }
-{
-    &shard[start..end]
 }
 
 // Writes the restored originals of a result into rooms, after the first `start` bytes.

@@ -19,7 +19,7 @@ returns-in_err-check_rooms-clause-answer g c =
     let made : List Shard = map (λ v. v.items) c.in_ok-vectors.vectors.items in
     let holds = c.in_ok-vectors.ensures in
     let many = held-number s made holds in
-    let number : length (map (λ v. v.items) c.in_ok-vectors.vectors.items) ≡ c.missing.result = omega (arith, many, c.missing.ensures) in
+    let number : length (map (λ v. v.items) c.in_ok-vectors.vectors.items) ≡ c.missing-missing.result = omega (arith, many, c.missing-missing.ensures) in
     restores-filled s c.requires.enough made (bytes_in c.args.rooms.now) _ _ holds (Err c.in_err-check_rooms.field-0.0)
     (c.in_err-check_rooms.ensures.answer made number (held-sized s made holds)) (search rules, refl)
 
@@ -29,7 +29,7 @@ fill_rooms-requires-clause-number g c =
     let made : List Shard = map (λ v. v.items) c.in_ok-vectors.vectors.items in
     let many = held-number s made c.in_ok-vectors.ensures in
     let long = length-map c.in_ok-vectors.vectors.items (λ v. v.items) in
-    ap length c.as_slice.ensures.value ∙ omega (arith, many, long, c.missing.ensures, c.in_ok-check_rooms.ensures.number)
+    ap length c.as_slice.ensures.value ∙ omega (arith, many, long, c.missing-missing.ensures, c.in_ok-check_rooms.ensures.number)
 
 pub fill_rooms-requires-clause-sized : goal.fill_rooms-requires-clause-sized
 fill_rooms-requires-clause-sized g c =
@@ -47,7 +47,7 @@ returns-clause-answer g c =
     let made : List Shard = map (λ v. v.items) c.in_ok-vectors.vectors.items in
     let holds = c.in_ok-vectors.ensures in
     let many = held-number s made holds in
-    let number : length (map (λ v. v.items) c.in_ok-vectors.vectors.items) ≡ c.missing.result = omega (arith, many, c.missing.ensures) in
+    let number : length (map (λ v. v.items) c.in_ok-vectors.vectors.items) ≡ c.missing-missing.result = omega (arith, many, c.missing-missing.ensures) in
     restores-filled s c.requires.enough made (bytes_in c.args.rooms.now) (bytes_in c.fill_rooms.new.rooms) (Ok tt) holds (Ok tt)
     (c.in_ok-check_rooms.ensures.answer made number (held-sized s made holds))
     (refl, c.fill_rooms.ensures.filled ∙ ap (map (λ v. v.items)) c.as_slice.ensures.value)

@@ -2,6 +2,6 @@ use Rattle.std.proofs.Common.{◌≡◌, length, ap}
 use Rattle.std.proofs.lemmas.List.Elements.{All-map}
 use Rattle.reed_solomon_simd.proofs.restoring.restore_vectors.Goals as goal
 
-pub decode_strips-requires-clause-fit : goal.decode_strips-requires-clause-fit
-decode_strips-requires-clause-fit g c =
+pub restore_apart-requires-clause-fit : goal.restore_apart-requires-clause-fit
+restore_apart-requires-clause-fit g c =
     All-map (λ s. length s ≡ 0) (λ v. v.items) c.in_ok-vectors.vectors.items (λ i d h. ap length (c.in_ok-vectors.ensures.empty i d h))

@@ -2,7 +2,6 @@ use Rattle.std.proofs.Common.{◌≡◌}
 use Rattle.rs_field.specs.code.Counts.{default_rate}
 use Rattle.rs_field.specs.code.PieceStates.{pieces_of}
 use Rattle.rs_rate.specs.DecoderView.{decoder_state}
-use Rattle.reed_solomon_simd.specs.Received.{given_in}
 use Rattle.reed_solomon_simd.proofs.StripDecodeLemmas.{first}
 use Rattle.reed_solomon_simd.proofs.strip_decoder.add_recovery_pieces.Given as goal
 
@@ -10,4 +9,6 @@ use Rattle.reed_solomon_simd.proofs.strip_decoder.add_recovery_pieces.Given as g
 abbrev pub invariant-loop-index : goal.invariant-loop-index
 invariant-loop-index g l =
     decoder_state default_rate l.decoder.rows
-    ≡ record (decoder_state default_rate l.initial.decoder.rows) { recovery = first l.index (pieces_of l.start l.end (given_in l.places)) }
+    ≡ record (decoder_state default_rate l.initial.decoder.rows) {
+      recovery = first l.index (pieces_of l.start l.end (g.P.Pieces.received l.received).recovery);
+    }

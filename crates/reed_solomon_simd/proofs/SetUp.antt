@@ -1,0 +1,31 @@
+-- What is known of the configuration of a coder that is set up.
+use Rattle.std.proofs.Common.{◌≡◌, ℕ, ◌<◌, ◌^◌, ◌%◌, Bool, true, false, cond, Ok, Err, Result, inl, inr, refl, sym, ap, ◌∙◌, arith}
+use Rattle.std.specs.Prelude.{nat_le}
+use Rattle.std.proofs.lemmas.Bool.{cases_lt, le-leb}
+use Rattle.std.proofs.lemmas.Grind.{common_steps}
+use Rattle.rs_field.specs.declared.code.error.Error.{Error}
+use Rattle.rs_field.specs.declared.code.error.Error.TheVariants.{OutOfMemory}
+use Rattle.rs_field.specs.code.Configuration.{Configuration, validation_outcome, start_outcome, bytes_of_rows}
+use Rattle.rs_field.specs.code.Outcome.{result_and_then}
+
+-- what is set up is valid, and its rows' bytes are a `usize`
+pub started-parts : (rows : ℕ) (c : Configuration) → start_outcome rows c ≡ Ok tt → (validation_outcome c ≡ Ok tt) × (bytes_of_rows rows c.shard_bytes < 2 ^ 64)
+started-parts rows c is = by_outcome (validation_outcome c) is
+  where
+    by_test : (many : Bool) → nat_le (2 ^ 64) (bytes_of_rows rows c.shard_bytes) ≡ many → ◌≡◌ {A = Result (Unit {0}) Error} (cond many (Err OutOfMemory) (Ok tt)) (Ok tt)
+        → bytes_of_rows rows c.shard_bytes < 2 ^ 64
+    by_test true same is = absurd (let no : ⊥ = cc in no)
+    by_test false same is = elim (cases_lt (bytes_of_rows rows c.shard_bytes) (2 ^ 64)) [
+      | inl few ↦ few
+      | inr many ↦ let other = le-leb (2 ^ 64) (bytes_of_rows rows c.shard_bytes) many in absurd (let no : ⊥ = cc in no)
+    ]
+
+    by_outcome : (o : Result (Unit {0}) Error)
+        → ◌≡◌ {A = Result (Unit {0}) Error} (result_and_then (λ _. cond (nat_le (2 ^ 64) (bytes_of_rows rows c.shard_bytes)) (Err OutOfMemory) (Ok tt)) o) (Ok tt)
+        → (◌≡◌ {A = Result (Unit {0}) Error} o (Ok tt)) × (bytes_of_rows rows c.shard_bytes < 2 ^ 64)
+    by_outcome (Ok u) is = (refl, by_test (nat_le (2 ^ 64) (bytes_of_rows rows c.shard_bytes)) refl is)
+    by_outcome (Err e) is = absurd (let no : ⊥ = cc in no)
+
+-- a valid size is even
+pub valid-even : (c : Configuration) → validation_outcome c ≡ Ok tt → c.shard_bytes % 2 ≡ 0
+valid-even c valid = grind (arith, common_steps)

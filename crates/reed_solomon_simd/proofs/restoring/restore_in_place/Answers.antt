@@ -1,0 +1,40 @@
+use Rattle.std.proofs.Common.{rules, ◌≡◌, List, [], map, length, All, ap, subst, ◌∙◌, sym, arith}
+use Rattle.std.proofs.lemmas.List.{length-map, get_or-map}
+use Rattle.rs_field.specs.code.Column.{Shard}
+use Rattle.rs_field.specs.code.Decoder.{DecoderState}
+use Rattle.rs_field.specs.code.PieceStates.{HoldRestored}
+use Rattle.rs_field.proofs.of_code.RestoredBelow.{held-number, held-sized}
+use Rattle.reed_solomon_simd.proofs.RestoringLemmas.{put-whole, was-done-if}
+use Rattle.reed_solomon_simd.proofs.restoring.restore_in_place.Goals as goal
+
+pub put_all-requires-clause-number : goal.put_all-requires-clause-number
+put_all-requires-clause-number g c =
+    let s : DecoderState = g.S.Pieces.received c.args.store.now in
+    let made : List Shard = map (λ v. v.items) c.in_ok-vectors.vectors.items in
+    let many = held-number s made c.in_ok-vectors.ensures in
+    let long = length-map c.in_ok-vectors.vectors.items (λ v. v.items) in
+    ap length c.as_slice.ensures.value ∙ omega (arith, many, long, c.requires.missing, c.requires.number)
+
+pub put_all-requires-clause-sized : goal.put_all-requires-clause-sized
+put_all-requires-clause-sized g c =
+    let s : DecoderState = g.S.Pieces.received c.args.store.now in
+    let made : List Shard = map (λ v. v.items) c.in_ok-vectors.vectors.items in
+    let sized = held-sized s made c.in_ok-vectors.ensures in
+    let size = c.shard_bytes-shard_bytes.result in
+    subst (λ l. All (λ v. length v.items ≡ size) l) (sym c.as_slice.ensures.value)
+    (λ i d h. ap length (sym (get_or-map (λ v. v.items) c.in_ok-vectors.vectors.items i d [] h))
+    ∙ sized i [] (let long = length-map c.in_ok-vectors.vectors.items (λ v. v.items) in omega (arith, long, h))
+    ∙ sym c.shard_bytes-shard_bytes.ensures)
+
+pub returns-clause-restored : goal.returns-clause-restored
+returns-clause-restored g c =
+    let s : DecoderState = g.S.Pieces.received c.args.store.now in
+    let made : List Shard = map (λ v. v.items) c.in_ok-vectors.vectors.items in
+    let many = held-number s made c.in_ok-vectors.ensures in
+    let old : List Shard = g.S.Rooms.held c.args.store.now in
+    let new : List Shard = g.S.Rooms.held c.put_all.new.rooms in
+    was-done-if c.put_all.result (λ put.
+    let same : g.S.Rooms.held c.put_all.new.rooms ≡ map (λ v. v.items) c.in_ok-vectors.vectors.items =
+    put-whole c.shard_bytes-shard_bytes.result made old new (rw c.as_slice.ensures.value at put) (omega (arith, many, c.requires.missing, c.requires.number))
+    (λ i d h. c.requires.fit i d h ∙ sym c.shard_bytes-shard_bytes.ensures) in
+    subst (λ (l : List Shard). HoldRestored (g.S.Pieces.received c.args.store.now) l) (sym same) c.in_ok-vectors.ensures) c.put_all.ensures.put

@@ -1,0 +1,51 @@
+//! Received shards and rooms for the missing originals, in different memory.
+use crate::pieces::Pieces;
+use crate::rooms::Rooms;
+use rs_field::error::Error;
+use rs_rate::rate::DefaultRateCounts;
+
+/// Received shards, and rooms that share no memory with them.
+#[derive(Drop)]
+pub struct Apart<'a, 'b, P, R> {
+    pub pieces: &'a P,
+    pub rooms: &'b mut R,
+}
+
+impl<'a, 'b, P: Pieces, R: Rooms> Pieces for Apart<'a, 'b, P, R> {
+    ghost received = { λ x. P.received x.pieces.now };
+
+    fn counts(&self) -> DefaultRateCounts {
+        self.pieces.counts()
+    }
+
+    fn shard_bytes(&self) -> usize {
+        self.pieces.shard_bytes()
+    }
+
+    fn original_piece(&self, index: usize, start: usize, end: usize) -> Option<&[u8]> {
+        self.pieces.original_piece(index, start, end)
+    }
+
+    fn recovery_piece(&self, index: usize, start: usize, end: usize) -> Option<&[u8]> {
+        self.pieces.recovery_piece(index, start, end)
+    }
+}
+
+impl<'a, 'b, P: Pieces, R: Rooms> Rooms for Apart<'a, 'b, P, R> {
+    ghost use Rattle.std.specs.Prelude.{ℕ};
+    ghost use Rattle.rs_field.specs.code.Decoder.{DecoderState};
+
+    ghost held = { λ x. R.held x.rooms.now };
+
+    ghost grows = { R.grows };
+
+    ghost Places = { DecoderState × R.Places × ℕ };
+
+    ghost places = { λ x. (P.received x.pieces.now, R.places x.rooms.now, R.loan x.rooms.now) };
+
+    ghost loan = { λ x. x.rooms.ghost_name };
+
+    fn put(&mut self, index: usize, start: usize, piece: &[u8]) -> Result<(), Error> {
+        self.rooms.put(index, start, piece)
+    }
+}
