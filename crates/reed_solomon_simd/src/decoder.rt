@@ -79,8 +79,13 @@ impl<'t> ReedSolomonDecoder<'t> {
         shard_bytes: usize,
         engine: DefaultEngine<'t>,
     ) -> Result<ReedSolomonDecoder<'t>, Error>
-        ensures answer { UpToMemory (start_outcome (decoder_rows default_rate original_count recovery_count) (default_of original_count recovery_count shard_bytes)) (answer_of result) }
-        ensures made { IfOk result (λ x. (state_of x ≡ fresh_decoder (default_of original_count recovery_count shard_bytes)) × (engine_of x ≡ engine.entry)) }
+        ensures answer { UpToMemory
+            (start_outcome (decoder_rows default_rate original_count recovery_count)
+            (default_of original_count recovery_count shard_bytes))
+            (answer_of result) }
+        ensures made { IfOk result (λ x.
+            (state_of x ≡ fresh_decoder (default_of original_count recovery_count shard_bytes))
+            × (engine_of x ≡ engine.entry)) }
     {
         let decoder = DefaultRateDecoder::new(
             alloc,
@@ -115,12 +120,20 @@ impl<'t> ReedSolomonDecoder<'t> {
         recovery_count: usize,
         shard_bytes: usize,
     ) -> Result<(), Error>
-        ensures answer { UpToMemory (start_outcome (decoder_rows default_rate original_count recovery_count) (default_of original_count recovery_count shard_bytes)) result }
-        ensures ok { OnOk result (state_of self.new ≡ fresh_decoder (default_of original_count recovery_count shard_bytes)) }
+        ensures answer { UpToMemory
+            (start_outcome (decoder_rows default_rate original_count recovery_count)
+            (default_of original_count recovery_count shard_bytes))
+            result }
+        ensures ok { OnOk result (state_of self.new
+            ≡ fresh_decoder (default_of original_count recovery_count shard_bytes)) }
         ensures err { OnErr result (state_of self.new ≡ state_of self.old) }
-        ensures roomy { HasRoom (room_of self.old) (decoder_rows default_rate original_count recovery_count) shard_bytes
-            → result ≡ start_outcome (decoder_rows default_rate original_count recovery_count) (default_of original_count recovery_count shard_bytes) }
-        ensures own { FitsWithin (state_of self.old).configuration (default_of original_count recovery_count shard_bytes) → result ≢ Err Error.OutOfMemory }
+        ensures roomy { HasRoom (room_of self.old)
+            (decoder_rows default_rate original_count recovery_count) shard_bytes
+            → result ≡ start_outcome (decoder_rows default_rate original_count recovery_count)
+            (default_of original_count recovery_count shard_bytes) }
+        ensures own { FitsWithin (state_of self.old).configuration
+            (default_of original_count recovery_count shard_bytes)
+            → result ≢ Err Error.OutOfMemory }
         ensures engine { engine_of self.new ≡ engine_of self.old }
         ensures grown { Grows (room_of self.old) (room_of self.new) }
     {
@@ -147,8 +160,11 @@ impl<'t> ReedSolomonDecoder<'t> {
     /// }
     /// ```
     pub fn add_original_shard(&mut self, index: usize, original_shard: &[u8]) -> Result<(), Error>
-        ensures answer { result ≡ answer_of (with_original (state_of self.old) index original_shard.now) }
-        ensures left { state_of self.new ≡ state_after (state_of self.old) (with_original (state_of self.old) index original_shard.now) }
+        ensures answer { result
+            ≡ answer_of (with_original (state_of self.old) index original_shard.now) }
+        ensures left { state_of self.new
+            ≡ state_after (state_of self.old)
+            (with_original (state_of self.old) index original_shard.now) }
         ensures engine { engine_of self.new ≡ engine_of self.old }
         ensures room { room_of self.new ≡ room_of self.old }
     {
@@ -171,8 +187,11 @@ impl<'t> ReedSolomonDecoder<'t> {
     /// }
     /// ```
     pub fn add_recovery_shard(&mut self, index: usize, recovery_shard: &[u8]) -> Result<(), Error>
-        ensures answer { result ≡ answer_of (with_recovery (state_of self.old) index recovery_shard.now) }
-        ensures left { state_of self.new ≡ state_after (state_of self.old) (with_recovery (state_of self.old) index recovery_shard.now) }
+        ensures answer { result
+            ≡ answer_of (with_recovery (state_of self.old) index recovery_shard.now) }
+        ensures left { state_of self.new
+            ≡ state_after (state_of self.old)
+            (with_recovery (state_of self.old) index recovery_shard.now) }
         ensures engine { engine_of self.new ≡ engine_of self.old }
         ensures room { room_of self.new ≡ room_of self.old }
     {

@@ -78,8 +78,13 @@ impl<'t> ReedSolomonEncoder<'t> {
         shard_bytes: usize,
         engine: DefaultEngine<'t>,
     ) -> Result<ReedSolomonEncoder<'t>, Error>
-        ensures answer { UpToMemory (start_outcome (encoder_rows default_rate original_count recovery_count) (default_of original_count recovery_count shard_bytes)) (answer_of result) }
-        ensures made { IfOk result (λ x. (state_of x ≡ fresh_encoder (default_of original_count recovery_count shard_bytes)) × (engine_of x ≡ engine.entry)) }
+        ensures answer { UpToMemory
+            (start_outcome (encoder_rows default_rate original_count recovery_count)
+            (default_of original_count recovery_count shard_bytes))
+            (answer_of result) }
+        ensures made { IfOk result (λ x.
+            (state_of x ≡ fresh_encoder (default_of original_count recovery_count shard_bytes))
+            × (engine_of x ≡ engine.entry)) }
     {
         let encoder = DefaultRateEncoder::new(
             alloc,
@@ -114,12 +119,21 @@ impl<'t> ReedSolomonEncoder<'t> {
         recovery_count: usize,
         shard_bytes: usize,
     ) -> Result<(), Error>
-        ensures answer { UpToMemory (start_outcome (encoder_rows default_rate original_count recovery_count) (default_of original_count recovery_count shard_bytes)) result }
-        ensures ok { OnOk result (state_of self.new ≡ fresh_encoder (default_of original_count recovery_count shard_bytes)) }
+        ensures answer { UpToMemory
+            (start_outcome (encoder_rows default_rate original_count recovery_count)
+            (default_of original_count recovery_count shard_bytes))
+            result }
+        ensures ok { OnOk result (state_of self.new
+            ≡ fresh_encoder (default_of original_count recovery_count shard_bytes)) }
         ensures err { OnErr result (state_of self.new ≡ state_of self.old) }
-        ensures roomy { chunk_count (encoder_rows default_rate original_count recovery_count) shard_bytes ≤ room_of self.old
-            → result ≡ start_outcome (encoder_rows default_rate original_count recovery_count) (default_of original_count recovery_count shard_bytes) }
-        ensures own { FitsWithin (state_of self.old).configuration (default_of original_count recovery_count shard_bytes) → result ≢ Err Error.OutOfMemory }
+        ensures roomy { chunk_count
+            (encoder_rows default_rate original_count recovery_count) shard_bytes
+            ≤ room_of self.old
+            → result ≡ start_outcome (encoder_rows default_rate original_count recovery_count)
+            (default_of original_count recovery_count shard_bytes) }
+        ensures own { FitsWithin (state_of self.old).configuration
+            (default_of original_count recovery_count shard_bytes)
+            → result ≢ Err Error.OutOfMemory }
         ensures engine { engine_of self.new ≡ engine_of self.old }
         ensures grown { room_of self.old ≤ room_of self.new }
     {
@@ -143,7 +157,8 @@ impl<'t> ReedSolomonEncoder<'t> {
     /// ```
     pub fn add_original_shard(&mut self, original_shard: &[u8]) -> Result<(), Error>
         ensures answer { result ≡ answer_of (with_shard (state_of self.old) original_shard.now) }
-        ensures left { state_of self.new ≡ state_after (state_of self.old) (with_shard (state_of self.old) original_shard.now) }
+        ensures left { state_of self.new
+            ≡ state_after (state_of self.old) (with_shard (state_of self.old) original_shard.now) }
         ensures engine { engine_of self.new ≡ engine_of self.old }
         ensures room { room_of self.new ≡ room_of self.old }
     {

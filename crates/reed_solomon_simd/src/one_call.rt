@@ -50,7 +50,8 @@ pub fn encode<'a, I: Iterator<Item = &'a [u8]> + Drop>(
     requires can { I.can_next original }
     requires ends { IsFinite (I.remaining original) }
     ensures counts { IfErr (counts_outcome original_count recovery_count) (λ e. result ≡ Err e) }
-    ensures calls { (calls : Calls I.next_gives original) × ((items : List Shard) → BeginsWith items calls
+    ensures calls { (calls : Calls I.next_gives original)
+        × ((items : List Shard) → BeginsWith items calls
         → OneEncodeAnswers original_count recovery_count items (collected_shards result)) }
     ensures answer { (items : List Shard) → Lends I.next_gives original items
         → OneEncodeAnswers original_count recovery_count items (collected_shards result) }
@@ -119,10 +120,15 @@ where
     requires can_recovery { R.can_next recovery }
     requires recovery_ends { IsFinite (R.remaining recovery) }
     ensures counts { IfErr (counts_outcome original_count recovery_count) (λ e. result ≡ Err e) }
-    ensures calls { (calls : Calls O.next_gives original) × (further : Calls R.next_gives recovery) × ((originals recoveries : Items)
-        → BeginsWithItems originals calls → BeginsWithItems recoveries further → OneDecodeAnswers original_count recovery_count originals recoveries (collected_map result)) }
+    ensures calls { (calls : Calls O.next_gives original) × (further : Calls R.next_gives recovery)
+        × ((originals recoveries : Items)
+        → BeginsWithItems originals calls → BeginsWithItems recoveries further
+        → OneDecodeAnswers original_count recovery_count originals recoveries
+        (collected_map result)) }
     ensures answer { (originals recoveries : Items) → LendsItems O.next_gives original originals
-        → LendsItems R.next_gives recovery recoveries → OneDecodeAnswers original_count recovery_count originals recoveries (collected_map result) }
+        → LendsItems R.next_gives recovery recoveries
+        → OneDecodeAnswers original_count recovery_count originals recoveries
+        (collected_map result) }
 {
     let counts = DefaultRateCounts::new(original_count, recovery_count)?;
     let Some(received) = received_shards(alloc, counts, original, recovery)? else {

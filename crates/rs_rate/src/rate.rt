@@ -73,7 +73,8 @@ pub trait Rate<E: Engine>: Sized {
         recovery_count: usize,
         shard_bytes: usize,
     ) -> Result<(), Error>
-        ensures { result ≡ validation_outcome (configuration rate original_count recovery_count shard_bytes) }
+        ensures { result
+            ≡ validation_outcome (configuration rate original_count recovery_count shard_bytes) }
     {
         Self::RateEncoder::validate(original_count, recovery_count, shard_bytes)
     }
@@ -92,12 +93,17 @@ pub trait Rate<E: Engine>: Sized {
         work: Option<EncoderWork>,
     ) -> Result<Self::RateEncoder, Error>
         ensures answer { let c = configuration rate original_count recovery_count shard_bytes in
-            UpToMemory (start_outcome (encoder_rows rate original_count recovery_count) c) (answer_of result) }
+            UpToMemory (start_outcome (encoder_rows rate original_count recovery_count) c)
+            (answer_of result) }
         ensures made { let c = configuration rate original_count recovery_count shard_bytes in
-            IfOk result (λ x. (Self.RateEncoder.state x ≡ fresh_encoder c) × (Self.RateEncoder.engine_of x ≡ engine)) }
-        ensures grown { IfOk result (λ x. IfSome work (λ w. work_room w ≤ Self.RateEncoder.room x)) }
-        ensures roomy { IfSome work (λ w. chunk_count (encoder_rows rate original_count recovery_count) shard_bytes ≤ work_room w
-            → answer_of result ≡ start_outcome (encoder_rows rate original_count recovery_count) (configuration rate original_count recovery_count shard_bytes)) }
+            IfOk result (λ x. (Self.RateEncoder.state x ≡ fresh_encoder c)
+            × (Self.RateEncoder.engine_of x ≡ engine)) }
+        ensures grown { IfOk result (λ x.
+            IfSome work (λ w. work_room w ≤ Self.RateEncoder.room x)) }
+        ensures roomy { IfSome work (λ w.
+            chunk_count (encoder_rows rate original_count recovery_count) shard_bytes ≤ work_room w
+            → answer_of result ≡ start_outcome (encoder_rows rate original_count recovery_count)
+            (configuration rate original_count recovery_count shard_bytes)) }
     {
         Self::RateEncoder::new(
             alloc,
@@ -123,12 +129,18 @@ pub trait Rate<E: Engine>: Sized {
         work: Option<DecoderWork>,
     ) -> Result<Self::RateDecoder, Error>
         ensures answer { let c = configuration rate original_count recovery_count shard_bytes in
-            UpToMemory (start_outcome (decoder_rows rate original_count recovery_count) c) (answer_of result) }
+            UpToMemory (start_outcome (decoder_rows rate original_count recovery_count) c)
+            (answer_of result) }
         ensures made { let c = configuration rate original_count recovery_count shard_bytes in
-            IfOk result (λ x. (Self.RateDecoder.state x ≡ fresh_decoder c) × (Self.RateDecoder.engine_of x ≡ engine)) }
-        ensures grown { IfOk result (λ x. IfSome work (λ w. Grows (decoder_work_room w) (Self.RateDecoder.room x))) }
-        ensures roomy { IfSome work (λ w. HasRoom (decoder_work_room w) (decoder_rows rate original_count recovery_count) shard_bytes
-            → answer_of result ≡ start_outcome (decoder_rows rate original_count recovery_count) (configuration rate original_count recovery_count shard_bytes)) }
+            IfOk result (λ x. (Self.RateDecoder.state x ≡ fresh_decoder c)
+            × (Self.RateDecoder.engine_of x ≡ engine)) }
+        ensures grown { IfOk result (λ x.
+            IfSome work (λ w. Grows (decoder_work_room w) (Self.RateDecoder.room x))) }
+        ensures roomy { IfSome work (λ w.
+            HasRoom (decoder_work_room w) (decoder_rows rate original_count recovery_count)
+            shard_bytes
+            → answer_of result ≡ start_outcome (decoder_rows rate original_count recovery_count)
+            (configuration rate original_count recovery_count shard_bytes)) }
     {
         Self::RateDecoder::new(
             alloc,
@@ -193,7 +205,8 @@ pub trait RateEncoder<E: Engine>: Sized {
         recovery_count: usize,
         shard_bytes: usize,
     ) -> Result<(), Error>
-        ensures { result ≡ validation_outcome (configuration rate original_count recovery_count shard_bytes) };
+        ensures { result
+            ≡ validation_outcome (configuration rate original_count recovery_count shard_bytes) };
 
     /// Makes an encoder with nothing added, for shards of `shard_bytes` bytes. If a `work` is passed, its memory is used.
     ///
@@ -213,11 +226,16 @@ pub trait RateEncoder<E: Engine>: Sized {
         work: Option<EncoderWork>,
     ) -> Result<Self, Error>
         ensures answer { let c = configuration rate original_count recovery_count shard_bytes in
-            UpToMemory (start_outcome (encoder_rows rate original_count recovery_count) c) (answer_of result) }
-        ensures made { IfOk result (λ x. (state x ≡ fresh_encoder (configuration rate original_count recovery_count shard_bytes)) × (engine_of x ≡ engine)) }
+            UpToMemory (start_outcome (encoder_rows rate original_count recovery_count) c)
+            (answer_of result) }
+        ensures made { IfOk result (λ x.
+            (state x ≡ fresh_encoder (configuration rate original_count recovery_count shard_bytes))
+            × (engine_of x ≡ engine)) }
         ensures grown { IfOk result (λ x. IfSome work (λ w. work_room w ≤ room x)) }
-        ensures roomy { IfSome work (λ w. chunk_count (encoder_rows rate original_count recovery_count) shard_bytes ≤ work_room w
-            → answer_of result ≡ start_outcome (encoder_rows rate original_count recovery_count) (configuration rate original_count recovery_count shard_bytes)) };
+        ensures roomy { IfSome work (λ w.
+            chunk_count (encoder_rows rate original_count recovery_count) shard_bytes ≤ work_room w
+            → answer_of result ≡ start_outcome (encoder_rows rate original_count recovery_count)
+            (configuration rate original_count recovery_count shard_bytes)) };
 
     /// Sets the encoder up for other counts and another shard size, with nothing added.
     ///
@@ -234,11 +252,16 @@ pub trait RateEncoder<E: Engine>: Sized {
     ) -> Result<(), Error>
         ensures answer { let c = configuration rate original_count recovery_count shard_bytes in
             UpToMemory (start_outcome (encoder_rows rate original_count recovery_count) c) result }
-        ensures ok { OnOk result (state self.new ≡ fresh_encoder (configuration rate original_count recovery_count shard_bytes)) }
+        ensures ok { OnOk result (state self.new
+            ≡ fresh_encoder (configuration rate original_count recovery_count shard_bytes)) }
         ensures err { OnErr result (state self.new ≡ state self.old) }
-        ensures roomy { chunk_count (encoder_rows rate original_count recovery_count) shard_bytes ≤ room self.old
-            → result ≡ start_outcome (encoder_rows rate original_count recovery_count) (configuration rate original_count recovery_count shard_bytes) }
-        ensures own { FitsWithin (state self.old).configuration (configuration rate original_count recovery_count shard_bytes) → result ≢ Err Error.OutOfMemory }
+        ensures roomy { chunk_count (encoder_rows rate original_count recovery_count) shard_bytes
+            ≤ room self.old
+            → result ≡ start_outcome (encoder_rows rate original_count recovery_count)
+            (configuration rate original_count recovery_count shard_bytes) }
+        ensures own { FitsWithin (state self.old).configuration
+            (configuration rate original_count recovery_count shard_bytes)
+            → result ≢ Err Error.OutOfMemory }
         ensures engine { engine_of self.new ≡ engine_of self.old }
         ensures grown { room self.old ≤ room self.new };
 
@@ -250,7 +273,8 @@ pub trait RateEncoder<E: Engine>: Sized {
     /// - [`Error::DifferentShardSize`] if the shard does not have the encoder's size.
     fn add_original_shard(&mut self, original_shard: &[u8]) -> Result<(), Error>
         ensures answer { result ≡ answer_of (with_shard (state self.old) original_shard.now) }
-        ensures left { state self.new ≡ state_after (state self.old) (with_shard (state self.old) original_shard.now) }
+        ensures left { state self.new
+            ≡ state_after (state self.old) (with_shard (state self.old) original_shard.now) }
         ensures engine { engine_of self.new ≡ engine_of self.old }
         ensures room { room self.new ≡ room self.old };
 
@@ -265,16 +289,20 @@ pub trait RateEncoder<E: Engine>: Sized {
     /// [`Error::TooFewOriginalShards`] if originals are missing. The encoder then keeps what was added.
     fn encode(&mut self, steps: &mut Steps) -> Result<EncoderResult<'_>, Error>
         ensures answer { EncodeAnswers (state self.old) (answered_shards result) }
-        ensures counts { let c = (state self.old).configuration in EncodeCountsAt rate c.original_count c.recovery_count steps.old steps.new }
+        ensures counts { let c = (state self.old).configuration in
+            EncodeCountsAt rate c.original_count c.recovery_count steps.old steps.new }
         ensures* ends { sem 𝓛 (AfterLoan Self.row self.entry
-            (λ now. (state now ≡ after_encode (state self.old)) × (engine_of now ≡ engine_of self.old) × (room now ≡ room self.old))) };
+            (λ now. (state now ≡ after_encode (state self.old))
+            × (engine_of now ≡ engine_of self.old)
+            × (room now ≡ room self.old))) };
 
     /// Returns the engine and the work. Another encoder can use the work, which has room for this encoder's configuration.
     fn into_parts(self) -> (E, EncoderWork)
         ensures engine { result.0 ≡ engine_of self }
         ensures room { work_room result.1 ≡ room self }
         ensures enough { let c = (state self).configuration in
-            chunk_count (encoder_rows rate c.original_count c.recovery_count) c.shard_bytes ≤ work_room result.1 };
+            chunk_count (encoder_rows rate c.original_count c.recovery_count) c.shard_bytes
+            ≤ work_room result.1 };
 
     /// An encoder's configuration is valid for its rate, and no more originals were added than it takes.
     ghost valid: { (x : Self) → IsEncoder rate (state x) };
@@ -330,7 +358,8 @@ pub trait RateDecoder<E: Engine>: Sized {
         recovery_count: usize,
         shard_bytes: usize,
     ) -> Result<(), Error>
-        ensures { result ≡ validation_outcome (configuration rate original_count recovery_count shard_bytes) };
+        ensures { result
+            ≡ validation_outcome (configuration rate original_count recovery_count shard_bytes) };
 
     /// Makes a decoder with nothing added, for shards of `shard_bytes` bytes. If a `work` is passed, its memory is used.
     ///
@@ -350,11 +379,16 @@ pub trait RateDecoder<E: Engine>: Sized {
         work: Option<DecoderWork>,
     ) -> Result<Self, Error>
         ensures answer { let c = configuration rate original_count recovery_count shard_bytes in
-            UpToMemory (start_outcome (decoder_rows rate original_count recovery_count) c) (answer_of result) }
-        ensures made { IfOk result (λ x. (state x ≡ fresh_decoder (configuration rate original_count recovery_count shard_bytes)) × (engine_of x ≡ engine)) }
+            UpToMemory (start_outcome (decoder_rows rate original_count recovery_count) c)
+            (answer_of result) }
+        ensures made { IfOk result (λ x.
+            (state x ≡ fresh_decoder (configuration rate original_count recovery_count shard_bytes))
+            × (engine_of x ≡ engine)) }
         ensures grown { IfOk result (λ x. IfSome work (λ w. Grows (work_room w) (room x))) }
-        ensures roomy { IfSome work (λ w. HasRoom (work_room w) (decoder_rows rate original_count recovery_count) shard_bytes
-            → answer_of result ≡ start_outcome (decoder_rows rate original_count recovery_count) (configuration rate original_count recovery_count shard_bytes)) };
+        ensures roomy { IfSome work (λ w.
+            HasRoom (work_room w) (decoder_rows rate original_count recovery_count) shard_bytes
+            → answer_of result ≡ start_outcome (decoder_rows rate original_count recovery_count)
+            (configuration rate original_count recovery_count shard_bytes)) };
 
     /// Sets the decoder up for other counts and another shard size, with nothing added.
     ///
@@ -371,11 +405,16 @@ pub trait RateDecoder<E: Engine>: Sized {
     ) -> Result<(), Error>
         ensures answer { let c = configuration rate original_count recovery_count shard_bytes in
             UpToMemory (start_outcome (decoder_rows rate original_count recovery_count) c) result }
-        ensures ok { OnOk result (state self.new ≡ fresh_decoder (configuration rate original_count recovery_count shard_bytes)) }
+        ensures ok { OnOk result (state self.new
+            ≡ fresh_decoder (configuration rate original_count recovery_count shard_bytes)) }
         ensures err { OnErr result (state self.new ≡ state self.old) }
-        ensures roomy { HasRoom (room self.old) (decoder_rows rate original_count recovery_count) shard_bytes
-            → result ≡ start_outcome (decoder_rows rate original_count recovery_count) (configuration rate original_count recovery_count shard_bytes) }
-        ensures own { FitsWithin (state self.old).configuration (configuration rate original_count recovery_count shard_bytes) → result ≢ Err Error.OutOfMemory }
+        ensures roomy { HasRoom (room self.old)
+            (decoder_rows rate original_count recovery_count) shard_bytes
+            → result ≡ start_outcome (decoder_rows rate original_count recovery_count)
+            (configuration rate original_count recovery_count shard_bytes) }
+        ensures own { FitsWithin (state self.old).configuration
+            (configuration rate original_count recovery_count shard_bytes)
+            → result ≢ Err Error.OutOfMemory }
         ensures engine { engine_of self.new ≡ engine_of self.old }
         ensures grown { Grows (room self.old) (room self.new) };
 
@@ -387,8 +426,11 @@ pub trait RateDecoder<E: Engine>: Sized {
     /// - [`Error::DuplicateOriginalShardIndex`] if this original was added already.
     /// - [`Error::DifferentShardSize`] if the shard does not have the decoder's size.
     fn add_original_shard(&mut self, index: usize, original_shard: &[u8]) -> Result<(), Error>
-        ensures answer { result ≡ answer_of (with_original (state self.old) index original_shard.now) }
-        ensures left { state self.new ≡ state_after (state self.old) (with_original (state self.old) index original_shard.now) }
+        ensures answer { result
+            ≡ answer_of (with_original (state self.old) index original_shard.now) }
+        ensures left { state self.new
+            ≡ state_after (state self.old)
+            (with_original (state self.old) index original_shard.now) }
         ensures engine { engine_of self.new ≡ engine_of self.old }
         ensures room { room self.new ≡ room self.old };
 
@@ -400,8 +442,11 @@ pub trait RateDecoder<E: Engine>: Sized {
     /// - [`Error::DuplicateRecoveryShardIndex`] if this recovery shard was added already.
     /// - [`Error::DifferentShardSize`] if the shard does not have the decoder's size.
     fn add_recovery_shard(&mut self, index: usize, recovery_shard: &[u8]) -> Result<(), Error>
-        ensures answer { result ≡ answer_of (with_recovery (state self.old) index recovery_shard.now) }
-        ensures left { state self.new ≡ state_after (state self.old) (with_recovery (state self.old) index recovery_shard.now) }
+        ensures answer { result
+            ≡ answer_of (with_recovery (state self.old) index recovery_shard.now) }
+        ensures left { state self.new
+            ≡ state_after (state self.old)
+            (with_recovery (state self.old) index recovery_shard.now) }
         ensures engine { engine_of self.new ≡ engine_of self.old }
         ensures room { room self.new ≡ room self.old };
 
@@ -418,20 +463,25 @@ pub trait RateDecoder<E: Engine>: Sized {
     ///   error ends the round.
     fn decode(&mut self, steps: &mut Steps) -> Result<DecoderResult<'_>, Error>
         ensures answer { DecodeAnswers (state self.old) (answered_originals result) }
-        ensures counts { let c = (state self.old).configuration in DecodeCountsAt rate c.original_count c.recovery_count steps.old steps.new }
+        ensures counts { let c = (state self.old).configuration in
+            DecodeCountsAt rate c.original_count c.recovery_count steps.old steps.new }
         ensures* ends { sem 𝓛 (AfterLoan Self.row self.entry
-            (λ now. (state now ≡ after_decode (state self.old)) × (engine_of now ≡ engine_of self.old) × (room now ≡ room self.old))) };
+            (λ now. (state now ≡ after_decode (state self.old))
+            × (engine_of now ≡ engine_of self.old)
+            × (room now ≡ room self.old))) };
 
     /// Returns the engine and the work. Another decoder can use the work, which has room for this decoder's configuration.
     fn into_parts(self) -> (E, DecoderWork)
         ensures engine { result.0 ≡ engine_of self }
         ensures room { work_room result.1 ≡ room self }
         ensures enough { let c = (state self).configuration in
-            HasRoom (work_room result.1) (decoder_rows rate c.original_count c.recovery_count) c.shard_bytes };
+            HasRoom (work_room result.1) (decoder_rows rate c.original_count c.recovery_count)
+            c.shard_bytes };
 
     /// A decoder's configuration is valid for its rate, and the added shards fit it.
     ghost valid: { (x : Self) → IsDecoder rate (state x) };
 
     /// A decoder has room for its own rows.
-    ghost own_room: { (x : Self) → let c = (state x).configuration in HasRoom (room x) (decoder_rows rate c.original_count c.recovery_count) c.shard_bytes };
+    ghost own_room: { (x : Self) → let c = (state x).configuration in
+        HasRoom (room x) (decoder_rows rate c.original_count c.recovery_count) c.shard_bytes };
 }
