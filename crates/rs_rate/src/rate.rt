@@ -53,20 +53,33 @@ pub trait Rate<E: Engine>: Sized {
     /// The decoder of the rate.
     type RateDecoder: RateDecoder<E, Rate = Self> + Drop;
 
+    /// The low, the high or the default rate.
     ghost rate: { WhichRate };
 
     /// Returns whether the rate supports `original_count` originals with `recovery_count` recovery shards.
+    ///
+    /// Every rate requires that k = `original_count` and r = `recovery_count` are at least 1. Each rate also has a condition in
+    /// which p(n) is the least power of two that is not below n:
+    ///
+    /// | Rate | Condition |
+    /// |---|---|
+    /// | low | p(k) + r <= 65536 |
+    /// | high | p(r) + k <= 65536 |
+    /// | default | min(p(k), p(r)) + max(k, r) <= 65536 |
+    ///
+    /// For example, the high rate and the default rate support 61440 originals with 4096 recovery shards, but the low rate does
+    /// not: p(61440) is 65536.
     fn supports(original_count: usize, recovery_count: usize) -> bool
         ensures { result ≡ supports_counts rate original_count recovery_count }
     {
         Self::RateEncoder::supports(original_count, recovery_count)
     }
 
-    /// Checks a configuration, without making anything.
+    /// Checks two counts and a shard size of `shard_bytes` bytes, and allocates nothing.
     ///
     /// # Errors
     ///
-    /// - [`Error::UnsupportedShardCount`] if the rate does not support the counts.
+    /// - [`Error::UnsupportedShardCount`] if the rate does not [support](Self::supports) the counts.
     /// - [`Error::InvalidShardSize`] if `shard_bytes` is zero or odd.
     fn validate(
         original_count: usize,
@@ -79,7 +92,7 @@ pub trait Rate<E: Engine>: Sized {
         Self::RateEncoder::validate(original_count, recovery_count, shard_bytes)
     }
 
-    /// Makes an encoder of the rate, as [`RateEncoder::new`] does.
+    /// Makes an encoder of the rate, as [`RateEncoder::new`] does. The rate must [support](Self::supports) the counts.
     ///
     /// # Errors
     ///
@@ -115,7 +128,7 @@ pub trait Rate<E: Engine>: Sized {
         )
     }
 
-    /// Makes a decoder of the rate, as [`RateDecoder::new`] does.
+    /// Makes a decoder of the rate, as [`RateDecoder::new`] does. The rate must [support](Self::supports) the counts.
     ///
     /// # Errors
     ///
@@ -152,10 +165,10 @@ pub trait Rate<E: Engine>: Sized {
         )
     }
 
-    /// The encoders of a rate are of this rate.
+    /// An encoder of a rate has this rate.
     ghost encoder_rate: { Self.RateEncoder.rate ≡ rate };
 
-    /// The decoders of a rate are of this rate.
+    /// A decoder of a rate has this rate.
     ghost decoder_rate: { Self.RateDecoder.rate ≡ rate };
 }
 
@@ -182,23 +195,28 @@ pub trait RateEncoder<E: Engine>: Sized {
     /// The rate.
     type Rate;
 
+    /// The low, the high or the default rate.
     ghost rate: { WhichRate };
 
+    /// The configuration of an encoder, and the originals that were added in the current round.
     ghost state: { Self → EncoderState };
 
+    /// The engine of an encoder.
     ghost engine_of: { Self → E };
 
+    /// The number of chunks for which an encoder has memory.
     ghost room: { Self → ℕ };
 
-    /// Returns whether the rate supports `original_count` originals with `recovery_count` recovery shards.
+    /// Returns whether the rate supports `original_count` originals with `recovery_count` recovery shards. [`Rate::supports`]
+    /// states which counts these are.
     fn supports(original_count: usize, recovery_count: usize) -> bool
         ensures { result ≡ supports_counts rate original_count recovery_count };
 
-    /// Checks a configuration, without making anything.
+    /// Checks two counts and a shard size of `shard_bytes` bytes, and allocates nothing.
     ///
     /// # Errors
     ///
-    /// - [`Error::UnsupportedShardCount`] if the rate does not support the counts.
+    /// - [`Error::UnsupportedShardCount`] if the rate does not [support](Self::supports) the counts.
     /// - [`Error::InvalidShardSize`] if `shard_bytes` is zero or odd.
     fn validate(
         original_count: usize,
@@ -212,7 +230,7 @@ pub trait RateEncoder<E: Engine>: Sized {
     ///
     /// # Errors
     ///
-    /// - [`Error::UnsupportedShardCount`] if the rate does not support the counts.
+    /// - [`Error::UnsupportedShardCount`] if the rate does not [support](Self::supports) the counts.
     /// - [`Error::InvalidShardSize`] if `shard_bytes` is zero or odd.
     /// - [`Error::OutOfMemory`] if the rows cannot be allocated, or if their bytes exceed `usize::MAX`.
     ///
@@ -241,9 +259,9 @@ pub trait RateEncoder<E: Engine>: Sized {
     ///
     /// # Errors
     ///
-    /// The errors of `new`, in the same order. After an error the configuration and the added shards are what they were.
-    /// `reset` never fails with [`Error::OutOfMemory`] if the encoder already holds enough memory. That is the case if the rows are
-    /// its own and the shard size is not larger, or if the encoder has been this large before.
+    /// The errors of [`new`](Self::new), in the same order. After an error the configuration and the added shards are what they
+    /// were. `reset` never fails with [`Error::OutOfMemory`] if the encoder already holds enough memory. That is the case if
+    /// the counts are unchanged and the shard size is not larger, or if the encoder has been this large before.
     fn reset(
         &mut self,
         original_count: usize,
@@ -335,23 +353,28 @@ pub trait RateDecoder<E: Engine>: Sized {
     /// The rate.
     type Rate;
 
+    /// The low, the high or the default rate.
     ghost rate: { WhichRate };
 
+    /// The configuration of a decoder, and the shards that were added in the current round.
     ghost state: { Self → DecoderState };
 
+    /// The engine of a decoder.
     ghost engine_of: { Self → E };
 
+    /// The numbers of chunks, of rows and of locator entries for which a decoder has memory.
     ghost room: { Self → DecoderRoom };
 
-    /// Returns whether the rate supports `original_count` originals with `recovery_count` recovery shards.
+    /// Returns whether the rate supports `original_count` originals with `recovery_count` recovery shards. [`Rate::supports`]
+    /// states which counts these are.
     fn supports(original_count: usize, recovery_count: usize) -> bool
         ensures { result ≡ supports_counts rate original_count recovery_count };
 
-    /// Checks a configuration, without making anything.
+    /// Checks two counts and a shard size of `shard_bytes` bytes, and allocates nothing.
     ///
     /// # Errors
     ///
-    /// - [`Error::UnsupportedShardCount`] if the rate does not support the counts.
+    /// - [`Error::UnsupportedShardCount`] if the rate does not [support](Self::supports) the counts.
     /// - [`Error::InvalidShardSize`] if `shard_bytes` is zero or odd.
     fn validate(
         original_count: usize,
@@ -365,7 +388,7 @@ pub trait RateDecoder<E: Engine>: Sized {
     ///
     /// # Errors
     ///
-    /// - [`Error::UnsupportedShardCount`] if the rate does not support the counts.
+    /// - [`Error::UnsupportedShardCount`] if the rate does not [support](Self::supports) the counts.
     /// - [`Error::InvalidShardSize`] if `shard_bytes` is zero or odd.
     /// - [`Error::OutOfMemory`] if the rows cannot be allocated, or if their bytes exceed `usize::MAX`.
     ///
@@ -394,9 +417,9 @@ pub trait RateDecoder<E: Engine>: Sized {
     ///
     /// # Errors
     ///
-    /// The errors of `new`, in the same order. After an error the configuration and the added shards are what they were.
-    /// `reset` never fails with [`Error::OutOfMemory`] if the decoder already holds enough memory. That is the case if the rows are
-    /// its own and the shard size is not larger, or if the decoder has been this large before.
+    /// The errors of [`new`](Self::new), in the same order. After an error the configuration and the added shards are what they
+    /// were. `reset` never fails with [`Error::OutOfMemory`] if the decoder already holds enough memory. That is the case if
+    /// the counts are unchanged and the shard size is not larger, or if the decoder has been this large before.
     fn reset(
         &mut self,
         original_count: usize,
