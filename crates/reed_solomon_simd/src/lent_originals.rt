@@ -46,14 +46,15 @@ impl<'a> LentOriginals<'a> {
     ghost use Rattle.rs_rate.specs.Giving.{Reaches, IsEncoding};
     ghost use Rattle.reed_solomon_simd.specs.Gathered.{gathered};
 
-    // No originals, for these counts and this size.
+    // Makes a list without originals, for these counts and this size.
     fn new(
         alloc: Global,
         counts: DefaultRateCounts,
         shard_bytes: usize,
     ) -> Result<LentOriginals<'a>, Error>
         ensures answer { let c = default_of counts.original_count counts.recovery_count shard_bytes in
-            UpToMemory (start_outcome (encoder_rows default_rate c.original_count c.recovery_count) c)
+            UpToMemory
+            (start_outcome (encoder_rows default_rate c.original_count c.recovery_count) c)
             (answer_of result) }
         ensures counts { IfOk result (λ x. x.counts ≡ counts) }
         ensures made { IfOk result (λ x. gathered x
@@ -122,7 +123,7 @@ impl<'a> LentOriginals<'a> {
         Ok(())
     }
 
-    // Adds originals in order, up to the first that is refused.
+    // Adds originals in order, and stops at the first one that cannot be added.
     fn add_all<I: Iterator<Item = &'a [u8]> + Drop>(&mut self, originals: I) -> Result<(), Error>
         requires can { I.can_next originals }
         requires ends { IsFinite (I.remaining originals) }
@@ -205,7 +206,7 @@ impl<'a> LentOriginals<'a> {
     }
 }
 
-// Empty vectors with memory for so many bytes each.
+// Returns `count` empty vectors, each with memory for `bytes` bytes.
 pub(crate) fn empty_vectors(
     alloc: Global,
     count: usize,

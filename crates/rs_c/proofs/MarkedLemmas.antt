@@ -13,7 +13,7 @@ abbrev pub present : List ℕ → ℕ
 present [] = 0
 present (mark ∷ marks) = cond (not (mark == 0)) (1 + present marks) (present marks)
 
--- that is their count
+-- the number of marks that aren't 0 is what `count_by` counts
 pub count-present : (marks : List ℕ) → present marks ≡ count_by (λ mark. not (mark == 0)) marks
 count-present marks = is_count_by present (λ mark. not (mark == 0)) refl (λ mark others. refl) marks
 

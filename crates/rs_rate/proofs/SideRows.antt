@@ -17,7 +17,7 @@ use Rattle.rs_rate.specs.Marks.{given_marks, given_row_count, given_shards}
 use Rattle.rs_rate.specs.Sides.{side_count, side_from, side_row, side_originals, side_recovery, repeat_refused, with_shard_of_side}
 use Rattle.rs_rate.proofs.DecoderLemmas.{shard_of_row, given-marked, given-kept, given-entered}
 
--- the other side
+-- originals and recovery shards are the two sides of a decoder; each is the other side of the other
 abbrev other : Side → Side
 other Original = Recovery
 other Recovery = Original

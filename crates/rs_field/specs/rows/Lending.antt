@@ -67,12 +67,12 @@ LendsFour R T s r F =
     fall (T.Denot × T.Denot × T.Denot × T.Denot) (λ v.
     fwand (fsep (fsep (ends r.0 v.0) (ends r.1 v.1)) (fsep (ends r.2 v.2) (ends r.3 v.3))) (fres s.ghost_name (R.coded.code (F v.0 v.1 v.2 v.3))))
 
--- the n chunks from each of four places on are lent, in the same way
+-- four runs of n chunks are lent, one from each of four places on: afterwards the chunks hold what was written to these runs
 abbrev pub LendsFourRuns : MutBor ShardsRefMut → ℕ → ℕ → ℕ → ℕ → ℕ → MutBor Chunks × MutBor Chunks × MutBor Chunks × MutBor Chunks → Fml
 LendsFourRuns rows a b c d n lent =
     LendsFour (the_row (record { mir = named 1; lft = [] })) (Array (Array u8 64) 0) rows lent
     (λ first second third fourth. with_chunks rows.now (with_four rows.now.chunks.now a b c d n first second third fourth))
 
--- rows i, j, k and l are lent
+-- rows i, j, k and l are lent: afterwards the rows hold what was written to the lent chunks
 abbrev pub LendsFourRows : MutBor ShardsRefMut → ℕ → ℕ → ℕ → ℕ → MutBor Chunks × MutBor Chunks × MutBor Chunks × MutBor Chunks → Fml
 LendsFourRows rows i j k l lent = let n = rows.now.shard_len_64 in LendsFourRuns rows (i * n) (j * n) (k * n) (l * n) n lent

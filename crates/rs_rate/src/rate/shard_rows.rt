@@ -80,7 +80,7 @@ pub(crate) fn move_tail(chunks: &mut [[u8; 64]], index: usize, shard_bytes: usiz
     undo_last_chunk_encoding(&mut chunks[start..start + len], shard_bytes);
 }
 
-// The shards in rows are bytes. It and the two functions below do nothing when they run: they tell the checker so.
+// Proves that the shards in rows consist of bytes. When the program runs, the function does nothing.
 pub(crate) fn laid_out_are_bytes(chunks: &[[u8; 64]], count: usize, shard_bytes: usize)
     requires room { chunk_count count shard_bytes ≤ length chunks.now }
     ensures { (i : ℕ) → i < count → IsShard shard_bytes (shard_laid_out chunks.now shard_bytes i) }
@@ -88,7 +88,7 @@ pub(crate) fn laid_out_are_bytes(chunks: &[[u8; 64]], count: usize, shard_bytes:
     are_bytes(chunks.as_flattened());
 }
 
-// Shards whose tails were moved consist of bytes.
+// Proves that shards whose tails were moved consist of bytes. When the program runs, the function does nothing.
 pub(crate) fn in_order_are_bytes(chunks: &[[u8; 64]], count: usize, shard_bytes: usize)
     requires room { chunk_count count shard_bytes ≤ length chunks.now }
     ensures { (i : ℕ) → i < count → IsShard shard_bytes (shard_in_order chunks.now shard_bytes i) }
@@ -96,7 +96,7 @@ pub(crate) fn in_order_are_bytes(chunks: &[[u8; 64]], count: usize, shard_bytes:
     are_bytes(chunks.as_flattened());
 }
 
-// A shard that a caller passes consists of bytes.
+// Proves that a shard that a caller passes consists of bytes. When the program runs, the function does nothing.
 pub(crate) fn shard_is_bytes(shard: &[u8])
     ensures { IsShard (length shard.now) shard.now }
 {
