@@ -1,8 +1,8 @@
--- Polynomials over the field: a list of n words is one of degree below n, the lowest coefficient first.
+-- Polynomials over the field. A list of n words represents a polynomial of degree below n. The first word is the lowest coefficient.
 use Rattle.std.specs.Prelude.{ℕ, List, [], ◌∷◌, ◌<◌, All, bit_xor}
 use Rattle.rs_field.specs.words.Field.{product}
 
--- every entry is a word
+-- every entry of a list is a word
 abbrev pub AreWords : List ℕ → Type 0
 AreWords ws = All (λ w. w < 65536) ws
 
