@@ -26,21 +26,21 @@ unfoldable pub count_below : ℕ → Shards → ℕ
 count_below zero given = 0
 count_below (suc n) given = count_below n given + (if is_some (given n) then 1 else 0)
 
--- the shard of an entry with this index, if it has one
+-- the shard at an index, with this index, if there is one
 abbrev pub items_at : ℕ → Option Shard → List (ℕ × Shard)
 items_at i None = []
 items_at i (Some shard) = (i, shard) ∷ []
 
--- the shards of a map at the n indexes from one on, with their indexes, in order of index
+-- the shards of a map at the n indexes from `from` on, with their indexes, in order of their index
 unfoldable pub items_from : ℕ → ℕ → Shards → List (ℕ × Shard)
 items_from from zero given = []
 items_from from (suc n) given = items_at from (given from) ++ items_from (suc from) n given
 
--- the shards of a map at the indexes below n, with their indexes, in order of index
+-- the shards of a map at the indexes below n, with their indexes, in order of their index
 abbrev pub items_below : ℕ → Shards → List (ℕ × Shard)
 items_below n given = items_from 0 n given
 
--- a list has all the shards of a map, with their indexes, in order of index
+-- a list has all shards of a map, with their indexes, in order of their index
 pub record Lists (given : Shards) (items : List (ℕ × Shard)) : Type 0 where
   pub count : ℕ
   pub none_past : (i : ℕ) → count ≤ i → given i ≡ None

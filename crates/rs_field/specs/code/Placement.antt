@@ -26,7 +26,7 @@ high_placement k r =
 unfoldable pub placement : Rate → ℕ → ℕ → Placement
 placement rate k r = if is_low rate k r then low_placement k else high_placement k r
 
--- the rows of a block, m: the power of k at the low rate, else the power of r
+-- the number m of rows of a block: the power of k at the low rate, and the power of r at the high rate
 unfoldable pub block_rows : Rate → ℕ → ℕ → ℕ
 block_rows rate k r = if is_low rate k r then next_power k else next_power r
 
@@ -34,10 +34,10 @@ block_rows rate k r = if is_low rate k r then next_power k else next_power r
 abbrev pub rounded_up : ℕ → ℕ → ℕ
 rounded_up n m = (n + m - 1) / m * m
 
--- the rows of an encoder: the recovery shards at the low rate, else the originals, in whole blocks
+-- the number of rows of an encoder: the number of recovery shards at the low rate, or of originals at the high rate, rounded up to whole blocks
 unfoldable pub encoder_rows : Rate → ℕ → ℕ → ℕ
 encoder_rows rate k r = if is_low rate k r then rounded_up r (next_power k) else rounded_up k (next_power r)
 
--- the number of rows of a decoder: the power of m + r at the low rate, and the power of m + k at the high rate
+-- the number of rows of a decoder: at the low rate the power of m + r, with m the power of k; at the high rate the power of m + k, with m the power of r
 unfoldable pub decoder_rows : Rate → ℕ → ℕ → ℕ
 decoder_rows rate k r = if is_low rate k r then next_power (next_power k + r) else next_power (next_power r + k)

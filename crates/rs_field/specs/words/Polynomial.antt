@@ -11,7 +11,7 @@ unfoldable pub value : List ℕ → ℕ → ℕ
 value [] x = 0
 value (c ∷ cs) x = bit_xor c (product x (value cs x))
 
--- the value at x of the derivative of the polynomial with these coefficients: by the product rule, that of c + x Q is Q and x times Q's
+-- the value at x of the derivative of the polynomial with these coefficients: by the product rule, the derivative of c + x Q is Q plus x times the derivative of Q
 unfoldable pub derivative_value : List ℕ → ℕ → ℕ
 derivative_value [] x = 0
 derivative_value (c ∷ cs) x = bit_xor (value cs x) (product x (derivative_value cs x))
