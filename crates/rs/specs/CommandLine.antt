@@ -54,7 +54,7 @@ abbrev pub items_of : List (List ℕ) → Option GivenItems
 items_of [] = Some (record { originals = []; recovery = [] })
 items_of (word ∷ words) = option_map (λ p. with_item p.0 p.1) (option_zip (item_of word) (items_of words))
 
--- the task of a command: to encode shards, or to restore shards from other shards
+-- the two kinds of commands: shards are encoded, or shards are restored from other shards
 pub data Task : Type 0 where
   Coded : List Shard → Task
   Restored : GivenItems → Task
@@ -66,7 +66,7 @@ pub record Request : Type 0 where
   pub recovery_count : ℕ
   pub task : Task
 
--- the task of a command, from its name and the words after the counts
+-- what a command does, from its name and the words after the counts
 abbrev pub task_of : List ℕ → List (List ℕ) → Option Task
 task_of command words =
     if bytes_eq command (codes "encode") then option_map Coded (shards_of words)

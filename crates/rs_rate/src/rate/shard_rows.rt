@@ -1,4 +1,4 @@
-//! Shards in rows of chunks: room for them, laying them in, their tails, and reading them.
+//! Shards in rows of chunks: the number of chunks, how a shard is written into a row, how its tail is moved, and how it is read.
 ghost use Rattle.std.specs.Prelude.{◌≡◌, ◌≢◌, ℕ, ◌+◌, ◌*◌, ◌%◌, ◌^◌, ◌<◌, ◌≤◌, length, MatchResult};
 ghost use Rattle.rs_field.specs.code.Column.{IsShard};
 ghost use Rattle.rs_field.specs.rows.Layout.{row_len};
@@ -10,7 +10,7 @@ use rs_field::engine::Steps;
 use rs_field::engine::layout::{insert, row_len, shard_of, undo_last_chunk_encoding};
 use rs_field::error::Error;
 
-// The number of chunks of n rows, if their size in bytes fits a `usize`.
+// Returns the number of chunks of n rows, or fails with `OutOfMemory` if their size in bytes does not fit a `usize`.
 pub(crate) fn chunk_count(row_count: usize, shard_bytes: usize) -> Result<usize, Error>
     ensures { MatchResult result
         (λ n. (n ≡ chunk_count row_count shard_bytes) × (n * 64 < 2 ^ 64))
@@ -25,7 +25,7 @@ pub(crate) fn chunk_count(row_count: usize, shard_bytes: usize) -> Result<usize,
     }
 }
 
-// Lays a shard into row `index` of rows of its size.
+// Writes a shard into row `index` of rows for shards of its size.
 #[tactic(auto, using(crate::proofs::ShardRowsLemmas::row_end))]
 pub(crate) fn insert_at(chunks: &mut [[u8; 64]], shard: &[u8], index: usize)
     requires room { chunk_count (index + 1) (length shard.now) ≤ length chunks.old }
@@ -38,7 +38,7 @@ pub(crate) fn insert_at(chunks: &mut [[u8; 64]], shard: &[u8], index: usize)
     insert(&mut chunks[start..start + len], shard);
 }
 
-// The shard that lies in row `index`, once its tail was moved.
+// Returns the shard in row `index`, whose tail must have been moved.
 #[tactic(auto, using(crate::proofs::ShardRowsLemmas::row_end))]
 pub(crate) fn shard_at(chunks: &[[u8; 64]], shard_bytes: usize, index: usize) -> &[u8]
     requires { chunk_count (index + 1) shard_bytes ≤ length chunks.now }
@@ -49,7 +49,7 @@ pub(crate) fn shard_at(chunks: &[[u8; 64]], shard_bytes: usize, index: usize) ->
     shard_of(&chunks[start..start + len], shard_bytes)
 }
 
-// Moves the tails of the first rows; a row step each.
+// Moves the tails of the first `count` rows, and counts one row step for each of them.
 pub(crate) fn move_tails(
     steps: &mut Steps,
     chunks: &mut [[u8; 64]],
