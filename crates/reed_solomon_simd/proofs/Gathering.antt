@@ -1,4 +1,4 @@
--- Gathered originals: the encoder that they stand for, and what encoding them answers.
+-- Gathered originals: the encoder state that they represent, and the result of encoding them.
 use Rattle.std.proofs.Common.{◌≡◌, ℕ, ◌<◌, ◌^◌, ◌%◌, Bool, true, false, cond, List, [], length, All, Bor, Ok, Err, Result, MatchResult, IfOk, inl, inr, refl, sym, ap, ◌∙◌, arith}
 use Rattle.std.specs.Prelude.{nat_le}
 use Rattle.std.proofs.lemmas.Bool.{cases_lt, le-leb}
@@ -45,7 +45,7 @@ started-parts rows c is = by_outcome (validation_outcome c) is
     by_outcome (Ok u) is = (refl, by_test (nat_le (2 ^ 64) (bytes_of_rows rows c.shard_bytes)) refl is)
     by_outcome (Err e) is = absurd (let no : ⊥ = cc in no)
 
--- gathered originals stand for a state that an encoder can be in
+-- gathered originals represent a state that an encoder can have
 pub gathered-is : (x : LentOriginals) → IsEncoder default_rate (gathered x)
 gathered-is x =
     let parts = started-parts _ (gathered x).configuration x.set_up in

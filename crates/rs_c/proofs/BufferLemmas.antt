@@ -29,7 +29,7 @@ written-next whole at end old new x rest w same ends now =
       is_whole = ap (λ (l : List ℕ). l ++ rest) now ∙ append_assoc (take at old) x rest ∙ w.is_whole;
     }
 
--- what stands in a place of the size
+-- the bytes of a restored shard, or else the bytes that were there before, have the size
 length-placed : (size : ℕ) (o : Option Shard) (own : List ℕ) → ((x : Shard) → o ≡ Some x → length x ≡ size) → length own ≡ size → length (unwrap_or o own) ≡ size
 length-placed size (Some x) own sized h = sized x refl
 length-placed size None own sized h = h

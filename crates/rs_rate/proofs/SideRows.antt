@@ -35,7 +35,7 @@ given-at w side index row given at inside is =
     given-marked (given_marks w.memory.marks) w.memory.chunks.items w.shape.configuration.shard_bytes (side_from side w.shape) (side_count side w.shape) index inside
     ∙ ap (λ (p : ℕ). is_marked (given_marks w.memory.marks) p) (sym at) ∙ is
 
--- the refusals
+-- adding a shard whose row is marked as given is an error
 pub add-repeated : (rate : Rate) (w : DecoderRows) (side : Side) (index row : ℕ) (shard : Shard) → row ≡ side_row side w.shape index → index < side_count side w.shape
     → is_marked (given_marks w.memory.marks) row ≡ true → with_shard_of_side side (decoder_state rate w) index shard ≡ Err (repeat_refused side index)
 add-repeated rate w Original index row shard at inside given =
