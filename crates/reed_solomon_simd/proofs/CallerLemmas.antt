@@ -44,7 +44,7 @@ pub collected_shards-holds : {Y : Type 0} (result : Result (BTreeMap ℕ (Vec �
 collected_shards-holds (Ok m) P h = h
 collected_shards-holds (Err e) P h = tt
 
--- and what holds of its refusal
+-- a property of the error of a collected map holds for the error of the result
 pub collected_shards-refused : {Y : Type 0} (result : Result (BTreeMap ℕ (Vec ℕ Y)) Error) (P : Error → Type 0) → IfErr (collected_map result) P → IfErr result P
 collected_shards-refused (Ok m) P h = tt
 collected_shards-refused (Err e) P h = h

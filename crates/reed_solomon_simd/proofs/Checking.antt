@@ -21,7 +21,7 @@ use Rattle.reed_solomon_simd.proofs.Gathering.{has-made, encoded-all}
 use Rattle.reed_solomon_simd.proofs.SetUp.{started-parts}
 use Rattle.reed_solomon_simd.specs.Checked.{AreChecked}
 
--- the first original that is refused decides
+-- the error of the first original that cannot be added is the outcome of adding all originals
 refused-at : (s : EncoderState) (shards : List Shard) (i : ℕ) (e : Error) → i < length shards → length s.given + i ≤ s.configuration.original_count
     → ((j : ℕ) → j < i → length (get_or shards j []) ≡ s.configuration.shard_bytes)
     → Err e ≡ answer_of (with_shard (record s { given = s.given ++ take i shards }) (get_or shards i [])) → with_shards s shards ≡ Err e

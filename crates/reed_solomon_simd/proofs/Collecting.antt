@@ -32,7 +32,7 @@ record IsBelow (from : ℕ) (given part : Shards) : Type 0 where
   same : (i : ℕ) → i < from → part i ≡ given i
   none : (i : ℕ) → from ≤ i → part i ≡ None
 
--- entering the shard of the next index, if it has one
+-- entering the shard of the next index, if there is one, extends the part to this index
 below-next : (from : ℕ) (given part : Shards) (o : Option Shard) → given from ≡ o → IsBelow from given part → IsBelow (suc from) given (with_entries part (items_at from o))
 below-next from given part None is below =
     record {
@@ -55,7 +55,7 @@ with_entries-append : (given : Shards) (items others : Items) → with_entries g
 with_entries-append given [] others = refl
 with_entries-append given (item ∷ items) others = with_entries-append (with_entry given item.0 item.1) items others
 
--- and those of all further ones
+-- entering the shards of the next n indexes, at which there are shards, extends the part to these indexes
 below-listed : (n from : ℕ) (given part : Shards) → IsBelow from given part → IsBelow (from + n) given (with_entries part (items_from from n given))
 below-listed zero from given part below =
     subst (λ (m : ℕ). IsBelow m given (with_entries part (items_from from 0 given))) (let m : from ≡ from + 0 = omega arith in m)

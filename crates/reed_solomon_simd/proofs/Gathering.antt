@@ -1,4 +1,4 @@
--- Gathered originals: the encoder that they stand for, and what encoding them answers.
+-- Gathered originals: the encoder state that they represent, and the result of encoding them.
 use Rattle.std.proofs.Common.{◌≡◌, ℕ, ◌<◌, ◌^◌, ◌%◌, Bool, true, false, cond, List, [], length, All, Bor, Ok, Err, Result, MatchResult, IfOk, inl, inr, refl, sym, ap, ◌∙◌, arith}
 use Rattle.std.specs.Prelude.{nat_le}
 use Rattle.std.proofs.lemmas.Bool.{cases_lt, le-leb}
@@ -28,7 +28,7 @@ pub shards-long : (size : ℕ) (xs : List (Bor (List ℕ))) → All (IsShard siz
 shards-long size xs sized k d h =
     ap length (sym (get_or-map (λ (x : Bor (List ℕ)). x.now) xs k d [] h)) ∙ (sized k [] (let n = length-map xs (λ (x : Bor (List ℕ)). x.now) in omega (arith, h, n))).length_is
 
--- gathered originals stand for a state that an encoder can be in
+-- gathered originals represent a state that an encoder can have
 pub gathered-is : (x : LentOriginals) → IsEncoder default_rate (gathered x)
 gathered-is x =
     let parts = started-parts _ (gathered x).configuration x.set_up in

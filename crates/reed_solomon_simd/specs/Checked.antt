@@ -7,7 +7,7 @@ use Rattle.rs_field.specs.code.OneCall.{default_of}
 use Rattle.rs_field.specs.code.Placement.{encoder_rows}
 use Rattle.rs_rate.specs.Giving.{IsEncoding}
 
--- shards are k originals of this size, which an encoder takes
+-- shards are k originals of this size, all of which can be added to an encoder
 pub record AreChecked (k r size : ℕ) (shards : List Shard) : Type 0 where
   pub led : IsEncoding k r shards (Ok (record { configuration = default_of k r size; given = shards }))
   pub number : length shards ≡ k

@@ -11,7 +11,7 @@ use Rattle.rs_rate.specs.Loan.{AfterLoan}
 use Rattle.reed_solomon_simd.specs.contracts.decoder.ReedSolomonDecoder.{the_row}
 use Rattle.reed_solomon_simd.specs.declared.decoder.ReedSolomonDecoder.{ReedSolomonDecoder}
 
--- the configuration of a decoder, and the shards added so far
+-- the configuration of a decoder, and the shards that were added in the current round
 abbrev pub state_of : ReedSolomonDecoder → DecoderState
 state_of object = decoder_state default_rate object.decoder.rows
 
@@ -23,7 +23,7 @@ engine_of object = object.decoder.engine
 abbrev pub room_of : ReedSolomonDecoder → DecoderRoom
 room_of object = memory_room object.decoder.rows.memory
 
--- once the loan of the restored originals ends, the decoder is as after a decode, with its engine and its room
+-- when the loan of the restored originals ends, the decoder has the state after a decode, and its engine and its room are unchanged
 abbrev pub EndsDecode : MutBor ReedSolomonDecoder → ReedSolomonDecoder → Fml
 EndsDecode object old =
     AfterLoan (the_row (record { mir = named 1; lft = [] })) object

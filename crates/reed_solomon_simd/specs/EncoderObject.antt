@@ -11,7 +11,7 @@ use Rattle.rs_rate.specs.Loan.{AfterLoan}
 use Rattle.reed_solomon_simd.specs.contracts.encoder.ReedSolomonEncoder.{the_row}
 use Rattle.reed_solomon_simd.specs.declared.encoder.ReedSolomonEncoder.{ReedSolomonEncoder}
 
--- the configuration of an encoder, and the originals added so far
+-- the configuration of an encoder, and the originals that were added in the current round
 abbrev pub state_of : ReedSolomonEncoder → EncoderState
 state_of object = encoder_state default_rate object.encoder.rows
 
@@ -23,7 +23,7 @@ engine_of object = object.encoder.engine
 abbrev pub room_of : ReedSolomonEncoder → ℕ
 room_of object = vec_capacity object.encoder.rows.chunks
 
--- once the loan of the recovery shards ends, the encoder is as after an encode, with its engine and its room
+-- when the loan of the recovery shards ends, the encoder has the state after an encode, and its engine and its room are unchanged
 abbrev pub EndsEncode : MutBor ReedSolomonEncoder → ReedSolomonEncoder → Fml
 EndsEncode object old =
     AfterLoan (the_row (record { mir = named 1; lft = [] })) object

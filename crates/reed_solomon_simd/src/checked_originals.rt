@@ -17,8 +17,11 @@ use rs_rate::rate::DefaultRateCounts;
 ///
 /// The errors of `encode` for these originals, but for a want of memory.
 pub fn check_originals(counts: DefaultRateCounts, originals: &[&[u8]]) -> Result<usize, Error>
-    ensures { MatchResult result (λ size. AreChecked counts.original_count counts.recovery_count size (shards_of originals.now))
-        (λ e. OneEncodeAnswers counts.original_count counts.recovery_count (shards_of originals.now) (Err e)) }
+    ensures { MatchResult result
+        (λ size. AreChecked counts.original_count counts.recovery_count size
+        (shards_of originals.now))
+        (λ e. OneEncodeAnswers counts.original_count counts.recovery_count
+        (shards_of originals.now) (Err e)) }
 {
     let original_count = counts.original_count;
     if originals.is_empty() {
@@ -48,7 +51,9 @@ fn check_original(
     index: usize,
     shard: &[u8],
 ) -> Result<(), Error>
-    ensures answer { (s : EncoderState) → s.configuration.original_count ≡ original_count → s.configuration.shard_bytes ≡ shard_bytes
+    ensures answer { (s : EncoderState)
+        → s.configuration.original_count ≡ original_count
+        → s.configuration.shard_bytes ≡ shard_bytes
         → length s.given ≡ index → result ≡ answer_of (with_shard s shard.now) }
     ensures shard { OnOk result (IsShard shard_bytes shard.now) }
     ensures few { OnOk result (index + 1 ≤ original_count) }

@@ -47,9 +47,14 @@ impl<'t> ReedSolomonDecoder<'t> {
 
     /// Returns whether `original_count` originals with `recovery_count` recovery shards are supported.
     ///
+    /// Both counts must be at least 1, and min(p(k), p(r)) + max(k, r) must be at most 65536. Here k is `original_count`, r is
+    /// `recovery_count`, and p(n) is the least power of two that is not below n. All counts from 1 to 32768 meet this.
+    ///
     /// # Examples
     ///
     /// ```
+    /// // This is true for (32768, 32768), (60000, 4000) and (4096, 61440).
+    /// // It is false for (0, 1), (1, 0), (60000, 5000) and (4096, 61441).
     /// ReedSolomonDecoder::supports(original_count, recovery_count)
     /// ```
     pub fn supports(original_count: usize, recovery_count: usize) -> bool
@@ -63,14 +68,16 @@ impl<'t> ReedSolomonDecoder<'t> {
     ///
     /// # Errors
     ///
-    /// - [`Error::UnsupportedShardCount`] if the counts are not supported.
+    /// - [`Error::UnsupportedShardCount`] if the counts are not [supported](Self::supports).
     /// - [`Error::InvalidShardSize`] if `shard_bytes` is zero or odd.
     /// - [`Error::OutOfMemory`] if the rows cannot be allocated, or if their bytes exceed `usize::MAX`.
     ///
     /// # Examples
     ///
+    /// A decoder for 3 originals and 2 recovery shards of 12 bytes:
+    ///
     /// ```
-    /// let mut decoder = ReedSolomonDecoder::new(alloc, k, r, shard_bytes, engine)?;
+    /// let mut decoder = ReedSolomonDecoder::new(alloc, 3, 2, 12, engine)?;
     /// ```
     pub fn new(
         alloc: Global,
@@ -79,8 +86,13 @@ impl<'t> ReedSolomonDecoder<'t> {
         shard_bytes: usize,
         engine: DefaultEngine<'t>,
     ) -> Result<ReedSolomonDecoder<'t>, Error>
-        ensures answer { UpToMemory (start_outcome (decoder_rows default_rate original_count recovery_count) (default_of original_count recovery_count shard_bytes)) (answer_of result) }
-        ensures made { IfOk result (λ x. (state_of x ≡ fresh_decoder (default_of original_count recovery_count shard_bytes)) × (engine_of x ≡ engine.entry)) }
+        ensures answer { UpToMemory
+            (start_outcome (decoder_rows default_rate original_count recovery_count)
+            (default_of original_count recovery_count shard_bytes))
+            (answer_of result) }
+        ensures made { IfOk result (λ x.
+            (state_of x ≡ fresh_decoder (default_of original_count recovery_count shard_bytes))
+            × (engine_of x ≡ engine.entry)) }
     {
         let decoder = DefaultRateDecoder::new(
             alloc,
@@ -106,8 +118,10 @@ impl<'t> ReedSolomonDecoder<'t> {
     ///
     /// # Examples
     ///
+    /// The next message has 3 originals and 2 recovery shards of 2 bytes:
+    ///
     /// ```
-    /// decoder.reset(original_count, recovery_count, shard_bytes)
+    /// decoder.reset(3, 2, 2)
     /// ```
     pub fn reset(
         &mut self,
@@ -115,12 +129,20 @@ impl<'t> ReedSolomonDecoder<'t> {
         recovery_count: usize,
         shard_bytes: usize,
     ) -> Result<(), Error>
-        ensures answer { UpToMemory (start_outcome (decoder_rows default_rate original_count recovery_count) (default_of original_count recovery_count shard_bytes)) result }
-        ensures ok { OnOk result (state_of self.new ≡ fresh_decoder (default_of original_count recovery_count shard_bytes)) }
+        ensures answer { UpToMemory
+            (start_outcome (decoder_rows default_rate original_count recovery_count)
+            (default_of original_count recovery_count shard_bytes))
+            result }
+        ensures ok { OnOk result (state_of self.new
+            ≡ fresh_decoder (default_of original_count recovery_count shard_bytes)) }
         ensures err { OnErr result (state_of self.new ≡ state_of self.old) }
-        ensures roomy { HasRoom (room_of self.old) (decoder_rows default_rate original_count recovery_count) shard_bytes
-            → result ≡ start_outcome (decoder_rows default_rate original_count recovery_count) (default_of original_count recovery_count shard_bytes) }
-        ensures own { FitsWithin (state_of self.old).configuration (default_of original_count recovery_count shard_bytes) → result ≢ Err Error.OutOfMemory }
+        ensures roomy { HasRoom (room_of self.old)
+            (decoder_rows default_rate original_count recovery_count) shard_bytes
+            → result ≡ start_outcome (decoder_rows default_rate original_count recovery_count)
+            (default_of original_count recovery_count shard_bytes) }
+        ensures own { FitsWithin (state_of self.old).configuration
+            (default_of original_count recovery_count shard_bytes)
+            → result ≢ Err Error.OutOfMemory }
         ensures engine { engine_of self.new ≡ engine_of self.old }
         ensures grown { Grows (room_of self.old) (room_of self.new) }
     {
@@ -138,6 +160,8 @@ impl<'t> ReedSolomonDecoder<'t> {
     ///
     /// # Examples
     ///
+    /// All originals are added, except for those whose indexes are in `lost`:
+    ///
     /// ```
     /// for (index, original) in originals.iter().enumerate() {
     ///     if lost.contains(&index) {
@@ -147,8 +171,11 @@ impl<'t> ReedSolomonDecoder<'t> {
     /// }
     /// ```
     pub fn add_original_shard(&mut self, index: usize, original_shard: &[u8]) -> Result<(), Error>
-        ensures answer { result ≡ answer_of (with_original (state_of self.old) index original_shard.now) }
-        ensures left { state_of self.new ≡ state_after (state_of self.old) (with_original (state_of self.old) index original_shard.now) }
+        ensures answer { result
+            ≡ answer_of (with_original (state_of self.old) index original_shard.now) }
+        ensures left { state_of self.new
+            ≡ state_after (state_of self.old)
+            (with_original (state_of self.old) index original_shard.now) }
         ensures engine { engine_of self.new ≡ engine_of self.old }
         ensures room { room_of self.new ≡ room_of self.old }
     {
@@ -165,14 +192,19 @@ impl<'t> ReedSolomonDecoder<'t> {
     ///
     /// # Examples
     ///
+    /// All recovery shards that an encoder computed are added:
+    ///
     /// ```
     /// for (index, shard) in recovery.recovery_iter().enumerate() {
     ///     decoder.add_recovery_shard(index, shard)?;
     /// }
     /// ```
     pub fn add_recovery_shard(&mut self, index: usize, recovery_shard: &[u8]) -> Result<(), Error>
-        ensures answer { result ≡ answer_of (with_recovery (state_of self.old) index recovery_shard.now) }
-        ensures left { state_of self.new ≡ state_after (state_of self.old) (with_recovery (state_of self.old) index recovery_shard.now) }
+        ensures answer { result
+            ≡ answer_of (with_recovery (state_of self.old) index recovery_shard.now) }
+        ensures left { state_of self.new
+            ≡ state_after (state_of self.old)
+            (with_recovery (state_of self.old) index recovery_shard.now) }
         ensures engine { engine_of self.new ≡ engine_of self.old }
         ensures room { room_of self.new ≡ room_of self.old }
     {
@@ -193,9 +225,18 @@ impl<'t> ReedSolomonDecoder<'t> {
     ///
     /// # Examples
     ///
+    /// If originals 0 and 2 of 3 originals are lost, the result lends exactly these:
+    ///
     /// ```
     /// let restored = decoder.decode()?;
-    /// restored_copies(alloc, &restored)
+    /// ```
+    ///
+    /// This is true then:
+    ///
+    /// ```
+    /// let first = restored.restored_original(0) == Some(ORIGINAL[0]);
+    /// let last = restored.restored_original(2) == Some(ORIGINAL[2]);
+    /// restored.restored_original_iter().len() == 2 && first && last
     /// ```
     pub fn decode(&mut self) -> Result<DecoderResult<'_>, Error>
         ensures answer { DecodeAnswers (state_of self.old) (answered_originals result) }

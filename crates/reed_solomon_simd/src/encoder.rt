@@ -45,9 +45,14 @@ impl<'t> ReedSolomonEncoder<'t> {
 
     /// Returns whether `original_count` originals with `recovery_count` recovery shards are supported.
     ///
+    /// Both counts must be at least 1, and min(p(k), p(r)) + max(k, r) must be at most 65536. Here k is `original_count`, r is
+    /// `recovery_count`, and p(n) is the least power of two that is not below n. All counts from 1 to 32768 meet this.
+    ///
     /// # Examples
     ///
     /// ```
+    /// // This is true for (32768, 32768), (60000, 4000) and (4096, 61440).
+    /// // It is false for (0, 1), (1, 0), (60000, 5000) and (4096, 61441).
     /// ReedSolomonEncoder::supports(original_count, recovery_count)
     /// ```
     pub fn supports(original_count: usize, recovery_count: usize) -> bool
@@ -61,15 +66,16 @@ impl<'t> ReedSolomonEncoder<'t> {
     ///
     /// # Errors
     ///
-    /// - [`Error::UnsupportedShardCount`] if the counts are not supported.
+    /// - [`Error::UnsupportedShardCount`] if the counts are not [supported](Self::supports).
     /// - [`Error::InvalidShardSize`] if `shard_bytes` is zero or odd.
     /// - [`Error::OutOfMemory`] if the rows cannot be allocated, or if their bytes exceed `usize::MAX`.
     ///
     /// # Examples
     ///
+    /// An encoder for 3 originals and 2 recovery shards of 12 bytes:
+    ///
     /// ```
-    /// let (k, r) = (originals.len(), recovery_count);
-    /// let mut encoder = ReedSolomonEncoder::new(alloc, k, r, shard_bytes, engine)?;
+    /// let mut encoder = ReedSolomonEncoder::new(alloc, 3, 2, 12, engine)?;
     /// ```
     pub fn new(
         alloc: Global,
@@ -78,8 +84,13 @@ impl<'t> ReedSolomonEncoder<'t> {
         shard_bytes: usize,
         engine: DefaultEngine<'t>,
     ) -> Result<ReedSolomonEncoder<'t>, Error>
-        ensures answer { UpToMemory (start_outcome (encoder_rows default_rate original_count recovery_count) (default_of original_count recovery_count shard_bytes)) (answer_of result) }
-        ensures made { IfOk result (λ x. (state_of x ≡ fresh_encoder (default_of original_count recovery_count shard_bytes)) × (engine_of x ≡ engine.entry)) }
+        ensures answer { UpToMemory
+            (start_outcome (encoder_rows default_rate original_count recovery_count)
+            (default_of original_count recovery_count shard_bytes))
+            (answer_of result) }
+        ensures made { IfOk result (λ x.
+            (state_of x ≡ fresh_encoder (default_of original_count recovery_count shard_bytes))
+            × (engine_of x ≡ engine.entry)) }
     {
         let encoder = DefaultRateEncoder::new(
             alloc,
@@ -105,7 +116,11 @@ impl<'t> ReedSolomonEncoder<'t> {
     ///
     /// # Examples
     ///
+    /// An encoder that was made for these counts and this size is reset to other ones and back. The second `reset` returns
+    /// `Ok(())`, whatever the first one returned:
+    ///
     /// ```
+    /// let _ = encoder.reset(between.0, between.1, between.2);
     /// encoder.reset(original_count, recovery_count, shard_bytes)
     /// ```
     pub fn reset(
@@ -114,12 +129,21 @@ impl<'t> ReedSolomonEncoder<'t> {
         recovery_count: usize,
         shard_bytes: usize,
     ) -> Result<(), Error>
-        ensures answer { UpToMemory (start_outcome (encoder_rows default_rate original_count recovery_count) (default_of original_count recovery_count shard_bytes)) result }
-        ensures ok { OnOk result (state_of self.new ≡ fresh_encoder (default_of original_count recovery_count shard_bytes)) }
+        ensures answer { UpToMemory
+            (start_outcome (encoder_rows default_rate original_count recovery_count)
+            (default_of original_count recovery_count shard_bytes))
+            result }
+        ensures ok { OnOk result (state_of self.new
+            ≡ fresh_encoder (default_of original_count recovery_count shard_bytes)) }
         ensures err { OnErr result (state_of self.new ≡ state_of self.old) }
-        ensures roomy { chunk_count (encoder_rows default_rate original_count recovery_count) shard_bytes ≤ room_of self.old
-            → result ≡ start_outcome (encoder_rows default_rate original_count recovery_count) (default_of original_count recovery_count shard_bytes) }
-        ensures own { FitsWithin (state_of self.old).configuration (default_of original_count recovery_count shard_bytes) → result ≢ Err Error.OutOfMemory }
+        ensures roomy { chunk_count
+            (encoder_rows default_rate original_count recovery_count) shard_bytes
+            ≤ room_of self.old
+            → result ≡ start_outcome (encoder_rows default_rate original_count recovery_count)
+            (default_of original_count recovery_count shard_bytes) }
+        ensures own { FitsWithin (state_of self.old).configuration
+            (default_of original_count recovery_count shard_bytes)
+            → result ≢ Err Error.OutOfMemory }
         ensures engine { engine_of self.new ≡ engine_of self.old }
         ensures grown { room_of self.old ≤ room_of self.new }
     {
@@ -136,14 +160,18 @@ impl<'t> ReedSolomonEncoder<'t> {
     ///
     /// # Examples
     ///
+    /// Three originals of 12 bytes:
+    ///
     /// ```
-    /// for original in originals {
-    ///     encoder.add_original_shard(original)?;
+    /// // ORIGINAL is [b"Three shards", b" of one size", b" are coded. "].
+    /// for shard in ORIGINAL {
+    ///     encoder.add_original_shard(shard)?;
     /// }
     /// ```
     pub fn add_original_shard(&mut self, original_shard: &[u8]) -> Result<(), Error>
         ensures answer { result ≡ answer_of (with_shard (state_of self.old) original_shard.now) }
-        ensures left { state_of self.new ≡ state_after (state_of self.old) (with_shard (state_of self.old) original_shard.now) }
+        ensures left { state_of self.new
+            ≡ state_after (state_of self.old) (with_shard (state_of self.old) original_shard.now) }
         ensures engine { engine_of self.new ≡ engine_of self.old }
         ensures room { room_of self.new ≡ room_of self.old }
     {
@@ -160,6 +188,8 @@ impl<'t> ReedSolomonEncoder<'t> {
     /// [`Error::TooFewOriginalShards`] if originals are missing. The encoder then keeps what was added.
     ///
     /// # Examples
+    ///
+    /// The recovery shard with index 0 is added to a decoder:
     ///
     /// ```
     /// match encoder.encode()?.recovery(0) {

@@ -25,8 +25,10 @@ pub struct LentOriginals<'a> {
     pub ghost no_more: { vec_len shards ≤ counts.original_count },
     pub ghost room: { counts.original_count ≤ vec_capacity shards },
     pub ghost sized: { All (IsShard shard_bytes) (shards_of shards.items) },
-    pub ghost set_up: { start_outcome (encoder_rows default_rate counts.original_count counts.recovery_count)
-        (default_of counts.original_count counts.recovery_count shard_bytes) ≡ Ok tt },
+    pub ghost set_up: { start_outcome
+        (encoder_rows default_rate counts.original_count counts.recovery_count)
+        (default_of counts.original_count counts.recovery_count shard_bytes)
+        ≡ Ok tt },
 }
 
 impl<'a> LentOriginals<'a> {
@@ -44,16 +46,19 @@ impl<'a> LentOriginals<'a> {
     ghost use Rattle.rs_rate.specs.Giving.{Reaches, IsEncoding};
     ghost use Rattle.reed_solomon_simd.specs.Gathered.{gathered};
 
-    // No originals, for these counts and this size.
+    // Makes a list without originals, for these counts and this size.
     fn new(
         alloc: Global,
         counts: DefaultRateCounts,
         shard_bytes: usize,
     ) -> Result<LentOriginals<'a>, Error>
         ensures answer { let c = default_of counts.original_count counts.recovery_count shard_bytes in
-            UpToMemory (start_outcome (encoder_rows default_rate c.original_count c.recovery_count) c) (answer_of result) }
+            UpToMemory
+            (start_outcome (encoder_rows default_rate c.original_count c.recovery_count) c)
+            (answer_of result) }
         ensures counts { IfOk result (λ x. x.counts ≡ counts) }
-        ensures made { IfOk result (λ x. gathered x ≡ fresh_encoder (default_of counts.original_count counts.recovery_count shard_bytes)) }
+        ensures made { IfOk result (λ x. gathered x
+            ≡ fresh_encoder (default_of counts.original_count counts.recovery_count shard_bytes)) }
     {
         counts.check_encoder_rows(shard_bytes)?;
         Ok(LentOriginals {
@@ -78,8 +83,10 @@ impl<'a> LentOriginals<'a> {
     ) -> Result<LentOriginals<'a>, Error>
         requires can { I.can_next original }
         requires ends { IsFinite (I.remaining original) }
-        ensures gathered { (calls : Calls I.next_gives original) × ((items : List Shard) → BeginsWith items calls
-            → IsEncoding counts.original_count counts.recovery_count items (result_map_both gathered (λ e. e) result)) }
+        ensures gathered { (calls : Calls I.next_gives original)
+            × ((items : List Shard) → BeginsWith items calls
+            → IsEncoding counts.original_count counts.recovery_count items
+            (result_map_both gathered (λ e. e) result)) }
         ensures counts { IfOk result (λ x. x.counts ≡ counts) }
     {
         let Some(first) = original.next() else {
@@ -97,7 +104,8 @@ impl<'a> LentOriginals<'a> {
     // Adds the next original.
     fn add(&mut self, shard: &'a [u8]) -> Result<(), Error>
         ensures answer { result ≡ answer_of (with_shard (gathered self.old) shard.now) }
-        ensures left { gathered self.new ≡ state_after (gathered self.old) (with_shard (gathered self.old) shard.now) }
+        ensures left { gathered self.new
+            ≡ state_after (gathered self.old) (with_shard (gathered self.old) shard.now) }
         ensures counts { self.new.counts ≡ self.old.counts }
     {
         let original_count = self.counts.original_count;
@@ -115,11 +123,12 @@ impl<'a> LentOriginals<'a> {
         Ok(())
     }
 
-    // Adds originals in order, up to the first that is refused.
+    // Adds originals in order, and stops at the first one that cannot be added.
     fn add_all<I: Iterator<Item = &'a [u8]> + Drop>(&mut self, originals: I) -> Result<(), Error>
         requires can { I.can_next originals }
         requires ends { IsFinite (I.remaining originals) }
-        ensures reaches { (calls : Calls I.next_gives originals) × ((items : List Shard) → BeginsWith items calls
+        ensures reaches { (calls : Calls I.next_gives originals)
+            × ((items : List Shard) → BeginsWith items calls
             → Reaches (with_shards (gathered self.old) items) result (λ s. gathered self.new ≡ s)) }
         ensures counts { self.new.counts ≡ self.old.counts }
     {
@@ -160,8 +169,10 @@ impl<'a> LentOriginals<'a> {
     ) -> Result<(), Error>
         requires all { answer_of (message_of (gathered self.now)) ≡ Ok tt }
         requires number { length (R.held rooms.old) ≡ self.now.counts.recovery_count }
-        requires fit { All (λ room. length room ≡ room_length R.grows 0 self.now.shard_bytes) (R.held rooms.old) }
-        ensures coded { OnOk result (AreRecovery (gathered self.now).configuration (gathered self.now).given (R.held rooms.new)) }
+        requires fit { All (λ room. length room ≡ room_length R.grows 0 self.now.shard_bytes)
+            (R.held rooms.old) }
+        ensures coded { OnOk result (AreRecovery (gathered self.now).configuration
+            (gathered self.now).given (R.held rooms.new)) }
         ensures refused { OnErr result (result ≡ Err Error.OutOfMemory) }
         ensures untouched { R.grows ≡ false → OnErr result (R.held rooms.new ≡ R.held rooms.old) }
         ensures places { R.places rooms.new ≡ R.places rooms.old }
@@ -185,7 +196,9 @@ impl<'a> LentOriginals<'a> {
     pub fn encode_vectors<E: Engine>(&self, alloc: Global, engine: E) -> Result<Vec<Vec<u8>>, Error>
         requires all { answer_of (message_of (gathered self.now)) ≡ Ok tt }
         ensures { MatchResult (collected_shards result)
-            (λ recovery. AreRecovery (gathered self.now).configuration (gathered self.now).given recovery) (λ e. e ≡ Error.OutOfMemory) }
+            (λ recovery. AreRecovery (gathered self.now).configuration (gathered self.now).given
+            recovery)
+            (λ e. e ≡ Error.OutOfMemory) }
     {
         let mut vectors = empty_vectors(alloc, self.counts.recovery_count, self.shard_bytes)?;
         self.encode(alloc, engine, &mut vectors)?;
@@ -193,7 +206,7 @@ impl<'a> LentOriginals<'a> {
     }
 }
 
-// Empty vectors with memory for so many bytes each.
+// Returns `count` empty vectors, each with memory for `bytes` bytes.
 pub(crate) fn empty_vectors(
     alloc: Global,
     count: usize,

@@ -32,7 +32,13 @@ pub use decoder::ReedSolomonDecoder;
 pub use encoder::ReedSolomonEncoder;
 pub use into::{decode_into, encode_into};
 pub use one_call::{decode, encode};
-/// The error of every call.
+/// The error of [`encode_into`] and [`decode_into`]: an [`Error`], or rooms that do not fit.
+pub use room_error::RoomError;
+/// The error of all calls that allocate, encode or decode, except for [`encode_into`] and [`decode_into`].
+///
+/// # Examples
+///
+/// An error is printed as a text. Here a program writes it to its error output:
 ///
 /// ```
 /// match format!(in alloc; "{refusal}\n") {
@@ -40,10 +46,13 @@ pub use one_call::{decode, encode};
 ///     Err(_) => write_text(err, "out of memory\n"),
 /// }
 /// ```
-pub use room_error::RoomError;
 pub use rs_field::error::Error;
 pub use slices::{decode_slice, encode_slice};
 /// The results of a round, and iterators over them. They lend shards and copy nothing.
+///
+/// # Examples
+///
+/// Shards that are needed after the round must be copied:
 ///
 /// ```
 /// for (index, shard) in lent.restored_original_iter() {
@@ -54,35 +63,49 @@ pub use rs_rate::{DecoderResult, EncoderResult, Recovery, RestoredOriginal};
 
 /// The field, its tables, and the engines, which transform rows of symbols.
 ///
+/// # Examples
+///
 /// ```
 /// let tables = Tables::new(alloc)?;
 /// let engine = DefaultEngine::new(&tables, EngineKind::Ssse3);
 /// ```
 pub mod engine {
     pub use rs_engines::engine_default::{DefaultEngine, EngineKind};
-    /// The error of a word that names no engine.
+    /// The error of [`EngineKind::from_str`](EngineKind) for a word that is not `naive`, `nosimd`, `avx2` or `ssse3`.
+    ///
+    /// # Examples
     ///
     /// ```
     /// let Ok(engine) = EngineKind::from_str(engine.as_str()) else {
+    ///     return Err(Fault::Usage);
+    /// };
     /// ```
     pub use rs_engines::engine_default::UnknownEngine;
     /// The engine without vectors: it looks up products by nibbles.
     ///
+    /// # Examples
+    ///
     /// ```
-    /// check_engine(&rt, &NoSimd::new(&tables), log);
+    /// NoSimd::new(&tables)
     /// ```
     pub use rs_engines::engine_nosimd::NoSimd;
     /// The engines with vectors of 32 bytes and of 16 bytes.
     ///
+    /// # Examples
+    ///
     /// ```
-    /// check_engine(&rt, &Ssse3::new(&tables), log);
-    /// check_engine(&rt, &Avx2::new(&tables), log);
+    /// let engine = Ssse3::new(&tables);
+    /// let mut steps = Steps::new();
+    /// let mut encoder = DefaultRateEncoder::new(alloc, 3, 2, 12, engine, None)?;
     /// ```
     pub use rs_engines::engine_shuffle::{Avx2, Ssse3};
     /// The constants of the field.
     ///
+    /// # Examples
+    ///
     /// ```
     /// let first = CANTOR_BASIS[0];
+    /// // This is (16, 65536, 65535, 0x1002D, 1).
     /// (GF_BITS, GF_ORDER, GF_MODULUS, GF_POLYNOMIAL, first)
     /// ```
     pub use rs_field::engine::{
@@ -90,33 +113,65 @@ pub mod engine {
     };
     /// The trait of engines: what an engine must do, and what encoders and decoders may rely on.
     ///
+    /// # Examples
+    ///
+    /// This computes the locator of point 0 at the points 0 to 3. At point 0 it is 0, and at each other point x it is the
+    /// logarithm of x. The logarithm of 1 is 0 modulo 65535:
+    ///
     /// ```
-    /// engine.locate(steps, erasures);
+    /// let mut first = [1, 0, 0, 0];
+    /// engine.locate(&mut steps, &mut first);
+    /// assert_eq!(rt; [first[0] % 65535, first[1] % 65535], [0, 0]);
+    /// assert_eq!(rt; [first[2], first[3]], [log[2], log[3]]);
     /// ```
     pub use rs_field::engine::Engine;
     /// The plain engine: it computes each product with logarithms.
     ///
+    /// # Examples
+    ///
     /// ```
-    /// check_engine(&rt, &Naive::new(&tables), log);
+    /// Naive::new(&tables)
     /// ```
     pub use rs_field::engine::Naive;
     /// The rows that an engine works on, and the count of its steps.
     ///
+    /// # Examples
+    ///
+    /// Five chunks hold four rows of one chunk each, and one more chunk. Rows 1 and 2 are set to zero:
+    ///
     /// ```
-    /// let mut rows = ShardsRefMut::new(4, 1, &mut chunks);
-    /// xor_within(&mut Steps::new(), &mut rows, 0, 2, 2);
+    /// // CHUNKS is [[1; 64], [2; 64], [3; 64], [4; 64], [5; 64]].
+    /// let mut chunks = CHUNKS;
+    /// ShardsRefMut::new(4, 1, &mut chunks).zero(1..3);
+    /// assert_eq!(rt; chunks, [[1; 64], [0; 64], [0; 64], [4; 64], [5; 64]]);
     /// ```
     pub use rs_field::engine::{ShardsRefMut, Steps};
 
     /// The tables, which are made once and lent to engines.
     ///
+    /// # Examples
+    ///
     /// ```
     /// let tables = Tables::new(alloc)?;
+    /// let engine = DefaultEngine::new(&tables, EngineKind::Ssse3);
     /// ```
     pub mod tables {
         /// All tables; the powers and logarithms, the product of two words with them, and the factors of butterflies.
         ///
+        /// # Examples
+        ///
+        /// The power 0 of the generator is 1, and so is its power 65535. The logarithm of 1 is 0, and the entry for 0 is 65535:
+        ///
         /// ```
+        /// let t = get_exp_log(tables);
+        /// assert_eq!(rt; [t.exp[0], t.exp[65535]], [1, 1]);
+        /// assert_eq!(rt; [t.log[0], t.log[1]], [65535, 0]);
+        /// ```
+        ///
+        /// `mul` takes a word and the logarithm of another word, and returns their product:
+        ///
+        /// ```
+        /// // If `x` is 2 and `log_m` is the logarithm of 4, this is 11.
         /// mul(x, log_m, exp, log)
         /// ```
         pub use rs_field::engine::tables::{
@@ -124,14 +179,26 @@ pub mod engine {
         };
         /// The transforms of the logarithms, for locators.
         ///
+        /// # Examples
+        ///
         /// ```
-        /// (get_exp_log(tables), get_skew(tables), get_log_walsh(tables))
+        /// eval_poly(steps, erasures, GF_ORDER, get_log_walsh(tables));
         /// ```
         pub use rs_field::engine::tables::{LogWalsh, get_log_walsh, get_log_walsh_below};
         /// The products by nibbles, as words and as bytes.
         ///
+        /// # Examples
+        ///
+        /// The products of 0 to 7 with 2:
+        ///
         /// ```
-        /// (get_mul16(tables), get_mul128(tables))
+        /// let log_2 = get_exp_log(tables).log[2] as usize;
+        /// let mul16 = get_mul16(tables);
+        /// for (i, product) in [0, 2, 3, 1, 11, 9, 8, 10].into_iter().enumerate() {
+        ///     assert_eq!(rt; mul16[log_2][0][i], product);
+        /// }
+        /// let entry = &get_mul128(tables)[log_2];
+        /// assert_eq!(rt; entry.lo[0] % (1 << 64), 0x0A08_090B_0103_0200);
         /// ```
         pub use rs_field::engine::tables::{Mul16, Mul128, Multiply128lutT, get_mul16, get_mul128};
     }
@@ -140,28 +207,49 @@ pub mod engine {
     pub mod utils {
         /// Locators of marked points.
         ///
+        /// # Examples
+        ///
+        /// `eval_poly` computes the locator of points below 65536, at all 65536 points:
+        ///
         /// ```
         /// eval_poly(steps, erasures, GF_ORDER, get_log_walsh(tables));
         /// ```
+        ///
+        /// `locate` computes the locator of points below a power of two, here 64, at these points:
         ///
         /// ```
         /// locate(steps, erasures, get_log_walsh_below(tables, 64));
         /// ```
         pub use rs_field::engine::utils::{eval_poly, locate};
-        /// Sums of chunks and of ranges of rows.
+        /// Sums of chunks and of ranges of rows. The sum of two bytes is their XOR.
+        ///
+        /// # Examples
+        ///
+        /// `xor` adds each chunk of the second list to the chunk with the same index in the first list:
         ///
         /// ```
+        /// // If `first` is [[1; 64]] and `second` is [[3; 64]], then `first` becomes [[2; 64]].
         /// xor(first, second);
         /// ```
         ///
+        /// `xor_within` adds rows to other rows of the same list. Here rows 2 and 3 are added to rows 0 and 1:
+        ///
         /// ```
-        /// xor_within(steps, rows, 0, 1, 1);
+        /// // CHUNKS is [[1; 64], [2; 64], [3; 64], [4; 64], [5; 64]].
+        /// let mut chunks = CHUNKS;
+        /// let mut rows = ShardsRefMut::new(4, 1, &mut chunks);
+        /// xor_within(&mut Steps::new(), &mut rows, 0, 2, 2);
+        /// assert_eq!(rt; chunks, [[2; 64], [6; 64], [3; 64], [4; 64], [5; 64]]);
         /// ```
         pub use rs_field::engine::utils::{xor, xor_within};
     }
 }
 
 /// The rates of the code, and their encoders and decoders.
+///
+/// # Examples
+///
+/// An encoder of the default rate for 3 originals and 2 recovery shards of 12 bytes:
 ///
 /// ```
 /// let engine = Ssse3::new(&tables);
@@ -171,8 +259,15 @@ pub mod engine {
 pub mod rate {
     /// The encoders and decoders of each rate, and the traits that they share.
     ///
+    /// # Examples
+    ///
     /// ```
-    /// let result = encoder.encode(steps)?;
+    /// let mut decoder = DefaultRateDecoder::new(alloc, 3, 2, 12, engine, None)?;
+    /// decoder.add_original_shard(1, ORIGINAL[1])?;
+    /// for (index, shard) in recovery.recovery_iter().enumerate() {
+    ///     decoder.add_recovery_shard(index, shard)?;
+    /// }
+    /// let restored = decoder.decode(&mut steps)?;
     /// ```
     pub use rs_rate::rate::{
         DefaultRateDecoder, DefaultRateEncoder, HighRateDecoder, HighRateEncoder, LowRateDecoder,
@@ -180,17 +275,22 @@ pub mod rate {
     };
     /// Two counts that a rate supports, checked once.
     ///
+    /// # Examples
+    ///
+    /// The counts are checked for both objects at once. After that, `with_counts` checks only the size:
+    ///
     /// ```
     /// let counts = DefaultRateCounts::new(original_count, recovery_count)?;
+    /// let encoder = DefaultRateEncoder::with_counts(alloc, counts, shard_bytes, engine, None)?;
+    /// let decoder = DefaultRateDecoder::with_counts(alloc, counts, shard_bytes, other, None)?;
     /// ```
     pub use rs_rate::rate::{DefaultRateCounts, HighRateCounts, LowRateCounts};
     /// Memory that passes from one object to the next.
     ///
-    /// ```
-    /// (EncoderWork::new(), DecoderWork::new())
-    /// ```
-    pub use rs_rate::rate::{DecoderWork, EncoderWork};
-    /// The rates, and the trait that makes their encoders and decoders.
+    /// # Examples
+    ///
+    /// The memory of a decoder is passed to another decoder of the same rate, for the same counts and the same size. This never
+    /// fails:
     ///
     /// ```
     /// let (engine, work) = decoder.into_parts();
@@ -202,6 +302,18 @@ pub mod rate {
     ///     engine,
     ///     Some(work),
     /// )
+    /// ```
+    pub use rs_rate::rate::{DecoderWork, EncoderWork};
+    /// The rates, and the trait that makes their encoders and decoders.
+    ///
+    /// # Examples
+    ///
+    /// The rate is a type parameter `R`. The encoder gets no originals, so `encode` fails with
+    /// [`Error::TooFewOriginalShards`](crate::Error::TooFewOriginalShards):
+    ///
+    /// ```
+    /// let mut encoder = R::encoder(alloc, 2, 3, 2, engine, None)?;
+    /// let _ = encoder.encode(steps)?;
     /// ```
     pub use rs_rate::rate::{DefaultRate, HighRate, LowRate, Rate};
 }

@@ -17,17 +17,17 @@ use std::collections::BTreeMap;
 
 /// Encodes the originals and returns the recovery shards, in order of their index.
 ///
-/// `original` gives the originals in order; the first one has index 0. All have the size of the first, an even number of
-/// bytes above zero. After an error no further original is asked for, and after the end of the iterator none at all.
+/// `original` gives the originals in order; the first one has index 0. All have the size of the first original, an even number
+/// of bytes above zero. After an error, and after the end of the iterator, `encode` does not call `next` again.
 ///
 /// # Errors
 ///
-/// - [`Error::UnsupportedShardCount`] if the counts are not supported.
-/// - [`Error::TooFewOriginalShards`] with 0 received shards if no original comes.
+/// - [`Error::UnsupportedShardCount`] if the counts are not [supported](crate::ReedSolomonEncoder::supports).
+/// - [`Error::TooFewOriginalShards`] with 0 received shards if `original` gives no shard.
 /// - [`Error::InvalidShardSize`] if the size of the first original is zero or odd.
 /// - [`Error::OutOfMemory`] if the rows cannot be allocated.
 /// - For each original in order: [`Error::TooManyOriginalShards`], then [`Error::DifferentShardSize`].
-/// - [`Error::TooFewOriginalShards`] if fewer than `original_count` originals came.
+/// - [`Error::TooFewOriginalShards`] if there are fewer than `original_count` originals.
 /// - [`Error::OutOfMemory`] if the results cannot be allocated.
 ///
 /// # Examples
@@ -50,7 +50,8 @@ pub fn encode<'a, I: Iterator<Item = &'a [u8]> + Drop>(
     requires can { I.can_next original }
     requires ends { IsFinite (I.remaining original) }
     ensures counts { IfErr (counts_outcome original_count recovery_count) (λ e. result ≡ Err e) }
-    ensures calls { (calls : Calls I.next_gives original) × ((items : List Shard) → BeginsWith items calls
+    ensures calls { (calls : Calls I.next_gives original)
+        × ((items : List Shard) → BeginsWith items calls
         → OneEncodeAnswers original_count recovery_count items (collected_shards result)) }
     ensures answer { (items : List Shard) → Lends I.next_gives original items
         → OneEncodeAnswers original_count recovery_count items (collected_shards result) }
@@ -67,28 +68,28 @@ pub fn encode<'a, I: Iterator<Item = &'a [u8]> + Drop>(
 ///
 /// `original` and `recovery` give the received shards with their indexes. Originals are numbered from 0 in the order in
 /// which they were encoded, and recovery shards are numbered from 0 on their own. All shards have the size of the first
-/// recovery shard. After an error no further shard is asked for.
+/// recovery shard. After an error, `decode` calls neither iterator again.
 ///
-/// If no recovery shard comes, nothing can be restored. Then only the indexes of the originals are looked at, and no size.
+/// If `recovery` gives no shard, nothing can be restored. Then only the indexes of the originals are looked at, and no size.
 ///
 /// # Errors
 ///
-/// If a recovery shard comes:
+/// If `recovery` gives a shard:
 ///
-/// - [`Error::UnsupportedShardCount`] if the counts are not supported.
+/// - [`Error::UnsupportedShardCount`] if the counts are not [supported](crate::ReedSolomonDecoder::supports).
 /// - [`Error::InvalidShardSize`] if the size of the first recovery shard is zero or odd.
 /// - [`Error::OutOfMemory`] if the rows cannot be allocated.
 /// - For each original in order: [`Error::InvalidOriginalShardIndex`], [`Error::DuplicateOriginalShardIndex`],
 ///   [`Error::DifferentShardSize`].
 /// - For each recovery shard in order: [`Error::InvalidRecoveryShardIndex`], [`Error::DuplicateRecoveryShardIndex`],
 ///   [`Error::DifferentShardSize`].
-/// - [`Error::NotEnoughShards`] if fewer than `original_count` shards came.
-/// - [`Error::InconsistentShards`] if more came and no message matches them all.
+/// - [`Error::NotEnoughShards`] if there are fewer than `original_count` shards.
+/// - [`Error::InconsistentShards`] if there are more than `original_count` shards and no message matches them all.
 /// - [`Error::OutOfMemory`] if the results cannot be allocated.
 ///
-/// If none comes:
+/// If `recovery` gives no shard:
 ///
-/// - [`Error::UnsupportedShardCount`] if the counts are not supported.
+/// - [`Error::UnsupportedShardCount`] if the counts are not [supported](crate::ReedSolomonDecoder::supports).
 /// - [`Error::OutOfMemory`] if the marks of the indexes cannot be allocated.
 /// - For each original in order: [`Error::InvalidOriginalShardIndex`], [`Error::DuplicateOriginalShardIndex`].
 /// - [`Error::NotEnoughShards`] if originals are missing.
@@ -119,10 +120,15 @@ where
     requires can_recovery { R.can_next recovery }
     requires recovery_ends { IsFinite (R.remaining recovery) }
     ensures counts { IfErr (counts_outcome original_count recovery_count) (λ e. result ≡ Err e) }
-    ensures calls { (calls : Calls O.next_gives original) × (further : Calls R.next_gives recovery) × ((originals recoveries : Items)
-        → BeginsWithItems originals calls → BeginsWithItems recoveries further → OneDecodeAnswers original_count recovery_count originals recoveries (collected_map result)) }
+    ensures calls { (calls : Calls O.next_gives original) × (further : Calls R.next_gives recovery)
+        × ((originals recoveries : Items)
+        → BeginsWithItems originals calls → BeginsWithItems recoveries further
+        → OneDecodeAnswers original_count recovery_count originals recoveries
+        (collected_map result)) }
     ensures answer { (originals recoveries : Items) → LendsItems O.next_gives original originals
-        → LendsItems R.next_gives recovery recoveries → OneDecodeAnswers original_count recovery_count originals recoveries (collected_map result) }
+        → LendsItems R.next_gives recovery recoveries
+        → OneDecodeAnswers original_count recovery_count originals recoveries
+        (collected_map result) }
 {
     let counts = DefaultRateCounts::new(original_count, recovery_count)?;
     let Some(received) = received_shards(alloc, counts, original, recovery)? else {

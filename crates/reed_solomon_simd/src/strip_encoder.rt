@@ -39,11 +39,15 @@ pub fn encode_strips<E: Engine, R: Rooms>(
 ) -> Result<(), Error>
     requires originals { length originals.now ≡ counts.original_count }
     requires number { length (R.held rooms.old) ≡ counts.recovery_count }
-    requires valid { validation_outcome (default_of counts.original_count counts.recovery_count shard_bytes) ≡ Ok tt }
+    requires valid { validation_outcome
+        (default_of counts.original_count counts.recovery_count shard_bytes)
+        ≡ Ok tt }
     requires sized { All (λ shard. length shard.now ≡ shard_bytes) originals.now }
-    requires fit { All (λ room. length room ≡ room_length R.grows 0 shard_bytes) (R.held rooms.old) }
+    requires fit { All (λ room. length room ≡ room_length R.grows 0 shard_bytes)
+        (R.held rooms.old) }
     ensures coded { OnOk result
-        (AreRecovery (default_of counts.original_count counts.recovery_count shard_bytes) (shards_of originals.now) (R.held rooms.new)) }
+        (AreRecovery (default_of counts.original_count counts.recovery_count shard_bytes)
+        (shards_of originals.now) (R.held rooms.new)) }
     ensures refused { OnErr result (result ≡ Err Error.OutOfMemory) }
     ensures untouched { R.grows ≡ false → OnErr result (R.held rooms.new ≡ R.held rooms.old) }
     ensures places { R.places rooms.new ≡ R.places rooms.old }
@@ -73,14 +77,18 @@ fn encode_strip<E: Engine, R: Rooms>(
     rooms: &mut R,
 ) -> Result<(), Error>
     requires fresh { encoder_state default_rate encoder.old.rows
-        ≡ fresh_encoder (default_of (length originals.now) (length (R.held rooms.old)) (end - start)) }
+        ≡ fresh_encoder (default_of (length originals.now) (length (R.held rooms.old))
+        (end - start)) }
     requires order { start ≤ end }
     requires originals { All (λ shard. end ≤ length shard.now) originals.now }
-    requires fit { (size : ℕ) × (end ≤ size) × All (λ room. length room ≡ room_length R.grows start size) (R.held rooms.old) }
+    requires fit { (size : ℕ) × (end ≤ size)
+        × All (λ room. length room ≡ room_length R.grows start size) (R.held rooms.old) }
     ensures refused { OnErr result ((R.grows ≡ true) × (result ≡ Err Error.OutOfMemory)) }
-    ensures fresh { encoder_state default_rate encoder.new.rows ≡ encoder_state default_rate encoder.old.rows }
+    ensures fresh { encoder_state default_rate encoder.new.rows
+        ≡ encoder_state default_rate encoder.old.rows }
     ensures coded { OnOk result ((made : List Shard)
-        × AreRecovery (default_of (length originals.now) (length (R.held rooms.old)) (end - start)) (pieces start end (shards_of originals.now)) made
+        × AreRecovery (default_of (length originals.now) (length (R.held rooms.old)) (end - start))
+        (pieces start end (shards_of originals.now)) made
         × ArePut start end made (R.held rooms.old) (R.held rooms.new)) }
     ensures places { R.places rooms.new ≡ R.places rooms.old }
     ensures loan { R.loan rooms.new ≡ R.loan rooms.old }
@@ -99,7 +107,9 @@ fn add_pieces<E: Engine>(
 ) -> Result<(), Error>
     requires order { start ≤ end }
     requires inside { All (λ shard. end ≤ length shard.now) originals.now }
-    ensures { Reaches (with_shards (encoder_state default_rate encoder.old.rows) (pieces start end (shards_of originals.now))) result
+    ensures { Reaches (with_shards (encoder_state default_rate encoder.old.rows)
+        (pieces start end (shards_of originals.now)))
+        result
         (λ s. encoder_state default_rate encoder.new.rows ≡ s) }
 {
     for shard in originals {
@@ -118,8 +128,10 @@ fn put_pieces<R: Rooms>(
     requires order { start ≤ end }
     requires number { length (recovery_shards lent.now) ≡ length (R.held rooms.old) }
     requires sized { All (λ shard. length shard ≡ end - start) (recovery_shards lent.now) }
-    requires fit { (size : ℕ) × (end ≤ size) × All (λ room. length room ≡ room_length R.grows start size) (R.held rooms.old) }
-    ensures put { OnOk result (ArePut start end (recovery_shards lent.now) (R.held rooms.old) (R.held rooms.new)) }
+    requires fit { (size : ℕ) × (end ≤ size)
+        × All (λ room. length room ≡ room_length R.grows start size) (R.held rooms.old) }
+    ensures put { OnOk result
+        (ArePut start end (recovery_shards lent.now) (R.held rooms.old) (R.held rooms.new)) }
     ensures refused { OnErr result ((R.grows ≡ true) × (result ≡ Err Error.OutOfMemory)) }
     ensures places { R.places rooms.new ≡ R.places rooms.old }
     ensures loan { R.loan rooms.new ≡ R.loan rooms.old }

@@ -1,4 +1,4 @@
--- What is printed, and what is told in its place.
+-- The lines that are printed, and the messages that are printed instead of lines.
 use Rattle.std.proofs.Common.{◌≡◌, ℕ, Bool, cond, List, [], ◌∷◌, map, Some, Result, Ok, Err, inl, inr, refl, sym, ◌∙◌, ap, ap₂, subst, arith}
 use Rattle.std.specs.Prelude.{nat_eq, MatchResult}
 use Rattle.std.specs.BTreeMap.{BTreeMap, IsOrdered}
@@ -50,7 +50,7 @@ pub restores-lines : {Y Z : Type 0} (k r : ℕ) (given : GivenItems) (restored :
 restores-lines k r given restored (Ok texts) answered lines = (restored, answered, lines)
 restores-lines k r given restored (Err e) answered lacking = inr lacking
 
--- with status 1 what is told of an answer is a refusal of the words
+-- if the status is 1, the reported fault is an error that the words lead to
 pub refusal-told : (words : List (List ℕ)) (fault told : Fault) → status_of fault ≡ 1 → HasFault words fault → IsReportedAs fault told
     → (e : Error) × Refuses words e × (told ≡ Refused e)
 refusal-told words Usage told one bad same = absurd (let two : 2 ≡ 1 = one in omega arith)

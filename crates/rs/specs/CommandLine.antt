@@ -26,7 +26,7 @@ indexed_shard_of text =
     then option_zip (number_of (before_first is_equals_sign text)) (bytes_of_hex (after_first is_equals_sign text))
     else None
 
--- a shard with its index, of the originals or of the recovery shards
+-- an original or a recovery shard, with its index
 pub data Item : Type 0 where
   OriginalItem : ℕ × Shard → Item
   RecoveryItem : ℕ × Shard → Item
@@ -44,7 +44,7 @@ pub record GivenItems : Type 0 where
   pub originals : Items
   pub recovery : Items
 
--- given shards with another one before them
+-- given shards after one more shard was put before them
 abbrev pub with_item : Item → GivenItems → GivenItems
 with_item (OriginalItem item) given = record { originals = item ∷ given.originals; recovery = given.recovery }
 with_item (RecoveryItem item) given = record { originals = given.originals; recovery = item ∷ given.recovery }
@@ -54,26 +54,26 @@ abbrev pub items_of : List (List ℕ) → Option GivenItems
 items_of [] = Some (record { originals = []; recovery = [] })
 items_of (word ∷ words) = option_map (λ p. with_item p.0 p.1) (option_zip (item_of word) (items_of words))
 
--- what is to be done: shards are coded, or restored from others
+-- the two kinds of commands: shards are encoded, or shards are restored from other shards
 pub data Task : Type 0 where
   Coded : List Shard → Task
   Restored : GivenItems → Task
 
--- a task, by an engine, at the counts of originals and of recovery shards
+-- a request: an engine, the counts of originals and of recovery shards, and a task
 pub record Request : Type 0 where
   pub engine : EngineKind
   pub original_count : ℕ
   pub recovery_count : ℕ
   pub task : Task
 
--- what a command is to do with the words behind the counts
+-- what a command does, from its name and the words after the counts
 abbrev pub task_of : List ℕ → List (List ℕ) → Option Task
 task_of command words =
     if bytes_eq command (codes "encode") then option_map Coded (shards_of words)
     else if bytes_eq command (codes "decode") then option_map Restored (items_of words)
     else None
 
--- what words ask for; None where they are no command line
+-- the request of words, or None if they are no command line
 abbrev pub request_of : List (List ℕ) → Option Request
 request_of (command ∷ engine ∷ original ∷ recovery ∷ words) =
     option_map (λ p. record { engine = p.0; original_count = p.1.0.0; recovery_count = p.1.0.1; task = p.1.1 })

@@ -9,7 +9,7 @@ digit_value c =
     else if nat_le 97 c && nat_le c 102 then Some (c - 97 + 10)
     else None
 
--- bytes with the byte of two digits before them, where all are there
+-- bytes after the byte of two digits was put before them, or None if one of the three is None
 abbrev pub byte_before : Option ℕ → Option ℕ → Option (List ℕ) → Option (List ℕ)
 byte_before (Some high) (Some low) (Some bytes) = Some ((high * 16 + low) ∷ bytes)
 byte_before _ _ _ = None

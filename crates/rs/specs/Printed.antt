@@ -1,4 +1,4 @@
--- What the program prints.
+-- The lines that the program prints.
 use Rattle.std.specs.Prelude.{◌≡◌, ℕ, List, [], ◌∷◌, ◌++◌, ◌⊎◌, flat_map, Some, None, Result, Ok, Err}
 use Rattle.std.specs.Fmt.{decimal}
 use Rattle.std.specs.String.{string_bytes}
@@ -34,30 +34,30 @@ indexed_lines_of items = flat_map indexed_line_of items
 abbrev pub ListsShards : Shards → List ℕ → Type 0
 ListsShards shards text = (items : Items) × Lists shards items × (text ≡ indexed_lines_of items)
 
--- the lines of the recovery shards that one-call `encode` answers, or its refusal
+-- the lines of the recovery shards that one-call `encode` returns, or its error
 abbrev pub CodesLines : ℕ → ℕ → List Shard → Result (List ℕ) Error → Type 0
 CodesLines k r shards (Ok text) = (recovery : List Shard) × OneEncodeAnswers k r shards (Ok recovery) × (text ≡ lines_of recovery)
 CodesLines k r shards (Err e) = OneEncodeAnswers k r shards (Err e)
 
--- the lines of the originals that one-call `decode` answers, or its refusal
+-- the lines of the originals that one-call `decode` returns, or its error
 abbrev pub RestoresLines : ℕ → ℕ → GivenItems → Result (List ℕ) Error → Type 0
 RestoresLines k r given (Ok text) = (restored : Shards) × OneDecodeAnswers k r given.originals given.recovery (Ok restored) × ListsShards restored text
 RestoresLines k r given (Err e) = OneDecodeAnswers k r given.originals given.recovery (Err e)
 
--- what is answered to a task at these counts: a text, or a refusal
+-- the result of a task for these counts: a text or an error
 abbrev pub Answers : ℕ → ℕ → Task → Result (List ℕ) Error → Type 0
 Answers k r (Coded shards) answer = CodesLines k r shards answer
 Answers k r (Restored given) answer = RestoresLines k r given answer
 
--- what is answered to a request
+-- the result of a request
 abbrev pub IsAnswered : Request → Result (List ℕ) Error → Type 0
 IsAnswered request answer = Answers request.original_count request.recovery_count request.task answer
 
--- the lines that words ask for
+-- a text is the lines that the request of words leads to
 abbrev pub Prints : List (List ℕ) → List ℕ → Type 0
 Prints words text = (request : Request) × (request_of words ≡ Some request) × IsAnswered request (Ok text)
 
--- a refusal that words are told: that of the one-call function, or want of memory
+-- an error that the request of words leads to: the error of the one-call function, or `OutOfMemory`
 abbrev pub Refuses : List (List ℕ) → Error → Type 0
 Refuses words e = ((request : Request) × (request_of words ≡ Some request) × IsAnswered request (Err e)) ⊎ (e ≡ OutOfMemory)
 
@@ -65,12 +65,12 @@ Refuses words e = ((request : Request) × (request_of words ≡ Some request) ×
 abbrev pub concatenation : {Y Z : Type 0} → Vec (String Y) Z → List ℕ
 concatenation texts = flat_map string_bytes texts.items
 
--- an answer of which P holds, or want of memory
+-- a result has the property P, or it is `OutOfMemory`
 abbrev pub OrLacksMemory : {Y Z : Type 0} → (Result (List ℕ) Error → Type 0) → Result (Vec (String Y) Z) Error → Type 0
 OrLacksMemory P (Ok texts) = P (Ok (concatenation texts))
 OrLacksMemory P (Err e) = P (Err e) ⊎ (e ≡ OutOfMemory)
 
--- why there are no lines for words: they are no command line, or are refused
+-- a fault is the reason why words lead to no lines: they are no command line, or their request fails
 abbrev pub HasFault : List (List ℕ) → Fault → Type 0
 HasFault words Usage = request_of words ≡ None
 HasFault words (Refused e) = Refuses words e

@@ -1,4 +1,4 @@
--- What the readers of words answer.
+-- The results of the functions that read words.
 use Rattle.std.specs.Prelude.{◌≡◌, ℕ, List, ◌++◌, map, Option, Some, None, Result, Ok, Err}
 use Rattle.std.specs.declared.vec.Vec.{Vec}
 use Rattle.reed_solomon_simd.specs.declared.Error.TheVariants.{OutOfMemory}
@@ -15,7 +15,7 @@ use Rattle.rs.specs.declared.fault.Fault.TheVariants.{Usage, Refused}
 use Rattle.rs.specs.CommandLine.{GivenItems}
 use Rattle.rs.specs.CommandLine as Line
 
--- words are read as what they ask for; else they ask for nothing that can be read, or memory is lacking
+-- a result is the value that words represent, or `usage` if they represent no value, or `OutOfMemory`
 abbrev pub Reads : {T V : Type 0} → (V → T) → Option T → Result V Fault → Type 0
 Reads meaning asked (Ok value) = asked ≡ Some (meaning value)
 Reads meaning asked (Err Usage) = asked ≡ None
@@ -33,20 +33,20 @@ as_item indexed = (indexed.0, indexed.1.items)
 abbrev pub as_items : {Y Z : Type 0} → Vec (ℕ × Vec ℕ Y) Z → Items
 as_items vector = map as_item vector.items
 
--- given shards as those of a command line
+-- given shards as shards of a command line
 abbrev pub as_given : Given → GivenItems
 as_given given = record { originals = as_items given.original; recovery = as_items given.recovery }
 
--- given shards with others behind them
+-- given shards, and then other given shards
 abbrev pub with_items : GivenItems → GivenItems → GivenItems
 with_items given others = record { originals = given.originals ++ others.originals; recovery = given.recovery ++ others.recovery }
 
--- an item as that of a command line
+-- an item as an item of a command line
 abbrev pub as_item_of_line : Item → Line.Item
 as_item_of_line (Original indexed) = Line.OriginalItem (as_item indexed)
 as_item_of_line (Recovery indexed) = Line.RecoveryItem (as_item indexed)
 
--- a task as that of a command line
+-- a task as a task of a command line
 abbrev pub as_task : Task → Line.Task
 as_task (Encode original) = Line.Coded (as_shards original)
 as_task (Decode given) = Line.Restored (as_given given)

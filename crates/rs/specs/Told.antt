@@ -1,4 +1,4 @@
--- What is told in place of lines.
+-- The message that is printed instead of lines.
 use Rattle.std.specs.Prelude.{◌≡◌, ◌<◌, ℕ, List, [], ◌∷◌, ◌++◌, ◌⊎◌, length, take, codes, Option}
 use Rattle.std.specs.Io.KnownBytes.{Appends}
 use Rattle.reed_solomon_simd.specs.declared.Error.TheVariants.{OutOfMemory}
@@ -11,20 +11,20 @@ abbrev pub fault_message : Fault → List ℕ
 fault_message Usage = codes "usage" ++ 10 ∷ []
 fault_message (Refused e) = text_of e ++ 10 ∷ []
 
--- the status that a fault ends with
+-- the exit status for a fault
 abbrev pub status_of : Fault → ℕ
 status_of Usage = 2
 status_of (Refused e) = 1
 
--- a fault is reported as it is, or an error as `OutOfMemory`
+-- a fault is reported unchanged, or an error is reported as `OutOfMemory`
 abbrev pub IsReportedAs : Fault → Fault → Type 0
 IsReportedAs Usage told = told ≡ Usage
 IsReportedAs (Refused e) told = (told ≡ Refused e) ⊎ (told ≡ Refused OutOfMemory)
 
--- known bytes grow by a text, or by the front of it that was written before a write failed
+-- a text is appended to known bytes, or only a first part of the text if a write failed
 abbrev pub AppendsFront : Option (List ℕ) → Option (List ℕ) → List ℕ → Type 0
 AppendsFront old new text = (n : ℕ) × Appends old new (take n text)
 
--- known bytes grow by the front of a text, and its end is missing: a write failed
+-- a first part of a text is appended to known bytes, and the rest is missing because a write failed
 abbrev pub CutShort : Option (List ℕ) → Option (List ℕ) → List ℕ → Type 0
 CutShort old new text = (n : ℕ) × (n < length text) × Appends old new (take n text)

@@ -20,7 +20,7 @@ pub struct Counts {
     pub recovery: usize,
 }
 
-/// A shard behind its index.
+/// A shard after its index.
 pub type IndexedShard = (usize, Vec<u8>);
 
 /// The shards that a decoder is given, in order.
@@ -30,7 +30,7 @@ pub struct Given {
     pub recovery: Vec<IndexedShard>,
 }
 
-/// What is to be done.
+/// The two kinds of commands.
 #[derive(Debug, Drop, PartialEq, Eq)]
 pub enum Task {
     /// The recovery shards of these originals are wanted.
@@ -39,7 +39,7 @@ pub enum Task {
     Decode(Given),
 }
 
-/// What a command line asks for.
+/// A command line that was read.
 #[derive(Debug, Drop, PartialEq, Eq)]
 pub struct Command {
     pub engine: EngineKind,
@@ -58,7 +58,7 @@ impl Given {
     ghost use Rattle.rs.specs.CommandLine.{GivenItems, with_item};
     ghost use Rattle.rs.specs.Reading.{with_items, as_given, as_item_of_line};
 
-    // Adds an item behind those of its kind.
+    // Adds an item after the other items of its kind.
     fn push(&mut self, item: Item) -> Result<(), AllocError>
         ensures { OnOk result ((left : GivenItems) → with_items (as_given self.new) left ≡ with_items (as_given self.old) (with_item (as_item_of_line item) left)) }
     {
@@ -70,7 +70,7 @@ impl Given {
     }
 }
 
-// The counts of words that are numbers.
+// Reads the counts, which are two numbers.
 fn read_counts(original: &str, recovery: &str) -> Result<Counts, Fault>
     ensures read { Reads (λ counts. (counts.original, counts.recovery)) (option_zip (number_of original.now) (number_of recovery.now)) result }
     ensures usage { IfErr result (λ fault. fault ≡ Fault.Usage) }
@@ -84,7 +84,7 @@ fn read_counts(original: &str, recovery: &str) -> Result<Counts, Fault>
     Ok(Counts { original, recovery })
 }
 
-// The shards of words that are HEX.
+// Reads the shards of words that are HEX.
 fn read_shards(alloc: Global, words: &[String]) -> Result<Vec<Vec<u8>>, Fault>
     ensures { Reads as_shards (shards_of (map string_bytes words.now)) result }
 {
@@ -98,7 +98,7 @@ fn read_shards(alloc: Global, words: &[String]) -> Result<Vec<Vec<u8>>, Fault>
     Ok(shards)
 }
 
-// The index and the shard of I=HEX.
+// Reads the index and the shard of I=HEX.
 fn read_indexed_shard(alloc: Global, text: &str) -> Result<IndexedShard, Fault>
     ensures { Reads as_item (indexed_shard_of text.now) result }
 {
@@ -114,7 +114,7 @@ fn read_indexed_shard(alloc: Global, text: &str) -> Result<IndexedShard, Fault>
     Ok((index, shard))
 }
 
-// The shard of oI=HEX or rI=HEX.
+// Reads the shard of oI=HEX or rI=HEX.
 fn read_item(alloc: Global, text: &str) -> Result<Item, Fault>
     ensures { Reads as_item_of_line (item_of text.now) result }
 {
@@ -127,7 +127,7 @@ fn read_item(alloc: Global, text: &str) -> Result<Item, Fault>
     Err(Fault::Usage)
 }
 
-// The shards of words that are ITEMs.
+// Reads the shards of words that are ITEMs.
 fn read_items(alloc: Global, words: &[String]) -> Result<Given, Fault>
     ensures { Reads as_given (items_of (map string_bytes words.now)) result }
 {
@@ -142,7 +142,7 @@ fn read_items(alloc: Global, words: &[String]) -> Result<Given, Fault>
     Ok(given)
 }
 
-// What a command of this name is to do with the words behind the counts.
+// Reads the words after the counts of a command with this name.
 fn read_task(alloc: Global, name: &str, words: &[String]) -> Result<Task, Fault>
     ensures read { Reads as_task (task_of name.now (map string_bytes words.now)) result }
     ensures begun { task_of name.now [] ≡ None → result ≡ Err Fault.Usage }
@@ -154,8 +154,8 @@ fn read_task(alloc: Global, name: &str, words: &[String]) -> Result<Task, Fault>
     }
 }
 
-/// The command of a command line. The words are read from left to right, and the first fault decides: `Usage` where a
-/// word is not what has to stand there, or `OutOfMemory`, which comes only behind a command, an engine and counts.
+/// Reads a command line from left to right, up to the first fault: `Usage` if a word is not allowed at its place, or `OutOfMemory`,
+/// which can only come after the command, the engine and the counts were read.
 pub fn read_command(alloc: Global, words: &[String]) -> Result<Command, Fault>
     ensures read { Reads as_request (request_of (map string_bytes words.now)) result }
     ensures begun { request_of (take 4 (map string_bytes words.now)) ≡ None → result ≡ Err Fault.Usage }

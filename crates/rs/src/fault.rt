@@ -1,10 +1,10 @@
-//! Why nothing is printed, and how that is told.
+//! The reasons why the program prints no lines, and their messages.
 use crate::writing::write_text;
 use reed_solomon_simd::Error;
 use std::alloc::{AllocError, AllocFailed, Global};
 use std::io::Write;
 
-/// Why there are no lines for a command line.
+/// The reason why there are no lines for a command line.
 #[derive(Clone, Copy, Debug, PartialEq, Eq, Hash)]
 pub enum Fault {
     /// The words are no command line.
@@ -17,7 +17,7 @@ impl Fault {
     ghost use Rattle.std.specs.Io.KnownBytes.{Appends};
     ghost use Rattle.rs.specs.Told.{fault_message, status_of, IsReportedAs, AppendsFront};
 
-    /// The status that the program ends with.
+    /// Returns the exit status of the program.
     pub fn status(&self) -> u8
         ensures { result ≡ status_of self.now }
     {
@@ -27,7 +27,8 @@ impl Fault {
         }
     }
 
-    /// Tells the fault, or that there is no memory for a refusal's text; answers whether all of it was written.
+    /// Writes the message of the fault, or of `OutOfMemory` if the text of an error cannot be allocated. Returns whether the whole
+    /// message was written.
     pub fn tell<X: Write>(&self, alloc: Global, err: &mut X) -> bool
         ensures { (told : Fault) × IsReportedAs self.now told × AppendsFront (X.contents err.old) (X.contents err.new) (fault_message told)
             × (IsTrue result → Appends (X.contents err.old) (X.contents err.new) (fault_message told)) }

@@ -109,7 +109,7 @@ notes-ok k index indexes new result leads done = by_tests (nat_le k index) (list
     by_tests false true refused = absurd (let no : ⊥ = cc in no)
     by_tests false false led = (refl, led.1)
 
--- a refusal is that of the index
+-- an error of noting an index is the error of the outcome
 pub notes-err : (k index : ℕ) (indexes new : List ℕ) (result : Result (Unit {0}) Error) (e : Error)
     → Notes k indexes index new result → result ≡ Err e → note_outcome k indexes index ≡ Err e
 notes-err k index indexes new result e leads refused = by_outcome (note_outcome k indexes index) leads
@@ -138,7 +138,7 @@ noting-done k indexes shards leads number =
     (leads ∙ ap (noting k indexes) (drop_all (length shards) shards (omega arith)))
     ∙ ap (λ (n : ℕ). if nat_lt n k then Err (NotEnoughShards k n 0) else Ok tt) number
 
--- a refused index is the answer
+-- an error of noting an index is the result of the decode
 pub noting-refused : (k : ℕ) (shards : List RsShard) (e : Error)
     → noting k [] shards ≡ Err e → originals_alone k (items_of shards) ≡ Err e
 noting-refused k shards e refused =

@@ -7,12 +7,12 @@ use Rattle.std.proofs.lemmas.List.{append_assoc, length-append, length-take-le, 
 use Rattle.std.proofs.lemmas.List.Elements.{All-cons}
 use Rattle.rs_c.specs.Buffers.{shards_in_buffer, concatenation}
 
--- so many shards
+-- cutting a buffer into n shards gives n shards
 pub cut-length : (n size : ℕ) (bytes : List ℕ) → length (shards_in_buffer n size bytes) ≡ n
 cut-length zero size bytes = refl
 cut-length (suc n) size bytes = ap suc (cut-length n size (drop size bytes))
 
--- one of them
+-- shard i of a buffer that is cut has the bytes from i times the size on
 pub cut-at : (n size : ℕ) (bytes : List ℕ) (i : ℕ) → i < n → get_or (shards_in_buffer n size bytes) i [] ≡ take size (drop (i * size) bytes)
 cut-at zero size bytes i inside = absurd (let no : ⊥ = omega (arith, inside) in no)
 cut-at (suc n) size bytes zero inside = ap (λ (m : ℕ). take size (drop m bytes)) (let e : 0 ≡ 0 * size = omega arith in e)

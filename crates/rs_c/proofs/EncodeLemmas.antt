@@ -1,4 +1,4 @@
--- From the calls of an encode over buffers to its answer.
+-- The result of an encode over buffers, from its calls.
 use Rattle.std.proofs.Common.{◌≡◌, inl, inr, ℕ, zero, suc, ◌*◌, ◌<◌, true, List, length, take, drop, Result, Ok, sym, ap, ◌∙◌, refl, arith}
 use Rattle.std.proofs.Math.Nat.{suc-mul}
 use Rattle.std.proofs.lemmas.Bool.{cases_eq, ne_eqb}

@@ -1,4 +1,4 @@
--- Marked originals are noted one after another, and none is refused.
+-- Marked originals are noted one after another, and none of them is an error.
 use Rattle.std.proofs.Common.{◌≡◌, ℕ, ◌+◌, ◌≤◌, ◌<◌, ◌==◌, ◌||◌, Bool, false, not, List, [], ◌∷◌, length, drop, cond, nat_eq, inl, inr, Ok, ap, ◌∙◌, refl, arith}
 use Rattle.std.proofs.lemmas.Bool.{cases_eq, eq-eqb, ne_eqb, lt-leb}
 use Rattle.std.proofs.lemmas.List.Recursion.{is_count_by}
@@ -13,7 +13,7 @@ abbrev pub present : List ℕ → ℕ
 present [] = 0
 present (mark ∷ marks) = cond (not (mark == 0)) (1 + present marks) (present marks)
 
--- that is their count
+-- the number of marks that aren't 0 is what `count_by` counts
 pub count-present : (marks : List ℕ) → present marks ≡ count_by (λ mark. not (mark == 0)) marks
 count-present marks = is_count_by present (λ mark. not (mark == 0)) refl (λ mark others. refl) marks
 

@@ -1,4 +1,4 @@
--- What calls of the library over rooms answer, in terms of faults.
+-- The results of calls of the library over rooms, in terms of faults.
 use Rattle.std.proofs.Common.{◌≡◌, ℕ, ◌==◌, Bool, true, false, cond, List, [], ◌∷◌, length, map, Result, Ok, Err, MatchResult, MutBor, refl, sym, ap, subst, ◌∙◌}
 use Rattle.rs_field.specs.declared.code.error.Error.{Error}
 use Rattle.rs_field.specs.code.Column.{Shard}
@@ -14,7 +14,7 @@ use Rattle.rs_c.specs.declared.fault.Fault.TheVariants.{Refused}
 use Rattle.rs_c.specs.Arrays.{EncodesArrays, DecodesArrays, Fills, rooms_fit, lengths_fit, KeepsRooms}
 use Rattle.rs_c.specs.RoomFaults.{fault_of_room}
 
--- an answer in terms of faults
+-- a result in terms of faults
 abbrev pub told : Result (Unit {0}) RoomError → Result (Unit {0}) Fault
 told (Ok u) = Ok tt
 told (Err e) = Err (fault_of_room e)

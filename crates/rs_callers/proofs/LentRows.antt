@@ -33,7 +33,7 @@ as-runs ch first second a n b m apart within =
     (drop-drop n a other ∙ drop-append-le (a + n) (take b ch) (second ++ drop m (drop b ch)) (omega (arith, front, apart))
     ∙ ap₂ (λ u v. u ++ (second ++ v)) (sym (between_is ch (a + n) b)) (drop-drop m b ch)))
 
--- four are replaced two by two: what stands behind the first two stays
+-- four runs are replaced two by two; replacing the first two runs leaves the chunks after them unchanged
 module _ (ch first second : Chunks) (i n j : ℕ) (l₁ : length first ≡ n) (l₂ : length second ≡ n) (apart : i + n ≤ j) (within : j + n ≤ length ch) where
   -- the chunks up to the end of the second run
   abbrev head : Chunks

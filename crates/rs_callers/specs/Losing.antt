@@ -10,11 +10,11 @@ use Rattle.reed_solomon_simd.specs.OneCall.{Items}
 abbrev pub items_in : {Y : Type 0} → List (ℕ × Vec ℕ Y) → Items
 items_in vectors = map (λ item. (item.0, item.1.items)) vectors
 
--- an index is among those lost
+-- whether an index is in the list of lost indexes
 abbrev pub is_lost : List ℕ → ℕ → Bool
 is_lost lost i = list_any (λ index. nat_eq index i) lost
 
--- a list's shards at exactly the indexes that are among those lost
+-- the lost shards of a list, by their indexes
 abbrev pub lost_at : List Shard → List ℕ → Shards
 lost_at shards lost i = if nat_lt i (length shards) && is_lost lost i then Some (shard_at shards i) else None
 
@@ -26,11 +26,11 @@ is_left lost item = not (is_lost lost item.0)
 abbrev pub left_of : List Shard → List ℕ → Items
 left_of shards lost = filter (is_left lost) (enumerate_from 0 shards)
 
--- how many of the n indexes from one on aren't lost
+-- the number of indexes that are not lost among the n indexes from `from` on
 abbrev pub left_from : ℕ → ℕ → List ℕ → ℕ
 left_from from zero lost = 0
 left_from from (suc n) lost = (if is_lost lost from then 0 else 1) + left_from (from + 1) n lost
 
--- how many of the indexes below n aren't lost
+-- the number of indexes below n that are not lost
 abbrev pub left_below : ℕ → List ℕ → ℕ
 left_below n lost = left_from 0 n lost

@@ -1,14 +1,14 @@
--- What becomes of rows that change places.
+-- Rows that change places.
 use Rattle.std.specs.Prelude.{◌≡◌, ℕ, ◌+◌, ◌*◌, ◌<◌, ◌≤◌, ◌⊎◌, ◌++◌, drop}
 use Rattle.reed_solomon_simd.specs.Rows.{Chunks, chunk}
 use Rattle.reed_solomon_simd.specs.View.{SameExtent, cell}
 use Rattle.rs_field.specs.declared.rows.shards.ShardsRefMut.{ShardsRefMut}
 
--- chunk c lies before row i, or past it
+-- chunk c is before row i or after row i
 abbrev pub IsOutside : ShardsRefMut → ℕ → ℕ → Type 0
 IsOutside r i c = (c < i * r.shard_len_64) ⊎ (i * r.shard_len_64 + r.shard_len_64 ≤ c)
 
--- rows i and j changed places, and all other chunks are the same, to the last one past the rows
+-- rows i and j changed places, and all other chunks are the same, also the chunks after the last row
 pub record AreSwapped (i j : ℕ) (old new : ShardsRefMut) : Type 0 where
   pub extent : SameExtent old new
   pub first : (k : ℕ) → k < old.shard_len_64 → cell new k i ≡ cell old k j
@@ -19,7 +19,7 @@ pub record AreSwapped (i j : ℕ) (old new : ShardsRefMut) : Type 0 where
 abbrev pub AreSwappedTwice : ℕ → ℕ → ℕ → ℕ → ShardsRefMut → ShardsRefMut → Type 0
 AreSwappedTwice i j k l old new = (mid : ShardsRefMut) × AreSwapped i j old mid × AreSwapped k l mid new
 
--- the loan of the rows has these chunks instead of its first row, and the name that it had
+-- the loan of the rows has the same name as before, and these chunks instead of its first row
 pub record HasFirstRow (old : ShardsRefMut) (row : Chunks) (new : ShardsRefMut) : Type 0 where
   pub name : new.chunks.ghost_name ≡ old.chunks.ghost_name
   pub chunks : new.chunks.now ≡ row ++ drop old.shard_len_64 old.chunks.now

@@ -1,4 +1,4 @@
-//! Callers that know encoders, decoders and rates by their contracts alone.
+//! Callers of encoders, decoders and rates. Their proofs use only the contracts of these.
 ghost use Rattle.std.specs.Prelude.{◌≡◌, ◌<◌, ◌+◌, ◌⊎◌, length, Ok, IfOk, IfErr, OnOk, OnErr, MatchResult, Err};
 ghost use Rattle.reed_solomon_simd.specs.Counts.{default_rate};
 ghost use Rattle.reed_solomon_simd.specs.Placement.{encoder_rows, decoder_rows};
@@ -15,8 +15,8 @@ use reed_solomon_simd::rate::{
 };
 use std::alloc::Global;
 
-/// A round ends inside `encode`: once all originals were given and coded, a second `encode` finds nothing given,
-/// whether the first result was dropped or forgotten.
+/// Encodes twice. The first `encode` ends the round, so the second one finds no originals, whether the first result was dropped
+/// or forgotten.
 pub fn encode_twice<E: Engine, X: RateEncoder<E> + Drop>(
     encoder: &mut X,
     steps: &mut Steps,
@@ -37,7 +37,7 @@ pub fn encode_twice<E: Engine, X: RateEncoder<E> + Drop>(
     Ok(())
 }
 
-/// A refused `encode` changes nothing.
+/// Calls `encode` while originals are missing. It fails and changes nothing.
 pub fn encode_too_early<E: Engine, X: RateEncoder<E> + Drop>(
     encoder: &mut X,
     steps: &mut Steps,
@@ -51,8 +51,8 @@ pub fn encode_too_early<E: Engine, X: RateEncoder<E> + Drop>(
     Ok(())
 }
 
-/// A decoder of the default rate passes from any configuration to one of the high rate; a refusal, also for memory,
-/// leaves all as it was.
+/// Resets a decoder of the default rate from any configuration to one of the high rate. After an error, also after
+/// `OutOfMemory`, everything is as it was.
 pub fn pass_to_high<E: Engine>(decoder: &mut DefaultRateDecoder<E>) -> Result<(), Error>
     ensures answer { UpToMemory (start_outcome (decoder_rows default_rate 3 2) (configuration default_rate 3 2 2)) result }
     ensures ok { OnOk result (⟦<DefaultRateDecoder<E> as RateDecoder<E>>⟧.state decoder.new ≡ fresh_decoder (configuration default_rate 3 2 2)) }
@@ -62,7 +62,7 @@ pub fn pass_to_high<E: Engine>(decoder: &mut DefaultRateDecoder<E>) -> Result<()
     decoder.reset(3, 2, 2)
 }
 
-/// Both sides of a message at counts that are asked for once. The first refusal is that of the counts, then that of the size.
+/// Makes an encoder and a decoder for counts that are checked once. The error for the counts comes before the error for the size.
 pub fn both_sides<E: Engine>(
     alloc: Global,
     original_count: usize,
@@ -82,7 +82,8 @@ pub fn both_sides<E: Engine>(
     Ok((encoder, decoder))
 }
 
-/// An encoder of a rate, known by the rate alone: where the rate supports the counts it refuses to encode nothing.
+/// Makes an encoder of any rate and encodes without originals. If the rate supports the counts, `encode` fails with
+/// `TooFewOriginalShards`.
 pub fn encode_nothing<E: Engine, R: Rate<E>>(
     alloc: Global,
     engine: E,
@@ -96,8 +97,8 @@ pub fn encode_nothing<E: Engine, R: Rate<E>>(
     Ok(())
 }
 
-/// A decoder's parts make another decoder of the rate and of the same configuration, with nothing given and the same
-/// engine: no memory is taken, so none is lacking.
+/// Makes a decoder from the parts of another decoder of the same rate and configuration. The new decoder has the same engine and
+/// no shards. Since nothing is allocated, the call never fails.
 pub fn make_again<E: Engine, R: Rate<E>>(
     alloc: Global,
     decoder: R::RateDecoder,
@@ -121,8 +122,7 @@ pub fn make_again<E: Engine, R: Rate<E>>(
     )
 }
 
-/// An encoder comes back to its own configuration, whatever it was reset to in between: its room never shrinks, so
-/// memory is never lacking.
+/// Resets an encoder to another configuration and back to its own. Its room never shrinks, so the second `reset` never fails.
 pub fn reset_and_back<E: Engine, X: RateEncoder<E>>(
     encoder: &mut X,
     original_count: usize,
@@ -138,8 +138,8 @@ pub fn reset_and_back<E: Engine, X: RateEncoder<E>>(
     encoder.reset(original_count, recovery_count, shard_bytes)
 }
 
-/// Shards enough that no message agrees with are refused, and with that the round ends: the next `decode` finds nothing
-/// given. Gives both answers.
+/// Decodes twice and returns both results. If there are enough shards but no message agrees with them, the first `decode` fails
+/// with `InconsistentShards` and ends the round, so the second one finds no shards.
 pub fn decode_inconsistent<E: Engine, X: RateDecoder<E> + Drop>(
     decoder: &mut X,
     steps: &mut Steps,
@@ -155,7 +155,8 @@ pub fn decode_inconsistent<E: Engine, X: RateDecoder<E> + Drop>(
     (first, next)
 }
 
-/// As many shards as there are originals, whichever they are and whatever they hold, are never refused.
+/// Decodes. With exactly as many shards as there are originals, this never fails, whichever shards these are and whatever bytes
+/// they hold.
 pub fn decode_just_enough<E: Engine, X: RateDecoder<E> + Drop>(
     decoder: &mut X,
     steps: &mut Steps,

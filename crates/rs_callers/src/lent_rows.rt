@@ -1,11 +1,12 @@
-//! Callers that know lent rows by their contracts alone: what is written to them stands in the list afterwards.
+//! Callers of lent rows. Their proofs use only the contracts, which state that the list holds afterwards what was written to
+//! the lent rows.
 ghost use Rattle.std.specs.Prelude.{◌≡◌, ◌+◌, ◌*◌, ◌<◌, length};
 ghost use Rattle.reed_solomon_simd.specs.View.{Fits, row_at};
 ghost use Rattle.rs_callers.specs.SwappedRows.{AreSwapped, AreSwappedTwice, HasFirstRow};
 
 use reed_solomon_simd::engine::ShardsRefMut;
 
-/// Rows `pos` and `pos + dist` change places, and all other chunks stay.
+/// Swaps rows `pos` and `pos + dist`. All other chunks stay.
 pub fn swap_rows(rows: &mut ShardsRefMut<'_>, pos: usize, dist: usize)
     requires fits { Fits rows.old }
     requires apart { 0 < dist }
@@ -15,7 +16,7 @@ pub fn swap_rows(rows: &mut ShardsRefMut<'_>, pos: usize, dist: usize)
     swap_two(rows.dist2_mut(pos, dist));
 }
 
-// Two rows change places.
+// Swaps two rows.
 fn swap_two<'a>(lent: (&'a mut [[u8; 64]], &'a mut [[u8; 64]]))
     requires { length lent.0.now ≡ length lent.1.now }
     ensures first { lent.exit.0.now ≡ lent.entry.1.now }
@@ -25,7 +26,7 @@ fn swap_two<'a>(lent: (&'a mut [[u8; 64]], &'a mut [[u8; 64]]))
     x.swap_with_slice(y);
 }
 
-/// Rows `pos` and `pos + dist` change places, and rows `pos + 2 * dist` and `pos + 3 * dist`: all other chunks stay.
+/// Swaps rows `pos` and `pos + dist`, and rows `pos + 2 * dist` and `pos + 3 * dist`. All other chunks stay.
 pub fn swap_pairs(rows: &mut ShardsRefMut<'_>, pos: usize, dist: usize)
     requires fits { Fits rows.old }
     requires apart { 0 < dist }
@@ -35,7 +36,7 @@ pub fn swap_pairs(rows: &mut ShardsRefMut<'_>, pos: usize, dist: usize)
     swap_four(rows.dist4_mut(pos, dist));
 }
 
-// Two rows change places, and two more.
+// Swaps the first two rows, and the last two rows.
 fn swap_four<'a>(
     lent: (
         &'a mut [[u8; 64]],
@@ -56,7 +57,7 @@ fn swap_four<'a>(
     y.swap_with_slice(z);
 }
 
-/// The list is split at row `mid`, and the first rows of both lists change places: all other chunks stay.
+/// Splits the list at row `mid` and swaps the first rows of both parts. All other chunks stay.
 pub fn swap_across(rows: &mut ShardsRefMut<'_>, mid: usize)
     requires fits { Fits rows.old }
     requires apart { 0 < mid }
@@ -66,7 +67,7 @@ pub fn swap_across(rows: &mut ShardsRefMut<'_>, mid: usize)
     swap_first_rows(rows.split_at_mut(mid));
 }
 
-// The two lists, whose first rows changed places.
+// Swaps the first rows of two lists, and returns the lists.
 fn swap_first_rows<'a>(
     lists: (ShardsRefMut<'a>, ShardsRefMut<'a>),
 ) -> (ShardsRefMut<'a>, ShardsRefMut<'a>)

@@ -1,6 +1,6 @@
-//! The three levels of use, each losing two shards of one message and restoring them: a call, objects, and objects of a
-//! rate and an engine of the caller's choice. The documents quote them, and tests run them: each answers whether just
-//! what was lost came back.
+//! The three levels of use: one-call functions, objects, and objects of a rate and an engine of the caller's choice. Each
+//! function loses two originals of one message, restores them, and returns whether exactly the lost originals came back. The
+//! documents quote these functions, and tests run them.
 use reed_solomon_simd::engine::tables::Tables;
 use reed_solomon_simd::engine::{DefaultEngine, EngineKind, Ssse3, Steps};
 use reed_solomon_simd::rate::{DefaultRateDecoder, DefaultRateEncoder, RateDecoder, RateEncoder};
@@ -12,7 +12,7 @@ use std::collections::BTreeMap;
 
 const ORIGINAL: [&[u8]; 3] = [b"Three shards", b" of one size", b" are coded. "];
 
-/// By the one-call functions. `OutOfMemory` where no memory is found.
+/// Uses the one-call functions. Fails with `OutOfMemory` if memory cannot be allocated.
 pub fn in_one_call(alloc: Global) -> Result<bool, Error> {
     let tables = Tables::new(alloc)?;
     let engine = DefaultEngine::new(&tables, EngineKind::Ssse3);
@@ -26,7 +26,7 @@ pub fn in_one_call(alloc: Global) -> Result<bool, Error> {
     Ok(are_in(&restored))
 }
 
-/// By the one-call functions over slices. `OutOfMemory` where no memory is found.
+/// Uses the one-call functions over slices. Fails with `OutOfMemory` if memory cannot be allocated.
 pub fn over_slices(alloc: Global) -> Result<bool, Error> {
     let tables = Tables::new(alloc)?;
     let engine = DefaultEngine::new(&tables, EngineKind::Ssse3);
@@ -39,14 +39,14 @@ pub fn over_slices(alloc: Global) -> Result<bool, Error> {
     Ok(are_in(&restored))
 }
 
-// Whether originals 0 and 2, and no others, are in a map.
+// Returns whether exactly originals 0 and 2 are in a map.
 fn are_in(restored: &BTreeMap<usize, Vec<u8>>) -> bool {
     let first = restored.get(&0).map(|shard| shard.as_slice());
     let last = restored.get(&2).map(|shard| shard.as_slice());
     restored.len() == 2 && first == Some(ORIGINAL[0]) && last == Some(ORIGINAL[2])
 }
 
-/// By objects. `OutOfMemory` where no memory is found.
+/// Uses objects. Fails with `OutOfMemory` if memory cannot be allocated.
 pub fn with_objects(alloc: Global) -> Result<bool, Error> {
     let tables = Tables::new(alloc)?;
     let engine = DefaultEngine::new(&tables, EngineKind::Ssse3);
@@ -66,7 +66,7 @@ pub fn with_objects(alloc: Global) -> Result<bool, Error> {
     Ok(are_restored(&restored))
 }
 
-/// By objects of a rate and an engine. `OutOfMemory` where no memory is found.
+/// Uses objects of a rate and an engine. Fails with `OutOfMemory` if memory cannot be allocated.
 pub fn with_a_rate_and_an_engine(alloc: Global) -> Result<bool, Error> {
     let tables = Tables::new(alloc)?;
     let engine = Ssse3::new(&tables);
@@ -87,7 +87,7 @@ pub fn with_a_rate_and_an_engine(alloc: Global) -> Result<bool, Error> {
     Ok(are_restored(&restored))
 }
 
-// Whether originals 0 and 2, and no others, are restored.
+// Returns whether exactly originals 0 and 2 are restored.
 fn are_restored(restored: &DecoderResult<'_>) -> bool {
     let first = restored.restored_original(0) == Some(ORIGINAL[0]);
     let last = restored.restored_original(2) == Some(ORIGINAL[2]);

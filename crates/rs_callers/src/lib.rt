@@ -1,4 +1,4 @@
-//! Callers that know the library by its contracts alone: round trips, objects, results, lent rows, and every public path.
+//! Callers of the library, whose proofs use only its contracts: round trips, objects, results, lent rows, and every public path.
 #![tactic(auto)]
 
 pub mod callers;

@@ -1,4 +1,4 @@
-//! Callers of the one-call functions: what they answer for shards that lie in memory.
+//! Callers of the one-call functions. Their contracts state what these functions return for shards in memory.
 ghost use Rattle.std.specs.Prelude.{map};
 ghost use Rattle.reed_solomon_simd.specs.OneCall.{OneEncodeAnswers, OneDecodeAnswers, collected_shards, collected_map};
 
@@ -7,7 +7,7 @@ use reed_solomon_simd::{Error, decode_slice, encode, encode_slice};
 use std::alloc::Global;
 use std::collections::BTreeMap;
 
-/// The recovery shards of originals that are vectors.
+/// Returns the recovery shards of originals that are vectors.
 pub fn encode_vectors(
     alloc: Global,
     original_count: usize,
@@ -21,7 +21,7 @@ pub fn encode_vectors(
     encode(alloc, original_count, recovery_count, shards, engine)
 }
 
-/// The recovery shards of originals that are arrays.
+/// Returns the recovery shards of originals that are arrays.
 pub fn encode_arrays<const K: usize, const N: usize>(
     alloc: Global,
     recovery_count: usize,
@@ -33,7 +33,7 @@ pub fn encode_arrays<const K: usize, const N: usize>(
     encode_slice(alloc, K, recovery_count, original, engine)
 }
 
-/// The originals that are missing among shards that are vectors with their indexes.
+/// Returns the missing originals. The received shards are vectors with their indexes.
 pub fn decode_vectors(
     alloc: Global,
     original_count: usize,

@@ -1,4 +1,4 @@
-//! Callers of the plain objects, which know them by their contracts alone.
+//! Callers of the plain objects. Their proofs use only the contracts of these objects.
 ghost use Rattle.std.specs.Prelude.{◌≡◌, length, Ok, Err, MatchResult};
 ghost use Rattle.reed_solomon_simd.specs.Configuration.{validation_outcome, FitsWithin};
 ghost use Rattle.reed_solomon_simd.specs.Decoder.{fresh_decoder, enough_given, after_decode, IsConsistent, NoneAgrees};
@@ -9,7 +9,7 @@ ghost use Rattle.reed_solomon_simd.specs.OneCall.{default_of};
 
 use reed_solomon_simd::{Error, ReedSolomonDecoder, ReedSolomonEncoder};
 
-/// A round of a plain encoder whose result is forgotten is over: the next `encode` finds nothing given.
+/// Encodes with a plain encoder and forgets the result. This ends the round too, so the next `encode` finds no originals.
 pub fn forget_a_round(encoder: &mut ReedSolomonEncoder<'_>) -> Result<(), Error>
     requires { length (encoder_state encoder.old).given ≡ (encoder_state encoder.old).configuration.original_count }
     ensures answer { result ≡ Err (Error.TooFewOriginalShards (encoder_state encoder.old).configuration.original_count 0) }
@@ -20,8 +20,8 @@ pub fn forget_a_round(encoder: &mut ReedSolomonEncoder<'_>) -> Result<(), Error>
     Ok(())
 }
 
-/// A plain encoder comes back to its own counts at a size that isn't larger than its own, whatever it was reset to in between:
-/// memory is never lacking.
+/// Resets a plain encoder to another configuration, and then back to its own counts and a size that is not larger than its own.
+/// The second `reset` never fails.
 pub fn encoder_reset_and_back(
     encoder: &mut ReedSolomonEncoder<'_>,
     original_count: usize,
@@ -38,7 +38,8 @@ pub fn encoder_reset_and_back(
     encoder.reset(original_count, recovery_count, shard_bytes)
 }
 
-/// A plain decoder comes back so too.
+/// Resets a plain decoder to another configuration, and then back to its own counts and a size that is not larger than its own.
+/// The second `reset` never fails.
 pub fn decoder_reset_and_back(
     decoder: &mut ReedSolomonDecoder<'_>,
     original_count: usize,
@@ -55,8 +56,8 @@ pub fn decoder_reset_and_back(
     decoder.reset(original_count, recovery_count, shard_bytes)
 }
 
-/// A round of a plain decoder that was given shards enough is over, whatever it answered and whatever became of the
-/// result: the next `decode` finds nothing given.
+/// Decodes with a plain decoder to which enough shards were added. This ends the round, whatever `decode` returns and whatever
+/// happens to the result, so the next `decode` finds no shards.
 pub fn end_a_round(decoder: &mut ReedSolomonDecoder<'_>) -> Result<(), Error>
     requires { enough_given (decoder_state decoder.old) ≡ Ok tt }
     ensures answer { result ≡ Err (Error.NotEnoughShards (decoder_state decoder.old).configuration.original_count 0 0) }
@@ -66,7 +67,7 @@ pub fn end_a_round(decoder: &mut ReedSolomonDecoder<'_>) -> Result<(), Error>
     decode_only(decoder)
 }
 
-// A round's answer, its result forgotten.
+// Decodes, forgets the result, and returns whether the decode succeeded, or its error.
 fn decode_only(decoder: &mut ReedSolomonDecoder<'_>) -> Result<(), Error>
     ensures answer { MatchResult (enough_given (decoder_state decoder.old))
         (λ _. MatchResult result (λ _. IsConsistent (decoder_state decoder.old)) (NoneAgrees (decoder_state decoder.old))) (λ e. result ≡ Err e) }

@@ -1,4 +1,4 @@
-//! A round trip at any rate, over any lawful engine: just the lost originals come back, each as it was.
+//! A round trip at any rate, over any engine that meets the contract of `Engine`: exactly the lost originals come back.
 ghost use Rattle.std.specs.Prelude.{◌≡◌, ◌+◌, ◌≤◌, length, map, All, Ok, IfOk, IfErr};
 ghost use Rattle.reed_solomon_simd.specs.Configuration.{configuration, validation_outcome};
 ghost use Rattle.reed_solomon_simd.specs.Given.{Lists};
@@ -14,10 +14,10 @@ use reed_solomon_simd::{EncoderResult, Error};
 use rs_rate::rate::giving::{add_originals, add_recovery, add_shards};
 use std::alloc::Global;
 
-/// Codes the originals by an encoder of a rate, loses the originals and the recovery shards of these indexes, and restores
-/// what is lost by a decoder of the rate: just the lost originals come back, each as it was, in order of index. Where the
-/// counts and the size are valid, and as many shards are left as there are originals, it is never refused but for want of
-/// memory.
+/// Encodes the originals with an encoder of a rate, drops the originals and the recovery shards with the indexes in `lost` and
+/// `recovery_lost`, and decodes with a decoder of the rate. Returns exactly the lost originals, each as it was, in order of their
+/// index. If the counts and the size are valid and at least as many shards are left as there are originals, the call can only
+/// fail with `OutOfMemory`.
 pub fn round_trip_at_a_rate<E: Engine + Copy, R: Rate<E>>(
     alloc: Global,
     originals: &[Vec<u8>],
@@ -46,7 +46,7 @@ pub fn round_trip_at_a_rate<E: Engine + Copy, R: Rate<E>>(
     restored_copies(alloc, &restored)
 }
 
-// Gives an encoder all originals, in order.
+// Adds all originals to an encoder, in order.
 fn give_all<E: Engine, X: RateEncoder<E>>(
     encoder: &mut X,
     originals: &[Vec<u8>],
@@ -57,7 +57,7 @@ fn give_all<E: Engine, X: RateEncoder<E>>(
     add_shards(encoder, shards)
 }
 
-// Gives a decoder the originals that aren't lost.
+// Adds the originals that are not lost to a decoder.
 fn give_kept<E: Engine, X: RateDecoder<E>>(
     decoder: &mut X,
     originals: &[Vec<u8>],
@@ -73,7 +73,7 @@ fn give_kept<E: Engine, X: RateDecoder<E>>(
     add_originals(decoder, kept)
 }
 
-// Gives a decoder the recovery shards that aren't lost.
+// Adds the recovery shards that are not lost to a decoder.
 fn give_received<E: Engine, X: RateDecoder<E>>(
     decoder: &mut X,
     recovery: &EncoderResult<'_>,

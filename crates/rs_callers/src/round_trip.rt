@@ -1,4 +1,4 @@
-//! Round trips: shards are coded, some are lost, and just the lost originals come back, each as it was.
+//! Round trips: originals are encoded, some shards are lost, and exactly the lost originals come back, each as it was.
 ghost use Rattle.std.specs.Prelude.{◌≡◌, ◌+◌, ◌≤◌, ℕ, List, length, map, All, Ok, IfOk, IfErr};
 ghost use Rattle.reed_solomon_simd.specs.Column.{Shard};
 ghost use Rattle.reed_solomon_simd.specs.Configuration.{validation_outcome};
@@ -19,9 +19,9 @@ use reed_solomon_simd::{
 use std::alloc::Global;
 use std::collections::BTreeMap;
 
-/// Codes the originals in one call, loses the originals and the recovery shards of these indexes, and restores what is
-/// lost in another call: just the lost originals come back, each as it was. Where the counts and the size are valid, and as
-/// many shards are left as there are originals, it is never refused but for want of memory.
+/// Encodes the originals in one call, drops the originals and the recovery shards with the indexes in `lost` and `recovery_lost`,
+/// and decodes in another call. Returns exactly the lost originals, each as it was. If the counts and the size are valid and at
+/// least as many shards are left as there are originals, the call can only fail with `OutOfMemory`.
 pub fn round_trip_in_one_call(
     alloc: Global,
     originals: &[Vec<u8>],
@@ -52,8 +52,8 @@ pub fn round_trip_in_one_call(
     decode(alloc, k, r, kept, received, engine)
 }
 
-/// Restores the lost originals of a message from the originals and the recovery shards that are left. If each comes with
-/// its own index, and none twice, a success is exactly the lost originals, each as it was.
+/// Restores the lost originals of a message from the originals and the recovery shards that are left. If each shard has its own
+/// index and none is there twice, a success returns exactly the lost originals, each as it was.
 pub fn restore_what_is_left(
     alloc: Global,
     original_count: usize,
@@ -76,9 +76,10 @@ pub fn restore_what_is_left(
     )
 }
 
-/// Codes the originals by a plain encoder, loses the originals and the recovery shards of these indexes, and restores
-/// what is lost by a plain decoder: just the lost originals come back, each as it was, in order of index. It is never
-/// refused where one call isn't.
+/// Encodes the originals with a plain encoder, drops the originals and the recovery shards with the indexes in `lost` and
+/// `recovery_lost`, and decodes with a plain decoder. Returns exactly the lost originals, each as it was, in order of their index.
+/// If the counts and the size are valid and at least as many shards are left as there are originals, the call can only fail with
+/// `OutOfMemory`.
 pub fn round_trip_by_plain_objects(
     alloc: Global,
     originals: &[Vec<u8>],
@@ -106,7 +107,7 @@ pub fn round_trip_by_plain_objects(
     restored_copies(alloc, &restored)
 }
 
-// Gives a plain encoder all originals, in order.
+// Adds all originals to a plain encoder, in order.
 fn give_all(encoder: &mut ReedSolomonEncoder<'_>, originals: &[Vec<u8>]) -> Result<(), Error>
     ensures { Reaches (with_shards (encoder_state encoder.old) (map (λ shard. shard.items) originals.now)) result (λ s. encoder_state encoder.new ≡ s) }
 {
@@ -116,7 +117,7 @@ fn give_all(encoder: &mut ReedSolomonEncoder<'_>, originals: &[Vec<u8>]) -> Resu
     Ok(())
 }
 
-// Gives a plain decoder the originals that aren't lost.
+// Adds the originals that are not lost to a plain decoder.
 fn give_kept(
     decoder: &mut ReedSolomonDecoder<'_>,
     originals: &[Vec<u8>],
@@ -133,7 +134,7 @@ fn give_kept(
     Ok(())
 }
 
-// Gives a plain decoder the recovery shards that aren't lost.
+// Adds the recovery shards that are not lost to a plain decoder.
 fn give_received(
     decoder: &mut ReedSolomonDecoder<'_>,
     recovery: &EncoderResult<'_>,

@@ -1,5 +1,5 @@
-//! Every public path of the library, each used with its type and with what it means: if a name were exported for another
-//! item, this file would not compile, or it would not be proved.
+//! Every public path of the library, each used with its type and with its meaning. If a name were exported for another item,
+//! this file would not compile, or the prover would refuse it.
 ghost use Rattle.std.specs.Iterator.{IsFinite};
 ghost use Rattle.std.specs.Option.{option_copied, option_map};
 ghost use Rattle.std.specs.Prelude.{◌≡◌, ℕ, ◌^◌, ◌<◌, ◌≤◌, true, List, [], ◌∷◌, length, map, slice_get, slice_index, bit_xor};
@@ -49,7 +49,7 @@ use std::alloc::Global;
 use std::collections::BTreeMap;
 use std::str::FromStr;
 
-/// The constants of the field: bits, elements, modulus, polynomial, and the first of the basis.
+/// Returns the constants of the field: bits, elements, modulus, polynomial, and the first word of the basis.
 pub fn constants() -> (usize, usize, GfElement, usize, GfElement)
     ensures { result ≡ (16, 65536, 65535, 0x1002D, 1) }
 {
@@ -57,7 +57,7 @@ pub fn constants() -> (usize, usize, GfElement, usize, GfElement)
     (GF_BITS, GF_ORDER, GF_MODULUS, GF_POLYNOMIAL, first)
 }
 
-/// The tables that transforms and locators read.
+/// Returns the tables that transforms and locators read.
 pub fn tables_of_points(tables: &Tables) -> (&ExpLog, Skew<'_>, LogWalsh<'_>)
     ensures exp_log { IsExpLog result.0.now.exp.items result.0.now.log.items }
     ensures skew { IsSkew result.1.now }
@@ -66,7 +66,7 @@ pub fn tables_of_points(tables: &Tables) -> (&ExpLog, Skew<'_>, LogWalsh<'_>)
     (get_exp_log(tables), get_skew(tables), get_log_walsh(tables))
 }
 
-/// The products by nibbles, as words and as bytes.
+/// Returns the products by nibbles, as words and as bytes.
 pub fn products(tables: &Tables) -> (Mul16<'_>, Mul128<'_>)
     ensures words { IsMul16 result.0.now }
     ensures bytes { IsMul128 result.1.now }
@@ -74,7 +74,7 @@ pub fn products(tables: &Tables) -> (Mul16<'_>, Mul128<'_>)
     (get_mul16(tables), get_mul128(tables))
 }
 
-/// Returns the numbers of an entry of the products as bytes: those of the low bytes, and those of the high bytes.
+/// Returns the numbers of an entry of the products as bytes: the numbers of the low bytes, and the numbers of the high bytes.
 pub fn numbers(entry: &Multiply128lutT) -> ([u128; 4], [u128; 4])
     ensures low { result.0 ≡ entry.now.lo }
     ensures high { result.1 ≡ entry.now.hi }
@@ -82,7 +82,7 @@ pub fn numbers(entry: &Multiply128lutT) -> ([u128; 4], [u128; 4])
     (entry.lo, entry.hi)
 }
 
-/// The product with a power of the generator.
+/// Returns the product of a word and a power of the generator.
 pub fn times(x: GfElement, log_m: GfElement, exp: Exp<'_>, log: Log<'_>) -> GfElement
     requires { IsExpLog exp.now log.now }
     ensures { result ≡ product x (power log_m) }
@@ -90,7 +90,7 @@ pub fn times(x: GfElement, log_m: GfElement, exp: Exp<'_>, log: Log<'_>) -> GfEl
     mul(x, log_m, exp, log)
 }
 
-/// Adds the chunks of a second list to those of a first.
+/// Adds each chunk of the second list to the chunk of the first list with the same index.
 pub fn add_chunks(first: &mut [[u8; 64]], second: &[[u8; 64]])
     requires { length first.old ≡ length second.now }
     ensures { (k s : ℕ) → k < length first.old → s < 32 → symbol (chunk first.new k) s ≡ bit_xor (symbol (chunk first.old k) s) (symbol (chunk second.now k) s) }
@@ -98,7 +98,7 @@ pub fn add_chunks(first: &mut [[u8; 64]], second: &[[u8; 64]])
     xor(first, second);
 }
 
-/// The first of two rows becomes the sum of both.
+/// Adds the second row to the first row.
 pub fn add_rows(steps: &mut Steps, rows: &mut ShardsRefMut<'_>)
     requires fits { Fits rows.old }
     requires two { 2 ≤ rows.old.shard_count }
@@ -114,14 +114,14 @@ pub fn locator(steps: &mut Steps, erasures: &mut [GfElement; GF_ORDER], tables: 
     eval_poly(steps, erasures, GF_ORDER, get_log_walsh(tables));
 }
 
-/// The locator of points below 64, at these points.
+/// Computes the locator of points below 64, at these points.
 pub fn locator_below(steps: &mut Steps, erasures: &mut [GfElement; 64], tables: &Tables)
     ensures { IsLocatorBelow 64 (λ y. slice_index erasures.old y) (λ x. slice_index erasures.new x) }
 {
     locate(steps, erasures, get_log_walsh_below(tables, 64));
 }
 
-/// The locator of as many points as there are entries, by the library's own engine: within the bound for so many.
+/// Computes the locator of as many points as there are entries, with an engine of the library, within the bound on its steps.
 pub fn locator_by_engine(engine: DefaultEngine<'_>, steps: &mut Steps, erasures: &mut [GfElement])
     requires power { (d : ℕ) × (length erasures.old ≡ 2 ^ d) }
     requires few { length erasures.old ≤ 65536 }
@@ -132,7 +132,7 @@ pub fn locator_by_engine(engine: DefaultEngine<'_>, steps: &mut Steps, erasures:
     engine.locate(steps, erasures);
 }
 
-/// The transforms of marked rows, one after the other: each marked row is what it was.
+/// Transforms marked rows backward and then forward. Afterwards each marked row is what it was.
 pub fn back_and_forth<E: Engine>(
     engine: &E,
     steps: &mut Steps,
@@ -150,7 +150,7 @@ pub fn back_and_forth<E: Engine>(
     engine.fft_wanted(steps, rows, 0, marks, 0);
 }
 
-/// Engines that a caller has, as ones that are chosen by name.
+/// Converts engines of four types into values of one type.
 pub fn chosen<'t>(
     naive: Naive<'t>,
     no_simd: NoSimd<'t>,
@@ -170,14 +170,14 @@ pub fn kind_named(name: &str) -> Result<EngineKind, UnknownEngine>
     EngineKind::from_str(name)
 }
 
-/// The engine of a kind.
+/// Returns the engine of a kind.
 pub fn engine_of_kind(tables: &Tables, kind: EngineKind) -> DefaultEngine<'_>
     ensures { kind_of result ≡ kind }
 {
     DefaultEngine::new(tables, kind)
 }
 
-/// Works that hold nothing yet.
+/// Returns works that hold no memory.
 pub fn works() -> (EncoderWork, DecoderWork)
     ensures encoder { encoder_room result.0 ≡ 0 }
     ensures decoder { decoder_room result.1 ≡ record { chunks = 0; rows = 0; entries = 0 } }
@@ -185,7 +185,7 @@ pub fn works() -> (EncoderWork, DecoderWork)
     (EncoderWork::new(), DecoderWork::new())
 }
 
-/// What is named low is of the low rate, and so on.
+/// States that the types have the rates that their names say.
 pub fn names<E: Engine>()
     ensures low { ⟦<LowRate<E> as Rate<E>>⟧.rate ≡ low_rate }
     ensures low_encoder { ⟦<LowRateEncoder<E> as RateEncoder<E>>⟧.rate ≡ low_rate }
@@ -198,7 +198,7 @@ pub fn names<E: Engine>()
     ensures default_decoder { ⟦<DefaultRateDecoder<E> as RateDecoder<E>>⟧.rate ≡ default_rate }
 {}
 
-/// Counts that all rates support, as each has them.
+/// Checks two counts for each rate.
 pub fn counts_at_each(
     original_count: usize,
     recovery_count: usize,

@@ -1,4 +1,4 @@
-//! Callers that walk through results, and know them by their contracts alone.
+//! Callers that iterate over results. Their proofs use only the contracts of the results.
 ghost use Rattle.std.specs.Prelude.{◌≡◌, map, IfOk, IfErr};
 ghost use Rattle.reed_solomon_simd.specs.Given.{Lists};
 ghost use Rattle.reed_solomon_simd.specs.ResultView.{recovery_shards, restored_originals};
@@ -6,7 +6,8 @@ ghost use Rattle.reed_solomon_simd.specs.ResultView.{recovery_shards, restored_o
 use reed_solomon_simd::{DecoderResult, EncoderResult, Error};
 use std::alloc::Global;
 
-/// Copies of the recovery shards of a result, in order of index; `OutOfMemory` where no memory is found for them.
+/// Returns copies of the recovery shards of a result, in order of their index. Fails with `OutOfMemory` if the copies cannot be
+/// allocated.
 pub fn recovery_copies(alloc: Global, lent: &EncoderResult<'_>) -> Result<Vec<Vec<u8>>, Error>
     ensures copies { IfOk result (λ shards. map (λ shard. shard.items) shards.items ≡ recovery_shards lent.now) }
     ensures memory { IfErr result (λ e. e ≡ Error.OutOfMemory) }
@@ -18,8 +19,8 @@ pub fn recovery_copies(alloc: Global, lent: &EncoderResult<'_>) -> Result<Vec<Ve
     Ok(shards)
 }
 
-/// Copies of the restored originals of a result, with their indexes, in order of index; `OutOfMemory` where no memory
-/// is found for them.
+/// Returns copies of the restored originals of a result, with their indexes, in order of their index. Fails with `OutOfMemory` if
+/// the copies cannot be allocated.
 pub fn restored_copies(
     alloc: Global,
     lent: &DecoderResult<'_>,

@@ -1,4 +1,4 @@
-//! What the actions of a case do.
+//! The actions of a case.
 use crate::kept::{Item, Kept, Way};
 use crate::level::{Configuration, Level, Object, Role, Works};
 use crate::notation::{counted, digest_of, drawn, points, shard_of, write_items};
@@ -6,7 +6,8 @@ use anyhow::{Context, Result, bail, ensure};
 use reed_solomon_simd::Error;
 use reed_solomon_simd::rate::{DecoderWork, EncoderWork};
 
-/// Does an action of a level. Answers the text of what comes, empty where nothing does; a refusal is the error.
+/// Does an action with a level of use. Returns the text of the shards that it returned, or an empty text if it returned none.
+/// Fails with the error of the library.
 pub fn do_action<C: Level>(level: &mut C, kept: &mut Kept, action: &str) -> Result<String> {
     let object = object_of(action);
     match name_of(action) {
@@ -32,12 +33,12 @@ pub fn do_action<C: Level>(level: &mut C, kept: &mut Kept, action: &str) -> Resu
     Ok(String::new(kept.alloc))
 }
 
-// The action's first word.
+// Returns the first word of the action.
 fn name_of(action: &str) -> &str {
     action.split_whitespace().next().unwrap_or("")
 }
 
-// The object that the action is about.
+// Returns the object on which the action works.
 fn object_of(action: &str) -> Object {
     match name_of(action) {
         "decoder" | "reset-decoder" | "restore" | "decode" | "decodes" => Object::Decoder,
@@ -45,26 +46,26 @@ fn object_of(action: &str) -> Object {
     }
 }
 
-// The number that the word is.
+// Reads a word as a number.
 fn number(word: Option<&str>) -> Result<usize> {
     Ok(word.context("a number is missing")?.parse::<usize>()?)
 }
 
-// The counts and the size behind the action's first word.
+// Reads the counts and the size after the first word of the action.
 fn configuration_of(action: &str) -> Result<Configuration> {
     let mut words = action.split_whitespace().skip(1);
     let (k, r) = (number(words.next())?, number(words.next())?);
     Ok((k, r, number(words.next())?))
 }
 
-// The shards with the indexes A to B-1, for a range A..B.
+// Returns the shards with the indexes A to B-1, for a range A..B.
 fn slice_of<'a>(items: &'a [Item], range: &str) -> Result<&'a [Item]> {
     let (start, end) = range.split_once("..").context("a range is A..B")?;
     let range = start.parse::<usize>()?..end.parse::<usize>()?;
     items.get(range).context("no such shards are kept")
 }
 
-// Gives the shards of the action's words from so many on.
+// Gives the shards of the action's words, without the first words.
 fn give_from<C: Level>(level: &mut C, kept: &Kept, action: &str, from: usize) -> Result<()> {
     for word in action.split_whitespace().skip(from) {
         give_word(level, kept, word)?;
@@ -72,8 +73,9 @@ fn give_from<C: Level>(level: &mut C, kept: &Kept, action: &str, from: usize) ->
     Ok(())
 }
 
-// Gives the shards of a word: those of the encoder, or those of the decoder behind `o` or `r`. The rest tells them:
-// I=SHARD, or SHARD alone; @A..B, shards of the message or of those that were answered last; or `end`.
+// Gives the shards of a word. A word that begins with `o` or `r` gives originals or recovery shards to the decoder, and every
+// other word gives originals to the encoder. The rest of the word is I=SHARD or SHARD, or `end`, or @A..B, which gives shards of
+// the message or of the last result.
 fn give_word<C: Level>(level: &mut C, kept: &Kept, word: &str) -> Result<()> {
     let (role, rest) = match (word.strip_prefix('o'), word.strip_prefix('r')) {
         (Some(rest), _) => (Role::Original, rest),
@@ -94,7 +96,7 @@ fn give_word<C: Level>(level: &mut C, kept: &Kept, word: &str) -> Result<()> {
     Ok(level.give(role, index, shard.as_slice())?)
 }
 
-// The shard of a word I=SHARD; of SHARD alone it has this index.
+// Reads a shard with its index from a word I=SHARD. If the word is SHARD, the shard has the index `index`.
 fn item_of(kept: &Kept, word: &str, index: usize) -> Result<Item> {
     Ok(match word.split_once('=') {
         Some((own, shard)) => (own.parse::<usize>()?, shard_of(kept.alloc, shard)?),
@@ -109,7 +111,7 @@ fn give_items<C: Level>(level: &mut C, role: Role, items: &[Item]) -> Result<()>
     Ok(())
 }
 
-// Encodes or decodes what was given.
+// Encodes or decodes the given shards.
 fn run<C: Level>(level: &mut C, kept: &mut Kept, object: Object) -> Result<String> {
     let mut text = String::new(kept.alloc);
     match object {
@@ -126,13 +128,13 @@ fn run<C: Level>(level: &mut C, kept: &mut Kept, object: Object) -> Result<Strin
     Ok(text)
 }
 
-// Gives the shards of the action's words from so many on, and encodes or decodes.
+// Gives the shards of the action's words, without the first words, and encodes or decodes.
 fn round<C: Level>(level: &mut C, kept: &mut Kept, action: &str, from: usize) -> Result<String> {
     give_from(level, kept, action, from)?;
     run(level, kept, object_of(action))
 }
 
-// Gets the object that the action is about in the way that the cases are run in.
+// Makes or resets the object on which the action works, in the way in which the cases are run.
 fn obtain<C: Level>(level: &mut C, kept: &mut Kept, action: &str) -> Result<()> {
     let (object, configuration) = (object_of(action), configuration_of(action)?);
     match kept.way {
@@ -146,7 +148,7 @@ fn obtain<C: Level>(level: &mut C, kept: &mut Kept, action: &str) -> Result<()> 
     Ok(())
 }
 
-// The object does the round twice, and is left with the first shard given.
+// Does the round twice with an object, and then gives it the first shard.
 fn repeat_round<C: Level>(level: &mut C, kept: &mut Kept, action: &str) -> Result<String> {
     obtain(level, kept, action)?;
     let first = round(level, kept, action, 4)?;
@@ -158,7 +160,7 @@ fn repeat_round<C: Level>(level: &mut C, kept: &mut Kept, action: &str) -> Resul
     Ok(first)
 }
 
-// Encodes a message that a rule makes; both are kept.
+// Encodes a message that is made by a rule. Keeps the message and its recovery shards.
 fn make<C: Level>(level: &mut C, kept: &mut Kept, action: &str) -> Result<()> {
     let (k, _, size) = configuration_of(action)?;
     let mut words = action.split_whitespace().skip(4);
@@ -178,7 +180,7 @@ fn make<C: Level>(level: &mut C, kept: &mut Kept, action: &str) -> Result<()> {
     Ok(())
 }
 
-// All pairs K+R of the action are supported, or none is.
+// Checks that all pairs K+R of the action are supported, or that none is.
 fn check_counts<C: Level>(level: &C, action: &str, supported: bool) -> Result<()> {
     for pair in action.split_whitespace().skip(1) {
         let (k, r) = pair.split_once('+').context("a pair is K+R")?;
@@ -194,7 +196,7 @@ fn check_counts<C: Level>(level: &C, action: &str, supported: bool) -> Result<()
     Ok(())
 }
 
-// Every call that takes a configuration refuses it alike, which leaves the objects.
+// Checks that every call that takes a configuration fails with the same error. The calls do not change the objects.
 fn configure<C: Level>(level: &mut C, configuration: Configuration) -> Result<()> {
     let mut works = Works::default();
     let answer = level.start(Object::Encoder, configuration, &mut works);
@@ -210,7 +212,7 @@ fn configure<C: Level>(level: &mut C, configuration: Configuration) -> Result<()
     Ok(answer?)
 }
 
-/// The text of the shards that are expected: SHARD in order of index, I=SHARD, and @A..B for originals of the message.
+/// Returns the text of the expected shards: SHARD in order of index, I=SHARD, and @A..B for originals of the message.
 pub fn text_of_expected(kept: &Kept, expected: &str) -> Result<String> {
     let mut text = String::new(kept.alloc);
     for (place, word) in expected.split_whitespace().enumerate() {

@@ -6,7 +6,7 @@ use anyhow::{Context, Result, bail};
 use reed_solomon_simd::engine::Engine;
 use std::alloc::Global;
 
-/// Actions that follow one another, and the levels that they are run by.
+/// A case: actions that follow one another, and the levels of use that run them.
 #[derive(Drop)]
 struct Case<'a> {
     line: usize,
@@ -18,14 +18,14 @@ struct Case<'a> {
 #[derive(Drop)]
 pub struct CaseFile<'a> {
     name: &'a str,
-    /// The ways that cases get their objects in; all are run once in each.
+    /// The ways in which cases get their objects. Every case is run once in each of these ways.
     ways: &'a str,
     /// Whether the cases are run with every engine.
     pub every_engine: bool,
     cases: Vec<Case<'a>>,
 }
 
-/// What the cases have shown.
+/// The results of the cases.
 #[derive(Drop)]
 pub struct Report {
     pub text: String,
@@ -33,7 +33,7 @@ pub struct Report {
 }
 
 impl<'a> CaseFile<'a> {
-    /// The cases of a text.
+    /// Reads the cases of a text.
     pub fn new(alloc: Global, name: &'a str, text: &'a str) -> Result<CaseFile<'a>> {
         let mut file = CaseFile {
             name,
@@ -47,7 +47,8 @@ impl<'a> CaseFile<'a> {
         Ok(file)
     }
 
-    // A line is empty, a comment, a setting of the file, a case's first action behind its levels, or a further action.
+    // Reads a line: it is empty, a comment, a setting of the file, the first action of a case after its levels, or a further
+    // action.
     fn read_line(&mut self, alloc: Global, index: usize, line: &'a str) -> Result<()> {
         if line.is_empty() || line.starts_with('#') {
             return Ok(());
@@ -80,14 +81,14 @@ impl<'a> CaseFile<'a> {
 }
 
 impl Case<'_> {
-    // Whether the case is run by the level of this name.
+    // Returns whether the level with this name runs the case.
     fn is_by(&self, name: &str) -> bool {
         self.levels.split_whitespace().any(|own| own == name)
     }
 }
 
 impl<E: Engine + Copy> Levels<'_, E> {
-    /// Runs the cases of a file, in each of its ways, and tells how many of them each level runs.
+    /// Runs the cases of a file in each of its ways, and writes how many of them each level runs.
     pub fn run(&mut self, file: &CaseFile<'_>, engine: &str, report: &mut Report) -> Result<()> {
         for name in file.ways.split_whitespace() {
             self.run_in(way_of(name)?, file, report)?;
@@ -106,7 +107,7 @@ impl<E: Engine + Copy> Levels<'_, E> {
         Ok(())
     }
 
-    // Runs the case by each of its levels that is among these.
+    // Runs the case with each of its levels that is in `names`.
     fn run_case(&mut self, way: Way, case: &Case<'_>, report: &mut Report) -> Result<()> {
         for name in self.names {
             if case.is_by(name) {
@@ -116,8 +117,8 @@ impl<E: Engine + Copy> Levels<'_, E> {
         Ok(())
     }
 
-    // Runs the actions by a level; an action `by LEVEL` has the next ones run by another. Where one is refused for want of
-    // memory, the case ends with the actions `else` behind it, which are left out otherwise.
+    // Runs the actions with a level. After an action `by LEVEL`, the next actions are run with that level. If an action fails
+    // with `OutOfMemory`, only the actions `else` that follow it are run. Otherwise these are left out.
     fn run_by(&mut self, name: &str, way: Way, case: &Case<'_>, report: &mut Report) -> Result<()> {
         let mut kept = Kept::new(self.alloc, way);
         let mut level = name;
@@ -145,7 +146,7 @@ impl<E: Engine + Copy> Levels<'_, E> {
     }
 }
 
-// The way of this name.
+// Returns the way with this name.
 fn way_of(name: &str) -> Result<Way> {
     match name {
         "new" => Ok(Way::New),
@@ -155,7 +156,7 @@ fn way_of(name: &str) -> Result<Way> {
     }
 }
 
-// Whether the answer is this text, or that of these shards.
+// Returns whether the answer is the expected text, or the text of the expected shards.
 fn is_expected(kept: &Kept, answer: &str, expected: &str) -> bool {
     answer.trim() == expected
         || text_of_expected(kept, expected).is_ok_and(|text| text.as_str() == answer)

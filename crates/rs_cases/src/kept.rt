@@ -10,9 +10,9 @@ use std::mem;
 pub enum Way {
     /// The object is made without memory of another one.
     New,
-    /// The object of the case before is reset.
+    /// The object of the previous case is reset.
     Reset,
-    /// That of the case before is taken apart, and it is made over its memory.
+    /// The object is made with the memory of the previous case's object.
     HandedOn,
 }
 
@@ -28,7 +28,7 @@ pub struct Kept {
     pub message: Vec<Item>,
     pub recovery: Vec<Item>,
     pub restored: Vec<Item>,
-    /// Whether the last result told the same by index, by its walk and by its counts.
+    /// Whether the last result had the same shards by index and by its iterator, and the right number of shards.
     pub agrees: bool,
     /// Whether results are forgotten, and not dropped.
     pub forgets: bool,
@@ -52,7 +52,7 @@ impl Kept {
         }
     }
 
-    /// Keeps the recovery shards of a result: it is read under the watch, and copied after it.
+    /// Keeps the recovery shards of a result. The result is read before the watch ends, and copied after that.
     pub fn keep_recovery(&mut self, lent: EncoderResult<'_>, watch: Watch) -> Answer {
         self.agrees = recovery_agrees(&lent);
         drop(watch);
@@ -66,7 +66,7 @@ impl Kept {
         Ok(())
     }
 
-    /// Keeps the restored originals of a result, in the same way.
+    /// Keeps the restored originals of a result. The result is read before the watch ends, and copied after that.
     pub fn keep_restored(&mut self, lent: DecoderResult<'_>, watch: Watch) -> Answer {
         self.agrees = restored_agrees(&lent);
         drop(watch);
@@ -81,7 +81,8 @@ impl Kept {
     }
 }
 
-// Whether a result tells the same by index, by its walk and by its counts.
+// Returns whether the result of an encoder has the same shards by index and by its iterator, and whether the counts of the
+// iterator are right.
 fn recovery_agrees(lent: &EncoderResult<'_>) -> bool {
     let mut walk = lent.recovery_iter();
     let all = walk.len();
@@ -112,7 +113,7 @@ fn restored_agrees(lent: &DecoderResult<'_>) -> bool {
     agrees && lent.restored_original(usize::MAX).is_none()
 }
 
-// Whether so many items are left, by both counts.
+// Returns whether an iterator has `left` items left, by `len` and by `size_hint`.
 fn has_left<I: ExactSizeIterator>(walk: &I, left: usize) -> bool {
     walk.len() == left && walk.size_hint() == (left, Some(left))
 }

@@ -1,4 +1,4 @@
-//! What the levels of use have in common, so that an action of a case stands once.
+//! The trait of the levels of use, so that each action of a case is written once for all levels.
 use crate::kept::Kept;
 use reed_solomon_simd::Error;
 use reed_solomon_simd::rate::{DecoderWork, EncoderWork};
@@ -6,17 +6,17 @@ use reed_solomon_simd::rate::{DecoderWork, EncoderWork};
 /// The counts of originals and of recovery shards, and the size in bytes, that an object is made for.
 pub type Configuration = (usize, usize, usize);
 
-/// That a call is done, or why the library refuses it.
+/// The result of a call of the library: success or its error.
 pub type Answer = Result<(), Error>;
 
-/// Which of a level's two objects.
+/// One of the two objects of a level.
 #[derive(Clone, Copy)]
 pub enum Object {
     Encoder,
     Decoder,
 }
 
-/// As what a shard is given.
+/// The role in which a shard is given.
 #[derive(Clone, Copy)]
 pub enum Role {
     /// The encoder's next original.
@@ -36,33 +36,33 @@ pub struct Works {
 
 /// An encoder and a decoder of one level of use.
 pub trait Level {
-    /// Makes the object anew: over the memory of an earlier one where that was taken, else over none.
+    /// Makes a new object. If the memory of an earlier object was taken, the new object uses it.
     fn start(&mut self, object: Object, configuration: Configuration, works: &mut Works) -> Answer;
 
     /// Resets the object.
     fn reset(&mut self, object: Object, configuration: Configuration) -> Answer;
 
-    /// Gives a shard; the index tells nothing where it is the encoder's next.
+    /// Gives a shard. If it is the encoder's next original, the index is ignored.
     fn give(&mut self, role: Role, index: usize, shard: &[u8]) -> Answer;
 
-    /// Codes what was given; what comes is kept.
+    /// Encodes the given originals, and keeps the recovery shards.
     fn encode(&mut self, kept: &mut Kept) -> Answer;
 
-    /// Restores what is missing; what comes is kept.
+    /// Restores the missing originals, and keeps them.
     fn decode(&mut self, kept: &mut Kept) -> Answer;
 
-    /// Takes both objects apart, where the level can, and makes new ones of one original and one recovery shard.
+    /// Takes both objects apart, if the level can, and makes new objects for one original and one recovery shard.
     fn take_works(&mut self, _works: &mut Works) -> Answer {
         Ok(())
     }
 
-    /// An iterator that the level hands over ends here once, and goes on if it is asked again.
+    /// Makes an iterator that the level passes end once at this place. It continues if `next` is called again.
     fn end_once(&mut self, _role: Role) -> Answer {
         Ok(())
     }
 
-    /// Whether all further calls that take counts or a configuration, as `supports`, `validate` and the objects' own `new`,
-    /// agree with what `start` answers; not where there are none.
+    /// Returns whether all other calls that take counts or a configuration return what `start` returned. These are `supports`,
+    /// `validate` and `new` of the objects. Returns false if the level has no such calls.
     fn tells(&self, _configuration: Configuration, _answer: Answer) -> bool {
         false
     }

@@ -16,10 +16,10 @@ pub const LEVELS: &[&str] = &["call", "plain", "low", "high", "default"];
 /// The levels of objects of a rate. These objects work with any engine.
 pub const RATES: &[&str] = &["low", "high", "default"];
 
-/// The levels: those of the rates over any engine, the others over one that is chosen by name.
+/// The levels. The levels of the rates work with any engine, the other ones with an engine that is chosen by name.
 #[derive(Drop)]
 pub struct Levels<'t, E: Engine> {
-    /// The names of those that are run.
+    /// The names of the levels that are run.
     pub names: &'static [&'static str],
     pub alloc: Global,
     call: OneCall<'t>,
@@ -30,7 +30,7 @@ pub struct Levels<'t, E: Engine> {
 }
 
 impl<'t, E: Engine + Copy> Levels<'t, E> {
-    /// New levels, of which those of these names are run.
+    /// Makes all levels, of which those in `names` are run.
     pub fn new(
         alloc: Global,
         engine: E,
@@ -48,7 +48,7 @@ impl<'t, E: Engine + Copy> Levels<'t, E> {
         })
     }
 
-    // Does an action by a level.
+    // Does an action with a level.
     fn do_by(&mut self, level: &str, kept: &mut Kept, action: &str) -> Result<String> {
         match level {
             "call" => do_action(&mut self.call, kept, action),
@@ -60,7 +60,7 @@ impl<'t, E: Engine + Copy> Levels<'t, E> {
         }
     }
 
-    /// What an action answers by a level: the text of what comes or of the refusal, and how many shards are left untaken.
+    /// Does an action with a level, and returns the text of its shards or of its error, and how many shards the call did not take.
     pub fn answer_by(
         &mut self,
         level: &str,

@@ -1,8 +1,8 @@
-//! Runs cases of coding, which files of data hold, through each level of use. The words are the names of the files; their
-//! format stands at the head of each.
+//! Runs cases of coding from data files with each level of use. The words of the command line are the names of the files. The
+//! format of a file is explained at the top of the file.
 //!
-//! Prints a line for each file and engine, and one, with the line of its case, for each action whose answer isn't the one
-//! that is expected. Where there is any, the status is 1.
+//! Prints a line for each file and engine, and a line for each action whose result is not the expected one, with the line
+//! of its case. If there is such an action, the exit status is 1.
 #![tactic(auto)]
 
 mod actions;
@@ -25,7 +25,7 @@ use std::alloc::Global;
 use std::{env, fs};
 use watch::Watch;
 
-// Runs a file's cases over each kind of the engine that is chosen by name, or over the first alone.
+// Runs a file's cases with each engine that can be chosen by name, or only with the first one.
 fn run_over_kinds(
     alloc: Global,
     file: &CaseFile<'_>,
@@ -47,7 +47,7 @@ fn run_over_kinds(
     Ok(())
 }
 
-// Runs a file's cases by the objects of the rates over an engine.
+// Runs a file's cases with the objects of the rates over an engine.
 fn run_over<E: Engine + Copy>(
     alloc: Global,
     file: &CaseFile<'_>,
@@ -60,7 +60,7 @@ fn run_over<E: Engine + Copy>(
     Levels::new(alloc, engine, idle, RATES)?.run(file, name, report)
 }
 
-// Runs a file's cases over each engine's own type.
+// Runs a file's cases with the type of each engine.
 fn run_over_types(
     alloc: Global,
     file: &CaseFile<'_>,

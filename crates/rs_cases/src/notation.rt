@@ -6,7 +6,7 @@ use rand_core::{Rng, SeedableRng};
 use sha2::{Digest, Sha256};
 use std::alloc::{AllocError, Global};
 
-/// The bytes of a text of pieces with `+` between them, each of them HEX, or HEX*N for the bytes of HEX N times over.
+/// Returns the bytes of a text. The text consists of pieces with `+` between them, each HEX, or HEX*N for N times the bytes of HEX.
 pub fn shard_of(alloc: Global, text: &str) -> Result<Vec<u8>> {
     let mut shard = Vec::new(alloc);
     for piece in text.split('+') {
@@ -20,7 +20,7 @@ pub fn shard_of(alloc: Global, text: &str) -> Result<Vec<u8>> {
     Ok(shard)
 }
 
-/// So many originals, of which byte i of number j is (7 i + 13 j + 5) mod 251.
+/// Returns `count` originals. Byte i of original j is (7 i + 13 j + 5) mod 251.
 pub fn counted(alloc: Global, count: usize, shard_bytes: usize) -> Result<Vec<Item>, AllocError> {
     let mut shards = Vec::new(alloc);
     for index in 0..count {
@@ -31,7 +31,7 @@ pub fn counted(alloc: Global, count: usize, shard_bytes: usize) -> Result<Vec<It
     Ok(shards)
 }
 
-/// So many originals of this size, drawn one after another from ChaCha8, whose 32 seed bytes are all `seed`.
+/// Returns `count` originals with bytes from the generator ChaCha8, whose 32 seed bytes are all `seed`.
 pub fn drawn(
     alloc: Global,
     count: usize,
@@ -48,7 +48,7 @@ pub fn drawn(
     Ok(shards)
 }
 
-/// So many originals of two bytes: the words from this one on, each with its low byte first.
+/// Returns `count` originals of two bytes: the words from `from` on, each with its low byte first.
 pub fn points(alloc: Global, count: usize, from: usize) -> Result<Vec<Item>, AllocError> {
     let mut shards = Vec::new(alloc);
     for index in 0..count {
@@ -59,7 +59,7 @@ pub fn points(alloc: Global, count: usize, from: usize) -> Result<Vec<Item>, All
     Ok(shards)
 }
 
-/// The SHA-256 digest of all shards, one after another.
+/// Returns the SHA-256 digest of all shards, one after another.
 pub fn digest_of(alloc: Global, shards: &[Item]) -> Result<String> {
     let mut hasher = Sha256::new();
     for (_, shard) in shards {
@@ -68,7 +68,7 @@ pub fn digest_of(alloc: Global, shards: &[Item]) -> Result<String> {
     Ok(hex::encode(alloc, hasher.finalize().as_slice())?)
 }
 
-/// Writes each shard as I=HEX behind a space.
+/// Writes each shard as a space and I=HEX.
 pub fn write_items(alloc: Global, text: &mut String, items: &[Item]) -> Result<()> {
     for (index, shard) in items {
         let digits = hex::encode(alloc, shard.as_slice())?;

@@ -1,4 +1,4 @@
-//! The one-call functions: what was given is handed over when the call is made.
+//! The one-call functions. The given shards are passed when the call is made.
 use crate::kept::{Item, Kept};
 use crate::level::{Answer, Configuration, Level, Object, Role, Works};
 use crate::watch::Watch;
@@ -12,14 +12,14 @@ pub struct OneCall<'t> {
     alloc: Global,
     engine: DefaultEngine<'t>,
     configuration: Configuration,
-    // What the iterators give; they end once where there is no shard.
+    // The items of the iterators. `None` is a place at which an iterator ends once.
     next: Vec<Option<Item>>,
     original: Vec<Option<Item>>,
     recovery: Vec<Option<Item>>,
 }
 
 impl<'t> OneCall<'t> {
-    /// Nothing given.
+    /// Makes a level to which no shard is given.
     pub fn new(alloc: Global, engine: DefaultEngine<'t>) -> OneCall<'t> {
         OneCall {
             alloc,
@@ -31,7 +31,7 @@ impl<'t> OneCall<'t> {
         }
     }
 
-    // What is given in this role.
+    // Returns the shards that are given in this role.
     fn given(&mut self, role: Role) -> &mut Vec<Option<Item>> {
         match role {
             Role::Next => &mut self.next,
@@ -105,7 +105,7 @@ impl Level for OneCall<'_> {
     }
 }
 
-// What an iterator lends at this place.
+// Returns the item that an iterator lends at this place.
 fn lent(place: &Option<Item>) -> Option<(usize, &[u8])> {
     match place {
         Some((index, shard)) => Some((*index, shard.as_slice())),

@@ -1,14 +1,16 @@
-//! A watch around each call of the library that may take memory, so that its requests are told from others.
+//! A watch around each call of the library that may allocate, so that the allocations of the call can be distinguished from
+//! other allocations.
 //!
-//! It is begun and ended by a signal: a request of a size that no other has. The library that `.ci/memory` loads before the
-//! program knows both, and refuses and lists the requests between them. Where it isn't loaded, they say nothing.
+//! A watch begins and ends with an allocation of a size that no other allocation has. The library that `.ci/memory` loads before
+//! the program knows both sizes, and lets the allocations between them fail and lists them. If that library is not loaded, the two
+//! allocations have no effect.
 use std::alloc::Global;
 
 const BEGIN: usize = 10007;
 
 const END: usize = 10009;
 
-/// The calls made while this lives are watched.
+/// The calls that are made while this value lives are watched.
 pub struct Watch(Global);
 
 impl Watch {

@@ -8,9 +8,10 @@ use crate::byte_vector::ByteVector;
 use crate::factors::{Factor, ThreeFactors};
 use crate::words::{Words, add};
 
-/// The butterflies of one direction of a transform: it tells the order of their two sums and of two layers.
+/// The butterflies of one direction of a transform. The direction decides the order of the two sums of a butterfly, and the order
+/// of two layers.
 pub trait Butterflies {
-    // What a butterfly makes of two words, by the factor of a logarithm.
+    // The relation of two old words to the two new words of a butterfly, for the logarithm of its factor.
     ghost two: { ℕ → OnTwoWords };
 
     // What two layers make of four words, by the factors of rows 0 and 2, of rows 0 and 1 and of rows 2 and 3.

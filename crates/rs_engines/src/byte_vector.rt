@@ -27,7 +27,7 @@ pub trait ByteVector: Copy + Drop {
         ensures stored { (i s : ℕ) → i < LANES → s ≡ at + i → slice_index c.new s ≡ slice_index (bytes self) i }
         ensures kept { (i : ℕ) → (i < at) ⊎ (at + LANES ≤ i) → slice_index c.new i ≡ slice_index c.old i };
 
-    /// The XOR, lane by lane. The first clause tells the checker that lanes are bytes.
+    /// Returns the XOR, lane by lane. The first clause states that lanes are bytes.
     fn sum(self, other: Self) -> Self
         ensures small { (i : ℕ) → i < LANES → (slice_index (bytes self) i < 256) × (slice_index (bytes other) i < 256) }
         ensures lanes { (i : ℕ) → i < LANES → slice_index (bytes result) i ≡ bit_xor (slice_index (bytes self) i) (slice_index (bytes other) i) };

@@ -11,6 +11,8 @@ use std::str::FromStr;
 ///
 /// # Examples
 ///
+/// The word "ssse3" becomes `EngineKind::Ssse3`. A program refuses every word that is no name of an engine:
+///
 /// ```
 /// let Ok(engine) = EngineKind::from_str(engine.as_str()) else {
 ///     return Err(Fault::Usage);
@@ -67,6 +69,8 @@ impl FromStr for EngineKind {
 /// An engine of any kind, chosen while the program runs. It borrows the tables and allocates nothing.
 ///
 /// # Examples
+///
+/// Engines of four types become values of one type:
 ///
 /// ```
 /// [naive.into(), no_simd.into(), avx2.into(), ssse3.into()]

@@ -26,7 +26,7 @@ impl<'t> NoSimd<'t> {
     /// # Examples
     ///
     /// ```
-    /// check_engine(&rt, &NoSimd::new(&tables), log);
+    /// NoSimd::new(&tables)
     /// ```
     pub fn new(tables: &'t Tables) -> NoSimd<'t>
         ensures { result.tables.now ≡ tables.now }

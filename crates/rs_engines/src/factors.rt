@@ -1,4 +1,4 @@
-//! The factors of butterflies, by classes that are told apart before a loop over chunks: zero, below 256, any.
+//! The factors of butterflies in three classes, which are known before a loop over chunks: zero, below 256, and any.
 //!
 //! The product of a byte with a factor below 256 is a byte: of the eight look-ups of a product two give zero, and are
 //! left out.

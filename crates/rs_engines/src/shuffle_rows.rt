@@ -96,8 +96,8 @@ pub fn one_layer<V: ByteVector, D: Butterflies>(
     }
 }
 
-/// Two layers on four rows. The classes of the factors are told apart before the loop over chunks, where they are such as
-/// transforms ask for; with others it goes by the classes at each product.
+/// Does two layers of butterflies on four rows. For the classes of factors that occur in transforms, there is a loop over chunks
+/// for each combination of classes. For all other combinations, the class of a factor is found out at each product.
 #[inline(always)]
 pub fn two_layers<V: ByteVector, D: Butterflies>(
     x0: &mut [[u8; 64]],

@@ -1,4 +1,4 @@
--- The code: counts, placement, states, refusals and what each call answers. It rests on `words`.
+-- The code: counts, placement, states, errors, and what each call returns. This module depends on `words`.
 pub mod Column
 pub mod Counts
 pub mod Placement

@@ -1,3 +1,3 @@
-//! The code: its refusals, and its laws as contracts of functions that do nothing. It rests on `words`.
+//! The code: its errors, and its laws, which are contracts of functions that do nothing. This module depends on `words`.
 pub mod error;
 pub mod laws;

@@ -1,4 +1,5 @@
-//! Words: constants of the field, tables, the locator, the count of steps. Of the rest it uses the refusal for want of memory alone.
+//! Words: constants of the field, tables, the locator, and the count of steps. Of the other modules, this one uses only the error
+//! `OutOfMemory`.
 mod fwht;
 pub mod lent_tables;
 pub mod locating;
@@ -26,7 +27,7 @@ pub const GF_MODULUS: GfElement = 65535;
 /// The polynomial that products of bits are reduced by.
 pub const GF_POLYNOMIAL: usize = 0x1002D;
 
-/// What the words 1, 2, 4, .., 0x8000 stand for, each as the word of its bits.
+/// The polynomials that the words 1, 2, 4, .., 0x8000 represent, each as the word of its coefficients.
 pub const CANTOR_BASIS: [GfElement; GF_BITS] = [
     0x0001, 0xACCA, 0x3C0E, 0x163E, 0xC582, 0xED2E, 0x914C, 0x4012, 0x6C98, 0x10D8, 0x6A72, 0xB900,
     0xFDB8, 0xFB34, 0xFF38, 0x991E,

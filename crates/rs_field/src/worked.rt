@@ -12,7 +12,7 @@ pub fn words()
     ensures columns { ColumnsOfShards }
 {}
 
-/// Which counts each rate supports, which rate the default rate is, and what is refused of a configuration.
+/// The counts that each rate supports, the rate that the default rate is, and the errors of configurations.
 pub fn counts()
     ensures powers { Powers }
     ensures supported { Supported }
@@ -40,8 +40,8 @@ pub fn transforms()
     ensures { TransformOfTwo }
 {}
 
-/// Recovery shards, with the polynomials that code their messages: at the low rate, at the high rate, and at the default
-/// rate, where k's power is the smaller those of the low rate, else those of the high.
+/// Recovery shards with the polynomials that code their messages: at the low rate, at the high rate, and at the default rate. Those
+/// of the default rate are those of the low rate if the power of k is below the power of r, and those of the high rate else.
 pub fn codes()
     ensures low { LowExamples low_rate }
     ensures short_line { ShortLineExample low_rate }
@@ -60,7 +60,7 @@ pub fn agreement()
     ensures surplus { SurplusExample }
 {}
 
-/// Which refusal comes first, and what a call leaves.
+/// The order of errors, and the state after a call.
 pub fn refusals()
     ensures encode { EncodeOrder }
     ensures decode { DecodeOrder }

@@ -1,4 +1,4 @@
--- What each rate is at counts: whether it supports them, and whether it is the low rate there.
+-- The choice of each rate for two counts: whether it supports them, and whether it is the low rate for them.
 use Rattle.std.proofs.Common.{◌≡◌, ℕ, ◌+◌, ◌<◌, ◌≤◌, ◌==◌, Bool, true, false, min, max, refl, sym, ◌∙◌, true≢false, arith}
 use Rattle.std.specs.Prelude.{nat_le, nat_lt, ◌&&◌, ◌||◌, Some, None, cond}
 use Rattle.std.proofs.lemmas.Bool.{lt-ltb, false_from_ne_true}

@@ -82,7 +82,7 @@ decoder_shape-is rate s is laid =
     ap₂ (λ (c : Configuration) (f : Frame). let shape : DecoderShape = record { configuration = c; frame = f } in shape) is.chosen
     (laid.frame ∙ frame_alike (low_or_high own.is_low) rate own.original_count own.recovery_count is.alike)
 
--- what holds after a success and after a refusal
+-- a property that holds after a success and after an error always holds
 pub either_way : {Made Kept P : Type 0} (result : Result (Unit {0}) Error) → OnOk result Made → OnErr result Kept → (Made → P) → (Kept → P) → P
 either_way (Ok tt) made kept by_made by_kept = by_made made
 either_way (Err e) made kept by_made by_kept = by_kept kept

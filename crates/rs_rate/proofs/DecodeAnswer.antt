@@ -80,7 +80,7 @@ restores_missing rate s marks new before after message marked same i =
         ∙ at inside given is
         ∙ sym (missing-in (state_over rate s marks before) message i given inside (given-marked marks before s.configuration.shard_bytes s.frame.originals_from s.configuration.original_count i inside ∙ is))
 
--- as many shards are given as the marks tell
+-- the number of given shards is the number of marked rows
 given_count : (rate : Rate) (s : DecoderShape) (marks : List Bool) (chunks : Chunks) (n : ℕ)
     → given_row_count marks s.frame.originals_from s.configuration.original_count + given_row_count marks s.frame.recovery_from s.configuration.recovery_count ≡ n
     → originals_given (state_over rate s marks chunks) + recovery_given (state_over rate s marks chunks) ≡ n

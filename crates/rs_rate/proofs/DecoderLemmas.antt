@@ -133,7 +133,7 @@ hold_nothing s marks chunks empty =
       shards = λ p given. absurd (let no : true ≡ false = sym given ∙ empty p in let never : ⊥ = cc in never);
     }
 
--- marks by which some shard is given tell of given shards
+-- if the marks say that some shard is given, they are marks of given shards
 pub given_if_some : (marks : Marks) (from n from_too m : ℕ) → 0 < given_row_count (given_marks marks) from n + given_row_count (given_marks marks) from_too m → marks.shards ≡ Given
 given_if_some marks from n from_too m some = by_kind marks.shards some
   where

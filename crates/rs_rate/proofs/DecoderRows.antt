@@ -22,14 +22,14 @@ LeftBy s enough = cond (is_ok enough) (fresh_decoder s.configuration) s
 abbrev AnswersBy : DecoderState → Result (Unit {0}) Error → Result Shards Error → Type 0
 AnswersBy s enough result = MatchResult enough (λ _. MatchResult result (Restored s) (NoneAgrees s)) (λ e. result ≡ Err e)
 
--- where too few are given the state stays, and the answer is the refusal
+-- if too few shards are given, `decode` does not change the state
 pub after_decode-refused : (s : DecoderState) (e : Error) → Err e ≡ enough_given s → s ≡ after_decode s
 after_decode-refused s e refused = ap (LeftBy s) refused
 
 pub decode_answers-refused : (s : DecoderState) (e : Error) → Err e ≡ enough_given s → DecodeAnswers s (Err e)
 decode_answers-refused s e refused = subst (λ enough. AnswersBy s enough (Err e)) refused refl
 
--- else nothing is given any more, and the answer is the restored originals or that no message agrees
+-- if enough shards are given, the state after `decode` has no shards
 pub after_decode-made : (s : DecoderState) → Ok tt ≡ enough_given s → after_decode s ≡ fresh_decoder s.configuration
 after_decode-made s made = sym (ap (LeftBy s) made)
 

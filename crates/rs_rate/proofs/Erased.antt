@@ -1,4 +1,4 @@
--- The erased rows that a decoder's marks tell are those of the frame.
+-- The rows that are erased by a decoder's marks are the erased rows of its frame.
 use Rattle.std.proofs.Common.{◌≡◌, ℕ, ◌+◌, ◌^◌, ◌<◌, ◌≤◌, ◌⊎◌, List, Bool, true, false, cond, refl, sym, ap, ap₂, ◌∙◌, arith, inl, inr, pow_mono}
 use Rattle.std.specs.Prelude.{is_some, nat_le, nat_lt, ◌&&◌, ◌||◌}
 use Rattle.std.proofs.Math.Bool.{and-false}
@@ -62,7 +62,7 @@ zeros_reach p k r e bound zeros_end f =
     let few : 2 ^ e ≤ 2 ^ 16 = pow_mono f.few in
     elim f.whole [ inl same ↦ omega (arith, same.1) | inr wide ↦ omega (arith, wide.1, wide.2) ]
 
--- in a frame the marks tell which rows are erased
+-- in a frame, the marks determine which rows are erased
 pub are_erased : (p : Placement) (k r e bound zeros_end : ℕ) (marks : List Bool) (originals recovery : Shards) → IsFrame p k r e bound zeros_end
     → ArePlaced p.originals_from k p.recovery_from r marks
     → ((i : ℕ) → i < k → is_some (originals i) ≡ is_marked marks (p.originals_from + i))

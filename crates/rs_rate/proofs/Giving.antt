@@ -95,7 +95,7 @@ outcome-err (Err f) e told = cc
 pub reaches-ok : {S : Type 0} (outcome : Result S Error) (P : S → Type 0) (s : S) → outcome ≡ Ok s → P s → Reaches outcome (Ok tt) P
 reaches-ok outcome P s is holds = subst (λ o. Reaches o (Ok tt) P) (sym is) (refl, holds)
 
--- and a refusal, in whatever state
+-- a result that is the error of the outcome reaches the outcome
 pub reaches-err : {S : Type 0} (outcome : Result S Error) (P : S → Type 0) (result : Result (Unit {0}) Error) (e : Error) → outcome ≡ Err e → result ≡ Err e → Reaches outcome result P
 reaches-err outcome P result e is refused = subst (λ o. Reaches o result P) (sym is) refused
 
@@ -145,7 +145,7 @@ pub reached-ok : {S : Type 0} (outcome : Result S Error) (now : S) → Reaches o
 reached-ok (Ok s) now reached = ap Ok (sym reached.1)
 reached-ok (Err e) now reached = absurd (let no : ⊥ = cc in no)
 
--- and one that answered a refusal was refused so
+-- if a result that reaches an outcome is an error, the outcome is the same error
 pub reached-err : {S : Type 0} (outcome : Result S Error) (P : S → Type 0) (e : Error) → Reaches outcome (Err e) P → outcome ≡ Err e
 reached-err (Ok s) P e reached = absurd (let h = reached.0 in let no : ⊥ = cc in no)
 reached-err (Err f) P e reached = let same : f ≡ e = cc in ap Err same

@@ -34,7 +34,7 @@ noted_by count indexes index outside taken =
     else if taken then Err (DuplicateOriginalShardIndex index)
     else Ok (index ∷ indexes)
 
--- tells the same
+-- the test of an index has the result of noting the index
 note_outcome-tested : (count : ℕ) (indexes : List ℕ) (given : List Bool) (index : ℕ) → length given ≡ count → AreNoted indexes given
     → tested (length given) index (nat_le (length given) index) (get_or given index false) ≡ answer_of (note_outcome count indexes index)
 note_outcome-tested count indexes given index size are =
@@ -46,7 +46,7 @@ note_outcome-tested count indexes given index size are =
     by_tests false true = refl
     by_tests false false = refl
 
--- so a refusal is the outcome's
+-- an error of the test of an index is the error of noting the index
 pub note_outcome-refused : {count : ℕ} {indexes : List ℕ} {given : List Bool} (index : ℕ) {e : Error} → length given ≡ count → AreNoted indexes given
     → Err e ≡ tested (length given) index (nat_le (length given) index) (get_or given index false) → note_outcome count indexes index ≡ Err e
 note_outcome-refused {count} {indexes} {given} index {e} size are told = outcome-err (note_outcome count indexes index) e (told ∙ note_outcome-tested count indexes given index size are)

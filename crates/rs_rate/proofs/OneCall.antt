@@ -75,7 +75,7 @@ module _ (k r : ℕ) (first : Shard) (rest : List Shard) where
       inl (sym is ∙ ap (λ s. with_shards s (first ∷ rest)) fresh
       ∙ ap (result_and_then (λ _. with_shards (fresh_encoder (default_of k r (length first))) (first ∷ rest))) (sym (start_outcome-made _ made)))
 
--- a refusal of the shards is that of one call
+-- an error of adding the originals is an error of one-call `encode`
 pub encoding-refused : (k r : ℕ) (shards : List Shard) (e : Error) → IsEncoding k r shards (Err e) → OneEncodeAnswers k r shards (Err e)
 encoding-refused k r shards e (inl same) = inl (leads-off EncodeAnswers (encoding k r shards) e (sym same))
 encoding-refused k r shards e (inr lacks) = inr (lacks.0, as-lacking e lacks.1)
@@ -157,7 +157,7 @@ module _ (k r : ℕ) (originals : Items) (first : ℕ × Shard) (rest : Items) w
       inl (ap (result_and_then (λ s. Ok (Some s))) (sym is ∙ ap (λ s. with_both s originals (first ∷ rest)) fresh
       ∙ ap (result_and_then (λ _. with_both (fresh_decoder (default_of k r (length first.1))) originals (first ∷ rest))) (sym (start_outcome-made _ made))))
 
--- a refusal of the shards is that of one call
+-- an error of adding the shards is an error of one-call `decode`
 pub decoding-refused : (k r : ℕ) (originals recovery : Items) (e : Error) → IsDecoding k r originals recovery (Err e) → OneDecodeAnswers k r originals recovery (Err e)
 decoding-refused k r originals recovery e (inr lacks) = inr (lacks.0, as-lacking e lacks.1)
 decoding-refused k r originals [] e (inl same) = inl (leads-off (λ _ result. result ≡ Ok nothing) _ e (first-err (λ _. None) _ e same))

@@ -1,4 +1,4 @@
--- What a rate is at counts that it supports: the low or the high rate, with its rows, frame and recovery shards.
+-- A rate is the low or the high rate for each pair of supported counts, and has the rows, the frame and the recovery shards of that rate.
 use Rattle.std.proofs.Common.{◌≡◌, ℕ, ◌+◌, ◌<◌, ◌≤◌, Bool, true, false, cond, List, refl, sym, ap, ap₂, ◌∙◌, subst, true≢false, arith}
 use Rattle.std.specs.Prelude.{slice_index, if◌then◌else◌}
 use Rattle.rs_field.specs.code.Counts.{Rate, next_power, supports, is_low, low_rate, high_rate, default_rate}

@@ -17,7 +17,7 @@ use Rattle.rs_rate.specs.Marks.{given_marks, given_row_count, given_shards}
 use Rattle.rs_rate.specs.Sides.{side_count, side_from, side_row, side_originals, side_recovery, repeat_refused, with_shard_of_side}
 use Rattle.rs_rate.proofs.DecoderLemmas.{shard_of_row, given-marked, given-kept, given-entered}
 
--- the other side
+-- originals and recovery shards are the two sides of a decoder; each is the other side of the other
 abbrev other : Side → Side
 other Original = Recovery
 other Recovery = Original
@@ -35,7 +35,7 @@ given-at w side index row given at inside is =
     given-marked (given_marks w.memory.marks) w.memory.chunks.items w.shape.configuration.shard_bytes (side_from side w.shape) (side_count side w.shape) index inside
     ∙ ap (λ (p : ℕ). is_marked (given_marks w.memory.marks) p) (sym at) ∙ is
 
--- the refusals
+-- adding a shard whose row is marked as given is an error
 pub add-repeated : (rate : Rate) (w : DecoderRows) (side : Side) (index row : ℕ) (shard : Shard) → row ≡ side_row side w.shape index → index < side_count side w.shape
     → is_marked (given_marks w.memory.marks) row ≡ true → with_shard_of_side side (decoder_state rate w) index shard ≡ Err (repeat_refused side index)
 add-repeated rate w Original index row shard at inside given =

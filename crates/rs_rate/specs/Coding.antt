@@ -1,4 +1,4 @@
--- How the words of one column become recovery words, and in how many row steps.
+-- The relation of the words of one column to its recovery words, and a bound on the row steps of the coding.
 use Rattle.std.specs.Prelude.{◌≡◌, ℕ, ◌+◌, ◌-◌, ◌*◌, ◌/◌, ◌<◌, ◌≤◌}
 use Rattle.rs_field.specs.code.Counts.{Rate}
 use Rattle.rs_field.specs.words.UpTo.{up_to}
@@ -8,7 +8,7 @@ use Rattle.rs_field.specs.words.StepBounds.{CountsUpTo}
 use Rattle.rs_field.specs.code.Bounds.{encode_steps_at}
 use Rattle.rs_field.specs.declared.words.steps.Steps.{Steps}
 
--- the k old words are the first values of a combination of m basis polynomials that is zero at the points from k to m - 1, and the r new words are its values from the point m on
+-- a combination of m basis polynomials has the k old words as its values at the points from 0 on and is zero at the points from k to m - 1, and the r new words are its values at the points from m on
 abbrev pub CodesLow : ℕ → ℕ → ℕ → (ℕ → ℕ) → (ℕ → ℕ) → Type 0
 CodesLow k r m old new =
     (combination : ℕ → ℕ)
@@ -16,7 +16,7 @@ CodesLow k r m old new =
     × ((j : ℕ) → k ≤ j → j < m → forward m 0 combination j ≡ 0)
     × ((i : ℕ) → i < r → new i ≡ forward m 0 combination (m + i))
 
--- the first m words are the sum of n combinations of m basis polynomials: number u takes, at the m points from (u + 1) * m on, those of the k old words from u * m on, and zero past the last of them
+-- the first m words are the sum of n combinations of m basis polynomials; the values of combination u at the m points from (u + 1) * m on are the old words from u * m on, and zero after the last of the k old words
 abbrev pub SumsBlocks : ℕ → ℕ → ℕ → (ℕ → ℕ) → (ℕ → ℕ) → Type 0
 SumsBlocks m n k old sums =
     (combinations : ℕ → ℕ → ℕ)
@@ -24,14 +24,14 @@ SumsBlocks m n k old sums =
     × ((u i : ℕ) → u < n → i < m → k ≤ u * m + i → forward m (u * m + m) (combinations u) i ≡ 0)
     × ((q : ℕ) → q < m → sums q ≡ sum_below n (λ u. combinations u q))
 
--- in one column, the r new words are the recovery words of the k old ones
+-- in one column, the r new words are the recovery words of the k old words
 abbrev pub CodesWords : Rate → ℕ → ℕ → (ℕ → ℕ) → (ℕ → ℕ) → Type 0
 CodesWords rate k r old new = AreRecoveryWords rate k r (up_to k old) (up_to r new)
 
--- the blocks of m rows that come after the first one
+-- the number of blocks of m rows after the first block
 abbrev pub further_blocks : ℕ → ℕ → ℕ
 further_blocks m rows = (rows - m) / m
 
--- what the coding of a round may count: an encode's row steps without those of the tails, one for each recovery shard
+-- coding counts at most the row steps of an encode without the steps that move tails, of which there is one for each recovery shard
 abbrev pub CodingCounts : Rate → ℕ → ℕ → Steps → Steps → Type 0
 CodingCounts rate k r old new = CountsUpTo (encode_steps_at rate k r - r) 0 0 old new

@@ -7,17 +7,17 @@ use Rattle.rs_rate.specs.declared.rate.decoder_work.DecoderWork.{DecoderWork}
 use Rattle.rs_rate.specs.Marks.{mark_count, mark_room}
 use Rattle.rs_rate.specs.ShardRows.{chunk_count}
 
--- the chunks of a shape's rows
+-- the number of chunks of the rows of a shape
 abbrev pub shape_chunks : DecoderShape → ℕ
 shape_chunks shape = chunk_count shape.frame.row_count shape.configuration.shard_bytes
 
--- the room that a work has: for chunks, for the marks of rows, and for the locator's entries at the rows
+-- the room of a decoder's memory: for how many chunks, for the marks of how many rows, and for how many entries of the locator
 pub record DecoderRoom : Type 0 where
   pub chunks : ℕ
   pub rows : ℕ
   pub entries : ℕ
 
--- the room of a decoder's memory
+-- the room that a decoder's memory has
 abbrev pub memory_room : DecoderMemory → DecoderRoom
 memory_room memory =
     record { chunks = vec_capacity memory.chunks; rows = mark_room memory.marks; entries = vec_capacity memory.entries }
@@ -27,17 +27,17 @@ abbrev pub room_if : Option DecoderMemory → DecoderRoom
 room_if None = record { chunks = 0; rows = 0; entries = 0 }
 room_if (Some memory) = memory_room memory
 
--- the room of what is handed from one decoder to the next
+-- the room of a work
 abbrev pub work_room : DecoderWork → DecoderRoom
 work_room work = room_if work.memory
 
--- there is room for n rows of shards of this size, so that nothing is allocated
+-- there is room for a number of rows of shards of this size, so that nothing must be allocated
 pub record HasRoom (room : DecoderRoom) (count size : ℕ) : Type 0 where
   pub chunks : chunk_count count size ≤ room.chunks
   pub rows : count ≤ room.rows
   pub entries : count ≤ room.entries
 
--- memory is laid out for a shape: it has as many chunks, marks and entries as the rows take, and room for these
+-- memory is laid out for a shape: it has the chunks, the marks and the entries of all rows of the shape, and room for these
 pub record IsLaidOut (shape : DecoderShape) (memory : DecoderMemory) : Type 0 where
   pub whole : vec_len memory.chunks ≡ shape_chunks shape
   pub marked : mark_count memory.marks ≡ shape.frame.row_count
@@ -45,7 +45,7 @@ pub record IsLaidOut (shape : DecoderShape) (memory : DecoderMemory) : Type 0 wh
   pub sized : shape_chunks shape * 64 < 2 ^ 64
   pub room : HasRoom (memory_room memory) shape.frame.row_count shape.configuration.shard_bytes
 
--- the new room is no less than the old
+-- the new room is at least as large as the old room
 pub record Grows (old new : DecoderRoom) : Type 0 where
   pub chunks : old.chunks ≤ new.chunks
   pub rows : old.rows ≤ new.rows

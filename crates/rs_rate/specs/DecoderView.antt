@@ -10,7 +10,7 @@ use Rattle.rs_rate.specs.declared.rate.decoder_work.DecoderRows.{DecoderRows}
 use Rattle.rs_rate.specs.Configured.{configuration_at, rate_configuration, frame_of}
 use Rattle.rs_rate.specs.Marks.{given_marks, restored_marks, given_shards, restored_shards}
 
--- the state that the rows of a shape stand for at this rate, by the marks of given shards
+-- the state of a decoder of this rate whose given shards are in the marked rows
 abbrev pub state_over : Rate → DecoderShape → List Bool → Chunks → DecoderState
 state_over rate s marks chunks =
     record {
@@ -23,18 +23,18 @@ state_over rate s marks chunks =
 abbrev pub decoder_state : Rate → DecoderRows → DecoderState
 decoder_state rate rows = state_over rate rows.shape (given_marks rows.memory.marks) rows.memory.chunks.items
 
--- the originals that lie restored in the rows of a shape, by the marks of restored shards
+-- the restored originals of a decoder, which are in the marked rows
 abbrev pub restored_over : DecoderShape → List Bool → Chunks → Shards
 restored_over s marks chunks = restored_shards marks chunks s.configuration.shard_bytes s.frame.originals_from s.configuration.original_count
 
--- the originals that lie restored in a decoder's rows after a round
+-- the restored originals in a decoder's rows after a round
 abbrev pub restored_by_rows : DecoderRows → Shards
 restored_by_rows rows = restored_over rows.shape (restored_marks rows.memory.marks) rows.memory.chunks.items
 
--- the originals that lie restored in the rows from an index on, with their indexes, in order of index
+-- the restored originals from an index on, with their indexes, in order of their index
 abbrev pub restored_from : DecoderRows → ℕ → List (ℕ × Shard)
 restored_from rows index = items_from index (rows.shape.configuration.original_count - index) (restored_by_rows rows)
 
--- what a decoder of this rate is set up for at these counts and this size
+-- the shape of a decoder of this rate for these counts and this size
 abbrev pub decoder_shape : Rate → ℕ → ℕ → ℕ → DecoderShape
 decoder_shape rate k r size = record { configuration = rate_configuration rate k r size; frame = frame_of rate k r }

@@ -10,7 +10,7 @@ use Rattle.rs_rate.specs.declared.rate.encoder_work.EncoderWork.{EncoderWork}
 use Rattle.rs_rate.specs.Memory.{room_of}
 use Rattle.rs_rate.specs.ShardRows.{shard_laid_out, shard_in_order}
 
--- the originals that were given, in order
+-- the originals that were added, in order
 abbrev pub given_originals : EncoderRows → List Shard
 given_originals rows = up_to rows.originals_given (shard_laid_out rows.chunks.items rows.shape.configuration.shard_bytes)
 
@@ -18,10 +18,10 @@ given_originals rows = up_to rows.originals_given (shard_laid_out rows.chunks.it
 abbrev pub encoder_state : Rate → EncoderRows → EncoderState
 encoder_state rate rows = record { configuration = configuration_at rate rows.shape.configuration; given = given_originals rows }
 
--- the recovery shards that lie in the rows after a round
+-- the recovery shards in the rows after a round
 abbrev pub lent_shards : EncoderRows → List Shard
 lent_shards rows = up_to rows.shape.configuration.recovery_count (shard_in_order rows.chunks.items rows.shape.configuration.shard_bytes)
 
--- the chunks that there is room for in a work
+-- the number of chunks for which a work has room
 abbrev pub work_room : EncoderWork → ℕ
 work_room work = room_of work.chunks

@@ -1,4 +1,4 @@
--- What calls that give shards one after another lead to.
+-- The results of calls that add shards one after another.
 use Rattle.std.specs.Prelude.{◌≡◌, ◌⊎◌, ℕ, Bool, false, List, [], ◌∷◌, length, count_by, nat_eq, slice_index_or, Option, Some, None, Result, Ok, Err, MatchResult}
 use Rattle.std.specs.List.{list_any}
 use Rattle.rs_field.specs.declared.code.error.Error.{Error}
@@ -8,24 +8,24 @@ use Rattle.rs_field.specs.code.Encoder.{EncoderState}
 use Rattle.rs_field.specs.code.OneCall.{Items, LacksMemory, counts_outcome, originals_alone, encode_opening, encoding, decode_opening, decoding}
 use Rattle.rs_field.specs.code.Outcome.{result_and_then}
 
--- a call answered as the outcome says: a success, with such a state as the outcome names, or the refusal
+-- a result is that of an outcome: success, with the property P for the state of the outcome, or the error of the outcome
 abbrev pub Reaches : {S : Type 0} → Result S Error → Result (Unit {0}) Error → (S → Type 0) → Type 0
 Reaches outcome result P = MatchResult outcome (λ s. (result ≡ Ok tt) × P s) (λ e. result ≡ Err e)
 
--- the places that are true are those of the indexes, each of which stands once
+-- exactly the places of the indexes are true, and no index occurs twice
 pub record AreNoted (indexes : List ℕ) (given : List Bool) : Type 0 where
   pub places : (i : ℕ) → slice_index_or given i false ≡ list_any (nat_eq i) indexes
   pub number : count_by (λ noted. noted) given ≡ length indexes
 
--- the encoder that shards lead to, or their refusal; or out of memory, where nothing was refused before memory was wanted
+-- the result of adding originals to an encoder: the encoder, or the first error, or `OutOfMemory` if the checks before the first allocation find no error
 abbrev pub IsEncoding : ℕ → ℕ → List Shard → Result EncoderState Error → Type 0
 IsEncoding k r shards result = (result ≡ encoding k r shards) ⊎ LacksMemory (encode_opening k r shards) result
 
--- the decoder that originals and recovery shards lead to, none where no recovery shard is given and all originals are, or their refusal
+-- the outcome of adding originals and recovery shards to a decoder: the decoder, or `None` if there is no recovery shard and no original is missing, or the first error
 abbrev pub decoding_any : ℕ → ℕ → Items → Items → Result (Option DecoderState) Error
 decoding_any k r originals [] = result_and_then (λ _. Ok None) (result_and_then (λ _. originals_alone k originals) (counts_outcome k r))
 decoding_any k r originals (first ∷ rest) = result_and_then (λ s. Ok (Some s)) (decoding k r originals first rest)
 
--- it, or out of memory, where nothing was refused before memory was wanted
+-- the result of adding originals and recovery shards to a decoder: its outcome, or `OutOfMemory` if the checks before the first allocation find no error
 abbrev pub IsDecoding : ℕ → ℕ → Items → Items → Result (Option DecoderState) Error → Type 0
 IsDecoding k r originals recovery result = (result ≡ decoding_any k r originals recovery) ⊎ LacksMemory (decode_opening k r recovery) result

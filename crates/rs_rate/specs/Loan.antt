@@ -1,4 +1,4 @@
--- What becomes of an object that lends its result.
+-- The state of an object after the loan of its result.
 use Rattle.std.specs.Prelude.{⊤}
 use Rattle.std.specs.Borrow.{MutBor, Fml, RattleType, follows_so}
 use mathlib.Core.Option.{none}

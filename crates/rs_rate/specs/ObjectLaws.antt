@@ -1,4 +1,4 @@
--- What the traits' laws say of the objects, by what their rows keep.
+-- The laws of the traits, proved from the invariants of the rows.
 use Rattle.std.specs.Prelude.{◌≡◌, ◌+◌, ◌*◌, ◌^◌, ◌<◌, ◌≤◌, ℕ, List, All, Bool, true, false, Some, None, is_some, unwrap_or, nat_lt, if◌then◌else◌, refl}
 use Rattle.std.proofs.Common.{sym, ap, ◌∙◌, subst, true≢false}
 use Rattle.std.proofs.lemmas.Bool.{le-ltb}
@@ -23,12 +23,12 @@ use Rattle.rs_rate.specs.Marks.{given_marks, given_shards}
 use Rattle.rs_rate.specs.SetUp.{IsSetUp}
 use Rattle.rs_rate.specs.ShardRows.{chunk_count, shard_laid_out}
 
--- what holds of each of the first n values holds of their list
+-- a property of each of the first n values holds for all items of their list
 pub all-up_to : (P : Shard → Type 0) (n : ℕ) (f : ℕ → Shard) → ((i : ℕ) → i < n → P (f i)) → All P (up_to n f)
 all-up_to P n f each i d h =
     let inside : i < n = subst (λ (m : ℕ). i < m) (length-up_to n f) h in subst P (sym (get-up_to n f i d inside)) (each i inside)
 
--- an encoder over rows of a valid shape is in a state that an encoder can be in
+-- an encoder over rows of a valid shape has a state that an encoder can have
 pub is_encoder : (rate : Rate) (rows : EncoderRows) → IsSetUp rate rows.shape.configuration → IsEncoder rate (encoder_state rate rows)
 unfolding chunk_count
 is_encoder rate rows is =
@@ -40,12 +40,12 @@ is_encoder rate rows is =
       sized = all-up_to (IsShard rows.shape.configuration.shard_bytes) rows.originals_given (shard_laid_out rows.chunks.items rows.shape.configuration.shard_bytes) rows.shards;
     }
 
--- and has room for its own rows
+-- an encoder has room for its own rows
 pub has_own_room : (rate : Rate) (rows : EncoderRows) → IsSetUp rate rows.shape.configuration
     → chunk_count (encoder_rows rate rows.shape.configuration.original_count rows.shape.configuration.recovery_count) rows.shape.configuration.shard_bytes ≤ vec_capacity rows.chunks
 has_own_room rate rows is = subst (λ (n : ℕ). chunk_count n rows.shape.configuration.shard_bytes ≤ vec_capacity rows.chunks) (rows.laid.rows ∙ encoder_rows_set_up rate rows.shape.configuration is) rows.own_room
 
--- the shards that rows tell of by their marks are of the size
+-- the shards in marked rows have the size
 given_within : (marks : List Bool) (chunks : Chunks) (size from n : ℕ)
     → ((p : ℕ) → is_marked marks p ≡ true → IsShard size (shard_laid_out chunks size p)) → AreWithin n size (given_shards marks chunks size from n)
 unfolding given_shards
@@ -61,7 +61,7 @@ given_within marks chunks size from n shards =
     by_tests i shard true false mark is = absurd (true≢false (sym (ap is_some is)))
     by_tests i shard false given mark is = absurd (true≢false (sym (ap is_some is)))
 
--- a decoder over rows of a valid shape is in a state that a decoder can be in
+-- a decoder over rows of a valid shape has a state that a decoder can have
 pub is_decoder : (rate : Rate) (rows : DecoderRows) → IsSetUp rate rows.shape.configuration → IsDecoder rate (decoder_state rate rows)
 unfolding chunk_count
 is_decoder rate rows is =
@@ -74,7 +74,7 @@ is_decoder rate rows is =
       recovery_within = given_within (given_marks rows.memory.marks) rows.memory.chunks.items s.configuration.shard_bytes s.frame.recovery_from s.configuration.recovery_count rows.given.shards;
     }
 
--- and has room for its own rows
+-- a decoder has room for its own rows
 pub has_own_decoder_room : (rate : Rate) (rows : DecoderRows) → IsSetUp rate rows.shape.configuration
     → HasRoom (memory_room rows.memory) (decoder_rows rate rows.shape.configuration.original_count rows.shape.configuration.recovery_count) rows.shape.configuration.shard_bytes
 has_own_decoder_room rate rows is =

@@ -1,4 +1,4 @@
--- What a result lends.
+-- The shards that a result lends.
 use Rattle.std.specs.Prelude.{List, Result}
 use Rattle.std.specs.Result.{result_map_both}
 use Rattle.rs_field.specs.code.Column.{Shard}
@@ -13,7 +13,7 @@ use Rattle.rs_rate.specs.DecoderView.{restored_by_rows}
 abbrev pub recovery_shards : EncoderResult → List Shard
 recovery_shards result = lent_shards result.rows.now
 
--- the recovery shards, or the refusal
+-- the recovery shards of a result, or the error
 abbrev pub answered_shards : Result EncoderResult Error → Result (List Shard) Error
 answered_shards result = result_map_both recovery_shards (λ e. e) result
 
@@ -21,6 +21,6 @@ answered_shards result = result_map_both recovery_shards (λ e. e) result
 abbrev pub restored_originals : DecoderResult → Shards
 restored_originals result = restored_by_rows result.rows.now
 
--- the restored originals, or the refusal
+-- the restored originals of a result, or the error
 abbrev pub answered_originals : Result DecoderResult Error → Result Shards Error
 answered_originals result = result_map_both restored_originals (λ e. e) result

@@ -1,4 +1,4 @@
--- What rows are set up for, and the outcome of allocating them.
+-- The configuration for which rows are set up, and the outcome of allocating the rows.
 use Rattle.std.specs.Prelude.{◌≡◌, ℕ, Result, Ok}
 use Rattle.rs_field.specs.declared.code.error.Error.{Error}
 use Rattle.rs_field.specs.code.Configuration.{validation_outcome}
@@ -7,18 +7,18 @@ use Rattle.rs_rate.specs.declared.rate.configuration.Configuration.{Configuratio
 use Rattle.rs_rate.specs.Configured.{configuration_at, rate_configuration, low_or_high, IsConfigured}
 use Rattle.rs_rate.specs.ShardRows.{memory_outcome, chunk_count}
 
--- a configuration is a valid one of this rate, which chooses as the low or the high rate that it tells
+-- a configuration is valid for a rate, which chooses for its counts the low or the high rate that the configuration names
 pub record IsSetUp (rate : Rate) (c : Configuration) : Type 0 where
   pub valid : validation_outcome (configuration_at rate c) ≡ Ok tt
   pub chosen : c ≡ rate_configuration rate c.original_count c.recovery_count c.shard_bytes
   pub alike : is_low (low_or_high c.is_low) c.original_count c.recovery_count ≡ is_low rate c.original_count c.recovery_count
   pub configured : IsConfigured c
 
--- the rows of a configuration, by how many a rate has at counts
+-- the number of rows of a configuration, from the function that gives the number of rows for a rate and two counts
 abbrev pub rows_of : (Rate → ℕ → ℕ → ℕ) → Configuration → ℕ
 rows_of row_count c = row_count (low_or_high c.is_low) c.original_count c.recovery_count
 
--- the outcome of setting up
+-- the result of setting rows up: success or an error
 abbrev pub Answer : Type 0
 Answer = Result (Unit {0}) Error
 

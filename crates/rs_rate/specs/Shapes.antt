@@ -1,4 +1,4 @@
--- What the rows of an encoder and of a decoder can be set up for, and where a decoder's shards stand.
+-- The shapes for which the rows of an encoder and of a decoder can be set up.
 use Rattle.std.specs.Prelude.{◌≡◌, ◌≢◌, ◌+◌, ◌<◌, ◌≤◌, ℕ}
 use Rattle.rs_field.specs.code.Counts.{next_power}
 use Rattle.rs_field.specs.code.Placement.{encoder_rows, decoder_rows}
@@ -7,7 +7,7 @@ use Rattle.rs_rate.specs.declared.rate.encoder_work.EncoderShape.{EncoderShape}
 use Rattle.rs_rate.specs.declared.rate.decoder_work.DecoderShape.{DecoderShape}
 use Rattle.rs_rate.specs.declared.rate.decoder_work.Frame.{Frame}
 
--- a configuration, and its rows: enough for the originals and for the recovery shards
+-- a shape is right for an encoder: its configuration is valid, and it has enough rows for the originals and for the recovery shards
 pub record EncoderCanBeLaid (shape : EncoderShape) : Type 0 where
   pub configured : IsConfigured shape.configuration
   pub rows : shape.row_count ≡ encoder_rows (low_or_high shape.configuration.is_low) shape.configuration.original_count shape.configuration.recovery_count
@@ -22,7 +22,7 @@ original_row frame index = frame.originals_from + index
 abbrev pub recovery_row : Frame → ℕ → ℕ
 recovery_row frame index = frame.recovery_from + index
 
--- a frame has a power of two of at most 65536 rows, with k originals and r recovery shards among them, no two in one row
+-- the number of rows of a frame is a power of two and at most 65536, and k originals and r recovery shards are in different rows
 pub record HasPlaces (k r : ℕ) (frame : Frame) : Type 0 where
   pub power : next_power frame.row_count ≡ frame.row_count
   pub few : frame.row_count ≤ 65536
@@ -30,7 +30,7 @@ pub record HasPlaces (k r : ℕ) (frame : Frame) : Type 0 where
   pub recovery : recovery_row frame r ≤ frame.row_count
   pub apart : (i j : ℕ) → i < k → j < r → original_row frame i ≢ recovery_row frame j
 
--- a configuration, and its frame, with places for its shards
+-- a shape is right for a decoder: its configuration is valid, and its frame has a row for each of its shards
 pub record DecoderCanBeLaid (shape : DecoderShape) : Type 0 where
   pub configured : IsConfigured shape.configuration
   pub rows : shape.frame.row_count ≡ decoder_rows (low_or_high shape.configuration.is_low) shape.configuration.original_count shape.configuration.recovery_count

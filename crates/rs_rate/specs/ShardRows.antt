@@ -10,7 +10,7 @@ use Rattle.rs_field.specs.rows.Layout.{row_len, laid_out, in_order}
 unfoldable pub chunk_count : ℕ → ℕ → ℕ
 chunk_count rows size = rows * row_len size
 
--- the outcome of allocating n chunks if memory can be allocated; memory of more than `usize::MAX` bytes never can
+-- the outcome of allocating n chunks if there is memory; more than `usize::MAX` bytes can never be allocated
 abbrev pub memory_outcome : ℕ → Result (Unit {0}) Error
 memory_outcome chunks = if nat_le (2 ^ 64) (chunks * 64) then Err OutOfMemory else Ok tt
 
@@ -22,7 +22,7 @@ row_chunk chunks size i k = chunk chunks (i * row_len size + k)
 abbrev pub shard_laid_out : Chunks → ℕ → ℕ → Shard
 shard_laid_out chunks size i = laid_out size (row_chunk chunks size i)
 
--- the shard that lies in row i once its tail was moved
+-- the shard in row i after its tail was moved
 abbrev pub shard_in_order : Chunks → ℕ → ℕ → Shard
 shard_in_order chunks size i = in_order size (row_chunk chunks size i)
 

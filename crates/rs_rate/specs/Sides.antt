@@ -1,4 +1,4 @@
--- The two sides of a message, from which a decoder is given shards.
+-- The two sides of a codeword: the originals and the recovery shards.
 use Rattle.std.specs.Prelude.{ℕ, ◌+◌, Result}
 use Rattle.rs_field.specs.declared.code.error.Error.{Error}
 use Rattle.rs_field.specs.declared.code.error.Error.TheVariants.{InvalidOriginalShardIndex, InvalidRecoveryShardIndex, DuplicateOriginalShardIndex, DuplicateRecoveryShardIndex}
@@ -8,36 +8,36 @@ use Rattle.rs_rate.specs.declared.rate.decoder_work.DecoderShape.{DecoderShape}
 use Rattle.rs_rate.specs.declared.rate.side.Side.{Side}
 use Rattle.rs_rate.specs.declared.rate.side.Side.TheVariants.{Original, Recovery}
 
--- how many shards a side has
+-- the number of shards of a side
 abbrev pub side_count : Side → DecoderShape → ℕ
 side_count Original s = s.configuration.original_count
 side_count Recovery s = s.configuration.recovery_count
 
--- the row of its first shard
+-- the row of the first shard of a side
 abbrev pub side_from : Side → DecoderShape → ℕ
 side_from Original s = s.frame.originals_from
 side_from Recovery s = s.frame.recovery_from
 
--- the row of a shard of it
+-- the row of the shard of a side with this index
 abbrev pub side_row : Side → DecoderShape → ℕ → ℕ
 side_row side s index = side_from side s + index
 
--- how many originals one of its shards is
+-- the number of originals in one shard of a side: 1 or 0
 abbrev pub side_originals : Side → ℕ
 side_originals Original = 1
 side_originals Recovery = 0
 
--- how many recovery shards one of its shards is
+-- the number of recovery shards in one shard of a side: 0 or 1
 abbrev pub side_recovery : Side → ℕ
 side_recovery Original = 0
 side_recovery Recovery = 1
 
--- the refusal of an index that a side doesn't have
+-- the error for an index that a side does not have
 abbrev pub index_refused : Side → DecoderShape → ℕ → Error
 index_refused Original s index = InvalidOriginalShardIndex s.configuration.original_count index
 index_refused Recovery s index = InvalidRecoveryShardIndex s.configuration.recovery_count index
 
--- the refusal of an index whose shard was given before
+-- the error for an index whose shard was added before
 abbrev pub repeat_refused : Side → ℕ → Error
 repeat_refused Original index = DuplicateOriginalShardIndex index
 repeat_refused Recovery index = DuplicateRecoveryShardIndex index

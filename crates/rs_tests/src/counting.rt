@@ -168,7 +168,7 @@ fn a_decode_transforms_once_to_check_and_once_to_restore(rt: HostRuntime) -> Res
     counts_decodes::<HighRate<Counting<'_>>, _>(&rt, &tables)
 }
 
-/// The plain engine, which tells how many entries the locators had that it was asked for.
+/// The plain engine, which counts the entries of all locators that it computed.
 #[derive(Drop)]
 pub struct Locating<'t> {
     naive: Naive<'t>,

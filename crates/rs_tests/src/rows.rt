@@ -1,5 +1,5 @@
-//! Rows that are known by hand: transforms and products of each engine, and what lists of rows lend, clear and sum. The
-//! contracts say it of all rows; here stands what that comes to at numbers.
+//! Rows that are known by hand: transforms and products of each engine, and rows that are lent, cleared and summed. The
+//! contracts state this for all rows; these tests show numbers.
 use reed_solomon_simd::engine::tables::{Tables, get_exp_log};
 use reed_solomon_simd::engine::utils::xor_within;
 use reed_solomon_simd::engine::{

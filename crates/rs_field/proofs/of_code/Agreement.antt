@@ -41,7 +41,7 @@ consistent_exactly c originals recovery e bound zeros_end t marks words located 
       (p, (message, codes, takes))),
 )
 
--- What stands at a missing original after the derivative step, by 65535 less a residue of the locator, is the message's column.
+-- After the derivative step, the word in the row of a missing original, times the power for 65535 minus a residue of the locator, is the word of the message.
 pub restored_column : (c : Configuration) (originals recovery : Shards) (e bound zeros_end : ℕ) (marks : ℕ → ℕ) (words located rows : ℕ → ℕ → ℕ) (message : List Shard) (added : ℕ → ℕ) (i j l : ℕ)
     → AreColumns c originals recovery e bound zeros_end marks words located rows
     → c.original_count ≤ count_below c.original_count originals + count_below c.recovery_count recovery

@@ -30,21 +30,21 @@ IsLinear =
     → AreRecovery c one one_recovery → AreRecovery c other other_recovery
     → AreRecovery c (xor_shards one other) (xor_shards one_recovery other_recovery)
 
--- where column j of one message is column i of another, so it is of their recovery shards: whatever their other columns and their sizes are
+-- if column j of one message is equal to column i of another message, the same holds for the recovery shards, for any other columns and any sizes
 abbrev pub IsColumnwise : Type 0
 IsColumnwise =
     (rate : Rate) (k r size other_size j i : ℕ) (one other one_recovery other_recovery : List Shard) → k ≤ 65536 → j < size / 2 → i < other_size / 2
     → AreRecovery (configuration rate k r size) one one_recovery → AreRecovery (configuration rate k r other_size) other other_recovery
     → columns j one ≡ columns i other → columns j one_recovery ≡ columns i other_recovery
 
--- the strips of a message are coded as the strips of its recovery shards: a strip begins at a multiple of 64 bytes, and ends at one or with the shard
+-- the recovery shards of a strip of a message are the same strip of its recovery shards: a strip begins at a multiple of 64 bytes, and ends at a multiple of 64 bytes or at the end of the shard
 abbrev pub IsCodedByStrips : Type 0
 IsCodedByStrips =
     (c : Configuration) (start end : ℕ) (message all : List Shard) → IsStrip start end c.shard_bytes → AreShards c.original_count c.shard_bytes message
     → AreRecovery c message all
     → AreRecovery (configuration c.rate c.original_count c.recovery_count (end - start)) (pieces start end message) (pieces start end all)
 
--- shards are a message's recovery shards where each of their bytes is in a strip that is the message's strip, coded
+-- shards are the recovery shards of a message if each byte lies in a strip in which they are the recovery shards of the same strip of the message
 abbrev pub CodesWhereStripsDo : Type 0
 CodesWhereStripsDo =
     (c : Configuration) (message all : List Shard) → AreShards c.original_count c.shard_bytes message → AreShards c.recovery_count c.shard_bytes all
@@ -52,7 +52,7 @@ CodesWhereStripsDo =
     × AreRecovery (configuration c.rate c.original_count c.recovery_count (end - start)) (pieces start end message) (pieces start end all))
     → AreRecovery c message all
 
--- where both counts have one power and both rates support them, a message has the same recovery shards at the low and at the high rate
+-- if the two counts have the same power and both rates support them, a message has the same recovery shards at the low rate and at the high rate
 abbrev pub HasOneCodeAtOnePower : Type 0
 HasOneCodeAtOnePower =
     (k r size : ℕ) (message recovery : List Shard) → supports low_rate k r ≡ true → supports high_rate k r ≡ true → next_power k ≡ next_power r
@@ -63,7 +63,7 @@ pub record ArePlaces (n bound : ℕ) (place : ℕ → ℕ) : Type 0 where
   pub below : (i : ℕ) → i < n → place i < bound
   pub once : (i j : ℕ) → i < n → j < n → place i ≡ place j → i ≡ j
 
--- two messages are equal where their codewords, which are the originals and then the recovery shards, agree at k different places
+-- two messages are equal if their codewords, which are the originals and then the recovery shards, have the same shards at k different places
 abbrev pub IsFixedByPlaces : Type 0
 IsFixedByPlaces =
     (c : Configuration) (one other one_recovery other_recovery : List Shard) (place : ℕ → ℕ)
@@ -73,15 +73,15 @@ IsFixedByPlaces =
     → ArePlaces c.original_count (c.original_count + c.recovery_count) place
     → ((i : ℕ) → i < c.original_count → shard_at (one ++ one_recovery) (place i) ≡ shard_at (other ++ other_recovery) (place i)) → one ≡ other
 
--- two results that restore one state are equal
+-- two results of decoding the same state are equal
 abbrev pub HasOneRestoration : Type 0
 HasOneRestoration = (s : DecoderState) (one other : Shards) → Restored s one → Restored s other → one ≡ other
 
--- those of the given shards that are other than the list's
+-- the given shards that differ from the shard with the same index in a list
 unfoldable pub changed_shards : Shards → List Shard → Shards
 changed_shards given shards i = if bytes_eq (unwrap_or (given i) []) (shard_at shards i) then None else given i
 
--- where n shards are given at places of a codeword, and at least one but at most n - k of them are other than the codeword's, of any size, no message agrees
+-- if n shards of any sizes are given with indexes of a codeword, and at least one but at most n - k of them differ from the codeword, then no message agrees
 abbrev pub NoticesChanges : Type 0
 NoticesChanges =
     (c : Configuration) (message all : List Shard) (originals recovery : Shards)

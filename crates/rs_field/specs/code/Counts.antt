@@ -1,8 +1,8 @@
--- How many shards are supported, and at which rate.
+-- The counts that each rate supports, and which of the two rates the default rate is.
 use Rattle.std.specs.Prelude.{ℕ, ◌+◌, ◌^◌, min, max, Bool, true, false, ◌&&◌, ◌||◌, ◌==◌, nat_lt, nat_le}
 use Rattle.rs_field.specs.words.Search.{first_below}
 
--- the rates; the default rate is one of the others at each pair of counts
+-- the three rates; for each pair of counts, the default rate is the low rate or the high rate
 pub data Rate : Type 0 where
   low_rate : Rate
   high_rate : Rate
@@ -18,7 +18,7 @@ supports low_rate k r = nat_lt 0 k && nat_lt 0 r && nat_le (next_power k + r) 65
 supports high_rate k r = nat_lt 0 k && nat_lt 0 r && nat_le (next_power r + k) 65536
 supports default_rate k r = nat_lt 0 k && nat_lt 0 r && nat_le (min (next_power k) (next_power r) + max k r) 65536
 
--- whether a rate is the low rate at these counts; the default rate is where k's power is the smaller, and at equal powers where k is above r
+-- whether a rate is the low rate for these counts; the default rate is the low rate if the power of k is below the power of r, or if these are equal and k is above r
 unfoldable pub is_low : Rate → ℕ → ℕ → Bool
 is_low low_rate k r = true
 is_low high_rate k r = false

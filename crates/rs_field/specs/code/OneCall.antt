@@ -23,7 +23,7 @@ use Rattle.rs_field.specs.code.Decoder.{DecoderState, fresh_decoder, with_origin
 abbrev pub Items : Type 0
 Items = List (ℕ × Shard)
 
--- the default rate at these counts and this size
+-- the configuration with the default rate, k originals, r recovery shards and a size
 abbrev pub default_of : ℕ → ℕ → ℕ → Configuration
 default_of k r size = configuration default_rate k r size
 
@@ -31,7 +31,7 @@ default_of k r size = configuration default_rate k r size
 abbrev pub counts_outcome : ℕ → ℕ → Result (Unit {0}) Error
 counts_outcome k r = if supports default_rate k r then Ok tt else Err (UnsupportedShardCount k r)
 
--- the outcome of a call for each item in order; the first error ends it
+-- the outcome of one call for each item, in order, up to the first error
 abbrev pub one_by_one : {S T : Type 0} → (S → T → Result S Error) → S → List T → Result S Error
 one_by_one call s [] = Ok s
 one_by_one call s (item ∷ items) = result_and_then (λ next. one_by_one call next items) (call s item)
@@ -52,7 +52,7 @@ with_recoveries s items = one_by_one (λ now item. with_recovery now item.0 item
 abbrev pub with_both : DecoderState → Items → Items → Result DecoderState Error
 with_both s originals recoveries = result_and_then (λ now. with_recoveries now recoveries) (with_originals s originals)
 
--- the errors of `encode` that come before it allocates: the counts, no shard at all, the size of the first shard
+-- the outcome of the checks that `encode` makes before it allocates: first the counts, then whether there is an original, and then the size of the first original
 abbrev pub encode_opening : ℕ → ℕ → List Shard → Result (Unit {0}) Error
 encode_opening k r [] = result_and_then (λ _. Err (TooFewOriginalShards k 0)) (counts_outcome k r)
 encode_opening k r (shard ∷ _) = validation_outcome (default_of k r (length shard))
@@ -64,7 +64,7 @@ encoding k r (shard ∷ shards) =
     let c = default_of k r (length shard) in
     result_and_then (λ _. with_shards (fresh_encoder c) (shard ∷ shards)) (start_outcome (encoder_rows default_rate k r) c)
 
--- a result is `OutOfMemory`, and no error comes before the first allocation
+-- a result is `OutOfMemory`, and the checks before the first allocation find no error
 abbrev pub LacksMemory : {T : Type 0} → Result (Unit {0}) Error → Result T Error → Type 0
 LacksMemory opening result = IsOk opening × (result ≡ Err OutOfMemory)
 
@@ -81,13 +81,13 @@ note_outcome k given index =
     else if list_any (nat_eq index) given then Err (DuplicateOriginalShardIndex index)
     else Ok (index ∷ given)
 
--- the outcome of a decode without recovery shards: each index is noted in order, and there must be k of them
+-- the outcome of a decode without recovery shards: the index of each original is noted in order, and k indexes are needed
 abbrev pub originals_alone : ℕ → Items → Result (Unit {0}) Error
 originals_alone k originals =
     result_and_then (λ given. if nat_lt (length given) k then Err (NotEnoughShards k (length given) 0) else Ok tt)
     (one_by_one (λ given item. note_outcome k given item.0) [] originals)
 
--- the errors of `decode` that come before it allocates: the counts, the size of the first recovery shard
+-- the outcome of the checks that `decode` makes before it allocates: first the counts, and then the size of the first recovery shard
 abbrev pub decode_opening : ℕ → ℕ → Items → Result (Unit {0}) Error
 decode_opening k r [] = counts_outcome k r
 decode_opening k r (item ∷ _) = validation_outcome (default_of k r (length item.1))

@@ -1,4 +1,4 @@
--- Decoders that are given pieces of shards, and rooms for what they restore.
+-- The state of a decoder to which pieces of shards were added, and rooms for restored originals.
 use Rattle.std.specs.Prelude.{◌≡◌, ℕ, ◌-◌, List, map}
 use Rattle.std.specs.List.{between}
 use Rattle.std.specs.Option.{option_map}
@@ -8,11 +8,11 @@ use Rattle.rs_field.specs.code.Decoder.{DecoderState, Restored}
 use Rattle.rs_field.specs.code.Given.{Shards, Lists}
 use Rattle.rs_field.specs.code.OneCall.{Items}
 
--- the pieces of given shards
+-- the same piece of each given shard
 abbrev pub pieces_of : ℕ → ℕ → Shards → Shards
 pieces_of start end given = λ i. option_map (λ s. between start end s) (given i)
 
--- a decoder that was given the pieces
+-- the state of a decoder to which the same piece of each shard was added
 abbrev pub state_of_pieces : ℕ → ℕ → DecoderState → DecoderState
 state_of_pieces start end s =
     record {
@@ -25,7 +25,7 @@ state_of_pieces start end s =
 abbrev pub shards_listed : Items → List Shard
 shards_listed items = map (λ item. item.1) items
 
--- rooms hold the restored originals in order of index
+-- rooms hold the restored originals, in order of their index
 pub record HoldRestored (s : DecoderState) (rooms : List Shard) : Type 0 where
   pub out : Shards
   pub restored : Restored s out

@@ -1,4 +1,4 @@
--- The round trip: from shards of a message that are left, the originals that are lost come back as they were.
+-- The round trip: a decoder that gets enough of the shards of a message returns the lost originals, each as it was.
 use Rattle.std.specs.Prelude.{◌≡◌, ℕ, ◌+◌, ◌<◌, ◌⊎◌, ◌&&◌, not, nat_lt, nat_eq, if◌then◌else◌, List, length, map, All, Some, None, Result, Ok, Err, IfOk, IfErr, IsOkAnd}
 use Rattle.std.specs.List.{IsDistinct, list_any}
 use Rattle.rs_field.specs.declared.code.error.Error.{Error}
@@ -13,21 +13,21 @@ use Rattle.rs_field.specs.code.Encoder.{EncoderState, IsEncoder, EncodeAnswers}
 use Rattle.rs_field.specs.code.Decoder.{DecoderState, fresh_decoder, enough_given, missing_of, DecodeAnswers}
 use Rattle.rs_field.specs.code.OneCall.{Items, default_of, with_both, OneEncodeAnswers, OneDecodeAnswers}
 
--- ---- decoders, by what they were given
+-- ---- decoders to which shards were added
 
--- what a decoder returns for shards of a known message: with enough shards the message's own at exactly the missing indexes, else `NotEnoughShards`
+-- what a decoder returns for shards of a known message: exactly the missing originals of this message if there are enough shards, else `NotEnoughShards`
 pub record BringsBack (s : DecoderState) (message : List Shard) (result : Result Shards Error) : Type 0 where
   pub answer : answer_of result ≡ enough_given s
   pub restored : IfOk result (λ out. (i : ℕ) → out i ≡ missing_of s message i)
 
--- at any rate: where what was given are shards of a message and of its recovery shards, whichever are left, the lost originals come back
+-- at any rate, a decoder to which any originals and recovery shards of one message were added returns the missing originals of this message
 abbrev pub RestoresLost : Type 0
 RestoresLost =
     (s : DecoderState) (message recovery : List Shard) (result : Result Shards Error)
     → AreShards s.configuration.original_count s.configuration.shard_bytes message → AreRecovery s.configuration message recovery
     → AreAmong s.originals message → AreAmong s.recovery recovery → DecodeAnswers s result → BringsBack s message result
 
--- a decoder that received some of an encoder's originals and of the recovery shards that it returned restores the lost originals
+-- a decoder to which any originals and recovery shards of one encoder were added returns the missing originals
 abbrev pub RestoresEncoded : Type 0
 RestoresEncoded =
     (rate : Rate) (encoder : EncoderState) (recovery : List Shard) (s : DecoderState) (result : Result Shards Error)
@@ -36,26 +36,26 @@ RestoresEncoded =
 
 -- ---- decoders that are given lists
 
--- shards that are left of a list, with their indexes: each is the list's own, and none comes twice
+-- items are left of a list of shards if each item is a shard of the list with its index, and no index occurs twice
 pub record AreLeft (shards : List Shard) (items : Items) : Type 0 where
   pub own : All (λ item. (item.0 < length shards) × (shard_at shards item.0 ≡ item.1)) items
   pub once : IsDistinct nat_eq (map (λ item. item.0) items)
 
--- whether k shards are left, or the refusal
+-- success if at least k shards are left, else the error
 abbrev pub enough_left : ℕ → Items → Items → Result (Unit {0}) Error
 enough_left k originals recovery =
     if nat_lt (length originals + length recovery) k then Err (NotEnoughShards k (length originals) (length recovery)) else Ok tt
 
--- a list's shards at exactly the indexes that none of the items has
+-- the lost shards of a list, by their indexes: those whose indexes no item has
 unfoldable pub lost_of : List Shard → Items → Shards
 lost_of shards items i = if nat_lt i (length shards) && not (list_any (λ item. nat_eq i item.0) items) then Some (shard_at shards i) else None
 
--- what a decoder returns for known originals: with enough shards exactly the lost originals, else `NotEnoughShards`
+-- what a decoder returns for known originals: exactly the lost originals if there are enough shards, else `NotEnoughShards`
 pub record GivesBack (originals : List Shard) (kept received : Items) (result : Result Shards Error) : Type 0 where
   pub answer : answer_of result ≡ enough_left (length originals) kept received
   pub restored : IfOk result (λ out. (i : ℕ) → out i ≡ lost_of originals kept i)
 
--- at any rate: a new decoder takes what is left of a message and of its recovery shards, and gives back what is lost
+-- at any rate, the shards that are left of a message can be added to a new decoder, which then returns the lost originals
 abbrev pub RestoresLeft : Type 0
 RestoresLeft =
     (c : Configuration) (message recovery : List Shard) (kept received : Items)
@@ -64,30 +64,30 @@ RestoresLeft =
 
 -- ---- one call
 
--- what one call of `encode` coded: k shards of one valid size, and these are their recovery shards at the default rate
+-- k originals of one valid size, and their recovery shards at the default rate
 pub record AreCoded (k r : ℕ) (originals recovery : List Shard) : Type 0 where
   pub size : ℕ
   pub valid : validation_outcome (default_of k r size) ≡ Ok tt
   pub shards : AreShards k size originals
   pub coded : AreRecovery (default_of k r size) originals recovery
 
--- a success of one-call `encode` has the recovery shards of all that it was handed
+-- if one-call `encode` succeeds, it returns the recovery shards of all originals that it took
 abbrev pub CodesInOneCall : Type 0
 CodesInOneCall =
     (k r : ℕ) (originals recovery : List Shard) → All (All (λ b. b < 256)) originals → OneEncodeAnswers k r originals (Ok recovery) → AreCoded k r originals recovery
 
--- one-call `encode` of k shards of a valid size is never refused, but for want of memory
+-- one-call `encode` of k shards of a valid size can only fail with `OutOfMemory`
 abbrev pub EncodesInOneCall : Type 0
 EncodesInOneCall =
     (k r size : ℕ) (originals : List Shard) (result : Result (List Shard) Error) → validation_outcome (default_of k r size) ≡ Ok tt
     → length originals ≡ k → All (λ shard. length shard ≡ size) originals → OneEncodeAnswers k r originals result → IfErr result (λ e. e ≡ OutOfMemory)
 
--- what one-call `decode` returns for known originals: with enough shards exactly the lost originals, else `NotEnoughShards`; or `OutOfMemory`
+-- what one-call `decode` returns for known originals: exactly the lost originals if there are enough shards, else `NotEnoughShards`, or `OutOfMemory` instead of these
 pub record OneBringsBack (originals : List Shard) (kept received : Items) (result : Result Shards Error) : Type 0 where
   pub answer : (answer_of result ≡ enough_left (length originals) kept received) ⊎ (result ≡ Err OutOfMemory)
   pub restored : IfOk result (λ out. (i : ℕ) → out i ≡ lost_of originals kept i)
 
--- from the originals and recovery shards that are left, one-call `decode` restores the lost originals
+-- one-call `decode` of the originals and recovery shards that are left returns the lost originals
 abbrev pub RestoresInOneCall : Type 0
 RestoresInOneCall =
     (k r : ℕ) (originals recovery : List Shard) (kept received : Items) (result : Result Shards Error)

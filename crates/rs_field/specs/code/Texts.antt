@@ -4,7 +4,7 @@ use Rattle.std.specs.Fmt.{decimal}
 use Rattle.rs_field.specs.declared.code.error.Error.{Error}
 use Rattle.rs_field.specs.declared.code.error.Error.TheVariants.{DifferentShardSize, DuplicateOriginalShardIndex, DuplicateRecoveryShardIndex, InconsistentShards, InvalidOriginalShardIndex, InvalidRecoveryShardIndex, InvalidShardSize, NotEnoughShards, TooFewOriginalShards, TooManyOriginalShards, UnsupportedShardCount, OutOfMemory}
 
--- the text of a refusal, with its numbers in decimal digits
+-- the text of an error, with its numbers in decimal digits
 abbrev pub text_of : Error → List ℕ
 text_of (DifferentShardSize shard_bytes got) =
     codes "different shard size: expected " ++ decimal shard_bytes ++ codes " bytes, got " ++ decimal got ++ codes " bytes"

@@ -1,4 +1,4 @@
--- What butterflies and layers of them do in each direction of a transform.
+-- Butterflies and layers of butterflies in each direction of a transform.
 use Rattle.std.specs.Prelude.{◌≡◌, ℕ, ◌+◌, ◌-◌, ◌*◌, ◌<◌, ◌≤◌, Bool, true}
 use Rattle.rs_field.specs.declared.rows.layers.Direction.{Direction}
 use Rattle.rs_field.specs.declared.rows.marked_rows.UsedRows.{UsedRows}
@@ -23,28 +23,28 @@ abbrev pub AreTwoLayers : Direction → ℕ → ℕ → ℕ → OnFourChunks
 AreTwoLayers Direction.Forward log_m02 log_m01 log_m23 = IsForwardTwoLayers log_m02 log_m01 log_m23
 AreTwoLayers Direction.Backward log_m02 log_m01 log_m23 = IsBackwardTwoLayers log_m02 log_m01 log_m23
 
--- forward layers leave the parts of the old words, and backward ones make the new words of their parts
+-- after forward layers, the transforms of the parts of the new words are the parts of the transform of the old words; for backward layers, old and new words change roles
 abbrev pub AreLayers : Direction → ℕ → ℕ → ℕ → (ℕ → ℕ) → (ℕ → ℕ) → Type 0
 AreLayers Direction.Forward size n shift old new = ArePartsOf size n shift old new
 AreLayers Direction.Backward size n shift old new = ArePartsOf size n shift new old
 
--- the new words are the transform of the old ones; a forward transform fixes only the used words
+-- the new words are the transform of the old words; after a forward transform this holds only for the used words
 abbrev pub AreTransformed : Direction → (ℕ → Bool) → ℕ → ℕ → (ℕ → ℕ) → (ℕ → ℕ) → Type 0
 AreTransformed Direction.Forward used size shift old new = (i : ℕ) → i < size → used i ≡ true → new i ≡ forward size shift old i
 AreTransformed Direction.Backward used size shift old new = IsBackward size shift old new
 
--- of the rows from row pos on, as many as size, those that aren't used are zero bytes where the transform is a backward one
+-- for a backward transform, the unused rows among the `size` rows from row `pos` on are zero bytes
 abbrev pub UnusedAreZeroBackward : Direction → UsedRows → ℕ → ℕ → ShardsRefMut → Type 0
 UnusedAreZeroBackward Direction.Forward used pos size rows = 0 ≤ size
 UnusedAreZeroBackward Direction.Backward used pos size rows = UnusedAreZero used pos size rows
 
--- and of each part of a block that its layers leave
+-- in each part of a block after its first layers, the new words are the transform of the old words
 abbrev pub ArePartsTransformed : Direction → (ℕ → Bool) → Block → ShardsRefMut → ShardsRefMut → Type 0
 ArePartsTransformed direction used block old new =
     let n = rows_of_part block.size in (k s m : ℕ) → k < old.shard_len_64 → s < 32 → m * n < block.size
     → AreTransformed direction (λ i. used (m * n + i)) n (block.skew_delta + m * n)
     (λ q. word old k s (block.pos + (m * n + q))) (λ q. word new k s (block.pos + (m * n + q)))
 
--- what these may count: what is left of the whole
+-- the transforms of the parts count at most the steps of the whole transform without those of the first layers
 abbrev pub PartCounts : ℕ → Steps → Steps → Type 0
 PartCounts size old new = CountsUpTo (transform_steps size - layer_steps size) 0 0 old new

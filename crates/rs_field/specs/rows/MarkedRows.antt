@@ -4,15 +4,15 @@ use Rattle.rs_field.specs.rows.View.{cell}
 use Rattle.rs_field.specs.declared.rows.marked_rows.UsedRows.{UsedRows}
 use Rattle.rs_field.specs.declared.rows.shards.ShardsRefMut.{ShardsRefMut}
 
--- whether row i is marked; past the marks no row is
+-- whether row i is marked; a row that has no mark is not marked
 abbrev pub is_marked : List Bool → ℕ → Bool
 is_marked marks i = slice_index_or marks i false
 
--- of the rows from row pos on, as many as size, all but some are zero bytes
+-- among the `size` rows from row `pos` on, all rows except for some are zero bytes
 abbrev pub AreZeroBut : (ℕ → Bool) → ℕ → ℕ → ShardsRefMut → Type 0
 AreZeroBut some pos size rows = (i k : ℕ) → k < rows.shard_len_64 → i < size → some i ≡ false → cell rows k (pos + i) ≡ replicate 64 0
 
--- of as many rows as there are marks, from row pos on, all but the marked ones
+-- among the rows from row `pos` on, as many as there are marks, all rows except for the marked ones are zero bytes
 abbrev pub OthersAreZero : List Bool → ℕ → ShardsRefMut → Type 0
 OthersAreZero marks pos rows = AreZeroBut (is_marked marks) pos (length marks) rows
 
@@ -26,6 +26,6 @@ abbrev pub HasMarks : UsedRows → ℕ → Type 0
 HasMarks (UsedRows.First count) size = 0 ≤ size
 HasMarks (UsedRows.Marked marks) size = size ≤ length marks.now
 
--- all but the used ones
+-- among the `size` rows from row `pos` on, all rows except for the used ones are zero bytes
 abbrev pub UnusedAreZero : UsedRows → ℕ → ℕ → ShardsRefMut → Type 0
 UnusedAreZero used pos size rows = AreZeroBut (is_used used) pos size rows

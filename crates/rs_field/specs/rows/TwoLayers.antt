@@ -1,4 +1,4 @@
--- Butterflies of two words, and what two layers of them make of a chunk of each of four rows.
+-- Butterflies of two words, and two layers of butterflies of one chunk of each of four rows.
 use Rattle.std.specs.Prelude.{◌≡◌, ℕ, List, ◌<◌, bit_xor}
 use Rattle.rs_field.specs.rows.Rows.{symbol}
 use Rattle.rs_field.specs.words.Tables.{times_factor}
@@ -7,7 +7,7 @@ use Rattle.rs_field.specs.words.Tables.{times_factor}
 abbrev pub forward_first : ℕ → ℕ → ℕ → ℕ
 forward_first log_m x y = bit_xor x (times_factor log_m y)
 
--- the second word after it
+-- the second word after a forward butterfly
 abbrev pub forward_second : ℕ → ℕ → ℕ → ℕ
 forward_second log_m x y = bit_xor y (forward_first log_m x y)
 
@@ -15,7 +15,7 @@ forward_second log_m x y = bit_xor y (forward_first log_m x y)
 abbrev pub backward_second : ℕ → ℕ → ℕ
 backward_second x y = bit_xor y x
 
--- the first word after it
+-- the first word after a backward butterfly
 abbrev pub backward_first : ℕ → ℕ → ℕ → ℕ
 backward_first log_m x y = bit_xor x (times_factor log_m (backward_second x y))
 

@@ -2,7 +2,7 @@
 use Rattle.std.specs.Prelude.{ℕ, zero, suc, ◌+◌, ◌*◌, ◌/◌, ◌%◌, ◌^◌, ◌==◌, List, [], ◌∷◌, bit_xor}
 use Rattle.rs_field.specs.words.Search.{first_below}
 
--- the XOR of the entries of a list at the set bits of a word, the lowest bit first
+-- the XOR of the entries of a list whose bits are set in a word; the lowest bit is that of the first entry
 unfoldable pub combine : List ℕ → ℕ → ℕ
 combine [] x = 0
 combine (b ∷ bs) x = bit_xor (x % 2 * b) (combine bs (x / 2))
@@ -23,25 +23,25 @@ monomials =
     0x0001 ∷ 0x4690 ∷ 0x65D8 ∷ 0x62D0 ∷ 0x5734 ∷ 0x45F0 ∷ 0x53B8 ∷ 0x1E38
     ∷ 0x7CAE ∷ 0x4E38 ∷ 0x6708 ∷ 0xC25C ∷ 0x7A64 ∷ 0x9EAC ∷ 0x1124 ∷ 0x523A ∷ []
 
--- the word whose `bits` are given
+-- the word that has these `bits`
 unfoldable pub from_bits : ℕ → ℕ
 from_bits v = combine monomials v
 
--- the shift-and-XOR product of a number of n bits and another
+-- the product of a number of n bits and another number, in which sums are XOR
 unfoldable pub carryless : ℕ → ℕ → ℕ → ℕ
 carryless zero a b = 0
 carryless (suc n) a b = bit_xor (a % 2 * b) (carryless n (a / 2) (b * 2))
 
--- the polynomial that products of bits are reduced by, as the number of its coefficients
+-- the polynomial by which products are reduced, as a number: bit i is the coefficient of degree i
 abbrev pub polynomial : ℕ
 polynomial = 0x1002D
 
--- what is left of a number of 16 + n bits after long division by the polynomial
+-- the remainder of a number of 16 + n bits after long division by the polynomial
 unfoldable pub reduce : ℕ → ℕ → ℕ
 reduce zero p = p
 reduce (suc n) p = reduce n (bit_xor p (p / 2 ^ (16 + n) % 2 * (polynomial * 2 ^ n)))
 
--- the product of two words: its `bits` are the reduced product of theirs
+-- the product of two words: the word whose `bits` are the reduced product of the `bits` of the two words
 unfoldable pub product : ℕ → ℕ → ℕ
 product x y = from_bits (reduce 16 (carryless 16 (bits x) (bits y)))
 

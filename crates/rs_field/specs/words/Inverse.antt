@@ -2,7 +2,7 @@
 use Rattle.std.specs.Prelude.{◌≡◌, ℕ, ◌+◌, ◌%◌, ◌^◌, ◌<◌, ◌≤◌}
 use Rattle.rs_field.specs.words.Transform.{IsForward, IsBackward}
 
--- on words: one after the other, at the same shift, gives back the words at the beginning
+-- a forward and then a backward transform at the same shift, or the other way round, gives the words that were there before
 pub record TransformsAreInverse : Type 0 where
   pub forward_last : (n shift : ℕ) (f g h : ℕ → ℕ) → IsBackward n shift f g → IsForward n n shift g h → (i : ℕ) → i < n → h i ≡ f i
   pub backward_last : (d shift : ℕ) (f g h : ℕ → ℕ) → shift % 2 ^ d ≡ 0 → shift + 2 ^ d ≤ 65536

@@ -1,4 +1,4 @@
--- The locator of marked points, by its logarithms.
+-- The locator of marked points, as sums of logarithms.
 use Rattle.std.specs.Prelude.{◌≡◌, ℕ, zero, suc, ◌+◌, ◌*◌, ◌%◌, ◌<◌, ◌≤◌, ◌==◌, if◌then◌else◌, bit_xor}
 use Rattle.rs_field.specs.words.Field.{nth_power, power, log}
 use Rattle.rs_field.specs.words.Subspace.{product_below}
@@ -8,7 +8,7 @@ unfoldable pub log_sum : ℕ → (ℕ → ℕ) → ℕ → ℕ
 log_sum zero e x = 0
 log_sum (suc y) e x = log_sum y e x + (if x == y then 0 else e y * log (bit_xor x y))
 
--- each of the first n entries became, modulo 65535, that sum over the first n points of the old entries
+-- each of the first n new entries is, modulo 65535, the `log_sum` of the first n old entries
 abbrev pub IsLocatorBelow : ℕ → (ℕ → ℕ) → (ℕ → ℕ) → Type 0
 IsLocatorBelow n old new = (x : ℕ) → x < n → new x % 65535 ≡ log_sum n old x % 65535
 
@@ -16,7 +16,7 @@ IsLocatorBelow n old new = (x : ℕ) → x < n → new x % 65535 ≡ log_sum n o
 abbrev pub IsLocator : (ℕ → ℕ) → (ℕ → ℕ) → Type 0
 IsLocator old new = IsLocatorBelow 65536 old new
 
--- the sum is the logarithm of a product: of x + y to the power e y, over the points y below n other than x
+-- `log_sum` is the logarithm of the product of all (x + y) to the power e y, over the points y below n other than x
 abbrev pub LocatesByProduct : Type 0
 LocatesByProduct =
     (n : ℕ) (e : ℕ → ℕ) (x : ℕ) → n ≤ 65536 → x < 65536

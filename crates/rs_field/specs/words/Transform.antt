@@ -12,10 +12,10 @@ sum_below (suc n) f = bit_xor (sum_below n f) (f n)
 unfoldable pub forward : ℕ → ℕ → (ℕ → ℕ) → ℕ → ℕ
 forward n shift f i = sum_below n (λ q. product (f q) (basis q (shift + i)))
 
--- the first `wanted` words became those of the forward transform of all n words
+-- the first `wanted` new words are those of the forward transform of all n old words
 abbrev pub IsForward : ℕ → ℕ → ℕ → (ℕ → ℕ) → (ℕ → ℕ) → Type 0
 IsForward n wanted shift old new = (i : ℕ) → i < wanted → new i ≡ forward n shift old i
 
--- the n words became those whose forward transform they were before
+-- the n old words are the forward transform of the n new words
 abbrev pub IsBackward : ℕ → ℕ → (ℕ → ℕ) → (ℕ → ℕ) → Type 0
 IsBackward n shift old new = (i : ℕ) → i < n → old i ≡ forward n shift new i

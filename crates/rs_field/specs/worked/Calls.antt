@@ -1,4 +1,4 @@
--- Worked examples of the calls: which refusal comes first, and what a call leaves.
+-- Worked examples of the calls: the order of errors, and the state after a call.
 use Rattle.std.specs.Prelude.{◌≡◌, ℕ, List, [], ◌∷◌, replicate, Result, Ok, Err}
 use Rattle.rs_field.specs.declared.code.error.Error.{Error}
 use Rattle.rs_field.specs.declared.code.error.Error.TheVariants.{DifferentShardSize, DuplicateOriginalShardIndex, DuplicateRecoveryShardIndex, InvalidOriginalShardIndex, InvalidRecoveryShardIndex, InvalidShardSize, NotEnoughShards, OutOfMemory, TooFewOriginalShards, TooManyOriginalShards, UnsupportedShardCount}
@@ -15,7 +15,7 @@ use Rattle.rs_field.specs.worked.Codes.{two_given, surplus_given}
 abbrev pub zeros : ℕ → Shard
 zeros n = replicate n 0
 
--- one-call `encode`: counts, then no shard, then the first one's size, then too many, then another size, then too few
+-- one-call `encode` checks in this order: the counts, whether there is an original, the size of the first original, too many originals, another size, too few originals
 abbrev pub EncodeOrder : Type 0
 EncodeOrder =
     (encoding 0 1 [] ≡ Err (UnsupportedShardCount 0 1)) × (encoding 0 1 (zeros 3 ∷ []) ≡ Err (UnsupportedShardCount 0 1))
@@ -24,7 +24,7 @@ EncodeOrder =
     × (encoding 2 1 (zeros 64 ∷ zeros 128 ∷ []) ≡ Err (DifferentShardSize 64 128))
     × (result_and_then message_of (encoding 2 1 (zeros 64 ∷ [])) ≡ Err (TooFewOriginalShards 2 1))
 
--- one-call `decode` with recovery shards: the first one's size, then the originals, then the recovery shards, then too few
+-- one-call `decode` with recovery shards checks in this order: the size of the first recovery shard, the originals, the recovery shards, too few shards
 abbrev pub DecodeOrder : Type 0
 DecodeOrder =
     (decoding 1 1 ((0, zeros 64) ∷ []) (0, []) [] ≡ Err (InvalidShardSize 0)) × (decoding 0 1 [] (0, []) [] ≡ Err (UnsupportedShardCount 0 1))
@@ -35,7 +35,7 @@ DecodeOrder =
     × (decoding 2 2 [] (1, zeros 64) ((1, zeros 128) ∷ []) ≡ Err (DuplicateRecoveryShardIndex 1))
     × (result_and_then enough_given (decoding 2 1 [] (0, zeros 64) []) ≡ Err (NotEnoughShards 2 0 1))
 
--- one-call `decode` with no recovery shard: each original's index, whether it was given before, then the count
+-- one-call `decode` without recovery shards checks in this order: the index of each original and whether it was given before, and then the number of originals
 abbrev pub NoRecoveryOrder : Type 0
 NoRecoveryOrder =
     (result : Result Shards Error)
@@ -48,7 +48,7 @@ NoRecoveryOrder =
 abbrev pub encoder_with : List Shard → EncoderState
 encoder_with given = record { configuration = default_of 2 3 2; given = given }
 
--- a refused add leaves the encoder as it was, an added shard comes last, and `encode` leaves nothing given
+-- an add that fails does not change the encoder, an added shard is the last one, and after `encode` the encoder has no originals
 abbrev pub EncoderRound : Type 0
 EncoderRound =
     (validation_outcome (default_of 2 3 3) ≡ Err (InvalidShardSize 3))
@@ -58,7 +58,7 @@ EncoderRound =
     × (after_encode (encoder_with (zeros 2 ∷ (1 ∷ 0 ∷ []) ∷ [])) ≡ fresh_encoder (default_of 2 3 2))
     × (message_of (fresh_encoder (default_of 2 3 2)) ≡ Err (TooFewOriginalShards 2 0))
 
--- two recovery shards are enough for two originals, one isn't, and `decode` leaves nothing given, also where no message agrees
+-- two recovery shards are enough for two originals, one is not enough, and after `decode` the decoder has no shards, also if no message agrees
 abbrev pub DecoderRound : Type 0
 DecoderRound =
     (enough_given (record { configuration = default_of 2 3 2; originals = nothing; recovery = with_entry nothing 2 (zeros 2) }) ≡ Err (NotEnoughShards 2 0 1))
@@ -66,7 +66,7 @@ DecoderRound =
     × (after_decode (surplus_given (7 ∷ 8 ∷ [])) ≡ fresh_decoder (default_of 1 2 2))
     × (enough_given (fresh_decoder (default_of 2 3 2)) ≡ Err (NotEnoughShards 2 0 0))
 
--- the largest index is refused as any other
+-- the largest index fails like every other index that is too large
 abbrev pub LargestIndex : Type 0
 LargestIndex =
     (answer_of (with_original (fresh_decoder (default_of 1 1 2)) 18446744073709551615 (zeros 2)) ≡ Err (InvalidOriginalShardIndex 1 18446744073709551615))

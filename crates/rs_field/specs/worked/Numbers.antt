@@ -39,27 +39,27 @@ Supported =
     × (supports default_rate 16384 49152 ≡ true) × (supports default_rate 49152 16384 ≡ true) × (supports default_rate 57344 8192 ≡ true)
     × (supports default_rate 61440 4096 ≡ true) × (supports default_rate 32768 32768 ≡ true)
 
--- counts that it doesn't support
+-- counts that the default rate does not support
 abbrev pub Unsupported : Type 0
 Unsupported =
     (supports default_rate 60000 5000 ≡ false) × (supports default_rate 4096 61441 ≡ false) × (supports default_rate 4097 61440 ≡ false)
     × (supports default_rate 61440 4097 ≡ false) × (supports default_rate 0 1 ≡ false) × (supports default_rate 1 0 ≡ false)
     × (supports default_rate 18446744073709551615 18446744073709551615 ≡ false)
 
--- counts that one of the two rates supports and the other doesn't
+-- counts that only one of the low and the high rate supports
 abbrev pub OfOneRate : Type 0
 OfOneRate =
     (supports high_rate 61440 4096 ≡ true) × (supports low_rate 61440 4096 ≡ false)
     × (supports high_rate 4096 61440 ≡ false) × (supports low_rate 4096 61440 ≡ true)
     × (supports high_rate 61440 4097 ≡ false) × (supports high_rate 61441 4096 ≡ false)
 
--- where the default rate is the low rate
+-- counts for which the default rate is the low rate, and counts for which it is the high rate
 abbrev pub Choices : Type 0
 Choices =
     (is_low default_rate 3 3 ≡ false) × (is_low default_rate 3 4 ≡ false) × (is_low default_rate 5 3 ≡ false)
     × (is_low default_rate 4 3 ≡ true) × (is_low default_rate 3 5 ≡ true)
 
--- a wrong size is refused, and counts that aren't supported are refused first
+-- a wrong size is an error, and the error for unsupported counts comes before it
 abbrev pub Validated : Type 0
 Validated =
     (validation_outcome (configuration low_rate 1 1 123) ≡ Err (InvalidShardSize 123)) × (validation_outcome (configuration low_rate 1 1 0) ≡ Err (InvalidShardSize 0))
@@ -68,7 +68,7 @@ Validated =
     × (validation_outcome (configuration low_rate 61440 4096 123) ≡ Err (UnsupportedShardCount 61440 4096))
     × (validation_outcome (configuration high_rate 61440 4096 64) ≡ Ok tt)
 
--- at the largest size one row has more bytes than a `usize` counts; 62 bytes below it two rows have, and one hasn't
+-- for the largest size, the bytes of one row exceed `usize::MAX`; for a size that is 62 bytes smaller, only the bytes of two rows exceed it
 abbrev pub TooManyBytes : Type 0
 TooManyBytes =
     (start_outcome (encoder_rows default_rate 1 1) (configuration default_rate 1 1 18446744073709551614) ≡ Err OutOfMemory)
@@ -100,7 +100,7 @@ pair a b zero = a
 pair a b (suc zero) = b
 pair a b (suc (suc i)) = 0
 
--- at the shift 4 the words 2 and 4 go forward to 4 and 0, and those go backward to 2 and 4
+-- at the shift 4, the forward transform of the words 2 and 4 is 4 and 0, and the backward transform of 4 and 0 is 2 and 4
 abbrev pub TransformOfTwo : Type 0
 TransformOfTwo = IsForward 2 2 4 (pair 2 4) (pair 4 0) × IsBackward 2 4 (pair 4 0) (pair 2 4)
 

@@ -22,22 +22,22 @@ pub fn field_constants()
     ensures modulus { GF_MODULUS + 1 ≡ GF_ORDER }
 {}
 
-/// The words are a field: sums and products obey its laws, the product is the reduced carry-less product of the
-/// words' bits, and the nonzero words are the 65535 powers of the generator, the last of which is 1.
+/// The words are a field: sums and products obey the laws of a field. The product is the reduced carry-less product of the `bits`
+/// of the words. The nonzero words are the 65535 powers of the generator, the last of which is 1.
 pub fn field_laws()
     ensures field { IsField }
     ensures product { IsProductOfBits }
     ensures generated { IsGenerated }
 {}
 
-/// The default rate supports all counts from 1 to 32768 in any combination, one up to 2^n with the other up to
-/// 65536 - 2^n, and no others.
+/// The default rate supports any two counts from 1 to 32768, and any two positive counts of which one is at most 2^n and the other
+/// at most 65536 - 2^n for some n. It supports no other counts.
 pub fn count_laws()
     ensures { SupportsRanges }
 {}
 
-/// The columns of a shard are its words chunk by chunk and fix it, one polynomial at most codes given words, and a
-/// message has one list of recovery shards at most.
+/// The columns of a shard are its words, chunk by chunk, and shards with the same columns are equal. At most one polynomial codes
+/// given words, and a message has at most one list of recovery shards.
 pub fn code_laws()
     ensures column { IsColumn }
     ensures shard { ColumnsTellShard }
@@ -45,9 +45,9 @@ pub fn code_laws()
     ensures recovery { HasOneRecovery }
 {}
 
-/// Every message has recovery shards. The XOR of messages has the XOR of their recovery shards, columns are coded each by
-/// itself, and at counts of one power the low and the high rate are one code. A message may be coded strip by strip: strips
-/// that begin at multiples of 64 bytes are coded as the strips of the codeword, and shards whose strips are all coded are.
+/// Every message has recovery shards. The recovery shards of the XOR of two messages are the XOR of their recovery shards. Each
+/// column is coded independently. If the two counts have the same power, the low and the high rate are the same code. A message
+/// may be coded strip by strip: the recovery shards of a strip are a strip of the recovery shards.
 pub fn recovery_laws()
     ensures some { HasRecovery }
     ensures linear { IsLinear }
@@ -57,16 +57,16 @@ pub fn recovery_laws()
     ensures one_code { HasOneCodeAtOnePower }
 {}
 
-/// Shards at k places of a codeword fix its message. So at most one result restores what a decoder was given, and among n
-/// given shards up to n - k changed ones are noticed.
+/// The shards at any k places of a codeword determine its message. So at most one result restores the missing originals, and a
+/// decoder that gets n shards notices up to n - k changed shards.
 pub fn codeword_laws()
     ensures places { IsFixedByPlaces }
     ensures restored { HasOneRestoration }
     ensures changes { NoticesChanges }
 {}
 
-/// From any k of a message's shards and recovery shards a decoder of whichever rate gives exactly the lost originals, as
-/// they were, and never a refusal; so do encoder and decoder one after the other, and the functions of one call.
+/// A decoder of any rate that gets at least k of the originals and recovery shards of a message returns exactly the lost originals,
+/// and never fails. The same holds for an encoder followed by a decoder, and for the one-call functions.
 pub fn round_trip_laws()
     ensures lost { RestoresLost }
     ensures encoded { RestoresEncoded }
@@ -76,7 +76,7 @@ pub fn round_trip_laws()
     ensures one_call { RestoresInOneCall }
 {}
 
-/// The subspace polynomials shift coordinates, and a locator's sums of logarithms are logarithms of products.
+/// The subspace polynomials shift coordinates, and the sums of logarithms of a locator are logarithms of products.
 pub fn point_laws()
     ensures subspace { SubspaceIsShift }
     ensures locator { LocatesByProduct }

@@ -1,4 +1,4 @@
-//! What an engine brings of its own, and the engine made of it.
+//! The parts of an engine that differ from engine to engine, and the engine that is made of these parts.
 ghost use Rattle.std.specs.Prelude.{◌≡◌, ℕ, ◌^◌, ◌<◌, ◌≤◌, length, slice_index, bit_xor};
 ghost use Rattle.rs_field.specs.words.StepBounds.{LocatorCounts, LocatorCountsBelow};
 ghost use Rattle.rs_field.specs.words.Field.{product, power};
@@ -25,11 +25,10 @@ pub struct ThreeLogarithms {
     pub log_m23: GfElement,
 }
 
-/// What tells engines apart: the tables that they read, the butterflies of two rows and the product of a row.
+/// The parts in which engines differ: the tables that they read, the butterflies of two rows, and the product of a row.
 ///
-/// Each type with these is an engine: its transforms, which take care of blocks, cosets and unused rows, its products and
-/// its locator are those of `impl Engine` below. The factor of a butterfly is given by its logarithm `log_m`; 65535 marks
-/// the factor zero.
+/// Each type with these parts is an engine. `impl Engine` defines its transforms, which handle blocks, cosets and unused rows, and
+/// its products and its locator. The factor of a butterfly is given by its logarithm `log_m`; 65535 represents the factor zero.
 pub trait Kernel: Drop {
     /// The tables of transforms and locators.
     fn tables(&self) -> LentTables<'_>;

@@ -15,7 +15,7 @@ pub(crate) fn branchless_add_mod(x: GfElement, y: GfElement) -> GfElement
     x.wrapping_add(y).max(x.saturating_sub(!y))
 }
 
-// The residue modulo 65535, where 0 and 65535 both stand for zero.
+// Returns the residue modulo 65535. 0 and 65535 both represent zero.
 #[inline(always)]
 pub(crate) fn residue(n: u32) -> GfElement
     ensures { result % 65535 ≡ n % 65535 }
@@ -23,7 +23,7 @@ pub(crate) fn residue(n: u32) -> GfElement
     branchless_add_mod((n & 0xFFFF) as u16, (n >> 16) as u16)
 }
 
-// The difference modulo 65535, where 0 and 65535 both stand for zero; 65534 is minus one.
+// Returns the difference modulo 65535. 0 and 65535 both represent zero, and 65534 is minus one.
 #[inline(always)]
 fn sub_mod(x: GfElement, y: GfElement) -> GfElement
     ensures { result % 65535 ≡ (x + 65534 * y) % 65535 }
@@ -109,9 +109,9 @@ fn walsh_128(steps: &mut Steps, entries: &mut [GfElement])
 /// The Walsh-Hadamard transform modulo 65535: entry w becomes the sum of all entries y, with a minus sign where w and
 /// y have an odd number of set bits in common.
 ///
-/// There are a power of two of entries, at most 65536, and those from `truncated` on are 0. Of a new entry the residue
-/// alone is fixed: 0 and 65535 both stand for zero. At most half the number of entries times its logarithm pair sums
-/// are counted. The transform is that of Leopard-RS, two layers at a time, quarter by quarter.
+/// The number n of entries is a power of two and at most 65536, and the entries from `truncated` on are 0. Only the residue of a
+/// new entry is fixed: 0 and 65535 both represent zero. At most n / 2 * log2(n) pair sums are counted. The transform is that of
+/// Leopard-RS, two layers at a time, quarter by quarter.
 pub fn fwht(steps: &mut Steps, entries: &mut [GfElement], truncated: usize)
     requires power { (d : ℕ) × (length entries.old ≡ 2 ^ d) }
     requires size { length entries.old ≤ 65536 }

@@ -8,7 +8,7 @@ use super::fwht::{fwht, residue};
 use super::tables::LogWalsh;
 use super::{GfElement, Steps};
 
-// The product modulo 65535, where 0 and 65535 both stand for zero.
+// Returns the product modulo 65535. 0 and 65535 both represent zero.
 #[inline(always)]
 fn counted_product(steps: &mut Steps, x: GfElement, y: GfElement) -> GfElement
     ensures product { result % 65535 ≡ x * y % 65535 }

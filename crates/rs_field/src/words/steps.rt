@@ -56,7 +56,7 @@ impl Steps {
         self.count(1, 0, 0);
     }
 
-    /// Counts a row step for each of so many rows.
+    /// Counts one row step for each of `rows` rows.
     #[inline(always)]
     pub(crate) fn row_steps(&mut self, rows: usize)
         ensures { (self.new.row_steps ≡ self.old.row_steps + rows) × (self.new.pair_sums ≡ self.old.pair_sums) × (self.new.products ≡ self.old.products) }
@@ -72,7 +72,7 @@ impl Steps {
         self.count(0, 1, 0);
     }
 
-    /// Counts so many pair sums.
+    /// Counts `sums` pair sums.
     #[inline(always)]
     pub(crate) fn pair_sums(&mut self, sums: usize)
         ensures { (self.new.row_steps ≡ self.old.row_steps) × (self.new.pair_sums ≡ self.old.pair_sums + sums) × (self.new.products ≡ self.old.products) }

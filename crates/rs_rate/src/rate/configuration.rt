@@ -1,4 +1,4 @@
-//! What a coder is set up for, validated once: from it come the rows of an encoder and the frame of a decoder.
+//! The configuration of an encoder or a decoder, which is validated once, and the shapes that follow from it.
 ghost use Rattle.std.specs.Prelude.{◌≡◌, Err, MatchResult};
 ghost use Rattle.rs_field.specs.code.Configuration.{configuration, validation_outcome};
 ghost use Rattle.rs_rate.specs.Configured.{rate_configuration, shape_of_encoder, shape_of_decoder, IsConfigured};
@@ -13,8 +13,8 @@ use crate::rate::supported_counts::SupportedCounts;
 use rs_field::engine::GF_ORDER;
 use rs_field::error::Error;
 
-/// The counts and the size of a shard, whether the rate is the low rate at these counts, and the rows of a block: the
-/// power of two of the originals at the low rate, else that of the recovery shards.
+/// The counts, the size of a shard, whether the rate is the low rate for these counts, and the number of rows of a block. This
+/// number is the power of the number of originals at the low rate, and of the number of recovery shards at the high rate.
 #[derive(Clone, Copy, Debug, PartialEq, Eq, Hash)]
 pub struct Configuration {
     pub original_count: usize,
@@ -25,7 +25,7 @@ pub struct Configuration {
 }
 
 impl Configuration {
-    // The configuration of a rate at counts that it supports, or the refusal of the size.
+    // Returns the configuration of a rate for supported counts, or fails with `InvalidShardSize`.
     #[inline(always)]
     pub(crate) fn new<C: RateMarker>(
         counts: SupportedCounts<C>,
@@ -46,7 +46,7 @@ impl Configuration {
         })
     }
 
-    // The configuration of a rate at counts and a size, or the first refusal.
+    // Returns the configuration of a rate for these counts and this size, or the first error.
     #[inline(always)]
     pub(crate) fn at<C: RateMarker>(
         original_count: usize,
@@ -60,7 +60,7 @@ impl Configuration {
         Configuration::new(counts, shard_bytes)
     }
 
-    // What an encoder is set up for: rows for the recovery shards at the low rate, else for the originals, in whole blocks.
+    // Returns the shape of an encoder: rows for the recovery shards at the low rate, else for the originals, in whole blocks.
     pub(crate) fn encoder_shape(self) -> EncoderShape
         requires { IsConfigured self }
         ensures shape { result ≡ shape_of_encoder self }
@@ -77,7 +77,7 @@ impl Configuration {
         }
     }
 
-    // What a decoder is set up for: the originals before the recovery shards at the low rate, else after them.
+    // Returns the shape of a decoder: the originals are before the recovery shards at the low rate, else after them.
     pub(crate) fn decoder_shape(self) -> DecoderShape
         requires { IsConfigured self }
         ensures shape { result ≡ shape_of_decoder self }

@@ -1,18 +1,18 @@
-//! Powers of two, supported counts, and which rate a rate is at them.
+//! Powers of two, supported counts, and whether a rate is the low or the high rate for them.
 ghost use Rattle.std.specs.Prelude.{◌≡◌, ◌↔◌, ℕ, ◌+◌, ◌^◌, ◌<◌, ◌≤◌, nat_le, IsTrue, Some, None, if◌then◌else◌};
 ghost use Rattle.rs_field.specs.code.Counts.{next_power, low_rate, high_rate, default_rate};
 ghost use Rattle.rs_rate.specs.Configured.{choice_of};
 
 use rs_field::engine::GF_ORDER;
 
-/// Whether a rate is the low rate at some counts, and the rows of its blocks there.
+/// Whether a rate is the low rate for some counts, and the number of rows of a block for these counts.
 #[derive(Clone, Copy, Debug, PartialEq, Eq, Hash)]
 pub struct Choice {
     pub is_low: bool,
     pub block_rows: usize,
 }
 
-// The least power of two that is not below n.
+// Returns the least power of two that is not below n.
 pub(crate) fn power_of_two(n: usize) -> usize
     requires { n ≤ 65536 }
     ensures value { result ≡ next_power n }
@@ -23,7 +23,7 @@ pub(crate) fn power_of_two(n: usize) -> usize
     n.next_power_of_two()
 }
 
-// Whether both counts are positive and no larger than the field.
+// Returns whether both counts are at least 1 and at most 65536, the number of elements of the field.
 fn are_in_field(original_count: usize, recovery_count: usize) -> bool
     ensures { IsTrue result ↔ (0 < original_count) × (original_count ≤ 65536) × (0 < recovery_count) × (recovery_count ≤ 65536) }
 {
@@ -32,7 +32,7 @@ fn are_in_field(original_count: usize, recovery_count: usize) -> bool
     originals_fit && recovery_fits
 }
 
-// A choice of a rate, if a block and the shards beside it are no more than the points.
+// Returns a choice if the rows of a block and `count` other shards are at most 65536, the number of points.
 fn fitting(is_low: bool, block_rows: usize, count: usize) -> Option<Choice>
     requires block { block_rows ≤ 65536 }
     requires count { count ≤ 65536 }
@@ -44,7 +44,7 @@ fn fitting(is_low: bool, block_rows: usize, count: usize) -> Option<Choice>
     Some(Choice { is_low, block_rows })
 }
 
-// What the low rate is at these counts, where it supports them: blocks of the originals' power of two.
+// Returns the choice of the low rate: the rows of a block are the power of the number of originals.
 pub(crate) fn low_choice(original_count: usize, recovery_count: usize) -> Option<Choice>
     ensures { result ≡ choice_of low_rate original_count recovery_count }
 {
@@ -54,7 +54,7 @@ pub(crate) fn low_choice(original_count: usize, recovery_count: usize) -> Option
     fitting(true, power_of_two(original_count), recovery_count)
 }
 
-// The choice of the high rate: the rows of a block are the power of the number of recovery shards.
+// Returns the choice of the high rate: the rows of a block are the power of the number of recovery shards.
 pub(crate) fn high_choice(original_count: usize, recovery_count: usize) -> Option<Choice>
     ensures { result ≡ choice_of high_rate original_count recovery_count }
 {
@@ -64,7 +64,7 @@ pub(crate) fn high_choice(original_count: usize, recovery_count: usize) -> Optio
     fitting(false, power_of_two(recovery_count), original_count)
 }
 
-// The choice of the default rate: the rate with the smaller blocks, and if these are equal, the one made for the smaller count.
+// Returns the choice of the default rate: the rate with the smaller blocks, and if these are equal, the one made for the smaller count.
 pub(crate) fn default_choice(original_count: usize, recovery_count: usize) -> Option<Choice>
     ensures { result ≡ choice_of default_rate original_count recovery_count }
 {

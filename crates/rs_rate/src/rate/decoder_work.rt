@@ -1,4 +1,4 @@
-//! A decoder's work, the memory that is handed on, and its rows in it.
+//! The work of a decoder, which is the memory that decoders pass on, and the rows of a decoder in this memory.
 ghost use Rattle.std.specs.Prelude.{◌≡◌, ◌≢◌, ℕ, ◌+◌, ◌*◌, ◌%◌, ◌^◌, ◌<◌, ◌≤◌, true, false, length, vec_len};
 ghost use Rattle.std.specs.Prelude.{IfOk, IfErr, IfSome, OnOk, OnErr, IsOk, MatchOption, [], ◌∷◌, option_copied};
 ghost use Rattle.std.specs.Vec.{vec_capacity};
@@ -31,7 +31,7 @@ pub struct DecoderWork {
     pub(crate) memory: Option<DecoderMemory>,
 }
 
-/// Chunks and marks of rows, and the locator's entries at them.
+/// The chunks and the marks of the rows, and the entries of the locator for the rows.
 #[derive(Drop)]
 pub struct DecoderMemory {
     pub(crate) chunks: Vec<[u8; 64]>,
@@ -39,7 +39,7 @@ pub struct DecoderMemory {
     pub(crate) entries: Vec<GfElement>,
 }
 
-/// Where a decoder's shards stand among the points, which points are known zeros, and how many rows it works on.
+/// The points of the shards of a decoder, the points of known zeros, and the number of rows of the decoder.
 #[derive(Clone, Copy, Debug, PartialEq, Eq, Hash)]
 pub struct Frame {
     pub row_count: usize,
@@ -49,14 +49,14 @@ pub struct Frame {
     pub zeros_to: usize,
 }
 
-/// What a decoder's rows are set up for, and where its shards stand.
+/// The configuration of a decoder, and the rows of its shards.
 #[derive(Clone, Copy, Debug, PartialEq, Eq, Hash)]
 pub struct DecoderShape {
     pub configuration: Configuration,
     pub frame: Frame,
 }
 
-/// The rows of a decoder, and how many shards were given.
+/// The rows of a decoder, and the numbers of given shards.
 #[derive(Drop)]
 pub struct DecoderRows {
     pub(crate) shape: DecoderShape,
@@ -110,7 +110,7 @@ impl Default for DecoderWork {
 impl DecoderMemory {
     ghost use Rattle.rs_rate.specs.DecoderRoom.{HasRoom, Grows, memory_room, shape_chunks, work_room, IsLaidOut};
 
-    // The memory that another object passes on, if there is any.
+    // Returns the memory that another object passes on, if there is any.
     fn of(work: Option<DecoderWork>) -> Option<DecoderMemory>
         ensures { IfSome work (λ w. w.memory ≡ result) }
     {
@@ -120,9 +120,9 @@ impl DecoderMemory {
         }
     }
 
-    // New memory that is laid out for a shape, with nothing given. Not inlined: after the branches of its callers the
-    // compiler takes the clearing for rare, and makes no `memset` of it. The chunks come last, since their clearing drives
-    // from the cache what other requests for memory read.
+    // Allocates memory that is laid out for a shape, without given shards. The function is not inlined: in the branches of its
+    // callers, the compiler takes the clearing for rare and does not use `memset`. The chunks are allocated last, because
+    // clearing them removes from the cache what other allocations read.
     #[inline(never)]
     fn new(alloc: Global, shape: DecoderShape) -> Result<DecoderMemory, Error>
         ensures laid_out { IfOk result (IsLaidOut shape) }
@@ -140,7 +140,7 @@ impl DecoderMemory {
         })
     }
 
-    // Memory laid out for a shape, with nothing given: that of `work`, where it has some.
+    // Returns memory that is laid out for a shape, without given shards. If there is a `work`, its memory is used.
     #[inline(always)]
     fn laid_out(
         alloc: Global,
@@ -164,7 +164,7 @@ impl DecoderMemory {
         }
     }
 
-    // Makes room for a number of chunks and of rows; nothing else changes.
+    // Makes room for a number of chunks and of rows. Nothing else changes.
     fn grow(&mut self, chunks: usize, rows: usize) -> Result<(), Error>
         ensures kept { (self.new.chunks.items ≡ self.old.chunks.items) × AreSameMarks self.old.marks self.new.marks
             × (self.new.entries.items ≡ self.old.entries.items) }
@@ -178,8 +178,8 @@ impl DecoderMemory {
         make_room(&mut self.entries, rows)
     }
 
-    // Is laid out for a shape, with nothing given: every growth first. What the locator's entries are is open: each
-    // decode writes them.
+    // Lays the memory out for a shape, without given shards. All memory is allocated first. The entries of the locator may have
+    // any values, because each decode writes them.
     fn lay_out(&mut self, shape: DecoderShape) -> Result<(), Error>
         ensures laid_out { OnOk result (IsLaidOut shape self.new) }
         ensures empty { OnOk result ((p : ℕ) → is_marked (given_marks self.new.marks) p ≡ false) }
@@ -290,7 +290,7 @@ impl DecoderRows {
     ghost use Rattle.rs_rate.specs.DecoderView.{decoder_state, restored_by_rows, restored_from};
     ghost use Rattle.rs_rate.specs.Decoding.{CanBeRestored};
 
-    // Enters a shard of a side in its row, where the row is free.
+    // Puts a shard of a side into its row, if the row is free.
     pub(crate) fn add_shard(&mut self, side: Side, index: usize, shard: &[u8]) -> Result<(), Error>
         ensures answer { (rate : Rate) → result ≡ answer_of (with_shard_of_side side (decoder_state rate self.old) index shard.now) }
         ensures left { (rate : Rate) → decoder_state rate self.new
@@ -317,7 +317,7 @@ impl DecoderRows {
         Ok(())
     }
 
-    // What a decode of the rows depends on.
+    // Returns the numbers on which a decode of the rows depends.
     pub(crate) fn tally(&self) -> Tally
         requires { self.now.shape.configuration.original_count ≤ self.now.originals_given + self.now.recovery_given }
         ensures shape { result.shape ≡ self.now.shape }
@@ -331,7 +331,7 @@ impl DecoderRows {
         }
     }
 
-    // Refuses where too few shards are given.
+    // Fails with `NotEnoughShards` if too few shards are given.
     pub(crate) fn check_enough_given(&self) -> Result<(), Error>
         ensures { (rate : Rate) → result ≡ enough_given (decoder_state rate self.now) }
     {
@@ -362,7 +362,7 @@ impl DecoderRows {
         ))
     }
 
-    // The first restored original from an index on, with its index.
+    // Returns the first restored original from an index on, with its index.
     pub(crate) fn next_restored(&self, from: usize) -> Option<(usize, &[u8])>
         ensures { MatchOption result (restored_from self.now from ≡ [])
             (λ item. (item.0 < self.now.shape.configuration.original_count) × (restored_from self.now from ≡ (item.0, item.1.now) ∷ restored_from self.now (item.0 + 1))) }

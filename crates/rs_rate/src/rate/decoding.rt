@@ -25,8 +25,7 @@ use rs_field::engine::layout::row_len;
 use rs_field::engine::{Engine, GfElement, ShardsRefMut, Steps};
 use rs_field::error::Error;
 
-// Restores the missing originals and returns their number, or fails if no message agrees with all shards that are
-// given; ends the round.
+// Restores the missing originals and returns their number, or fails if no message agrees with all given shards. The round ends.
 pub(crate) fn decode_rows<E: Engine>(
     engine: &E,
     steps: &mut Steps,
@@ -61,9 +60,9 @@ pub(crate) fn decode_rows<E: Engine>(
     answer
 }
 
-// Restores the missing originals in their rows if some message agrees with all that is given, and returns whether
-// one does. With all originals and nothing else given there is nothing to restore. The marks of given rows become those
-// of restored ones.
+// Restores the missing originals in their rows if some message agrees with all given shards, and returns whether one does. If
+// all originals and no recovery shards are given, there is nothing to restore. Afterwards the marks are those of restored
+// originals.
 fn restore<E: Engine>(
     engine: &E,
     steps: &mut Steps,
@@ -94,7 +93,7 @@ fn restore<E: Engine>(
     restore_chunks(engine, steps, chunks, &mut memory.marks, locator, tally)
 }
 
-// The locator of the erased rows, at all rows.
+// Computes the locator of the erased rows, at all rows.
 fn make_locator<E: Engine>(
     engine: &E,
     steps: &mut Steps,
@@ -113,7 +112,7 @@ fn make_locator<E: Engine>(
     are_words(entries);
 }
 
-// The entries of the erased rows become 1, the others 0.
+// Sets the entries of the erased rows to 1 and all other entries to 0.
 fn mark_erased(entries: &mut [GfElement], given: &[bool], frame: Frame)
     requires entries { length entries.old ≡ frame.row_count }
     requires marked { frame.row_count ≤ length given.now }
@@ -124,7 +123,7 @@ fn mark_erased(entries: &mut [GfElement], given: &[bool], frame: Frame)
     }
 }
 
-// A row's entry: 0 where it is a known zero or its shard is given, else 1.
+// Returns the entry of a row: 0 if the row is known to be zero or its shard is given, else 1.
 fn erased_at(given: &[bool], frame: Frame, row: usize) -> GfElement
     requires marked { row < length given.now }
     ensures { result ≡ erased frame.zeros_from frame.zeros_to given.now row }
@@ -133,7 +132,7 @@ fn erased_at(given: &[bool], frame: Frame, row: usize) -> GfElement
     if is_zero || given[row] { 0 } else { 1 }
 }
 
-// Restores the missing originals over all chunks where some message agrees, with their tails moved.
+// Restores the missing originals over all chunks if some message agrees, and moves their tails.
 #[tactic(auto, unfolding(crate::specs::ShardRows::chunk_count))]
 fn restore_chunks<E: Engine>(
     engine: &E,
@@ -159,7 +158,7 @@ fn restore_chunks<E: Engine>(
     agrees
 }
 
-// Moves the tails of the restored originals; a row step each.
+// Moves the tails of the restored originals, and counts one row step for each of them.
 fn move_restored_tails(
     steps: &mut Steps,
     chunks: &mut [[u8; 64]],

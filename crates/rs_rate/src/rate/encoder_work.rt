@@ -1,4 +1,4 @@
-//! An encoder's work, the memory that is handed on, and its rows in it.
+//! The work of an encoder, which is the memory that encoders pass on, and the rows of an encoder in this memory.
 ghost use Rattle.std.specs.Prelude.{◌≡◌, ℕ, ◌*◌, ◌%◌, ◌^◌, ◌<◌, ◌≤◌, vec_len, IfSome, MatchOption};
 ghost use Rattle.std.specs.Vec.{vec_capacity};
 ghost use Rattle.rs_field.specs.code.Column.{IsShard};
@@ -21,14 +21,14 @@ pub struct EncoderWork {
     pub(crate) chunks: Option<Vec<[u8; 64]>>,
 }
 
-/// What an encoder's rows are set up for, and how many they are.
+/// The configuration of an encoder, and the number of its rows.
 #[derive(Clone, Copy, Debug, PartialEq, Eq, Hash)]
 pub struct EncoderShape {
     pub configuration: Configuration,
     pub row_count: usize,
 }
 
-/// The rows of an encoder, and how many originals were given.
+/// The rows of an encoder, and the number of given originals.
 #[derive(Drop)]
 pub struct EncoderRows {
     pub(crate) shape: EncoderShape,
@@ -163,7 +163,7 @@ impl EncoderRows {
         Ok(())
     }
 
-    // Refuses where originals are missing.
+    // Fails with `TooFewOriginalShards` if originals are missing.
     pub(crate) fn check_all_given(&self) -> Result<(), Error>
         ensures { (rate : Rate) → result ≡ answer_of (message_of (encoder_state rate self.now)) }
     {

@@ -17,7 +17,7 @@ use crate::rate::shard_rows::{laid_out_are_bytes, move_tails};
 use rs_field::engine::layout::row_len;
 use rs_field::engine::{Engine, ShardsRefMut, Steps};
 
-// Codes the given originals and ends the round.
+// Computes the recovery shards of the given originals, and ends the round.
 pub(crate) fn encode_rows<E: Engine>(engine: &E, steps: &mut Steps, rows: &mut EncoderRows)
     requires full { rows.old.originals_given ≡ rows.old.shape.configuration.original_count }
     ensures shape { rows.new.shape ≡ rows.old.shape }
@@ -36,7 +36,7 @@ pub(crate) fn encode_rows<E: Engine>(engine: &E, steps: &mut Steps, rows: &mut E
     move_tails(steps, chunks, recovery_count, shard_bytes);
 }
 
-// Makes the words of the recovery shards, over all chunks, by the coding of the low or of the high rate.
+// Computes the words of the recovery shards in all chunks, with the coding of the low or of the high rate.
 #[tactic(auto, unfolding(crate::specs::ShardRows::chunk_count))]
 fn code_chunks<E: Engine>(
     engine: &E,

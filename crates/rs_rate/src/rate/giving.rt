@@ -19,18 +19,18 @@ use rs_field::engine::Engine;
 use rs_field::error::Error;
 use std::alloc::Global;
 
-/// Returns a decoder for these counts with all `original` and `recovery` shards added, or `None` if no recovery shard
-/// comes and every original is there. The shard size is that of the first recovery shard.
+/// Returns a decoder for these counts with all `original` and `recovery` shards added, or `None` if `recovery` gives no shard
+/// and no original is missing. The shard size is that of the first recovery shard.
 ///
 /// # Errors
 ///
-/// If a recovery shard comes:
+/// If `recovery` gives a shard:
 ///
 /// - `InvalidShardSize` or `OutOfMemory` for the size of the first recovery shard.
 /// - Otherwise the error of the first shard that `add_original_shard` or `add_recovery_shard` does not accept: all
-///   originals in order, then all recovery shards in order. No further shard is asked for.
+///   originals in order, then all recovery shards in order. The iterators are not called again.
 ///
-/// If none comes: the errors of [`check_originals_alone`].
+/// If `recovery` gives no shard: the errors of [`check_originals_alone`].
 pub fn given_decoder<'a, E: Engine, O, R>(
     alloc: Global,
     counts: DefaultRateCounts,
@@ -62,8 +62,8 @@ where
     Ok(Some(decoder))
 }
 
-/// Adds shards to an encoder in order. Fails with the error of the first shard that the encoder does not accept; no
-/// further shard is asked for.
+/// Adds shards to an encoder in order. Fails with the error of the first shard that the encoder does not accept, and then does
+/// not call the iterator again.
 pub fn add_shards<'a, E: Engine, X: RateEncoder<E>, I: Iterator<Item = &'a [u8]> + Drop>(
     encoder: &mut X,
     shards: I,
@@ -79,8 +79,8 @@ pub fn add_shards<'a, E: Engine, X: RateEncoder<E>, I: Iterator<Item = &'a [u8]>
     Ok(())
 }
 
-/// Adds originals to a decoder in order. Fails with the error of the first original that the decoder does not accept; no
-/// further original is asked for.
+/// Adds originals to a decoder in order. Fails with the error of the first original that the decoder does not accept, and then
+/// does not call the iterator again.
 pub fn add_originals<
     'a,
     E: Engine,
@@ -99,7 +99,7 @@ pub fn add_originals<
 }
 
 /// Adds recovery shards to a decoder in order. Fails with the error of the first recovery shard that the decoder does not
-/// accept; no further recovery shard is asked for.
+/// accept, and then does not call the iterator again.
 pub fn add_recovery<'a, E: Engine, X: RateDecoder<E>, I: Iterator<Item = (usize, &'a [u8])> + Drop>(
     decoder: &mut X,
     recovery: I,

@@ -13,7 +13,7 @@ use rs_field::engine::rows::clear_rows;
 use rs_field::engine::utils::xor_within;
 use rs_field::engine::{Engine, ShardsRefMut, Steps};
 
-// Makes the recovery shards in the first rows from the originals in the rows.
+// Computes the recovery shards in the first rows from the originals in the rows.
 pub(crate) fn code_high<E: Engine>(
     engine: &E,
     steps: &mut Steps,
@@ -34,7 +34,7 @@ pub(crate) fn code_high<E: Engine>(
     engine.fft(steps, rows, 0, block, configuration.recovery_count, 0);
 }
 
-// Passes each block of originals to its combination, and sums these in the first block.
+// Transforms each block of originals backward into the coefficients of its combination, and sums these in the first block.
 fn sum_blocks<E: Engine>(
     engine: &E,
     steps: &mut Steps,
@@ -62,8 +62,8 @@ fn sum_blocks<E: Engine>(
     }
 }
 
-// The block of `block` rows from `start` on passes to the combination that takes its originals at the points from
-// `start + block` on, and zero after them.
+// Transforms the `block` rows from `start` on backward. They become the coefficients of the combination whose values are the
+// originals of these rows, at the points from `start + block` on, and zero after them.
 fn pass_block<E: Engine>(
     engine: &E,
     steps: &mut Steps,

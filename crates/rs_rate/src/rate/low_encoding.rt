@@ -12,7 +12,7 @@ use crate::rate::configuration::Configuration;
 use rs_field::engine::rows::{clear_rows, copy_rows};
 use rs_field::engine::{Engine, ShardsRefMut, Steps};
 
-// Makes the recovery shards in the first rows from the originals in the rows.
+// Computes the recovery shards in the first rows from the originals in the rows.
 pub(crate) fn code_low<E: Engine>(
     engine: &E,
     steps: &mut Steps,
@@ -37,7 +37,7 @@ pub(crate) fn code_low<E: Engine>(
     engine.fft(steps, rows, 0, block, block.min(recovery_count), block);
 }
 
-// The recovery rows from row `block` on: each block takes the combination and passes to its values.
+// Computes the recovery rows from row `block` on: the coefficients are copied into each block and transformed forward.
 fn code_further<E: Engine>(
     engine: &E,
     steps: &mut Steps,

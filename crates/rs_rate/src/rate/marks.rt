@@ -1,4 +1,5 @@
-//! Which rows of a decoder hold given shards and, once a decode restores, which of them restored ones.
+//! The marks of a decoder's rows. While shards are added, they say which rows hold given shards. After a decode they say
+//! which rows hold restored originals.
 ghost use Rattle.std.specs.Prelude.{◌≡◌, ◌≢◌, ℕ, ◌^◌, ◌<◌, ◌≤◌, ◌⊎◌, not, true, false, length, IfOk, IfErr, OnOk};
 ghost use Rattle.rs_field.specs.rows.MarkedRows.{is_marked};
 ghost use Rattle.rs_rate.specs.Marks.{given_marks, restored_marks, mark_count, mark_room, AreSameMarks, WantsMissing};
@@ -9,8 +10,7 @@ use crate::rate::memory::{make_room, set_length};
 use rs_field::error::Error;
 use std::alloc::Global;
 
-/// Which shards a decoder's marks tell of: while they are added, those that are given; from the decode on, the
-/// originals that weren't given and are to be restored.
+/// The shards whose rows are marked: the given shards until the decode, and then the originals that are restored.
 #[derive(Clone, Copy, Debug, PartialEq, Eq, Hash)]
 pub enum MarkedShards {
     Given,
@@ -25,7 +25,7 @@ pub struct Marks {
 }
 
 impl Marks {
-    // Marks of n rows without a given shard, or `OutOfMemory`.
+    // Returns the marks of `rows` rows without a given shard, or `OutOfMemory`.
     pub(crate) fn new(alloc: Global, rows: usize) -> Result<Marks, Error>
         ensures empty { IfOk result (λ marks. (p : ℕ) → is_marked (given_marks marks) p ≡ false) }
         ensures length { IfOk result (λ marks. mark_count marks ≡ rows) }
@@ -38,7 +38,7 @@ impl Marks {
         })
     }
 
-    // Makes room for the marks of n rows in all; no mark changes.
+    // Makes room for the marks of `rows` rows. No mark changes.
     pub(crate) fn make_room(&mut self, rows: usize) -> Result<(), Error>
         ensures same { AreSameMarks self.old self.new }
         ensures room { OnOk result (rows ≤ mark_room self.new) }
@@ -48,7 +48,7 @@ impl Marks {
         make_room(&mut self.rows, rows)
     }
 
-    // Sets the marks to n rows without a given shard; there is room for them.
+    // Sets the marks to those of `rows` rows without a given shard. There must be room for these marks.
     #[inline(always)]
     pub(crate) fn set_empty(&mut self, rows: usize)
         requires { rows ≤ mark_room self.old }
@@ -61,7 +61,7 @@ impl Marks {
         self.shards = MarkedShards::Given;
     }
 
-    // Whether row `row` holds a given shard.
+    // Returns whether row `row` holds a given shard.
     pub(crate) fn is_given(&self, row: usize) -> bool
         requires { row < mark_count self.now }
         ensures { result ≡ is_marked (given_marks self.now) row }
@@ -72,7 +72,7 @@ impl Marks {
         }
     }
 
-    // Whether row `row` holds a restored shard, or is to.
+    // Returns whether row `row` holds a restored original, or will hold one after the decode.
     pub(crate) fn is_restored(&self, row: usize) -> bool
         requires { row < mark_count self.now }
         ensures { result ≡ is_marked (restored_marks self.now) row }
@@ -83,7 +83,7 @@ impl Marks {
         }
     }
 
-    // The marks of given shards, where the marks tell of these.
+    // Returns the marks of given shards. The marked rows must be those of given shards.
     pub(crate) fn given(&self) -> &[bool]
         requires { self.now.shards ≡ MarkedShards.Given }
         ensures marks { result.now ≡ given_marks self.now }
@@ -92,7 +92,7 @@ impl Marks {
         self.rows.as_slice()
     }
 
-    // The marks of restored shards, where the marks tell of these.
+    // Returns the marks of restored originals. The marked rows must be those of restored originals.
     pub(crate) fn restored(&self) -> &[bool]
         requires { self.now.shards ≡ MarkedShards.Restored }
         ensures marks { result.now ≡ restored_marks self.now }
@@ -113,7 +113,7 @@ impl Marks {
         self.rows[row] = is;
     }
 
-    // Has the marks tell of given shards: of none, where they told of restored ones.
+    // Makes the marks those of given shards. If they were those of restored originals, no row is marked afterwards.
     fn tell_given(&mut self)
         ensures shards { self.new.shards ≡ MarkedShards.Given }
         ensures same { (p : ℕ) → is_marked self.new.rows.items p ≡ is_marked (given_marks self.old) p }
@@ -138,7 +138,7 @@ impl Marks {
         self.set(row, true);
     }
 
-    // Whether row `row` is that of an original which isn't given.
+    // Returns whether row `row` is the row of an original that is not given.
     fn is_missing(&self, shape: DecoderShape, row: usize) -> bool
         requires marked { row < mark_count self.now }
         requires fits { original_row shape.frame shape.configuration.original_count < 2 ^ 64 }
@@ -150,8 +150,7 @@ impl Marks {
         shape.frame.originals_from <= row && row < end && !self.is_given(row)
     }
 
-    // Ends the giving: of the rows of a shape's originals, those without a given shard are marked as restored, and no
-    // other row is marked.
+    // Makes the marks those of restored originals: exactly the rows of originals that were not given are marked.
     pub(crate) fn want_missing(&mut self, shape: DecoderShape)
         requires { original_row shape.frame shape.configuration.original_count ≤ mark_count self.old }
         ensures { WantsMissing shape self.old self.new }

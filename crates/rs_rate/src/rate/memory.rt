@@ -6,7 +6,7 @@ ghost use Rattle.rs_rate.specs.Memory.{room_of};
 use rs_field::error::Error;
 use std::alloc::Global;
 
-// The vector that another object passes on, or a new one without memory.
+// Returns the vector that another object passes on, or a new vector without memory.
 pub(crate) fn vec_of<T>(alloc: Global, memory: Option<Vec<T>>) -> Vec<T>
     ensures { room_of memory ≤ vec_capacity result }
 {
@@ -16,7 +16,7 @@ pub(crate) fn vec_of<T>(alloc: Global, memory: Option<Vec<T>>) -> Vec<T>
     }
 }
 
-// Makes room for `count` items in all; the items stay.
+// Makes room for `count` items. The items stay.
 pub(crate) fn make_room<T>(items: &mut Vec<T>, count: usize) -> Result<(), Error>
     ensures same { items.new.items ≡ items.old.items }
     ensures room { OnOk result (count ≤ vec_capacity items.new) }
@@ -28,7 +28,7 @@ pub(crate) fn make_room<T>(items: &mut Vec<T>, count: usize) -> Result<(), Error
     Ok(())
 }
 
-// Sets the number of items, for which there is room; added items are copies of `item`.
+// Sets the number of items, for which there must be room. Added items are copies of `item`.
 #[inline(always)]
 pub(crate) fn set_length<T: Copy>(items: &mut Vec<T>, count: usize, item: T)
     requires { count ≤ vec_capacity items.old }
@@ -39,8 +39,8 @@ pub(crate) fn set_length<T: Copy>(items: &mut Vec<T>, count: usize, item: T)
     let _ = items.resize(count, item);
 }
 
-// Sets the number of chunks, for which there is room; added chunks are zeros. Inlined where the vector is a local
-// one, this becomes a `memset`.
+// Sets the number of chunks, for which there must be room. Added chunks are zeros. If the function is inlined and the vector
+// is a local variable, this becomes a `memset`.
 #[inline(always)]
 pub(crate) fn set_chunks(chunks: &mut Vec<[u8; 64]>, count: usize)
     requires { count ≤ vec_capacity chunks.old }

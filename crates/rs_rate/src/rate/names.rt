@@ -1,4 +1,4 @@
-//! What the names of the rates and of their objects stand for: laws, carried by functions that do nothing.
+//! The rates that the names of types say. These laws are the contracts of functions that do nothing.
 ghost use Rattle.std.specs.Prelude.{◌≡◌};
 ghost use Rattle.rs_field.specs.code.Counts.{low_rate, high_rate, default_rate};
 
@@ -8,21 +8,21 @@ use crate::rate::{
 };
 use rs_field::engine::Engine;
 
-/// What is named low is of the low rate.
+/// States that `LowRate`, its encoder and its decoder have the low rate.
 pub fn low_names<E: Engine>()
     ensures rate { ⟦<LowRate<E> as Rate<E>>⟧.rate ≡ low_rate }
     ensures encoder { ⟦<LowRateEncoder<E> as RateEncoder<E>>⟧.rate ≡ low_rate }
     ensures decoder { ⟦<LowRateDecoder<E> as RateDecoder<E>>⟧.rate ≡ low_rate }
 {}
 
-/// What is named high is of the high rate.
+/// States that `HighRate`, its encoder and its decoder have the high rate.
 pub fn high_names<E: Engine>()
     ensures rate { ⟦<HighRate<E> as Rate<E>>⟧.rate ≡ high_rate }
     ensures encoder { ⟦<HighRateEncoder<E> as RateEncoder<E>>⟧.rate ≡ high_rate }
     ensures decoder { ⟦<HighRateDecoder<E> as RateDecoder<E>>⟧.rate ≡ high_rate }
 {}
 
-/// What is named default is of the default rate.
+/// States that `DefaultRate`, its encoder and its decoder have the default rate.
 pub fn default_names<E: Engine>()
     ensures rate { ⟦<DefaultRate<E> as Rate<E>>⟧.rate ≡ default_rate }
     ensures encoder { ⟦<DefaultRateEncoder<E> as RateEncoder<E>>⟧.rate ≡ default_rate }

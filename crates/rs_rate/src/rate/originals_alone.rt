@@ -1,4 +1,4 @@
-//! Whether all originals are given, where no recovery shard is.
+//! The check that all originals are given, for a decode without recovery shards.
 ghost use Rattle.std.specs.Prelude.{◌≡◌, ◌⊎◌, if◌then◌else◌, ℕ, nat_le, true, false, List, length, count_by};
 ghost use Rattle.std.specs.Prelude.{slice_index_or, slice_set, Err, Ok, OnOk};
 ghost use Rattle.std.specs.Iterator.{IsFinite};
@@ -9,7 +9,13 @@ ghost use Rattle.rs_rate.specs.Giving.{Reaches, AreNoted};
 use rs_field::error::Error;
 use std::alloc::Global;
 
-/// Whether all originals are given: each index is noted in order, and they are to be as many as there are originals.
+/// Checks that all originals are given. The index of each original is noted in order.
+///
+/// # Errors
+///
+/// - `OutOfMemory` if the marks of the indexes cannot be allocated.
+/// - For each original in order: `InvalidOriginalShardIndex`, then `DuplicateOriginalShardIndex`.
+/// - `NotEnoughShards` if originals are missing.
 pub fn check_originals_alone<'a, I: Iterator<Item = (usize, &'a [u8])> + Drop>(
     alloc: Global,
     original_count: usize,
@@ -33,7 +39,7 @@ pub fn check_originals_alone<'a, I: Iterator<Item = (usize, &'a [u8])> + Drop>(
     Ok(())
 }
 
-// Notes the indexes of originals in order; the first refused one decides.
+// Notes the indexes of originals in order, up to the first error.
 fn note_all<'a, I: Iterator<Item = (usize, &'a [u8])> + Drop>(
     given: &mut [bool],
     originals: I,
@@ -50,7 +56,7 @@ fn note_all<'a, I: Iterator<Item = (usize, &'a [u8])> + Drop>(
     Ok(())
 }
 
-// Notes that the original of this index is given: the index is to be within the places, and new.
+// Notes that the original with this index is given. Fails if the index is too large, or was noted before.
 fn note(given: &mut [bool], index: usize) -> Result<(), Error>
     ensures answer { result ≡ (if nat_le (length given.old) index
         then Err (Error.InvalidOriginalShardIndex (length given.old) index)
@@ -70,7 +76,7 @@ fn note(given: &mut [bool], index: usize) -> Result<(), Error>
     Ok(())
 }
 
-// How many indexes were noted.
+// Returns the number of noted indexes.
 fn count_noted(given: &[bool]) -> usize
     ensures { result ≡ count_by (λ note_outcome. note_outcome) given.now }
 {

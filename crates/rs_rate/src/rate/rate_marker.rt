@@ -1,4 +1,4 @@
-//! What a rate brings: the counts that it supports, and at which of them it is the low rate.
+//! The three rates as types. A rate decides which counts it supports, and whether it is the low or the high rate for them.
 ghost use Rattle.std.specs.Prelude.{◌≡◌};
 ghost use Rattle.rs_field.specs.code.Counts.{Rate as WhichRate, low_rate, high_rate, default_rate};
 ghost use Rattle.rs_rate.specs.Configured.{choice_of};
@@ -10,24 +10,26 @@ use crate::rate::encoders::Encoder;
 use rs_field::engine::Engine;
 use std::marker::PhantomData;
 
-/// What a rate brings. At each pair of counts it is the low rate or the high rate.
+/// A type that represents a rate. For each pair of counts that it supports, the rate is the low rate or the high rate.
 pub trait RateMarker {
+    /// The rate that the type represents.
     ghost rate: { WhichRate };
 
-    /// Which of both the rate is at these counts, with its blocks there; none where it doesn't support them.
+    /// Returns whether the rate is the low or the high rate for these counts, with the number of rows of a block. Returns `None`
+    /// if the rate does not support the counts.
     fn choose(original_count: usize, recovery_count: usize) -> Option<Choice>
         ensures { result ≡ choice_of rate original_count recovery_count };
 }
 
-/// The code of the low rate.
+/// The marker of the low rate.
 #[derive(Clone, Copy, Debug, PartialEq, Eq, Hash)]
 pub struct LowRateMarker;
 
-/// The code of the high rate.
+/// The marker of the high rate.
 #[derive(Clone, Copy, Debug, PartialEq, Eq, Hash)]
 pub struct HighRateMarker;
 
-/// The code of the default rate.
+/// The marker of the default rate.
 #[derive(Clone, Copy, Debug, PartialEq, Eq, Hash)]
 pub struct DefaultRateMarker;
 
@@ -40,7 +42,7 @@ pub type HighRate<E> = RateOf<E, HighRateMarker>;
 /// The default rate over an engine: for each pair of counts the low or the high rate.
 pub type DefaultRate<E> = RateOf<E, DefaultRateMarker>;
 
-/// The rate of a code, over an engine.
+/// The rate of a marker, over an engine.
 #[derive(Drop)]
 pub struct RateOf<E: Engine, C: RateMarker> {
     engine: PhantomData<E>,

@@ -1,4 +1,4 @@
-//! An object over a rate and its rows. An encoder and a decoder differ in what their rows bring, and in what a round does.
+//! The part that encoders and decoders share: an object holds an engine, and rows that are set up for two counts and a size.
 ghost use Rattle.rs_rate.specs.SetUp.{IsSetUp};
 
 use crate::rate::configuration::Configuration;
@@ -9,7 +9,7 @@ use rs_field::error::Error;
 use std::alloc::Global;
 use std::marker::PhantomData;
 
-/// What the rows of an object bring: how many they are, the state that they stand for, and the room for them.
+/// The rows of an encoder or of a decoder.
 pub trait ObjectRows: Sized {
     ghost use Rattle.std.specs.Prelude.{◌≡◌, ◌*◌, ◌^◌, ◌<◌, ◌≤◌, ℕ, IfOk, OnOk, OnErr};
     ghost use Rattle.rs_field.specs.code.Configuration.{Configuration as AsDefined, UpToMemory};
@@ -20,43 +20,43 @@ pub trait ObjectRows: Sized {
     ghost use Rattle.rs_rate.specs.SetUp.{Answer, rows_of, set_up_outcome};
     ghost use Rattle.rs_rate.specs.ShardRows.{chunk_count};
 
-    /// The memory that is handed on from an object before, where there is one.
+    /// The memory of an earlier object, if there is one.
     type Work: Drop;
 
-    /// What rows can stand for.
+    /// The states that rows can represent.
     ghost State: { Type 0 };
 
-    /// How much there is memory for.
+    /// A number of rows and their size for which there is memory.
     ghost Room: { Type 0 };
 
-    /// How many rows a rate has at counts of originals and of recovery shards.
+    /// The number of rows for a rate, a number of originals and a number of recovery shards.
     ghost row_count: { Rate → ℕ → ℕ → ℕ };
 
-    /// What rows are set up for.
+    /// The configuration for which rows are set up.
     ghost configuration_of: { Self → Configuration };
 
-    /// What rows stand for at a rate.
+    /// The state that rows represent. The rate is a part of this state.
     ghost state: { Rate → Self → State };
 
-    /// The state of a configuration with nothing given.
+    /// The state of a configuration before any shard was added.
     ghost fresh: { AsDefined → State };
 
-    /// The room that rows have.
+    /// The room in the memory of the rows.
     ghost room: { Self → Room };
 
-    /// There is room for so many rows of shards of a size.
+    /// States that a room is large enough for a number of rows and a shard size.
     ghost has_room: { Room → ℕ → ℕ → Type 0 };
 
-    /// The second room is no less than the first.
+    /// States that the second room is at least as large as the first room.
     ghost grows: { Room → Room → Type 0 };
 
-    /// The room is no less than that of the work, where one is passed.
+    /// States that the room is at least as large as the room of the work, if there is a work.
     ghost grows_from: { Self.Work → Room → Type 0 };
 
-    /// Where a work is passed that has room for so many rows of a size, the answer is the wanted one.
+    /// States that two results are equal if there is a work with room for a number of rows and a shard size.
     ghost where_roomy: { Self.Work → ℕ → ℕ → Answer → Answer → Type 0 };
 
-    /// Rows with nothing given, in the memory of `work` where one is passed.
+    /// Makes rows with no shards. If there is a `work`, its memory is used.
     fn new(alloc: Global, configuration: Configuration, work: Self::Work) -> Result<Self, Error>
         requires { IsConfigured configuration }
         ensures configuration { IfOk result (λ x. configuration_of x ≡ configuration) }
@@ -65,8 +65,8 @@ pub trait ObjectRows: Sized {
         ensures grown { IfOk result (λ x. grows_from work (room x)) }
         ensures roomy { where_roomy work (rows_of row_count configuration) configuration.shard_bytes (answer_of result) (set_up_outcome row_count configuration) };
 
-    /// The rows of another configuration, with nothing given: every growth first, so that a refusal leaves what was set up
-    /// and given.
+    /// Sets the rows up for another configuration, with no shards. All memory is allocated first, so after an error the
+    /// configuration and the shards are what they were.
     fn reset(&mut self, configuration: Configuration) -> Result<(), Error>
         requires { IsConfigured configuration }
         ensures ok { OnOk result ((rate : Rate) → state rate self.new ≡ fresh (configuration_at rate configuration)) }
@@ -77,16 +77,16 @@ pub trait ObjectRows: Sized {
         ensures grown { grows (room self.old) (room self.new) }
         ensures roomy { has_room (room self.old) (rows_of row_count configuration) configuration.shard_bytes → result ≡ set_up_outcome row_count configuration };
 
-    /// Room that stays is no less.
+    /// Each room is at least as large as itself.
     ghost stays: { (room : Room) → grows room room };
 
-    /// What is answered anyway is answered where there is room.
+    /// If two results are always equal, they are equal if there is room.
     ghost anyway: { (work : Self.Work) (n size : ℕ) (answer wanted : Answer) → answer ≡ wanted → where_roomy work n size answer wanted };
 
-    /// What is set up has as many rows as the rate has.
+    /// Rows that are set up for a configuration have the number that the rate defines for the two counts.
     ghost rows_set_up: { (rate : Rate) (c : Configuration) → IsSetUp rate c → rows_of row_count c ≡ row_count rate c.original_count c.recovery_count };
 
-    /// There is room for as many rows of no larger a size.
+    /// Rows have room for the same number of rows with the same or a smaller shard size.
     ghost own_room: { (x : Self) (size : ℕ) → size ≤ (configuration_of x).shard_bytes → let n = rows_of row_count (configuration_of x) in
         (chunk_count n size * 64 < 2 ^ 64) × has_room (room x) n size };
 }
@@ -138,7 +138,7 @@ impl<E: Engine, C: RateMarker, R: ObjectRows + Drop> RateObject<E, C, R> {
         })
     }
 
-    // The object at other counts and another size, with nothing given, or as it was.
+    // Sets the object up for other counts and another size, with no shards. After an error its state is what it was.
     #[inline(always)]
     pub(crate) fn set_up_anew(
         &mut self,

@@ -1,10 +1,10 @@
 //! The decoding of a round over rows, for every rate: from the rows of the given shards to those of the missing
 //! originals.
 //!
-//! The given rows are multiplied by the locator of the erased rows, and all others cleared. The polynomial through
-//! them has as many zero coefficients at its end as there are surplus shards exactly where some message agrees with
-//! all that is given. The polynomial plus its derivative takes at each erased row the wanted word times
-//! the locator's derivative. The method is that of Lin, Chung and Han in the form of Leopard-RS; the check is added.
+//! The given rows are multiplied by the locator of the erased rows, and all other rows are cleared. Consider the polynomial
+//! through these rows. Its last coefficients, as many as there are surplus shards, are zero if and only if some message agrees
+//! with all given shards. The value of the polynomial plus its derivative at an erased row is the missing word times the
+//! derivative of the locator. The method is that of Lin, Chung and Han in the form of Leopard-RS. The check is our addition.
 ghost use Rattle.std.specs.Prelude.{◌≡◌, ℕ, ◌+◌, ◌-◌, ◌/◌, ◌%◌, ◌^◌, ◌<◌, ◌≤◌, ◌↔◌, true, false, length, replicate, slice_index};
 ghost use Rattle.rs_field.specs.words.StepBounds.{CountsRows, CountsUpTo, transform_steps};
 ghost use Rattle.rs_field.specs.words.Field.{product, power};
@@ -23,7 +23,7 @@ use rs_field::engine::layout::is_zero_row;
 use rs_field::engine::rows::{clear_rows, mul_row_at};
 use rs_field::engine::{Engine, GF_MODULUS, GfElement, ShardsRefMut, Steps};
 
-// What a decode depends on: what its rows are set up for, the number of missing originals, and the number of surplus shards.
+// The data on which a decode depends: the shape of its rows, the number of missing originals, and the number of surplus shards.
 #[derive(Clone, Copy)]
 pub(crate) struct Tally {
     pub(crate) shape: DecoderShape,
@@ -31,8 +31,8 @@ pub(crate) struct Tally {
     pub(crate) surplus: usize,
 }
 
-// Restores the words of the missing originals if some message agrees with all that is given, and returns whether
-// one does. The marks of given rows become those of restored ones.
+// Restores the words of the missing originals if some message agrees with all given shards, and returns whether one does.
+// Afterwards the marks are those of restored originals.
 pub(crate) fn restore_rows<E: Engine>(
     engine: &E,
     steps: &mut Steps,
@@ -60,8 +60,8 @@ pub(crate) fn restore_rows<E: Engine>(
     agrees
 }
 
-// Replaces the given words by the coefficients of the polynomial through the located ones, and returns whether the last
-// of them, as many as surplus shards, are zero.
+// Replaces the given words by the coefficients of the polynomial through the located words, and returns whether the last
+// coefficients, as many as there are surplus shards, are zero.
 fn interpolate<E: Engine>(
     engine: &E,
     steps: &mut Steps,
@@ -86,7 +86,8 @@ fn interpolate<E: Engine>(
     are_zero_rows(steps, rows, first, shape.configuration.shard_bytes)
 }
 
-// Multiplies the given rows by the locator's power at their points, and clears the others; a row step each at most.
+// Multiplies the given rows by the powers of the generator that the locator gives for their points, and clears the other rows.
+// Each row counts at most one row step.
 fn locate_rows<E: Engine>(
     engine: &E,
     steps: &mut Steps,
@@ -113,8 +114,8 @@ fn locate_rows<E: Engine>(
     }
 }
 
-// Whether all rows from row `first` on are zero in each column of shards of this size; a row step for each that is
-// looked at.
+// Returns whether all rows from row `first` on are zero in each column of shards of this size. Each row that is checked counts
+// one row step.
 fn are_zero_rows(
     steps: &mut Steps,
     rows: &ShardsRefMut<'_>,
@@ -138,8 +139,8 @@ fn are_zero_rows(
     true
 }
 
-// Multiplies the rows of the originals to be restored by the locator's inverse power at their points; a row step each
-// at most.
+// Divides the rows of the missing originals by the powers of the generator that the locator gives for their points. Each row
+// counts at most one row step.
 fn reveal_rows<E: Engine>(
     engine: &E,
     steps: &mut Steps,

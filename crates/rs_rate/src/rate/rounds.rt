@@ -1,5 +1,5 @@
-//! A round in two calls: one that codes and ends the round, and one that lends what it made. So an owner of an object
-//! and of its steps can code with the one, and lend from the other.
+//! A round in two calls: the first call codes and ends the round, and the second call lends the result. The owner of an object
+//! and of its steps needs both for the first call, and only the object for the second call.
 ghost use Rattle.std.specs.Prelude.{◌≡◌, length, IfOk};
 ghost use Rattle.std.specs.Result.{result_map_both};
 ghost use Rattle.rs_field.specs.code.Bounds.{EncodeCountsAt, DecodeCountsAt};
@@ -46,8 +46,8 @@ pub fn encode_round<E: Engine, C: RateMarker>(
     Ok(())
 }
 
-/// Lends the recovery shards that are in an encoder after a round. Before the first round of an encoder they are no
-/// recovery shards, but the bytes that its work held.
+/// Lends the recovery shards that are in an encoder after a round. Before the first round, the bytes are those that the work of
+/// the encoder held, and no recovery shards.
 pub fn lent_recovery<E: Engine, C: RateMarker>(encoder: &Encoder<E, C>) -> EncoderResult<'_>
     ensures { recovery_shards result ≡ lent_shards encoder.now.rows }
 {

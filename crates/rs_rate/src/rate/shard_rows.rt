@@ -1,4 +1,4 @@
-//! Shards in rows of chunks: room for them, laying them in, their tails, and reading them.
+//! Shards in rows of chunks: the number of chunks, how a shard is written into a row, how its tail is moved, and how it is read.
 ghost use Rattle.std.specs.Prelude.{◌≡◌, ◌≢◌, ℕ, ◌+◌, ◌*◌, ◌%◌, ◌^◌, ◌<◌, ◌≤◌, length, MatchResult};
 ghost use Rattle.rs_field.specs.code.Column.{IsShard};
 ghost use Rattle.rs_field.specs.rows.Layout.{row_len};
@@ -10,7 +10,7 @@ use rs_field::engine::Steps;
 use rs_field::engine::layout::{insert, row_len, shard_of, undo_last_chunk_encoding};
 use rs_field::error::Error;
 
-// The number of chunks of n rows, if their size in bytes fits a `usize`.
+// Returns the number of chunks of n rows, or fails with `OutOfMemory` if their size in bytes does not fit a `usize`.
 pub(crate) fn chunk_count(row_count: usize, shard_bytes: usize) -> Result<usize, Error>
     ensures { MatchResult result
         (λ n. (n ≡ chunk_count row_count shard_bytes) × (n * 64 < 2 ^ 64))
@@ -25,7 +25,7 @@ pub(crate) fn chunk_count(row_count: usize, shard_bytes: usize) -> Result<usize,
     }
 }
 
-// Lays a shard into row `index` of rows of its size.
+// Writes a shard into row `index` of rows for shards of its size.
 #[tactic(auto, using(crate::proofs::ShardRowsLemmas::row_end))]
 pub(crate) fn insert_at(chunks: &mut [[u8; 64]], shard: &[u8], index: usize)
     requires room { chunk_count (index + 1) (length shard.now) ≤ length chunks.old }
@@ -38,7 +38,7 @@ pub(crate) fn insert_at(chunks: &mut [[u8; 64]], shard: &[u8], index: usize)
     insert(&mut chunks[start..start + len], shard);
 }
 
-// The shard that lies in row `index`, once its tail was moved.
+// Returns the shard in row `index`, whose tail must have been moved.
 #[tactic(auto, using(crate::proofs::ShardRowsLemmas::row_end))]
 pub(crate) fn shard_at(chunks: &[[u8; 64]], shard_bytes: usize, index: usize) -> &[u8]
     requires { chunk_count (index + 1) shard_bytes ≤ length chunks.now }
@@ -49,7 +49,7 @@ pub(crate) fn shard_at(chunks: &[[u8; 64]], shard_bytes: usize, index: usize) ->
     shard_of(&chunks[start..start + len], shard_bytes)
 }
 
-// Moves the tails of the first rows; a row step each.
+// Moves the tails of the first `count` rows, and counts one row step for each of them.
 pub(crate) fn move_tails(
     steps: &mut Steps,
     chunks: &mut [[u8; 64]],
@@ -80,7 +80,7 @@ pub(crate) fn move_tail(chunks: &mut [[u8; 64]], index: usize, shard_bytes: usiz
     undo_last_chunk_encoding(&mut chunks[start..start + len], shard_bytes);
 }
 
-// The shards in rows are bytes. It and the two functions below do nothing when they run: they tell the checker so.
+// Proves that the shards in rows consist of bytes. When the program runs, the function does nothing.
 pub(crate) fn laid_out_are_bytes(chunks: &[[u8; 64]], count: usize, shard_bytes: usize)
     requires room { chunk_count count shard_bytes ≤ length chunks.now }
     ensures { (i : ℕ) → i < count → IsShard shard_bytes (shard_laid_out chunks.now shard_bytes i) }
@@ -88,7 +88,7 @@ pub(crate) fn laid_out_are_bytes(chunks: &[[u8; 64]], count: usize, shard_bytes:
     are_bytes(chunks.as_flattened());
 }
 
-// Shards whose tails were moved consist of bytes.
+// Proves that shards whose tails were moved consist of bytes. When the program runs, the function does nothing.
 pub(crate) fn in_order_are_bytes(chunks: &[[u8; 64]], count: usize, shard_bytes: usize)
     requires room { chunk_count count shard_bytes ≤ length chunks.now }
     ensures { (i : ℕ) → i < count → IsShard shard_bytes (shard_in_order chunks.now shard_bytes i) }
@@ -96,7 +96,7 @@ pub(crate) fn in_order_are_bytes(chunks: &[[u8; 64]], count: usize, shard_bytes:
     are_bytes(chunks.as_flattened());
 }
 
-// A shard that a caller passes consists of bytes.
+// Proves that a shard that a caller passes consists of bytes. When the program runs, the function does nothing.
 pub(crate) fn shard_is_bytes(shard: &[u8])
     ensures { IsShard (length shard.now) shard.now }
 {

@@ -1,11 +1,11 @@
-//! The two sides of a message, from which a decoder is given shards.
+//! The two sides of a codeword: the originals and the recovery shards.
 ghost use Rattle.std.specs.Prelude.{◌≡◌, ◌^◌, ◌<◌};
 ghost use Rattle.rs_rate.specs.Sides.{side_count, side_row, side_originals, side_recovery, index_refused, repeat_refused};
 
 use crate::rate::decoder_work::DecoderShape;
 use rs_field::error::Error;
 
-// A side of a message.
+// A side of a codeword.
 #[derive(Clone, Copy)]
 pub(crate) enum Side {
     Original,
@@ -13,7 +13,7 @@ pub(crate) enum Side {
 }
 
 impl Side {
-    // How many shards it has.
+    // Returns the number of shards of the side.
     pub(crate) fn count(self, shape: DecoderShape) -> usize
         ensures { result ≡ side_count self shape }
     {
@@ -23,7 +23,7 @@ impl Side {
         }
     }
 
-    // The row of a shard of it.
+    // Returns the row of the shard of the side with this index.
     pub(crate) fn row(self, shape: DecoderShape, index: usize) -> usize
         requires { side_row self shape index < 2 ^ 64 }
         ensures { result ≡ side_row self shape index }
@@ -34,7 +34,7 @@ impl Side {
         }
     }
 
-    // How many originals one of its shards is.
+    // Returns the number of originals in one shard of the side: 1 or 0.
     pub(crate) fn originals(self) -> usize
         ensures { result ≡ side_originals self }
     {
@@ -44,14 +44,14 @@ impl Side {
         }
     }
 
-    // How many recovery shards one of its shards is.
+    // Returns the number of recovery shards in one shard of the side: 0 or 1.
     pub(crate) fn recovery(self) -> usize
         ensures { result ≡ side_recovery self }
     {
         1 - self.originals()
     }
 
-    // The refusal of an index that it doesn't have.
+    // Returns the error for an index that the side does not have.
     pub(crate) fn index_refused(self, shape: DecoderShape, index: usize) -> Error
         ensures { result ≡ index_refused self shape index }
     {
@@ -67,7 +67,7 @@ impl Side {
         }
     }
 
-    // The refusal of an index whose shard was given before.
+    // Returns the error for an index whose shard was added before.
     pub(crate) fn repeat_refused(self, index: usize) -> Error
         ensures { result ≡ repeat_refused self index }
     {

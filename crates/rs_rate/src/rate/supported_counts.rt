@@ -1,4 +1,4 @@
-//! Counts that a rate supports, asked for once, where a call begins.
+//! Counts that a rate supports. They are checked once, at the start of a call.
 ghost use Rattle.std.specs.Prelude.{◌≡◌, ⊤, true, false, MatchResult};
 ghost use Rattle.rs_field.specs.code.Configuration.{configuration, start_outcome};
 ghost use Rattle.rs_field.specs.code.Counts.{supports};
@@ -35,11 +35,11 @@ pub struct SupportedCounts<C: RateMarker> {
 }
 
 impl<C: RateMarker> SupportedCounts<C> {
-    /// Checks two counts.
+    /// Checks that the rate supports `original_count` originals with `recovery_count` recovery shards.
     ///
     /// # Errors
     ///
-    /// [`Error::UnsupportedShardCount`] if the rate does not support them.
+    /// [`Error::UnsupportedShardCount`] if the rate does not [support](crate::rate::Rate::supports) the counts.
     #[inline(always)]
     pub fn new(original_count: usize, recovery_count: usize) -> Result<SupportedCounts<C>, Error>
         ensures { MatchResult result (λ c. (c.original_count ≡ original_count) × (c.recovery_count ≡ recovery_count))

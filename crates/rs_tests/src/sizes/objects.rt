@@ -22,7 +22,7 @@ pub trait Objects {
     /// Codes the message, and returns whether just what is lost comes back.
     fn comes_back(&mut self, message: &Message<'_>) -> Result<bool, Error>;
 
-    /// Adds the first originals to both: so many, or all where there are fewer.
+    /// Adds the first `count` originals to both, or all originals if there are fewer.
     fn add_first(&mut self, count: usize, originals: &[Vec<u8>]) -> Result<(), Error> {
         for (index, shard) in originals.iter().take(count).enumerate() {
             self.add(index, shard)?;

@@ -13,7 +13,7 @@ const SIZES: [usize; 5] = [34, 2046, 2048, 2050, 4130];
 
 const COUNTS: [(usize, usize); 4] = [(1, 1), (2, 3), (3, 2), (10, 4)];
 
-// Received shards: with so many of the first originals lost, and so many of the first recovery shards received.
+// Received shards: the originals without the first ones, which are lost, and the first recovery shards.
 #[derive(Drop)]
 struct Given<'a> {
     originals: Vec<(usize, &'a [u8])>,

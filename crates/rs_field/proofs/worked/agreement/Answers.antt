@@ -1,4 +1,4 @@
--- Which messages agree: those that have the given shards, and by the laws no other.
+-- A message agrees with given shards if it has these shards. The laws of the code show that no other message agrees.
 use Rattle.std.proofs.Common.{◌≡◌, Bool, true, cond, inl, inr, ℕ, zero, suc, List, [], ◌∷◌, refl, sym, ap, ◌∙◌, arith, lit<, lit≤}
 use Rattle.std.specs.Prelude.{Some, None, ◌&&◌, not, is_some, Ok, Err}
 use Rattle.std.proofs.lemmas.Bool.{le-ltb}
@@ -22,19 +22,19 @@ use Rattle.rs_field.proofs.of_code.Given.{entered_cases, nothing_among, entered_
 use Rattle.rs_field.proofs.of_code.Decided.{shards_from, recovery_from, recovery_from_high}
 use Rattle.rs_field.proofs.worked.agreement.Goals as goal
 
--- the message that is restored
+-- a message of two originals
 abbrev message : List Shard
 message = low_bytes (0 ∷ 1 ∷ [])
 
--- its recovery shards
+-- the recovery shards of the message of two originals
 abbrev recovered : List Shard
 recovered = low_bytes (2 ∷ 3 ∷ 4 ∷ [])
 
--- the message is one of two shards
+-- the message consists of two shards of two bytes
 message_shards : AreShards 2 2 message
 message_shards = shards_from 2 2 message refl
 
--- its recovery shards are values of the polynomial x
+-- the recovery shards of the message of two originals are values of the polynomial x
 line : AreRecovery (configuration default_rate 2 3 2) message recovered
 unfolding passes_below placement low_placement high_placement is_low next_power first_below value product combine bits from_bits cantor_basis monomials carryless reduce column
 line = recovery_from _ _ _ ((0 ∷ 1 ∷ []) ∷ []) refl
@@ -44,7 +44,7 @@ copies : AreRecovery (configuration default_rate 1 2 2) ((7 ∷ 9 ∷ []) ∷ []
 unfolding passes_below placement low_placement high_placement is_low next_power first_below value product combine bits from_bits cantor_basis monomials carryless reduce column
 copies = recovery_from _ _ _ ((2311 ∷ []) ∷ []) refl
 
--- the message agrees with two of its recovery shards
+-- the message of two originals agrees with two of its recovery shards
 agrees : IsAgreeing two_given message
 agrees = record {
   shards = message_shards;
@@ -52,7 +52,7 @@ agrees = record {
   coded = (recovered, line, entered_among _ 1 (3 ∷ 0 ∷ []) recovered (entered_among nothing 0 (2 ∷ 0 ∷ []) recovered (nothing_among recovered) refl) refl);
 }
 
--- two shards fix a message of two
+-- no other message of two originals agrees with these two recovery shards
 only : (m : List Shard) → IsAgreeing two_given m → m ≡ message
 unfolding supports next_power first_below with_entry count_below
 only m a = one_message two_given.configuration two_given.originals two_given.recovery m message refl refl (lit≤ tt) a agrees
@@ -74,7 +74,7 @@ out_missing (suc (suc i)) = none ∙ sym (ap (λ (b : Bool). cond (b && true) (S
       | inr other ↦ elim (entered_cases nothing 0 (suc (suc i)) (0 ∷ 0 ∷ [])) [ inl first ↦ absurd (omega (arith, first.0)) | inr last ↦ other.1 ∙ last.1 ]
     ]
 
--- so the message is restored
+-- a decoder with two of the recovery shards restores the message
 restored : Restored two_given out
 restored = record { message = message; agrees = agrees; only = only; missing = out_missing }
 
@@ -82,16 +82,16 @@ restored = record { message = message; agrees = agrees; only = only; missing = o
 abbrev four : List Shard
 four = low_bytes (0 ∷ 0 ∷ 2 ∷ 3 ∷ [])
 
--- its recovery shards
+-- the recovery shards of the message of four originals
 abbrev four_more : List Shard
 four_more = low_bytes (11 ∷ 9 ∷ 14 ∷ 13 ∷ [])
 
--- they are values of a polynomial that is zero from the point 8 on
+-- the recovery shards of the message of four originals are values of a polynomial that is zero from the point 8 on
 cubic : AreRecovery (configuration default_rate 4 4 2) four four_more
 unfolding passes_below is_low next_power first_below value product combine bits from_bits cantor_basis monomials carryless reduce column
 cubic = recovery_from_high 3 _ _ _ ((11 ∷ 6 ∷ 5 ∷ 1 ∷ []) ∷ []) refl
 
--- two of each agree with it
+-- the message of four originals agrees with two of its originals and two of its recovery shards
 mixture : MixtureExample
 mixture = record {
   shards = shards_from 4 2 four refl;
@@ -103,11 +103,11 @@ mixture = record {
 abbrev original : List Shard
 original = (7 ∷ 9 ∷ []) ∷ []
 
--- its recovery shards
+-- the recovery shards of the message of one original, which are copies of it
 abbrev copied : List Shard
 copied = (7 ∷ 9 ∷ []) ∷ (7 ∷ 9 ∷ []) ∷ []
 
--- the original agrees with its copy
+-- the message of one original agrees with its original and a copy of it
 original_agrees : IsAgreeing (surplus_given (7 ∷ 9 ∷ [])) original
 original_agrees = record {
   shards = shards_from 1 2 original refl;
@@ -115,33 +115,33 @@ original_agrees = record {
   coded = (copied, copies, entered_among nothing 0 (7 ∷ 9 ∷ []) copied (nothing_among copied) refl);
 }
 
--- one of the two shards is other than the message's
+-- no message agrees with an original and a recovery shard that is no copy of it
 inconsistent : IsConsistent (surplus_given (7 ∷ 8 ∷ [])) → ⊥
 unfolding supports next_power first_below with_entry count_below changed_shards
 inconsistent =
     let given = surplus_given (7 ∷ 8 ∷ []) in
     changes_noticed given.configuration original copied given.originals given.recovery refl refl (shards_from 1 2 original refl) copies (lit< tt) (lit≤ tt)
 
--- one shard fixes a message of one
+-- no other message of one original agrees with the original and its copy
 only_original : (m : List Shard) → IsAgreeing (surplus_given (7 ∷ 9 ∷ [])) m → m ≡ original
 unfolding supports next_power first_below with_entry count_below
 only_original m a =
     let given = surplus_given (7 ∷ 9 ∷ []) in
     one_message given.configuration given.originals given.recovery m original refl refl (lit≤ tt) a original_agrees
 
--- no original is missing
+-- no original is missing if the only original is given
 none_missing : (i : ℕ) → nothing i ≡ missing_of (surplus_given (7 ∷ 9 ∷ [])) original i
 unfolding with_entry missing_of
 none_missing zero = refl
 none_missing (suc i) =
     sym (ap (λ (b : Bool). cond (b && not (is_some ((surplus_given (7 ∷ 9 ∷ [])).originals (suc i)))) (Some (shard_at original (suc i))) None) (le-ltb (suc i) 1 (omega arith)))
 
--- so nothing is restored
+-- a decode of the original and its copy restores nothing
 agreed : DecodeAnswers (surplus_given (7 ∷ 9 ∷ [])) (Ok nothing)
 unfolding with_entry count_below
 agreed = record { message = original; agrees = original_agrees; only = only_original; missing = none_missing }
 
--- and where none agrees that is answered
+-- a decode of an original and a recovery shard that is no copy of it returns `InconsistentShards`
 refused : DecodeAnswers (surplus_given (7 ∷ 8 ∷ [])) (Err (InconsistentShards 1 1))
 unfolding with_entry count_below
 refused = record { refusal = refl; surplus = omega arith; none = inconsistent }
