@@ -10,11 +10,13 @@
  *
  * The caller must keep these rules. Nothing checks them:
  *   - Pointers: each pointer points to as many bytes or entries as the length that belongs to it says, and is aligned for its type. No
- *     pointer is NULL, not even with length 0. This holds for the pointers in arrays of shards and rooms too.
+ *     pointer is NULL, not even with length 0. This holds for the pointers in arrays of shards too, and for those in arrays of rooms. A
+ *     room is a place for a shard that a call writes.
  *   - While a call runs, nobody else writes to memory that was passed to the call, whether the call reads or writes it: no other
  *     thread, no signal handler, no other process and no device. Nobody else reads memory that the call writes. Memory that a call
  *     writes overlaps no other memory that was passed to it.
- *   - Memory that a call reads is initialised: shards that are there, marks, arrays, a fault that is turned into text, and tables.
+ *   - Memory that a call reads is initialised: the shards that a call gets (in rs_decode, those that the marks say are there), the
+ *     marks of rs_decode, arrays, the fault that rs_fault_text gets, and tables.
  *     Memory that a call only writes need not be initialised: the tables of rs_tables_make, recovery shards of an encode, the places
  *     of lost shards in rs_decode, the memory that rooms point to, texts, and *fault.
  *   - Nobody but rs_tables_make writes to tables that rs_tables_make has filled. The last thing that rs_tables_make writes is a stamp.
@@ -26,9 +28,10 @@
  *     first two functions return a struct with a pointer `at`. This pointer must never be NULL, not even if memory cannot be allocated.
  *     If rattle_realloc fails, it must leave the old block as it was.
  *
- * As long as the caller keeps these rules, this header states the result for all numbers and bytes that can be passed. Each call
- * returns, keeps no pointer, and gives back all memory that it took. Any number of threads can make calls at the same time, with the
- * same const tables. No call is safe in a signal handler, nor in the forked child of a process with threads. */
+ * The comments of this header state what each call returns and writes. As long as the caller keeps these rules, they hold for all numbers
+ * and bytes that can be passed. Each call returns, keeps no pointer, and gives back all memory that it took. Any number of threads can
+ * make calls at the same time, with the same const tables. No call is safe in a signal handler, nor in the forked child of a process with
+ * threads. */
 #ifndef REED_SOLOMON_SIMD_H
 #define REED_SOLOMON_SIMD_H
 
@@ -172,8 +175,8 @@ uint32_t rs_encode_shards(const struct rs_tables *tables, size_t original_count,
                           struct rs_room *recovery, size_t recovery_number, struct rs_fault *fault);
 
 /* Restores the originals that are not in the array originals, and writes them into rooms. The array restored holds one room for each of
- * these originals, in order of index. Shards can be in any order in the other two arrays. The size of all shards is that of the first
- * recovery shard. The indexes of originals begin at 0. Recovery shards have indexes of their own, which also begin at 0.
+ * these originals, in order of index. Shards can be in any order in the arrays originals and recovery. The size of all shards is that of
+ * the first recovery shard. The indexes of originals begin at 0. Recovery shards have indexes of their own, which also begin at 0.
  *
  * Faults, in order:
  *   - RS_UNSUPPORTED_SHARD_COUNT
