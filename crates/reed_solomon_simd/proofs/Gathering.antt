@@ -19,7 +19,7 @@ use Rattle.rs_field.proofs.of_code.MadeShards.{has_recovery}
 use Rattle.rs_rate.proofs.StateLemmas.{valid-supported, message-whole, encode_answers-refused, encode_answers-made}
 use Rattle.rs_rate.proofs.OneCall.{encoding-answers, encoding-opened, encoding-coded}
 use Rattle.reed_solomon_simd.specs.declared.lent_originals.LentOriginals.{LentOriginals}
-use Rattle.reed_solomon_simd.specs.Gathered.{gathered}
+use Rattle.reed_solomon_simd.specs.LentState.{lent_state}
 use Rattle.reed_solomon_simd.specs.Rooms.{shards_of}
 use Rattle.reed_solomon_simd.proofs.SetUp.{started-parts, valid-even}
 
@@ -29,9 +29,9 @@ shards-long size xs sized k d h =
     ap length (sym (get_or-map (λ (x : Bor (List ℕ)). x.now) xs k d [] h)) ∙ (sized k [] (let n = length-map xs (λ (x : Bor (List ℕ)). x.now) in omega (arith, h, n))).length_is
 
 -- gathered originals represent a state that an encoder can have
-pub gathered-is : (x : LentOriginals) → IsEncoder default_rate (gathered x)
+pub gathered-is : (x : LentOriginals) → IsEncoder default_rate (lent_state x)
 gathered-is x =
-    let parts = started-parts _ (gathered x).configuration x.set_up in
+    let parts = started-parts _ (lent_state x).configuration x.set_up in
     record {
       of_rate = refl;
       valid = parts.0;

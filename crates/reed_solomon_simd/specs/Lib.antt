@@ -33,7 +33,7 @@ pub mod Received
 pub mod ReceivedState
 pub mod RoomTexts
 pub mod Into
-pub mod Gathered
+pub mod LentState
 pub mod Checked
 pub mod EncoderObject
 pub mod DecoderObject

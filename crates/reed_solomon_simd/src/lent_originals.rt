@@ -44,7 +44,7 @@ impl<'a> LentOriginals<'a> {
     ghost use Rattle.rs_field.specs.code.Pieces.{room_length};
     ghost use Rattle.rs_rate.specs.Calls.{Calls, BeginsWith};
     ghost use Rattle.rs_rate.specs.Giving.{Reaches, IsEncoding};
-    ghost use Rattle.reed_solomon_simd.specs.Gathered.{gathered};
+    ghost use Rattle.reed_solomon_simd.specs.LentState.{lent_state};
 
     // Makes a list without originals, for these counts and this size.
     fn new(
@@ -57,7 +57,7 @@ impl<'a> LentOriginals<'a> {
             (start_outcome (encoder_rows default_rate c.original_count c.recovery_count) c)
             (answer_of result) }
         ensures counts { IfOk result (λ x. x.counts ≡ counts) }
-        ensures made { IfOk result (λ x. gathered x
+        ensures made { IfOk result (λ x. lent_state x
             ≡ fresh_encoder (default_of counts.original_count counts.recovery_count shard_bytes)) }
     {
         counts.check_encoder_rows(shard_bytes)?;
@@ -86,7 +86,7 @@ impl<'a> LentOriginals<'a> {
         ensures gathered { (calls : Calls I.next_gives original)
             × ((items : List Shard) → BeginsWith items calls
             → IsEncoding counts.original_count counts.recovery_count items
-            (result_map_both gathered (λ e. e) result)) }
+            (result_map_both lent_state (λ e. e) result)) }
         ensures counts { IfOk result (λ x. x.counts ≡ counts) }
     {
         let Some(first) = original.next() else {
@@ -103,9 +103,9 @@ impl<'a> LentOriginals<'a> {
 
     // Adds the next original.
     fn add(&mut self, shard: &'a [u8]) -> Result<(), Error>
-        ensures answer { result ≡ answer_of (with_shard (gathered self.old) shard.now) }
-        ensures left { gathered self.new
-            ≡ state_after (gathered self.old) (with_shard (gathered self.old) shard.now) }
+        ensures answer { result ≡ answer_of (with_shard (lent_state self.old) shard.now) }
+        ensures left { lent_state self.new
+            ≡ state_after (lent_state self.old) (with_shard (lent_state self.old) shard.now) }
         ensures counts { self.new.counts ≡ self.old.counts }
     {
         let original_count = self.counts.original_count;
@@ -129,7 +129,7 @@ impl<'a> LentOriginals<'a> {
         requires ends { IsFinite (I.remaining originals) }
         ensures reaches { (calls : Calls I.next_gives originals)
             × ((items : List Shard) → BeginsWith items calls
-            → Reaches (with_shards (gathered self.old) items) result (λ s. gathered self.new ≡ s)) }
+            → Reaches (with_shards (lent_state self.old) items) result (λ s. lent_state self.new ≡ s)) }
         ensures counts { self.new.counts ≡ self.old.counts }
     {
         for shard in originals {
@@ -144,7 +144,7 @@ impl<'a> LentOriginals<'a> {
     ///
     /// [`Error::TooFewOriginalShards`] if originals are missing.
     pub fn check_all_given(&self) -> Result<(), Error>
-        ensures { result ≡ answer_of (message_of (gathered self.now)) }
+        ensures { result ≡ answer_of (message_of (lent_state self.now)) }
     {
         let original_count = self.counts.original_count;
         if self.shards.len() < original_count {
@@ -167,12 +167,12 @@ impl<'a> LentOriginals<'a> {
         engine: E,
         rooms: &mut R,
     ) -> Result<(), Error>
-        requires all { answer_of (message_of (gathered self.now)) ≡ Ok tt }
+        requires all { answer_of (message_of (lent_state self.now)) ≡ Ok tt }
         requires number { length (R.held rooms.old) ≡ self.now.counts.recovery_count }
         requires fit { All (λ room. length room ≡ room_length R.grows 0 self.now.shard_bytes)
             (R.held rooms.old) }
-        ensures coded { OnOk result (AreRecovery (gathered self.now).configuration
-            (gathered self.now).given (R.held rooms.new)) }
+        ensures coded { OnOk result (AreRecovery (lent_state self.now).configuration
+            (lent_state self.now).given (R.held rooms.new)) }
         ensures refused { OnErr result (result ≡ Err Error.OutOfMemory) }
         ensures untouched { R.grows ≡ false → OnErr result (R.held rooms.new ≡ R.held rooms.old) }
         ensures places { R.places rooms.new ≡ R.places rooms.old }
@@ -194,9 +194,9 @@ impl<'a> LentOriginals<'a> {
     ///
     /// [`Error::OutOfMemory`] if the work area or the vectors cannot be allocated.
     pub fn encode_vectors<E: Engine>(&self, alloc: Global, engine: E) -> Result<Vec<Vec<u8>>, Error>
-        requires all { answer_of (message_of (gathered self.now)) ≡ Ok tt }
+        requires all { answer_of (message_of (lent_state self.now)) ≡ Ok tt }
         ensures { MatchResult (collected_shards result)
-            (λ recovery. AreRecovery (gathered self.now).configuration (gathered self.now).given
+            (λ recovery. AreRecovery (lent_state self.now).configuration (gathered self.now).given
             recovery)
             (λ e. e ≡ Error.OutOfMemory) }
     {

@@ -3,7 +3,7 @@ ghost use Rattle.std.specs.Prelude.{◌≡◌, ◌*◌, length, Ok, Err, OnOk, O
 ghost use Rattle.rs_field.specs.code.Code.{AreRecovery};
 ghost use Rattle.rs_field.specs.code.Encoder.{message_of};
 ghost use Rattle.rs_field.specs.code.Outcome.{answer_of};
-ghost use Rattle.reed_solomon_simd.specs.Gathered.{gathered};
+ghost use Rattle.reed_solomon_simd.specs.LentState.{lent_state};
 ghost use Rattle.rs_c.specs.Buffers.{shards_in_buffer};
 ghost use Rattle.rs_c.specs.Answers.{EncodesBuffer};
 ghost use Rattle.rs_c.specs.Arrays.{shards_of, EncodesArrays, KeepsRooms, bytes_in};
@@ -79,11 +79,11 @@ fn write_recovery(
     shard_bytes: usize,
     recovery: &mut [u8],
 ) -> Result<(), Error>
-    requires all { answer_of (message_of (gathered originals.now)) ≡ Ok tt }
-    requires counts { (gathered originals.now).configuration.recovery_count ≡ recovery_count }
-    requires size { (gathered originals.now).configuration.shard_bytes ≡ shard_bytes }
+    requires all { answer_of (message_of (lent_state originals.now)) ≡ Ok tt }
+    requires counts { (lent_state originals.now).configuration.recovery_count ≡ recovery_count }
+    requires size { (lent_state originals.now).configuration.shard_bytes ≡ shard_bytes }
     requires whole { length recovery.old ≡ recovery_count * shard_bytes }
-    ensures coded { OnOk result (AreRecovery (gathered originals.now).configuration (gathered originals.now).given (shards_in_buffer recovery_count shard_bytes recovery.new)) }
+    ensures coded { OnOk result (AreRecovery (lent_state originals.now).configuration (lent_state originals.now).given (shards_in_buffer recovery_count shard_bytes recovery.new)) }
     ensures whole { length recovery.new ≡ length recovery.old }
     ensures refused { OnErr result (result ≡ Err Error.OutOfMemory) }
     ensures untouched { OnErr result (shards_in_buffer recovery_count shard_bytes recovery.new ≡ shards_in_buffer recovery_count shard_bytes recovery.old) }

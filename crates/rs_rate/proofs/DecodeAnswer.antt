@@ -28,7 +28,7 @@ use Rattle.rs_rate.specs.declared.rate.decoder_work.DecoderShape.{DecoderShape}
 use Rattle.rs_rate.specs.DecoderView.{decoder_shape, restored_over, state_over}
 use Rattle.rs_rate.specs.Configured.{configuration_at, frame_of}
 use Rattle.rs_rate.specs.Decoding.{IsLocatorOf, RestoresShards, located_word}
-use Rattle.rs_rate.specs.Marks.{erased, given_row_count, given_shards, ArePlaced}
+use Rattle.rs_rate.specs.Marks.{erasure, given_row_count, given_shards, ArePlaced}
 use Rattle.rs_rate.specs.ObjectLaws.{all-up_to}
 use Rattle.rs_rate.specs.ShardRows.{word_in, shard_laid_out, shard_in_order}
 use Rattle.rs_rate.proofs.DecoderLemmas.{all_given, none_given, count-given, given-marked, restored-out, restored-marked}
@@ -91,19 +91,19 @@ given_count rate s marks chunks n counted =
 columns_of : (rate : Rate) (k r size surplus : ℕ) (marks new : List Bool) (locator : List ℕ) (before after : Chunks) (agrees : Bool) (f : HasFrame rate k r)
     → (d : IsDecoded (decoder_shape rate k r size) marks new locator surplus before after agrees)
     → AreColumns (configuration rate k r size) (given_shards marks before size (placement rate k r).originals_from k) (given_shards marks before size (placement rate k r).recovery_from r)
-    f.exponent f.bound f.zeros_end (erased (placement rate k r).zeros_from (placement rate k r).zeros_to marks) (words_given marks before size)
+    f.exponent f.bound f.zeros_end (erasure (placement rate k r).zeros_from (placement rate k r).zeros_to marks) (words_given marks before size)
     (λ j. located_word marks locator (word_in before (row_len size) (j / 32) (j % 32))) (λ j. d.restores.restored.coefficients (j / 32) (j % 32))
 unfolding frame_of
 columns_of rate k r size surplus marks new locator before after agrees f d =
     let words = d.restores.restored in
     are_columns rate k r size f.exponent f.bound f.zeros_end marks before locator words.coefficients d.even f.frame d.placed d.shards
-    (subst (λ (n : ℕ). IsLocatorBelow n (erased (placement rate k r).zeros_from (placement rate k r).zeros_to marks) (λ x. slice_index locator x)) f.rows d.is_locator.values)
+    (subst (λ (n : ℕ). IsLocatorBelow n (erasure (placement rate k r).zeros_from (placement rate k r).zeros_to marks) (λ x. slice_index locator x)) f.rows d.is_locator.values)
     (λ j s i hj hs hi. words.found.are_words j s i hj hs (omega (arith, f.rows, hi)))
     (λ j s hj hs. subst (λ (n : ℕ). IsBackward n 0 (located_word marks locator (word_in before (row_len size) j s)) (words.coefficients j s)) f.rows (words.found.of_located j s hj hs))
 
 -- a marked entry at a missing original
 entry_of : (rate : Rate) (k r i : ℕ) (marks : List Bool) (f : HasFrame rate k r) → i < k → is_marked marks ((placement rate k r).originals_from + i) ≡ false
-    → erased (placement rate k r).zeros_from (placement rate k r).zeros_to marks ((placement rate k r).originals_from + i) ≡ 1
+    → erasure (placement rate k r).zeros_from (placement rate k r).zeros_to marks ((placement rate k r).originals_from + i) ≡ 1
 entry_of rate k r i marks f inside none =
     let follow : (placement rate k r).zeros_from ≡ (placement rate k r).originals_from + k = f.frame.follow in
     let below : (placement rate k r).originals_from + k ≤ 2 ^ f.exponent = f.frame.originals in
@@ -111,21 +111,21 @@ entry_of rate k r i marks f inside none =
 
 -- the powers of a locator's entries are those of its sums
 located_at : (rate : Rate) (k r x : ℕ) (marks : List Bool) (locator : List ℕ) (f : HasFrame rate k r) → IsLocatorOf (frame_of rate k r) marks locator → x < 2 ^ f.exponent
-    → power (slice_index locator x) ≡ power (log_sum (2 ^ f.exponent) (erased (placement rate k r).zeros_from (placement rate k r).zeros_to marks) x)
+    → power (slice_index locator x) ≡ power (log_sum (2 ^ f.exponent) (erasure (placement rate k r).zeros_from (placement rate k r).zeros_to marks) x)
 unfolding frame_of
 located_at rate k r x marks locator f l hx =
-    same_residue (slice_index locator x) (log_sum (2 ^ f.exponent) (erased (placement rate k r).zeros_from (placement rate k r).zeros_to marks) x)
-    (subst (λ (n : ℕ). IsLocatorBelow n (erased (placement rate k r).zeros_from (placement rate k r).zeros_to marks) (λ y. slice_index locator y)) f.rows l.values x hx)
+    same_residue (slice_index locator x) (log_sum (2 ^ f.exponent) (erasure (placement rate k r).zeros_from (placement rate k r).zeros_to marks) x)
+    (subst (λ (n : ℕ). IsLocatorBelow n (erasure (placement rate k r).zeros_from (placement rate k r).zeros_to marks) (λ y. slice_index locator y)) f.rows l.values x hx)
 
 -- some message agrees exactly if the last rows are zero
-told : (rate : Rate) (k r size surplus : ℕ) (marks new : List Bool) (locator : List ℕ) (before after : Chunks) (agrees : Bool) → supports rate k r ≡ true
+decode-answered : (rate : Rate) (k r size surplus : ℕ) (marks new : List Bool) (locator : List ℕ) (before after : Chunks) (agrees : Bool) → supports rate k r ≡ true
     → IsDecoded (decoder_shape rate k r size) marks new locator surplus before after agrees
     → IsConsistent (state_over rate (decoder_shape rate k r size) marks before) ↔ (agrees ≡ true)
 unfolding frame_of
-told rate k r size surplus marks new locator before after agrees supported d =
+decode-answered rate k r size surplus marks new locator before after agrees supported d =
     let f = has_frame rate k r supported in
     let exact = consistent_exactly (configuration rate k r size) (given_shards marks before size (placement rate k r).originals_from k) (given_shards marks before size (placement rate k r).recovery_from r)
-    f.exponent f.bound f.zeros_end surplus (erased (placement rate k r).zeros_from (placement rate k r).zeros_to marks) (words_given marks before size)
+    f.exponent f.bound f.zeros_end surplus (erasure (placement rate k r).zeros_from (placement rate k r).zeros_to marks) (words_given marks before size)
     (λ j. located_word marks locator (word_in before (row_len size) (j / 32) (j % 32))) (λ j. d.restores.restored.coefficients (j / 32) (j % 32))
     (columns_of rate k r size surplus marks new locator before after agrees f d) (given_count rate (decoder_shape rate k r size) marks before (k + surplus) d.counted) in (
       λ some. d.restores.restored.found.checked.0 (λ i j past below inside. exact.0 some j i inside (omega (arith, f.rows, past)) (omega (arith, f.rows, below))),
@@ -162,7 +162,7 @@ restored_shard rate k r size surplus i marks new locator before after message su
         is
         ∙ ap (λ n. product (forward n 0 added ((placement rate k r).originals_from + i)) (power (65535 - slice_index locator ((placement rate k r).originals_from + i)))) f.rows
         ∙ restored_column (configuration rate k r size) (given_shards marks before size (placement rate k r).originals_from k) (given_shards marks before size (placement rate k r).recovery_from r)
-        f.exponent f.bound f.zeros_end (erased (placement rate k r).zeros_from (placement rate k r).zeros_to marks) (words_given marks before size)
+        f.exponent f.bound f.zeros_end (erasure (placement rate k r).zeros_from (placement rate k r).zeros_to marks) (words_given marks before size)
         (λ c. located_word marks locator (word_in before (row_len size) (c / 32) (c % 32))) (λ c. d.restores.restored.coefficients (c / 32) (c % 32))
         message added i j (slice_index locator ((placement rate k r).originals_from + i))
         (columns_of rate k r size surplus marks new locator before after true f d) enough a inside hj
@@ -199,7 +199,7 @@ by_answer : (rate : Rate) (k r size surplus : ℕ) (marks new : List Bool) (loca
     → IsDecoded (decoder_shape rate k r size) marks new locator surplus before after agrees → AnswersOver rate (decoder_shape rate k r size) marks new before after agrees
 unfolding frame_of
 by_answer rate k r size surplus marks new locator before after true supported d =
-    agreeing rate k r size surplus marks new locator before after supported d ((told rate k r size surplus marks new locator before after true supported d).1 refl)
+    agreeing rate k r size surplus marks new locator before after supported d ((decode-answered rate k r size surplus marks new locator before after true supported d).1 refl)
 by_answer rate k r size surplus marks new locator before after false supported d =
     let s = decoder_shape rate k r size in
     let count = given_count rate s marks before (k + surplus) d.counted in
@@ -210,7 +210,7 @@ by_answer rate k r size surplus marks new locator before after false supported d
     record {
       refusal = sym (ap₂ InconsistentShards (count-given marks before s.configuration.shard_bytes s.frame.originals_from s.configuration.original_count) (count-given marks before s.configuration.shard_bytes s.frame.recovery_from s.configuration.recovery_count));
       surplus = omega (arith, count, some);
-      none = λ consistent. true≢false (sym ((told rate k r size surplus marks new locator before after false supported d).0 consistent));
+      none = λ consistent. true≢false (sym ((decode-answered rate k r size surplus marks new locator before after false supported d).0 consistent));
     }
 
 -- with all originals and nothing else given they are the only message that agrees, and nothing is missing
@@ -294,10 +294,10 @@ pub told_answer : {T : Type 0} (done : T) (rate : Rate) (s : DecoderShape) (mark
     → o ≡ given_row_count marks s.frame.originals_from s.configuration.original_count → r ≡ given_row_count marks s.frame.recovery_from s.configuration.recovery_count
     → AnswersOver rate s marks new before after agrees
     → MatchResult answer (λ _. Restored (state_over rate s marks before) (restored_over s new after)) (NoneAgrees (state_over rate s marks before))
-told_answer {T = T} done rate s marks new before after o r agrees answer (inl told) o_is r_is answers =
-    subst (λ (a : Result T Error). MatchResult a (λ _. Restored (state_over rate s marks before) (restored_over s new after)) (NoneAgrees (state_over rate s marks before))) (sym told.1)
-    (subst (λ b. AnswersOver rate s marks new before after b) told.0 answers)
-told_answer {T = T} done rate s marks new before after o r agrees answer (inr told) o_is r_is answers =
+told_answer {T = T} done rate s marks new before after o r agrees answer (inl known) o_is r_is answers =
+    subst (λ (a : Result T Error). MatchResult a (λ _. Restored (state_over rate s marks before) (restored_over s new after)) (NoneAgrees (state_over rate s marks before))) (sym known.1)
+    (subst (λ b. AnswersOver rate s marks new before after b) known.0 answers)
+told_answer {T = T} done rate s marks new before after o r agrees answer (inr known) o_is r_is answers =
     subst (λ (a : Result T Error). MatchResult a (λ _. Restored (state_over rate s marks before) (restored_over s new after)) (NoneAgrees (state_over rate s marks before)))
-    (sym (told.1 ∙ ap₂ (λ (a b : ℕ). Err (InconsistentShards a b)) o_is r_is))
-    (subst (λ b. AnswersOver rate s marks new before after b) told.0 answers)
+    (sym (known.1 ∙ ap₂ (λ (a b : ℕ). Err (InconsistentShards a b)) o_is r_is))
+    (subst (λ b. AnswersOver rate s marks new before after b) known.0 answers)

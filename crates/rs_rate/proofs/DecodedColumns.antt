@@ -18,7 +18,7 @@ use Rattle.rs_field.proofs.of_words.ExactCheck.{AreLocated, are_located}
 use Rattle.rs_field.proofs.of_words.LocatorProduct.{same_residue}
 use Rattle.rs_field.proofs.of_code.AgreeingMessages.{AreSized, HasWords}
 use Rattle.rs_field.proofs.of_code.Agreement.{AreColumns}
-use Rattle.rs_rate.specs.Marks.{erased, given_shards, ArePlaced}
+use Rattle.rs_rate.specs.Marks.{erasure, given_shards, ArePlaced}
 use Rattle.rs_rate.specs.ShardRows.{word_in, shard_laid_out}
 use Rattle.rs_rate.specs.Decoding.{located_word}
 use Rattle.rs_rate.proofs.ShardRowsLemmas.{column-put}
@@ -108,11 +108,11 @@ given_lt marks chunks size j x shards = by_mark (is_marked marks x) refl
 pub are_columns : (rate : Rate) (k r size e bound zeros_end : ℕ) (marks : List Bool) (chunks : Chunks) (locator : List ℕ) (coefficients : ℕ → ℕ → ℕ → ℕ) → size % 2 ≡ 0
     → IsFrame (placement rate k r) k r e bound zeros_end → ArePlaced (placement rate k r).originals_from k (placement rate k r).recovery_from r marks
     → ((p : ℕ) → is_marked marks p ≡ true → IsShard size (shard_laid_out chunks size p))
-    → IsLocatorBelow (2 ^ e) (erased (placement rate k r).zeros_from (placement rate k r).zeros_to marks) (λ x. slice_index locator x)
+    → IsLocatorBelow (2 ^ e) (erasure (placement rate k r).zeros_from (placement rate k r).zeros_to marks) (λ x. slice_index locator x)
     → ((j s i : ℕ) → j < row_len size → s < 32 → i < 2 ^ e → coefficients j s i < 65536)
     → ((j s : ℕ) → j < row_len size → s < 32 → IsBackward (2 ^ e) 0 (located_word marks locator (word_in chunks (row_len size) j s)) (coefficients j s))
     → AreColumns (configuration rate k r size) (given_shards marks chunks size (placement rate k r).originals_from k) (given_shards marks chunks size (placement rate k r).recovery_from r)
-    e bound zeros_end (erased (placement rate k r).zeros_from (placement rate k r).zeros_to marks) (words_given marks chunks size)
+    e bound zeros_end (erasure (placement rate k r).zeros_from (placement rate k r).zeros_to marks) (words_given marks chunks size)
     (λ j. located_word marks locator (word_in chunks (row_len size) (j / 32) (j % 32))) (λ j. coefficients (j / 32) (j % 32))
 are_columns rate k r size e bound zeros_end marks chunks locator coefficients even frame placed shards is_locator words back =
     let few : 2 ^ e ≤ 2 ^ 16 = pow_mono frame.few in
@@ -129,9 +129,9 @@ are_columns rate k r size e bound zeros_end marks chunks locator coefficients ev
                 (λ i hi. given-marked marks chunks size (placement rate k r).originals_from k i hi) (λ i hi. given-marked marks chunks size (placement rate k r).recovery_from r i hi);
             are_words = λ x hx. given_lt marks chunks size j x shards;
             known = λ x above below. words_given-at marks chunks size j x false (zero_row x above below);
-            are_located = located_words (2 ^ e) j size marks chunks locator (erased (placement rate k r).zeros_from (placement rate k r).zeros_to marks) even inside
+            are_located = located_words (2 ^ e) j size marks chunks locator (erasure (placement rate k r).zeros_from (placement rate k r).zeros_to marks) even inside
                 (λ x hx is. erased-given (placement rate k r).zeros_from (placement rate k r).zeros_to x marks is)
-                (λ x hx. same_residue (slice_index locator x) (log_sum (2 ^ e) (erased (placement rate k r).zeros_from (placement rate k r).zeros_to marks) x) (is_locator x hx));
+                (λ x hx. same_residue (slice_index locator x) (log_sum (2 ^ e) (erasure (placement rate k r).zeros_from (placement rate k r).zeros_to marks) x) (is_locator x hx));
             row_words = λ x hx. words (j / 32) (j % 32) x (omega (arith, inside)) (omega arith) hx;
             back = λ x hx. sym (back (j / 32) (j % 32) (omega (arith, inside)) (omega arith) x hx);
           };

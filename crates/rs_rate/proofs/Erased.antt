@@ -8,7 +8,7 @@ use Rattle.rs_field.specs.code.Placement.{Placement}
 use Rattle.rs_field.specs.rows.MarkedRows.{is_marked}
 use Rattle.rs_field.proofs.of_code.Frame.{IsFrame}
 use Rattle.rs_field.proofs.of_code.ErasedCount.{AreErasures}
-use Rattle.rs_rate.specs.Marks.{erased, ArePlaced}
+use Rattle.rs_rate.specs.Marks.{erasure, ArePlaced}
 
 -- the entry by both tests
 by_tests : Bool → Bool → ℕ
@@ -20,12 +20,12 @@ by_tests-least true given = omega arith
 by_tests-least false true = omega arith
 by_tests-least false false = omega arith
 
-pub erased-most : (zeros_from zeros_to y : ℕ) (marks : List Bool) → erased zeros_from zeros_to marks y ≤ 1
+pub erased-most : (zeros_from zeros_to y : ℕ) (marks : List Bool) → erasure zeros_from zeros_to marks y ≤ 1
 unfolding by_tests
 erased-most zeros_from zeros_to y marks = by_tests-least (nat_le zeros_from y && nat_lt y zeros_to) (is_marked marks y)
 
 -- a known zero is not erased
-pub erased-known : (zeros_from zeros_to y : ℕ) (marks : List Bool) → zeros_from ≤ y → y < zeros_to → erased zeros_from zeros_to marks y ≡ 0
+pub erased-known : (zeros_from zeros_to y : ℕ) (marks : List Bool) → zeros_from ≤ y → y < zeros_to → erasure zeros_from zeros_to marks y ≡ 0
 unfolding by_tests
 erased-known zeros_from zeros_to y marks above below =
     ap₂ (λ a b. by_tests (a && b) (is_marked marks y)) (le-leb zeros_from y above) (lt-ltb y zeros_to below)
@@ -36,12 +36,12 @@ not_known zeros_from zeros_to y (inr past) = ap (λ c. nat_le zeros_from y && c)
 
 -- another row is erased where it holds no given shard
 pub erased-row : (zeros_from zeros_to y : ℕ) (marks : List Bool) (given : Bool) → (y < zeros_from) ⊎ (zeros_to ≤ y) → is_marked marks y ≡ given
-    → erased zeros_from zeros_to marks y ≡ cond given 0 1
+    → erasure zeros_from zeros_to marks y ≡ cond given 0 1
 unfolding by_tests
 erased-row zeros_from zeros_to y marks given outside is = ap₂ by_tests (not_known zeros_from zeros_to y outside) is
 
 -- where a given shard stands is not erased
-pub erased-given : (zeros_from zeros_to y : ℕ) (marks : List Bool) → is_marked marks y ≡ true → erased zeros_from zeros_to marks y ≡ 0
+pub erased-given : (zeros_from zeros_to y : ℕ) (marks : List Bool) → is_marked marks y ≡ true → erasure zeros_from zeros_to marks y ≡ 0
 unfolding by_tests
 erased-given zeros_from zeros_to y marks is = ap (by_tests (nat_le zeros_from y && nat_lt y zeros_to)) is ∙ either (nat_le zeros_from y && nat_lt y zeros_to)
   where
@@ -67,7 +67,7 @@ pub are_erased : (p : Placement) (k r e bound zeros_end : ℕ) (marks : List Boo
     → ArePlaced p.originals_from k p.recovery_from r marks
     → ((i : ℕ) → i < k → is_some (originals i) ≡ is_marked marks (p.originals_from + i))
     → ((i : ℕ) → i < r → is_some (recovery i) ≡ is_marked marks (p.recovery_from + i))
-    → AreErasures p k r (2 ^ e) zeros_end originals recovery (erased p.zeros_from p.zeros_to marks)
+    → AreErasures p k r (2 ^ e) zeros_end originals recovery (erasure p.zeros_from p.zeros_to marks)
 are_erased p k r e bound zeros_end marks originals recovery f placed own coded =
     let most_own : p.originals_from + k ≤ 2 ^ e = f.originals in
     let most_coded : p.recovery_from + r ≤ 2 ^ e = f.recovery in

@@ -9,13 +9,13 @@ use Rattle.rs_field.specs.code.Counts.{default_rate, supports}
 use Rattle.rs_field.specs.code.Decoder.{DecoderState, fresh_decoder, with_original, with_recovery, DecodeAnswers}
 use Rattle.rs_field.specs.code.Encoder.{EncoderState, IsEncoder, fresh_encoder, with_shard, EncodeAnswers}
 use Rattle.rs_field.specs.code.Given.{Shards, nothing, Lists}
-use Rattle.rs_field.specs.code.OneCall.{Items, default_of, counts_outcome, originals_alone, encode_opening, one_by_one, with_shards, with_originals, with_recoveries, with_both, encoding, decoding, OneEncodeAnswers, OneDecodeAnswers}
+use Rattle.rs_field.specs.code.OneCall.{Items, default_of, counts_outcome, originals_alone, encode_opening, one_by_one, with_shards, with_originals, with_recoveries, with_both, encoding_outcome, decoding_outcome, OneEncodeAnswers, OneDecodeAnswers}
 use Rattle.rs_field.specs.code.Outcome.{result_and_then}
 use Rattle.rs_field.specs.code.Placement.{encoder_rows, decoder_rows}
 use Rattle.rs_field.specs.code.RoundTrip.{AreCoded}
 use Rattle.rs_field.proofs.of_code.Listed.{items_from-zero}
 use Rattle.rs_field.proofs.of_code.OneRoundTrip.{coded_by}
-use Rattle.rs_rate.specs.Giving.{IsEncoding, IsDecoding, decoding_any}
+use Rattle.rs_rate.specs.Giving.{IsEncoding, IsDecoding, received_outcome}
 
 -- ---- calls one after another
 
@@ -77,22 +77,22 @@ module _ (k r : ℕ) (first : Shard) (rest : List Shard) where
 
 -- an error of adding the originals is an error of one-call `encode`
 pub encoding-refused : (k r : ℕ) (shards : List Shard) (e : Error) → IsEncoding k r shards (Err e) → OneEncodeAnswers k r shards (Err e)
-encoding-refused k r shards e (inl same) = inl (leads-off EncodeAnswers (encoding k r shards) e (sym same))
+encoding-refused k r shards e (inl same) = inl (leads-off EncodeAnswers (encoding_outcome k r shards) e (sym same))
 encoding-refused k r shards e (inr lacks) = inr (lacks.0, as-lacking e lacks.1)
 
 module _ (k r : ℕ) (shards : List Shard) (s : EncoderState) (is : IsEncoding k r shards (Ok s)) where
-  led : encoding k r shards ≡ Ok s
+  led : encoding_outcome k r shards ≡ Ok s
   led = elim is [ inl same ↦ sym same | inr lacks ↦ let refused = lacks.1 in cc ]
 
   -- what the encoder returns is what one call returns
   pub encoding-answers : (result : Result (List Shard) Error) → EncodeAnswers s result → OneEncodeAnswers k r shards result
-  encoding-answers result answers = inl (leads-on EncodeAnswers (encoding k r shards) s result led answers)
+  encoding-answers result answers = inl (leads-on EncodeAnswers (encoding_outcome k r shards) s result led answers)
 
   -- so nothing was refused before memory was wanted
   pub encoding-opened : IsOk (encode_opening k r shards)
   encoding-opened = by_shards shards led
     where
-      by_shards : (shards : List Shard) → encoding k r shards ≡ Ok s → IsOk (encode_opening k r shards)
+      by_shards : (shards : List Shard) → encoding_outcome k r shards ≡ Ok s → IsOk (encode_opening k r shards)
       by_shards [] is = let two = first-ok {T = EncoderState} _ (counts_outcome k r) s (sym is) in let refused = two.2 in absurd (let no : ⊥ = cc in no)
       by_shards (x ∷ xs) is = let one = first-ok _ (start_outcome (encoder_rows default_rate k r) (default_of k r (length x))) s (sym is) in start_outcome-valid (encoder_rows default_rate k r) (default_of k r (length x)) (subst (λ (o : Result (Unit {0}) Error). IsOk o) (sym one.1) refl)
 
@@ -102,7 +102,7 @@ module _ (k r : ℕ) (shards : List Shard) (s : EncoderState) (is : IsEncoding k
   encoding-coded valid recovery (Err e) answers short = tt
   encoding-coded valid recovery (Ok out) answers same = by_shards shards led
     where
-      by_shards : (shards : List Shard) → encoding k r shards ≡ Ok s → AreCoded k r shards out
+      by_shards : (shards : List Shard) → encoding_outcome k r shards ≡ Ok s → AreCoded k r shards out
       by_shards [] is = let two = first-ok {T = EncoderState} _ (counts_outcome k r) s (sym is) in let refused = two.2 in absurd (let no : ⊥ = cc in no)
       by_shards (x ∷ xs) is =
           let one = first-ok _ (start_outcome (encoder_rows default_rate k r) (default_of k r (length x))) s (sym is) in
@@ -161,7 +161,7 @@ module _ (k r : ℕ) (originals : Items) (first : ℕ × Shard) (rest : Items) w
 pub decoding-refused : (k r : ℕ) (originals recovery : Items) (e : Error) → IsDecoding k r originals recovery (Err e) → OneDecodeAnswers k r originals recovery (Err e)
 decoding-refused k r originals recovery e (inr lacks) = inr (lacks.0, as-lacking e lacks.1)
 decoding-refused k r originals [] e (inl same) = inl (leads-off (λ _ result. result ≡ Ok nothing) _ e (first-err (λ _. None) _ e same))
-decoding-refused k r originals (first ∷ rest) e (inl same) = inl (leads-off DecodeAnswers (decoding k r originals first rest) e (first-err Some _ e same))
+decoding-refused k r originals (first ∷ rest) e (inl same) = inl (leads-off DecodeAnswers (decoding_outcome k r originals first rest) e (first-err Some _ e same))
 
 -- the map with no shard lists none
 pub lists-none : Lists nothing []
@@ -171,22 +171,22 @@ lists-none = record { count = 0; none_past = λ i h. refl; in_order = sym (items
 pub decoding-nothing : (k r : ℕ) (originals recovery : Items) → IsDecoding k r originals recovery (Ok None) → OneDecodeAnswers k r originals recovery (Ok nothing)
 decoding-nothing k r originals recovery (inr lacks) = let refused = lacks.1 in absurd (let no : ⊥ = cc in no)
 decoding-nothing k r originals [] (inl same) = let one = first-ok _ _ None same in inl (leads-on (λ _ result. result ≡ Ok nothing) _ one.0 (Ok nothing) one.1 refl)
-decoding-nothing k r originals (first ∷ rest) (inl same) = let one = first-ok _ (decoding k r originals first rest) None same in let other = one.2 in absurd (let no : ⊥ = cc in no)
+decoding-nothing k r originals (first ∷ rest) (inl same) = let one = first-ok _ (decoding_outcome k r originals first rest) None same in let other = one.2 in absurd (let no : ⊥ = cc in no)
 
 module _ (k r : ℕ) (originals recovery : Items) (s : DecoderState) (is : IsDecoding k r originals recovery (Ok (Some s))) where
   -- there is a first recovery shard, and the decoder was set up for its size and given all shards
-  pub decoding-led : (first : ℕ × Shard) × (rest : Items) × (recovery ≡ first ∷ rest) × (decoding k r originals first rest ≡ Ok s)
+  pub decoding-led : (first : ℕ × Shard) × (rest : Items) × (recovery ≡ first ∷ rest) × (decoding_outcome k r originals first rest ≡ Ok s)
   decoding-led = elim is [ inl same ↦ by_recovery recovery same | inr lacks ↦ let refused = lacks.1 in absurd (let no : ⊥ = cc in no) ]
     where
-      by_recovery : (recovery : Items) → Ok (Some s) ≡ decoding_any k r originals recovery → (first : ℕ × Shard) × (rest : Items) × (recovery ≡ first ∷ rest) × (decoding k r originals first rest ≡ Ok s)
+      by_recovery : (recovery : Items) → Ok (Some s) ≡ received_outcome k r originals recovery → (first : ℕ × Shard) × (rest : Items) × (recovery ≡ first ∷ rest) × (decoding_outcome k r originals first rest ≡ Ok s)
       by_recovery [] same = let none = first-ok {S = Unit {0}} (λ _. Ok None) _ (Some s) same in let other = none.2 in absurd (let no : ⊥ = cc in no)
-      by_recovery (first ∷ rest) same = let one = first-ok _ (decoding k r originals first rest) (Some s) same in let own = one.2 in (first, rest, refl, one.1 ∙ ap Ok (let e : one.0 ≡ s = cc in e))
+      by_recovery (first ∷ rest) same = let one = first-ok _ (decoding_outcome k r originals first rest) (Some s) same in let own = one.2 in (first, rest, refl, one.1 ∙ ap Ok (let e : one.0 ≡ s = cc in e))
 
   -- what the decoder returns is what one call returns
   pub decoding-answers : (result : Result Shards Error) → DecodeAnswers s result → OneDecodeAnswers k r originals recovery result
   decoding-answers result answers =
       let led = decoding-led in
-      subst (λ items. OneDecodeAnswers k r originals items result) (sym led.2) (inl (leads-on DecodeAnswers (decoding k r originals led.0 led.1) s result led.3 answers))
+      subst (λ items. OneDecodeAnswers k r originals items result) (sym led.2) (inl (leads-on DecodeAnswers (decoding_outcome k r originals led.0 led.1) s result led.3 answers))
 
   -- collected, or not for want of memory, it still is
   pub decoding-collected : (restored : Shards) (result : Result Shards Error) → DecodeAnswers s (Ok restored) → MatchResult result (λ shards. shards ≡ restored) (λ e. e ≡ OutOfMemory)

@@ -16,14 +16,14 @@ use Rattle.rs_rate.specs.declared.rate.decoder_work.DecoderShape.{DecoderShape}
 use Rattle.rs_rate.specs.declared.rate.marks.Marks.{Marks}
 use Rattle.rs_rate.specs.declared.rate.marks.MarkedShards.TheVariants.{Given}
 use Rattle.rs_rate.specs.declared.rate.restoring.Tally.{Tally}
-use Rattle.rs_rate.specs.Marks.{given_marks, mark_count, given_row_count, erased}
+use Rattle.rs_rate.specs.Marks.{given_marks, mark_count, given_row_count, erasure}
 use Rattle.rs_rate.specs.Shapes.{DecoderCanBeLaid, original_row}
 use Rattle.rs_rate.specs.ShardRows.{word_in, shard_in_order}
 
 -- the entries are words, and modulo 65535 they are the locator of the rows that are erased by a frame and marks
 pub record IsLocatorOf (frame : Frame) (marks : List Bool) (locator : List ℕ) : Type 0 where
   pub are_words : (x : ℕ) → slice_index locator x < 65536
-  pub values : IsLocatorBelow frame.row_count (erased frame.zeros_from frame.zeros_to marks) (λ x. slice_index locator x)
+  pub values : IsLocatorBelow frame.row_count (erasure frame.zeros_from frame.zeros_to marks) (λ x. slice_index locator x)
 
 -- rows have the number of rows and the number of chunks in a row that a shape requires
 pub record AreRowsOf (shape : DecoderShape) (rows : ShardsRefMut) : Type 0 where

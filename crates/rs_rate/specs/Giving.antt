@@ -5,7 +5,7 @@ use Rattle.rs_field.specs.declared.code.error.Error.{Error}
 use Rattle.rs_field.specs.code.Column.{Shard}
 use Rattle.rs_field.specs.code.Decoder.{DecoderState}
 use Rattle.rs_field.specs.code.Encoder.{EncoderState}
-use Rattle.rs_field.specs.code.OneCall.{Items, LacksMemory, counts_outcome, originals_alone, encode_opening, encoding, decode_opening, decoding}
+use Rattle.rs_field.specs.code.OneCall.{Items, LacksMemory, counts_outcome, originals_alone, encode_opening, encoding_outcome, decode_opening, decoding_outcome}
 use Rattle.rs_field.specs.code.Outcome.{result_and_then}
 
 -- a result is that of an outcome: success, with the property P for the state of the outcome, or the error of the outcome
@@ -19,13 +19,13 @@ pub record AreNoted (indexes : List ℕ) (given : List Bool) : Type 0 where
 
 -- the result of adding originals to an encoder: the encoder, or the first error, or `OutOfMemory` if the checks before the first allocation find no error
 abbrev pub IsEncoding : ℕ → ℕ → List Shard → Result EncoderState Error → Type 0
-IsEncoding k r shards result = (result ≡ encoding k r shards) ⊎ LacksMemory (encode_opening k r shards) result
+IsEncoding k r shards result = (result ≡ encoding_outcome k r shards) ⊎ LacksMemory (encode_opening k r shards) result
 
 -- the outcome of adding originals and recovery shards to a decoder: the decoder, or `None` if there is no recovery shard and no original is missing, or the first error
-abbrev pub decoding_any : ℕ → ℕ → Items → Items → Result (Option DecoderState) Error
-decoding_any k r originals [] = result_and_then (λ _. Ok None) (result_and_then (λ _. originals_alone k originals) (counts_outcome k r))
-decoding_any k r originals (first ∷ rest) = result_and_then (λ s. Ok (Some s)) (decoding k r originals first rest)
+abbrev pub received_outcome : ℕ → ℕ → Items → Items → Result (Option DecoderState) Error
+received_outcome k r originals [] = result_and_then (λ _. Ok None) (result_and_then (λ _. originals_alone k originals) (counts_outcome k r))
+received_outcome k r originals (first ∷ rest) = result_and_then (λ s. Ok (Some s)) (decoding_outcome k r originals first rest)
 
 -- the result of adding originals and recovery shards to a decoder: its outcome, or `OutOfMemory` if the checks before the first allocation find no error
 abbrev pub IsDecoding : ℕ → ℕ → Items → Items → Result (Option DecoderState) Error → Type 0
-IsDecoding k r originals recovery result = (result ≡ decoding_any k r originals recovery) ⊎ LacksMemory (decode_opening k r recovery) result
+IsDecoding k r originals recovery result = (result ≡ received_outcome k r originals recovery) ⊎ LacksMemory (decode_opening k r recovery) result

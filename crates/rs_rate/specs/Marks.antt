@@ -79,5 +79,5 @@ pub record HoldGiven (shape : DecoderShape) (originals recovery : ℕ) (marks : 
   pub shards : (p : ℕ) → is_marked marks p ≡ true → IsShard shape.configuration.shard_bytes (shard_laid_out chunks shape.configuration.shard_bytes p)
 
 -- 1 if a row is erased, else 0; a row is erased if it is not known to be zero and holds no given shard
-abbrev pub erased : ℕ → ℕ → List Bool → ℕ → ℕ
-erased zeros_from zeros_to marks y = if (nat_le zeros_from y && nat_lt y zeros_to) || is_marked marks y then 0 else 1
+abbrev pub erasure : ℕ → ℕ → List Bool → ℕ → ℕ
+erasure zeros_from zeros_to marks y = if (nat_le zeros_from y && nat_lt y zeros_to) || is_marked marks y then 0 else 1

@@ -17,7 +17,7 @@ use Rattle.rs_field.specs.code.Code.{AreRecovery}
 use Rattle.rs_field.specs.code.Given.{Shards, nothing, with_entry, count_below}
 use Rattle.rs_field.specs.code.Encoder.{EncoderState, IsEncoder, fresh_encoder, with_shard, EncodeAnswers}
 use Rattle.rs_field.specs.code.Decoder.{DecoderState, fresh_decoder, with_original, with_recovery, missing_of, DecodeAnswers}
-use Rattle.rs_field.specs.code.OneCall.{Items, default_of, counts_outcome, one_by_one, with_shards, with_originals, with_recoveries, with_both, encoding, note_outcome, originals_alone, OneEncodeAnswers, OneDecodes, OneDecodeAnswers}
+use Rattle.rs_field.specs.code.OneCall.{Items, default_of, counts_outcome, one_by_one, with_shards, with_originals, with_recoveries, with_both, encoding_outcome, note_outcome, originals_alone, OneEncodeAnswers, OneDecodes, OneDecodeAnswers}
 use Rattle.rs_field.specs.code.RoundTrip.{AreCoded, AreLeft, enough_left, lost_of, GivesBack, OneBringsBack}
 use Rattle.rs_field.proofs.of_code.Given.{nothing_among}
 use Rattle.rs_field.proofs.of_code.Entries.{entered_all, count-nothing, AreFree, indexes, free-next, count-entered_all, among-entered_all, some-entered_all, all_some}
@@ -62,9 +62,9 @@ taken (x ∷ xs) s t is =
 
 pub codes_in_one_call : (k r : ℕ) (originals recovery : List Shard) → All (All (λ b. b < 256)) originals → OneEncodeAnswers k r originals (Ok recovery) → AreCoded k r originals recovery
 codes_in_one_call k r originals recovery bytes (inr lacks) = absurd (let e = lacks.1 in let no : ⊥ = cc in no)
-codes_in_one_call k r originals recovery bytes (inl answers) = by_outcome originals bytes (encoding k r originals) refl answers
+codes_in_one_call k r originals recovery bytes (inl answers) = by_outcome originals bytes (encoding_outcome k r originals) refl answers
   where
-    by_shards : (shards : List Shard) → All (All (λ b. b < 256)) shards → (s : EncoderState) → encoding k r shards ≡ Ok s → EncodeAnswers s (Ok recovery) → AreCoded k r shards recovery
+    by_shards : (shards : List Shard) → All (All (λ b. b < 256)) shards → (s : EncoderState) → encoding_outcome k r shards ≡ Ok s → EncodeAnswers s (Ok recovery) → AreCoded k r shards recovery
     by_shards [] small s same h =
         let e = (then_ok (λ _. Err (TooFewOriginalShards k 0)) (counts_outcome k r) s same).2 in absurd (let no : ⊥ = cc in no)
     by_shards (x ∷ xs) small s same h =
@@ -83,7 +83,7 @@ codes_in_one_call k r originals recovery bytes (inl answers) = by_outcome origin
               (subst (λ (m : List Shard). AreRecovery s.configuration m recovery) all.given out.1);
         }
 
-    by_outcome : (shards : List Shard) → All (All (λ b. b < 256)) shards → (o : Result EncoderState Error) → encoding k r shards ≡ o → MatchResult o (λ s. EncodeAnswers s (Ok recovery)) (λ e. Ok recovery ≡ Err e) → AreCoded k r shards recovery
+    by_outcome : (shards : List Shard) → All (All (λ b. b < 256)) shards → (o : Result EncoderState Error) → encoding_outcome k r shards ≡ o → MatchResult o (λ s. EncodeAnswers s (Ok recovery)) (λ e. Ok recovery ≡ Err e) → AreCoded k r shards recovery
     by_outcome shards small (Err e) same h = absurd (let no : ⊥ = cc in no)
     by_outcome shards small (Ok s) same h = by_shards shards small s same h
 

@@ -58,9 +58,9 @@ encode_opening k r [] = result_and_then (λ _. Err (TooFewOriginalShards k 0)) (
 encode_opening k r (shard ∷ _) = validation_outcome (default_of k r (length shard))
 
 -- the encoder after all shards were added, or the first error
-abbrev pub encoding : ℕ → ℕ → List Shard → Result EncoderState Error
-encoding k r [] = result_and_then (λ _. Err (TooFewOriginalShards k 0)) (counts_outcome k r)
-encoding k r (shard ∷ shards) =
+abbrev pub encoding_outcome : ℕ → ℕ → List Shard → Result EncoderState Error
+encoding_outcome k r [] = result_and_then (λ _. Err (TooFewOriginalShards k 0)) (counts_outcome k r)
+encoding_outcome k r (shard ∷ shards) =
     let c = default_of k r (length shard) in
     result_and_then (λ _. with_shards (fresh_encoder c) (shard ∷ shards)) (start_outcome (encoder_rows default_rate k r) c)
 
@@ -71,7 +71,7 @@ LacksMemory opening result = IsOk opening × (result ≡ Err OutOfMemory)
 -- the relation of the originals to the result of one-call `encode`: the recovery shards, the first error, or `OutOfMemory`
 abbrev pub OneEncodeAnswers : ℕ → ℕ → List Shard → Result (List Shard) Error → Type 0
 OneEncodeAnswers k r shards result =
-    MatchResult (encoding k r shards) (λ s. EncodeAnswers s result) (λ e. result ≡ Err e)
+    MatchResult (encoding_outcome k r shards) (λ s. EncodeAnswers s result) (λ e. result ≡ Err e)
     ⊎ LacksMemory (encode_opening k r shards) result
 
 -- the outcome of noting the index of an original: the index must be below k, and must not have been noted before
@@ -93,8 +93,8 @@ decode_opening k r [] = counts_outcome k r
 decode_opening k r (item ∷ _) = validation_outcome (default_of k r (length item.1))
 
 -- the decoder after the originals and then the recovery shards were added, or the first error
-abbrev pub decoding : ℕ → ℕ → Items → ℕ × Shard → Items → Result DecoderState Error
-decoding k r originals first rest =
+abbrev pub decoding_outcome : ℕ → ℕ → Items → ℕ × Shard → Items → Result DecoderState Error
+decoding_outcome k r originals first rest =
     let c = default_of k r (length first.1) in
     result_and_then (λ _. with_both (fresh_decoder c) originals (first ∷ rest)) (start_outcome (decoder_rows default_rate k r) c)
 
@@ -104,7 +104,7 @@ OneDecodes k r originals [] result =
     MatchResult (result_and_then (λ _. originals_alone k originals) (counts_outcome k r))
     (λ _. result ≡ Ok nothing) (λ e. result ≡ Err e)
 OneDecodes k r originals (first ∷ rest) result =
-    MatchResult (decoding k r originals first rest) (λ s. DecodeAnswers s result) (λ e. result ≡ Err e)
+    MatchResult (decoding_outcome k r originals first rest) (λ s. DecodeAnswers s result) (λ e. result ≡ Err e)
 
 -- the relation of received shards to the result of one-call `decode`: the restored originals, the first error, or `OutOfMemory`
 abbrev pub OneDecodeAnswers : ℕ → ℕ → Items → Items → Result Shards Error → Type 0

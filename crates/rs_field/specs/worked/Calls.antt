@@ -8,7 +8,7 @@ use Rattle.rs_field.specs.code.Configuration.{validation_outcome, UpToMemory}
 use Rattle.rs_field.specs.code.Given.{Shards, nothing, with_entry}
 use Rattle.rs_field.specs.code.Encoder.{EncoderState, fresh_encoder, with_shard, message_of, after_encode}
 use Rattle.rs_field.specs.code.Decoder.{fresh_decoder, with_original, with_recovery, enough_given, after_decode}
-use Rattle.rs_field.specs.code.OneCall.{default_of, encoding, decoding, OneEncodeAnswers, OneDecodes, OneDecodeAnswers}
+use Rattle.rs_field.specs.code.OneCall.{default_of, encoding_outcome, decoding_outcome, OneEncodeAnswers, OneDecodes, OneDecodeAnswers}
 use Rattle.rs_field.specs.worked.Codes.{two_given, surplus_given}
 
 -- a shard of n zero bytes
@@ -18,22 +18,22 @@ zeros n = replicate n 0
 -- one-call `encode` checks in this order: the counts, whether there is an original, the size of the first original, too many originals, another size, too few originals
 abbrev pub EncodeOrder : Type 0
 EncodeOrder =
-    (encoding 0 1 [] ≡ Err (UnsupportedShardCount 0 1)) × (encoding 0 1 (zeros 3 ∷ []) ≡ Err (UnsupportedShardCount 0 1))
-    × (encoding 1 1 [] ≡ Err (TooFewOriginalShards 1 0)) × (encoding 1 1 (zeros 3 ∷ zeros 2 ∷ []) ≡ Err (InvalidShardSize 3))
-    × (encoding 1 1 (zeros 64 ∷ zeros 128 ∷ []) ≡ Err (TooManyOriginalShards 1))
-    × (encoding 2 1 (zeros 64 ∷ zeros 128 ∷ []) ≡ Err (DifferentShardSize 64 128))
-    × (result_and_then message_of (encoding 2 1 (zeros 64 ∷ [])) ≡ Err (TooFewOriginalShards 2 1))
+    (encoding_outcome 0 1 [] ≡ Err (UnsupportedShardCount 0 1)) × (encoding_outcome 0 1 (zeros 3 ∷ []) ≡ Err (UnsupportedShardCount 0 1))
+    × (encoding_outcome 1 1 [] ≡ Err (TooFewOriginalShards 1 0)) × (encoding_outcome 1 1 (zeros 3 ∷ zeros 2 ∷ []) ≡ Err (InvalidShardSize 3))
+    × (encoding_outcome 1 1 (zeros 64 ∷ zeros 128 ∷ []) ≡ Err (TooManyOriginalShards 1))
+    × (encoding_outcome 2 1 (zeros 64 ∷ zeros 128 ∷ []) ≡ Err (DifferentShardSize 64 128))
+    × (result_and_then message_of (encoding_outcome 2 1 (zeros 64 ∷ [])) ≡ Err (TooFewOriginalShards 2 1))
 
 -- one-call `decode` with recovery shards checks in this order: the size of the first recovery shard, the originals, the recovery shards, too few shards
 abbrev pub DecodeOrder : Type 0
 DecodeOrder =
-    (decoding 1 1 ((0, zeros 64) ∷ []) (0, []) [] ≡ Err (InvalidShardSize 0)) × (decoding 0 1 [] (0, []) [] ≡ Err (UnsupportedShardCount 0 1))
-    × (decoding 1 1 ((0, zeros 64) ∷ []) (1, zeros 64) [] ≡ Err (InvalidRecoveryShardIndex 1 1))
-    × (decoding 2 1 ((0, zeros 64) ∷ (0, zeros 128) ∷ []) (0, zeros 64) [] ≡ Err (DuplicateOriginalShardIndex 0))
-    × (decoding 2 1 ((0, zeros 64) ∷ (1, zeros 128) ∷ []) (5, zeros 64) [] ≡ Err (DifferentShardSize 64 128))
-    × (decoding 2 1 ((2, zeros 128) ∷ []) (0, zeros 64) [] ≡ Err (InvalidOriginalShardIndex 2 2))
-    × (decoding 2 2 [] (1, zeros 64) ((1, zeros 128) ∷ []) ≡ Err (DuplicateRecoveryShardIndex 1))
-    × (result_and_then enough_given (decoding 2 1 [] (0, zeros 64) []) ≡ Err (NotEnoughShards 2 0 1))
+    (decoding_outcome 1 1 ((0, zeros 64) ∷ []) (0, []) [] ≡ Err (InvalidShardSize 0)) × (decoding_outcome 0 1 [] (0, []) [] ≡ Err (UnsupportedShardCount 0 1))
+    × (decoding_outcome 1 1 ((0, zeros 64) ∷ []) (1, zeros 64) [] ≡ Err (InvalidRecoveryShardIndex 1 1))
+    × (decoding_outcome 2 1 ((0, zeros 64) ∷ (0, zeros 128) ∷ []) (0, zeros 64) [] ≡ Err (DuplicateOriginalShardIndex 0))
+    × (decoding_outcome 2 1 ((0, zeros 64) ∷ (1, zeros 128) ∷ []) (5, zeros 64) [] ≡ Err (DifferentShardSize 64 128))
+    × (decoding_outcome 2 1 ((2, zeros 128) ∷ []) (0, zeros 64) [] ≡ Err (InvalidOriginalShardIndex 2 2))
+    × (decoding_outcome 2 2 [] (1, zeros 64) ((1, zeros 128) ∷ []) ≡ Err (DuplicateRecoveryShardIndex 1))
+    × (result_and_then enough_given (decoding_outcome 2 1 [] (0, zeros 64) []) ≡ Err (NotEnoughShards 2 0 1))
 
 -- one-call `decode` without recovery shards checks in this order: the index of each original and whether it was given before, and then the number of originals
 abbrev pub NoRecoveryOrder : Type 0

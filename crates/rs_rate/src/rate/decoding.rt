@@ -11,7 +11,7 @@ ghost use Rattle.rs_rate.specs.DecoderRoom.{memory_room};
 ghost use Rattle.rs_rate.specs.Configured.{configuration_at};
 ghost use Rattle.rs_rate.specs.DecoderView.{decoder_state, restored_by_rows, restored_from};
 ghost use Rattle.rs_rate.specs.Decoding.{CanBeRestored, IsLocatorOf, RestoresShards};
-ghost use Rattle.rs_rate.specs.Marks.{erased, given_marks, restored_marks, mark_count, WantsMissing};
+ghost use Rattle.rs_rate.specs.Marks.{erasure, given_marks, restored_marks, mark_count, WantsMissing};
 ghost use Rattle.rs_rate.specs.SetUp.{IsSetUp};
 ghost use Rattle.rs_rate.specs.Shapes.{DecoderCanBeLaid, original_row};
 ghost use Rattle.rs_rate.specs.ShardRows.{chunk_count, shard_laid_out, shard_in_order};
@@ -116,7 +116,7 @@ fn make_locator<E: Engine>(
 fn mark_erased(entries: &mut [GfElement], given: &[bool], frame: Frame)
     requires entries { length entries.old ≡ frame.row_count }
     requires marked { frame.row_count ≤ length given.now }
-    ensures { (row : ℕ) → row < frame.row_count → slice_index entries.new row ≡ erased frame.zeros_from frame.zeros_to given.now row }
+    ensures { (row : ℕ) → row < frame.row_count → slice_index entries.new row ≡ erasure frame.zeros_from frame.zeros_to given.now row }
 {
     for row in 0..frame.row_count {
         entries[row] = erased_at(given, frame, row);
@@ -126,7 +126,7 @@ fn mark_erased(entries: &mut [GfElement], given: &[bool], frame: Frame)
 // Returns the entry of a row: 0 if the row is known to be zero or its shard is given, else 1.
 fn erased_at(given: &[bool], frame: Frame, row: usize) -> GfElement
     requires marked { row < length given.now }
-    ensures { result ≡ erased frame.zeros_from frame.zeros_to given.now row }
+    ensures { result ≡ erasure frame.zeros_from frame.zeros_to given.now row }
 {
     let is_zero = frame.zeros_from <= row && row < frame.zeros_to;
     if is_zero || given[row] { 0 } else { 1 }

@@ -5,7 +5,7 @@ use Rattle.reed_solomon_simd.proofs.Giving.{always-run, lends-left}
 use Rattle.reed_solomon_simd.proofs.OneCall.{encoding-refused}
 use Rattle.reed_solomon_simd.proofs.CallerLemmas.{valid-some}
 use Rattle.reed_solomon_simd.proofs.Gathering.{gathered-is, encoded-few, encoded-all}
-use Rattle.reed_solomon_simd.specs.Gathered.{gathered}
+use Rattle.reed_solomon_simd.specs.LentState.{lent_state}
 use Rattle.rs_c.specs.Buffers.{shards_in_buffer}
 use Rattle.rs_c.proofs.CutLemmas.{joined-cut, cut-same}
 use Rattle.rs_c.proofs.EncodeLemmas.{fits-length, gathered-size, encodes}
@@ -26,7 +26,7 @@ returns-in_err-check_all_given c =
     let e = c.in_err-check_all_given.field-0.0 in
     let led = always-run (rw (c.in_ok-counts.ensures.0, c.in_ok-counts.ensures.1) at c.in_ok-gathered.ensures.gathered) shards (lends-left (λ shard. shard.now) _ shards c.new-shards.ensures) in
     encodes k r c.args.shard_bytes c.args.originals.now c.args.recovery.now _ _ (Err e) (rw (c.in_ok-counts.ensures.0, c.in_ok-counts.ensures.1) at c.in_ok-counts.counts.supported) c.in_ok-check_length.ensures c.in_ok-check_length-2.ensures
-    (encoded-few k r shards (gathered c.in_ok-gathered.gathered) led e c.in_err-check_all_given.ensures) (search rules, refl)
+    (encoded-few k r shards (lent_state c.in_ok-gathered.gathered) led e c.in_err-check_all_given.ensures) (search rules, refl)
 
 pub write_recovery-requires-clause-counts : goal.write_recovery-requires-clause-counts
 write_recovery-requires-clause-counts c = ap (λ counts. counts.recovery_count) c.in_ok-gathered.ensures.counts ∙ c.in_ok-counts.ensures.1
@@ -39,9 +39,9 @@ write_recovery-requires-clause-size c =
     let own : c.in_ok-gathered.gathered.counts.original_count ≡ c.args.original_count =
     ap (λ counts. counts.original_count) c.in_ok-gathered.ensures.counts ∙ c.in_ok-counts.ensures.0 in
     let some : 0 < c.args.original_count =
-    subst (λ (n : ℕ). 0 < n) own (valid-some (gathered c.in_ok-gathered.gathered).configuration (gathered-is c.in_ok-gathered.gathered).valid) in
+    subst (λ (n : ℕ). 0 < n) own (valid-some (lent_state c.in_ok-gathered.gathered).configuration (gathered-is c.in_ok-gathered.gathered).valid) in
     ap (λ (d : Configuration). d.shard_bytes)
-    (gathered-size k r c.args.shard_bytes c.args.originals.now (gathered c.in_ok-gathered.gathered) some
+    (gathered-size k r c.args.shard_bytes c.args.originals.now (lent_state c.in_ok-gathered.gathered) some
     (fits-length k c.args.shard_bytes (length c.args.originals.now) c.in_ok-check_length.ensures) led)
 
 pub write_recovery-requires-clause-whole : goal.write_recovery-requires-clause-whole
@@ -58,7 +58,7 @@ returns-in_err-write_recovery c =
     let same : c.write_recovery.new.recovery ≡ c.args.recovery.now =
     cut-same r c.args.shard_bytes c.write_recovery.new.recovery c.args.recovery.now (c.in_err-write_recovery.ensures.whole ∙ whole) c.in_err-write_recovery.ensures.whole c.in_err-write_recovery.ensures.untouched in
     encodes k r c.args.shard_bytes c.args.originals.now c.args.recovery.now _ _ (Err e) (rw (c.in_ok-counts.ensures.0, c.in_ok-counts.ensures.1) at c.in_ok-counts.counts.supported) c.in_ok-check_length.ensures c.in_ok-check_length-2.ensures
-    (encoded-all k r shards (gathered c.in_ok-gathered.gathered) led c.in_ok-check_all_given.ensures (Err e) lacks) (search rules, same)
+    (encoded-all k r shards (lent_state c.in_ok-gathered.gathered) led c.in_ok-check_all_given.ensures (Err e) lacks) (search rules, same)
 
 pub returns : goal.returns
 returns c =
@@ -68,5 +68,5 @@ returns c =
     let made = shards_in_buffer r c.args.shard_bytes c.write_recovery.new.recovery in
     let whole = fits-length c.args.recovery_count c.args.shard_bytes (length c.args.recovery.now) c.in_ok-check_length-2.ensures in
     encodes k r c.args.shard_bytes c.args.originals.now c.args.recovery.now _ _ (Ok made) (rw (c.in_ok-counts.ensures.0, c.in_ok-counts.ensures.1) at c.in_ok-counts.counts.supported) c.in_ok-check_length.ensures c.in_ok-check_length-2.ensures
-    (encoded-all k r shards (gathered c.in_ok-gathered.gathered) led c.in_ok-check_all_given.ensures (Ok made) c.in_ok-write_recovery.ensures.coded)
+    (encoded-all k r shards (lent_state c.in_ok-gathered.gathered) led c.in_ok-check_all_given.ensures (Ok made) c.in_ok-write_recovery.ensures.coded)
     (refl, sym (joined-cut r c.args.shard_bytes c.write_recovery.new.recovery (c.in_ok-write_recovery.ensures.whole ∙ whole)))

@@ -1,6 +1,6 @@
 use Rattle.std.proofs.Common.{rules, ◌≡◌, ◌∙◌, refl}
 use Rattle.rs_rate.proofs.Giving.{leads-taken, leads-refused, leads-ended, outcome-ok, outcome-err}
-use Rattle.reed_solomon_simd.specs.Gathered.{gathered}
+use Rattle.reed_solomon_simd.specs.LentState.{lent_state}
 use Rattle.reed_solomon_simd.proofs.lent_originals.LentOriginals.add_all.Goals as goal
 
 pub loop-shard-preserved : goal.loop-shard-preserved
@@ -12,7 +12,7 @@ loop-shard-preserved g c =
 
 pub returns-in_err-add-clause-reaches : goal.returns-in_err-add-clause-reaches
 returns-in_err-add-clause-reaches g c =
-    leads-refused (λ s. gathered c.add.new.self ≡ s) c.loop-shard.invariant.led c.in-Some.ensures.steps (outcome-err _ _ c.in_err-add.ensures.answer) (search rules)
+    leads-refused (λ s. lent_state c.add.new.self ≡ s) c.loop-shard.invariant.led c.in-Some.ensures.steps (outcome-err _ _ c.in_err-add.ensures.answer) (search rules)
 
 pub returns-clause-reaches : goal.returns-clause-reaches
-returns-clause-reaches g c = leads-ended (λ s. gathered c.loop-shard.self ≡ s) c.loop-shard.invariant.led c.in-None.ensures.steps refl
+returns-clause-reaches g c = leads-ended (λ s. lent_state c.loop-shard.self ≡ s) c.loop-shard.invariant.led c.in-None.ensures.steps refl
