@@ -89,7 +89,7 @@ pieces-past start end n count size given within all i past =
 module _ (s now : DecoderState) (n : ℕ) (given : Shards) (shard : Shard) (found : given n ≡ Some shard) (sized : length shard ≡ s.configuration.shard_bytes) where
   module _ (is : now ≡ record s { originals = first n given }) (inside : n < s.configuration.original_count) where
     -- a decoder with the originals below an index takes the next one
-    original-taken : with_original now n shard ≡ Ok (record s { originals = first (n + 1) given })
+    pub original-taken : with_original now n shard ≡ Ok (record s { originals = first (n + 1) given })
     original-taken =
         ap (λ (t : DecoderState). with_original t n shard) is
         ∙ rw (lt-leb s.configuration.original_count n inside, first-outside n n given (let e : n ≤ n = omega arith in e), eq-eqb (length shard) s.configuration.shard_bytes sized)
@@ -103,7 +103,7 @@ module _ (s now : DecoderState) (n : ℕ) (given : Shards) (shard : Shard) (foun
 
   module _ (is : now ≡ record s { recovery = first n given }) (inside : n < s.configuration.recovery_count) where
     -- a decoder with the recovery shards below an index takes the next one
-    recovery-taken : with_recovery now n shard ≡ Ok (record s { recovery = first (n + 1) given })
+    pub recovery-taken : with_recovery now n shard ≡ Ok (record s { recovery = first (n + 1) given })
     recovery-taken =
         ap (λ (t : DecoderState). with_recovery t n shard) is
         ∙ rw (lt-leb s.configuration.recovery_count n inside, first-outside n n given (let e : n ≤ n = omega arith in e), eq-eqb (length shard) s.configuration.shard_bytes sized)

@@ -196,7 +196,7 @@ impl<'a> LentOriginals<'a> {
     pub fn encode_vectors<E: Engine>(&self, alloc: Global, engine: E) -> Result<Vec<Vec<u8>>, Error>
         requires all { answer_of (message_of (lent_state self.now)) ≡ Ok tt }
         ensures { MatchResult (collected_shards result)
-            (λ recovery. AreRecovery (lent_state self.now).configuration (gathered self.now).given
+            (λ recovery. AreRecovery (lent_state self.now).configuration (lent_state self.now).given
             recovery)
             (λ e. e ≡ Error.OutOfMemory) }
     {

@@ -1,5 +1,5 @@
 //! The shards of a message that were received, as slices of the caller's memory.
-ghost use Rattle.std.specs.Prelude.{◌≡◌, ◌<◌, ◌==◌, if◌then◌else◌, ℕ, None, Ok, Err, length, MatchResult, OnOk};
+ghost use Rattle.std.specs.Prelude.{◌≡◌, ◌<◌, ◌≤◌, ◌+◌, ◌==◌, nat_lt, IfOk, if◌then◌else◌, ℕ, None, Ok, Err, length, MatchResult, OnOk};
 ghost use Rattle.rs_field.specs.code.Column.{IsShard};
 ghost use Rattle.rs_field.specs.code.Configuration.{start_outcome};
 ghost use Rattle.rs_field.specs.code.Counts.{default_rate};
@@ -134,15 +134,11 @@ impl<'a> ReceivedShards<'a> {
         ensures answer { answer_of result ≡ enough_given (received_state self.now) }
         ensures number { IfOk result (λ n. originals_given (received_state self.now) + recovery_given (received_state self.now) ≡ self.now.counts.original_count + n) }
     {
-        let received = self.originals.number + self.recovery.number;
-        if received < self.counts.original_count {
-            return Err(Error::NotEnoughShards {
-                original_count: self.counts.original_count,
-                original_received_count: self.originals.number,
-                recovery_received_count: self.recovery.number,
-            });
-        }
-        Ok(received - self.counts.original_count)
+        surplus_of(
+            self.counts.original_count,
+            self.originals.number,
+            self.recovery.number,
+        )
     }
 
     /// Returns how many originals are missing.
@@ -151,6 +147,32 @@ impl<'a> ReceivedShards<'a> {
     {
         self.counts.original_count - self.originals.number
     }
+}
+
+/// Returns how many shards were received beyond the number of originals.
+///
+/// # Errors
+///
+/// [`Error::NotEnoughShards`] if fewer shards than originals were received.
+pub fn surplus_of(
+    original_count: usize,
+    original_received_count: usize,
+    recovery_received_count: usize,
+) -> Result<usize, Error>
+    requires total { original_received_count + recovery_received_count ≤ 131072 }
+    ensures answer { answer_of result ≡ (if nat_lt (original_received_count + recovery_received_count) original_count
+        then Err (Error.NotEnoughShards original_count original_received_count recovery_received_count) else Ok tt) }
+    ensures number { IfOk result (λ n. original_received_count + recovery_received_count ≡ original_count + n) }
+{
+    let received = original_received_count + recovery_received_count;
+    if received < original_count {
+        return Err(Error::NotEnoughShards {
+            original_count,
+            original_received_count,
+            recovery_received_count,
+        });
+    }
+    Ok(received - original_count)
 }
 
 // `DifferentShardSize` for a shard of another size.

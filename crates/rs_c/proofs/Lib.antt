@@ -7,3 +7,5 @@ mod TextLemmas
 mod AloneLemmas
 mod RoomFaults
 mod CutLemmas
+mod LostLemmas
+mod MarkedState

@@ -1,9 +1,10 @@
 -- Shards that lie one after the other in a buffer.
-use Rattle.std.specs.Prelude.{◌≡◌, ℕ, zero, suc, ◌+◌, ◌*◌, ◌-◌, ◌^◌, ◌==◌, List, [], ◌∷◌, ◌++◌, take, drop, nat_lt, if◌then◌else◌, Result, Ok, Err, unwrap_or, Some, length}
+use Rattle.std.specs.Prelude.{◌≡◌, ℕ, zero, suc, ◌+◌, ◌*◌, ◌-◌, ◌^◌, ◌==◌, List, [], ◌∷◌, ◌++◌, take, drop, nat_lt, if◌then◌else◌, Result, Ok, Err, unwrap_or, Some, None, length, slice_index_or}
 use Rattle.std.specs.List.{flat_map}
 use Rattle.rs_field.specs.code.Column.{Shard}
 use Rattle.rs_field.specs.code.Given.{Shards}
-use Rattle.rs_field.specs.code.OneCall.{Items}
+use Rattle.rs_field.specs.code.Decoder.{DecoderState}
+use Rattle.rs_field.specs.code.OneCall.{Items, default_of}
 use Rattle.rs_c.specs.declared.fault.Fault.{Fault}
 use Rattle.rs_c.specs.declared.fault.Fault.TheVariants.{WrongLength}
 
@@ -25,6 +26,28 @@ marked_shards i size (mark ∷ marks) bytes =
     if mark == 0 then marked_shards (i + 1) size marks (drop size bytes)
     else (i, take size bytes) ∷ marked_shards (i + 1) size marks (drop size bytes)
 
+-- the place of shard i in a buffer of shards of this size
+abbrev pub shard_place : ℕ → List ℕ → ℕ → Shard
+shard_place size bytes i = take size (drop (i * size) bytes)
+
+-- the shards whose marks are not 0, by their index
+abbrev pub marked_map : ℕ → List ℕ → List ℕ → Shards
+marked_map size marks bytes i = if slice_index_or marks i 0 == 0 then None else Some (shard_place size bytes i)
+
+-- the indexes of the marks that are 0, if the first mark has index i
+abbrev pub lost_indexes : ℕ → List ℕ → List ℕ
+lost_indexes i [] = []
+lost_indexes i (mark ∷ marks) = if mark == 0 then i ∷ lost_indexes (i + 1) marks else lost_indexes (i + 1) marks
+
+-- the state of a decoder to which all marked shards of two buffers were added
+abbrev pub marked_state : ℕ → ℕ → ℕ → List ℕ → List ℕ → List ℕ → List ℕ → DecoderState
+marked_state k r size own originals other recovery =
+    record {
+      configuration = default_of k r size;
+      originals = marked_map size own originals;
+      recovery = marked_map size other recovery;
+    }
+
 -- the bytes of shards, one shard after the other
 abbrev pub concatenation : List Shard → List ℕ
 concatenation shards = flat_map (λ shard. shard) shards
@@ -34,7 +57,3 @@ abbrev pub with_restored : Shards → ℕ → ℕ → ℕ → List ℕ → List 
 with_restored restored i size zero bytes = []
 with_restored restored i size (suc n) bytes =
     unwrap_or (restored i) (take size bytes) ++ with_restored restored (i + 1) size n (drop size bytes)
-
--- every shard of a map has this size
-abbrev pub AreSized : ℕ → Shards → Type 0
-AreSized size restored = (i : ℕ) (shard : Shard) → restored i ≡ Some shard → length shard ≡ size

@@ -2,6 +2,7 @@ pub mod RoomFaults
 pub mod Tables
 pub mod Faults
 pub mod Buffers
+pub mod MarkedState
 pub mod Answers
 pub mod Arrays
 pub mod FaultTexts

@@ -34,8 +34,8 @@ impl Rooms for BufferRooms<'_> {
     }
 }
 
-// Writes a piece into one of the rooms of a buffer, after its first `start` bytes.
-fn put(buffer: &mut [u8], index: usize, size: usize, start: usize, piece: &[u8])
+/// Writes a piece into one of the places of a buffer, after the first `start` bytes of the place.
+pub fn put(buffer: &mut [u8], index: usize, size: usize, start: usize, piece: &[u8])
     requires { index * size + start + length piece.now ≤ length buffer.old }
     ensures { buffer.new ≡ take (index * size + start) buffer.old
         ++ (piece.now ++ drop (index * size + start + length piece.now) buffer.old) }

@@ -1,7 +1,9 @@
 //! Decoding, of shards in buffers and of shards anywhere.
-ghost use Rattle.std.specs.Prelude.{◌≡◌, ◌*◌, drop, length};
-ghost use Rattle.rs_rate.specs.ResultView.{restored_originals};
-ghost use Rattle.rs_c.specs.Buffers.{with_restored, AreSized};
+ghost use Rattle.std.specs.Prelude.{◌≡◌, ◌⊎◌, All, Err, MatchResult, OnErr, drop, length};
+ghost use Rattle.rs_field.specs.code.Counts.{default_rate};
+ghost use Rattle.rs_field.specs.code.Decoder.{IsDecoder, NoneAgrees, enough_given};
+ghost use Rattle.rs_field.specs.code.PieceStates.{HoldRestored};
+ghost use Rattle.rs_c.specs.MarkedState.{state_in, rooms_in, besides_rooms};
 ghost use Rattle.rs_c.specs.Answers.{DecodesBuffer, marked_number, WantsNoMemory, all_or_refused};
 ghost use Rattle.rs_c.specs.Arrays.{items_of, DecodesArrays, KeepsRooms, bytes_in};
 
@@ -9,15 +11,15 @@ use crate::alone::check_alone;
 use crate::buffers::check_length;
 use crate::engine::Borrowing;
 use crate::fault::Fault;
-use crate::layouts::{Marked, RsShard};
+use crate::layouts::RsShard;
+use crate::marked_buffers::{MarkedBuffers, indexes_of_lost};
 use crate::rooms::check_number;
+use reed_solomon_simd::received_shards::surplus_of;
 use reed_solomon_simd::receiving::received_shards;
-use reed_solomon_simd::restoring::restore_into;
-use rs_field::engine::Steps;
+use reed_solomon_simd::restoring::{restore_in_place, restore_into};
+use rs_field::bytes::are_bytes;
 use rs_field::error::Error;
-use rs_rate::DecoderResult;
-use rs_rate::rate::giving::given_decoder;
-use rs_rate::rate::{DefaultRateCounts, RateDecoder};
+use rs_rate::rate::DefaultRateCounts;
 use std::alloc::Global;
 
 /// Writes the originals whose mark is 0 to their places.
@@ -42,14 +44,47 @@ pub fn decode_buffer(
     if count_marked(recovery_marks) == 0 {
         return Ok(check_all_marked(original_marks)?);
     }
-    let own = Marked::new(original_marks, shard_bytes, originals);
-    let other = Marked::new(recovery_marks, shard_bytes, recovery);
-    let Some(mut decoder) = given_decoder(alloc, counts, own, other, engine)? else {
-        return Ok(());
+    counts.check_decoder_rows(shard_bytes)?;
+    let lost = indexes_of_lost(alloc, original_marks)?;
+    are_bytes(originals);
+    are_bytes(recovery);
+    let mut buffers = MarkedBuffers {
+        counts,
+        size: shard_bytes,
+        original_marks,
+        recovery_marks,
+        originals,
+        recovery,
+        lost,
     };
-    let result = decoder.decode(&mut Steps::new())?;
-    write_restored(&result, original_count, shard_bytes, originals);
+    restore_buffers(alloc, engine, &mut buffers)?;
     Ok(())
+}
+
+// Writes the originals whose mark is 0 to their places.
+fn restore_buffers(
+    alloc: Global,
+    engine: Borrowing<'_>,
+    buffers: &mut MarkedBuffers<'_, '_>,
+) -> Result<(), Error>
+    requires set_up { IsDecoder default_rate (state_in buffers.old) }
+    requires fit { All (λ room. length room ≡ buffers.old.size) (rooms_in buffers.old) }
+    ensures answer { MatchResult (enough_given (state_in buffers.old))
+        (λ _. MatchResult result (λ _. HoldRestored (state_in buffers.old) (rooms_in buffers.new))
+        (λ e. NoneAgrees (state_in buffers.old) e ⊎ (e ≡ Error.OutOfMemory))) (λ e. result ≡ Err e) }
+    ensures untouched { OnErr result (rooms_in buffers.new ≡ rooms_in buffers.old) }
+    ensures others { besides_rooms buffers.new ≡ besides_rooms buffers.old }
+    ensures loan { buffers.new.originals.ghost_name ≡ buffers.old.originals.ghost_name }
+{
+    let original_received_count = count_marked(buffers.original_marks);
+    let recovery_received_count = count_marked(buffers.recovery_marks);
+    let missing = buffers.lost.len();
+    let surplus = surplus_of(
+        buffers.counts.original_count,
+        original_received_count,
+        recovery_received_count,
+    )?;
+    restore_in_place(alloc, engine, missing, surplus, buffers)
 }
 
 /// Writes the originals that aren't among the given shards into rooms, one for each, in order of index.
@@ -101,20 +136,4 @@ fn check_all_marked(marks: &[u8]) -> Result<(), Error>
         });
     }
     Ok(())
-}
-
-// Writes the restored originals of a result to their places.
-fn write_restored(lent: &DecoderResult<'_>, count: usize, size: usize, originals: &mut [u8])
-    requires room { length originals.old ≡ count * size }
-    requires sized { AreSized size (restored_originals lent.now) }
-    ensures { originals.new ≡ with_restored (restored_originals lent.now) 0 size count originals.old }
-{
-    let mut at = 0;
-    for index in 0..count {
-        let end = at + size;
-        if let Some(shard) = lent.restored_original(index) {
-            originals[at..end].copy_from_slice(shard);
-        }
-        at = end;
-    }
 }

@@ -10,6 +10,7 @@ mod engine;
 mod fault;
 mod lanes;
 mod layouts;
+mod marked_buffers;
 mod rooms;
 mod tables;
 #[cfg(test)]

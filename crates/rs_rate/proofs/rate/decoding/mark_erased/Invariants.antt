@@ -5,5 +5,5 @@ use Rattle.rs_rate.proofs.rate.decoding.mark_erased.Given as goal
 abbrev pub invariant-loop-row : goal.invariant-loop-row
 invariant-loop-row l = record {
   entries : length l.entries ≡ l.fn.frame.row_count;
-  erased : (y : ℕ) → y < l.row → slice_index l.entries y ≡ erased l.fn.frame.zeros_from l.fn.frame.zeros_to l.given y;
+  erased : (y : ℕ) → y < l.row → slice_index l.entries y ≡ erasure l.fn.frame.zeros_from l.fn.frame.zeros_to l.given y;
 }

@@ -1,0 +1,170 @@
+-- The state of a decoder to which the marked shards of two buffers were added.
+use Rattle.std.proofs.Common.{◌≡◌, ◌≢◌, ℕ, zero, suc, ◌+◌, ◌-◌, ◌*◌, ◌<◌, ◌≤◌, ◌==◌, Bool, true, false, not, cond, List, [], ◌∷◌, ◌++◌, length, map, take, drop, get_or, All, Result, Ok, Err, Option, Some, None, refl, sym, ap, ap₂, subst, ◌∙◌, inl, inr, arith}
+use Rattle.std.specs.Prelude.{is_some, unwrap_or}
+use Rattle.std.proofs.Math.Path.{fun_ext}
+use Rattle.std.proofs.Math.Nat.{suc-mul, mul-le-mul_right}
+use Rattle.std.proofs.lemmas.Bool.{cases_eq, cases_lt, eq-eqb, ne_eqb}
+use Rattle.std.proofs.lemmas.Option.{none-some}
+use Rattle.std.proofs.lemmas.List.{length-take-le, length-drop, get_or_past, get_or-take, get_or-drop}
+use Rattle.rs_field.specs.declared.code.error.Error.{Error}
+use Rattle.rs_field.specs.code.Column.{Shard, IsShard}
+use Rattle.rs_field.specs.code.Configuration.{Configuration, start_outcome}
+use Rattle.rs_field.specs.code.Counts.{default_rate}
+use Rattle.rs_field.specs.code.Decoder.{DecoderState, IsDecoder, fresh_decoder, with_original, with_recovery}
+use Rattle.rs_field.specs.code.Given.{Shards, AreWithin, nothing, count_below}
+use Rattle.rs_field.specs.code.OneCall.{Items, default_of, one_by_one, with_originals, with_recoveries, with_both, decoding_outcome}
+use Rattle.rs_field.specs.code.Outcome.{result_and_then}
+use Rattle.rs_field.specs.code.Placement.{decoder_rows}
+use Rattle.rs_field.proofs.of_code.Given.{count_below-zero, count_below-suc}
+use Rattle.rs_rate.specs.Giving.{IsDecoding}
+use Rattle.reed_solomon_simd.proofs.SetUp.{started-parts}
+use Rattle.reed_solomon_simd.proofs.StripDecodeLemmas.{first, first-none, first-all, first-skipped, original-taken, recovery-taken}
+use Rattle.rs_c.specs.Buffers.{marked_shards, marked_map, marked_state, shard_place}
+use Rattle.rs_c.proofs.MarkedLemmas.{present}
+use Rattle.rs_c.proofs.LostLemmas.{place-first, place-next}
+
+-- ---- marked shards by their index
+
+-- a mark that is 0 has no shard
+pub map-lost : (size : ℕ) (marks bytes : List ℕ) (i : ℕ) → get_or marks i 0 ≡ 0 → marked_map size marks bytes i ≡ None
+map-lost size marks bytes i lost = rw (eq-eqb (get_or marks i 0) 0 lost) refl
+
+-- another mark has the shard in its place
+pub map-kept : (size : ℕ) (marks bytes : List ℕ) (i : ℕ) → (get_or marks i 0 ≡ 0 → ⊥) → marked_map size marks bytes i ≡ Some (shard_place size bytes i)
+map-kept size marks bytes i kept = rw (ne_eqb (get_or marks i 0) 0 kept) refl
+
+-- a place lies in its buffer
+pub place-long : (size : ℕ) (bytes : List ℕ) (count i : ℕ) → length bytes ≡ count * size → i < count → length (shard_place size bytes i) ≡ size
+place-long size bytes count i whole inside =
+    let more = suc-mul i size in
+    let below = mul-le-mul_right size (let k : suc i ≤ count = omega (arith, inside) in k) in
+    let left = length-drop (i * size) bytes in
+    length-take-le size (drop (i * size) bytes) (omega (arith, left, whole, below, more))
+
+-- the bytes of a place
+pub place-bytes : (size : ℕ) (bytes : List ℕ) (i : ℕ) → All (λ b. b < 256) bytes → length (shard_place size bytes i) ≡ size → All (λ b. b < 256) (shard_place size bytes i)
+place-bytes size bytes i all long k d inside =
+    let below : k < size = omega (arith, inside, long) in
+    let here : get_or (shard_place size bytes i) k d ≡ get_or bytes (i * size + k) d =
+    get_or-take size (drop (i * size) bytes) k d below ∙ get_or-drop (i * size) bytes k d in
+    subst (λ (b : ℕ). b < 256) (sym here) (by_place (cases_lt (i * size + k) (length bytes)))
+  where
+    by_place : (i * size + k < length bytes) ⊎ (length bytes ≤ i * size + k) → get_or bytes (i * size + k) d < 256
+    by_place (inl there) = all (i * size + k) d there
+    by_place (inr past) =
+        let left = length-drop (i * size) bytes in
+        absurd (let no : ⊥ = omega (arith, left, past, inside) in no)
+
+-- marked shards are within the bounds of their buffer
+pub map-within : (count size : ℕ) (marks bytes : List ℕ) → length marks ≡ count → length bytes ≡ count * size → All (λ b. b < 256) bytes
+    → AreWithin count size (marked_map size marks bytes)
+map-within count size marks bytes number whole all =
+    record {
+      none_past = λ i past. map-lost size marks bytes i (get_or_past marks i 0 (omega (arith, past, number)));
+      sized = λ i shard found. by_mark i shard (cases_eq (get_or marks i 0) 0) found;
+    }
+  where
+    by_mark : (i : ℕ) (shard : Shard) → (get_or marks i 0 ≡ 0) ⊎ (get_or marks i 0 ≡ 0 → ⊥) → marked_map size marks bytes i ≡ Some shard → IsShard size shard
+    by_mark i shard (inl lost) found = absurd (none-some shard (sym (map-lost size marks bytes i lost) ∙ found))
+    by_mark i shard (inr kept) found = elim (cases_lt i count) [
+      | inl inside ↦
+          let same : shard_place size bytes i ≡ shard = ap (λ o. unwrap_or o shard) (sym (map-kept size marks bytes i kept) ∙ found) in
+          let long = place-long size bytes count i whole inside in
+          subst (λ (x : Shard). IsShard size x) same (record { length_is = long; bytes = place-bytes size bytes i all long })
+      | inr past ↦ absurd (kept (get_or_past marks i 0 (omega (arith, past, number))))
+    ]
+
+-- ---- how many there are
+
+count-front : (n : ℕ) (given : Shards) → count_below (suc n) given ≡ cond (is_some (given 0)) 1 0 + count_below n (λ i. given (suc i))
+count-front zero given =
+    count_below-suc 0 given ∙ ap (λ (m : ℕ). m + cond (is_some (given 0)) 1 0) (count_below-zero given)
+    ∙ (let none = count_below-zero (λ i. given (suc i)) in omega (arith, none))
+count-front (suc n) given =
+    let front = count-front n given in
+    let back = count_below-suc n (λ i. given (suc i)) in
+    count_below-suc (suc n) given ∙ omega (arith, front, back)
+
+-- as many as marks that are not 0
+pub map-count : (marks : List ℕ) (given : Shards) → ((j : ℕ) → j < length marks → is_some (given j) ≡ not (get_or marks j 0 == 0))
+    → count_below (length marks) given ≡ present marks
+map-count [] given each = count_below-zero given
+map-count (mark ∷ marks) given each =
+    count-front (length marks) given
+    ∙ ap₂ (λ (b : Bool) (m : ℕ). cond b 1 0 + m) (each 0 (omega arith))
+    (map-count marks (λ i. given (suc i)) (λ j inside. each (suc j) (omega (arith, inside))))
+    ∙ by_mark (mark == 0)
+  where
+    by_mark : (zero_here : Bool) → cond (not zero_here) 1 0 + present marks ≡ cond (not zero_here) (1 + present marks) (present marks)
+    by_mark true = omega arith
+    by_mark false = refl
+
+pub map-some : (size : ℕ) (marks bytes : List ℕ) (j : ℕ) → is_some (marked_map size marks bytes j) ≡ not (get_or marks j 0 == 0)
+map-some size marks bytes j = by_mark (get_or marks j 0 == 0)
+  where
+    by_mark : (zero_here : Bool) → is_some (cond zero_here None (Some (shard_place size bytes j))) ≡ not zero_here
+    by_mark true = refl
+    by_mark false = refl
+
+-- ---- one call over the marked shards
+
+-- adding marked shards in order, one after another, adds the map
+module _ (put : Shards → DecoderState) (add : DecoderState → ℕ × Shard → Result DecoderState Error) (size : ℕ) (given : Shards) (count : ℕ)
+    (taken : (n : ℕ) (shard : Shard) → given n ≡ Some shard → length shard ≡ size → n < count → add (put (first n given)) (n, shard) ≡ Ok (put (first (n + 1) given))) where
+  pub marked-added : (n : ℕ) (marks bytes : List ℕ) → length bytes ≡ length marks * size → n + length marks ≤ count
+      → ((j : ℕ) → j < length marks → given (n + j) ≡ marked_map size marks bytes j)
+      → one_by_one add (put (first n given)) (marked_shards n size marks bytes) ≡ Ok (put (first (n + length marks) given))
+  marked-added n [] bytes whole fits each = ap (λ (m : ℕ). Ok (put (first m given))) (let e : n ≡ n + 0 = omega arith in e)
+  marked-added n (mark ∷ marks) bytes whole fits each =
+      let more = suc-mul (length marks) size in
+      let left = length-drop size bytes in
+      let none : n + 0 ≡ n = omega arith in
+      let here : given n ≡ marked_map size (mark ∷ marks) bytes 0 = ap given (sym none) ∙ each 0 (omega arith) in
+      let others : one_by_one add (put (first (n + 1) given)) (marked_shards (n + 1) size marks (drop size bytes)) ≡ Ok (put (first (n + suc (length marks)) given)) =
+      marked-added (n + 1) marks (drop size bytes) (omega (arith, whole, more, left)) (omega (arith, fits)) (λ j inside.
+      let step : n + 1 + j ≡ n + suc j = omega arith in
+      ap given step ∙ each (suc j) (omega (arith, inside)) ∙ shifted j)
+      ∙ ap (λ (m : ℕ). Ok (put (first m given))) (let e : n + 1 + length marks ≡ n + suc (length marks) = omega arith in e) in
+      elim (cases_eq mark 0) [
+        | inl lost ↦
+            rw (eq-eqb mark 0 lost)
+            (ap (λ (g : Shards). one_by_one add (put g) (marked_shards (n + 1) size marks (drop size bytes)))
+            (first-skipped n given (here ∙ map-lost size (mark ∷ marks) bytes 0 lost)) ∙ others)
+        | inr kept ↦
+            let found : given n ≡ Some (take size bytes) =
+            here ∙ map-kept size (mark ∷ marks) bytes 0 kept ∙ ap (λ (x : Shard). Some x) (place-first size bytes) in
+            rw (ne_eqb mark 0 kept)
+            (ap (result_and_then (λ next. one_by_one add next (marked_shards (n + 1) size marks (drop size bytes))))
+            (taken n (take size bytes) found (length-take-le size bytes (omega (arith, whole, more))) (omega (arith, fits))) ∙ others)
+      ]
+    where
+      shifted : (j : ℕ) → marked_map size (mark ∷ marks) bytes (suc j) ≡ marked_map size marks (drop size bytes) j
+      shifted j = ap (λ (x : Shard). cond (get_or marks j 0 == 0) None (Some x)) (sym (place-next size j bytes))
+
+module _ (k r size : ℕ) (own originals other recovery : List ℕ) (own_number : length own ≡ k) (other_number : length other ≡ r)
+    (own_whole : length originals ≡ k * size) (other_whole : length recovery ≡ r * size) where
+  -- both buffers' shards are added, and none is refused
+  both-added : with_both (fresh_decoder (default_of k r size)) (marked_shards 0 size own originals) (marked_shards 0 size other recovery)
+      ≡ Ok (marked_state k r size own originals other recovery)
+  both-added =
+      let zero_state : DecoderState = fresh_decoder (default_of k r size) in
+      let half : DecoderState = record { configuration = default_of k r size; originals = marked_map size own originals; recovery = nothing } in
+      let own_map : Shards = marked_map size own originals in
+      let other_map : Shards = marked_map size other recovery in
+      let one : with_originals (fresh_decoder (default_of k r size)) (marked_shards 0 size own originals) ≡ Ok half =
+      ap (λ (g : Shards). with_originals (record zero_state { originals = g }) (marked_shards 0 size own originals)) (first-none own_map)
+      ∙ marked-added (λ (g : Shards). record zero_state { originals = g }) (λ s item. with_original s item.0 item.1) size own_map k
+      (λ n shard found sized inside. original-taken zero_state (record zero_state { originals = first n own_map }) n own_map shard found sized refl inside)
+      0 own originals (own_whole ∙ ap (λ (n : ℕ). n * size) (sym own_number)) (omega (arith, own_number))
+      (λ j inside. ap own_map (let e : 0 + j ≡ j = omega arith in e))
+      ∙ ap (λ (g : Shards). Ok (record zero_state { originals = g }))
+      (first-all (0 + length own) own_map (λ i past. map-lost size own originals i (get_or_past own i 0 (omega (arith, past))))) in
+      let two : with_recoveries half (marked_shards 0 size other recovery) ≡ Ok (marked_state k r size own originals other recovery) =
+      ap (λ (g : Shards). with_recoveries (record half { recovery = g }) (marked_shards 0 size other recovery)) (first-none other_map)
+      ∙ marked-added (λ (g : Shards). record half { recovery = g }) (λ s item. with_recovery s item.0 item.1) size other_map r
+      (λ n shard found sized inside. recovery-taken half (record half { recovery = first n other_map }) n other_map shard found sized refl inside)
+      0 other recovery (other_whole ∙ ap (λ (n : ℕ). n * size) (sym other_number)) (omega (arith, other_number))
+      (λ j inside. ap other_map (let e : 0 + j ≡ j = omega arith in e))
+      ∙ ap (λ (g : Shards). Ok (record half { recovery = g }))
+      (first-all (0 + length other) other_map (λ i past. map-lost size other recovery i (get_or_past other i 0 (omega (arith, past))))) in
+      ap (result_and_then (λ now. with_recoveries now (marked_shards 0 size other recovery))) one ∙ two
