@@ -12,7 +12,7 @@ use Rattle.rs_field.specs.rows.Layers.{ArePartsOf}
 use Rattle.rs_field.proofs.of_words.Combination.{forward-same, lower_half, upper_half}
 use Rattle.rs_field.proofs.of_words.Halves.{half_power, few_halves, shift_half, table_factor, xor_undo}
 
--- what a block's size, its place among the points and the table of factors are
+-- The size of a block, its position among the points, and its table of factors.
 pub record IsBlock (skew : List ℕ) (size shift : ℕ) : Type 0 where
   pub table : IsSkew skew
   pub large : 1 < size
@@ -20,7 +20,7 @@ pub record IsBlock (skew : List ℕ) (size shift : ℕ) : Type 0 where
   pub aligned : shift % size ≡ 0
   pub points : shift + size ≤ 65536
 
--- both halves of a block of more than two rows
+-- Both halves of a block of more than two rows are blocks.
 block_halves : (skew : List ℕ) (n shift : ℕ) → IsBlock skew (n + n) shift → 1 < n → IsBlock skew n shift × IsBlock skew n (shift + n)
 block_halves skew n shift b large =
     let p = half_power (n + n) b.large b.power in
@@ -36,11 +36,11 @@ block_halves skew n shift b large =
       },
     )
 
--- the factor of the butterflies between the halves, by its logarithm
+-- The factor of the butterflies between the halves, as a logarithm.
 abbrev pub factor : List ℕ → ℕ → ℕ → ℕ
 factor skew half shift = get_or skew (shift + half - 1) 0
 
--- the words g come of the words f by one layer of butterflies between the halves
+-- The words g are the result of one layer of butterflies between the halves of the words f.
 pub record IsLayer (skew : List ℕ) (half shift : ℕ) (f g : ℕ → ℕ) : Type 0 where
   pub first : (q : ℕ) → q < half → g q ≡ bit_xor (f q) (times_factor (factor skew half shift) (f (half + q)))
   pub second : (q : ℕ) → q < half → g (half + q) ≡ bit_xor (f (half + q)) (g q)
