@@ -20,7 +20,7 @@ byte_of size w b =
     let half = min 64 (size - b / 64 * 64) / 2 in
     cond (nat_lt (b % 64) half) (w (b / 64 * 32 + b % 64) % 256) (w (b / 64 * 32 + (b % 64 - half)) / 256)
 
--- The low byte of word i of chunk q, and the high byte in the next lemma.
+-- The low bytes and the high bytes of the words of chunk q are the low and the high bytes of the given words.
 low_byte : (size q i half : ℕ) (w : ℕ → ℕ) → min 64 (size - q * 64) / 2 ≡ half → i < half → byte_of size w (q * 64 + i) ≡ w (q * 32 + i) % 256
 unfolding byte_of
 low_byte size q i half w e h = grind (arith, common_steps)

@@ -11,12 +11,12 @@ use Rattle.rs_field.proofs.of_words.Product.{product_lt, product_xor_left, produ
 use Rattle.rs_field.proofs.of_words.Total.{product-left_comm}
 use Rattle.rs_field.proofs.of_words.Inverse.{product_pos}
 
--- every coefficient is a word: `AreWords` one by one
+-- Every coefficient is a word, by recursion on the list.
 abbrev pub WordsOneByOne : List ℕ → Type 0
 WordsOneByOne [] = Unit {0}
 WordsOneByOne (c ∷ cs) = (c < 2 ^ 16) × WordsOneByOne cs
 
--- words by entry are words one after another
+-- Words by `All` are words in the recursive form `WordsOneByOne`.
 pub words_from : (P : List ℕ) → All (λ w. w < 65536) P → WordsOneByOne P
 words_from [] h = tt
 words_from (c ∷ cs) h = (h 0 0 (omega arith), words_from cs (λ k d hk. h (suc k) d (omega arith)))
@@ -41,7 +41,7 @@ pub value_lt : (cs : List ℕ) (x : ℕ) → WordsOneByOne cs → value cs x < 2
 value_lt [] x h = subst (λ (v : ℕ). v < 2 ^ 16) (sym (value-nil x)) (pow_pos 16)
 value_lt (c ∷ cs) x (hc, h) = subst (λ (v : ℕ). v < 2 ^ 16) (sym (value-cons c cs x)) (xor_lt 16 c _ hc (product_lt x _))
 
--- what is left of c ∷ cs after division by x + a
+-- The quotient of c ∷ cs by x + a.
 unfoldable pub steps : ℕ → List ℕ → List ℕ
 steps a [] = []
 steps a (d ∷ cs) = value (d ∷ cs) a ∷ steps a cs
@@ -70,7 +70,7 @@ unfolding steps
 factor a x c [] = grind (arith, common_steps, value-one, value-nil, product_zero, xor_zero_r)
 factor a x c (d ∷ cs) = grind (arith, common_steps, value-cons, regroup, factor a x d cs)
 
--- which is (x + a) * Q(x) where a is a root
+-- If a is a root, P(x) is (x + a) * Q(x).
 pub factor-root : (a x c : ℕ) (cs : List ℕ) → value (c ∷ cs) a ≡ 0 → value (c ∷ cs) x ≡ product (bit_xor x a) (value (steps a cs) x)
 factor-root a x c cs root = factor a x c cs ∙ ap (λ v. bit_xor v (product (bit_xor x a) (value (steps a cs) x))) root
 
@@ -84,7 +84,7 @@ pub same_from_xor : (x y : ℕ) → bit_xor x y ≡ 0 → x ≡ y
 same_from_xor x y e =
     sym (xor_zero_r x) ∙ ap (bit_xor x) (sym (xor_self y)) ∙ sym (xor_assoc x y y) ∙ ap (λ v. bit_xor v y) e
 
--- the quotient by one root keeps each other
+-- Dividing by one root keeps each other root.
 pub next_root : (a x c : ℕ) (cs : List ℕ) → a < 2 ^ 16 → x < 2 ^ 16 → WordsOneByOne cs → value (c ∷ cs) a ≡ 0 → value (c ∷ cs) x ≡ 0 → x ≢ a
     → value (steps a cs) x ≡ 0
 next_root a x c cs ha hx h at zero_x differ =

@@ -30,7 +30,7 @@ values : (bit_xor (bit_xor 0 (product 2 (by_shift 0 4))) (product 4 (by_shift 1 
 unfolding by_shift product_below product combine bits from_bits cantor_basis monomials carryless reduce
 values = (refl, refl)
 
--- so 2, 4 go to 4, 0
+-- The transform of 2, 4 at the points 4 and 5 is 4, 0.
 two : (i : ℕ) → i < 2 → pair 4 0 i ≡ forward 2 4 (pair 2 4) i
 two zero h = sym (at_point (pair 2 4) 4 0 4 refl (omega arith) ∙ values.0)
 two (suc zero) h = sym (at_point (pair 2 4) 4 1 5 refl (omega arith) ∙ values.1)
