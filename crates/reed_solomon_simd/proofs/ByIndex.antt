@@ -88,7 +88,7 @@ module _ (s : DecoderState) (i : ℕ) (left : List Shard) (vectors : Shards) (ar
   entered-all past =
       subst (Restored s) (sym are.whole ∙ ap (with_entries vectors) (items_from-past i s.configuration.original_count are.out past)) are.restored
 
--- A place that holds a shard gives a shard at its index.
+-- If a place holds a shard, the map of the places has a shard at the index of the place.
 pub some-place : (places : List (Option (Bor Shard))) (i : ℕ) (found : Option (Bor Shard)) → get_or places i found ≡ found → i < length places → is_some found ≡ true
     → is_some (given_in places i) ≡ true
 some-place places i found is inside some = by_option (get_or places i None) (get_or_default places i None found inside ∙ is)

@@ -49,7 +49,7 @@ has-made s is all =
     (record { length_is = omega (arith, few, whole.0); each = is.sized })
 
 module _ (k r : ℕ) (shards : List Shard) (s : EncoderState) (is : IsEncoding k r shards (Ok s)) where
-  -- Encoding too few originals fails with the error of one call.
+  -- If originals are missing, the error of the encoder is a result of one call.
   pub encoded-few : (e : Error) → Err e ≡ answer_of (message_of s) → OneEncodeAnswers k r shards (Err e)
   encoded-few e few = encoding-answers k r shards s is (Err e) (encode_answers-refused s e few)
 
@@ -59,7 +59,7 @@ module _ (k r : ℕ) (shards : List Shard) (s : EncoderState) (is : IsEncoding k
   encoded-all all (Ok recovery) coded = encoding-answers k r shards s is (Ok recovery) (encode_answers-made s recovery all coded)
   encoded-all all (Err e) lacks = inr (encoding-opened k r shards s is, ap Err lacks)
 
-  -- The recovery shards of all originals are those of the code.
+  -- The recovery shards of all originals are the recovery shards of the code.
   pub encoded-coded : IsEncoder default_rate s → Ok tt ≡ answer_of (message_of s) → (result : Result (List Shard) Error)
       → MatchResult result (λ recovery. AreRecovery s.configuration s.given recovery) (λ e. e ≡ OutOfMemory) → IfOk result (AreCoded k r shards)
   encoded-coded valid all (Ok recovery) coded = encoding-coded k r shards s is valid recovery (Ok recovery) (encode_answers-made s recovery all coded) refl

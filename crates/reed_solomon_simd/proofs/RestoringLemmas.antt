@@ -38,7 +38,7 @@ module _ (s : DecoderState) (enough : enough_given s ≡ Ok tt) where
   pub enough-answers : (result : Result Shards Error) → MatchResult result (Restored s) (NoneAgrees s) → DecodeAnswers s result
   enough-answers result is = subst (λ (o : Result (Unit {0}) Error). MatchResult o (λ _. MatchResult result (Restored s) (NoneAgrees s)) (λ e. result ≡ Err e)) (sym enough) is
 
-  -- If no room is written unless the rooms fit the restored originals, the call satisfies `RestoresInto`.
+  -- Writing the restored originals into rooms that fit, or returning the error of rooms that do not fit, satisfies `RestoresInto`.
   pub restores-filled : (made old new : List Shard) (answer : Result (Unit {0}) RoomError) → HoldRestored s made
       → (o : Result (Unit {0}) RoomError) → o ≡ rooms_fit made old → MatchResult o (λ _. (answer ≡ Ok tt) × (new ≡ made)) (λ e. (answer ≡ Err e) × (new ≡ old))
       → RestoresInto s old new answer

@@ -18,7 +18,7 @@ fits-part h i m r within is =
     let long = ap length is.chunks ∙ taken h.chunks.now (i * h.shard_len_64) (m * h.shard_len_64) within in
     omega (arith, size, long)
 
--- The elements from n on are those from n up to m, followed by those from m on.
+-- The elements from n on are the elements from n up to m, followed by the elements from m on.
 left-over : (xs : Chunks) (n m : ℕ) → n ≤ m → m ≤ length xs → drop n (take m xs) ++ drop m xs ≡ drop n xs
 left-over xs n m short within =
     let long = length-take-le m xs within in

@@ -152,7 +152,7 @@ quotient_below : (j n m i x : ℕ) → x ≡ j * m + i → x < n * m → j < n
 quotient_below j n m i x is h =
     elim (cases_lt j n) [ inl below ↦ below | inr above ↦ let le : n * m ≤ j * m = mul-le-mul_right m above in absurd (let no : ⊥ = omega arith in no) ]
 
--- A polynomial whose values on each block of points are those of the combination of this block.
+-- A polynomial whose values on each block of points are the values of the combination of this block.
 record IsHigh (m all n : ℕ) (sums : ℕ → ℕ) (those : ℕ → ℕ → ℕ) (p : List ℕ) : Type 0 where
   size : length p ≡ all - m
   words : All (λ w. w < 65536) p

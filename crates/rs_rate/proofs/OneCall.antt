@@ -19,7 +19,7 @@ use Rattle.rs_rate.specs.Giving.{IsEncoding, IsDecoding, received_outcome}
 
 -- ---- calls one after another
 
--- If setting up may succeed, its outcome is a success.
+-- If a coder was set up, the outcome of setting up is a success.
 start_outcome-made : (o : Result (Unit {0}) Error) → UpToMemory o (Ok tt) → o ≡ Ok tt
 start_outcome-made o (inl same) = sym same
 start_outcome-made o (inr lacks) = let refused = lacks.1 in cc
@@ -96,7 +96,7 @@ module _ (k r : ℕ) (shards : List Shard) (s : EncoderState) (is : IsEncoding k
       by_shards [] is = let two = first-ok {T = EncoderState} _ (counts_outcome k r) s (sym is) in let refused = two.2 in absurd (let no : ⊥ = cc in no)
       by_shards (x ∷ xs) is = let one = first-ok _ (start_outcome (encoder_rows default_rate k r) (default_of k r (length x))) s (sym is) in start_outcome-valid (encoder_rows default_rate k r) (default_of k r (length x)) (subst (λ (o : Result (Unit {0}) Error). IsOk o) (sym one.1) refl)
 
-  -- The recovery shards that the encoder returns are those of the code.
+  -- The recovery shards that the encoder returns are the recovery shards of the code.
   pub encoding-coded : IsEncoder default_rate s → (recovery : List Shard) (result : Result (List Shard) Error) → EncodeAnswers s (Ok recovery)
       → MatchResult result (λ shards. shards ≡ recovery) (λ e. e ≡ OutOfMemory) → IfOk result (AreCoded k r shards)
   encoding-coded valid recovery (Err e) answers short = tt

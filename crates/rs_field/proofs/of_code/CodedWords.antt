@@ -45,7 +45,7 @@ coded_in p k r e bound zeros_end words f are_words =
       },
     )
 
--- any k words have a polynomial that codes them
+-- Any k words have a polynomial that codes the words.
 pub coded : (rate : Rate) (k r : ℕ) (words : List ℕ) → supports rate k r ≡ true → ((j : ℕ) → j < k → slice_index words j < 65536)
     → (p : List ℕ) × Codes rate k r words p
 coded rate k r words is are_words =
@@ -58,7 +58,7 @@ coded rate k r words is are_words =
 pub coded_lt : (rate : Rate) (k r : ℕ) (words p : List ℕ) → Codes rate k r words p → (j : ℕ) → j < k → slice_index words j < 65536
 coded_lt rate k r words p codes j hj = search (rules, value_lt, words_from)
 
--- the first n values of a function
+-- The first n values of a function.
 unfoldable pub values_of : ℕ → (ℕ → ℕ) → List ℕ
 values_of zero f = []
 values_of (suc n) f = f 0 ∷ values_of n (λ i. f (suc i))

@@ -8,7 +8,7 @@ use Rattle.std.proofs.lemmas.Grind.{common_steps}
 use Rattle.std.proofs.Math.ListN.{get_or, get_or-map}
 use Rattle.rs_field.specs.code.Column.{Shard, IsShard, AreShards, shard_at, column, columns, chunk_words}
 
--- Word i of chunk q is made of two bytes of the shard.
+-- Word i of chunk q, as two bytes of the shard.
 pub column-at : (q i : ℕ) (s : Shard) → i < 32 → column (q * 32 + i) s ≡ slice_index s (q * 64 + i) + 256 * slice_index s (q * 64 + i + chunk_words s (q * 64))
 unfolding column
 column-at q i s h = grind (arith, common_steps)
@@ -29,7 +29,7 @@ halves a b c d ha hc e = (omega arith, omega arith)
 pub byte_lt : (size : ℕ) (s : Shard) → IsShard size s → (i : ℕ) → slice_index s i < 256
 byte_lt size s h i = grind (arith, common_steps)
 
--- shards of one size with the same columns are equal
+-- Shards of one size with the same columns are equal.
 pub shard_from_columns : (size : ℕ) (s t : Shard) → IsShard size s → IsShard size t → size % 2 ≡ 0
     → ((j : ℕ) → j < size / 2 → column j s ≡ column j t) → s ≡ t
 shard_from_columns size s t hs ht even same =
@@ -70,12 +70,12 @@ shard_from_columns size s t hs ht even same =
         ]
         ∙ ap (slice_index t) (omega arith)
 
--- an empty shard has zero columns
+-- An empty shard has zero columns.
 column-none : (j : ℕ) → column j [] ≡ 0
 unfolding column
 column-none j = refl
 
--- column j of shard i
+-- Entry i of column j of shards is column j of shard i.
 pub columns-at : (j : ℕ) (xs : List Shard) (i : ℕ) → slice_index (columns j xs) i ≡ column j (shard_at xs i)
 columns-at j xs i = ap (λ d. get_or (columns j xs) i d) (sym (column-none j)) ∙ get_or-map (column j) xs i []
 

@@ -24,15 +24,15 @@ all_from p P sound (x ∷ xs) h =
     let parts : (p x ≡ true) × (list_all p xs ≡ true) = and_parts (p x) (list_all p xs) h in
     All-cons P x xs (sound x parts.0) (all_from p P sound xs parts.1)
 
--- each entry is below a bound
+-- The test whether each entry is below a bound.
 abbrev all_below : ℕ → List ℕ → Bool
 all_below bound xs = list_all (λ x. nat_lt x bound) xs
 
--- the test of `IsShard`
+-- The test of `IsShard`.
 abbrev is_shard : ℕ → Shard → Bool
 is_shard size shard = nat_eq (length shard) size && all_below 256 shard
 
--- the test of `AreShards`
+-- The test of `AreShards`.
 abbrev pub are_shards : ℕ → ℕ → List Shard → Bool
 are_shards count size shards = nat_eq (length shards) count && list_all (is_shard size) shards
 
@@ -40,7 +40,7 @@ are_shards count size shards = nat_eq (length shards) count && list_all (is_shar
 pub shards_from : (count size : ℕ) (shards : List Shard) → are_shards count size shards ≡ true → AreShards count size shards
 shards_from count size shards h = grind (arith, common_steps)
 
--- two functions are equal at the numbers below n
+-- The test whether two functions are equal at the numbers below n.
 abbrev same_below : ℕ → (ℕ → ℕ) → (ℕ → ℕ) → Bool
 same_below n f g = passes_below n (λ i. nat_eq (f i) (g i))
 
@@ -48,7 +48,7 @@ same_below n f g = passes_below n (λ i. nat_eq (f i) (g i))
 same_from : (n : ℕ) (f g : ℕ → ℕ) → same_below n f g ≡ true → (i : ℕ) → i < n → f i ≡ g i
 same_from n f g h i below = eqb-true (f i) (g i) (from_passes_below n (λ i. nat_eq (f i) (g i)) h i below)
 
--- the test of `Codes`, at a placement
+-- The test of `Codes`, at a placement.
 abbrev codes_at : Placement → ℕ → List ℕ → List ℕ → Bool
 codes_at at k words polynomial =
     nat_eq (length polynomial) at.degree_bound
@@ -56,7 +56,7 @@ codes_at at k words polynomial =
     && (same_below k (λ j. value polynomial (at.originals_from + j)) (slice_index words)
     && same_below (at.zeros_to - at.zeros_from) (λ x. value polynomial (at.zeros_from + x)) (λ x. 0)))
 
--- the test of `Codes`
+-- The test of `Codes`.
 abbrev pub codes : Rate → ℕ → ℕ → List ℕ → List ℕ → Bool
 codes rate k r words polynomial = codes_at (placement rate k r) k words polynomial
 
@@ -77,12 +77,12 @@ codes_from rate k r words P h =
           (x - (placement rate k r).zeros_from) (omega arith);
     }
 
--- the test of `AreRecoveryWords`, with the polynomial
+-- The test of `AreRecoveryWords`, with the polynomial.
 abbrev recovers_words : Rate → ℕ → ℕ → List ℕ → List ℕ → List ℕ → Bool
 recovers_words rate k r words recovery polynomial =
     codes rate k r words polynomial && same_below r (slice_index recovery) (λ i. value polynomial ((placement rate k r).recovery_from + i))
 
--- the test of `AreRecovery`, with the polynomial of each column
+-- The test of `AreRecovery`, with the polynomial of each column.
 abbrev pub recovers : Configuration → List Shard → List Shard → List (List ℕ) → Bool
 recovers c message recovery polynomials =
     are_shards c.recovery_count c.shard_bytes recovery

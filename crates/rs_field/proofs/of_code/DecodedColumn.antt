@@ -26,7 +26,7 @@ pub record TakesGiven (p : Placement) (k r : ℕ) (originals recovery : Shards) 
   pub own : (i : ℕ) → i < k → is_some (originals i) ≡ true → value polynomial (p.originals_from + i) ≡ words (p.originals_from + i)
   pub coded : (i : ℕ) → i < r → is_some (recovery i) ≡ true → value polynomial (p.recovery_from + i) ≡ words (p.recovery_from + i)
 
--- A row whose entry is zero is not erased.
+-- If the entry of a row is zero, the test from which the entry was made is true.
 unmarked_by : (b : Bool) (m : ℕ) → m ≡ cond b 0 1 → m ≡ 0 → b ≡ true
 unmarked_by b m h1 h2 = search rules
 

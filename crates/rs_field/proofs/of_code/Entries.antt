@@ -24,7 +24,7 @@ AreFree given items = AllByRecursion (λ item. given item.0 ≡ None) items
 abbrev pub indexes : Items → List ℕ
 indexes items = map (λ item. item.0) items
 
--- the empty map has no shard
+-- The empty map has no shard.
 pub count-nothing : (n : ℕ) → count_below n nothing ≡ 0
 unfolding count_below
 count-nothing zero = refl

@@ -10,7 +10,7 @@ use Rattle.rs_field.proofs.of_words.Roots.{WordsOneByOne, words_from}
 use Rattle.rs_field.proofs.of_words.Factors.{all_words}
 use Rattle.rs_field.proofs.of_words.ZerosPast.{narrowed, widened}
 
--- A placement of k originals and r recovery shards is below 2 ^ e, with the known zeros up to `zeros_end` and
+-- A placement of k originals and r recovery shards below 2 ^ e, with the known zeros up to `zeros_end`, and
 -- polynomials of `bound` coefficients. It is the placement of the code, or the zeros from 2 ^ e on are divided out. The zeros come
 -- right after the originals. Recovery shards come after the zeros, or before the originals.
 pub record IsFrame (p : Placement) (k r e bound zeros_end : ℕ) : Type 0 where

@@ -41,7 +41,7 @@ length-xor_bytes : (size : ℕ) (s t : Shard) → length s ≡ size → length t
 unfolding xor_bytes
 length-xor_bytes size s t hs ht = search (rules, length-map, length-zip)
 
--- a byte of the XOR of two shards of one size is the XOR of their bytes
+-- A byte of the XOR of two shards of one size is the XOR of their bytes.
 byte-xor : (size : ℕ) (s t : Shard) (i d : ℕ) → length s ≡ size → length t ≡ size → i < size → slice_index_or (xor_bytes s t) i d ≡ bit_xor (slice_index s i) (slice_index t i)
 unfolding xor_bytes
 byte-xor size s t i d hs ht inside =

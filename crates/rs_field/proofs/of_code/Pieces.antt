@@ -32,7 +32,7 @@ column-head a j s whole room inside =
     ∙ sym (column-chunk (j / 32) (j % 32) s (omega arith) (omega arith))
     ∙ ap (λ (c : ℕ). column c s) (sym parts)
 
--- a column of the part of a shard after its first chunks is a column of the shard
+-- A column of the part of a shard after its first chunks is a column of the shard.
 pub column-rest : (a j : ℕ) (s : Shard) → a % 64 ≡ 0 → column j (drop a s) ≡ column (a / 2 + j) s
 column-rest a j s whole =
     let parts : j ≡ j / 32 * 32 + j % 32 = omega arith in
@@ -78,7 +78,7 @@ columns-heads a j (s ∷ xs) whole room inside =
     ap₂ (λ (x : ℕ) (l : List ℕ). x ∷ l) (column-head a j s whole (room 0 s (omega arith)) inside)
     (columns-heads a j xs whole (λ i d h. room (suc i) d (omega (arith, h))) inside)
 
--- if the heads are unchanged and coded, and the strips after them are coded, then the heads and strips together are coded
+-- If the heads are unchanged and coded, and the strips after them are coded, then the heads and strips together are coded.
 pub coded-further : (rate : Rate) (k r start end : ℕ) (originals old new : List Shard) → All (λ s. IsStrip start end (length s)) originals
     → All (λ s. start ≤ length s) old → All (λ s. IsStrip start end (length s)) new → start % 64 ≡ 0 → heads start new ≡ heads start old
     → AreCodedBelow rate k r start originals old → AreRecovery (configuration rate k r (end - start)) (pieces start end originals) (pieces start end new)
@@ -158,7 +158,7 @@ module _ (start end : ℕ) (made old new : List Shard) (put : ArePut start end m
       ∙ ap (take start) (at i here) ∙ take_at (take start (get_or old i [])) _ start (front i here)
       ∙ sym (get_or-map (λ (s : Shard). take start s) old i [] [] here))
 
-  -- the pieces of the new rooms are the pieces that were put into them
+  -- The pieces of the new rooms are the pieces that were put into them.
   pub put-pieces : pieces start end new ≡ made
   put-pieces =
       same_from [] (pieces start end new) made (simp length-map (put.0 ∙ sym number)) (λ i h.
@@ -168,7 +168,7 @@ module _ (start end : ℕ) (made old new : List Shard) (put : ArePut start end m
       ∙ ap (take (end - start)) (drop_at (take start (get_or old i [])) _ start (front i here))
       ∙ take_at (get_or made i []) _ (end - start) (long i here))
 
-  -- The bytes of the heads and of the pieces are bytes, and so are those of the longer heads.
+  -- If the bytes of the heads and of the pieces are below 256, the bytes of the longer heads are below 256.
   pub put-bytes : All (All (λ b. b < 256)) (heads start old) → All (All (λ b. b < 256)) made → All (All (λ b. b < 256)) (heads end new)
   put-bytes before bytes i d h =
       let here : i < length old = (let n = length-map new (λ (s : Shard). take end s) in omega (arith, h, n, put.0)) in
@@ -334,7 +334,7 @@ module _ (start end i : ℕ) (xs : List (Bor Shard)) (d : Bor Shard) (first now 
       ∙ adds-append first now (pieces start end (map (λ x. x.now) (take i xs))) (pieces start end (map (λ x. x.now) (get_or xs i d ∷ []))) led
       ∙ ap (result_and_then (λ (s : EncoderState). Ok s)) taken
 
-  -- the error of the first piece that cannot be added is the outcome of adding all pieces
+  -- The error of the first piece that cannot be added is the outcome of adding all pieces.
   pub given-refused : (e : Error) → with_shard now (between start end (get_or xs i d).now) ≡ Err e
       → with_shards first (pieces start end (map (λ x. x.now) xs)) ≡ Err e
   given-refused e refused =

@@ -62,7 +62,7 @@ point_apart p k r x s hx =
           (omega (arith, later.1, later.2), elim (s.apart (x - k) later.1) [ inl past ↦ inr (omega (arith, later.2, past)) | inr before ↦ inl (omega (arith, later.2, before)) ])
     ]
 
--- different places have different points
+-- Different places have different points.
 point_once : (p : Placement) (k r x y : ℕ) → IsSpread p k r → x < k + r → y < k + r → point p k x ≡ point p k y → x ≡ y
 point_once p k r x y s hx hy same =
     elim (point_cases p k r x hx) [
@@ -145,7 +145,7 @@ codeword_column rate k r j x message recovery p codes at size hx =
     codeword_word rate k r x (columns j message) (columns j recovery) p codes at (length-map message (column j) ∙ size) hx
     ∙ ap (λ (ws : List ℕ). slice_index ws x) (sym (map-append (column j) message recovery)) ∙ columns-at j (message ++ recovery) x
 
--- messages whose codewords agree at k places are equal
+-- Messages whose codewords agree at k places are equal.
 pub fixed_by_places : (c : Configuration) (one other one_recovery other_recovery : List Shard) (place : ℕ → ℕ)
     → supports c.rate c.original_count c.recovery_count ≡ true → c.shard_bytes % 2 ≡ 0
     → AreShards c.original_count c.shard_bytes one → AreShards c.original_count c.shard_bytes other

@@ -31,7 +31,7 @@ use Rattle.rs_field.proofs.of_code.RateFrames.{has_frame}
 
 -- ---- numbers of pieces
 
--- success or `NotEnoughShards`, from the numbers of given shards
+-- The outcome of the check for enough shards, from the numbers of given shards.
 abbrev by_counts : ℕ → ℕ → ℕ → Result (Unit {0}) Error
 by_counts k originals recovery = cond (nat_lt (originals + recovery) k) (Err (NotEnoughShards k originals recovery)) (Ok tt)
 

@@ -45,7 +45,7 @@ recovery_words-unique : (rate : Rate) (k r : ℕ) (words a b : List ℕ) → k �
 recovery_words-unique rate k r words a b most (p, codes_p, at_p) (o, codes_o, at_o) i below =
     at_p i below ∙ ap (λ (q : List ℕ). value q ((placement rate k r).recovery_from + i)) (codes_unique rate k r words p o most codes_p codes_o) ∙ sym (at_o i below)
 
--- two lists of recovery shards of one message are equal
+-- Two lists of recovery shards of one message are equal.
 pub recovery_unique : (c : Configuration) (message a b : List Shard) → c.original_count ≤ 65536 → c.shard_bytes % 2 ≡ 0 → AreRecovery c message a → AreRecovery c message b → a ≡ b
 recovery_unique c message a b most even ha hb =
     shards_from_columns c.recovery_count c.shard_bytes a b ha.shards hb.shards even

@@ -19,7 +19,7 @@ use Rattle.rs_field.proofs.of_rows.RowOffsets.{row_within, rows_end}
 of_part : (ch : Chunks) (a m p : ℕ) → p < m → chunk (take m (drop a ch)) p ≡ chunk ch (a + p)
 of_part ch a m p below = grind (arith, common_steps)
 
--- a chunk of a part is a chunk of the list into which the part was written
+-- A chunk of a part is a chunk of the list into which the part was written.
 of_written : (ch part : Chunks) (a m p : ℕ) → a + m ≤ length ch → length part ≡ m → p < m → chunk part p ≡ chunk (put_mid a m ch part) (a + p)
 of_written ch part a m p within long below = grind (arith, common_steps)
 

@@ -76,7 +76,7 @@ pub shard-laid_out : (size : ℕ) (chunks : ℕ → List ℕ) → ((k b : ℕ) �
     → IsShard size (laid_out size chunks)
 shard-laid_out size chunks small = record { length_is = length-laid_out size chunks; bytes = bytes-laid_out size chunks small }
 
--- a shard whose tail was moved is a shard of the size
+-- A shard whose tail was moved is a shard of the size.
 pub shard-in_order : (size : ℕ) (chunks : ℕ → List ℕ) → ((k b : ℕ) → k < row_len size → b < 64 → slice_index (chunks k) b < 256)
     → IsShard size (in_order size chunks)
 unfolding in_order
@@ -122,7 +122,7 @@ laid_out-is size chunks s len even whole low high = up_to-is 0 size (λ b. slice
               ]
         ]
 
--- moving the second half of the tail puts the bytes in order
+-- Moving the second half of the tail puts the bytes in order.
 pub in_order-is : (size : ℕ) (new old : ℕ → List ℕ) → size % 2 ≡ 0
     → ((k : ℕ) → k < size / 64 → new k ≡ old k)
     → ((b : ℕ) → b < size % 64 / 2 → slice_index (new (size / 64)) b ≡ slice_index (old (size / 64)) b)

@@ -55,7 +55,7 @@ block_quarters block large more =
     let ne = not_two block.size more in
     (quarter_power block.size (omega (arith, large, ne)) (block_power block)).3
 
--- The number of rows of a part of a block of more than one row.
+-- The number of rows of a part of a block of more than one row satisfies `IsPart`.
 pub part_found : (block : Block) (n : ℕ) → n ≡ rows_of_part block.size → 1 < block.size → IsPart block.size n
 part_found block n is large =
     let size = block.size in

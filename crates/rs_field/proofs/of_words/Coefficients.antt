@@ -1,4 +1,4 @@
--- A sum of n basis polynomials is a polynomial of n coefficients, and every polynomial of n coefficients is a sum of n basis polynomials.
+-- A sum of n basis polynomials is a polynomial of n coefficients. A sum with the values of such a polynomial has no terms from n on.
 use Rattle.std.proofs.Common.{◌≡◌, ℕ, zero, suc, ◌+◌, ◌-◌, ◌^◌, ◌<◌, ◌≤◌, List, [], ◌∷◌, length, bit_xor, refl, sym, ap, ap₂, ◌∙◌, arith, inl, inr, zero-add}
 use Rattle.std.specs.Prelude.{slice_index}
 use Rattle.std.specs.Int.Bits.{xor_comm, xor_zero_l, xor_zero_r}
@@ -104,7 +104,7 @@ sum_polynomial (suc n) f hn =
     let p = sum_polynomial n f (omega arith) in
     (add (scale (f n) b.0) p.0, sum_more n f b.0 p.0 b.1 p.1)
 
--- a sum of n basis polynomials is a polynomial of n coefficients
+-- A sum of n basis polynomials is a polynomial of n coefficients.
 pub polynomial_of_terms : (n : ℕ) (f : ℕ → ℕ) → n ≤ 65536 → (p : List ℕ) × (length p ≡ n) × AreWords p × ((x : ℕ) → value p x ≡ forward n 0 f x)
 polynomial_of_terms n f hn = let p = sum_polynomial n f hn in (p.0, p.1.size, all_words p.0 p.1.words, p.1.at)
 

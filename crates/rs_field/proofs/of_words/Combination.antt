@@ -78,7 +78,7 @@ product_below-ones : (n : ℕ) → product_below n (λ d. 1) ≡ 1
 product_below-ones zero = product_below-zero (λ d. 1)
 product_below-ones (suc n) = product_below-suc n (λ d. 1) ∙ ap (λ v. product v 1) (product_below-ones n) ∙ product_one 1 (omega arith)
 
--- the factor of the basis polynomial q at the bit d
+-- The factor of the basis polynomial q at the bit d.
 factor : ℕ → ℕ → ℕ → ℕ
 factor q x d = cond (eqb (q / 2 ^ d % 2) 1) (subspace d x) 1
 

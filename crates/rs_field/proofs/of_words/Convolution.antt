@@ -147,7 +147,7 @@ one_turn d v hd =
     turned : (v : ℕ) → 65536 * v % 65535 ≡ v % 65535
     turned v = omega arith
 
--- a power of two up to 65536 has an exponent up to 16
+-- A power of two up to 65536 has an exponent up to 16.
 pub few_bits : (d : ℕ) → 2 ^ d ≤ 65536 → d ≤ 16
 few_bits d h = let few = exponent_below d 17 (omega arith) in omega arith
 

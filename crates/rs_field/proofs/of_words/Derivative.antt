@@ -135,7 +135,7 @@ factors_subspace e x = product_below-same (2 ^ e) (λ i. bit_xor x (0 + i)) (λ 
 factors_lower : (e x : ℕ) → e ≤ 16 → x < 2 ^ 16 → factors 0 (2 ^ e) x ≡ x / 2 ^ e
 factors_lower e x he hx = factors_subspace e x ∙ subspace_shift e x he hx
 
--- each subspace polynomial has derivative one
+-- Each subspace polynomial has derivative one.
 slope_subspace : (e x : ℕ) → e ≤ 16 → x < 2 ^ 16 → slope 0 (2 ^ e) x ≡ 1
 slope_subspace zero x he hx = search (rules, product_below-zero, product_zero)
 slope_subspace (suc e) x he hx =

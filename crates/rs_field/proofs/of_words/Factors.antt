@@ -37,7 +37,7 @@ unfoldable pub times : List ℕ → List ℕ → List ℕ
 times [] p = p
 times (a ∷ r) p = with_root a (times r p)
 
--- the value of a sum is the sum of the values
+-- The value of a sum is the sum of the values.
 pub value_add : (p q : List ℕ) (x : ℕ) → value (add p q) x ≡ bit_xor (value p x) (value q x)
 unfolding value add
 value_add [] q x = refl
@@ -45,7 +45,7 @@ value_add (a ∷ p) [] x = sym (xor_zero_r (bit_xor a (product x (value p x))))
 value_add (a ∷ p) (b ∷ q) x =
     rw (value_add p q x, product_xor_right x (value p x) (value q x)) (xor_swap a b (product x (value p x)) (product x (value q x)))
 
--- the value of a multiple is the multiple of the value
+-- The value of a multiple is the multiple of the value.
 pub value_scale : (c : ℕ) (p : List ℕ) (x : ℕ) → value (scale c p) x ≡ product c (value p x)
 unfolding value scale
 value_scale c [] x = sym (product_zero c)

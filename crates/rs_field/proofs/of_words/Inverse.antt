@@ -63,11 +63,11 @@ check_frobenius : passes_below 16 (λ i. eqb (squared 16 (2 ^ i)) (2 ^ i)) ≡ t
 unfolding squared passes_below combine bits from_bits cantor_basis monomials carryless reduce product
 check_frobenius = refl
 
--- x to the power 65536 is x
+-- The power 65536 of a word x is x.
 pub frobenius : (x : ℕ) → x < 2 ^ 16 → squared 16 x ≡ x
 frobenius = same_on_words (squared 16) (λ x. x) (record { xor = squared_xor 16 }) (record { xor = λ a b ha hb. refl }) check_frobenius
 
--- a word that is its own square is 0 or 1
+-- A word that is its own square is 0 or 1.
 idempotent : (e : ℕ) → e < 2 ^ 16 → product e e ≡ e → e < 2
 idempotent e he h =
     let half : e / 2 ≡ 0 = sym (square_and_self e he) ∙ ap (λ v. bit_xor v e) h ∙ xor_self e in

@@ -20,7 +20,7 @@ digit_xor (suc zero) (suc zero) ha hb c = zero-mul c ∙ sym (xor_self (1 * c))
 digit_xor (suc zero) (suc (suc b)) ha hb c = absurd (omega arith)
 digit_xor (suc (suc a)) b ha hb c = absurd (omega arith)
 
--- the lowest bit of a XOR, times a number
+-- The lowest bit of a XOR times a number is the XOR of the lowest bits times the number.
 pub lowest_xor : (a b c : ℕ) → bit_xor a b % 2 * c ≡ bit_xor (a % 2 * c) (b % 2 * c)
 lowest_xor a b c =
     ap (λ x. x * c) (xor_mod a b 1) ∙ digit_xor (a % 2) (b % 2) (mod-lt a (omega arith)) (mod-lt b (omega arith)) c
@@ -63,7 +63,7 @@ agree_below w f g hf hg same (suc n) hn x hx =
     let low_lt : x % 2 ^ n < 2 ^ w = omega arith in
     cc (split_top n x, hf.xor _ _ high_lt low_lt, hg.xor _ _ high_lt low_lt, agree_below w f g hf hg same n below (x % 2 ^ n) (mod-lt x (pow_pos n)))
 
--- a test of every number below n, for facts that are proved by computation
+-- A test of every number below n, for facts that are proved by computation.
 unfoldable pub passes_below : ℕ → (ℕ → Bool) → Bool
 passes_below zero p = true
 passes_below (suc n) p = p n && passes_below n p

@@ -34,7 +34,7 @@ pub log_sum-marked : (y : ℕ) (e : ℕ → ℕ) (x : ℕ) → e y ≡ 1 → y �
 log_sum-marked y e x one differs =
     log_sum-other y e x differs ∙ ap (λ k. log_sum y e x + k) (ap (λ k. k * log (bit_xor x y)) one ∙ one-mul (log (bit_xor x y)))
 
--- two points differ by a nonzero word
+-- Two points differ by a nonzero word.
 pub difference_pos : (x y : ℕ) → y ≢ x → 0 < bit_xor x y
 difference_pos x y differs =
     elim (cases_eq (bit_xor x y) 0) [ inl none ↦ absurd (differs (sym (same_from_xor x y none))) | inr some ↦ omega arith ]

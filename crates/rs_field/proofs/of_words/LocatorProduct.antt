@@ -38,15 +38,15 @@ fewer n e h = record { mark = λ y hy. h.mark y (omega arith) }
 mark_cases : (n : ℕ) (e : ℕ → ℕ) → AreMarks (suc n) e → (e n ≡ 1) ⊎ (e n ≡ 0)
 mark_cases n e h = grind (arith, common_steps)
 
--- an unmarked point differs from each marked point
+-- An unmarked point differs from each marked point.
 pub not_both : (marks : ℕ → ℕ) (x y : ℕ) → marks x ≡ 0 → marks y ≡ 1 → y ≢ x
 not_both marks x y none one e = let same : marks y ≡ marks x = ap marks e in omega arith
 
--- an unmarked point adds nothing to the sum of logarithms
+-- An unmarked point adds nothing to the sum of logarithms.
 kept : (n : ℕ) (e : ℕ → ℕ) (x : ℕ) → e n ≡ 0 → log_sum (suc n) e x ≡ log_sum n e x
 kept n e x none = elim (cases_eq n x) [ inl same ↦ log_sum-itself n e x same | inr differs ↦ log_sum-unmarked n e x none differs ]
 
--- a marked point other than x multiplies by the difference from it
+-- A marked point other than x multiplies the power of the sum by the difference of x from this point.
 grown : (n : ℕ) (e : ℕ → ℕ) (x : ℕ) → x < 2 ^ 16 → n < 2 ^ 16 → e n ≡ 1 → n ≢ x
     → power (log_sum (suc n) e x) ≡ product (power (log_sum n e x)) (bit_xor x n)
 grown n e x hx hn one differs =

@@ -24,7 +24,7 @@ carryless_xor_left (suc n) a c b =
 digit_times_lt : (d b m : ℕ) → d < 2 → b < m → d * b < m
 digit_times_lt d b m h1 h2 = grind (arith, common_steps, zero-mul, one-mul)
 
--- a digit times a XOR
+-- The product of a digit with a XOR is the XOR of the products.
 digit_times_xor : (d a b : ℕ) → d < 2 → d * bit_xor a b ≡ bit_xor (d * a) (d * b)
 digit_times_xor zero a b h = zero-mul _ ∙ sym (ap₂ bit_xor (zero-mul a) (zero-mul b))
 digit_times_xor (suc zero) a b h = one-mul _ ∙ sym (ap₂ bit_xor (one-mul a) (one-mul b))
@@ -85,7 +85,7 @@ pub same_on_words : (f g : ℕ → ℕ) → IsAdditive 16 f → IsAdditive 16 g 
 same_on_words f g hf hg same x hx =
     agree_below 16 f g hf hg (λ i hi. eqb-true (f (2 ^ i)) (g (2 ^ i)) (from_passes_below 16 (λ i. eqb (f (2 ^ i)) (g (2 ^ i))) same i hi)) 16 (omega arith) x hx
 
--- every word has one list of coordinates
+-- The coordinates of a word determine the word.
 pub from_bits-bits : (x : ℕ) → x < 2 ^ 16 → from_bits (bits x) ≡ x
 unfolding passes_below combine bits from_bits cantor_basis monomials
 from_bits-bits x hx =
@@ -158,7 +158,7 @@ product_zero x = additive_zero 16 (product x) (additive_right x)
 pub zero_product : (x : ℕ) → product 0 x ≡ 0
 zero_product x = additive_zero 16 (λ v. product v x) (additive_left x)
 
--- the `bits` of a product are the shift-and-XOR product of the `bits`, reduced
+-- The `bits` of a product are the shift-and-XOR product of the `bits`, reduced.
 pub bits-product : (x y : ℕ) → x < 2 ^ 16 → y < 2 ^ 16 → bits (product x y) ≡ reduce 16 (carryless 16 (bits x) (bits y))
 bits-product =
     same_on_pairs (λ x y. bits (product x y)) (λ x y. reduce 16 (carryless 16 (bits x) (bits y)))

@@ -21,7 +21,7 @@ pub words_from : (P : List ℕ) → All (λ w. w < 65536) P → WordsOneByOne P
 words_from [] h = tt
 words_from (c ∷ cs) h = (h 0 0 (omega arith), words_from cs (λ k d hk. h (suc k) d (omega arith)))
 
--- every coefficient is zero
+-- Every coefficient is zero, by recursion on the list.
 abbrev pub ZerosOneByOne : List ℕ → Type 0
 ZerosOneByOne [] = Unit {0}
 ZerosOneByOne (c ∷ cs) = (c ≡ 0) × ZerosOneByOne cs
@@ -56,15 +56,15 @@ unfolding steps
 words_steps a [] h = tt
 words_steps a (d ∷ cs) h = (value_lt (d ∷ cs) a h, words_steps a cs h.1)
 
--- a + (x + (a + y)) is x + y
+-- The sum a + (x + (a + y)) is x + y.
 xor_cancel : (a x y : ℕ) → bit_xor a (bit_xor x (bit_xor a y)) ≡ bit_xor x y
 xor_cancel a x y = grind (arith, common_steps, xor_assoc, xor_comm, xor_self)
 
--- (c + a r) + s (r + x q) is c + x (r + s q), where s is x + a
+-- The sum (c + a r) + s (r + x q) is c + x (r + s q). Here s is x + a.
 regroup : (c a x r q : ℕ) → bit_xor (bit_xor c (product a r)) (product (bit_xor x a) (bit_xor r (product x q))) ≡ bit_xor c (product x (bit_xor r (product (bit_xor x a) q)))
 regroup c a x r q = grind (arith, common_steps, xor_assoc, product_xor_left, product_xor_right, product-left_comm, xor_cancel)
 
--- P(x) is P(a) + (x + a) * Q(x)
+-- The value P(x) is P(a) + (x + a) * Q(x).
 factor : (a x c : ℕ) (cs : List ℕ) → value (c ∷ cs) x ≡ bit_xor (value (c ∷ cs) a) (product (bit_xor x a) (value (steps a cs) x))
 unfolding steps
 factor a x c [] = grind (arith, common_steps, value-one, value-nil, product_zero, xor_zero_r)
@@ -98,7 +98,7 @@ next_root a x c cs ha hx h at zero_x differ =
       ]
     ]
 
--- a polynomial of n coefficients with n roots is zero
+-- A polynomial of n coefficients with n distinct roots is zero.
 pub zero_from_roots : (n : ℕ) (cs : List ℕ) → length cs ≡ n → WordsOneByOne cs → (f : ℕ → ℕ)
     → ((i : ℕ) → i < n → f i < 2 ^ 16) → ((i j : ℕ) → i < n → j < n → f i ≡ f j → i ≡ j)
     → ((i : ℕ) → i < n → value cs (f i) ≡ 0) → ZerosOneByOne cs

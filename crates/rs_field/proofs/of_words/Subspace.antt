@@ -47,7 +47,7 @@ subspace_is d x = refl
 pub subspace_from_zero : (e x : ℕ) → product_below (2 ^ e) (λ i. bit_xor x (0 + i)) ≡ subspace e x
 subspace_from_zero e x = product_below-same (2 ^ e) (λ i. bit_xor x (0 + i)) (λ y. bit_xor x y) (λ i h. ap (bit_xor x) (zero-add i)) ∙ sym (subspace_is e x)
 
--- x * (x + 1) is x shifted right
+-- The product x * (x + 1) is x shifted right by one bit.
 times_next : (u : ℕ) → u < 2 ^ 16 → product u (bit_xor u 1) ≡ u / 2
 times_next u hu =
     product_xor_right u u 1 ∙ ap (bit_xor (product u u)) (product_one u hu) ∙ square_and_self u hu
@@ -56,7 +56,7 @@ top_bit : (d y : ℕ) → y < 2 ^ d → 2 ^ d + y ≡ bit_xor (2 ^ d) y
 top_bit d y h =
     ap (λ v. v + y) (sym (one-mul (2 ^ d))) ∙ sym (xor_shifted 1 d y h) ∙ ap (λ v. bit_xor v y) (one-mul (2 ^ d))
 
--- s_d(x) is x shifted right by d places
+-- The value s_d(x) is x shifted right by d bits.
 pub subspace_shift : (d x : ℕ) → d ≤ 16 → x < 2 ^ 16 → subspace d x ≡ x / 2 ^ d
 subspace_shift zero x hd hx = grind (arith, common_steps, subspace_is, product_below-suc, product_below-zero, one_product)
 subspace_shift (suc d) x hd hx =
@@ -110,7 +110,7 @@ nonzero_words (suc k) hk =
     shifted : (m i : ℕ) → 0 < m → m - 1 + i + 1 ≡ m + i
     shifted m i pos = omega arith
 
--- The product of x + y over a block of words y, for a word x below 2 ^ d.
+-- The product of x + y over a block of words y is the number of the block plus 1, for a word x below 2 ^ d.
 block : (d x v : ℕ) → d ≤ 16 → x < 2 ^ d → suc v * 2 ^ d < 2 ^ 16 → product_below (2 ^ d) (λ i. bit_xor x (2 ^ d + (v * 2 ^ d + i))) ≡ v + 1
 block d x v hd hx hv =
     let wide : 2 ^ d ≤ 2 ^ 16 = pow_mono hd in

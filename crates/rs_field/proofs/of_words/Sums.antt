@@ -18,7 +18,7 @@ nibble_additive n f = record {
       ∙ product_xor_left (a * 16 ^ n) (b * 16 ^ n) f;
 }
 
--- entry i is the sum of a, b, c and d at the set bits of i
+-- Entry i is the sum of the words among a, b, c and d whose bit is set in i.
 abbrev sixteen_sums : ℕ → ℕ → ℕ → ℕ → List ℕ
 sixteen_sums a b c d =
     0 ∷ a ∷ b ∷ bit_xor a b ∷ c ∷ bit_xor a c ∷ bit_xor b c ∷ bit_xor (bit_xor a b) c
@@ -60,7 +60,7 @@ digit_additive w k c = record { xor = λ a b ha hb. ap (λ i. i % 2 * c) (xor_sh
 sum_additive : (w : ℕ) (f g : ℕ → ℕ) → IsAdditive w f → IsAdditive w g → IsAdditive w (λ i. bit_xor (f i) (g i))
 sum_additive w f g hf hg = grind (arith, common_steps, xor_swap)
 
--- The sum of those of a, b, c and d whose bit is set in i.
+-- The sum of the words among a, b, c and d whose bit is set in i.
 abbrev at_bits : ℕ → ℕ → ℕ → ℕ → ℕ → ℕ
 at_bits a b c d i = bit_xor (bit_xor (bit_xor (i / 2 ^ 0 % 2 * a) (i / 2 ^ 1 % 2 * b)) (i / 2 ^ 2 % 2 * c)) (i / 2 ^ 3 % 2 * d)
 

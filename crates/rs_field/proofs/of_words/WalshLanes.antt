@@ -42,7 +42,7 @@ summed : (v w : List ℕ) (r m k : ℕ) → length v ≡ 16 → m < 16 → k < 1
 summed v w r m k size hm hk e =
     e ∙ ap₂ (λ a b. (a + b) % 65535) (get_or_append_left v v 0 m (omega arith)) (get_or_append_left v w 0 k (omega arith))
 
--- a sum with a complemented lane is a difference, because the complement is the negative
+-- A sum with a complemented lane is a difference, because the complement is the negative modulo 65535.
 subtracted : (v : List ℕ) (r m k : ℕ) → length v ≡ 16 → Each1 (Fits w16) v → m < 16 → k < 16
     → r % 65535 ≡ (get_or (v ++ v) m 0 + get_or (v ++ map (λ n. 65535 - n) v) (16 + k) 0) % 65535 → r % 65535 ≡ (get_or v m 0 + 65534 * get_or v k 0) % 65535
 subtracted v r m k size fits hm hk e = grind (arith, common_steps)

@@ -32,7 +32,7 @@ low = (
   (codes_from _ _ _ _ _ refl, recovery_from _ _ _ ((0 ∷ 1 ∷ []) ∷ []) refl),
   (codes_from _ _ _ _ _ refl, recovery_from _ _ _ ((0 ∷ 0 ∷ 1 ∷ 1 ∷ []) ∷ []) refl),
   recovery_from _ _ _ ((0 ∷ 0 ∷ []) ∷ (0 ∷ 1 ∷ []) ∷ []) refl,
-  -- 32 columns are zero, and the last is the polynomial x
+  -- There are 32 columns that are zero, and the last column has the polynomial x.
   recovery_from _ _ _ (replicate 32 (0 ∷ 0 ∷ []) ++ (0 ∷ 1 ∷ []) ∷ []) refl,
 )
 
