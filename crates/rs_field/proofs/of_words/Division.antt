@@ -22,7 +22,7 @@ other_roots a n c cs [] ha hn falling words root roots = tt
 other_roots a n c cs (b ∷ r) ha hn falling words root roots =
     grind (arith, common_steps, next_root, other_roots a b c cs r ha (omega arith) falling.1 words root roots.1)
 
--- A polynomial with distinct roots is the product of their factors with a polynomial that has fewer coefficients, by the number of roots.
+-- A polynomial with distinct roots is the product of the factors of the roots and a polynomial with that many fewer coefficients.
 pub divided_by : (n : ℕ) (r p : List ℕ) (b : ℕ) → n ≤ 2 ^ 16 → AreFalling n r → length p ≡ length r + b → WordsOneByOne p → AreRoots p r
     → (q : List ℕ) × (length q ≡ b) × WordsOneByOne q × ((x : ℕ) → value p x ≡ value (times r q) x)
 unfolding times
