@@ -1,4 +1,4 @@
--- Restored originals that are entered in a map by their index, one after another.
+-- Restored originals are entered in a map by their index, one after another.
 use Rattle.std.proofs.Common.{◌≡◌, ℕ, ◌+◌, ◌-◌, ◌<◌, ◌≤◌, Bool, true, cond, List, [], ◌∷◌, length, get_or, Bor, Option, Some, None, refl, sym, ap, ap₂, subst, ◌∙◌, arith}
 use Rattle.std.specs.Prelude.{is_some, not, ◌&&◌}
 use Rattle.std.proofs.lemmas.Bool.{lt-ltb}
@@ -15,14 +15,14 @@ use Rattle.rs_field.proofs.of_code.ListedMaps.{lists-same}
 use Rattle.rs_field.proofs.of_code.RestoredBelow.{missing-past}
 use Rattle.reed_solomon_simd.proofs.Collecting.{with_entries, with_entries-lists}
 
--- what is restored below an index is in the map, and the other shards are left
+-- The originals restored below an index are in the map, and the other restored originals are still in the list.
 pub record AreEntered (s : DecoderState) (index : ℕ) (left : List Shard) (vectors : Shards) : Type 0 where
   pub out : Shards
   pub restored : Restored s out
   pub left_is : left ≡ shards_listed (items_from index (s.configuration.original_count - index) out)
   pub whole : with_entries vectors (items_from index (s.configuration.original_count - index) out) ≡ out
 
--- at first all are left
+-- Before the first index, the list holds all restored originals and the map is empty.
 pub entered-none : (s : DecoderState) (rooms left : List Shard) (vectors : Shards) → HoldRestored s rooms → left ≡ rooms → vectors ≡ nothing → AreEntered s 0 left vectors
 entered-none s rooms left vectors holds is empty =
     let k = s.configuration.original_count in
@@ -50,14 +50,14 @@ module _ (s : DecoderState) (i : ℕ) (left : List Shard) (vectors : Shards) (ar
         ≡ (i, shard_at are.restored.message i) ∷ items_from (i + 1) (s.configuration.original_count - (i + 1)) are.out
     begins = items_from-some i s.configuration.original_count are.out (shard_at are.restored.message i) inside some-here
 
-    -- where an original is missing, a shard is left
+    -- If the original with index i is missing, the list still holds a shard.
     pub entered-short : left ≡ [] → ⊥
     entered-short none =
         let both : [] ≡ shard_at are.restored.message i ∷ shards_listed (items_from (i + 1) (s.configuration.original_count - (i + 1)) are.out) =
         sym none ∙ are.left_is ∙ ap shards_listed begins in
         let no : ⊥ = cc in no
 
-    -- which is entered
+    -- If the original with index i is missing, the first shard of the list is entered at index i.
     pub entered-next : (x : Shard) (rest : List Shard) (new : Shards) → left ≡ x ∷ rest
         → ((items others : Items) → items ≡ (i, x) ∷ others → with_entries new others ≡ with_entries vectors items) → AreEntered s (i + 1) rest new
     entered-next x rest new is step =
@@ -73,7 +73,7 @@ module _ (s : DecoderState) (i : ℕ) (left : List Shard) (vectors : Shards) (ar
               ∙ are.whole;
         }
 
-  -- one that was received is passed over
+  -- If the original with index i was received, the map and the list do not change.
   pub entered-skipped : i < s.configuration.original_count → is_some (s.originals i) ≡ true → AreEntered s (i + 1) left vectors
   unfolding missing_of
   entered-skipped inside some =
@@ -83,12 +83,12 @@ module _ (s : DecoderState) (i : ℕ) (left : List Shard) (vectors : Shards) (ar
       let same = items_from-none i s.configuration.original_count are.out inside none in
       record { out = are.out; restored = are.restored; left_is = are.left_is ∙ ap shards_listed same; whole = ap (with_entries vectors) (sym same) ∙ are.whole }
 
-  -- in the end the map has all
+  -- After the last index, the map holds all restored originals.
   pub entered-all : s.configuration.original_count ≤ i → Restored s vectors
   entered-all past =
       subst (Restored s) (sym are.whole ∙ ap (with_entries vectors) (items_from-past i s.configuration.original_count are.out past)) are.restored
 
--- a place that has a shard
+-- If a place holds a shard, the map of the places has a shard at the index of the place.
 pub some-place : (places : List (Option (Bor Shard))) (i : ℕ) (found : Option (Bor Shard)) → get_or places i found ≡ found → i < length places → is_some found ≡ true
     → is_some (given_in places i) ≡ true
 some-place places i found is inside some = by_option (get_or places i None) (get_or_default places i None found inside ∙ is)

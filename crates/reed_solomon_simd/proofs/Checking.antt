@@ -1,4 +1,4 @@
--- Originals that lie in a list, checked one after another.
+-- Originals in a list are checked one after another.
 use Rattle.std.proofs.Common.{◌≡◌, ℕ, zero, suc, ◌+◌, ◌<◌, ◌≤◌, List, [], ◌∷◌, ◌++◌, length, take, get_or, All, Result, Ok, Err, MatchResult, inl, refl, sym, ap, subst, arith, append_assoc, append-nil, length-append}
 use Rattle.std.proofs.lemmas.Bool.{lt-leb, lt-ltb, le-ltb, eq-eqb}
 use Rattle.std.proofs.lemmas.List.Elements.{recursion_from_All}
@@ -21,7 +21,7 @@ use Rattle.reed_solomon_simd.proofs.Gathering.{has-made, encoded-all}
 use Rattle.reed_solomon_simd.proofs.SetUp.{started-parts}
 use Rattle.reed_solomon_simd.specs.Checked.{AreChecked}
 
--- the error of the first original that cannot be added is the outcome of adding all originals
+-- The error of the first original that cannot be added is the outcome of adding all originals.
 refused-at : (s : EncoderState) (shards : List Shard) (i : ℕ) (e : Error) → i < length shards → length s.given + i ≤ s.configuration.original_count
     → ((j : ℕ) → j < i → length (get_or shards j []) ≡ s.configuration.shard_bytes)
     → Err e ≡ answer_of (with_shard (record s { given = s.given ++ take i shards }) (get_or shards i [])) → with_shards s shards ≡ Err e
@@ -39,7 +39,7 @@ refused-at s (x ∷ xs) (suc i) e inside room sized refused =
     (subst (λ (given : List Shard). Err e ≡ answer_of (with_shard (record s { given = given }) (get_or xs i []))) (sym (append_assoc s.given (x ∷ []) (take i xs))) refused))
 
 module _ (k r size : ℕ) (shards : List Shard) (some : 0 < length shards) (first : length (get_or shards 0 []) ≡ size) where
-  -- a size that is refused decides
+  -- If setting up with the size of the first original fails, one call fails with the same error.
   pub checked-unset : (e : Error) → Err e ≡ start_outcome (encoder_rows default_rate k r) (default_of k r size) → OneEncodeAnswers k r shards (Err e)
   checked-unset e refused = by_shards shards some first
     where
@@ -49,7 +49,7 @@ module _ (k r size : ℕ) (shards : List Shard) (some : 0 < length shards) (firs
           encoding-refused k r (x ∷ xs) e (encoding-unset k r x xs e
           (inl (subst (λ (n : ℕ). Err e ≡ start_outcome (encoder_rows default_rate k r) (default_of k r n)) (sym first) refused)))
 
-  -- and where it isn't, the shards do
+  -- If setting up succeeds, the outcome of adding the originals is the outcome of encoding.
   pub checked-led : Ok tt ≡ start_outcome (encoder_rows default_rate k r) (default_of k r size) → (o : Result EncoderState Error)
       → with_shards (fresh_encoder (default_of k r size)) shards ≡ o → IsEncoding k r shards o
   checked-led made o is = by_shards shards some first is
@@ -60,7 +60,7 @@ module _ (k r size : ℕ) (shards : List Shard) (some : 0 < length shards) (firs
           encoding-given k r x xs (fresh_encoder (default_of k r size)) (inl (subst (λ (n : ℕ). Ok tt ≡ start_outcome (encoder_rows default_rate k r) (default_of k r n)) (sym first) made))
           (ap (λ (n : ℕ). fresh_encoder (default_of k r n)) (sym first)) o is
 
-  -- one of them that is refused decides
+  -- If an original cannot be added, one call fails with its error.
   pub checked-refused : Ok tt ≡ start_outcome (encoder_rows default_rate k r) (default_of k r size) → (i : ℕ) (e : Error) → i < length shards → i ≤ k
       → ((j : ℕ) → j < i → length (get_or shards j []) ≡ size)
       → Err e ≡ answer_of (with_shard (record { configuration = default_of k r size; given = take i shards }) (get_or shards i [])) → OneEncodeAnswers k r shards (Err e)
@@ -68,29 +68,29 @@ module _ (k r size : ℕ) (shards : List Shard) (some : 0 < length shards) (firs
       encoding-refused k r shards e (checked-led made (Err e) (refused-at (fresh_encoder (default_of k r size)) shards i e inside (omega (arith, room)) sized refused))
 
   module _ (made : Ok tt ≡ start_outcome (encoder_rows default_rate k r) (default_of k r size)) (few : length shards ≤ k) (sized : All (λ s. length s ≡ size) shards) where
-    -- where none is refused, an encoder has them all
+    -- If every original can be added, the encoder has all originals.
     pub checked-all : IsEncoding k r shards (Ok (record { configuration = default_of k r size; given = shards }))
     checked-all = checked-led made _ (takes-all shards (fresh_encoder (default_of k r size)) (omega (arith, few)) (recursion_from_All (λ s. length s ≡ size) shards sized))
 
-    -- and too few are refused
+    -- If there are too few originals, one call fails with `TooFewOriginalShards`.
     pub checked-few : length shards < k → OneEncodeAnswers k r shards (Err (TooFewOriginalShards k (length shards)))
     checked-few less =
         encoding-answers k r shards (record { configuration = default_of k r size; given = shards }) checked-all (Err (TooFewOriginalShards k (length shards)))
         (encode_answers-refused (record { configuration = default_of k r size; given = shards }) (TooFewOriginalShards k (length shards)) (rw (lt-ltb (length shards) k less) refl))
 
 module _ (k r size : ℕ) (shards : List Shard) (is : AreChecked k r size shards) where
-  -- an encoder to which checked originals were added
+  -- The encoder to which the checked originals were added.
   abbrev checked : EncoderState
   checked = record { configuration = default_of k r size; given = shards }
 
-  -- counts and size are valid
+  -- The counts and the size of checked originals are valid.
   pub checked-valid : validation_outcome (default_of k r size) ≡ Ok tt
   checked-valid = (started-parts (encoder_rows default_rate k r) (default_of k r size) is.set_up).0
 
   whole : Ok tt ≡ answer_of (message_of checked)
   whole = let number = is.number in rw (le-ltb (length shards) k (omega (arith, number))) refl
 
-  -- they have recovery shards
+  -- Checked originals have recovery shards.
   pub checked-made : (recovery : List Shard) × AreRecovery (default_of k r size) shards recovery
   checked-made =
       has-made checked (record {
@@ -101,7 +101,7 @@ module _ (k r size : ℕ) (shards : List Shard) (is : AreChecked k r size shards
         sized = is.sized;
       }) whole
 
-  -- which are what one call answers
+  -- The recovery shards of checked originals, or `OutOfMemory`, are a result of one call.
   pub checked-encodes : (result : Result (List Shard) Error) → MatchResult result (λ recovery. AreRecovery (default_of k r size) shards recovery) (λ e. e ≡ OutOfMemory)
       → OneEncodeAnswers k r shards result
   checked-encodes = encoded-all k r shards checked is.led whole

@@ -1,4 +1,4 @@
--- Entering listed shards into a map, one after another.
+-- Listed shards are entered into a map, one after another.
 use Rattle.std.proofs.Common.{◌≡◌, ◌+◌, ◌<◌, ◌≤◌, ◌==◌, ℕ, zero, suc, Bool, true, false, cond, [], ◌∷◌, ◌++◌, Option, Some, None, refl, sym, ap, subst, ◌∙◌, inl, inr, arith}
 use Rattle.std.proofs.Math.Path.{fun_ext}
 use Rattle.std.proofs.lemmas.Bool.{cases_lt, cases_order, eq-eqb, ne_eqb}
@@ -14,7 +14,7 @@ use Rattle.rs_field.specs.code.Given.{Shards, nothing, with_entry, items_at, ite
 use Rattle.rs_field.specs.code.OneCall.{Items, shards_in}
 use Rattle.rs_field.proofs.of_code.Listed.{items_from-zero, items_from-suc}
 
--- a map with the items entered, one after another
+-- The map after the items were entered, one after another.
 abbrev pub with_entries : Shards → Items → Shards
 with_entries given [] = given
 with_entries given (item ∷ items) = with_entries (with_entry given item.0 item.1) items
@@ -27,12 +27,12 @@ with_entry-other : (given : Shards) (index : ℕ) (shard : Shard) (i : ℕ) → 
 unfolding with_entry
 with_entry-other given index shard i other = ap (λ (b : Bool). cond b (Some shard) (given i)) (ne_eqb i index other)
 
--- a map has what another has below an index, and nothing from there on
+-- `part` has the shards of `given` below index `from`, and no shard from there on.
 record IsBelow (from : ℕ) (given part : Shards) : Type 0 where
   same : (i : ℕ) → i < from → part i ≡ given i
   none : (i : ℕ) → from ≤ i → part i ≡ None
 
--- entering the shard of the next index, if there is one, extends the part to this index
+-- Entering the shard of the next index, if there is one, extends the part by this index.
 below-next : (from : ℕ) (given part : Shards) (o : Option Shard) → given from ≡ o → IsBelow from given part → IsBelow (suc from) given (with_entries part (items_at from o))
 below-next from given part None is below =
     record {
@@ -55,7 +55,7 @@ with_entries-append : (given : Shards) (items others : Items) → with_entries g
 with_entries-append given [] others = refl
 with_entries-append given (item ∷ items) others = with_entries-append (with_entry given item.0 item.1) items others
 
--- entering the shards of the next n indexes, at which there are shards, extends the part to these indexes
+-- Entering the shards that a map has at the next n indexes extends the part by these indexes.
 below-listed : (n from : ℕ) (given part : Shards) → IsBelow from given part → IsBelow (from + n) given (with_entries part (items_from from n given))
 below-listed zero from given part below =
     subst (λ (m : ℕ). IsBelow m given (with_entries part (items_from from 0 given))) (let m : from ≡ from + 0 = omega arith in m)
@@ -66,7 +66,7 @@ below-listed (suc n) from given part below =
     subst (λ (m : ℕ). IsBelow m given (with_entries part (items_from from (suc n) given))) (let m : suc from + n ≡ from + suc n = omega arith in m)
     (subst (IsBelow (suc from + n) given) (sym joined) next)
 
--- what a map lists, entered where nothing was, is the map
+-- Entering the listed items of a map into the empty map gives the map.
 pub with_entries-lists : (given : Shards) (items : Items) → Lists given items → with_entries nothing items ≡ given
 with_entries-lists given items lists =
     let start : IsBelow 0 given nothing = record { same = λ i inside. absurd (omega arith); none = λ i outside. refl } in
@@ -76,7 +76,7 @@ with_entries-lists given items lists =
     in
     fun_ext (λ i. elim (cases_lt i lists.count) [ inl inside ↦ all.same i inside | inr outside ↦ all.none i outside ∙ sym (lists.none_past i outside) ])
 
--- whether the order of numbers finds them equal
+-- `nat_cmp` returns `Equal` exactly for equal numbers.
 is_eq-nat_cmp : (a b : ℕ) → is_eq (nat_cmp a b) ≡ (b == a)
 is_eq-nat_cmp a b =
     elim (cases_order a b) [
@@ -86,11 +86,11 @@ is_eq-nat_cmp a b =
     ]
 
 module _ {Y : Type 0} where
-  -- an empty map of vectors has no shard
+  -- An empty map of vectors has no shards.
   pub shards_in-empty : (m : BTreeMap ℕ (Vec ℕ Y)) → IsEmpty m → shards_in m ≡ nothing
   shards_in-empty m empty = fun_ext (λ i. ap (λ es. option_map (λ v. v.items) (lookup (is_at (nat_cmp i)) es)) empty)
 
-  -- a vector that is inserted is entered
+  -- Inserting a vector into a map of vectors enters its shard.
   shards_in-inserted : (old new : BTreeMap ℕ (Vec ℕ Y)) (index : ℕ) (vector : Vec ℕ Y) (shard : Shard) → vector.items ≡ shard → Updates nat_cmp old new index (Some vector)
       → shards_in new ≡ with_entry (shards_in old) index shard
   unfolding with_entry
@@ -104,7 +104,7 @@ module _ {Y : Type 0} where
       by_test true o = ap Some same
       by_test false o = refl
 
-  -- so the first entry of those that are left goes into the map
+  -- Inserting the first of the remaining items into the map leaves the same final map.
   pub with_entries-inserted : (old new : BTreeMap ℕ (Vec ℕ Y)) (index : ℕ) (vector : Vec ℕ Y) (shard : Shard) (left rest : Items)
       → left ≡ (index, shard) ∷ rest → vector.items ≡ shard → Updates nat_cmp old new index (Some vector)
       → with_entries (shards_in new) rest ≡ with_entries (shards_in old) left

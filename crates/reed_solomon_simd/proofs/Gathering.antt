@@ -23,12 +23,12 @@ use Rattle.reed_solomon_simd.specs.LentState.{lent_state}
 use Rattle.reed_solomon_simd.specs.Rooms.{shards_of}
 use Rattle.reed_solomon_simd.proofs.SetUp.{started-parts, valid-even}
 
--- shards of a size are of that length
+-- Each shard of a list of shards of one size has this length.
 pub shards-long : (size : ℕ) (xs : List (Bor (List ℕ))) → All (IsShard size) (shards_of xs) → All (λ x. length x.now ≡ size) xs
 shards-long size xs sized k d h =
     ap length (sym (get_or-map (λ (x : Bor (List ℕ)). x.now) xs k d [] h)) ∙ (sized k [] (let n = length-map xs (λ (x : Bor (List ℕ)). x.now) in omega (arith, h, n))).length_is
 
--- gathered originals represent a state that an encoder can have
+-- Gathered originals represent a state that an encoder can have.
 pub gathered-is : (x : LentOriginals) → IsEncoder default_rate (lent_state x)
 gathered-is x =
     let parts = started-parts _ (lent_state x).configuration x.set_up in
@@ -40,7 +40,7 @@ gathered-is x =
       sized = x.sized;
     }
 
--- once all are given they have recovery shards
+-- An encoder with all its originals has recovery shards.
 pub has-made : (s : EncoderState) → IsEncoder default_rate s → Ok tt ≡ answer_of (message_of s) → (recovery : List Shard) × AreRecovery s.configuration s.given recovery
 has-made s is all =
     let whole = message-whole s all in
@@ -49,17 +49,17 @@ has-made s is all =
     (record { length_is = omega (arith, few, whole.0); each = is.sized })
 
 module _ (k r : ℕ) (shards : List Shard) (s : EncoderState) (is : IsEncoding k r shards (Ok s)) where
-  -- too few are refused
+  -- If originals are missing, the error of the encoder is a result of one call.
   pub encoded-few : (e : Error) → Err e ≡ answer_of (message_of s) → OneEncodeAnswers k r shards (Err e)
   encoded-few e few = encoding-answers k r shards s is (Err e) (encode_answers-refused s e few)
 
-  -- and else it is what one call answers
+  -- The result of encoding all originals is a result of one call.
   pub encoded-all : Ok tt ≡ answer_of (message_of s) → (result : Result (List Shard) Error)
       → MatchResult result (λ recovery. AreRecovery s.configuration s.given recovery) (λ e. e ≡ OutOfMemory) → OneEncodeAnswers k r shards result
   encoded-all all (Ok recovery) coded = encoding-answers k r shards s is (Ok recovery) (encode_answers-made s recovery all coded)
   encoded-all all (Err e) lacks = inr (encoding-opened k r shards s is, ap Err lacks)
 
-  -- which is coded
+  -- The recovery shards of all originals are the recovery shards of the code.
   pub encoded-coded : IsEncoder default_rate s → Ok tt ≡ answer_of (message_of s) → (result : Result (List Shard) Error)
       → MatchResult result (λ recovery. AreRecovery s.configuration s.given recovery) (λ e. e ≡ OutOfMemory) → IfOk result (AreCoded k r shards)
   encoded-coded valid all (Ok recovery) coded = encoding-coded k r shards s is valid recovery (Ok recovery) (encode_answers-made s recovery all coded) refl

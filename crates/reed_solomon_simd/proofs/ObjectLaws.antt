@@ -1,4 +1,4 @@
--- What every plain object keeps: a valid configuration of the default rate, no more given than that takes, and room for its own rows.
+-- Each plain object has a valid configuration of the default rate, at most as many shards as the configuration allows, and room for its rows.
 use Rattle.std.proofs.Common.{◌≤◌}
 use Rattle.rs_field.specs.code.Counts.{default_rate}
 use Rattle.rs_field.specs.code.Encoder.{IsEncoder}

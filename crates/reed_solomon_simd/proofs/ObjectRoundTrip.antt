@@ -1,4 +1,4 @@
--- The round trip by an encoder and a decoder: shards are given one after another, some are lost, and just the lost originals come back.
+-- The round trip with an encoder and a decoder: shards are added one after another, some are lost, and exactly the lost originals are restored.
 use Rattle.std.proofs.Common.{◌≡◌, ℕ, ◌+◌, ◌≤◌, ◌&&◌, ◌++◌, ◌∷◌, [], Bool, true, false, cond, List, All, length, refl, sym, ap, subst, ◌∙◌, nat_lt, Some, None, Result, Ok, Err, IfOk, inl, arith, append_assoc, append-nil, length-append}
 use Rattle.std.specs.List.{AllByRecursion}
 use Rattle.std.specs.Prelude.{MatchResult, IsOkAnd, is_ok}
@@ -22,12 +22,12 @@ use Rattle.rs_rate.proofs.Giving.{reached-err}
 use Rattle.rs_field.proofs.of_code.Left.{kept_of, kept-left, just-lost, enough-left}
 use Rattle.rs_field.proofs.of_code.OneRoundTrip.{encoded_all, all_taken, taken_gives_back}
 
--- what a new encoder was given, all of it, is a message, and what it answered are its recovery shards
+-- If a fresh encoder took all shards and encoded them, the shards are a message and the result is its recovery shards.
 pub codes-given : (rate : Rate) (c : Configuration) (shards recovery : List Shard) (new_encoder encoder : EncoderState) → new_encoder ≡ fresh_encoder c → with_shards new_encoder shards ≡ Ok encoder
     → IsEncoder rate encoder → EncodeAnswers encoder (Ok recovery) → AreShards c.original_count c.shard_bytes shards × AreRecovery c shards recovery
 codes-given rate c shards recovery new_encoder encoder fresh given is encoded = encoded_all rate c shards recovery encoder is (ap (λ s. with_shards s shards) (sym fresh) ∙ given) encoded
 
--- what a new decoder was given of them, but for what is lost, and what it answered
+-- If a fresh decoder took all shards that are not lost, its result satisfies `GivesBack`.
 pub gives-back : (c : Configuration) (shards recovery : List Shard) (lost recovery_lost : ℕ → Bool) (new_decoder half decoder : DecoderState) (result : Result Shards Error)
     → AreShards c.original_count c.shard_bytes shards × AreRecovery c shards recovery → new_decoder ≡ fresh_decoder c → with_originals new_decoder (kept_of shards lost) ≡ Ok half
     → with_recoveries half (kept_of recovery recovery_lost) ≡ Ok decoder → DecodeAnswers decoder result → GivesBack shards (kept_of shards lost) (kept_of recovery recovery_lost) result
@@ -40,16 +40,16 @@ gives-back c shards recovery lost recovery_lost new_decoder half decoder result 
     )
     answers
 
--- copies of what came back are copies of what is lost
+-- Copies of the restored originals are copies of the lost originals.
 pub copies-lost : {V : Type 0} (shards : List Shard) (lost : ℕ → Bool) (received : Items) (out : Shards) (result : Result V Error) (items : V → List (ℕ × Shard))
     → GivesBack shards (kept_of shards lost) received (Ok out) → IfOk result (λ v. Lists out (items v))
     → IfOk result (λ v. Lists (λ i. cond (nat_lt i (length shards) && lost i) (Some (shard_at shards i)) None) (items v))
 copies-lost shards lost received out result items back copies =
     subst (λ (given : Shards). IfOk result (λ v. Lists given (items v))) (fun_ext (just-lost shards lost (Ok out) back.restored)) copies
 
--- ---- what isn't refused
+-- ---- calls that do not fail
 
--- an encoder takes shards of its size, as many as there is room for
+-- An encoder takes shards of its size, as long as it has room for them.
 pub takes-all : (shards : List Shard) (s : EncoderState) → length s.given + length shards ≤ s.configuration.original_count → AllByRecursion (λ x. length x ≡ s.configuration.shard_bytes) shards
     → with_shards s shards ≡ Ok (record s { given = s.given ++ shards })
 takes-all [] s room sized = ap (λ given. Ok (record s { given = given })) (sym (append-nil s.given))
@@ -63,16 +63,16 @@ takes-all (x ∷ xs) s room sized =
 
 module _ (c : Configuration) (shards : List Shard) (new_encoder : EncoderState) (fresh : new_encoder ≡ fresh_encoder c) (count : length shards ≡ c.original_count)
     (sized : All (λ shard. length shard ≡ c.shard_bytes) shards) where
-  -- a new encoder takes a message
+  -- A fresh encoder takes a whole message.
   pub takes-message : with_shards new_encoder shards ≡ Ok (record { configuration = c; given = shards })
   takes-message =
       ap (λ s. with_shards s shards) fresh ∙ takes-all shards (fresh_encoder c) (omega (arith, count)) (recursion_from_All (λ x. length x ≡ c.shard_bytes) shards sized)
 
-  -- so it refuses none of it
+  -- Adding a message to a fresh encoder does not fail.
   pub gives-all : (P : EncoderState → Type 0) (e : Error) → Reaches (with_shards new_encoder shards) (Err e) P → ⊥
   gives-all P e reached = let taken = takes-message in let refused = reached-err (with_shards new_encoder shards) P e reached in cc
 
-  -- nor to code it
+  -- Encoding a whole message does not fail.
   pub encodes : (encoder : EncoderState) (e : Error) → with_shards new_encoder shards ≡ Ok encoder → EncodeAnswers encoder (Err e) → ⊥
   encodes encoder e given answers =
       let taken = takes-message in
@@ -84,7 +84,7 @@ module _ (c : Configuration) (shards : List Shard) (new_encoder : EncoderState) 
       by_test true whole h = absurd (let no : ⊥ = cc in no)
       by_test false whole h = h
 
-  -- after the round it is as it was before
+  -- After a round, the encoder has the state that it had before the message was added.
   pub round-ends : (encoder : EncoderState) → with_shards new_encoder shards ≡ Ok encoder → after_encode encoder ≡ new_encoder
   round-ends encoder given =
       let taken = takes-message in
@@ -96,7 +96,7 @@ module _ (c : Configuration) (shards : List Shard) (new_encoder : EncoderState) 
 
 module _ (c : Configuration) (shards recovery : List Shard) (lost recovery_lost : ℕ → Bool) (new_decoder : DecoderState) (fresh : new_decoder ≡ fresh_decoder c)
     (all : AreShards c.original_count c.shard_bytes shards × AreRecovery c shards recovery) where
-  -- a new decoder refuses no original that is left
+  -- Adding the originals that are not lost to a fresh decoder does not fail.
   pub gives-kept : (P : DecoderState → Type 0) (e : Error) → Reaches (with_originals new_decoder (kept_of shards lost)) (Err e) P → ⊥
   gives-kept P e reached =
       let refused = reached-err (with_originals new_decoder (kept_of shards lost)) P e reached in
@@ -105,7 +105,7 @@ module _ (c : Configuration) (shards recovery : List Shard) (lost recovery_lost 
       ∙ all_taken c shards recovery (kept_of shards lost) (kept_of recovery recovery_lost) all.0 all.1 (kept-left shards lost) (kept-left recovery recovery_lost) in
       cc
 
-  -- nor a recovery shard that is left
+  -- Adding the recovery shards that are not lost to the decoder does not fail.
   pub gives-received : (half : DecoderState) (P : DecoderState → Type 0) (e : Error) → with_originals new_decoder (kept_of shards lost) ≡ Ok half
       → Reaches (with_recoveries half (kept_of recovery recovery_lost)) (Err e) P → ⊥
   gives-received half P e given reached =
@@ -115,6 +115,6 @@ module _ (c : Configuration) (shards recovery : List Shard) (lost recovery_lost 
       ∙ all_taken c shards recovery (kept_of shards lost) (kept_of recovery recovery_lost) all.0 all.1 (kept-left shards lost) (kept-left recovery recovery_lost) in
       cc
 
--- nor to restore what is lost, where as many are left as there are originals
+-- If as many shards are left as there are originals, restoring fails only with `OutOfMemory`.
 pub restores : (shards : List Shard) (kept received : Items) (e : Error) → GivesBack shards kept received (Err e) → length shards ≤ length kept + length received → e ≡ OutOfMemory
 restores shards kept received e back many = enough-left shards kept received (Err e) (record { answer = inl back.answer; restored = tt }) many

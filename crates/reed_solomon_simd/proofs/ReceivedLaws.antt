@@ -1,4 +1,4 @@
--- What is known of received shards.
+-- Facts about received shards.
 use Rattle.std.proofs.Common.{◌≡◌, Bool, List, Ok, refl, sym}
 use Rattle.rs_field.specs.code.Column.{Shard}
 use Rattle.rs_field.specs.code.Counts.{default_rate}
@@ -11,7 +11,7 @@ use Rattle.reed_solomon_simd.specs.declared.received_shards.ReceivedShards.{Rece
 use Rattle.reed_solomon_simd.specs.ReceivedState.{received_state}
 use Rattle.reed_solomon_simd.proofs.SetUp.{started-parts, valid-even}
 
--- the state of received shards is one that a decoder can be in
+-- The state of received shards is one that a decoder can have.
 pub received-decoder : (x : ReceivedShards) → IsDecoder default_rate (received_state x)
 received-decoder x =
     let parts = started-parts _ (received_state x).configuration x.set_up in
@@ -23,7 +23,7 @@ received-decoder x =
       recovery_within = x.recovery_within;
     }
 
--- once all strips are restored, rooms hold the restored originals
+-- After all strips are restored, the rooms hold the restored originals.
 pub strips-restored : (s : DecoderState) (grows : Bool) (rooms : List Shard) → IsDecoder default_rate s → enough_given s ≡ Ok tt
     → IsRestoredBelow s grows s.configuration.shard_bytes rooms → HoldRestored s rooms
 strips-restored s grows rooms is enough done =

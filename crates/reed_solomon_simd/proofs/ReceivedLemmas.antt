@@ -1,4 +1,4 @@
--- Shards in places: one more is entered, and how many there are.
+-- Received shards in places: entering a shard, and the number of shards.
 use Rattle.std.proofs.Common.{◌≡◌, ℕ, ◌+◌, ◌<◌, ◌≤◌, List, length, set, replicate, Bor, Bool, cond, Option, Some, None, refl, subst, sym, ap, ◌∙◌, inl, inr, arith}
 use Rattle.std.proofs.Math.Path.{fun_ext}
 use Rattle.std.proofs.lemmas.Bool.{cases_eq, cases_lt, eq-eqb, ne_eqb}
@@ -12,7 +12,7 @@ use Rattle.rs_field.proofs.of_code.Given.{entered_cases}
 use Rattle.rs_field.proofs.of_code.Entries.{count-nothing, count-entered, count_most}
 use Rattle.reed_solomon_simd.specs.Received.{given_in}
 
--- a shard that is put in a place is entered
+-- Putting a shard in a place enters it at the index of the place.
 pub places-entered : (places : List (Option (Bor Shard))) (index : ℕ) (shard : Bor Shard) → index < length places
     → given_in (set places index (Some shard)) ≡ with_entry (given_in places) index shard.now
 unfolding with_entry
@@ -26,7 +26,7 @@ places-entered places index shard inside = fun_ext (λ i. elim (cases_eq i index
       ∙ sym (ap (λ (b : Bool). cond b (Some shard.now) (given_in places i)) (ne_eqb i index other))
 ])
 
--- and there is one more
+-- Putting a shard in an empty place adds one to the number of shards.
 pub places-counted : (places : List (Option (Bor Shard))) (index : ℕ) (shard : Bor Shard) → index < length places → given_in places index ≡ None
     → count_below (length (set places index (Some shard))) (given_in (set places index (Some shard))) ≡ count_below (length places) (given_in places) + 1
 places-counted places index shard inside free =
@@ -34,7 +34,7 @@ places-counted places index shard inside free =
     ∙ ap (count_below (length places)) (places-entered places index shard inside)
     ∙ count-entered (length places) (given_in places) index shard.now inside free
 
--- which is no more than there are places
+-- If a place is empty, there are fewer shards than places.
 pub places-most : (places : List (Option (Bor Shard))) (index : ℕ) (shard : Bor Shard) → index < length places → given_in places index ≡ None
     → count_below (length places) (given_in places) + 1 ≤ length places
 places-most places index shard inside free =
@@ -42,11 +42,11 @@ places-most places index shard inside free =
     let most = count_most (length (set places index (Some shard))) (given_in (set places index (Some shard))) in
     omega (arith, more, most, length-set places index (Some shard))
 
--- places with no shard have none
+-- Places without shards have zero shards.
 pub places-none : (places : List (Option (Bor Shard))) → given_in places ≡ nothing → count_below (length places) (given_in places) ≡ 0
 places-none places none = ap (count_below (length places)) none ∙ count-nothing (length places)
 
--- as have places that were all made so
+-- Places that were all made empty hold no shards.
 pub places-empty : (n : ℕ) (places : List (Option (Bor Shard))) → places ≡ replicate n None → given_in places ≡ nothing
 places-empty n places is =
     ap given_in is ∙ fun_ext (λ i. elim (cases_lt i n) [
@@ -54,12 +54,12 @@ places-empty n places is =
       | inr past ↦ ap (option_map (λ (s : Bor Shard). s.now)) (get_or_past (replicate n None) i None (omega (arith, past, length-replicate {A = Option (Bor Shard)} n None)))
     ])
 
--- no shard is within any bounds
+-- A map without shards is within any bounds.
 pub none-within : (count size : ℕ) (given : Shards) → given ≡ nothing → AreWithin count size given
 none-within count size given none =
     subst (AreWithin count size) (sym none) (record { none_past = λ i h. refl; sized = λ i shard found. absurd (none-some shard found) })
 
--- and one that is entered stays so
+-- Entering a shard of the size at an index below the count keeps a map within its bounds.
 pub entered-within : (count size : ℕ) (given : Shards) (index : ℕ) (shard : Shard) → index < count → IsShard size shard
     → AreWithin count size given → AreWithin count size (with_entry given index shard)
 entered-within count size given index shard inside is within =

@@ -1,4 +1,4 @@
--- Rooms that are to be as long as shards of one size.
+-- Lemmas about `rooms_fit`, which checks that rooms have the length of shards of one size.
 use Rattle.std.proofs.Common.{◌≡◌, ℕ, zero, suc, ◌<◌, List, [], ◌∷◌, length, get_or, All, Result, Ok, Err, MatchResult, subst, refl, ◌∙◌, sym, arith}
 use Rattle.std.proofs.lemmas.Bool.{eq-eqb, ne_eqb}
 use Rattle.rs_field.specs.code.Column.{Shard}
@@ -6,11 +6,11 @@ use Rattle.reed_solomon_simd.specs.declared.room_error.RoomError.{RoomError}
 use Rattle.reed_solomon_simd.specs.declared.room_error.RoomError.TheVariants.{WrongLength}
 use Rattle.reed_solomon_simd.specs.Into.{lengths_fit, rooms_fit, Fills}
 
--- where there are as many, lengths decide
+-- If there are as many rooms as shards, `rooms_fit` depends only on their lengths.
 pub fits-many : (shards : List Shard) (rooms : List (List ℕ)) → length shards ≡ length rooms → rooms_fit shards rooms ≡ lengths_fit shards rooms
 fits-many shards rooms same = rw (eq-eqb (length shards) (length rooms) same) refl
 
--- rooms that are all of the size fit
+-- Rooms that all have the shard size fit the shards.
 pub fits-all : (size : ℕ) (shards : List Shard) (rooms : List (List ℕ)) → All (λ shard. length shard ≡ size) shards
     → ((i : ℕ) → i < length rooms → length (get_or rooms i []) ≡ size) → lengths_fit shards rooms ≡ Ok tt
 fits-all size [] rooms sized long = refl
@@ -20,7 +20,7 @@ fits-all size (shard ∷ shards) (room ∷ rooms) sized long =
     rw (eq-eqb (length room) (length shard) same)
     (fits-all size shards rooms (λ k d h. sized (suc k) d (omega (arith, h))) (λ i h. long (suc i) (omega (arith, h))))
 
--- the first of another size is told
+-- The first room of another size is the one that the error names.
 pub fits-first : (size i : ℕ) (shards : List Shard) (rooms : List (List ℕ)) → length shards ≡ length rooms → All (λ shard. length shard ≡ size) shards
     → i < length rooms → ((j : ℕ) → j < i → length (get_or rooms j []) ≡ size) → (length (get_or rooms i []) ≡ size → ⊥)
     → lengths_fit shards rooms ≡ Err (WrongLength size (length (get_or rooms i [])))
@@ -35,7 +35,7 @@ fits-first size (suc i) (shard ∷ shards) (room ∷ rooms) number sized inside 
     (fits-first size i shards rooms (omega (arith, number)) (λ k d h. sized (suc k) d (omega (arith, h))) (omega (arith, inside))
     (λ j h. before (suc j) (omega (arith, h))) other)
 
--- what a call does where rooms fit, and where they don't
+-- A call that fills rooms that fit, and fails with the error of rooms that do not fit, satisfies `Fills`.
 pub fills : (shards : List Shard) (old new : List (List ℕ)) (answer : Result (Unit {0}) RoomError) (o : Result (Unit {0}) RoomError) → o ≡ rooms_fit shards old
     → MatchResult o (λ _. (answer ≡ Ok tt) × (new ≡ shards)) (λ e. (answer ≡ Err e) × (new ≡ old)) → Fills shards old new answer
 fills shards old new answer o fit does = subst (λ (o : Result (Unit {0}) RoomError). MatchResult o (λ _. (answer ≡ Ok tt) × (new ≡ shards)) (λ e. (answer ≡ Err e) × (new ≡ old))) fit does

@@ -1,4 +1,4 @@
--- What is known of the configuration of a coder that is set up.
+-- Facts about the configuration of a coder that was set up.
 use Rattle.std.proofs.Common.{◌≡◌, ℕ, ◌<◌, ◌^◌, ◌%◌, Bool, true, false, cond, Ok, Err, Result, inl, inr, refl, sym, ap, ◌∙◌, arith}
 use Rattle.std.specs.Prelude.{nat_le}
 use Rattle.std.proofs.lemmas.Bool.{cases_lt, le-leb}
@@ -8,7 +8,7 @@ use Rattle.rs_field.specs.declared.code.error.Error.TheVariants.{OutOfMemory}
 use Rattle.rs_field.specs.code.Configuration.{Configuration, validation_outcome, start_outcome, bytes_of_rows}
 use Rattle.rs_field.specs.code.Outcome.{result_and_then}
 
--- what is set up is valid, and its rows' bytes are a `usize`
+-- If setting up succeeds, the configuration is valid and the size of its rows in bytes fits a `usize`.
 pub started-parts : (rows : ℕ) (c : Configuration) → start_outcome rows c ≡ Ok tt → (validation_outcome c ≡ Ok tt) × (bytes_of_rows rows c.shard_bytes < 2 ^ 64)
 started-parts rows c is = by_outcome (validation_outcome c) is
   where
@@ -26,6 +26,6 @@ started-parts rows c is = by_outcome (validation_outcome c) is
     by_outcome (Ok u) is = (refl, by_test (nat_le (2 ^ 64) (bytes_of_rows rows c.shard_bytes)) refl is)
     by_outcome (Err e) is = absurd (let no : ⊥ = cc in no)
 
--- a valid size is even
+-- The shard size of a valid configuration is even.
 pub valid-even : (c : Configuration) → validation_outcome c ≡ Ok tt → c.shard_bytes % 2 ≡ 0
 valid-even c valid = grind (arith, common_steps)

@@ -21,7 +21,7 @@ use Rattle.rs_field.proofs.of_code.Given.{entered_cases}
 use Rattle.rs_field.proofs.of_code.RestoredBelow.{IsRestoredBelow, enough-pieces, none-pieces, restored-further}
 use Rattle.reed_solomon_simd.proofs.CallerLemmas.{ended}
 
--- the shards of a map at the indexes below a number
+-- The shards of a map at the indexes below n.
 abbrev pub first : ℕ → Shards → Shards
 first n given i = cond (nat_lt i n) (given i) None
 
@@ -31,18 +31,18 @@ first-inside n i given inside = ap (λ (b : Bool). cond b (given i) None) (lt-lt
 first-outside : (n i : ℕ) (given : Shards) → n ≤ i → first n given i ≡ None
 first-outside n i given outside = ap (λ (b : Bool). cond b (given i) None) (le-ltb i n outside)
 
--- at first there are none
+-- There are no shards at the indexes below zero.
 pub first-none : (given : Shards) → nothing ≡ first 0 given
 first-none given = fun_ext (λ i. sym (first-outside 0 i given (omega arith)))
 
--- in the end all
+-- If a map has no shards from index n on, its shards below n are all its shards.
 pub first-all : (n : ℕ) (given : Shards) → ((i : ℕ) → n ≤ i → given i ≡ None) → first n given ≡ given
 first-all n given none = fun_ext (λ i. elim (cases_lt i n) [
   | inl inside ↦ first-inside n i given inside
   | inr outside ↦ first-outside n i given outside ∙ sym (none i outside)
 ])
 
--- an index with no shard is passed over
+-- If index n has no shard, the shards below n + 1 are the shards below n.
 pub first-skipped : (n : ℕ) (given : Shards) → given n ≡ None → first n given ≡ first (n + 1) given
 first-skipped n given free = fun_ext (λ i. elim (cases_lt i n) [
   | inl inside ↦ first-inside n i given inside ∙ sym (first-inside (n + 1) i given (omega (arith, inside)))
@@ -52,7 +52,7 @@ first-skipped n given free = fun_ext (λ i. elim (cases_lt i n) [
   ]
 ])
 
--- one with a shard is entered
+-- Entering the shard with index n into the shards below n gives the shards below n + 1.
 first-entered : (n : ℕ) (given : Shards) (shard : Shard) → given n ≡ Some shard → with_entry (first n given) n shard ≡ first (n + 1) given
 first-entered n given shard found = fun_ext (λ i. elim (entered_cases (first n given) n i shard) [
   | inl here ↦ here.1 ∙ sym found ∙ sym (ap given here.0) ∙ sym (first-inside (n + 1) i given (omega (arith, here.0)))
@@ -62,7 +62,7 @@ first-entered n given shard found = fun_ext (λ i. elim (entered_cases (first n 
   ]
 ])
 
--- a piece is as long as the strip
+-- Each piece has the length of the strip.
 pub piece-sized : (start end i : ℕ) (given : Shards) (piece : Shard) → start ≤ end → ((i : ℕ) (shard : Shard) → given i ≡ Some shard → end ≤ length shard)
     → pieces_of start end given i ≡ Some piece → length piece ≡ end - start
 piece-sized start end i given piece order inside found = by_shard (given i) refl found
@@ -74,13 +74,13 @@ piece-sized start end i given piece order inside found = by_shard (given i) refl
         ∙ length-take-le (end - start) (drop start shard) (omega (arith, length-drop start shard, room, order))
     by_shard None is found = absurd (none-some piece found)
 
--- pieces of shards that are within bounds lie inside their shards
+-- If shards are within bounds and a strip ends inside the size, the strip ends inside each shard.
 pub long-enough : (end count size : ℕ) (given : Shards) → AreWithin count size given → end ≤ size
     → (i : ℕ) (shard : Shard) → given i ≡ Some shard → end ≤ length shard
 long-enough end count size given within inside i shard found =
     let long = (within.sized i shard found).length_is in omega (arith, long, inside)
 
--- at indexes from the count on there is no piece
+-- At the indexes from the count on there are no pieces.
 pub pieces-past : (start end n count size : ℕ) (given : Shards) → AreWithin count size given → count ≤ n
     → (i : ℕ) → n ≤ i → pieces_of start end given i ≡ None
 pieces-past start end n count size given within all i past =
@@ -88,7 +88,7 @@ pieces-past start end n count size given within all i past =
 
 module _ (s now : DecoderState) (n : ℕ) (given : Shards) (shard : Shard) (found : given n ≡ Some shard) (sized : length shard ≡ s.configuration.shard_bytes) where
   module _ (is : now ≡ record s { originals = first n given }) (inside : n < s.configuration.original_count) where
-    -- a decoder with the originals below an index takes the next one
+    -- Adding original n to a decoder that has the originals below n gives the originals below n + 1.
     pub original-taken : with_original now n shard ≡ Ok (record s { originals = first (n + 1) given })
     original-taken =
         ap (λ (t : DecoderState). with_original t n shard) is
@@ -102,7 +102,7 @@ module _ (s now : DecoderState) (n : ℕ) (given : Shards) (shard : Shard) (foun
     original-refused e refused = let answer = refused ∙ ap answer_of original-taken in let no : ⊥ = cc in no
 
   module _ (is : now ≡ record s { recovery = first n given }) (inside : n < s.configuration.recovery_count) where
-    -- a decoder with the recovery shards below an index takes the next one
+    -- Adding recovery shard n to a decoder that has the recovery shards below n gives the recovery shards below n + 1.
     pub recovery-taken : with_recovery now n shard ≡ Ok (record s { recovery = first (n + 1) given })
     recovery-taken =
         ap (λ (t : DecoderState). with_recovery t n shard) is
@@ -115,9 +115,9 @@ module _ (s now : DecoderState) (n : ℕ) (given : Shards) (shard : Shard) (foun
     pub recovery-refused : (e : Error) → Err e ≡ answer_of (with_recovery now n shard) → ⊥
     recovery-refused e refused = let answer = refused ∙ ap answer_of recovery-taken in let no : ⊥ = cc in no
 
--- ---- pieces that are put, one after another
+-- ---- pieces are put into rooms, one after another
 
--- the first of the items that are left, and those after it
+-- If some items remain after the first n, the next item is the first of the remaining ones.
 pub left-next : (n : ℕ) (items rest : Items) (item : ℕ × Shard) → n ≤ length items → drop n items ≡ item ∷ rest
     → (n < length items) × (get_or (shards_listed items) n [] ≡ item.1) × (drop (n + 1) items ≡ rest)
 left-next n items rest item most left =
@@ -130,13 +130,13 @@ left-next n items rest item most left =
       (let same : drop (n + 1) items ≡ rest = cc in same),
     )
 
--- where none is left all were taken
+-- If no items remain after the first n, all n items were taken.
 pub left-none : (n : ℕ) (items : Items) → n ≤ length items → drop n items ≡ [] → n ≡ length items
 left-none n items most left = let long = length-drop n items in let none : length (drop n items) ≡ 0 = ap length left in omega (arith, long, none, most)
 
 -- ---- a round
 
--- what is added piece by piece
+-- A fresh decoder with all pieces has the state of the pieces.
 pub pieces-added : (start end : ℕ) (x zero one two : DecoderState)
     → zero ≡ fresh_decoder (configuration x.configuration.rate x.configuration.original_count x.configuration.recovery_count (end - start))
     → one ≡ record zero { originals = pieces_of start end x.originals } → two ≡ record one { recovery = pieces_of start end x.recovery }
@@ -157,34 +157,34 @@ module _ (start end : ℕ) (x state : DecoderState) (is : state ≡ state_of_pie
       subst (λ (o : Result (Unit {0}) Error). MatchResult o (λ _. MatchResult result (Restored (state_of_pieces start end x)) (NoneAgrees (state_of_pieces start end x)))
       (λ e. result ≡ Err e)) enough-here here
 
-  -- what a round restores of the pieces
+  -- A round that succeeds restores the missing pieces.
   pub round-made : (out : Shards) → DecodeAnswers state (Ok out) → Restored (state_of_pieces start end x) out
   round-made out answers = answers-here (Ok out) answers
 
-  -- its refusal is that no message agrees
+  -- A round fails only if no message agrees with the pieces.
   pub round-refused : (e : Error) → DecodeAnswers state (Err e) → NoneAgrees (state_of_pieces start end x) e
   round-refused e answers = answers-here (Err e) answers
 
-  -- it leaves nothing added
+  -- After a round, the decoder has no shards.
   pub round-ends : after_decode state ≡ fresh_decoder (state_of_pieces start end x).configuration
   round-ends = ap after_decode is ∙ ended (state_of_pieces start end x) enough-here
 
--- ---- a strip of a store that was not changed but for its rooms
+-- ---- a strip, if only the rooms of the store were changed
 
 module _ (start end size : ℕ) (x now : DecoderState) (grows : Bool) (same : now ≡ x) (long : size ≡ x.configuration.shard_bytes) (strip : IsStrip start end size) where
   here : IsStrip start end x.configuration.shard_bytes
   here = subst (λ (n : ℕ). IsStrip start end n) long strip
 
-  -- if no message agrees with the pieces, none agrees with the shards
+  -- If no message agrees with the pieces of a strip, no message agrees with the shards.
   pub strip-refused : (e : Error) → NoneAgrees (state_of_pieces start end now) e ⊎ ((grows ≡ true) × (e ≡ OutOfMemory)) → NoneAgrees x e ⊎ (e ≡ OutOfMemory)
   strip-refused e (inl none) = inl (none-pieces start end x e here (subst (λ (s : DecoderState). NoneAgrees (state_of_pieces start end s) e) same none))
   strip-refused e (inr short) = inr short.1
 
-  -- what a round restored of the pieces, and put into the rooms
+  -- A round restored the missing pieces of a strip, and they were put into the rooms.
   abbrev pub ArePiecesPut : DecoderState → List Shard → List Shard → Type 0
   ArePiecesPut s old new = (out : Shards) × Restored (state_of_pieces start end s) out × (items : Items) × Lists out items × ArePut start end (shards_listed items) old new
 
-  -- one strip more is restored
+  -- If all bytes before a strip are restored, and the strip is restored, all bytes before its end are restored.
   pub strip-restored : (old new : List Shard) → ArePiecesPut now old new → IsRestoredBelow x grows start old → IsRestoredBelow x grows end new
   strip-restored old new made done =
       let (out, restored, items, listing, put) = subst (λ (s : DecoderState). ArePiecesPut s old new) same made in

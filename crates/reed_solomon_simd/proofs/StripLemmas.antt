@@ -14,26 +14,26 @@ use Rattle.reed_solomon_simd.proofs.ObjectRoundTrip.{codes-given, gives-all, enc
 
 module _ (start end r : ℕ) (originals : List (Bor Shard)) (order : start ≤ end) (inside : All (λ shard. end ≤ length shard.now) originals)
     (first : EncoderState) (fresh : first ≡ fresh_encoder (default_of (length originals) r (end - start))) where
-  -- no strip is refused
+  -- Adding the pieces of a strip does not fail.
   pub strip-added : (P : EncoderState → Type 0) (e : Error) → Reaches (with_shards first (pieces start end (shards_of originals))) (Err e) P → ⊥
   strip-added =
       gives-all (default_of (length originals) r (end - start)) (pieces start end (shards_of originals)) first fresh
       (pieces-count start end originals) (pieces-sized start end originals order inside)
 
   module _ (given : EncoderState) (led : with_shards first (pieces start end (shards_of originals)) ≡ Ok given) where
-    -- nor is the round
+    -- Encoding the pieces of a strip does not fail.
     pub strip-encoded : (e : Error) → EncodeAnswers given (Err e) → ⊥
     strip-encoded e =
         encodes (default_of (length originals) r (end - start)) (pieces start end (shards_of originals)) first fresh
         (pieces-count start end originals) (pieces-sized start end originals order inside) given e led
 
-    -- which leaves the encoder as it was
+    -- After encoding a strip, the encoder has the state that it had before.
     pub strip-ends : after_encode given ≡ first
     strip-ends =
         round-ends (default_of (length originals) r (end - start)) (pieces start end (shards_of originals)) first fresh
         (pieces-count start end originals) (pieces-sized start end originals order inside) given led
 
-    -- and makes the strips' recovery shards
+    -- Encoding the pieces of a strip makes the recovery pieces of the strip.
     pub strip-codes : (made : List Shard) → IsEncoder default_rate given → EncodeAnswers given (Ok made)
         → AreRecovery (default_of (length originals) r (end - start)) (pieces start end (shards_of originals)) made
     strip-codes made is answers =

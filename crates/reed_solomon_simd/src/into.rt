@@ -49,7 +49,8 @@ pub fn encode_into<E: Engine>(
     recovery: &mut [&mut [u8]],
     engine: E,
 ) -> Result<(), RoomError>
-    ensures answer { EncodesInto original_count recovery_count (shards_of original.now) (bytes_in recovery.old) (bytes_in recovery.new) result }
+    ensures answer { EncodesInto original_count recovery_count (shards_of original.now)
+        (bytes_in recovery.old) (bytes_in recovery.new) result }
     ensures kept { loans_of recovery.new ≡ loans_of recovery.old }
 {
     let counts = DefaultRateCounts::new(original_count, recovery_count)?;
@@ -70,11 +71,13 @@ fn encode_lent<E: Engine>(
 ) -> Result<(), Error>
     requires originals { length originals.now ≡ counts.original_count }
     requires number { length recovery.old ≡ counts.recovery_count }
-    requires valid { validation_outcome (default_of counts.original_count counts.recovery_count shard_bytes) ≡ Ok tt }
+    requires valid { validation_outcome
+        (default_of counts.original_count counts.recovery_count shard_bytes) ≡ Ok tt }
     requires sized { All (λ shard. length shard.now ≡ shard_bytes) originals.now }
     requires fit { All (λ room. length room ≡ shard_bytes) (bytes_in recovery.old) }
     ensures coded { OnOk result
-        (AreRecovery (default_of counts.original_count counts.recovery_count shard_bytes) (shards_of originals.now) (bytes_in recovery.new)) }
+        (AreRecovery (default_of counts.original_count counts.recovery_count shard_bytes)
+        (shards_of originals.now) (bytes_in recovery.new)) }
     ensures refused { OnErr result (result ≡ Err Error.OutOfMemory) }
     ensures untouched { OnErr result (bytes_in recovery.new ≡ bytes_in recovery.old) }
     ensures kept { loans_of recovery.new ≡ loans_of recovery.old }
@@ -120,8 +123,10 @@ pub fn decode_into<E: Engine>(
     restored: &mut [&mut [u8]],
     engine: E,
 ) -> Result<(), RoomError>
-    ensures answer { DecodesInto original_count recovery_count (map (λ item. (item.0, item.1.now)) original.now)
-        (map (λ item. (item.0, item.1.now)) recovery.now) (bytes_in restored.old) (bytes_in restored.new) result }
+    ensures answer { DecodesInto original_count recovery_count
+        (map (λ item. (item.0, item.1.now)) original.now)
+        (map (λ item. (item.0, item.1.now)) recovery.now) (bytes_in restored.old)
+        (bytes_in restored.new) result }
     ensures kept { loans_of restored.new ≡ loans_of restored.old }
 {
     let counts = DefaultRateCounts::new(original_count, recovery_count)?;

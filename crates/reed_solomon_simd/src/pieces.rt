@@ -20,7 +20,8 @@ pub trait Pieces {
 
     /// Returns the counts.
     fn counts(&self) -> DefaultRateCounts
-        ensures originals { result.original_count ≡ (received self.now).configuration.original_count }
+        ensures originals { result.original_count
+            ≡ (received self.now).configuration.original_count }
         ensures recovery { result.recovery_count ≡ (received self.now).configuration.recovery_count };
 
     /// Returns the size of each shard in bytes.
@@ -76,7 +77,8 @@ fn piece_at<'a>(
 ) -> Option<&'a [u8]>
     requires index { index < length places.now }
     requires order { start ≤ end }
-    requires inside { (i : ℕ) (shard : Shard) → given_in places.now i ≡ Some shard → end ≤ length shard }
+    requires inside { (i : ℕ) (shard : Shard)
+        → given_in places.now i ≡ Some shard → end ≤ length shard }
     ensures { option_copied result ≡ pieces_of start end (given_in places.now) index }
 {
     let shard = places[index]?;

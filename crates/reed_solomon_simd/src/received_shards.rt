@@ -26,7 +26,9 @@ pub struct Places<'a> {
 impl<'a> Places<'a> {
     // So many places with no shard.
     fn new(alloc: Global, count: usize) -> Result<Places<'a>, Error>
-        ensures { MatchResult result (λ places. (length places.shards.items ≡ count) × (given_in places.shards.items ≡ nothing))
+        ensures { MatchResult result
+            (λ places. (length places.shards.items ≡ count)
+            × (given_in places.shards.items ≡ nothing))
             (λ e. e ≡ Error.OutOfMemory) }
     {
         let shards: Vec<Option<&'a [u8]>> = vec![in alloc; None; count]?;
@@ -37,7 +39,8 @@ impl<'a> Places<'a> {
     fn enter(&mut self, index: usize, shard: &'a [u8])
         requires inside { index < length self.old.shards.items }
         requires free { given_in self.old.shards.items index ≡ None }
-        ensures entered { given_in self.new.shards.items ≡ with_entry (given_in self.old.shards.items) index shard.now }
+        ensures entered { given_in self.new.shards.items
+            ≡ with_entry (given_in self.old.shards.items) index shard.now }
         ensures length { length self.new.shards.items ≡ length self.old.shards.items }
     {
         self.shards[index] = Some(shard);
@@ -52,12 +55,15 @@ pub struct ReceivedShards<'a> {
     pub(crate) shard_bytes: usize,
     pub(crate) originals: Places<'a>,
     pub(crate) recovery: Places<'a>,
-    pub ghost set_up: { let c = default_of counts.original_count counts.recovery_count shard_bytes in
+    pub ghost set_up: { let c =
+        default_of counts.original_count counts.recovery_count shard_bytes in
         start_outcome (decoder_rows default_rate c.original_count c.recovery_count) c ≡ Ok tt },
     pub ghost original_places: { length originals.shards.items ≡ counts.original_count },
     pub ghost recovery_places: { length recovery.shards.items ≡ counts.recovery_count },
-    pub ghost originals_within: { AreWithin counts.original_count shard_bytes (given_in originals.shards.items) },
-    pub ghost recovery_within: { AreWithin counts.recovery_count shard_bytes (given_in recovery.shards.items) },
+    pub ghost originals_within: { AreWithin counts.original_count shard_bytes
+        (given_in originals.shards.items) },
+    pub ghost recovery_within: { AreWithin counts.recovery_count shard_bytes
+        (given_in recovery.shards.items) },
 }
 
 impl<'a> ReceivedShards<'a> {
@@ -72,9 +78,14 @@ impl<'a> ReceivedShards<'a> {
         counts: DefaultRateCounts,
         shard_bytes: usize,
     ) -> Result<ReceivedShards<'a>, Error>
-        ensures answer { let c = default_of counts.original_count counts.recovery_count shard_bytes in
-            UpToMemory (start_outcome (decoder_rows default_rate c.original_count c.recovery_count) c) (answer_of result) }
-        ensures made { IfOk result (λ x. received_state x ≡ fresh_decoder (default_of counts.original_count counts.recovery_count shard_bytes)) }
+        ensures answer { let c =
+            default_of counts.original_count counts.recovery_count shard_bytes in
+            UpToMemory
+            (start_outcome (decoder_rows default_rate c.original_count c.recovery_count) c)
+            (answer_of result) }
+        ensures made { IfOk result
+            (λ x. received_state x
+            ≡ fresh_decoder (default_of counts.original_count counts.recovery_count shard_bytes)) }
     {
         counts.check_decoder_rows(shard_bytes)?;
         Ok(ReceivedShards {
@@ -87,8 +98,11 @@ impl<'a> ReceivedShards<'a> {
 
     // Adds the original with this index.
     pub(crate) fn add_original(&mut self, index: usize, shard: &'a [u8]) -> Result<(), Error>
-        ensures answer { result ≡ answer_of (with_original (received_state self.old) index shard.now) }
-        ensures left { received_state self.new ≡ state_after (received_state self.old) (with_original (received_state self.old) index shard.now) }
+        ensures answer { result
+            ≡ answer_of (with_original (received_state self.old) index shard.now) }
+        ensures left { received_state self.new
+            ≡ state_after (received_state self.old)
+            (with_original (received_state self.old) index shard.now) }
     {
         let original_count = self.counts.original_count;
         if index >= original_count {
@@ -107,8 +121,11 @@ impl<'a> ReceivedShards<'a> {
 
     // Adds the recovery shard with this index.
     pub(crate) fn add_recovery(&mut self, index: usize, shard: &'a [u8]) -> Result<(), Error>
-        ensures answer { result ≡ answer_of (with_recovery (received_state self.old) index shard.now) }
-        ensures left { received_state self.new ≡ state_after (received_state self.old) (with_recovery (received_state self.old) index shard.now) }
+        ensures answer { result
+            ≡ answer_of (with_recovery (received_state self.old) index shard.now) }
+        ensures left { received_state self.new
+            ≡ state_after (received_state self.old)
+            (with_recovery (received_state self.old) index shard.now) }
     {
         let recovery_count = self.counts.recovery_count;
         if index >= recovery_count {
@@ -132,7 +149,9 @@ impl<'a> ReceivedShards<'a> {
     /// [`Error::NotEnoughShards`] if fewer shards than originals were received.
     pub fn surplus(&self) -> Result<usize, Error>
         ensures answer { answer_of result ≡ enough_given (received_state self.now) }
-        ensures number { IfOk result (λ n. originals_given (received_state self.now) + recovery_given (received_state self.now) ≡ self.now.counts.original_count + n) }
+        ensures number { IfOk result
+            (λ n. originals_given (received_state self.now)
+            + recovery_given (received_state self.now) ≡ self.now.counts.original_count + n) }
     {
         surplus_of(
             self.counts.original_count,
@@ -143,7 +162,8 @@ impl<'a> ReceivedShards<'a> {
 
     /// Returns how many originals are missing.
     pub fn missing(&self) -> usize
-        ensures { result + originals_given (received_state self.now) ≡ self.now.counts.original_count }
+        ensures { result + originals_given (received_state self.now)
+            ≡ self.now.counts.original_count }
     {
         self.counts.original_count - self.originals.number
     }
@@ -177,7 +197,9 @@ pub fn surplus_of(
 
 // `DifferentShardSize` for a shard of another size.
 fn check_size(shard_bytes: usize, shard: &[u8]) -> Result<(), Error>
-    ensures answer { result ≡ (if length shard.now == shard_bytes then Ok tt else Err (Error.DifferentShardSize shard_bytes (length shard.now))) }
+    ensures answer { result
+        ≡ (if length shard.now == shard_bytes then Ok tt
+        else Err (Error.DifferentShardSize shard_bytes (length shard.now))) }
     ensures shard { OnOk result (IsShard shard_bytes shard.now) }
 {
     are_bytes(shard);

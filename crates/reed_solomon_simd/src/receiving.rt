@@ -33,7 +33,8 @@ where
     requires ends { IsFinite (O.remaining original) }
     requires can_recovery { R.can_next recovery }
     requires recovery_ends { IsFinite (R.remaining recovery) }
-    ensures { (calls : Calls O.next_gives original) × (further : Calls R.next_gives recovery) × ((originals recoveries : Items)
+    ensures { (calls : Calls O.next_gives original) × (further : Calls R.next_gives recovery)
+        × ((originals recoveries : Items)
         → BeginsWithItems originals calls → BeginsWithItems recoveries further
         → IsDecoding counts.original_count counts.recovery_count originals recoveries
         (result_map_both (λ o. option_map received_state o) (λ e. e) result)) }
@@ -56,8 +57,10 @@ fn add_originals<'a, I: Iterator<Item = (usize, &'a [u8])> + Drop>(
 ) -> Result<(), Error>
     requires can { I.can_next originals }
     requires ends { IsFinite (I.remaining originals) }
-    ensures { (calls : Calls I.next_gives originals) × ((items : Items) → BeginsWithItems items calls
-        → Reaches (with_originals (received_state received.old) items) result (λ s. received_state received.new ≡ s)) }
+    ensures { (calls : Calls I.next_gives originals)
+        × ((items : Items) → BeginsWithItems items calls
+        → Reaches (with_originals (received_state received.old) items) result
+        (λ s. received_state received.new ≡ s)) }
 {
     for (index, shard) in originals {
         received.add_original(index, shard)?;
@@ -73,7 +76,8 @@ fn add_recovery<'a, I: Iterator<Item = (usize, &'a [u8])> + Drop>(
     requires can { I.can_next recovery }
     requires ends { IsFinite (I.remaining recovery) }
     ensures { (calls : Calls I.next_gives recovery) × ((items : Items) → BeginsWithItems items calls
-        → Reaches (with_recoveries (received_state received.old) items) result (λ s. received_state received.new ≡ s)) }
+        → Reaches (with_recoveries (received_state received.old) items) result
+        (λ s. received_state received.new ≡ s)) }
 {
     for (index, shard) in recovery {
         received.add_recovery(index, shard)?;

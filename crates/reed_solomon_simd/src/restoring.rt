@@ -36,7 +36,8 @@ pub fn restore_vectors<E: Engine, P: Pieces>(
 ) -> Result<Vec<Vec<u8>>, Error>
     requires set_up { IsDecoder default_rate (P.received received.now) }
     requires enough { enough_given (P.received received.now) ≡ Ok tt }
-    requires missing { missing + originals_given (P.received received.now) ≡ (P.received received.now).configuration.original_count }
+    requires missing { missing + originals_given (P.received received.now)
+        ≡ (P.received received.now).configuration.original_count }
     ensures { MatchResult (collected_shards result) (HoldRestored (P.received received.now))
         (λ e. NoneAgrees (P.received received.now) e ⊎ (e ≡ Error.OutOfMemory)) }
 {
@@ -56,11 +57,15 @@ fn restore_apart<E: Engine, P: Pieces, R: Rooms>(
     requires enough { enough_given (P.received received.now) ≡ Ok tt }
     requires number { length (R.held rooms.old) + originals_given (P.received received.now)
         ≡ (P.received received.now).configuration.original_count }
-    requires fit { All (λ room. length room ≡ room_length R.grows 0 (P.received received.now).configuration.shard_bytes)
+    requires fit { All
+        (λ room. length room
+        ≡ room_length R.grows 0 (P.received received.now).configuration.shard_bytes)
         (R.held rooms.old) }
     ensures restored { OnOk result (HoldRestored (P.received received.now) (R.held rooms.new)) }
-    ensures refused { IfErr result (λ e. NoneAgrees (P.received received.now) e ⊎ (e ≡ Error.OutOfMemory)) }
-    ensures untouched { R.grows ≡ false → IfErr result (λ e. e ≡ Error.OutOfMemory → R.held rooms.new ≡ R.held rooms.old) }
+    ensures refused { IfErr result
+        (λ e. NoneAgrees (P.received received.now) e ⊎ (e ≡ Error.OutOfMemory)) }
+    ensures untouched { R.grows ≡ false
+        → IfErr result (λ e. e ≡ Error.OutOfMemory → R.held rooms.new ≡ R.held rooms.old) }
     ensures places { R.places rooms.new ≡ R.places rooms.old }
     ensures loan { R.loan rooms.new ≡ R.loan rooms.old }
 {
@@ -84,10 +89,13 @@ pub fn restore_lent<E: Engine>(
     rooms: &mut [&mut [u8]],
 ) -> Result<(), Error>
     requires enough { enough_given (received_state received.now) ≡ Ok tt }
-    requires exact { originals_given (received_state received.now) + recovery_given (received_state received.now) ≡ received.now.counts.original_count }
-    requires number { length rooms.old + originals_given (received_state received.now) ≡ received.now.counts.original_count }
+    requires exact { originals_given (received_state received.now)
+        + recovery_given (received_state received.now) ≡ received.now.counts.original_count }
+    requires number { length rooms.old + originals_given (received_state received.now)
+        ≡ received.now.counts.original_count }
     requires fit { All (λ room. length room ≡ received.now.shard_bytes) (bytes_in rooms.old) }
-    ensures restored { OnOk result (HoldRestored (received_state received.now) (bytes_in rooms.new)) }
+    ensures restored { OnOk result
+        (HoldRestored (received_state received.now) (bytes_in rooms.new)) }
     ensures refused { OnErr result (result ≡ Err Error.OutOfMemory) }
     ensures untouched { OnErr result (bytes_in rooms.new ≡ bytes_in rooms.old) }
     ensures kept { loans_of rooms.new ≡ loans_of rooms.old }
@@ -117,12 +125,16 @@ pub fn restore_in_place<E: Engine, S: Pieces + Rooms>(
     requires set_up { IsDecoder default_rate (S.received store.old) }
     requires enough { originals_given (S.received store.old) + recovery_given (S.received store.old)
         ≡ (S.received store.old).configuration.original_count + surplus }
-    requires missing { missing + originals_given (S.received store.old) ≡ (S.received store.old).configuration.original_count }
+    requires missing { missing + originals_given (S.received store.old)
+        ≡ (S.received store.old).configuration.original_count }
     requires number { length (S.held store.old) ≡ missing }
     requires fixed { S.grows ≡ false }
-    requires fit { All (λ room. length room ≡ (S.received store.old).configuration.shard_bytes) (S.held store.old) }
+    requires fit { All
+        (λ room. length room ≡ (S.received store.old).configuration.shard_bytes)
+        (S.held store.old) }
     ensures restored { OnOk result (HoldRestored (S.received store.old) (S.held store.new)) }
-    ensures refused { IfErr result (λ e. NoneAgrees (S.received store.old) e ⊎ (e ≡ Error.OutOfMemory)) }
+    ensures refused { IfErr result
+        (λ e. NoneAgrees (S.received store.old) e ⊎ (e ≡ Error.OutOfMemory)) }
     ensures untouched { OnErr result (S.held store.new ≡ S.held store.old) }
     ensures places { S.places store.new ≡ S.places store.old }
     ensures loan { S.loan store.new ≡ S.loan store.old }
@@ -151,7 +163,8 @@ pub fn restore_into<E: Engine>(
     engine: E,
     rooms: &mut [&mut [u8]],
 ) -> Result<(), RoomError>
-    ensures answer { RestoresInto (received_state received.now) (bytes_in rooms.old) (bytes_in rooms.new) result }
+    ensures answer { RestoresInto (received_state received.now) (bytes_in rooms.old)
+        (bytes_in rooms.new) result }
     ensures kept { loans_of rooms.new ≡ loans_of rooms.old }
 {
     let surplus = received.surplus()?;
@@ -164,8 +177,11 @@ pub fn restore_into<E: Engine>(
 // Whether no message is needed to know that the shards have one, and each missing original has a room of its size.
 fn can_be_written(surplus: usize, received: &ReceivedShards<'_>, rooms: &[&mut [u8]]) -> bool
     ensures exact { result ≡ true → surplus ≡ 0 }
-    ensures number { result ≡ true → length rooms.now + originals_given (received_state received.now) ≡ received.now.counts.original_count }
-    ensures fit { result ≡ true → All (λ room. length room ≡ received.now.shard_bytes) (bytes_in rooms.now) }
+    ensures number { result ≡ true
+        → length rooms.now + originals_given (received_state received.now)
+        ≡ received.now.counts.original_count }
+    ensures fit { result ≡ true
+        → All (λ room. length room ≡ received.now.shard_bytes) (bytes_in rooms.now) }
 {
     surplus == 0 && check_rooms(received.missing(), received.shard_bytes, rooms).is_ok()
 }
@@ -178,10 +194,13 @@ fn restore_directly<E: Engine>(
     rooms: &mut [&mut [u8]],
 ) -> Result<(), RoomError>
     requires enough { enough_given (received_state received.now) ≡ Ok tt }
-    requires exact { originals_given (received_state received.now) + recovery_given (received_state received.now) ≡ received.now.counts.original_count }
-    requires number { length rooms.old + originals_given (received_state received.now) ≡ received.now.counts.original_count }
+    requires exact { originals_given (received_state received.now)
+        + recovery_given (received_state received.now) ≡ received.now.counts.original_count }
+    requires number { length rooms.old + originals_given (received_state received.now)
+        ≡ received.now.counts.original_count }
     requires fit { All (λ room. length room ≡ received.now.shard_bytes) (bytes_in rooms.old) }
-    ensures answer { RestoresInto (received_state received.now) (bytes_in rooms.old) (bytes_in rooms.new) result }
+    ensures answer { RestoresInto (received_state received.now) (bytes_in rooms.old)
+        (bytes_in rooms.new) result }
     ensures kept { loans_of rooms.new ≡ loans_of rooms.old }
 {
     restore_lent(alloc, received, engine, rooms)?;
@@ -196,7 +215,8 @@ fn restore_by_vectors<E: Engine>(
     rooms: &mut [&mut [u8]],
 ) -> Result<(), RoomError>
     requires enough { enough_given (received_state received.now) ≡ Ok tt }
-    ensures answer { RestoresInto (received_state received.now) (bytes_in rooms.old) (bytes_in rooms.new) result }
+    ensures answer { RestoresInto (received_state received.now) (bytes_in rooms.old)
+        (bytes_in rooms.new) result }
     ensures kept { loans_of rooms.new ≡ loans_of rooms.old }
 {
     let missing = received.missing();
@@ -222,8 +242,11 @@ fn fill_rooms(vectors: &[Vec<u8>], shard_bytes: usize, rooms: &mut [&mut [u8]])
 fn put_all<R: Rooms>(vectors: &[Vec<u8>], shard_bytes: usize, rooms: &mut R) -> Result<(), Error>
     requires number { length vectors.now ≡ length (R.held rooms.old) }
     requires sized { All (λ vector. length vector.items ≡ shard_bytes) vectors.now }
-    requires fit { All (λ room. length room ≡ room_length R.grows 0 shard_bytes) (R.held rooms.old) }
-    ensures put { OnOk result (ArePut 0 shard_bytes (map (λ vector. vector.items) vectors.now) (R.held rooms.old) (R.held rooms.new)) }
+    requires fit { All
+        (λ room. length room ≡ room_length R.grows 0 shard_bytes) (R.held rooms.old) }
+    ensures put { OnOk result
+        (ArePut 0 shard_bytes (map (λ vector. vector.items) vectors.now)
+        (R.held rooms.old) (R.held rooms.new)) }
     ensures refused { OnErr result ((R.grows ≡ true) × (result ≡ Err Error.OutOfMemory)) }
     ensures places { R.places rooms.new ≡ R.places rooms.old }
     ensures loan { R.loan rooms.new ≡ R.loan rooms.old }
@@ -244,8 +267,10 @@ pub fn by_index(
     received: &ReceivedShards<'_>,
     restored: Vec<Vec<u8>>,
 ) -> Result<BTreeMap<usize, Vec<u8>>, Error>
-    requires { HoldRestored (received_state received.now) (map (λ vector. vector.items) restored.items) }
-    ensures { MatchResult (collected_map result) (Restored (received_state received.now)) (λ e. e ≡ Error.OutOfMemory) }
+    requires { HoldRestored (received_state received.now)
+        (map (λ vector. vector.items) restored.items) }
+    ensures { MatchResult (collected_map result) (Restored (received_state received.now))
+        (λ e. e ≡ Error.OutOfMemory) }
 {
     let mut vectors = BTreeMap::new(alloc);
     let mut left = restored.into_iter();

@@ -39,8 +39,11 @@ pub trait Rooms {
             × (length (slice_index_or (held self.old) index []) ≡ room_length grows start size) }
         ensures number { length (held self.new) ≡ length (held self.old) }
         ensures here { OnOk result (slice_index_or (held self.new) index []
-            ≡ take start (slice_index_or (held self.old) index []) ++ (piece.now ++ drop (start + length piece.now) (slice_index_or (held self.old) index []))) }
-        ensures others { (i : ℕ) → i ≢ index → slice_index_or (held self.new) i [] ≡ slice_index_or (held self.old) i [] }
+            ≡ take start (slice_index_or (held self.old) index [])
+            ++ (piece.now
+            ++ drop (start + length piece.now) (slice_index_or (held self.old) index []))) }
+        ensures others { (i : ℕ) → i ≢ index
+            → slice_index_or (held self.new) i [] ≡ slice_index_or (held self.old) i [] }
         ensures refused { OnErr result ((grows ≡ true) × (result ≡ Err Error.OutOfMemory)) }
         ensures places { places self.new ≡ places self.old }
         ensures loan { loan self.new ≡ loan self.old };
@@ -95,7 +98,8 @@ impl<'a, 'b> Rooms for LentRooms<'a, 'b> {
 // Writes a strip into a room, after the first `start` bytes.
 fn put(room: &mut [u8], start: usize, piece: &[u8])
     requires { start + length piece.now ≤ length room.old }
-    ensures { room.new ≡ take start room.old ++ (piece.now ++ drop (start + length piece.now) room.old) }
+    ensures { room.new
+        ≡ take start room.old ++ (piece.now ++ drop (start + length piece.now) room.old) }
 {
     let end = start + piece.len();
     room[start..end].copy_from_slice(piece);
@@ -108,7 +112,8 @@ fn put(room: &mut [u8], start: usize, piece: &[u8])
 /// - [`RoomError::WrongNumberOfRooms`] if there are more or fewer rooms.
 /// - [`RoomError::WrongLength`] for the first room of another size.
 pub fn check_rooms(count: usize, shard_bytes: usize, rooms: &[&mut [u8]]) -> Result<(), RoomError>
-    ensures answer { (shards : List Shard) → length shards ≡ count → All (λ shard. length shard ≡ shard_bytes) shards
+    ensures answer { (shards : List Shard) → length shards ≡ count
+        → All (λ shard. length shard ≡ shard_bytes) shards
         → result ≡ rooms_fit shards (bytes_in rooms.now) }
     ensures number { OnOk result (length rooms.now ≡ count) }
     ensures fit { OnOk result (All (λ room. length room ≡ shard_bytes) (bytes_in rooms.now)) }

@@ -29,8 +29,10 @@ pub fn encode_slice<T: AsSlice<u8>>(
     original: &[T],
     engine: DefaultEngine<'_>,
 ) -> Result<Vec<Vec<u8>>, Error>
-    ensures answer { OneEncodeAnswers original_count recovery_count (map T.items original.now) (collected_shards result) }
-    ensures coded { IfOk (collected_shards result) (AreCoded original_count recovery_count (map T.items original.now)) }
+    ensures answer { OneEncodeAnswers original_count recovery_count (map T.items original.now)
+        (collected_shards result) }
+    ensures coded { IfOk (collected_shards result)
+        (AreCoded original_count recovery_count (map T.items original.now)) }
 {
     let shards = original.iter().map(|shard| shard.as_slice());
     encode(alloc, original_count, recovery_count, shards, engine)
@@ -57,7 +59,8 @@ pub fn decode_slice<O: AsSlice<u8>, R: AsSlice<u8>>(
     recovery: &[(usize, R)],
     engine: DefaultEngine<'_>,
 ) -> Result<BTreeMap<usize, Vec<u8>>, Error>
-    ensures { OneDecodeAnswers original_count recovery_count (map (λ item. (item.0, O.items item.1)) original.now)
+    ensures { OneDecodeAnswers original_count recovery_count
+        (map (λ item. (item.0, O.items item.1)) original.now)
         (map (λ item. (item.0, R.items item.1)) recovery.now) (collected_map result) }
 {
     decode(

@@ -39,11 +39,15 @@ pub fn decode_strips<E: Engine, S: Pieces + Rooms>(
     requires enough { enough_given (S.received store.old) ≡ Ok tt }
     requires number { length (S.held store.old) + originals_given (S.received store.old)
         ≡ (S.received store.old).configuration.original_count }
-    requires fit { All (λ room. length room ≡ room_length S.grows 0 (S.received store.old).configuration.shard_bytes)
+    requires fit { All
+        (λ room. length room
+        ≡ room_length S.grows 0 (S.received store.old).configuration.shard_bytes)
         (S.held store.old) }
     ensures restored { OnOk result (HoldRestored (S.received store.old) (S.held store.new)) }
-    ensures refused { IfErr result (λ e. NoneAgrees (S.received store.old) e ⊎ (e ≡ Error.OutOfMemory)) }
-    ensures untouched { S.grows ≡ false → IfErr result (λ e. e ≡ Error.OutOfMemory → S.held store.new ≡ S.held store.old) }
+    ensures refused { IfErr result
+        (λ e. NoneAgrees (S.received store.old) e ⊎ (e ≡ Error.OutOfMemory)) }
+    ensures untouched { S.grows ≡ false
+        → IfErr result (λ e. e ≡ Error.OutOfMemory → S.held store.new ≡ S.held store.old) }
     ensures places { S.places store.new ≡ S.places store.old }
     ensures loan { S.loan store.new ≡ S.loan store.old }
 {
@@ -78,13 +82,19 @@ fn decode_strip<E: Engine, S: Pieces + Rooms>(
     requires enough { enough_given (S.received store.old) ≡ Ok tt }
     requires number { length (S.held store.old) + originals_given (S.received store.old)
         ≡ (S.received store.old).configuration.original_count }
-    requires fit { All (λ room. length room ≡ room_length S.grows start (S.received store.old).configuration.shard_bytes)
+    requires fit { All
+        (λ room. length room
+        ≡ room_length S.grows start (S.received store.old).configuration.shard_bytes)
         (S.held store.old) }
-    ensures refused { IfErr result (λ e. NoneAgrees (state_of_pieces start end (S.received store.old)) e
+    ensures refused { IfErr result
+        (λ e. NoneAgrees (state_of_pieces start end (S.received store.old)) e
         ⊎ ((S.grows ≡ true) × (e ≡ Error.OutOfMemory))) }
-    ensures fresh { decoder_state default_rate decoder.new.rows ≡ decoder_state default_rate decoder.old.rows }
-    ensures put { OnOk result ((out : Shards) × Restored (state_of_pieces start end (S.received store.old)) out
-        × (items : Items) × Lists out items × ArePut start end (shards_listed items) (S.held store.old) (S.held store.new)) }
+    ensures fresh { decoder_state default_rate decoder.new.rows
+        ≡ decoder_state default_rate decoder.old.rows }
+    ensures put { OnOk result
+        ((out : Shards) × Restored (state_of_pieces start end (S.received store.old)) out
+        × (items : Items) × Lists out items
+        × ArePut start end (shards_listed items) (S.held store.old) (S.held store.new)) }
     ensures places { S.places store.new ≡ S.places store.old }
     ensures loan { S.loan store.new ≡ S.loan store.old }
 {
@@ -157,8 +167,10 @@ fn put_pieces<R: Rooms>(
 ) -> Result<(), Error>
     requires order { start ≤ end }
     requires pieces { (items : Items) → Lists (restored_originals lent.now) items
-        → (length items ≡ length (R.held rooms.old)) × All (λ shard. length shard ≡ end - start) (shards_listed items) }
-    requires fit { (size : ℕ) × (end ≤ size) × All (λ room. length room ≡ room_length R.grows start size) (R.held rooms.old) }
+        → (length items ≡ length (R.held rooms.old))
+        × All (λ shard. length shard ≡ end - start) (shards_listed items) }
+    requires fit { (size : ℕ) × (end ≤ size)
+        × All (λ room. length room ≡ room_length R.grows start size) (R.held rooms.old) }
     ensures put { OnOk result ((items : Items) × Lists (restored_originals lent.now) items
         × ArePut start end (shards_listed items) (R.held rooms.old) (R.held rooms.new)) }
     ensures refused { IfErr result (λ e. (R.grows ≡ true) × (e ≡ Error.OutOfMemory)) }

@@ -1,4 +1,4 @@
--- Listed shards that are given in turn: what one of them leads to.
+-- Listed shards are added one after another: the outcome after each shard.
 use Rattle.std.proofs.Common.{◌≡◌, refl, ℕ, ◌+◌, ◌<◌, Bool, true, false, List, ◌∷◌, length, map, drop, get_or, Result, Ok, Err, sym, ap, ◌∙◌, Vec, drop-cons, add-one}
 use Rattle.std.specs.List.{enumerate_from, filter}
 use Rattle.reed_solomon_simd.specs.declared.Error.{Error}
@@ -6,7 +6,7 @@ use Rattle.reed_solomon_simd.specs.Column.{Shard}
 use Rattle.reed_solomon_simd.specs.OneCall.{one_by_one}
 use Rattle.reed_solomon_simd.specs.Outcome.{result_and_then}
 
--- the shards of vectors from one on
+-- The shards of the vectors from number n on.
 abbrev pub shards_from : {Y : Type 0} → ℕ → List (Vec ℕ Y) → List Shard
 shards_from n vectors = map (λ vector. vector.items) (drop n vectors)
 
@@ -14,26 +14,26 @@ pub shards_from-next : {Y : Type 0} (n : ℕ) (vectors : List (Vec ℕ Y)) (d : 
 shards_from-next n vectors d inside = ap (map (λ vector. vector.items)) (drop-cons vectors n d inside ∙ ap (λ m. get_or vectors n d ∷ drop m vectors) (sym (add-one n)))
 
 module _ {S T : Type 0} (add : S → T → Result S Error) where
-  -- an item that is taken
+  -- If an item is added without an error, the outcome is the outcome of adding the other items to the next state.
   pub taken-next : (s next : S) (item : T) (items : List T) → add s item ≡ Ok next → one_by_one add s (item ∷ items) ≡ one_by_one add next items
   taken-next s next item items is = ap (result_and_then (λ t. one_by_one add t items)) is
 
 module _ {S : Type 0} (add : S → ℕ × Shard → Result S Error) (kept : ℕ × Shard → Bool) where
-  -- what the shards from number n on lead to, but for those that aren't kept
+  -- The outcome of adding the shards from number n on, without the shards that are not kept.
   abbrev pub led_by : S → ℕ → List Shard → Result S Error
   led_by s n shards = one_by_one add s (filter kept (enumerate_from n shards))
 
-  -- a shard that is kept, and taken
+  -- If a shard that is kept is added without an error, the outcome is the outcome of adding the later shards to the next state.
   pub kept-next : (s next : S) (n m index : ℕ) (shard : Shard) (shards rest : List Shard) → shards ≡ shard ∷ rest → index ≡ n → m ≡ n + 1 → kept (index, shard) ≡ true
       → add s (index, shard) ≡ Ok next → led_by s n shards ≡ led_by next m rest
   kept-next s next n m index shard shards rest is first after keeps taken = rw (is, after, ← first, keeps, taken) refl
 
-  -- a shard that is kept, and refused
+  -- If a shard that is kept cannot be added, its error is the outcome.
   pub kept-refused : (s : S) (n index : ℕ) (shard : Shard) (shards rest : List Shard) (e : Error) → shards ≡ shard ∷ rest → index ≡ n → kept (index, shard) ≡ true
       → add s (index, shard) ≡ Err e → led_by s n shards ≡ Err e
   kept-refused s n index shard shards rest e is first keeps refused = rw (is, ← first, keeps, refused) refl
 
-  -- a shard that is passed over
+  -- If a shard is not kept, the outcome is the outcome of adding the later shards.
   pub lost-next : (s : S) (n m index : ℕ) (shard : Shard) (shards rest : List Shard) → shards ≡ shard ∷ rest → index ≡ n → m ≡ n + 1 → kept (index, shard) ≡ false
       → led_by s n shards ≡ led_by s m rest
   lost-next s n m index shard shards rest is first after passes = rw (is, after, ← first, passes) refl

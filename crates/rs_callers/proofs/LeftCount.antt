@@ -1,11 +1,11 @@
--- How many shards are left.
+-- The number of shards that are left.
 use Rattle.std.proofs.Common.{◌≡◌, ℕ, ◌+◌, Bool, true, false, cond, not, nat_eq, List, [], ◌∷◌, length, refl, arith}
 use Rattle.std.specs.List.{enumerate_from, filter, list_any}
 use Rattle.reed_solomon_simd.specs.Column.{Shard}
 use Rattle.reed_solomon_simd.specs.OneCall.{Items}
 use Rattle.rs_callers.specs.Losing.{is_left, left_from}
 
--- as many of the shards numbered from one on as there are indexes that aren't lost
+-- From one number on, the number of shards that are left is the number of indexes that are not lost.
 pub left-count : (n : ℕ) (lost : List ℕ) (shards : List Shard) → length (filter (is_left lost) (enumerate_from n shards)) ≡ left_from n (length shards) lost
 left-count n lost [] = refl
 left-count n lost (x ∷ shards) = by_test (list_any (λ index. nat_eq index n) lost) (filter (is_left lost) (enumerate_from (n + 1) shards)) (left-count (n + 1) lost shards)

@@ -1,4 +1,4 @@
--- What stands where in a list of which the first rows of both parts after a split changed places.
+-- The chunks of a list that was split in two parts, after the first rows of both parts were exchanged.
 use Rattle.std.proofs.Common.{◌≡◌, ℕ, ◌+◌, ◌-◌, ◌*◌, ◌<◌, ◌≤◌, [], ◌++◌, length, take, drop, sym, ap, ap₂, ◌∙◌, refl, arith}
 use Rattle.std.proofs.lemmas.List.{append_assoc, take-append-drop, drop-append-le, length-take-le, length-drop}
 use Rattle.std.proofs.lemmas.Slice.{between_is}
@@ -11,14 +11,14 @@ use Rattle.rs_callers.specs.SwappedRows.{HasFirstRow}
 use Rattle.rs_field.proofs.of_rows.LentChunks.{taken}
 use Rattle.rs_callers.proofs.LentRows.{ends, swapped_rows}
 
--- the rows of a part fit its chunks
+-- The rows of a part of a list fit the chunks of the part.
 pub fits-part : (h : ShardsRefMut) (i m : ℕ) (r : ShardsRefMut) → i * h.shard_len_64 + m * h.shard_len_64 ≤ length h.chunks.now → HasRows h i m r → Fits r
 fits-part h i m r within is =
     let size = ap₂ (λ u v. u * v) is.count is.len_64 in
     let long = ap length is.chunks ∙ taken h.chunks.now (i * h.shard_len_64) (m * h.shard_len_64) within in
     omega (arith, size, long)
 
--- what is left of a list after n elements, up to m and from there on
+-- The elements from n on are the elements from n up to m, followed by the elements from m on.
 left-over : (xs : Chunks) (n m : ℕ) → n ≤ m → m ≤ length xs → drop n (take m xs) ++ drop m xs ≡ drop n xs
 left-over xs n m short within =
     let long = length-take-le m xs within in
@@ -45,7 +45,7 @@ joined-parts ch first second a n m short₁ short₂ within =
 pub parted : (m r c n : ℕ) → m + r ≡ c → m * n + r * n ≡ c * n
 parted m r c n e = let products : (m + r) * n ≡ c * n = ap (λ k. k * n) e in omega (arith, products)
 
--- the first row of a part
+-- The first row of a part that begins at row i is row i of the list.
 first-of-part : (h : ShardsRefMut) (i m : ℕ) (r : ShardsRefMut) → 0 < m → HasRows h i m r → row_at r 0 ≡ row_at h i
 first-of-part h i m r some is =
     let n = h.shard_len_64 in
@@ -53,7 +53,7 @@ first-of-part h i m r some is =
     let none : 0 * r.shard_len_64 ≡ 0 = omega arith in
     ap (λ k. take r.shard_len_64 (drop k r.chunks.now)) none ∙ ap₂ take is.len_64 is.chunks ∙ take-take n (m * n) (drop (i * n) h.chunks.now) (omega (arith, short))
 
--- what becomes of the list, if the first rows of the two parts after a split changed places
+-- The list after the first rows of the two parts of a split were exchanged.
 module _ (h : ShardsRefMut) (mid : ℕ) (x y x' y' : ShardsRefMut) (fits : Fits h) (some : 0 < mid) (within : mid < h.shard_count)
     (front : HasRows h 0 mid x) (back : HasRows h mid (h.shard_count - mid) y) (is₁ : HasFirstRow x (row_at y 0) x') (is₂ : HasFirstRow y (row_at x 0) y') where
   abbrev n : ℕ

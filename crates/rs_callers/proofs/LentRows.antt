@@ -1,4 +1,4 @@
--- What stands where in a list whose rows were replaced, or changed places.
+-- The chunks of a list after rows were replaced or exchanged.
 use Rattle.std.proofs.Common.{◌≡◌, ℕ, ◌+◌, ◌-◌, ◌*◌, ◌<◌, ◌≤◌, ◌⊎◌, inl, inr, [], ◌++◌, length, take, drop, refl, sym, ap, ap₂, ◌∙◌, subst, arith, length-append}
 use Rattle.std.proofs.Math.Nat.{mul-le-mul_right}
 use Rattle.std.proofs.lemmas.List.{get_or-take, get_or-drop, length-take-le, drop-drop, drop-append-le, append_assoc}
@@ -12,7 +12,7 @@ use Rattle.rs_field.specs.declared.rows.shards.ShardsRefMut.{ShardsRefMut}
 use Rattle.rs_field.proofs.of_rows.LentChunks.{taken, between-long}
 use Rattle.rs_callers.specs.SwappedRows.{AreSwapped, AreSwappedTwice}
 
--- where one run was replaced
+-- The chunks of a list after one run of chunks was replaced.
 module _ (ch run : Chunks) (a n : ℕ) (long : length run ≡ n) (within : a + n ≤ length ch) where
   pub in-run : (c k : ℕ) → c ≡ a + k → k < n → chunk (with_run ch a n run) c ≡ chunk run k
   in-run c k is low = grind (arith, common_steps)
@@ -24,7 +24,7 @@ module _ (ch run : Chunks) (a n : ℕ) (long : length run ≡ n) (within : a + n
   pub length-run : length (with_run ch a n run) ≡ length ch
   length-run = grind (arith, common_steps)
 
--- two runs are replaced one after the other
+-- Replacing two runs at once is replacing the second run and then the first run.
 pub as-runs : (ch first second : Chunks) (a n b m : ℕ) → a + n ≤ b → b ≤ length ch → with_two ch a n b m first second ≡ with_run (with_run ch b m second) a n first
 as-runs ch first second a n b m apart within =
     let other = with_run ch b m second in
@@ -33,9 +33,9 @@ as-runs ch first second a n b m apart within =
     (drop-drop n a other ∙ drop-append-le (a + n) (take b ch) (second ++ drop m (drop b ch)) (omega (arith, front, apart))
     ∙ ap₂ (λ u v. u ++ (second ++ v)) (sym (between_is ch (a + n) b)) (drop-drop m b ch)))
 
--- four runs are replaced two by two; replacing the first two runs leaves the chunks after them unchanged
+-- Four runs are replaced two by two. Replacing the first two runs leaves the chunks after them unchanged.
 module _ (ch first second : Chunks) (i n j : ℕ) (l₁ : length first ≡ n) (l₂ : length second ≡ n) (apart : i + n ≤ j) (within : j + n ≤ length ch) where
-  -- the chunks up to the end of the second run
+  -- The chunks up to the end of the second run.
   abbrev head : Chunks
   head = take i ch ++ (first ++ (between (i + n) j ch ++ second))
 
@@ -58,11 +58,11 @@ module _ (ch first second : Chunks) (i n j : ℕ) (l₁ : length first ≡ n) (l
       (ap₂ (λ u v. third ++ (take (m - (k + n)) u ++ (fourth ++ v))) (after-two (k + n) (omega (arith, later))) (after-two (m + n) (omega (arith, later, ordered))))
       ∙ simp append_assoc)
 
--- a row ends before a later one begins, and within the rows
+-- A row ends before any later row begins, and row ends are within the rows.
 pub ends : (n i j : ℕ) → i < j → i * n + n ≤ j * n
 ends n i j h = let rows : (i + 1) * n ≤ j * n = mul-le-mul_right n (omega (arith, h)) in omega (arith, rows)
 
--- a row of a list
+-- Each row of a list is within the chunks of the list.
 row-within : (h : ShardsRefMut) (r : ℕ) → Fits h → r < h.shard_count → r * h.shard_len_64 + h.shard_len_64 ≤ length h.chunks.now
 row-within h r fits within = let rows = ends h.shard_len_64 r h.shard_count within in omega (arith, rows, fits)
 

@@ -1,4 +1,4 @@
--- A list of rows is lent for a call, and comes back as what became of it.
+-- A list of rows is lent for a call, and the list is known again after the call.
 use Rattle.rs_field.proofs.Walking.{ℕ, refl, [], ◌∷◌, named, Lft, flft, full_share, wand, apply∗, GName, fdead, fres, RattleType, MutBor, MutRef, mut_vals}
 use Rattle.rs_field.proofs.Walking.{‵, ◌⊛◌, raw, some, later, ◌$◌, ◌∵◌, !, ◌≡◌, rewrite, qed, move, keep, split, await, pick, done, use1, use2, use3}
 use seplogic.Ra.Ura.{Ura}
@@ -25,7 +25,7 @@ use denote.Lend.{lends_again, comes_back, LentAgain}
 abbrev pub code₀ : Chunks → Gv
 code₀ = (Array E 0).coded.code
 
--- what the chunks of a lent row or list ended as
+-- The last chunks of a lent row or list.
 module _ {M : Type 1} {𝓤 : Ura M} (𝓛 : Logic 𝓤) (γ : GName) (last : Chunks) where
   pub row-ended : (end : Chunks) → last ≡ end → ent 𝓤 (sem 𝓛 (finally E γ last)) (sem 𝓛 (fres γ (code₀ end)))
   row-ended end is = qed 𝓛 (‵ (finally E γ last) ∷ []) ∵ use1 𝓛 (‵ (fres γ (code₀ last))) (finally-res 𝓛 E γ last) $
@@ -41,12 +41,12 @@ module _ {M : Type 1} {𝓤 : Ura M} (𝓛 : Logic 𝓤) (Row : RattleType) (κ�
   abbrev Ref : Lft → MutBor Row.Denot → Fml
   Ref κ x = (MutRef (named 0) κ Row).own_val x (mut_vals self)
 
-  -- what the lender keeps, by the lifetime and the name of the loan
+  -- The part of the loan that the lender keeps, for the lifetime and the name of the loan.
   abbrev pub Kept : ℕ → GName → Item 𝓤
   Kept α δ = ‵ (LentAgain Row κ₀ (α ∷ κ₁) q₀ self.ghost_name self.ref_ptr.0 self.ref_ptr.1 δ self.now)
       ⊛ raw (wand 𝓤 (A.lft (α ∷ []) (Share.left q₁)) (A.lft (α ∷ []) full_share))
 
-  -- the loan; its tokens; what is kept
+  -- The loan, the tokens of the loan, and the part that the lender keeps.
   abbrev pub Lent : ℕ × GName → Item 𝓤
   Lent v = ‵ (Ref (v.0 ∷ κ₁) (record self { ghost_name = v.1 })) ⊛ (‵ (flft (v.0 ∷ κ₁) (Share.left q₁)) ⊛ (‵ (flft κ₁ (Share.right q₁)) ⊛ Kept v.0 v.1))
 
@@ -63,7 +63,7 @@ module _ {M : Type 1} {𝓤 : Ura M} (𝓛 : Logic 𝓤) (Row : RattleType) (κ�
       (lends_again 𝓛 Row (named 0) κ₀ (α ∷ κ₁) q₀ self.ghost_name self.ref_ptr.0 self.ref_ptr.1 (named 0) self.now) $ await ! tt $ pick ! (λ δ. split ! $
       now ! $ show ! (λ v. mean 𝓛 (Lent v)) (α, δ) $ keep ! (0 ∷ 2 ∷ 3 ∷ 1 ∷ 4 ∷ []) $ done !))
 
-  -- self, and the tokens
+  -- The reference `self` and its tokens after the call.
   abbrev pub Back : Row.Denot → Item 𝓤
   Back end = ‵ (Ref κ₀ (record self { now = end })) ⊛ (‵ (flft κ₀ q₀) ⊛ ‵ (flft κ₁ q₁))
 

@@ -22,8 +22,10 @@ pub fn encode_twice<E: Engine, X: RateEncoder<E> + Drop>(
     steps: &mut Steps,
     forget: bool,
 ) -> Result<(), Error>
-    requires { length (X.state encoder.old).given ≡ (X.state encoder.old).configuration.original_count }
-    ensures answer { result ≡ Err (Error.TooFewOriginalShards (X.state encoder.old).configuration.original_count 0) }
+    requires { length (X.state encoder.old).given
+        ≡ (X.state encoder.old).configuration.original_count }
+    ensures answer { result
+        ≡ Err (Error.TooFewOriginalShards (X.state encoder.old).configuration.original_count 0) }
     ensures state { X.state encoder.new ≡ fresh_encoder (X.state encoder.old).configuration }
     ensures engine { X.engine_of encoder.new ≡ X.engine_of encoder.old }
 {
@@ -42,8 +44,11 @@ pub fn encode_too_early<E: Engine, X: RateEncoder<E> + Drop>(
     encoder: &mut X,
     steps: &mut Steps,
 ) -> Result<(), Error>
-    requires { length (X.state encoder.old).given < (X.state encoder.old).configuration.original_count }
-    ensures answer { result ≡ Err (Error.TooFewOriginalShards (X.state encoder.old).configuration.original_count (length (X.state encoder.old).given)) }
+    requires { length (X.state encoder.old).given
+        < (X.state encoder.old).configuration.original_count }
+    ensures answer { result
+        ≡ Err (Error.TooFewOriginalShards (X.state encoder.old).configuration.original_count
+        (length (X.state encoder.old).given)) }
     ensures state { X.state encoder.new ≡ X.state encoder.old }
     ensures engine { X.engine_of encoder.new ≡ X.engine_of encoder.old }
 {
@@ -54,10 +59,16 @@ pub fn encode_too_early<E: Engine, X: RateEncoder<E> + Drop>(
 /// Resets a decoder of the default rate from any configuration to one of the high rate. After an error, also after
 /// `OutOfMemory`, everything is as it was.
 pub fn pass_to_high<E: Engine>(decoder: &mut DefaultRateDecoder<E>) -> Result<(), Error>
-    ensures answer { UpToMemory (start_outcome (decoder_rows default_rate 3 2) (configuration default_rate 3 2 2)) result }
-    ensures ok { OnOk result (⟦<DefaultRateDecoder<E> as RateDecoder<E>>⟧.state decoder.new ≡ fresh_decoder (configuration default_rate 3 2 2)) }
-    ensures err { OnErr result (⟦<DefaultRateDecoder<E> as RateDecoder<E>>⟧.state decoder.new ≡ ⟦<DefaultRateDecoder<E> as RateDecoder<E>>⟧.state decoder.old) }
-    ensures engine { ⟦<DefaultRateDecoder<E> as RateDecoder<E>>⟧.engine_of decoder.new ≡ ⟦<DefaultRateDecoder<E> as RateDecoder<E>>⟧.engine_of decoder.old }
+    ensures answer { UpToMemory
+        (start_outcome (decoder_rows default_rate 3 2) (configuration default_rate 3 2 2)) result }
+    ensures ok { OnOk result
+        (⟦<DefaultRateDecoder<E> as RateDecoder<E>>⟧.state decoder.new
+        ≡ fresh_decoder (configuration default_rate 3 2 2)) }
+    ensures err { OnErr result
+        (⟦<DefaultRateDecoder<E> as RateDecoder<E>>⟧.state decoder.new
+        ≡ ⟦<DefaultRateDecoder<E> as RateDecoder<E>>⟧.state decoder.old) }
+    ensures engine { ⟦<DefaultRateDecoder<E> as RateDecoder<E>>⟧.engine_of decoder.new
+        ≡ ⟦<DefaultRateDecoder<E> as RateDecoder<E>>⟧.engine_of decoder.old }
 {
     decoder.reset(3, 2, 2)
 }
@@ -71,9 +82,12 @@ pub fn both_sides<E: Engine>(
     engine: E,
     other: E,
 ) -> Result<(DefaultRateEncoder<E>, DefaultRateDecoder<E>), Error>
-    ensures refused { IfErr (validation_outcome (configuration default_rate original_count recovery_count shard_bytes)) (λ e. result ≡ Err e) }
+    ensures refused { IfErr
+        (validation_outcome (configuration default_rate original_count recovery_count shard_bytes))
+        (λ e. result ≡ Err e) }
     ensures made { let c = configuration default_rate original_count recovery_count shard_bytes in
-        IfOk result (λ sides. (⟦<DefaultRateEncoder<E> as RateEncoder<E>>⟧.state sides.0 ≡ fresh_encoder c)
+        IfOk result
+        (λ sides. (⟦<DefaultRateEncoder<E> as RateEncoder<E>>⟧.state sides.0 ≡ fresh_encoder c)
         × (⟦<DefaultRateDecoder<E> as RateDecoder<E>>⟧.state sides.1 ≡ fresh_decoder c)) }
 {
     let counts = DefaultRateCounts::new(original_count, recovery_count)?;
@@ -90,7 +104,8 @@ pub fn encode_nothing<E: Engine, R: Rate<E>>(
     steps: &mut Steps,
 ) -> Result<(), Error>
     ensures { MatchResult (start_outcome (encoder_rows R.rate 2 3) (configuration R.rate 2 3 2))
-        (λ _. (result ≡ Err Error.OutOfMemory) ⊎ (result ≡ Err (Error.TooFewOriginalShards 2 0))) (λ e. result ≡ Err e) }
+        (λ _. (result ≡ Err Error.OutOfMemory) ⊎ (result ≡ Err (Error.TooFewOriginalShards 2 0)))
+        (λ e. result ≡ Err e) }
 {
     let mut encoder = R::encoder(alloc, 2, 3, 2, engine, None)?;
     let _ = encoder.encode(steps)?;
@@ -106,9 +121,12 @@ pub fn make_again<E: Engine, R: Rate<E>>(
     recovery_count: usize,
     shard_bytes: usize,
 ) -> Result<R::RateDecoder, Error>
-    requires { (R.RateDecoder.state decoder).configuration ≡ configuration R.rate original_count recovery_count shard_bytes }
+    requires { (R.RateDecoder.state decoder).configuration
+        ≡ configuration R.rate original_count recovery_count shard_bytes }
     ensures answer { answer_of result ≡ Ok tt }
-    ensures made { IfOk result (λ x. (R.RateDecoder.state x ≡ fresh_decoder (configuration R.rate original_count recovery_count shard_bytes))
+    ensures made { IfOk result
+        (λ x. (R.RateDecoder.state x
+        ≡ fresh_decoder (configuration R.rate original_count recovery_count shard_bytes))
         × (R.RateDecoder.engine_of x ≡ R.RateDecoder.engine_of decoder)) }
 {
     let (engine, work) = decoder.into_parts();
@@ -130,9 +148,11 @@ pub fn reset_and_back<E: Engine, X: RateEncoder<E>>(
     shard_bytes: usize,
     between: (usize, usize, usize),
 ) -> Result<(), Error>
-    requires { (X.state encoder.old).configuration ≡ configuration X.rate original_count recovery_count shard_bytes }
+    requires { (X.state encoder.old).configuration
+        ≡ configuration X.rate original_count recovery_count shard_bytes }
     ensures answer { result ≡ Ok tt }
-    ensures state { X.state encoder.new ≡ fresh_encoder (configuration X.rate original_count recovery_count shard_bytes) }
+    ensures state { X.state encoder.new
+        ≡ fresh_encoder (configuration X.rate original_count recovery_count shard_bytes) }
 {
     let _ = encoder.reset(between.0, between.1, between.2);
     encoder.reset(original_count, recovery_count, shard_bytes)
@@ -144,9 +164,13 @@ pub fn decode_inconsistent<E: Engine, X: RateDecoder<E> + Drop>(
     decoder: &mut X,
     steps: &mut Steps,
 ) -> (Result<(), Error>, Result<(), Error>)
-    ensures first { enough_given (X.state decoder.old) ≡ Ok tt → (IsConsistent (X.state decoder.old) → ⊥)
-        → result.0 ≡ Err (Error.InconsistentShards (originals_given (X.state decoder.old)) (recovery_given (X.state decoder.old))) }
-    ensures next { enough_given (X.state decoder.old) ≡ Ok tt → result.1 ≡ Err (Error.NotEnoughShards (X.state decoder.old).configuration.original_count 0 0) }
+    ensures first { enough_given (X.state decoder.old) ≡ Ok tt
+        → (IsConsistent (X.state decoder.old) → ⊥)
+        → result.0 ≡ Err (Error.InconsistentShards (originals_given (X.state decoder.old))
+        (recovery_given (X.state decoder.old))) }
+    ensures next { enough_given (X.state decoder.old) ≡ Ok tt
+        → result.1
+        ≡ Err (Error.NotEnoughShards (X.state decoder.old).configuration.original_count 0 0) }
     ensures state { X.state decoder.new ≡ after_decode (X.state decoder.old) }
     ensures engine { X.engine_of decoder.new ≡ X.engine_of decoder.old }
 {
@@ -161,9 +185,11 @@ pub fn decode_just_enough<E: Engine, X: RateDecoder<E> + Drop>(
     decoder: &mut X,
     steps: &mut Steps,
 ) -> Result<(), Error>
-    ensures enough { originals_given (X.state decoder.old) + recovery_given (X.state decoder.old) ≡ (X.state decoder.old).configuration.original_count → result ≡ Ok tt }
+    ensures enough { originals_given (X.state decoder.old) + recovery_given (X.state decoder.old)
+        ≡ (X.state decoder.old).configuration.original_count → result ≡ Ok tt }
     ensures answer { MatchResult (enough_given (X.state decoder.old))
-        (λ _. MatchResult result (λ _. IsConsistent (X.state decoder.old)) (NoneAgrees (X.state decoder.old))) (λ e. result ≡ Err e) }
+        (λ _. MatchResult result (λ _. IsConsistent (X.state decoder.old))
+        (NoneAgrees (X.state decoder.old))) (λ e. result ≡ Err e) }
     ensures state { X.state decoder.new ≡ after_decode (X.state decoder.old) }
     ensures engine { X.engine_of decoder.new ≡ X.engine_of decoder.old }
 {

@@ -15,7 +15,8 @@ pub fn encode_vectors(
     original: &[Vec<u8>],
     engine: DefaultEngine<'_>,
 ) -> Result<Vec<Vec<u8>>, Error>
-    ensures { OneEncodeAnswers original_count recovery_count (map (λ shard. shard.items) original.now) (collected_shards result) }
+    ensures { OneEncodeAnswers original_count recovery_count
+        (map (λ shard. shard.items) original.now) (collected_shards result) }
 {
     let shards = original.iter().map(|shard| shard.as_slice());
     encode(alloc, original_count, recovery_count, shards, engine)
@@ -42,7 +43,8 @@ pub fn decode_vectors(
     recovery: &[(usize, Vec<u8>)],
     engine: DefaultEngine<'_>,
 ) -> Result<BTreeMap<usize, Vec<u8>>, Error>
-    ensures { OneDecodeAnswers original_count recovery_count (map (λ item. (item.0, item.1.items)) original.now)
+    ensures { OneDecodeAnswers original_count recovery_count
+        (map (λ item. (item.0, item.1.items)) original.now)
         (map (λ item. (item.0, item.1.items)) recovery.now) (collected_map result) }
 {
     decode_slice(

@@ -11,9 +11,13 @@ use reed_solomon_simd::{Error, ReedSolomonDecoder, ReedSolomonEncoder};
 
 /// Encodes with a plain encoder and forgets the result. This ends the round too, so the next `encode` finds no originals.
 pub fn forget_a_round(encoder: &mut ReedSolomonEncoder<'_>) -> Result<(), Error>
-    requires { length (encoder_state encoder.old).given ≡ (encoder_state encoder.old).configuration.original_count }
-    ensures answer { result ≡ Err (Error.TooFewOriginalShards (encoder_state encoder.old).configuration.original_count 0) }
-    ensures state { encoder_state encoder.new ≡ fresh_encoder (encoder_state encoder.old).configuration }
+    requires { length (encoder_state encoder.old).given
+        ≡ (encoder_state encoder.old).configuration.original_count }
+    ensures answer { result
+        ≡ Err (Error.TooFewOriginalShards
+        (encoder_state encoder.old).configuration.original_count 0) }
+    ensures state { encoder_state encoder.new
+        ≡ fresh_encoder (encoder_state encoder.old).configuration }
 {
     std::mem::forget(encoder.encode()?);
     let _ = encoder.encode()?;
@@ -29,10 +33,13 @@ pub fn encoder_reset_and_back(
     shard_bytes: usize,
     between: (usize, usize, usize),
 ) -> Result<(), Error>
-    requires valid { validation_outcome (default_of original_count recovery_count shard_bytes) ≡ Ok tt }
-    requires within { FitsWithin (encoder_state encoder.old).configuration (default_of original_count recovery_count shard_bytes) }
+    requires valid { validation_outcome (default_of original_count recovery_count shard_bytes)
+        ≡ Ok tt }
+    requires within { FitsWithin (encoder_state encoder.old).configuration
+        (default_of original_count recovery_count shard_bytes) }
     ensures answer { result ≡ Ok tt }
-    ensures state { encoder_state encoder.new ≡ fresh_encoder (default_of original_count recovery_count shard_bytes) }
+    ensures state { encoder_state encoder.new
+        ≡ fresh_encoder (default_of original_count recovery_count shard_bytes) }
 {
     let _ = encoder.reset(between.0, between.1, between.2);
     encoder.reset(original_count, recovery_count, shard_bytes)
@@ -47,10 +54,13 @@ pub fn decoder_reset_and_back(
     shard_bytes: usize,
     between: (usize, usize, usize),
 ) -> Result<(), Error>
-    requires valid { validation_outcome (default_of original_count recovery_count shard_bytes) ≡ Ok tt }
-    requires within { FitsWithin (decoder_state decoder.old).configuration (default_of original_count recovery_count shard_bytes) }
+    requires valid { validation_outcome (default_of original_count recovery_count shard_bytes)
+        ≡ Ok tt }
+    requires within { FitsWithin (decoder_state decoder.old).configuration
+        (default_of original_count recovery_count shard_bytes) }
     ensures answer { result ≡ Ok tt }
-    ensures state { decoder_state decoder.new ≡ fresh_decoder (default_of original_count recovery_count shard_bytes) }
+    ensures state { decoder_state decoder.new
+        ≡ fresh_decoder (default_of original_count recovery_count shard_bytes) }
 {
     let _ = decoder.reset(between.0, between.1, between.2);
     decoder.reset(original_count, recovery_count, shard_bytes)
@@ -60,8 +70,10 @@ pub fn decoder_reset_and_back(
 /// happens to the result, so the next `decode` finds no shards.
 pub fn end_a_round(decoder: &mut ReedSolomonDecoder<'_>) -> Result<(), Error>
     requires { enough_given (decoder_state decoder.old) ≡ Ok tt }
-    ensures answer { result ≡ Err (Error.NotEnoughShards (decoder_state decoder.old).configuration.original_count 0 0) }
-    ensures state { decoder_state decoder.new ≡ fresh_decoder (decoder_state decoder.old).configuration }
+    ensures answer { result
+        ≡ Err (Error.NotEnoughShards (decoder_state decoder.old).configuration.original_count 0 0) }
+    ensures state { decoder_state decoder.new
+        ≡ fresh_decoder (decoder_state decoder.old).configuration }
 {
     let _ = decode_only(decoder);
     decode_only(decoder)
@@ -70,7 +82,8 @@ pub fn end_a_round(decoder: &mut ReedSolomonDecoder<'_>) -> Result<(), Error>
 // Decodes, forgets the result, and returns whether the decode succeeded, or its error.
 fn decode_only(decoder: &mut ReedSolomonDecoder<'_>) -> Result<(), Error>
     ensures answer { MatchResult (enough_given (decoder_state decoder.old))
-        (λ _. MatchResult result (λ _. IsConsistent (decoder_state decoder.old)) (NoneAgrees (decoder_state decoder.old))) (λ e. result ≡ Err e) }
+        (λ _. MatchResult result (λ _. IsConsistent (decoder_state decoder.old))
+        (NoneAgrees (decoder_state decoder.old))) (λ e. result ≡ Err e) }
     ensures state { decoder_state decoder.new ≡ after_decode (decoder_state decoder.old) }
 {
     std::mem::forget(decoder.decode()?);

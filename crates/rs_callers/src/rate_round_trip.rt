@@ -28,10 +28,14 @@ pub fn round_trip_at_a_rate<E: Engine + Copy, R: Rate<E>>(
     engine: E,
     steps: &mut Steps,
 ) -> Result<Vec<(usize, Vec<u8>)>, Error>
-    ensures restored { IfOk result (λ restored. Lists (lost_at (map (λ shard. shard.items) originals.now) lost.now)
+    ensures restored { IfOk result
+        (λ restored. Lists (lost_at (map (λ shard. shard.items) originals.now) lost.now)
         (map (λ item. (item.0, item.1.items)) restored.items)) }
-    ensures enough { validation_outcome (configuration R.rate (length originals.now) recovery_count shard_bytes) ≡ Ok tt → All (λ shard. length shard.items ≡ shard_bytes) originals.now
-        → length originals.now ≤ left_below (length originals.now) lost.now + left_below recovery_count recovery_lost.now
+    ensures enough { validation_outcome
+        (configuration R.rate (length originals.now) recovery_count shard_bytes) ≡ Ok tt
+        → All (λ shard. length shard.items ≡ shard_bytes) originals.now
+        → length originals.now
+        ≤ left_below (length originals.now) lost.now + left_below recovery_count recovery_lost.now
         → IfErr result (λ e. e ≡ Error.OutOfMemory) }
 {
     let (k, r) = (originals.len(), recovery_count);
@@ -51,7 +55,9 @@ fn give_all<E: Engine, X: RateEncoder<E>>(
     encoder: &mut X,
     originals: &[Vec<u8>],
 ) -> Result<(), Error>
-    ensures { Reaches (with_shards (X.state encoder.old) (map (λ shard. shard.items) originals.now)) result (λ s. X.state encoder.new ≡ s) }
+    ensures { Reaches
+        (with_shards (X.state encoder.old) (map (λ shard. shard.items) originals.now)) result
+        (λ s. X.state encoder.new ≡ s) }
 {
     let shards = originals.iter().map(|original| original.as_slice());
     add_shards(encoder, shards)
@@ -63,7 +69,10 @@ fn give_kept<E: Engine, X: RateDecoder<E>>(
     originals: &[Vec<u8>],
     lost: &[usize],
 ) -> Result<(), Error>
-    ensures { Reaches (with_originals (X.state decoder.old) (left_of (map (λ shard. shard.items) originals.now) lost.now)) result (λ s. X.state decoder.new ≡ s) }
+    ensures { Reaches
+        (with_originals (X.state decoder.old)
+        (left_of (map (λ shard. shard.items) originals.now) lost.now)) result
+        (λ s. X.state decoder.new ≡ s) }
 {
     let kept = originals
         .iter()
@@ -79,7 +88,9 @@ fn give_received<E: Engine, X: RateDecoder<E>>(
     recovery: &EncoderResult<'_>,
     lost: &[usize],
 ) -> Result<(), Error>
-    ensures { Reaches (with_recoveries (X.state decoder.old) (left_of (recovery_shards recovery.now) lost.now)) result (λ s. X.state decoder.new ≡ s) }
+    ensures { Reaches
+        (with_recoveries (X.state decoder.old) (left_of (recovery_shards recovery.now) lost.now))
+        result (λ s. X.state decoder.new ≡ s) }
 {
     let received = recovery
         .recovery_iter()

@@ -30,9 +30,14 @@ pub fn round_trip_in_one_call(
     recovery_lost: &[usize],
     engine: DefaultEngine<'_>,
 ) -> Result<BTreeMap<usize, Vec<u8>>, Error>
-    ensures restored { IfOk result (λ restored. (i : ℕ) → shards_in restored i ≡ lost_at (map (λ shard. shard.items) originals.now) lost.now i) }
-    ensures enough { (size : ℕ) → validation_outcome (default_of (length originals.now) recovery_count size) ≡ Ok tt → All (λ shard. length shard.items ≡ size) originals.now
-        → length originals.now ≤ left_below (length originals.now) lost.now + left_below recovery_count recovery_lost.now
+    ensures restored { IfOk result
+        (λ restored. (i : ℕ)
+        → shards_in restored i ≡ lost_at (map (λ shard. shard.items) originals.now) lost.now i) }
+    ensures enough { (size : ℕ)
+        → validation_outcome (default_of (length originals.now) recovery_count size) ≡ Ok tt
+        → All (λ shard. length shard.items ≡ size) originals.now
+        → length originals.now
+        ≤ left_below (length originals.now) lost.now + left_below recovery_count recovery_lost.now
         → IfErr result (λ e. e ≡ Error.OutOfMemory) }
 {
     let (k, r) = (originals.len(), recovery_count);
@@ -62,9 +67,11 @@ pub fn restore_what_is_left(
     received: &[(usize, Vec<u8>)],
     engine: DefaultEngine<'_>,
 ) -> Result<BTreeMap<usize, Vec<u8>>, Error>
-    ensures { (originals recovery : List Shard) → AreCoded original_count recovery_count originals recovery
+    ensures { (originals recovery : List Shard)
+        → AreCoded original_count recovery_count originals recovery
         → AreLeft originals (items_in kept.now) → AreLeft recovery (items_in received.now)
-        → OneBringsBack originals (items_in kept.now) (items_in received.now) (collected_map result) }
+        → OneBringsBack originals (items_in kept.now)
+        (items_in received.now) (collected_map result) }
 {
     decode_slice(
         alloc,
@@ -89,10 +96,14 @@ pub fn round_trip_by_plain_objects(
     recovery_lost: &[usize],
     engine: DefaultEngine<'_>,
 ) -> Result<Vec<(usize, Vec<u8>)>, Error>
-    ensures restored { IfOk result (λ restored. Lists (lost_at (map (λ shard. shard.items) originals.now) lost.now)
+    ensures restored { IfOk result
+        (λ restored. Lists (lost_at (map (λ shard. shard.items) originals.now) lost.now)
         (map (λ item. (item.0, item.1.items)) restored.items)) }
-    ensures enough { validation_outcome (default_of (length originals.now) recovery_count shard_bytes) ≡ Ok tt → All (λ shard. length shard.items ≡ shard_bytes) originals.now
-        → length originals.now ≤ left_below (length originals.now) lost.now + left_below recovery_count recovery_lost.now
+    ensures enough { validation_outcome
+        (default_of (length originals.now) recovery_count shard_bytes) ≡ Ok tt
+        → All (λ shard. length shard.items ≡ shard_bytes) originals.now
+        → length originals.now
+        ≤ left_below (length originals.now) lost.now + left_below recovery_count recovery_lost.now
         → IfErr result (λ e. e ≡ Error.OutOfMemory) }
 {
     let (k, r) = (originals.len(), recovery_count);
@@ -109,7 +120,9 @@ pub fn round_trip_by_plain_objects(
 
 // Adds all originals to a plain encoder, in order.
 fn give_all(encoder: &mut ReedSolomonEncoder<'_>, originals: &[Vec<u8>]) -> Result<(), Error>
-    ensures { Reaches (with_shards (encoder_state encoder.old) (map (λ shard. shard.items) originals.now)) result (λ s. encoder_state encoder.new ≡ s) }
+    ensures { Reaches
+        (with_shards (encoder_state encoder.old) (map (λ shard. shard.items) originals.now)) result
+        (λ s. encoder_state encoder.new ≡ s) }
 {
     for original in originals {
         encoder.add_original_shard(original)?;
@@ -123,7 +136,10 @@ fn give_kept(
     originals: &[Vec<u8>],
     lost: &[usize],
 ) -> Result<(), Error>
-    ensures { Reaches (with_originals (decoder_state decoder.old) (left_of (map (λ shard. shard.items) originals.now) lost.now)) result (λ s. decoder_state decoder.new ≡ s) }
+    ensures { Reaches
+        (with_originals (decoder_state decoder.old)
+        (left_of (map (λ shard. shard.items) originals.now) lost.now)) result
+        (λ s. decoder_state decoder.new ≡ s) }
 {
     for (index, original) in originals.iter().enumerate() {
         if lost.contains(&index) {
@@ -140,7 +156,10 @@ fn give_received(
     recovery: &EncoderResult<'_>,
     lost: &[usize],
 ) -> Result<(), Error>
-    ensures { Reaches (with_recoveries (decoder_state decoder.old) (left_of (recovery_shards recovery.now) lost.now)) result (λ s. decoder_state decoder.new ≡ s) }
+    ensures { Reaches
+        (with_recoveries (decoder_state decoder.old)
+        (left_of (recovery_shards recovery.now) lost.now)) result
+        (λ s. decoder_state decoder.new ≡ s) }
 {
     for (index, shard) in recovery.recovery_iter().enumerate() {
         if lost.contains(&index) {

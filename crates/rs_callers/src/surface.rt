@@ -93,7 +93,9 @@ pub fn times(x: GfElement, log_m: GfElement, exp: Exp<'_>, log: Log<'_>) -> GfEl
 /// Adds each chunk of the second list to the chunk of the first list with the same index.
 pub fn add_chunks(first: &mut [[u8; 64]], second: &[[u8; 64]])
     requires { length first.old ≡ length second.now }
-    ensures { (k s : ℕ) → k < length first.old → s < 32 → symbol (chunk first.new k) s ≡ bit_xor (symbol (chunk first.old k) s) (symbol (chunk second.now k) s) }
+    ensures { (k s : ℕ) → k < length first.old → s < 32
+        → symbol (chunk first.new k) s
+        ≡ bit_xor (symbol (chunk first.old k) s) (symbol (chunk second.now k) s) }
 {
     xor(first, second);
 }
@@ -102,7 +104,8 @@ pub fn add_chunks(first: &mut [[u8; 64]], second: &[[u8; 64]])
 pub fn add_rows(steps: &mut Steps, rows: &mut ShardsRefMut<'_>)
     requires fits { Fits rows.old }
     requires two { 2 ≤ rows.old.shard_count }
-    ensures { (k s : ℕ) → k < rows.old.shard_len_64 → s < 32 → word rows.new k s 0 ≡ bit_xor (word rows.old k s 0) (word rows.old k s 1) }
+    ensures { (k s : ℕ) → k < rows.old.shard_len_64 → s < 32
+        → word rows.new k s 0 ≡ bit_xor (word rows.old k s 0) (word rows.old k s 1) }
 {
     xor_within(steps, rows, 0, 1, 1);
 }
@@ -116,7 +119,8 @@ pub fn locator(steps: &mut Steps, erasures: &mut [GfElement; GF_ORDER], tables: 
 
 /// Computes the locator of points below 64, at these points.
 pub fn locator_below(steps: &mut Steps, erasures: &mut [GfElement; 64], tables: &Tables)
-    ensures { IsLocatorBelow 64 (λ y. slice_index erasures.old y) (λ x. slice_index erasures.new x) }
+    ensures { IsLocatorBelow 64 (λ y. slice_index erasures.old y)
+        (λ x. slice_index erasures.new x) }
 {
     locate(steps, erasures, get_log_walsh_below(tables, 64));
 }
@@ -144,7 +148,8 @@ pub fn back_and_forth<E: Engine>(
     requires few { length marks.now ≤ 65536 }
     requires count { length marks.now ≤ rows.old.shard_count }
     requires zeros { OthersAreZero marks.now 0 rows.old }
-    ensures { (k s i : ℕ) → k < rows.old.shard_len_64 → s < 32 → is_marked marks.now i ≡ true → word rows.new k s i ≡ word rows.old k s i }
+    ensures { (k s i : ℕ) → k < rows.old.shard_len_64 → s < 32 → is_marked marks.now i ≡ true
+        → word rows.new k s i ≡ word rows.old k s i }
 {
     engine.ifft_given(steps, rows, 0, marks, 0);
     engine.fft_wanted(steps, rows, 0, marks, 0);
@@ -165,7 +170,8 @@ pub fn chosen<'t>(
 
 /// Returns the kind that a word names.
 pub fn kind_named(name: &str) -> Result<EngineKind, UnknownEngine>
-    ensures { MatchResult result (λ kind. engine_named name.now ≡ Some kind) (λ _. engine_named name.now ≡ None) }
+    ensures { MatchResult result (λ kind. engine_named name.now ≡ Some kind)
+        (λ _. engine_named name.now ≡ None) }
 {
     EngineKind::from_str(name)
 }
@@ -205,7 +211,8 @@ pub fn counts_at_each(
 ) -> Result<(LowRateCounts, HighRateCounts, DefaultRateCounts), Error>
     ensures low { IfOk result (λ _. supports low_rate original_count recovery_count ≡ true) }
     ensures high { IfOk result (λ _. supports high_rate original_count recovery_count ≡ true) }
-    ensures default { IfOk result (λ _. supports default_rate original_count recovery_count ≡ true) }
+    ensures default { IfOk result
+        (λ _. supports default_rate original_count recovery_count ≡ true) }
     ensures original { IfOk result (λ c. (c.0.original_count ≡ original_count)
         × (c.1.original_count ≡ original_count) × (c.2.original_count ≡ original_count)) }
     ensures recovery { IfOk result (λ c. (c.0.recovery_count ≡ recovery_count)
@@ -241,7 +248,8 @@ pub fn add_first(
 ) -> Result<(), Error>
     ensures { (answer : Result (List Shard) Error) × EncodeAnswers (encoder_of encoder.old) answer
         × MatchResult answer (λ shards. IfSome (slice_get shards 0)
-        (λ shard. result ≡ answer_of (with_recovery (decoder_of decoder.old) 0 shard))) (λ e. result ≡ Err e) }
+        (λ shard. result ≡ answer_of (with_recovery (decoder_of decoder.old) 0 shard)))
+        (λ e. result ≡ Err e) }
 {
     match encoder.encode()?.recovery(0) {
         Some(shard) => decoder.add_recovery_shard(0, shard),
@@ -291,7 +299,8 @@ where
     requires recovery_ends { IsFinite (R.remaining recovery) }
     ensures { (originals recoveries : Items) → LendsItems O.next_gives original originals
         → LendsItems R.next_gives recovery recoveries
-        → OneDecodeAnswers original_count recovery_count originals recoveries (collected_map result) }
+        → OneDecodeAnswers original_count recovery_count originals recoveries
+        (collected_map result) }
 {
     decode(
         alloc,

@@ -9,7 +9,8 @@ use std::alloc::Global;
 /// Returns copies of the recovery shards of a result, in order of their index. Fails with `OutOfMemory` if the copies cannot be
 /// allocated.
 pub fn recovery_copies(alloc: Global, lent: &EncoderResult<'_>) -> Result<Vec<Vec<u8>>, Error>
-    ensures copies { IfOk result (λ shards. map (λ shard. shard.items) shards.items ≡ recovery_shards lent.now) }
+    ensures copies { IfOk result
+        (λ shards. map (λ shard. shard.items) shards.items ≡ recovery_shards lent.now) }
     ensures memory { IfErr result (λ e. e ≡ Error.OutOfMemory) }
 {
     let mut shards = Vec::new(alloc);
@@ -26,7 +27,8 @@ pub fn restored_copies(
     lent: &DecoderResult<'_>,
 ) -> Result<Vec<(usize, Vec<u8>)>, Error>
     ensures copies { IfOk result (λ originals.
-        Lists (restored_originals lent.now) (map (λ item. (item.0, item.1.items)) originals.items)) }
+        Lists (restored_originals lent.now)
+        (map (λ item. (item.0, item.1.items)) originals.items)) }
     ensures memory { IfErr result (λ e. e ≡ Error.OutOfMemory) }
 {
     let mut originals = Vec::new(alloc);

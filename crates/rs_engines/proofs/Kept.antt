@@ -1,17 +1,17 @@
--- Relations of words where words are kept before or after.
+-- Relations between old and new words, if the words do not change before or after a step.
 use Rattle.std.proofs.Common.{◌≡◌, ℕ, sym, subst}
 use Rattle.rs_field.specs.rows.TwoLayers.{OnFourWords}
 use Rattle.rs_field.specs.rows.Pairs.{OnTwoWords}
 
--- the old words were kept until then
+-- If the words do not change before a step, the relation of the step holds from the earlier words.
 pub two_kept_before : (R : OnTwoWords) (w0 w1 x0 x1 y0 y1 : ℕ) → w0 ≡ x0 → w1 ≡ x1 → R w0 w1 y0 y1 → R x0 x1 y0 y1
 two_kept_before R w0 w1 x0 x1 y0 y1 e0 e1 r = subst (λ x. R x0 x y0 y1) e1 (subst (λ x. R x w1 y0 y1) e0 r)
 
--- the new words are kept from then on
+-- If the words do not change after a step, the relation of the step holds for the later words.
 pub two_kept_after : (R : OnTwoWords) (x0 x1 y0 y1 z0 z1 : ℕ) → z0 ≡ y0 → z1 ≡ y1 → R x0 x1 y0 y1 → R x0 x1 z0 z1
 two_kept_after R x0 x1 y0 y1 z0 z1 e0 e1 = two_kept_before (λ a b c d. R c d a b) y0 y1 z0 z1 x0 x1 (sym e0) (sym e1)
 
--- a relation of four words holds for equal words
+-- A relation of four words holds for equal words.
 pub four_kept_before : (R : OnFourWords) (w0 w1 w2 w3 x0 x1 x2 x3 y0 y1 y2 y3 : ℕ) → w0 ≡ x0 → w1 ≡ x1 → w2 ≡ x2 → w3 ≡ x3
     → R w0 w1 w2 w3 y0 y1 y2 y3 → R x0 x1 x2 x3 y0 y1 y2 y3
 four_kept_before R w0 w1 w2 w3 x0 x1 x2 x3 y0 y1 y2 y3 e0 e1 e2 e3 r =

@@ -26,7 +26,8 @@ pub trait Butterflies {
         ensures { (i : ℕ) → i < V.LANES
             → two (F.log factor)
             (lane (V.bytes x0.low) (V.bytes x0.high) i) (lane (V.bytes x1.low) (V.bytes x1.high) i)
-            (lane (V.bytes result.0.low) (V.bytes result.0.high) i) (lane (V.bytes result.1.low) (V.bytes result.1.high) i) };
+            (lane (V.bytes result.0.low) (V.bytes result.0.high) i)
+            (lane (V.bytes result.1.low) (V.bytes result.1.high) i) };
 
     /// Two layers of butterflies of the words of four rows.
     fn of_four<V: ByteVector, F02: Factor, F01: Factor, F23: Factor>(
@@ -40,8 +41,10 @@ pub trait Butterflies {
             → four (F02.log factors.f02) (F01.log factors.f01) (F23.log factors.f23)
             (lane (V.bytes x0.low) (V.bytes x0.high) i) (lane (V.bytes x1.low) (V.bytes x1.high) i)
             (lane (V.bytes x2.low) (V.bytes x2.high) i) (lane (V.bytes x3.low) (V.bytes x3.high) i)
-            (lane (V.bytes result.0.low) (V.bytes result.0.high) i) (lane (V.bytes result.1.low) (V.bytes result.1.high) i)
-            (lane (V.bytes result.2.low) (V.bytes result.2.high) i) (lane (V.bytes result.3.low) (V.bytes result.3.high) i) };
+            (lane (V.bytes result.0.low) (V.bytes result.0.high) i)
+            (lane (V.bytes result.1.low) (V.bytes result.1.high) i)
+            (lane (V.bytes result.2.low) (V.bytes result.2.high) i)
+            (lane (V.bytes result.3.low) (V.bytes result.3.high) i) };
 }
 
 /// The second word, times the factor, is added to the first, and then the new first to the second. Of two layers that

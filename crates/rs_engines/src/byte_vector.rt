@@ -19,27 +19,35 @@ pub trait ByteVector: Copy + Drop {
     /// The bytes of a chunk from `at` on.
     fn load(c: &[u8; 64], at: usize) -> Self
         requires { at + LANES ≤ 64 }
-        ensures { (i s : ℕ) → i < LANES → s ≡ at + i → slice_index (bytes result) i ≡ slice_index c.now s };
+        ensures { (i s : ℕ) → i < LANES → s ≡ at + i
+            → slice_index (bytes result) i ≡ slice_index c.now s };
 
     /// Puts the bytes into the places of a chunk from `at` on.
     fn store(self, c: &mut [u8; 64], at: usize)
         requires { at + LANES ≤ 64 }
-        ensures stored { (i s : ℕ) → i < LANES → s ≡ at + i → slice_index c.new s ≡ slice_index (bytes self) i }
-        ensures kept { (i : ℕ) → (i < at) ⊎ (at + LANES ≤ i) → slice_index c.new i ≡ slice_index c.old i };
+        ensures stored { (i s : ℕ) → i < LANES → s ≡ at + i
+            → slice_index c.new s ≡ slice_index (bytes self) i }
+        ensures kept { (i : ℕ) → (i < at) ⊎ (at + LANES ≤ i)
+            → slice_index c.new i ≡ slice_index c.old i };
 
     /// Returns the XOR, lane by lane. The first clause states that lanes are bytes.
     fn sum(self, other: Self) -> Self
-        ensures small { (i : ℕ) → i < LANES → (slice_index (bytes self) i < 256) × (slice_index (bytes other) i < 256) }
-        ensures lanes { (i : ℕ) → i < LANES → slice_index (bytes result) i ≡ bit_xor (slice_index (bytes self) i) (slice_index (bytes other) i) };
+        ensures small { (i : ℕ) → i < LANES
+            → (slice_index (bytes self) i < 256) × (slice_index (bytes other) i < 256) }
+        ensures lanes { (i : ℕ) → i < LANES
+            → slice_index (bytes result) i
+            ≡ bit_xor (slice_index (bytes self) i) (slice_index (bytes other) i) };
 
     /// The bytes of `t` at the low nibbles.
     fn at_low_nibbles(self, t: u128) -> Self
-        ensures { (i : ℕ) → i < LANES → slice_index (bytes result) i ≡ byte_at t (slice_index (bytes self) i % 16) };
+        ensures { (i : ℕ) → i < LANES
+            → slice_index (bytes result) i ≡ byte_at t (slice_index (bytes self) i % 16) };
 
     /// The bytes of `t` at the high nibbles.
     fn at_high_nibbles(self, t: u128) -> Self
         ensures small { (i : ℕ) → i < LANES → slice_index (bytes self) i < 256 }
-        ensures lanes { (i : ℕ) → i < LANES → slice_index (bytes result) i ≡ byte_at t (slice_index (bytes self) i / 16) };
+        ensures lanes { (i : ℕ) → i < LANES
+            → slice_index (bytes result) i ≡ byte_at t (slice_index (bytes self) i / 16) };
 
     // The words of the lanes are half a chunk or a whole one.
     ghost width: { (LANES ≡ 16) ⊎ (LANES ≡ 32) };

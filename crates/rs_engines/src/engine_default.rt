@@ -53,7 +53,8 @@ impl FromStr for EngineKind {
 
     type Err = UnknownEngine;
 
-    ghost from_str_gives = { λ name result. MatchResult result (λ kind. engine_named name ≡ Some kind) (λ _. engine_named name ≡ None) };
+    ghost from_str_gives = { λ name result. MatchResult result
+        (λ kind. engine_named name ≡ Some kind) (λ _. engine_named name ≡ None) };
 
     fn from_str(name: &str) -> Result<EngineKind, UnknownEngine> {
         match name {

@@ -49,7 +49,8 @@ fn nibble_product(lists: &[[GfElement; 16]; 4], low: u8, high: u8) -> GfElement
 // Each symbol becomes its product, two at a time.
 #[inline(always)]
 fn mul_chunk(c: &mut [u8; 64], lists: &[[GfElement; 16]; 4])
-    ensures { (f s : ℕ) → IsNibbles f lists.now → s < 32 → symbol c.new s ≡ product (symbol c.old s) f }
+    ensures { (f s : ℕ) → IsNibbles f lists.now → s < 32
+        → symbol c.new s ≡ product (symbol c.old s) f }
 {
     for i in 0..16 {
         let s = 2 * i;
@@ -89,7 +90,8 @@ fn mul_chunks(x: &mut [[u8; 64]], lists: &[[GfElement; 16]; 4])
 fn mul_add_chunks(x: &mut [[u8; 64]], y: &[[u8; 64]], lists: &[[GfElement; 16]; 4])
     requires { length x.old ≡ length y.now }
     ensures { (f k s : ℕ) → IsNibbles f lists.now → k < length x.old → s < 32
-        → symbol (chunk x.new k) s ≡ bit_xor (symbol (chunk x.old k) s) (product (symbol (chunk y.now k) s) f) }
+        → symbol (chunk x.new k) s
+        ≡ bit_xor (symbol (chunk x.old k) s) (product (symbol (chunk y.now k) s) f) }
 {
     for k in 0..x.len() {
         mul_add_chunk(&mut x[k], &y[k], lists);
@@ -102,7 +104,8 @@ impl NoSimd<'_> {
     fn mul_add(&self, x: &mut [[u8; 64]], y: &[[u8; 64]], log_m: GfElement)
         requires { length x.old ≡ length y.now }
         ensures { (k s : ℕ) → k < length x.old → s < 32
-            → symbol (chunk x.new k) s ≡ bit_xor (symbol (chunk x.old k) s) (times_factor log_m (symbol (chunk y.now k) s)) }
+            → symbol (chunk x.new k) s
+            ≡ bit_xor (symbol (chunk x.old k) s) (times_factor log_m (symbol (chunk y.now k) s)) }
     {
         if log_m != GF_MODULUS {
             mul_add_chunks(x, y, &get_mul16(self.tables)[log_m as usize]);

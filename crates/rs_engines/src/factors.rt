@@ -22,7 +22,8 @@ pub trait Factor: Copy + Drop {
     fn add_product<V: ByteVector>(self, x: Words<V>, y: Words<V>) -> Words<V>
         ensures { (i : ℕ) → i < V.LANES
             → lane (V.bytes result.low) (V.bytes result.high) i
-            ≡ bit_xor (lane (V.bytes x.low) (V.bytes x.high) i) (times_factor (log self) (lane (V.bytes y.low) (V.bytes y.high) i)) };
+            ≡ bit_xor (lane (V.bytes x.low) (V.bytes x.high) i)
+            (times_factor (log self) (lane (V.bytes y.low) (V.bytes y.high) i)) };
 }
 
 /// The factor zero.

@@ -18,7 +18,8 @@ fn mul_lanes<V: ByteVector>(c: &mut [u8; 64], at: usize, factor: &Multiply128lut
     requires { at + V.LANES ≤ 32 }
     ensures products { (f i s : ℕ) → IsNibbleBytes f factor.now → i < V.LANES → s ≡ at + i
         → symbol c.new s ≡ product (symbol c.old s) f }
-    ensures kept { (s : ℕ) → s < 32 → (s < at) ⊎ (at + V.LANES ≤ s) → symbol c.new s ≡ symbol c.old s }
+    ensures kept { (s : ℕ) → s < 32 → (s < at) ⊎ (at + V.LANES ≤ s)
+        → symbol c.new s ≡ symbol c.old s }
 {
     let words = words_at::<V>(c, at);
     put_words(times(words, factor), c, at);
@@ -27,7 +28,8 @@ fn mul_lanes<V: ByteVector>(c: &mut [u8; 64], at: usize, factor: &Multiply128lut
 /// Multiplies each symbol of a chunk.
 #[inline(always)]
 pub fn mul_chunk<V: ByteVector>(c: &mut [u8; 64], factor: &Multiply128lutT)
-    ensures { (f s : ℕ) → IsNibbleBytes f factor.now → s < 32 → symbol c.new s ≡ product (symbol c.old s) f }
+    ensures { (f s : ℕ) → IsNibbleBytes f factor.now → s < 32
+        → symbol c.new s ≡ product (symbol c.old s) f }
 {
     mul_lanes::<V>(c, 0, factor);
     if V::LANES < 32 {
@@ -44,9 +46,12 @@ fn lanes_of_two<V: ByteVector, D: Butterflies, F: Factor>(
     factor: F,
 )
     requires { at + V.LANES ≤ 32 }
-    ensures butterfly { (i s : ℕ) → i < V.LANES → s ≡ at + i → at_two_symbols s (D.two (F.log factor)) c0.old c1.old c0.new c1.new }
-    ensures kept_0 { (s : ℕ) → s < 32 → (s < at) ⊎ (at + V.LANES ≤ s) → symbol c0.new s ≡ symbol c0.old s }
-    ensures kept_1 { (s : ℕ) → s < 32 → (s < at) ⊎ (at + V.LANES ≤ s) → symbol c1.new s ≡ symbol c1.old s }
+    ensures butterfly { (i s : ℕ) → i < V.LANES → s ≡ at + i
+        → at_two_symbols s (D.two (F.log factor)) c0.old c1.old c0.new c1.new }
+    ensures kept_0 { (s : ℕ) → s < 32 → (s < at) ⊎ (at + V.LANES ≤ s)
+        → symbol c0.new s ≡ symbol c0.old s }
+    ensures kept_1 { (s : ℕ) → s < 32 → (s < at) ⊎ (at + V.LANES ≤ s)
+        → symbol c1.new s ≡ symbol c1.old s }
 {
     let x0 = words_at::<V>(c0, at);
     let x1 = words_at::<V>(c1, at);
@@ -62,7 +67,8 @@ pub fn two_chunks<V: ByteVector, D: Butterflies, F: Factor>(
     c1: &mut [u8; 64],
     factor: F,
 )
-    ensures { (s : ℕ) → s < 32 → at_two_symbols s (D.two (F.log factor)) c0.old c1.old c0.new c1.new }
+    ensures { (s : ℕ) → s < 32
+        → at_two_symbols s (D.two (F.log factor)) c0.old c1.old c0.new c1.new }
 {
     lanes_of_two::<V, D, F>(c0, c1, 0, factor);
     if V::LANES < 32 {
@@ -82,12 +88,17 @@ fn lanes_of_four<V: ByteVector, D: Butterflies, F02: Factor, F01: Factor, F23: F
 )
     requires { at + V.LANES ≤ 32 }
     ensures layers { (i s : ℕ) → i < V.LANES → s ≡ at + i
-        → at_four_symbols s (D.four (F02.log factors.f02) (F01.log factors.f01) (F23.log factors.f23))
+        → at_four_symbols s
+        (D.four (F02.log factors.f02) (F01.log factors.f01) (F23.log factors.f23))
         c0.old c1.old c2.old c3.old c0.new c1.new c2.new c3.new }
-    ensures kept_0 { (s : ℕ) → s < 32 → (s < at) ⊎ (at + V.LANES ≤ s) → symbol c0.new s ≡ symbol c0.old s }
-    ensures kept_1 { (s : ℕ) → s < 32 → (s < at) ⊎ (at + V.LANES ≤ s) → symbol c1.new s ≡ symbol c1.old s }
-    ensures kept_2 { (s : ℕ) → s < 32 → (s < at) ⊎ (at + V.LANES ≤ s) → symbol c2.new s ≡ symbol c2.old s }
-    ensures kept_3 { (s : ℕ) → s < 32 → (s < at) ⊎ (at + V.LANES ≤ s) → symbol c3.new s ≡ symbol c3.old s }
+    ensures kept_0 { (s : ℕ) → s < 32 → (s < at) ⊎ (at + V.LANES ≤ s)
+        → symbol c0.new s ≡ symbol c0.old s }
+    ensures kept_1 { (s : ℕ) → s < 32 → (s < at) ⊎ (at + V.LANES ≤ s)
+        → symbol c1.new s ≡ symbol c1.old s }
+    ensures kept_2 { (s : ℕ) → s < 32 → (s < at) ⊎ (at + V.LANES ≤ s)
+        → symbol c2.new s ≡ symbol c2.old s }
+    ensures kept_3 { (s : ℕ) → s < 32 → (s < at) ⊎ (at + V.LANES ≤ s)
+        → symbol c3.new s ≡ symbol c3.old s }
 {
     let x0 = words_at::<V>(c0, at);
     let x1 = words_at::<V>(c1, at);
@@ -110,7 +121,8 @@ pub fn four_chunks<V: ByteVector, D: Butterflies, F02: Factor, F01: Factor, F23:
     factors: ThreeFactors<F02, F01, F23>,
 )
     ensures { (s : ℕ) → s < 32
-        → at_four_symbols s (D.four (F02.log factors.f02) (F01.log factors.f01) (F23.log factors.f23))
+        → at_four_symbols s
+        (D.four (F02.log factors.f02) (F01.log factors.f01) (F23.log factors.f23))
         c0.old c1.old c2.old c3.old c0.new c1.new c2.new c3.new }
 {
     lanes_of_four::<V, D, F02, F01, F23>(c0, c1, c2, c3, 0, factors);

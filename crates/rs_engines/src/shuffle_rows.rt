@@ -33,7 +33,8 @@ fn two_rows<V: ByteVector, D: Butterflies, F: Factor>(
 )
     requires { length x0.old ≡ length x1.old }
     ensures { (k s : ℕ) → k < length x0.old → s < 32
-        → at_two_symbols s (D.two (F.log factor)) (chunk x0.old k) (chunk x1.old k) (chunk x0.new k) (chunk x1.new k) }
+        → at_two_symbols s (D.two (F.log factor)) (chunk x0.old k) (chunk x1.old k)
+        (chunk x0.new k) (chunk x1.new k) }
 {
     for k in 0..x0.len() {
         two_chunks::<V, D, F>(&mut x0[k], &mut x1[k], factor);
@@ -52,7 +53,8 @@ fn four_rows<V: ByteVector, D: Butterflies, F02: Factor, F01: Factor, F23: Facto
     requires two { length x0.old ≡ length x2.old }
     requires three { length x0.old ≡ length x3.old }
     ensures { (k s : ℕ) → k < length x0.old → s < 32
-        → at_four_symbols s (D.four (F02.log factors.f02) (F01.log factors.f01) (F23.log factors.f23))
+        → at_four_symbols s
+        (D.four (F02.log factors.f02) (F01.log factors.f01) (F23.log factors.f23))
         (chunk x0.old k) (chunk x1.old k) (chunk x2.old k) (chunk x3.old k)
         (chunk x0.new k) (chunk x1.new k) (chunk x2.new k) (chunk x3.new k) }
 {
@@ -81,7 +83,8 @@ pub fn one_layer<V: ByteVector, D: Butterflies>(
 )
     requires { length x0.old ≡ length x1.old }
     ensures { (k s : ℕ) → k < length x0.old → s < 32
-        → at_two_symbols s (D.two (log_of factor.entry)) (chunk x0.old k) (chunk x1.old k) (chunk x0.new k) (chunk x1.new k) }
+        → at_two_symbols s (D.two (log_of factor.entry)) (chunk x0.old k) (chunk x1.old k)
+        (chunk x0.new k) (chunk x1.new k) }
 {
     match factor {
         AnyFactor::Zero(factor) => two_rows::<V, D, _>(x0, x1, factor),
@@ -110,7 +113,8 @@ pub fn two_layers<V: ByteVector, D: Butterflies>(
     requires two { length x0.old ≡ length x2.old }
     requires three { length x0.old ≡ length x3.old }
     ensures { (k s : ℕ) → k < length x0.old → s < 32
-        → at_four_symbols s (D.four (log_of factors.entry.f02) (log_of factors.entry.f01) (log_of factors.entry.f23))
+        → at_four_symbols s
+        (D.four (log_of factors.entry.f02) (log_of factors.entry.f01) (log_of factors.entry.f23))
         (chunk x0.old k) (chunk x1.old k) (chunk x2.old k) (chunk x3.old k)
         (chunk x0.new k) (chunk x1.new k) (chunk x2.new k) (chunk x3.new k) }
 {

@@ -40,7 +40,8 @@ fn product_bytes<V: ByteVector>(low: V, high: V, numbers: &[u128; 4]) -> V
 #[inline(always)]
 pub fn words_at<V: ByteVector>(c: &[u8; 64], at: usize) -> Words<V>
     requires { at + V.LANES ≤ 32 }
-    ensures { (i s : ℕ) → i < V.LANES → s ≡ at + i → lane (V.bytes result.low) (V.bytes result.high) i ≡ symbol c.now s }
+    ensures { (i s : ℕ) → i < V.LANES → s ≡ at + i
+        → lane (V.bytes result.low) (V.bytes result.high) i ≡ symbol c.now s }
 {
     Words {
         low: V::load(c, at),
@@ -52,8 +53,10 @@ pub fn words_at<V: ByteVector>(c: &[u8; 64], at: usize) -> Words<V>
 #[inline(always)]
 pub fn put_words<V: ByteVector>(words: Words<V>, c: &mut [u8; 64], at: usize)
     requires { at + V.LANES ≤ 32 }
-    ensures stored { (i s : ℕ) → i < V.LANES → s ≡ at + i → symbol c.new s ≡ lane (V.bytes words.low) (V.bytes words.high) i }
-    ensures kept { (s : ℕ) → s < 32 → (s < at) ⊎ (at + V.LANES ≤ s) → symbol c.new s ≡ symbol c.old s }
+    ensures stored { (i s : ℕ) → i < V.LANES → s ≡ at + i
+        → symbol c.new s ≡ lane (V.bytes words.low) (V.bytes words.high) i }
+    ensures kept { (s : ℕ) → s < 32 → (s < at) ⊎ (at + V.LANES ≤ s)
+        → symbol c.new s ≡ symbol c.old s }
 {
     words.low.store(c, at);
     words.high.store(c, at + 32);
@@ -63,7 +66,8 @@ pub fn put_words<V: ByteVector>(words: Words<V>, c: &mut [u8; 64], at: usize)
 #[inline(always)]
 pub fn times<V: ByteVector>(words: Words<V>, factor: &Multiply128lutT) -> Words<V>
     ensures { (f i : ℕ) → IsNibbleBytes f factor.now → i < V.LANES
-        → lane (V.bytes result.low) (V.bytes result.high) i ≡ product (lane (V.bytes words.low) (V.bytes words.high) i) f }
+        → lane (V.bytes result.low) (V.bytes result.high) i
+        ≡ product (lane (V.bytes words.low) (V.bytes words.high) i) f }
 {
     Words {
         low: product_bytes(words.low, words.high, &factor.lo),
@@ -77,7 +81,8 @@ pub fn times_small<V: ByteVector>(words: Words<V>, factor: &Multiply128lutT) -> 
     requires first { slice_index factor.now.hi 0 ≡ 0 }
     requires second { slice_index factor.now.hi 1 ≡ 0 }
     ensures { (f i : ℕ) → IsNibbleBytes f factor.now → i < V.LANES
-        → lane (V.bytes result.low) (V.bytes result.high) i ≡ product (lane (V.bytes words.low) (V.bytes words.high) i) f }
+        → lane (V.bytes result.low) (V.bytes result.high) i
+        ≡ product (lane (V.bytes words.low) (V.bytes words.high) i) f }
 {
     Words {
         low: product_bytes(words.low, words.high, &factor.lo),
@@ -93,7 +98,8 @@ pub fn times_small<V: ByteVector>(words: Words<V>, factor: &Multiply128lutT) -> 
 pub fn add<V: ByteVector>(x: Words<V>, y: Words<V>) -> Words<V>
     ensures { (i : ℕ) → i < V.LANES
         → lane (V.bytes result.low) (V.bytes result.high) i
-        ≡ bit_xor (lane (V.bytes x.low) (V.bytes x.high) i) (lane (V.bytes y.low) (V.bytes y.high) i) }
+        ≡ bit_xor (lane (V.bytes x.low) (V.bytes x.high) i)
+        (lane (V.bytes y.low) (V.bytes y.high) i) }
 {
     Words {
         low: x.low.sum(y.low),

@@ -1,4 +1,4 @@
--- The words of the logic that proofs by hand walk with: what a function owns, its steps, and how it ends.
+-- The parts of the logic that proofs by hand use: what a function owns, its steps, and its end.
 pub use mathlib.Core.List.{List, [], ◌++◌, ◌∷◌}
 pub use mathlib.Core.Path.{ap, refl, sym, ◌∙◌, ◌≡◌}
 pub use Prim.Native.Nat.{ℕ, ◌*◌, ◌+◌, ◌-◌, ◌<◌, ◌^◌, ◌≤◌}

@@ -1,4 +1,4 @@
--- Lemmas of the code: who codes and restores what, states, round trips. They rest on `words`.
+-- Lemmas of the code: coding and restoring, states, and round trips. They use only the lemmas of `words`.
 pub mod NextPower
 pub mod Columns
 pub mod Given

@@ -1,4 +1,4 @@
--- Lemmas of rows: layers, parts, lending, layout. They rest on `words` and on columns and powers of two of `code`.
+-- Lemmas of rows: layers, parts, lending and layout. They use the lemmas of `words`, and the columns and powers of two of `code`.
 pub mod LentChunks
 pub mod Runs
 pub mod FourRuns

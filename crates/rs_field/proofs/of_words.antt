@@ -1,4 +1,4 @@
--- Lemmas of words: the field, polynomials, transforms, the locator, tables. They rest on nothing else.
+-- Lemmas of words: the field, polynomials, transforms, the locator and tables. They use no other lemmas of this crate.
 pub mod Search
 pub mod UpTo
 pub mod Linear

@@ -55,7 +55,8 @@ pub trait Engine: Drop {
         ensures extent { SameExtent «data».old «data».new }
         ensures others { SameRowsOutside pos (pos + size) «data».old «data».new }
         ensures values { (k s i : ℕ) → k < «data».old.shard_len_64 → s < 32 → i < truncated_size
-            → word «data».new k s (pos + i) ≡ forward size skew_delta (λ q. word «data».old k s (pos + q)) i }
+            → word «data».new k s (pos + i)
+            ≡ forward size skew_delta (λ q. word «data».old k s (pos + q)) i }
         ensures counts { TransformCounts size steps.old steps.new };
 
     /// Transforms the `size` rows from `pos` on backward, at `skew_delta`: they become the rows whose forward transform they
@@ -79,7 +80,8 @@ pub trait Engine: Drop {
         ensures extent { SameExtent «data».old «data».new }
         ensures others { SameRowsOutside pos (pos + size) «data».old «data».new }
         ensures values { (k s i : ℕ) → k < «data».old.shard_len_64 → s < 32 → i < size
-            → word «data».old k s (pos + i) ≡ forward size skew_delta (λ q. word «data».new k s (pos + q)) i }
+            → word «data».old k s (pos + i)
+            ≡ forward size skew_delta (λ q. word «data».new k s (pos + q)) i }
         ensures counts { TransformCounts size steps.old steps.new };
 
     /// Transforms the rows from `pos` on forward, at `skew_delta`, as many as `wanted` has marks.
@@ -102,7 +104,8 @@ pub trait Engine: Drop {
         requires points { skew_delta + length wanted.now ≤ 65536 }
         ensures extent { SameExtent «data».old «data».new }
         ensures others { SameRowsOutside pos (pos + length wanted.now) «data».old «data».new }
-        ensures values { (k s i : ℕ) → k < «data».old.shard_len_64 → s < 32 → is_marked wanted.now i ≡ true
+        ensures values { (k s i : ℕ) → k < «data».old.shard_len_64 → s < 32
+            → is_marked wanted.now i ≡ true
             → word «data».new k s (pos + i)
             ≡ forward (length wanted.now) skew_delta (λ q. word «data».old k s (pos + q)) i }
         ensures counts { TransformCounts (length wanted.now) steps.old steps.new }
@@ -154,7 +157,8 @@ pub trait Engine: Drop {
         requires size { length erasures.old ≡ 65536 }
         requires truncated { truncated_size ≤ 65536 }
         requires zeros { (y : ℕ) → truncated_size ≤ y → y < 65536 → slice_index erasures.old y ≡ 0 }
-        ensures values { IsLocator (λ y. slice_index erasures.old y) (λ x. slice_index erasures.new x) }
+        ensures values { IsLocator (λ y. slice_index erasures.old y)
+            (λ x. slice_index erasures.new x) }
         ensures counts { LocatorCounts steps.old steps.new };
 
     /// Computes the locator of marked points among the first ones, at these points. There are as many points as entries, a

@@ -1,4 +1,4 @@
--- What a coder is set up for: its rate is the low or the high rate, whose rows and frame have room for its shards.
+-- Facts about the configuration of a coder that was set up: it uses the low or the high rate, and its rows and its frame have room for its shards.
 use Rattle.std.proofs.Common.{◌≡◌, ℕ, ◌+◌, ◌%◌, ◌^◌, ◌<◌, ◌≤◌, Bool, true, false, refl, sym, ap, ap₂, ◌∙◌, subst, arith, pow_mono}
 use Rattle.std.specs.Prelude.{cond, Result, Ok, Err, OnOk, OnErr}
 use Rattle.std.proofs.lemmas.Nat.{pow_pos}
@@ -22,7 +22,7 @@ use Rattle.rs_rate.proofs.PowerLemmas.{low_small, rounded_up-by}
 use Rattle.rs_rate.proofs.StateLemmas.{start_outcome-by}
 use Rattle.rs_rate.proofs.RateLemmas.{chooses, chosen, block-is, block_alike, frame_alike, high_frame-is}
 
--- a rate's configuration is one
+-- The configuration of a rate, for supported counts and a positive even size, satisfies `IsConfigured`.
 pub rate_configuration-is : (rate : Rate) (k r size : ℕ) → supports rate k r ≡ true → 0 < size → size % 2 ≡ 0 → IsConfigured (rate_configuration rate k r size)
 rate_configuration-is rate k r size is some even =
     record {
@@ -32,13 +32,13 @@ rate_configuration-is rate k r size is some even =
       block = block_alike rate (low_or_high (is_low rate k r)) k r (sym (chooses (is_low rate k r) k r));
     }
 
--- what a configuration of the low and of the high rate is
+-- The low rate or the high rate supports the counts of a configuration, and a block has the next power of two of the originals or the recovery shards.
 pub rate_configuration-by : (c : Configuration) (low : Bool) → IsConfigured c → c.is_low ≡ low
     → (supports (low_or_high low) c.original_count c.recovery_count ≡ true) × (c.block_rows ≡ next_power (cond low c.original_count c.recovery_count))
 rate_configuration-by c low is choice =
     (rw choice at is.supported, rw choice at is.block ∙ block-is low c.original_count c.recovery_count)
 
--- the blocks that an encoder codes have places for all shards, and are few
+-- The blocks that an encoder codes have places for all shards and fit the field.
 pub record HasBlocks (c : Configuration) (coded : ℕ) : Type 0 where
   pub some : 0 < c.block_rows
   pub few : c.block_rows + coded ≤ 65536
@@ -56,7 +56,7 @@ blocks-known c is low choice =
           ∙ ap (λ (b : Bool). encoder_rows (low_or_high b) c.original_count c.recovery_count) (sym choice);
     }
 
--- what is asked for a rate's configuration, by how many rows it has
+-- What `rate_configuration` guarantees about a configuration, for a given number of rows.
 pub record IsAsked (row_count : Rate → ℕ → ℕ → ℕ) (rate : Rate) (k r size : ℕ) (c : Configuration) : Type 0 where
   pub own : configuration_at rate c ≡ configuration rate k r size
   pub count : rows_of row_count c ≡ row_count rate k r
@@ -74,7 +74,7 @@ is_asked row_count rows rate k r size c (same, is) =
       answer = start_outcome-by (row_count rate k r) (configuration rate k r size) (chunk_count (row_count rate k r) size) (subst (λ (x : AsDefined). validation_outcome x ≡ Ok tt) own is.valid) refl;
     }
 
--- a decoder's frame is that of the rate
+-- The shape of a decoder that was set up for a rate is the shape of the rate.
 pub decoder_shape-is : (rate : Rate) (s : DecoderShape) → IsSetUp rate s.configuration → DecoderCanBeLaid s
     → s ≡ decoder_shape rate s.configuration.original_count s.configuration.recovery_count s.configuration.shard_bytes
 decoder_shape-is rate s is laid =
@@ -82,12 +82,12 @@ decoder_shape-is rate s is laid =
     ap₂ (λ (c : Configuration) (f : Frame). let shape : DecoderShape = record { configuration = c; frame = f } in shape) is.chosen
     (laid.frame ∙ frame_alike (low_or_high own.is_low) rate own.original_count own.recovery_count is.alike)
 
--- a property that holds after a success and after an error always holds
+-- A property that holds after a success and after an error always holds.
 pub either_way : {Made Kept P : Type 0} (result : Result (Unit {0}) Error) → OnOk result Made → OnErr result Kept → (Made → P) → (Kept → P) → P
 either_way (Ok tt) made kept by_made by_kept = by_made made
 either_way (Err e) made kept by_made by_kept = by_kept kept
 
--- an encoder has rows for its originals and for its recovery shards
+-- An encoder has rows for its originals and for its recovery shards.
 pub encoder-laid : (c : Configuration) → IsConfigured c → EncoderCanBeLaid (shape_of_encoder c)
 encoder-laid c is =
     let rows = by_choice c.is_low is.supported in record { configured = is; rows = refl; originals = rows.0; recovery = rows.1 }
@@ -97,7 +97,7 @@ encoder-laid c is =
     by_choice true is = let rows = rows-fit true c.original_count c.recovery_count is in (omega (arith, rows.block, rows.some), rows.enough)
     by_choice false is = let rows = rows-fit false c.original_count c.recovery_count is in (rows.enough, omega (arith, rows.block, rows.some))
 
--- the rows of a decoder, a power of two of its own, hold the first block and the shards after it
+-- The number of rows of a decoder is a power of two, and the rows hold the first block and the shards after this block.
 rows-known : (k r : ℕ) → supports low_rate k r ≡ true
     → let n = next_power (next_power k + r) in (next_power n ≡ n) × (n ≤ 65536) × (k ≤ next_power k) × (next_power k + r ≤ n)
 rows-known k r is =

@@ -1,4 +1,4 @@
--- What a decode returns, from what it made of the rows: the missing originals of the only message that agrees, or that none agrees.
+-- The result of a decode, from what it did to the rows: the missing originals of the only message that agrees, or an error if no message agrees.
 use Rattle.std.proofs.Common.{◌≡◌, ℕ, ◌+◌, ◌-◌, ◌/◌, ◌%◌, ◌^◌, ◌<◌, ◌≤◌, ◌⊎◌, List, Bool, true, false, cond, refl, sym, ap, ap₂, ◌∙◌, arith, inl, inr, subst, true≢false}
 use Rattle.std.specs.Prelude.{slice_index, Option, Some, None, is_some, not, ◌&&◌, ◌↔◌, [], Result, Ok, Err, MatchResult}
 use Rattle.std.proofs.lemmas.Bool.{cases_lt, cases_eq, lt-ltb, le-ltb}
@@ -36,7 +36,7 @@ use Rattle.rs_rate.proofs.DecodedColumns.{words_given, given_some, are_columns}
 use Rattle.rs_rate.proofs.StateLemmas.{valid-supported}
 use Rattle.rs_rate.proofs.Erased.{erased-row}
 
--- what a decode makes of the rows of a shape: shards of k + surplus marked rows, and the same rows afterwards
+-- What a decode does to the rows of a shape with k + surplus marked rows.
 pub record IsDecoded (s : DecoderShape) (marks new : List Bool) (locator : List ℕ) (surplus : ℕ) (before after : Chunks) (agrees : Bool) : Type 0 where
   pub even : s.configuration.shard_bytes % 2 ≡ 0
   pub placed : ArePlaced s.frame.originals_from s.configuration.original_count s.frame.recovery_from s.configuration.recovery_count marks
@@ -47,7 +47,7 @@ pub record IsDecoded (s : DecoderShape) (marks new : List Bool) (locator : List 
   pub marked : (i : ℕ) → i < s.configuration.original_count → is_marked new (s.frame.originals_from + i) ≡ not (is_marked marks (s.frame.originals_from + i))
   pub sized : (i : ℕ) → i < s.configuration.original_count → IsShard s.configuration.shard_bytes (shard_in_order after s.configuration.shard_bytes (s.frame.originals_from + i))
 
--- a message's shard at a missing index
+-- The shard of a message at a missing index.
 missing-in : (s : DecoderState) (message : List Shard) (i : ℕ) (given : Bool) → i < s.configuration.original_count → is_some (s.originals i) ≡ given
     → missing_of s message i ≡ cond (not given) (Some (shard_at message i)) None
 unfolding missing_of
@@ -57,7 +57,7 @@ missing-out : (s : DecoderState) (message : List Shard) (i : ℕ) → s.configur
 unfolding missing_of
 missing-out s message i outside = ap (λ a. cond (a && not (is_some (s.originals i))) (Some (shard_at message i)) None) (le-ltb i s.configuration.original_count outside)
 
--- the restored rows hold the message's missing shards where those of the missing originals are the message's
+-- If the rows of the missing originals hold shards of a message, the restored rows are the missing shards of the message.
 pub restores_missing : (rate : Rate) (s : DecoderShape) (marks new : List Bool) (before after : Chunks) (message : List Shard)
     → ((i : ℕ) → i < s.configuration.original_count → is_marked new (s.frame.originals_from + i) ≡ not (is_marked marks (s.frame.originals_from + i)))
     → ((i : ℕ) → i < s.configuration.original_count → is_marked marks (s.frame.originals_from + i) ≡ false
@@ -80,14 +80,14 @@ restores_missing rate s marks new before after message marked same i =
         ∙ at inside given is
         ∙ sym (missing-in (state_over rate s marks before) message i given inside (given-marked marks before s.configuration.shard_bytes s.frame.originals_from s.configuration.original_count i inside ∙ is))
 
--- the number of given shards is the number of marked rows
+-- The number of given shards is the number of marked rows.
 given_count : (rate : Rate) (s : DecoderShape) (marks : List Bool) (chunks : Chunks) (n : ℕ)
     → given_row_count marks s.frame.originals_from s.configuration.original_count + given_row_count marks s.frame.recovery_from s.configuration.recovery_count ≡ n
     → originals_given (state_over rate s marks chunks) + recovery_given (state_over rate s marks chunks) ≡ n
 given_count rate s marks chunks n counted =
     ap₂ (λ (a b : ℕ). a + b) (count-given marks chunks s.configuration.shard_bytes s.frame.originals_from s.configuration.original_count) (count-given marks chunks s.configuration.shard_bytes s.frame.recovery_from s.configuration.recovery_count) ∙ counted
 
--- the columns of the rows that were decoded
+-- The columns of the rows that were decoded.
 columns_of : (rate : Rate) (k r size surplus : ℕ) (marks new : List Bool) (locator : List ℕ) (before after : Chunks) (agrees : Bool) (f : HasFrame rate k r)
     → (d : IsDecoded (decoder_shape rate k r size) marks new locator surplus before after agrees)
     → AreColumns (configuration rate k r size) (given_shards marks before size (placement rate k r).originals_from k) (given_shards marks before size (placement rate k r).recovery_from r)
@@ -101,7 +101,7 @@ columns_of rate k r size surplus marks new locator before after agrees f d =
     (λ j s i hj hs hi. words.found.are_words j s i hj hs (omega (arith, f.rows, hi)))
     (λ j s hj hs. subst (λ (n : ℕ). IsBackward n 0 (located_word marks locator (word_in before (row_len size) j s)) (words.coefficients j s)) f.rows (words.found.of_located j s hj hs))
 
--- a marked entry at a missing original
+-- The entry of a missing original is marked as erased.
 entry_of : (rate : Rate) (k r i : ℕ) (marks : List Bool) (f : HasFrame rate k r) → i < k → is_marked marks ((placement rate k r).originals_from + i) ≡ false
     → erasure (placement rate k r).zeros_from (placement rate k r).zeros_to marks ((placement rate k r).originals_from + i) ≡ 1
 entry_of rate k r i marks f inside none =
@@ -109,7 +109,7 @@ entry_of rate k r i marks f inside none =
     let below : (placement rate k r).originals_from + k ≤ 2 ^ f.exponent = f.frame.originals in
     erased-row (placement rate k r).zeros_from (placement rate k r).zeros_to ((placement rate k r).originals_from + i) marks false (inl (omega arith)) none
 
--- the powers of a locator's entries are those of its sums
+-- The powers of a locator's entries are the powers of the locator's sums.
 located_at : (rate : Rate) (k r x : ℕ) (marks : List Bool) (locator : List ℕ) (f : HasFrame rate k r) → IsLocatorOf (frame_of rate k r) marks locator → x < 2 ^ f.exponent
     → power (slice_index locator x) ≡ power (log_sum (2 ^ f.exponent) (erasure (placement rate k r).zeros_from (placement rate k r).zeros_to marks) x)
 unfolding frame_of
@@ -117,7 +117,7 @@ located_at rate k r x marks locator f l hx =
     same_residue (slice_index locator x) (log_sum (2 ^ f.exponent) (erasure (placement rate k r).zeros_from (placement rate k r).zeros_to marks) x)
     (subst (λ (n : ℕ). IsLocatorBelow n (erasure (placement rate k r).zeros_from (placement rate k r).zeros_to marks) (λ y. slice_index locator y)) f.rows l.values x hx)
 
--- some message agrees exactly if the last rows are zero
+-- Some message agrees exactly if the last rows are zero.
 decode-answered : (rate : Rate) (k r size surplus : ℕ) (marks new : List Bool) (locator : List ℕ) (before after : Chunks) (agrees : Bool) → supports rate k r ≡ true
     → IsDecoded (decoder_shape rate k r size) marks new locator surplus before after agrees
     → IsConsistent (state_over rate (decoder_shape rate k r size) marks before) ↔ (agrees ≡ true)
@@ -132,7 +132,7 @@ decode-answered rate k r size surplus marks new locator before after agrees supp
       λ yes. exact.1 (λ j i inside past below. d.restores.restored.found.checked.1 yes i j (omega (arith, f.rows, past)) (omega (arith, f.rows, below)) inside),
     )
 
--- what was restored in a missing original's row is the shard of a message that agrees
+-- The restored row of a missing original holds the shard of a message that agrees.
 restored_shard : (rate : Rate) (k r size surplus i : ℕ) (marks new : List Bool) (locator : List ℕ) (before after : Chunks) (message : List Shard) → supports rate k r ≡ true
     → IsDecoded (decoder_shape rate k r size) marks new locator surplus before after true
     → Agrees (configuration rate k r size) (given_shards marks before size (placement rate k r).originals_from k) (given_shards marks before size (placement rate k r).recovery_from r) message
@@ -171,7 +171,7 @@ restored_shard rate k r size surplus i marks new locator before after message su
         (let word = d.is_locator.are_words ((placement rate k r).originals_from + i) in omega (arith, word))
         (located_at rate k r ((placement rate k r).originals_from + i) marks locator f d.is_locator below)
 
--- where some message agrees, its missing shards were restored
+-- If some message agrees, its missing shards were restored.
 agreeing : (rate : Rate) (k r size surplus : ℕ) (marks new : List Bool) (locator : List ℕ) (before after : Chunks) → supports rate k r ≡ true
     → IsDecoded (decoder_shape rate k r size) marks new locator surplus before after true
     → Consistent (configuration rate k r size) (given_shards marks before size (placement rate k r).originals_from k) (given_shards marks before size (placement rate k r).recovery_from r)
@@ -188,7 +188,7 @@ agreeing rate k r size surplus marks new locator before after supported d (messa
           (λ i inside none. restored_shard rate k r size surplus i marks new locator before after message supported d agrees inside none);
     }
 
--- what a decode returns for the rows of a rate's shape
+-- The result of a decode for the rows of a rate's shape.
 abbrev pub AnswersOver : Rate → DecoderShape → List Bool → List Bool → Chunks → Chunks → Bool → Type 0
 AnswersOver rate s marks new before after true = Restored (state_over rate s marks before) (restored_over s new after)
 AnswersOver rate s marks new before after false =
@@ -213,7 +213,7 @@ by_answer rate k r size surplus marks new locator before after false supported d
       none = λ consistent. true≢false (sym ((decode-answered rate k r size surplus marks new locator before after false supported d).0 consistent));
     }
 
--- with all originals and nothing else given they are the only message that agrees, and nothing is missing
+-- If all originals and no recovery shards were added, the originals are the only message that agrees, and no original is missing.
 complete : (rate : Rate) (k r size : ℕ) (marks new : List Bool) (before after : Chunks) → supports rate k r ≡ true → size % 2 ≡ 0
     → ((p : ℕ) → is_marked marks p ≡ true → IsShard size (shard_laid_out before size p))
     → given_row_count marks (placement rate k r).originals_from k ≡ k → given_row_count marks (placement rate k r).recovery_from r ≡ 0
@@ -264,7 +264,7 @@ complete rate k r size marks new before after supported even shards all none mar
           );
         }
 
--- what a decode returns follows from what it made of the rows
+-- The result of a decode follows from what it did to the rows.
 pub decode_answers : (rate : Rate) (s : DecoderShape) (marks new : List Bool) (locator : List ℕ) (surplus : ℕ) (before after : Chunks) (agrees : Bool)
     → validation_outcome (configuration_at rate s.configuration) ≡ Ok tt → s ≡ decoder_shape rate s.configuration.original_count s.configuration.recovery_count s.configuration.shard_bytes
     → IsDecoded s marks new locator surplus before after agrees → AnswersOver rate s marks new before after agrees
@@ -273,7 +273,7 @@ decode_answers rate s marks new locator surplus before after agrees valid shaped
     (by_answer rate s.configuration.original_count s.configuration.recovery_count s.configuration.shard_bytes surplus marks new locator before after agrees (valid-supported (configuration_at rate s.configuration) valid)
     (subst (λ (t : DecoderShape). IsDecoded t marks new locator surplus before after agrees) shaped d))
 
--- and where all originals and nothing else are given, nothing is restored
+-- If all originals and no recovery shards were added, nothing is restored.
 pub complete_answers : (rate : Rate) (s : DecoderShape) (marks new : List Bool) (before after : Chunks) → validation_outcome (configuration_at rate s.configuration) ≡ Ok tt
     → s ≡ decoder_shape rate s.configuration.original_count s.configuration.recovery_count s.configuration.shard_bytes → s.configuration.shard_bytes % 2 ≡ 0
     → ((p : ℕ) → is_marked marks p ≡ true → IsShard s.configuration.shard_bytes (shard_laid_out before s.configuration.shard_bytes p))
@@ -288,7 +288,7 @@ complete_answers rate s marks new before after valid shaped even shards all none
     (subst (λ (t : DecoderShape). given_row_count marks t.frame.recovery_from s.configuration.recovery_count ≡ 0) shaped none)
     (subst (λ (t : DecoderShape). (i : ℕ) → i < s.configuration.original_count → is_marked new (t.frame.originals_from + i) ≡ not (is_marked marks (t.frame.originals_from + i))) shaped marked))
 
--- the result: success if some message agrees, else the error
+-- The result is a success if some message agrees, and `InconsistentShards` if none agrees.
 pub told_answer : {T : Type 0} (done : T) (rate : Rate) (s : DecoderShape) (marks new : List Bool) (before after : Chunks) (o r : ℕ) (agrees : Bool) (answer : Result T Error)
     → ((agrees ≡ true) × (answer ≡ Ok done)) ⊎ ((agrees ≡ false) × (answer ≡ Err (InconsistentShards o r)))
     → o ≡ given_row_count marks s.frame.originals_from s.configuration.original_count → r ≡ given_row_count marks s.frame.recovery_from s.configuration.recovery_count

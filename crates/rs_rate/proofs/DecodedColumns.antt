@@ -1,4 +1,4 @@
--- The columns of a decoder's rows: what is given at each point, and the polynomial that a decode makes of it.
+-- The columns of a decoder's rows: the word that is given at each point, and the polynomial that a decode makes of the words.
 use Rattle.std.proofs.Common.{◌≡◌, ℕ, ◌+◌, ◌/◌, ◌%◌, ◌^◌, ◌<◌, ◌≤◌, ◌⊎◌, List, Bool, true, false, cond, refl, sym, ap, ap₂, ◌∙◌, arith, inl, inr, subst, true≢false, pow_mono}
 use Rattle.std.specs.Prelude.{slice_index, Option, Some, None, is_some, unwrap_or}
 use Rattle.std.proofs.lemmas.Bool.{cases_lt}
@@ -26,7 +26,7 @@ use Rattle.rs_rate.proofs.DecoderLemmas.{given_shards-in, given_shards-out, give
 use Rattle.rs_rate.proofs.RestoringRows.{located_word-at}
 use Rattle.rs_rate.proofs.Erased.{erased-given, are_erased}
 
--- column j at point x: that of the shard that is given there, else zero
+-- The word of column j at point x: the word of the shard that is given there, or zero.
 unfoldable pub words_given : List Bool → Chunks → ℕ → ℕ → ℕ → ℕ
 words_given marks chunks size j x = cond (is_marked marks x) (column j (shard_laid_out chunks size x)) 0
 
@@ -35,7 +35,7 @@ words_given-at : (marks : List Bool) (chunks : Chunks) (size j x : ℕ) (given :
 unfolding words_given
 words_given-at marks chunks size j x given is = ap (λ b. cond b (column j (shard_laid_out chunks size x)) 0) is
 
--- a shard that is given has an index below the count, a marked row, and lies there
+-- A given shard has an index below the count and a marked row, and the row holds the shard.
 pub given_some : (marks : List Bool) (chunks : Chunks) (size from n i : ℕ) (shard : Shard) → given_shards marks chunks size from n i ≡ Some shard
     → (i < n) × (is_marked marks (from + i) ≡ true) × (shard_laid_out chunks size (from + i) ≡ shard)
 given_some marks chunks size from n i shard is =
@@ -54,7 +54,7 @@ given_some marks chunks size from n i shard is =
     by_mark false mark e =
         absurd (none_some (sym (ap (λ b. cond b (Some (shard_laid_out chunks size (from + i))) None) mark) ∙ e))
 
--- the shards given in n rows are sized
+-- The shards given in n rows have the shard size.
 given_sized : (marks : List Bool) (chunks : Chunks) (size from n : ℕ) → ((p : ℕ) → is_marked marks p ≡ true → IsShard size (shard_laid_out chunks size p))
     → AreSized n size (given_shards marks chunks size from n)
 given_sized marks chunks size from n shards = record {
@@ -62,7 +62,7 @@ given_sized marks chunks size from n shards = record {
       let s = given_some marks chunks size from n i shard is in (s.0, subst (IsShard size) s.2 (shards (from + i) s.1));
 }
 
--- the words given are the columns of the shards given
+-- The given words are the columns of the given shards.
 given_words : (p : Placement) (k r : ℕ) (marks : List Bool) (chunks : Chunks) (size j : ℕ)
     → HasWords p (given_shards marks chunks size p.originals_from k) (given_shards marks chunks size p.recovery_from r) j (words_given marks chunks size j)
 given_words p k r marks chunks size j = record {
@@ -74,7 +74,7 @@ given_words p k r marks chunks size j = record {
     at from n i shard is =
         let s = given_some marks chunks size from n i shard is in words_given-at marks chunks size j (from + i) true s.1 ∙ ap (column j) s.2
 
--- the located words of a column
+-- The located words of a column are the given words times the powers of the locator.
 located_words : (n j size : ℕ) (marks : List Bool) (chunks : Chunks) (locator : List ℕ) (marked : ℕ → ℕ) → size % 2 ≡ 0 → j < size / 2
     → ((x : ℕ) → x < n → is_marked marks x ≡ true → marked x ≡ 0)
     → ((x : ℕ) → x < n → power (slice_index locator x) ≡ power (log_sum n marked x))
@@ -95,7 +95,7 @@ located_words n j size marks chunks locator marked even inside kept same =
         ∙ ap₂ product (sym (words_given-at marks chunks size j x true is ∙ column-put chunks size x j even inside)) (same x hx))
     other_at x hx false is = inl (words_given-at marks chunks size j x false is, located_word-at marks locator (word_in chunks (row_len size) (j / 32) (j % 32)) x false is)
 
--- what is given at a point is a word
+-- The word at each point is below 65536.
 given_lt : (marks : List Bool) (chunks : Chunks) (size j x : ℕ) → ((p : ℕ) → is_marked marks p ≡ true → IsShard size (shard_laid_out chunks size p))
     → words_given marks chunks size j x < 65536
 given_lt marks chunks size j x shards = by_mark (is_marked marks x) refl
@@ -104,7 +104,7 @@ given_lt marks chunks size j x shards = by_mark (is_marked marks x) refl
     by_mark true is = subst (λ (w : ℕ). w < 65536) (sym (words_given-at marks chunks size j x true is)) (column_lt size (shard_laid_out chunks size x) j (shards x is))
     by_mark false is = subst (λ (w : ℕ). w < 65536) (sym (words_given-at marks chunks size j x false is)) (omega arith)
 
--- the columns of a decoder's rows, with the coefficients whose values the located words are
+-- The columns of a decoder's rows, with the coefficients of the polynomial through the located words.
 pub are_columns : (rate : Rate) (k r size e bound zeros_end : ℕ) (marks : List Bool) (chunks : Chunks) (locator : List ℕ) (coefficients : ℕ → ℕ → ℕ → ℕ) → size % 2 ≡ 0
     → IsFrame (placement rate k r) k r e bound zeros_end → ArePlaced (placement rate k r).originals_from k (placement rate k r).recovery_from r marks
     → ((p : ℕ) → is_marked marks p ≡ true → IsShard size (shard_laid_out chunks size p))

@@ -1,4 +1,4 @@
--- The shards that a decoder's rows represent.
+-- The shards that the rows of a decoder represent.
 use Rattle.std.proofs.Common.{◌≡◌, ◌≢◌, ℕ, zero, suc, ◌+◌, ◌<◌, ◌≤◌, List, [], Bool, true, false, cond, refl, sym, ap, ap₂, ◌∙◌, subst, arith, rules, inl, inr, ◌^◌}
 use Rattle.std.specs.Prelude.{◌≤◌, Option, Some, None, IfSome, is_some, nat_eq}
 use Rattle.std.proofs.lemmas.Nat.{pow_pos}
@@ -27,11 +27,11 @@ use Rattle.rs_rate.specs.declared.rate.marks.MarkedShards.TheVariants.{Given, Re
 use Rattle.rs_rate.specs.Marks.{marks_of_given, given_marks, given_row_count, given_shards, restored_shards, HoldGiven}
 use Rattle.rs_rate.specs.ShardRows.{shard_laid_out, shard_in_order}
 
--- the rows of a shape that can be laid are a power of two
+-- The number of rows of a shape that can be laid out is a power of two.
 pub rows_power : (s : DecoderShape) → DecoderCanBeLaid s → (d : ℕ) × (s.frame.row_count ≡ 2 ^ d)
 rows_power s laid = own_is_power s.frame.row_count laid.places.power laid.places.few
 
--- what has no memory has no room for them
+-- A work without memory has no room for the rows of a shape.
 pub no_room : (P : Type 0) (s : DecoderShape) → DecoderCanBeLaid s → (work : Option DecoderWork) → IfSome work (λ w. w.memory ≡ None)
     → IfSome work (λ w. HasRoom (work_room w) s.frame.row_count s.configuration.shard_bytes → P)
 no_room P s laid None none = tt
@@ -43,11 +43,11 @@ no_room P s laid (Some work) none = λ room.
 pub none_told : (marks : Marks) → marks.shards ≡ Restored → (p : ℕ) → is_marked (given_marks marks) p ≡ false
 none_told marks told p = ap (λ t. is_marked (marks_of_given t marks.rows.items) p) told
 
--- the shard that a row holds, by its mark
+-- The shard in a row, if the row is marked.
 abbrev pub shard_of_row : List Bool → Chunks → ℕ → ℕ → Option Shard
 shard_of_row marks chunks size p = cond (is_marked marks p) (Some (shard_laid_out chunks size p)) None
 
--- the shard of an index below the count is that of its row
+-- For an index below the count, the given shard is the shard in the row of the index.
 pub given_shards-in : (marks : List Bool) (chunks : Chunks) (size from n i : ℕ) → i < n
     → given_shards marks chunks size from n i ≡ shard_of_row marks chunks size (from + i)
 unfolding given_shards
@@ -61,7 +61,7 @@ some_if : (b : Bool) (shard : Shard) → is_some (cond b (Some shard) None) ≡ 
 some_if true shard = refl
 some_if false shard = refl
 
--- a shard was given where the row is marked so
+-- A shard with an index below the count is given exactly if its row is marked.
 pub given-marked : (marks : List Bool) (chunks : Chunks) (size from n i : ℕ) → i < n
     → is_some (given_shards marks chunks size from n i) ≡ is_marked marks (from + i)
 given-marked marks chunks size from n i inside =
@@ -75,7 +75,7 @@ pub given_row_count-suc : (marks : List Bool) (from n : ℕ) → given_row_count
 unfolding given_row_count
 given_row_count-suc marks from n = refl
 
--- as many shards are given as rows are marked so
+-- The number of given shards is the number of marked rows.
 count-below : (marks : List Bool) (chunks : Chunks) (size from m n : ℕ) → n ≤ m → count_below n (given_shards marks chunks size from m) ≡ given_row_count marks from n
 count-below marks chunks size from m zero fits = count_below-zero (given_shards marks chunks size from m) ∙ sym (given_row_count-zero marks from)
 count-below marks chunks size from m (suc n) fits =
@@ -84,16 +84,16 @@ count-below marks chunks size from m (suc n) fits =
 pub count-given : (marks : List Bool) (chunks : Chunks) (size from n : ℕ) → count_below n (given_shards marks chunks size from n) ≡ given_row_count marks from n
 count-given marks chunks size from n = count-below marks chunks size from n n (omega arith)
 
--- there are at most as many shards below an index
+-- At most n shards have an index below n.
 pub count-most : (n : ℕ) (given : Shards) → count_below n given ≤ n
 count-most zero given = omega (arith, count_below-zero given)
 count-most (suc n) given = search (rules, count_below-suc, count-most n given)
 
--- no more shards are given than there are rows
+-- At most n of n rows are marked as given.
 pub given_row_count-most : (marks : List Bool) (from n : ℕ) → given_row_count marks from n ≤ n
 given_row_count-most marks from n = omega (arith, count-most n (given_shards marks [] 0 from n), count-given marks [] 0 from n)
 
--- as many rows as there are, or none, are marked as given: then all are, or none is
+-- If all n rows are marked as given, each row is marked. If none is marked as given, no row is marked.
 pub all_given : (marks : List Bool) (from n : ℕ) → given_row_count marks from n ≡ n → (i : ℕ) → i < n → is_marked marks (from + i) ≡ true
 all_given marks from n count i inside =
     sym (given-marked marks [] 0 from n i inside) ∙ all_some n (given_shards marks [] 0 from n) (omega (arith, count, count-given marks [] 0 from n)) i inside
@@ -111,7 +111,7 @@ none_given marks from (suc n) count i inside =
     by_mark true none = absurd (let no : ⊥ = omega arith in no)
     by_mark false none = refl
 
--- with no row marked, nothing is given
+-- If no row is marked, no shard is given.
 pub given-nothing : (marks : List Bool) (chunks : Chunks) (size from n : ℕ) → ((i : ℕ) → i < n → is_marked marks (from + i) ≡ false)
     → given_shards marks chunks size from n ≡ nothing
 given-nothing marks chunks size from n empty =
@@ -123,7 +123,7 @@ given-nothing marks chunks size from n empty =
 pub given_row_count-nothing : (marks : List Bool) (from n : ℕ) → ((i : ℕ) → i < n → is_marked marks (from + i) ≡ false) → given_row_count marks from n ≡ 0
 given_row_count-nothing marks from n empty = sym (count-given marks [] 0 from n) ∙ ap (count_below n) (given-nothing marks [] 0 from n empty) ∙ count-nothing n
 
--- rows of which none is marked hold nothing given
+-- Rows without marks satisfy `HoldGiven` for zero originals and zero recovery shards.
 pub hold_nothing : (s : DecoderShape) (marks : List Bool) (chunks : Chunks) → ((p : ℕ) → is_marked marks p ≡ false) → HoldGiven s 0 0 marks chunks
 hold_nothing s marks chunks empty =
     record {
@@ -133,7 +133,7 @@ hold_nothing s marks chunks empty =
       shards = λ p given. absurd (let no : true ≡ false = sym given ∙ empty p in let never : ⊥ = cc in never);
     }
 
--- if the marks say that some shard is given, they are marks of given shards
+-- If the marks record at least one given shard, they are marks of given shards.
 pub given_if_some : (marks : Marks) (from n from_too m : ℕ) → 0 < given_row_count (given_marks marks) from n + given_row_count (given_marks marks) from_too m → marks.shards ≡ Given
 given_if_some marks from n from_too m some = by_kind marks.shards some
   where
@@ -144,14 +144,14 @@ given_if_some marks from n from_too m some = by_kind marks.shards some
         let none_too = given_row_count-nothing (marks_of_given Restored marks.rows.items) from_too m (λ i h. refl) in
         absurd (let no : ⊥ = omega (arith, some, none, none_too) in no)
 
--- how many originals a round of a shape has missing, and how many surplus shards
+-- The number of missing originals and the number of surplus shards of a round, from the marked rows.
 pub tally_counts : (s : DecoderShape) (tally : Tally) (marks : Marks) → tally.shape ≡ s → CanBeRestored tally marks
     → (given_row_count (given_marks marks) s.frame.originals_from s.configuration.original_count + tally.missing ≡ s.configuration.original_count)
     × (given_row_count (given_marks marks) s.frame.originals_from s.configuration.original_count + given_row_count (given_marks marks) s.frame.recovery_from s.configuration.recovery_count
     ≡ s.configuration.original_count + tally.surplus)
 tally_counts s tally marks same facts = rw (← same) (facts.missing_counted, facts.surplus_counted)
 
--- rows that hold the same chunks represent the same shards
+-- Rows with the same marks and the same chunks represent the same shards.
 given-same : (old new : List Bool) (before after : Chunks) (size from n i : ℕ) → (i < n → shard_of_row new after size (from + i) ≡ shard_of_row old before size (from + i))
     → given_shards new after size from n i ≡ given_shards old before size from n i
 given-same old new before after size from n i same =
@@ -170,7 +170,7 @@ with_entry-is : (given : Shards) (index i : ℕ) (shard : Shard) → with_entry 
 unfolding with_entry
 with_entry-is given index i shard = refl
 
--- one more shard, in a row that held none
+-- Marking an unmarked row that holds a shard enters this shard and changes no other shard.
 pub given-entered : (old new : List Bool) (before after : Chunks) (size from n index : ℕ) (shard : Shard) → index < n → is_marked old (from + index) ≡ false
     → shard_of_row new after size (from + index) ≡ Some shard → ((i : ℕ) → i ≢ index → shard_of_row new after size (from + i) ≡ shard_of_row old before size (from + i))
     → (given_shards new after size from n ≡ with_entry (given_shards old before size from n) index shard) × (given_row_count new from n ≡ given_row_count old from n + 1)
@@ -186,7 +186,7 @@ given-entered old new before after size from n index shard inside free here othe
           ∙ count-entered n own index shard inside (given_shards-in old before size from n index inside ∙ rw free refl) ∙ ap (λ m. m + 1) (count-given old before size from n),
     )
 
--- the original of an index that was restored
+-- No original is restored at an index from the count on.
 pub restored-out : (marks : List Bool) (chunks : Chunks) (size from n i : ℕ) → n ≤ i → restored_shards marks chunks size from n i ≡ None
 unfolding restored_shards
 restored-out marks chunks size from n i outside = rw (le-ltb i n outside) refl
@@ -196,7 +196,7 @@ pub restored-marked : (marks : List Bool) (chunks : Chunks) (size from n i : ℕ
 unfolding restored_shards
 restored-marked marks chunks size from n i b inside mark = rw (lt-ltb i n inside, mark) refl
 
--- a decoder in whose rows no shard is marked as given is a fresh one
+-- A decoder whose rows have no marks is a fresh decoder.
 pub nothing-given : (rate : Rate) (s : DecoderShape) (marks : List Bool) (chunks : Chunks) → ((p : ℕ) → is_marked marks p ≡ false)
     → state_over rate s marks chunks ≡ fresh_decoder (configuration_at rate s.configuration)
 nothing-given rate s marks chunks empty =

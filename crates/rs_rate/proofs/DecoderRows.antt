@@ -1,4 +1,4 @@
--- The rows of a decoder, and what `decode` returns and leaves.
+-- The rows of a decoder, what `decode` returns, and the state after `decode`.
 use Rattle.std.proofs.Common.{◌≡◌, ℕ, ◌+◌, refl, sym, ap, subst}
 use Rattle.std.specs.Prelude.{Result, Ok, Err, is_ok, cond, MatchResult}
 use Rattle.std.specs.Result.{result_map_both}
@@ -9,27 +9,27 @@ use Rattle.rs_field.specs.code.Counts.{next_power, is_low, low_rate}
 use Rattle.rs_field.specs.code.Placement.{placement, low_placement, decoder_rows}
 use Rattle.rs_rate.specs.Configured.{frame_of}
 
--- the frame of a decoder of the low rate, written out
+-- The frame of a decoder of the low rate, with each number written out.
 pub low_frame-is : (k r : ℕ) → frame_of low_rate k r
     ≡ record { row_count = next_power (next_power k + r); originals_from = 0; recovery_from = next_power k; zeros_from = k; zeros_to = next_power k }
 unfolding frame_of placement low_placement is_low decoder_rows
 low_frame-is k r = refl
 
--- what is left and what is answered, by whether shards enough are given
+-- The state after `decode` and the result of `decode`, by whether enough shards were added.
 abbrev LeftBy : DecoderState → Result (Unit {0}) Error → DecoderState
 LeftBy s enough = cond (is_ok enough) (fresh_decoder s.configuration) s
 
 abbrev AnswersBy : DecoderState → Result (Unit {0}) Error → Result Shards Error → Type 0
 AnswersBy s enough result = MatchResult enough (λ _. MatchResult result (Restored s) (NoneAgrees s)) (λ e. result ≡ Err e)
 
--- if too few shards are given, `decode` does not change the state
+-- If too few shards were added, `decode` does not change the state.
 pub after_decode-refused : (s : DecoderState) (e : Error) → Err e ≡ enough_given s → s ≡ after_decode s
 after_decode-refused s e refused = ap (LeftBy s) refused
 
 pub decode_answers-refused : (s : DecoderState) (e : Error) → Err e ≡ enough_given s → DecodeAnswers s (Err e)
 decode_answers-refused s e refused = subst (λ enough. AnswersBy s enough (Err e)) refused refl
 
--- if enough shards are given, the state after `decode` has no shards
+-- If enough shards were added, the state after `decode` has no shards.
 pub after_decode-made : (s : DecoderState) → Ok tt ≡ enough_given s → after_decode s ≡ fresh_decoder s.configuration
 after_decode-made s made = sym (ap (LeftBy s) made)
 

@@ -1,4 +1,4 @@
--- The row steps of an encode: block by block, and of the whole.
+-- The row steps of each block of an encode, and of the whole encode.
 use Rattle.std.proofs.Common.{◌≡◌, ℕ, true, false, Bool, cond, ◌+◌, ◌-◌, ◌*◌, ◌/◌, ◌%◌, ◌<◌, ◌≤◌, refl, sym, ap, ap₂, ◌∙◌, subst, arith}
 use Rattle.std.proofs.Math.Nat.{add-div_right, div-mul-le_self, mul-le-mul_right}
 use Rattle.std.proofs.lemmas.Nat.{pow_pos, le-div, div-add-mod'}
@@ -14,11 +14,11 @@ use Rattle.rs_rate.proofs.HighCounts.{rows-fit}
 use Rattle.rs_rate.specs.RowsLaws.{encoder_rows_alike}
 use Rattle.rs_rate.proofs.RateLemmas.{chooses, chosen, block-is, block_alike}
 
--- bounds of two calls that leave room within a bound for both
+-- If the bounds of two calls add up to at most a bound, both calls together are within it.
 pub counts_both : (m n whole : ℕ) (a b c : Steps) → m + n ≤ whole → CountsUpTo m 0 0 a b → CountsUpTo n 0 0 b c → CountsUpTo whole 0 0 a c
 counts_both m n whole a b c le p q = counts_within (m + n) whole a c le (counts_then m n a b c p q)
 
--- n steps for each block, and for one block more
+-- The blocks up to the next one have the steps of the blocks before and the steps of one block.
 pub further-next : (start m step : ℕ) → 0 < m → m ≤ start → further_blocks m start * step + step ≤ further_blocks m (start + m) * step
 further-next start m step some from =
     let moved : start + m - m ≡ start - m + m = omega arith in
@@ -31,7 +31,7 @@ further-within start rows m step some within =
     let below : (start - m) / m * m ≤ start - m = div-mul-le_self (start - m) m in
     mul-le-mul_right step (le-div ((start - m) / m) (rows - m) m some (omega arith))
 
--- the rows are whole blocks, and the row steps of an encode follow from the number of blocks after the first
+-- The rows are whole blocks, and the row steps of an encode follow from the number of blocks after the first.
 bound-is : (low : Bool) (k r m rows : ℕ) → supports (low_or_high low) k r ≡ true → m ≡ next_power (cond low k r) → rows ≡ encoder_rows (low_or_high low) k r
     → let f = further_blocks m rows in (encode_steps_at (low_or_high low) k r ≡ (f + 2) * transform_steps m + 2 * (f * m + m)) × (rows ≡ f * m + m)
 unfolding encode_steps
@@ -51,7 +51,7 @@ bound-is low k r m rows is block all =
     regroup : (f t m : ℕ) → (f + 1 + 1) * t + 2 * (f + 1) * m ≡ (f + 2) * t + 2 * (f * m + m)
     regroup f t m = omega arith
 
--- at the low rate: rows cleared, the first block's transforms, the blocks after it, and a tail for each recovery shard
+-- The steps of an encode of the low rate, part by part, are within the bound of the encode.
 pub low_total : (k r m rows : ℕ) → supports low_rate k r ≡ true → m ≡ next_power k → rows ≡ encoder_rows low_rate k r
     → m - k + transform_steps m + further_blocks m rows * (m + transform_steps m) + transform_steps m + r ≤ encode_steps_at low_rate k r
 low_total k r m rows is block all =
@@ -62,7 +62,7 @@ low_total k r m rows is block all =
     sum : (k r m t f : ℕ) → r ≤ f * m + m → m - k + t + f * (m + t) + t + r ≤ (f + 2) * t + 2 * (f * m + m)
     sum k r m t f enough = omega arith
 
--- at the high rate: the first block, the blocks after it, the transform of their sum, and a tail for each recovery shard
+-- The steps of an encode of the high rate, part by part, are within the bound of the encode.
 pub high_total : (k r m rows : ℕ) → supports high_rate k r ≡ true → m ≡ next_power r → rows ≡ encoder_rows high_rate k r
     → m + transform_steps m + further_blocks m rows * (2 * m + transform_steps m) + transform_steps m + r ≤ encode_steps_at high_rate k r
 high_total k r m rows is block all =
@@ -73,11 +73,11 @@ high_total k r m rows is block all =
     sum : (r m t f : ℕ) → r ≤ m → m + t + f * (2 * m + t) + t + r ≤ (f + 2) * t + 2 * (f * m + m)
     sum r m t f few = omega arith
 
--- rates that choose alike have the same bound
+-- If two rates make the same choice for counts, they have the same bound.
 pub steps_alike : (one other : Rate) (k r : ℕ) → is_low one k r ≡ is_low other k r → encode_steps_at one k r ≡ encode_steps_at other k r
 steps_alike one other k r same = ap₂ (λ n m. encode_steps (n / m) m) (encoder_rows_alike one other k r same) (block_alike one other k r same)
 
--- an encode's bound has room for the tails
+-- The bound of an encode is at least the number of recovery shards.
 pub tails_within : (rate : Rate) (k r : ℕ) → supports rate k r ≡ true → r ≤ encode_steps_at rate k r
 tails_within rate k r is =
     subst (λ (n : ℕ). r ≤ n) (steps_alike (low_or_high (is_low rate k r)) rate k r (chooses (is_low rate k r) k r))

@@ -1,4 +1,4 @@
--- Whether a decoder has shards enough, by its test.
+-- Whether a decoder has enough shards, from the test of its counts.
 use Rattle.std.proofs.Common.{◌≡◌, ℕ, ◌+◌, ◌<◌, ◌≤◌, refl, sym, ap, ◌∙◌, arith, inl, inr, true≢false}
 use Rattle.std.specs.Prelude.{Ok, Err, is_ok}
 use Rattle.std.proofs.lemmas.Bool.{cases_lt, lt-ltb, le-ltb}
@@ -10,7 +10,7 @@ use Rattle.rs_rate.specs.DecoderView.{decoder_state}
 use Rattle.rs_rate.specs.Marks.{given_marks}
 use Rattle.rs_rate.proofs.DecoderLemmas.{count-given, given_row_count-most}
 
--- the counts that rows keep are those of their state, and no more than those of a message
+-- The counts that the rows store are the counts of their state.
 pub rows_given : (rate : Rate) (w : DecoderRows) → (originals_given (decoder_state rate w) ≡ w.originals_given) × (recovery_given (decoder_state rate w) ≡ w.recovery_given)
 rows_given rate w =
     let s = w.shape in
@@ -34,7 +34,7 @@ enough-few s o r originals recovery few = rw (originals, recovery, lt-ltb (o + r
 pub enough-many : (s : DecoderState) (o r : ℕ) → originals_given s ≡ o → recovery_given s ≡ r → s.configuration.original_count ≤ o + r → enough_given s ≡ Ok tt
 enough-many s o r originals recovery many = rw (originals, recovery, le-ltb (o + r) s.configuration.original_count many) refl
 
--- a decoder that has shards enough has as many as there are originals
+-- A decoder that has enough shards has at least as many shards as originals.
 pub enough-least : (s : DecoderState) → Ok tt ≡ enough_given s → s.configuration.original_count ≤ originals_given s + recovery_given s
 enough-least s made =
     elim (cases_lt (originals_given s + recovery_given s) s.configuration.original_count) [

@@ -1,4 +1,4 @@
--- The rows that are erased by a decoder's marks are the erased rows of its frame.
+-- The rows that a decoder's marks show as erased are the erased rows of its frame.
 use Rattle.std.proofs.Common.{◌≡◌, ℕ, ◌+◌, ◌^◌, ◌<◌, ◌≤◌, ◌⊎◌, List, Bool, true, false, cond, refl, sym, ap, ap₂, ◌∙◌, arith, inl, inr, pow_mono}
 use Rattle.std.specs.Prelude.{is_some, nat_le, nat_lt, ◌&&◌, ◌||◌}
 use Rattle.std.proofs.Math.Bool.{and-false}
@@ -10,7 +10,7 @@ use Rattle.rs_field.proofs.of_code.Frame.{IsFrame}
 use Rattle.rs_field.proofs.of_code.ErasedCount.{AreErasures}
 use Rattle.rs_rate.specs.Marks.{erasure, ArePlaced}
 
--- the entry by both tests
+-- The entry of a row, from the test for a known zero and the mark of the row.
 by_tests : Bool → Bool → ℕ
 by_tests known given = cond (known || given) 0 1
 
@@ -24,7 +24,7 @@ pub erased-most : (zeros_from zeros_to y : ℕ) (marks : List Bool) → erasure 
 unfolding by_tests
 erased-most zeros_from zeros_to y marks = by_tests-least (nat_le zeros_from y && nat_lt y zeros_to) (is_marked marks y)
 
--- a known zero is not erased
+-- A row with a known zero is not erased.
 pub erased-known : (zeros_from zeros_to y : ℕ) (marks : List Bool) → zeros_from ≤ y → y < zeros_to → erasure zeros_from zeros_to marks y ≡ 0
 unfolding by_tests
 erased-known zeros_from zeros_to y marks above below =
@@ -34,13 +34,13 @@ not_known : (zeros_from zeros_to y : ℕ) → (y < zeros_from) ⊎ (zeros_to ≤
 not_known zeros_from zeros_to y (inl below) = ap (λ c. c && nat_lt y zeros_to) (lt-leb zeros_from y below)
 not_known zeros_from zeros_to y (inr past) = ap (λ c. nat_le zeros_from y && c) (le-ltb y zeros_to past) ∙ and-false (nat_le zeros_from y)
 
--- another row is erased where it holds no given shard
+-- A row outside the known zeros is erased exactly if it holds no given shard.
 pub erased-row : (zeros_from zeros_to y : ℕ) (marks : List Bool) (given : Bool) → (y < zeros_from) ⊎ (zeros_to ≤ y) → is_marked marks y ≡ given
     → erasure zeros_from zeros_to marks y ≡ cond given 0 1
 unfolding by_tests
 erased-row zeros_from zeros_to y marks given outside is = ap₂ by_tests (not_known zeros_from zeros_to y outside) is
 
--- where a given shard stands is not erased
+-- A row that holds a given shard is not erased.
 pub erased-given : (zeros_from zeros_to y : ℕ) (marks : List Bool) → is_marked marks y ≡ true → erasure zeros_from zeros_to marks y ≡ 0
 unfolding by_tests
 erased-given zeros_from zeros_to y marks is = ap (by_tests (nat_le zeros_from y && nat_lt y zeros_to)) is ∙ either (nat_le zeros_from y && nat_lt y zeros_to)
@@ -49,7 +49,7 @@ erased-given zeros_from zeros_to y marks is = ap (by_tests (nat_le zeros_from y 
     either true = refl
     either false = refl
 
--- the zeros of a frame's placement are, among the rows, those until the frame's end of zeros
+-- Inside the rows of a frame, the known zeros of the placement end at the end of zeros of the frame.
 zeros_in : (p : Placement) (k r e bound zeros_end x : ℕ) → IsFrame p k r e bound zeros_end → x < 2 ^ e → (x < p.zeros_from) ⊎ (zeros_end ≤ x) → (x < p.zeros_from) ⊎ (p.zeros_to ≤ x)
 zeros_in p k r e bound zeros_end x f hx outside =
     elim outside [
@@ -62,7 +62,7 @@ zeros_reach p k r e bound zeros_end f =
     let few : 2 ^ e ≤ 2 ^ 16 = pow_mono f.few in
     elim f.whole [ inl same ↦ omega (arith, same.1) | inr wide ↦ omega (arith, wide.1, wide.2) ]
 
--- in a frame, the marks determine which rows are erased
+-- In a frame, the marks determine which rows are erased.
 pub are_erased : (p : Placement) (k r e bound zeros_end : ℕ) (marks : List Bool) (originals recovery : Shards) → IsFrame p k r e bound zeros_end
     → ArePlaced p.originals_from k p.recovery_from r marks
     → ((i : ℕ) → i < k → is_some (originals i) ≡ is_marked marks (p.originals_from + i))

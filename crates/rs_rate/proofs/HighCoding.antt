@@ -1,4 +1,4 @@
--- The coding of the high rate: what the transforms of one column make of the originals, and that it is the code.
+-- Coding with the high rate: the transforms of one column turn the original words into the recovery words of the code.
 use Rattle.std.proofs.Common.{◌≡◌, ℕ, zero, suc, ◌+◌, ◌-◌, ◌*◌, ◌/◌, ◌%◌, ◌^◌, ◌<◌, ◌≤◌, Bool, true, cond, eqb, List, length, bit_xor, refl, sym, ap, ap₂, ◌∙◌, subst, inl, inr, arith, zero-add, add-one, pow-add, ne_eqb}
 use Rattle.std.specs.Prelude.{All, nat_lt}
 use Rattle.std.specs.Int.Bits.{xor_self, xor_zero_l, xor_zero_r}
@@ -23,7 +23,7 @@ sum_one : (f : ℕ → ℕ) → sum_below 1 f ≡ f 0
 sum_one f =
     sum_below-suc 0 f ∙ ap (λ v. bit_xor v (f 0)) (sum_below-zero 0 f (λ i h. let no : ⊥ = omega arith in absurd no)) ∙ xor_zero_l (f 0)
 
--- the combination of the first block alone
+-- The sums of one block are the combination of the first block.
 pub sums-first : (m k : ℕ) (old sums : ℕ → ℕ) → ((i : ℕ) → i < m → i < k → forward m m sums i ≡ old i) → ((i : ℕ) → i < m → k ≤ i → forward m m sums i ≡ 0)
     → SumsBlocks m 1 k old sums
 sums-first m k old sums values zeros = (
@@ -39,7 +39,7 @@ sums-first m k old sums values zeros = (
     at : (u i : ℕ) → u * m ≡ 0 → forward m (u * m + m) sums i ≡ forward m m sums i
     at u i e = ap (λ s. forward m s sums i) (let s : u * m + m ≡ m = omega arith in s)
 
--- one combination more
+-- A family of combinations, extended by one combination.
 extended : ℕ → (ℕ → ℕ → ℕ) → (ℕ → ℕ) → ℕ → ℕ → ℕ
 extended n those one u q = cond (eqb u n) (one q) (those u q)
 
@@ -51,7 +51,7 @@ extended-last : (n : ℕ) (those : ℕ → ℕ → ℕ) (one : ℕ → ℕ) (q :
 unfolding extended
 extended-last n those one q = ap (λ (b : Bool). cond b (one q) (those n q)) (eq-eqb n n refl)
 
--- each block's combination is added to the sums
+-- Adding the combination of one more block to the sums gives the sums of one more block.
 pub sums-more : (m n k : ℕ) (old sums one more : ℕ → ℕ)
     → ((i : ℕ) → i < m → n * m + i < k → forward m (n * m + m) one i ≡ old (n * m + i)) → ((i : ℕ) → i < m → k ≤ n * m + i → forward m (n * m + m) one i ≡ 0)
     → ((q : ℕ) → q < m → more q ≡ bit_xor (sums q) (one q)) → SumsBlocks m n k old sums → SumsBlocks m (suc n) k old more
@@ -79,7 +79,7 @@ sums-more m n k old sums one more values zeros added (those, those_values, those
         ap (λ v. forward m (v * m + m) (extended n those one v) i) e
         ∙ forward-same m (n * m + m) (extended n those one n) one i (λ q hq. extended-last n those one q)
 
--- the sum of blocks begins with the first block, transformed backward
+-- The backward transform of the first block gives the sums of one block.
 pub sums-start : (m k : ℕ) (old passed : ℕ → ℕ) → 0 < m
     → ((i : ℕ) → i < m → 0 + i < k → forward m (0 + m) (λ q. passed (0 + q)) i ≡ old (0 + i)) → ((i : ℕ) → i < m → k ≤ 0 + i → forward m (0 + m) (λ q. passed (0 + q)) i ≡ 0)
     → SumsBlocks m (m / m) k old passed
@@ -90,7 +90,7 @@ sums-start m k old passed some values zeros =
     at : (i : ℕ) → forward m m passed i ≡ forward m (0 + m) (λ q. passed (0 + q)) i
     at i = ap (λ s. forward m s passed i) (sym (zero-add m)) ∙ forward-same m (0 + m) passed (λ q. passed (0 + q)) i (λ q hq. ap passed (sym (zero-add q)))
 
--- and the block from a row on, in which the originals still stood, has passed to its combination, and was added to the first block
+-- The backward transform of the next block, added to the first block, gives the sums of one more block.
 pub sums-next : (m start k : ℕ) (old now passed new : ℕ → ℕ) → 0 < m → start % m ≡ 0
     → ((i : ℕ) → start ≤ i → now i ≡ old i)
     → ((i : ℕ) → i < m → start + i < k → forward m (start + m) (λ q. passed (start + q)) i ≡ now (start + i))
@@ -111,7 +111,7 @@ sums-next m start k old now passed new some multiple left values zeros kept adde
 
 -- ---- the polynomial
 
--- block 0 with the first combination, n blocks with the next ones, and zeros
+-- The family that has the first combination at block 0, the next combinations at the n blocks after it, and zeros at later blocks.
 family : (ℕ → ℕ) → ℕ → (ℕ → ℕ → ℕ) → ℕ → ℕ → ℕ
 family first n later zero q = first q
 family first n later (suc u) q = cond (nat_lt u n) (later u q) 0
@@ -128,7 +128,7 @@ family-past : (first : ℕ → ℕ) (n : ℕ) (later : ℕ → ℕ → ℕ) (u q
 unfolding family
 family-past first n later u q h = ap (λ (b : Bool). cond b (later u q) 0) (le-ltb u n h)
 
--- where the first is the sum of the next ones, all sum to zero
+-- If the first combination is the sum of the next ones, the whole family has the sum zero.
 sum_family : (first : ℕ → ℕ) (n : ℕ) (later : ℕ → ℕ → ℕ) (q count : ℕ) → suc n ≤ count → first q ≡ sum_below n (λ u. later u q)
     → sum_below count (λ j. family first n later (0 + j) q) ≡ 0
 sum_family first n later q count room sum =
@@ -147,12 +147,12 @@ sum_family first n later q count room sum =
     next : (u : ℕ) → 1 + u ≡ suc u
     next u = omega arith
 
--- a point below n blocks lies in one of them
+-- A point below n blocks is in one of the n blocks.
 quotient_below : (j n m i x : ℕ) → x ≡ j * m + i → x < n * m → j < n
 quotient_below j n m i x is h =
     elim (cases_lt j n) [ inl below ↦ below | inr above ↦ let le : n * m ≤ j * m = mul-le-mul_right m above in absurd (let no : ⊥ = omega arith in no) ]
 
--- a polynomial whose values are the combinations', each on its own block of points
+-- A polynomial whose values on each block of points are the values of the combination of this block.
 record IsHigh (m all n : ℕ) (sums : ℕ → ℕ) (those : ℕ → ℕ → ℕ) (p : List ℕ) : Type 0 where
   size : length p ≡ all - m
   words : All (λ w. w < 65536) p
@@ -188,7 +188,7 @@ high_polynomial d t n sums those few room sum =
       },
     )
 
--- its values at the points of the code
+-- The values of the polynomial at the points of the code are the original and the recovery words.
 record CodesHigh (k m all : ℕ) (old sums : ℕ → ℕ) (p : List ℕ) : Type 0 where
   size : length p ≡ all - m
   words : All (λ w. w < 65536) p
@@ -239,7 +239,7 @@ sums_code k m all n old sums those p some enough room values zeros h =
         h.blocks (suc u) i x (let e : x ≡ suc u * m + i = omega arith in e) within hi
         ∙ ap (λ s. forward m s (family sums n those (suc u)) i) next
 
--- where the new words are the first values of the sums, they are the recovery words
+-- If the new words are the first values of the sums, they are the recovery words.
 pub high_coded : (k r n : ℕ) (old sums new : ℕ → ℕ) → supports high_rate k r ≡ true → k ≤ n * next_power r → n * next_power r + next_power r ≤ 65536
     → SumsBlocks (next_power r) n k old sums → ((i : ℕ) → i < r → new i ≡ forward (next_power r) 0 sums i) → CodesWords high_rate k r old new
 unfolding placement high_placement is_low

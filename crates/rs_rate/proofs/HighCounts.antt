@@ -1,4 +1,4 @@
--- The rows of the encoders, and counts that the high rate supports.
+-- The rows of encoders, and counts that the high rate supports.
 use Rattle.std.proofs.Common.{◌≡◌, ℕ, ◌+◌, ◌-◌, ◌*◌, ◌/◌, ◌%◌, ◌^◌, ◌<◌, ◌≤◌, Bool, true, false, cond, sym, ap, ◌∙◌, subst, arith}
 use Rattle.std.specs.Prelude.{nat_le, nat_lt, ◌&&◌}
 use Rattle.std.proofs.Math.Bool.{and_comm}
@@ -11,16 +11,16 @@ use Rattle.rs_field.proofs.of_code.SupportedCounts.{low_fits}
 use Rattle.rs_rate.specs.Configured.{low_or_high}
 use Rattle.rs_rate.proofs.PowerLemmas.{low_small, rounded_up-by, multiple_least, multiple_room}
 
--- the high rate supports the counts that the low rate supports the other way round
+-- The high rate supports k and r exactly if the low rate supports r and k.
 pub high_turned : (k r : ℕ) → supports low_rate r k ≡ supports high_rate k r
 unfolding supports
 high_turned k r = ap (λ b. b && nat_le (next_power r + k) 65536) (and_comm (nat_lt 0 r) (nat_lt 0 k))
 
--- counts that the high rate supports are small
+-- If the high rate supports k and r, r is at most 65536.
 pub high_small : (k r : ℕ) → supports high_rate k r ≡ true → r ≤ 65536
 high_small k r is = low_small r k (high_turned k r ∙ is)
 
--- n rows in whole blocks, of which each is the power of k: enough for r shards, and with points for one block more
+-- The n rows are whole blocks of the next power of two of k, hold r shards, and leave points of the field for one more block.
 pub record HasRows (k r n : ℕ) : Type 0 where
   pub power : (d : ℕ) × (next_power k ≡ 2 ^ d)
   pub block : k ≤ next_power k

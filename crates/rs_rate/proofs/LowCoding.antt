@@ -1,4 +1,4 @@
--- The coding of the low rate: what the transforms of one column make of the originals, and that it is the code.
+-- Coding with the low rate: the transforms of one column turn the original words into the recovery words of the code.
 use Rattle.std.proofs.Common.{◌≡◌, ℕ, true, ◌+◌, ◌-◌, ◌<◌, ◌≤◌, List, min, sym, ap, ◌∙◌, arith, inl, inr, zero-add}
 use Rattle.std.specs.Prelude.{slice_index}
 use Rattle.std.proofs.lemmas.Bool.{cases_lt}
@@ -14,11 +14,11 @@ use Rattle.rs_field.proofs.of_words.UpTo.{get-up_to}
 use Rattle.rs_field.proofs.of_code.SupportedCounts.{low_fits}
 use Rattle.rs_rate.specs.Coding.{CodesLow, CodesWords}
 
--- a transform at a shift takes its values from there on
+-- A transform with a shift returns the values of the transform without a shift, from the shifted index on.
 from_start : (n shift : ℕ) (f : ℕ → ℕ) (i : ℕ) → forward n shift f i ≡ forward n 0 f (shift + i)
 from_start n shift f i = ap (λ s. forward n s f i) (sym (zero-add shift)) ∙ forward-moved n 0 shift f i
 
--- one more run of rows: the combination is copied to it, and passes to its values
+-- The combination is copied to one more run of rows and transformed there to its values.
 pub further-more : (size start r wanted : ℕ) (first now copied new : ℕ → ℕ) → wanted ≡ min size (r - start) → size ≤ start
     → ((q : ℕ) → q < size → now q ≡ first q)
     → ((i : ℕ) → size ≤ i → i < start → i < r → now i ≡ forward size 0 first (size + i))
@@ -38,7 +38,7 @@ further-more size start r wanted first now copied new few after combination valu
           ∙ from_start size (start + size) first (i - start) ∙ ap (forward size 0 first) point
     ]
 
--- the passage from originals and zeros to a combination, and from it to the recovery words
+-- The transforms take the originals and zeros to a combination, and the combination to the recovery words.
 pub coded : (k r size : ℕ) (old cleared combination further new : ℕ → ℕ)
     → ((j : ℕ) → j < k → cleared j ≡ old j)
     → ((j : ℕ) → k ≤ j → j < size → cleared j ≡ 0)
@@ -66,7 +66,7 @@ coded k r size old cleared combination further new originals zeros back same val
         ap cleared (sym (zero-add j)) ∙ back j h
         ∙ forward-same size 0 (λ q. combination (0 + q)) combination j (λ q hq. ap combination (zero-add q))
 
--- in a column that was coded so, the recovery words are values of the polynomial through originals and zeros
+-- The recovery words of a coded column are values of the polynomial through the originals and zeros.
 recovery_words : (k r : ℕ) (old new : ℕ → ℕ) (words recovery : List ℕ) → CodesLow k r (next_power k) old new
     → ((j : ℕ) → j < k → slice_index words j ≡ old j) → ((i : ℕ) → i < r → slice_index recovery i ≡ new i)
     → next_power k + r ≤ 65536 → AreRecoveryWords low_rate k r words recovery
@@ -83,7 +83,7 @@ recovery_words k r old new words recovery (combination, originals, zeros, values
       (λ i h. read_recovery i h ∙ values i h ∙ sym (polynomial.3 (next_power k + i))),
     )
 
--- in each column they are the recovery words
+-- A column that satisfies `CodesLow` satisfies `CodesWords` of the low rate.
 pub codes_words : (k r : ℕ) (old new : ℕ → ℕ) → supports low_rate k r ≡ true → CodesLow k r (next_power k) old new → CodesWords low_rate k r old new
 codes_words k r old new supported coded_column =
     recovery_words k r old new (up_to k old) (up_to r new) coded_column

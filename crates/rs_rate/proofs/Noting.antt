@@ -1,4 +1,4 @@
--- Noting indexes in places that are true or false.
+-- Noting the indexes that were received, in a list of places that are true or false.
 use Rattle.std.proofs.Common.{◌≡◌, ◌<◌, ◌≤◌, ◌+◌, ◌||◌, ℕ, Bool, true, false, List, [], ◌∷◌, length, if◌then◌else◌, cond, nat_le, nat_lt, nat_eq, replicate, Result, Ok, Err, refl, sym, ap, subst, ◌∙◌, inl, inr, arith}
 use Rattle.std.proofs.Math.ListN.{get_or, set, get_or-eq_default}
 use Rattle.std.proofs.lemmas.Bool.{cases_lt, cases_eq, eq-eqb, ne_eqb, leb-false}
@@ -14,7 +14,7 @@ use Rattle.rs_field.specs.code.OneCall.{Items, one_by_one, note_outcome, origina
 use Rattle.rs_rate.specs.Giving.{Reaches, AreNoted}
 use Rattle.rs_rate.proofs.Giving.{outcome-err}
 
--- before the first index no place is true
+-- Before the first index is noted, no place is true.
 pub note_outcome-none : (n : ℕ) → AreNoted [] (replicate n false)
 note_outcome-none n =
     record {
@@ -22,19 +22,19 @@ note_outcome-none n =
       number = sum_by-replicate (λ (b : Bool). cond b 1 0) n false ∙ omega arith;
     }
 
--- the outcome of noting an index, by the tests of its range and of its place
+-- The outcome of noting an index, from the test of its range and the test of its place.
 abbrev pub tested : ℕ → ℕ → Bool → Bool → Result (Unit {0}) Error
 tested count index outside taken =
     if outside then Err (InvalidOriginalShardIndex count index) else if taken then Err (DuplicateOriginalShardIndex index) else Ok tt
 
--- the outcome of noting it among the indexes, by the tests of its range and of whether it stands there
+-- The list after noting an index, from the test of its range and the test whether it is already in the list.
 abbrev pub noted_by : ℕ → List ℕ → ℕ → Bool → Bool → Result (List ℕ) Error
 noted_by count indexes index outside taken =
     if outside then Err (InvalidOriginalShardIndex count index)
     else if taken then Err (DuplicateOriginalShardIndex index)
     else Ok (index ∷ indexes)
 
--- the test of an index has the result of noting the index
+-- The test of an index has the result of noting the index.
 note_outcome-tested : (count : ℕ) (indexes : List ℕ) (given : List Bool) (index : ℕ) → length given ≡ count → AreNoted indexes given
     → tested (length given) index (nat_le (length given) index) (get_or given index false) ≡ answer_of (note_outcome count indexes index)
 note_outcome-tested count indexes given index size are =
@@ -46,12 +46,12 @@ note_outcome-tested count indexes given index size are =
     by_tests false true = refl
     by_tests false false = refl
 
--- an error of the test of an index is the error of noting the index
+-- An error of the test of an index is the error of noting the index.
 pub note_outcome-refused : {count : ℕ} {indexes : List ℕ} {given : List Bool} (index : ℕ) {e : Error} → length given ≡ count → AreNoted indexes given
     → Err e ≡ tested (length given) index (nat_le (length given) index) (get_or given index false) → note_outcome count indexes index ≡ Err e
 note_outcome-refused {count} {indexes} {given} index {e} size are told = outcome-err (note_outcome count indexes index) e (told ∙ note_outcome-tested count indexes given index size are)
 
--- and a success notes the index
+-- If the test of an index succeeds, noting the index adds it to the list.
 pub note_outcome-added : {count : ℕ} {indexes : List ℕ} {given : List Bool} (index : ℕ) → length given ≡ count → AreNoted indexes given
     → Ok tt ≡ tested (length given) index (nat_le (length given) index) (get_or given index false) → note_outcome count indexes index ≡ Ok (index ∷ indexes)
 note_outcome-added {count} {indexes} {given} index size are told =
@@ -63,7 +63,7 @@ note_outcome-added {count} {indexes} {given} index size are told =
     by_tests false true answer = cc
     by_tests false false answer = refl
 
--- and says that its place is within and was free
+-- If the test of an index succeeds, the index is below the count and its place is false.
 tested-free : (count index : ℕ) (taken : Bool) → Ok tt ≡ tested count index (nat_le count index) taken → (index < count) × (taken ≡ false)
 tested-free count index taken told =
     let free = by_tests (nat_le count index) taken told in (leb-false count index free.0, free.1)
@@ -73,7 +73,7 @@ tested-free count index taken told =
     by_tests false true told = cc
     by_tests false false told = (refl, refl)
 
--- the place that becomes true is that of one more index
+-- Setting the place of an index to true notes one more index.
 pub note_outcome-more : {indexes : List ℕ} {given new : List Bool} (index : ℕ) → AreNoted indexes given → Ok tt ≡ tested (length given) index (nat_le (length given) index) (get_or given index false)
     → new ≡ set given index true → AreNoted (index ∷ indexes) new
 note_outcome-more {indexes} {given} {new} index are told is =
@@ -92,11 +92,11 @@ note_outcome-more {indexes} {given} {new} index are told is =
           omega arith;
     })
 
--- whether the indexes that were noted are enough
+-- The outcome of the check whether enough indexes were noted.
 abbrev enough : ℕ → Result (List ℕ) Error → Result (Unit {0}) Error
 enough k outcome = result_and_then (λ all. if nat_lt (length all) k then Err (NotEnoughShards k (length all) 0) else Ok tt) outcome
 
--- where the indexes were noted in k places of which none was true, and that was answered so, the answer of all that are given
+-- Indexes are noted in k places that are all false at first, with a given result.
 module _ (k : ℕ) (items : Items) (places given : List Bool) (result : Result (Unit {0}) Error) (filled : places ≡ replicate k false)
     (leads : Reaches (one_by_one (λ so_far item. note_outcome (length places) so_far item.0) [] items) result (λ all. AreNoted all given)) where
   outcome : Result (List ℕ) Error
@@ -108,7 +108,7 @@ module _ (k : ℕ) (items : Items) (places given : List Bool) (result : Result (
       subst (λ (n : ℕ). Reaches (one_by_one (λ so_far item. note_outcome n so_far item.0) [] items) result (λ all. AreNoted all given)) (ap length filled ∙ length-replicate k false)
       leads
 
-  -- is the same refusal
+  -- An error of noting is the result of `originals_alone`.
   pub originals_alone-refused : (e : Error) → result ≡ Err e → result ≡ originals_alone k items
   unfolding outcome
   originals_alone-refused e refused = by_outcome outcome led
@@ -117,7 +117,7 @@ module _ (k : ℕ) (items : Items) (places given : List Bool) (result : Result (
       by_outcome (Ok all) made = let made : result ≡ Ok tt = made.0 in cc
       by_outcome (Err f) same = same
 
-  -- is that these are too few, or else a success
+  -- If all indexes were noted, the check of their number has the result of `originals_alone`.
   pub originals_alone-counted : (received : ℕ) → result ≡ Ok tt → received ≡ count_by (λ b. b) given
       → (if nat_lt received k then Err (NotEnoughShards k received 0) else Ok tt) ≡ originals_alone k items
   unfolding outcome

@@ -14,7 +14,7 @@ pub low_supported : (k r : ℕ) → 0 < k → 0 < r → next_power k + r ≤ 655
 unfolding supports
 low_supported k r some_k some_r fit = rw (lt-ltb 0 k some_k, lt-ltb 0 r some_r, le-leb (next_power k + r) 65536 fit) refl
 
--- the multiple of m that is not below n and below n + m is n rounded up
+-- The multiple of m that is at least n and below n + m is n rounded up to a multiple of m.
 pub rounded_up-is : (n m result : ℕ) → 0 < m → n ≤ result → result < n + m → result % m ≡ 0 → result ≡ rounded_up n m
 rounded_up-is n m result some low high multiple =
     let whole : result / m * m + result % m ≡ result = div-add-mod' result m in
@@ -24,23 +24,23 @@ rounded_up-is n m result some low high multiple =
     let product : result ≡ result / m * m = omega arith in
     product ∙ ap (λ q. q * m) (sym quotient)
 
--- the rows of an encoder of the low and of the high rate
+-- The number of rows of an encoder of the low rate or of the high rate.
 pub rounded_up-by : (low : Bool) (k r : ℕ) → rounded_up (cond low r k) (next_power (cond low k r)) ≡ encoder_rows (low_or_high low) k r
 unfolding encoder_rows is_low
 rounded_up-by true k r = refl
 rounded_up-by false k r = refl
 
--- a multiple of m that is not below n lies below n + m
+-- The next multiple of m, from n on, is below n + m.
 pub next_multiple_of-below : (n m : ℕ) → 0 < m → next_multiple_of n m < n + m
 next_multiple_of-below n m some = let rest : (m - n % m) % m < m = omega arith in omega arith
 
--- counts that the low rate supports are small
+-- If the low rate supports k and r, k is at most 65536.
 pub low_small : (k r : ℕ) → supports low_rate k r ≡ true → k ≤ 65536
 low_small k r is =
     let fits = low_fits k r is in
     elim (cases_lt 65536 k) [ inl many ↦ let large : 65536 < next_power k = next_power-large k many in absurd (omega arith) | inr small ↦ small ]
 
--- a multiple of m below another leaves room for one more block
+-- If one multiple of m is below another, one more block of m fits between them.
 pub next_block : (start rows m : ℕ) → start < rows → start % m ≡ 0 → rows % m ≡ 0 → start + m ≤ rows
 next_block start rows m below from to =
     let a : start / m * m + start % m ≡ start = div-add-mod' start m in
@@ -50,11 +50,11 @@ next_block start rows m below from to =
       | inr more ↦ let rise : rows / m * m ≤ start / m * m = mul-le-mul_right m more in absurd (let no : ⊥ = omega arith in no)
     ]
 
--- a positive multiple of m is at least m
+-- A positive multiple of m is at least m.
 pub multiple_least : (n m : ℕ) → 0 < n → n % m ≡ 0 → m ≤ n
 multiple_least n m some multiple = let least = next_block 0 n m some (zero-mod m) multiple in omega arith
 
--- a multiple of a power of two m that is below 65536 leaves room for m
+-- If m is a power of two up to 65536 and n is a multiple of m below 65536, n + m is at most 65536.
 pub multiple_room : (n d m : ℕ) → d ≤ 16 → m ≡ 2 ^ d → n % m ≡ 0 → n < 65536 → n + m ≤ 65536
 multiple_room n d m few power multiple below =
     let all : 65536 ≡ 2 ^ (16 - d) * m = (let parts : 16 - d + d ≡ 16 = omega arith in sym (ap (λ e. 2 ^ e) parts) ∙ pow-add 2 (16 - d) d ∙ ap (λ w. 2 ^ (16 - d) * w) (sym power)) in

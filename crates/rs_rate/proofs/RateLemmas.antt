@@ -1,4 +1,4 @@
--- A rate is the low or the high rate for each pair of supported counts, and has the rows, the frame and the recovery shards of that rate.
+-- A rate uses the low or the high rate for two supported counts, and has the rows, the frame and the recovery shards of this rate.
 use Rattle.std.proofs.Common.{◌≡◌, ℕ, ◌+◌, ◌<◌, ◌≤◌, Bool, true, false, cond, List, refl, sym, ap, ap₂, ◌∙◌, subst, true≢false, arith}
 use Rattle.std.specs.Prelude.{slice_index, if◌then◌else◌}
 use Rattle.rs_field.specs.code.Counts.{Rate, next_power, supports, is_low, low_rate, high_rate, default_rate}
@@ -13,19 +13,19 @@ use Rattle.rs_rate.specs.Configured.{frame_of, low_or_high}
 use Rattle.rs_rate.proofs.PowerLemmas.{low_supported}
 use Rattle.rs_rate.proofs.HighCounts.{high_turned}
 
--- the frame of a decoder of the high rate, written out
+-- The frame of a decoder of the high rate, with each number written out.
 pub high_frame-is : (k r : ℕ) → frame_of high_rate k r
     ≡ record { row_count = next_power (next_power r + k); originals_from = next_power r; recovery_from = 0; zeros_from = next_power r + k; zeros_to = 65536 }
 unfolding frame_of placement high_placement is_low decoder_rows
 high_frame-is k r = refl
 
--- the low and the high rate choose themselves
+-- The low rate always uses the low rate, and the high rate always uses the high rate.
 pub chooses : (low : Bool) (k r : ℕ) → is_low (low_or_high low) k r ≡ low
 unfolding is_low
 chooses true k r = refl
 chooses false k r = refl
 
--- where a rate is the low rate, that one supports its counts, and likewise the high rate
+-- If a rate uses the low rate for supported counts, the low rate supports the counts. If it uses the high rate, the high rate supports them.
 chosen_low : (rate : Rate) (k r : ℕ) → supports rate k r ≡ true → is_low rate k r ≡ true → supports low_rate k r ≡ true
 chosen_low low_rate k r is low = is
 chosen_low high_rate k r is low = absurd (true≢false (sym low ∙ chooses false k r))
@@ -46,12 +46,12 @@ pub chosen : (rate : Rate) (k r : ℕ) (low : Bool) → supports rate k r ≡ tr
 chosen rate k r true is low = chosen_low rate k r is low
 chosen rate k r false is high = chosen_high rate k r is high
 
--- rates that choose alike have the same blocks, frame, placement and recovery words
+-- Two rates that use the same one of the low and the high rate have the same blocks, frame, placement and recovery words.
 pub block_alike : (one other : Rate) (k r : ℕ) → is_low one k r ≡ is_low other k r → block_rows one k r ≡ block_rows other k r
 unfolding block_rows
 block_alike one other k r same = ap (λ b. if b then next_power k else next_power r) same
 
--- the rows of a block, written out
+-- The number of rows of a block of the low or the high rate, written out.
 pub block-is : (low : Bool) (k r : ℕ) → block_rows (low_or_high low) k r ≡ next_power (cond low k r)
 unfolding block_rows is_low
 block-is true k r = refl

@@ -1,4 +1,4 @@
--- The rows of a decode over chunks: their words, their tails, and the locator's entries.
+-- The rows of a decode over chunks: their words, their tails, and the entries of the locator.
 use Rattle.std.proofs.Common.{true, ◌≡◌, ◌≢◌, ℕ, ◌%◌, ◌<◌, List, Bool, ap, ap₂, ◌∙◌, subst, ◌+◌, ◌*◌}
 use mathlib.Core.Path.{fun_ext}
 use Rattle.rs_field.specs.words.StepBounds.{CountsUpTo}
@@ -14,7 +14,7 @@ use Rattle.rs_rate.specs.declared.rate.decoder_work.DecoderShape.{DecoderShape}
 use Rattle.rs_rate.specs.Decoding.{RestoresWords}
 use Rattle.rs_rate.specs.ShardRows.{word_in, row_chunk, shard_laid_out, shard_in_order}
 
--- words that are read in another way are restored as well
+-- Words that are equal to restored words at the same rows are restored.
 restores_alike : (shape : DecoderShape) (marks : List Bool) (locator : List ℕ) (surplus : ℕ) (old new old_too new_too : ℕ → ℕ → ℕ → ℕ) (agrees : Bool)
     → ((k s i : ℕ) → old k s i ≡ old_too k s i) → ((k s i : ℕ) → new k s i ≡ new_too k s i)
     → RestoresWords shape marks locator surplus old new agrees → RestoresWords shape marks locator surplus old_too new_too agrees
@@ -31,12 +31,12 @@ restores_read shape marks locator surplus n before after old new agrees len len_
     (λ k s i. ap₂ (λ (m : ℕ) (xs : Chunks). symbol (chunk xs (i * m + k)) s) len was)
     (λ k s i. ap₂ (λ (m : ℕ) (xs : Chunks). symbol (chunk xs (i * m + k)) s) len_too is) restored
 
--- the tail of one row was moved where it is restored, in one row step at most, and no other row was changed
+-- If a row belongs to a missing original, the tail of its shard was moved in at most one row step, and no other row was changed.
 pub record TailMoved (marks : List Bool) (size p : ℕ) (old new : Chunks) (before after : Steps) : Type 0 where
   pub moved_here : is_marked marks p ≡ true → shard_in_order new size p ≡ shard_laid_out old size p
   pub others : (i k : ℕ) → i ≢ p → k < row_len size → row_chunk new size i k ≡ row_chunk old size i k
   pub counts : CountsUpTo 1 0 0 before after
 
--- the locator of entries that are the same at all rows
+-- Entries that are equal at all rows have the same locator.
 pub locator_same : (rows : ℕ) (old entries new : ℕ → ℕ) → ((y : ℕ) → y < rows → entries y ≡ old y) → IsLocatorBelow rows entries new → IsLocatorBelow rows old new
 locator_same rows old entries new same l x hx = l x hx ∙ ap (λ n. n % 65535) (log_sum-same rows entries old x same)

@@ -1,4 +1,4 @@
--- The rows of a decode, one after another: what a pass over them did to each.
+-- What one pass over the rows of a decode does to each row.
 use Rattle.std.proofs.Common.{◌≡◌, ℕ, ◌+◌, ◌-◌, ◌*◌, ◌/◌, ◌%◌, ◌<◌, ◌≤◌, Bool, true, false, cond, sym, ap, ap₂, ◌∙◌, arith, zero-add}
 use Rattle.std.specs.Prelude.{replicate, slice_index, List, ◌↔◌}
 use mathlib.Core.Path.{fun_ext}
@@ -14,14 +14,14 @@ use Rattle.rs_field.proofs.of_rows.RowOffsets.{row_ends}
 use Rattle.rs_rate.specs.Decoding.{located_word}
 use Rattle.rs_rate.proofs.ShardRowsLemmas.{part-read}
 
--- a chunk of a row that is read
+-- A chunk of row i is the cell of its column in row i.
 pub row-read : (r : ShardsRefMut) (i k : ℕ) → Fits r → i < r.shard_count → k < r.shard_len_64 → chunk (row_at r i) k ≡ cell r k i
 unfolding cell
 row-read r i k fits hi hk =
     let ends : i * r.shard_len_64 + r.shard_len_64 ≤ r.shard_count * r.shard_len_64 = row_ends i r.shard_count r.shard_len_64 hi in
     part-read r.chunks.now (i * r.shard_len_64) r.shard_len_64 k (omega arith) hk
 
--- one row was located, in one row step at most, and no other row was changed
+-- One row was multiplied by its locator factor, in at most one row step, and no other row was changed.
 pub record RowLocated (marks : List Bool) (locator : List ℕ) (p : ℕ) (old new : ShardsRefMut) (before after : Steps) : Type 0 where
   pub extent : SameExtent old new
   pub others : SameRowsOutside p (p + 1) old new
@@ -34,12 +34,12 @@ pub located_word-at : (marks : List Bool) (locator : List ℕ) (words : ℕ → 
 unfolding located_word
 located_word-at marks locator words p given is = ap (λ b. cond b (product (words p) (power (slice_index locator p))) 0) is
 
--- a located row is that of the word there before
+-- If a word was not changed, its located word was not changed.
 pub located_word-same : (marks : List Bool) (locator : List ℕ) (old new : ℕ → ℕ) (p : ℕ) → new p ≡ old p → located_word marks locator new p ≡ located_word marks locator old p
 unfolding located_word
 located_word-same marks locator old new p same = ap (λ w. cond (is_marked marks p) (product w (power (slice_index locator p))) 0) same
 
--- one row was revealed where it is to be restored, in one row step at most, and no other row was changed
+-- If a row belongs to a missing original, the row was revealed in at most one row step, and no other row was changed.
 pub record RowRevealed (marks : List Bool) (locator : List ℕ) (p : ℕ) (old new : ShardsRefMut) (before after : Steps) : Type 0 where
   pub extent : SameExtent old new
   pub others : SameRowsOutside p (p + 1) old new
@@ -47,13 +47,13 @@ pub record RowRevealed (marks : List Bool) (locator : List ℕ) (p : ℕ) (old n
       → word new k s p ≡ product (word old k s p) (power (65535 - slice_index locator p))
   pub counts : CountsUpTo 1 0 0 before after
 
--- values of as many rows, counted from row 0 on
+-- Values of a transform at rows from 0 on are values of the transform of the whole column.
 pub from_row_zero : (size n i : ℕ) (values coefficients : ℕ → ℕ) → size ≡ n → values (0 + i) ≡ forward size 0 (λ q. coefficients (0 + q)) i
     → values i ≡ forward n 0 coefficients i
 from_row_zero size n i values coefficients same is =
     sym (ap values (zero-add i)) ∙ is ∙ ap₂ (λ m (f : ℕ → ℕ). forward m 0 f i) same (fun_ext (λ q. ap coefficients (zero-add q)))
 
--- the last rows, counted from the first of them on
+-- The last rows are zero exactly if the check of the last rows returns true.
 pub checked_rows : (rows surplus size count first : ℕ) (f : ℕ → ℕ → ℕ → ℕ) (answer agrees : Bool) → surplus ≤ rows → first ≡ rows - surplus → count ≡ rows → answer ≡ agrees
     → ((i j : ℕ) → first ≤ i → i < count → j < size / 2 → f (j / 32) (j % 32) i ≡ 0) ↔ (answer ≡ true)
     → ((i j : ℕ) → rows ≤ i + surplus → i < rows → j < size / 2 → f (j / 32) (j % 32) i ≡ 0) ↔ (agrees ≡ true)

@@ -1,4 +1,4 @@
--- The shards of a result that are still to come.
+-- The shards of a result that an iterator has not lent yet.
 use Rattle.std.proofs.Common.{◌≡◌, ℕ, zero, suc, ◌+◌, ◌-◌, ◌^◌, ◌<◌, ◌≤◌, List, [], ◌∷◌, length, drop, Bool, true, false, cond, refl, sym, ap, ap₂, ◌∙◌, arith}
 use Rattle.std.proofs.Math.Nat.{sub-zero}
 use Rattle.std.proofs.Math.Seq.{drop-cons}
@@ -21,7 +21,7 @@ use Rattle.rs_rate.specs.ShardRows.{shard_in_order}
 use Rattle.rs_rate.proofs.DecoderLemmas.{given_row_count-zero, given_row_count-suc, count-most, restored-out, restored-marked}
 use Rattle.rs_rate.proofs.ShardRowsLemmas.{count-few}
 
--- the recovery shards from an index on
+-- The number of recovery shards from an index on.
 pub length-left : (rows : EncoderRows) (i : ℕ) → length (drop i (lent_shards rows)) ≡ rows.shape.configuration.recovery_count - i
 length-left rows i =
     length-drop i (lent_shards rows) ∙ ap (λ n. n - i) (length-up_to rows.shape.configuration.recovery_count (shard_in_order rows.chunks.items rows.shape.configuration.shard_bytes))
@@ -31,7 +31,7 @@ left-past rows i past =
     let count = length-up_to rows.shape.configuration.recovery_count (shard_in_order rows.chunks.items rows.shape.configuration.shard_bytes) in
     drop_all i (lent_shards rows) (omega arith)
 
--- the shard of the next index is the first of them
+-- The recovery shards from an index on begin with the shard of this index.
 pub lends_next : (rows : EncoderRows) (i : ℕ) (shard : Shard) → i < rows.shape.configuration.recovery_count
     → shard ≡ shard_in_order rows.chunks.items rows.shape.configuration.shard_bytes i → drop i (lent_shards rows) ≡ shard ∷ drop (i + 1) (lent_shards rows)
 lends_next rows i shard inside lends =
@@ -40,7 +40,7 @@ lends_next rows i shard inside lends =
     drop-cons (lent_shards rows) i [] (omega arith)
     ∙ ap₂ (λ x n. x ∷ drop n (lent_shards rows)) (get-up_to rows.shape.configuration.recovery_count f i [] inside ∙ sym lends) (let n : suc i ≡ i + 1 = omega arith in n)
 
--- the restored originals from an index on
+-- From the count on, there are no restored originals.
 pub restored_from-past : (rows : DecoderRows) (i : ℕ) → rows.shape.configuration.original_count ≤ i → restored_from rows i ≡ []
 restored_from-past rows i past = items_from-past i rows.shape.configuration.original_count (restored_by_rows rows) past
 
@@ -54,7 +54,7 @@ pub restored_from-some : (rows : DecoderRows) (i : ℕ) (r : Option (Bor Shard))
 restored_from-some rows i r shard inside some lends =
     items_from-some i rows.shape.configuration.original_count (restored_by_rows rows) shard.now inside (sym lends ∙ ap option_copied some)
 
--- all restored originals
+-- The restored originals from index 0 on are all restored originals.
 restored_from-all : (rows : DecoderRows) → restored_from rows 0 ≡ items_below rows.shape.configuration.original_count (restored_by_rows rows)
 restored_from-all rows = ap (λ n. items_from 0 n (restored_by_rows rows)) (sub-zero rows.shape.configuration.original_count)
 
@@ -65,7 +65,7 @@ lists-restored rows = record {
   in_order = restored_from-all rows;
 }
 
--- as many originals are restored as were not given
+-- The number of restored originals is the number of originals that were not given.
 count-restored : (old new : List Bool) (chunks : Chunks) (size from m n : ℕ) → n ≤ m
     → ((i : ℕ) → i < m → is_marked new (from + i) ≡ not (is_marked old (from + i)))
     → count_below n (restored_shards new chunks size from m) + given_row_count old from n ≡ n
@@ -92,18 +92,18 @@ length-restored old new chunks size from n marked =
     let counted = length-listed n (restored_shards new chunks size from n) in
     omega (arith, counted, count-restored old new chunks size from n n (omega arith) marked)
 
--- no more originals are restored than rows can be
+-- The number of restored originals fits a `usize`.
 pub restored-few : (rows : DecoderRows) → length (restored_from rows 0) < 2 ^ 64
 restored-few rows =
     let listed_all = ap length (restored_from-all rows) ∙ length-listed rows.shape.configuration.original_count (restored_by_rows rows) in
     omega (arith, listed_all, count-most rows.shape.configuration.original_count (restored_by_rows rows), rows.laid.places.few, rows.laid.places.originals)
 
--- an encoder's recovery count is a `usize`
+-- The number of recovery shards of an encoder's configuration fits a `usize`.
 pub recovery_count-few : (rows : EncoderRows) → rows.shape.configuration.recovery_count < 2 ^ 64
 recovery_count-few rows =
     omega (arith, rows.laid.recovery, count-few rows.shape.row_count rows.shape.configuration.shard_bytes rows.laid.configured.positive rows.sized)
 
--- and no more recovery shards are made
+-- The number of recovery shards that an encoder lends fits a `usize`.
 pub recovery-few : (rows : EncoderRows) → length (lent_shards rows) < 2 ^ 64
 recovery-few rows =
     let made = length-up_to rows.shape.configuration.recovery_count (shard_in_order rows.chunks.items rows.shape.configuration.shard_bytes) in

@@ -1,4 +1,4 @@
--- The chunks of rows, and the shards in them.
+-- The chunks of rows, and the shards in rows.
 use Rattle.std.proofs.Common.{◌≡◌, ◌≢◌, ℕ, ◌+◌, ◌*◌, ◌/◌, ◌%◌, ◌^◌, ◌<◌, ◌≤◌, List, [], ◌∷◌, ◌++◌, length, take, drop, get_or, refl, sym, ap, ◌∙◌, inl, inr, subst, arith, ◌⊎◌, add-one, rules, ap₂}
 use Rattle.std.proofs.Math.Nat.{mul-le-mul_right, mul-le-mul_left}
 use Rattle.std.specs.Prelude.{slice_index, flat_map}
@@ -24,7 +24,7 @@ pub chunk_count-more : (m n size : ℕ) → m ≤ n → chunk_count m size ≤ c
 unfolding chunk_count
 chunk_count-more m n size h = mul-le-mul_right (row_len size) h
 
--- rows whose bytes are a `usize` are as few
+-- If the size of rows in bytes fits a `usize`, the number of rows fits a `usize`.
 pub count-few : (n size : ℕ) → 0 < size → chunk_count n size * 64 < 2 ^ 64 → n < 2 ^ 64
 unfolding chunk_count
 count-few n size some fits =
@@ -32,16 +32,16 @@ count-few n size some fits =
     let more = mul-le-mul_left n longer in
     omega (arith, more, fits)
 
--- the chunks up to one row's end
+-- The number of chunks up to the end of row i.
 pub row_end : (i size : ℕ) → chunk_count (i + 1) size ≡ i * row_len size + row_len size
 unfolding chunk_count
 row_end i size = omega arith
 
--- a row below the last has its chunks
+-- All chunks of a row below the last are within the chunks of the rows.
 pub chunk_count-within : (i m size l : ℕ) → i < m → chunk_count m size ≤ l → chunk_count (i + 1) size ≤ l
 chunk_count-within i m size l less all = let rise = chunk_count-more (i + 1) m size (omega (arith, less)) in omega (arith, rise, all)
 
--- one more shard put into the next row, of rows of this size
+-- Laying one more shard into the next row appends this shard to the shards of the rows.
 pub given-more : (old new : Chunks) (size n length_ : ℕ) (shard : Shard) → length_ ≡ size → shard_laid_out new length_ n ≡ shard
     → ((i : ℕ) → i ≢ n → shard_laid_out new length_ i ≡ shard_laid_out old length_ i)
     → up_to (n + 1) (shard_laid_out new size) ≡ up_to n (shard_laid_out old size) ++ shard ∷ []
@@ -53,7 +53,7 @@ given-more old new size n length_ shard same here others =
         let before = up_to-same n (shard_laid_out new z) (shard_laid_out old z) (λ i p. others i (omega (arith, p))) in
         rw (add-one n) (rw (before, here) refl)
 
--- once a shard of the size was laid into a row, the shards that were of the size still are, and that one is
+-- After a shard of the size was laid into a row, this row and the other rows that held shards of the size hold shards of the size.
 pub shard-entered : (old new : Chunks) (size row length_ i : ℕ) (shard : Shard) → length_ ≡ size → IsShard length_ shard → shard_laid_out new length_ row ≡ shard
     → ((j : ℕ) → j ≢ row → shard_laid_out new length_ j ≡ shard_laid_out old length_ j) → (i ≢ row → IsShard size (shard_laid_out old size i))
     → IsShard size (shard_laid_out new size i)
@@ -64,15 +64,15 @@ shard-entered old new size row length_ i shard same is here others before =
       | inr apart ↦ subst (IsShard length_) (sym (others i apart)) (subst (λ (z : ℕ). IsShard z (shard_laid_out old z i)) (sym same) (before apart))
     ])
 
--- a chunk inside a part that was written
+-- A chunk inside a part that was written is the chunk of the part.
 pub part-inside : (chunks part : Chunks) (start n k : ℕ) → start + n ≤ length chunks → length part ≡ n → k < n → chunk (put_mid start n chunks part) (start + k) ≡ chunk part k
 part-inside chunks part start n k fits same inside = search (rules, places)
 
--- a chunk outside a part that was written
+-- A chunk outside a part that was written is unchanged.
 pub part-outside : (chunks part : Chunks) (start n k : ℕ) → start + n ≤ length chunks → length part ≡ n → (k < start) ⊎ (start + n ≤ k) → chunk (put_mid start n chunks part) k ≡ chunk chunks k
 part-outside chunks part start n k fits same outside = search (rules, places)
 
--- what lies in the rows of a part that was written
+-- If a part that is row i was written, the chunks of row i are the chunks of the part.
 pub row_chunk-here : (chunks part : Chunks) (size i k : ℕ) → i * row_len size + row_len size ≤ length chunks → length part ≡ row_len size → k < row_len size
     → row_chunk (put_mid (i * row_len size) (row_len size) chunks part) size i k ≡ chunk part k
 unfolding row_chunk
@@ -84,7 +84,7 @@ unfolding row_chunk
 row_chunk-other chunks part size i j k fits same inside apart =
     part-outside chunks part (i * row_len size) (row_len size) (j * row_len size + k) fits same (offset_apart i j k (row_len size) inside apart)
 
--- after a part that is a row was written, the shard in that row is the part's
+-- If a part that is row i was written, the shard in row i is the shard of the part.
 pub put-here : (chunks part : Chunks) (size i start n : ℕ) → start ≡ i * row_len size → n ≡ row_len size → start + n ≤ length chunks → length part ≡ n
     → shard_laid_out (put_mid start n chunks part) size i ≡ laid_out size (λ k. chunk part k)
 put-here chunks part size i start n at width fits same =
@@ -93,7 +93,7 @@ put-here chunks part size i start n at width fits same =
     ap₂ (λ a w. row_chunk (put_mid a w chunks part) size i k) at width
     ∙ row_chunk-here chunks part size i k (omega arith) (omega arith) inside)
 
--- and the shards in the other rows are as they were
+-- If a part that is row i was written, the shards in the other rows are unchanged.
 pub put-other : (chunks part : Chunks) (size i j start n : ℕ) → start ≡ i * row_len size → n ≡ row_len size → start + n ≤ length chunks → length part ≡ n → j ≢ i
     → shard_laid_out (put_mid start n chunks part) size j ≡ shard_laid_out chunks size j
 put-other chunks part size i j start n at width fits same apart =
@@ -102,7 +102,7 @@ put-other chunks part size i j start n at width fits same apart =
     ap₂ (λ a w. row_chunk (put_mid a w chunks part) size j k) at width
     ∙ row_chunk-other chunks part size i j k (omega arith) (omega arith) inside apart)
 
--- a chunk of a part that is read
+-- Chunk k of a part that begins at `start` is chunk `start + k` of the rows.
 pub part-read : (chunks : Chunks) (start n k : ℕ) → start + n ≤ length chunks → k < n → chunk (take n (drop start chunks)) k ≡ chunk chunks (start + k)
 part-read chunks start n k fits inside = search (rules, places)
 
@@ -113,11 +113,11 @@ moved-read chunks size i start n m at width same fits =
     in_order-same size (λ k. chunk (take m (drop start chunks)) k) (row_chunk chunks size i)
     (λ k inside. ap (λ w. chunk (take w (drop start chunks)) k) same ∙ part-read chunks start n k fits (omega arith) ∙ ap (λ a. chunk chunks (a + k)) at)
 
--- the length of a part that was written
+-- A part that was written has the length of the chunks that it replaced.
 pub part_length : (chunks part : Chunks) (start n : ℕ) → start + n ≤ length chunks → length part ≡ length (take n (drop start chunks)) → length part ≡ n
 part_length chunks part start n fits same = same ∙ simp (length-take, length-drop) (omega arith)
 
--- after a part that is a row was written, the shard moved in that row
+-- If a part that is row i was written with its tail moved, the shard in row i is in order.
 pub moved-here : (chunks part : Chunks) (size i start n : ℕ) → start ≡ i * row_len size → n ≡ row_len size → start + n ≤ length chunks → length part ≡ n
     → in_order size (λ k. chunk part k) ≡ laid_out size (λ k. chunk (take n (drop start chunks)) k)
     → shard_in_order (put_mid start n chunks part) size i ≡ shard_laid_out chunks size i
@@ -129,18 +129,18 @@ moved-here chunks part size i start n at width fits same moved =
     ∙ laid_out-same size (λ k. chunk (take n (drop start chunks)) k) (row_chunk chunks size i)
     (λ k inside. part-read chunks start n k fits (omega arith) ∙ ap (λ a. chunk chunks (a + k)) at)
 
--- and what lies in the other rows
+-- If a part that is row i was written, the chunks of the other rows are unchanged.
 pub row_chunk-apart : (chunks part : Chunks) (size i j k start n : ℕ) → start ≡ i * row_len size → n ≡ row_len size → start + n ≤ length chunks → length part ≡ n → k < row_len size → j ≢ i
     → row_chunk (put_mid start n chunks part) size j k ≡ row_chunk chunks size j k
 row_chunk-apart chunks part size i j k start n at width fits same inside apart =
     ap₂ (λ a w. row_chunk (put_mid a w chunks part) size j k) at width ∙ row_chunk-other chunks part size i j k (omega arith) (omega arith) inside apart
 
--- a column of the shard that was put into a row
+-- Column j of the shard in row i has the words of row i.
 pub column-put : (chunks : Chunks) (size i j : ℕ) → size % 2 ≡ 0 → j < size / 2 → column j (shard_laid_out chunks size i) ≡ word_in chunks (row_len size) (j / 32) (j % 32) i
 unfolding row_chunk
 column-put chunks size i j even inside = column-laid_out size j (row_chunk chunks size i) even inside
 
--- what lies in the chunks of a row are bytes
+-- Each element of a chunk of a row is a byte.
 pub row-fits : (chunks : Chunks) (bytes : List ℕ) (size rows i k b : ℕ) → bytes ≡ flat_map (λ x. x) chunks → ((j : ℕ) → get_or bytes j 0 < 256)
     → ((j : ℕ) → j < length chunks → length (chunk chunks j) ≡ 64) → i < rows → chunk_count rows size ≤ length chunks → k < row_len size → b < 64
     → slice_index (row_chunk chunks size i k) b < 256

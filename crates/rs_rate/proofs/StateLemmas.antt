@@ -1,4 +1,4 @@
--- Outcomes of an encoder's calls, and of setting up.
+-- Outcomes of setting up an encoder and of the calls on it.
 use Rattle.std.proofs.Common.{◌≡◌, ℕ, ◌<◌, ◌≤◌, ◌*◌, ◌^◌, ◌%◌, ◌++◌, ◌∷◌, [], length, refl, sym, ap, ap₂, ◌∙◌, subst, Bool, true, false, cond}
 use Rattle.std.specs.Prelude.{nat_le, Result, Ok, Err, OnOk, OnErr, not, ◌||◌, ◌==◌, List, nat_lt, is_ok, IsOkAnd, MatchResult}
 use Rattle.std.proofs.lemmas.Bool.{lt-leb, eq-eqb, ltb-false}
@@ -17,19 +17,19 @@ use Rattle.rs_rate.specs.Configured.{configuration_at}
 use Rattle.rs_rate.specs.EncoderView.{encoder_state}
 use Rattle.rs_rate.specs.ShardRows.{memory_outcome, chunk_count, shard_laid_out}
 
--- a shard of the size is added where there is room
+-- If an encoder has room, a shard of the size is added.
 pub with_shard-added : (s : EncoderState) (shard : Shard) → length s.given < s.configuration.original_count → length shard ≡ s.configuration.shard_bytes
     → state_after s (with_shard s shard) ≡ record s { given = s.given ++ shard ∷ [] }
 with_shard-added s shard room same =
     rw (lt-leb s.configuration.original_count (length s.given) room, eq-eqb (length shard) s.configuration.shard_bytes same) refl
 
--- the outcome of setting up a valid configuration is the outcome of allocating its chunks
+-- The outcome of setting up a valid configuration is the outcome of allocating its chunks.
 pub start_outcome-by : (rows : ℕ) (c : Configuration) (chunks : ℕ) → validation_outcome c ≡ Ok tt → chunks ≡ chunk_count rows c.shard_bytes → start_outcome rows c ≡ memory_outcome chunks
 unfolding chunk_count
 start_outcome-by rows c chunks valid is =
     ap (result_and_then (λ _. cond (nat_le (2 ^ 64) (bytes_of_rows rows c.shard_bytes)) (Err OutOfMemory) (Ok tt))) valid ∙ ap memory_outcome (sym is)
 
--- which is a success where they are a `usize` in bytes, and no want of memory
+-- If the size of chunks in bytes fits a `usize`, the outcome of allocating them is a success.
 memory_outcome-fits : (chunks : ℕ) → chunks * 64 < 2 ^ 64 → memory_outcome chunks ≡ Ok tt
 memory_outcome-fits chunks fits = ap (λ (b : Bool). cond b (Err OutOfMemory) (Ok tt)) (lt-leb (2 ^ 64) (chunks * 64) fits)
 
@@ -39,7 +39,7 @@ start_outcome-roomy rows c valid fits = start_outcome-by rows c (chunk_count row
 pub memory_outcome-made : (chunks : ℕ) (result : Result (Unit {0}) Error) → chunks * 64 < 2 ^ 64 → result ≡ memory_outcome chunks → result ≡ Err OutOfMemory → ⊥
 memory_outcome-made chunks result fits is short = let no = sym short ∙ is ∙ memory_outcome-fits chunks fits in cc
 
--- what holds at each rate after a success, or after a refusal, holds at one
+-- A property that holds for each rate after a success or an error holds for one rate.
 pub on_ok-at : {S : Type 0} (rate : Rate) (result : Result S Error) (P : Rate → Type 0) → OnOk result ((each : Rate) → P each) → OnOk result (P rate)
 on_ok-at rate (Ok x) P h = h rate
 on_ok-at rate (Err e) P h = tt
@@ -48,12 +48,12 @@ pub on_err-at : {S : Type 0} (rate : Rate) (result : Result S Error) (P : Rate �
 on_err-at rate (Ok x) P h = tt
 on_err-at rate (Err e) P h = h rate
 
--- the refusals of a configuration, by the tests of its counts and of its size
+-- The errors of a configuration, from the tests of its counts and its size.
 abbrev tested : Configuration → Bool → Bool → Bool → Result (Unit {0}) Error
 tested c supported none odd =
     cond (not supported) (Err (UnsupportedShardCount c.original_count c.recovery_count)) (cond (none || odd) (Err (InvalidShardSize c.shard_bytes)) (Ok tt))
 
--- a valid configuration has counts that its rate supports
+-- A valid configuration has counts that its rate supports.
 pub valid-supported : (c : Configuration) → validation_outcome c ≡ Ok tt → supports c.rate c.original_count c.recovery_count ≡ true
 valid-supported c valid = by_support (supports c.rate c.original_count c.recovery_count) valid
   where
@@ -61,7 +61,7 @@ valid-supported c valid = by_support (supports c.rate c.original_count c.recover
     by_support true h = refl
     by_support false h = absurd (let no : ⊥ = cc in no)
 
--- an encoder with missing originals keeps its state
+-- If originals are missing, encoding does not change the state of the encoder.
 pub after_encode-refused : (s : EncoderState) (e : Error) → Err e ≡ answer_of (message_of s) → s ≡ after_encode s
 after_encode-refused s e refused = by_message (message_of s) refused
   where
@@ -69,11 +69,11 @@ after_encode-refused s e refused = by_message (message_of s) refused
     by_message (Ok message) h = absurd (let no : ⊥ = cc in no)
     by_message (Err f) h = refl
 
--- what `encode` returns for the message that an encoder holds
+-- The result of `encode` for the message that an encoder holds.
 abbrev AnswersOf : EncoderState → Result (List Shard) Error → Result (List Shard) Error → Type 0
 AnswersOf s m result = MatchResult m (λ message. IsOkAnd result (AreRecovery s.configuration message)) (λ e. result ≡ Err e)
 
--- and returns the error
+-- If originals are missing, `encode` returns the error of `message_of`.
 pub encode_answers-refused : (s : EncoderState) (e : Error) → Err e ≡ answer_of (message_of s) → EncodeAnswers s (Err e)
 encode_answers-refused s e refused = by_message (message_of s) refused
   where
@@ -82,7 +82,7 @@ encode_answers-refused s e refused = by_message (message_of s) refused
     by_message (Ok message) h = absurd (let no : ⊥ = cc in no)
     by_message (Err f) h = let same : e ≡ f = cc in ap Err same
 
--- an encoder that may encode has its message whole
+-- An encoder that can encode holds a whole message.
 pub message-whole : (s : EncoderState) → Ok tt ≡ answer_of (message_of s) → (s.configuration.original_count ≤ length s.given) × (message_of s ≡ Ok s.given)
 message-whole s made = by_test (nat_lt (length s.given) s.configuration.original_count) refl made
   where
@@ -94,17 +94,17 @@ message-whole s made = by_test (nat_lt (length s.given) s.configuration.original
     by_test true e h = absurd (let no : ⊥ = cc in no)
     by_test false e h = (ltb-false (length s.given) s.configuration.original_count e, refl)
 
--- after a round nothing is given
+-- After a round, an encoder holds no shards.
 pub after_encode-made : (s : EncoderState) → Ok tt ≡ answer_of (message_of s) → after_encode s ≡ fresh_encoder s.configuration
 after_encode-made s made = ap (λ (m : Result (List Shard) Error). cond (is_ok m) (fresh_encoder s.configuration) s) (message-whole s made).1
 
--- the answer of a round
+-- If an encoder holds a whole message, `encode` returns the recovery shards of the message.
 pub encode_answers-made : (s : EncoderState) (recovery : List Shard) → Ok tt ≡ answer_of (message_of s) → AreRecovery s.configuration s.given recovery → EncodeAnswers s (Ok recovery)
 encode_answers-made s recovery made right =
     subst (λ (m : Result (List Shard) Error). AnswersOf s m (Ok recovery))
     (sym (message-whole s made).1) right
 
--- an encoder over rows of a shape with nothing given is a fresh one
+-- An encoder over rows of a shape, with no originals added, is a fresh encoder.
 pub encoder_state-fresh : (rate : Rate) (rows : EncoderRows) (shape : EncoderShape) → rows.shape ≡ shape → rows.originals_given ≡ 0
     → encoder_state rate rows ≡ fresh_encoder (configuration_at rate shape.configuration)
 encoder_state-fresh rate rows shape same none =

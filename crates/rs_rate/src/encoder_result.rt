@@ -28,7 +28,8 @@ impl<'a> EncoderResult<'a> {
     /// Returns the recovery shard with this index, or `None` if `index` is not below the number of recovery shards.
     pub fn recovery(&self, index: usize) -> Option<&[u8]>
         ensures { MatchOption result (length (recovery_shards self.now) ≤ index)
-            (λ shard. (index < length (recovery_shards self.now)) × (shard.now ≡ shard_at (recovery_shards self.now) index)) }
+            (λ shard. (index < length (recovery_shards self.now))
+            × (shard.now ≡ shard_at (recovery_shards self.now) index)) }
     {
         self.rows.recovery(index)
     }

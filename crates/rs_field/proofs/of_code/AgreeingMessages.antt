@@ -15,16 +15,16 @@ use Rattle.rs_field.proofs.of_code.Columns.{columns-at, shard_from_columns}
 use Rattle.rs_field.proofs.of_code.DecodedColumn.{TakesGiven}
 use Rattle.rs_field.proofs.of_code.MadeShards.{shards_of}
 
--- the given shards have indexes below a count and one size
+-- The given shards have indexes below a count, and all have one size.
 pub record AreSized (count size : ℕ) (given : Shards) : Type 0 where
   pub each : (i : ℕ) (shard : Shard) → given i ≡ Some shard → (i < count) × IsShard size shard
 
--- at the places of the shards given stand their words of column j
+-- The words at the places of the given shards are the words of column j of these shards.
 pub record HasWords (p : Placement) (originals recovery : Shards) (j : ℕ) (words : ℕ → ℕ) : Type 0 where
   pub own : (i : ℕ) (shard : Shard) → originals i ≡ Some shard → words (p.originals_from + i) ≡ column j shard
   pub coded : (i : ℕ) (shard : Shard) → recovery i ≡ Some shard → words (p.recovery_from + i) ≡ column j shard
 
--- the polynomial of each column of a message that agrees takes the words given
+-- The polynomial of each column of a message that agrees has the given words as values.
 pub column_taken : (c : Configuration) (originals recovery : Shards) (message : List Shard) (j : ℕ) (words : ℕ → ℕ) → j < c.shard_bytes / 2
     → Agrees c originals recovery message → HasWords (placement c.rate c.original_count c.recovery_count) originals recovery j words
     → (p : List ℕ) × Codes c.rate c.original_count c.recovery_count (columns j message) p
@@ -43,7 +43,7 @@ column_taken c originals recovery message j words hj a w =
       },
     )
 
--- what there is for each number below n is there for a function
+-- If each number below n has some polynomial with a property, there is a function that returns such polynomials.
 chosen : (n : ℕ) (P : ℕ → List ℕ → Type 0) → ((j : ℕ) → j < n → (p : List ℕ) × P j p) → (f : ℕ → List ℕ) × ((j : ℕ) → j < n → P j (f j))
 chosen zero P h = (λ j. [], λ j hj. absurd (let no : ⊥ = omega arith in no))
 chosen (suc n) P h =
@@ -56,13 +56,13 @@ chosen (suc n) P h =
       ],
     )
 
--- a polynomial of column j codes some words and takes those given
+-- A polynomial of column j codes some words and has the given words as values.
 abbrev pub IsTaken : (c : Configuration) (originals recovery : Shards) (words : ℕ → ℕ → ℕ) → ℕ → List ℕ → Type 0
 IsTaken c originals recovery words j p =
     (message : List ℕ) × Codes c.rate c.original_count c.recovery_count message p
     × TakesGiven (placement c.rate c.original_count c.recovery_count) c.original_count c.recovery_count originals recovery (words j) p
 
--- where each column has such a polynomial, some message agrees with the given shards
+-- If each column has a polynomial that codes and has the given words as values, some message agrees with the given shards.
 pub consistent : (c : Configuration) (originals recovery : Shards) (words : ℕ → ℕ → ℕ) → c.shard_bytes % 2 ≡ 0
     → AreSized c.original_count c.shard_bytes originals → AreSized c.recovery_count c.shard_bytes recovery
     → ((j : ℕ) → j < c.shard_bytes / 2 → HasWords (placement c.rate c.original_count c.recovery_count) originals recovery j (words j))

@@ -16,7 +16,7 @@ use Rattle.rs_field.proofs.of_code.Places.{fixed_by_places, places_given, by_pla
 use Rattle.rs_field.proofs.of_code.DecodedColumn.{IsColumnOf, surplus_rows, some_message, restored_word}
 use Rattle.rs_field.proofs.of_code.AgreeingMessages.{AreSized, HasWords, column_taken, consistent}
 
--- The columns of a decode: shards given of one even size, in each column the words at their places, and the rows.
+-- The columns of a decode: given shards of one even size, their words at their places in each column, and the rows.
 pub record AreColumns (c : Configuration) (originals recovery : Shards) (e bound zeros_end : ℕ) (marks : ℕ → ℕ) (words located rows : ℕ → ℕ → ℕ) : Type 0 where
   pub even : c.shard_bytes % 2 ≡ 0
   pub own_sized : AreSized c.original_count c.shard_bytes originals
@@ -25,7 +25,7 @@ pub record AreColumns (c : Configuration) (originals recovery : Shards) (e bound
   pub each : (j : ℕ) → j < c.shard_bytes / 2
       → IsColumnOf (placement c.rate c.original_count c.recovery_count) c.original_count c.recovery_count e bound zeros_end originals recovery marks (words j) (located j) (rows j)
 
--- With k + t shards given some message agrees if and only if the last t rows are zero in every column.
+-- If k + t shards are given, some message agrees if and only if the last t rows are zero in every column.
 pub consistent_exactly : (c : Configuration) (originals recovery : Shards) (e bound zeros_end t : ℕ) (marks : ℕ → ℕ) (words located rows : ℕ → ℕ → ℕ)
     → AreColumns c originals recovery e bound zeros_end marks words located rows
     → count_below c.original_count originals + count_below c.recovery_count recovery ≡ c.original_count + t
@@ -56,7 +56,7 @@ restored_column c originals recovery e bound zeros_end marks words located rows 
     (h.each j hj) enough codes takes step ((placement c.rate c.original_count c.recovery_count).originals_from + i) l (omega arith) one hl same
     ∙ codes.originals i hi ∙ columns-at j message i
 
--- With at least k shards given one message at most agrees.
+-- If at least k shards are given, at most one message agrees.
 pub one_message : (c : Configuration) (originals recovery : Shards) (one other : List Shard) → supports c.rate c.original_count c.recovery_count ≡ true → c.shard_bytes % 2 ≡ 0
     → c.original_count ≤ count_below c.original_count originals + count_below c.recovery_count recovery
     → Agrees c originals recovery one → Agrees c originals recovery other → one ≡ other

@@ -1,4 +1,4 @@
--- Changed shards are noticed: no message agrees with k shards of a codeword and others that are changed.
+-- A decode detects changed shards: if at least k shards of a codeword are unchanged and others are changed, no message agrees.
 use Rattle.std.proofs.Common.{rules, ◌≡◌, ℕ, zero, suc, ◌+◌, ◌%◌, ◌<◌, ◌≤◌, true, cond, List, [], sym, ap, ◌∙◌, arith, subst}
 use Rattle.std.specs.Prelude.{Some, None, unwrap_or, bytes_eq}
 use Rattle.std.proofs.lemmas.Option.{none-some}
@@ -15,28 +15,28 @@ use Rattle.rs_field.proofs.of_code.Unique.{recovery_unique}
 use Rattle.rs_field.proofs.of_code.RateFrames.{few_originals}
 use Rattle.rs_field.proofs.of_code.Agreement.{one_message}
 
--- those of the given shards that are the list's
+-- The given shards that are equal to the shards of the list.
 kept : Shards → List Shard → Shards
 kept given shards i = cond (bytes_eq (unwrap_or (given i) []) (shard_at shards i)) (given i) None
 
--- an entry is kept or changed
+-- Each given shard is either equal to the shard of the list or changed.
 count-kept : (n : ℕ) (given : Shards) (shards : List Shard) → count_below n (changed_shards given shards) + count_below n (kept given shards) ≡ count_below n given
 unfolding changed_shards kept
 count-kept zero given shards = grind (arith, common_steps, count_below-zero)
 count-kept (suc n) given shards = grind (arith, common_steps, count_below-suc, count-kept n given shards)
 
--- what is kept is given, and is the list's
+-- A kept shard is given and equal to the shard of the list.
 kept_given : (given : Shards) (shards : List Shard) (i : ℕ) (shard : Shard) → kept given shards i ≡ Some shard → (given i ≡ Some shard) × (shard_at shards i ≡ shard)
 unfolding kept
 kept_given given shards i shard e = grind (arith, common_steps, bytes_eq-Decides, none-some)
 
--- where all given shards are the list's, none is changed
+-- If all given shards are shards of the list, none is changed.
 none_changed : (n : ℕ) (given : Shards) (shards : List Shard) → AreAmong given shards → count_below n (changed_shards given shards) ≡ 0
 unfolding changed_shards
 none_changed zero given shards are = count_below-zero (changed_shards given shards)
 none_changed (suc n) given shards are = search (rules, count_below-suc, bytes_eq-Decides, none_changed n given shards are)
 
--- with at least one shard changed and k that are not, no message agrees
+-- If at least one given shard is changed and at least k are not, no message agrees.
 pub changes_noticed : (c : Configuration) (message all : List Shard) (originals recovery : Shards)
     → supports c.rate c.original_count c.recovery_count ≡ true → c.shard_bytes % 2 ≡ 0
     → AreShards c.original_count c.shard_bytes message → AreRecovery c message all

@@ -12,7 +12,7 @@ use Rattle.rs_field.proofs.of_words.Interpolation.{interpolated}
 use Rattle.rs_field.proofs.of_code.Frame.{IsFrame, CodesIn, unframed}
 use Rattle.rs_field.proofs.of_code.RateFrames.{has_frame}
 
--- the first k values, and zero from there on
+-- The first k values of a function, and zero from k on.
 first : ℕ → (ℕ → ℕ) → ℕ → ℕ
 first k f i = cond (nat_lt i k) (f i) 0
 
@@ -27,7 +27,7 @@ first-past k f i h = ap (λ (b : Bool). cond b (f i) 0) (le-ltb i k h)
 first-word : (k : ℕ) (f : ℕ → ℕ) → ((i : ℕ) → i < k → f i < 2 ^ 16) → (i : ℕ) → first k f i < 2 ^ 16
 first-word k f words i = grind (arith, common_steps, cases_lt, first-below, first-past)
 
--- in a frame any k words are coded
+-- In a frame, any k words are coded by a polynomial.
 pub coded_in : (p : Placement) (k r e bound zeros_end : ℕ) (words : List ℕ) → IsFrame p k r e bound zeros_end → ((j : ℕ) → j < k → slice_index words j < 65536)
     → (q : List ℕ) × CodesIn p k bound zeros_end words q
 coded_in p k r e bound zeros_end words f are_words =
@@ -45,7 +45,7 @@ coded_in p k r e bound zeros_end words f are_words =
       },
     )
 
--- any k words have a polynomial that codes them
+-- Any k words have a polynomial that codes the words.
 pub coded : (rate : Rate) (k r : ℕ) (words : List ℕ) → supports rate k r ≡ true → ((j : ℕ) → j < k → slice_index words j < 65536)
     → (p : List ℕ) × Codes rate k r words p
 coded rate k r words is are_words =
@@ -54,11 +54,11 @@ coded rate k r words is are_words =
     let p = unframed rate k r f.exponent f.bound f.zeros_end words q.0 f.frame q.1 in
     (p.0, p.1)
 
--- words that are coded are words
+-- The words that a polynomial codes are below 65536.
 pub coded_lt : (rate : Rate) (k r : ℕ) (words p : List ℕ) → Codes rate k r words p → (j : ℕ) → j < k → slice_index words j < 65536
 coded_lt rate k r words p codes j hj = search (rules, value_lt, words_from)
 
--- the first n values of a function
+-- The first n values of a function.
 unfoldable pub values_of : ℕ → (ℕ → ℕ) → List ℕ
 values_of zero f = []
 values_of (suc n) f = f 0 ∷ values_of n (λ i. f (suc i))
@@ -74,7 +74,7 @@ unfolding values_of
 length-values_of zero f = refl
 length-values_of (suc n) f = ap suc (length-values_of n (λ i. f (suc i)))
 
--- and recovery words
+-- Any k words have recovery words.
 pub recovered : (rate : Rate) (k r : ℕ) (words : List ℕ) → supports rate k r ≡ true → ((j : ℕ) → j < k → slice_index words j < 65536)
     → (recovery : List ℕ) × (length recovery ≡ r) × AreRecoveryWords rate k r words recovery
 recovered rate k r words is are_words =

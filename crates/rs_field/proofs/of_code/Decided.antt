@@ -1,4 +1,4 @@
--- Tests that decide by computing: shards, codes and recovery shards at literals.
+-- Tests that are decided by computing with literals: shards, codes and recovery shards.
 use Rattle.std.proofs.Common.{◌≡◌, ℕ, ◌+◌, ◌-◌, ◌/◌, ◌^◌, ◌<◌, ◌≤◌, List, [], ◌∷◌, Bool, true, false, ◌&&◌, cond, length, sym, ap, ◌∙◌, arith, pow_mono}
 use Rattle.std.specs.Prelude.{All, not, slice_index, slice_index_or, nat_eq, nat_lt, nat_le}
 use Rattle.std.specs.List.{list_all}
@@ -17,38 +17,38 @@ use Rattle.rs_field.proofs.of_words.Factors.{times, points}
 use Rattle.rs_field.proofs.of_words.ZerosPast.{value-inside}
 use Rattle.rs_field.proofs.of_code.HighCodes.{high_codes}
 
--- each element passes, so each has the property
+-- If each element passes a test that implies a property, each element has the property.
 all_from : {A : Type 0} (p : A → Bool) (P : A → Type 0) → ((x : A) → p x ≡ true → P x) → (xs : List A) → list_all p xs ≡ true → All P xs
 all_from p P sound [] h = All-nil P
 all_from p P sound (x ∷ xs) h =
     let parts : (p x ≡ true) × (list_all p xs ≡ true) = and_parts (p x) (list_all p xs) h in
     All-cons P x xs (sound x parts.0) (all_from p P sound xs parts.1)
 
--- each entry is below a bound
+-- The test whether each entry is below a bound.
 abbrev all_below : ℕ → List ℕ → Bool
 all_below bound xs = list_all (λ x. nat_lt x bound) xs
 
--- the test of `IsShard`
+-- The test of `IsShard`.
 abbrev is_shard : ℕ → Shard → Bool
 is_shard size shard = nat_eq (length shard) size && all_below 256 shard
 
--- the test of `AreShards`
+-- The test of `AreShards`.
 abbrev pub are_shards : ℕ → ℕ → List Shard → Bool
 are_shards count size shards = nat_eq (length shards) count && list_all (is_shard size) shards
 
--- what passes `are_shards` are shards
+-- Shards that pass `are_shards` satisfy `AreShards`.
 pub shards_from : (count size : ℕ) (shards : List Shard) → are_shards count size shards ≡ true → AreShards count size shards
 shards_from count size shards h = grind (arith, common_steps)
 
--- two functions are equal at the numbers below n
+-- The test whether two functions are equal at the numbers below n.
 abbrev same_below : ℕ → (ℕ → ℕ) → (ℕ → ℕ) → Bool
 same_below n f g = passes_below n (λ i. nat_eq (f i) (g i))
 
--- so they are
+-- Functions that pass `same_below` are equal at the numbers below n.
 same_from : (n : ℕ) (f g : ℕ → ℕ) → same_below n f g ≡ true → (i : ℕ) → i < n → f i ≡ g i
 same_from n f g h i below = eqb-true (f i) (g i) (from_passes_below n (λ i. nat_eq (f i) (g i)) h i below)
 
--- the test of `Codes`, at a placement
+-- The test of `Codes`, at a placement.
 abbrev codes_at : Placement → ℕ → List ℕ → List ℕ → Bool
 codes_at at k words polynomial =
     nat_eq (length polynomial) at.degree_bound
@@ -56,11 +56,11 @@ codes_at at k words polynomial =
     && (same_below k (λ j. value polynomial (at.originals_from + j)) (slice_index words)
     && same_below (at.zeros_to - at.zeros_from) (λ x. value polynomial (at.zeros_from + x)) (λ x. 0)))
 
--- the test of `Codes`
+-- The test of `Codes`.
 abbrev pub codes : Rate → ℕ → ℕ → List ℕ → List ℕ → Bool
 codes rate k r words polynomial = codes_at (placement rate k r) k words polynomial
 
--- what passes `codes` codes the words
+-- A polynomial that passes `codes` codes the words.
 pub codes_from : (rate : Rate) (k r : ℕ) (words polynomial : List ℕ) → codes rate k r words polynomial ≡ true → Codes rate k r words polynomial
 codes_from rate k r words P h =
     let one : (nat_eq (length P) (placement rate k r).degree_bound ≡ true) × _ = and_parts _ _ h in
@@ -77,18 +77,18 @@ codes_from rate k r words P h =
           (x - (placement rate k r).zeros_from) (omega arith);
     }
 
--- the test of `AreRecoveryWords`, with the polynomial
+-- The test of `AreRecoveryWords`, with the polynomial.
 abbrev recovers_words : Rate → ℕ → ℕ → List ℕ → List ℕ → List ℕ → Bool
 recovers_words rate k r words recovery polynomial =
     codes rate k r words polynomial && same_below r (slice_index recovery) (λ i. value polynomial ((placement rate k r).recovery_from + i))
 
--- the test of `AreRecovery`, with the polynomial of each column
+-- The test of `AreRecovery`, with the polynomial of each column.
 abbrev pub recovers : Configuration → List Shard → List Shard → List (List ℕ) → Bool
 recovers c message recovery polynomials =
     are_shards c.recovery_count c.shard_bytes recovery
     && passes_below (c.shard_bytes / 2) (λ j. recovers_words c.rate c.original_count c.recovery_count (columns j message) (columns j recovery) (slice_index_or polynomials j []))
 
--- what passes `recovers` are the recovery shards
+-- Shards that pass `recovers` are the recovery shards.
 pub recovery_from : (c : Configuration) (message recovery : List Shard) (polynomials : List (List ℕ)) → recovers c message recovery polynomials ≡ true → AreRecovery c message recovery
 recovery_from c message recovery polynomials h =
     let P : ℕ → List ℕ = λ j. slice_index_or polynomials j [] in
@@ -104,29 +104,29 @@ recovery_from c message recovery polynomials h =
           );
     }
 
--- a rate that is not the low rate has the placement of the high rate
+-- A rate that does not use the low rate has the placement of the high rate.
 placed_high : (rate : Rate) (k r : ℕ) → is_low rate k r ≡ false → placement rate k r ≡ high_placement k r
 unfolding placement
 placed_high rate k r h = ap (λ (b : Bool). cond b (low_placement k) (high_placement k r)) h
 
--- the originals of the high rate lie below 2 ^ d
+-- The originals of the high rate are below 2 ^ d.
 abbrev lie_below : ℕ → Rate → ℕ → ℕ → Bool
 lie_below d rate k r = not (is_low rate k r) && (nat_le (next_power r + k) (2 ^ d) && (nat_le d 16 && nat_le r (2 ^ d)))
 
--- below 2 ^ d a polynomial takes the originals' words from the point m on, then zero, and the recovery words from the point 0 on
+-- Below 2 ^ d, a polynomial has the original words as values from the point m on, then zeros, and the recovery words from the point 0 on.
 abbrev joins : ℕ → ℕ → ℕ → ℕ → List ℕ → List ℕ → List ℕ → Bool
 joins d k r m words recovery polynomial =
     nat_eq (length polynomial) (2 ^ d - m) && (all_below 65536 polynomial
     && (same_below k (λ j. value polynomial (m + j)) (slice_index words)
     && (same_below (2 ^ d - (m + k)) (λ x. value polynomial (m + k + x)) (λ x. 0) && same_below r (slice_index recovery) (value polynomial))))
 
--- the test of `AreRecovery` at the high rate, with the polynomial of each column below 2 ^ d
+-- The test of `AreRecovery` at the high rate, with the polynomial of each column below 2 ^ d.
 abbrev pub recovers_high : ℕ → Configuration → List Shard → List Shard → List (List ℕ) → Bool
 recovers_high d c message recovery polynomials =
     lie_below d c.rate c.original_count c.recovery_count && (are_shards c.recovery_count c.shard_bytes recovery
     && passes_below (c.shard_bytes / 2) (λ j. joins d c.original_count c.recovery_count (next_power c.recovery_count) (columns j message) (columns j recovery) (slice_index_or polynomials j [])))
 
--- what passes `joins` is a code with its recovery words, once it is made zero at the points from 2 ^ d on
+-- A polynomial that passes `joins` codes the words with their recovery words, after it is made zero at the points from 2 ^ d on.
 words_high : (d : ℕ) (rate : Rate) (k r : ℕ) (words recovery P : List ℕ) → lie_below d rate k r ≡ true → joins d k r (next_power r) words recovery P ≡ true → AreRecoveryWords rate k r words recovery
 unfolding high_placement
 words_high d rate k r words recovery P lie join =
@@ -153,7 +153,7 @@ words_high d rate k r words recovery P lie join =
           ∙ ap (λ (q : Placement). value (times (points (2 ^ d) (65536 - 2 ^ d)) P) (q.recovery_from + i)) (sym high),
     )
 
--- what passes `recovers_high` are the recovery shards
+-- Shards that pass `recovers_high` are the recovery shards.
 pub recovery_from_high : (d : ℕ) (c : Configuration) (message recovery : List Shard) (polynomials : List (List ℕ)) → recovers_high d c message recovery polynomials ≡ true → AreRecovery c message recovery
 recovery_from_high d c message recovery polynomials h =
     let P : ℕ → List ℕ = λ j. slice_index_or polynomials j [] in

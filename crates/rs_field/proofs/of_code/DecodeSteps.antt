@@ -1,4 +1,4 @@
--- The steps of a decode.
+-- The number of steps of a decode.
 use Rattle.std.proofs.Common.{◌≡◌, ℕ, ◌+◌, ◌*◌, ◌/◌, ◌≤◌, sym, mul_assoc, arith}
 use Rattle.std.proofs.Math.Nat.{mul-le-mul_right}
 use Rattle.rs_field.specs.words.StepBounds.{CountsUpTo, LocatorCounts, log2, transform_steps}
@@ -6,7 +6,7 @@ use Rattle.rs_field.specs.code.Bounds.{decode_steps}
 use Rattle.rs_field.specs.declared.words.steps.Steps.{Steps}
 use Rattle.rs_field.proofs.of_words.Counting.{counted}
 
--- a locator, and then three transforms and four steps for each row, are a decode
+-- The steps of a locator, three transforms and four steps for each row are within the bound of a decode.
 pub counts_decode : (w : ℕ) (a b c : Steps) → LocatorCounts a b → CountsUpTo (3 * transform_steps w + 4 * w) 0 0 b c → CountsUpTo (decode_steps w) 1048576 65536 a c
 unfolding transform_steps decode_steps
 counts_decode w a b c p q =

@@ -1,4 +1,4 @@
--- One column of a decode at either rate: whether words given at some places of a code are those of a polynomial that codes.
+-- One column of a decode at either rate: whether the words given at some places of a code are values of a polynomial that codes.
 use Rattle.std.proofs.Common.{rules, ◌≡◌, ℕ, ◌+◌, ◌-◌, ◌^◌, ◌<◌, ◌≤◌, ◌⊎◌, Bool, true, cond, List, length, sym, ap, ◌∙◌, arith, inl, inr, pow_mono}
 use Rattle.std.specs.Prelude.{slice_index, is_some}
 use Rattle.std.proofs.lemmas.Bool.{cases_lt}
@@ -21,12 +21,12 @@ use Rattle.rs_field.proofs.of_code.Frame.{IsFrame, CodesIn, framed, unframed}
 use Rattle.rs_field.proofs.of_code.ErasedCount.{AreErasures, erased_count}
 use Rattle.rs_field.proofs.of_code.CodedWords.{values_of, values_of-at, length-values_of}
 
--- a polynomial takes the words at the places of the shards given
+-- A polynomial has the words of the given shards as values at their places.
 pub record TakesGiven (p : Placement) (k r : ℕ) (originals recovery : Shards) (words : ℕ → ℕ) (polynomial : List ℕ) : Type 0 where
   pub own : (i : ℕ) → i < k → is_some (originals i) ≡ true → value polynomial (p.originals_from + i) ≡ words (p.originals_from + i)
   pub coded : (i : ℕ) → i < r → is_some (recovery i) ≡ true → value polynomial (p.recovery_from + i) ≡ words (p.recovery_from + i)
 
--- what a row that is not marked is
+-- If the entry of a row is zero, the test from which the entry was made is true.
 unmarked_by : (b : Bool) (m : ℕ) → m ≡ cond b 0 1 → m ≡ 0 → b ≡ true
 unmarked_by b m h1 h2 = search rules
 
@@ -61,7 +61,7 @@ at_unmarked p k r n zeros_end originals recovery marks words q h t known x hx no
       | inr above ↦ elim (cases_lt x b) [ inl within ↦ inl (above, within) | inr past ↦ inr (inr past) ]
     ]
 
--- the rows of a column: which are erased, the words given, the located words, and those whose forward transform they are
+-- The rows of a column: the erased rows, the given words, the located words, and the coefficients whose forward transform the located words are.
 pub record IsColumnOf (p : Placement) (k r e bound zeros_end : ℕ) (originals recovery : Shards) (marks words located rows : ℕ → ℕ) : Type 0 where
   pub frame : IsFrame p k r e bound zeros_end
   pub erasures : AreErasures p k r (2 ^ e) zeros_end originals recovery marks
@@ -71,7 +71,7 @@ pub record IsColumnOf (p : Placement) (k r e bound zeros_end : ℕ) (originals r
   pub row_words : (x : ℕ) → x < 2 ^ e → rows x < 2 ^ 16
   pub back : (x : ℕ) → x < 2 ^ e → forward (2 ^ e) 0 rows x ≡ located x
 
--- a polynomial that codes and takes the words given is one of the frame that takes them
+-- A polynomial that codes and has the given words as values is a polynomial of the frame with these values.
 pub taken_in : (rate : Rate) (k r e bound zeros_end : ℕ) (originals recovery : Shards) (marks words : ℕ → ℕ) (message p : List ℕ)
     → IsFrame (placement rate k r) k r e bound zeros_end → AreErasures (placement rate k r) k r (2 ^ e) zeros_end originals recovery marks
     → ((x : ℕ) → (placement rate k r).zeros_from ≤ x → x < zeros_end → words x ≡ 0)
@@ -93,7 +93,7 @@ taken_in rate k r e bound zeros_end originals recovery marks words message p fra
       q.2,
     )
 
--- where a polynomial that codes takes the words given, the last rows are zero: as many as surplus shards
+-- If a polynomial that codes has the given words as values, the last rows are zero, as many as there are surplus shards.
 pub surplus_rows : (rate : Rate) (k r e bound zeros_end t : ℕ) (originals recovery : Shards) (marks words located rows : ℕ → ℕ) (message p : List ℕ)
     → IsColumnOf (placement rate k r) k r e bound zeros_end originals recovery marks words located rows
     → count_below k originals + count_below r recovery ≡ k + t
@@ -120,7 +120,7 @@ restored_product rate k r e bound zeros_end originals recovery marks words locat
     (λ i hi. c.back i hi ∙ located_values (2 ^ e) bound marks words located q.0 (pow_mono c.frame.few) c.erasures.are_marks c.are_located q.1 i hi) step x hx one
     ∙ ap (product (power (log_sum (2 ^ e) marks x))) (q.2 x hx)
 
--- So 65535 less any residue of the locator gives the wanted word.
+-- A power for 65535 minus any residue of the locator, times the product, gives the wanted word.
 pub restored_word : (rate : Rate) (k r e bound zeros_end : ℕ) (originals recovery : Shards) (marks words located rows added : ℕ → ℕ) (message p : List ℕ)
     → IsColumnOf (placement rate k r) k r e bound zeros_end originals recovery marks words located rows
     → k ≤ count_below k originals + count_below r recovery
@@ -134,7 +134,7 @@ restored_word rate k r e bound zeros_end originals recovery marks words located 
     ∙ product-comm (power (log_sum (2 ^ e) marks x)) (value p x) ∙ ap (product (value p x)) (sym same))
     ∙ residue_undone l (value p x) hl (value_lt p x (words_from p codes.coefficients))
 
--- the values at the originals' points of a polynomial
+-- The values of a polynomial at the originals' points.
 message_of : (p : Placement) (k : ℕ) (q : List ℕ) → List ℕ
 message_of p k q = values_of k (λ j. value q (p.originals_from + j))
 
@@ -146,7 +146,7 @@ length-message_of : (p : Placement) (k : ℕ) (q : List ℕ) → length (message
 unfolding message_of
 length-message_of p k q = length-values_of k (λ j. value q (p.originals_from + j))
 
--- a polynomial that takes the words given codes its values at the originals' points
+-- A polynomial that has the given words as values codes its values at the originals' points.
 own_message : (p : Placement) (k r e bound zeros_end : ℕ) (originals recovery : Shards) (marks words : ℕ → ℕ) (q : List ℕ)
     → IsFrame p k r e bound zeros_end → AreErasures p k r (2 ^ e) zeros_end originals recovery marks
     → ((x : ℕ) → p.zeros_from ≤ x → x < zeros_end → words x ≡ 0) → Takes (2 ^ e) bound marks words q → CodesIn p k bound zeros_end (message_of p k q) q
@@ -157,7 +157,7 @@ takes_same : (p : Placement) (k r e bound zeros_end : ℕ) (originals recovery :
     → Takes (2 ^ e) bound marks words q → ((x : ℕ) → x < 2 ^ e → value o x ≡ value q x) → TakesGiven p k r originals recovery words o
 takes_same p k r e bound zeros_end originals recovery marks words q o f h takes same = grind (arith, common_steps)
 
--- where they are zero, some polynomial that codes takes the words given
+-- If the last rows are zero, some polynomial that codes has the given words as values.
 pub some_message : (rate : Rate) (k r e bound zeros_end t : ℕ) (originals recovery : Shards) (marks words located rows : ℕ → ℕ)
     → IsColumnOf (placement rate k r) k r e bound zeros_end originals recovery marks words located rows
     → count_below k originals + count_below r recovery ≡ k + t

@@ -1,4 +1,4 @@
--- A list of shards with their indexes, entered in a map one after another.
+-- A list of shards with their indexes is entered in a map, one after another.
 use Rattle.std.proofs.Common.{rules, ◌≡◌, ℕ, zero, suc, ◌+◌, ◌<◌, ◌≤◌, ◌||◌, Bool, true, false, cond, List, [], ◌∷◌, length, map, refl, sym, ap, ap₂, ◌∙◌, inl, inr, arith, nat_eq}
 use Rattle.std.specs.Prelude.{None, is_some}
 use Rattle.std.specs.List.{AllByRecursion, IsDistinct, list_any}
@@ -11,39 +11,39 @@ use Rattle.rs_field.specs.code.Given.{Shards, nothing, with_entry, count_below, 
 use Rattle.rs_field.specs.code.OneCall.{Items}
 use Rattle.rs_field.proofs.of_code.Given.{entered_cases, entered_among, count_below-zero, count_below-suc, count_below-same}
 
--- the map with all items entered, in order
+-- The map after all items were entered, in order.
 abbrev pub entered_all : Shards → Items → Shards
 entered_all given [] = given
 entered_all given (item ∷ items) = entered_all (with_entry given item.0 item.1) items
 
--- the map has no shard at the items' indexes
+-- The map has no shard at the indexes of the items.
 abbrev pub AreFree : Shards → Items → Type 0
 AreFree given items = AllByRecursion (λ item. given item.0 ≡ None) items
 
--- the items' indexes, none of which is to come twice
+-- The indexes of the items.
 abbrev pub indexes : Items → List ℕ
 indexes items = map (λ item. item.0) items
 
--- the empty map has no shard
+-- The empty map has no shard.
 pub count-nothing : (n : ℕ) → count_below n nothing ≡ 0
 unfolding count_below
 count-nothing zero = refl
 count-nothing (suc n) = ap (λ (m : ℕ). m + 0) (count-nothing n)
 
--- an entry elsewhere leaves an index free
+-- An entry at another index leaves an index free.
 entered_free : (given : Shards) (k i : ℕ) (x : Shard) → nat_eq k i ≡ false → given i ≡ None → with_entry given k x i ≡ None
 entered_free given k i x apart free = search (rules, entered_cases, eqb-false)
 
--- so the indexes of other items stay free
+-- An entry at another index leaves the indexes of all items free.
 pub free-entered : (given : Shards) (k : ℕ) (x : Shard) (items : Items) → AllByRecursion (λ i. nat_eq k i ≡ false) (indexes items) → AreFree given items → AreFree (with_entry given k x) items
 free-entered given k x [] apart free = tt
 free-entered given k x (item ∷ items) apart free = (entered_free given k item.0 x apart.0 free.0, free-entered given k x items apart.1 free.1)
 
--- with one item entered, the others are free
+-- After the first of items with distinct indexes is entered, the indexes of the other items are free.
 pub free-next : (given : Shards) (item : ℕ × Shard) (items : Items) → IsDistinct nat_eq (indexes (item ∷ items)) → AreFree given (item ∷ items) → AreFree (with_entry given item.0 item.1) items
 free-next given item items once free = search (rules, free-entered, IsDistinct-head)
 
--- one entry more, at an index that was free
+-- An entry at a free index adds one to the number of shards.
 pub count-entered : (n : ℕ) (given : Shards) (k : ℕ) (x : Shard) → k < n → given k ≡ None → count_below n (with_entry given k x) ≡ count_below n given + 1
 count-entered zero given k x inside free = absurd (let no : ⊥ = omega arith in no)
 count-entered (suc n) given k x inside free =
@@ -66,7 +66,7 @@ count-entered (suc n) given k x inside free =
           )
     ]
 
--- as many entries more as there are items
+-- Entering items at distinct free indexes adds the number of items to the number of shards.
 pub count-entered_all : (n : ℕ) (items : Items) (given : Shards) → AllByRecursion (λ item. item.0 < n) items → AreFree given items → IsDistinct nat_eq (indexes items)
     → count_below n (entered_all given items) ≡ count_below n given + length items
 count-entered_all n [] given below free once = omega arith
@@ -75,7 +75,7 @@ count-entered_all n (item ∷ items) given below free once =
     let one = count-entered n given item.0 item.1 below.0 free.0 in
     omega arith
 
--- items of a list are entered as shards of the list
+-- If the items are shards of a list, the entered shards are shards of the list.
 pub among-entered_all : (items : Items) (given : Shards) (shards : List Shard) → AllByRecursion (λ item. shard_at shards item.0 ≡ item.1) items → AreAmong given shards
     → AreAmong (entered_all given items) shards
 among-entered_all [] given shards own among = among
@@ -86,7 +86,7 @@ some-entered : (given : Shards) (k i : ℕ) (x : Shard) → is_some (with_entry 
 unfolding with_entry
 some-entered given k i x = grind (arith, common_steps)
 
--- an index has a shard where it had one, or an item has it
+-- After the items are entered, an index has a shard exactly if it had one before or an item has this index.
 pub some-entered_all : (items : Items) (given : Shards) (i : ℕ) → is_some (entered_all given items i) ≡ (is_some (given i) || list_any (λ item. nat_eq i item.0) items)
 some-entered_all [] given i = search rules
 some-entered_all (item ∷ items) given i =
@@ -98,7 +98,7 @@ pub count_most : (n : ℕ) (given : Shards) → count_below n given ≤ n
 count_most zero given = omega (arith, count_below-zero given)
 count_most (suc n) given = search (rules, count_below-suc, count_most n given)
 
--- where there are n shards below n, each index below n has one
+-- If there are n shards at the indexes below n, each index below n has a shard.
 pub all_some : (n : ℕ) (given : Shards) → n ≤ count_below n given → (i : ℕ) → i < n → is_some (given i) ≡ true
 all_some zero given full i inside = absurd (let no : ⊥ = omega arith in no)
 all_some (suc n) given full i inside = by_last (λ h j. all_some n given h j) (is_some (given n)) refl

@@ -1,4 +1,4 @@
--- Where both counts have one power, both rates have the same recovery words.
+-- If both counts have the same power of two, both rates have the same recovery words.
 use Rattle.std.proofs.Common.{rules, ◌≡◌, ℕ, suc, ◌+◌, ◌-◌, ◌^◌, ◌<◌, ◌≤◌, List, [], ◌∷◌, length, bit_xor, refl, sym, ap, ◌∙◌, arith, inl, inr, one-mul, zero-add, pow_mono}
 use Rattle.std.specs.Prelude.{slice_index, ◌↔◌, true}
 use Rattle.std.specs.Int.Bits.{xor_comm, xor_shifted}
@@ -50,7 +50,7 @@ down d j h = ap (λ w. bit_xor w (2 ^ d)) (sym (up d j h)) ∙ xor_undo j (2 ^ d
 
 -- ---- the law
 
--- where both counts have the power m, the high rate's rows are 2 m
+-- If both counts have the power m, the high rate has 2 m rows.
 rows_double : (k r d e : ℕ) → 0 < k → d ≤ 16 → next_power r ≡ 2 ^ d → k ≤ 2 ^ d → next_power (next_power r + k) ≡ 2 ^ e → next_power r + k ≤ 2 ^ e → 2 ^ e ≡ 2 ^ d + 2 ^ d
 rows_double k r d e some hd power most rows above =
     let least : next_power (next_power r + k) ≤ 2 ^ suc d = next_power-least (next_power r + k) (suc d) (omega arith) (omega arith) in
@@ -59,7 +59,7 @@ rows_double k r d e some hd power most rows above =
       | inr less ↦ let small : 2 ^ e ≤ 2 ^ d = pow_mono less in absurd (omega arith)
     ]
 
--- the high rate's polynomial, its argument moved by m, codes at the low rate
+-- The polynomial of the high rate, with its argument moved by m, codes at the low rate.
 record IsMoved (k r d : ℕ) (words p q : List ℕ) : Type 0 where
   codes : Codes low_rate k r words q
   recovery : (i : ℕ) → i < r → value q (2 ^ d + i) ≡ value p i
@@ -96,7 +96,7 @@ equal_powers k r words low high some same fit (p, hp, at_low) (o, ho, at_high) i
     let (q, m) = moved_codes k r d words o some hd power (same ∙ power) (omega arith) (omega arith) fit ho in
     cc (at_low i hi, codes_unique low_rate k r words p q (omega arith) hp m.codes, m.recovery i hi, zero-add i, at_high i hi)
 
--- so recovery words at the one rate are those at the other
+-- If both counts have one power, the recovery words of the low rate are recovery words of the high rate.
 to_high : (k r : ℕ) (words recovery : List ℕ) → supports low_rate k r ≡ true → supports high_rate k r ≡ true → next_power k ≡ next_power r
     → AreRecoveryWords low_rate k r words recovery → AreRecoveryWords high_rate k r words recovery
 to_high k r words recovery low high same own =
@@ -111,7 +111,7 @@ to_low k r words recovery low high same own =
     let (other, _, (o, codes, at)) = recovered low_rate k r words low (coded_lt high_rate k r words own.0 own.1) in
     (o, codes, λ i hi. sym (equal_powers k r words other recovery f.0 same f.2 (o, codes, at) own i hi) ∙ at i hi)
 
--- and recovery shards
+-- If both counts have one power, the recovery shards of both rates are equal.
 pub one_code : (k r size : ℕ) (message recovery : List Shard) → supports low_rate k r ≡ true → supports high_rate k r ≡ true → next_power k ≡ next_power r
     → AreRecovery (configuration low_rate k r size) message recovery ↔ AreRecovery (configuration high_rate k r size) message recovery
 one_code k r size message recovery low high same = search (rules, to_high, to_low)

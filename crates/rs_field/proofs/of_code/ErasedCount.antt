@@ -1,4 +1,4 @@
--- Erased points, given shards and known zeros are as many as the rows.
+-- The erased points, the given shards and the known zeros are together as many as the rows.
 use Rattle.std.proofs.Common.{rules, ◌≡◌, ℕ, zero, suc, ◌+◌, ◌-◌, ◌*◌, ◌^◌, ◌<◌, ◌≤◌, ◌⊎◌, Bool, cond, length, refl, sym, ap, ◌∙◌, arith, inl, inr, add-zero, add-suc}
 use Rattle.std.specs.Prelude.{is_some}
 use Rattle.std.proofs.lemmas.Bool.{cases_eq}
@@ -11,7 +11,7 @@ use Rattle.rs_field.proofs.of_code.Given.{count_below-zero, count_below-suc}
 use Rattle.rs_field.proofs.of_code.Frame.{IsFrame}
 use Rattle.rs_field.proofs.of_words.LocatorProduct.{marked, marked-more, marked-same, AreMarks}
 
--- the marks of the n rows: each is marked but the known zeros and the places of shards given
+-- The marks of the n rows: each row is marked except the known zeros and the places of given shards.
 pub record AreErasures (p : Placement) (k r n zeros_end : ℕ) (originals recovery : Shards) (marks : ℕ → ℕ) : Type 0 where
   pub are_marks : AreMarks n marks
   pub own : (i : ℕ) → i < k → marks (p.originals_from + i) ≡ cond (is_some (originals i)) 0 1
@@ -26,7 +26,7 @@ total-marked zero marks m = refl
 total-marked (suc n) marks m =
     grind (arith, common_steps, cases_eq, marked-more, marked-same, total-marked n marks (record { mark = λ y hy. m.mark y (omega arith) }))
 
--- n more that are all m
+-- If n further entries are all m, the sum grows by n times m.
 past_same : (m a n b : ℕ) (f : ℕ → ℕ) → a + n ≡ b → ((x : ℕ) → a ≤ x → x < b → f x ≡ m) → total b f ≡ total a f + n * m
 past_same m a zero b f e all = omega (arith, ap (λ k. total k f) e, ap (λ k. total k f) (add-zero a))
 past_same m a (suc n) b f e all =
@@ -37,14 +37,14 @@ past_same m a (suc n) b f e all =
 one_of_two : (b : Bool) → cond b 0 1 + cond b 1 0 ≡ 1
 one_of_two b = search rules
 
--- n more of which those missing from a map are one
+-- If n further entries are one exactly where the map has no shard, the sum and the number of shards grow together by n.
 past_given : (a n : ℕ) (f : ℕ → ℕ) (g : Shards) → ((i : ℕ) → i < n → f (a + i) ≡ cond (is_some (g i)) 0 1) → total (a + n) f + count_below n g ≡ total a f + n
 past_given a zero f g is = omega (arith, ap (λ k. total k f) (add-zero a), count_below-zero g)
 past_given a (suc n) f g is =
     let rest : total (a + n) f + count_below n g ≡ total a f + n = past_given a n f g (λ i h. is i (omega arith)) in
     omega (arith, rest, ap (λ k. total k f) (add-suc a n), total-suc (a + n) f, count_below-suc n g, is n (omega arith), one_of_two (is_some (g n)))
 
--- In a frame the erased points below the rows, the coefficients and the shards given are as many as the rows and the originals.
+-- In a frame, the erased points, the coefficients and the given shards are together as many as the rows and the originals.
 pub erased_count : (p : Placement) (k r e bound zeros_end : ℕ) (originals recovery : Shards) (marks : ℕ → ℕ)
     → IsFrame p k r e bound zeros_end → AreErasures p k r (2 ^ e) zeros_end originals recovery marks
     → length (marked (2 ^ e) marks) + bound + (count_below k originals + count_below r recovery) ≡ 2 ^ e + k

@@ -1,4 +1,4 @@
--- Both rates in one frame: 2 ^ e rows, polynomials of b coefficients, known zeros below the rows.
+-- Both rates in one frame: 2 ^ e rows, polynomials of b coefficients, and known zeros below the rows.
 use Rattle.std.proofs.Common.{◌≡◌, ℕ, ◌+◌, ◌-◌, ◌^◌, ◌<◌, ◌≤◌, ◌⊎◌, List, length, refl, sym, ◌∙◌, arith, inl, inr, pow_mono}
 use Rattle.std.specs.Prelude.{slice_index}
 use Rattle.std.proofs.lemmas.Bool.{cases_lt}
@@ -10,9 +10,9 @@ use Rattle.rs_field.proofs.of_words.Roots.{WordsOneByOne, words_from}
 use Rattle.rs_field.proofs.of_words.Factors.{all_words}
 use Rattle.rs_field.proofs.of_words.ZerosPast.{narrowed, widened}
 
--- A placement of k originals and r recovery shards stands below 2 ^ e, with the known zeros up to `zeros_end` and
--- polynomials of `bound` coefficients. It is the code's own, or the zeros from 2 ^ e on are divided out. The zeros come
--- right after the originals; recovery shards come after them, or stand before the originals.
+-- A placement of k originals and r recovery shards below 2 ^ e, with the known zeros up to `zeros_end`, and
+-- polynomials of `bound` coefficients. It is the placement of the code, or the zeros from 2 ^ e on are divided out. The zeros come
+-- right after the originals. Recovery shards come after the zeros, or before the originals.
 pub record IsFrame (p : Placement) (k r e bound zeros_end : ℕ) : Type 0 where
   pub few : e ≤ 16
   pub originals : p.originals_from + k ≤ 2 ^ e
@@ -23,14 +23,14 @@ pub record IsFrame (p : Placement) (k r e bound zeros_end : ℕ) : Type 0 where
   pub counts : zeros_end ≡ bound + p.originals_from
   pub whole : ((p.degree_bound ≡ bound) × (p.zeros_to ≡ zeros_end)) ⊎ ((p.degree_bound ≡ bound + (65536 - 2 ^ e)) × (p.zeros_to ≡ 65536) × (zeros_end ≡ 2 ^ e))
 
--- a polynomial of the frame that takes k words at the originals' points, and zero at the known zeros
+-- A polynomial of the frame that has k words as values at the originals' points, and zero at the known zeros.
 pub record CodesIn (p : Placement) (k bound zeros_end : ℕ) (words q : List ℕ) : Type 0 where
   pub degree : length q ≡ bound
   pub coefficients : WordsOneByOne q
   pub originals : (j : ℕ) → j < k → value q (p.originals_from + j) ≡ slice_index words j
   pub zeros : (x : ℕ) → p.zeros_from ≤ x → x < zeros_end → value q x ≡ 0
 
--- a polynomial that codes words has the values of one of the frame at each row
+-- A polynomial that codes words has, at each row, the value of a polynomial of the frame.
 pub framed : (rate : Rate) (k r e bound zeros_end : ℕ) (words p : List ℕ) → IsFrame (placement rate k r) k r e bound zeros_end → Codes rate k r words p
     → (q : List ℕ) × CodesIn (placement rate k r) k bound zeros_end words q × ((x : ℕ) → x < 2 ^ e → value q x ≡ value p x)
 framed rate k r e bound zeros_end words p f c =
@@ -60,7 +60,7 @@ framed rate k r e bound zeros_end words p f c =
           )
     ]
 
--- and back
+-- A polynomial of the frame has, at each row, the value of a polynomial that codes.
 pub unframed : (rate : Rate) (k r e bound zeros_end : ℕ) (words q : List ℕ) → IsFrame (placement rate k r) k r e bound zeros_end
     → CodesIn (placement rate k r) k bound zeros_end words q
     → (p : List ℕ) × Codes rate k r words p × ((x : ℕ) → x < 2 ^ e → value p x ≡ value q x)

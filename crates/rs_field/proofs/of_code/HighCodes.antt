@@ -10,7 +10,7 @@ use Rattle.rs_field.proofs.of_words.Roots.{WordsOneByOne}
 use Rattle.rs_field.proofs.of_words.Factors.{points, times, length-times, words_times, all_words}
 use Rattle.rs_field.proofs.of_words.ZerosPast.{value-inside, zero_outside}
 
--- where the originals of the high rate lie below 2 ^ d, a polynomial that codes them there codes them once it is made zero at the other points
+-- If the originals of the high rate are below 2 ^ d, a polynomial that codes them below 2 ^ d codes them after it is made zero at the other points.
 pub high_codes : (rate : Rate) (k r d : ℕ) (words p : List ℕ) → placement rate k r ≡ high_placement k r → d ≤ 16 → 2 ^ d ≤ 65536
     → next_power r + k ≤ 2 ^ d → length p ≡ 2 ^ d - next_power r → WordsOneByOne p
     → ((j : ℕ) → j < k → value p (next_power r + j) ≡ slice_index words j) → ((x : ℕ) → next_power r + k ≤ x → x < 2 ^ d → value p x ≡ 0)

@@ -1,4 +1,4 @@
--- What is left of a list of shards, each with its index, if a test says which ones are lost.
+-- The shards of a list that are left, each with its index, if a test says which ones are lost.
 use Rattle.std.proofs.Common.{rules, ◌≡◌, ℕ, ◌+◌, ◌<◌, ◌&&◌, Bool, true, false, cond, not, List, [], ◌∷◌, length, refl, sym, ap, subst, ◌∙◌, arith, nat_eq, nat_lt, Some, None, Result, IfOk, IfErr, ◌≤◌}
 use Rattle.std.specs.List.{AllByRecursion, IsDistinct, enumerate_from, filter, list_any}
 use Rattle.std.proofs.lemmas.Bool.{eqb-true, ne_eqb, eq-eqb, le-ltb, ltb-true}
@@ -16,11 +16,11 @@ use Rattle.rs_field.specs.declared.code.error.Error.{Error}
 use Rattle.rs_field.specs.declared.code.error.Error.TheVariants.{OutOfMemory}
 use Rattle.rs_field.proofs.of_code.Entries.{indexes}
 
--- the shards that aren't lost, with their indexes
+-- The shards that are not lost, with their indexes.
 abbrev pub kept_of : List Shard → (ℕ → Bool) → Items
 kept_of shards lost = filter (λ item. not (lost item.0)) (enumerate_from 0 shards)
 
--- an item is the list's own
+-- An item is a shard of the list with its index.
 abbrev IsOwn : List Shard → ℕ × Shard → Type 0
 IsOwn shards item = (item.0 < length shards) × (shard_at shards item.0 ≡ item.1)
 
@@ -33,7 +33,7 @@ unfolding IsDistinct
 once_numbered n [] = tt
 once_numbered n (x ∷ shards) = (others_above n (n + 1) shards (omega arith), once_numbered (n + 1) shards)
 
--- they are left
+-- The shards that are not lost satisfy `AreLeft`.
 pub kept-left : (shards : List Shard) (lost : ℕ → Bool) → AreLeft shards (kept_of shards lost)
 kept-left shards lost = record {
   own = All-filter (λ item. not (lost item.0)) (IsOwn shards) (enumerate_from 0 shards)
@@ -48,7 +48,7 @@ numbered_any shards i below =
     list_any_at (λ item. nat_eq i item.0) (enumerate_from 0 shards) i (0, []) (omega (arith, length-enumerate_from 0 shards))
     (ap (λ item. nat_eq i item.0) (get_or-enumerate_from 0 shards i (0, []) below) ∙ eq-eqb i (0 + i) (omega arith))
 
--- and the others are lost
+-- The shards that are not in the list of kept shards are the lost shards.
 pub lost-kept : (shards : List Shard) (lost : ℕ → Bool) (i : ℕ) → lost_of shards (kept_of shards lost) i ≡ cond (nat_lt i (length shards) && lost i) (Some (shard_at shards i)) None
 unfolding lost_of
 lost-kept shards lost i = by_test (nat_lt i (length shards)) refl
@@ -65,12 +65,12 @@ lost-kept shards lost i = by_test (nat_lt i (length shards)) refl
         ap (λ b. cond (not b) (Some (shard_at shards i)) None) (any ∙ ap (λ b. not (lost i) && b) (numbered_any shards i (ltb-true i (length shards) e)))
         ∙ ap (λ b. cond b (Some (shard_at shards i)) None) (twice (lost i))
 
--- so what is lost of shards that are left but for these is just these
+-- If a decoder returns the shards that are not kept, it returns exactly the lost shards.
 pub just-lost : (shards : List Shard) (lost : ℕ → Bool) (result : Result Shards Error) → IfOk result (λ out. (i : ℕ) → out i ≡ lost_of shards (kept_of shards lost) i)
     → IfOk result (λ out. (i : ℕ) → out i ≡ cond (nat_lt i (length shards) && lost i) (Some (shard_at shards i)) None)
 just-lost shards lost result h1 = search (rules, lost-kept)
 
--- where as many are left as there are originals, one-call `decode` is never refused but for want of memory
+-- If as many shards are left as there are originals, one-call `decode` fails only with `OutOfMemory`.
 pub enough-left : (originals : List Shard) (kept received : Items) (result : Result Shards Error) → OneBringsBack originals kept received result
     → length originals ≤ length kept + length received → IfErr result (λ e. e ≡ OutOfMemory)
 enough-left originals kept received result h1 h2 = search (rules, le-ltb)

@@ -18,15 +18,15 @@ use Rattle.rs_field.proofs.of_words.Packed.{sum_of_bytes}
 
 -- ---- polynomials
 
--- the first n words of a list are the sums of those of two others
+-- The first n words of a list are the sums of the words of two other lists.
 abbrev AreSums : ℕ → List ℕ → List ℕ → List ℕ → Type 0
 AreSums n one other sums = (i : ℕ) → i < n → slice_index sums i ≡ bit_xor (slice_index one i) (slice_index other i)
 
--- the sum of two polynomials that code codes the sums
+-- If two polynomials code, their sum codes the sums of the words.
 codes_sums : (rate : Rate) (k r : ℕ) (one other sums p q : List ℕ) → AreSums k one other sums → Codes rate k r one p → Codes rate k r other q → Codes rate k r sums (add p q)
 codes_sums rate k r one other sums p q are hp hq = search (rules, length-add, all_words, words_add, words_from, value_add)
 
--- so the sums of the recovery words are the recovery words of the sums
+-- The sums of the recovery words are the recovery words of the sums.
 recovery_sums : (rate : Rate) (k r : ℕ) (one other sums one_recovery other_recovery recovery : List ℕ) → AreSums k one other sums → AreSums r one_recovery other_recovery recovery
     → AreRecoveryWords rate k r one one_recovery → AreRecoveryWords rate k r other other_recovery → AreRecoveryWords rate k r sums recovery
 recovery_sums rate k r one other sums one_recovery other_recovery recovery are are_recovery (p, codes_p, at_p) (q, codes_q, at_q) = (
@@ -41,7 +41,7 @@ length-xor_bytes : (size : ℕ) (s t : Shard) → length s ≡ size → length t
 unfolding xor_bytes
 length-xor_bytes size s t hs ht = search (rules, length-map, length-zip)
 
--- a byte of the XOR of two shards of one size is the XOR of their bytes
+-- A byte of the XOR of two shards of one size is the XOR of their bytes.
 byte-xor : (size : ℕ) (s t : Shard) (i d : ℕ) → length s ≡ size → length t ≡ size → i < size → slice_index_or (xor_bytes s t) i d ≡ bit_xor (slice_index s i) (slice_index t i)
 unfolding xor_bytes
 byte-xor size s t i d hs ht inside =
@@ -58,7 +58,7 @@ shard-xor size s t hs ht =
           (xor_lt 8 (slice_index s i) (slice_index t i) (byte_lt size s hs i) (byte_lt size t ht i));
     }
 
--- shard i of the XOR of two lists of as many shards
+-- Shard i of the XOR of two lists is the XOR of shard i of each list.
 shard_at-xor : (count i : ℕ) (a b : List Shard) (d : Shard) → length a ≡ count → length b ≡ count → i < count
     → slice_index_or (xor_shards a b) i d ≡ xor_bytes (shard_at a i) (shard_at b i)
 unfolding xor_shards
@@ -74,7 +74,7 @@ columns-xor : (count size j : ℕ) (a b : List Shard) → AreShards count size a
 unfolding column
 columns-xor count size j a b ha hb i below = search (rules, columns-at, shard_at-xor, cases_lt, byte-xor, get_or_past, length-xor_bytes, sum_of_bytes, byte_lt, shard_in)
 
--- the XOR of the recovery shards of two messages are the recovery shards of their XOR
+-- The XOR of the recovery shards of two messages is the list of recovery shards of the XOR of the messages.
 pub recovery-xor : (c : Configuration) (one other one_recovery other_recovery : List Shard)
     → AreShards c.original_count c.shard_bytes one → AreShards c.original_count c.shard_bytes other
     → AreRecovery c one one_recovery → AreRecovery c other other_recovery

@@ -1,4 +1,4 @@
--- What a map lists: once only, and with its shards changed or counted.
+-- The list of the shards of a map: it is unique, and follows changes of all shards.
 use Rattle.std.proofs.Common.{◌≡◌, ℕ, zero, suc, ◌+◌, ◌-◌, ◌<◌, ◌≤◌, List, [], ◌∷◌, ◌++◌, length, map, All, refl, sym, ap, ap₂, ◌∙◌, subst, inl, inr, arith}
 use Rattle.std.specs.Prelude.{Option, Some, None}
 use Rattle.std.specs.Option.{option_map}
@@ -11,14 +11,14 @@ use Rattle.rs_field.specs.code.OneCall.{Items}
 use Rattle.rs_field.specs.code.PieceStates.{shards_listed}
 use Rattle.rs_field.proofs.of_code.Listed.{items_from-zero, items_from-suc}
 
--- after the last shard of a map nothing is listed
+-- After the last shard of a map, no shard is listed.
 items_below-none : (n from : ℕ) (given : Shards) → ((i : ℕ) → from ≤ i → given i ≡ None) → items_from from n given ≡ []
 items_below-none zero from given none = items_from-zero from given
 items_below-none (suc n) from given none =
     items_from-suc from n given ∙ ap (λ o. items_at from o ++ items_from (suc from) n given) (none from (omega arith))
     ∙ items_below-none n (suc from) given (λ i h. none i (omega (arith, h)))
 
--- so a longer list is the same
+-- Listing indexes after the last shard of a map does not change the list.
 items_below-longer : (n m from : ℕ) (given : Shards) → ((i : ℕ) → from + n ≤ i → given i ≡ None)
     → items_from from (n + m) given ≡ items_from from n given
 items_below-longer zero m from given none =
@@ -29,7 +29,7 @@ items_below-longer (suc n) m from given none =
     ∙ ap (λ rest. items_at from (given from) ++ rest) (items_below-longer n m (suc from) given (λ i h. none i (omega (arith, h))))
     ∙ sym (items_from-suc from n given)
 
--- the map fixes what it lists
+-- A map has at most one list of its shards.
 pub lists-same : (given : Shards) (one other : Items) → Lists given one → Lists given other → one ≡ other
 lists-same given one other first second = elim (cases_lt first.count second.count) [
   | inl less ↦ first.in_order ∙ sym (longer first.count second.count (omega arith) first.none_past) ∙ sym second.in_order
@@ -41,7 +41,7 @@ lists-same given one other first second = elim (cases_lt first.count second.coun
         ap (λ (l : ℕ). items_from 0 l given) (let e : m ≡ n + (m - n) = omega (arith, h) in e)
         ∙ items_below-longer n (m - n) 0 given (λ i past. none i (omega (arith, past)))
 
--- where each shard of a map is changed, so is each listed one
+-- Changing each shard of a map changes each listed shard in the same way.
 pub listed-changed : (f : Shard → Shard) (n from : ℕ) (given : Shards)
     → shards_listed (items_from from n (λ i. option_map f (given i))) ≡ map f (shards_listed (items_from from n given))
 listed-changed f zero from given =
@@ -58,7 +58,7 @@ listed-changed f (suc n) from given =
     by_option (Some s) = refl
     by_option None = refl
 
--- what holds of each shard of a map holds of each listed one
+-- A property of each shard of a map is a property of each listed shard.
 pub listed-all : (P : Shard → Type 0) (n from : ℕ) (given : Shards) → ((i : ℕ) (shard : Shard) → given i ≡ Some shard → P shard)
     → All P (shards_listed (items_from from n given))
 listed-all P zero from given each = subst (λ (l : Items). All P (shards_listed l)) (sym (items_from-zero from given)) (All-nil P)

@@ -1,4 +1,4 @@
--- Shards with given words as columns, so every message has recovery shards.
+-- For given words there are shards with these words as columns, so every message has recovery shards.
 use Rattle.std.proofs.Common.{◌≡◌, ℕ, ◌+◌, ◌-◌, ◌*◌, ◌/◌, ◌%◌, ◌<◌, true, cond, List, [], length, min, sym, ap, ◌∙◌, subst, arith}
 use Rattle.std.specs.Prelude.{slice_index, nat_lt}
 use Rattle.std.proofs.lemmas.Bool.{cases_lt}
@@ -14,13 +14,13 @@ use Rattle.rs_field.proofs.of_code.Columns.{columns-at, columns_lt}
 use Rattle.rs_field.proofs.of_code.CodedWords.{recovered}
 use Rattle.rs_field.proofs.of_words.UpTo.{length-up_to, get-up_to}
 
--- byte b of the shard of a size with these words as columns: in each chunk first the low bytes, and then the high ones
+-- Byte b of the shard with these words as columns: each chunk has first the low bytes and then the high bytes.
 byte_of : ℕ → (ℕ → ℕ) → ℕ → ℕ
 byte_of size w b =
     let half = min 64 (size - b / 64 * 64) / 2 in
     cond (nat_lt (b % 64) half) (w (b / 64 * 32 + b % 64) % 256) (w (b / 64 * 32 + (b % 64 - half)) / 256)
 
--- the two bytes of word i of chunk q
+-- The low bytes and the high bytes of the words of chunk q are the low and the high bytes of the given words.
 low_byte : (size q i half : ℕ) (w : ℕ → ℕ) → min 64 (size - q * 64) / 2 ≡ half → i < half → byte_of size w (q * 64 + i) ≡ w (q * 32 + i) % 256
 unfolding byte_of
 low_byte size q i half w e h = grind (arith, common_steps)
@@ -33,7 +33,7 @@ byte_of_lt : (size : ℕ) (w : ℕ → ℕ) → ((j : ℕ) → w j < 65536) → 
 unfolding byte_of
 byte_of_lt size w words b = grind (arith, common_steps)
 
--- that shard
+-- The shard of a size with these words as columns.
 shard_of : ℕ → (ℕ → ℕ) → Shard
 shard_of size w = up_to size (byte_of size w)
 
@@ -45,7 +45,7 @@ column-shard_of : (size j : ℕ) (w : ℕ → ℕ) → size % 2 ≡ 0 → j < si
 unfolding shard_of column
 column-shard_of size j w even h = grind (arith, common_steps, length-up_to, get-up_to, low_byte, high_byte)
 
--- n shards of an even size with given words, word j of shard i, as columns
+-- For given words there are n shards of an even size with word j of shard i as column j.
 pub shards_of : (n size : ℕ) (w : ℕ → ℕ → ℕ) → size % 2 ≡ 0 → ((i j : ℕ) → w i j < 65536)
     → (shards : List Shard) × AreShards n size shards × ((i j : ℕ) → i < n → j < size / 2 → slice_index (columns j shards) i ≡ w i j)
 shards_of n size w even words = (
@@ -65,7 +65,7 @@ shards_of n size w even words = (
 recovery_lt : (rate : Rate) (k r : ℕ) (words recovery : List ℕ) → length recovery ≡ r → AreRecoveryWords rate k r words recovery → (i : ℕ) → slice_index recovery i < 65536
 recovery_lt rate k r words recovery size (p, codes, at) i = grind (arith, common_steps, cases_lt, value_lt, words_from, get_or_past)
 
--- every message of a configuration with supported counts and an even size has recovery shards
+-- Every message of a configuration with supported counts and an even size has recovery shards.
 pub has_recovery : (c : Configuration) (message : List Shard) → supports c.rate c.original_count c.recovery_count ≡ true → c.shard_bytes % 2 ≡ 0
     → AreShards c.original_count c.shard_bytes message → (recovery : List Shard) × AreRecovery c message recovery
 has_recovery c message is even h =

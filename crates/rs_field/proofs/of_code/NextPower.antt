@@ -1,4 +1,4 @@
--- The power of two that a count is rounded up to.
+-- The power of two to which a count is rounded up.
 use Rattle.std.proofs.Common.{◌≡◌, ℕ, zero, suc, ◌/◌, ◌^◌, ◌<◌, ◌≤◌, max, refl, sym, ap, ◌∙◌, subst, arith, inl, inr, pow_mono}
 use Rattle.std.specs.Prelude.{nat_le}
 use Rattle.std.proofs.lemmas.Bool.{cases_lt, le-leb, lt-leb, leb-true}
@@ -8,7 +8,7 @@ use Rattle.rs_field.specs.code.Counts.{next_power}
 use Rattle.rs_field.proofs.of_words.Search.{first_below-is, first_below-passes, first_below_most}
 use Rattle.rs_field.proofs.of_words.Halves.{exponent_below}
 
--- the least power of two that is not below n, for small n
+-- For n up to 65536, `next_power n` is a power of two of at least n.
 pub next_power-small : (n : ℕ) → n ≤ 65536 → (d : ℕ) × (d ≤ 16) × (next_power n ≡ 2 ^ d) × (n ≤ next_power n)
 unfolding next_power
 next_power-small n small =
@@ -16,13 +16,13 @@ next_power-small n small =
     let most : first_below 64 (λ e. nat_le n (2 ^ e)) ≤ 16 = first_below_most 64 (λ e. nat_le n (2 ^ e)) 16 (omega arith) (le-leb n 65536 small) in
     (d, most, refl, leb-true n (2 ^ d) (first_below-passes 64 (λ e. nat_le n (2 ^ e)) (omega arith)))
 
--- no power of two that is not below n is less
+-- No smaller power of two is at least n.
 pub next_power-least : (n d : ℕ) → d < 64 → n ≤ 2 ^ d → next_power n ≤ 2 ^ d
 unfolding next_power
 next_power-least n d hd h =
     pow_mono {i = first_below 64 (λ e. nat_le n (2 ^ e))} (first_below_most 64 (λ e. nat_le n (2 ^ e)) d hd (le-leb n (2 ^ d) h))
 
--- the power of two that is not below n, of which half is below n
+-- A power of two that is at least n, and whose half is below n, is `next_power n`.
 pub next_power-is : (n p x : ℕ) → p ≡ 2 ^ x → x < 64 → n ≤ p → p / 2 < max 1 n → p ≡ next_power n
 unfolding next_power
 next_power-is n p x power few above half =
@@ -41,7 +41,7 @@ next_power-is n p x power few above half =
     below : (j : ℕ) → j < x → 2 ^ j < n
     below j less = at j x refl less (subst (λ (q : ℕ). q / 2 < max 1 n) power half)
 
--- the power of a large number is large
+-- The power of a number above 65536 is above 65536.
 pub next_power-large : (n : ℕ) → 65536 < n → 65536 < next_power n
 unfolding next_power
 next_power-large n large =
@@ -53,7 +53,7 @@ next_power-large n large =
           absurd (omega arith)
     ]
 
--- a power of two that is small is not below its number
+-- A power of two up to 65536 is at least its number.
 pub next_power-above : (n : ℕ) → next_power n ≤ 65536 → n ≤ next_power n
 next_power-above n h =
     elim (cases_lt 65536 n) [
@@ -61,7 +61,7 @@ next_power-above n h =
       | inr small ↦ (next_power-small n small).3
     ]
 
--- ---- small powers of two are those that are their own
+-- ---- small powers of two are their own power
 
 pub power_is_own : (n d : ℕ) → n ≡ 2 ^ d → n ≤ 65536 → next_power n ≡ n
 power_is_own n d is small = sym (next_power-is n n d is (exponent_below d 64 (omega arith)) (omega arith) (omega arith))

@@ -1,4 +1,4 @@
--- What one-call `encode` coded, and what one-call `decode` restores of it.
+-- The shards that one-call `encode` coded, and what one-call `decode` restores from them.
 use Rattle.std.proofs.Common.{rules, ◌≡◌, ℕ, ◌+◌, ◌<◌, ◌≤◌, ◌++◌, ◌∷◌, ◌^◌, [], Bool, true, false, cond, not, ◌&&◌, List, length, refl, sym, ap, subst, ◌∙◌, inl, inr, arith, append_assoc, append-nil, length-append, All, nat_eq, add-zero, zero-add}
 use Rattle.std.specs.Prelude.{Result, Ok, Err, Some, None, IfOk, IfErr, IsOkAnd, MatchResult, nat_le, nat_lt}
 use Rattle.std.specs.List.{AllByRecursion, IsDistinct, list_any}
@@ -24,18 +24,18 @@ use Rattle.rs_field.proofs.of_code.Entries.{entered_all, count-nothing, AreFree,
 use Rattle.rs_field.proofs.of_code.RoundTrip.{answered, restores_lost}
 use Rattle.rs_field.proofs.of_code.SupportedCounts.{default_fits}
 
--- a call after a success was reached by that success
+-- If the second of two calls succeeds, the first call succeeded with some value.
 then_ok : {S T : Type 0} (f : S → Result T Error) (o : Result S Error) (t : T) → result_and_then f o ≡ Ok t → (s : S) × (o ≡ Ok s) × (f s ≡ Ok t)
 then_ok {S} {T} f o t h1 = search rules
 
 -- ---- what was coded
 
--- a shard that an encoder took has its size, and there was room for it
+-- If an encoder takes a shard, the shard has its size and there was room for the shard.
 one_taken : (s : EncoderState) (x : Shard) (t : EncoderState) → with_shard s x ≡ Ok t
     → (t ≡ record s { given = s.given ++ x ∷ [] }) × (length x ≡ s.configuration.shard_bytes) × (length s.given < s.configuration.original_count)
 one_taken s x t is = grind (arith, common_steps)
 
--- shards that an encoder took
+-- The state of an encoder after it took some shards, and facts about the shards.
 record AreTaken (s : EncoderState) (shards : List Shard) (t : EncoderState) : Type 0 where
   pub of : t.configuration ≡ s.configuration
   pub given : t.given ≡ s.given ++ shards
@@ -87,18 +87,18 @@ codes_in_one_call k r originals recovery bytes (inl answers) = by_outcome origin
     by_outcome shards small (Err e) same h = absurd (let no : ⊥ = cc in no)
     by_outcome shards small (Ok s) same h = by_shards shards small s same h
 
--- a success without a value
+-- A success without a value.
 abbrev made : Result (Unit {0}) Error
 made = Ok tt
 
--- counts of a valid configuration are supported
+-- The counts of a valid configuration are supported.
 supported_valid : (k r size : ℕ) → validation_outcome (default_of k r size) ≡ Ok tt → supports default_rate k r ≡ true
 supported_valid k r size valid = grind (arith, common_steps)
 
 counted_valid : (k r size : ℕ) → validation_outcome (default_of k r size) ≡ Ok tt → counts_outcome k r ≡ Ok tt
 counted_valid k r size valid = ap (λ (b : Bool). cond b made (Err (UnsupportedShardCount k r))) (supported_valid k r size valid)
 
--- an encoder takes shards of its size, as many as there is room for
+-- An encoder takes shards of its size, as long as it has room for them.
 all_given : (shards : List Shard) (s : EncoderState) → length s.given + length shards ≤ s.configuration.original_count → AllByRecursion (λ x. length x ≡ s.configuration.shard_bytes) shards
     → with_shards s shards ≡ Ok (record s { given = s.given ++ shards })
 all_given [] s room sized = ap (λ given. Ok (record s { given = given })) (sym (append-nil s.given))
@@ -112,7 +112,7 @@ all_given (x ∷ xs) s room sized =
 
 module _ (k r size : ℕ) (shards : List Shard) (result : Result (List Shard) Error) (valid : validation_outcome (default_of k r size) ≡ Ok tt) (count : length shards ≡ k)
     (sized : All (λ shard. length shard ≡ size) shards) where
-  -- what is answered by what setting up an encoder answered
+  -- The property of a result, for each outcome of setting up an encoder.
   abbrev Set : Result (Unit {0}) Error → Type 0
   Set set = MatchResult (result_and_then (λ _. with_shards (fresh_encoder (default_of k r size)) shards) set) (λ s. EncodeAnswers s result) (λ e. result ≡ Err e)
 
@@ -129,7 +129,7 @@ encodes_in_one_call k r size (x ∷ xs) result valid count sized (inl answers) =
     (subst (λ (n : ℕ). MatchResult (result_and_then (λ _. with_shards (fresh_encoder (default_of k r n)) (x ∷ xs)) (start_outcome (encoder_rows default_rate k r) (default_of k r n)))
     (λ s. EncodeAnswers s result) (λ e. result ≡ Err e)) (sized 0 x (omega arith)) answers)
 
--- shards that an encoder took one after another are a message, and what it answered are their recovery shards
+-- Shards that an encoder took one after another are a message, and the result of encoding is its recovery shards.
 pub encoded_all : (rate : Rate) (c : Configuration) (shards recovery : List Shard) (s : EncoderState) → IsEncoder rate s → with_shards (fresh_encoder c) shards ≡ Ok s
     → EncodeAnswers s (Ok recovery) → AreShards c.original_count c.shard_bytes shards × AreRecovery c shards recovery
 encoded_all rate c shards recovery s is made h =
@@ -145,7 +145,7 @@ encoded_all rate c shards recovery s is made h =
       subst (λ (d : Configuration). AreRecovery d shards recovery) all.of (subst (λ (m : List Shard). AreRecovery s.configuration m recovery) given out.1),
     )
 
--- what an encoder of the default rate codes is what one call codes, with the size of the first shard
+-- If an encoder of the default rate codes shards, one call codes them, with the size of the first shard.
 pub coded_by : (k r : ℕ) (x : Shard) (xs recovery : List Shard) (s : EncoderState) → IsEncoder default_rate s → with_shards (fresh_encoder (default_of k r (length x))) (x ∷ xs) ≡ Ok s
     → EncodeAnswers s (Ok recovery) → AreCoded k r (x ∷ xs) recovery
 coded_by k r x xs recovery s is made h =
@@ -159,7 +159,7 @@ coded_by k r x xs recovery s is made h =
 
 -- ---- what a decoder takes
 
--- items that a decoder takes: at indexes below its count, of its size
+-- Items that a decoder takes: their indexes are below its count, and the shards have its size.
 abbrev AreFitting : ℕ → ℕ → Items → Type 0
 AreFitting count size items = AllByRecursion (λ item. (item.0 < count) × (length item.1 ≡ size)) items
 
@@ -192,15 +192,15 @@ all_free (item ∷ items) = (refl, all_free items)
 left_count : (count : ℕ) (shards : List Shard) (items : Items) → length shards ≡ count → AreLeft shards items → count_below count (entered_all nothing items) ≡ length items
 left_count count shards items long left = search (rules, count-entered_all, recursion_from_All, all_free, count-nothing, zero-add)
 
--- ---- what comes back
+-- ---- what a decoder restores
 
--- an index that was noted is not one of the others
+-- An index that was noted is not the index of any later item.
 absent_next : (k : ℕ) (given : List ℕ) (items : Items) → AllByRecursion (λ i. nat_eq k i ≡ false) (indexes items) → AllByRecursion (λ item. list_any (nat_eq item.0) given ≡ false) items
     → AllByRecursion (λ item. list_any (nat_eq item.0) (k ∷ given) ≡ false) items
 absent_next k given [] apart absent = tt
 absent_next k given (item ∷ items) apart absent = search (rules, or_from, ne_eqb, eqb-false, absent_next k given items apart.1 absent.1)
 
--- indexes below k, none of which comes twice, are all noted
+-- Distinct indexes below k are all noted.
 all_noted : (k : ℕ) (items : Items) (given : List ℕ) → AllByRecursion (λ item. item.0 < k) items → AllByRecursion (λ item. list_any (nat_eq item.0) given ≡ false) items
     → IsDistinct nat_eq (indexes items) → (all : List ℕ) × (one_by_one (λ so_far item. note_outcome k so_far item.0) given items ≡ Ok all) × (length all ≡ length given + length items)
 all_noted k [] given below absent once = (given, refl, sym (add-zero (length given)))
@@ -214,13 +214,13 @@ none_noted : (items : Items) → AllByRecursion (λ item. list_any (nat_eq item.
 none_noted [] = tt
 none_noted (item ∷ items) = (refl, none_noted items)
 
--- so all k are noted where k are left
+-- If there are no recovery shards, the check of the originals alone is the check that k originals are left.
 given_left : (k : ℕ) (items : Items) → AllByRecursion (λ item. item.0 < k) items → IsDistinct nat_eq (indexes items) → originals_alone k items ≡ enough_left k items []
 given_left k items below once =
     let all = all_noted k items [] below (none_noted items) once in
     cc (add-zero (length items), zero-add (length items))
 
--- where all originals are left, none is lost
+-- If all originals are left, none is lost.
 none_lost : (originals : List Shard) (kept : Items) → AreLeft originals kept → length originals ≤ length kept → (i : ℕ) → lost_of originals kept i ≡ None
 unfolding lost_of
 none_lost originals kept left many i = by_test (nat_lt i (length originals)) refl
@@ -232,7 +232,7 @@ none_lost originals kept left many i = by_test (nat_lt i (length originals)) ref
         let there = all_some (length originals) (entered_all nothing kept) (omega arith) i (ltb-true i (length originals) e) in
         ap (λ b. cond (not b) (Some (shard_at originals i)) None) (sym (some-entered_all kept nothing i) ∙ there)
 
--- a decoder that was given just what is left
+-- The state of a decoder that has exactly the shards that are left.
 abbrev pub left_with : Configuration → Items → Items → DecoderState
 left_with c kept received = record { configuration = c; originals = entered_all nothing kept; recovery = entered_all nothing received }
 
@@ -241,11 +241,11 @@ if_ok-refused result e P is = subst (λ (r : Result Shards Error). IfOk r P) (sy
 
 module _ (c : Configuration) (message recovery : List Shard) (kept received : Items) (are : AreShards c.original_count c.shard_bytes message) (coded : AreRecovery c message recovery)
     (left : AreLeft message kept) (got : AreLeft recovery received) where
-  -- a decoder takes all that is left
+  -- A decoder takes all shards that are left.
   pub all_taken : with_both (fresh_decoder c) kept received ≡ Ok (left_with c kept received)
   all_taken = search (rules, originals_taken, recursion_from_All, all_free, recoveries_taken)
 
-  -- and gives back what is lost
+  -- A decoder with all shards that are left restores the lost originals.
   pub gives_back : (result : Result Shards Error) → DecodeAnswers (left_with c kept received) result → GivesBack message kept received result
   unfolding missing_of lost_of
   gives_back result answers = search (rules, restores_lost, among-entered_all, recursion_from_All, nothing_among, left_count, some-entered_all)
@@ -253,7 +253,7 @@ module _ (c : Configuration) (message recovery : List Shard) (kept received : It
   pub restores_left : IsOkAnd (with_both (fresh_decoder c) kept received) (λ s. (result : Result Shards Error) → DecodeAnswers s result → GivesBack message kept received result)
   restores_left = search (rules, all_taken, gives_back)
 
--- so does one that took all this
+-- A decoder that took all shards that are left restores the lost originals.
 pub taken_gives_back : (c : Configuration) (message recovery : List Shard) (kept received : Items) (s : DecoderState) (result : Result Shards Error)
     → AreShards c.original_count c.shard_bytes message → AreRecovery c message recovery → AreLeft message kept → AreLeft recovery received
     → with_both (fresh_decoder c) kept received ≡ Ok s → DecodeAnswers s result → GivesBack message kept received result
@@ -262,12 +262,12 @@ taken_gives_back c message recovery kept received s result are coded left got is
     (restores_left c message recovery kept received are coded left got) result answers
 
 module _ (k r : ℕ) (originals recovery : List Shard) (kept : Items) (was : AreCoded k r originals recovery) (left : AreLeft originals kept) where
-  -- what is answered by what setting up a decoder answered
+  -- The property of a result, for each outcome of setting up a decoder.
   abbrev Begun : Items → Result Shards Error → Result (Unit {0}) Error → Type 0
   Begun received result begun =
       MatchResult (result_and_then (λ _. with_both (fresh_decoder (default_of k r was.size)) kept received) begun) (λ s. DecodeAnswers s result) (λ e. result ≡ Err e)
 
-  -- so it restores what is lost, if memory can be allocated
+  -- If the decoder can be set up, one call restores the lost originals.
   by_start : (received : Items) (result : Result Shards Error) → AreLeft recovery received → Begun received result (start_outcome (decoder_rows default_rate k r) (default_of k r was.size))
       → OneBringsBack originals kept received result
   by_start received result got answers =
@@ -282,7 +282,7 @@ module _ (k r : ℕ) (originals recovery : List Shard) (kept : Items) (was : Are
           (subst (λ (o : Result DecoderState Error). MatchResult o (λ s. DecodeAnswers s result) (λ e. result ≡ Err e)) all h) in
           record { answer = inl back.answer; restored = back.restored }
 
-  -- where no recovery shard is left
+  -- If no recovery shard is left, one call restores the lost originals, of which there are none.
   by_indexes : (result : Result Shards Error) → OneDecodes k r kept [] result → OneBringsBack originals kept [] result
   by_indexes result answers = search (rules, counted_valid, given_left, recursion_from_All, none_lost, if_ok-refused)
 

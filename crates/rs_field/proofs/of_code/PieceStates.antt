@@ -1,4 +1,4 @@
--- What holds of a message and of given shards holds of their pieces: the half of a decode by strips that needs no joining.
+-- Facts about a message and given shards hold for their pieces. This is the half of a decode by strips in which no strips are joined.
 use Rattle.std.proofs.Common.{◌≡◌, ℕ, ◌+◌, ◌-◌, ◌/◌, ◌%◌, ◌<◌, ◌≤◌, Bool, true, false, cond, List, [], length, take, drop, get_or, refl, sym, ap, ap₂, ◌∙◌, subst, inl, inr, arith, All}
 use Rattle.std.specs.Prelude.{Option, Some, None, is_some, unwrap_or, not, ◌&&◌, nat_lt}
 use Rattle.std.specs.List.{between}
@@ -22,7 +22,7 @@ module _ (start end : ℕ) where
   none : ◌≡◌ {A = Shard} (between start end []) []
   none = ap (take (end - start)) (drop_all start [] (omega arith)) ∙ take_all (end - start) [] (omega arith)
 
-  -- a piece of a list's shard
+  -- Piece i of a list of shards is a piece of shard i.
   pub shard_at-pieces : (i : ℕ) (xs : List Shard) → shard_at (pieces start end xs) i ≡ between start end (shard_at xs i)
   shard_at-pieces i xs =
       let long = length-map xs (λ (s : Shard). between start end s) in
@@ -31,7 +31,7 @@ module _ (start end : ℕ) where
         | inr past ↦ get_or_past (pieces start end xs) i [] (omega (arith, past, long)) ∙ sym (ap (λ (s : Shard). between start end s) (get_or_past xs i [] past) ∙ none)
       ]
 
-  -- pieces of shards are shards
+  -- Pieces of shards are shards.
   pub shards-cut : (count size : ℕ) (xs : List Shard) → IsStrip start end size → AreShards count size xs → AreShards count (end - start) (pieces start end xs)
   shards-cut count size xs strip are =
       record {
@@ -45,7 +45,7 @@ module _ (start end : ℕ) where
             });
       }
 
-  -- pieces of recovery shards are those of the message's pieces
+  -- The pieces of recovery shards are the recovery shards of the message's pieces.
   pub recovery-cut : (rate : Rate) (k r size : ℕ) (message all : List Shard) → IsStrip start end size → AreShards k size message
       → AreRecovery (configuration rate k r size) message all → AreRecovery (configuration rate k r (end - start)) (pieces start end message) (pieces start end all)
   recovery-cut rate k r size message all strip are coded =
@@ -59,12 +59,12 @@ module _ (start end : ℕ) where
             (coded.words (start / 2 + j) (omega (arith, inside, strip.order, strip.inside, strip.begins))));
       }
 
-  -- the shard of a piece
+  -- Each piece in a map is a piece of a shard in the map.
   whole_of : (o : Option Shard) (p : Shard) → option_map (λ s. between start end s) o ≡ Some p → (s : Shard) × (o ≡ Some s) × (between start end s ≡ p)
   whole_of (Some s) p is = (s, refl, ap (λ o. unwrap_or o p) is)
   whole_of None p is = absurd (let no : ⊥ = cc in no)
 
-  -- the pieces of a message that agrees agree
+  -- If a message agrees with shards, its pieces agree with the pieces of the shards.
   pub agrees-cut : (rate : Rate) (k r size : ℕ) (originals recovery : Shards) (message : List Shard) → IsStrip start end size → Agrees (configuration rate k r size) originals recovery message
       → Agrees (configuration rate k r (end - start)) (pieces_of start end originals) (pieces_of start end recovery) (pieces start end message)
   agrees-cut rate k r size originals recovery message strip agrees =
@@ -84,7 +84,7 @@ module _ (start end : ℕ) where
   is_some-map (Some s) = refl
   is_some-map None = refl
 
-  -- a missing piece is the piece of the missing shard
+  -- A missing piece is the piece of the missing shard.
   missing-cut : (s : DecoderState) (message : List Shard) (i : ℕ) → missing_of (state_of_pieces start end s) (pieces start end message) i ≡ option_map (λ x. between start end x) (missing_of s message i)
   unfolding missing_of
   missing-cut s message i =
@@ -95,7 +95,7 @@ module _ (start end : ℕ) where
       by_test true = refl
       by_test false = refl
 
-  -- what is restored of the pieces are the pieces of what is missing of any message that agrees
+  -- The restored pieces are the pieces of the missing shards of any message that agrees.
   pub restored-cut : (s : DecoderState) (message : List Shard) (out : Shards) → IsStrip start end s.configuration.shard_bytes
       → Agrees s.configuration s.originals s.recovery message → Restored (state_of_pieces start end s) out
       → (i : ℕ) → out i ≡ option_map (λ x. between start end x) (missing_of s message i)
@@ -104,7 +104,7 @@ module _ (start end : ℕ) where
       let cut = agrees-cut c.rate c.original_count c.recovery_count c.shard_bytes s.originals s.recovery message strip agrees in
       restored.missing i ∙ ap (λ (m : List Shard). missing_of (state_of_pieces start end s) m i) (sym (restored.only (pieces start end message) cut)) ∙ missing-cut s message i
 
-  -- the other half: where the pieces are consistent, each of their columns is one of a message's, as the shards' own column is
+  -- If the pieces of a strip are consistent, each of their columns is a column of a message, as the column of the shards is.
   has-cut : (rate : Rate) (k r size j : ℕ) (originals recovery : Shards) (words : ℕ → ℕ) → IsStrip start end size → j < (end - start) / 2
       → AreSized k size originals → AreSized r size recovery → HasWords (placement rate k r) originals recovery (start / 2 + j) words
       → HasWords (placement rate k r) (pieces_of start end originals) (pieces_of start end recovery) j words
@@ -136,13 +136,13 @@ module _ (start end : ℕ) where
         ),
       )
 
--- each column lies in a strip whose pieces are consistent
+-- Each column is in a strip whose pieces are consistent.
 abbrev pub AreConsistentBelow : (rate : Rate) (k r size : ℕ) (originals recovery : Shards) → ℕ → Type 0
 AreConsistentBelow rate k r size originals recovery bound =
     (j : ℕ) → j < bound / 2 → (start end : ℕ) × IsStrip start end size × (start / 2 ≤ j) × (j < end / 2)
     × Consistent (configuration rate k r (end - start)) (pieces_of start end originals) (pieces_of start end recovery)
 
--- so the shards are consistent
+-- If each column is in a strip whose pieces are consistent, the shards are consistent.
 pub consistent-whole : (rate : Rate) (k r size : ℕ) (originals recovery : Shards) (words : ℕ → ℕ → ℕ) → size % 2 ≡ 0
     → AreSized k size originals → AreSized r size recovery
     → ((j : ℕ) → j < size / 2 → HasWords (placement rate k r) originals recovery j (words j))

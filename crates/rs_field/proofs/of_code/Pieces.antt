@@ -1,4 +1,4 @@
--- Pieces of shards: their columns are columns of the shards, so what codes each piece codes the shards.
+-- Pieces of shards. Their columns are columns of the shards, so coding each piece codes the shards.
 use Rattle.std.proofs.Common.{◌≡◌, ◌⊎◌, ℕ, suc, ◌+◌, ◌-◌, ◌*◌, ◌/◌, ◌%◌, ◌<◌, ◌≤◌, List, [], ◌∷◌, ◌++◌, length, take, drop, map, get_or, min, Bool, true, false, cond, refl, sym, ap, ap₂, ◌∙◌, subst, inl, inr, arith, All}
 use Rattle.std.specs.List.{between}
 use Rattle.std.proofs.Math.Nat.{min-eq_left, min-eq_right}
@@ -21,7 +21,7 @@ use Rattle.rs_field.specs.code.Code.{AreRecovery, AreRecoveryWords}
 use Rattle.rs_field.proofs.of_code.Columns.{column-at, column-chunk}
 use Rattle.rs_field.specs.code.Pieces.{pieces, heads, IsStrip, AreCodedBelow, ArePut, room_length}
 
--- a column of the first chunks
+-- The columns of the first chunks of a shard are the first columns of the shard.
 pub column-head : (a j : ℕ) (s : Shard) → a % 64 ≡ 0 → a ≤ length s → j < a / 2 → column j (take a s) ≡ column j s
 column-head a j s whole room inside =
     let parts : j ≡ j / 32 * 32 + j % 32 = omega arith in
@@ -32,7 +32,7 @@ column-head a j s whole room inside =
     ∙ sym (column-chunk (j / 32) (j % 32) s (omega arith) (omega arith))
     ∙ ap (λ (c : ℕ). column c s) (sym parts)
 
--- a column of the part of a shard after its first chunks is a column of the shard
+-- A column of the part of a shard after its first chunks is a column of the shard.
 pub column-rest : (a j : ℕ) (s : Shard) → a % 64 ≡ 0 → column j (drop a s) ≡ column (a / 2 + j) s
 column-rest a j s whole =
     let parts : j ≡ j / 32 * 32 + j % 32 = omega arith in
@@ -51,7 +51,7 @@ column-rest a j s whole =
     ∙ sym (column-at (a / 64 + j / 32) (j % 32) s (omega arith))
     ∙ ap (λ (c : ℕ). column c s) place
 
--- a column of a strip
+-- A column of a strip of a shard is a column of the shard.
 pub column-piece : (start end j : ℕ) (s : Shard) → IsStrip start end (length s) → j < (end - start) / 2 → column j (between start end s) ≡ column (start / 2 + j) s
 column-piece start end j s strip inside =
     let left : length (drop start s) ≡ length s - start = length-drop start s in
@@ -64,21 +64,21 @@ column-piece start end j s strip inside =
           ∙ column-rest start j s strip.begins
     ]
 
--- a column of strips
+-- The columns of the strips of shards are columns of the shards.
 pub columns-pieces : (start end j : ℕ) (xs : List Shard) → All (λ s. IsStrip start end (length s)) xs → j < (end - start) / 2 → columns j (pieces start end xs) ≡ columns (start / 2 + j) xs
 columns-pieces start end j [] strips inside = refl
 columns-pieces start end j (s ∷ xs) strips inside =
     ap₂ (λ (x : ℕ) (l : List ℕ). x ∷ l) (column-piece start end j s (strips 0 s (omega arith)) inside)
     (columns-pieces start end j xs (λ i d h. strips (suc i) d (omega (arith, h))) inside)
 
--- a column of heads
+-- The columns of the heads of shards are columns of the shards.
 pub columns-heads : (a j : ℕ) (xs : List Shard) → a % 64 ≡ 0 → All (λ s. a ≤ length s) xs → j < a / 2 → columns j (heads a xs) ≡ columns j xs
 columns-heads a j [] whole room inside = refl
 columns-heads a j (s ∷ xs) whole room inside =
     ap₂ (λ (x : ℕ) (l : List ℕ). x ∷ l) (column-head a j s whole (room 0 s (omega arith)) inside)
     (columns-heads a j xs whole (λ i d h. room (suc i) d (omega (arith, h))) inside)
 
--- if the heads are unchanged and coded, and the strips after them are coded, then the heads and strips together are coded
+-- If the heads are unchanged and coded, and the strips after them are coded, then the heads and strips together are coded.
 pub coded-further : (rate : Rate) (k r start end : ℕ) (originals old new : List Shard) → All (λ s. IsStrip start end (length s)) originals
     → All (λ s. start ≤ length s) old → All (λ s. IsStrip start end (length s)) new → start % 64 ≡ 0 → heads start new ≡ heads start old
     → AreCodedBelow rate k r start originals old → AreRecovery (configuration rate k r (end - start)) (pieces start end originals) (pieces start end new)
@@ -99,7 +99,7 @@ coded-further rate k r start end originals old new own before after whole kept c
           (further.words (j - start / 2) here)))
     ]
 
--- where each byte is in a strip that is coded, all is coded
+-- If each byte is in a strip that is coded, the whole shards are coded.
 pub strips-join : (c : Configuration) (message all : List Shard) → AreShards c.original_count c.shard_bytes message → AreShards c.recovery_count c.shard_bytes all
     → ((byte : ℕ) → byte < c.shard_bytes → (start : ℕ) × (end : ℕ) × IsStrip start end c.shard_bytes × (start ≤ byte) × (byte < end)
     × AreRecovery (configuration c.rate c.original_count c.recovery_count (end - start)) (pieces start end message) (pieces start end all))
@@ -140,7 +140,7 @@ module _ (start end : ℕ) (made old new : List Shard) (put : ArePut start end m
   front : (i : ℕ) → i < length old → length (take start (get_or old i [])) ≡ start
   front i h = length-take-le start (get_or old i []) (inside i [] h)
 
-  -- each room ends where it did, or with the piece
+  -- After a piece is put, each room ends at the end of the piece, or where it ended before.
   pub put-length : (i : ℕ) → i < length old → length (get_or new i []) ≡ end + (length (get_or old i []) - end)
   put-length i h =
       let first = front i h in
@@ -149,7 +149,7 @@ module _ (start end : ℕ) (made old new : List Shard) (put : ArePut start end m
       let all = simp length-append at (ap length (at i h)) in
       omega (arith, all, first, piece, back, order)
 
-  -- before the pieces rooms hold what they held
+  -- The bytes before the piece are unchanged in each room.
   pub put-heads : heads start new ≡ heads start old
   put-heads =
       same_from [] (heads start new) (heads start old) (simp length-map put.0) (λ i h.
@@ -158,7 +158,7 @@ module _ (start end : ℕ) (made old new : List Shard) (put : ArePut start end m
       ∙ ap (take start) (at i here) ∙ take_at (take start (get_or old i [])) _ start (front i here)
       ∙ sym (get_or-map (λ (s : Shard). take start s) old i [] [] here))
 
-  -- the pieces of the new rooms are the pieces that were put into them
+  -- The pieces of the new rooms are the pieces that were put into them.
   pub put-pieces : pieces start end new ≡ made
   put-pieces =
       same_from [] (pieces start end new) made (simp length-map (put.0 ∙ sym number)) (λ i h.
@@ -168,7 +168,7 @@ module _ (start end : ℕ) (made old new : List Shard) (put : ArePut start end m
       ∙ ap (take (end - start)) (drop_at (take start (get_or old i [])) _ start (front i here))
       ∙ take_at (get_or made i []) _ (end - start) (long i here))
 
-  -- what was put into the heads are bytes
+  -- If the bytes of the heads and of the pieces are below 256, the bytes of the longer heads are below 256.
   pub put-bytes : All (All (λ b. b < 256)) (heads start old) → All (All (λ b. b < 256)) made → All (All (λ b. b < 256)) (heads end new)
   put-bytes before bytes i d h =
       let here : i < length old = (let n = length-map new (λ (s : Shard). take end s) in omega (arith, h, n, put.0)) in
@@ -184,9 +184,9 @@ module _ (start end : ℕ) (made old new : List Shard) (put : ArePut start end m
       ∙ take_at (take start (get_or old i []) ++ get_or made i []) _ end (omega (arith, both, first, piece, order))))
       (All-append (λ b. b < 256) (take start (get_or old i [])) (get_or made i []) head (bytes i [] (omega (arith, here, number))))
 
--- ---- what is done up to a byte
+-- ---- the state when all bytes below a number are done
 
--- a strip of the least of two widths, where so much is left
+-- A part of the width of a strip, or of all remaining bytes if there are fewer, is a strip.
 pub is_strip : (start strip size width : ℕ) → width ≡ min strip size → strip % 64 ≡ 0 → (start % 64 ≡ 0) ⊎ (start ≡ size) → 0 < width → width ≤ size - start → IsStrip start (start + width) size
 is_strip start strip size width is chunks begins some left =
     let from : start % 64 ≡ 0 = elim begins [ inl whole ↦ whole | inr last ↦ absurd (let no : ⊥ = omega (arith, last, some, left) in no) ] in
@@ -200,7 +200,7 @@ is_strip start strip size width is chunks begins some left =
       ];
     }
 
--- the last one
+-- The part from a chunk boundary to the end of the shards is a strip.
 pub is_last : (start size : ℕ) → (start % 64 ≡ 0) ⊎ (start ≡ size) → start < size → IsStrip start size size
 is_last start size begins less =
     record {
@@ -210,34 +210,34 @@ is_last start size begins less =
       ends = inr refl;
     }
 
--- a room that holds more than what it is to hold holds that
+-- A room has at least the length of the bytes that were written.
 pub room-from : (grows : Bool) (written size : ℕ) → written ≤ size → written ≤ room_length grows written size
 room-from true written size inside = omega arith
 room-from false written size inside = inside
 
--- what a room's length becomes by a strip
+-- After a strip is put into a room, the room has the length for the end of the strip.
 pub room-further : (grows : Bool) (start end size : ℕ) → start ≤ end → end ≤ size → end + (room_length grows start size - end) ≡ room_length grows end size
 room-further true start end size order inside = omega (arith, order)
 room-further false start end size order inside = omega (arith, inside)
 
--- a strip of a shard is one of a room that ends with it
+-- A strip of a shard is a strip of a room with the length for the end of the strip.
 pub room-strip : (grows : Bool) (start end size : ℕ) → IsStrip start end size → IsStrip start end (room_length grows end size)
 room-strip true start end size strip = record { order = strip.order; inside = omega arith; begins = strip.begins; ends = inr refl }
 room-strip false start end size strip = strip
 
--- at the end a room is as long as its shard
+-- After the last strip, a room is as long as its shard.
 pub room-whole : (grows : Bool) (size : ℕ) → room_length grows size size ≡ size
 room-whole true size = refl
 room-whole false size = refl
 
--- as many rooms as recovery shards hold the recovery shards' first bytes
+-- There are as many rooms as recovery shards, and they hold the first bytes of the recovery shards.
 pub record IsDone (k r size end : ℕ) (grows : Bool) (rate : Rate) (originals rooms : List Shard) : Type 0 where
   pub number : length rooms ≡ r
   pub fit : All (λ s. length s ≡ room_length grows end size) rooms
   pub coded : AreCodedBelow rate k r end originals rooms
   pub bytes : All (All (λ b. b < 256)) (heads end rooms)
 
--- a strip more is done
+-- After one more strip is coded and put, the rooms hold the bytes up to the end of the strip.
 pub done-further : (grows : Bool) (rate : Rate) (k r size start end : ℕ) (originals made old new : List Shard) → IsStrip start end size → All (λ s. length s ≡ size) originals
     → IsDone k r size start grows rate originals old → AreRecovery (configuration rate k r (end - start)) (pieces start end originals) made → ArePut start end made old new
     → IsDone k r size end grows rate originals new
@@ -263,7 +263,7 @@ done-further grows rate k r size start end originals made old new strip sized do
       bytes = put-bytes start end made old new put strip.order inside number long done.bytes (λ i d h. (recovery.shards.each i d h).bytes);
     }
 
--- at first nothing is to be done
+-- Before the first strip, the rooms satisfy `IsDone` for zero bytes.
 pub done-none : (grows : Bool) (rate : Rate) (k r size : ℕ) (originals rooms : List Shard) → length rooms ≡ r → All (λ s. length s ≡ room_length grows 0 size) rooms
     → IsDone k r size 0 grows rate originals rooms
 done-none grows rate k r size originals rooms number fit =
@@ -274,7 +274,7 @@ done-none grows rate k r size originals rooms number fit =
       bytes = All-map (λ s. All (λ b. b < 256) s) (λ s. take 0 s) rooms (λ i d h. All-nil (λ b. b < 256));
     }
 
--- where all is done the rooms hold the recovery shards
+-- After the last strip, the rooms hold the recovery shards.
 pub done-all : (grows : Bool) (rate : Rate) (k r size : ℕ) (originals rooms : List Shard) → IsDone k r size size grows rate originals rooms
     → AreRecovery (configuration rate k r size) originals rooms
 done-all grows rate k r size originals rooms done =
@@ -293,7 +293,7 @@ done-all grows rate k r size originals rooms done =
       words = done.coded;
     }
 
--- ---- pieces that are given
+-- ---- pieces that are added
 
 pub pieces-count : (start end : ℕ) (xs : List (Bor Shard)) → length (pieces start end (map (λ x. x.now) xs)) ≡ length xs
 pieces-count start end xs = length-map (map (λ (x : Bor Shard). x.now) xs) (λ (s : Shard). between start end s) ∙ length-map xs (λ (x : Bor Shard). x.now)
@@ -313,7 +313,7 @@ pieces-append start end xs ys =
     ap (λ (l : List Shard). map (λ (s : Shard). between start end s) l) (map-append (λ (x : Bor Shard). x.now) xs ys)
     ∙ map-append (λ (s : Shard). between start end s) (map (λ (x : Bor Shard). x.now) xs) (map (λ (x : Bor Shard). x.now) ys)
 
--- shards that are taken, and then others
+-- Adding two lists of shards is adding the second list after the first.
 adds-append : (s t : EncoderState) (xs ys : List Shard) → with_shards s xs ≡ Ok t → with_shards s (xs ++ ys) ≡ with_shards t ys
 adds-append s t [] ys is = (let same : s ≡ t = cc in ap (λ (u : EncoderState). with_shards u ys) same)
 adds-append s t (x ∷ xs) ys is = by_outcome (with_shard s x) (λ n led. adds-append n t xs ys led) is
@@ -325,7 +325,7 @@ adds-append s t (x ∷ xs) ys is = by_outcome (with_shard s x) (λ n led. adds-a
 
 module _ (start end i : ℕ) (xs : List (Bor Shard)) (d : Bor Shard) (first now : EncoderState) (inside : i < length xs)
     (led : with_shards first (pieces start end (map (λ x. x.now) (take i xs))) ≡ Ok now) where
-  -- one more
+  -- Adding the next piece adds the pieces of one more shard.
   pub given-next : (next : EncoderState) → with_shard now (between start end (get_or xs i d).now) ≡ Ok next
       → with_shards first (pieces start end (map (λ x. x.now) (take (i + 1) xs))) ≡ Ok next
   given-next next taken =
@@ -334,7 +334,7 @@ module _ (start end i : ℕ) (xs : List (Bor Shard)) (d : Bor Shard) (first now 
       ∙ adds-append first now (pieces start end (map (λ x. x.now) (take i xs))) (pieces start end (map (λ x. x.now) (get_or xs i d ∷ []))) led
       ∙ ap (result_and_then (λ (s : EncoderState). Ok s)) taken
 
-  -- the error of the first piece that cannot be added is the outcome of adding all pieces
+  -- The error of the first piece that cannot be added is the outcome of adding all pieces.
   pub given-refused : (e : Error) → with_shard now (between start end (get_or xs i d).now) ≡ Err e
       → with_shards first (pieces start end (map (λ x. x.now) xs)) ≡ Err e
   given-refused e refused =

@@ -1,4 +1,4 @@
--- Shards at k places of a codeword fix its message.
+-- The shards at k places of a codeword determine its message.
 use Rattle.std.proofs.Common.{rules, ◌≡◌, ℕ, zero, suc, ◌+◌, ◌-◌, ◌%◌, ◌<◌, ◌≤◌, ◌⊎◌, Bool, true, false, cond, List, ◌++◌, length, sym, ap, ◌∙◌, arith, inl, inr, pow_mono, refl, add-zero, add-suc}
 use Rattle.std.specs.Prelude.{slice_index, nat_lt, Option, Some, is_some}
 use Rattle.std.proofs.lemmas.Bool.{cases_lt, lt-ltb, le-ltb}
@@ -19,7 +19,7 @@ use Rattle.rs_field.proofs.of_code.Given.{count_below-zero, count_below-suc, cou
 use Rattle.rs_field.proofs.of_code.Frame.{IsFrame}
 use Rattle.rs_field.proofs.of_code.RateFrames.{HasFrame, has_frame}
 
--- a choice by whether a number is below another
+-- A choice between two functions, by whether a number is below a bound.
 below_or : {A : Type 0} → ℕ → (ℕ → A) → (ℕ → A) → ℕ → A
 below_or k f g x = cond (nat_lt x k) (f x) (g (x - k))
 
@@ -33,7 +33,7 @@ below_or-then k f g x h = ap (λ (b : Bool). cond b (f x) (g (x - k))) (le-ltb x
 
 -- ---- points
 
--- The points of a codeword and the known zeros are apart, and k points and all known zeros are as many as the coefficients.
+-- The points of a codeword are distinct from the known zeros, and k points and all known zeros are as many as the coefficients.
 record IsSpread (p : Placement) (k r : ℕ) : Type 0 where
   originals : p.originals_from + k ≡ p.zeros_from
   recovery : p.recovery_from + r ≤ 65536
@@ -44,16 +44,16 @@ record IsSpread (p : Placement) (k r : ℕ) : Type 0 where
 spread : (p : Placement) (k r e bound zeros_end : ℕ) → IsFrame p k r e bound zeros_end → IsSpread p k r
 spread p k r e bound zeros_end f = grind (arith, common_steps, pow_mono)
 
--- the point of a place: the originals' points, then those of the recovery shards
+-- The point of a place: first the originals' points, then the points of the recovery shards.
 point : Placement → ℕ → ℕ → ℕ
 point p k x = below_or k (λ i. p.originals_from + i) (λ i. p.recovery_from + i) x
 
--- a point is that of an original, or of a recovery shard
+-- Each point is the point of an original or of a recovery shard.
 point_cases : (p : Placement) (k r x : ℕ) → x < k + r → ((x < k) × (point p k x ≡ p.originals_from + x)) ⊎ ((k ≤ x) × (x - k < r) × (point p k x ≡ p.recovery_from + (x - k)))
 unfolding point
 point_cases p k r x h = grind (arith, common_steps, cases_lt, below_or-first, below_or-then)
 
--- a point is a word that is no known zero
+-- A point is a word and is not a known zero.
 point_apart : (p : Placement) (k r x : ℕ) → IsSpread p k r → x < k + r → (point p k x < 65536) × ((point p k x < p.zeros_from) ⊎ (p.zeros_to ≤ point p k x))
 point_apart p k r x s hx =
     elim (point_cases p k r x hx) [
@@ -62,7 +62,7 @@ point_apart p k r x s hx =
           (omega (arith, later.1, later.2), elim (s.apart (x - k) later.1) [ inl past ↦ inr (omega (arith, later.2, past)) | inr before ↦ inl (omega (arith, later.2, before)) ])
     ]
 
--- different places have different points
+-- Different places have different points.
 point_once : (p : Placement) (k r x y : ℕ) → IsSpread p k r → x < k + r → y < k + r → point p k x ≡ point p k y → x ≡ y
 point_once p k r x y s hx hy same =
     elim (point_cases p k r x hx) [
@@ -78,7 +78,7 @@ point_once p k r x y s hx hy same =
 
 -- ---- polynomials
 
--- two polynomials that code and have the same values at the points of k places are one
+-- Two polynomials that code and have the same values at the points of k places are equal.
 fixed_by_points : (rate : Rate) (k r : ℕ) (words other p o : List ℕ) (place : ℕ → ℕ) → supports rate k r ≡ true → Codes rate k r words p → Codes rate k r other o
     → ArePlaces k (k + r) place → ((i : ℕ) → i < k → value p (point (placement rate k r) k (place i)) ≡ value o (point (placement rate k r) k (place i))) → p ≡ o
 fixed_by_points rate k r words other p o place is cp co are same = by_spread (spread_of (has_frame rate k r is))
@@ -86,7 +86,7 @@ fixed_by_points rate k r words other p o place is cp co are same = by_spread (sp
     spread_of : HasFrame rate k r → IsSpread (placement rate k r) k r
     spread_of h = spread (placement rate k r) k r h.exponent h.bound h.zeros_end h.frame
 
-    -- k points and the known zeros
+    -- The k points, followed by the known zeros.
     at : ℕ → ℕ
     at = below_or k (λ i. point (placement rate k r) k (place i)) (λ i. (placement rate k r).zeros_from + i)
 
@@ -128,7 +128,7 @@ fixed_by_points rate k r words other p o place is cp co are same = by_spread (sp
 
 -- ---- shards
 
--- a codeword's word at a place is the polynomial's value at its point
+-- The word of a codeword at a place is the polynomial's value at the point of the place.
 codeword_word : (rate : Rate) (k r x : ℕ) (message recovery p : List ℕ) → Codes rate k r message p → ((i : ℕ) → i < r → slice_index recovery i ≡ value p ((placement rate k r).recovery_from + i))
     → length message ≡ k → x < k + r → value p (point (placement rate k r) k x) ≡ slice_index (message ++ recovery) x
 codeword_word rate k r x message recovery p codes at size hx =
@@ -137,7 +137,7 @@ codeword_word rate k r x message recovery p codes at size hx =
       | inr coded ↦ ap (value p) coded.2 ∙ sym (at (x - k) coded.1) ∙ sym (get_or-append_right message recovery k x 0 size coded.0)
     ]
 
--- so it is the column of the shard there
+-- The polynomial's value at the point of a place is the column of the shard at this place.
 codeword_column : (rate : Rate) (k r j x : ℕ) (message recovery : List Shard) (p : List ℕ) → Codes rate k r (columns j message) p
     → ((i : ℕ) → i < r → slice_index (columns j recovery) i ≡ value p ((placement rate k r).recovery_from + i)) → length message ≡ k → x < k + r
     → value p (point (placement rate k r) k x) ≡ column j (shard_at (message ++ recovery) x)
@@ -145,7 +145,7 @@ codeword_column rate k r j x message recovery p codes at size hx =
     codeword_word rate k r x (columns j message) (columns j recovery) p codes at (length-map message (column j) ∙ size) hx
     ∙ ap (λ (ws : List ℕ). slice_index ws x) (sym (map-append (column j) message recovery)) ∙ columns-at j (message ++ recovery) x
 
--- messages whose codewords agree at k places are equal
+-- Messages whose codewords agree at k places are equal.
 pub fixed_by_places : (c : Configuration) (one other one_recovery other_recovery : List Shard) (place : ℕ → ℕ)
     → supports c.rate c.original_count c.recovery_count ≡ true → c.shard_bytes % 2 ≡ 0
     → AreShards c.original_count c.shard_bytes one → AreShards c.original_count c.shard_bytes other
@@ -169,7 +169,7 @@ fixed_by_places c one other one_recovery other_recovery place is even a b recove
 
 -- ---- places of given shards
 
--- the indexes below n with a shard
+-- The indexes below n that have a shard, as places.
 pub places_given : (n : ℕ) (given : Shards) → (place : ℕ → ℕ) × ArePlaces (count_below n given) n place × ((i : ℕ) → i < count_below n given → is_some (given (place i)) ≡ true)
 places_given zero given = (
   λ i. i,
@@ -215,7 +215,7 @@ places_given (suc n) given = with_last (places_given n given) (is_some (given n)
           ],
         )
 
--- the given shards by place
+-- The given shards, by their place in the codeword.
 pub by_place : ℕ → Shards → Shards → Shards
 by_place k originals recovery = below_or k originals recovery
 
@@ -229,7 +229,7 @@ count-by_place k (suc r) originals recovery =
     = count_below-suc (k + r) (below_or k originals recovery) ∙ ap (λ (o : Option Shard). count_below (k + r) (below_or k originals recovery) + cond (is_some o) 1 0) here in
     ap (λ n. count_below n (below_or k originals recovery)) (add-suc k r) ∙ last ∙ (let more = count_below-suc r recovery in omega arith)
 
--- a shard given at a place stands there in the codeword of each message that agrees
+-- A given shard is at its place in the codeword of each message that agrees.
 pub codeword_given : (c : Configuration) (originals recovery : Shards) (message : List Shard) (a : Agrees c originals recovery message) (x : ℕ) (shard : Shard)
     → by_place c.original_count originals recovery x ≡ Some shard → shard_at (message ++ a.coded.0) x ≡ shard
 unfolding by_place

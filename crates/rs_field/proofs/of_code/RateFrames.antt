@@ -1,4 +1,4 @@
--- Every rate has its frame at supported counts.
+-- Every rate has a frame for supported counts.
 use Rattle.std.proofs.Common.{rules, ◌≡◌, ℕ, ◌+◌, ◌-◌, ◌^◌, ◌≤◌, Bool, true, false, cond, min, max, refl, sym, ap, ◌∙◌, arith, pow_mono, subst}
 use Rattle.rs_field.specs.code.Counts.{Rate, low_rate, high_rate, default_rate, next_power, supports, is_low}
 use Rattle.rs_field.specs.code.Placement.{low_placement, high_placement, placement, decoder_rows}
@@ -19,7 +19,7 @@ high_frame k r fit most =
     let n = next_power-small (next_power r + k) fit in
     let room : 2 ^ n.0 ≤ 2 ^ 16 = pow_mono n.1 in (n.0, n.2, grind (arith, n.2, n.3, n.1))
 
--- the rate that is used for these counts
+-- The frame of the rate that is used for these counts.
 pub record HasFrame (rate : Rate) (k r : ℕ) : Type 0 where
   pub exponent : ℕ
   pub bound : ℕ
@@ -52,7 +52,7 @@ frame_by rate k r low high = by_rate (is_low rate k r) refl
           frame = subst (λ (b : Bool). IsFrame (cond b (low_placement k) (high_placement k r)) k r f.0 (2 ^ f.0 - next_power r) (2 ^ f.0)) (sym e) f.2;
         }
 
--- at supported counts the rate has a frame
+-- For supported counts, the rate has a frame.
 pub has_frame : (rate : Rate) (k r : ℕ) → supports rate k r ≡ true → HasFrame rate k r
 unfolding is_low
 has_frame low_rate k r is = search (rules, frame_by, low_fits)
@@ -63,7 +63,7 @@ has_frame default_rate k r is =
     (λ e. let le : next_power k ≤ next_power r = low_powers k r e in omega arith)
     (λ e. let le : next_power r ≤ next_power k = high_powers k r e in omega arith)
 
--- so originals are at most as many as the points
+-- For supported counts, there are at most 65536 originals.
 pub few_originals : (rate : Rate) (k r : ℕ) → supports rate k r ≡ true → k ≤ 65536
 few_originals rate k r is =
     let h = has_frame rate k r is in

@@ -1,4 +1,4 @@
--- A decode by strips: what rooms hold after some strips, and that they hold the restored originals after all.
+-- A decode by strips: the bytes in the rooms after some strips, and the proof that the rooms hold the restored originals after all strips.
 use Rattle.std.proofs.Common.{◌≡◌, ℕ, zero, suc, ◌+◌, ◌-◌, ◌/◌, ◌%◌, ◌<◌, ◌≤◌, ◌⊎◌, Bool, true, false, cond, List, [], ◌++◌, length, map, take, drop, get_or, All, min, refl, sym, ap, ap₂, ◌∙◌, subst, inl, inr, arith}
 use Rattle.std.specs.Prelude.{Some, None, is_some, unwrap_or, not, ◌&&◌, nat_le, nat_lt, Result, Ok, Err}
 use Rattle.std.specs.List.{between}
@@ -31,25 +31,25 @@ use Rattle.rs_field.proofs.of_code.RateFrames.{has_frame}
 
 -- ---- numbers of pieces
 
--- success or `NotEnoughShards`, from the numbers of given shards
+-- The outcome of the check for enough shards, from the numbers of given shards.
 abbrev by_counts : ℕ → ℕ → ℕ → Result (Unit {0}) Error
 by_counts k originals recovery = cond (nat_lt (originals + recovery) k) (Err (NotEnoughShards k originals recovery)) (Ok tt)
 
 module _ (start end : ℕ) where
-  -- as many pieces are given as shards
+  -- The number of given pieces is the number of given shards.
   pub count-pieces : (n : ℕ) (given : Shards) → count_below n (pieces_of start end given) ≡ count_below n given
   count-pieces zero given = count_below-zero (pieces_of start end given) ∙ sym (count_below-zero given)
   count-pieces (suc n) given =
       count_below-suc n (pieces_of start end given)
       ∙ ap₂ (λ (m : ℕ) (b : Bool). m + cond b 1 0) (count-pieces n given) (is_some-map start end (given n)) ∙ sym (count_below-suc n given)
 
-  -- so pieces are enough where shards are
+  -- There are enough pieces exactly if there are enough shards.
   pub enough-pieces : (s : DecoderState) → enough_given (state_of_pieces start end s) ≡ enough_given s
   enough-pieces s =
       ap₂ (by_counts s.configuration.original_count) (count-pieces s.configuration.original_count s.originals)
       (count-pieces s.configuration.recovery_count s.recovery)
 
-  -- where no message agrees with pieces, none agrees with the shards
+  -- If no message agrees with the pieces, no message agrees with the shards.
   pub none-pieces : (s : DecoderState) (e : Error) → IsStrip start end s.configuration.shard_bytes
       → NoneAgrees (state_of_pieces start end s) e → NoneAgrees s e
   none-pieces s e strip none =
@@ -67,13 +67,13 @@ module _ (start end : ℕ) where
 
 -- ---- the words at the points of given shards
 
--- the word of column j at a point: that of the original whose point it is, else that of the recovery shard
+-- The word of column j at a point: the word of the original or the recovery shard that has this point.
 word_at : Placement → ℕ → Shards → Shards → ℕ → ℕ → ℕ
 word_at p k originals recovery j x =
     cond (nat_le p.originals_from x && nat_lt x (p.originals_from + k)) (column j (unwrap_or (originals (x - p.originals_from)) []))
     (column j (unwrap_or (recovery (x - p.recovery_from)) []))
 
--- they are words of the given shards
+-- The words at the points of given shards are words of these shards.
 has-words : (p : Placement) (k r e bound zeros_end size j : ℕ) (originals recovery : Shards) → IsFrame p k r e bound zeros_end
     → AreSized k size originals → AreSized r size recovery → HasWords p originals recovery j (word_at p k originals recovery j)
 unfolding word_at
@@ -110,7 +110,7 @@ has-words p k r e bound zeros_end size j originals recovery frame own_sized code
     by_first true i s place is past = rw (le-ltb (p.recovery_from + i) (p.originals_from + k) past, place, is) refl
     by_first false i s place is past = rw (place, is) refl
 
--- given shards that are within bounds have indexes below the count
+-- Given shards that are within bounds have indexes below the count.
 sized-within : (count size : ℕ) (given : Shards) → AreWithin count size given → AreSized count size given
 sized-within count size given within =
     record {
@@ -120,7 +120,7 @@ sized-within count size given within =
       );
     }
 
--- where the pieces in all strips are consistent, so are the shards
+-- If the pieces in all strips are consistent, the shards are consistent.
 all-consistent : (s : DecoderState) → supports s.configuration.rate s.configuration.original_count s.configuration.recovery_count ≡ true
     → s.configuration.shard_bytes % 2 ≡ 0 → AreSized s.configuration.original_count s.configuration.shard_bytes s.originals
     → AreSized s.configuration.recovery_count s.configuration.shard_bytes s.recovery
@@ -149,7 +149,7 @@ pub missing-past : (s : DecoderState) (message : List Shard) (i : ℕ) → s.con
 unfolding missing_of
 missing-past s message i outside = ap (λ a. cond (a && not (is_some (s.originals i))) (Some (get_or message i [])) None) (le-ltb i s.configuration.original_count outside)
 
--- each original is missing or given
+-- Each original is either missing or given.
 pub count-missing : (s : DecoderState) (message : List Shard) → count_below s.configuration.original_count (missing_of s message) + originals_given s ≡ s.configuration.original_count
 count-missing s message = below s.configuration.original_count (omega arith)
   where
@@ -165,20 +165,20 @@ count-missing s message = below s.configuration.original_count (omega arith)
         (count_below-suc n s.originals)
         ∙ by_test (count_below n (missing_of s message)) (count_below n s.originals) n (below n (omega arith)) (is_some (s.originals n))
 
--- a message's missing shards, in order of index
+-- The missing shards of a message, in order of index.
 abbrev pub missing_shards : DecoderState → List Shard → List Shard
 missing_shards s message = shards_listed (items_below s.configuration.original_count (missing_of s message))
 
 missing-lists : (s : DecoderState) (message : List Shard) → Lists (missing_of s message) (items_below s.configuration.original_count (missing_of s message))
 missing-lists s message = record { count = s.configuration.original_count; none_past = missing-past s message; in_order = refl }
 
--- they are as many as originals are missing
+-- The missing shards of a message are as many as originals are missing.
 missing-number : (s : DecoderState) (message : List Shard) → length (missing_shards s message) + originals_given s ≡ s.configuration.original_count
 missing-number s message =
     let k = s.configuration.original_count in
     ap (λ (n : ℕ). n + originals_given s) (length-map (items_below k (missing_of s message)) (λ item. item.1) ∙ length-listed k (missing_of s message)) ∙ count-missing s message
 
--- and each has its size
+-- The missing shards of a message have the shard size.
 missing-sized : (s : DecoderState) (message : List Shard) → IsAgreeing s message → All (λ x. length x ≡ s.configuration.shard_bytes) (missing_shards s message)
 unfolding missing_of
 missing-sized s message agrees =
@@ -193,14 +193,14 @@ missing-sized s message agrees =
         ap length (sym (ap (λ o. unwrap_or o x) found)) ∙ (agrees.shards.each i [] (omega (arith, inside, agrees.shards.length_is))).length_is
     by_test i x (inr past) b found = absurd (let found = rw (le-ltb i s.configuration.original_count past) at found in let no : ⊥ = cc in no)
 
--- The strips below a byte are restored: their pieces are consistent, and in each room stand the first bytes of the shard of each message that agrees with what is given.
+-- The strips below a byte are restored: their pieces are consistent, and each room holds the first bytes of the missing shard of each message that agrees.
 pub record IsRestoredBelow (s : DecoderState) (grows : Bool) (bound : ℕ) (rooms : List Shard) : Type 0 where
   pub consistent : AreConsistentBelow s.configuration.rate s.configuration.original_count s.configuration.recovery_count s.configuration.shard_bytes s.originals s.recovery bound
   pub number : length rooms + originals_given s ≡ s.configuration.original_count
   pub fit : All (λ room. length room ≡ room_length grows bound s.configuration.shard_bytes) rooms
   pub held : (message : List Shard) → IsAgreeing s message → (i : ℕ) → i < length rooms → take bound (get_or rooms i []) ≡ take bound (get_or (missing_shards s message) i [])
 
--- the first bytes and a piece after them, once both are joined
+-- Joining a piece to the first bytes of a shard gives more first bytes.
 take-joined : (start : ℕ) (old piece rest : Shard) → start ≤ length old
     → take (start + length piece) (take start old ++ (piece ++ rest)) ≡ take start old ++ piece
 take-joined start old piece rest inside =
@@ -209,7 +209,7 @@ take-joined start old piece rest inside =
     ∙ take-append-add (take start old) (piece ++ rest) (length piece)
     ∙ ap (λ (l : Shard). take start old ++ l) (take-append_seam piece rest)
 
--- at first no strip is
+-- Before the first strip, the rooms satisfy `IsRestoredBelow` for zero bytes.
 pub restored-none : (s : DecoderState) (grows : Bool) (rooms : List Shard) → length rooms + originals_given s ≡ s.configuration.original_count
     → All (λ room. length room ≡ room_length grows 0 s.configuration.shard_bytes) rooms → IsRestoredBelow s grows 0 rooms
 restored-none s grows rooms number fit =
@@ -222,13 +222,13 @@ restored-none s grows rooms number fit =
 
 module _ (s : DecoderState) (grows : Bool) (start end : ℕ) (out : Shards) (items : Items) (strip : IsStrip start end s.configuration.shard_bytes)
     (restored : Restored (state_of_pieces start end s) out) (listing : Lists out items) where
-  -- what is listed are the missing pieces
+  -- The listed items are the missing pieces.
   items-are : shards_listed items ≡ missing_shards (state_of_pieces start end s) restored.message
   items-are =
       ap shards_listed (lists-same (missing_of (state_of_pieces start end s) restored.message) items _
       (subst (λ (g : Shards). Lists g items) (fun_ext restored.missing) listing) (missing-lists (state_of_pieces start end s) restored.message))
 
-  -- as many as originals are missing
+  -- The listed items are as many as originals are missing.
   pub pieces-number : length items + originals_given s ≡ s.configuration.original_count
   pieces-number =
       ap₂ (λ (a b : ℕ). a + b) (sym (length-map items (λ item. item.1)) ∙ ap length items-are) (sym (count-pieces start end s.configuration.original_count s.originals))
@@ -239,7 +239,7 @@ module _ (s : DecoderState) (grows : Bool) (start end : ℕ) (out : Shards) (ite
       subst (λ (l : List Shard). All (λ x. length x ≡ end - start) l) (sym items-are)
       (missing-sized (state_of_pieces start end s) restored.message restored.agrees)
 
-  -- they are the pieces of the missing shards of each message that agrees
+  -- The listed items are the pieces of the missing shards of each message that agrees.
   items-cut : (message : List Shard) → IsAgreeing s message → shards_listed items ≡ pieces start end (missing_shards s message)
   items-cut message agrees =
       let k = s.configuration.original_count in
@@ -249,7 +249,7 @@ module _ (s : DecoderState) (grows : Bool) (start end : ℕ) (out : Shards) (ite
       ∙ ap (λ (g : Shards). shards_listed (items_below k g)) (sym (fun_ext restored.missing) ∙ same)
       ∙ listed-changed (λ x. between start end x) k 0 (missing_of s message)
 
-  -- so once they are put, one strip more is restored
+  -- After the listed items are put into the rooms, one more strip is restored.
   pub restored-further : (old new : List Shard) → ArePut start end (shards_listed items) old new → IsRestoredBelow s grows start old → IsRestoredBelow s grows end new
   restored-further old new put before =
       let c = s.configuration in
@@ -287,7 +287,7 @@ module _ (s : DecoderState) (grows : Bool) (start end : ℕ) (out : Shards) (ite
             ∙ ap (λ (n : ℕ). take n (get_or (missing_shards s message) i [])) (let e : start + (end - start) ≡ end = omega (arith, strip.order) in e);
       }
 
--- once all strips are restored, rooms hold the restored originals
+-- After all strips are restored, the rooms hold the restored originals.
 pub restored-all : (s : DecoderState) (grows : Bool) (rooms : List Shard)
     → supports s.configuration.rate s.configuration.original_count s.configuration.recovery_count ≡ true
     → s.configuration.shard_bytes % 2 ≡ 0 → AreWithin s.configuration.original_count s.configuration.shard_bytes s.originals
@@ -325,11 +325,11 @@ module _ (s : DecoderState) (rooms : List Shard) (holds : HoldRestored s rooms) 
       ∙ ap shards_listed (lists-same (missing_of s holds.restored.message) holds.items (items_below s.configuration.original_count (missing_of s holds.restored.message))
       (subst (λ (g : Shards). Lists g holds.items) (fun_ext holds.restored.missing) holds.listed) (missing-lists s holds.restored.message))
 
-  -- rooms that hold the restored originals are as many as originals are missing
+  -- Rooms that hold the restored originals are as many as originals are missing.
   pub held-number : length rooms + originals_given s ≡ s.configuration.original_count
   held-number = ap (λ (l : List Shard). length l + originals_given s) held-are ∙ missing-number s holds.restored.message
 
-  -- and each of their size
+  -- Rooms that hold the restored originals have the shard size.
   pub held-sized : All (λ x. length x ≡ s.configuration.shard_bytes) rooms
   held-sized =
       subst (λ (l : List Shard). All (λ x. length x ≡ s.configuration.shard_bytes) l) (sym held-are)

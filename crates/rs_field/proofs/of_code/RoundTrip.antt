@@ -1,4 +1,4 @@
--- From shards of a message that are left, a decoder restores the lost originals as they were.
+-- A decoder that receives enough shards of a message restores the lost originals as they were.
 use Rattle.std.proofs.Common.{rules, ◌≡◌, ◌≤◌, List, length, arith}
 use Rattle.std.specs.Prelude.{Result, Ok}
 use Rattle.rs_field.specs.declared.code.error.Error.{Error}
@@ -11,7 +11,7 @@ use Rattle.rs_field.specs.code.Decoder.{DecoderState, IsAgreeing, DecodeAnswers}
 use Rattle.rs_field.specs.code.RoundTrip.{BringsBack}
 use Rattle.std.proofs.lemmas.Grind.{common_steps}
 
--- what a decoder returns if some message agrees with its shards
+-- If some message agrees with the shards of a decoder, the decoder returns the missing shards of this message.
 pub brings_back : (s : DecoderState) (message : List Shard) (result : Result Shards Error) → IsAgreeing s message → DecodeAnswers s result → BringsBack s message result
 brings_back s message result agrees answers = grind (arith, common_steps)
 
@@ -20,7 +20,7 @@ pub restores_lost : (s : DecoderState) (message recovery : List Shard) (result :
     → AreAmong s.originals message → AreAmong s.recovery recovery → DecodeAnswers s result → BringsBack s message result
 restores_lost s message recovery result are coded own among answers = search (rules, brings_back)
 
--- what an encoder answered is the recovery shards of what it was given, and that was all
+-- If an encoder returns recovery shards, it had all originals, and these are their recovery shards.
 pub answered : (s : EncoderState) (recovery : List Shard) → EncodeAnswers s (Ok recovery) → (s.configuration.original_count ≤ length s.given) × AreRecovery s.configuration s.given recovery
 answered s recovery h = grind (arith, common_steps)
 

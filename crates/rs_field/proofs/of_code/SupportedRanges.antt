@@ -8,16 +8,16 @@ use Rattle.rs_field.proofs.of_code.NextPower.{next_power-small, next_power-least
 use Rattle.rs_field.proofs.of_code.SupportedCounts.{default_fits}
 use Rattle.rs_field.proofs.of_words.Halves.{exponent_below}
 
--- a power of two below the field's order is at most half of it
+-- A power of two below 65536 is at most 32768.
 half_most : (n : ℕ) → 2 ^ n < 65536 → (n < 64) × (2 ^ n ≤ 32768)
 half_most n h = let few = exponent_below n 16 h in let most : 2 ^ n ≤ 2 ^ 15 = pow_mono {j = 15} (omega arith) in (omega arith, omega arith)
 
--- positive counts are supported where the smaller power and the larger count are within the field's order
+-- Positive counts are supported if the smaller power and the larger count add up to at most 65536.
 fit : (k r : ℕ) → 0 < k → 0 < r → min (next_power k) (next_power r) + max k r ≤ 65536 → supports default_rate k r ≡ true
 unfolding supports
 fit k r some_k some_r room = grind (arith, common_steps)
 
--- where one count is below a power of two, and the other below what that leaves, they fit
+-- If one count is at most a power of two, and the other at most 65536 minus this power, the counts are supported.
 beside_fit : (n few many : ℕ) → 0 < many → few ≤ 2 ^ n → many + 2 ^ n ≤ 65536 → min (next_power few) (next_power many) + max few many ≤ 65536
 beside_fit n few many some small large = search (rules, half_most, next_power-least, cases_lt)
 
@@ -31,7 +31,7 @@ few_recovery n k r some_k large some_r small =
 pub half_supported : (k r : ℕ) → 0 < k → k ≤ 32768 → 0 < r → r ≤ 32768 → supports default_rate k r ≡ true
 half_supported k r some_k few_k some_r few_r = few_originals 15 k r some_k few_k some_r (omega arith)
 
--- a count is at most its power, and the other at most what that leaves
+-- A count is at most its power, and the other count is at most 65536 minus this power.
 beside : (few many : ℕ) → next_power few + max few many ≤ 65536 → AreBeside few many
 beside few many room =
     let power = next_power-small few (omega arith) in

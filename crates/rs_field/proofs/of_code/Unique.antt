@@ -1,4 +1,4 @@
--- A message has one list of recovery shards at most, and a column one column of them.
+-- A message has at most one list of recovery shards, and a column of a message determines the columns of its recovery shards.
 use Rattle.std.proofs.Common.{◌≡◌, ℕ, ◌+◌, ◌/◌, ◌%◌, ◌^◌, ◌<◌, ◌≤◌, List, length, Bool, true, false, cond, refl, sym, ap, ◌∙◌, subst, arith, inl, inr, pow_mono}
 use Rattle.std.specs.Prelude.{slice_index}
 use Rattle.std.proofs.lemmas.Bool.{cases_lt}
@@ -14,7 +14,7 @@ use Rattle.rs_field.proofs.of_code.Columns.{shards_from_columns}
 use Rattle.rs_field.proofs.of_words.Roots.{words_from}
 use Rattle.rs_field.proofs.of_words.Values.{same_from_values}
 
--- in each placement the known zeros follow the originals, up to the point of the last coefficient
+-- In each placement, the known zeros follow the originals, up to the point of the last coefficient.
 in_line : (low : Bool) (k r i : ℕ) → k ≤ 65536 → i < (cond low (low_placement k) (high_placement k r)).degree_bound
     → ((cond low (low_placement k) (high_placement k r)).zeros_from ≡ (cond low (low_placement k) (high_placement k r)).originals_from + k)
     × ((cond low (low_placement k) (high_placement k r)).originals_from + i < (cond low (low_placement k) (high_placement k r)).zeros_to)
@@ -26,7 +26,7 @@ in_line true k r i most hi =
     (omega arith, omega arith, omega arith)
 in_line false k r i most hi = (refl, omega arith, omega arith)
 
--- two polynomials that code the same words are one
+-- Two polynomials that code the same words are equal.
 pub codes_unique : (rate : Rate) (k r : ℕ) (words P Q : List ℕ) → k ≤ 65536 → Codes rate k r words P → Codes rate k r words Q → P ≡ Q
 unfolding placement
 codes_unique rate k r words P Q most p q =
@@ -39,19 +39,19 @@ codes_unique rate k r words P Q most p q =
           p.zeros _ (omega (arith, at.0)) at.1 ∙ sym (q.zeros _ (omega (arith, at.0)) at.1)
     ])
 
--- words have one list of recovery words
+-- Words have at most one list of recovery words.
 recovery_words-unique : (rate : Rate) (k r : ℕ) (words a b : List ℕ) → k ≤ 65536 → AreRecoveryWords rate k r words a → AreRecoveryWords rate k r words b
     → (i : ℕ) → i < r → slice_index a i ≡ slice_index b i
 recovery_words-unique rate k r words a b most (p, codes_p, at_p) (o, codes_o, at_o) i below =
     at_p i below ∙ ap (λ (q : List ℕ). value q ((placement rate k r).recovery_from + i)) (codes_unique rate k r words p o most codes_p codes_o) ∙ sym (at_o i below)
 
--- two lists of recovery shards of one message are equal
+-- Two lists of recovery shards of one message are equal.
 pub recovery_unique : (c : Configuration) (message a b : List Shard) → c.original_count ≤ 65536 → c.shard_bytes % 2 ≡ 0 → AreRecovery c message a → AreRecovery c message b → a ≡ b
 recovery_unique c message a b most even ha hb =
     shards_from_columns c.recovery_count c.shard_bytes a b ha.shards hb.shards even
     (λ i j below hj. recovery_words-unique c.rate c.original_count c.recovery_count (columns j message) (columns j a) (columns j b) most (ha.words j hj) (hb.words j hj) i below)
 
--- equal columns have equal columns of recovery shards
+-- Messages with equal columns have recovery shards with equal columns.
 pub columns_unique : (rate : Rate) (k r size other_size j i : ℕ) (one other one_recovery other_recovery : List Shard) → k ≤ 65536 → j < size / 2 → i < other_size / 2
     → AreRecovery (configuration rate k r size) one one_recovery → AreRecovery (configuration rate k r other_size) other other_recovery
     → columns j one ≡ columns i other → columns j one_recovery ≡ columns i other_recovery

@@ -1,4 +1,4 @@
--- The layers of a block of rows, from what butterflies made of the range of its chunks.
+-- The layers of a block of rows, from the effect of butterflies on the range of its chunks.
 use Rattle.std.proofs.Common.{◌≡◌, ℕ, ◌+◌, ◌-◌, ◌*◌, ◌/◌, ◌<◌, ◌≤◌, List, true, false, length, take, drop, get_or, ap, sym, subst, ◌∙◌, arith}
 use Rattle.std.proofs.lemmas.Grind.{common_steps}
 use borrow.Rule.Slice.PartMut.{put_mid}
@@ -15,11 +15,11 @@ use Rattle.rs_field.proofs.of_rows.Layers.{IsBlock}
 use Rattle.rs_field.proofs.of_rows.Parts.{block_halves, block_power, block_quarters, part_of_halved, part_of_more}
 use Rattle.rs_field.proofs.of_rows.RowOffsets.{row_within, rows_end}
 
--- chunk p of the m chunks from a on
+-- Chunk p of the m chunks from a on is chunk a + p of the list.
 of_part : (ch : Chunks) (a m p : ℕ) → p < m → chunk (take m (drop a ch)) p ≡ chunk ch (a + p)
 of_part ch a m p below = grind (arith, common_steps)
 
--- a chunk of a part is a chunk of the list into which the part was written
+-- A chunk of a part is a chunk of the list into which the part was written.
 of_written : (ch part : Chunks) (a m p : ℕ) → a + m ≤ length ch → length part ≡ m → p < m → chunk part p ≡ chunk (put_mid a m ch part) (a + p)
 of_written ch part a m p within long below = grind (arith, common_steps)
 
@@ -27,7 +27,7 @@ module _ (block : Block) (old : ShardsRefMut) (fits : Fits old) (within : block.
   abbrev n : ℕ
   n = old.shard_len_64
 
-  -- the block's chunks
+  -- The chunks of the block.
   abbrev m : ℕ
   m = (block.pos + block.size) * n - block.pos * n
 
@@ -44,7 +44,7 @@ module _ (block : Block) (old : ShardsRefMut) (fits : Fits old) (within : block.
   block_long = grind (arith, common_steps, whole, end)
 
   module _ (new : ShardsRefMut) (part : Chunks) (len : new.shard_len_64 ≡ n) (written : new.chunks.now ≡ put_mid (block.pos * n) m old.chunks.now part) (long : length part ≡ block.size * n) where
-    -- chunk p of them is chunk k of row r
+    -- Chunk p of the block is chunk k of row r.
     old_cell : (p k r : ℕ) → p < block.size * n → block.pos * n + p ≡ r * n + k → chunk given p ≡ cell old k r
     unfolding cell
     old_cell p k r below is = of_part old.chunks.now (block.pos * n) m p (omega (arith, whole, below)) ∙ ap (λ i. chunk old.chunks.now i) is
@@ -57,7 +57,7 @@ module _ (block : Block) (old : ShardsRefMut) (fits : Fits old) (within : block.
         ∙ ap (λ l. chunk new.chunks.now (r * l + k)) (sym len)
 
     module _ (large : 1 < block.size) (direction : Direction) (skew : List ℕ) (table : IsSkew skew) (k s : ℕ) (hk : k < n) (hs : s < 32) where
-      -- the rows of a block among those of the tables
+      -- The rows of a block are among those of the tables.
       in_table : IsBlock skew block.size block.skew_delta
       in_table = record {
         table = table;

@@ -1,4 +1,4 @@
--- The derivative step by halves: of the polynomial with given coefficients in the subspace basis, for one symbol of the rows.
+-- The derivative step by halves, for one symbol of the rows. The polynomial has its coefficients in the subspace basis.
 use Rattle.std.proofs.Common.{rules, ◌≡◌, ℕ, suc, ◌+◌, ◌*◌, ◌/◌, ◌^◌, ◌<◌, ◌≤◌, List, [], ◌∷◌, length, bit_xor, refl, sym, ap, ap₂, ◌∙◌, subst, arith, add_assoc, zero-add, pow-suc, pow_mono}
 use Rattle.std.specs.Int.Bits.{xor_comm, xor_zero_r}
 use Rattle.rs_field.specs.words.Field.{product}
@@ -21,14 +21,14 @@ use Rattle.rs_field.proofs.of_words.Halves.{half_power, few_halves, subspace_lt}
 use Rattle.rs_field.proofs.of_words.RingSolver.{plus, v, times as both, by_algebra}
 use Rattle.rs_field.proofs.of_rows.Recursion.{word_same}
 
--- there is one such polynomial
+-- There is only one polynomial with given coefficients in the subspace basis.
 one_polynomial : (n : ℕ) (f : ℕ → ℕ) (p q : List ℕ) → n ≤ 65536 → length p ≡ n → length q ≡ n → WordsOneByOne p → WordsOneByOne q
     → IsInBasis n f p → ((x : ℕ) → value q x ≡ forward n 0 f x) → p ≡ q
 one_polynomial n f p q hn size_p size_q words_p words_q at_p at_q =
     same_from_values n p q size_p size_q words_p words_q (λ i. i) (λ i hi. omega arith) (λ i j hi hj e. e)
     (λ i hi. sym (at_p i (omega arith)) ∙ sym (at_q i))
 
--- s is the subspace polynomial, l and h the halves, dl and dh their derivatives
+-- Here s is the value of the subspace polynomial, l and h are the values of the halves, and dl and dh those of their derivatives.
 rule : (s l dl h dh : ℕ) → s < 2 ^ 16 → l < 2 ^ 16 → dl < 2 ^ 16 → h < 2 ^ 16 → dh < 2 ^ 16
     → bit_xor (bit_xor (bit_xor l dl) h) (product (bit_xor h dh) s) ≡ bit_xor (bit_xor l (product h s)) (bit_xor (bit_xor (product s dh) h) dl)
 rule s l dl h dh hs hl hdl hh hdh =
@@ -37,7 +37,7 @@ rule s l dl h dh hs hl hdl hh hdh =
     (plus (plus (v 1) (both (v 3) (v 0))) (plus (plus (both (v 0) (v 4)) (v 3)) (v 2)))
     (hs, (hl, (hdl, (hh, (hdh, tt))))) refl
 
--- a polynomial for the first half of a sum of 2 ^ (e + 1) terms, and one for its second half, joined
+-- The polynomial of a sum of 2 ^ (e + 1) terms, joined from the polynomials of its two halves.
 joined : ℕ → List ℕ → List ℕ → List ℕ
 joined e low high = add (times (points 0 (2 ^ e)) high) low
 
@@ -68,7 +68,7 @@ unfolding joined
 derivative-joined e p q he words_q x hx =
     derivative_add (times (points 0 (2 ^ e)) q) p x ∙ ap (λ k. bit_xor k (derivative_value p x)) (derivative-subspace e q he words_q x hx)
 
--- the rows of both halves, after the step of each, with the second half's old rows added to the first half
+-- The rows of both halves after the step of each half, with the old rows of the second half added to the first half.
 pub derivative_halves : (e : ℕ) (f a b g : ℕ → ℕ) → e < 16
     → IsDerivativeAdded (2 ^ e) f a → IsDerivativeAdded (2 ^ e) (λ q. f (2 ^ e + q)) b
     → ((q : ℕ) → q < 2 ^ e → g q ≡ bit_xor (a q) (f (2 ^ e + q)))
@@ -109,7 +109,7 @@ derivative_halves e f a b g he of_low of_high first second p size words at x hx 
         (subspace_lt e (0 + x)) (value_lt l x words_l) (derivative_lt l x words_l) (value_lt h x words_h) (derivative_lt h x words_h)
         ∙ ap (λ k. bit_xor (bit_xor (value l x) (product (value h x) (subspace e (0 + x)))) (bit_xor (bit_xor (product (subspace e k) (derivative_value h x)) (value h x)) (derivative_value l x))) (zero-add x)
 
--- one word is a constant, and its derivative is zero
+-- A polynomial with one coefficient is a constant, and its derivative is zero.
 pub derivative_one : (size : ℕ) (f : ℕ → ℕ) → size ≤ 1 → (d : ℕ) × (size ≡ 2 ^ d) → IsDerivativeAdded size f f
 derivative_one size f small power p len words at x hx =
     at x hx ∙ sym (ap (bit_xor (value p x)) (constant p (omega arith)) ∙ xor_zero_r (value p x))
@@ -119,12 +119,12 @@ derivative_one size f small power p len words at x hx =
     constant (c ∷ []) h = derivative-cons c [] x ∙ ap₂ bit_xor (value-nil x) (ap (product x) (derivative-nil x) ∙ product_zero x)
     constant (c ∷ d ∷ cs) h = absurd (let no : ⊥ = omega arith in no)
 
--- only the n words count
+-- The derivative step depends only on the first n words.
 derivative_same : (n : ℕ) (f f' g g' : ℕ → ℕ) → ((q : ℕ) → q < n → f' q ≡ f q) → ((q : ℕ) → q < n → g q ≡ g' q) → IsDerivativeAdded n f' g' → IsDerivativeAdded n f g
 derivative_same n f f' g g' same_f same_g h p size words at x hx =
     forward-same n 0 g g' x same_g ∙ h p size words (λ y hy. forward-same n 0 f' f y same_f ∙ at y hy) x hx
 
--- what the calls of the step made of the rows
+-- The effect of the calls of the derivative step on the rows.
 pub derivative_rows : (old low mid new : ShardsRefMut) (k s pos size : ℕ) → 1 < size → (d : ℕ) × (size ≡ 2 ^ d) → size ≤ 65536
     → IsDerivativeAdded (size / 2) (λ q. word old k s (pos + q)) (λ q. word low k s (pos + q))
     → ((q : ℕ) → q < size / 2 → cell low k (pos + size / 2 + q) ≡ cell old k (pos + size / 2 + q))
@@ -155,7 +155,7 @@ derivative_rows old low mid new k s pos size large power few of_low low_kept sum
     ∙ ap (λ n. bit_xor (word low k s (pos + q)) (word old k s (pos + (n + q)))) h)
     (λ q hq. ap (λ n. word new k s (pos + (n + q))) (sym h) ∙ ap (word new k s) (sym (there q))))
 
--- the rows from row 0 on
+-- The derivative step on the rows from row 0 on is the step on all rows.
 pub derivative_all : (old new : ShardsRefMut) (k s n size : ℕ) → size ≡ n
     → IsDerivativeAdded size (λ q. word old k s (0 + q)) (λ q. word new k s (0 + q)) → IsDerivativeAdded n (word old k s) (word new k s)
 derivative_all old new k s n size e h =

@@ -1,4 +1,4 @@
--- Four runs of a slice's elements are lent: two runs of each of two.
+-- Four runs of a slice's elements are lent: two runs from each of two runs.
 use Rattle.rs_field.proofs.Walking.{◌≡◌, refl, sym, ap, ◌∙◌, ℕ, List, [], ◌∷◌, ◌++◌, length, Val, Lft, flft, ‵, ◌⊛◌, ◌$◌, ◌∵◌, !, qed, move, keep}
 use Rattle.rs_field.proofs.Walking.{await, later, some, raw, use1, use2, pick, done, split, split3, rewrite, join, MutBor, RattleType, Array}
 use Rattle.rs_field.proofs.Walking.{MutSlice, Room, slice_val, at}
@@ -46,7 +46,7 @@ module _ {M : Type 1} {𝓤 : Ura M} (𝓛 : Logic 𝓤) (R : RattleType) (γ₁
   abbrev Last : Four R → SProp 𝓤
   Last v = sep 𝓤 (sep 𝓤 (A.res γ₁ (code₀ R v.0)) (A.res γ₂ (code₀ R v.1))) (sep 𝓤 (A.res γ₃ (code₀ R v.2)) (A.res γ₄ (code₀ R v.3)))
 
--- a value ends as F of what four lists end as
+-- The last value is F of the last values of four lists.
 module _ (D : Type 0) (code : D → Gv) (R : RattleType) (γ γ₁ γ₂ γ₃ γ₄ : GName) (F : List R.Denot → List R.Denot → List R.Denot → List R.Denot → D) where
   abbrev ends : GName → List R.Denot → Fml
   ends δ last = fres δ (code₀ R last)
@@ -64,7 +64,7 @@ module _ {M : Type 1} {𝓤 : Ura M} (𝓛 : Logic 𝓤) (D : Type 0) (code : D 
   followed₄ = qed 𝓛 (raw (Last 𝓛 R γ₁ γ₂ γ₃ γ₄ v) ∷ ‵ (after₄ D code R γ γ₁ γ₂ γ₃ γ₄ F) ∷ []) ∵ move ! (1 ∷ []) $
       use1 𝓛 (raw (Comes v)) (all_e 𝓤 Comes v) $ move ! (1 ∷ 0 ∷ []) $ by ! (apply∗ 𝓤 (Last 𝓛 R γ₁ γ₂ γ₃ γ₄ v) (A.res γ (code (F v.0 v.1 v.2 v.3))))
 
--- two parts of each of two parts of a part
+-- Two parts of each of two parts of a part.
 module _ {M : Type 1} {𝓤 : Ura M} (𝓛 : Logic 𝓤) (R : RattleType) (front g₁ g₂ g₃ back : List R.Denot) (γ δ₁ δ₂ γ₁ γ₂ γ₃ γ₄ : GName) where
   open 𝓛 use {A}
 
@@ -97,7 +97,7 @@ module _ {M : Type 1} {𝓤 : Ura M} (𝓛 : Logic 𝓤) (S R : RattleType) (F :
   abbrev FG : List R.Denot → List R.Denot → List R.Denot → List R.Denot → S.Denot
   FG u v w x = F (G u v w x)
 
-  -- four parts of a part
+  -- Four parts of a part.
   pub four_of : ent 𝓤 (sep 𝓤 (sem 𝓛 (follows S (Array R 0) γ γ' F)) (sem 𝓛 (after₄ (List R.Denot) (code₀ R) R γ' γ₁ γ₂ γ₃ γ₄ G))) (sem 𝓛 (after₄ S.Denot S.coded.code R γ γ₁ γ₂ γ₃ γ₄ FG))
   four_of = qed 𝓛 (‵ (follows S (Array R 0) γ γ' F) ∷ ‵ (after₄ (List R.Denot) (code₀ R) R γ' γ₁ γ₂ γ₃ γ₄ G) ∷ []) ∵
       each ! (λ (v : Four R). wand 𝓤 (Last 𝓛 R γ₁ γ₂ γ₃ γ₄ v) (A.res γ (S.coded.code (FG v.0 v.1 v.2 v.3)))) (λ v.

@@ -12,7 +12,7 @@ use Rattle.rs_field.specs.rows.Layers.{ArePartsOf}
 use Rattle.rs_field.proofs.of_words.Combination.{forward-same, lower_half, upper_half}
 use Rattle.rs_field.proofs.of_words.Halves.{half_power, few_halves, shift_half, table_factor, xor_undo}
 
--- what a block's size, its place among the points and the table of factors are
+-- The size of a block, its position among the points, and its table of factors.
 pub record IsBlock (skew : List ℕ) (size shift : ℕ) : Type 0 where
   pub table : IsSkew skew
   pub large : 1 < size
@@ -20,7 +20,7 @@ pub record IsBlock (skew : List ℕ) (size shift : ℕ) : Type 0 where
   pub aligned : shift % size ≡ 0
   pub points : shift + size ≤ 65536
 
--- both halves of a block of more than two rows
+-- Both halves of a block of more than two rows are blocks.
 block_halves : (skew : List ℕ) (n shift : ℕ) → IsBlock skew (n + n) shift → 1 < n → IsBlock skew n shift × IsBlock skew n (shift + n)
 block_halves skew n shift b large =
     let p = half_power (n + n) b.large b.power in
@@ -36,11 +36,11 @@ block_halves skew n shift b large =
       },
     )
 
--- the factor of the butterflies between the halves, by its logarithm
+-- The factor of the butterflies between the halves, as a logarithm.
 abbrev pub factor : List ℕ → ℕ → ℕ → ℕ
 factor skew half shift = get_or skew (shift + half - 1) 0
 
--- the words g come of the words f by one layer of butterflies between the halves
+-- The words g are the result of one layer of butterflies between the halves of the words f.
 pub record IsLayer (skew : List ℕ) (half shift : ℕ) (f g : ℕ → ℕ) : Type 0 where
   pub first : (q : ℕ) → q < half → g q ≡ bit_xor (f q) (times_factor (factor skew half shift) (f (half + q)))
   pub second : (q : ℕ) → q < half → g (half + q) ≡ bit_xor (f (half + q)) (g q)
@@ -49,7 +49,7 @@ made : (skew : List ℕ) (n e shift : ℕ) (f g : ℕ → ℕ) → IsBlock skew 
     → (q : ℕ) → q < 2 ^ e → g q ≡ bit_xor (f q) (product (f (2 ^ e + q)) (subspace e shift))
 made skew n e shift f g b is half l q hq = grind (arith, common_steps, table_factor)
 
--- the transform of the first half
+-- Transforming the first half of the words after one layer gives the first half of the transform of the whole.
 layer_low : (skew : List ℕ) (n shift i : ℕ) (f g : ℕ → ℕ) → IsBlock skew (n + n) shift → i < n → IsLayer skew n shift f g
     → forward n shift g i ≡ forward (n + n) shift f i
 layer_low skew n shift i f g b hi l =
@@ -60,7 +60,7 @@ layer_low skew n shift i f g b hi l =
     (subst (λ (m : ℕ). shift + m ≤ 65536) is b.points) (subst (λ (m : ℕ). i < m) half hi) (made skew n e shift f g b is half l)
     ∙ ap (λ m. forward m shift f i) (sym is)
 
--- and of the second
+-- Transforming the second half of the words after one layer gives the second half of the transform of the whole.
 layer_high : (skew : List ℕ) (n shift i : ℕ) (f g : ℕ → ℕ) → IsBlock skew (n + n) shift → i < n → IsLayer skew n shift f g
     → forward n (shift + n) (λ q. g (n + q)) i ≡ forward (n + n) shift f (n + i)
 layer_high skew n shift i f g b hi l =
@@ -72,12 +72,12 @@ layer_high skew n shift i f g b hi l =
     (λ q hq. l.second q (subst (λ (m : ℕ). q < m) (sym half) hq) ∙ ap (λ m. bit_xor (f (m + q)) (g q)) half)
     ∙ ap₂ (λ m o. forward m shift f (o + i)) (sym is) (sym half)
 
--- part j by another name of the place where it begins
+-- The transform of part j, with another name for the place where the part begins.
 as_part : (size n shift j i to at : ℕ) (f g : ℕ → ℕ) (place : ℕ → ℕ) → shift + j * n ≡ to → j * n + i ≡ at → ((q : ℕ) → j * n + q ≡ place q)
     → forward n to (λ q. g (place q)) i ≡ forward size shift f at → forward n (shift + j * n) (λ q. g (j * n + q)) i ≡ forward size shift f (j * n + i)
 as_part size n shift j i to at f g place e is same r = search (rules, forward-same)
 
--- one layer leaves two parts
+-- One layer leaves two parts of the transform.
 pub one_layer : (skew : List ℕ) (n shift : ℕ) (f g : ℕ → ℕ) → IsBlock skew (n + n) shift → IsLayer skew n shift f g → ArePartsOf (n + n) n shift f g
 one_layer skew n shift f g b l zero i hj hi =
     as_part (n + n) n shift 0 i shift i f g (λ q. q) (omega arith) (omega arith) (λ q. omega arith) (layer_low skew n shift i f g b hi l)
@@ -85,7 +85,7 @@ one_layer skew n shift f g b l (suc zero) i hj hi =
     as_part (n + n) n shift 1 i (shift + n) (n + i) f g (λ q. n + q) (omega arith) (omega arith) (λ q. omega arith) (layer_high skew n shift i f g b hi l)
 one_layer skew n shift f g b l (suc (suc j)) i hj hi = let le : 2 * n ≤ suc (suc j) * n = mul-le-mul_right n (omega arith) in absurd (omega arith)
 
--- two layers leave four
+-- Two layers leave four parts of the transform.
 pub two_layers : (skew : List ℕ) (n shift : ℕ) (f g h : ℕ → ℕ) → IsBlock skew (n + n + (n + n)) shift → IsLayer skew (n + n) shift f g
     → IsLayer skew n shift g h → IsLayer skew n (shift + (n + n)) (λ q. g (n + n + q)) (λ q. h (n + n + q)) → ArePartsOf (n + n + (n + n)) n shift f h
 two_layers skew n shift f g h b l low high = parts (block_halves skew (n + n) shift b (omega (arith, b.large)))
@@ -107,7 +107,7 @@ two_layers skew n shift f g h b l low high = parts (block_halves skew (n + n) sh
 
 -- ---- butterflies of four words
 
--- the words between the two layers
+-- The words between the two layers of butterflies.
 between : (log_m half : ℕ) (f : ℕ → ℕ) → ℕ → ℕ
 between log_m half f q = cond (nat_lt q half) (forward_first log_m (f q) (f (half + q))) (forward_second log_m (f (q - half)) (f q))
 
@@ -119,12 +119,12 @@ between_second : (log_m half : ℕ) (f : ℕ → ℕ) (q : ℕ) → between log_
 unfolding between
 between_second log_m half f q = grind (arith, common_steps)
 
--- a relation of four old words and four new ones in ranges of n, one after the other
+-- A relation of four old words and four new words holds at each offset in the four quarters of n words.
 abbrev pub at_quarters : (ℕ → ℕ → ℕ → ℕ → ℕ → ℕ → ℕ → ℕ → Type 0) → ℕ → (ℕ → ℕ) → (ℕ → ℕ) → Type 0
 at_quarters related n f h =
     (q : ℕ) → q < n → related (f q) (f (n + q)) (f (n + n + q)) (f (n + n + (n + q))) (h q) (h (n + q)) (h (n + n + q)) (h (n + n + (n + q)))
 
--- forward butterflies of four leave the parts of a block
+-- Forward butterflies of four words leave the four parts of the transform of a block.
 pub forward_parts : (skew : List ℕ) (n shift : ℕ) (f h : ℕ → ℕ) → IsBlock skew (n + n + (n + n)) shift
     → at_quarters (IsForwardFour (factor skew (n + n) shift) (factor skew n shift) (factor skew n (shift + (n + n)))) n f h
     → ArePartsOf (n + n + (n + n)) n shift f h
@@ -161,35 +161,35 @@ forward_parts skew n shift f h b four =
     g3 : (q : ℕ) → g (n + n + (n + q)) ≡ forward_second m (f (n + q)) (f (n + n + (n + q)))
     g3 q = between_second m (n + n) f (n + q)
 
--- a forward butterfly undoes the backward one
+-- A forward butterfly undoes a backward butterfly: the first and the second word are the original ones.
 undo_first : (log_m x y : ℕ) → forward_first log_m (backward_first log_m x y) (backward_second x y) ≡ x
 undo_first log_m x y = grind (arith, common_steps)
 
 undo_second : (log_m x y : ℕ) → forward_second log_m (backward_first log_m x y) (backward_second x y) ≡ y
 undo_second log_m x y = grind (arith, common_steps, undo_first, xor_undo)
 
--- and so do two layers
+-- Two forward layers undo two backward layers.
 pub backward_undone : (m02 m01 m23 x0 x1 x2 x3 y0 y1 y2 y3 : ℕ) → IsBackwardFour m02 m01 m23 x0 x1 x2 x3 y0 y1 y2 y3
     → IsForwardFour m02 m01 m23 y0 y1 y2 y3 x0 x1 x2 x3
 backward_undone m02 m01 m23 x0 x1 x2 x3 y0 y1 y2 y3 (e0, e1, e2, e3) = grind (arith, common_steps, undo_first, undo_second)
 
 -- ---- rows
 
--- a forward butterfly undoes a backward one
+-- A forward butterfly of two rows undoes a backward butterfly.
 pub pair_undone : (log_m x y x' y' : ℕ) → IsBackwardTwo log_m x y x' y' → IsForwardTwo log_m x' y' x y
 pair_undone log_m x y x' y' (first, second) = search (rules, xor_undo)
 
--- the one layer of rows by halves
+-- Butterflies between the halves of a block of rows are one layer.
 pub half_rows : (skew : List ℕ) (n shift pos : ℕ) (f g : ℕ → ℕ) → IsBlock skew (n + n) shift
     → ((q : ℕ) → q < n → IsForwardTwo (factor skew n shift) (f (pos + q)) (f (pos + n + q)) (g (pos + q)) (g (pos + n + q)))
     → ArePartsOf (n + n) n shift (λ q. f (pos + q)) (λ q. g (pos + q))
 half_rows skew n shift pos f g b pair = search (rules, one_layer)
 
--- forward butterflies of four words in four rows
+-- Forward butterflies of four words in four rows.
 abbrev pub FourRows : ℕ → ℕ → ℕ → (ℕ → ℕ) → (ℕ → ℕ) → ℕ → ℕ → ℕ → ℕ → Type 0
 FourRows m02 m01 m23 f g a b c d = IsForwardFour m02 m01 m23 (f a) (f b) (f c) (f d) (g a) (g b) (g c) (g d)
 
--- two layers of more rows
+-- Butterflies between the quarters of a block of rows are two layers.
 pub four_rows : (skew : List ℕ) (n shift pos : ℕ) (f g : ℕ → ℕ) → IsBlock skew (4 * n) shift
     → ((q : ℕ) → q < n → FourRows (get_or skew (shift + 2 * n - 1) 0) (get_or skew (shift + n - 1) 0) (get_or skew (shift + 2 * n + n - 1) 0) f g
     (pos + q) (pos + n + q) (pos + 2 * n + q) (pos + 3 * n + q))

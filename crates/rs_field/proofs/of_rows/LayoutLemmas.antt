@@ -1,4 +1,4 @@
--- Where the bytes of a shard lie in a row, and that its columns are the symbols of the row's chunks.
+-- The places of the bytes of a shard in a row, and the proof that the columns of the shard are the symbols of the row's chunks.
 use Rattle.std.proofs.Common.{rules, ◌≡◌, ℕ, suc, ◌+◌, ◌-◌, ◌*◌, ◌/◌, ◌%◌, ◌<◌, ◌≤◌, List, [], ◌∷◌, length, get_or, min, take, drop, All, sym, ap, ap₂, ◌∙◌, refl, subst, arith, inl, inr, length-append}
 use Rattle.std.specs.Prelude.{slice_index}
 use Rattle.std.proofs.Math.Nat.{min-eq_left, min-eq_right}
@@ -19,12 +19,12 @@ pub length-in_order : (size : ℕ) (chunks : ℕ → List ℕ) → length (in_or
 unfolding in_order
 length-in_order size chunks = length-up_to size (λ b. slice_index (chunks (b / 64)) (b % 64))
 
--- byte b of the shard
+-- Byte b of the shard in a row is a byte of chunk b / 64.
 pub get-laid_out : (size b : ℕ) (chunks : ℕ → List ℕ) → b < size → slice_index (laid_out size chunks) b ≡ slice_index (chunks (b / 64)) (byte_offset size b)
 unfolding laid_out
 get-laid_out size b chunks h = get-up_to size (λ b. slice_index (chunks (b / 64)) (byte_offset size b)) b 0 h
 
--- a byte of the shard lies in a chunk of the row
+-- Each byte of the shard is in a chunk of the row.
 chunk_of : (size b : ℕ) → b < size → b / 64 < row_len size
 chunk_of size b h = omega arith
 
@@ -38,12 +38,12 @@ unfolding in_order
 in_order-same size f g same =
     up_to-same size _ _ (λ b h. ap (λ c. slice_index c (b % 64)) (same (b / 64) (chunk_of size b h)))
 
--- where half the bytes of a chunk or of the tail are `half`, its first half stays where it is
+-- If half the bytes of a chunk or of the tail are `half` bytes, the first half is at the beginning of the chunk.
 pub byte_offset-low : (size b half : ℕ) → min 64 (size - b / 64 * 64) / 2 ≡ half → b % 64 < half → byte_offset size b ≡ b % 64
 unfolding byte_offset
 byte_offset-low size b half e h = grind (arith, common_steps)
 
--- and its second half begins at byte 32
+-- If half the bytes of a chunk or of the tail are `half` bytes, the second half begins at byte 32 of the chunk.
 pub byte_offset-high : (size b half : ℕ) → min 64 (size - b / 64 * 64) / 2 ≡ half → half ≤ b % 64 → byte_offset size b ≡ b % 64 - half + 32
 unfolding byte_offset
 byte_offset-high size b half e h = grind (arith, common_steps)
@@ -54,7 +54,7 @@ half-whole size b h = ap (λ n. n / 2) (min-eq_left (let r : 64 ≤ size - b / 6
 half-tail : (size b : ℕ) → b / 64 ≡ size / 64 → min 64 (size - b / 64 * 64) / 2 ≡ size % 64 / 2
 half-tail size b h = grind (arith, common_steps)
 
--- a whole chunk lies as it is
+-- The bytes of a whole chunk have the same places in the shard and in the row.
 pub byte_offset-whole : (size b : ℕ) → b / 64 < size / 64 → byte_offset size b ≡ b % 64
 byte_offset-whole size b h = grind (arith, common_steps, cases_lt, byte_offset-low, half-whole, byte_offset-high)
 
@@ -76,24 +76,24 @@ pub shard-laid_out : (size : ℕ) (chunks : ℕ → List ℕ) → ((k b : ℕ) �
     → IsShard size (laid_out size chunks)
 shard-laid_out size chunks small = record { length_is = length-laid_out size chunks; bytes = bytes-laid_out size chunks small }
 
--- a shard whose tail was moved is a shard of the size
+-- A shard whose tail was moved is a shard of the size.
 pub shard-in_order : (size : ℕ) (chunks : ℕ → List ℕ) → ((k b : ℕ) → k < row_len size → b < 64 → slice_index (chunks k) b < 256)
     → IsShard size (in_order size chunks)
 unfolding in_order
 shard-in_order size chunks small = grind (arith, common_steps, length-in_order, get-up_to, chunk_of)
 
--- word i of chunk q: its low byte and its high byte
+-- Word i of chunk q has its low byte in the first half and its high byte in the second half.
 word-laid_out : (size q i half : ℕ) (chunks : ℕ → List ℕ) → min 64 (size - q * 64) / 2 ≡ half → i < half → half ≤ 32 → q * 64 + 2 * half ≤ size
     → slice_index (laid_out size chunks) (q * 64 + i) + 256 * slice_index (laid_out size chunks) (q * 64 + i + half) ≡ symbol (chunks q) i
 word-laid_out size q i half chunks e low most fits = search (rules, byte_offset-low, byte_offset-high, get-laid_out)
 
--- a column of the shard is the symbol of a chunk
+-- Column j of the shard is a symbol of a chunk of the row.
 pub column-laid_out : (size j : ℕ) (chunks : ℕ → List ℕ) → size % 2 ≡ 0 → j < size / 2
     → column j (laid_out size chunks) ≡ symbol (chunks (j / 32)) (j % 32)
 unfolding column
 column-laid_out size j chunks even h = grind (arith, common_steps, length-laid_out, word-laid_out, cases_lt, min-eq_right, min-eq_left)
 
--- a row whose whole chunks are those of the shard, and whose last chunk holds the halves of its tail
+-- If the whole chunks of a row are those of the shard, and the last chunk holds the halves of the tail, the row holds the shard.
 pub laid_out-is : (size : ℕ) (chunks : ℕ → List ℕ) (s : Shard) → length s ≡ size → size % 2 ≡ 0
     → ((k b : ℕ) → k < size / 64 → b < 64 → slice_index (chunks k) b ≡ slice_index s (k * 64 + b))
     → ((b : ℕ) → b < size % 64 / 2 → slice_index (chunks (size / 64)) b ≡ slice_index s (size / 64 * 64 + b))
@@ -122,7 +122,7 @@ laid_out-is size chunks s len even whole low high = up_to-is 0 size (λ b. slice
               ]
         ]
 
--- moving the second half of the tail puts the bytes in order
+-- Moving the second half of the tail puts the bytes in order.
 pub in_order-is : (size : ℕ) (new old : ℕ → List ℕ) → size % 2 ≡ 0
     → ((k : ℕ) → k < size / 64 → new k ≡ old k)
     → ((b : ℕ) → b < size % 64 / 2 → slice_index (new (size / 64)) b ≡ slice_index (old (size / 64)) b)
@@ -149,11 +149,11 @@ in_order-is size new old even whole low high = up_to-same size _ _ byte
               ]
         ]
 
--- byte i of the bytes that a list has from place a on
+-- Byte i of the bytes from a on is byte a + i of the list.
 pub get-rest : (s : List ℕ) (a i : ℕ) → i < length s - a → slice_index (take (length s - a) (drop a s)) i ≡ slice_index s (a + i)
 get-rest s a i h = get_or-take (length s - a) (drop a s) i 0 h ∙ get_or-drop a s i 0
 
--- byte b of chunks one after another
+-- Byte b of chunks that are joined is byte b % 64 of chunk b / 64.
 pub get-flat : (rows : List (List ℕ)) → ((i : ℕ) → i < length rows → length (get_or rows i []) ≡ 64) → (b : ℕ) → b < length rows * 64
     → slice_index (flat_map (λ x. x) rows) b ≡ slice_index (get_or rows (b / 64) []) (b % 64)
 get-flat [] sized b h = absurd (omega arith)
@@ -180,7 +180,7 @@ length-flat (x ∷ rows) sized =
     let more = length-flat rows (λ i g. sized (suc i) (omega arith)) in
     length-append x (flat_map (λ y. y) rows) ∙ (let e : length x + length (flat_map (λ y. y) rows) ≡ suc (length rows) * 64 = omega arith in e)
 
--- the first bytes of the chunks one after another
+-- The first bytes of joined chunks are the shard in order.
 pub take-flat : (size : ℕ) (rows : List (List ℕ)) → ((i : ℕ) → i < length rows → length (get_or rows i []) ≡ 64) → length rows ≡ row_len size
     → take size (flat_map (λ x. x) rows) ≡ in_order size (λ k. chunk rows k)
 unfolding in_order

@@ -1,4 +1,4 @@
--- Loops over the parts of a block, each of which transforms one part, for the rows and for the counts.
+-- Loops over the parts of a block. Each pass transforms one part. The lemmas state the effect on the rows and on the counts.
 use Rattle.std.proofs.Common.{◌≡◌, ℕ, ◌+◌, ◌*◌, ◌/◌, ◌%◌, ◌^◌, ◌<◌, ◌≤◌, ◌⊎◌, Bool, false, replicate, refl, sym, ap, ◌∙◌, inl, inr, arith, subst, mod-lt}
 use Rattle.std.proofs.Math.Nat.{mul-le-mul_right}
 use Rattle.std.proofs.lemmas.Bool.{cases_eq, cases_lt}
@@ -22,7 +22,7 @@ use Rattle.rs_field.proofs.of_rows.Parts.{IsPart, part_found, part_within}
 use Rattle.rs_field.proofs.of_rows.Recursion.{one_row, word_same, zero_rows}
 use Rattle.rs_field.proofs.of_rows.RowOffsets.{outside_both, outside_cell, extent_then}
 
--- words that are the same are transformed in the same way
+-- Equal words have equal transforms.
 transformed_same : (direction : Direction) (used used' : ℕ → Bool) (n shift : ℕ) (f g f' g' : ℕ → ℕ) → ((q : ℕ) → q < n → f' q ≡ f q)
     → ((q : ℕ) → q < n → g' q ≡ g q) → ((q : ℕ) → q < n → used q ≡ used' q)
     → AreTransformed direction used n shift f g → AreTransformed direction used' n shift f' g'
@@ -32,7 +32,7 @@ transformed_same Direction.Backward used used' n shift f g f' g' old new same ar
 
 -- ---- the loop
 
--- the parts before the j-th are transformed, and the rows from there on are unchanged
+-- The parts before part j are transformed, and the rows from part j on are unchanged.
 pub record PartsDone (direction : Direction) (used : ℕ → Bool) (size n shift pos j : ℕ) (old new : ShardsRefMut) : Type 0 where
   pub extent : SameExtent old new
   pub others : SameRowsOutside pos (pos + size) old new
@@ -90,7 +90,7 @@ parts_next direction used used' size n shift pos j old mid new p begins done ext
     unchanged : (r k : ℕ) → k < old.shard_len_64 → (r < pos + j * n) ⊎ (pos + j * n + n ≤ r) → cell new k r ≡ cell mid k r
     unchanged r k hk h = outside_cell (pos + j * n) (pos + j * n + n) mid new extent others r k (omega (arith, len)) h
 
--- rows of a part that aren't used are zero as long as they are unchanged
+-- If the rows of a part were not changed yet, its unused rows are zero.
 pub zeros_of_part : (direction : Direction) (used part : UsedRows) (old mid : ShardsRefMut) (pos size start n : ℕ) → start + n ≤ size
     → mid.shard_len_64 ≡ old.shard_len_64
     → ((k i : ℕ) → k < old.shard_len_64 → start ≤ i → i < size → cell mid k (pos + i) ≡ cell old k (pos + i))
@@ -102,13 +102,13 @@ zeros_of_part Direction.Backward used part old mid pos size start n inside len k
     let zero = zeros (start + i) k (omega (arith, len)) (omega arith) (sym (same i hi) ∙ unused) in
     subst (λ (p : ℕ). cell mid k p ≡ replicate 64 0) at (kept k (start + i) (omega (arith, len)) (omega arith) (omega arith) ∙ zero)
 
--- a part that begins in the block is one of them
+-- A part that begins inside the block is one of the parts of the block.
 pub part_before : (size n m j : ℕ) → j * n ≡ size → m * n < size → m < j
 part_before size n m j all within = grind (arith, common_steps, cases_lt, mul-le-mul_right)
 
--- ---- the parts and the layers
+-- ---- the parts that the layers leave
 
--- values that are transforms of parts, of which the layers are the parts of the whole
+-- If the layers leave parts of the whole, transforms of the parts are the transform of the whole.
 joined : (size n shift i : ℕ) (values parts whole : ℕ → ℕ) → IsPart size n → ArePartsOf size n shift whole parts → i < size
     → ((m r : ℕ) → m * n < size → r < n → m * n + r ≡ i → values (m * n + r) ≡ forward n (shift + m * n) (λ q. parts (m * n + q)) r)
     → values i ≡ forward size shift whole i
@@ -133,14 +133,14 @@ backward_whole size n shift used old mid new p layers done = λ i hi. joined siz
 
 -- ---- blocks with nothing to do
 
--- no row is used
+-- If no row is used, the block is already transformed.
 pub none_used : (direction : Direction) (used : UsedRows) (rows : ShardsRefMut) (k s pos size shift : ℕ) → k < rows.shard_len_64 → s < 32
     → ((i : ℕ) → is_used used i ≡ false) → UnusedAreZeroBackward direction used pos size rows
     → AreTransformed direction (is_used used) size shift (λ q. word rows k s (pos + q)) (λ q. word rows k s (pos + q))
 none_used Direction.Forward used rows k s pos size shift hk hs none zeros = grind (arith, common_steps)
 none_used Direction.Backward used rows k s pos size shift hk hs none zeros = grind (arith, common_steps, zero_rows)
 
--- there is at most one row
+-- If a block has at most one row, the block is already transformed.
 pub one_used : (direction : Direction) (used : ℕ → Bool) (size shift : ℕ) (f : ℕ → ℕ) → size < 2 → (0 < size → f 0 < 65536)
     → AreTransformed direction used size shift f f
 one_used Direction.Forward used size shift f few words = λ i hi is. one_row size shift i f (omega arith) hi (words (omega arith))
@@ -160,7 +160,7 @@ one_row_of_part size large few power =
           ap rows_of_part four ∙ (let r : rows_of_part 4 ≡ 1 = refl in r)
     ]
 
--- the layers then make the whole transform
+-- If the layers leave single rows, they make the whole transform.
 pub single_rows : (size shift i : ℕ) (f g : ℕ → ℕ) → 1 < size → size ≤ 4 → (d : ℕ) × (size ≡ 2 ^ d) → ArePartsOf size (rows_of_part size) shift f g
     → i < size → g i < 65536 → g i ≡ forward size shift f i
 single_rows size shift i f g large few power parts hi word =
@@ -172,23 +172,23 @@ single_rows size shift i f g large few power parts hi word =
 
 -- ---- counts
 
--- the layers are no more than the whole
+-- The row steps of the layers are within the bound of the whole transform.
 pub counts_of_layers : (block : Block) (from to : Steps) → 1 < block.size → CountsRows (layer_steps block.size) from to → TransformCounts block.size from to
 counts_of_layers block from to large c =
     let size = block.size in
     let p = part_found block (rows_of_part size) refl large in
     counts_within (layer_steps size) (transform_steps size) from to (let whole = p.steps in omega arith) (counts_rows (layer_steps size) from to c)
 
--- one more part
+-- Transforming one more part adds the bound of one part.
 pub counts_next : (t j : ℕ) (from mid to : Steps) → CountsUpTo (j * t) 0 0 from mid → CountsUpTo t 0 0 mid to → CountsUpTo ((j + 1) * t) 0 0 from to
 counts_next t j from mid to p q = counts_within (j * t + t) ((j + 1) * t) from to (omega arith) (counts_then (j * t) t from mid to p q)
 
--- some parts are no more than what the layers leave
+-- The row steps of some parts are within the bound of all parts.
 pub counts_of_parts : (size n j : ℕ) (from to : Steps) (p : IsPart size n) → j ≤ p.count → CountsUpTo (j * transform_steps n) 0 0 from to
     → PartCounts size from to
 counts_of_parts size n j from to p few c = grind (arith, common_steps, mul-le-mul_right, counts_within)
 
--- and with the layers they are the whole
+-- The row steps of the layers and of the parts together are within the bound of the whole transform.
 pub counts_of_whole : (size a b : ℕ) (from mid to : Steps) → a + b ≤ transform_steps size → CountsUpTo a 0 0 from mid → CountsUpTo b 0 0 mid to
     → TransformCounts size from to
 counts_of_whole size a b from mid to few p q = counts_within (a + b) (transform_steps size) from to few (counts_then a b from mid to p q)

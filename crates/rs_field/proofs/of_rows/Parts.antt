@@ -1,4 +1,4 @@
--- The parts of a block that its first layers leave: their rows, their place among the points, and the row steps.
+-- The parts of a block that its first layers leave: their rows, their position among the points, and their row steps.
 use Rattle.std.proofs.Common.{◌≡◌, ℕ, ◌+◌, ◌*◌, ◌/◌, ◌%◌, ◌^◌, ◌<◌, ◌≤◌, ◌≢◌, Bool, true, false, cond, refl, sym, ap, ◌∙◌, subst, inl, inr, arith}
 use Rattle.std.proofs.Math.Nat.{mul-le-mul_right, add-mul-mod_self_right, mul-div_cancel, mul-mod_left}
 use Rattle.std.proofs.lemmas.Bool.{cases_Bool, cases_lt, true≢false}
@@ -27,12 +27,12 @@ pub steps_of_more : (size : ℕ) → is_halved size ≡ false → layer_steps si
 unfolding layer_steps
 steps_of_more size is = ap (λ (b : Bool). cond b (size / 2) size) is
 
--- two rows are halved
+-- A block that is not halved does not have two rows.
 not_two : (size : ℕ) → is_halved size ≡ false → size ≢ 2
 unfolding is_halved
 not_two size is e = true≢false (sym (let two : is_halved 2 ≡ true = refl in two) ∙ sym (ap is_halved e) ∙ is)
 
--- the part n of a block of size rows
+-- The n rows of each part of a block of size rows.
 pub record IsPart (size n : ℕ) : Type 0 where
   pub power : (d : ℕ) × (n ≡ 2 ^ d)
   pub positive : 0 < n
@@ -41,21 +41,21 @@ pub record IsPart (size n : ℕ) : Type 0 where
   pub whole : size ≡ count * n
   pub steps : layer_steps size + count * transform_steps n ≡ transform_steps size
 
--- the rows of a block are a power of two
+-- The number of rows of a block is a power of two.
 pub block_power : (block : Block) → (d : ℕ) × (block.size ≡ 2 ^ d)
 block_power block = own_is_power block.size block.power (let points = block.points in omega arith)
 
--- twice those of a half
+-- A block of more than one row has twice the rows of its half.
 pub block_halves : (block : Block) → 1 < block.size → block.size ≡ block.size / 2 + block.size / 2
 block_halves block large = two_halves block.size large (block_power block)
 
--- and four times those of a quarter, where they aren't halved
+-- A block of more than one row that is not halved has four times the rows of its quarter.
 pub block_quarters : (block : Block) → 1 < block.size → is_halved block.size ≡ false → block.size ≡ 4 * (block.size / 4)
 block_quarters block large more =
     let ne = not_two block.size more in
     (quarter_power block.size (omega (arith, large, ne)) (block_power block)).3
 
--- the part of a block of more than one row, however its rows were found
+-- The number of rows of a part of a block of more than one row satisfies `IsPart`.
 pub part_found : (block : Block) (n : ℕ) → n ≡ rows_of_part block.size → 1 < block.size → IsPart block.size n
 part_found block n is large =
     let size = block.size in
@@ -87,7 +87,7 @@ part_found block n is large =
           })
     ]
 
--- part j of a block lies in it
+-- Part j of a block is inside the block.
 pub part_within : (size n j : ℕ) → IsPart size n → j * n < size → j * n + n ≤ size
 part_within size n j p within =
     elim (cases_lt j p.count) [
@@ -95,21 +95,21 @@ part_within size n j p within =
       | inr past ↦ let le : p.count * n ≤ j * n = mul-le-mul_right n past in let w = p.whole in absurd (let no : ⊥ = omega arith in no)
     ]
 
--- and begins at a multiple of its rows
+-- Part j of a block begins at a multiple of its rows.
 pub part_aligned : (size n shift j : ℕ) → IsPart size n → shift % size ≡ 0 → (shift + j * n) % n ≡ 0
 part_aligned size n shift j p aligned =
     add-mul-mod_self_right shift j n ∙ ap (λ v. v % n) (aligned_parts size p.count n shift p.whole aligned) ∙ mul-mod_left (shift / size * p.count) n
 
 -- ---- the parts one by one
 
--- a block has this many rows
+-- The number of parts of a block is the size divided by the rows of a part.
 pub parts_number : (size n : ℕ) (p : IsPart size n) → size / n ≡ p.count
 parts_number size n p = ap (λ v. v / n) p.whole ∙ mul-div_cancel p.count p.positive
 
--- each begins in it
+-- Each part begins inside the block.
 pub part_begins : (size n j : ℕ) → IsPart size n → j < size / n → j * n < size
 part_begins size n j p h = grind (arith, common_steps)
 
--- and together they are all of it
+-- All parts together are the whole block.
 pub parts_whole : (size n j : ℕ) → IsPart size n → j ≡ size / n → j * n ≡ size
 parts_whole size n j p is = ap (λ v. v * n) (is ∙ parts_number size n p) ∙ sym p.whole

@@ -1,4 +1,4 @@
--- A transform of one row and of rows of zeros, and rows that are the same.
+-- The transform of one row, the transform of rows of zeros, and rows that are equal.
 use Rattle.std.proofs.Common.{◌≡◌, ℕ, ◌+◌, ◌<◌, List, replicate, sym, ap, ◌∙◌, arith}
 use Rattle.rs_field.specs.words.Transform.{forward}
 use Rattle.rs_field.specs.rows.Rows.{symbol}
@@ -14,11 +14,11 @@ fits_kept a b p h = rw (p.count, p.len_64, p.length) h
 pub word_same : (a b : ShardsRefMut) (k s i j : ℕ) → cell a k i ≡ cell b k j → word a k s i ≡ word b k s j
 word_same a b k s i j e = ap (λ (c : List ℕ). symbol c s) e
 
--- of one row the transform is that row
+-- The transform of one row is this row.
 pub one_row : (size shift i : ℕ) (f : ℕ → ℕ) → size ≡ 1 → i < size → f 0 < 65536 → f i ≡ forward size shift f i
 one_row size shift i f e h fits = grind (arith, common_steps, forward-one)
 
--- rows of zeros are the transform of rows of zeros
+-- The transform of rows of zeros is rows of zeros.
 pub zero_rows : (rows : ShardsRefMut) (k s a size shift i : ℕ) → s < 32 → i < size → ((q : ℕ) → q < size → cell rows k (a + q) ≡ replicate 64 0)
     → word rows k s (a + i) ≡ forward size shift (λ q. word rows k s (a + q)) i
 zero_rows rows k s a size shift i hs hi zeros =

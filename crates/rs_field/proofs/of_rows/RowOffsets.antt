@@ -1,4 +1,4 @@
--- Where row i of rows of n chunks lies among the chunks, and what is unchanged outside some rows.
+-- The place of row i of rows of n chunks among the chunks, and the chunks outside some rows, which are unchanged.
 use Rattle.std.proofs.Common.{◌≡◌, ℕ, ◌+◌, ◌*◌, ◌<◌, ◌≤◌, ◌⊎◌, ◌≢◌, inl, inr, arith, ap, ◌∙◌, subst}
 use Rattle.std.proofs.Math.Nat.{mul-le-mul_right}
 use Rattle.std.proofs.lemmas.Bool.{cases_lt}
@@ -9,25 +9,25 @@ use Rattle.rs_field.specs.declared.rows.shards.ShardsRefMut.{ShardsRefMut}
 pub row_ends : (i m n : ℕ) → i < m → i * n + n ≤ m * n
 row_ends i m n h = let p : (i + 1) * n ≤ m * n = mul-le-mul_right n (omega arith) in omega arith
 
--- some rows end before a later row begins, and within the rows
+-- Some rows end before any later row begins, and row ends are within the rows.
 pub rows_end : (a count m n : ℕ) → a + count ≤ m → a * n + count * n ≤ m * n
 rows_end a count m n h = let p : (a + count) * n ≤ m * n = mul-le-mul_right n h in omega arith
 
--- chunk k of row i of m rows
+-- Chunk k of row i of m rows is among the m * n chunks.
 pub row_within : (i m k n : ℕ) → i < m → k < n → i * n + k < m * n
 row_within i m k n hi hk = let ends = row_ends i m n hi in omega arith
 
--- a chunk of a row below a lies before row a, and one of a row from b on lies from row b on
+-- A chunk of a row below a is before row a, and a chunk of a row from b on is at or after row b.
 pub offset_outside : (a b i k n : ℕ) → k < n → (i < a) ⊎ (b ≤ i) → (i * n + k < a * n) ⊎ (b * n ≤ i * n + k)
 offset_outside a b i k n q h =
     elim h [ inl p ↦ inl (let r = row_ends i a n p in omega arith) | inr p ↦ inr (let r = mul-le-mul_right n p in omega arith) ]
 
--- a chunk of another row lies outside row a
+-- A chunk of another row is outside row a.
 pub offset_apart : (a i k n : ℕ) → k < n → i ≢ a → (i * n + k < a * n) ⊎ (a * n + n ≤ i * n + k)
 offset_apart a i k n q ne =
     elim (cases_lt i a) [ inl p ↦ inl (let r = row_ends i a n p in omega arith) | inr p ↦ inr (let l : a < i = omega arith in let r = row_ends a i n l in omega arith) ]
 
--- the chunks of the rows outside are unchanged
+-- The chunks of the rows outside the changed rows are unchanged.
 pub outside_cell : (a b : ℕ) (old new : ShardsRefMut) → SameExtent old new → SameRowsOutside a b old new
     → (i k : ℕ) → k < old.shard_len_64 → (i < a) ⊎ (b ≤ i) → cell new k i ≡ cell old k i
 unfolding cell
@@ -35,7 +35,7 @@ outside_cell a b old new extent others i k hk h =
     ap (λ n. chunk new.chunks.now (i * n + k)) extent.len_64
     ∙ others (i * old.shard_len_64 + k) (offset_outside a b i k old.shard_len_64 hk h)
 
--- two changes one after another, each within rows e to f - 1
+-- Two changes one after another, each within the rows from e to f - 1, are one change within these rows.
 pub outside_both : (a b c d e f : ℕ) (old mid new : ShardsRefMut) → SameExtent old mid → SameRowsOutside a b old mid → SameRowsOutside c d mid new
     → e ≤ a → b ≤ f → e ≤ c → d ≤ f → SameRowsOutside e f old new
 outside_both a b c d e f old mid new extent first second ea bf ec df k h =

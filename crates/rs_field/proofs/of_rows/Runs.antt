@@ -1,4 +1,4 @@
--- A run of a slice's elements is lent as a slice, and two are.
+-- A run of a slice's elements is lent as a slice, and two runs are lent as two slices.
 use Rattle.rs_field.proofs.Walking.{◌≡◌, refl, sym, ap, ◌∙◌, ℕ, ◌+◌, arith, List, [], ◌∷◌, ◌++◌, length, Val, Lft, flft, ‵, ◌⊛◌, ◌$◌, ◌∵◌, !, qed}
 use Rattle.rs_field.proofs.Walking.{move, drop, fsplit, fsplit3, fjoin, await, later, some, use1, use2, group, pick, done, split, split3, rewrite}
 use Rattle.rs_field.proofs.Walking.{feq_l, feq_i, join, MutBor, RattleType, Array, MutSlice, Room, slice_val, follows_both, at}
@@ -128,7 +128,7 @@ module _ {M : Type 1} {𝓤 : Ura M} (𝓛 : Logic 𝓤) (ℓ : Lifetime) (κ : 
       use1 𝓛 (‵ ((MutSlice ℓ κ R).own_val (first_lent δ) (slice_val (b, p₁) (length one) ∷ []))) (slice_of 𝓛 R ℓ κ b p₁ δ.0 one r₁) $ move ! (1 ∷ []) $
       use1 𝓛 (‵ ((MutSlice ℓ κ R).own_val (second_lent δ) (slice_val (b, p₂) (length two) ∷ []))) (slice_of 𝓛 R ℓ κ b p₂ δ.1 two r₂) $ move ! (1 ∷ 0 ∷ []) $ now ! $ show ! RunsLent δ $ done !)
 
--- two parts of a part
+-- Two parts of a part.
 module _ {M : Type 1} {𝓤 : Ura M} (𝓛 : Logic 𝓤) (R T U V : RattleType) (F : T.Denot → R.Denot) (G : U.Denot → V.Denot → T.Denot) (γ γ' γ₁ γ₂ : GName) where
   open 𝓛 use {A}
 

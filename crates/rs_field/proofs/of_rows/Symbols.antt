@@ -1,4 +1,4 @@
--- Symbols and the bytes that they are made of.
+-- Symbols, and the two bytes of each symbol.
 use Rattle.std.proofs.Common.{◌≡◌, ℕ, ◌+◌, ◌*◌, ◌<◌, List, [], ◌∷◌, zero, suc, Fits, w8, length, get_or, take, replicate, arith, ap, ap₂, subst, ◌∙◌}
 use Rattle.std.specs.Prelude.{flat_map}
 use Rattle.std.proofs.lemmas.List.{get_or-replicate}
@@ -11,7 +11,7 @@ symbol-zero s h =
     let P : ℕ → ℕ → ℕ = λ a b. a + 256 * b in
     ap₂ P (get_or-replicate 64 s 0 0 (omega arith)) (get_or-replicate 64 (s + 32) 0 0 (omega arith))
 
--- a byte of a chunk is a byte of the chunks in a row
+-- An element of a chunk is a byte, if the chunks joined are bytes.
 pub byte_fits : (chunks : Chunks) (bytes : List ℕ) → bytes ≡ flat_map (λ x. x) chunks → ((j : ℕ) → get_or bytes j 0 < 256)
     → (k i : ℕ) → k < length chunks → i < length (chunk chunks k) → get_or (chunk chunks k) i 0 < 256
 byte_fits chunks bytes e fits k i hk hi =

@@ -1,4 +1,4 @@
--- A row is zero in each column of its shards exactly where the bytes of its whole chunks and of both halves of its tail are.
+-- A row is zero in each column of its shard exactly if the bytes of its whole chunks and of both halves of its tail are zero.
 use Rattle.std.proofs.lemmas.Grind.{common_steps}
 use Rattle.std.proofs.lemmas.Bool.{cases_lt}
 use Rattle.std.proofs.lemmas.List.{get_or-take, get_or-drop, length-take-le, length-drop}
@@ -9,22 +9,22 @@ use Rattle.rs_field.specs.rows.Rows.{Chunks, chunk, symbol}
 use Rattle.rs_field.specs.rows.Layout.{row_len, HasZeroColumns}
 use Rattle.rs_field.proofs.of_rows.LayoutLemmas.{get-flat}
 
--- a row for shards of this size, and the bytes of its chunks one after another
+-- A row for shards of this size, and the bytes of its chunks joined.
 pub record IsRow (size : ℕ) (row : Chunks) (bytes : List ℕ) : Type 0 where
   pub length_is : length row ≡ row_len size
   pub sized : (i : ℕ) → i < length row → length (get_or row i []) ≡ 64
   pub flat : bytes ≡ flat_map (λ x. x) row
   pub count : length bytes ≡ length row * 64
 
--- where the tail begins
+-- The place where the tail begins.
 abbrev tail : ℕ → ℕ
 tail size = size / 64 * 64
 
--- half the bytes of the tail
+-- Half the number of bytes of the tail.
 abbrev half : ℕ → ℕ
 half size = size % 64 / 2
 
--- the n bytes from a on are zero
+-- The n bytes from a on are zero.
 abbrev pub ZeroFrom : List ℕ → ℕ → ℕ → Type 0
 ZeroFrom bytes a n = (i : ℕ) → i < n → slice_index bytes (a + i) ≡ 0
 
@@ -48,7 +48,7 @@ byte-of : (size : ℕ) (row : Chunks) (bytes : List ℕ) → IsRow size row byte
     → slice_index (chunk row q) b ≡ slice_index bytes (q * 64 + b)
 byte-of size row bytes is q b low within = grind (arith, common_steps, get-flat)
 
--- a symbol by its two bytes
+-- A symbol is made of its low and its high byte.
 symbol-bytes : (size : ℕ) (row : Chunks) (bytes : List ℕ) → IsRow size row bytes → (q i : ℕ) → i < 32 → q < row_len size
     → symbol (chunk row q) i ≡ slice_index bytes (q * 64 + i) + 256 * slice_index bytes (q * 64 + (i + 32))
 symbol-bytes size row bytes is q i low within =
@@ -72,7 +72,7 @@ zero_columns size row bytes is first second j h =
               ap (slice_index bytes) at ∙ second (j % 32) (omega arith)
         ]
 
--- both bytes of a column that is zero
+-- If the columns are zero, both bytes of each symbol are zero.
 zero-bytes : (size : ℕ) (row : Chunks) (bytes : List ℕ) → IsRow size row bytes → HasZeroColumns size (λ k. chunk row k)
     → (q i : ℕ) → i < 32 → q * 32 + i < size / 2 → (slice_index bytes (q * 64 + i) ≡ 0) × (slice_index bytes (q * 64 + (i + 32)) ≡ 0)
 zero-bytes size row bytes is zeros q i low within =

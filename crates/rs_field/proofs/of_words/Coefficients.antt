@@ -1,4 +1,4 @@
--- A sum of n basis polynomials is a polynomial of n coefficients, and of n coefficients no fewer terms are needed.
+-- A sum of n basis polynomials is a polynomial of n coefficients. A sum with the values of such a polynomial has no terms from n on.
 use Rattle.std.proofs.Common.{◌≡◌, ℕ, zero, suc, ◌+◌, ◌-◌, ◌^◌, ◌<◌, ◌≤◌, List, [], ◌∷◌, length, bit_xor, refl, sym, ap, ap₂, ◌∙◌, arith, inl, inr, zero-add}
 use Rattle.std.specs.Prelude.{slice_index}
 use Rattle.std.specs.Int.Bits.{xor_comm, xor_zero_l, xor_zero_r}
@@ -33,7 +33,7 @@ entry-scale c [] i = sym (product_zero c)
 entry-scale c (a ∷ p) zero = refl
 entry-scale c (a ∷ p) (suc i) = entry-scale c p i
 
--- a factor x + a keeps the last coefficient
+-- Multiplying by x + a keeps the last coefficient.
 entry-with_root : (a n : ℕ) (p : List ℕ) → length p ≡ suc n → slice_index (with_root a p) (suc n) ≡ slice_index p n
 unfolding with_root
 entry-with_root a n p size =
@@ -46,7 +46,7 @@ entry-times a (suc m) n p size = grind (arith, common_steps, length-times, with_
 
 -- ---- the basis polynomials
 
--- the polynomial q of the basis: q + 1 coefficients, of which the last is 1
+-- The basis polynomial q has q + 1 coefficients, and the last one is 1.
 record IsBasis (q : ℕ) (p : List ℕ) : Type 0 where
   size : length p ≡ suc q
   words : WordsOneByOne p
@@ -80,11 +80,11 @@ basis_polynomial (suc e) q he hq =
 forward-more : (n : ℕ) (f : ℕ → ℕ) (x : ℕ) → forward (suc n) 0 f x ≡ bit_xor (forward n 0 f x) (product (f n) (basis n x))
 forward-more n f x = grind (arith, common_steps, forward_is, sum_below-suc, zero-add)
 
--- terms that are zero can be left out
+-- Terms that are zero can be left out of a sum.
 pub forward-fewer : (n t : ℕ) (f : ℕ → ℕ) (x : ℕ) → ((i : ℕ) → i < t → f (n + i) ≡ 0) → forward (n + t) 0 f x ≡ forward n 0 f x
 forward-fewer n t f x none = grind (arith, common_steps, forward_is, sum_below-add, sum_below-zero, zero_product, xor_zero_r)
 
--- a polynomial of n coefficients for a sum of n terms
+-- A polynomial of n coefficients for a sum of n terms.
 record IsSum (n : ℕ) (f : ℕ → ℕ) (p : List ℕ) : Type 0 where
   size : length p ≡ n
   words : WordsOneByOne p
@@ -104,11 +104,11 @@ sum_polynomial (suc n) f hn =
     let p = sum_polynomial n f (omega arith) in
     (add (scale (f n) b.0) p.0, sum_more n f b.0 p.0 b.1 p.1)
 
--- a sum of n basis polynomials is a polynomial of n coefficients
+-- A sum of n basis polynomials is a polynomial of n coefficients.
 pub polynomial_of_terms : (n : ℕ) (f : ℕ → ℕ) → n ≤ 65536 → (p : List ℕ) × (length p ≡ n) × AreWords p × ((x : ℕ) → value p x ≡ forward n 0 f x)
 polynomial_of_terms n f hn = let p = sum_polynomial n f hn in (p.0, p.1.size, all_words p.0 p.1.words, p.1.at)
 
--- the last coefficient is the last term's
+-- The last coefficient of a sum is its last term.
 last_term : (n : ℕ) (f : ℕ → ℕ) (b p : List ℕ) → f n < 2 ^ 16 → IsBasis n b → IsSum n f p → slice_index (add (scale (f n) b) p) n ≡ f n
 last_term n f b p word hb hp = grind (arith, common_steps, entry-add, entry-scale, product_one, get_or_past, xor_zero_r)
 
@@ -120,7 +120,7 @@ entry-padded (suc n) [] (suc i) h = entry-padded n [] i (omega arith)
 entry-padded n (c ∷ cs) zero h = absurd (let no : ⊥ = omega arith in no)
 entry-padded n (c ∷ cs) (suc i) h = entry-padded n cs i (let less : length cs ≤ i = omega arith in less)
 
--- a polynomial of n coefficients has no term n
+-- If a sum of n + 1 terms has the values of a polynomial of n coefficients, its last term is zero.
 no_last_term : (n : ℕ) (f : ℕ → ℕ) (h : List ℕ) → n < 65536 → f n < 2 ^ 16 → length h ≡ n → WordsOneByOne h
     → ((x : ℕ) → x < suc n → forward (suc n) 0 f x ≡ value h x) → f n ≡ 0
 no_last_term n f h hn word size words at =
@@ -132,7 +132,7 @@ no_last_term n f h hn word size words at =
     (λ i hi. s.at i ∙ at i hi ∙ sym (value-padded 1 h i)) in
     sym (last_term n f b.0 p.0 word b.1 p.1) ∙ ap (λ (q : List ℕ). slice_index q n) same ∙ entry-padded 1 h n (omega arith)
 
--- terms that give the values of a polynomial of n coefficients are zero from n on
+-- If a sum has the values of a polynomial of n coefficients, its terms from n on are zero.
 pub no_terms_past : (n t : ℕ) (f : ℕ → ℕ) (h : List ℕ) → n + t ≤ 65536 → ((i : ℕ) → i < n + t → f i < 2 ^ 16) → length h ≡ n → WordsOneByOne h
     → ((x : ℕ) → x < n + t → forward (n + t) 0 f x ≡ value h x) → (i : ℕ) → n ≤ i → i < n + t → f i ≡ 0
 no_terms_past n zero f h hn word size words at i above below = absurd (let no : ⊥ = omega arith in no)

@@ -1,4 +1,4 @@
--- Sums of basis polynomials: how one of 2n terms is two of n terms, and what it is on a block of points.
+-- Sums of basis polynomials: a sum of 2n terms is two sums of n terms, and the values of a sum on a block of points.
 use Rattle.std.proofs.Common.{◌≡◌, ℕ, zero, suc, ◌+◌, ◌-◌, ◌*◌, ◌/◌, ◌%◌, ◌^◌, ◌<◌, ◌≤◌, ◌≢◌, cond, eqb, bit_xor, refl, sym, ap, ap₂, ◌∙◌, inl, inr, arith, one-mul, add-zero, add-suc, add_assoc, pow-suc, pow-add, pow_mono}
 use Rattle.std.proofs.Math.Nat.{div-eq_of_lt, mul-add-div_right, zero-div, two-pow-succ}
 use Rattle.std.specs.Int.Bits.{xor_comm, xor_assoc, xor_zero_r, xor_lt, xor_shifted}
@@ -54,7 +54,7 @@ sum_below-add m (suc n) f =
 
 -- ---- the basis
 
--- a product with one more factor that is not one
+-- Changing one factor from 1 to s multiplies a product by s.
 product_below-one_more : (n e s : ℕ) (f g : ℕ → ℕ) → e < n → f e ≡ 1 → g e ≡ s → ((d : ℕ) → d < n → d ≢ e → g d ≡ f d)
     → product_below n g ≡ product (product_below n f) s
 product_below-one_more zero e s f g he one is same = absurd (omega arith)
@@ -78,7 +78,7 @@ product_below-ones : (n : ℕ) → product_below n (λ d. 1) ≡ 1
 product_below-ones zero = product_below-zero (λ d. 1)
 product_below-ones (suc n) = product_below-suc n (λ d. 1) ∙ ap (λ v. product v 1) (product_below-ones n) ∙ product_one 1 (omega arith)
 
--- the factor of the basis polynomial q at the bit d
+-- The factor of the basis polynomial q at the bit d.
 factor : ℕ → ℕ → ℕ → ℕ
 factor q x d = cond (eqb (q / 2 ^ d % 2) 1) (subspace d x) 1
 
@@ -90,7 +90,7 @@ factor-bit : (q x d b : ℕ) → q / 2 ^ d % 2 ≡ b → factor q x d ≡ cond (
 unfolding factor
 factor-bit q x d b e = ap (λ (b : ℕ). cond (eqb b 1) (subspace d x) 1) e
 
--- 2 ^ e adds the bit e to a number below it, and no other
+-- Adding 2 ^ e to a number below 2 ^ e sets bit e and changes no other bit.
 bit_below : (d e q : ℕ) → d < e → (2 ^ e + q) / 2 ^ d % 2 ≡ q / 2 ^ d % 2
 bit_below d e q h =
     let k : ℕ = e - suc d in
@@ -124,7 +124,7 @@ basis-zero x =
     ∙ product_below-same 16 (factor 0 x) (λ d. 1) (λ d h. factor-bit 0 x d 0 (ap (λ v. v % 2) (zero-div (2 ^ d))))
     ∙ product_below-ones 16
 
--- the basis polynomial 2 ^ e + q is q's times the subspace polynomial e
+-- The basis polynomial 2 ^ e + q is the basis polynomial q times the subspace polynomial e.
 pub basis-half : (e q x : ℕ) → e < 16 → q < 2 ^ e → basis (2 ^ e + q) x ≡ product (basis q x) (subspace e x)
 basis-half e q x he hq =
     basis_is (2 ^ e + q) x
@@ -166,16 +166,16 @@ forward-product n shift f c i =
     (λ q h. product-right_comm (f q) c (basis q (shift + i)))
     ∙ sum_below-product n (λ q. product (f q) (basis q (shift + i))) c
 
--- only the point counts
+-- The forward transform depends on the shift and the index only through the point, which is their sum.
 pub forward-moved : (n shift more : ℕ) (f : ℕ → ℕ) (i : ℕ) → forward n (shift + more) f i ≡ forward n shift f (more + i)
 unfolding forward
 forward-moved n shift more f i = ap (λ x. sum_below n (λ q. product (f q) (basis q x))) (add_assoc shift more i)
 
--- of one word the transform is that word
+-- The forward transform of one word is this word.
 pub forward-one : (shift : ℕ) (f : ℕ → ℕ) (i : ℕ) → f 0 < 2 ^ 16 → forward 1 shift f i ≡ f 0
 forward-one shift f i word = grind (arith, common_steps, forward_is, sum_below-suc, sum_below-zero, basis-zero, product_one)
 
--- a sum of 2 ^ (e + 1) terms is one of its first half, and the subspace polynomial e times one of its second half
+-- A sum of 2 ^ (e + 1) terms is the sum of its first half plus the subspace polynomial e times the sum of its second half.
 pub forward-half : (e shift : ℕ) (f : ℕ → ℕ) (i : ℕ) → e < 16
     → forward (2 ^ suc e) shift f i ≡ bit_xor (forward (2 ^ e) shift f i) (product (forward (2 ^ e) shift (λ q. f (2 ^ e + q)) i) (subspace e (shift + i)))
 forward-half e shift f i he =
@@ -192,7 +192,7 @@ forward-half e shift f i he =
 
 -- ---- a block of 2 ^ (e + 1) points
 
--- a multiple of a number of parts is one of a part
+-- A multiple of m * n is a multiple of n.
 pub aligned_parts : (size m n shift : ℕ) → size ≡ m * n → shift % size ≡ 0 → shift ≡ shift / size * m * n
 aligned_parts size m n shift whole aligned = regroup (shift / size) (div-add-mod' shift size)
   where
@@ -202,11 +202,11 @@ aligned_parts size m n shift whole aligned = regroup (shift / size) (div-add-mod
 even_block : (e shift : ℕ) → shift % 2 ^ suc e ≡ 0 → (u : ℕ) × (shift ≡ u * 2 * 2 ^ e)
 even_block e shift h = (shift / 2 ^ suc e, aligned_parts (2 ^ suc e) 2 (2 ^ e) shift (omega (arith, pow-suc 2 e)) h)
 
--- on the first half of the block the subspace polynomial e is what it is at the block's start
+-- On the first half of a block, the subspace polynomial e has the value that it has at the start of the block.
 pub lower_factor : (e shift i : ℕ) → e < 16 → shift % 2 ^ suc e ≡ 0 → shift + 2 ^ suc e ≤ 65536 → i < 2 ^ e → subspace e (shift + i) ≡ subspace e shift
 lower_factor e shift i he whole fits hi = grind (arith, common_steps, two-pow-succ, even_block, subspace_shift, div-mul-add, add-zero, pow_pos)
 
--- and on the second half that XOR 1
+-- On the second half of a block, the subspace polynomial e has the value at the start of the block XOR 1.
 pub upper_factor : (e shift i : ℕ) → e < 16 → shift % 2 ^ suc e ≡ 0 → shift + 2 ^ suc e ≤ 65536 → i < 2 ^ e → subspace e (shift + (2 ^ e + i)) ≡ bit_xor (subspace e shift) 1
 upper_factor e shift i he whole fits hi =
     let d : 2 ^ suc e ≡ 2 ^ e + 2 ^ e = two-pow-succ e in
@@ -229,13 +229,13 @@ mixed e shift f g i made =
     ∙ forward-xor (2 ^ e) shift f (λ q. product (f (2 ^ e + q)) c) i
     ∙ ap (bit_xor (forward (2 ^ e) shift f i)) (forward-product (2 ^ e) shift (λ q. f (2 ^ e + q)) c i)
 
--- the transform of the first rows after a butterfly is the first half of that of all rows before it
+-- The transform of the first half of the rows after a butterfly is the first half of the transform of all rows before the butterfly.
 pub lower_half : (e shift : ℕ) (f g : ℕ → ℕ) (i : ℕ) → e < 16 → shift % 2 ^ suc e ≡ 0 → shift + 2 ^ suc e ≤ 65536 → i < 2 ^ e
     → ((q : ℕ) → q < 2 ^ e → g q ≡ bit_xor (f q) (product (f (2 ^ e + q)) (subspace e shift)))
     → forward (2 ^ e) shift g i ≡ forward (2 ^ suc e) shift f i
 lower_half e shift f g i he whole fits hi made = grind (arith, common_steps, mixed, forward-half, lower_factor)
 
--- and that of the second rows is its second half
+-- The transform of the second half of the rows after a butterfly is the second half of the transform of all rows before the butterfly.
 pub upper_half : (e shift : ℕ) (f g h : ℕ → ℕ) (i : ℕ) → e < 16 → shift % 2 ^ suc e ≡ 0 → shift + 2 ^ suc e ≤ 65536 → i < 2 ^ e
     → ((q : ℕ) → q < 2 ^ e → g q ≡ bit_xor (f q) (product (f (2 ^ e + q)) (subspace e shift)))
     → ((q : ℕ) → q < 2 ^ e → h q ≡ bit_xor (f (2 ^ e + q)) (g q))

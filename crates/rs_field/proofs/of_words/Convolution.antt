@@ -1,4 +1,4 @@
--- The locator by two Walsh-Hadamard transforms, of any power of two of entries.
+-- The locator from two Walsh-Hadamard transforms, for any power of two of entries.
 use Rattle.std.proofs.Common.{rules, ◌≡◌, ℕ, zero, suc, ◌+◌, ◌-◌, ◌*◌, ◌/◌, ◌%◌, ◌^◌, ◌<◌, ◌≤◌, ◌≢◌, true, leb-true, cond, eqb, bit_xor, refl, sym, ap, ap₂, ◌∙◌, subst, arith, inl, inr, pow_mono, ne_eqb, eq-eqb}
 use Rattle.std.specs.Prelude.{nat_le}
 use Rattle.std.specs.Int.Bits.{xor_self, xor_lt}
@@ -47,13 +47,13 @@ signs_elsewhere (suc e) u some hu =
           ap₂ (λ n w. signed_sum n (λ y. 1) w % 65535) two back ∙ (let r : signed_sum (2 ^ e + 2 ^ e) (λ y. 1) (2 ^ e + v) % 65535 ≡ 0 = omega arith in r)
     ]
 
--- the signs at two points, multiplied, are those at their XOR
+-- The product of the signs at two points is the sign at their XOR.
 signs_meet : (n u z : ℕ) → n ≤ 65536 → total n (λ w. sign w u * sign w z) % 65535 ≡ signed_sum n (λ y. 1) (bit_xor u z) % 65535
 signs_meet n u z few = search (rules, total-near, sign-xor, sign-comm)
 
 -- ---- the transform of a transform
 
--- it is the number of entries times what there was
+-- The transform of a transform is the first list times the number of entries.
 pub transform-back : (d : ℕ) (f g : ℕ → ℕ) (u : ℕ) → d ≤ 16 → IsWalsh (2 ^ d) f g → u < 2 ^ d → signed_sum (2 ^ d) g u % 65535 ≡ f u * 2 ^ d % 65535
 transform-back d f g u hd is hu =
     total-near (2 ^ d) (λ w. sign u w * g w) (λ w. total (2 ^ d) (λ z. sign u w * (sign w z * f z)))
@@ -90,7 +90,7 @@ transform-back d f g u hd is hu =
 
 -- ---- the locator
 
--- the products of two transforms, transformed, are the sum over XORs times the number of entries
+-- The transform of the products of two transforms is the sum over XORs times the number of entries.
 pub transform-products : (d : ℕ) (e l old_walsh products l_walsh : ℕ → ℕ) (x : ℕ) → d ≤ 16 → x < 2 ^ d
     → IsWalsh (2 ^ d) e old_walsh → IsWalsh (2 ^ d) l l_walsh
     → ((w : ℕ) → w < 2 ^ d → products w % 65535 ≡ old_walsh w * l_walsh w % 65535)
@@ -131,12 +131,12 @@ log_or_zero-is : (z : ℕ) → log_or_zero z ≡ cond (eqb z 0) 0 (log z)
 unfolding log_or_zero
 log_or_zero-is z = refl
 
--- the term of the point itself is zero
+-- The term of the point itself is zero, so the sum can run over all points.
 log_sum-is : (n : ℕ) (e : ℕ → ℕ) (x : ℕ) → log_sum n e x ≡ total n (λ y. e y * log_or_zero (bit_xor x y))
 log_sum-is zero e x = log_sum-zero e x ∙ sym (total-zero (λ y. e y * log_or_zero (bit_xor x y)))
 log_sum-is (suc n) e x = search (rules, log_sum-suc, total-suc, cases_eq, xor_self, eq-eqb, log_or_zero-is, same_from_xor, ne_eqb, log_sum-is n e x)
 
--- the transforms of 2 ^ d entries leave the factor 2 ^ d, and their table has 65536 / 2 ^ d: the product is 65536, which is one
+-- The factor 2 ^ d of two transforms and the factor 65536 / 2 ^ d of the table have the product 65536, which is 1 modulo 65535.
 one_turn : (d v : ℕ) → d ≤ 16 → 65536 / 2 ^ d * v * 2 ^ d % 65535 ≡ v % 65535
 one_turn d v hd =
     grind (arith, common_steps, regroup (2 ^ (16 - d)) v (2 ^ d), turned v, shl-shr (2 ^ (16 - d)) d, pow-add 2 (16 - d) d)
@@ -147,7 +147,7 @@ one_turn d v hd =
     turned : (v : ℕ) → 65536 * v % 65535 ≡ v % 65535
     turned v = omega arith
 
--- a power of two up to 65536 has an exponent up to 16
+-- A power of two up to 65536 has an exponent up to 16.
 pub few_bits : (d : ℕ) → 2 ^ d ≤ 65536 → d ≤ 16
 few_bits d h = let few = exponent_below d 17 (omega arith) in omega arith
 
@@ -163,7 +163,7 @@ locator-made d old old_walsh products new l_walsh hd is_old is_log made is_new x
 
 -- ---- counts
 
--- two transforms of n entries and the products between them
+-- The counts of a locator are those of two transforms of n entries and the n products between them.
 pub locator-counts : (n : ℕ) (a b c d : Steps) → WalshCounts n a b → CountsProducts n b c → WalshCounts n c d → LocatorCountsBelow n a d
 unfolding transform_steps
 locator-counts n a b c d p (x, y, z) q =
@@ -176,12 +176,12 @@ locator-counts n a b c d p (x, y, z) q =
         → c.row_steps ≡ b.row_steps → c.pair_sums ≡ b.pair_sums → c.products ≡ b.products + n → CountsUpTo 0 u n a d
     of_bounds t u le p q x y z = counted 0 u n a d (omega arith, omega arith) (omega arith, omega arith) (omega arith, omega arith)
 
--- those of 2 ^ d entries are the most with 65536
+-- Among the powers of two up to 65536, the pair sums of a transform are the most for 65536 entries.
 most_sums : passes_below 17 (λ d. nat_le (2 ^ d * log2 (2 ^ d)) 1048576) ≡ true
 unfolding log2 first_below passes_below
 most_sums = refl
 
--- what a locator of fewer points counts is within what that of all points may
+-- The counts of a locator of fewer points are within the bound for all points.
 pub counts-below : (d n : ℕ) (a b : Steps) → n ≡ 2 ^ d → n ≤ 65536 → LocatorCountsBelow n a b → LocatorCounts a b
 counts-below d n a b is few p =
     let hd : d ≤ 16 = few_bits d (omega arith) in

@@ -1,4 +1,4 @@
--- The derivative of polynomials: of sums, of multiples, and of products of factors x + a; that of a subspace polynomial is one.
+-- The derivative of sums, of multiples, and of products of factors x + a. The derivative of a subspace polynomial is one.
 use Rattle.std.proofs.Common.{rules, ◌≡◌, ℕ, zero, suc, ◌+◌, ◌/◌, ◌^◌, ◌<◌, ◌≤◌, List, [], ◌∷◌, bit_xor, refl, sym, ap, ◌∙◌, subst, arith, add-zero, add-suc, zero-add, pow-suc, one-mul, pow_mono, ap₂}
 use Rattle.std.specs.Int.Bits.{xor_comm, xor_assoc, xor_self, xor_zero_r, xor_lt, xor_shr, xor_shifted}
 use Rattle.std.proofs.lemmas.Nat.{pow_pos, pow_below, shl-shr}
@@ -27,27 +27,27 @@ unfolding derivative_value
 derivative_lt [] x h = pow_pos 16
 derivative_lt (c ∷ cs) x h = xor_lt 16 (value cs x) (product x (derivative_value cs x)) (value_lt cs x h.1) (product_lt x (derivative_value cs x))
 
--- of a sum it is the sum
+-- The derivative of a sum is the sum of the derivatives.
 pub derivative_add : (p q : List ℕ) (x : ℕ) → derivative_value (add p q) x ≡ bit_xor (derivative_value p x) (derivative_value q x)
 unfolding derivative_value add
 derivative_add [] q x = refl
 derivative_add (a ∷ p) [] x = grind (arith, common_steps, xor_zero_r)
 derivative_add (a ∷ p) (b ∷ q) x = grind (arith, common_steps, value_add, product_xor_right, xor_swap, derivative_add p q x)
 
--- of a multiple it is the multiple
+-- The derivative of a multiple is the multiple of the derivative.
 pub derivative_scale : (c : ℕ) (p : List ℕ) (x : ℕ) → derivative_value (scale c p) x ≡ product c (derivative_value p x)
 unfolding derivative_value scale
 derivative_scale c [] x = sym (product_zero c)
 derivative_scale c (a ∷ p) x = grind (arith, common_steps, value_scale, product-left_comm, product_xor_right, derivative_scale c p x)
 
--- one more factor x + a
+-- The derivative of a polynomial times x + a, by the product rule.
 pub derivative_with_root : (a : ℕ) (p : List ℕ) (x : ℕ) → derivative_value (with_root a p) x ≡ bit_xor (value p x) (product (bit_xor x a) (derivative_value p x))
 unfolding with_root
 derivative_with_root a p x = grind (arith, common_steps, derivative_add, derivative-cons, derivative_scale, xor_assoc, product_xor_left)
 
 -- ---- products of factors
 
--- the product of the factors at n points from a on
+-- The product of the factors at n points from a on.
 abbrev factors : ℕ → ℕ → ℕ → ℕ
 factors a n x = product_below n (λ i. bit_xor x (a + i))
 
@@ -57,7 +57,7 @@ factors-suc a n x = product_below-suc n (λ i. bit_xor x (a + i))
 factors_lt : (a n x : ℕ) → factors a n x < 2 ^ 16
 factors_lt a n x = product_below_lt n (λ i. bit_xor x (a + i))
 
--- the derivative of that product, by the product rule
+-- The derivative of the product of the factors at n points from a on, by the product rule.
 abbrev slope : ℕ → ℕ → ℕ → ℕ
 slope a zero x = 0
 slope a (suc n) x = bit_xor (factors a n x) (product (bit_xor x (a + n)) (slope a n x))
@@ -74,7 +74,7 @@ rule s f g p d hs hf hg hp hd =
     (plus (both (both (v 1) (v 0)) (v 4)) (both (plus (v 1) (both (v 0) (v 2))) (v 3)))
     (hs, (hf, (hg, (hp, (hd, tt))))) refl
 
--- the derivative of a polynomial times the factors
+-- The derivative of a polynomial times the factors at n points, by the product rule.
 derivative-times : (a n : ℕ) (p : List ℕ) → WordsOneByOne p → (x : ℕ) → x < 2 ^ 16 → a + n ≤ 2 ^ 16
     → derivative_value (times (points a n) p) x ≡ bit_xor (product (factors a n x) (derivative_value p x)) (product (slope a n x) (value p x))
 unfolding times points
@@ -88,7 +88,7 @@ derivative-times a (suc n) p w x hx hn =
     s_lt (factors_lt a n x) (slope_lt a n x) (value_lt p x w) (derivative_lt p x w)
     ∙ ap (λ z. bit_xor (product z (derivative_value p x)) (product (slope a (suc n) x) (value p x))) (sym (factors-suc a n x))
 
--- m factors and then n more
+-- The product of m + n factors is the product of the first m factors times the product of the n next factors.
 factors-add : (m n x : ℕ) → x < 2 ^ 16 → m + n ≤ 2 ^ 16 → factors 0 (m + n) x ≡ product (factors 0 m x) (factors m n x)
 factors-add m n x hx h =
     product_below-add m n (λ i. bit_xor x (0 + i)) (λ i hi. xor_lt 16 x (0 + i) hx (omega arith))
@@ -114,7 +114,7 @@ slope-add m (suc n) x hx h =
     s_lt (factors_lt 0 m x) (factors_lt m n x) (slope_lt 0 m x) (slope_lt m n x)
     ∙ ap (λ z. bit_xor (product (slope 0 m x) z) (product (factors 0 m x) (slope m (suc n) x))) (sym (factors-suc m n x))
 
--- the points past 2 ^ e are those from 0 on, each XOR 2 ^ e
+-- The points from 2 ^ e on are the points from 0 on, each XOR 2 ^ e.
 moved_point : (e i x : ℕ) → i < 2 ^ e → bit_xor x (2 ^ e + i) ≡ bit_xor (bit_xor x (2 ^ e)) (0 + i)
 moved_point e i x h = cc (one-mul (2 ^ e), xor_shifted 1 e i h, zero-add i, xor_assoc x (2 ^ e) (0 + i))
 
@@ -135,7 +135,7 @@ factors_subspace e x = product_below-same (2 ^ e) (λ i. bit_xor x (0 + i)) (λ 
 factors_lower : (e x : ℕ) → e ≤ 16 → x < 2 ^ 16 → factors 0 (2 ^ e) x ≡ x / 2 ^ e
 factors_lower e x he hx = factors_subspace e x ∙ subspace_shift e x he hx
 
--- each subspace polynomial has derivative one
+-- Each subspace polynomial has derivative one.
 slope_subspace : (e x : ℕ) → e ≤ 16 → x < 2 ^ 16 → slope 0 (2 ^ e) x ≡ 1
 slope_subspace zero x he hx = search (rules, product_below-zero, product_zero)
 slope_subspace (suc e) x he hx =
@@ -156,7 +156,7 @@ slope_subspace (suc e) x he hx =
     ∙ product_one (x / 2 ^ e) quotient_lt)
     ∙ xor_comm (bit_xor (x / 2 ^ e) 1) (x / 2 ^ e) ∙ sym (xor_assoc (x / 2 ^ e) (x / 2 ^ e) 1) ∙ ap (λ k. bit_xor k 1) (xor_self (x / 2 ^ e))
 
--- a polynomial times the subspace polynomial e: of the two terms of the product rule the second is the polynomial itself
+-- The derivative of a polynomial times the subspace polynomial e: the second term of the product rule is the polynomial itself.
 pub derivative-subspace : (e : ℕ) (p : List ℕ) → e < 16 → WordsOneByOne p → (x : ℕ) → x < 2 ^ 16
     → derivative_value (times (points 0 (2 ^ e)) p) x ≡ bit_xor (product (subspace e x) (derivative_value p x)) (value p x)
 derivative-subspace e p he w x hx = search (rules, pow_below, derivative-times, factors_subspace, slope_subspace, one_product, value_lt)

@@ -6,23 +6,23 @@ use Rattle.rs_field.proofs.of_words.Roots.{WordsOneByOne, steps, length-steps, w
 use Rattle.rs_field.proofs.of_words.Factors.{times, value_with_root}
 use Rattle.std.proofs.lemmas.Grind.{common_steps}
 
--- distinct numbers below n: each is below the one before
+-- Distinct numbers below n, each below the number before.
 abbrev pub AreFalling : ℕ → List ℕ → Type 0
 AreFalling n [] = Unit {0}
 AreFalling n (a ∷ r) = (a < n) × AreFalling a r
 
--- the polynomial is zero at each of the words
+-- The polynomial is zero at each of the words.
 abbrev pub AreRoots : List ℕ → List ℕ → Type 0
 AreRoots p [] = Unit {0}
 AreRoots p (a ∷ r) = (value p a ≡ 0) × AreRoots p r
 
--- the quotient by one root keeps all others
+-- Dividing by one root keeps all other roots.
 other_roots : (a n c : ℕ) (cs r : List ℕ) → a < 2 ^ 16 → n ≤ a → AreFalling n r → WordsOneByOne cs → value (c ∷ cs) a ≡ 0 → AreRoots (c ∷ cs) r → AreRoots (steps a cs) r
 other_roots a n c cs [] ha hn falling words root roots = tt
 other_roots a n c cs (b ∷ r) ha hn falling words root roots =
     grind (arith, common_steps, next_root, other_roots a b c cs r ha (omega arith) falling.1 words root roots.1)
 
--- a polynomial that is zero at distinct words is that of their factors and as many fewer coefficients
+-- A polynomial with distinct roots is the product of the factors of the roots and a polynomial with that many fewer coefficients.
 pub divided_by : (n : ℕ) (r p : List ℕ) (b : ℕ) → n ≤ 2 ^ 16 → AreFalling n r → length p ≡ length r + b → WordsOneByOne p → AreRoots p r
     → (q : List ℕ) × (length q ≡ b) × WordsOneByOne q × ((x : ℕ) → value p x ≡ value (times r q) x)
 unfolding times

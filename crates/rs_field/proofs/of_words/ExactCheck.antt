@@ -1,4 +1,4 @@
--- Whether some polynomial takes the words given, by the rows after the backward transform: one column.
+-- Whether some polynomial has the given words as values, from the rows after the backward transform, for one column.
 use Rattle.std.proofs.Common.{◌≡◌, ℕ, zero, suc, ◌+◌, ◌^◌, ◌<◌, ◌≤◌, ◌⊎◌, List, [], ◌∷◌, length, sym, ap, ◌∙◌, arith}
 use Rattle.std.proofs.lemmas.Bool.{cases_eq}
 use Rattle.std.proofs.lemmas.Grind.{common_steps}
@@ -16,18 +16,18 @@ use Rattle.rs_field.proofs.of_words.LocatorProduct.{marked, marked-more, marked-
 use Rattle.rs_field.proofs.of_words.Division.{AreFalling, AreRoots, divided_by}
 use Rattle.rs_field.proofs.of_words.Coefficients.{forward-fewer, polynomial_of_terms, no_terms_past}
 
--- the located words: nothing at a marked point, elsewhere the word given there times the locator's power; at a known zero the word is 0
+-- The located words: zero at a marked point, and elsewhere the given word times the locator's power. The word at a known zero is 0.
 pub record AreLocated (n : ℕ) (marks words f : ℕ → ℕ) : Type 0 where
   pub erased : (x : ℕ) → x < n → marks x ≡ 1 → f x ≡ 0
   pub given : (x : ℕ) → x < n → marks x ≡ 0 → f x ≡ product (words x) (power (log_sum n marks x))
 
--- a polynomial of b coefficients takes the word given at each point that is not marked
+-- A polynomial of b coefficients has the given word as value at each point that is not marked.
 pub record Takes (n b : ℕ) (marks words : ℕ → ℕ) (q : List ℕ) : Type 0 where
   pub degree : length q ≡ b
   pub coefficients : WordsOneByOne q
   pub given : (x : ℕ) → x < n → marks x ≡ 0 → value q x ≡ words x
 
--- rows located one at a time: nothing at a marked point, nothing at a known zero, a given word times the locator's power
+-- Rows are located one at a time: zero at a marked point, zero at a known zero, and elsewhere the given word times the locator's power.
 pub are_located : (n : ℕ) (marks words f : ℕ → ℕ) → ((x : ℕ) → x < n → marks x ≡ 1 → f x ≡ 0)
     → ((x : ℕ) → x < n → marks x ≡ 0 → ((words x ≡ 0) × (f x ≡ 0)) ⊎ (f x ≡ product (words x) (power (log_sum n marks x)))) → AreLocated n marks words f
 are_located n marks words f erased rest = grind (arith, common_steps, zero_product)
@@ -53,14 +53,14 @@ roots_marked (suc n) marks p m at =
 
 -- ---- the located polynomial
 
--- a polynomial that takes the words given has the located words as values, once a root is put in at each marked point
+-- If a polynomial has the given words as values, the polynomial with one more root at each marked point has the located words as values.
 pub located_values : (n b : ℕ) (marks words f : ℕ → ℕ) (q : List ℕ) → n ≤ 2 ^ 16 → AreMarks n marks → AreLocated n marks words f → Takes n b marks words q
     → (x : ℕ) → x < n → f x ≡ value (times (marked n marks) q) x
 located_values n b marks words f q hn m l h x hx = grind (arith, common_steps, cases_eq, locator_root, product-comm, locator_value, not_both)
 
 -- ---- the check
 
--- where some polynomial takes the words given, the rows past the marked points and its coefficients are zero
+-- If some polynomial has the given words as values, the rows after the marked points and its coefficients are zero.
 pub zero_rows : (n b t : ℕ) (marks words f F : ℕ → ℕ) → n ≤ 2 ^ 16 → AreMarks n marks → length (marked n marks) + b + t ≡ n → AreLocated n marks words f
     → ((x : ℕ) → x < n → F x < 2 ^ 16) → ((x : ℕ) → x < n → forward n 0 F x ≡ f x)
     → (q : List ℕ) × Takes n b marks words q → (i : ℕ) → n ≤ i + t → i < n → F i ≡ 0
@@ -70,21 +70,21 @@ zero_rows n b t marks words f F hn m count l word at (q, h) i above below =
     no_terms_past (length (marked n marks) + b) t F (times (marked n marks) q) (omega arith) (λ x hx. word x (omega arith)) size (words_times (marked n marks) q h.coefficients)
     (λ x hx. ap (λ k. forward k 0 F x) count ∙ at x (omega arith) ∙ located_values n b marks words f q hn m l h x (omega arith)) i (omega arith) (omega arith)
 
--- a polynomial that gives the located words with a root at each marked point put in takes the words given
+-- If a polynomial with one more root at each marked point has the located words as values, the polynomial has the given words as values.
 divided_takes : (n b : ℕ) (marks words f : ℕ → ℕ) (h : List ℕ) → n ≤ 2 ^ 16 → AreMarks n marks → AreLocated n marks words f
     → ((x : ℕ) → x < n → marks x ≡ 0 → words x < 2 ^ 16) → ((x : ℕ) → x < n → value h x ≡ f x)
     → (q : List ℕ) × (length q ≡ b) × WordsOneByOne q × ((x : ℕ) → value h x ≡ value (times (marked n marks) q) x) → (q : List ℕ) × Takes n b marks words q
 divided_takes n b marks words f h hn m l given same (q, size, are_words, at) =
     grind (arith, common_steps, product_cancel, power_pos, power_lt, value_lt, product-comm, locator_value, not_both)
 
--- as many coefficients as the marked points and those of the polynomial wanted, with the located words as values
+-- If the last rows are zero, a polynomial with the number of the other rows as coefficients has the located words as values.
 few_coefficients : (n k t : ℕ) (f F : ℕ → ℕ) → n ≤ 2 ^ 16 → k + t ≡ n → ((x : ℕ) → x < n → forward n 0 F x ≡ f x)
     → ((i : ℕ) → n ≤ i + t → i < n → F i ≡ 0) → (h : List ℕ) × (length h ≡ k) × WordsOneByOne h × ((x : ℕ) → x < n → value h x ≡ f x)
 few_coefficients n k t f F hn count at none =
     let (h, size, words, is) = polynomial_of_terms k F (omega arith) in
     (h, size, words_from h words, λ x hx. is x ∙ sym (forward-fewer k t F x (λ i a. none (k + i) (omega arith) (omega arith))) ∙ ap (λ j. forward j 0 F x) count ∙ at x hx)
 
--- where these rows are zero, some polynomial takes the words given
+-- If the last rows are zero, some polynomial has the given words as values.
 pub taken_from_zero_rows : (n b t : ℕ) (marks words f F : ℕ → ℕ) → n ≤ 2 ^ 16 → AreMarks n marks → length (marked n marks) + b + t ≡ n → AreLocated n marks words f
     → ((x : ℕ) → x < n → marks x ≡ 0 → words x < 2 ^ 16) → ((x : ℕ) → x < n → forward n 0 F x ≡ f x)
     → ((i : ℕ) → n ≤ i + t → i < n → F i ≡ 0) → (q : List ℕ) × Takes n b marks words q

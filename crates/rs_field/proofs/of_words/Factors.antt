@@ -12,32 +12,32 @@ use Rattle.rs_field.proofs.of_words.Roots.{WordsOneByOne, value_lt}
 use Rattle.rs_field.proofs.of_words.Subspace.{product_below-suc, product_below-zero}
 use Rattle.std.proofs.lemmas.Grind.{common_steps}
 
--- the sum of two polynomials
+-- The sum of two polynomials.
 unfoldable pub add : List ℕ → List ℕ → List ℕ
 add [] q = q
 add (a ∷ p) [] = a ∷ p
 add (a ∷ p) (b ∷ q) = bit_xor a b ∷ add p q
 
--- a polynomial times a word
+-- A polynomial times a word.
 unfoldable pub scale : ℕ → List ℕ → List ℕ
 scale c [] = []
 scale c (a ∷ p) = product c a ∷ scale c p
 
--- the polynomial times x + a
+-- A polynomial times x + a.
 unfoldable pub with_root : ℕ → List ℕ → List ℕ
 with_root a p = add (0 ∷ p) (scale a p)
 
--- the points from a on, n of them, the last one first
+-- The n points from a on, with the last one first.
 unfoldable pub points : ℕ → ℕ → List ℕ
 points a zero = []
 points a (suc n) = (a + n) ∷ points a n
 
--- a polynomial times x + a for each a of a list
+-- A polynomial times x + a for each a of a list.
 unfoldable pub times : List ℕ → List ℕ → List ℕ
 times [] p = p
 times (a ∷ r) p = with_root a (times r p)
 
--- the value of a sum is the sum of the values
+-- The value of a sum is the sum of the values.
 pub value_add : (p q : List ℕ) (x : ℕ) → value (add p q) x ≡ bit_xor (value p x) (value q x)
 unfolding value add
 value_add [] q x = refl
@@ -45,14 +45,14 @@ value_add (a ∷ p) [] x = sym (xor_zero_r (bit_xor a (product x (value p x))))
 value_add (a ∷ p) (b ∷ q) x =
     rw (value_add p q x, product_xor_right x (value p x) (value q x)) (xor_swap a b (product x (value p x)) (product x (value q x)))
 
--- the value of a multiple is the multiple of the value
+-- The value of a multiple is the multiple of the value.
 pub value_scale : (c : ℕ) (p : List ℕ) (x : ℕ) → value (scale c p) x ≡ product c (value p x)
 unfolding value scale
 value_scale c [] x = sym (product_zero c)
 value_scale c (a ∷ p) x =
     ap (bit_xor (product c a)) (ap (product x) (value_scale c p x) ∙ product-left_comm x c (value p x)) ∙ sym (product_xor_right c a (product x (value p x)))
 
--- a factor x + a multiplies the value
+-- Multiplying a polynomial by x + a multiplies its value by the value of x + a.
 pub value_with_root : (a : ℕ) (p : List ℕ) (x : ℕ) → value (with_root a p) x ≡ product (bit_xor x a) (value p x)
 unfolding with_root value
 value_with_root a p x =
@@ -99,13 +99,13 @@ unfolding times points
 length-times a zero p = omega arith
 length-times a (suc n) p = let e : length (times (points a n) p) ≡ n + length p = length-times a n p in length-with_root (a + n) (times (points a n) p) ∙ omega arith
 
--- its value is the polynomial's times the product of the factors
+-- The value of a polynomial times the factors at n points is its value times the product of the factors.
 pub value-times : (a n : ℕ) (p : List ℕ) → WordsOneByOne p → (x : ℕ) → value (times (points a n) p) x ≡ product (product_below n (λ i. bit_xor x (a + i))) (value p x)
 unfolding times points
 value-times a zero p w x = grind (arith, common_steps, product_below-zero, one_product, value_lt)
 value-times a (suc n) p w x = grind (arith, common_steps, value_with_root, product-assoc, product-comm, product_below-suc, value-times a n p w x)
 
--- words one after another are words by entry
+-- Words in the recursive form `WordsOneByOne` are words by `All`.
 pub all_words : (p : List ℕ) → WordsOneByOne p → All (λ w. w < 65536) p
 all_words [] h k d hk = absurd (let no : ⊥ = omega arith in no)
 all_words (c ∷ cs) h zero d hk = h.0

@@ -1,4 +1,4 @@
--- How a transform consists of halves: the sizes, the factor in the table, and the row steps.
+-- The halves of a transform: the sizes, the factor in the table, and the row steps.
 use Rattle.std.proofs.lemmas.Grind.{common_steps}
 use Rattle.std.proofs.lemmas.Bool.{cases_eq, cases_lt}
 use Rattle.std.proofs.lemmas.Nat.{pow_pos, pow_below}
@@ -16,12 +16,12 @@ use Rattle.rs_field.proofs.of_words.Power.{log_lt, power-log}
 use Rattle.rs_field.proofs.of_words.Subspace.{product_below_lt}
 use Rattle.rs_field.proofs.of_words.Combination.{aligned_parts}
 
--- half of a power of two that is above one
+-- Half of a power of two above 1 is a power of two.
 pub half_power : (size : ℕ) → 1 < size → (d : ℕ) × (size ≡ 2 ^ d) → (e : ℕ) × (size ≡ 2 ^ suc e) × (size / 2 ≡ 2 ^ e)
 half_power size h (zero, is) = absurd (let no : ⊥ = omega arith in no)
 half_power size h (suc e, is) = (e, is, let p = pow-suc 2 e in omega arith)
 
--- a quarter of one that is above two
+-- A quarter of a power of two above 2 is a power of two.
 pub quarter_power : (size : ℕ) → 2 < size → (d : ℕ) × (size ≡ 2 ^ d) → (e : ℕ) × (size ≡ 2 ^ suc (suc e)) × (size / 4 ≡ 2 ^ e) × (size ≡ 4 * (size / 4))
 quarter_power size h (zero, is) = absurd (let no : ⊥ = omega arith in no)
 quarter_power size h (suc zero, is) = absurd (let no : ⊥ = omega arith in no)
@@ -30,15 +30,15 @@ quarter_power size h (suc (suc e), is) = grind (arith, common_steps, pow-suc)
 pub two_halves : (size : ℕ) → 1 < size → (d : ℕ) × (size ≡ 2 ^ d) → size ≡ size / 2 + size / 2
 two_halves size h power = omega (arith, half_power size h power)
 
--- a power of two below another has the smaller exponent
+-- A power of two below another has the smaller exponent.
 pub exponent_below : (d n : ℕ) → 2 ^ d < 2 ^ n → d < n
 exponent_below d n h = elim (cases_lt d n) [ inl less ↦ less | inr more ↦ let large : 2 ^ n ≤ 2 ^ d = pow_mono more in absurd (omega arith) ]
 
--- a transform has no more points than there are words
+-- A transform has at most 65536 points.
 pub few_halves : (size e shift : ℕ) → size ≡ 2 ^ suc e → shift + size ≤ 65536 → e < 16
 few_halves size e shift is fits = let few = exponent_below (suc e) 17 (omega arith) in omega arith
 
--- a multiple of the size is one of its half, and so is the point of the second half
+-- A multiple of the size is a multiple of half the size, and so is the point where the second half begins.
 pub shift_half : (size e shift : ℕ) → size ≡ 2 ^ suc e → shift % size ≡ 0 → (shift % 2 ^ e ≡ 0) × ((shift + 2 ^ e) % 2 ^ e ≡ 0)
 shift_half size e shift is whole =
     let first : shift % 2 ^ e ≡ 0 =
@@ -53,7 +53,7 @@ pub mark_word : (z : ℕ) → eqb z 0 ≡ false → log_or_mark z ≡ log z
 unfolding log_or_mark
 mark_word z e = ap (λ (b : Bool). cond b 65535 (log z)) e
 
--- what the table entry of a factor represents
+-- The product with the table entry of a factor is the product with the factor.
 pub scaled_by : (c w : ℕ) → c < 2 ^ 16 → times_factor (log_or_mark c) w ≡ product w c
 scaled_by c w hc = grind (arith, common_steps, cases_eq, mark_zero, product_zero, log_lt, mark_word, ne_eqb, power-log)
 
@@ -61,7 +61,7 @@ pub subspace_lt : (d x : ℕ) → subspace d x < 2 ^ 16
 unfolding subspace
 subspace_lt d x = product_below_lt (2 ^ d) (λ y. bit_xor x y)
 
--- the table's entry for the butterflies between the halves of a block
+-- The table's entry for the butterflies between the halves of a block.
 pub table_factor : (skew : List ℕ) (e half shift w : ℕ) → IsSkew skew → half ≡ 2 ^ e → shift % 2 ^ suc e ≡ 0 → shift + 2 ^ suc e ≤ 65536
     → times_factor (get_or skew (shift + half - 1) 0) w ≡ product w (subspace e shift)
 table_factor skew e half shift w table is whole fits =
@@ -85,7 +85,7 @@ unfolding log2
 log2-power e he =
     first_below-is 64 (λ d. nat_le (2 ^ e) (2 ^ d)) e he (grind arith) (λ j h. let small : 2 ^ j < 2 ^ e = pow_below j e h in grind arith)
 
--- the butterflies between the halves and the steps of both halves are those of the whole
+-- The row steps of the butterflies between the halves and of both halves are the row steps of the whole.
 pub steps_half : (size e half : ℕ) → e < 16 → size ≡ 2 ^ suc e → half ≡ 2 ^ e → half + 2 * transform_steps half ≡ transform_steps size
 unfolding transform_steps
 steps_half size e half he is h =
@@ -102,7 +102,7 @@ steps_half size e half he is h =
         let r : n * a ≡ half * suc e = ap₂ (λ v w. v * w) i j in
         omega arith
 
--- and two layers between the quarters and the steps of all four
+-- The row steps of two layers between the quarters and of all four quarters are the row steps of the whole.
 pub steps_quarters : (size e quarter : ℕ) → size ≤ 65536 → size ≡ 2 ^ suc (suc e) → quarter ≡ 2 ^ e → 4 * quarter + 4 * transform_steps quarter ≡ transform_steps size
 steps_quarters size e quarter small is q =
     let few = few_halves size (suc e) 0 is (omega arith) in
@@ -110,7 +110,7 @@ steps_quarters size e quarter small is q =
     let inner = steps_half (quarter + quarter) e quarter (omega arith) (omega arith) q in
     omega arith
 
--- one row has no step
+-- The transform of one row has no row steps.
 pub no_steps : (size : ℕ) → size ≤ 1 → transform_steps size ≡ 0
 unfolding transform_steps
 no_steps size few = ap (λ n. n * log2 size) (let none : size / 2 ≡ 0 = omega arith in none) ∙ zero-mul (log2 size)

@@ -1,4 +1,4 @@
--- A Walsh-Hadamard transform from those of its halves, and from those of its quarters.
+-- A Walsh-Hadamard transform from the transforms of its halves, and from the transforms of its quarters.
 use Rattle.std.proofs.Common.{rules, ◌≡◌, ℕ, suc, cond, ◌+◌, ◌-◌, ◌*◌, ◌/◌, ◌%◌, ◌^◌, ◌<◌, ◌≤◌, List, ◌++◌, length, take, drop, get_or, set, get_or-set_same, get_or-set_other, refl, sym, ap, ap₂, ◌∙◌, subst, arith, inl, inr, pow-suc}
 use Rattle.std.proofs.lemmas.Bool.{cases_lt, lt-ltb, le-ltb}
 use Rattle.std.proofs.lemmas.List.{get_or-take, get_or-drop, get_or_append_left, get_or-append-add, length-append, length-set}
@@ -13,12 +13,12 @@ use Rattle.rs_field.proofs.of_words.Totals.{total-zero, total-suc, total-same, t
 use Rattle.rs_field.proofs.of_words.Signs.{sign-left, sign-right, sign-both, sign-zero}
 use Rattle.rs_field.proofs.of_words.Counting.{counted}
 
--- an entry of the first half
+-- An entry of the first half of a transform is the sum of the entries of both halves.
 pub sum_lower : (e w : ℕ) (f : ℕ → ℕ) → w < 2 ^ e
     → signed_sum (2 ^ e + 2 ^ e) f w ≡ signed_sum (2 ^ e) f w + signed_sum (2 ^ e) (λ y. f (2 ^ e + y)) w
 sum_lower e w f hw = grind (arith, common_steps, total-split, total-same, sign-right)
 
--- and of the second
+-- An entry of the second half of a transform is the difference of the entries of both halves.
 pub sum_upper : (e w : ℕ) (f : ℕ → ℕ) → w < 2 ^ e
     → signed_sum (2 ^ e + 2 ^ e) f (2 ^ e + w) % 65535 ≡ (signed_sum (2 ^ e) f w + 65534 * signed_sum (2 ^ e) (λ y. f (2 ^ e + y)) w) % 65535
 sum_upper e w f hw =
@@ -31,14 +31,14 @@ sum_upper e w f hw =
     ∙ ap (λ v. v % 65535) (let r : 65534 * sign w y * f (2 ^ e + y) ≡ 65534 * (sign w y * f (2 ^ e + y)) = omega arith in r))
     ∙ ap (λ v. v % 65535) (total-scale (2 ^ e) 65534 (λ y. sign w y * f (2 ^ e + y))))
 
--- the transform of one entry, and of zeros
+-- One entry is its own transform, and zeros are their own transform.
 pub walsh-one : (n : ℕ) (f : ℕ → ℕ) → n ≡ 1 → IsWalsh n f f
 walsh-one n f one w hw = grind (arith, common_steps, total-suc, total-zero, sign-zero)
 
 pub walsh-none : (n : ℕ) (f : ℕ → ℕ) → ((y : ℕ) → y < n → f y ≡ 0) → IsWalsh n f f
 walsh-none n f none w hw = grind (arith, common_steps, total-none)
 
--- what sums and differences make of the transforms of both halves
+-- The new entries are sums and differences of the entries of both halves.
 pub record AreSumsAndDifferences (half : ℕ) (low high new : ℕ → ℕ) : Type 0 where
   pub sums : (i : ℕ) → i < half → new i % 65535 ≡ (low i + high i) % 65535
   pub differences : (i : ℕ) → i < half → new (half + i) % 65535 ≡ (low i + 65534 * high i) % 65535
@@ -75,7 +75,7 @@ walsh-at n m f g same is = subst (λ (k : ℕ). IsWalsh k f g) same is
 
 -- ---- quarters
 
--- two layers make the transform of those of the quarters
+-- Two layers make a transform from the transforms of its four quarters.
 walsh-quarters : (e n q : ℕ) (old t0 t1 t2 t3 new : ℕ → ℕ) → n ≡ 2 ^ suc (suc e) → q ≡ 2 ^ e
     → IsWalsh q old t0 → IsWalsh q (λ y. old (q + y)) t1 → IsWalsh q (λ y. old (q + q + y)) t2 → IsWalsh q (λ y. old (q + q + (q + y))) t3
     → ((i : ℕ) → i < q → IsFourSums (t0 i) (t1 i) (t2 i) (t3 i) (new i) (new (q + i)) (new (q + q + i)) (new (q + q + (q + i))))
@@ -125,7 +125,7 @@ walsh-quarters e n q old t0 t1 t2 t3 new is h done0 done1 done2 done3 sums =
 
 -- ---- halves and quarters of lists
 
--- halves that were transformed, and a layer of them
+-- Two halves that were transformed and one layer between them make the transform of the list.
 pub walsh-two : (e half : ℕ) (old x0 x1 t0 t1 u0 u1 : List ℕ) → half ≡ 2 ^ e → length old ≡ half + half → x0 ≡ take half old → x1 ≡ drop half old
     → length u0 ≡ half → IsWalsh half (λ y. get_or x0 y 0) (λ w. get_or t0 w 0) → IsWalsh half (λ y. get_or x1 y 0) (λ w. get_or t1 w 0)
     → ((i : ℕ) → i < half → get_or u0 i 0 % 65535 ≡ (get_or t0 i 0 + get_or t1 i 0) % 65535)
@@ -140,7 +140,7 @@ walsh-two e half old x0 x1 t0 t1 u0 u1 h size is0 is1 new_size done0 done1 sums 
       differences = λ i hi. ap (λ v. v % 65535) (ap (λ k. get_or (u0 ++ u1) (k + i) 0) (sym new_size) ∙ get_or-append-add u0 u1 i 0) ∙ differences i hi;
     })
 
--- the four quarters of a list
+-- The four quarters of a list.
 pub record AreQuarters (q : ℕ) (old x0 x1 x2 x3 : List ℕ) : Type 0 where
   pub size0 : length x0 ≡ q
   pub size1 : length x1 ≡ q
@@ -151,13 +151,13 @@ pub record AreQuarters (q : ℕ) (old x0 x1 x2 x3 : List ℕ) : Type 0 where
   pub entry2 : (y : ℕ) → y < q → get_or x2 y 0 ≡ get_or old (q + q + y) 0
   pub entry3 : (y : ℕ) → y < q → get_or x3 y 0 ≡ get_or old (q + q + (q + y)) 0
 
--- halves of halves are quarters
+-- The halves of the halves of a list are its quarters.
 pub cut_in_quarters : (half q : ℕ) (old low high x0 x1 x2 x3 : List ℕ) → half ≡ q + q → length old ≡ half + half
     → low ≡ take half old → high ≡ drop half old → x0 ≡ take q low → x1 ≡ drop q low → x2 ≡ take q high → x3 ≡ drop q high
     → AreQuarters q old x0 x1 x2 x3
 cut_in_quarters half q old low high x0 x1 x2 x3 two size is_low is_high is0 is1 is2 is3 = grind (arith, common_steps)
 
--- the quarters of a list whose length is a power of two, above two
+-- A list whose length is a power of two above 2 has four quarters.
 pub in_quarters : {low high x0 x1 x2 x3 : List ℕ} (old : List ℕ) → 2 < length old → (d : ℕ) × (length old ≡ 2 ^ d)
     → low ≡ take (length old / 2) old → high ≡ drop (length old / 2) old → x0 ≡ take (length old / 4) low → x1 ≡ drop (length old / 4) low
     → x2 ≡ take (length old / 4) high → x3 ≡ drop (length old / 4) high
@@ -166,7 +166,7 @@ in_quarters {low} {high} {x0} {x1} {x2} {x3} old large power is_low is_high is0 
     let (e, is, part, whole) = quarter_power (length old) large power in
     (e, is, part, cut_in_quarters (length old / 2) (length old / 4) old low high x0 x1 x2 x3 (omega arith) (omega arith) is_low is_high is0 is1 is2 is3)
 
--- quarters that were transformed, and two layers of them
+-- Four quarters that were transformed, and two layers between them.
 pub record AreJoined (q : ℕ) (x0 x1 x2 x3 t0 t1 t2 t3 u0 u1 u2 u3 : List ℕ) : Type 0 where
   pub size0 : length u0 ≡ q
   pub size1 : length u1 ≡ q
@@ -204,7 +204,7 @@ walsh-joined e n q old x0 x1 x2 x3 t0 t1 t2 t3 u0 u1 u2 u3 is h cut j =
     second : (k : ℕ) → get_or ((u0 ++ u1) ++ (u2 ++ u3)) (q + q + k) 0 ≡ get_or (u2 ++ u3) k 0
     second k = ap (λ m. get_or ((u0 ++ u1) ++ (u2 ++ u3)) (m + k) 0) (sym front_size) ∙ get_or-append-add (u0 ++ u1) (u2 ++ u3) k 0
 
--- one pair
+-- The transform of one pair is its sum and its difference.
 pub walsh-pair : (old : List ℕ) (sum difference : ℕ) → length old ≡ 2
     → sum % 65535 ≡ (get_or old 0 0 + get_or old 1 0) % 65535 → difference % 65535 ≡ (get_or old 0 0 + 65534 * get_or old 1 0) % 65535
     → IsWalsh (length old) (λ y. get_or old y 0) (λ w. get_or (set (set old 0 sum) 1 difference) w 0)
@@ -234,11 +234,11 @@ pub walsh-counts : (e n q : ℕ) (a b c d f g : Steps) → n ≤ 65536 → n ≡
     → WalshCounts q a b → WalshCounts q b c → WalshCounts q c d → WalshCounts q d f → CountsPairs (4 * q) f g → WalshCounts n a g
 walsh-counts e n q a b c d f g small is h first second third fourth (x, y, z) = omega (arith, steps_quarters n e q small is h)
 
--- one quarter alone counts no more than the whole
+-- The counts of the transform of one quarter are within the bound of the whole.
 pub walsh-quarter-counts : (e n q : ℕ) (a b : Steps) → n ≤ 65536 → n ≡ 2 ^ suc (suc e) → q ≡ 2 ^ e → WalshCounts q a b → WalshCounts n a b
 walsh-quarter-counts e n q a b small is h p = omega (arith, steps_quarters n e q small is h)
 
--- a transform that counts all pair sums of its layers
+-- A transform that counts exactly the pair sums of its layers is within the bound.
 exact-counts : (n m : ℕ) (a b : Steps) → transform_steps n ≡ m → CountsPairs m a b → WalshCounts n a b
 exact-counts n m a b s (x, y, z) = counted 0 (transform_steps n) 0 a b (omega arith, omega arith) (omega arith, omega arith) (omega arith, omega arith)
 

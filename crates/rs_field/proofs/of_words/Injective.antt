@@ -1,4 +1,4 @@
--- Words with the same forward transform are the same words.
+-- Words with the same forward transform are equal.
 use Rattle.std.proofs.Common.{◌≡◌, ℕ, zero, suc, ◌+◌, ◌-◌, ◌%◌, ◌^◌, ◌<◌, ◌≤◌, bit_xor, refl, sym, ap, ap₂, ◌∙◌, inl, inr, arith}
 use Rattle.std.specs.Int.Bits.{xor_lt}
 use Rattle.std.proofs.lemmas.Bool.{cases_lt}
@@ -11,7 +11,7 @@ use Rattle.rs_field.proofs.of_words.Combination.{forward-one, lower_half, upper_
 use Rattle.rs_field.proofs.of_words.Halves.{few_halves, shift_half, xor_undo}
 use Rattle.std.proofs.lemmas.Grind.{common_steps}
 
--- the first and the second rows after a butterfly
+-- The first half and the second half of the rows after a butterfly.
 abbrev low : ℕ → ℕ → (ℕ → ℕ) → ℕ → ℕ
 low half c f q = bit_xor (f q) (product (f (half + q)) c)
 
@@ -24,7 +24,7 @@ low_lt half c f q h = xor_lt 16 (f q) (product (f (half + q)) c) h (product_lt (
 high_lt : (half c : ℕ) (f : ℕ → ℕ) (q : ℕ) → f q < 65536 → f (half + q) < 65536 → high half c f q < 65536
 high_lt half c f q h k = xor_lt 16 (f (half + q)) (low half c f q) k (low_lt half c f q h)
 
--- they determine the rows before it
+-- The rows after a butterfly determine the rows before it.
 second_back : (half c : ℕ) (f : ℕ → ℕ) (q : ℕ) → f (half + q) ≡ bit_xor (high half c f q) (low half c f q)
 second_back half c f q = sym (xor_undo (f (half + q)) (low half c f q))
 

@@ -1,4 +1,4 @@
--- A polynomial of n coefficients with n given values at points one after another.
+-- A polynomial of n coefficients that has n given values at consecutive points.
 use Rattle.std.proofs.Common.{◌≡◌, ℕ, zero, suc, ◌+◌, ◌^◌, ◌<◌, ◌≤◌, ◌≢◌, List, [], ◌∷◌, length, bit_xor, refl, ap, ◌∙◌, arith}
 use Rattle.std.specs.Int.Bits.{xor_zero_l, xor_lt}
 use Rattle.std.proofs.lemmas.Bool.{cases_eq}
@@ -16,7 +16,7 @@ use Rattle.rs_field.proofs.of_words.Subspace.{product_below_lt}
 use Rattle.rs_field.proofs.of_words.Factors.{add, scale, points, times, value_add, value_scale, value-times, length-add, length-scale, length-times, words_add, words_scale}
 use Rattle.rs_field.proofs.of_words.ZerosPast.{root_there}
 
--- the differences of a point from others are no zero together
+-- The product of the differences of a point from other points is not zero.
 differences_pos : (a n x : ℕ) → x < 2 ^ 16 → a + n ≤ 2 ^ 16 → ((i : ℕ) → i < n → a + i ≢ x) → 0 < product_below n (λ i. bit_xor x (a + i))
 unfolding product_below
 differences_pos a zero x hx hn apart = omega arith
@@ -24,7 +24,7 @@ differences_pos a (suc n) x hx hn apart =
     product_pos (product_below n (λ i. bit_xor x (a + i))) (bit_xor x (a + n)) (differences_pos a n x hx (omega arith) (λ i h. apart i (omega arith)))
     (difference_pos x (a + n) (apart n (omega arith))) (product_below_lt n (λ i. bit_xor x (a + i))) (xor_lt 16 x (a + n) hx (omega arith))
 
--- what is still wanted at the next point, by the product of the differences
+-- The value that is missing at the next point, divided by the product of the differences.
 missing : ℕ → ℕ → List ℕ → ℕ → ℕ
 missing a n p v = product (bit_xor v (value p (a + n))) (inverse (product_below n (λ i. bit_xor (a + n) (a + i))))
 
@@ -40,11 +40,11 @@ value-one_more : (a n : ℕ) (p : List ℕ) (v x : ℕ) → value (one_more a n 
 unfolding one_more
 value-one_more a n p v x = value_add (scale (missing a n p v) (times (points a n) (1 ∷ []))) p x ∙ ap (λ w. bit_xor w (value p x)) (value_scale (missing a n p v) (times (points a n) (1 ∷ [])) x)
 
--- a value that was there stays
+-- Adding the next term does not change the values at the earlier points.
 stays : (a n : ℕ) (p : List ℕ) (v i : ℕ) → i < n → value (one_more a n p v) (a + i) ≡ value p (a + i)
 stays a n p v i hi = grind (arith, common_steps, value-one_more, root_there, product_zero, xor_zero_l)
 
--- the next one comes
+-- Adding the next term gives the wanted value at the next point.
 comes : (a n : ℕ) (p : List ℕ) (v : ℕ) → a + n < 2 ^ 16 → v < 2 ^ 16 → WordsOneByOne p → value (one_more a n p v) (a + n) ≡ v
 unfolding missing
 comes a n p v hn hv words =
@@ -65,7 +65,7 @@ unfolding one_more
 has_more a n v p hn hv h =
     grind (arith, common_steps, length-scale, length-times, length-add, words_add, words_scale, cases_eq, one_more, comes, stays)
 
--- Newton's form
+-- There is a polynomial with n given values, in Newton's form.
 pub interpolated : (a n : ℕ) (v : ℕ → ℕ) → a + n ≤ 2 ^ 16 → ((i : ℕ) → i < n → v i < 2 ^ 16) → (p : List ℕ) × Has a n v p
 interpolated a zero v hn words = ([], record { degree = refl; coefficients = tt; at = λ i h. absurd (let no : ⊥ = omega arith in no) })
 interpolated a (suc n) v hn words =

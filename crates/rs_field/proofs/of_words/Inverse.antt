@@ -7,7 +7,7 @@ use Rattle.rs_field.specs.words.Field.{combine, cantor_basis, bits, monomials, f
 use Rattle.rs_field.proofs.of_words.Linear.{xor_swap, IsAdditive, passes_below}
 use Rattle.rs_field.proofs.of_words.Product.{same_on_words, product_xor_left, product_xor_right, product_lt, product_comm, product_assoc, product_one, one_product, zero_product}
 
--- two equal terms cancel
+-- The XOR of a with b and of b with c is the XOR of a with c.
 xor_cancel_middle : (a b c : ℕ) → bit_xor (bit_xor a b) (bit_xor b c) ≡ bit_xor a c
 xor_cancel_middle a b c =
     xor_assoc a b (bit_xor b c) ∙ ap (bit_xor a) (sym (xor_assoc b b c) ∙ ap (λ x. bit_xor x c) (xor_self b))
@@ -22,7 +22,7 @@ check_square : passes_below 16 (λ i. eqb (product (2 ^ i) (2 ^ i)) (bit_xor (2 
 unfolding passes_below combine bits from_bits cantor_basis monomials carryless reduce product
 check_square = refl
 
--- Cantor's recurrence: x * x + x is x shifted right
+-- Cantor's recurrence: x * x + x is x shifted right by one bit.
 pub square : (x : ℕ) → x < 2 ^ 16 → product x x ≡ bit_xor x (x / 2)
 square =
     same_on_words (λ x. product x x) (λ x. bit_xor x (x / 2)) additive_square
@@ -63,11 +63,11 @@ check_frobenius : passes_below 16 (λ i. eqb (squared 16 (2 ^ i)) (2 ^ i)) ≡ t
 unfolding squared passes_below combine bits from_bits cantor_basis monomials carryless reduce product
 check_frobenius = refl
 
--- x to the power 65536 is x
+-- The power 65536 of a word x is x.
 pub frobenius : (x : ℕ) → x < 2 ^ 16 → squared 16 x ≡ x
 frobenius = same_on_words (squared 16) (λ x. x) (record { xor = squared_xor 16 }) (record { xor = λ a b ha hb. refl }) check_frobenius
 
--- a word that is its own square is 0 or 1
+-- A word that is its own square is 0 or 1.
 idempotent : (e : ℕ) → e < 2 ^ 16 → product e e ≡ e → e < 2
 idempotent e he h =
     let half : e / 2 ≡ 0 = sym (square_and_self e he) ∙ ap (λ v. bit_xor v e) h ∙ xor_self e in
@@ -77,7 +77,7 @@ ones_raised_suc : (n x : ℕ) → ones_raised (suc n) x ≡ product x (ones_rais
 unfolding ones_raised
 ones_raised_suc n x = refl
 
--- if e is x times q and e times x is x, then e is its own square
+-- If e is x times q, and e times x is x, e is its own square.
 own_square : (e x q : ℕ) → e < 2 ^ 16 → x < 2 ^ 16 → q < 2 ^ 16 → e ≡ product x q → product e x ≡ x → product e e ≡ e
 own_square e x q he hx hq is fixed =
     ap (product e) is ∙ sym (product_assoc e x q he hx hq) ∙ ap (λ v. product v q) fixed ∙ sym is
@@ -87,7 +87,7 @@ zero_or_one zero x pos h fixed = let z : 0 ≡ x = sym (zero_product x) ∙ fixe
 zero_or_one (suc zero) x pos h fixed = refl
 zero_or_one (suc (suc e)) x pos h fixed = absurd (omega arith)
 
--- x to the power 65535 is 1, for x not zero
+-- The power 65535 of a nonzero word is 1.
 pub fermat : (x : ℕ) → 0 < x → x < 2 ^ 16 → ones_raised 16 x ≡ 1
 fermat x pos hx =
     let he : ones_raised 16 x < 2 ^ 16 = ones_raised_lt 16 x in
@@ -96,7 +96,7 @@ fermat x pos hx =
     own_square (ones_raised 16 x) x (ones_raised 15 (product x x)) he hx (ones_raised_lt 15 (product x x)) (ones_raised_suc 15 x) fixed in
     zero_or_one (ones_raised 16 x) x pos (idempotent (ones_raised 16 x) he own) fixed
 
--- x to the power 65534
+-- The power 65534 of a word is its inverse.
 unfoldable pub inverse : ℕ → ℕ
 inverse x = ones_raised 15 (product x x)
 
@@ -108,7 +108,7 @@ pub product_inverse : (x : ℕ) → 0 < x → x < 2 ^ 16 → product x (inverse 
 unfolding inverse
 product_inverse x pos hx = sym (ones_raised_suc 15 x) ∙ fermat x pos hx
 
--- a nonzero factor cancels
+-- A nonzero factor can be cancelled.
 pub product_cancel : (x y z : ℕ) → 0 < x → x < 2 ^ 16 → y < 2 ^ 16 → z < 2 ^ 16 → product y x ≡ product z x → y ≡ z
 product_cancel x y z pos hx hy hz e =
     sym (undo y hy) ∙ ap (λ v. product v (inverse x)) e ∙ undo z hz
@@ -116,7 +116,7 @@ product_cancel x y z pos hx hy hz e =
     undo : (y : ℕ) → y < 2 ^ 16 → product (product y x) (inverse x) ≡ y
     undo y hy = product_assoc y x (inverse x) hy hx (inverse_lt x) ∙ ap (product y) (product_inverse x pos hx) ∙ product_one y hy
 
--- no product of nonzero words is zero
+-- The product of nonzero words is not zero.
 pub product_pos : (x y : ℕ) → 0 < x → 0 < y → x < 2 ^ 16 → y < 2 ^ 16 → 0 < product x y
 product_pos x y px py hx hy =
     elim (cases_eq (product x y) 0) [

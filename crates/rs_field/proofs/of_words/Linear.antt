@@ -1,4 +1,4 @@
--- Maps that keep XOR, and that two such maps are equal where they agree on powers of two.
+-- Maps that keep XOR. Two such maps are equal if they agree on powers of two.
 use Rattle.std.proofs.Common.{◌≡◌, ℕ, zero, suc, ◌*◌, ◌/◌, ◌%◌, ◌^◌, ◌<◌, ◌≤◌, List, [], ◌∷◌, Bool, true, ◌&&◌, bit_xor, refl, sym, ap, ap₂, ◌∙◌, subst, inl, inr, arith, zero-mul, one-mul, add-zero, mod-lt, lt_of_lt_of_le, ◌⊎◌, one-add, pow_mono, div-mul-le_self, lt_of_le_of_lt}
 use Rattle.std.specs.Int.Bits.{xor_comm, xor_assoc, xor_self, xor_zero_r, xor_block, xor_shr, xor_mod, xor_shifted}
 use Rattle.std.proofs.lemmas.Nat.{pow_pos, shr_split, shr_below}
@@ -20,7 +20,7 @@ digit_xor (suc zero) (suc zero) ha hb c = zero-mul c ∙ sym (xor_self (1 * c))
 digit_xor (suc zero) (suc (suc b)) ha hb c = absurd (omega arith)
 digit_xor (suc (suc a)) b ha hb c = absurd (omega arith)
 
--- the lowest bit of a XOR, times a number
+-- The lowest bit of a XOR times a number is the XOR of the lowest bits times the number.
 pub lowest_xor : (a b c : ℕ) → bit_xor a b % 2 * c ≡ bit_xor (a % 2 * c) (b % 2 * c)
 lowest_xor a b c =
     ap (λ x. x * c) (xor_mod a b 1) ∙ digit_xor (a % 2) (b % 2) (mod-lt a (omega arith)) (mod-lt b (omega arith)) c
@@ -31,7 +31,7 @@ combine_xor [] a b = refl
 combine_xor (c ∷ bs) a b =
     cc (lowest_xor a b c, xor_shr a b 1, combine_xor bs (a / 2) (b / 2), xor_swap (a % 2 * c) (b % 2 * c) (combine bs (a / 2)) (combine bs (b / 2)))
 
--- a map that keeps the XOR of numbers of w bits
+-- A map that keeps the XOR of numbers of w bits.
 pub record IsAdditive (w : ℕ) (f : ℕ → ℕ) : Type 0 where
   pub xor : (a b : ℕ) → a < 2 ^ w → b < 2 ^ w → f (bit_xor a b) ≡ bit_xor (f a) (f b)
 
@@ -46,7 +46,7 @@ digit_times zero n h = inl (zero-mul (2 ^ n))
 digit_times (suc zero) n h = inr (one-mul (2 ^ n))
 digit_times (suc (suc d)) n h = absurd (omega arith)
 
--- two such maps that agree on the powers of two below 2 ^ n agree below 2 ^ n
+-- Two maps that keep XOR and agree on the powers of two below 2 ^ n agree on all numbers below 2 ^ n.
 pub agree_below : (w : ℕ) (f g : ℕ → ℕ) → IsAdditive w f → IsAdditive w g
     → ((i : ℕ) → i < w → f (2 ^ i) ≡ g (2 ^ i))
     → (n : ℕ) → n ≤ w → (x : ℕ) → x < 2 ^ n → f x ≡ g x
@@ -63,7 +63,7 @@ agree_below w f g hf hg same (suc n) hn x hx =
     let low_lt : x % 2 ^ n < 2 ^ w = omega arith in
     cc (split_top n x, hf.xor _ _ high_lt low_lt, hg.xor _ _ high_lt low_lt, agree_below w f g hf hg same n below (x % 2 ^ n) (mod-lt x (pow_pos n)))
 
--- a test of every number below n, for facts that are proved by computation
+-- A test of every number below n, for facts that are proved by computation.
 unfoldable pub passes_below : ℕ → (ℕ → Bool) → Bool
 passes_below zero p = true
 passes_below (suc n) p = p n && passes_below n p

@@ -11,12 +11,12 @@ use Rattle.rs_field.proofs.of_words.Power.{generator_lt, nth_power-mul, power-ad
 use Rattle.rs_field.proofs.of_words.Subspace.{product_below-suc, product_below-zero}
 use Rattle.rs_field.proofs.of_words.LocatorLemmas.{difference_pos}
 
--- a multiple of a logarithm is the logarithm of a power
+-- The generator to the power of a multiple of a logarithm is a power of the word.
 power-mul_log : (z k : ℕ) → 0 < z → z < 2 ^ 16 → power (k * log z) ≡ nth_power z k
 unfolding power
 power-mul_log z k pos lt = grind (arith, common_steps, nth_power-mul generator (log z) k generator_lt, power-log z pos lt)
 
--- the generator to the power of a locator's sum is the product of its factors
+-- The generator to the power of a locator's sum is the product of its factors.
 pub power-log_sum : (n : ℕ) (e : ℕ → ℕ) (x : ℕ) → n ≤ 65536 → x < 65536
     → power (log_sum n e x) ≡ product_below n (λ y. if x == y then 1 else nth_power (bit_xor x y) (e y))
 unfolding log_sum

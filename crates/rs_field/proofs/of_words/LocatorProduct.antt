@@ -1,4 +1,4 @@
--- The locator as a polynomial: what its logarithms at a point represent.
+-- The locator as a polynomial: the values that its sums of logarithms represent.
 use Rattle.std.proofs.Common.{◌≡◌, ℕ, zero, suc, ◌+◌, ◌-◌, ◌%◌, ◌^◌, ◌<◌, ◌≤◌, ◌≢◌, ◌⊎◌, Bool, cond, eqb, List, [], ◌∷◌, length, bit_xor, sym, ap, ap₂, ◌∙◌, inl, inr, arith, add-zero, add-suc, ne_eqb, eq-eqb, pow_mono}
 use Rattle.std.specs.Int.Bits.{xor_self, xor_zero_l, xor_zero_r, xor_lt}
 use Rattle.std.proofs.lemmas.Bool.{cases_eq}
@@ -14,7 +14,7 @@ use Rattle.rs_field.proofs.of_words.Factors.{times, value_with_root, length-with
 use Rattle.rs_field.proofs.of_words.Derivative.{derivative_with_root}
 use Rattle.rs_field.proofs.of_words.LocatorLemmas.{log_sum-zero, log_sum-itself, log_sum-marked, log_sum-unmarked, difference_pos}
 
--- the marked points below n, the last one first
+-- The marked points below n, with the last one first.
 unfoldable pub marked : ℕ → (ℕ → ℕ) → List ℕ
 marked zero e = []
 marked (suc n) e = cond (eqb (e n) 1) (n ∷ marked n e) (marked n e)
@@ -28,7 +28,7 @@ unfolding marked
 marked-same n e none =
     ap (λ (b : Bool). cond b (n ∷ marked n e) (marked n e)) (ne_eqb (e n) 1 (λ (one : e n ≡ 1). let no : ⊥ = omega arith in no))
 
--- each of the first n points is marked or not
+-- Each of the first n points is marked or not marked.
 pub record AreMarks (n : ℕ) (e : ℕ → ℕ) : Type 0 where
   pub mark : (y : ℕ) → y < n → e y ≤ 1
 
@@ -38,15 +38,15 @@ fewer n e h = record { mark = λ y hy. h.mark y (omega arith) }
 mark_cases : (n : ℕ) (e : ℕ → ℕ) → AreMarks (suc n) e → (e n ≡ 1) ⊎ (e n ≡ 0)
 mark_cases n e h = grind (arith, common_steps)
 
--- an unmarked point differs from each marked point
+-- An unmarked point differs from each marked point.
 pub not_both : (marks : ℕ → ℕ) (x y : ℕ) → marks x ≡ 0 → marks y ≡ 1 → y ≢ x
 not_both marks x y none one e = let same : marks y ≡ marks x = ap marks e in omega arith
 
--- an unmarked point adds nothing to the sum of logarithms
+-- An unmarked point adds nothing to the sum of logarithms.
 kept : (n : ℕ) (e : ℕ → ℕ) (x : ℕ) → e n ≡ 0 → log_sum (suc n) e x ≡ log_sum n e x
 kept n e x none = elim (cases_eq n x) [ inl same ↦ log_sum-itself n e x same | inr differs ↦ log_sum-unmarked n e x none differs ]
 
--- a marked point other than x multiplies by the difference from it
+-- A marked point other than x multiplies the power of the sum by the difference of x from this point.
 grown : (n : ℕ) (e : ℕ → ℕ) (x : ℕ) → x < 2 ^ 16 → n < 2 ^ 16 → e n ≡ 1 → n ≢ x
     → power (log_sum (suc n) e x) ≡ product (power (log_sum n e x)) (bit_xor x n)
 grown n e x hx hn one differs =
@@ -56,7 +56,7 @@ grown n e x hx hn one differs =
 moved_in : (s l w : ℕ) → product s (product l w) ≡ product (product l s) w
 moved_in s l w = sym (product-assoc s l w) ∙ ap (λ k. product k w) (product-comm s l)
 
--- where x is not marked: the value of the polynomial with a root at each marked point
+-- If x is not marked, the power of the sum of logarithms is the value of the polynomial with a root at each marked point.
 pub locator_value : (n : ℕ) (e : ℕ → ℕ) (p : List ℕ) (x : ℕ) → n ≤ 2 ^ 16 → x < 2 ^ 16 → WordsOneByOne p → AreMarks n e
     → ((y : ℕ) → y < n → e y ≡ 1 → y ≢ x) → value (times (marked n e) p) x ≡ product (power (log_sum n e x)) (value p x)
 unfolding marked times
@@ -74,7 +74,7 @@ locator_value (suc n) e p x hn hx w m apart =
           ap (λ (r : List ℕ). value (times r p) x) (marked-same n e none) ∙ ih ∙ ap (λ k. product (power k) (value p x)) (sym (kept n e x none))
     ]
 
--- at a marked point it is zero
+-- At a marked point, the polynomial with a root at each marked point is zero.
 pub locator_root : (n : ℕ) (e : ℕ → ℕ) (p : List ℕ) (x : ℕ) → AreMarks n e → x < n → e x ≡ 1 → value (times (marked n e) p) x ≡ 0
 unfolding marked times
 locator_root zero e p x m hx one = absurd (let no : ⊥ = omega arith in no)
@@ -91,7 +91,7 @@ locator_root (suc n) e p x m hx one =
           ∙ locator_root n e p x (fewer n e m) (omega (arith, not_both e n x none one)) one
     ]
 
--- where x is marked: the derivative there of that polynomial
+-- If x is marked, the power of the sum of logarithms is the derivative of the polynomial with a root at each marked point.
 pub locator_derivative : (n : ℕ) (e : ℕ → ℕ) (p : List ℕ) (x : ℕ) → n ≤ 2 ^ 16 → WordsOneByOne p → AreMarks n e → x < n → e x ≡ 1
     → derivative_value (times (marked n e) p) x ≡ product (power (log_sum n e x)) (value p x)
 unfolding marked times
@@ -127,13 +127,13 @@ length-marked_times (a ∷ r) p = let e : length (times r p) ≡ length r + leng
 
 -- ---- points from 2 ^ d on
 
--- unmarked ones add nothing
+-- Points that are not marked add nothing to the sum of logarithms.
 pub unmarked_past : (m n : ℕ) (e : ℕ → ℕ) (x : ℕ) → ((y : ℕ) → m ≤ y → y < m + n → e y ≡ 0) → log_sum (m + n) e x ≡ log_sum m e x
 unmarked_past m zero e x none = ap (λ k. log_sum k e x) (add-zero m)
 unmarked_past m (suc n) e x none =
     cc (add-suc m n, kept (m + n) e x (none (m + n) (omega arith) (omega arith)), unmarked_past m n e x (λ y a b. none y a (omega arith)))
 
--- and so to the sum over all points
+-- If no point from 2 ^ d on is marked, the sum over all points is the sum over the points below 2 ^ d.
 pub none_marked_past : (d : ℕ) (e : ℕ → ℕ) (x : ℕ) → d ≤ 16 → ((y : ℕ) → 2 ^ d ≤ y → y < 65536 → e y ≡ 0)
     → log_sum 65536 e x ≡ log_sum (2 ^ d) e x
 none_marked_past d e x hd none =
@@ -141,11 +141,11 @@ none_marked_past d e x hd none =
 
 -- ---- residues
 
--- equal residues are the logarithms of one word
+-- Sums with equal residues modulo 65535 have the same power.
 pub same_residue : (l s : ℕ) → l % 65535 ≡ s % 65535 → power l ≡ power s
 same_residue l s e = sym (power-mod l) ∙ ap power e ∙ power-mod s
 
--- 65535 less a logarithm undoes it
+-- The power for 65535 minus a logarithm is the inverse of the power for the logarithm.
 pub residue_undone : (l w : ℕ) → l ≤ 65535 → w < 2 ^ 16 → product (product w (power l)) (power (65535 - l)) ≡ w
 residue_undone l w hl hw =
     grind (arith, common_steps, product-assoc w (power l) (power (65535 - l)), power-add l (65535 - l), power_turn, product_one w hw)

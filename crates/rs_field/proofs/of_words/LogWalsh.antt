@@ -1,4 +1,4 @@
--- The tables of transformed logarithms: one after the other, and the table of each size.
+-- The tables of transformed logarithms: all tables in one list, and the table of each size.
 use Rattle.std.proofs.Common.{◌≡◌, ℕ, ◌+◌, ◌-◌, ◌*◌, ◌/◌, ◌%◌, ◌^◌, ◌<◌, ◌≤◌, List, length, take, drop, get_or, cond, sym, ap, ◌∙◌, subst, arith, inl, inr, pow-suc, pow_mono, add-one, ne_eqb, eq-eqb}
 use Rattle.std.proofs.lemmas.Bool.{cases_eq}
 use Rattle.std.proofs.lemmas.List.{length-drop, length-take-le, get_or-take, get_or-drop}
@@ -6,7 +6,7 @@ use Rattle.rs_field.specs.words.Field.{log}
 use Rattle.rs_field.specs.words.Tables.{IsLog, IsLogWalshBelow, AreLogWalshes}
 use Rattle.rs_field.specs.words.Walsh.{signed_sum, IsWalsh, log_or_zero}
 
--- the part of all tables that is the one for n points
+-- The part of the list that is the table for n points.
 pub part-below : (d n : ℕ) (all : List ℕ) → n ≡ 2 ^ d → d ≤ 16 → AreLogWalshes all → IsLogWalshBelow n (take (2 * n - 1 - (n - 1)) (drop (n - 1) all))
 part-below d n all is hd h =
     let few : 2 ^ d ≤ 2 ^ 16 = pow_mono hd in
@@ -20,7 +20,7 @@ part-below d n all is hd h =
     at : (w : ℕ) → w < n → get_or all (n - 1 + w) 0 % 65535 ≡ signed_sum n (λ z. 65536 / n * log_or_zero z) w % 65535
     at = subst (λ (m : ℕ). IsWalsh m (λ z. 65536 / m * log_or_zero z) (λ w. get_or all (m - 1 + w) 0)) (sym is) (h.all_entry d hd)
 
--- a word's logarithm in the table
+-- The logarithm of a word in the table, which is 0 for the word 0.
 pub log_or_zero-zero : (z : ℕ) → z ≡ 0 → 0 ≡ log_or_zero z
 unfolding log_or_zero
 log_or_zero-zero z none = sym (ap (λ b. cond b 0 (log z)) (eq-eqb z 0 none))
@@ -30,12 +30,12 @@ unfolding log_or_zero
 log_or_zero-some logs z h some hz =
     h.log_entry z some hz ∙ sym (ap (λ b. cond b 0 (log z)) (ne_eqb z 0 (λ none. let no : ⊥ = omega arith in no)))
 
--- the tables for n sizes, one after the other
+-- The list holds the tables for the first sizes.
 pub record AreFirst (sizes : ℕ) (all : List ℕ) : Type 0 where
   pub first_length : length all ≡ 2 ^ sizes - 1
   pub first_entry : (d : ℕ) → d < sizes → IsWalsh (2 ^ d) (λ z. 65536 / 2 ^ d * log_or_zero z) (λ w. get_or all (2 ^ d - 1 + w) 0)
 
--- one more table after them
+-- Appending the next table gives the list with one more table.
 pub first-more : (sizes n : ℕ) (old new : List ℕ) → n ≡ 2 ^ sizes → AreFirst sizes old → length new ≡ length old + n
     → ((i : ℕ) → i < length old → get_or new i 0 ≡ get_or old i 0)
     → IsWalsh n (λ z. 65536 / n * log_or_zero z) (λ w. get_or new (length old + w) 0) → AreFirst (sizes + 1) new

@@ -8,13 +8,13 @@ use Rattle.std.proofs.Math.Nat.{add-mul-div_right, div-div-eq-div-mul}
 use Rattle.std.specs.Int.Bits.{xor_shr, xor_mod, xor_zero_r}
 use native.Mathlib.Nat.{pow-zero}
 
--- a power of a power of two
+-- The power n of 2 ^ k is 2 ^ (k * n).
 pub power_of : (k n : ℕ) → 2 ^ (k * n) ≡ (2 ^ k) ^ n
 power_of k zero = ap (λ m. 2 ^ m) (mul-zero k) ∙ sym (pow-zero (2 ^ k))
 power_of k (suc n) =
     ap (λ m. 2 ^ m) (mul-suc k n) ∙ pow-add 2 (k * n) k ∙ ap (λ p. p * 2 ^ k) (power_of k n) ∙ sym (pow-suc (2 ^ k) n)
 
--- the number whose bytes are those of a map, the lowest first
+-- The number whose bytes are the values of a map, the lowest first.
 abbrev packed : (ℕ → ℕ) → ℕ → ℕ
 packed g k = sum_through (λ i. byte_worth i (g i)) k
 
@@ -29,7 +29,7 @@ bytes_pos : (i : ℕ) → 0 < 256 ^ i
 bytes_pos zero = omega arith
 bytes_pos (suc i) = let before = bytes_pos i in let next = pow-suc 256 i in omega arith
 
--- what is added in higher bytes leaves a byte
+-- Adding a multiple of 256 ^ n does not change the bytes below place n.
 past_byte : (low high i n : ℕ) → i < n → (low + high * 256 ^ n) / 256 ^ i % 256 ≡ low / 256 ^ i % 256
 past_byte low high i n h =
     let rest : ℕ = high * 256 ^ (n - suc i) in
@@ -68,12 +68,12 @@ high_half low high j h =
 digit_lt : (d a : ℕ) → d < 2 → a < 256 → d * a < 256
 digit_lt d a h1 h2 = grind (arith, common_steps, zero-mul, one-mul)
 
--- byte i of a number that has a in the bytes whose place has bit b
+-- Byte i of a number that has the byte a at the places whose bit b is set.
 byte_of_places : (b a x : ℕ) → a < 256 → x ≡ packed (λ (i : ℕ). i / 2 ^ b % 2 * a) 7 → (i : ℕ) → i < 8 → x / 256 ^ i % 256 ≡ i / 2 ^ b % 2 * a
 byte_of_places b a x ha e i h =
     cc (byte_of_packed (λ (i : ℕ). i / 2 ^ b % 2 * a) (λ i. digit_lt (i / 2 ^ b % 2) a (mod-lt (i / 2 ^ b) (omega arith)) ha) 7 i (omega arith))
 
--- sixteen bytes from four products and a sum of halves: byte i is the sum of a, b, c and d at the set bits of i
+-- Byte i of the sum of four products is the sum of the words among a, b, c and d whose bit is set in i.
 pub spread_bytes : (a b c d x y z w n i : ℕ) → a < 256 → b < 256 → c < 256 → d < 256
     → x ≡ 72058693566333184 * a → y ≡ 72339069031481344 * b → z ≡ 72340172821233664 * c → w ≡ 72340172838076673 * d
     → bit_xor (bit_xor x y) z < 2 ^ 64
@@ -117,7 +117,7 @@ spread_bytes a b c d x y z w n i ha hb hc hd ex ey ez ew lt en hi =
     byte_of_ones : (j : ℕ) → j < 8 → w / 256 ^ j % 256 ≡ d
     byte_of_ones j h = ap (λ w. w / 256 ^ j % 256) (let e : w ≡ packed (λ (i : ℕ). d) 7 = omega (arith, ew) in e) ∙ byte_of_packed (λ (i : ℕ). d) (λ i. hd) 7 j (omega arith)
 
--- the bytes of a sum are the sums of the bytes
+-- The bytes of a sum are the sums of the bytes.
 pub sum_of_bytes : (a b c d : ℕ) → a < 256 → c < 256 → bit_xor a c + 256 * bit_xor b d ≡ bit_xor (a + 256 * b) (c + 256 * d)
 sum_of_bytes a b c d p q =
     let whole = xor_block 8 b d a c p q in

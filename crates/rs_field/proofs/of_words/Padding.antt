@@ -1,4 +1,4 @@
--- A polynomial with zero coefficients after its own.
+-- A polynomial with zero coefficients appended.
 use Rattle.std.proofs.Common.{◌≡◌, ℕ, zero, suc, ◌+◌, List, [], ◌∷◌, ◌++◌, length, replicate, bit_xor, sym, ap, ap₂, ◌∙◌, arith, length-append}
 use Rattle.std.specs.Int.Bits.{xor_zero_l}
 use Rattle.std.proofs.lemmas.List.{length-replicate}
@@ -8,7 +8,7 @@ use Rattle.rs_field.proofs.of_words.Product.{product_zero}
 use Rattle.rs_field.proofs.of_words.Roots.{WordsOneByOne, value-nil, value-cons}
 use Rattle.rs_field.proofs.of_words.Derivative.{derivative-nil, derivative-cons}
 
--- a polynomial with n zero coefficients after its own
+-- A polynomial with n zero coefficients appended.
 unfoldable pub padded : ℕ → List ℕ → List ℕ
 padded n p = p ++ replicate n 0
 

@@ -1,4 +1,4 @@
--- The powers of the generator: each nonzero word is one of 65535.
+-- The powers of the generator: each nonzero word is one of 65535 powers.
 use Rattle.std.proofs.Common.{◌≡◌, ℕ, zero, suc, ◌+◌, ◌-◌, ◌*◌, ◌/◌, ◌%◌, ◌^◌, ◌<◌, ◌≢◌, Bool, true, false, ◌||◌, eqb, refl, sym, ap, ap₂, ◌∙◌, subst, arith, inl, inr, add-suc, add-zero, mul-zero, mul-suc, one-mul, mul_assoc, add-one, add-mul, mul_right_comm, true≢false, lit<, mod-lt, eqb-true, ne_eqb, eq-eqb}
 use Rattle.std.proofs.Math.Nat.{mod-add-div}
 use Rattle.std.proofs.lemmas.Nat.{shr_below, mul-mod_first}
@@ -37,7 +37,7 @@ raised_two : (x : ℕ) → x < 2 ^ 16 → nth_power x 2 ≡ product x x
 unfolding nth_power
 raised_two x hx = ap (λ v. product v x) (one_product x hx)
 
--- by repeated squaring, for n of k bits
+-- The power by repeated squaring, for an exponent of k bits.
 unfoldable fast : ℕ → ℕ → ℕ → ℕ
 fast zero x n = 1
 fast (suc k) x n = product (nth_power x (n % 2)) (fast k (product x x) (n / 2))
@@ -61,7 +61,7 @@ generator_pos : 0 < generator
 unfolding generator
 generator_pos = omega arith
 
--- at 65535, and without one of its prime factors
+-- The power 65535 of the generator is 1, and the powers for 65535 divided by one prime factor are not 1.
 check_powers : (fast 16 generator 65535 ≡ 1) × (eqb (fast 16 generator 21845) 1 ≡ false) × (eqb (fast 16 generator 13107) 1 ≡ false)
     × (eqb (fast 16 generator 3855) 1 ≡ false) × (eqb (fast 16 generator 255) 1 ≡ false)
 unfolding fast nth_power generator combine bits from_bits cantor_basis monomials carryless reduce product
@@ -77,9 +77,9 @@ power_turn = sym (power_is 65535 (lit< tt)) ∙ check_powers.0
 not_one : (n : ℕ) → n < 2 ^ 16 → eqb (fast 16 generator n) 1 ≡ false → power n ≢ 1
 not_one n hn test e = grind (arith, common_steps, power_is, true≢false)
 
--- ---- a power that is 1 has an exponent that 3, 5, 17 and 257 divide
+-- ---- if a power is 1, then 3, 5, 17 and 257 divide its exponent
 
--- each r that p does not divide has an inverse modulo p, as Fermat says
+-- Each number that p does not divide has an inverse modulo p, by Fermat's theorem.
 unfoldable has_inverses : ℕ → Bool
 has_inverses p = passes_below p (λ r. eqb r 0 || eqb (r * r ^ (p - 2) % p) 1)
 
@@ -87,7 +87,7 @@ check_inverses : (has_inverses 3 ≡ true) × (has_inverses 5 ≡ true) × (has_
 unfolding has_inverses passes_below
 check_inverses = (refl, refl, refl, refl)
 
--- if power k is 1 and p does not divide k, then power q is 1, where p * q is 65535
+-- If power k is 1 and p does not divide k, power q is 1. Here p * q is 65535.
 unit_from : (p q k m t : ℕ) → p * q ≡ 65535 → k * m ≡ 1 + p * t → power k ≡ 1 → power q ≡ 1
 unfolding power
 unit_from p q k m t whole bezout one =
@@ -118,7 +118,7 @@ divided p q k whole pos h apart one =
           absurd (apart (unit_from p q k m (k * m / p) whole (dividend (k * m) p unit) one))
     ]
 
--- below 65535 only 0 is divided by 3, 5, 17 and 257
+-- Below 65535, only 0 is a multiple of 3, 5, 17 and 257.
 all_four : (k : ℕ) → k < 65535 → k % 3 ≡ 0 → k % 5 ≡ 0 → k % 17 ≡ 0 → k % 257 ≡ 0 → k ≡ 0
 all_four k h a b c d = omega arith
 
@@ -151,7 +151,7 @@ unfolding power nth_power
 power_pos zero = lit< tt
 power_pos (suc n) = product_pos (power n) generator (power_pos n) generator_pos (power_lt n) generator_lt
 
--- two powers below 65535 differ
+-- Two different exponents below 65535 have different powers.
 power_apart : (i j : ℕ) → i < j → j < 65535 → power i ≡ power j → ⊥
 power_apart i j hij hj e =
     let gap : i + (j - i) ≡ j = omega arith in
@@ -164,7 +164,7 @@ power_apart i j hij hj e =
 pub power_injective : (i j : ℕ) → i < 65535 → j < 65535 → power i ≡ power j → i ≡ j
 power_injective i j hi hj e = grind (arith, common_steps, cases_order, power_apart)
 
--- each nonzero word is a power
+-- Each nonzero word is a power of the generator.
 pub power_onto : (z : ℕ) → 0 < z → z < 2 ^ 16 → (n : ℕ) × (n < 65535) × (power n ≡ z)
 power_onto z pos hz =
     let (n, hn, e) = onto 65535 (λ n. power n - 1) within once (z - 1) (omega arith) in
@@ -195,10 +195,10 @@ turns : (t : ℕ) → power (65535 * t) ≡ 1
 unfolding power
 turns t = sym (nth_power-mul generator 65535 t generator_lt) ∙ ap (λ v. nth_power v t) power_turn ∙ one_raised t
 
--- an exponent may be taken modulo 65535
+-- An exponent can be reduced modulo 65535.
 pub power-mod : (n : ℕ) → power (n % 65535) ≡ power n
 power-mod n = grind (arith, common_steps, product_one, power_lt, turns, power-add, mod-add-div)
 
--- the product by a sum of logarithms
+-- The generator to the power of a logarithm plus n is the word times the power n.
 pub product-log : (x n : ℕ) → 0 < x → x < 2 ^ 16 → power (log x + n) ≡ product x (power n)
 product-log x n pos hx = power-add (log x) n ∙ ap (λ v. product v (power n)) (power-log x pos hx)

@@ -24,7 +24,7 @@ carryless_xor_left (suc n) a c b =
 digit_times_lt : (d b m : ℕ) → d < 2 → b < m → d * b < m
 digit_times_lt d b m h1 h2 = grind (arith, common_steps, zero-mul, one-mul)
 
--- a digit times a XOR
+-- The product of a digit with a XOR is the XOR of the products.
 digit_times_xor : (d a b : ℕ) → d < 2 → d * bit_xor a b ≡ bit_xor (d * a) (d * b)
 digit_times_xor zero a b h = zero-mul _ ∙ sym (ap₂ bit_xor (zero-mul a) (zero-mul b))
 digit_times_xor (suc zero) a b h = one-mul _ ∙ sym (ap₂ bit_xor (one-mul a) (one-mul b))
@@ -80,12 +80,12 @@ product_lt x y = from_bits_lt _
 
 -- ---- by computation on the powers of two
 
--- two maps that keep XOR and pass a test at each power of two are equal on words
+-- Two maps that keep XOR and pass a test at each power of two are equal on words.
 pub same_on_words : (f g : ℕ → ℕ) → IsAdditive 16 f → IsAdditive 16 g → passes_below 16 (λ i. eqb (f (2 ^ i)) (g (2 ^ i))) ≡ true → (x : ℕ) → x < 2 ^ 16 → f x ≡ g x
 same_on_words f g hf hg same x hx =
     agree_below 16 f g hf hg (λ i hi. eqb-true (f (2 ^ i)) (g (2 ^ i)) (from_passes_below 16 (λ i. eqb (f (2 ^ i)) (g (2 ^ i))) same i hi)) 16 (omega arith) x hx
 
--- every word has one list of coordinates
+-- The coordinates of a word determine the word.
 pub from_bits-bits : (x : ℕ) → x < 2 ^ 16 → from_bits (bits x) ≡ x
 unfolding passes_below combine bits from_bits cantor_basis monomials
 from_bits-bits x hx =
@@ -93,7 +93,7 @@ from_bits-bits x hx =
     (record { xor = λ a b ha hb. ap from_bits (bits_xor a b) ∙ from_bits_xor (bits a) (bits b) })
     (record { xor = λ a b ha hb. refl }) refl x hx
 
--- two maps that are additive in both words are equal if they agree at the 256 pairs of powers of two
+-- Two maps that are additive in both words are equal if they agree at the 256 pairs of powers of two.
 pub same_on_pairs : (f g : ℕ → ℕ → ℕ)
     → ((y : ℕ) → IsAdditive 16 (λ x. f x y)) → ((x : ℕ) → IsAdditive 16 (f x))
     → ((y : ℕ) → IsAdditive 16 (λ x. g x y)) → ((x : ℕ) → IsAdditive 16 (g x))
@@ -105,7 +105,7 @@ same_on_pairs f g fl fr gl gr same x y hx hy =
     (from_passes_below 16 (λ i. passes_below 16 (λ j. eqb (f (2 ^ i) (2 ^ j)) (g (2 ^ i) (2 ^ j)))) same i hi) y hy)
     16 (omega arith) x hx
 
--- and of three, by 4096
+-- Two maps that are additive in three words are equal if they agree at the 4096 triples of powers of two.
 pub same_on_triples : (f g : ℕ → ℕ → ℕ → ℕ)
     → ((y z : ℕ) → IsAdditive 16 (λ x. f x y z)) → ((x z : ℕ) → IsAdditive 16 (λ y. f x y z)) → ((x y : ℕ) → IsAdditive 16 (f x y))
     → ((y z : ℕ) → IsAdditive 16 (λ x. g x y z)) → ((x z : ℕ) → IsAdditive 16 (λ y. g x y z)) → ((x y : ℕ) → IsAdditive 16 (g x y))
@@ -123,7 +123,7 @@ additive_left y = record { xor = λ a b ha hb. product_xor_left a b y }
 pub additive_right : (x : ℕ) → IsAdditive 16 (product x)
 additive_right x = record { xor = λ a b ha hb. product_xor_right x a b }
 
--- each law of the product at powers of two
+-- The laws of the product hold at powers of two.
 check_laws : (passes_below 16 (λ i. passes_below 16 (λ j. eqb (product (2 ^ i) (2 ^ j)) (product (2 ^ j) (2 ^ i)))) ≡ true)
     × (passes_below 16 (λ i. passes_below 16 (λ j. passes_below 16 (λ k. eqb (product (product (2 ^ i) (2 ^ j)) (2 ^ k)) (product (2 ^ i) (product (2 ^ j) (2 ^ k)))))) ≡ true)
     × (passes_below 16 (λ i. eqb (product (2 ^ i) 1) (2 ^ i)) ≡ true)
@@ -158,7 +158,7 @@ product_zero x = additive_zero 16 (product x) (additive_right x)
 pub zero_product : (x : ℕ) → product 0 x ≡ 0
 zero_product x = additive_zero 16 (λ v. product v x) (additive_left x)
 
--- the `bits` of a product are the shift-and-XOR product of the `bits`, reduced
+-- The `bits` of a product are the shift-and-XOR product of the `bits`, reduced.
 pub bits-product : (x y : ℕ) → x < 2 ^ 16 → y < 2 ^ 16 → bits (product x y) ≡ reduce 16 (carryless 16 (bits x) (bits y))
 bits-product =
     same_on_pairs (λ x y. bits (product x y)) (λ x y. reduce 16 (carryless 16 (bits x) (bits y)))

@@ -1,4 +1,4 @@
--- What a decode restores: at a marked point, polynomial plus derivative is the locator's factor times the polynomial that was coded.
+-- The words that a decode restores: at a marked point, the polynomial plus its derivative is the locator's factor times the polynomial that was coded.
 use Rattle.std.proofs.Common.{◌≡◌, ℕ, ◌+◌, ◌-◌, ◌^◌, ◌<◌, ◌≤◌, List, length, bit_xor, sym, ap, ap₂, ◌∙◌, arith, pow_mono}
 use Rattle.std.specs.Int.Bits.{xor_zero_l}
 use Rattle.rs_field.specs.words.Field.{product, power}
@@ -13,7 +13,7 @@ use Rattle.rs_field.proofs.of_words.Coefficients.{polynomial_of_terms}
 use Rattle.rs_field.proofs.of_words.Padding.{padded, length-padded, words_padded, value-padded, derivative-padded}
 use Rattle.rs_field.proofs.of_words.LocatorProduct.{marked, AreMarks, locator_root, locator_derivative, length-marked_times}
 
--- coefficients in the subspace basis that give the values of a polynomial at the first 2 ^ e points give them at every point
+-- Coefficients in the subspace basis that give the values of a polynomial at the first 2 ^ e points give its values at every point.
 pub in_basis : (e : ℕ) (f : ℕ → ℕ) (p : List ℕ) → e ≤ 16 → length p ≡ 2 ^ e → WordsOneByOne p
     → ((i : ℕ) → i < 2 ^ e → forward (2 ^ e) 0 f i ≡ value p i) → IsInBasis (2 ^ e) f p
 in_basis e f p he size words at x hx =
@@ -22,8 +22,8 @@ in_basis e f p he size words at x hx =
     let same : p ≡ q.0 = same_from_values (2 ^ e) p q.0 size q.1 words (words_from q.0 q.2) (λ i. i) (λ i hi. omega arith) (λ i j hi hj k. k) (λ i hi. sym (at i hi) ∙ sym (q.3 i)) in
     sym (q.3 x) ∙ ap (λ (r : List ℕ). value r x) (sym same)
 
--- The rows f are the coefficients of a polynomial p with a root at each marked point put in, and g those after the
--- derivative step: then g's value at a marked point is p's there, times the power of the locator.
+-- The rows f are the coefficients of a polynomial p with one more root at each marked point, and the rows g are those after
+-- the derivative step. The value of g at a marked point is the value of p there, times the power of the locator.
 pub restored : (e : ℕ) (f g marks : ℕ → ℕ) (p : List ℕ) → e ≤ 16 → WordsOneByOne p → AreMarks (2 ^ e) marks
     → length (marked (2 ^ e) marks) + length p ≤ 2 ^ e
     → ((i : ℕ) → i < 2 ^ e → forward (2 ^ e) 0 f i ≡ value (times (marked (2 ^ e) marks) p) i)

@@ -1,4 +1,4 @@
--- Equations of sums and products of given words, by multiplying out and cancelling equal terms in pairs.
+-- Equations of sums and products of given words are proved by multiplying out and cancelling equal terms in pairs.
 use Rattle.std.proofs.Common.{◌≡◌, ℕ, zero, suc, ◌^◌, ◌<◌, List, [], ◌∷◌, ◌++◌, Bool, true, false, ◌&&◌, cond, eqb, leb, eqb-true, get_or, bit_xor, refl, sym, ap, ap₂, ◌∙◌, arith}
 use Rattle.std.specs.Int.Bits.{xor_comm, xor_assoc, xor_self, xor_zero_r}
 use Rattle.std.proofs.lemmas.Bool.{cases_Bool, and_parts}
@@ -23,7 +23,7 @@ meant ts unit = 1
 meant ts (plus a b) = bit_xor (meant ts a) (meant ts b)
 meant ts (times a b) = product (meant ts a) (meant ts b)
 
--- a product of terms is the list of their places in order, a sum of such a list of them
+-- A product of terms is the ordered list of their places, and a sum is a list of such products.
 abbrev pub insert : ℕ → List ℕ → List ℕ
 insert k [] = k ∷ []
 insert k (i ∷ m) = cond (leb k i) (k ∷ i ∷ m) (i ∷ insert k m)
@@ -57,7 +57,7 @@ abbrev pub kept : Bool → List ℕ → List (List ℕ) → (List (List ℕ) × 
 kept true l p r = (p, true)
 kept false l p r = (l ∷ r.0, r.1)
 
--- p without one m, and whether it had one
+-- The list p without one element m, and whether p had this element.
 abbrev pub strip : List ℕ → List (List ℕ) → List (List ℕ) × Bool
 strip m [] = ([], false)
 strip m (l ∷ p) = kept (same m l) l p (strip m p)

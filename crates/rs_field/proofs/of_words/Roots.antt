@@ -11,17 +11,17 @@ use Rattle.rs_field.proofs.of_words.Product.{product_lt, product_xor_left, produ
 use Rattle.rs_field.proofs.of_words.Total.{product-left_comm}
 use Rattle.rs_field.proofs.of_words.Inverse.{product_pos}
 
--- every coefficient is a word: `AreWords` one by one
+-- Every coefficient is a word, by recursion on the list.
 abbrev pub WordsOneByOne : List ℕ → Type 0
 WordsOneByOne [] = Unit {0}
 WordsOneByOne (c ∷ cs) = (c < 2 ^ 16) × WordsOneByOne cs
 
--- words by entry are words one after another
+-- Words by `All` are words in the recursive form `WordsOneByOne`.
 pub words_from : (P : List ℕ) → All (λ w. w < 65536) P → WordsOneByOne P
 words_from [] h = tt
 words_from (c ∷ cs) h = (h 0 0 (omega arith), words_from cs (λ k d hk. h (suc k) d (omega arith)))
 
--- every coefficient is zero
+-- Every coefficient is zero, by recursion on the list.
 abbrev pub ZerosOneByOne : List ℕ → Type 0
 ZerosOneByOne [] = Unit {0}
 ZerosOneByOne (c ∷ cs) = (c ≡ 0) × ZerosOneByOne cs
@@ -41,7 +41,7 @@ pub value_lt : (cs : List ℕ) (x : ℕ) → WordsOneByOne cs → value cs x < 2
 value_lt [] x h = subst (λ (v : ℕ). v < 2 ^ 16) (sym (value-nil x)) (pow_pos 16)
 value_lt (c ∷ cs) x (hc, h) = subst (λ (v : ℕ). v < 2 ^ 16) (sym (value-cons c cs x)) (xor_lt 16 c _ hc (product_lt x _))
 
--- what is left of c ∷ cs after division by x + a
+-- The quotient of c ∷ cs by x + a.
 unfoldable pub steps : ℕ → List ℕ → List ℕ
 steps a [] = []
 steps a (d ∷ cs) = value (d ∷ cs) a ∷ steps a cs
@@ -56,21 +56,21 @@ unfolding steps
 words_steps a [] h = tt
 words_steps a (d ∷ cs) h = (value_lt (d ∷ cs) a h, words_steps a cs h.1)
 
--- a + (x + (a + y)) is x + y
+-- The sum a + (x + (a + y)) is x + y.
 xor_cancel : (a x y : ℕ) → bit_xor a (bit_xor x (bit_xor a y)) ≡ bit_xor x y
 xor_cancel a x y = grind (arith, common_steps, xor_assoc, xor_comm, xor_self)
 
--- (c + a r) + s (r + x q) is c + x (r + s q), where s is x + a
+-- The sum (c + a r) + s (r + x q) is c + x (r + s q). Here s is x + a.
 regroup : (c a x r q : ℕ) → bit_xor (bit_xor c (product a r)) (product (bit_xor x a) (bit_xor r (product x q))) ≡ bit_xor c (product x (bit_xor r (product (bit_xor x a) q)))
 regroup c a x r q = grind (arith, common_steps, xor_assoc, product_xor_left, product_xor_right, product-left_comm, xor_cancel)
 
--- P(x) is P(a) + (x + a) * Q(x)
+-- The value P(x) is P(a) + (x + a) * Q(x).
 factor : (a x c : ℕ) (cs : List ℕ) → value (c ∷ cs) x ≡ bit_xor (value (c ∷ cs) a) (product (bit_xor x a) (value (steps a cs) x))
 unfolding steps
 factor a x c [] = grind (arith, common_steps, value-one, value-nil, product_zero, xor_zero_r)
 factor a x c (d ∷ cs) = grind (arith, common_steps, value-cons, regroup, factor a x d cs)
 
--- which is (x + a) * Q(x) where a is a root
+-- If a is a root, P(x) is (x + a) * Q(x).
 pub factor-root : (a x c : ℕ) (cs : List ℕ) → value (c ∷ cs) a ≡ 0 → value (c ∷ cs) x ≡ product (bit_xor x a) (value (steps a cs) x)
 factor-root a x c cs root = factor a x c cs ∙ ap (λ v. bit_xor v (product (bit_xor x a) (value (steps a cs) x))) root
 
@@ -84,7 +84,7 @@ pub same_from_xor : (x y : ℕ) → bit_xor x y ≡ 0 → x ≡ y
 same_from_xor x y e =
     sym (xor_zero_r x) ∙ ap (bit_xor x) (sym (xor_self y)) ∙ sym (xor_assoc x y y) ∙ ap (λ v. bit_xor v y) e
 
--- the quotient by one root keeps each other
+-- Dividing by one root keeps each other root.
 pub next_root : (a x c : ℕ) (cs : List ℕ) → a < 2 ^ 16 → x < 2 ^ 16 → WordsOneByOne cs → value (c ∷ cs) a ≡ 0 → value (c ∷ cs) x ≡ 0 → x ≢ a
     → value (steps a cs) x ≡ 0
 next_root a x c cs ha hx h at zero_x differ =
@@ -98,7 +98,7 @@ next_root a x c cs ha hx h at zero_x differ =
       ]
     ]
 
--- a polynomial of n coefficients with n roots is zero
+-- A polynomial of n coefficients with n distinct roots is zero.
 pub zero_from_roots : (n : ℕ) (cs : List ℕ) → length cs ≡ n → WordsOneByOne cs → (f : ℕ → ℕ)
     → ((i : ℕ) → i < n → f i < 2 ^ 16) → ((i j : ℕ) → i < n → j < n → f i ≡ f j → i ≡ j)
     → ((i : ℕ) → i < n → value cs (f i) ≡ 0) → ZerosOneByOne cs

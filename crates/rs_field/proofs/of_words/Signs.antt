@@ -1,4 +1,4 @@
--- The signs of a Walsh-Hadamard transform: the signs of its halves, and that they are characters of XOR.
+-- The signs of a Walsh-Hadamard transform: the signs of its halves, and the proof that they are characters of XOR.
 use Rattle.std.proofs.Common.{◌≡◌, ℕ, zero, suc, ◌+◌, ◌*◌, ◌/◌, ◌%◌, ◌^◌, ◌<◌, min, cond, eqb, bit_and, bit_xor, count_ones, refl, sym, ap, ◌∙◌, arith, zero-add, mod-lt, ap₂}
 use Rattle.std.proofs.lemmas.Nat.{and_comm, and_block, ones_cat, ones_le_self, xor_shr}
 use Rattle.std.proofs.lemmas.Grind.{common_steps}
@@ -6,11 +6,11 @@ use Rattle.std.specs.Int.Bits.{and_step, xor_add_and, and_lt, and_le_l}
 use Rattle.std.specs.Int.Count.{ones_step}
 use Rattle.rs_field.specs.words.Walsh.{sign}
 
--- how many bits two words share
+-- The number of bits that two words share.
 abbrev shared : ℕ → ℕ → ℕ
 shared w y = count_ones (bit_and w y)
 
--- the sign at an even or an odd number of bits
+-- The sign for an even or an odd number of shared bits.
 abbrev pub sign_at : ℕ → ℕ
 sign_at p = cond (eqb p 1) 65534 1
 
@@ -55,7 +55,7 @@ sign-zero w =
 
 -- ---- the sign at a XOR is the product of the signs
 
--- modulo two, the bits shared with a XOR are those shared with either
+-- Modulo two, the bits shared with a XOR are the sum of the bits shared with each word.
 shared-xor : (n w x y : ℕ) → w < 2 ^ n → shared w (bit_xor x y) % 2 ≡ (shared w x + shared w y) % 2
 shared-xor zero w x y hw = grind (arith, common_steps, shared_none)
 shared-xor (suc n) w x y hw =

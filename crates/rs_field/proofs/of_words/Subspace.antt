@@ -28,7 +28,7 @@ pub product_below-zero : (f : ℕ → ℕ) → product_below 0 f ≡ 1
 unfolding product_below
 product_below-zero f = refl
 
--- the numbers below m, and then n more
+-- A product over m + n numbers is the product over the first m times the product over the next n.
 pub product_below-add : (m n : ℕ) (f : ℕ → ℕ) → ((i : ℕ) → i < m + n → f i < 2 ^ 16)
     → product_below (m + n) f ≡ product (product_below m f) (product_below n (λ i. f (m + i)))
 unfolding product_below
@@ -43,11 +43,11 @@ subspace_is : (d x : ℕ) → subspace d x ≡ product_below (2 ^ d) (λ y. bit_
 unfolding subspace
 subspace_is d x = refl
 
--- counted from a point 0 on it is the same
+-- The product over the points from 0 on is the subspace polynomial.
 pub subspace_from_zero : (e x : ℕ) → product_below (2 ^ e) (λ i. bit_xor x (0 + i)) ≡ subspace e x
 subspace_from_zero e x = product_below-same (2 ^ e) (λ i. bit_xor x (0 + i)) (λ y. bit_xor x y) (λ i h. ap (bit_xor x) (zero-add i)) ∙ sym (subspace_is e x)
 
--- x * (x + 1) is x shifted right
+-- The product x * (x + 1) is x shifted right by one bit.
 times_next : (u : ℕ) → u < 2 ^ 16 → product u (bit_xor u 1) ≡ u / 2
 times_next u hu =
     product_xor_right u u 1 ∙ ap (bit_xor (product u u)) (product_one u hu) ∙ square_and_self u hu
@@ -56,7 +56,7 @@ top_bit : (d y : ℕ) → y < 2 ^ d → 2 ^ d + y ≡ bit_xor (2 ^ d) y
 top_bit d y h =
     ap (λ v. v + y) (sym (one-mul (2 ^ d))) ∙ sym (xor_shifted 1 d y h) ∙ ap (λ v. bit_xor v y) (one-mul (2 ^ d))
 
--- s_d(x) is x shifted right by d places
+-- The value s_d(x) is x shifted right by d bits.
 pub subspace_shift : (d x : ℕ) → d ≤ 16 → x < 2 ^ 16 → subspace d x ≡ x / 2 ^ d
 subspace_shift zero x hd hx = grind (arith, common_steps, subspace_is, product_below-suc, product_below-zero, one_product)
 subspace_shift (suc d) x hd hx =
@@ -82,14 +82,14 @@ subspace_shift (suc d) x hd hx =
     ∙ shr-shr x d 1
     ∙ ap (λ k. x / 2 ^ k) (add-suc d 0 ∙ ap suc (add-zero d))
 
--- m blocks of n numbers
+-- A product over m * n numbers is a product over m blocks of n numbers.
 pub product_below-mul : (m n : ℕ) (f : ℕ → ℕ) → ((i : ℕ) → i < m * n → f i < 2 ^ 16)
     → product_below (m * n) f ≡ product_below m (λ u. product_below n (λ i. f (u * n + i)))
 product_below-mul zero n f words = grind (arith, common_steps, zero-mul, product_below-zero)
 product_below-mul (suc m) n f words =
     grind (arith, common_steps, suc-mul, product_below-add, product_below-suc, product_below-mul m n f (λ i h. words i (omega arith)))
 
--- the product of the words from 1 to 2 ^ k - 1
+-- The product of the words from 1 to 2 ^ k - 1 is 1.
 nonzero_words : (k : ℕ) → k ≤ 16 → product_below (2 ^ k - 1) (λ i. i + 1) ≡ 1
 nonzero_words zero hk = product_below-zero (λ i. i + 1)
 nonzero_words (suc k) hk =
@@ -110,7 +110,7 @@ nonzero_words (suc k) hk =
     shifted : (m i : ℕ) → 0 < m → m - 1 + i + 1 ≡ m + i
     shifted m i pos = omega arith
 
--- a block of words beside a word below 2 ^ d
+-- The product of x + y over a block of words y is the number of the block plus 1, for a word x below 2 ^ d.
 block : (d x v : ℕ) → d ≤ 16 → x < 2 ^ d → suc v * 2 ^ d < 2 ^ 16 → product_below (2 ^ d) (λ i. bit_xor x (2 ^ d + (v * 2 ^ d + i))) ≡ v + 1
 block d x v hd hx hv =
     let wide : 2 ^ d ≤ 2 ^ 16 = pow_mono hd in
@@ -126,7 +126,7 @@ block d x v hd hx hv =
     one_more_block : (n v : ℕ) → n + v * n ≡ suc v * n
     one_more_block n v = omega (arith, suc-mul v n)
 
--- the product of x + y over the words y from 2 ^ d on, for x below 2 ^ d
+-- The product of x + y over the words y from 2 ^ d on is 1, for x below 2 ^ d.
 pub outside : (d x : ℕ) → d ≤ 16 → x < 2 ^ d → product_below (65536 - 2 ^ d) (λ i. bit_xor x (2 ^ d + i)) ≡ 1
 outside d x hd hx =
     let wide : 2 ^ d ≤ 2 ^ 16 = pow_mono hd in

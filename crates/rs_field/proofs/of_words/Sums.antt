@@ -1,4 +1,4 @@
--- The sixteen products of a nibble, from those of 1, 2, 4 and 8.
+-- The sixteen products of a nibble, from the products of 1, 2, 4 and 8.
 use Rattle.std.proofs.lemmas.Grind.{common_steps}
 use Rattle.std.proofs.lemmas.Nat.{and_mask}
 use Rattle.std.proofs.Common.{bit_and, ◌/◌, ◌%◌, ◌≡◌, ℕ, zero, suc, ◌*◌, ◌^◌, ◌<◌, List, [], ◌∷◌, get_or, bit_xor, sym, ap, ap₂, ◌∙◌, arith, zero-mul, one-mul, length, ◌+◌, add-zero, zero-add, rules}
@@ -9,7 +9,7 @@ use Rattle.rs_field.proofs.of_words.Linear.{IsAdditive, additive_zero, agree_bel
 use Rattle.rs_field.proofs.of_words.Product.{product_xor_left}
 use Rattle.rs_field.proofs.of_words.Packed.{power_of}
 
--- a product keeps the sum of words that are shifted by whole nibbles
+-- The product with words that are shifted by whole nibbles keeps sums.
 pub nibble_additive : (n f : ℕ) → IsAdditive 4 (λ i. product (i * 16 ^ n) f)
 nibble_additive n f = record {
   xor = λ a b ha hb.
@@ -18,13 +18,13 @@ nibble_additive n f = record {
       ∙ product_xor_left (a * 16 ^ n) (b * 16 ^ n) f;
 }
 
--- entry i is the sum of a, b, c and d at the set bits of i
+-- Entry i is the sum of the words among a, b, c and d whose bit is set in i.
 abbrev sixteen_sums : ℕ → ℕ → ℕ → ℕ → List ℕ
 sixteen_sums a b c d =
     0 ∷ a ∷ b ∷ bit_xor a b ∷ c ∷ bit_xor a c ∷ bit_xor b c ∷ bit_xor (bit_xor a b) c
     ∷ d ∷ bit_xor a d ∷ bit_xor b d ∷ bit_xor (bit_xor a b) d ∷ bit_xor c d ∷ bit_xor a (bit_xor c d) ∷ bit_xor b (bit_xor c d) ∷ bit_xor (bit_xor a b) (bit_xor c d) ∷ []
 
--- each entry of a list is a map's value at its place, from k on
+-- Each entry of a list is the map's value at its place, counted from k on.
 abbrev AreValues : (ℕ → ℕ) → ℕ → List ℕ → Type 0
 AreValues f k [] = Unit {0}
 AreValues f k (x ∷ xs) = (x ≡ f k) × AreValues f (suc k) xs
@@ -34,7 +34,7 @@ value_at f k [] are i h = absurd (omega arith)
 value_at f k (x ∷ xs) are zero h = are.0 ∙ ap f (sym (add-zero k))
 value_at f k (x ∷ xs) are (suc i) h = value_at f (suc k) xs are.1 i (omega arith) ∙ ap f (omega arith)
 
--- they are the values of an additive map, if those four are
+-- If a, b, c and d are the values of an additive map at 1, 2, 4 and 8, the sixteen sums are the values of the map.
 pub sixteen : (f : ℕ → ℕ) → IsAdditive 4 f → (a b c d : ℕ) → a ≡ f 1 → b ≡ f 2 → c ≡ f 4 → d ≡ f 8 → (i : ℕ) → i < 16
     → get_or (sixteen_sums a b c d) i 0
     ≡ f i
@@ -60,7 +60,7 @@ digit_additive w k c = record { xor = λ a b ha hb. ap (λ i. i % 2 * c) (xor_sh
 sum_additive : (w : ℕ) (f g : ℕ → ℕ) → IsAdditive w f → IsAdditive w g → IsAdditive w (λ i. bit_xor (f i) (g i))
 sum_additive w f g hf hg = grind (arith, common_steps, xor_swap)
 
--- the sum of a, b, c and d at the set bits of i
+-- The sum of the words among a, b, c and d whose bit is set in i.
 abbrev at_bits : ℕ → ℕ → ℕ → ℕ → ℕ → ℕ
 at_bits a b c d i = bit_xor (bit_xor (bit_xor (i / 2 ^ 0 % 2 * a) (i / 2 ^ 1 % 2 * b)) (i / 2 ^ 2 % 2 * c)) (i / 2 ^ 3 % 2 * d)
 
@@ -68,7 +68,7 @@ at_bits_additive : (a b c d : ℕ) → IsAdditive 4 (at_bits a b c d)
 at_bits_additive a b c d =
     sum_additive 4 _ _ (sum_additive 4 _ _ (sum_additive 4 _ _ (digit_additive 4 0 a) (digit_additive 4 1 b)) (digit_additive 4 2 c)) (digit_additive 4 3 d)
 
--- an additive map of four bits, from its values at 1, 2, 4 and 8
+-- An additive map of four bits is determined by its values at 1, 2, 4 and 8.
 four_bits : (f : ℕ → ℕ) → IsAdditive 4 f → (a b c d i : ℕ) → a ≡ f 1 → b ≡ f 2 → c ≡ f 4 → d ≡ f 8 → i < 16 → at_bits a b c d i ≡ f i
 four_bits f hf a b c d i ea eb ec ed h = agree_below 4 (at_bits a b c d) f (at_bits_additive a b c d) hf same 4 (omega arith) i h
   where
@@ -79,7 +79,7 @@ four_bits f hf a b c d i ea eb ec ed h = agree_below 4 (at_bits a b c d) f (at_b
     same (suc (suc (suc zero))) h = ap₂ bit_xor (ap₂ bit_xor (ap₂ bit_xor (zero-mul a) (zero-mul b)) (zero-mul c)) (one-mul d) ∙ ed
     same (suc (suc (suc (suc k)))) h = absurd (omega arith)
 
--- the low byte of each product, from those of four
+-- The low byte of each product, from the low bytes of the products of 1, 2, 4 and 8.
 pub low_of_four : (n f : ℕ) (words : List ℕ) (i : ℕ) → IsNibbleList n f words → i < 16
     → at_bits (bit_and (get_or words 1 0) 255) (bit_and (get_or words 2 0) 255) (bit_and (get_or words 4 0) 255) (bit_and (get_or words 8 0) 255) i
     ≡ product (i * 16 ^ n) f % 256
@@ -88,7 +88,7 @@ low_of_four n f words i are h =
     λ k hk. and_mask (get_or words k 0) 8 ∙ ap (λ w. w % 256) (are.entries k hk) in
     four_bits (λ i. product (i * 16 ^ n) f % 256) (low_nibble_additive n f) _ _ _ _ i (at 1 (omega arith)) (at 2 (omega arith)) (at 4 (omega arith)) (at 8 (omega arith)) h
 
--- the high byte of each product, from those of four
+-- The high byte of each product, from the high bytes of the products of 1, 2, 4 and 8.
 pub high_of_four : (n f : ℕ) (words : List ℕ) (i : ℕ) → IsNibbleList n f words → i < 16
     → at_bits (get_or words 1 0 / 256) (get_or words 2 0 / 256) (get_or words 4 0 / 256) (get_or words 8 0 / 256) i
     ≡ product (i * 16 ^ n) f / 256

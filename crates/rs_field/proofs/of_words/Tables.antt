@@ -1,4 +1,4 @@
--- What the loops over the tables rest on.
+-- Lemmas for the loops that fill the tables.
 use Rattle.std.proofs.Common.{◌≡◌, ℕ, ◌+◌, ◌*◌, ◌/◌, ◌%◌, ◌^◌, ◌<◌, List, [], ◌∷◌, true, length, get_or, drop, set, bit_xor, eqb, refl, sym, ap, ◌∙◌, arith, add-one, zero-mul, one-mul, ◌≤◌, inl, inr}
 use Rattle.std.proofs.Math.ListN.{drop_of_length-le}
 use Rattle.std.proofs.lemmas.List.{get_or-set_same, get_or-set_other, length-set}
@@ -19,12 +19,12 @@ one_more : (items : List ℕ) (i out rest : ℕ) → i < length items
     → bit_xor out (combine (drop i items) rest) ≡ bit_xor (bit_xor out (rest % 2 * get_or items i 0)) (combine (drop (i + 1) items) (rest / 2))
 one_more items i out rest h = grind (arith, common_steps, combine-cons, xor_assoc)
 
--- where the lowest bit is set
+-- If the lowest bit is set, the next entry is added.
 pub take_entry : (items : List ℕ) (i out rest : ℕ) → i < length items → rest % 2 ≡ 1
     → bit_xor (bit_xor out (get_or items i 0)) (combine (drop (i + 1) items) (rest / 2)) ≡ bit_xor out (combine (drop i items) rest)
 take_entry items i out rest h e = grind (arith, common_steps, one-mul, one_more)
 
--- where it is not
+-- If the lowest bit is not set, the next entry is skipped.
 pub leave_entry : (items : List ℕ) (i out rest : ℕ) → i < length items → rest % 2 ≡ 0
     → bit_xor out (combine (drop (i + 1) items) (rest / 2)) ≡ bit_xor out (combine (drop i items) rest)
 leave_entry items i out rest h e = cc (zero-mul (get_or items i 0), xor_zero_r out, one_more items i out rest h)
@@ -46,7 +46,7 @@ combine-nil : (x : ℕ) → combine [] x ≡ 0
 unfolding combine
 combine-nil x = refl
 
--- when the list is used up
+-- After the last entry, the sum is complete.
 pub all_entries : (items : List ℕ) (i out rest v : ℕ) → length items ≤ i → bit_xor out (combine (drop i items) rest) ≡ v → out ≡ v
 all_entries items i out rest v h e =
     sym (xor_zero_r out) ∙ ap (bit_xor out) (sym (ap (λ s. combine s rest) (drop_of_length-le items h) ∙ combine-nil rest)) ∙ e

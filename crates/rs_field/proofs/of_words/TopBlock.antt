@@ -1,4 +1,4 @@
--- Many blocks of points at once: the last coefficients of the whole are the sum of the blocks' own.
+-- Many blocks of points at once: the last coefficients of the whole are the sums of the coefficients of the blocks.
 use Rattle.std.proofs.Common.{◌≡◌, ℕ, zero, suc, ◌+◌, ◌-◌, ◌*◌, ◌%◌, ◌^◌, ◌<◌, ◌≤◌, Bool, cond, bit_xor, refl, sym, ap, ap₂, ◌∙◌, subst, inl, inr, arith, add-zero, add-suc, add_assoc, pow-suc, pow-add, pow_mono}
 use Rattle.std.specs.Prelude.{nat_lt}
 use Rattle.std.specs.Int.Bits.{xor_comm}
@@ -13,7 +13,7 @@ use Rattle.rs_field.proofs.of_words.Halves.{shift_half, few_halves, xor_undo}
 
 -- ---- the coefficients after many blocks
 
--- from coefficients of both halves of a block of points those of the block, where the subspace polynomial is c on the first half
+-- The coefficients of a block of points from those of its halves. The subspace polynomial is c on the first half.
 paired : ℕ → ℕ → (ℕ → ℕ) → (ℕ → ℕ) → ℕ → ℕ
 paired half c a b q = cond (nat_lt q half) (bit_xor (a q) (product (bit_xor (a q) (b q)) c)) (bit_xor (a (q - half)) (b (q - half)))
 
@@ -34,7 +34,7 @@ second_of : (half c : ℕ) (a b : ℕ → ℕ) (q : ℕ) → b q ≡ bit_xor (pa
 second_of half c a b q =
     sym (ap (λ v. bit_xor v (a q)) (paired-second half c a b q ∙ xor_comm (a q) (b q)) ∙ xor_undo (b q) (a q))
 
--- from coefficients g u, g (u + 1), .. of 2 ^ n blocks of 2 ^ d points, of which the first is block u, those of all their points
+-- The coefficients of 2 ^ n blocks of 2 ^ d points, joined from the coefficients g u, g (u + 1), .. of the blocks.
 pub joined_blocks : ℕ → ℕ → ℕ → (ℕ → ℕ → ℕ) → ℕ → ℕ
 joined_blocks d zero u g = g u
 joined_blocks d (suc n) u g = paired (2 ^ (d + n)) (subspace (d + n) (u * 2 ^ d)) (joined_blocks d n u g) (joined_blocks d n (u + 2 ^ n) g)
@@ -42,11 +42,11 @@ joined_blocks d (suc n) u g = paired (2 ^ (d + n)) (subspace (d + n) (u * 2 ^ d)
 power_suc : (d n : ℕ) → 2 ^ (d + suc n) ≡ 2 ^ suc (d + n)
 power_suc d n = ap (λ e. 2 ^ e) (add-suc d n)
 
--- the blocks of the second half lie after those of the first
+-- The blocks of the second half come after the blocks of the first half.
 second_start : (d n u : ℕ) → u * 2 ^ d + 2 ^ (d + n) ≡ (u + 2 ^ n) * 2 ^ d
 second_start d n u = let p : 2 ^ (d + n) ≡ 2 ^ d * 2 ^ n = pow-add 2 d n in omega (arith, p)
 
--- at the points of a block the values are those of the block's own coefficients
+-- At the points of a block, the joined coefficients have the values of the block's coefficients.
 pub values-joined : (d n u : ℕ) (g : ℕ → ℕ → ℕ) (j i : ℕ) → (u * 2 ^ d) % 2 ^ (d + n) ≡ 0 → u * 2 ^ d + 2 ^ (d + n) ≤ 65536 → j < 2 ^ n → i < 2 ^ d
     → forward (2 ^ (d + n)) (u * 2 ^ d) (joined_blocks d n u g) (j * 2 ^ d + i) ≡ forward (2 ^ d) ((u + j) * 2 ^ d) (g (u + j)) i
 unfolding joined_blocks
@@ -88,7 +88,7 @@ values-joined d (suc n) u g j i whole fits hj hi =
     moved : (n k m i all : ℕ) → all ≡ m * n → (n + k) * m + i ≡ all + (k * m + i)
     moved n k m i all e = omega arith
 
--- the last 2 ^ d of these coefficients are the sums of the blocks' own
+-- The last 2 ^ d joined coefficients are the sums of the coefficients of the blocks.
 pub last-joined : (d n u : ℕ) (g : ℕ → ℕ → ℕ) (before q : ℕ) → before + 2 ^ d ≡ 2 ^ (d + n)
     → joined_blocks d n u g (before + q) ≡ sum_below (2 ^ n) (λ j. g (u + j) q)
 unfolding joined_blocks

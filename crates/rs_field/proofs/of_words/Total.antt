@@ -1,4 +1,4 @@
--- The laws of the product at every number: only the lowest 16 bits of a factor count.
+-- The laws of the product at all numbers. Only the lowest 16 bits of a factor matter.
 use Rattle.std.proofs.Common.{◌≡◌, ℕ, ◌*◌, ◌/◌, ◌%◌, ◌^◌, ◌<◌, List, [], ◌∷◌, length, bit_xor, refl, sym, ap, ap₂, ◌∙◌, mod-lt, zero-mul}
 use Rattle.std.specs.Int.Bits.{shifted_half, shifted_even}
 use Rattle.std.proofs.lemmas.Nat.{pow_pos}
@@ -44,7 +44,7 @@ product-assoc x y z =
     ∙ product_assoc p q r (low_lt x) (low_lt y) (low_lt z)
     ∙ low_left x (product q r) ∙ ap (product x) (low_left y r ∙ low_right y z)
 
--- three factors in another order
+-- Exchanging the first two of three factors does not change the product.
 pub product-left_comm : (x y z : ℕ) → product x (product y z) ≡ product y (product x z)
 product-left_comm x y z = sym (product-assoc x y z) ∙ ap (λ (w : ℕ). product w z) (product-comm x y) ∙ product-assoc y x z
 

@@ -18,7 +18,7 @@ total-same zero g h same = total-zero g ∙ sym (total-zero h)
 total-same (suc n) g h same =
     total-suc n g ∙ ap₂ (λ a b. a + b) (total-same n g h (λ y hy. same y (omega arith))) (same n (omega arith)) ∙ sym (total-suc n h)
 
--- the sum of what is the same modulo 65535
+-- Sums of numbers with equal residues modulo 65535 have equal residues.
 pub add_near : (a b c d : ℕ) → a % 65535 ≡ c % 65535 → b % 65535 ≡ d % 65535 → (a + b) % 65535 ≡ (c + d) % 65535
 add_near a b c d p q = omega arith
 
@@ -52,7 +52,7 @@ pub total-plus : (n : ℕ) (g h : ℕ → ℕ) → total n (λ y. g y + h y) ≡
 total-plus zero g h = total-zero (λ y. g y + h y) ∙ sym (ap₂ (λ a b. a + b) (total-zero g) (total-zero h))
 total-plus (suc n) g h = omega (arith, total-suc n (λ y. g y + h y), total-plus n g h, total-suc n g, total-suc n h)
 
--- a sum of sums in the other order
+-- A sum of sums can be taken in the other order.
 pub total-swap : (n m : ℕ) (g : ℕ → ℕ → ℕ) → total n (λ x. total m (λ y. g x y)) ≡ total m (λ y. total n (λ x. g x y))
 total-swap zero m g =
     total-zero (λ x. total m (λ y. g x y)) ∙ sym (total-none m (λ y. total zero (λ x. g x y)) (λ y hy. total-zero (λ x. g x y)))
@@ -62,7 +62,7 @@ total-swap (suc n) m g =
     ∙ sym (total-plus m (λ y. total n (λ x. g x y)) (λ y. g n y))
     ∙ total-same m (λ y. total n (λ x. g x y) + g n y) (λ y. total (suc n) (λ x. g x y)) (λ y hy. sym (total-suc n (λ x. g x y)))
 
--- where all terms but one vanish
+-- If all terms except one are zero modulo 65535, the sum is this term.
 pub total-one : (n x : ℕ) (g : ℕ → ℕ) → x < n → ((y : ℕ) → y < n → y ≢ x → g y % 65535 ≡ 0) → total n g % 65535 ≡ g x % 65535
 total-one zero x g hx others = absurd (let no : ⊥ = omega arith in no)
 total-one (suc n) x g hx others =

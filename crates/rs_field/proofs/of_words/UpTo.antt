@@ -1,4 +1,4 @@
--- The elements of a list of a function's first values.
+-- The elements of a list of the first values of a function.
 use Rattle.std.proofs.Common.{◌≡◌, ℕ, zero, suc, ◌+◌, ◌<◌, List, [], ◌∷◌, ◌++◌, length, get_or, sym, ap, ap₂, ◌∙◌, refl, subst, arith, inl, inr, add-one, length-append}
 use Rattle.std.proofs.Math.Seq.{get_or-append_seam}
 use Rattle.std.proofs.lemmas.Bool.{cases_lt}
@@ -26,7 +26,7 @@ up_to-same zero f g same = refl
 up_to-same (suc n) f g same =
     ap₂ (λ xs x. xs ++ x ∷ []) (up_to-same n f g (λ i h. same i (omega arith))) (same n (omega arith))
 
--- a list of n elements that are those of f
+-- A list of n elements that are the first n values of f is `up_to n f`.
 pub up_to-is : {A : Type 0} (d : A) (n : ℕ) (f : ℕ → A) (s : List A) → length s ≡ n → ((i : ℕ) → i < n → f i ≡ get_or s i d) → up_to n f ≡ s
 up_to-is d n f s len same =
     ext_get_or d (up_to n f) s (length-up_to n f ∙ sym len) (λ i h.

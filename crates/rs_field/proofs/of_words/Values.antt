@@ -1,4 +1,4 @@
--- The values at n points fix a polynomial of n coefficients.
+-- The values at n points determine a polynomial of n coefficients.
 use Rattle.std.proofs.Common.{◌≡◌, ℕ, ◌^◌, ◌<◌, List, [], ◌∷◌, length, bit_xor, refl, sym, ap, ap₂, ◌∙◌, arith}
 use Rattle.std.specs.Int.Bits.{xor_self}
 use Rattle.rs_field.specs.words.Polynomial.{value}
@@ -13,7 +13,7 @@ same_from_add (a ∷ p) [] e z = absurd (let no : ⊥ = omega arith in no)
 same_from_add (a ∷ p) (b ∷ q) e z =
     ap₂ (λ (x : ℕ) (xs : List ℕ). x ∷ xs) (same_from_xor a b z.0) (same_from_add p q (omega arith) z.1)
 
--- two polynomials of n coefficients with the same values at n points are one
+-- Two polynomials of n coefficients with the same values at n points are equal.
 pub same_from_values : (n : ℕ) (p q : List ℕ) → length p ≡ n → length q ≡ n → WordsOneByOne p → WordsOneByOne q → (f : ℕ → ℕ)
     → ((i : ℕ) → i < n → f i < 2 ^ 16) → ((i j : ℕ) → i < n → j < n → f i ≡ f j → i ≡ j)
     → ((i : ℕ) → i < n → value p (f i) ≡ value q (f i)) → p ≡ q

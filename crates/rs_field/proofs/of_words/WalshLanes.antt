@@ -12,7 +12,7 @@ use Rattle.rs_field.proofs.of_words.Linear.{passes_below, from_passes_below}
 use Rattle.rs_field.proofs.of_words.Halving.{walsh-halves, walsh-same, walsh-one}
 use lib.Lanes.{zip2, sel_l, top}
 
--- ---- the larger one of two lanes
+-- ---- the larger of two lanes
 
 larger_chosen : (a b : ℕ) → cond (ltb a b) b a ≡ max a b
 larger_chosen a b = grind (arith, common_steps)
@@ -20,7 +20,7 @@ larger_chosen a b = grind (arith, common_steps)
 compared : (xs ys : List ℕ) → sel_l (map (top 15) (zip2 (λ a b. cond (ltb a b) 65535 0) xs ys)) ys xs ≡ sel_l (zip2 ltb xs ys) ys xs
 compared xs ys = ap (λ ms. sel_l ms ys xs) (tops_compared w16 ltb xs ys)
 
--- what `simd_max` leaves
+-- `simd_max` gives the larger of two lanes in each lane.
 pub larger_lane : (xs ys : List ℕ) (i : ℕ) → length xs ≡ 16 → length ys ≡ 16 → i < 16
     → get_or (sel_l (map (top 15) (zip2 (λ a b. cond (ltb a b) 65535 0) xs ys)) ys xs) i 0 ≡ max (get_or xs i 0) (get_or ys i 0)
 larger_lane xs ys i hx hy h = grind (arith, common_steps, length-zip2, compared, get_or-sel_l, get_or-zip2, larger_chosen)
@@ -36,18 +36,18 @@ lane_below [] i h = omega arith
 lane_below (x ∷ v) zero h = h.0.fits
 lane_below (x ∷ v) (suc i) h = lane_below v i h.1
 
--- the sums of lanes m and k, which a swizzle and a shuffle brought together
+-- The sum of lanes m and k, which a swizzle and a shuffle brought together.
 summed : (v w : List ℕ) (r m k : ℕ) → length v ≡ 16 → m < 16 → k < 16
     → r % 65535 ≡ (get_or (v ++ v) m 0 + get_or (v ++ w) k 0) % 65535 → r % 65535 ≡ (get_or v m 0 + get_or v k 0) % 65535
 summed v w r m k size hm hk e =
     e ∙ ap₂ (λ a b. (a + b) % 65535) (get_or_append_left v v 0 m (omega arith)) (get_or_append_left v w 0 k (omega arith))
 
--- a sum with a complemented lane is a difference, because the complement is the negative
+-- A sum with a complemented lane is a difference, because the complement is the negative modulo 65535.
 subtracted : (v : List ℕ) (r m k : ℕ) → length v ≡ 16 → Each1 (Fits w16) v → m < 16 → k < 16
     → r % 65535 ≡ (get_or (v ++ v) m 0 + get_or (v ++ map (λ n. 65535 - n) v) (16 + k) 0) % 65535 → r % 65535 ≡ (get_or v m 0 + 65534 * get_or v k 0) % 65535
 subtracted v r m k size fits hm hk e = grind (arith, common_steps)
 
--- of lane k lanes m and n of the two vectors are those that a layer at distance d joins
+-- Lane k receives the lanes m and n of two vectors that a layer with distance d joins.
 abbrev joins : ℕ → ℕ → ℕ → ℕ → Bool → Bool
 joins d k m n even = cond even (nat_eq m (k + d) && (nat_eq n k && nat_lt m 16)) (nat_eq m (k - d) && nat_eq n (16 + k))
 
@@ -57,7 +57,7 @@ joined : (v : List ℕ) (r d k m n : ℕ) (even : Bool) → length v ≡ 16 → 
 joined v r d k m n true size fits h test e = grind (arith, common_steps, and_parts, ltb-true, summed, eqb-true)
 joined v r d k m n false size fits h test e = grind (arith, common_steps, and_parts, subtracted, eqb-true)
 
--- lanes ms of a vector twice, and lanes ns of it and of its complement, joined at each lane
+-- A layer with distance d: at each lane, a lane of the vector is added to a lane of the vector or of its complement.
 pub layer_joined : (d : ℕ) (v new ms ns : List ℕ) → length v ≡ 16 → Each1 (Fits w16) v → length ms ≡ 16 → length ns ≡ 16
     → passes_below 16 (λ k. joins d k (get_or ms k 0) (get_or ns k 0) (k / d % 2 == 0)) ≡ true
     → ((k : ℕ) → k < 16 → get_or new k 0 % 65535
@@ -74,7 +74,7 @@ layer_joined d v new ms ns size fits hm hn test e k h =
 abbrev by_parity : ℕ → ℕ → ℕ → ℕ
 by_parity b even odd = (if b == 0 then even else odd) % 65535
 
--- a layer joins the transforms of two halves of n lanes
+-- A layer joins the transforms of two halves of n lanes.
 stage : (e n half a : ℕ) (f g new : List ℕ) → n ≡ 2 ^ suc e → half ≡ 2 ^ e → a + (half + half) ≤ 16
     → ((i : ℕ) → i < half → (a + i) / half % 2 ≡ 0) → ((i : ℕ) → i < half → (a + (half + i)) / half % 2 ≡ 1) → IsLayer half g new
     → IsWalsh half (λ y. get_or f (a + y) 0) (λ w. get_or g (a + w) 0)
@@ -95,7 +95,7 @@ stage e n half a f g new is h room first second layer low high =
           ∙ ap₂ (λ k m. (get_or g k 0 + 65534 * get_or g m 0) % 65535) (omega arith) (omega arith);
     })
 
--- four layers make the transform
+-- Four layers make the transform of 16 lanes.
 pub four_layers : (f g1 g2 g3 g4 : List ℕ) → IsLayer 1 f g1 → IsLayer 2 g1 g2 → IsLayer 4 g2 g3 → IsLayer 8 g3 g4
     → IsWalsh 16 (λ y. get_or f y 0) (λ w. get_or g4 w 0)
 four_layers f g1 g2 g3 g4 l1 l2 l4 l8 =

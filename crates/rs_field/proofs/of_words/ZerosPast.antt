@@ -1,4 +1,4 @@
--- The points below 2 ^ e are enough: the zeros at larger points are divided out, or put in.
+-- The points below 2 ^ e are enough: the roots at larger points can be divided out, or added.
 use Rattle.std.proofs.Common.{◌≡◌, ℕ, zero, suc, ◌+◌, ◌-◌, ◌^◌, ◌<◌, ◌≤◌, List, length, bit_xor, sym, ap, ◌∙◌, arith, inl, inr, pow_mono, subst}
 use Rattle.std.specs.Int.Bits.{xor_self}
 use Rattle.std.proofs.lemmas.Bool.{cases_eq}
@@ -36,16 +36,16 @@ root_there a (suc n) p i hi =
       | inr apart ↦ ap (product (bit_xor (a + i) (a + n))) (root_there a n p i (omega arith)) ∙ product_zero (bit_xor (a + i) (a + n))
     ]
 
--- below 2 ^ e the roots at all points from there on change nothing
+-- Below 2 ^ e, adding roots at all points from 2 ^ e on does not change the value.
 pub value-inside : (e : ℕ) (q : List ℕ) → e ≤ 16 → WordsOneByOne q → (x : ℕ) → x < 2 ^ e → value (times (points (2 ^ e) (65536 - 2 ^ e)) q) x ≡ value q x
 value-inside e q he words x hx =
     cc (value-times (2 ^ e) (65536 - 2 ^ e) q words x, outside e x he hx, one_product (value q x) (value_lt q x words))
 
--- at a point from 2 ^ e on it is zero
+-- At a point from 2 ^ e on, the polynomial with the added roots is zero.
 pub zero_outside : (e : ℕ) (q : List ℕ) (x : ℕ) → 2 ^ e ≤ x → x < 65536 → value (times (points (2 ^ e) (65536 - 2 ^ e)) q) x ≡ 0
 zero_outside e q x above below = grind (arith, common_steps, root_there (2 ^ e) (65536 - 2 ^ e) q (x - 2 ^ e) (omega arith))
 
--- a polynomial that is zero at each point from 2 ^ e on has the values of one of as many fewer coefficients below 2 ^ e
+-- A polynomial that is zero at each point from 2 ^ e on has, below 2 ^ e, the values of a polynomial without these roots.
 pub narrowed : (e b : ℕ) (p : List ℕ) → e ≤ 16 → length p ≡ b + (65536 - 2 ^ e) → WordsOneByOne p → ((x : ℕ) → 2 ^ e ≤ x → x < 65536 → value p x ≡ 0)
     → (q : List ℕ) × (length q ≡ b) × WordsOneByOne q × ((x : ℕ) → x < 2 ^ e → value q x ≡ value p x)
 narrowed e b p he size words none =
@@ -56,7 +56,7 @@ narrowed e b p he size words none =
     (roots_points (2 ^ e) (65536 - 2 ^ e) p (λ i hi. none (2 ^ e + i) (omega arith) (omega arith))) in
     (q, degree, coefficients, λ x hx. sym (at x ∙ value-inside e q he coefficients x hx))
 
--- and back
+-- A polynomial has, below 2 ^ e, the values of a polynomial that is zero at each point from 2 ^ e on.
 pub widened : (e b : ℕ) (q : List ℕ) → e ≤ 16 → length q ≡ b → WordsOneByOne q
     → (p : List ℕ) × (length p ≡ b + (65536 - 2 ^ e)) × WordsOneByOne p × ((x : ℕ) → x < 2 ^ e → value p x ≡ value q x) × ((x : ℕ) → 2 ^ e ≤ x → x < 65536 → value p x ≡ 0)
 widened e b q he size words = (

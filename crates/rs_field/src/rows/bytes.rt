@@ -49,7 +49,8 @@ pub fn are_words(entries: &[GfElement])
 /// The symbols of rows.
 pub fn row_symbols_are_words(rows: &ShardsRefMut<'_>)
     requires { Fits rows.now }
-    ensures { (k s i : ℕ) → k < rows.now.shard_len_64 → s < 32 → i < rows.now.shard_count → word rows.now k s i < 65536 }
+    ensures { (k s i : ℕ) → k < rows.now.shard_len_64 → s < 32 → i < rows.now.shard_count
+        → word rows.now k s i < 65536 }
 {
     symbols_are_words(rows.chunks);
 }

@@ -37,7 +37,8 @@ fn derivative_within(steps: &mut Steps, data: &mut ShardsRefMut<'_>, pos: usize,
     ensures extent { SameExtent «data».old «data».new }
     ensures others { SameRowsOutside pos (pos + size) «data».old «data».new }
     ensures derivative { (k s : ℕ) → k < «data».old.shard_len_64 → s < 32
-        → IsDerivativeAdded size (λ q. word «data».old k s (pos + q)) (λ q. word «data».new k s (pos + q)) }
+        → IsDerivativeAdded size (λ q. word «data».old k s (pos + q))
+        (λ q. word «data».new k s (pos + q)) }
     ensures counts { CountsRows (transform_steps size) steps.old steps.new }
 {
     if size > 1 {

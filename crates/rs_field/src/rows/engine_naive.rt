@@ -29,7 +29,8 @@ impl<'t> Naive<'t> {
 // Each symbol of x becomes its sum with the product of y's.
 fn mul_add_chunk(x: &mut [u8; 64], y: &[u8; 64], log_m: GfElement, exp: Exp<'_>, log: Log<'_>)
     requires { IsExpLog exp.now log.now }
-    ensures { (s : ℕ) → s < 32 → symbol x.new s ≡ bit_xor (symbol x.old s) (product (symbol y.now s) (power log_m)) }
+    ensures { (s : ℕ) → s < 32
+        → symbol x.new s ≡ bit_xor (symbol x.old s) (product (symbol y.now s) (power log_m)) }
 {
     for s in 0..32 {
         let product = tables::mul(symbol_at(y, s), log_m, exp, log);
@@ -53,7 +54,8 @@ fn mul_add(xs: &mut [[u8; 64]], ys: &[[u8; 64]], log_m: GfElement, exp: Exp<'_>,
     requires tables { IsExpLog exp.now log.now }
     requires sizes { length xs.old ≡ length ys.now }
     ensures { (k s : ℕ) → k < length xs.old → s < 32
-        → symbol (chunk xs.new k) s ≡ bit_xor (symbol (chunk xs.old k) s) (product (symbol (chunk ys.now k) s) (power log_m)) }
+        → symbol (chunk xs.new k) s
+        ≡ bit_xor (symbol (chunk xs.old k) s) (product (symbol (chunk ys.now k) s) (power log_m)) }
 {
     for k in 0..xs.len() {
         mul_add_chunk(&mut xs[k], &ys[k], log_m, exp, log);
@@ -65,7 +67,8 @@ impl Naive<'_> {
     fn mul_add_row(&self, xs: &mut [[u8; 64]], ys: &[[u8; 64]], log_m: GfElement)
         requires { length xs.old ≡ length ys.now }
         ensures { (k s : ℕ) → k < length xs.old → s < 32
-            → symbol (chunk xs.new k) s ≡ bit_xor (symbol (chunk xs.old k) s) (times_factor log_m (symbol (chunk ys.now k) s)) }
+            → symbol (chunk xs.new k) s
+            ≡ bit_xor (symbol (chunk xs.old k) s) (times_factor log_m (symbol (chunk ys.now k) s)) }
     {
         if log_m != GF_MODULUS {
             let t = get_exp_log(self.tables);

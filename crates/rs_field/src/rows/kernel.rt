@@ -37,17 +37,21 @@ pub trait Kernel: Drop {
     fn fft_butterfly(&self, x: &mut [[u8; 64]], y: &mut [[u8; 64]], log_m: GfElement)
         requires { length x.old ≡ length y.old }
         ensures first { (k s : ℕ) → k < length x.old → s < 32
-            → symbol (chunk x.new k) s ≡ bit_xor (symbol (chunk x.old k) s) (times_factor log_m (symbol (chunk y.old k) s)) }
+            → symbol (chunk x.new k) s
+            ≡ bit_xor (symbol (chunk x.old k) s) (times_factor log_m (symbol (chunk y.old k) s)) }
         ensures second { (k s : ℕ) → k < length x.old → s < 32
-            → symbol (chunk y.new k) s ≡ bit_xor (symbol (chunk y.old k) s) (symbol (chunk x.new k) s) };
+            → symbol (chunk y.new k) s
+            ≡ bit_xor (symbol (chunk y.old k) s) (symbol (chunk x.new k) s) };
 
     /// Adds `x` to `y`, and then the new `y` times the factor to `x`. Both rows have the same number of chunks.
     fn ifft_butterfly(&self, x: &mut [[u8; 64]], y: &mut [[u8; 64]], log_m: GfElement)
         requires { length x.old ≡ length y.old }
         ensures first { (k s : ℕ) → k < length x.old → s < 32
-            → symbol (chunk x.new k) s ≡ bit_xor (symbol (chunk x.old k) s) (times_factor log_m (symbol (chunk y.new k) s)) }
+            → symbol (chunk x.new k) s
+            ≡ bit_xor (symbol (chunk x.old k) s) (times_factor log_m (symbol (chunk y.new k) s)) }
         ensures second { (k s : ℕ) → k < length x.old → s < 32
-            → symbol (chunk y.new k) s ≡ bit_xor (symbol (chunk y.old k) s) (symbol (chunk x.old k) s) };
+            → symbol (chunk y.new k) s
+            ≡ bit_xor (symbol (chunk y.old k) s) (symbol (chunk x.old k) s) };
 
     /// Two layers of `fft_butterfly` on four rows: rows 0 and 2 and rows 1 and 3 by the factor of `log_m02`, then rows 0
     /// and 1 by that of `log_m01`, and rows 2 and 3 by that of `log_m23`. All four have the same number of chunks.
@@ -65,7 +69,8 @@ pub trait Kernel: Drop {
         requires two { length x0.old ≡ length x2.old }
         requires three { length x0.old ≡ length x3.old }
         ensures { (k : ℕ) → k < length x0.old
-            → IsForwardTwoLayers logs.log_m02 logs.log_m01 logs.log_m23 (chunk x0.old k) (chunk x1.old k) (chunk x2.old k) (chunk x3.old k)
+            → IsForwardTwoLayers logs.log_m02 logs.log_m01 logs.log_m23 (chunk x0.old k)
+            (chunk x1.old k) (chunk x2.old k) (chunk x3.old k)
             (chunk x0.new k) (chunk x1.new k) (chunk x2.new k) (chunk x3.new k) }
     {
         self.fft_butterfly(x0, x2, logs.log_m02);
@@ -88,7 +93,8 @@ pub trait Kernel: Drop {
         requires two { length x0.old ≡ length x2.old }
         requires three { length x0.old ≡ length x3.old }
         ensures { (k : ℕ) → k < length x0.old
-            → IsBackwardTwoLayers logs.log_m02 logs.log_m01 logs.log_m23 (chunk x0.old k) (chunk x1.old k) (chunk x2.old k) (chunk x3.old k)
+            → IsBackwardTwoLayers logs.log_m02 logs.log_m01 logs.log_m23 (chunk x0.old k)
+            (chunk x1.old k) (chunk x2.old k) (chunk x3.old k)
             (chunk x0.new k) (chunk x1.new k) (chunk x2.new k) (chunk x3.new k) }
     {
         self.ifft_butterfly(x0, x1, logs.log_m01);

@@ -33,7 +33,8 @@ fn butterflies_of_halves<K: Kernel>(
     requires { length chunks.old ≡ 2 * half }
     ensures length { length chunks.new ≡ 2 * half }
     ensures pairs { (k : ℕ) → k < half
-        → IsButterfly direction log_m (chunk chunks.old k) (chunk chunks.old (half + k)) (chunk chunks.new k) (chunk chunks.new (half + k)) }
+        → IsButterfly direction log_m (chunk chunks.old k) (chunk chunks.old (half + k))
+        (chunk chunks.new k) (chunk chunks.new (half + k)) }
 {
     let (x, y) = chunks.split_at_mut(half);
     match direction {
@@ -54,8 +55,10 @@ fn butterflies_of_quarters<K: Kernel>(
     ensures length { length chunks.new ≡ 4 * quarter }
     ensures fours { (k : ℕ) → k < quarter
         → AreTwoLayers direction logs.log_m02 logs.log_m01 logs.log_m23
-        (chunk chunks.old k) (chunk chunks.old (quarter + k)) (chunk chunks.old (2 * quarter + k)) (chunk chunks.old (3 * quarter + k))
-        (chunk chunks.new k) (chunk chunks.new (quarter + k)) (chunk chunks.new (2 * quarter + k)) (chunk chunks.new (3 * quarter + k)) }
+        (chunk chunks.old k) (chunk chunks.old (quarter + k)) (chunk chunks.old (2 * quarter + k))
+        (chunk chunks.old (3 * quarter + k))
+        (chunk chunks.new k) (chunk chunks.new (quarter + k)) (chunk chunks.new (2 * quarter + k))
+        (chunk chunks.new (3 * quarter + k)) }
 {
     let (front, back) = chunks.split_at_mut(2 * quarter);
     let (x0, x1) = front.split_at_mut(quarter);

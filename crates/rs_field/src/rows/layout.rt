@@ -35,7 +35,8 @@ pub fn insert(row: &mut [[u8; 64]], shard: &[u8])
 fn put_whole(row: &mut [[u8; 64]], shard: &[u8], whole: usize)
     requires room { whole ≤ length row.old }
     requires within { whole * 64 ≤ length shard.now }
-    ensures { (k b : ℕ) → k < whole → b < 64 → slice_index (chunk row.new k) b ≡ slice_index shard.now (k * 64 + b) }
+    ensures { (k b : ℕ) → k < whole → b < 64
+        → slice_index (chunk row.new k) b ≡ slice_index shard.now (k * 64 + b) }
 {
     let chunks = shard[..whole * 64].as_chunks().0;
     if whole == 1 {
@@ -52,7 +53,8 @@ fn put_tail(chunk: &mut [u8; 64], tail: &[u8], half: usize)
     requires half { half ≤ 32 }
     requires length { length tail.now ≡ 2 * half }
     ensures low { (b : ℕ) → b < half → slice_index «chunk».new b ≡ slice_index tail.now b }
-    ensures high { (b : ℕ) → b < half → slice_index «chunk».new (32 + b) ≡ slice_index tail.now (half + b) }
+    ensures high { (b : ℕ) → b < half
+        → slice_index «chunk».new (32 + b) ≡ slice_index tail.now (half + b) }
 {
     if half < 16 {
         put_short_tail(chunk, tail, half);
@@ -66,7 +68,8 @@ fn put_short_tail(chunk: &mut [u8; 64], tail: &[u8], half: usize)
     requires half { half ≤ 32 }
     requires length { length tail.now ≡ 2 * half }
     ensures low { (b : ℕ) → b < half → slice_index «chunk».new b ≡ slice_index tail.now b }
-    ensures high { (b : ℕ) → b < half → slice_index «chunk».new (32 + b) ≡ slice_index tail.now (half + b) }
+    ensures high { (b : ℕ) → b < half
+        → slice_index «chunk».new (32 + b) ≡ slice_index tail.now (half + b) }
 {
     put_bytes(chunk, 0, &tail[..half]);
     put_bytes(chunk, 32, &tail[half..]);
@@ -79,7 +82,8 @@ fn put_long_tail(chunk: &mut [u8; 64], tail: &[u8], half: usize)
     requires long { 16 ≤ half }
     requires length { length tail.now ≡ 2 * half }
     ensures low { (b : ℕ) → b < half → slice_index «chunk».new b ≡ slice_index tail.now b }
-    ensures high { (b : ℕ) → b < half → slice_index «chunk».new (32 + b) ≡ slice_index tail.now (half + b) }
+    ensures high { (b : ℕ) → b < half
+        → slice_index «chunk».new (32 + b) ≡ slice_index tail.now (half + b) }
 {
     let first = load_32(&tail[..32]);
     let last = load_32(&tail[2 * half - 32..]);
@@ -110,7 +114,8 @@ fn store_32(v: u8x32, places: &mut [u8])
 fn put_32(chunk: &mut [u8; 64], start: usize, v: u8x32)
     requires { start ≤ 32 }
     ensures here { (b : ℕ) → b < 32 → slice_index «chunk».new (start + b) ≡ slice_index v b }
-    ensures others { (b : ℕ) → (b < start) ⊎ (start + 32 ≤ b) → slice_index «chunk».new b ≡ slice_index «chunk».old b }
+    ensures others { (b : ℕ) → (b < start) ⊎ (start + 32 ≤ b)
+        → slice_index «chunk».new b ≡ slice_index «chunk».old b }
 {
     store_32(v, &mut chunk[start..start + 32]);
 }
@@ -118,7 +123,8 @@ fn put_32(chunk: &mut [u8; 64], start: usize, v: u8x32)
 // Writes bytes into a chunk, from byte `start` on.
 fn put_bytes(chunk: &mut [u8; 64], start: usize, bytes: &[u8])
     requires { start + length bytes.now ≤ 64 }
-    ensures here { (b : ℕ) → b < length bytes.now → slice_index «chunk».new (start + b) ≡ slice_index bytes.now b }
+    ensures here { (b : ℕ) → b < length bytes.now
+        → slice_index «chunk».new (start + b) ≡ slice_index bytes.now b }
     ensures before { (b : ℕ) → b < start → slice_index «chunk».new b ≡ slice_index «chunk».old b }
 {
     chunk[start..start + bytes.len()].copy_from_slice(bytes);
@@ -128,7 +134,8 @@ fn put_bytes(chunk: &mut [u8; 64], start: usize, bytes: &[u8])
 pub fn undo_last_chunk_encoding(row: &mut [[u8; 64]], shard_bytes: usize)
     requires room { length row.old ≡ row_len shard_bytes }
     requires even { shard_bytes % 2 ≡ 0 }
-    ensures { in_order shard_bytes (λ k. chunk row.new k) ≡ laid_out shard_bytes (λ k. chunk row.old k) }
+    ensures { in_order shard_bytes (λ k. chunk row.new k)
+        ≡ laid_out shard_bytes (λ k. chunk row.old k) }
 {
     let half = shard_bytes % 64 / 2;
     if half > 0 {
@@ -140,7 +147,8 @@ pub fn undo_last_chunk_encoding(row: &mut [[u8; 64]], shard_bytes: usize)
 fn join_tail(chunk: &mut [u8; 64], half: usize)
     requires { half ≤ 32 }
     ensures low { (b : ℕ) → b < half → slice_index «chunk».new b ≡ slice_index «chunk».old b }
-    ensures high { (b : ℕ) → b < half → slice_index «chunk».new (half + b) ≡ slice_index «chunk».old (32 + b) }
+    ensures high { (b : ℕ) → b < half
+        → slice_index «chunk».new (half + b) ≡ slice_index «chunk».old (32 + b) }
 {
     let high = load_32(&chunk[32..]);
     put_32(chunk, half, high);

@@ -35,7 +35,8 @@ pub fn copy_rows(
     requires apart { from + count ≤ to }
     requires within { to + count ≤ rows.old.shard_count }
     ensures extent { SameExtent rows.old rows.new }
-    ensures copied { (i k : ℕ) → k < rows.old.shard_len_64 → i < count → cell rows.new k (to + i) ≡ cell rows.old k (from + i) }
+    ensures copied { (i k : ℕ) → k < rows.old.shard_len_64 → i < count
+        → cell rows.new k (to + i) ≡ cell rows.old k (from + i) }
     ensures others { SameRowsOutside to (to + count) rows.old rows.new }
     ensures counts { CountsRows count steps.old steps.new }
 {
@@ -65,7 +66,8 @@ pub fn mul_row_at<E: Engine>(
     requires fits { Fits rows.old }
     requires within { index < rows.old.shard_count }
     ensures extent { SameExtent rows.old rows.new }
-    ensures products { (k s : ℕ) → k < rows.old.shard_len_64 → s < 32 → word rows.new k s index ≡ product (word rows.old k s index) (power log_m) }
+    ensures products { (k s : ℕ) → k < rows.old.shard_len_64 → s < 32
+        → word rows.new k s index ≡ product (word rows.old k s index) (power log_m) }
     ensures others { SameRowsOutside index (index + 1) rows.old rows.new }
     ensures counts { RowProductCounts steps.old steps.new }
 {
@@ -83,7 +85,9 @@ fn mul_run<E: Engine>(
     log_m: GfElement,
 )
     requires { a + n ≤ length chunks.old }
-    ensures products { (k s : ℕ) → k < n → s < 32 → symbol (chunk chunks.new (a + k)) s ≡ product (symbol (chunk chunks.old (a + k)) s) (power log_m) }
+    ensures products { (k s : ℕ) → k < n → s < 32
+        → symbol (chunk chunks.new (a + k)) s
+        ≡ product (symbol (chunk chunks.old (a + k)) s) (power log_m) }
     ensures others { SameOutside a (a + n) chunks.old chunks.new }
     ensures counts { RowProductCounts steps.old steps.new }
 {

@@ -85,7 +85,8 @@ impl<'a> ShardsRefMut<'a> {
         requires fits { Fits self.old }
         requires apart { 0 < dist }
         requires within { pos + 3 * dist < self.old.shard_count }
-        ensures* lends { sem 𝓛 (LendsFourRows self.entry pos (pos + dist) (pos + 2 * dist) (pos + 3 * dist) result) }
+        ensures* lends { sem 𝓛
+            (LendsFourRows self.entry pos (pos + dist) (pos + 2 * dist) (pos + 3 * dist) result) }
         ensures first { result.0.now ≡ row_at self.old pos }
         ensures second { result.1.now ≡ row_at self.old (pos + dist) }
         ensures third { result.2.now ≡ row_at self.old (pos + 2 * dist) }
@@ -179,7 +180,8 @@ impl<'a> ShardsRefMut<'a> {
         requires apart { a + n ≤ b }
         requires within { b + m ≤ length self.old.chunks.now }
         ensures* lends { sem 𝓛 (LendsTwoRuns self.entry a n b m result) }
-        ensures value { (result.0.now ≡ take n (drop a self.old.chunks.now)) × (result.1.now ≡ take m (drop b self.old.chunks.now)) }
+        ensures value { (result.0.now ≡ take n (drop a self.old.chunks.now))
+            × (result.1.now ≡ take m (drop b self.old.chunks.now)) }
     {
         let all = self.all();
         let p = all.as_mut_ptr();
@@ -209,7 +211,8 @@ impl<'a> ShardsRefMut<'a> {
         requires within { d + n ≤ length self.old.chunks.now }
         ensures* lends { sem 𝓛 (LendsFourRuns self.entry a b c d n result) }
         ensures value { let run = λ (start : ℕ). take n (drop start self.old.chunks.now) in
-            (result.0.now ≡ run a) × (result.1.now ≡ run b) × (result.2.now ≡ run c) × (result.3.now ≡ run d) }
+            (result.0.now ≡ run a) × (result.1.now ≡ run b) × (result.2.now ≡ run c)
+            × (result.3.now ≡ run d) }
     {
         let all = self.all();
         let p = all.as_mut_ptr();

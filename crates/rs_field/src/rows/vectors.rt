@@ -7,8 +7,10 @@ use std::simd::prelude::*;
 /// that lanes are bytes.
 #[inline(always)]
 pub fn sum<const N: usize>(x: Simd<u8, N>, y: Simd<u8, N>) -> Simd<u8, N>
-    ensures bytes { (i : ℕ) → i < N → (slice_index x.entry i < 256) × (slice_index y.entry i < 256) }
-    ensures lanes { (i : ℕ) → i < N → slice_index result i ≡ bit_xor (slice_index x.entry i) (slice_index y.entry i) }
+    ensures bytes { (i : ℕ) → i < N
+        → (slice_index x.entry i < 256) × (slice_index y.entry i < 256) }
+    ensures lanes { (i : ℕ) → i < N
+        → slice_index result i ≡ bit_xor (slice_index x.entry i) (slice_index y.entry i) }
 {
     x ^ y
 }

@@ -46,8 +46,10 @@ fn pair_sum(steps: &mut Steps, x: GfElement, y: GfElement) -> (GfElement, GfElem
 // 1 and 3.
 #[inline(always)]
 fn four_sums(steps: &mut Steps, entries: [GfElement; 4]) -> [GfElement; 4]
-    ensures values { IsFourSums (slice_index entries 0) (slice_index entries 1) (slice_index entries 2) (slice_index entries 3)
-        (slice_index result 0) (slice_index result 1) (slice_index result 2) (slice_index result 3) }
+    ensures values { IsFourSums (slice_index entries 0) (slice_index entries 1)
+        (slice_index entries 2) (slice_index entries 3)
+        (slice_index result 0) (slice_index result 1)
+        (slice_index result 2) (slice_index result 3) }
     ensures counts { CountsPairs 4 steps.old steps.new }
 {
     let [a, b, c, d] = entries;
@@ -71,8 +73,10 @@ fn quarter_sums(
     requires two { length x0.old ≡ length x2.old }
     requires three { length x0.old ≡ length x3.old }
     ensures sums { (i : ℕ) → i < length x0.old
-        → IsFourSums (slice_index x0.old i) (slice_index x1.old i) (slice_index x2.old i) (slice_index x3.old i)
-        (slice_index x0.new i) (slice_index x1.new i) (slice_index x2.new i) (slice_index x3.new i) }
+        → IsFourSums (slice_index x0.old i) (slice_index x1.old i)
+        (slice_index x2.old i) (slice_index x3.old i)
+        (slice_index x0.new i) (slice_index x1.new i)
+        (slice_index x2.new i) (slice_index x3.new i) }
     ensures counts { CountsPairs (4 * length x0.old) steps.old steps.new }
 {
     for i in 0..x0.len() {
@@ -84,9 +88,11 @@ fn quarter_sums(
 #[inline(always)]
 fn half_sums(steps: &mut Steps, x0: &mut [GfElement], x1: &mut [GfElement])
     requires { length x0.old ≡ length x1.old }
-    ensures sums { (i : ℕ) → i < length x0.old → slice_index x0.new i % 65535 ≡ (slice_index x0.old i + slice_index x1.old i) % 65535 }
+    ensures sums { (i : ℕ) → i < length x0.old
+        → slice_index x0.new i % 65535 ≡ (slice_index x0.old i + slice_index x1.old i) % 65535 }
     ensures differences { (i : ℕ) → i < length x0.old
-        → slice_index x1.new i % 65535 ≡ (slice_index x0.old i + 65534 * slice_index x1.old i) % 65535 }
+        → slice_index x1.new i % 65535
+        ≡ (slice_index x0.old i + 65534 * slice_index x1.old i) % 65535 }
     ensures counts { CountsPairs (length x0.old) steps.old steps.new }
 {
     for i in 0..x0.len() {
@@ -115,8 +121,10 @@ fn walsh_128(steps: &mut Steps, entries: &mut [GfElement])
 pub fn fwht(steps: &mut Steps, entries: &mut [GfElement], truncated: usize)
     requires power { (d : ℕ) × (length entries.old ≡ 2 ^ d) }
     requires size { length entries.old ≤ 65536 }
-    requires zeros { (y : ℕ) → truncated ≤ y → y < length entries.old → slice_index entries.old y ≡ 0 }
-    ensures values { IsWalsh (length entries.old) (λ y. slice_index entries.old y) (λ w. slice_index entries.new w) }
+    requires zeros { (y : ℕ) → truncated ≤ y → y < length entries.old
+        → slice_index entries.old y ≡ 0 }
+    ensures values { IsWalsh (length entries.old) (λ y. slice_index entries.old y)
+        (λ w. slice_index entries.new w) }
     ensures counts { WalshCounts (length entries.old) steps.old steps.new }
 {
     let n = entries.len();

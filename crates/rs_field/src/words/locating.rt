@@ -21,7 +21,9 @@ fn counted_product(steps: &mut Steps, x: GfElement, y: GfElement) -> GfElement
 // Each entry becomes its product with the factor at the same place.
 fn products(steps: &mut Steps, entries: &mut [GfElement], factors: &[GfElement])
     requires { length entries.old ≡ length factors.now }
-    ensures products { (i : ℕ) → i < length entries.old → slice_index entries.new i % 65535 ≡ slice_index entries.old i * slice_index factors.now i % 65535 }
+    ensures products { (i : ℕ) → i < length entries.old
+        → slice_index entries.new i % 65535
+        ≡ slice_index entries.old i * slice_index factors.now i % 65535 }
     ensures counts { CountsProducts (length entries.old) steps.old steps.new }
 {
     for i in 0..entries.len() {
@@ -81,7 +83,8 @@ fn locate_marked(
 )
     requires power { (d : ℕ) × (length erasures.old ≡ 2 ^ d) }
     requires few { length erasures.old ≤ 65536 }
-    requires zeros { (y : ℕ) → truncated_size ≤ y → y < length erasures.old → slice_index erasures.old y ≡ 0 }
+    requires zeros { (y : ℕ) → truncated_size ≤ y → y < length erasures.old
+        → slice_index erasures.old y ≡ 0 }
     requires table { IsLogWalshBelow (length erasures.old) log_walsh.now }
     ensures values { IsLocatorBelow (length erasures.old) (λ y. slice_index erasures.old y)
         (λ x. slice_index erasures.new x) }

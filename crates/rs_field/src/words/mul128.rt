@@ -21,7 +21,9 @@ fn joined(low: u64, high: u64) -> u128
 fn spread(a: u8, b: u8, c: u8, d: u8) -> u128
     ensures { (i : ℕ) → i < 16
         → byte_at result i
-        ≡ bit_xor (bit_xor (bit_xor (i / 2 ^ 0 % 2 * a) (i / 2 ^ 1 % 2 * b)) (i / 2 ^ 2 % 2 * c)) (i / 2 ^ 3 % 2 * d) }
+        ≡ bit_xor
+        (bit_xor (bit_xor (i / 2 ^ 0 % 2 * a) (i / 2 ^ 1 % 2 * b)) (i / 2 ^ 2 % 2 * c))
+        (i / 2 ^ 3 % 2 * d) }
 {
     let first = 0x0100_0100_0100_0100 * u64::from(a);
     let second = 0x0101_0000_0101_0000 * u64::from(b);
@@ -34,7 +36,8 @@ fn spread(a: u8, b: u8, c: u8, d: u8) -> u128
 // The number of the low bytes of sixteen products, as sums of four.
 #[inline(always)]
 fn low_bytes(words: &[GfElement; 16]) -> u128
-    ensures { (n f i : ℕ) → IsNibbleList n f words.now → i < 16 → byte_at result i ≡ product (i * 16 ^ n) f % 256 }
+    ensures { (n f i : ℕ) → IsNibbleList n f words.now → i < 16
+        → byte_at result i ≡ product (i * 16 ^ n) f % 256 }
 {
     spread(
         (words[1] & 255) as u8,
@@ -47,7 +50,8 @@ fn low_bytes(words: &[GfElement; 16]) -> u128
 // The number of the high bytes of sixteen products, as sums of four.
 #[inline(always)]
 fn high_bytes(words: &[GfElement; 16]) -> u128
-    ensures { (n f i : ℕ) → IsNibbleList n f words.now → i < 16 → byte_at result i ≡ product (i * 16 ^ n) f / 256 }
+    ensures { (n f i : ℕ) → IsNibbleList n f words.now → i < 16
+        → byte_at result i ≡ product (i * 16 ^ n) f / 256 }
 {
     spread(
         (words[1] >> 8) as u8,

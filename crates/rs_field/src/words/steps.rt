@@ -24,7 +24,8 @@ impl Model for Steps {
 impl Default for Steps {
     ghost use Rattle.std.specs.Prelude.{◌≡◌};
 
-    ghost is_default = { λ steps. (steps.row_steps ≡ 0) × (steps.pair_sums ≡ 0) × (steps.products ≡ 0) };
+    ghost is_default = { λ steps. (steps.row_steps ≡ 0) × (steps.pair_sums ≡ 0)
+        × (steps.products ≡ 0) };
 
     fn default() -> Steps {
         Steps::new()
@@ -44,14 +45,16 @@ impl Steps {
     // Counts these numbers of row steps, pair sums and products.
     #[inline(always)]
     fn count(&mut self, row_steps: usize, pair_sums: usize, products: usize)
-        ensures { (self.new.row_steps ≡ self.old.row_steps + row_steps) × (self.new.pair_sums ≡ self.old.pair_sums + pair_sums)
+        ensures { (self.new.row_steps ≡ self.old.row_steps + row_steps)
+            × (self.new.pair_sums ≡ self.old.pair_sums + pair_sums)
             × (self.new.products ≡ self.old.products + products) }
     {}
 
     /// Counts one row step.
     #[inline(always)]
     pub fn row_step(&mut self)
-        ensures { (self.new.row_steps ≡ self.old.row_steps + 1) × (self.new.pair_sums ≡ self.old.pair_sums) × (self.new.products ≡ self.old.products) }
+        ensures { (self.new.row_steps ≡ self.old.row_steps + 1)
+            × (self.new.pair_sums ≡ self.old.pair_sums) × (self.new.products ≡ self.old.products) }
     {
         self.count(1, 0, 0);
     }
@@ -59,7 +62,8 @@ impl Steps {
     /// Counts one row step for each of `rows` rows.
     #[inline(always)]
     pub(crate) fn row_steps(&mut self, rows: usize)
-        ensures { (self.new.row_steps ≡ self.old.row_steps + rows) × (self.new.pair_sums ≡ self.old.pair_sums) × (self.new.products ≡ self.old.products) }
+        ensures { (self.new.row_steps ≡ self.old.row_steps + rows)
+            × (self.new.pair_sums ≡ self.old.pair_sums) × (self.new.products ≡ self.old.products) }
     {
         self.count(rows, 0, 0);
     }
@@ -67,7 +71,9 @@ impl Steps {
     /// Counts one pair sum.
     #[inline(always)]
     pub fn pair_sum(&mut self)
-        ensures { (self.new.row_steps ≡ self.old.row_steps) × (self.new.pair_sums ≡ self.old.pair_sums + 1) × (self.new.products ≡ self.old.products) }
+        ensures { (self.new.row_steps ≡ self.old.row_steps)
+            × (self.new.pair_sums ≡ self.old.pair_sums + 1)
+            × (self.new.products ≡ self.old.products) }
     {
         self.count(0, 1, 0);
     }
@@ -75,7 +81,9 @@ impl Steps {
     /// Counts `sums` pair sums.
     #[inline(always)]
     pub(crate) fn pair_sums(&mut self, sums: usize)
-        ensures { (self.new.row_steps ≡ self.old.row_steps) × (self.new.pair_sums ≡ self.old.pair_sums + sums) × (self.new.products ≡ self.old.products) }
+        ensures { (self.new.row_steps ≡ self.old.row_steps)
+            × (self.new.pair_sums ≡ self.old.pair_sums + sums)
+            × (self.new.products ≡ self.old.products) }
     {
         self.count(0, sums, 0);
     }
@@ -83,7 +91,9 @@ impl Steps {
     /// Counts one product.
     #[inline(always)]
     pub fn product(&mut self)
-        ensures { (self.new.row_steps ≡ self.old.row_steps) × (self.new.pair_sums ≡ self.old.pair_sums) × (self.new.products ≡ self.old.products + 1) }
+        ensures { (self.new.row_steps ≡ self.old.row_steps)
+            × (self.new.pair_sums ≡ self.old.pair_sums)
+            × (self.new.products ≡ self.old.products + 1) }
     {
         self.count(0, 0, 1);
     }

@@ -210,8 +210,12 @@ fn push_log_walsh(table: &mut Vec<GfElement>, log: Log<'_>, points: usize) -> Re
     requires few { points ≤ 65536 }
     requires room { vec_len table.old + points < 2 ^ 32 }
     ensures length { OnOk result (vec_len table.new ≡ vec_len table.old + points) }
-    ensures before { OnOk result ((i : ℕ) → i < vec_len table.old → slice_index table.new.items i ≡ slice_index table.old.items i) }
-    ensures entries { OnOk result (IsWalsh points (λ z. 65536 / points * log_or_zero z) (λ w. slice_index table.new.items (vec_len table.old + w))) }
+    ensures before { OnOk result
+        ((i : ℕ) → i < vec_len table.old
+        → slice_index table.new.items i ≡ slice_index table.old.items i) }
+    ensures entries { OnOk result
+        (IsWalsh points (λ z. 65536 / points * log_or_zero z)
+        (λ w. slice_index table.new.items (vec_len table.old + w))) }
 {
     let from = table.len();
     push_logs(table, log, points)?;
@@ -228,9 +232,12 @@ fn push_logs(table: &mut Vec<GfElement>, log: Log<'_>, points: usize) -> Result<
     requires few { points ≤ 65536 }
     requires room { vec_len table.old + points < 2 ^ 32 }
     ensures length { OnOk result (vec_len table.new ≡ vec_len table.old + points) }
-    ensures before { OnOk result ((i : ℕ) → i < vec_len table.old → slice_index table.new.items i ≡ slice_index table.old.items i) }
+    ensures before { OnOk result
+        ((i : ℕ) → i < vec_len table.old
+        → slice_index table.new.items i ≡ slice_index table.old.items i) }
     ensures entries { OnOk result ((z : ℕ) → z < points
-        → slice_index table.new.items (vec_len table.old + z) % 65535 ≡ 65536 / points * log_or_zero z % 65535) }
+        → slice_index table.new.items (vec_len table.old + z) % 65535
+        ≡ 65536 / points * log_or_zero z % 65535) }
 {
     let factor = (GF_ORDER / points) as u32;
     for z in 0..points {

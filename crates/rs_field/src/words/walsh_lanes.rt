@@ -25,7 +25,8 @@ fn excess(x: u16x16, y: u16x16) -> u16x16
 // The sums modulo 65535, as `branchless_add_mod` makes them.
 #[inline(always)]
 fn add_mod_lanes(x: u16x16, y: u16x16) -> u16x16
-    ensures { (i : ℕ) → i < 16 → slice_index result i % 65535 ≡ (slice_index x i + slice_index y i) % 65535 }
+    ensures { (i : ℕ) → i < 16
+        → slice_index result i % 65535 ≡ (slice_index x i + slice_index y i) % 65535 }
 {
     larger(x + y, excess(x, !y))
 }
@@ -33,7 +34,8 @@ fn add_mod_lanes(x: u16x16, y: u16x16) -> u16x16
 // The differences modulo 65535: a complement is the negative.
 #[inline(always)]
 fn sub_mod_lanes(x: u16x16, y: u16x16) -> u16x16
-    ensures { (i : ℕ) → i < 16 → slice_index result i % 65535 ≡ (slice_index x i + 65534 * slice_index y i) % 65535 }
+    ensures { (i : ℕ) → i < 16
+        → slice_index result i % 65535 ≡ (slice_index x i + 65534 * slice_index y i) % 65535 }
 {
     add_mod_lanes(x, !y)
 }
@@ -103,8 +105,10 @@ fn walsh_16(v: u16x16) -> u16x16
 // 1 and 3.
 #[inline(always)]
 fn vector_sums(x0: u16x16, x1: u16x16, x2: u16x16, x3: u16x16) -> (u16x16, u16x16, u16x16, u16x16)
-    ensures { (i : ℕ) → i < 16 → IsFourSums (slice_index x0 i) (slice_index x1 i) (slice_index x2 i) (slice_index x3 i)
-        (slice_index result.0 i) (slice_index result.1 i) (slice_index result.2 i) (slice_index result.3 i) }
+    ensures { (i : ℕ) → i < 16
+        → IsFourSums (slice_index x0 i) (slice_index x1 i) (slice_index x2 i) (slice_index x3 i)
+        (slice_index result.0 i) (slice_index result.1 i) (slice_index result.2 i)
+        (slice_index result.3 i) }
 {
     let low_sum = add_mod_lanes(x0, x1);
     let low_difference = sub_mod_lanes(x0, x1);

@@ -31,8 +31,13 @@ impl Configuration {
         counts: SupportedCounts<C>,
         shard_bytes: usize,
     ) -> Result<Configuration, Error>
-        ensures { MatchResult result (λ c. (c ≡ rate_configuration C.rate counts.original_count counts.recovery_count shard_bytes) × IsSetUp C.rate c)
-            (λ e. validation_outcome (configuration C.rate counts.original_count counts.recovery_count shard_bytes) ≡ Err e) }
+        ensures { MatchResult result
+            (λ c.
+            (c ≡ rate_configuration C.rate counts.original_count counts.recovery_count shard_bytes)
+            × IsSetUp C.rate c)
+            (λ e. validation_outcome
+            (configuration C.rate counts.original_count counts.recovery_count shard_bytes)
+            ≡ Err e) }
     {
         if shard_bytes == 0 || shard_bytes % 2 == 1 {
             return Err(Error::InvalidShardSize { shard_bytes });
@@ -53,8 +58,11 @@ impl Configuration {
         recovery_count: usize,
         shard_bytes: usize,
     ) -> Result<Configuration, Error>
-        ensures { MatchResult result (λ c. (c ≡ rate_configuration C.rate original_count recovery_count shard_bytes) × IsSetUp C.rate c)
-            (λ e. validation_outcome (configuration C.rate original_count recovery_count shard_bytes) ≡ Err e) }
+        ensures { MatchResult result
+            (λ c. (c ≡ rate_configuration C.rate original_count recovery_count shard_bytes)
+            × IsSetUp C.rate c)
+            (λ e. validation_outcome
+            (configuration C.rate original_count recovery_count shard_bytes) ≡ Err e) }
     {
         let counts = SupportedCounts::<C>::new(original_count, recovery_count)?;
         Configuration::new(counts, shard_bytes)

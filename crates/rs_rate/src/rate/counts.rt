@@ -25,7 +25,9 @@ pub(crate) fn power_of_two(n: usize) -> usize
 
 // Returns whether both counts are at least 1 and at most 65536, the number of elements of the field.
 fn are_in_field(original_count: usize, recovery_count: usize) -> bool
-    ensures { IsTrue result ↔ (0 < original_count) × (original_count ≤ 65536) × (0 < recovery_count) × (recovery_count ≤ 65536) }
+    ensures { IsTrue result
+        ↔ (0 < original_count) × (original_count ≤ 65536) × (0 < recovery_count)
+        × (recovery_count ≤ 65536) }
 {
     let originals_fit = 0 < original_count && original_count <= GF_ORDER;
     let recovery_fits = 0 < recovery_count && recovery_count <= GF_ORDER;
@@ -36,7 +38,9 @@ fn are_in_field(original_count: usize, recovery_count: usize) -> bool
 fn fitting(is_low: bool, block_rows: usize, count: usize) -> Option<Choice>
     requires block { block_rows ≤ 65536 }
     requires count { count ≤ 65536 }
-    ensures { result ≡ (if nat_le (block_rows + count) 65536 then Some (record { is_low = is_low; block_rows = block_rows }) else None) }
+    ensures { result
+        ≡ (if nat_le (block_rows + count) 65536
+        then Some (record { is_low = is_low; block_rows = block_rows }) else None) }
 {
     if block_rows + count > GF_ORDER {
         return None;

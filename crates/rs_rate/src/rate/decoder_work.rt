@@ -65,7 +65,8 @@ pub struct DecoderRows {
     pub(crate) memory: DecoderMemory,
     pub ghost laid: { DecoderCanBeLaid shape },
     pub ghost laid_out: { IsLaidOut shape memory },
-    pub ghost given: { HoldGiven shape originals_given recovery_given (given_marks memory.marks) memory.chunks.items },
+    pub ghost given: { HoldGiven shape originals_given recovery_given
+        (given_marks memory.marks) memory.chunks.items },
 }
 
 impl Frame {
@@ -152,7 +153,8 @@ impl DecoderMemory {
         ensures empty { IfOk result (λ m. (p : ℕ) → is_marked (given_marks m.marks) p ≡ false) }
         ensures answer { UpToMemory (memory_outcome (shape_chunks shape)) (answer_of result) }
         ensures grown { IfOk result (λ m. IfSome work (λ w. Grows (work_room w) (memory_room m))) }
-        ensures roomy { IfSome work (λ w. HasRoom (work_room w) shape.frame.row_count shape.configuration.shard_bytes
+        ensures roomy { IfSome work
+            (λ w. HasRoom (work_room w) shape.frame.row_count shape.configuration.shard_bytes
             → answer_of result ≡ memory_outcome (shape_chunks shape)) }
     {
         match DecoderMemory::of(work) {
@@ -166,12 +168,16 @@ impl DecoderMemory {
 
     // Makes room for a number of chunks and of rows. Nothing else changes.
     fn grow(&mut self, chunks: usize, rows: usize) -> Result<(), Error>
-        ensures kept { (self.new.chunks.items ≡ self.old.chunks.items) × AreSameMarks self.old.marks self.new.marks
+        ensures kept { (self.new.chunks.items ≡ self.old.chunks.items)
+            × AreSameMarks self.old.marks self.new.marks
             × (self.new.entries.items ≡ self.old.entries.items) }
-        ensures room { OnOk result ((chunks ≤ vec_capacity self.new.chunks) × (rows ≤ mark_room self.new.marks) × (rows ≤ vec_capacity self.new.entries)) }
+        ensures room { OnOk result
+            ((chunks ≤ vec_capacity self.new.chunks) × (rows ≤ mark_room self.new.marks)
+            × (rows ≤ vec_capacity self.new.entries)) }
         ensures grown { Grows (memory_room self.old) (memory_room self.new) }
         ensures memory { IfErr result (λ e. e ≡ Error.OutOfMemory) }
-        ensures enough { chunks ≤ vec_capacity self.old.chunks → rows ≤ mark_room self.old.marks → rows ≤ vec_capacity self.old.entries → IsOk result }
+        ensures enough { chunks ≤ vec_capacity self.old.chunks → rows ≤ mark_room self.old.marks
+            → rows ≤ vec_capacity self.old.entries → IsOk result }
     {
         make_room(&mut self.chunks, chunks)?;
         self.marks.make_room(rows)?;
@@ -183,11 +189,15 @@ impl DecoderMemory {
     fn lay_out(&mut self, shape: DecoderShape) -> Result<(), Error>
         ensures laid_out { OnOk result (IsLaidOut shape self.new) }
         ensures empty { OnOk result ((p : ℕ) → is_marked (given_marks self.new.marks) p ≡ false) }
-        ensures kept { OnErr result ((self.new.chunks.items ≡ self.old.chunks.items) × AreSameMarks self.old.marks self.new.marks
+        ensures kept { OnErr result
+            ((self.new.chunks.items ≡ self.old.chunks.items)
+            × AreSameMarks self.old.marks self.new.marks
             × (self.new.entries.items ≡ self.old.entries.items)) }
         ensures answer { UpToMemory (memory_outcome (shape_chunks shape)) result }
         ensures grown { Grows (memory_room self.old) (memory_room self.new) }
-        ensures roomy { HasRoom (memory_room self.old) shape.frame.row_count shape.configuration.shard_bytes → result ≡ memory_outcome (shape_chunks shape) }
+        ensures roomy { HasRoom
+            (memory_room self.old) shape.frame.row_count shape.configuration.shard_bytes
+            → result ≡ memory_outcome (shape_chunks shape) }
     {
         let rows = shape.frame.row_count;
         let chunks = chunk_count(rows, shape.configuration.shard_bytes)?;
@@ -204,11 +214,15 @@ impl DecoderMemory {
         requires even { length shard.now % 2 ≡ 0 }
         requires marked { row < mark_count self.old.marks }
         ensures here { shard_laid_out self.new.chunks.items (length shard.now) row ≡ shard.now }
-        ensures others { (i : ℕ) → i ≢ row → shard_laid_out self.new.chunks.items (length shard.now) i ≡ shard_laid_out self.old.chunks.items (length shard.now) i }
+        ensures others { (i : ℕ) → i ≢ row
+            → shard_laid_out self.new.chunks.items (length shard.now) i
+            ≡ shard_laid_out self.old.chunks.items (length shard.now) i }
         ensures shard { IsShard (length shard.now) shard.now }
         ensures mark { is_marked (given_marks self.new.marks) row ≡ true }
-        ensures other_marks { (p : ℕ) → p ≢ row → is_marked (given_marks self.new.marks) p ≡ is_marked (given_marks self.old.marks) p }
-        ensures lengths { (vec_len self.new.chunks ≡ vec_len self.old.chunks) × (mark_count self.new.marks ≡ mark_count self.old.marks)
+        ensures other_marks { (p : ℕ) → p ≢ row
+            → is_marked (given_marks self.new.marks) p ≡ is_marked (given_marks self.old.marks) p }
+        ensures lengths { (vec_len self.new.chunks ≡ vec_len self.old.chunks)
+            × (mark_count self.new.marks ≡ mark_count self.old.marks)
             × (vec_len self.new.entries ≡ vec_len self.old.entries) }
         ensures grown { memory_room self.new ≡ memory_room self.old }
     {
@@ -248,7 +262,8 @@ impl ObjectRows for DecoderRows {
 
     ghost grows_from = { λ work room. IfSome work (λ w. Grows (work_room w) room) };
 
-    ghost where_roomy = { λ work n size answer wanted. IfSome work (λ w. HasRoom (work_room w) n size → answer ≡ wanted) };
+    ghost where_roomy = { λ work n size answer wanted. IfSome work
+        (λ w. HasRoom (work_room w) n size → answer ≡ wanted) };
 
     #[inline(always)]
     fn new(
@@ -282,7 +297,8 @@ impl ObjectRows for DecoderRows {
 
     ghost rows_set_up = { decoder_rows_set_up };
 
-    ghost own_room = { λ x size less. room_within _ _ size _ _ x.laid.rows less x.laid_out.sized x.laid_out.room };
+    ghost own_room = { λ x size less.
+        room_within _ _ size _ _ x.laid.rows less x.laid_out.sized x.laid_out.room };
 }
 
 impl DecoderRows {
@@ -292,9 +308,12 @@ impl DecoderRows {
 
     // Puts a shard of a side into its row, if the row is free.
     pub(crate) fn add_shard(&mut self, side: Side, index: usize, shard: &[u8]) -> Result<(), Error>
-        ensures answer { (rate : Rate) → result ≡ answer_of (with_shard_of_side side (decoder_state rate self.old) index shard.now) }
+        ensures answer { (rate : Rate)
+            → result
+            ≡ answer_of (with_shard_of_side side (decoder_state rate self.old) index shard.now) }
         ensures left { (rate : Rate) → decoder_state rate self.new
-            ≡ state_after (decoder_state rate self.old) (with_shard_of_side side (decoder_state rate self.old) index shard.now) }
+            ≡ state_after (decoder_state rate self.old)
+            (with_shard_of_side side (decoder_state rate self.old) index shard.now) }
         ensures shape { self.new.shape ≡ self.old.shape }
         ensures room { memory_room self.new.memory ≡ memory_room self.old.memory }
     {
@@ -319,7 +338,8 @@ impl DecoderRows {
 
     // Returns the numbers on which a decode of the rows depends.
     pub(crate) fn tally(&self) -> Tally
-        requires { self.now.shape.configuration.original_count ≤ self.now.originals_given + self.now.recovery_given }
+        requires { self.now.shape.configuration.original_count
+            ≤ self.now.originals_given + self.now.recovery_given }
         ensures shape { result.shape ≡ self.now.shape }
         ensures facts { CanBeRestored result self.now.memory.marks }
     {
@@ -365,7 +385,9 @@ impl DecoderRows {
     // Returns the first restored original from an index on, with its index.
     pub(crate) fn next_restored(&self, from: usize) -> Option<(usize, &[u8])>
         ensures { MatchOption result (restored_from self.now from ≡ [])
-            (λ item. (item.0 < self.now.shape.configuration.original_count) × (restored_from self.now from ≡ (item.0, item.1.now) ∷ restored_from self.now (item.0 + 1))) }
+            (λ item. (item.0 < self.now.shape.configuration.original_count)
+            × (restored_from self.now from
+            ≡ (item.0, item.1.now) ∷ restored_from self.now (item.0 + 1))) }
     {
         for index in from..self.shape.configuration.original_count {
             if let Some(shard) = self.restored_original(index) {

@@ -31,10 +31,15 @@ pub(crate) fn decode_rows<E: Engine>(
     steps: &mut Steps,
     rows: &mut DecoderRows,
 ) -> Result<usize, Error>
-    requires enough { rows.old.shape.configuration.original_count ≤ rows.old.originals_given + rows.old.recovery_given }
-    ensures state { (rate : Rate) → decoder_state rate rows.new ≡ fresh_decoder (configuration_at rate rows.old.shape.configuration) }
+    requires enough { rows.old.shape.configuration.original_count
+        ≤ rows.old.originals_given + rows.old.recovery_given }
+    ensures state { (rate : Rate)
+        → decoder_state rate rows.new
+        ≡ fresh_decoder (configuration_at rate rows.old.shape.configuration) }
     ensures answer { (rate : Rate) → IsSetUp rate rows.old.shape.configuration
-        → MatchResult result (λ _. Restored (decoder_state rate rows.old) (restored_by_rows rows.new)) (NoneAgrees (decoder_state rate rows.old)) }
+        → MatchResult result
+        (λ _. Restored (decoder_state rate rows.old) (restored_by_rows rows.new))
+        (NoneAgrees (decoder_state rate rows.old)) }
     ensures counted { IfOk result (λ count. count ≡ length (restored_from rows.new 0)) }
     ensures shape { rows.new.shape ≡ rows.old.shape }
     ensures room { memory_room rows.new.memory ≡ memory_room rows.old.memory }
@@ -69,7 +74,8 @@ fn restore<E: Engine>(
     memory: &mut DecoderMemory,
     tally: Tally,
 ) -> bool
-    requires whole { chunk_count tally.shape.frame.row_count tally.shape.configuration.shard_bytes ≤ length memory.old.chunks.items }
+    requires whole { chunk_count tally.shape.frame.row_count tally.shape.configuration.shard_bytes
+        ≤ length memory.old.chunks.items }
     requires entries { length memory.old.entries.items ≡ tally.shape.frame.row_count }
     requires facts { CanBeRestored tally memory.old.marks }
     ensures marks { WantsMissing tally.shape memory.old.marks memory.new.marks }
@@ -77,8 +83,11 @@ fn restore<E: Engine>(
     ensures entries { length memory.new.entries.items ≡ length memory.old.entries.items }
     ensures room { memory_room memory.new ≡ memory_room memory.old }
     ensures nothing { tally.missing ≡ 0 → tally.surplus ≡ 0 → result ≡ true }
-    ensures restored { 0 < tally.missing + tally.surplus → (locator : List ℕ) × IsLocatorOf tally.shape.frame (given_marks memory.old.marks) locator
-        × RestoresShards tally.shape (given_marks memory.old.marks) locator tally.surplus memory.old.chunks.items memory.new.chunks.items result }
+    ensures restored { 0 < tally.missing + tally.surplus
+        → (locator : List ℕ) × IsLocatorOf tally.shape.frame (given_marks memory.old.marks) locator
+        × RestoresShards tally.shape
+        (given_marks memory.old.marks) locator tally.surplus memory.old.chunks.items
+        memory.new.chunks.items result }
     ensures counts { DecodeCounts tally.shape.frame.row_count steps.old steps.new }
 {
     let shape = tally.shape;
@@ -116,7 +125,8 @@ fn make_locator<E: Engine>(
 fn mark_erased(entries: &mut [GfElement], given: &[bool], frame: Frame)
     requires entries { length entries.old ≡ frame.row_count }
     requires marked { frame.row_count ≤ length given.now }
-    ensures { (row : ℕ) → row < frame.row_count → slice_index entries.new row ≡ erasure frame.zeros_from frame.zeros_to given.now row }
+    ensures { (row : ℕ) → row < frame.row_count
+        → slice_index entries.new row ≡ erasure frame.zeros_from frame.zeros_to given.now row }
 {
     for row in 0..frame.row_count {
         entries[row] = erased_at(given, frame, row);
@@ -142,12 +152,16 @@ fn restore_chunks<E: Engine>(
     locator: &[GfElement],
     tally: Tally,
 ) -> bool
-    requires whole { chunk_count tally.shape.frame.row_count tally.shape.configuration.shard_bytes ≤ length chunks.old }
+    requires whole { chunk_count tally.shape.frame.row_count tally.shape.configuration.shard_bytes
+        ≤ length chunks.old }
     requires facts { CanBeRestored tally marks.old }
     requires located { length locator.now ≡ tally.shape.frame.row_count }
     ensures marks { WantsMissing tally.shape marks.old marks.new }
-    ensures shards { RestoresShards tally.shape (given_marks marks.old) locator.now tally.surplus chunks.old chunks.new result }
-    ensures counts { CountsUpTo (3 * transform_steps tally.shape.frame.row_count + 4 * tally.shape.frame.row_count) 0 0 steps.old steps.new }
+    ensures shards { RestoresShards tally.shape
+        (given_marks marks.old) locator.now tally.surplus chunks.old chunks.new result }
+    ensures counts { CountsUpTo
+        (3 * transform_steps tally.shape.frame.row_count + 4 * tally.shape.frame.row_count)
+        0 0 steps.old steps.new }
 {
     let len = row_len(tally.shape.configuration.shard_bytes);
     let mut rows = ShardsRefMut::new(tally.shape.frame.row_count, len, chunks);
@@ -167,9 +181,12 @@ fn move_restored_tails(
 )
     requires laid { DecoderCanBeLaid shape }
     requires marked { mark_count marks.now ≡ shape.frame.row_count }
-    requires whole { chunk_count shape.frame.row_count shape.configuration.shard_bytes ≤ length chunks.old }
-    ensures moved { (i : ℕ) → i < shape.configuration.original_count → let p = original_row shape.frame i in is_marked (restored_marks marks.now) p ≡ true
-        → shard_in_order chunks.new shape.configuration.shard_bytes p ≡ shard_laid_out chunks.old shape.configuration.shard_bytes p }
+    requires whole { chunk_count shape.frame.row_count shape.configuration.shard_bytes
+        ≤ length chunks.old }
+    ensures moved { (i : ℕ) → i < shape.configuration.original_count
+        → let p = original_row shape.frame i in is_marked (restored_marks marks.now) p ≡ true
+        → shard_in_order chunks.new shape.configuration.shard_bytes p
+        ≡ shard_laid_out chunks.old shape.configuration.shard_bytes p }
     ensures counts { CountsUpTo shape.configuration.original_count 0 0 steps.old steps.new }
 {
     for i in 0..shape.configuration.original_count {

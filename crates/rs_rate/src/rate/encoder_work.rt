@@ -37,9 +37,12 @@ pub struct EncoderRows {
     pub ghost laid: { EncoderCanBeLaid shape },
     pub ghost no_more: { originals_given ≤ shape.configuration.original_count },
     pub ghost whole: { vec_len chunks ≡ chunk_count shape.row_count shape.configuration.shard_bytes },
-    pub ghost own_room: { chunk_count shape.row_count shape.configuration.shard_bytes ≤ vec_capacity chunks },
+    pub ghost own_room: { chunk_count shape.row_count shape.configuration.shard_bytes
+        ≤ vec_capacity chunks },
     pub ghost sized: { chunk_count shape.row_count shape.configuration.shard_bytes * 64 < 2 ^ 64 },
-    pub ghost shards: { (i : ℕ) → i < originals_given → IsShard shape.configuration.shard_bytes (shard_laid_out chunks.items shape.configuration.shard_bytes i) },
+    pub ghost shards: { (i : ℕ) → i < originals_given
+        → IsShard shape.configuration.shard_bytes
+        (shard_laid_out chunks.items shape.configuration.shard_bytes i) },
 }
 
 impl EncoderWork {
@@ -92,7 +95,8 @@ impl ObjectRows for EncoderRows {
 
     ghost grows_from = { λ work room. IfSome work (λ w. work_room w ≤ room) };
 
-    ghost where_roomy = { λ work n size answer wanted. IfSome work (λ w. chunk_count n size ≤ work_room w → answer ≡ wanted) };
+    ghost where_roomy = { λ work n size answer wanted. IfSome work
+        (λ w. chunk_count n size ≤ work_room w → answer ≡ wanted) };
 
     fn new(
         alloc: Global,
@@ -137,8 +141,12 @@ impl EncoderRows {
     ghost use Rattle.rs_rate.specs.EncoderView.{encoder_state};
 
     pub(crate) fn add_original_shard(&mut self, original_shard: &[u8]) -> Result<(), Error>
-        ensures answer { (rate : Rate) → result ≡ answer_of (with_shard (encoder_state rate self.old) original_shard.now) }
-        ensures left { (rate : Rate) → encoder_state rate self.new ≡ state_after (encoder_state rate self.old) (with_shard (encoder_state rate self.old) original_shard.now) }
+        ensures answer { (rate : Rate)
+            → result ≡ answer_of (with_shard (encoder_state rate self.old) original_shard.now) }
+        ensures left { (rate : Rate)
+            → encoder_state rate self.new
+            ≡ state_after (encoder_state rate self.old)
+            (with_shard (encoder_state rate self.old) original_shard.now) }
         ensures shape { self.new.shape ≡ self.old.shape }
         ensures room { vec_capacity self.new.chunks ≡ vec_capacity self.old.chunks }
     {
@@ -178,7 +186,10 @@ impl EncoderRows {
 
     pub(crate) fn recovery(&self, index: usize) -> Option<&[u8]>
         ensures { MatchOption result (self.now.shape.configuration.recovery_count ≤ index)
-            (λ shard. (index < self.now.shape.configuration.recovery_count) × (shard.now ≡ shard_in_order self.now.chunks.items self.now.shape.configuration.shard_bytes index)) }
+            (λ shard. (index < self.now.shape.configuration.recovery_count)
+            × (shard.now
+            ≡ shard_in_order self.now.chunks.items
+            self.now.shape.configuration.shard_bytes index)) }
     {
         if index >= self.shape.configuration.recovery_count {
             return None;

@@ -22,9 +22,14 @@ pub(crate) fn encode_rows<E: Engine>(engine: &E, steps: &mut Steps, rows: &mut E
     requires full { rows.old.originals_given ≡ rows.old.shape.configuration.original_count }
     ensures shape { rows.new.shape ≡ rows.old.shape }
     ensures none { rows.new.originals_given ≡ 0 }
-    ensures recovery { AreRecovery (configuration_at (low_or_high rows.old.shape.configuration.is_low) rows.old.shape.configuration) (given_originals rows.old) (lent_shards rows.new) }
+    ensures recovery { AreRecovery
+        (configuration_at (low_or_high rows.old.shape.configuration.is_low)
+        rows.old.shape.configuration)
+        (given_originals rows.old) (lent_shards rows.new) }
     ensures room { vec_capacity rows.new.chunks ≡ vec_capacity rows.old.chunks }
-    ensures counts { let c = rows.old.shape.configuration in EncodeCountsAt (low_or_high c.is_low) c.original_count c.recovery_count steps.old steps.new }
+    ensures counts { let c = rows.old.shape.configuration in
+        EncodeCountsAt
+        (low_or_high c.is_low) c.original_count c.recovery_count steps.old steps.new }
 {
     let shape = rows.shape;
     let recovery_count = shape.configuration.recovery_count;
@@ -45,10 +50,14 @@ fn code_chunks<E: Engine>(
     shape: EncoderShape,
 )
     requires laid { EncoderCanBeLaid shape }
-    requires room { chunk_count shape.row_count shape.configuration.shard_bytes ≤ length chunks.old }
-    ensures words { let c = shape.configuration in let n = row_len c.shard_bytes in (k s : ℕ) → k < n → s < 32
-        → CodesWords (low_or_high c.is_low) c.original_count c.recovery_count (word_in chunks.old n k s) (word_in chunks.new n k s) }
-    ensures counts { let c = shape.configuration in CodingCounts (low_or_high c.is_low) c.original_count c.recovery_count steps.old steps.new }
+    requires room { chunk_count shape.row_count shape.configuration.shard_bytes
+        ≤ length chunks.old }
+    ensures words { let c = shape.configuration in let n = row_len c.shard_bytes in
+        (k s : ℕ) → k < n → s < 32
+        → CodesWords (low_or_high c.is_low) c.original_count c.recovery_count
+        (word_in chunks.old n k s) (word_in chunks.new n k s) }
+    ensures counts { let c = shape.configuration in
+        CodingCounts (low_or_high c.is_low) c.original_count c.recovery_count steps.old steps.new }
 {
     let configuration = shape.configuration;
     let len = row_len(configuration.shard_bytes);

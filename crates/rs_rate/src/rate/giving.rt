@@ -45,10 +45,12 @@ where
     requires ends { IsFinite (O.remaining original) }
     requires can_recovery { R.can_next recovery }
     requires recovery_ends { IsFinite (R.remaining recovery) }
-    ensures { (calls : Calls O.next_gives original) × (further : Calls R.next_gives recovery) × ((originals recoveries : Items)
+    ensures { (calls : Calls O.next_gives original) × (further : Calls R.next_gives recovery)
+        × ((originals recoveries : Items)
         → BeginsWithItems originals calls → BeginsWithItems recoveries further
         → IsDecoding counts.original_count counts.recovery_count originals recoveries
-        (result_map_both (λ o. option_map (λ x. decoder_state default_rate x.rows) o) (λ e. e) result)) }
+        (result_map_both
+        (λ o. option_map (λ x. decoder_state default_rate x.rows) o) (λ e. e) result)) }
 {
     let Some((first_index, first_shard)) = recovery.next() else {
         check_originals_alone(alloc, counts.original_count, original)?;
@@ -89,8 +91,10 @@ pub fn add_originals<
 >(decoder: &mut X, originals: I) -> Result<(), Error>
     requires can { I.can_next originals }
     requires ends { IsFinite (I.remaining originals) }
-    ensures { (calls : Calls I.next_gives originals) × ((items : Items) → BeginsWithItems items calls
-        → Reaches (with_originals (X.state decoder.old) items) result (λ s. X.state decoder.new ≡ s)) }
+    ensures { (calls : Calls I.next_gives originals)
+        × ((items : Items) → BeginsWithItems items calls
+        → Reaches (with_originals (X.state decoder.old) items) result
+        (λ s. X.state decoder.new ≡ s)) }
 {
     for (index, shard) in originals {
         decoder.add_original_shard(index, shard)?;
@@ -107,7 +111,8 @@ pub fn add_recovery<'a, E: Engine, X: RateDecoder<E>, I: Iterator<Item = (usize,
     requires can { I.can_next recovery }
     requires ends { IsFinite (I.remaining recovery) }
     ensures { (calls : Calls I.next_gives recovery) × ((items : Items) → BeginsWithItems items calls
-        → Reaches (with_recoveries (X.state decoder.old) items) result (λ s. X.state decoder.new ≡ s)) }
+        → Reaches (with_recoveries (X.state decoder.old) items) result
+        (λ s. X.state decoder.new ≡ s)) }
 {
     for (index, shard) in recovery {
         decoder.add_recovery_shard(index, shard)?;

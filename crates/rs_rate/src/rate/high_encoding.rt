@@ -21,13 +21,17 @@ pub(crate) fn code_high<E: Engine>(
     configuration: Configuration,
 )
     requires fits { Fits rows.old }
-    requires supported { supports high_rate configuration.original_count configuration.recovery_count ≡ true }
-    requires rows { rows.old.shard_count ≡ encoder_rows high_rate configuration.original_count configuration.recovery_count }
+    requires supported { supports high_rate configuration.original_count
+        configuration.recovery_count ≡ true }
+    requires rows { rows.old.shard_count
+        ≡ encoder_rows high_rate configuration.original_count configuration.recovery_count }
     requires block { configuration.block_rows ≡ next_power configuration.recovery_count }
     ensures extent { SameExtent rows.old rows.new }
     ensures words { (k s : ℕ) → k < rows.old.shard_len_64 → s < 32
-        → CodesWords high_rate configuration.original_count configuration.recovery_count (word rows.old k s) (word rows.new k s) }
-    ensures counts { CodingCounts high_rate configuration.original_count configuration.recovery_count steps.old steps.new }
+        → CodesWords high_rate configuration.original_count configuration.recovery_count
+        (word rows.old k s) (word rows.new k s) }
+    ensures counts { CodingCounts high_rate configuration.original_count
+        configuration.recovery_count steps.old steps.new }
 {
     let block = configuration.block_rows;
     sum_blocks(engine, steps, rows, configuration.original_count, block);
@@ -50,8 +54,11 @@ fn sum_blocks<E: Engine>(
     requires points { rows.old.shard_count + block ≤ 65536 }
     ensures extent { SameExtent rows.old rows.new }
     ensures sums { (n : ℕ) × (original_count ≤ n * block) × (n * block + block ≤ 65536)
-        × ((k s : ℕ) → k < rows.old.shard_len_64 → s < 32 → SumsBlocks block n original_count (word rows.old k s) (word rows.new k s)) }
-    ensures counts { CountsUpTo (block + transform_steps block + further_blocks block rows.old.shard_count * (2 * block + transform_steps block)) 0 0 steps.old steps.new }
+        × ((k s : ℕ) → k < rows.old.shard_len_64 → s < 32
+        → SumsBlocks block n original_count (word rows.old k s) (word rows.new k s)) }
+    ensures counts { CountsUpTo
+        (block + transform_steps block + further_blocks block rows.old.shard_count
+        * (2 * block + transform_steps block)) 0 0 steps.old steps.new }
 {
     pass_block(engine, steps, rows, 0, original_count, block);
     let mut start = block;
@@ -80,9 +87,12 @@ fn pass_block<E: Engine>(
     requires points { rows.old.shard_count + block ≤ 65536 }
     ensures extent { SameExtent rows.old rows.new }
     ensures others { SameRowsOutside start (start + block) rows.old rows.new }
-    ensures values { (k s i : ℕ) → k < rows.old.shard_len_64 → s < 32 → i < block → start + i < original_count
-        → forward block (start + block) (λ q. word rows.new k s (start + q)) i ≡ word rows.old k s (start + i) }
-    ensures zeros { (k s i : ℕ) → k < rows.old.shard_len_64 → s < 32 → i < block → original_count ≤ start + i
+    ensures values { (k s i : ℕ) → k < rows.old.shard_len_64 → s < 32 → i < block
+        → start + i < original_count
+        → forward block (start + block) (λ q. word rows.new k s (start + q)) i
+        ≡ word rows.old k s (start + i) }
+    ensures zeros { (k s i : ℕ) → k < rows.old.shard_len_64 → s < 32 → i < block
+        → original_count ≤ start + i
         → forward block (start + block) (λ q. word rows.new k s (start + q)) i ≡ 0 }
     ensures counts { CountsUpTo (block + transform_steps block) 0 0 steps.old steps.new }
 {

@@ -20,13 +20,17 @@ pub(crate) fn code_low<E: Engine>(
     configuration: Configuration,
 )
     requires fits { Fits rows.old }
-    requires supported { supports low_rate configuration.original_count configuration.recovery_count ≡ true }
-    requires rows { rows.old.shard_count ≡ encoder_rows low_rate configuration.original_count configuration.recovery_count }
+    requires supported { supports low_rate configuration.original_count configuration.recovery_count
+        ≡ true }
+    requires rows { rows.old.shard_count
+        ≡ encoder_rows low_rate configuration.original_count configuration.recovery_count }
     requires block { configuration.block_rows ≡ next_power configuration.original_count }
     ensures extent { SameExtent rows.old rows.new }
     ensures words { (k s : ℕ) → k < rows.old.shard_len_64 → s < 32
-        → CodesWords low_rate configuration.original_count configuration.recovery_count (word rows.old k s) (word rows.new k s) }
-    ensures counts { CodingCounts low_rate configuration.original_count configuration.recovery_count steps.old steps.new }
+        → CodesWords low_rate configuration.original_count configuration.recovery_count
+        (word rows.old k s) (word rows.new k s) }
+    ensures counts { CodingCounts low_rate configuration.original_count
+        configuration.recovery_count steps.old steps.new }
 {
     let block = configuration.block_rows;
     let recovery_count = configuration.recovery_count;
@@ -51,10 +55,14 @@ fn code_further<E: Engine>(
     requires whole { rows.old.shard_count % block ≡ 0 }
     requires points { rows.old.shard_count + block ≤ 65536 }
     ensures extent { SameExtent rows.old rows.new }
-    ensures combination { (i k : ℕ) → k < rows.old.shard_len_64 → i < block → cell rows.new k i ≡ cell rows.old k i }
-    ensures values { (k s i : ℕ) → k < rows.old.shard_len_64 → s < 32 → block ≤ i → i < recovery_count
+    ensures combination { (i k : ℕ) → k < rows.old.shard_len_64 → i < block
+        → cell rows.new k i ≡ cell rows.old k i }
+    ensures values { (k s i : ℕ) → k < rows.old.shard_len_64 → s < 32
+        → block ≤ i → i < recovery_count
         → word rows.new k s i ≡ forward block 0 (λ q. word rows.old k s q) (block + i) }
-    ensures counts { CountsUpTo (further_blocks block rows.old.shard_count * (block + transform_steps block)) 0 0 steps.old steps.new }
+    ensures counts { CountsUpTo
+        (further_blocks block rows.old.shard_count * (block + transform_steps block))
+        0 0 steps.old steps.new }
 {
     let mut start = block;
     while start < recovery_count {

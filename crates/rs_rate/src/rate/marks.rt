@@ -43,7 +43,8 @@ impl Marks {
         ensures same { AreSameMarks self.old self.new }
         ensures room { OnOk result (rows ≤ mark_room self.new) }
         ensures more { mark_room self.old ≤ mark_room self.new }
-        ensures refused { IfErr result (λ e. (e ≡ Error.OutOfMemory) × (mark_room self.old < rows)) }
+        ensures refused { IfErr result
+            (λ e. (e ≡ Error.OutOfMemory) × (mark_room self.old < rows)) }
     {
         make_room(&mut self.rows, rows)
     }
@@ -105,7 +106,8 @@ impl Marks {
     fn set(&mut self, row: usize, is: bool)
         requires { row < mark_count self.old }
         ensures here { is_marked self.new.rows.items row ≡ is }
-        ensures others { (p : ℕ) → p ≢ row → is_marked self.new.rows.items p ≡ is_marked self.old.rows.items p }
+        ensures others { (p : ℕ) → p ≢ row
+            → is_marked self.new.rows.items p ≡ is_marked self.old.rows.items p }
         ensures shards { self.new.shards ≡ self.old.shards }
         ensures length { mark_count self.new ≡ mark_count self.old }
         ensures room { mark_room self.new ≡ mark_room self.old }
@@ -116,7 +118,8 @@ impl Marks {
     // Makes the marks those of given shards. If they were those of restored originals, no row is marked afterwards.
     fn tell_given(&mut self)
         ensures shards { self.new.shards ≡ MarkedShards.Given }
-        ensures same { (p : ℕ) → is_marked self.new.rows.items p ≡ is_marked (given_marks self.old) p }
+        ensures same { (p : ℕ)
+            → is_marked self.new.rows.items p ≡ is_marked (given_marks self.old) p }
         ensures length { mark_count self.new ≡ mark_count self.old }
         ensures room { mark_room self.new ≡ mark_room self.old }
     {
@@ -130,7 +133,8 @@ impl Marks {
     pub(crate) fn give(&mut self, row: usize)
         requires { row < mark_count self.old }
         ensures here { is_marked (given_marks self.new) row ≡ true }
-        ensures others { (p : ℕ) → p ≢ row → is_marked (given_marks self.new) p ≡ is_marked (given_marks self.old) p }
+        ensures others { (p : ℕ) → p ≢ row
+            → is_marked (given_marks self.new) p ≡ is_marked (given_marks self.old) p }
         ensures length { mark_count self.new ≡ mark_count self.old }
         ensures room { mark_room self.new ≡ mark_room self.old }
     {
@@ -142,9 +146,11 @@ impl Marks {
     fn is_missing(&self, shape: DecoderShape, row: usize) -> bool
         requires marked { row < mark_count self.now }
         requires fits { original_row shape.frame shape.configuration.original_count < 2 ^ 64 }
-        ensures missing { shape.frame.originals_from ≤ row → row < original_row shape.frame shape.configuration.original_count
+        ensures missing { shape.frame.originals_from ≤ row
+            → row < original_row shape.frame shape.configuration.original_count
             → result ≡ not (is_marked (given_marks self.now) row) }
-        ensures others { (row < shape.frame.originals_from) ⊎ (original_row shape.frame shape.configuration.original_count ≤ row) → result ≡ false }
+        ensures others { (row < shape.frame.originals_from)
+            ⊎ (original_row shape.frame shape.configuration.original_count ≤ row) → result ≡ false }
     {
         let end = shape.frame.original_row(shape.configuration.original_count);
         shape.frame.originals_from <= row && row < end && !self.is_given(row)
@@ -152,7 +158,8 @@ impl Marks {
 
     // Makes the marks those of restored originals: exactly the rows of originals that were not given are marked.
     pub(crate) fn want_missing(&mut self, shape: DecoderShape)
-        requires { original_row shape.frame shape.configuration.original_count ≤ mark_count self.old }
+        requires { original_row shape.frame shape.configuration.original_count
+            ≤ mark_count self.old }
         ensures { WantsMissing shape self.old self.new }
     {
         for row in 0..self.rows.len() {

@@ -21,7 +21,8 @@ pub(crate) fn make_room<T>(items: &mut Vec<T>, count: usize) -> Result<(), Error
     ensures same { items.new.items ≡ items.old.items }
     ensures room { OnOk result (count ≤ vec_capacity items.new) }
     ensures more { vec_capacity items.old ≤ vec_capacity items.new }
-    ensures refused { IfErr result (λ e. (e ≡ Error.OutOfMemory) × (vec_capacity items.old < count)) }
+    ensures refused { IfErr result
+        (λ e. (e ≡ Error.OutOfMemory) × (vec_capacity items.old < count)) }
 {
     let more = count.saturating_sub(items.len());
     items.try_reserve_exact(more)?;
@@ -33,7 +34,8 @@ pub(crate) fn make_room<T>(items: &mut Vec<T>, count: usize) -> Result<(), Error
 pub(crate) fn set_length<T: Copy>(items: &mut Vec<T>, count: usize, item: T)
     requires { count ≤ vec_capacity items.old }
     ensures length { vec_len items.new ≡ count }
-    ensures added { (i : ℕ) (other : T) → vec_len items.old ≤ i → i < count → slice_index_or items.new.items i other ≡ item }
+    ensures added { (i : ℕ) (other : T) → vec_len items.old ≤ i → i < count
+        → slice_index_or items.new.items i other ≡ item }
     ensures room { vec_capacity items.old ≤ vec_capacity items.new }
 {
     let _ = items.resize(count, item);

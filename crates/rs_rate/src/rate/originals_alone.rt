@@ -23,7 +23,8 @@ pub fn check_originals_alone<'a, I: Iterator<Item = (usize, &'a [u8])> + Drop>(
 ) -> Result<(), Error>
     requires can { I.can_next originals }
     requires ends { IsFinite (I.remaining originals) }
-    ensures { (calls : Calls I.next_gives originals) × ((items : Items) → BeginsWithItems items calls
+    ensures { (calls : Calls I.next_gives originals)
+        × ((items : Items) → BeginsWithItems items calls
         → (result ≡ originals_alone original_count items) ⊎ (result ≡ Err Error.OutOfMemory)) }
 {
     let mut given = vec![in alloc; false; original_count]?;
@@ -46,8 +47,10 @@ fn note_all<'a, I: Iterator<Item = (usize, &'a [u8])> + Drop>(
 ) -> Result<(), Error>
     requires can { I.can_next originals }
     requires ends { IsFinite (I.remaining originals) }
-    ensures { (indexes : List ℕ) → AreNoted indexes given.old → (calls : Calls I.next_gives originals) × ((items : Items) → BeginsWithItems items calls
-        → Reaches (one_by_one (λ so_far item. note_outcome (length given.old) so_far item.0) indexes items)
+    ensures { (indexes : List ℕ) → AreNoted indexes given.old
+        → (calls : Calls I.next_gives originals) × ((items : Items) → BeginsWithItems items calls
+        → Reaches
+        (one_by_one (λ so_far item. note_outcome (length given.old) so_far item.0) indexes items)
         result (λ all. AreNoted all given.new)) }
 {
     for (index, _) in originals {
@@ -60,7 +63,8 @@ fn note_all<'a, I: Iterator<Item = (usize, &'a [u8])> + Drop>(
 fn note(given: &mut [bool], index: usize) -> Result<(), Error>
     ensures answer { result ≡ (if nat_le (length given.old) index
         then Err (Error.InvalidOriginalShardIndex (length given.old) index)
-        else if slice_index_or given.old index false then Err (Error.DuplicateOriginalShardIndex index) else Ok tt) }
+        else if slice_index_or given.old index false
+        then Err (Error.DuplicateOriginalShardIndex index) else Ok tt) }
     ensures noted { OnOk result (given.new ≡ slice_set given.old index true) }
 {
     if index >= given.len() {

@@ -60,34 +60,42 @@ pub trait ObjectRows: Sized {
     fn new(alloc: Global, configuration: Configuration, work: Self::Work) -> Result<Self, Error>
         requires { IsConfigured configuration }
         ensures configuration { IfOk result (λ x. configuration_of x ≡ configuration) }
-        ensures state { IfOk result (λ x. (rate : Rate) → state rate x ≡ fresh (configuration_at rate configuration)) }
+        ensures state { IfOk result
+            (λ x. (rate : Rate) → state rate x ≡ fresh (configuration_at rate configuration)) }
         ensures answer { UpToMemory (set_up_outcome row_count configuration) (answer_of result) }
         ensures grown { IfOk result (λ x. grows_from work (room x)) }
-        ensures roomy { where_roomy work (rows_of row_count configuration) configuration.shard_bytes (answer_of result) (set_up_outcome row_count configuration) };
+        ensures roomy { where_roomy work (rows_of row_count configuration) configuration.shard_bytes
+            (answer_of result) (set_up_outcome row_count configuration) };
 
     /// Sets the rows up for another configuration, with no shards. All memory is allocated first, so after an error the
     /// configuration and the shards are what they were.
     fn reset(&mut self, configuration: Configuration) -> Result<(), Error>
         requires { IsConfigured configuration }
-        ensures ok { OnOk result ((rate : Rate) → state rate self.new ≡ fresh (configuration_at rate configuration)) }
+        ensures ok { OnOk result
+            ((rate : Rate) → state rate self.new ≡ fresh (configuration_at rate configuration)) }
         ensures err { OnErr result ((rate : Rate) → state rate self.new ≡ state rate self.old) }
         ensures configuration { OnOk result (configuration_of self.new ≡ configuration) }
         ensures kept { OnErr result (configuration_of self.new ≡ configuration_of self.old) }
         ensures answer { UpToMemory (set_up_outcome row_count configuration) result }
         ensures grown { grows (room self.old) (room self.new) }
-        ensures roomy { has_room (room self.old) (rows_of row_count configuration) configuration.shard_bytes → result ≡ set_up_outcome row_count configuration };
+        ensures roomy { has_room (room self.old)
+            (rows_of row_count configuration) configuration.shard_bytes
+            → result ≡ set_up_outcome row_count configuration };
 
     /// Each room is at least as large as itself.
     ghost stays: { (room : Room) → grows room room };
 
     /// If two results are always equal, they are equal if there is room.
-    ghost anyway: { (work : Self.Work) (n size : ℕ) (answer wanted : Answer) → answer ≡ wanted → where_roomy work n size answer wanted };
+    ghost anyway: { (work : Self.Work) (n size : ℕ) (answer wanted : Answer) → answer ≡ wanted
+        → where_roomy work n size answer wanted };
 
     /// Rows that are set up for a configuration have the number that the rate defines for the two counts.
-    ghost rows_set_up: { (rate : Rate) (c : Configuration) → IsSetUp rate c → rows_of row_count c ≡ row_count rate c.original_count c.recovery_count };
+    ghost rows_set_up: { (rate : Rate) (c : Configuration) → IsSetUp rate c
+        → rows_of row_count c ≡ row_count rate c.original_count c.recovery_count };
 
     /// Rows have room for the same number of rows with the same or a smaller shard size.
-    ghost own_room: { (x : Self) (size : ℕ) → size ≤ (configuration_of x).shard_bytes → let n = rows_of row_count (configuration_of x) in
+    ghost own_room: { (x : Self) (size : ℕ) → size ≤ (configuration_of x).shard_bytes
+        → let n = rows_of row_count (configuration_of x) in
         (chunk_count n size * 64 < 2 ^ 64) × has_room (room x) n size };
 }
 
@@ -120,14 +128,20 @@ impl<E: Engine, C: RateMarker, R: ObjectRows + Drop> RateObject<E, C, R> {
         engine: E,
         work: R::Work,
     ) -> Result<RateObject<E, C, R>, Error>
-        ensures answer { let c = configuration C.rate counts.original_count counts.recovery_count shard_bytes in
-            UpToMemory (start_outcome (R.row_count C.rate c.original_count c.recovery_count) c) (answer_of result) }
-        ensures made { let c = configuration C.rate counts.original_count counts.recovery_count shard_bytes in
+        ensures answer { let c =
+            configuration C.rate counts.original_count counts.recovery_count shard_bytes in
+            UpToMemory
+            (start_outcome (R.row_count C.rate c.original_count c.recovery_count) c)
+            (answer_of result) }
+        ensures made { let c =
+            configuration C.rate counts.original_count counts.recovery_count shard_bytes in
             IfOk result (λ x. (R.state C.rate x.rows ≡ R.fresh c) × (x.engine ≡ engine)) }
         ensures grown { IfOk result (λ x. R.grows_from work (R.room x.rows)) }
-        ensures roomy { let c = configuration C.rate counts.original_count counts.recovery_count shard_bytes in
+        ensures roomy { let c =
+            configuration C.rate counts.original_count counts.recovery_count shard_bytes in
             R.where_roomy work (R.row_count C.rate c.original_count c.recovery_count) shard_bytes
-            (answer_of result) (start_outcome (R.row_count C.rate c.original_count c.recovery_count) c) }
+            (answer_of result)
+            (start_outcome (R.row_count C.rate c.original_count c.recovery_count) c) }
     {
         let configuration = Configuration::new(counts, shard_bytes)?;
         let rows = R::new(alloc, configuration, work)?;
@@ -148,11 +162,17 @@ impl<E: Engine, C: RateMarker, R: ObjectRows + Drop> RateObject<E, C, R> {
     ) -> Result<(), Error>
         ensures answer { let c = configuration C.rate original_count recovery_count shard_bytes in
             UpToMemory (start_outcome (R.row_count C.rate original_count recovery_count) c) result }
-        ensures ok { OnOk result (R.state C.rate self.new.rows ≡ R.fresh (configuration C.rate original_count recovery_count shard_bytes)) }
+        ensures ok { OnOk result
+            (R.state C.rate self.new.rows
+            ≡ R.fresh (configuration C.rate original_count recovery_count shard_bytes)) }
         ensures err { OnErr result (R.state C.rate self.new.rows ≡ R.state C.rate self.old.rows) }
-        ensures roomy { R.has_room (R.room self.old.rows) (R.row_count C.rate original_count recovery_count) shard_bytes
-            → result ≡ start_outcome (R.row_count C.rate original_count recovery_count) (configuration C.rate original_count recovery_count shard_bytes) }
-        ensures own { FitsWithin (configuration_at C.rate (R.configuration_of self.old.rows)) (configuration C.rate original_count recovery_count shard_bytes)
+        ensures roomy { R.has_room (R.room self.old.rows)
+            (R.row_count C.rate original_count recovery_count) shard_bytes
+            → result
+            ≡ start_outcome (R.row_count C.rate original_count recovery_count)
+            (configuration C.rate original_count recovery_count shard_bytes) }
+        ensures own { FitsWithin (configuration_at C.rate (R.configuration_of self.old.rows))
+            (configuration C.rate original_count recovery_count shard_bytes)
             → result ≢ Err Error.OutOfMemory }
         ensures engine { self.new.engine ≡ self.old.engine }
         ensures grown { R.grows (R.room self.old.rows) (R.room self.new.rows) }

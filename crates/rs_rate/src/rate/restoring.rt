@@ -46,7 +46,8 @@ pub(crate) fn restore_rows<E: Engine>(
     requires located { length locator.now ≡ tally.shape.frame.row_count }
     ensures extent { SameExtent rows.old rows.new }
     ensures marks { WantsMissing tally.shape marks.old marks.new }
-    ensures words { RestoresWords tally.shape (given_marks marks.old) locator.now tally.surplus (word rows.old) (word rows.new) result }
+    ensures words { RestoresWords tally.shape (given_marks marks.old) locator.now tally.surplus
+        (word rows.old) (word rows.new) result }
     ensures counts { CountsUpTo (restore_steps tally.shape tally.surplus) 0 0 steps.old steps.new }
 {
     let shape = tally.shape;
@@ -74,8 +75,11 @@ fn interpolate<E: Engine>(
     requires facts { CanBeRestored tally marks.now }
     requires located { length locator.now ≡ tally.shape.frame.row_count }
     ensures extent { SameExtent rows.old rows.new }
-    ensures coefficients { AreCoefficients tally.shape (given_marks marks.now) locator.now tally.surplus (word rows.old) (word rows.new) result }
-    ensures counts { CountsUpTo (tally.shape.frame.row_count + (transform_steps tally.shape.frame.row_count + tally.surplus)) 0 0 steps.old steps.new }
+    ensures coefficients { AreCoefficients tally.shape
+        (given_marks marks.now) locator.now tally.surplus (word rows.old) (word rows.new) result }
+    ensures counts { CountsUpTo
+        (tally.shape.frame.row_count
+        + (transform_steps tally.shape.frame.row_count + tally.surplus)) 0 0 steps.old steps.new }
 {
     let shape = tally.shape;
     let given = marks.given();
@@ -101,7 +105,8 @@ fn locate_rows<E: Engine>(
     ensures extent { SameExtent rows.old rows.new }
     ensures located { (k s p : ℕ) → k < rows.old.shard_len_64 → s < 32 → p < rows.old.shard_count
         → word rows.new k s p ≡ located_word given.now locator.now (word rows.old k s) p }
-    ensures cleared { (k p : ℕ) → k < rows.old.shard_len_64 → p < rows.old.shard_count → is_marked given.now p ≡ false
+    ensures cleared { (k p : ℕ) → k < rows.old.shard_len_64 → p < rows.old.shard_count
+        → is_marked given.now p ≡ false
         → cell rows.new k p ≡ replicate 64 0 }
     ensures counts { CountsUpTo rows.old.shard_count 0 0 steps.old steps.new }
 {
@@ -126,9 +131,11 @@ fn are_zero_rows(
     requires len { rows.now.shard_len_64 ≡ row_len shard_bytes }
     requires even { shard_bytes % 2 ≡ 0 }
     requires within { first ≤ rows.now.shard_count }
-    ensures zero { ((i j : ℕ) → first ≤ i → i < rows.now.shard_count → j < shard_bytes / 2 → word rows.now (j / 32) (j % 32) i ≡ 0) ↔ (result ≡ true) }
+    ensures zero { ((i j : ℕ) → first ≤ i → i < rows.now.shard_count → j < shard_bytes / 2
+        → word rows.now (j / 32) (j % 32) i ≡ 0) ↔ (result ≡ true) }
     ensures counts { CountsUpTo (rows.now.shard_count - first) 0 0 steps.old steps.new }
-    ensures all_counted { result ≡ true → CountsRows (rows.now.shard_count - first) steps.old steps.new }
+    ensures all_counted { result ≡ true
+        → CountsRows (rows.now.shard_count - first) steps.old steps.new }
 {
     for i in first..rows.len() {
         steps.row_step();
@@ -154,9 +161,11 @@ fn reveal_rows<E: Engine>(
     requires marked { mark_count marks.now ≡ rows.old.shard_count }
     requires located { length locator.now ≡ rows.old.shard_count }
     ensures extent { SameExtent rows.old rows.new }
-    ensures revealed { (k s i : ℕ) → k < rows.old.shard_len_64 → s < 32 → i < shape.configuration.original_count
+    ensures revealed { (k s i : ℕ) → k < rows.old.shard_len_64 → s < 32
+        → i < shape.configuration.original_count
         → let p = original_row shape.frame i in is_marked (restored_marks marks.now) p ≡ true
-        → word rows.new k s p ≡ product (word rows.old k s p) (power (65535 - slice_index locator.now p)) }
+        → word rows.new k s p
+        ≡ product (word rows.old k s p) (power (65535 - slice_index locator.now p)) }
     ensures counts { CountsUpTo shape.configuration.original_count 0 0 steps.old steps.new }
 {
     for i in 0..shape.configuration.original_count {

@@ -32,7 +32,8 @@ pub fn encode_round<E: Engine, C: RateMarker>(
 ) -> Result<(), Error>
     ensures answer { EncodeAnswers (⟦<Encoder<E, C> as RateEncoder<E>>⟧.state encoder.old)
         (result_map_both (λ _. lent_shards encoder.new.rows) (λ e. e) result) }
-    ensures counts { let c = (⟦<Encoder<E, C> as RateEncoder<E>>⟧.state encoder.old).configuration in
+    ensures counts { let c =
+        (⟦<Encoder<E, C> as RateEncoder<E>>⟧.state encoder.old).configuration in
         EncodeCountsAt C.rate c.original_count c.recovery_count steps.old steps.new }
     ensures state { ⟦<Encoder<E, C> as RateEncoder<E>>⟧.state encoder.new
         ≡ after_encode (⟦<Encoder<E, C> as RateEncoder<E>>⟧.state encoder.old) }
@@ -67,7 +68,8 @@ pub fn decode_round<E: Engine, C: RateMarker>(
     ensures answer { DecodeAnswers (⟦<Decoder<E, C> as RateDecoder<E>>⟧.state decoder.old)
         (result_map_both (λ _. restored_by_rows decoder.new.rows) (λ e. e) result) }
     ensures counted { IfOk result (λ count. count ≡ length (restored_from decoder.new.rows 0)) }
-    ensures counts { let c = (⟦<Decoder<E, C> as RateDecoder<E>>⟧.state decoder.old).configuration in
+    ensures counts { let c =
+        (⟦<Decoder<E, C> as RateDecoder<E>>⟧.state decoder.old).configuration in
         DecodeCountsAt C.rate c.original_count c.recovery_count steps.old steps.new }
     ensures state { ⟦<Decoder<E, C> as RateDecoder<E>>⟧.state decoder.new
         ≡ after_decode (⟦<Decoder<E, C> as RateDecoder<E>>⟧.state decoder.old) }

@@ -31,7 +31,9 @@ pub(crate) fn insert_at(chunks: &mut [[u8; 64]], shard: &[u8], index: usize)
     requires room { chunk_count (index + 1) (length shard.now) ≤ length chunks.old }
     requires even { length shard.now % 2 ≡ 0 }
     ensures here { shard_laid_out chunks.new (length shard.now) index ≡ shard.now }
-    ensures others { (i : ℕ) → i ≢ index → shard_laid_out chunks.new (length shard.now) i ≡ shard_laid_out chunks.old (length shard.now) i }
+    ensures others { (i : ℕ) → i ≢ index
+        → shard_laid_out chunks.new (length shard.now) i
+        ≡ shard_laid_out chunks.old (length shard.now) i }
 {
     let len = row_len(shard.len());
     let start = index * len;
@@ -58,7 +60,8 @@ pub(crate) fn move_tails(
 )
     requires room { chunk_count count shard_bytes ≤ length chunks.old }
     requires even { shard_bytes % 2 ≡ 0 }
-    ensures moved { (i : ℕ) → i < count → shard_in_order chunks.new shard_bytes i ≡ shard_laid_out chunks.old shard_bytes i }
+    ensures moved { (i : ℕ) → i < count
+        → shard_in_order chunks.new shard_bytes i ≡ shard_laid_out chunks.old shard_bytes i }
     ensures counts { CountsRows count steps.old steps.new }
 {
     for i in 0..count {
@@ -72,8 +75,10 @@ pub(crate) fn move_tails(
 pub(crate) fn move_tail(chunks: &mut [[u8; 64]], index: usize, shard_bytes: usize)
     requires room { chunk_count (index + 1) shard_bytes ≤ length chunks.old }
     requires even { shard_bytes % 2 ≡ 0 }
-    ensures here { shard_in_order chunks.new shard_bytes index ≡ shard_laid_out chunks.old shard_bytes index }
-    ensures others { (i k : ℕ) → i ≢ index → k < row_len shard_bytes → row_chunk chunks.new shard_bytes i k ≡ row_chunk chunks.old shard_bytes i k }
+    ensures here { shard_in_order chunks.new shard_bytes index
+        ≡ shard_laid_out chunks.old shard_bytes index }
+    ensures others { (i k : ℕ) → i ≢ index → k < row_len shard_bytes
+        → row_chunk chunks.new shard_bytes i k ≡ row_chunk chunks.old shard_bytes i k }
 {
     let len = row_len(shard_bytes);
     let start = index * len;

@@ -42,8 +42,10 @@ impl<C: RateMarker> SupportedCounts<C> {
     /// [`Error::UnsupportedShardCount`] if the rate does not [support](crate::rate::Rate::supports) the counts.
     #[inline(always)]
     pub fn new(original_count: usize, recovery_count: usize) -> Result<SupportedCounts<C>, Error>
-        ensures { MatchResult result (λ c. (c.original_count ≡ original_count) × (c.recovery_count ≡ recovery_count))
-            (λ e. (supports C.rate original_count recovery_count ≡ false) × (e ≡ Error.UnsupportedShardCount original_count recovery_count)) }
+        ensures { MatchResult result
+            (λ c. (c.original_count ≡ original_count) × (c.recovery_count ≡ recovery_count))
+            (λ e. (supports C.rate original_count recovery_count ≡ false)
+            × (e ≡ Error.UnsupportedShardCount original_count recovery_count)) }
     {
         let Some(choice) = C::choose(original_count, recovery_count) else {
             return Err(Error::UnsupportedShardCount {
@@ -66,7 +68,8 @@ impl<C: RateMarker> SupportedCounts<C> {
     /// - [`Error::InvalidShardSize`] if `shard_bytes` is zero or odd.
     /// - [`Error::OutOfMemory`] if the bytes of an encoder's rows exceed `usize::MAX`.
     pub fn check_encoder_rows(self, shard_bytes: usize) -> Result<(), Error>
-        ensures { let c = configuration C.rate self.original_count self.recovery_count shard_bytes in
+        ensures { let c =
+            configuration C.rate self.original_count self.recovery_count shard_bytes in
             result ≡ start_outcome (encoder_rows C.rate c.original_count c.recovery_count) c }
     {
         let shape = Configuration::new(self, shard_bytes)?.encoder_shape();
@@ -81,7 +84,8 @@ impl<C: RateMarker> SupportedCounts<C> {
     /// - [`Error::InvalidShardSize`] if `shard_bytes` is zero or odd.
     /// - [`Error::OutOfMemory`] if the bytes of a decoder's rows exceed `usize::MAX`.
     pub fn check_decoder_rows(self, shard_bytes: usize) -> Result<(), Error>
-        ensures { let c = configuration C.rate self.original_count self.recovery_count shard_bytes in
+        ensures { let c =
+            configuration C.rate self.original_count self.recovery_count shard_bytes in
             result ≡ start_outcome (decoder_rows C.rate c.original_count c.recovery_count) c }
     {
         let shape = Configuration::new(self, shard_bytes)?.decoder_shape();

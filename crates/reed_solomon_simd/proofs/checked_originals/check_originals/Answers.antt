@@ -10,14 +10,14 @@ use Rattle.reed_solomon_simd.specs.Rooms.{shards_of}
 use Rattle.reed_solomon_simd.proofs.Checking.{checked-refused, checked-all, checked-few}
 use Rattle.reed_solomon_simd.proofs.checked_originals.check_originals.Goals as goal
 
--- an original of the list
+-- The bytes of the original with index i are element i of `shards_of`.
 at : (xs : List (Bor (List ℕ))) (i : ℕ) (d : Bor (List ℕ)) → i < length xs → get_or (shards_of xs) i [] ≡ (get_or xs i d).now
 at xs i d inside = get_or-map (λ (x : Bor (List ℕ)). x.now) xs i d [] inside
 
 number : (xs : List (Bor (List ℕ))) → length (shards_of xs) ≡ length xs
 number xs = length-map xs (λ (x : Bor (List ℕ)). x.now)
 
--- what holds of each by its index
+-- If each element below the length is a shard of the size, all elements are.
 all-long : (size n : ℕ) (shards : List Shard) → length shards ≤ n → ((j : ℕ) → j < n → IsShard size (get_or shards j [])) → All (IsShard size) shards
 all-long size n shards most each j d h = subst (IsShard size) (sym (get_or_default shards j d [] h)) (each j (omega (arith, h, most)))
 

@@ -3,7 +3,7 @@ use Rattle.rs_field.specs.code.Column.{IsShard}
 use Rattle.reed_solomon_simd.specs.Rooms.{shards_of}
 use Rattle.reed_solomon_simd.proofs.checked_originals.check_originals.Given as goal
 
--- the originals so far are shards of the size, and no more than wanted
+-- The originals below the index are shards of the size, and there are at most `original_count` of them.
 abbrev pub invariant-loop-index : goal.invariant-loop-index
 invariant-loop-index l =
     record {

@@ -10,7 +10,7 @@ use Rattle.reed_solomon_simd.specs.Rooms.{bytes_in}
 use Rattle.reed_solomon_simd.proofs.RestoringLemmas.{decodes-refused, decodes-nothing, decodes-restored}
 use Rattle.reed_solomon_simd.proofs.into.decode_into.Goals as goal
 
--- the shards of lent items
+-- The shards of borrowed items, with their indexes.
 abbrev lent : List (ℕ × Bor Shard) → Items
 lent items = map (λ item. (item.0, item.1.now)) items
 

@@ -1,7 +1,7 @@
 use Rattle.std.proofs.Common.{◌≡◌, ◌≤◌, ◌-◌, [], All, vec_len}
 use Rattle.reed_solomon_simd.proofs.lent_originals.empty_vectors.Given as goal
 
--- no more vectors than wanted, all of them empty
+-- There are at most `count` vectors so far, and all are empty.
 abbrev pub invariant-loop-alloc : goal.invariant-loop-alloc
 invariant-loop-alloc l = record { few : vec_len l.vectors ≤ l.count; empty : All (λ vector. vector.items ≡ []) l.vectors.items }
 

@@ -5,6 +5,6 @@ use Rattle.reed_solomon_simd.specs.ReceivedState.{received_state}
 use Rattle.reed_solomon_simd.proofs.ByIndex.{AreEntered}
 use Rattle.reed_solomon_simd.proofs.restoring.by_index.Given as goal
 
--- the vectors so far are in the map, and the others are still to come
+-- The vectors taken so far are in the map, and the iterator holds the others.
 abbrev pub invariant-loop-index : goal.invariant-loop-index
 invariant-loop-index l = AreEntered (received_state l.received) l.index (map (λ v. v.items) (into_iter_items l.left)) (shards_in l.vectors)

@@ -1,7 +1,7 @@
 use Rattle.std.proofs.Common.{◌≡◌, ℕ, ◌<◌, ◌≤◌, [], ◌++◌, length, map, take, drop, get_or}
 use Rattle.reed_solomon_simd.proofs.restoring.put_all.Given as goal
 
--- the rooms so far have their vectors, and the others hold what they held
+-- The rooms below the index hold their vectors, and the others hold what they held before the loop.
 abbrev pub invariant-loop-index : goal.invariant-loop-index
 invariant-loop-index g l =
     record {

@@ -6,7 +6,7 @@ use Rattle.reed_solomon_simd.specs.Rooms.{bytes_in}
 use Rattle.reed_solomon_simd.proofs.RoomFits.{fits-many, fits-all, fits-first}
 use Rattle.reed_solomon_simd.proofs.rooms.check_rooms.Goals as goal
 
--- what a room holds
+-- The bytes of room i are element i of `bytes_in`.
 bytes-at : (i : ℕ) (rooms : List (MutBor (List ℕ))) (d : MutBor (List ℕ)) → i < length rooms → get_or (bytes_in rooms) i [] ≡ (get_or rooms i d).now
 bytes-at i rooms d h = get_or-map (λ room. room.now) rooms i d [] h
 

@@ -5,7 +5,7 @@ use Rattle.rs_rate.specs.DecoderView.{decoder_state}
 use Rattle.reed_solomon_simd.proofs.StripDecodeLemmas.{first}
 use Rattle.reed_solomon_simd.proofs.strip_decoder.add_recovery_pieces.Given as goal
 
--- the pieces below an index were added
+-- The decoder has the pieces of the recovery shards below the index.
 abbrev pub invariant-loop-index : goal.invariant-loop-index
 invariant-loop-index g l =
     decoder_state default_rate l.decoder.rows

@@ -6,7 +6,7 @@ use Rattle.rs_field.proofs.of_code.RestoredBelow.{IsRestoredBelow}
 use Rattle.rs_rate.specs.DecoderView.{decoder_state}
 use Rattle.reed_solomon_simd.proofs.strip_decoder.decode_strips.Given as goal
 
--- whole strips are restored up to a byte, where a chunk begins or the shards end
+-- All bytes before `start` are restored. A chunk begins at `start`, or the shards end there.
 abbrev pub invariant-loop-start : goal.invariant-loop-start
 invariant-loop-start g l =
     record {

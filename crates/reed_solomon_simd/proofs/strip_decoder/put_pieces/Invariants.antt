@@ -5,7 +5,7 @@ use Rattle.rs_field.specs.code.PieceStates.{shards_listed}
 use Rattle.rs_rate.specs.ResultView.{restored_originals}
 use Rattle.reed_solomon_simd.proofs.strip_decoder.put_pieces.Given as goal
 
--- the rooms so far have their pieces, the others hold what they held, and the other pieces are still to come
+-- The rooms below the index hold their pieces, the others hold what they held before the loop, and the iterator holds the other pieces.
 abbrev pub invariant-loop-piece : goal.invariant-loop-piece
 invariant-loop-piece g l =
     record {

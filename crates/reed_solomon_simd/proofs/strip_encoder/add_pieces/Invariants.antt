@@ -6,7 +6,7 @@ use Rattle.rs_rate.specs.EncoderView.{encoder_state}
 use Rattle.reed_solomon_simd.specs.Rooms.{shards_of}
 use Rattle.reed_solomon_simd.proofs.strip_encoder.add_pieces.Given as goal
 
--- the pieces so far lead from the first state to this one
+-- Adding the pieces below the index to the first state gives the current state.
 abbrev pub invariant-loop-shard : goal.invariant-loop-shard
 invariant-loop-shard g l =
     with_shards (encoder_state default_rate l.initial.encoder.rows) (pieces l.start l.end (shards_of (take l.shard-index l.originals)))

@@ -11,7 +11,7 @@ use Rattle.reed_solomon_simd.specs.Rooms.{shards_of}
 use Rattle.reed_solomon_simd.proofs.strip_encoder.encode_strips.Goals.{then-start-shard_bytes+in_ok-reset+in_ok-encode_strip-2, else-start-shard_bytes}
 use Rattle.reed_solomon_simd.proofs.strip_encoder.encode_strips.Goals as goal
 
--- a strip more, by what coding it answers
+-- Coding the strip from `start` to `end` and putting its recovery pieces codes all bytes before `end`.
 further : (grows : Bool) (k r size start end : ℕ) (originals : List (Bor Shard)) (made old new : List Shard) → length originals ≡ k → IsStrip start end size
     → All (λ shard. length shard.now ≡ size) originals → IsDone k r size start grows default_rate (shards_of originals) old
     → AreRecovery (default_of (length originals) (length old) (end - start)) (pieces start end (shards_of originals)) made → ArePut start end made old new

@@ -7,7 +7,7 @@ use Rattle.rs_rate.specs.EncoderView.{encoder_state}
 use Rattle.reed_solomon_simd.specs.Rooms.{shards_of}
 use Rattle.reed_solomon_simd.proofs.strip_encoder.encode_strips.Given as goal
 
--- whole strips are coded up to a byte, where a chunk begins or the shards end
+-- All bytes before `start` are coded. A chunk begins at `start`, or the shards end there.
 abbrev pub invariant-loop-start : goal.invariant-loop-start
 invariant-loop-start g l =
     record {

@@ -2,7 +2,7 @@ use Rattle.std.proofs.Common.{◌≡◌, ℕ, ◌<◌, ◌≤◌, [], ◌++◌, 
 use Rattle.rs_rate.specs.ResultView.{recovery_shards}
 use Rattle.reed_solomon_simd.proofs.strip_encoder.put_pieces.Given as goal
 
--- the rooms so far have their pieces, and the others hold what they held
+-- The rooms below the index hold their pieces, and the others hold what they held before the loop.
 abbrev pub invariant-loop-index : goal.invariant-loop-index
 invariant-loop-index g l =
     record {

@@ -7,7 +7,7 @@ use Rattle.rs_engines.proofs.words.product_bytes.Given.{Over}
 use Rattle.rs_engines.proofs.words.product_bytes.Goals.{After-sum}
 use Rattle.rs_engines.proofs.words.product_bytes.Goals as goal
 
--- a byte of the product, where the numbers have that of the products of nibbles
+-- A byte of the result is the byte of the product, if the tables hold the bytes of the nibbles' products.
 of_nibbles : (g : Over) (c : After-sum g) (f : ℕ → ℕ) → IsAdditive 16 f → ((n p : ℕ) → n < 4 → p < 16 → byte_at (get_or c.args.numbers.now n 0) p ≡ f (p * 16 ^ n))
     → (i : ℕ) → i < g.V.ByteVector.LANES → get_or (g.V.ByteVector.bytes c.sum.result) i 0 ≡ f (get_or (g.V.ByteVector.bytes c.args.low) i 0 + 256 * get_or (g.V.ByteVector.bytes c.args.high) i 0)
 of_nibbles g c f additive are i h =

@@ -22,29 +22,29 @@ use Rattle.rs_field.proofs.of_code.Given.{entered_cases, nothing_among, entered_
 use Rattle.rs_field.proofs.of_code.Decided.{shards_from, recovery_from, recovery_from_high}
 use Rattle.rs_field.proofs.worked.agreement.Goals as goal
 
--- a message of two originals
+-- A message of two originals.
 abbrev message : List Shard
 message = low_bytes (0 ∷ 1 ∷ [])
 
--- the recovery shards of the message of two originals
+-- The recovery shards of the message of two originals.
 abbrev recovered : List Shard
 recovered = low_bytes (2 ∷ 3 ∷ 4 ∷ [])
 
--- the message consists of two shards of two bytes
+-- The message consists of two shards of two bytes.
 message_shards : AreShards 2 2 message
 message_shards = shards_from 2 2 message refl
 
--- the recovery shards of the message of two originals are values of the polynomial x
+-- The recovery shards of the message of two originals are values of the polynomial x.
 line : AreRecovery (configuration default_rate 2 3 2) message recovered
 unfolding passes_below placement low_placement high_placement is_low next_power first_below value product combine bits from_bits cantor_basis monomials carryless reduce column
 line = recovery_from _ _ _ ((0 ∷ 1 ∷ []) ∷ []) refl
 
--- the recovery shards of one original are values of a constant
+-- The recovery shards of one original are values of a constant.
 copies : AreRecovery (configuration default_rate 1 2 2) ((7 ∷ 9 ∷ []) ∷ []) ((7 ∷ 9 ∷ []) ∷ (7 ∷ 9 ∷ []) ∷ [])
 unfolding passes_below placement low_placement high_placement is_low next_power first_below value product combine bits from_bits cantor_basis monomials carryless reduce column
 copies = recovery_from _ _ _ ((2311 ∷ []) ∷ []) refl
 
--- the message of two originals agrees with two of its recovery shards
+-- The message of two originals agrees with two of its recovery shards.
 agrees : IsAgreeing two_given message
 agrees = record {
   shards = message_shards;
@@ -52,16 +52,16 @@ agrees = record {
   coded = (recovered, line, entered_among _ 1 (3 ∷ 0 ∷ []) recovered (entered_among nothing 0 (2 ∷ 0 ∷ []) recovered (nothing_among recovered) refl) refl);
 }
 
--- no other message of two originals agrees with these two recovery shards
+-- No other message of two originals agrees with these two recovery shards.
 only : (m : List Shard) → IsAgreeing two_given m → m ≡ message
 unfolding supports next_power first_below with_entry count_below
 only m a = one_message two_given.configuration two_given.originals two_given.recovery m message refl refl (lit≤ tt) a agrees
 
--- the originals that are restored
+-- The originals that are restored.
 abbrev out : Shards
 out = with_entry (with_entry nothing 0 (0 ∷ 0 ∷ [])) 1 (1 ∷ 0 ∷ [])
 
--- both originals are restored, and nothing else
+-- Both originals are restored, and nothing else.
 out_missing : (i : ℕ) → out i ≡ missing_of two_given message i
 unfolding with_entry missing_of
 out_missing zero = refl
@@ -74,24 +74,24 @@ out_missing (suc (suc i)) = none ∙ sym (ap (λ (b : Bool). cond (b && true) (S
       | inr other ↦ elim (entered_cases nothing 0 (suc (suc i)) (0 ∷ 0 ∷ [])) [ inl first ↦ absurd (omega (arith, first.0)) | inr last ↦ other.1 ∙ last.1 ]
     ]
 
--- a decoder with two of the recovery shards restores the message
+-- A decoder with two of the recovery shards restores the message.
 restored : Restored two_given out
 restored = record { message = message; agrees = agrees; only = only; missing = out_missing }
 
--- a message of four originals
+-- A message of four originals.
 abbrev four : List Shard
 four = low_bytes (0 ∷ 0 ∷ 2 ∷ 3 ∷ [])
 
--- the recovery shards of the message of four originals
+-- The recovery shards of the message of four originals.
 abbrev four_more : List Shard
 four_more = low_bytes (11 ∷ 9 ∷ 14 ∷ 13 ∷ [])
 
--- the recovery shards of the message of four originals are values of a polynomial that is zero from the point 8 on
+-- The recovery shards of the message of four originals are values of a polynomial that is zero from the point 8 on.
 cubic : AreRecovery (configuration default_rate 4 4 2) four four_more
 unfolding passes_below is_low next_power first_below value product combine bits from_bits cantor_basis monomials carryless reduce column
 cubic = recovery_from_high 3 _ _ _ ((11 ∷ 6 ∷ 5 ∷ 1 ∷ []) ∷ []) refl
 
--- the message of four originals agrees with two of its originals and two of its recovery shards
+-- The message of four originals agrees with two of its originals and two of its recovery shards.
 mixture : MixtureExample
 mixture = record {
   shards = shards_from 4 2 four refl;
@@ -99,15 +99,15 @@ mixture = record {
   coded = (four_more, cubic, entered_among _ 0 (11 ∷ 0 ∷ []) four_more (entered_among nothing 2 (14 ∷ 0 ∷ []) four_more (nothing_among four_more) refl) refl);
 }
 
--- a message of one original
+-- A message of one original.
 abbrev original : List Shard
 original = (7 ∷ 9 ∷ []) ∷ []
 
--- the recovery shards of the message of one original, which are copies of it
+-- The recovery shards of the message of one original, which are copies of the original.
 abbrev copied : List Shard
 copied = (7 ∷ 9 ∷ []) ∷ (7 ∷ 9 ∷ []) ∷ []
 
--- the message of one original agrees with its original and a copy of it
+-- The message of one original agrees with the original and a copy of the original.
 original_agrees : IsAgreeing (surplus_given (7 ∷ 9 ∷ [])) original
 original_agrees = record {
   shards = shards_from 1 2 original refl;
@@ -115,33 +115,33 @@ original_agrees = record {
   coded = (copied, copies, entered_among nothing 0 (7 ∷ 9 ∷ []) copied (nothing_among copied) refl);
 }
 
--- no message agrees with an original and a recovery shard that is no copy of it
+-- No message agrees with an original and a recovery shard that is no copy of the original.
 inconsistent : IsConsistent (surplus_given (7 ∷ 8 ∷ [])) → ⊥
 unfolding supports next_power first_below with_entry count_below changed_shards
 inconsistent =
     let given = surplus_given (7 ∷ 8 ∷ []) in
     changes_noticed given.configuration original copied given.originals given.recovery refl refl (shards_from 1 2 original refl) copies (lit< tt) (lit≤ tt)
 
--- no other message of one original agrees with the original and its copy
+-- No other message of one original agrees with the original and its copy.
 only_original : (m : List Shard) → IsAgreeing (surplus_given (7 ∷ 9 ∷ [])) m → m ≡ original
 unfolding supports next_power first_below with_entry count_below
 only_original m a =
     let given = surplus_given (7 ∷ 9 ∷ []) in
     one_message given.configuration given.originals given.recovery m original refl refl (lit≤ tt) a original_agrees
 
--- no original is missing if the only original is given
+-- No original is missing if the only original is given.
 none_missing : (i : ℕ) → nothing i ≡ missing_of (surplus_given (7 ∷ 9 ∷ [])) original i
 unfolding with_entry missing_of
 none_missing zero = refl
 none_missing (suc i) =
     sym (ap (λ (b : Bool). cond (b && not (is_some ((surplus_given (7 ∷ 9 ∷ [])).originals (suc i)))) (Some (shard_at original (suc i))) None) (le-ltb (suc i) 1 (omega arith)))
 
--- a decode of the original and its copy restores nothing
+-- A decode of the original and its copy restores no original.
 agreed : DecodeAnswers (surplus_given (7 ∷ 9 ∷ [])) (Ok nothing)
 unfolding with_entry count_below
 agreed = record { message = original; agrees = original_agrees; only = only_original; missing = none_missing }
 
--- a decode of an original and a recovery shard that is no copy of it returns `InconsistentShards`
+-- A decode of an original and a recovery shard that is no copy of the original returns `InconsistentShards`.
 refused : DecodeAnswers (surplus_given (7 ∷ 8 ∷ [])) (Err (InconsistentShards 1 1))
 unfolding with_entry count_below
 refused = record { refusal = refl; surplus = omega arith; none = inconsistent }

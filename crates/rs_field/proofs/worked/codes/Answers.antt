@@ -13,7 +13,7 @@ use Rattle.rs_field.proofs.of_words.Linear.{passes_below}
 use Rattle.rs_field.proofs.of_code.Decided.{codes_from, recovery_from, recovery_from_high}
 use Rattle.rs_field.proofs.worked.codes.Goals as goal
 
--- the tests of the low rate
+-- The examples of the low rate pass the tests.
 low : LowExamples low_rate × LowExamples default_rate × ShortLineExample low_rate × CubicExample low_rate × TailExample × ChunkAndTailExample
 unfolding passes_below placement low_placement high_placement is_low next_power first_below value product combine bits from_bits cantor_basis monomials carryless reduce column xor_bytes xor_shards
 low = (
@@ -32,11 +32,11 @@ low = (
   (codes_from _ _ _ _ _ refl, recovery_from _ _ _ ((0 ∷ 1 ∷ []) ∷ []) refl),
   (codes_from _ _ _ _ _ refl, recovery_from _ _ _ ((0 ∷ 0 ∷ 1 ∷ 1 ∷ []) ∷ []) refl),
   recovery_from _ _ _ ((0 ∷ 0 ∷ []) ∷ (0 ∷ 1 ∷ []) ∷ []) refl,
-  -- 32 columns are zero, and the last is the polynomial x
+  -- There are 32 columns that are zero, and the last column has the polynomial x.
   recovery_from _ _ _ (replicate 32 (0 ∷ 0 ∷ []) ++ (0 ∷ 1 ∷ []) ∷ []) refl,
 )
 
--- those of the high rate, below 4 or below 8
+-- The examples of the high rate pass the tests, below 4 or below 8.
 high : HighExamples high_rate × HighExamples default_rate
 unfolding passes_below is_low next_power first_below value product combine bits from_bits cantor_basis monomials carryless reduce column
 high = (

@@ -7,7 +7,7 @@ use Rattle.rs_field.proofs.of_code.Changes.{changes_noticed}
 use Rattle.rs_field.proofs.of_code.Places.{fixed_by_places}
 use Rattle.rs_field.proofs.code.laws.codeword_laws.Goals as goal
 
--- both are the missing shards of the one message that agrees
+-- Two restorations are equal, since both are the missing shards of the one message that agrees.
 one_restoration : HasOneRestoration
 one_restoration s one other a b =
     fun_ext (λ i. a.missing i ∙ ap (λ (m : List Shard). missing_of s m i) (b.only a.message a.agrees) ∙ sym (b.missing i))

@@ -6,7 +6,7 @@ use Rattle.rs_field.proofs.of_words.LocatorProduct.{none_marked_past}
 use Rattle.rs_field.proofs.of_words.Convolution.{few_bits}
 use Rattle.rs_field.proofs.engine.Engine.locate.Goals as goal
 
--- after its first entries a list is as before
+-- A list whose first entries were replaced has the old entries after them.
 past : (front whole : List ℕ) (n y : ℕ) → length front ≡ n → n ≤ y → get_or (front ++ drop n whole) y 0 ≡ get_or whole y 0
 past front whole n y size above =
     let back : n + (y - n) ≡ y = omega arith in
@@ -18,7 +18,7 @@ pub eval_poly-requires-clause-zeros : goal.eval_poly-requires-clause-zeros
 eval_poly-requires-clause-zeros g c y above inside =
     past c.copy_from_slice.new.self _ (length c.args.erasures.now) y (ap (λ (xs : List ℕ). length xs) c.copy_from_slice.ensures.after) above ∙ get_or-replicate 65536 y 0 0 inside
 
--- if marks are the same at the first points, and zero after them, the sum is that of the first points
+-- If the marks are zero from point n on, the sum over all points is the sum over the first n points.
 sum_of_first : (d n : ℕ) (marks whole : List ℕ) (x : ℕ) → n ≡ 2 ^ d → d ≤ 16 → ((y : ℕ) → n ≤ y → y < 65536 → get_or whole y 0 ≡ 0)
     → ((y : ℕ) → y < n → get_or whole y 0 ≡ get_or marks y 0) → log_sum 65536 (λ y. get_or whole y 0) x ≡ log_sum n (λ y. get_or marks y 0) x
 sum_of_first d n marks whole x size hd zeros same =

@@ -1,4 +1,4 @@
--- The step of both halves, with the sums between them, is that of the whole.
+-- The derivative steps of both halves, with the sums between them, are the derivative step of the whole.
 use Rattle.std.proofs.Common.{◌+◌, ◌/◌, arith, inl, inr}
 use Rattle.rs_field.specs.rows.View.{word}
 use Rattle.rs_field.proofs.of_words.Halves.{few_halves, half_power, no_steps, steps_half, two_halves}

@@ -4,7 +4,7 @@ use Rattle.rs_field.specs.rows.Rows.{Chunks, chunk}
 use Rattle.rs_field.specs.rows.TwoLayers.{OnFourChunks, IsForwardTwoLayers, IsBackwardTwoLayers}
 use Rattle.rs_field.proofs.rows.layers.butterflies_of_quarters.Goals as goal
 
--- chunks of four quarters are chunks of the whole
+-- The chunks of four quarters are chunks of the whole list.
 of_quarters : (related : OnFourChunks) (n k : ℕ) (w x y z : Chunks) (a b c d : List ℕ) → length w ≡ n → length x ≡ n → length y ≡ n → k < n
     → related a b c d (chunk w k) (chunk x k) (chunk y k) (chunk z k)
     → related a b c d (chunk (w ++ x ++ (y ++ z)) k) (chunk (w ++ x ++ (y ++ z)) (n + k)) (chunk (w ++ x ++ (y ++ z)) (2 * n + k)) (chunk (w ++ x ++ (y ++ z)) (3 * n + k))

@@ -1,4 +1,4 @@
--- The layers and the transforms of the parts that they leave make the whole.
+-- The layers, and the transforms of the parts that they leave, make the whole transform.
 use Rattle.std.proofs.Common.{◌≡◌, ℕ, ◌+◌, ◌-◌, ◌*◌, ◌/◌, ◌<◌, ◌≤◌, arith, subst, sym, refl}
 use Rattle.rs_field.specs.rows.View.{word}
 use Rattle.rs_field.specs.rows.Layers.{rows_of_part, layer_steps}

@@ -1,4 +1,4 @@
--- The quarters' transforms and two layers after them make the whole.
+-- The transforms of the quarters, and two layers after them, make the whole transform.
 use Rattle.std.proofs.Common.{◌≡◌, ℕ, suc, ◌^◌, ◌+◌, ◌/◌, ◌%◌, ◌<◌, List, length, get_or, subst, ap, ◌∙◌, arith}
 use Rattle.std.proofs.lemmas.Nat.{pow_pos}
 use Rattle.rs_field.specs.words.StepBounds.{CountsPairs, WalshCounts}
@@ -6,7 +6,7 @@ use Rattle.rs_field.proofs.of_words.Halving.{AreQuarters, in_quarters, walsh-joi
 use Rattle.rs_field.proofs.words.fwht.+fwht.Goals as goal
 use Rattle.rs_field.proofs.words.fwht.+fwht.Goals.{After-split_at_mut-x2, else-n-gt2-via-then-n-gt2+else-truncated-gt0, else-n-gt2-via-else-n-gt2}
 
--- the quarters of the entries
+-- The quarters of the entries have a power of two as length.
 quarters : (t : ℕ) (c : After-split_at_mut-x2 t) → (e : ℕ) × (length c.args.entries.now ≡ 2 ^ suc (suc e)) × (length c.args.entries.now / 4 ≡ 2 ^ e)
     × AreQuarters (length c.args.entries.now / 4) c.args.entries.now c.split_at_mut-x0.result.0.now c.split_at_mut-x0.result.1.now c.split_at_mut-x2.result.0.now c.split_at_mut-x2.result.1.now
 quarters t c =

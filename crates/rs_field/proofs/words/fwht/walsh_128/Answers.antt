@@ -1,4 +1,4 @@
--- A layer of the transforms of both halves makes that of the whole.
+-- One layer after the transforms of both halves makes the transform of the whole.
 use Rattle.std.proofs.Common.{refl, arith}
 use Rattle.rs_field.proofs.of_words.Halving.{walsh-two}
 use Rattle.rs_field.proofs.words.fwht.walsh_128.Goals as goal

@@ -8,7 +8,7 @@ use Rattle.rs_field.proofs.words.tables.mul.Goals as goal
 pub returns-then-x-eq0 : goal.returns-then-x-eq0
 returns-then-x-eq0 c = sym (ap (λ v. product v (power c.args.log_m)) c.if-x-eq0.true ∙ zero_product (power c.args.log_m))
 
--- the entry at a place with the right residue
+-- The entry of the table at a place with the right residue is the product.
 by_tables : (exp_table log_table : List ℕ) → IsExpLog exp_table log_table → (x n place : ℕ) → 0 < x → x < 65536 → place < 65536
     → place % 65535 ≡ (get_or log_table x 0 + n) % 65535 → get_or exp_table place 0 ≡ product x (power n)
 by_tables exp_table log_table h x n place pos hx hp e =

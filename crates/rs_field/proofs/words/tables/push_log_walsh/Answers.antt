@@ -4,7 +4,7 @@ use Rattle.rs_field.specs.words.Walsh.{log_or_zero}
 use Rattle.rs_field.proofs.of_words.Halving.{walsh-at, walsh-near}
 use Rattle.rs_field.proofs.words.tables.push_log_walsh.Goals as goal
 
--- an entry of the last part, in the list that was written
+-- An entry of the last part is at its place in the list that was written.
 behind : (front last rest : List ℕ) (n from w : ℕ) → length front ≡ from → w < length last → from + w < n
     → get_or (take n (front ++ last ++ rest)) (from + w) 0 ≡ get_or last w 0
 behind front last rest n from w size inside below =

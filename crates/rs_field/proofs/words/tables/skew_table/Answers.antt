@@ -19,7 +19,7 @@ read exps logs z h hz = elim (cases_eq z 0) [
   | inr apart ↦ h.log_entry z (omega arith) hz ∙ sym (mark_word z (ne_eqb z 0 apart))
 ]
 
--- s_d(j - 2 ^ d) is 2u, for j = (2u + 1) * 2 ^ d
+-- The value s_d(j - 2 ^ d) is 2u, for j = (2u + 1) * 2 ^ d.
 subspace_word : (d u j : ℕ) → j ≡ (2 * u + 1) * 2 ^ d → j < 65536 → subspace d (j - 2 ^ d) ≡ 2 * u
 subspace_word d u j is hj =
     let few : d ≤ 16 = elim (cases_lt 16 d) [

@@ -1,7 +1,7 @@
 use Rattle.std.proofs.Common.{◌≡◌, ◌<◌, ◌*◌, ◌^◌, ◌+◌, ℕ}
 use Rattle.rs_field.proofs.words.tables.skew_word.Given as goal
 
--- what is left is the odd factor times a smaller power of two
+-- The remaining number is the odd factor times a smaller power of two.
 abbrev pub invariant-loop-odd : goal.invariant-loop-odd
 invariant-loop-odd l = record {
   positive : 0 < l.odd;

@@ -1,4 +1,4 @@
--- Two layers of the transforms of four vectors make that of the whole.
+-- Two layers after the transforms of four vectors make the transform of the whole.
 use Rattle.std.proofs.Common.{◌%◌, get_or, ap, ◌∙◌, refl}
 use Rattle.rs_field.proofs.of_words.Halving.{cut_in_quarters, walsh-joined, walsh-same}
 use Rattle.rs_field.proofs.words.walsh_lanes.walsh_64.Goals as goal

@@ -6,7 +6,7 @@ use Rattle.rs_field.proofs.of_words.UpTo.{length-up_to, get-up_to}
 use Rattle.rs_rate.specs.ShardRows.{shard_in_order}
 use Rattle.rs_rate.proofs.encoder_result.EncoderResult.recovery.Goals as goal
 
--- a shard by its index is one of the list
+-- The shard with an index below the count is the shard in the list at this index.
 in_list : (n index : ℕ) (f : ℕ → Shard) (result : Option (Bor Shard))
     → MatchOption result (n ≤ index) (λ shard. (index < n) × (shard.now ≡ f index))
     → MatchOption result (length (up_to n f) ≤ index) (λ shard. (index < length (up_to n f)) × (shard.now ≡ shard_at (up_to n f) index))

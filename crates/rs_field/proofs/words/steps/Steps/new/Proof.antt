@@ -1,4 +1,4 @@
--- `new` makes a value of no bytes, at three zeros.
+-- `new` returns a value of no bytes, with three counts of zero.
 use mathlib.Core.Path.{refl}
 use mathlib.Core.List.{[], ◌∷◌}
 use seplogic.Ra.Ura.{Ura}

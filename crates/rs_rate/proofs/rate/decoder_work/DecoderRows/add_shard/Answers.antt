@@ -11,7 +11,7 @@ use Rattle.rs_rate.specs.Marks.{given_marks}
 use Rattle.rs_rate.proofs.rate.decoder_work.DecoderRows.add_shard.Goals as goal
 use Rattle.rs_rate.proofs.rate.decoder_work.DecoderRows.add_shard.Goals.{After-enter}
 
--- the shard was entered in its row
+-- The shard was entered in its row.
 entered : (c : After-enter) → RowEntered c.args.self.now c.args.side c.args.index c.row-row.result c.args.shard.now (given_marks c.enter.new.self.marks) c.enter.new.self.chunks.items
 entered c = record {
   at = c.row-row.ensures;

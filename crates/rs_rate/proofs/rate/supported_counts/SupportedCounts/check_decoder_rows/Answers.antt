@@ -14,7 +14,7 @@ use Rattle.rs_rate.specs.ShardRows.{chunk_count, memory_outcome}
 use Rattle.rs_rate.proofs.ConfiguredLemmas.{is_asked}
 use Rattle.rs_rate.proofs.rate.supported_counts.SupportedCounts.check_decoder_rows.Goals as goal
 
--- setting up answers what asking for the rows of the shape does
+-- Setting up a decoder has the outcome of allocating the rows of its shape.
 asked-of : (rate : Rate) (k r size : ℕ) (c : Configuration) (shape : DecoderShape) → (c ≡ rate_configuration rate k r size) × IsSetUp rate c → shape.configuration ≡ c
     → DecoderCanBeLaid shape → start_outcome (decoder_rows rate k r) (configuration rate k r size) ≡ memory_outcome (chunk_count shape.frame.row_count size)
 asked-of rate k r size c shape set_up own laid =
