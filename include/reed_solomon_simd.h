@@ -28,10 +28,10 @@
  *     first two functions return a struct with a pointer `at`. This pointer must never be NULL, not even if memory cannot be allocated.
  *     If rattle_realloc fails, it must leave the old block as it was.
  *
- * The comments of this header state what each call returns and writes. As long as the caller keeps these rules, they hold for all numbers
- * and bytes that can be passed. Each call returns, keeps no pointer, and gives back all memory that it took. Any number of threads can
- * make calls at the same time, with the same const tables. No call is safe in a signal handler, nor in the forked child of a process with
- * threads. */
+ * The comments of this header state what each call returns and writes. As long as the caller keeps these rules, these statements hold for
+ * all numbers and bytes that can be passed. Each call returns, keeps no pointer, and gives back all memory that it took. Any number of
+ * threads can make calls at the same time, with the same const tables. No call is safe in a signal handler, nor in the forked child of a
+ * process with threads. */
 #ifndef REED_SOLOMON_SIMD_H
 #define REED_SOLOMON_SIMD_H
 
