@@ -1,18 +1,15 @@
 -- Pieces of shards. Their columns are columns of the shards, so coding each piece codes the shards.
-use Rattle.std.proofs.Common.{◌≡◌, ◌⊎◌, ℕ, suc, ◌+◌, ◌-◌, ◌*◌, ◌/◌, ◌%◌, ◌<◌, ◌≤◌, List, [], ◌∷◌, ◌++◌, length, take, drop, map, get_or, min, Bool, true, false, cond, refl, sym, ap, ap₂, ◌∙◌, subst, inl, inr, arith, All}
+use Rattle.std.proofs.Common.{◌≡◌, ◌⊎◌, ℕ, suc, ◌+◌, ◌-◌, ◌*◌, ◌/◌, ◌%◌, ◌<◌, ◌≤◌, List, [], ◌∷◌, ◌++◌, length, take, drop, map, get_or, min, Bool, true, false, refl, sym, ap, ap₂, ◌∙◌, subst, inl, inr, arith, All}
 use Rattle.std.specs.List.{between}
 use Rattle.std.proofs.Math.Nat.{min-eq_left, min-eq_right}
 use Rattle.std.proofs.lemmas.Bool.{cases_lt}
-use Rattle.std.proofs.lemmas.List.{get_or-take, get_or-drop, get_or-map, get_or_default, length-take-le, length-drop, length-map, length-append, take_all, take_at, drop_at, take_more, drop_more, take-append-drop, map-append, append_assoc, append-nil, ext_get_or as same_from}
-use Rattle.std.specs.Prelude.{Result, Ok, Err, is_ok}
+use Rattle.std.proofs.lemmas.List.{get_or-take, get_or-drop, get_or-map, get_or_default, length-take-le, length-drop, length-map, length-append, take_all, take_at, drop_at, take_more, drop_more, take-append-drop, map-append, append_assoc, ext_get_or as same_from}
+use Rattle.std.specs.Prelude.{Result, Ok, Err}
 use Rattle.std.specs.Borrow.{Bor}
-use Rattle.std.proofs.lemmas.Bool.{lt-leb, eq-eqb, le-ltb}
-use Rattle.std.proofs.lemmas.List.Elements.{All-map, All-append, All-nil, recursion_from_All}
-use Rattle.std.specs.List.{AllByRecursion}
+use Rattle.std.proofs.lemmas.List.Elements.{All-map, All-append, All-nil}
 use Rattle.rs_field.specs.declared.code.error.Error.{Error}
-use Rattle.rs_field.specs.declared.code.error.Error.TheVariants.{TooFewOriginalShards}
 use Rattle.rs_field.specs.code.Column.{Shard, AreShards, column, columns, chunk_words}
-use Rattle.rs_field.specs.code.Encoder.{EncoderState, fresh_encoder, with_shard, after_encode}
+use Rattle.rs_field.specs.code.Encoder.{EncoderState, with_shard}
 use Rattle.rs_field.specs.code.OneCall.{with_shards}
 use Rattle.rs_field.specs.code.Outcome.{result_and_then}
 use Rattle.rs_field.specs.code.Configuration.{Configuration, configuration}

@@ -1,5 +1,5 @@
 -- A decode by strips: the bytes in the rooms after some strips, and the proof that the rooms hold the restored originals after all strips.
-use Rattle.std.proofs.Common.{◌≡◌, ℕ, zero, suc, ◌+◌, ◌-◌, ◌/◌, ◌%◌, ◌<◌, ◌≤◌, ◌⊎◌, Bool, true, false, cond, List, [], ◌++◌, length, map, take, drop, get_or, All, min, refl, sym, ap, ap₂, ◌∙◌, subst, inl, inr, arith}
+use Rattle.std.proofs.Common.{◌≡◌, ℕ, zero, suc, ◌+◌, ◌-◌, ◌/◌, ◌%◌, ◌<◌, ◌≤◌, ◌⊎◌, Bool, true, false, cond, List, [], ◌++◌, length, take, drop, get_or, All, refl, sym, ap, ap₂, ◌∙◌, subst, inl, inr, arith}
 use Rattle.std.specs.Prelude.{Some, None, is_some, unwrap_or, not, ◌&&◌, nat_le, nat_lt, Result, Ok, Err}
 use Rattle.std.specs.List.{between}
 use Rattle.std.specs.Option.{option_map}
@@ -10,10 +10,9 @@ use Rattle.std.proofs.lemmas.List.{get_or-map, get_or_default, length-map, lengt
 use Rattle.std.proofs.lemmas.Option.{none-some}
 use Rattle.rs_field.specs.declared.code.error.Error.{Error}
 use Rattle.rs_field.specs.declared.code.error.Error.TheVariants.{InconsistentShards, NotEnoughShards}
-use Rattle.rs_field.specs.code.Column.{Shard, IsShard, column}
-use Rattle.rs_field.specs.code.Configuration.{configuration, validation_outcome}
-use Rattle.rs_field.specs.code.Counts.{Rate, supports}
-use Rattle.rs_field.specs.code.Decoder.{DecoderState, IsDecoder, IsAgreeing, originals_given, recovery_given, enough_given, missing_of, Restored, NoneAgrees}
+use Rattle.rs_field.specs.code.Column.{Shard, column}
+use Rattle.rs_field.specs.code.Counts.{supports}
+use Rattle.rs_field.specs.code.Decoder.{DecoderState, IsAgreeing, originals_given, recovery_given, enough_given, missing_of, Restored, NoneAgrees}
 use Rattle.rs_field.specs.code.Given.{Shards, AreWithin, Consistent, Lists, items_below, count_below}
 use Rattle.rs_field.specs.code.OneCall.{Items}
 use Rattle.rs_field.specs.code.Pieces.{pieces, IsStrip, ArePut, room_length}
@@ -208,17 +207,6 @@ take-joined start old piece rest inside =
     ap (λ (n : ℕ). take (n + length piece) (take start old ++ (piece ++ rest))) (sym front)
     ∙ take-append-add (take start old) (piece ++ rest) (length piece)
     ∙ ap (λ (l : Shard). take start old ++ l) (take-append_seam piece rest)
-
--- Before the first strip, the rooms satisfy `IsRestoredBelow` for zero bytes.
-pub restored-none : (s : DecoderState) (grows : Bool) (rooms : List Shard) → length rooms + originals_given s ≡ s.configuration.original_count
-    → All (λ room. length room ≡ room_length grows 0 s.configuration.shard_bytes) rooms → IsRestoredBelow s grows 0 rooms
-restored-none s grows rooms number fit =
-    record {
-      consistent = λ j h. absurd (let no : ⊥ = omega (arith, h) in no);
-      number = number;
-      fit = fit;
-      held = λ message agrees i h. refl;
-    }
 
 module _ (s : DecoderState) (grows : Bool) (start end : ℕ) (out : Shards) (items : Items) (strip : IsStrip start end s.configuration.shard_bytes)
     (restored : Restored (state_of_pieces start end s) out) (listing : Lists out items) where
