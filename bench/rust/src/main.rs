@@ -3,6 +3,7 @@
 mod clock;
 mod data;
 mod isal;
+mod library;
 mod measure;
 mod options;
 mod ours;

@@ -82,8 +82,9 @@ fn process(task: &Task) -> Result<Vec<Turn>, String> {
     let done = Command::new(program).args(task.words()).output().map_err(|error| error.to_string())?;
     let text = String::from_utf8_lossy(&done.stdout);
     if !done.status.success() {
-        let last = text.lines().last().unwrap_or_default();
-        return Err(format!("{:?}: {last} {}", task.row, String::from_utf8_lossy(&done.stderr)));
+        let Row { call, k, r, size } = task.row;
+        let (last, faults) = (text.lines().last().unwrap_or_default(), String::from_utf8_lossy(&done.stderr));
+        return Err(format!("{} {k}:{r}, {size} bytes: {last} {faults}", call.name()));
     }
     Ok(text.lines().map(|line| line.split(' ').map(|time| time.parse().ok()).collect()).collect())
 }

@@ -1,32 +1,9 @@
 //! This library, in each build that was linked: its calls from C, and the exports of `bench/exports`.
 use crate::clock::{rs_bench_now, time_rounds};
+use crate::library::{library, Bytes, Fault, Indexed, Library, Plan};
 use crate::side::{Name, Side, ENGINES};
 use crate::work::{Call, Row, Work};
 use std::alloc::{alloc_zeroed, Layout};
-
-/// A shard or a room, as `struct rs_bytes` and as a slice of Rattle.
-#[repr(C)]
-#[derive(Clone, Copy)]
-pub struct Bytes {
-    at: *mut u8,
-    length: usize,
-}
-
-/// A shard with its index, as `struct rs_shard` and as `Shard` of the exports.
-#[repr(C)]
-#[derive(Clone, Copy)]
-pub struct Indexed {
-    index: usize,
-    bytes: Bytes,
-}
-
-/// The reason why a call from C failed.
-#[repr(C)]
-#[derive(Default, Debug)]
-pub struct Fault {
-    number: u32,
-    values: [usize; 3],
-}
 
 // The calls of an export, as in `bench/exports/plan.rt.txt`.
 const INTO: u32 = 0;
@@ -35,148 +12,6 @@ const SLICE: u32 = 2;
 const OBJECT: u32 = 3;
 const NEW: u32 = 4;
 const RESET: u32 = 5;
-
-/// What an export is asked to do.
-#[repr(C)]
-pub struct Plan {
-    call: u32,
-    engine: u32,
-    k: usize,
-    r: usize,
-    size: usize,
-    first: usize,
-    rounds: usize,
-    copies: bool,
-}
-
-/// The calls of one build.
-#[derive(Clone, Copy)]
-pub struct Library {
-    tables_make: unsafe extern "C" fn(*mut u8) -> u32,
-    encode: unsafe extern "C" fn(*const u8, usize, usize, usize, *const u8, usize, *mut u8, usize, *mut Fault) -> u32,
-    decode: unsafe extern "C" fn(
-        *const u8,
-        usize,
-        usize,
-        usize,
-        *mut u8,
-        usize,
-        *const u8,
-        usize,
-        *const u8,
-        usize,
-        *mut Fault,
-    ) -> u32,
-    encode_shards: unsafe extern "C" fn(*const u8, usize, usize, *const Bytes, usize, *mut Bytes, usize, *mut Fault) -> u32,
-    decode_shards: unsafe extern "C" fn(
-        *const u8,
-        usize,
-        usize,
-        *const Indexed,
-        usize,
-        *const Indexed,
-        usize,
-        *mut Bytes,
-        usize,
-        *mut Fault,
-    ) -> u32,
-    bench_encode: unsafe extern "C" fn(*const Plan, *const Bytes, usize, *mut Bytes, usize, *mut u64) -> u32,
-    bench_decode:
-        unsafe extern "C" fn(*const Plan, *const Indexed, usize, *const Indexed, usize, *mut Bytes, usize, *mut u64) -> u32,
-    bench_tables: unsafe extern "C" fn(*mut u64) -> u32,
-}
-
-/// Declares the calls of a build, whose names all begin with its prefix.
-#[allow(unused_macros)]
-macro_rules! library {
-    ($prefix:literal) => {{
-        extern "C" {
-            #[link_name = concat!($prefix, "rs_tables_make")]
-            fn tables_make(tables: *mut u8) -> u32;
-            #[link_name = concat!($prefix, "rs_encode")]
-            fn encode(
-                t: *const u8,
-                k: usize,
-                r: usize,
-                size: usize,
-                from: *const u8,
-                n: usize,
-                to: *mut u8,
-                m: usize,
-                fault: *mut Fault,
-            ) -> u32;
-            #[link_name = concat!($prefix, "rs_decode")]
-            fn decode(
-                t: *const u8,
-                k: usize,
-                r: usize,
-                size: usize,
-                all: *mut u8,
-                n: usize,
-                from: *const u8,
-                m: usize,
-                marks: *const u8,
-                l: usize,
-                fault: *mut Fault,
-            ) -> u32;
-            #[link_name = concat!($prefix, "rs_encode_shards")]
-            fn encode_shards(
-                t: *const u8,
-                k: usize,
-                r: usize,
-                from: *const Bytes,
-                n: usize,
-                to: *mut Bytes,
-                m: usize,
-                fault: *mut Fault,
-            ) -> u32;
-            #[link_name = concat!($prefix, "rs_decode_shards")]
-            fn decode_shards(
-                t: *const u8,
-                k: usize,
-                r: usize,
-                own: *const Indexed,
-                n: usize,
-                other: *const Indexed,
-                m: usize,
-                to: *mut Bytes,
-                l: usize,
-                fault: *mut Fault,
-            ) -> u32;
-            #[link_name = concat!($prefix, "rs_bench_encode")]
-            fn bench_encode(plan: *const Plan, from: *const Bytes, n: usize, to: *mut Bytes, m: usize, time: *mut u64) -> u32;
-            #[link_name = concat!($prefix, "rs_bench_decode")]
-            fn bench_decode(
-                plan: *const Plan,
-                own: *const Indexed,
-                n: usize,
-                other: *const Indexed,
-                m: usize,
-                to: *mut Bytes,
-                l: usize,
-                time: *mut u64,
-            ) -> u32;
-            #[link_name = concat!($prefix, "rs_bench_tables")]
-            fn bench_tables(time: *mut u64) -> u32;
-        }
-        Some(Library { tables_make, encode, decode, encode_shards, decode_shards, bench_encode, bench_decode, bench_tables })
-    }};
-}
-
-/// Returns the library of a build, or None if it isn't linked.
-fn library(who: &str) -> Option<Library> {
-    match who {
-        #[cfg(plain)]
-        "plain" => library!("plain_"),
-        #[cfg(v3)]
-        "v3" => library!("v3_"),
-        #[cfg(plain_before)]
-        "plain_before" => library!("plain_before_"),
-        #[cfg(v3_before)]
-        "v3_before" => library!("v3_before_"),
-        _ => None,
-    }
-}
 
 /// Makes the side with this name.
 pub fn side(name: &Name, work: &'static Work) -> Option<Box<dyn Side>> {
@@ -257,52 +92,41 @@ impl FromC {
         FromC { library, work, arrays, is_buffers, tables, places, marks }
     }
 
+    fn encode_arrays(&mut self, fault: &mut Fault) -> u32 {
+        let (Row { k, r, .. }, a) = (self.work.row, &mut self.arrays);
+        // SAFETY: each array has the entries of its length, and nobody else uses the rooms now.
+        unsafe { (self.library.encode_shards)(self.tables, k, r, a.originals.as_ptr(), k, a.rooms.as_mut_ptr(), r, fault) }
+    }
+
+    fn decode_arrays(&mut self, fault: &mut Fault) -> u32 {
+        let (Row { k, r, .. }, a) = (self.work.row, &mut self.arrays);
+        let (own, other, rooms) = (a.own.as_ptr(), a.other.as_ptr(), a.rooms.as_mut_ptr());
+        let (n, m, l) = (a.own.len(), a.other.len(), a.rooms.len());
+        // SAFETY: each array has the entries of its length, and nobody else uses the rooms now.
+        unsafe { (self.library.decode_shards)(self.tables, k, r, own, n, other, m, rooms, l, fault) }
+    }
+
+    fn encode_buffers(&mut self, fault: &mut Fault) -> u32 {
+        let Row { k, r, size, .. } = self.work.row;
+        let (from, to) = (self.work.originals.start(), self.work.rooms.start());
+        // SAFETY: both buffers have as many bytes as their lengths, and nobody else uses the rooms now.
+        unsafe { (self.library.encode)(self.tables, k, r, size, from, k * size, to, r * size, fault) }
+    }
+
+    fn decode_buffers(&mut self, fault: &mut Fault) -> u32 {
+        let Row { k, r, size, .. } = self.work.row;
+        let (places, from, marks) = (self.places.as_mut_ptr(), self.work.recovery.start(), self.marks.as_ptr());
+        // SAFETY: all buffers have as many bytes as their lengths, and the places are this side's own.
+        unsafe { (self.library.decode)(self.tables, k, r, size, places, k * size, from, r * size, marks, k + r, fault) }
+    }
+
     fn round(&mut self) {
-        let (Row { k, r, size, call }, a, t) = (self.work.row, &mut self.arrays, self.tables as *const u8);
         let mut fault = Fault::default();
-        // SAFETY: each pointer has the bytes or entries of its length, and nobody else uses rooms and places now.
-        let number = unsafe {
-            match (call, self.is_buffers) {
-                (Call::Encode, false) => {
-                    (self.library.encode_shards)(t, k, r, a.originals.as_ptr(), k, a.rooms.as_mut_ptr(), r, &mut fault)
-                }
-                (Call::Encode, true) => (self.library.encode)(
-                    t,
-                    k,
-                    r,
-                    size,
-                    self.work.originals.start(),
-                    k * size,
-                    self.work.rooms.start(),
-                    r * size,
-                    &mut fault,
-                ),
-                (_, false) => (self.library.decode_shards)(
-                    t,
-                    k,
-                    r,
-                    a.own.as_ptr(),
-                    a.own.len(),
-                    a.other.as_ptr(),
-                    a.other.len(),
-                    a.rooms.as_mut_ptr(),
-                    a.rooms.len(),
-                    &mut fault,
-                ),
-                (_, true) => (self.library.decode)(
-                    t,
-                    k,
-                    r,
-                    size,
-                    self.places.as_mut_ptr(),
-                    k * size,
-                    self.work.recovery.start(),
-                    r * size,
-                    self.marks.as_ptr(),
-                    k + r,
-                    &mut fault,
-                ),
-            }
+        let number = match (self.work.row.call, self.is_buffers) {
+            (Call::Encode, false) => self.encode_arrays(&mut fault),
+            (Call::Encode, true) => self.encode_buffers(&mut fault),
+            (_, false) => self.decode_arrays(&mut fault),
+            (_, true) => self.decode_buffers(&mut fault),
         };
         assert_eq!(number, 0, "{fault:?}");
     }

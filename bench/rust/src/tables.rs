@@ -1,7 +1,7 @@
 //! Tables of figures in Markdown.
 use crate::data::Figures;
 use crate::side::Name;
-use crate::work::Row;
+use crate::work::{Call, Row};
 
 /// Prints how the figures were made, and a table for each build.
 pub fn print(about: &[String], all: &[Figures]) {
@@ -42,7 +42,10 @@ fn print_build(build: &str, all: &[Figures]) {
         let Row { call, k, r, size } = row;
         let of = |side: &Name| all.iter().rfind(|figures| figures.row == row && figures.side == *side);
         let cells: String = sides.iter().map(|side| of(side).map_or(" - | - |".to_string(), cell)).collect();
-        println!("| {} | {k}:{r} | {size} |{cells}", call.name());
+        match call {
+            Call::Tables => println!("| {} | - | - |{cells}", call.name()),
+            _ => println!("| {} | {k}:{r} | {size} |{cells}", call.name()),
+        }
     }
 }
 

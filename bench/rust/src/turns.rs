@@ -1,11 +1,12 @@
 //! The turns of one row in a process of its own. `measure` starts it and reads what it prints.
-use crate::clock::clear_upper_halves;
+use crate::clock::{clear_upper_halves, rs_bench_now};
 use crate::side::{Name, Side};
 use crate::theirs;
 use crate::work::{Call, Row, Work};
 
-/// A round that takes longer is not run before the measured ones: its shards don't fit the caches anyway.
-const LONG: f64 = 2e7;
+/// A comparison that takes longer, in nanoseconds, is that of a long round: it is measured alone, and no round is run before it.
+/// Its shards don't fit the caches anyway.
+const LONG: f64 = 5e7;
 
 /// What a process is asked to do: a row, a number of turns, how long a side runs in a turn, and the sides.
 pub struct Task {
@@ -39,22 +40,33 @@ impl Task {
     /// side, or `-` for a side that isn't there. Returns whether all bytes were right.
     pub fn run(&self) -> bool {
         let work = Work::leaked(self.row, theirs::recovery);
-        let mut sides: Vec<_> = self.sides.iter().map(|name| name.side(work)).collect();
-        if self.row.call.codes() {
-            for (side, name) in sides.iter_mut().zip(&self.sides) {
-                clear_upper_halves();
-                if side.as_mut().is_some_and(|side| !side.is_right()) {
-                    println!("wrong {}", name.words());
-                    return false;
-                }
+        let mut timed = vec![];
+        for name in &self.sides {
+            let Some(mut side) = name.side(work) else {
+                timed.push(None);
+                continue;
+            };
+            let start = rs_bench_now();
+            if self.row.call.codes() && !is_right(&mut *side) {
+                println!("wrong bytes by {}", name.words());
+                return false;
             }
+            let is_long = (rs_bench_now() - start) as f64 > LONG;
+            timed.push(Some((side, is_long)));
         }
-        let mut timed: Vec<_> = sides.into_iter().map(|side| side.map(|side| Timed::new(side, self))).collect();
+        let mut timed: Vec<_> =
+            timed.into_iter().map(|side| side.map(|(side, is_long)| Timed::new(side, is_long, self))).collect();
         for turn in 0..self.turns {
             println!("{}", one_turn(&mut timed, turn));
         }
         true
     }
+}
+
+/// Runs one round of a side, and returns whether it wrote the wanted bytes.
+fn is_right(side: &mut dyn Side) -> bool {
+    clear_upper_halves();
+    side.is_right()
 }
 
 /// Times each side once and returns the line of the turn. The sides take turns in being first, and every second turn goes
@@ -80,21 +92,15 @@ struct Timed {
 }
 
 impl Timed {
-    fn new(side: Box<dyn Side>, task: &Task) -> Timed {
-        let mut timed = Timed { side, first: 1, rounds: 1 };
-        if task.row.call == Call::Tables {
+    fn new(side: Box<dyn Side>, is_long: bool, task: &Task) -> Timed {
+        let first = is_long && side.makes_object() || !is_long && task.row.call != Call::Tables;
+        let mut timed = Timed { side, first: first as usize, rounds: 1 };
+        if is_long || task.row.call == Call::Tables {
             return timed;
         }
-        timed.first = timed.side.makes_object() as usize;
-        let mut one = timed.once();
-        if one < LONG {
-            timed.first = 1;
-            // The first guess holds the time of reading the clock, so there is a second one.
-            for _ in 0..2 {
-                timed.rounds = (task.milliseconds * 1e6 / one).clamp(1.0, 1e6) as usize;
-                one = timed.once();
-            }
-            timed.rounds = (task.milliseconds * 1e6 / one).clamp(1.0, 1e6) as usize;
+        // The first guesses hold the time of reading the clock.
+        for _ in 0..3 {
+            timed.rounds = (task.milliseconds * 1e6 / timed.once()).clamp(1.0, 1e6) as usize;
         }
         timed
     }
