@@ -51,7 +51,8 @@ fn rows(options: &Options) -> Vec<Row> {
 fn row_turns(options: &Options, row: Row) -> Result<Vec<Turn>, String> {
     let mut turns = vec![];
     let mut each = options.turns.div_ceil(PROCESSES);
-    while turns.len() < options.turns {
+    let begun = Instant::now();
+    while turns.len() < options.turns && begun.elapsed().as_secs_f64() < options.seconds {
         let started = Instant::now();
         let count = each.min(options.turns - turns.len());
         turns.extend(process(&Task { row, turns: count, milliseconds: options.milliseconds, sides: options.all_sides() })?);

@@ -10,13 +10,16 @@ pub struct Options {
     pub turns: usize,
     /// How long a side runs in a turn, at least, in milliseconds.
     pub milliseconds: f64,
+    /// After how many seconds a row gets no further process, even if it has fewer turns.
+    pub seconds: f64,
     pub sides: Vec<Name>,
     /// The side that the others are compared with.
     pub to: Name,
     pub data: Option<String>,
 }
 
-pub const USAGE: &str = "usage: bench/run [--calls CALL,..] [--counts K:R,..] [--sizes BYTES,..] [--turns N] [--ms N]
+pub const USAGE: &str =
+    "usage: bench/run [--calls CALL,..] [--counts K:R,..] [--sizes BYTES,..] [--turns N] [--ms N] [--most SECONDS]
                  [--sides SIDE,..] [--to SIDE] [--data FILE]
        bench/run --print FILE
 CALL: encode decode decode1 new-encoder new-decoder reset-encoder reset-decoder tables
@@ -34,6 +37,7 @@ impl Options {
             sizes: vec![64, 1 << 10, 16 << 10, 64 << 10, 1 << 20],
             turns: 25,
             milliseconds: 4.0,
+            seconds: f64::INFINITY,
             sides: names("v3.c-shards,v3.into,plain.c-shards,plain.into")?,
             to: Name::read("crate.object.avx2")?,
             data: None,
@@ -51,6 +55,7 @@ impl Options {
             "--counts" => self.counts = value.split(',').map(counts).collect::<Option<_>>()?,
             "--sizes" => self.sizes = value.split(',').map(size).collect::<Option<_>>()?,
             "--turns" => self.turns = value.parse().ok().filter(|turns| *turns > 0)?,
+            "--most" => self.seconds = value.parse().ok()?,
             "--ms" => self.milliseconds = value.parse().ok()?,
             "--sides" => self.sides = names(value)?,
             "--to" => self.to = Name::read(value)?,
