@@ -34,9 +34,9 @@ fn print_build(build: &str, all: &[Figures]) {
             rows.push(figures.row);
         }
     }
-    let to = all[0].to.words();
-    let heads: String = sides.iter().map(|side| format!(" `{}` | to `{to}` |", side.words())).collect();
-    println!("\n| Call | Originals : recovery | Bytes |{heads}");
+    let heads: String = sides.iter().map(|side| format!(" `{}` | ratio |", side.words())).collect();
+    println!("\nThe ratios are to `{}`:\n", all[0].to.words());
+    println!("| Call | Originals : recovery | Bytes |{heads}");
     println!("|---|---|---|{}", "---|---|".repeat(sides.len()));
     for row in rows {
         let Row { call, k, r, size } = row;
@@ -56,5 +56,15 @@ fn cell(figures: &Figures) -> String {
         time if time < 1e4 => format!("{time:.0} ns"),
         time => format!("{:.2} ms", time / 1e6),
     };
-    format!(" {speed} | **{middle:.2}** ({low:.2}–{high:.2}) |")
+    format!(" {speed} | **{}** ({}–{}) |", three_digits(middle), three_digits(low), three_digits(high))
+}
+
+/// Writes a ratio with three digits, but with at most two after the point if it is at least 0.1.
+fn three_digits(ratio: f64) -> String {
+    match ratio {
+        _ if ratio >= 100.0 => format!("{ratio:.0}"),
+        _ if ratio >= 10.0 => format!("{ratio:.1}"),
+        _ if ratio >= 0.1 => format!("{ratio:.2}"),
+        _ => format!("{ratio:.4}"),
+    }
 }
