@@ -38,7 +38,7 @@ impl Figures {
         let (speed, time, turns) = (self.speed(), self.nanoseconds, self.turns);
         let to = self.to.words();
         format!(
-            "{},{k},{r},{size},{who},{way},{engine},{to},{middle:.5},{low:.5},{high:.5},{speed:.1},{time:.1},{turns}",
+            "{},{k},{r},{size},{who},{way},{engine},{to},{middle:.5},{low:.5},{high:.5},{speed:.1},{time:.3},{turns}",
             call.name()
         )
     }
