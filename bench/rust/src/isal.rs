@@ -1,0 +1,111 @@
+//! ISA-L, where it is installed. Its code is over GF(2^8), so it takes at most 256 shards, and its recovery shards hold other
+//! bytes than those of this library.
+
+#[cfg(isal)]
+pub use linked::side;
+
+/// Returns None, as ISA-L isn't linked.
+#[cfg(not(isal))]
+pub fn side(_: &'static crate::work::Work) -> Option<Box<dyn crate::side::Side>> {
+    None
+}
+
+#[cfg(isal)]
+mod linked {
+    use crate::clock::time_rounds;
+    use crate::side::Side;
+    use crate::work::{Call, Row, Shards, Work};
+
+    extern "C" {
+        fn gf_gen_cauchy1_matrix(matrix: *mut u8, all: i32, k: i32);
+        fn gf_invert_matrix(from: *mut u8, to: *mut u8, k: i32) -> i32;
+        fn ec_init_tables(k: i32, rows: i32, from: *mut u8, tables: *mut u8);
+        fn ec_encode_data(size: i32, k: i32, rows: i32, tables: *mut u8, from: *mut *mut u8, to: *mut *mut u8);
+    }
+
+    /// An encode or a decode. The tables of an encode are made once, those of a decode in each round, since lost shards differ.
+    struct Coder {
+        work: &'static Work,
+        matrix: Vec<u8>,
+        tables: Vec<u8>,
+        recovery: Shards,
+    }
+
+    /// Makes the side, or returns None if the counts are too large for ISA-L.
+    pub fn side(work: &'static Work) -> Option<Box<dyn Side>> {
+        let Row { call, k, r, size } = work.row;
+        if !call.codes() || k + r > 256 {
+            return None;
+        }
+        let mut matrix = vec![0; (k + r) * k];
+        let mut tables = vec![0; 32 * k * r];
+        // SAFETY: the matrix has k columns and k + r rows, and the tables have 32 bytes for each product.
+        unsafe {
+            gf_gen_cauchy1_matrix(matrix.as_mut_ptr(), (k + r) as i32, k as i32);
+            ec_init_tables(k as i32, r as i32, matrix[k * k..].as_mut_ptr(), tables.as_mut_ptr());
+        }
+        let mut coder = Coder { work, matrix, tables, recovery: Shards::new(r, size) };
+        coder.encode((0..r).map(|index| coder.recovery.pointer(index)).collect());
+        Some(Box::new(coder))
+    }
+
+    impl Coder {
+        fn encode(&mut self, mut to: Vec<*mut u8>) {
+            let Row { k, r, size, .. } = self.work.row;
+            let mut from: Vec<*mut u8> = (0..k).map(|index| self.work.originals.pointer(index)).collect();
+            // SAFETY: each pointer has `size` bytes.
+            unsafe {
+                ec_encode_data(size as i32, k as i32, r as i32, self.tables.as_mut_ptr(), from.as_mut_ptr(), to.as_mut_ptr());
+            }
+        }
+
+        /// Restores the first originals into rooms from the first recovery shards.
+        fn decode(&mut self, lost: usize) {
+            let Row { k, size, .. } = self.work.row;
+            let row = |index: usize| if index < lost { k + index } else { index };
+            let shard = |index: usize| match index < lost {
+                true => self.recovery.pointer(index),
+                false => self.work.originals.pointer(index),
+            };
+            let mut left: Vec<u8> = (0..k).flat_map(|index| &self.matrix[row(index) * k..][..k]).copied().collect();
+            let mut inverse = vec![0; k * k];
+            let mut tables = vec![0; 32 * k * lost];
+            let mut from: Vec<*mut u8> = (0..k).map(shard).collect();
+            let mut to: Vec<*mut u8> = (0..lost).map(|index| self.work.rooms.pointer(index)).collect();
+            let (k, lost, size) = (k as i32, lost as i32, size as i32);
+            // SAFETY: matrices have k * k entries, and each pointer has `size` bytes.
+            unsafe {
+                assert_eq!(gf_invert_matrix(left.as_mut_ptr(), inverse.as_mut_ptr(), k), 0);
+                ec_init_tables(k, lost, inverse.as_mut_ptr(), tables.as_mut_ptr());
+                ec_encode_data(size, k, lost, tables.as_mut_ptr(), from.as_mut_ptr(), to.as_mut_ptr());
+            }
+        }
+
+        fn round(&mut self) {
+            match self.work.row.call {
+                Call::Encode => self.encode((0..self.work.row.r).map(|index| self.work.rooms.pointer(index)).collect()),
+                _ => self.decode(self.work.lost),
+            }
+        }
+    }
+
+    impl Side for Coder {
+        fn time(&mut self, first: usize, rounds: usize) -> u64 {
+            time_rounds(first, rounds, || self.round())
+        }
+
+        /// The bytes of recovery shards are its own. So an encode is right if its recovery shards restore lost originals.
+        fn is_right(&mut self) -> bool {
+            let work = self.work;
+            let Row { call, k, r, size } = work.row;
+            if call != Call::Encode {
+                return work.checks(|| self.round());
+            }
+            let lost = k.min(r);
+            self.round();
+            self.recovery.bytes_mut().copy_from_slice(work.rooms.bytes());
+            self.decode(lost);
+            work.rooms.bytes()[..lost * size] == work.originals.bytes()[..lost * size]
+        }
+    }
+}
