@@ -64,6 +64,13 @@ module _ (size i start : ℕ) (bytes piece : List ℕ) (fits : start + length pi
   front : length (take (i * size + start) bytes) ≡ i * size + start
   front = length-take-le (i * size + start) bytes (omega (arith, inside))
 
+  -- it is as long as before
+  pub put-long : length with_piece ≡ length bytes
+  put-long =
+      let back = length-drop (i * size + start + length piece) bytes in
+      let middle = length-append piece (drop (i * size + start + length piece) bytes) in
+      length-append (take (i * size + start) bytes) (piece ++ drop (i * size + start + length piece) bytes) ∙ omega (arith, front, back, middle, inside)
+
   -- from the shard on
   from-shard : drop (i * size) with_piece ≡ take start (drop (i * size) bytes) ++ (piece ++ drop (start + length piece) (drop (i * size) bytes))
   from-shard =

@@ -1,61 +1,21 @@
 -- The result of a decode over buffers, from its calls.
-use Rattle.std.proofs.Common.{◌≡◌, ℕ, zero, suc, ◌+◌, ◌*◌, ◌==◌, ◌&&◌, Bool, true, false, not, List, [], ◌∷◌, ◌++◌, length, take, drop, nat_lt, if◌then◌else◌, Some, None, is_some, Result, Ok, Err, MatchResult, inl, inr, sym, ap, ◌∙◌, refl, arith}
-use Rattle.std.proofs.lemmas.Bool.{cases_eq, eq-eqb, ne_eqb, ltb-true}
+use Rattle.std.proofs.Common.{◌≡◌, ℕ, zero, suc, ◌+◌, ◌*◌, ◌==◌, true, not, List, [], ◌∷◌, ◌++◌, length, take, drop, None, Result, Ok, inl, inr, sym, ap, ◌∙◌, refl, arith}
+use Rattle.std.proofs.lemmas.Bool.{cases_eq, eq-eqb, ne_eqb}
 use Rattle.std.proofs.Math.Nat.{suc-mul}
-use Rattle.std.proofs.lemmas.List.{length-take-le, length-drop, take-append-drop, nil_from_length}
+use Rattle.std.proofs.lemmas.List.{length-drop, take-append-drop, nil_from_length}
 use Rattle.std.specs.List.{count_by}
 use Rattle.rs_field.specs.declared.code.error.Error.{Error}
-use Rattle.rs_field.specs.code.Column.{Shard, AreShards, shard_at}
 use Rattle.rs_field.specs.code.Counts.{default_rate, supports}
 use Rattle.rs_field.specs.code.Given.{Shards, nothing}
 use Rattle.rs_field.specs.code.Outcome.{result_and_then}
-use Rattle.rs_field.specs.code.Configuration.{Configuration}
-use Rattle.rs_field.specs.code.Decoder.{DecoderState, Restored, missing_of, enough_given, DecodeAnswers}
-use Rattle.rs_field.specs.code.OneCall.{Items, OneDecodeAnswers}
+use Rattle.rs_field.specs.code.OneCall.{OneDecodeAnswers}
 use Rattle.reed_solomon_simd.specs.Giving.{IsDecoding}
-use Rattle.reed_solomon_simd.proofs.OneCall.{decoding-none, decoding-kept}
+use Rattle.reed_solomon_simd.proofs.OneCall.{decoding-none}
 use Rattle.rs_c.specs.declared.fault.Fault.{Fault}
-use Rattle.rs_c.specs.Buffers.{length_outcome, marked_shards, with_restored, AreSized}
+use Rattle.rs_c.specs.Buffers.{length_outcome, marked_shards, with_restored}
 use Rattle.rs_c.specs.Answers.{DecodesBuffer, Writes, all_or_refused}
 use Rattle.rs_c.proofs.EncodeLemmas.{lengths-ok}
 use Rattle.rs_c.proofs.MarkedLemmas.{present, count-present, originals_alone-marked}
-
--- a missing original of a message of shards of the size has it
-missing-sized : (k size : ℕ) (o : Bool) (message : List Shard) (i : ℕ) (x : Shard) → AreShards k size message → (if nat_lt i k && o then Some (shard_at message i) else None) ≡ Some x → length x ≡ size
-missing-sized k size o message i x are is = by_tests (nat_lt i k) refl o is
-  where
-    by_tests : (b : Bool) → nat_lt i k ≡ b → (c : Bool) → (if b && c then Some (shard_at message i) else None) ≡ Some x → length x ≡ size
-    by_tests true below true same =
-        let own : shard_at message i ≡ x = cc in
-        ap length (sym own) ∙ (are.each i [] (let inside = ltb-true i k below in omega (arith, inside, are.length_is))).length_is
-    by_tests true below false same = absurd (let no : ⊥ = cc in no)
-    by_tests false below c same = absurd (let no : ⊥ = cc in no)
-
--- the first of the marked shards has the size
-marked-sized : (i size : ℕ) (marks bytes : List ℕ) (first : ℕ × Shard) (rest : Items) → length bytes ≡ length marks * size → marked_shards i size marks bytes ≡ first ∷ rest → length first.1 ≡ size
-marked-sized i size [] bytes first rest sized is = absurd (let no : ⊥ = cc in no)
-marked-sized i size (mark ∷ marks) bytes first rest sized is =
-    let more = suc-mul (length marks) size in
-    elim (cases_eq mark 0) [
-      | inl lost ↦ marked-sized (i + 1) size marks (drop size bytes) first rest (length-drop size bytes ∙ omega (arith, sized, more)) (rw (eq-eqb mark 0 lost) at is)
-      | inr kept ↦
-          let there = rw (ne_eqb mark 0 kept) at is in let same : (i, take size bytes) ≡ first = cc in
-          ap (λ (item : ℕ × Shard). length item.1) (sym same) ∙ length-take-le size bytes (omega (arith, sized, more))
-    ]
-
--- what a decoder of marked shards restores has their size
-pub restored-sized : (k r size : ℕ) (originals : Items) (marks bytes : List ℕ) (given : DecoderState) (restored : Shards) → length bytes ≡ length marks * size
-    → IsDecoding k r originals (marked_shards 0 size marks bytes) (Ok (Some given)) → DecodeAnswers given (Ok restored) → AreSized size restored
-unfolding missing_of
-restored-sized k r size originals marks bytes given restored whole is answers i x there =
-    let kept = decoding-kept k r originals (marked_shards 0 size marks bytes) given is in
-    let done : Restored given restored = by_outcome (enough_given given) answers in
-    missing-sized given.configuration.original_count given.configuration.shard_bytes (not (is_some (given.originals i))) done.message i x done.agrees.shards (sym (done.missing i) ∙ there)
-    ∙ ap (λ (d : Configuration). d.shard_bytes) kept.3 ∙ marked-sized 0 size marks bytes kept.0 kept.1 whole kept.2
-  where
-    by_outcome : (o : Result (Unit {0}) Error) → MatchResult o (λ _. Restored given restored) (λ e. ◌≡◌ {A = Result Shards Error} (Ok restored) (Err e)) → Restored given restored
-    by_outcome (Ok u) h = h
-    by_outcome (Err e) h = absurd (let no : ⊥ = cc in no)
 
 -- where none is, none comes
 pub marked-none : (i size : ℕ) (marks bytes : List ℕ) → present marks ≡ 0 → marked_shards i size marks bytes ≡ []

@@ -1,4 +1,3 @@
-mod BufferLemmas
 mod DecodeLemmas
 mod EncodeLemmas
 mod MarkedLemmas
@@ -9,3 +8,4 @@ mod RoomFaults
 mod CutLemmas
 mod LostLemmas
 mod MarkedState
+mod RestoredBuffer

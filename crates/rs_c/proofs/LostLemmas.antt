@@ -1,10 +1,9 @@
 -- Indexes of marks that are 0, and the places of their shards in a buffer.
-use Rattle.std.proofs.Common.{◌≡◌, ℕ, zero, suc, ◌+◌, ◌-◌, ◌*◌, ◌<◌, ◌≤◌, ◌==◌, Bool, not, cond, List, [], ◌∷◌, ◌++◌, length, map, take, drop, get_or, refl, sym, ap, ◌∙◌, inl, inr, arith}
+use Rattle.std.proofs.Common.{◌≡◌, ℕ, zero, suc, ◌+◌, ◌*◌, ◌<◌, ◌≤◌, Bool, cond, List, [], ◌∷◌, ◌++◌, length, map, take, drop, get_or, refl, sym, ap, ◌∙◌, inl, inr, arith}
 use Rattle.std.proofs.Math.Nat.{suc-mul}
 use Rattle.std.proofs.lemmas.Bool.{cases_eq, cases_order, eq-eqb, ne_eqb}
 use Rattle.std.proofs.lemmas.List.{append_assoc, append-nil, drop_all, drop_more, take-append-drop, length-drop, nil_from_length, drop-drop}
 use Rattle.std.specs.Prelude.{unwrap_or}
-use Rattle.rs_field.specs.code.Column.{Shard}
 use Rattle.rs_field.specs.code.Given.{Shards}
 use Rattle.rs_c.specs.Buffers.{lost_indexes, shard_place, with_restored}
 use Rattle.rs_c.proofs.MarkedLemmas.{present}

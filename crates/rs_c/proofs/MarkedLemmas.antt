@@ -1,8 +1,11 @@
 -- Marked originals are noted one after another, and none of them is an error.
-use Rattle.std.proofs.Common.{◌≡◌, ℕ, ◌+◌, ◌≤◌, ◌<◌, ◌==◌, ◌||◌, Bool, false, not, List, [], ◌∷◌, length, drop, cond, nat_eq, inl, inr, Ok, ap, ◌∙◌, refl, arith}
+use Rattle.std.proofs.Common.{◌≡◌, ℕ, ◌+◌, ◌≤◌, ◌<◌, ◌==◌, ◌||◌, Bool, true, false, suc, not, List, [], ◌∷◌, length, take, drop, ◌*◌, cond, sym, nat_eq, inl, inr, Ok, ap, ◌∙◌, refl, arith}
 use Rattle.std.proofs.lemmas.Bool.{cases_eq, eq-eqb, ne_eqb, lt-leb}
+use Rattle.std.proofs.Math.Nat.{suc-mul}
+use Rattle.std.proofs.lemmas.List.{length-drop, length-take-le}
 use Rattle.std.proofs.lemmas.List.Recursion.{is_count_by}
 use Rattle.std.specs.List.{count_by, list_any}
+use Rattle.rs_field.specs.code.Column.{Shard}
 use Rattle.rs_field.specs.code.Outcome.{result_and_then}
 use Rattle.rs_field.specs.code.OneCall.{Items, one_by_one, note_outcome, originals_alone}
 use Rattle.rs_c.specs.Answers.{all_or_refused}
@@ -13,9 +16,38 @@ abbrev pub present : List ℕ → ℕ
 present [] = 0
 present (mark ∷ marks) = cond (not (mark == 0)) (1 + present marks) (present marks)
 
+-- no more marks are not 0 than there are
+pub present-most : (marks : List ℕ) → present marks ≤ length marks
+present-most [] = omega arith
+present-most (mark ∷ marks) = by_mark (mark == 0) (present-most marks)
+  where
+    by_mark : (zero_here : Bool) → present marks ≤ length marks → cond (not zero_here) (1 + present marks) (present marks) ≤ suc (length marks)
+    by_mark true others = omega (arith, others)
+    by_mark false others = omega (arith, others)
+
 -- the number of marks that aren't 0 is what `count_by` counts
 pub count-present : (marks : List ℕ) → present marks ≡ count_by (λ mark. not (mark == 0)) marks
 count-present marks = is_count_by present (λ mark. not (mark == 0)) refl (λ mark others. refl) marks
+
+-- the first of the marked shards has the size
+pub marked-sized : (i size : ℕ) (marks bytes : List ℕ) (first : ℕ × Shard) (rest : Items) → length bytes ≡ length marks * size → marked_shards i size marks bytes ≡ first ∷ rest → length first.1 ≡ size
+marked-sized i size [] bytes first rest sized is = absurd (let no : ⊥ = cc in no)
+marked-sized i size (mark ∷ marks) bytes first rest sized is =
+    let more = suc-mul (length marks) size in
+    elim (cases_eq mark 0) [
+      | inl lost ↦ marked-sized (i + 1) size marks (drop size bytes) first rest (length-drop size bytes ∙ omega (arith, sized, more)) (rw (eq-eqb mark 0 lost) at is)
+      | inr kept ↦
+          let there = rw (ne_eqb mark 0 kept) at is in let same : (i, take size bytes) ≡ first = cc in
+          ap (λ (item : ℕ × Shard). length item.1) (sym same) ∙ length-take-le size bytes (omega (arith, sized, more))
+    ]
+
+-- if a mark is not 0, the marked shards are not none
+pub marked-some : (i size : ℕ) (marks bytes : List ℕ) → 0 < present marks → marked_shards i size marks bytes ≡ [] → ⊥
+marked-some i size [] bytes some is = omega (arith, some)
+marked-some i size (mark ∷ marks) bytes some is = elim (cases_eq mark 0) [
+  | inl lost ↦ marked-some (i + 1) size marks (drop size bytes) (rw (eq-eqb mark 0 lost) at some) (rw (eq-eqb mark 0 lost) at is)
+  | inr kept ↦ let there = rw (ne_eqb mark 0 kept) at is in cc
+]
 
 -- no index from i on is among those given
 abbrev IsBelow : ℕ → List ℕ → Type 0

@@ -1,27 +1,31 @@
 -- The state of a decoder to which the marked shards of two buffers were added.
-use Rattle.std.proofs.Common.{◌≡◌, ◌≢◌, ℕ, zero, suc, ◌+◌, ◌-◌, ◌*◌, ◌<◌, ◌≤◌, ◌==◌, Bool, true, false, not, cond, List, [], ◌∷◌, ◌++◌, length, map, take, drop, get_or, All, Result, Ok, Err, Option, Some, None, refl, sym, ap, ap₂, subst, ◌∙◌, inl, inr, arith}
-use Rattle.std.specs.Prelude.{is_some, unwrap_or}
+use Rattle.std.proofs.Common.{◌≡◌, ℕ, zero, suc, ◌+◌, ◌*◌, ◌<◌, ◌≤◌, ◌==◌, Bool, true, false, not, cond, List, [], ◌∷◌, ◌++◌, length, map, take, drop, get_or, All, Result, Ok, Err, Some, None, refl, sym, ap, ap₂, subst, ◌∙◌, inl, inr, arith}
+use Rattle.std.specs.Prelude.{◌⊎◌, OnOk, IfErr, MatchResult, nat_lt, is_some, unwrap_or}
 use Rattle.std.proofs.Math.Path.{fun_ext}
 use Rattle.std.proofs.Math.Nat.{suc-mul, mul-le-mul_right}
 use Rattle.std.proofs.lemmas.Bool.{cases_eq, cases_lt, eq-eqb, ne_eqb}
 use Rattle.std.proofs.lemmas.Option.{none-some}
-use Rattle.std.proofs.lemmas.List.{length-take-le, length-drop, get_or_past, get_or-take, get_or-drop}
+use Rattle.std.proofs.lemmas.List.{get_or-map, length-map, length-take, length-take-le, length-drop, get_or_past, get_or-take, get_or-drop}
 use Rattle.rs_field.specs.declared.code.error.Error.{Error}
+use Rattle.rs_field.specs.declared.code.error.Error.TheVariants.{NotEnoughShards}
 use Rattle.rs_field.specs.code.Column.{Shard, IsShard}
-use Rattle.rs_field.specs.code.Configuration.{Configuration, start_outcome}
+use Rattle.rs_field.specs.code.Configuration.{start_outcome}
 use Rattle.rs_field.specs.code.Counts.{default_rate}
-use Rattle.rs_field.specs.code.Decoder.{DecoderState, IsDecoder, fresh_decoder, with_original, with_recovery}
+use Rattle.rs_field.specs.code.Decoder.{DecoderState, IsDecoder, fresh_decoder, with_original, with_recovery, originals_given, recovery_given, enough_given}
 use Rattle.rs_field.specs.code.Given.{Shards, AreWithin, nothing, count_below}
-use Rattle.rs_field.specs.code.OneCall.{Items, default_of, one_by_one, with_originals, with_recoveries, with_both, decoding_outcome}
+use Rattle.rs_field.specs.code.OneCall.{Items, default_of, one_by_one, with_originals, with_recoveries, with_both}
 use Rattle.rs_field.specs.code.Outcome.{result_and_then}
 use Rattle.rs_field.specs.code.Placement.{decoder_rows}
 use Rattle.rs_field.proofs.of_code.Given.{count_below-zero, count_below-suc}
 use Rattle.rs_rate.specs.Giving.{IsDecoding}
 use Rattle.reed_solomon_simd.proofs.SetUp.{started-parts}
 use Rattle.reed_solomon_simd.proofs.StripDecodeLemmas.{first, first-none, first-all, first-skipped, original-taken, recovery-taken}
-use Rattle.rs_c.specs.Buffers.{marked_shards, marked_map, marked_state, shard_place}
-use Rattle.rs_c.proofs.MarkedLemmas.{present}
-use Rattle.rs_c.proofs.LostLemmas.{place-first, place-next}
+use Rattle.rs_c.specs.declared.marked_buffers.MarkedBuffers.{MarkedBuffers}
+use Rattle.rs_c.specs.MarkedState.{state_in}
+use Rattle.rs_c.specs.Buffers.{lost_indexes, marked_shards, marked_map, marked_state, shard_place}
+use Rattle.rs_c.proofs.CutLemmas.{put-other}
+use Rattle.rs_c.proofs.MarkedLemmas.{present, marked-some, marked-sized}
+use Rattle.rs_c.proofs.LostLemmas.{lost-mark, place-first, place-next}
 
 -- ---- marked shards by their index
 
@@ -53,7 +57,8 @@ place-bytes size bytes i all long k d inside =
     by_place (inl there) = all (i * size + k) d there
     by_place (inr past) =
         let left = length-drop (i * size) bytes in
-        absurd (let no : ⊥ = omega (arith, left, past, inside) in no)
+        let cut = length-take size (drop (i * size) bytes) in
+        absurd (let no : ⊥ = omega (arith, left, cut, past, inside) in no)
 
 -- marked shards are within the bounds of their buffer
 pub map-within : (count size : ℕ) (marks bytes : List ℕ) → length marks ≡ count → length bytes ≡ count * size → All (λ b. b < 256) bytes
@@ -73,6 +78,26 @@ map-within count size marks bytes number whole all =
           subst (λ (x : Shard). IsShard size x) same (record { length_is = long; bytes = place-bytes size bytes i all long })
       | inr past ↦ absurd (kept (get_or_past marks i 0 (omega (arith, past, number))))
     ]
+
+-- a piece that is written into the place of a lost shard changes no marked shard
+pub map-put : (size i start : ℕ) (marks bytes piece : List ℕ) → start + length piece ≤ size → i * size + start + length piece ≤ length bytes → get_or marks i 0 ≡ 0
+    → marked_map size marks (take (i * size + start) bytes ++ (piece ++ drop (i * size + start + length piece) bytes)) ≡ marked_map size marks bytes
+map-put size i start marks bytes piece fits inside lost = fun_ext (λ j. elim (cases_eq j i) [
+  | inl here ↦
+      let none : get_or marks j 0 ≡ 0 = ap (λ (m : ℕ). get_or marks m 0) here ∙ lost in
+      map-lost size marks _ j none ∙ sym (map-lost size marks bytes j none)
+  | inr other ↦ ap (λ (x : Shard). cond (get_or marks j 0 == 0) None (Some x)) (put-other size i start bytes piece fits inside j other)
+])
+
+-- the places of lost originals are as long as a shard
+pub lost-long : (size count : ℕ) (marks bytes : List ℕ) → length marks ≡ count → length bytes ≡ count * size
+    → All (λ room. length room ≡ size) (map (λ i. shard_place size bytes i) (lost_indexes 0 marks))
+lost-long size count marks bytes number whole n d inside =
+    let long = length-map (lost_indexes 0 marks) (λ (i : ℕ). shard_place size bytes i) in
+    let there : n < length (lost_indexes 0 marks) = omega (arith, inside, long) in
+    let (j, (same, below, zero_here)) = lost-mark 0 marks n there in
+    ap length (get_or-map (λ (i : ℕ). shard_place size bytes i) (lost_indexes 0 marks) n 0 d there)
+    ∙ place-long size bytes count (get_or (lost_indexes 0 marks) n 0) whole (omega (arith, same, below, number))
 
 -- ---- how many there are
 
@@ -105,6 +130,18 @@ map-some size marks bytes j = by_mark (get_or marks j 0 == 0)
     by_mark : (zero_here : Bool) → is_some (cond zero_here None (Some (shard_place size bytes j))) ≡ not zero_here
     by_mark true = refl
     by_mark false = refl
+
+-- as many originals are given as marks of originals are not 0
+pub marked-originals : (k r size : ℕ) (own originals other recovery : List ℕ) → length own ≡ k → originals_given (marked_state k r size own originals other recovery) ≡ present own
+marked-originals k r size own originals other recovery number =
+    ap (λ (n : ℕ). count_below n (marked_map size own originals)) (sym number)
+    ∙ map-count own (marked_map size own originals) (λ j inside. map-some size own originals j)
+
+-- as many recovery shards are given as marks of recovery shards are not 0
+pub marked-recovery : (k r size : ℕ) (own originals other recovery : List ℕ) → length other ≡ r → recovery_given (marked_state k r size own originals other recovery) ≡ present other
+marked-recovery k r size own originals other recovery number =
+    ap (λ (n : ℕ). count_below n (marked_map size other recovery)) (sym number)
+    ∙ map-count other (marked_map size other recovery) (λ j inside. map-some size other recovery j)
 
 -- ---- one call over the marked shards
 
@@ -168,3 +205,71 @@ module _ (k r size : ℕ) (own originals other recovery : List ℕ) (own_number 
       ∙ ap (λ (g : Shards). Ok (record half { recovery = g }))
       (first-all (0 + length other) other_map (λ i past. map-lost size other recovery i (get_or_past other i 0 (omega (arith, past))))) in
       ap (result_and_then (λ now. with_recoveries now (marked_shards 0 size other recovery))) one ∙ two
+
+  -- the state is one that a decoder can have
+  pub marked-decoder : All (λ b. b < 256) originals → All (λ b. b < 256) recovery → start_outcome (decoder_rows default_rate k r) (default_of k r size) ≡ Ok tt
+      → IsDecoder default_rate (marked_state k r size own originals other recovery)
+  marked-decoder own_bytes other_bytes made =
+      let parts = started-parts (decoder_rows default_rate k r) (default_of k r size) made in
+      record {
+        of_rate = refl;
+        valid = parts.0;
+        fits = parts.1;
+        originals_within = map-within k size own originals own_number own_whole own_bytes;
+        recovery_within = map-within r size other recovery other_number other_whole other_bytes;
+      }
+
+  -- if a recovery shard is marked, one call looks at the first one
+  module _ (some : 0 < present other) where
+    first-marked : (first : ℕ × Shard) × (rest : Items) × (marked_shards 0 size other recovery ≡ first ∷ rest) × (length first.1 ≡ size)
+    first-marked = by_items (marked_shards 0 size other recovery) refl
+      where
+        by_items : (items : Items) → marked_shards 0 size other recovery ≡ items
+            → (first : ℕ × Shard) × (rest : Items) × (marked_shards 0 size other recovery ≡ first ∷ rest) × (length first.1 ≡ size)
+        by_items [] is = absurd (marked-some 0 size other recovery some is)
+        by_items (item ∷ items) is = (item, items, is, marked-sized 0 size other recovery item items (other_whole ∙ ap (λ (n : ℕ). n * size) (sym other_number)) is)
+
+    -- one call leads to the state, or returns the error of setting up a decoder
+    pub marked-led : (o : Result (Unit {0}) Error) → start_outcome (decoder_rows default_rate k r) (default_of k r size) ≡ o
+        → IsDecoding k r (marked_shards 0 size own originals) (marked_shards 0 size other recovery)
+        (result_and_then (λ _. Ok (Some (marked_state k r size own originals other recovery))) o)
+    marked-led o made =
+        let (item, items, is, sized) = first-marked in
+        let both : with_both (fresh_decoder (default_of k r size)) (marked_shards 0 size own originals) (item ∷ items) ≡ Ok (marked_state k r size own originals other recovery) =
+        ap (λ (l : Items). with_both (fresh_decoder (default_of k r size)) (marked_shards 0 size own originals) l) (sym is) ∙ both-added in
+        subst (λ (l : Items). IsDecoding k r (marked_shards 0 size own originals) l (result_and_then (λ _. Ok (Some (marked_state k r size own originals other recovery))) o)) (sym is)
+        (inl (sym (ap (λ (n : ℕ). result_and_then (λ s. Ok (Some s))
+        (result_and_then (λ _. with_both (fresh_decoder (default_of k r n)) (marked_shards 0 size own originals) (item ∷ items)) (start_outcome (decoder_rows default_rate k r) (default_of k r n)))) sized
+        ∙ ap (λ (outcome : Result (Unit {0}) Error). result_and_then (λ s. Ok (Some s))
+        (result_and_then (λ _. with_both (fresh_decoder (default_of k r size)) (marked_shards 0 size own originals) (item ∷ items)) outcome)) made
+        ∙ by_outcome (item ∷ items) o both)))
+      where
+        by_outcome : (items : Items) (o : Result (Unit {0}) Error)
+            → with_both (fresh_decoder (default_of k r size)) (marked_shards 0 size own originals) items ≡ Ok (marked_state k r size own originals other recovery)
+            → result_and_then (λ s. Ok (Some s)) (result_and_then (λ _. with_both (fresh_decoder (default_of k r size)) (marked_shards 0 size own originals) items) o)
+            ≡ result_and_then (λ _. Ok (Some (marked_state k r size own originals other recovery))) o
+        by_outcome items (Ok u) both = ap (result_and_then (λ s. Ok (Some s))) both
+        by_outcome items (Err e) both = refl
+
+-- ---- the same of a struct of buffers
+
+-- as many originals as their marks that are not 0
+pub originals-counted : (x : MarkedBuffers) → originals_given (state_in x) ≡ present x.original_marks.now
+originals-counted x = marked-originals x.counts.original_count x.counts.recovery_count x.size x.original_marks.now x.originals.now x.recovery_marks.now x.recovery.now x.originals_number
+
+-- as many recovery shards as their marks that are not 0
+pub recovery-counted : (x : MarkedBuffers) → recovery_given (state_in x) ≡ present x.recovery_marks.now
+recovery-counted x = marked-recovery x.counts.original_count x.counts.recovery_count x.size x.original_marks.now x.originals.now x.recovery_marks.now x.recovery.now x.recovery_number
+
+-- whether shards are enough, by the numbers of marks
+pub enough-marked : (x : MarkedBuffers) (own other : ℕ) → own ≡ present x.original_marks.now → other ≡ present x.recovery_marks.now
+    → enough_given (state_in x)
+    ≡ cond (nat_lt (own + other) x.counts.original_count) (Err (NotEnoughShards x.counts.original_count own other)) (Ok tt)
+enough-marked x own other own_is other_is =
+    ap₂ (λ (a b : ℕ). cond (nat_lt (a + b) x.counts.original_count) (Err (NotEnoughShards x.counts.original_count a b)) (Ok tt))
+    (originals-counted x ∙ sym own_is) (recovery-counted x ∙ sym other_is)
+
+-- what a call does if it succeeds, and what it does if it fails, together
+pub both-outcomes : (P : Type 0) (Q : Error → Type 0) (result : Result (Unit {0}) Error) → OnOk result P → IfErr result Q → MatchResult result (λ _. P) Q
+both-outcomes P Q (Ok u) done failed = done
+both-outcomes P Q (Err e) done failed = failed

@@ -11,8 +11,8 @@ state_in x = marked_state x.counts.original_count x.counts.recovery_count x.size
 
 -- what the places of the lost originals hold, in order of index
 abbrev pub rooms_in : MarkedBuffers → List Shard
-rooms_in x = map (λ i. shard_place x.size x.originals.now i) x.lost.items
+rooms_in x = map (λ i. shard_place x.size x.originals.now i) x.lost.now
 
 -- what is not changed when a place of a lost original is written
 abbrev pub besides_rooms : MarkedBuffers → DecoderState × List ℕ × List ℕ × ℕ
-besides_rooms x = (state_in x, x.original_marks.now, x.lost.items, length x.originals.now)
+besides_rooms x = (state_in x, x.original_marks.now, x.lost.now, length x.originals.now)

@@ -1,8 +1,12 @@
 //! Decoding, of shards in buffers and of shards anywhere.
-ghost use Rattle.std.specs.Prelude.{◌≡◌, ◌⊎◌, All, Err, MatchResult, OnErr, drop, length};
+ghost use Rattle.std.specs.Prelude.{◌≡◌, ◌⊎◌, ◌*◌, All, Ok, Err, MatchResult, OnErr, drop, length, map};
+ghost use Rattle.rs_field.specs.code.Configuration.{start_outcome};
 ghost use Rattle.rs_field.specs.code.Counts.{default_rate};
 ghost use Rattle.rs_field.specs.code.Decoder.{IsDecoder, NoneAgrees, enough_given};
+ghost use Rattle.rs_field.specs.code.OneCall.{default_of};
 ghost use Rattle.rs_field.specs.code.PieceStates.{HoldRestored};
+ghost use Rattle.rs_field.specs.code.Placement.{decoder_rows};
+ghost use Rattle.rs_c.specs.Buffers.{lost_indexes, marked_map, marked_state, shard_place};
 ghost use Rattle.rs_c.specs.MarkedState.{state_in, rooms_in, besides_rooms};
 ghost use Rattle.rs_c.specs.Answers.{DecodesBuffer, marked_number, WantsNoMemory, all_or_refused};
 ghost use Rattle.rs_c.specs.Arrays.{items_of, DecodesArrays, KeepsRooms, bytes_in};
@@ -45,20 +49,57 @@ pub fn decode_buffer(
         return Ok(check_all_marked(original_marks)?);
     }
     counts.check_decoder_rows(shard_bytes)?;
-    let lost = indexes_of_lost(alloc, original_marks)?;
+    restore_marked(
+        alloc,
+        engine,
+        counts,
+        shard_bytes,
+        (original_marks, recovery_marks),
+        originals,
+        recovery,
+    )?;
+    Ok(())
+}
+
+// Writes the originals whose mark is 0 to their places, where the rows of a decoder for these shards can be allocated.
+fn restore_marked(
+    alloc: Global,
+    engine: Borrowing<'_>,
+    counts: DefaultRateCounts,
+    size: usize,
+    marks: (&[u8], &[u8]),
+    originals: &mut [u8],
+    recovery: &[u8],
+) -> Result<(), Error>
+    requires own_marks { length marks.0.now ≡ counts.original_count }
+    requires other_marks { length marks.1.now ≡ counts.recovery_count }
+    requires own_whole { length originals.old ≡ counts.original_count * size }
+    requires other_whole { length recovery.now ≡ counts.recovery_count * size }
+    requires set_up { let c = default_of counts.original_count counts.recovery_count size in
+        start_outcome (decoder_rows default_rate c.original_count c.recovery_count) c ≡ Ok tt }
+    ensures answer { let s = marked_state counts.original_count counts.recovery_count size
+        marks.entry.0.now originals.old marks.entry.1.now recovery.now in
+        MatchResult (enough_given s)
+        (λ _. MatchResult result
+        (λ _. HoldRestored s (map (λ i. shard_place size originals.new i) (lost_indexes 0 marks.entry.0.now)))
+        (λ e. NoneAgrees s e ⊎ (e ≡ Error.OutOfMemory))) (λ e. result ≡ Err e) ⊎ (result ≡ Err Error.OutOfMemory) }
+    ensures marked { marked_map size marks.entry.0.now originals.new ≡ marked_map size marks.entry.0.now originals.old }
+    ensures long { length originals.new ≡ length originals.old }
+    ensures untouched { OnErr result (originals.new ≡ originals.old) }
+{
+    let lost = indexes_of_lost(alloc, marks.0)?;
     are_bytes(originals);
     are_bytes(recovery);
     let mut buffers = MarkedBuffers {
         counts,
-        size: shard_bytes,
-        original_marks,
-        recovery_marks,
+        size,
+        original_marks: marks.0,
+        recovery_marks: marks.1,
         originals,
         recovery,
-        lost,
+        lost: lost.as_slice(),
     };
-    restore_buffers(alloc, engine, &mut buffers)?;
-    Ok(())
+    restore_buffers(alloc, engine, &mut buffers)
 }
 
 // Writes the originals whose mark is 0 to their places.

@@ -22,10 +22,10 @@ pub struct MarkedBuffers<'a, 'b> {
     pub recovery_marks: &'a [u8],
     pub originals: &'b mut [u8],
     pub recovery: &'a [u8],
-    pub lost: Vec<usize>,
+    pub lost: &'a [usize],
     pub ghost originals_number: { length original_marks.now ≡ counts.original_count },
     pub ghost recovery_number: { length recovery_marks.now ≡ counts.recovery_count },
-    pub ghost listed: { lost.items ≡ lost_indexes 0 original_marks.now },
+    pub ghost listed: { lost.now ≡ lost_indexes 0 original_marks.now },
 }
 
 impl<'a, 'b> Pieces for MarkedBuffers<'a, 'b> {

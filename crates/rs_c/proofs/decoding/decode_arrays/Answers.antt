@@ -1,9 +1,8 @@
-use Rattle.std.proofs.Common.{rules, ◌≡◌, List, [], map, length, Ok, Err, inl, sym, ap, subst, ◌∙◌, refl, arith}
+use Rattle.std.proofs.Common.{rules, ◌≡◌, [], length, Ok, Err, inl, sym, ap, subst, ◌∙◌, refl, arith}
 use Rattle.std.proofs.lemmas.Iterator.{YieldsList-from_slice, YieldsList-from_map_by}
 use Rattle.std.proofs.lemmas.List.{nil_from_length}
-use Rattle.rs_field.specs.code.Column.{Shard}
 use Rattle.rs_field.specs.code.Given.{nothing}
-use Rattle.rs_field.specs.code.OneCall.{Items, OneDecodeAnswers}
+use Rattle.rs_field.specs.code.OneCall.{OneDecodeAnswers}
 use Rattle.rs_field.proofs.of_code.SupportedCounts.{default_fits}
 use Rattle.reed_solomon_simd.specs.ReceivedState.{received_state}
 use Rattle.reed_solomon_simd.proofs.RestoringLemmas.{decodes-restored}

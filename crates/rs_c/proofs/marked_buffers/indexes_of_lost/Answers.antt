@@ -1,4 +1,4 @@
-use Rattle.std.proofs.Common.{rules, ◌≡◌, ◌++◌, ℕ, ◌+◌, ◌∷◌, [], List, drop, get_or, sym, ap, ◌∙◌, arith}
+use Rattle.std.proofs.Common.{rules, ◌≡◌, ◌++◌, ◌+◌, ◌∷◌, [], drop, ap, ◌∙◌, arith}
 use Rattle.rs_c.specs.Buffers.{lost_indexes}
 use Rattle.rs_c.proofs.LostLemmas.{lost-next, kept-next, lost-end}
 use Rattle.rs_c.proofs.marked_buffers.indexes_of_lost.Goals.{then-marks-index-eq0+in_ok-push, else-marks-index-eq0}
