@@ -32,17 +32,20 @@ static uint8_t *filled(size_t size) {
     return bytes;
 }
 
-/* A block that changes its size keeps its first bytes, and lies at a multiple of 64 if it is long. */
-static void resized(size_t from, size_t to) {
-    struct tried tried = rattle_realloc(filled(from), from, to, 8);
+/* A block that changes its size keeps its first bytes, and lies at a multiple of 64. The distances from malloc's blocks differ,
+   since malloc gives `apart` bytes in between. */
+static void resized(size_t from, size_t to, size_t apart) {
+    uint8_t *old = filled(from);
+    void *between = malloc(apart);
+    struct tried tried = rattle_realloc(old, from, to, 8);
     uint8_t *bytes = tried.at;
     if (!tried.ok || !bytes) wrong("no block of another size");
     for (size_t i = 0; i < (from < to ? from : to); i++)
         if (bytes[i] != byte_at(i)) wrong("a block of another size has other bytes");
-    if (to >= 1024 && (uintptr_t)bytes % 64) wrong("a long block doesn't lie at a multiple of 64");
-    if ((uintptr_t)bytes % 16) wrong("a block doesn't lie at a multiple of 16");
+    if ((uintptr_t)bytes % 64) wrong("a block doesn't lie at a multiple of 64");
     memset(bytes, 9, to);
     rattle_dealloc(bytes);
+    free(between);
 }
 
 /* Requests that can't be granted are refused, with a pointer that isn't NULL, and leave the old block as it was. */
@@ -58,13 +61,14 @@ static void refusals(size_t size) {
 }
 
 int main(int count, char **words) {
-    static const size_t sizes[] = {1, 16, 1000, 1023, 1024, 1025, 4096, 100000};
+    static const size_t sizes[] = {1, 16, 64, 1000, 1023, 1024, 1025, 4096, 100000, 1000000};
     struct tried empty = rattle_alloc(0, 1), other = rattle_alloc(0, 16);
     if (!empty.ok || !other.ok || !empty.at || !other.at || empty.at == other.at) wrong("a block of no byte has no place of its own");
     rattle_dealloc(empty.at);
     rattle_dealloc(other.at);
     for (size_t i = 0; i < sizeof sizes / sizeof *sizes; i++)
-        for (size_t n = 0; n < sizeof sizes / sizeof *sizes; n++) resized(sizes[i], sizes[n]);
+        for (size_t n = 0; n < sizeof sizes / sizeof *sizes; n++)
+            for (size_t apart = 16; apart <= 64; apart += 16) resized(sizes[i], sizes[n], apart);
     refusals(SIZE_MAX);
     refusals(SIZE_MAX - 63);
     refusals(SIZE_MAX / 2);
