@@ -13,7 +13,7 @@ struct tried {
 };
 
 /* How many requests for memory the calls make. */
-enum { TABLES = 6, ENCODE = 2, ENCODE_SHARDS = 1, DECODE = 3, DECODE_SHARDS = 5 };
+enum { TABLES = 6, ENCODE = 2, ENCODE_SHARDS = 1, DECODE = 4, DECODE_SHARDS = 5 };
 
 static long requests, refused, blocks;
 /* How many bytes the blocks have, and the most that they had. */
@@ -178,7 +178,7 @@ static void refusals(void) {
 /* 100 originals of 1 MiB, 30 recovery shards, and 30 originals lost: beside the tables and the shards, a call holds 4 MiB at most. */
 static void bounded(void) {
     enum { K = 100, R = 30, SIZE = 1 << 20, MOST = 4 << 20 };
-    uint8_t *shards = malloc((size_t)(K + R) * SIZE), *restored = malloc((size_t)R * SIZE);
+    uint8_t *shards = malloc((size_t)(K + R) * SIZE), *restored = malloc((size_t)R * SIZE), marks[K + R];
     struct rs_bytes from[K];
     struct rs_room to[R], back[R];
     struct rs_shard own[K - R], other[R];
@@ -202,6 +202,14 @@ static void bounded(void) {
     if (rs_decode_shards(tables, K, R, own, K - R, other, R, back, R, &fault)) wrong("a long decode fails");
     if (most_held - held > MOST) wrong("rs_decode_shards holds more than 4 MiB");
     if (memcmp(shards, restored, (size_t)R * SIZE)) wrong("a long decode restores other bytes");
+    memset(shards, '?', (size_t)R * SIZE);
+    memset(marks, 1, sizeof marks);
+    memset(marks, 0, R);
+    most_held = held;
+    if (rs_decode(tables, K, R, SIZE, shards, (size_t)K * SIZE, shards + (size_t)K * SIZE, (size_t)R * SIZE, marks, K + R, &fault))
+        wrong("a long decode fails");
+    if (most_held - held > MOST) wrong("rs_decode holds more than 4 MiB");
+    if (memcmp(shards, restored, (size_t)R * SIZE)) wrong("a long decode restores other bytes in their places");
     printf("memory: calls over shards of 1 MiB hold 4 MiB at most\n");
     free(shards);
     free(restored);

@@ -119,7 +119,7 @@ fn marked_piece<'a>(
 pub fn indexes_of_lost(alloc: Global, marks: &[u8]) -> Result<Vec<usize>, Error>
     ensures { MatchResult result (λ lost. lost.items ≡ lost_indexes 0 marks.now) (λ e. e ≡ Error.OutOfMemory) }
 {
-    let mut lost = Vec::new(alloc);
+    let mut lost = Vec::with_capacity(alloc, marks.len())?;
     for index in 0..marks.len() {
         if marks[index] == 0 {
             lost.push(index)?;
