@@ -306,8 +306,7 @@ impl DecoderRows {
     ghost use Rattle.rs_rate.specs.DecoderView.{decoder_state, restored_by_rows, restored_from};
     ghost use Rattle.rs_rate.specs.Decoding.{CanBeRestored};
 
-    // Puts a shard of a side into its row, if the row is free. Callers know the side, so most of its tests go if it is inlined.
-    #[inline(always)]
+    // Puts a shard of a side into its row, if the row is free.
     pub(crate) fn add_shard(&mut self, side: Side, index: usize, shard: &[u8]) -> Result<(), Error>
         ensures answer { (rate : Rate)
             → result
