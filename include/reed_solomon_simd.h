@@ -6,7 +6,8 @@
  * You can cut the shards of a message into pieces, and encode or decode each piece by itself. Cut all shards at the same places, and let
  * every piece but the last end at a multiple of 64 bytes. Then you get the same bytes as from whole shards. The reason is this: for
  * whole numbers a < b, the bytes from 64a up to, but not including, 64b of all shards form a message of their own. So a program can read
- * and write streams, use several threads for one message, show progress, and bound the memory that a call takes.
+ * and write streams, use several threads for one message, and show progress. The memory that a call takes for its rows does not grow with
+ * the size of long shards. But a decode that gets more than k shards also takes memory for the missing originals, and pieces bound it.
  *
  * The caller must keep these rules. Nothing checks them:
  *   - Pointers: each pointer points to as many bytes or entries as the length that belongs to it says, and is aligned for its type. No
