@@ -8,6 +8,11 @@
  * whole numbers a < b, the bytes from 64a up to, but not including, 64b of all shards form a message of their own. So a program can read
  * and write streams, use several threads for one message, and show progress. The memory that a call takes for its rows does not grow with
  * the size of long shards. But a decode that gets more than k shards also takes memory for the missing originals, and pieces bound it.
+ * The same holds for an rs_decode_shards whose rooms do not fit.
+ *
+ * Beside its rows, rs_encode takes a list of 16 bytes for each original. rs_decode takes a list of 8 bytes for each original, and
+ * rs_decode_shards takes two lists of references to shards, 24 bytes for each of the k + r shards. A decode without recovery shards
+ * takes no memory.
  *
  * The caller must keep these rules. Nothing checks them:
  *   - Pointers: each pointer points to as many bytes or entries as the length that belongs to it says, and is aligned for its type. No
@@ -103,7 +108,9 @@ uint32_t rs_supports(size_t original_count, size_t recovery_count);
 
 /* Four calls encode and decode: rs_encode, rs_decode, rs_encode_shards and rs_decode_shards. They return RS_OK or the number of the
  * fault. They write the number and its values to *fault. If they return RS_OK, they write zeros to *fault. If they fail, they write
- * nothing but *fault. The comment of each call lists its faults in the order in which the call checks for them.
+ * nothing but *fault. The comment of each call lists its faults in the order in which the call checks for them. This order is proved,
+ * except for the place of RS_OUT_OF_MEMORY: the contracts allow it at any place after the checks of the counts, of the lengths of buffers
+ * and of the size of the first shard that the call looks at.
  *
  * Before all checks that these comments list, each call checks the tables. It fails with RS_TABLES_NOT_MADE if rs_tables_make has not
  * filled them: for example, if they hold only zeros, or if a version with another layout, such as 1.1, filled them. The stamp is no
@@ -118,7 +125,7 @@ uint32_t rs_supports(size_t original_count, size_t recovery_count);
  *   - RS_WRONG_LENGTH for originals_length
  *   - RS_WRONG_LENGTH for recovery_length
  *   - RS_INVALID_SHARD_SIZE
- *   - RS_OUT_OF_MEMORY */
+ *   - RS_OUT_OF_MEMORY if the rows for the whole shards would take more than SIZE_MAX bytes, or if memory cannot be allocated */
 uint32_t rs_encode(const struct rs_tables *tables, size_t original_count, size_t recovery_count, size_t shard_bytes,
                    const uint8_t *originals, size_t originals_length,
                    uint8_t *recovery, size_t recovery_length, struct rs_fault *fault);
@@ -133,9 +140,17 @@ uint32_t rs_encode(const struct rs_tables *tables, size_t original_count, size_t
  *   - RS_WRONG_LENGTH for originals_length
  *   - RS_WRONG_LENGTH for recovery_length
  *   - RS_WRONG_LENGTH for marks_length
- *   - If a recovery shard is there: RS_INVALID_SHARD_SIZE, RS_OUT_OF_MEMORY, RS_NOT_ENOUGH_SHARDS, RS_INCONSISTENT_SHARDS.
+ *   - If a recovery shard is there: the faults of the list below.
  *   - If no recovery shard is there: RS_NOT_ENOUGH_SHARDS if an original is lost. Without recovery shards, the call accepts any size
- *     and needs no memory. */
+ *     and needs no memory.
+ *
+ * The faults if a recovery shard is there, in order:
+ *   - RS_INVALID_SHARD_SIZE
+ *   - RS_OUT_OF_MEMORY if the rows for the whole shards would take more than SIZE_MAX bytes, or if the list of the lost originals cannot
+ *     be allocated
+ *   - RS_NOT_ENOUGH_SHARDS
+ *   - RS_OUT_OF_MEMORY for the rows, and for the missing originals if there are more than original_count shards
+ *   - RS_INCONSISTENT_SHARDS */
 uint32_t rs_decode(const struct rs_tables *tables, size_t original_count, size_t recovery_count, size_t shard_bytes,
                    uint8_t *originals, size_t originals_length,
                    const uint8_t *recovery, size_t recovery_length,
@@ -166,11 +181,12 @@ struct rs_shard {
  *   - RS_UNSUPPORTED_SHARD_COUNT
  *   - RS_TOO_FEW_ORIGINAL_SHARDS if there is no original
  *   - RS_INVALID_SHARD_SIZE
- *   - RS_OUT_OF_MEMORY
+ *   - RS_OUT_OF_MEMORY if the rows for the whole shards would take more than SIZE_MAX bytes
  *   - For each original in order: RS_TOO_MANY_ORIGINAL_SHARDS or RS_DIFFERENT_SHARD_SIZE.
  *   - RS_TOO_FEW_ORIGINAL_SHARDS if there are fewer than original_count originals
  *   - RS_WRONG_NUMBER_OF_ROOMS
- *   - RS_WRONG_LENGTH for the first room that isn't as long as a shard */
+ *   - RS_WRONG_LENGTH for the first room that isn't as long as a shard
+ *   - RS_OUT_OF_MEMORY for the rows */
 uint32_t rs_encode_shards(const struct rs_tables *tables, size_t original_count, size_t recovery_count,
                           const struct rs_bytes *originals, size_t originals_number,
                           struct rs_room *recovery, size_t recovery_number, struct rs_fault *fault);
@@ -188,10 +204,12 @@ uint32_t rs_encode_shards(const struct rs_tables *tables, size_t original_count,
  *
  * The faults if there is a recovery shard, in order:
  *   - RS_INVALID_SHARD_SIZE
- *   - RS_OUT_OF_MEMORY
+ *   - RS_OUT_OF_MEMORY if the rows for the whole shards would take more than SIZE_MAX bytes, or if the lists of references cannot be
+ *     allocated
  *   - For each original in order: RS_INVALID_ORIGINAL_SHARD_INDEX, RS_DUPLICATE_ORIGINAL_SHARD_INDEX or RS_DIFFERENT_SHARD_SIZE.
  *   - For each recovery shard in order: RS_INVALID_RECOVERY_SHARD_INDEX, RS_DUPLICATE_RECOVERY_SHARD_INDEX or RS_DIFFERENT_SHARD_SIZE.
  *   - RS_NOT_ENOUGH_SHARDS
+ *   - RS_OUT_OF_MEMORY for the rows, and for the missing originals if there are more than original_count shards or the rooms don't fit
  *   - RS_INCONSISTENT_SHARDS
  *
  * The faults if there is no recovery shard, in order. In this case the call accepts any sizes and needs no memory:
