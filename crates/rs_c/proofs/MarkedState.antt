@@ -251,7 +251,7 @@ module _ (k r size : ℕ) (own originals other recovery : List ℕ) (own_number 
         by_outcome items (Ok u) both = ap (result_and_then (λ s. Ok (Some s))) both
         by_outcome items (Err e) both = refl
 
--- ---- the same of a struct of buffers
+-- ---- how many shards the marks of a struct of buffers count
 
 -- as many originals as their marks that are not 0
 pub originals-counted : (x : MarkedBuffers) → originals_given (state_in x) ≡ present x.original_marks.now

@@ -1,4 +1,4 @@
--- What the calls over buffers answer.
+-- What the calls over buffers return and write.
 use Rattle.std.specs.Prelude.{◌≡◌, ◌≢◌, ℕ, ◌+◌, ◌==◌, not, count_by, List, take, drop, length, nat_lt, if◌then◌else◌, Result, Ok, Err, MatchResult}
 use Rattle.rs_field.specs.declared.code.error.Error.{Error}
 use Rattle.rs_field.specs.declared.code.error.Error.TheVariants.{NotEnoughShards, OutOfMemory}
@@ -11,7 +11,7 @@ use Rattle.rs_c.specs.declared.fault.Fault.TheVariants.{Refused}
 use Rattle.rs_c.specs.Faults.{as_fault}
 use Rattle.rs_c.specs.Buffers.{length_outcome, shards_in_buffer, marked_shards, concatenation, with_restored}
 
--- a call is done, and its buffer holds this, or it tells the refusal, and the buffer is as it was
+-- a call succeeds and its buffer holds these bytes, or it returns the error and its buffer is not changed
 abbrev pub Writes : {T : Type 0} → Result T Error → (T → List ℕ) → List ℕ → List ℕ → Result (Unit {0}) Fault → Type 0
 Writes outcome bytes old new answer =
     MatchResult outcome (λ x. (answer ≡ Ok tt) × (new ≡ bytes x)) (λ e. (answer ≡ Err (Refused e)) × (new ≡ old))
@@ -21,7 +21,7 @@ abbrev pub encode_lengths : ℕ → ℕ → ℕ → ℕ → ℕ → Result (Unit
 encode_lengths k r size originals recovery =
     result_and_then (λ _. result_and_then (λ _. length_outcome r size recovery) (length_outcome k size originals)) (as_fault (counts_outcome k r))
 
--- what an encode over buffers answers: where counts and lengths go, what the library's one call answers to the shards, written one after the other
+-- what `rs_encode` returns and writes: if counts and lengths are right, the result of one-call `encode` for these shards, one shard after the other
 abbrev pub EncodesBuffer : ℕ → ℕ → ℕ → List ℕ → List ℕ → List ℕ → Result (Unit {0}) Fault → Type 0
 EncodesBuffer k r size originals old new answer =
     MatchResult (encode_lengths k r size (length originals) (length old))
@@ -33,7 +33,7 @@ abbrev pub decode_lengths : ℕ → ℕ → ℕ → ℕ → ℕ → ℕ → Resu
 decode_lengths k r size originals recovery marks =
     result_and_then (λ _. length_outcome (k + r) 1 marks) (encode_lengths k r size originals recovery)
 
--- what a decode over buffers answers: where counts and lengths go, what the library's one call answers to the marked shards, written to their places
+-- what `rs_decode` returns and writes: if counts and lengths are right, the result of one-call `decode` for the marked shards, each restored original in its place
 abbrev pub DecodesBuffer : ℕ → ℕ → ℕ → List ℕ → List ℕ → List ℕ → List ℕ → Result (Unit {0}) Fault → Type 0
 DecodesBuffer k r size marks recovery old new answer =
     MatchResult (decode_lengths k r size (length old) (length recovery) (length marks))
@@ -49,6 +49,6 @@ marked_number marks = count_by (λ mark. not (mark == 0)) marks
 abbrev pub WantsNoMemory : ℕ → Result (Unit {0}) Fault → Type 0
 WantsNoMemory number answer = number ≡ 0 → answer ≢ Err (Refused OutOfMemory)
 
--- whether all k originals are given, where so many are and no recovery shard
+-- the result of a decode without recovery shards that was given so many of the k originals
 abbrev pub all_or_refused : ℕ → ℕ → Result (Unit {0}) Error
 all_or_refused k given = if nat_lt given k then Err (NotEnoughShards k given 0) else Ok tt

@@ -1,7 +1,7 @@
-//! How shards lie in memory: one after the other in a buffer, or anywhere, as an array tells.
-ghost use Rattle.std.specs.Prelude.{◌≡◌, ◌≢◌, ℕ, ◌*◌, ◌<◌, ◌≤◌, List, length, drop, slice_index};
-ghost use Rattle.std.specs.Iterator.{YieldsFirstRef, YieldsFirstBy, item_count};
-ghost use Rattle.rs_c.specs.Buffers.{shards_in_buffer, marked_shards};
+//! How shards lie in memory: one after the other in a buffer, or anywhere.
+ghost use Rattle.std.specs.Prelude.{◌≡◌, ◌*◌, length};
+ghost use Rattle.std.specs.Iterator.{YieldsFirstRef, item_count};
+ghost use Rattle.rs_c.specs.Buffers.{shards_in_buffer};
 
 use std::marker::Model;
 

@@ -1,5 +1,5 @@
 //! The shards of a message in two buffers. Marks say which shards were received.
-ghost use Rattle.std.specs.Prelude.{◌≡◌, ◌++◌, ◌<◌, ◌≤◌, ◌-◌, ◌*◌, List, ℕ, MatchResult, drop, length, option_copied};
+ghost use Rattle.std.specs.Prelude.{◌≡◌, ◌++◌, ◌<◌, ◌≤◌, ◌-◌, ◌*◌, List, ℕ, MatchResult, length, option_copied};
 ghost use Rattle.std.specs.List.{between};
 ghost use Rattle.std.specs.Option.{option_map};
 ghost use Rattle.rs_field.specs.code.Column.{Shard};
