@@ -19,7 +19,13 @@ use std::alloc::Global;
 ///
 /// # Errors
 ///
-/// The errors of `given_decoder`, in the same order. No further shard is asked for.
+/// If `recovery` gives a shard:
+///
+/// - `InvalidShardSize` or `OutOfMemory` for the size of the first recovery shard.
+/// - Otherwise the error of the first shard that is not accepted: all originals in order, then all recovery shards in
+///   order. The iterators are not called again.
+///
+/// If `recovery` gives no shard: the errors of [`check_originals_alone`].
 pub fn received_shards<'a, O, R>(
     alloc: Global,
     counts: DefaultRateCounts,

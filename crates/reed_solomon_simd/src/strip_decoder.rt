@@ -56,14 +56,14 @@ pub fn decode_strips<E: Engine, S: Pieces + Rooms>(
     let width = STRIP_BYTES.min(shard_bytes);
     let mut decoder = DefaultRateDecoder::with_counts(alloc, counts, width, engine, None)?;
     let mut start = 0;
-    while shard_bytes - start >= width {
-        decode_strip(&mut decoder, start, start + width, store)?;
-        start += width;
-    }
-    if start < shard_bytes {
+    while start < shard_bytes {
         let left = shard_bytes - start;
-        decoder.reset(counts.original_count, counts.recovery_count, left)?;
-        decode_strip(&mut decoder, start, shard_bytes, store)?;
+        if left < width {
+            decoder.reset(counts.original_count, counts.recovery_count, left)?;
+        }
+        let end = start + width.min(left);
+        decode_strip(&mut decoder, start, end, store)?;
+        start = end;
     }
     Ok(())
 }

@@ -56,14 +56,14 @@ pub fn encode_strips<E: Engine, R: Rooms>(
     let width = STRIP_BYTES.min(shard_bytes);
     let mut encoder = DefaultRateEncoder::with_counts(alloc, counts, width, engine, None)?;
     let mut start = 0;
-    while shard_bytes - start >= width {
-        encode_strip(&mut encoder, originals, start, start + width, rooms)?;
-        start += width;
-    }
-    if start < shard_bytes {
+    while start < shard_bytes {
         let left = shard_bytes - start;
-        encoder.reset(counts.original_count, counts.recovery_count, left)?;
-        encode_strip(&mut encoder, originals, start, shard_bytes, rooms)?;
+        if left < width {
+            encoder.reset(counts.original_count, counts.recovery_count, left)?;
+        }
+        let end = start + width.min(left);
+        encode_strip(&mut encoder, originals, start, end, rooms)?;
+        start = end;
     }
     Ok(())
 }

@@ -184,28 +184,27 @@ module _ (start end : ℕ) (made old new : List Shard) (put : ArePut start end m
 -- ---- the state when all bytes below a number are done
 
 -- A part of the width of a strip, or of all remaining bytes if there are fewer, is a strip.
-pub is_strip : (start strip size width : ℕ) → width ≡ min strip size → strip % 64 ≡ 0 → (start % 64 ≡ 0) ⊎ (start ≡ size) → 0 < width → width ≤ size - start → IsStrip start (start + width) size
-is_strip start strip size width is chunks begins some left =
-    let from : start % 64 ≡ 0 = elim begins [ inl whole ↦ whole | inr last ↦ absurd (let no : ⊥ = omega (arith, last, some, left) in no) ] in
-    record {
-      order = omega arith;
-      inside = omega (arith, some, left);
-      begins = from;
-      ends = elim (cases_lt strip size) [
-        | inl less ↦ let all : width ≡ strip = is ∙ min-eq_left (let le : strip ≤ size = omega (arith, less) in le) in inl (omega (arith, all, from, chunks))
-        | inr more ↦ let all : width ≡ size = is ∙ min-eq_right more in inr (omega (arith, all, some, left))
-      ];
-    }
-
--- The part from a chunk boundary to the end of the shards is a strip.
-pub is_last : (start size : ℕ) → (start % 64 ≡ 0) ⊎ (start ≡ size) → start < size → IsStrip start size size
-is_last start size begins less =
-    record {
-      order = omega (arith, less);
-      inside = omega arith;
-      begins = elim begins [ inl whole ↦ whole | inr last ↦ absurd (let no : ⊥ = omega (arith, last, less) in no) ];
-      ends = inr refl;
-    }
+pub is_strip : (start strip size width part : ℕ) → width ≡ min strip size → part ≡ min width (size - start) → strip % 64 ≡ 0
+    → (start % 64 ≡ 0) ⊎ (start ≡ size) → start < size → IsStrip start (start + part) size
+is_strip start strip size width part width_is part_is chunks begins less =
+    let from : start % 64 ≡ 0 = elim begins [ inl whole ↦ whole | inr last ↦ absurd (let no : ⊥ = omega (arith, last, less) in no) ] in
+    elim (cases_lt width (size - start)) [
+      | inl more ↦
+          let here : part ≡ width = part_is ∙ min-eq_left (let le : width ≤ size - start = omega (arith, more) in le) in
+          let full : width ≡ strip = elim (cases_lt strip size) [
+            | inl small ↦ width_is ∙ min-eq_left (let le : strip ≤ size = omega (arith, small) in le)
+            | inr large ↦ absurd (let all = width_is ∙ min-eq_right large in let no : ⊥ = omega (arith, all, more, less) in no)
+          ] in
+          record {
+            order = omega arith;
+            inside = omega (arith, here, more);
+            begins = from;
+            ends = inl (omega (arith, here, full, from, chunks));
+          }
+      | inr last ↦
+          let here : part ≡ size - start = part_is ∙ min-eq_right last in
+          record { order = omega arith; inside = omega (arith, here, less); begins = from; ends = inr (omega (arith, here, less)); }
+    ]
 
 -- A room has at least the length of the bytes that were written.
 pub room-from : (grows : Bool) (written size : ℕ) → written ≤ size → written ≤ room_length grows written size

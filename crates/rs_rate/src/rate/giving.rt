@@ -1,68 +1,14 @@
-//! Shards added to encoders and decoders one after another, and objects of the default rate that were made for the shards
-//! of one message. One call and the calls from C use these functions.
+//! Shards added one after another to the objects of a rate. Proved callers use these functions.
 ghost use Rattle.std.specs.Prelude.{◌≡◌, List};
 ghost use Rattle.std.specs.Iterator.{IsFinite};
-ghost use Rattle.std.specs.Option.{option_map};
-ghost use Rattle.std.specs.Result.{result_map_both};
 ghost use Rattle.rs_field.specs.code.Column.{Shard};
-ghost use Rattle.rs_field.specs.code.Counts.{default_rate};
 ghost use Rattle.rs_field.specs.code.OneCall.{Items, with_shards, with_originals, with_recoveries};
 ghost use Rattle.rs_rate.specs.Calls.{Calls, BeginsWith, BeginsWithItems};
-ghost use Rattle.rs_rate.specs.DecoderView.{decoder_state};
-ghost use Rattle.rs_rate.specs.Giving.{Reaches, IsDecoding};
+ghost use Rattle.rs_rate.specs.Giving.{Reaches};
 
-use crate::rate::decoders::DefaultRateDecoder;
-use crate::rate::originals_alone::check_originals_alone;
-use crate::rate::supported_counts::DefaultRateCounts;
 use crate::rate::{RateDecoder, RateEncoder};
 use rs_field::engine::Engine;
 use rs_field::error::Error;
-use std::alloc::Global;
-
-/// Returns a decoder for these counts with all `original` and `recovery` shards added, or `None` if `recovery` gives no shard
-/// and no original is missing. The shard size is that of the first recovery shard.
-///
-/// # Errors
-///
-/// If `recovery` gives a shard:
-///
-/// - `InvalidShardSize` or `OutOfMemory` for the size of the first recovery shard.
-/// - Otherwise the error of the first shard that `add_original_shard` or `add_recovery_shard` does not accept: all
-///   originals in order, then all recovery shards in order. The iterators are not called again.
-///
-/// If `recovery` gives no shard: the errors of [`check_originals_alone`].
-pub fn given_decoder<'a, E: Engine, O, R>(
-    alloc: Global,
-    counts: DefaultRateCounts,
-    original: O,
-    mut recovery: R,
-    engine: E,
-) -> Result<Option<DefaultRateDecoder<E>>, Error>
-where
-    O: Iterator<Item = (usize, &'a [u8])> + Drop,
-    R: Iterator<Item = (usize, &'a [u8])> + Drop,
-    requires can { O.can_next original }
-    requires ends { IsFinite (O.remaining original) }
-    requires can_recovery { R.can_next recovery }
-    requires recovery_ends { IsFinite (R.remaining recovery) }
-    ensures { (calls : Calls O.next_gives original) × (further : Calls R.next_gives recovery)
-        × ((originals recoveries : Items)
-        → BeginsWithItems originals calls → BeginsWithItems recoveries further
-        → IsDecoding counts.original_count counts.recovery_count originals recoveries
-        (result_map_both
-        (λ o. option_map (λ x. decoder_state default_rate x.rows) o) (λ e. e) result)) }
-{
-    let Some((first_index, first_shard)) = recovery.next() else {
-        check_originals_alone(alloc, counts.original_count, original)?;
-        return Ok(None);
-    };
-    let size = first_shard.len();
-    let mut decoder = DefaultRateDecoder::with_counts(alloc, counts, size, engine, None)?;
-    add_originals(&mut decoder, original)?;
-    decoder.add_recovery_shard(first_index, first_shard)?;
-    add_recovery(&mut decoder, recovery)?;
-    Ok(Some(decoder))
-}
 
 /// Adds shards to an encoder in order. Fails with the error of the first shard that the encoder does not accept, and then does
 /// not call the iterator again.

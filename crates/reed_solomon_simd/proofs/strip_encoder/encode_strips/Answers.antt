@@ -1,4 +1,5 @@
 use Rattle.std.proofs.Common.{◌≡◌, ℕ, ◌+◌, ◌-◌, ◌<◌, Bool, List, length, All, Bor, sym, ap, subst, ◌∙◌, refl, inl, arith}
+use Rattle.std.proofs.Math.Nat.{min-eq_right}
 use Rattle.std.proofs.lemmas.List.Elements.{All-map}
 use Rattle.rs_field.specs.code.Code.{AreRecovery}
 use Rattle.rs_field.specs.code.Column.{Shard}
@@ -6,9 +7,10 @@ use Rattle.rs_field.specs.code.Counts.{default_rate}
 use Rattle.rs_field.specs.code.Encoder.{EncoderState}
 use Rattle.rs_field.specs.code.OneCall.{default_of}
 use Rattle.rs_field.specs.code.Pieces.{pieces, IsStrip, ArePut}
-use Rattle.rs_field.proofs.of_code.Pieces.{IsDone, is_strip, is_last, done-none, done-further, done-all}
+use Rattle.rs_field.proofs.of_code.Pieces.{IsDone, is_strip, done-none, done-further, done-all}
+use Rattle.rs_rate.specs.EncoderView.{encoder_state}
 use Rattle.reed_solomon_simd.specs.Rooms.{shards_of}
-use Rattle.reed_solomon_simd.proofs.strip_encoder.encode_strips.Goals.{then-start-shard_bytes+in_ok-reset+in_ok-encode_strip-2, else-start-shard_bytes}
+use Rattle.reed_solomon_simd.proofs.strip_encoder.encode_strips.Goals.{then-left-width+in_ok-reset, else-left-width}
 use Rattle.reed_solomon_simd.proofs.strip_encoder.encode_strips.Goals as goal
 
 -- Coding the strip from `start` to `end` and putting its recovery pieces codes all bytes before `end`.
@@ -27,7 +29,7 @@ loop-start-init g c =
     record {
       inside = omega arith;
       begins = inl refl;
-      fresh = c.in_ok-encoder.ensures.made.0;
+      fresh = λ more. c.in_ok-encoder.ensures.made.0;
       done = done-none g.R.Rooms.grows default_rate c.args.counts.original_count c.args.counts.recovery_count c.args.shard_bytes (shards_of c.args.originals.now)
           (g.R.Rooms.held c.args.rooms.now) c.requires.number c.requires.fit;
       places = refl;
@@ -36,27 +38,29 @@ loop-start-init g c =
 
 pub encode_strip-requires-clause-fit : goal.encode_strip-requires-clause-fit
 encode_strip-requires-clause-fit g c =
-    let less = c.loop-start-test.true in
-    (c.args.shard_bytes, omega (arith, less, c.loop-start.invariant.inside), c.loop-start.invariant.done.fit)
-
-pub encode_strip-requires-then-start-shard_bytes-clause-fit : goal.encode_strip-requires-then-start-shard_bytes-clause-fit
-encode_strip-requires-then-start-shard_bytes-clause-fit g c = (c.args.shard_bytes, omega arith, c.loop-start.invariant.done.fit)
+    let begins = c.loop-start.invariant.begins in
+    let strip = is_strip c.loop-start.start 4096 c.args.shard_bytes c.min-width.result c.min.result c.min-width.ensures c.min.ensures refl begins c.loop-start-test.true in
+    (c.args.shard_bytes, strip.inside, c.loop-start.invariant.done.fit)
 
 pub loop-start-preserved : goal.loop-start-preserved
 loop-start-preserved g c =
     let size : ℕ = c.args.shard_bytes in
-    let held = c.loop-start.invariant in
     let start : ℕ = c.loop-start.start in
-    let width : ℕ = c.min-width.result in
-    let same : c.loop-start.encoder.rows.shape.configuration.shard_bytes ≡ c.min-width.result = ap (λ (s : EncoderState). s.configuration.shard_bytes) held.fresh in
-    let some : 0 < c.min-width.result = omega (arith, same, c.loop-start.encoder.set_up.configured.positive) in
-    let strip = is_strip start _ size width c.min-width.ensures refl held.begins some c.loop-start-test.true in
+    let end : ℕ = c.loop-start.start + c.min.result in
+    let held = c.loop-start.invariant in
+    let strip = is_strip start 4096 size c.min-width.result c.min.result c.min-width.ensures c.min.ensures refl held.begins c.loop-start-test.true in
     let now = c.in_ok-encode_strip.ensures in
     record {
       inside = strip.inside;
       begins = strip.ends;
-      fresh = now.fresh ∙ held.fresh;
-      done = further g.R.Rooms.grows c.args.counts.original_count c.args.counts.recovery_count size start (start + width) c.args.originals.now now.coded.0
+      fresh = λ more. elim c.if-left-width.branch [
+        | then-left-width+in_ok-reset w ↦
+            let less : c.args.shard_bytes - c.loop-start.start < c.min-width.result = w.if-left-width.true in
+            let last : c.min.result ≡ c.args.shard_bytes - c.loop-start.start = c.min.ensures ∙ min-eq_right (omega (arith, less)) in
+            absurd (let no : ⊥ = omega (arith, more, last) in no)
+        | else-left-width w ↦ now.fresh ∙ ap (λ e. encoder_state default_rate e.rows) w.encoder-is ∙ held.fresh c.loop-start-test.true
+      ];
+      done = further g.R.Rooms.grows c.args.counts.original_count c.args.counts.recovery_count size start end c.args.originals.now now.coded.0
           (g.R.Rooms.held c.loop-start.rooms) (g.R.Rooms.held c.encode_strip.new.rooms) c.requires.originals strip c.requires.sized held.done now.coded.1 now.coded.2;
       places = now.places ∙ held.places;
       loan = now.loan ∙ held.loan;
@@ -64,23 +68,9 @@ loop-start-preserved g c =
 
 pub returns-clause-coded : goal.returns-clause-coded
 returns-clause-coded g c =
-    let k : ℕ = c.args.counts.original_count in
-    let r : ℕ = c.args.counts.recovery_count in
-    let size : ℕ = c.args.shard_bytes in
     let held = c.loop-start.invariant in
-    let start : ℕ = c.loop-start.start in
-    elim c.if-start-shard_bytes.branch [
-      | then-start-shard_bytes+in_ok-reset+in_ok-encode_strip-2 w ↦
-          let now = w.in_ok-encode_strip-2.ensures in
-          let strip = is_last start size held.begins w.if-start-shard_bytes.true in
-          let done = further g.R.Rooms.grows k r size start size c.args.originals.now now.coded.0 (g.R.Rooms.held c.loop-start.rooms) _ c.requires.originals strip c.requires.sized held.done now.coded.1 now.coded.2 in
-          subst (λ (l : List Shard). AreRecovery (default_of c.args.counts.original_count c.args.counts.recovery_count c.args.shard_bytes) (shards_of c.args.originals.now) l)
-          (sym (ap g.R.Rooms.held w.rooms-is)) (done-all g.R.Rooms.grows default_rate k r size (shards_of c.args.originals.now) _ done)
-      | else-start-shard_bytes w ↦
-          let ends : c.loop-start.start ≡ c.args.shard_bytes = omega (arith, held.inside, w.if-start-shard_bytes.false) in
-          subst (λ (l : List Shard). AreRecovery (default_of c.args.counts.original_count c.args.counts.recovery_count c.args.shard_bytes) (shards_of c.args.originals.now) l)
-          (sym (ap g.R.Rooms.held w.rooms-is))
-          (done-all g.R.Rooms.grows default_rate k r size (shards_of c.args.originals.now) (g.R.Rooms.held c.loop-start.rooms)
-          (subst (λ (n : ℕ). IsDone c.args.counts.original_count c.args.counts.recovery_count c.args.shard_bytes n g.R.Rooms.grows default_rate (shards_of c.args.originals.now)
-          (g.R.Rooms.held c.loop-start.rooms)) ends held.done))
-    ]
+    let ends : c.loop-start.start ≡ c.args.shard_bytes = omega (arith, held.inside, c.loop-start-test.false) in
+    done-all g.R.Rooms.grows default_rate c.args.counts.original_count c.args.counts.recovery_count c.args.shard_bytes (shards_of c.args.originals.now)
+    (g.R.Rooms.held c.loop-start.rooms)
+    (subst (λ (n : ℕ). IsDone c.args.counts.original_count c.args.counts.recovery_count c.args.shard_bytes n g.R.Rooms.grows default_rate
+    (shards_of c.args.originals.now) (g.R.Rooms.held c.loop-start.rooms)) ends held.done)
