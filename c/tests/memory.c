@@ -14,6 +14,8 @@ struct tried {
 
 /* How many requests for memory the calls make. */
 enum { TABLES = 6, ENCODE = 2, ENCODE_SHARDS = 1, DECODE = 4, DECODE_SHARDS = 5 };
+/* With surplus shards, a decode restores to vectors first: the list of them, and each vector. */
+enum { LIST = 1 };
 
 static long requests, refused, blocks;
 /* How many bytes the blocks have, and the most that they had. */
@@ -66,38 +68,62 @@ static void wrong(const char *what) {
     exit(1);
 }
 
+enum { LONGEST = 4130 };
+
 static struct rs_tables *tables;
-static uint8_t originals[3 * 1200], recovery[2 * 1200], marks[5] = {0, 1, 0, 1, 1};
+/* The size of the shards: one strip in a call, or two. */
+static size_t size = 1200;
+static uint8_t originals[3 * LONGEST], recovery[2 * LONGEST];
 
 static uint32_t encode(void) {
     struct rs_fault fault;
-    uint32_t answer = rs_encode(tables, 3, 2, 1200, originals, sizeof originals, recovery, sizeof recovery, &fault);
+    uint32_t answer = rs_encode(tables, 3, 2, size, originals, 3 * size, recovery, 2 * size, &fault);
+    return answer == fault.number ? answer : 99;
+}
+
+static uint32_t decode_with(const uint8_t marks[5]) {
+    struct rs_fault fault;
+    uint32_t answer = rs_decode(tables, 3, 2, size, originals, 3 * size, recovery, 2 * size, marks, 5, &fault);
     return answer == fault.number ? answer : 99;
 }
 
 static uint32_t decode(void) {
-    struct rs_fault fault;
-    uint32_t answer = rs_decode(tables, 3, 2, 1200, originals, sizeof originals, recovery, sizeof recovery, marks, 5, &fault);
-    return answer == fault.number ? answer : 99;
+    static const uint8_t marks[5] = {0, 1, 0, 1, 1};
+    return decode_with(marks);
 }
 
-/* Both over arrays too: originals and recovery shards as they lie in the buffers. */
+/* One original is lost, and four shards come. */
+static uint32_t decode_surplus(void) {
+    static const uint8_t marks[5] = {0, 1, 1, 1, 1};
+    return decode_with(marks);
+}
+
+/* The calls over arrays: originals and recovery shards as they lie in the buffers. */
 static uint32_t encode_shards(void) {
     struct rs_bytes from[3];
     struct rs_room to[2];
     struct rs_fault fault;
     uint32_t answer;
-    for (size_t i = 0; i < 3; i++) from[i].bytes = originals + i * 1200, from[i].length = 1200;
-    for (size_t i = 0; i < 2; i++) to[i].bytes = recovery + i * 1200, to[i].length = 1200;
+    for (size_t i = 0; i < 3; i++) from[i].bytes = originals + i * size, from[i].length = size;
+    for (size_t i = 0; i < 2; i++) to[i].bytes = recovery + i * size, to[i].length = size;
     answer = rs_encode_shards(tables, 3, 2, from, 3, to, 2, &fault);
     return answer == fault.number ? answer : 99;
 }
 
 static uint32_t decode_shards(void) {
-    struct rs_shard own = {1, originals + 1200, 1200}, other[2] = {{1, recovery + 1200, 1200}, {0, recovery, 1200}};
-    struct rs_room to[2] = {{originals, 1200}, {originals + 2400, 1200}};
+    struct rs_shard own = {1, originals + size, size}, other[2] = {{1, recovery + size, size}, {0, recovery, size}};
+    struct rs_room to[2] = {{originals, size}, {originals + 2 * size, size}};
     struct rs_fault fault;
     uint32_t answer = rs_decode_shards(tables, 3, 2, &own, 1, other, 2, to, 2, &fault);
+    return answer == fault.number ? answer : 99;
+}
+
+static uint32_t decode_shards_surplus(void) {
+    struct rs_shard own[2] = {{1, originals + size, size}, {2, originals + 2 * size, size}};
+    struct rs_shard other[2] = {{1, recovery + size, size}, {0, recovery, size}};
+    struct rs_room to = {originals, size};
+    struct rs_fault fault;
+    uint32_t answer = rs_decode_shards(tables, 3, 2, own, 2, other, 2, &to, 1, &fault);
     return answer == fault.number ? answer : 99;
 }
 
@@ -105,12 +131,12 @@ static uint32_t decode_shards(void) {
 static uint32_t decode_none(void) {
     static const uint8_t all_there[5] = {1, 1, 1, 0, 0};
     struct rs_fault fault;
-    uint32_t answer = rs_decode(tables, 3, 2, 1200, originals, sizeof originals, recovery, sizeof recovery, all_there, 5, &fault);
+    uint32_t answer = rs_decode(tables, 3, 2, size, originals, 3 * size, recovery, 2 * size, all_there, 5, &fault);
     return answer == fault.number ? answer : 99;
 }
 
 static uint32_t decode_none_anywhere(void) {
-    struct rs_shard all[3] = {{2, originals, 1200}, {0, originals, 1200}, {1, originals, 1200}};
+    struct rs_shard all[3] = {{2, originals, size}, {0, originals, size}, {1, originals, size}};
     struct rs_room none[1];
     struct rs_fault fault;
     uint32_t answer = rs_decode_shards(tables, 3, 2, all, 3, all, 0, none, 0, &fault);
@@ -216,10 +242,10 @@ static void bounded(void) {
 }
 
 /* A call that makes so many requests, with each of them refused in turn. */
-static void each(const char *name, uint32_t (*call)(void), void *written, size_t size, long number) {
-    uint8_t *before = malloc(size);
+static void each(const char *name, uint32_t (*call)(void), void *written, size_t length, long number) {
+    uint8_t *before = malloc(length);
     if (!before) wrong("no memory for the test");
-    memcpy(before, written, size);
+    memcpy(before, written, length);
     for (refused = 1;; refused++) {
         uint32_t answer;
         requests = 0;
@@ -231,33 +257,48 @@ static void each(const char *name, uint32_t (*call)(void), void *written, size_t
             break;
         }
         if (answer != RS_OUT_OF_MEMORY) wrong("another answer");
-        if (memcmp(before, written, size)) wrong("a refused call has written");
+        if (memcmp(before, written, length)) wrong("a refused call has written");
     }
     printf("memory: each of %ld requests of %s refused\n", requests, name);
     refused = 0;
     free(before);
 }
 
+/* Messages of one size: each request of each call refused, and what was lost comes back. */
+static void messages(void) {
+    memset(originals, 7, sizeof originals);
+    memset(recovery, 1, sizeof recovery);
+    each("rs_encode", encode, recovery, sizeof recovery, ENCODE);
+    memset(recovery, 1, sizeof recovery);
+    each("rs_encode_shards", encode_shards, recovery, sizeof recovery, ENCODE_SHARDS);
+    for (int anywhere = 0; anywhere < 2; anywhere++) {
+        memset(originals, 1, size);
+        memset(originals + 2 * size, 1, size);
+        each(anywhere ? "rs_decode_shards" : "rs_decode", anywhere ? decode_shards : decode, originals, sizeof originals,
+             anywhere ? DECODE_SHARDS : DECODE);
+        memset(originals, 1, size);
+        each(anywhere ? "rs_decode_shards with a surplus shard" : "rs_decode with a surplus shard",
+             anywhere ? decode_shards_surplus : decode_surplus, originals, sizeof originals,
+             (anywhere ? DECODE_SHARDS : DECODE) + LIST + 1);
+        for (size_t n = 0; n < 3 * size; n++)
+            if (originals[n] != 7) wrong("not what was encoded");
+    }
+}
+
 int main(void) {
     static const uint8_t images[] = {0, 255, 170};
+    static const size_t sizes[] = {1200, LONGEST};
     tables = malloc(sizeof *tables);
     if (!tables) wrong("no memory for the test");
     for (size_t i = 0; i < sizeof images; i++) {
         memset(tables, images[i], sizeof *tables);
         each("rs_tables_make", make, tables, sizeof *tables, TABLES);
-        memset(originals, 7, sizeof originals);
-        for (int anywhere = 0; anywhere < 2; anywhere++) {
-            memset(recovery, 1, sizeof recovery);
-            each(anywhere ? "rs_encode_shards" : "rs_encode", anywhere ? encode_shards : encode, recovery, sizeof recovery,
-                 anywhere ? ENCODE_SHARDS : ENCODE);
-            memset(originals, 1, 1200);
-            memset(originals + 2400, 1, 1200);
-            each(anywhere ? "rs_decode_shards" : "rs_decode", anywhere ? decode_shards : decode, originals, sizeof originals,
-                 anywhere ? DECODE_SHARDS : DECODE);
-            for (size_t n = 0; n < sizeof originals; n++)
-                if (originals[n] != 7) wrong("not what was encoded");
+        for (size_t n = 0; n < sizeof sizes / sizeof *sizes; n++) {
+            size = sizes[n];
+            messages();
         }
     }
+    size = 1200;
     each("rs_decode without recovery shards", decode_none, originals, sizeof originals, 0);
     each("rs_decode_shards without recovery shards", decode_none_anywhere, originals, sizeof originals, 0);
     each("rs_fault_text", text_made, text, sizeof text, 0);

@@ -542,6 +542,14 @@ static void strips(uint64_t seed) {
     puts("test: shards about as long as strips");
 }
 
+/* The largest counts, with shards of more than one strip: up to 65536 rows are coded twice. */
+static void largest(uint64_t seed) {
+    round_of(&seed, 65535, 1, 4098, 4096);
+    round_of(&seed, 1, 65535, 4098, 4096);
+    round_of(&seed, 32768, 32768, 4098, 4096);
+    puts("test: the largest counts");
+}
+
 static void rounds(uint64_t seed, unsigned count) {
     for (unsigned n = 0; n < count; n++) random_round(&seed);
     printf("test: %u rounds\n", count);
@@ -629,6 +637,8 @@ int main(int count, char **words) {
         pieces(strtoull(words[2], NULL, 10), (unsigned)strtoul(words[3], NULL, 10));
     else if (count == 3 && !strcmp(words[1], "strips"))
         strips(strtoull(words[2], NULL, 10));
+    else if (count == 3 && !strcmp(words[1], "largest"))
+        largest(strtoull(words[2], NULL, 10));
     else if (count == 2 && !strcmp(words[1], "threads"))
         threads();
     else
