@@ -1,5 +1,5 @@
-//! Shards added to encoders and decoders one after another, and objects of the default rate that were made for the shards
-//! of one message. One call and the calls from C use these functions.
+//! Functions that add shards to encoders and decoders one after another, and that make decoders of the default rate for
+//! the shards of one message. The one-call functions and the calls from C use them.
 ghost use Rattle.std.specs.Prelude.{◌≡◌, List};
 ghost use Rattle.std.specs.Iterator.{IsFinite};
 ghost use Rattle.std.specs.Option.{option_map};
@@ -26,9 +26,10 @@ use std::alloc::Global;
 ///
 /// If `recovery` gives a shard:
 ///
-/// - `InvalidShardSize` or `OutOfMemory` for the size of the first recovery shard.
-/// - Otherwise the error of the first shard that `add_original_shard` or `add_recovery_shard` does not accept: all
-///   originals in order, then all recovery shards in order. The iterators are not called again.
+/// - [`Error::InvalidShardSize`] if the size of the first recovery shard is zero or odd.
+/// - [`Error::OutOfMemory`] if the rows cannot be allocated, or if their bytes exceed `usize::MAX`.
+/// - The error of the first shard that `add_original_shard` or `add_recovery_shard` does not accept: first all originals
+///   in order, then all recovery shards in order. The iterators are not called again.
 ///
 /// If `recovery` gives no shard: the errors of [`check_originals_alone`].
 pub fn given_decoder<'a, E: Engine, O, R>(
@@ -64,8 +65,12 @@ where
     Ok(Some(decoder))
 }
 
-/// Adds shards to an encoder in order. Fails with the error of the first shard that the encoder does not accept, and then does
-/// not call the iterator again.
+/// Adds the originals that an iterator yields to an encoder, in order.
+///
+/// # Errors
+///
+/// The errors of [`RateEncoder::add_original_shard`], for the first original that the encoder does not accept. The
+/// iterator is then not called again.
 pub fn add_shards<'a, E: Engine, X: RateEncoder<E>, I: Iterator<Item = &'a [u8]> + Drop>(
     encoder: &mut X,
     shards: I,
@@ -81,8 +86,12 @@ pub fn add_shards<'a, E: Engine, X: RateEncoder<E>, I: Iterator<Item = &'a [u8]>
     Ok(())
 }
 
-/// Adds originals to a decoder in order. Fails with the error of the first original that the decoder does not accept, and then
-/// does not call the iterator again.
+/// Adds the originals that an iterator yields, with their indexes, to a decoder, in order.
+///
+/// # Errors
+///
+/// The errors of [`RateDecoder::add_original_shard`], for the first original that the decoder does not accept. The
+/// iterator is then not called again.
 pub fn add_originals<
     'a,
     E: Engine,
@@ -102,8 +111,12 @@ pub fn add_originals<
     Ok(())
 }
 
-/// Adds recovery shards to a decoder in order. Fails with the error of the first recovery shard that the decoder does not
-/// accept, and then does not call the iterator again.
+/// Adds the recovery shards that an iterator yields, with their indexes, to a decoder, in order.
+///
+/// # Errors
+///
+/// The errors of [`RateDecoder::add_recovery_shard`], for the first recovery shard that the decoder does not accept.
+/// The iterator is then not called again.
 pub fn add_recovery<'a, E: Engine, X: RateDecoder<E>, I: Iterator<Item = (usize, &'a [u8])> + Drop>(
     decoder: &mut X,
     recovery: I,
