@@ -1,9 +1,9 @@
 //! The plain encoder: the default rate over an engine chosen by name.
-ghost use Rattle.std.specs.Prelude.{◌≡◌, ◌≢◌, ◌≤◌, [], Err, IfOk, OnOk, OnErr};
+ghost use Rattle.std.specs.Prelude.{◌≡◌, ◌≢◌, ◌≤◌, Err, IfOk, OnOk, OnErr};
 ghost use Rattle.std.specs.Borrow.{sem};
 ghost use Rattle.rs_field.specs.code.Configuration.{start_outcome, UpToMemory, FitsWithin};
 ghost use Rattle.rs_field.specs.code.Counts.{default_rate, supports as supports_counts};
-ghost use Rattle.rs_field.specs.code.Encoder.{fresh_encoder, with_shard, EncodeAnswers, after_encode};
+ghost use Rattle.rs_field.specs.code.Encoder.{fresh_encoder, with_shard, EncodeAnswers};
 ghost use Rattle.rs_field.specs.code.OneCall.{default_of};
 ghost use Rattle.rs_field.specs.code.Outcome.{answer_of, state_after};
 ghost use Rattle.rs_field.specs.code.Placement.{encoder_rows};

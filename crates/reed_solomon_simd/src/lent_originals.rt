@@ -32,7 +32,7 @@ pub struct LentOriginals<'a> {
 }
 
 impl<'a> LentOriginals<'a> {
-    ghost use Rattle.std.specs.Prelude.{◌≡◌, ◌≤◌, List, All, IfOk, MatchResult, OnOk, OnErr, Err, true, false, length};
+    ghost use Rattle.std.specs.Prelude.{◌≡◌, ◌≤◌, List, All, IfOk, MatchResult, OnOk, OnErr, Err, false, length};
     ghost use Rattle.std.specs.Iterator.{IsFinite};
     ghost use Rattle.std.specs.Result.{result_map_both};
     ghost use Rattle.rs_field.specs.code.Code.{AreRecovery};

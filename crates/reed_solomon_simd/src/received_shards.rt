@@ -1,5 +1,5 @@
 //! The shards of a message that were received, as slices of the caller's memory.
-ghost use Rattle.std.specs.Prelude.{◌≡◌, ◌<◌, ◌≤◌, ◌+◌, ◌==◌, nat_lt, IfOk, if◌then◌else◌, ℕ, None, Ok, Err, length, MatchResult, OnOk};
+ghost use Rattle.std.specs.Prelude.{◌≡◌, ◌<◌, ◌≤◌, ◌+◌, ◌==◌, nat_lt, IfOk, if◌then◌else◌, None, Ok, Err, length, MatchResult, OnOk};
 ghost use Rattle.rs_field.specs.code.Column.{IsShard};
 ghost use Rattle.rs_field.specs.code.Configuration.{start_outcome};
 ghost use Rattle.rs_field.specs.code.Counts.{default_rate};

@@ -1,6 +1,5 @@
 //! The missing originals of received shards: as vectors, and in memory of the caller.
-ghost use Rattle.std.specs.Prelude.{◌≡◌, ◌⊎◌, ◌+◌, All, true, false, IfErr, Ok, Err, List, length, map, MatchResult, OnOk, OnErr};
-ghost use Rattle.rs_field.specs.code.Column.{Shard};
+ghost use Rattle.std.specs.Prelude.{◌≡◌, ◌⊎◌, ◌+◌, All, true, false, IfErr, Ok, Err, length, map, MatchResult, OnOk, OnErr};
 ghost use Rattle.rs_field.specs.code.Counts.{default_rate};
 ghost use Rattle.rs_field.specs.code.Decoder.{IsDecoder, enough_given, originals_given, recovery_given, Restored, NoneAgrees};
 ghost use Rattle.rs_field.specs.code.OneCall.{collected_shards, collected_map};

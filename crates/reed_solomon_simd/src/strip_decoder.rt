@@ -1,11 +1,10 @@
 //! Decoding strip by strip. The work area has room for one strip of each shard, so it stays in the cache. A strip of each
 //! received shard goes into it, and a strip of each restored original goes from it into the rooms.
 ghost use Rattle.std.specs.Prelude.{◌≡◌, ◌⊎◌, ◌-◌, ◌+◌, ◌≤◌, ℕ, All, true, false, length, Ok, OnOk, IfErr};
-ghost use Rattle.rs_field.specs.code.Configuration.{configuration};
 ghost use Rattle.rs_field.specs.code.Counts.{default_rate};
 ghost use Rattle.rs_field.specs.code.Decoder.{IsDecoder, fresh_decoder, enough_given, originals_given, Restored, NoneAgrees};
 ghost use Rattle.rs_field.specs.code.Given.{Shards, Lists, nothing};
-ghost use Rattle.rs_field.specs.code.OneCall.{Items, default_of};
+ghost use Rattle.rs_field.specs.code.OneCall.{Items};
 ghost use Rattle.rs_field.specs.code.Pieces.{ArePut, IsStrip, room_length};
 ghost use Rattle.rs_field.specs.code.PieceStates.{pieces_of, state_of_pieces, shards_listed, HoldRestored};
 ghost use Rattle.rs_rate.specs.DecoderView.{decoder_state};

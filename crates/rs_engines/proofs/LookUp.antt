@@ -1,4 +1,4 @@
--- Look-ups by shuffles, in a table of 16 bytes that is repeated in each 16 lanes.
+-- Look-ups by shuffles. Each group of 16 lanes looks up in its own copy of a table of 16 bytes.
 use Rattle.std.proofs.Common.{◌≡◌, ℕ, List, ◌<◌, ◌*◌, ◌+◌, ◌/◌, ◌%◌, ◌^◌, length, get_or, replicate, refl, bit_and, Fits, ap, sym, ◌∙◌, arith, w8}
 use Rattle.std.proofs.lemmas.Nat.{and_mask, and_le_r}
 use lib.Lanes.{zip2, Each1}
@@ -6,7 +6,7 @@ use Rattle.std.proofs.lemmas.Simd.{length-replicate, swz_l, SwzOk, SwzOk-from_be
 use Rattle.rs_field.specs.words.Products.{byte_at}
 use Rattle.rs_field.proofs.of_rows.Symbols.{byte_of}
 
--- The places in the table that a step with one number computes from bytes.
+-- The indexes into the table, which are computed from the bytes of a vector and one number.
 module _ (n b : ℕ) (v : List ℕ) (blocks : n ≡ b * 16) (long : length v ≡ n) (f : ℕ → ℕ → ℕ) (m : ℕ) (small : Each1 (λ a. f a m < 16) v) where
   abbrev places : List ℕ
   places = zip2 f v (replicate n m)
@@ -18,7 +18,7 @@ module _ (n b : ℕ) (v : List ℕ) (blocks : n ≡ b * 16) (long : length v ≡
   are_places =
       SwzOk-from_below w8 16 b n 0 places blocks (omega (arith, long_places)) (Each1-zip2 f (λ j. j < 16) v (replicate n m) (Each2-splat (λ a b. f a b < 16) v n m small))
 
-  -- Each lane of the result is the byte of the table at the lane's place.
+  -- Each lane of the result is the byte of the table at the index that was computed for this lane.
   looked_up : (table : List ℕ) (t i p : ℕ) → ((j : ℕ) → j < n → get_or table j 0 ≡ byte_at t (j % 16)) → i < n → f (get_or v i 0) m ≡ p → p < 16
       → get_or (swz_l w8 16 table 0 places) i 0 ≡ byte_at t p
   looked_up table t i p is h at below =

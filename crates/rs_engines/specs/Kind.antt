@@ -20,7 +20,7 @@ tables_of (DefaultEngine.NoSimd engine) = engine.tables.now
 tables_of (DefaultEngine.Avx2 engine) = engine.tables.now
 tables_of (DefaultEngine.Ssse3 engine) = engine.tables.now
 
--- the kind that a word names: a line for each
+-- the kind of engine whose name the word is, if it is the name of an engine
 abbrev pub engine_named : List ℕ → Option EngineKind
 engine_named word =
     if bytes_eq word (codes "naive") then Some Naive

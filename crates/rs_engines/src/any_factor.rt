@@ -1,4 +1,4 @@
-//! A factor whose class is known as the program runs: what a logarithm names.
+//! A factor whose class is only known when the program runs: the factor whose logarithm is given.
 ghost use Rattle.std.specs.Prelude.{◌≡◌};
 ghost use Rattle.rs_field.specs.words.Field.{power};
 ghost use Rattle.rs_field.specs.words.Products.{IsNibbleBytes};
@@ -10,11 +10,14 @@ use crate::words::Words;
 use rs_field::engine::tables::Multiply128lutT;
 use rs_field::engine::{GF_MODULUS, GfElement};
 
-/// A factor, by its class.
+/// A factor of any of the three classes.
 #[derive(Clone, Copy)]
 pub enum AnyFactor<'t> {
+    /// The factor zero.
     Zero(Zero),
+    /// A factor that is not zero, and whose products with low bytes have no high byte.
     Small(Small<'t>),
+    /// Any other factor.
     General(General<'t>),
 }
 
@@ -31,7 +34,8 @@ impl Factor for AnyFactor<'_> {
     }
 }
 
-/// The factor of a butterfly that this logarithm names, where 65535 marks zero; the products are those of the power with it.
+/// Returns the factor of a butterfly that has the logarithm `log_m`, where 65535 represents the factor zero. `products`
+/// holds the products with the generator to the power `log_m`.
 #[inline(always)]
 pub fn factor_of<'t>(products: &'t Multiply128lutT, log_m: GfElement) -> AnyFactor<'t>
     requires { IsNibbleBytes (power log_m) products.now }

@@ -1,4 +1,4 @@
-//! Butterflies of words in lanes, forward and backward: one layer on two of them, two layers on four.
+//! Butterflies of words in lanes, forward and backward: one layer on two words, and two layers on four words.
 ghost use Rattle.std.specs.Prelude.{◌≡◌, ℕ, ◌<◌};
 ghost use Rattle.rs_field.specs.rows.Pairs.{OnTwoWords, IsForwardTwo, IsBackwardTwo};
 ghost use Rattle.rs_field.specs.rows.TwoLayers.{OnFourWords, IsForwardFour, IsBackwardFour};
@@ -11,13 +11,14 @@ use crate::words::{Words, add};
 /// The butterflies of one direction of a transform. The direction decides the order of the two sums of a butterfly, and the order
 /// of two layers.
 pub trait Butterflies {
-    // The relation of two old words to the two new words of a butterfly, for the logarithm of its factor.
+    // The relation between the two old and the two new words of a butterfly, for the logarithm of its factor.
     ghost two: { ℕ → OnTwoWords };
 
-    // What two layers make of four words, by the factors of rows 0 and 2, of rows 0 and 1 and of rows 2 and 3.
+    // The relation between the four old and the four new words of two layers, for the logarithms of three factors: of
+    // rows 0 and 2 and of rows 1 and 3, of rows 0 and 1, and of rows 2 and 3.
     ghost four: { ℕ → ℕ → ℕ → OnFourWords };
 
-    /// The butterfly of the words of two rows.
+    /// Returns the results of a butterfly on the words of two rows.
     fn of_two<V: ByteVector, F: Factor>(
         x0: Words<V>,
         x1: Words<V>,
@@ -29,7 +30,7 @@ pub trait Butterflies {
             (lane (V.bytes result.0.low) (V.bytes result.0.high) i)
             (lane (V.bytes result.1.low) (V.bytes result.1.high) i) };
 
-    /// Two layers of butterflies of the words of four rows.
+    /// Returns the results of two layers of butterflies on the words of four rows.
     fn of_four<V: ByteVector, F02: Factor, F01: Factor, F23: Factor>(
         x0: Words<V>,
         x1: Words<V>,
@@ -47,8 +48,8 @@ pub trait Butterflies {
             (lane (V.bytes result.3.low) (V.bytes result.3.high) i) };
 }
 
-/// The second word, times the factor, is added to the first, and then the new first to the second. Of two layers that
-/// of rows 0 and 2 and of rows 1 and 3 comes first.
+/// The forward butterflies. A butterfly adds the second word times the factor to the first word, and then the new first
+/// word to the second. Of two layers, the layer of rows 0 and 2 and of rows 1 and 3 comes first.
 pub struct Forward;
 
 impl Butterflies for Forward {
@@ -84,8 +85,8 @@ impl Butterflies for Forward {
     }
 }
 
-/// The first word is added to the second, and then the new second, times the factor, to the first. Of two layers that of
-/// rows 0 and 1 and of rows 2 and 3 comes first.
+/// The backward butterflies. A butterfly adds the first word to the second word, and then the new second word times the
+/// factor to the first. Of two layers, the layer of rows 0 and 1 and of rows 2 and 3 comes first.
 pub struct Backward;
 
 impl Butterflies for Backward {

@@ -1,4 +1,4 @@
-//! Vectors of 16 or of 32 bytes, whose lanes are looked up in a table of 16 bytes all at once.
+//! Vectors of 16 or of 32 bytes. A shuffle looks up all lanes at once in a table of 16 bytes.
 ghost use Rattle.std.specs.Prelude.{◌≡◌, ℕ, ◌+◌, ◌/◌, ◌%◌, ◌<◌, ◌≤◌, ◌⊎◌, List, slice_index, bit_xor, refl};
 ghost use Rattle.std.proofs.Common.{inl, inr};
 ghost use Rattle.rs_field.specs.words.Products.{byte_at};
@@ -6,9 +6,10 @@ ghost use Rattle.rs_field.specs.words.Products.{byte_at};
 use rs_field::engine::vectors;
 use std::simd::prelude::*;
 
-/// A vector of bytes. Look-ups are its methods, since the checker takes a shuffle only at a width written as a number.
+/// A vector of bytes. Look-ups are methods of the vector, because the checker accepts a shuffle only if its width is
+/// written as a number.
 pub trait ByteVector: Copy + Drop {
-    /// The number of its bytes.
+    /// The number of bytes of the vector.
     const LANES: usize;
 
     ghost LANES: { ℕ };
@@ -16,13 +17,13 @@ pub trait ByteVector: Copy + Drop {
     // The bytes of a vector, lane by lane.
     ghost bytes: { Self → List ℕ };
 
-    /// The bytes of a chunk from `at` on.
+    /// Returns the bytes of a chunk from index `at` on.
     fn load(c: &[u8; 64], at: usize) -> Self
         requires { at + LANES ≤ 64 }
         ensures { (i s : ℕ) → i < LANES → s ≡ at + i
             → slice_index (bytes result) i ≡ slice_index c.now s };
 
-    /// Puts the bytes into the places of a chunk from `at` on.
+    /// Writes the bytes of the vector into a chunk, from index `at` on.
     fn store(self, c: &mut [u8; 64], at: usize)
         requires { at + LANES ≤ 64 }
         ensures stored { (i s : ℕ) → i < LANES → s ≡ at + i
@@ -30,7 +31,7 @@ pub trait ByteVector: Copy + Drop {
         ensures kept { (i : ℕ) → (i < at) ⊎ (at + LANES ≤ i)
             → slice_index c.new i ≡ slice_index c.old i };
 
-    /// Returns the XOR, lane by lane. The first clause states that lanes are bytes.
+    /// Returns the XOR of two vectors, lane by lane. The first clause states that lanes are bytes.
     fn sum(self, other: Self) -> Self
         ensures small { (i : ℕ) → i < LANES
             → (slice_index (bytes self) i < 256) × (slice_index (bytes other) i < 256) }
@@ -38,22 +39,22 @@ pub trait ByteVector: Copy + Drop {
             → slice_index (bytes result) i
             ≡ bit_xor (slice_index (bytes self) i) (slice_index (bytes other) i) };
 
-    /// The bytes of `t` at the low nibbles.
+    /// Returns in each lane the byte of `t` whose index is the low nibble of this lane.
     fn at_low_nibbles(self, t: u128) -> Self
         ensures { (i : ℕ) → i < LANES
             → slice_index (bytes result) i ≡ byte_at t (slice_index (bytes self) i % 16) };
 
-    /// The bytes of `t` at the high nibbles.
+    /// Returns in each lane the byte of `t` whose index is the high nibble of this lane.
     fn at_high_nibbles(self, t: u128) -> Self
         ensures small { (i : ℕ) → i < LANES → slice_index (bytes self) i < 256 }
         ensures lanes { (i : ℕ) → i < LANES
             → slice_index (bytes result) i ≡ byte_at t (slice_index (bytes self) i / 16) };
 
-    // The words of the lanes are half a chunk or a whole one.
+    // The lanes of one vector hold the low or the high bytes of half a chunk, or of a whole chunk.
     ghost width: { (LANES ≡ 16) ⊎ (LANES ≡ 32) };
 }
 
-// The N bytes of a chunk from `at` on.
+// Returns the N bytes of a chunk from index `at` on.
 #[inline(always)]
 fn vector_at<const N: usize>(c: &[u8; 64], at: usize) -> Simd<u8, N>
     requires { at + N ≤ 64 }
@@ -62,7 +63,7 @@ fn vector_at<const N: usize>(c: &[u8; 64], at: usize) -> Simd<u8, N>
     Simd::from_slice(&c[at..at + N])
 }
 
-// Puts bytes into the N places of a chunk from `at` on.
+// Writes N bytes into a chunk, from index `at` on.
 #[inline(always)]
 fn put_vector<const N: usize>(v: Simd<u8, N>, c: &mut [u8; 64], at: usize)
     requires { at + N ≤ 64 }
@@ -72,7 +73,7 @@ fn put_vector<const N: usize>(v: Simd<u8, N>, c: &mut [u8; 64], at: usize)
     v.copy_to_slice(&mut c[at..at + N]);
 }
 
-// The 16 bytes of a number, the lowest first.
+// Returns the 16 bytes of a number, the lowest byte first.
 #[inline(always)]
 fn table(t: u128) -> u8x16
     ensures { (i : ℕ) → i < 16 → slice_index result i ≡ byte_at t i }
@@ -80,7 +81,7 @@ fn table(t: u128) -> u8x16
     u64x2::from_array([(t & 0xFFFF_FFFF_FFFF_FFFF) as u64, (t >> 64) as u64]).to_le_bytes()
 }
 
-// The bytes of a number of 128 bits, twice.
+// Returns the 16 bytes of a number twice, one after the other, the lowest byte first.
 #[inline(always)]
 fn table_twice(t: u128) -> u8x32
     ensures { (i : ℕ) → i < 32 → slice_index result i ≡ byte_at t (i % 16) }

@@ -1,4 +1,4 @@
-//! The engine that is chosen by name as the program runs.
+//! The engine that is chosen by name when the program runs.
 use crate::engine_nosimd::NoSimd;
 use crate::engine_shuffle::{Avx2, Ssse3};
 use rs_field::engine::tables::Tables;
@@ -11,26 +11,27 @@ use std::str::FromStr;
 ///
 /// # Examples
 ///
-/// The word "ssse3" becomes `EngineKind::Ssse3`. A program refuses every word that is no name of an engine:
+/// A program reads the name of an engine, and fails if the word is no name of an engine:
 ///
 /// ```
+/// // For the word "ssse3", from_str returns Ok(EngineKind::Ssse3). For "sse", it returns Err(UnknownEngine).
 /// let Ok(engine) = EngineKind::from_str(engine.as_str()) else {
 ///     return Err(Fault::Usage);
 /// };
 /// ```
 #[derive(Clone, Copy, Debug, PartialEq, Eq, Hash)]
 pub enum EngineKind {
-    /// `Naive`, the plain engine.
+    /// [`Naive`], the plain engine, which computes each product with logarithms.
     Naive,
-    /// `NoSimd`, the engine by products of nibbles.
+    /// [`NoSimd`], the engine without vectors, which looks up products by nibbles.
     NoSimd,
-    /// `Avx2`, the engine by shuffles of 32 byte lanes.
+    /// [`Avx2`], the engine with vectors of 32 bytes, which looks up products by shuffles.
     Avx2,
-    /// `Ssse3`, the engine by shuffles of 16 byte lanes.
+    /// [`Ssse3`], the engine with vectors of 16 bytes, which looks up products by shuffles.
     Ssse3,
 }
 
-/// The error of a word that names no engine.
+/// The error for a word that is no name of an engine.
 #[derive(Clone, Copy, Debug, PartialEq, Eq, Hash)]
 pub struct UnknownEngine;
 
@@ -46,7 +47,8 @@ impl fmt::Display for UnknownEngine {
 
 impl std::error::Error for UnknownEngine {}
 
-/// Reads the name of an engine, in lower case: `naive`, `nosimd`, `avx2` or `ssse3`.
+/// Reads the name of an engine in lower case: `naive`, `nosimd`, `avx2` or `ssse3`. Fails with [`UnknownEngine`] for
+/// every other word.
 impl FromStr for EngineKind {
     ghost use Rattle.std.specs.Prelude.{◌≡◌, Some, None, MatchResult};
     ghost use Rattle.rs_engines.specs.Kind.{engine_named};
@@ -74,17 +76,19 @@ impl FromStr for EngineKind {
 /// Engines of four types become values of one type:
 ///
 /// ```
+/// // This is [DefaultEngine::Naive(naive), DefaultEngine::NoSimd(no_simd), DefaultEngine::Avx2(avx2),
+/// // DefaultEngine::Ssse3(ssse3)].
 /// [naive.into(), no_simd.into(), avx2.into(), ssse3.into()]
 /// ```
 #[derive(Clone, Copy)]
 pub enum DefaultEngine<'t> {
-    /// The plain engine.
+    /// The plain engine, which computes each product with logarithms.
     Naive(Naive<'t>),
-    /// The engine by products of nibbles.
+    /// The engine without vectors, which looks up products by nibbles.
     NoSimd(NoSimd<'t>),
-    /// The engine by shuffles of 32 byte lanes.
+    /// The engine with vectors of 32 bytes, which looks up products by shuffles.
     Avx2(Avx2<'t>),
-    /// The engine by shuffles of 16 byte lanes.
+    /// The engine with vectors of 16 bytes, which looks up products by shuffles.
     Ssse3(Ssse3<'t>),
 }
 
@@ -96,9 +100,15 @@ impl<'t> DefaultEngine<'t> {
     ///
     /// # Examples
     ///
+    /// The engine encodes three originals of two bytes. One recovery shard of three originals is their XOR:
+    ///
     /// ```
     /// let tables = Tables::new(alloc)?;
     /// let engine = DefaultEngine::new(&tables, EngineKind::Ssse3);
+    /// let original: [&[u8]; 3] = [&[1, 2], &[4, 8], &[16, 32]];
+    /// let recovery = encode(alloc, 3, 1, original.into_iter(), engine)?;
+    /// assert_eq!(rt; recovery.len(), 1);
+    /// assert_eq!(rt; recovery[0].as_slice(), [21, 42].as_slice());
     /// ```
     pub fn new(tables: &'t Tables, kind: EngineKind) -> DefaultEngine<'t>
         ensures kind { kind_of result ≡ kind }
@@ -113,7 +123,7 @@ impl<'t> DefaultEngine<'t> {
     }
 }
 
-/// The plain engine as one of any kind.
+/// Converts the plain engine into an engine of any kind.
 impl<'t> From<Naive<'t>> for DefaultEngine<'t> {
     ghost use Rattle.std.specs.Prelude.{◌≡◌};
     ghost use Rattle.rs_engines.specs.declared.engine_default.DefaultEngine.TheVariants.{Naive as held};
@@ -125,7 +135,7 @@ impl<'t> From<Naive<'t>> for DefaultEngine<'t> {
     }
 }
 
-/// The engine by products of nibbles as one of any kind.
+/// Converts the engine without vectors into an engine of any kind.
 impl<'t> From<NoSimd<'t>> for DefaultEngine<'t> {
     ghost use Rattle.std.specs.Prelude.{◌≡◌};
     ghost use Rattle.rs_engines.specs.declared.engine_default.DefaultEngine.TheVariants.{NoSimd as held};
@@ -137,7 +147,7 @@ impl<'t> From<NoSimd<'t>> for DefaultEngine<'t> {
     }
 }
 
-/// The engine by shuffles of 32 byte lanes as one of any kind.
+/// Converts the engine with vectors of 32 bytes into an engine of any kind.
 impl<'t> From<Avx2<'t>> for DefaultEngine<'t> {
     ghost use Rattle.std.specs.Prelude.{◌≡◌};
     ghost use Rattle.rs_engines.specs.declared.engine_default.DefaultEngine.TheVariants.{Avx2 as held};
@@ -149,7 +159,7 @@ impl<'t> From<Avx2<'t>> for DefaultEngine<'t> {
     }
 }
 
-/// The engine by shuffles of 16 byte lanes as one of any kind.
+/// Converts the engine with vectors of 16 bytes into an engine of any kind.
 impl<'t> From<Ssse3<'t>> for DefaultEngine<'t> {
     ghost use Rattle.std.specs.Prelude.{◌≡◌};
     ghost use Rattle.rs_engines.specs.declared.engine_default.DefaultEngine.TheVariants.{Ssse3 as held};

@@ -1,7 +1,7 @@
-//! The engine by products of nibbles: each product by four look-ups, symbol by symbol.
+//! The engine that looks up products by nibbles: four look-ups for each word, one word at a time.
 //!
-//! The products of the sixteen values of each nibble with a factor are 4-bit tables, as Leopard-RS has them; the product
-//! of a word is the sum of its nibbles'.
+//! The table of a factor holds its products with the sixteen values of each nibble, as in Leopard-RS. The product of a
+//! word is the sum of the products of its four nibbles.
 ghost use Rattle.std.specs.Prelude.{◌≡◌, ℕ, ◌+◌, ◌*◌, ◌<◌, length, bit_xor};
 ghost use Rattle.rs_field.specs.words.Field.{product};
 ghost use Rattle.rs_field.specs.words.Tables.{times_factor};
@@ -25,8 +25,15 @@ impl<'t> NoSimd<'t> {
     ///
     /// # Examples
     ///
+    /// The product of 4 and 2 is 11:
+    ///
     /// ```
-    /// NoSimd::new(&tables)
+    /// let engine = NoSimd::new(&tables);
+    /// let log_2 = get_exp_log(&tables).log[2];
+    /// let mut row = [[0; 64]];
+    /// row[0][0] = 4;
+    /// engine.mul(&mut Steps::new(), &mut row, log_2);
+    /// assert_eq!(rt; row[0][0], 11);
     /// ```
     pub fn new(tables: &'t Tables) -> NoSimd<'t>
         ensures { result.tables.now ≡ tables.now }
@@ -35,7 +42,7 @@ impl<'t> NoSimd<'t> {
     }
 }
 
-// The product of the word of two bytes.
+// Returns the product of the word that has these two bytes.
 #[inline(always)]
 fn nibble_product(lists: &[[GfElement; 16]; 4], low: u8, high: u8) -> GfElement
     ensures { (f : ℕ) → IsNibbles f lists.now → result ≡ product (low + 256 * high) f }
@@ -46,7 +53,7 @@ fn nibble_product(lists: &[[GfElement; 16]; 4], low: u8, high: u8) -> GfElement
         ^ lists[3][(high >> 4) as usize]
 }
 
-// Each symbol becomes its product, two at a time.
+// Multiplies each symbol of a chunk by a factor, two symbols at a time.
 #[inline(always)]
 fn mul_chunk(c: &mut [u8; 64], lists: &[[GfElement; 16]; 4])
     ensures { (f s : ℕ) → IsNibbles f lists.now → s < 32
@@ -61,7 +68,7 @@ fn mul_chunk(c: &mut [u8; 64], lists: &[[GfElement; 16]; 4])
     }
 }
 
-// Each symbol of x becomes its sum with the product of y's, two at a time.
+// Adds to each symbol of x the product of the same symbol of y with a factor, two symbols at a time.
 #[inline(always)]
 fn mul_add_chunk(x: &mut [u8; 64], y: &[u8; 64], lists: &[[GfElement; 16]; 4])
     ensures { (f s : ℕ) → IsNibbles f lists.now → s < 32
@@ -76,7 +83,7 @@ fn mul_add_chunk(x: &mut [u8; 64], y: &[u8; 64], lists: &[[GfElement; 16]; 4])
     }
 }
 
-// Each symbol of each chunk becomes its product.
+// Multiplies each symbol of each chunk by a factor.
 fn mul_chunks(x: &mut [[u8; 64]], lists: &[[GfElement; 16]; 4])
     ensures { (f k s : ℕ) → IsNibbles f lists.now → k < length x.old → s < 32
         → symbol (chunk x.new k) s ≡ product (symbol (chunk x.old k) s) f }
@@ -86,7 +93,7 @@ fn mul_chunks(x: &mut [[u8; 64]], lists: &[[GfElement; 16]; 4])
     }
 }
 
-// Adds the product of each symbol of y to that of x.
+// Adds to each symbol of x the product of the same symbol of y with a factor.
 fn mul_add_chunks(x: &mut [[u8; 64]], y: &[[u8; 64]], lists: &[[GfElement; 16]; 4])
     requires { length x.old ≡ length y.now }
     ensures { (f k s : ℕ) → IsNibbles f lists.now → k < length x.old → s < 32
@@ -99,8 +106,8 @@ fn mul_add_chunks(x: &mut [[u8; 64]], y: &[[u8; 64]], lists: &[[GfElement; 16]; 
 }
 
 impl NoSimd<'_> {
-    // Adds a row times the factor of a butterfly to another row. The logarithm 65535 marks the factor zero, whose product is left
-    // out.
+    // Adds the row y times the factor of a butterfly to the row x. The logarithm 65535 represents the factor zero. Then
+    // nothing is added.
     fn mul_add(&self, x: &mut [[u8; 64]], y: &[[u8; 64]], log_m: GfElement)
         requires { length x.old ≡ length y.now }
         ensures { (k s : ℕ) → k < length x.old → s < 32

@@ -1,4 +1,5 @@
-//! The engines by shuffles: words in lanes, and their products by eight look-ups of nibbles, or by six.
+//! The engines that look up products by shuffles. The words of a chunk are in the lanes of vectors, and a product takes
+//! eight look-ups of nibbles, or six if the factor is small.
 ghost use Rattle.std.specs.Prelude.{◌≡◌, ℕ};
 ghost use Rattle.rs_engines.specs.Factors.{log_of};
 
@@ -31,7 +32,7 @@ pub type Avx2<'t> = ByShuffles<'t, u8x32>;
 
 /// The width of the vectors of an engine.
 pub trait Lanes {
-    // The number of byte lanes of a vector.
+    // The number of bytes of a vector of the engine.
     ghost lanes: { ℕ };
 }
 
@@ -40,11 +41,19 @@ impl<V: ByteVector> Lanes for ByShuffles<'_, V> {
 }
 
 impl<'t> Ssse3<'t> {
-    /// Makes the engine of 16 byte lanes over these tables.
+    /// Makes the engine with vectors of 16 bytes over these tables.
+    ///
+    /// # Examples
+    ///
+    /// The product of 4 and 2 is 11:
     ///
     /// ```
-    /// let tables = Tables::new(alloc)?;
     /// let engine = Ssse3::new(&tables);
+    /// let log_2 = get_exp_log(&tables).log[2];
+    /// let mut row = [[0; 64]];
+    /// row[0][0] = 4;
+    /// engine.mul(&mut Steps::new(), &mut row, log_2);
+    /// assert_eq!(rt; row[0][0], 11);
     /// ```
     pub fn new(tables: &'t Tables) -> Ssse3<'t>
         ensures tables { result.tables.now ≡ tables.now }
@@ -55,7 +64,7 @@ impl<'t> Ssse3<'t> {
 }
 
 impl<'t> Avx2<'t> {
-    /// Makes the engine of 32 byte lanes over these tables.
+    /// Makes the engine with vectors of 32 bytes over these tables.
     pub fn new(tables: &'t Tables) -> Avx2<'t>
         ensures tables { result.tables.now ≡ tables.now }
         ensures lanes { ⟦<Avx2<'static> as Lanes>⟧.lanes ≡ 32 }
@@ -65,7 +74,7 @@ impl<'t> Avx2<'t> {
 }
 
 impl<'t, V: ByteVector> ByShuffles<'t, V> {
-    // The engine over these tables.
+    // Makes the engine over these tables.
     fn over(tables: &'t Tables) -> ByShuffles<'t, V>
         ensures { result.tables.now ≡ tables.now }
     {
@@ -75,7 +84,7 @@ impl<'t, V: ByteVector> ByShuffles<'t, V> {
         }
     }
 
-    // The factor of a butterfly that this logarithm names.
+    // Returns the factor of a butterfly that has the logarithm `log_m`.
     #[inline(always)]
     fn factor(&self, log_m: GfElement) -> AnyFactor<'_>
         ensures { log_of result ≡ log_m }
@@ -83,7 +92,7 @@ impl<'t, V: ByteVector> ByShuffles<'t, V> {
         factor_of(&get_mul128(self.tables)[log_m as usize], log_m)
     }
 
-    // Three of them.
+    // Returns the three factors of two layers of butterflies that have the logarithms `logs`.
     #[inline(always)]
     fn factors(
         &self,

@@ -1,7 +1,8 @@
-//! The factors of butterflies in three classes, which are known before a loop over chunks: zero, below 256, and any.
+//! The factors of butterflies in three classes: zero, factors whose products with low bytes have no high byte, and all
+//! other factors. The class of a factor is known before a loop over chunks begins.
 //!
-//! The product of a byte with a factor below 256 is a byte: of the eight look-ups of a product two give zero, and are
-//! left out.
+//! A product takes eight look-ups. If the factor is below 256, its product with a low byte has no high byte, so two of
+//! the eight look-ups would give zero, and only six are made.
 ghost use Rattle.std.specs.Prelude.{◌≡◌, ◌≢◌, ℕ, ◌<◌, slice_index, bit_xor};
 ghost use Rattle.rs_field.specs.words.Field.{power};
 ghost use Rattle.rs_field.specs.words.Tables.{times_factor};
@@ -15,10 +16,10 @@ use rs_field::engine::tables::Multiply128lutT;
 
 /// The factor of a butterfly.
 pub trait Factor: Copy + Drop {
-    // The logarithm of a factor; 65535 marks the factor zero.
+    // The logarithm of a factor. 65535 represents the factor zero.
     ghost log: { Self → ℕ };
 
-    /// The sums of the words x and the products of the words y.
+    /// Returns in each lane the sum of the word of x and the product of the word of y with this factor.
     fn add_product<V: ByteVector>(self, x: Words<V>, y: Words<V>) -> Words<V>
         ensures { (i : ℕ) → i < V.LANES
             → lane (V.bytes result.low) (V.bytes result.high) i
@@ -39,10 +40,12 @@ impl Factor for Zero {
     }
 }
 
-/// A factor, not zero, whose products with low bytes have no high byte.
+/// A factor that is not zero, and whose products with low bytes have no high byte.
 #[derive(Clone, Copy)]
 pub struct Small<'t> {
+    /// The logarithm of the factor.
     pub log_m: GfElement,
+    /// The products with the factor, as bytes.
     pub products: &'t Multiply128lutT,
     pub ghost nonzero: { log_m ≢ 65535 },
     pub ghost of_factor: { IsNibbleBytes (power log_m) products.now },
@@ -59,10 +62,12 @@ impl Factor for Small<'_> {
     }
 }
 
-/// Any factor but zero.
+/// A factor that is not zero, without any further condition.
 #[derive(Clone, Copy)]
 pub struct General<'t> {
+    /// The logarithm of the factor.
     pub log_m: GfElement,
+    /// The products with the factor, as bytes.
     pub products: &'t Multiply128lutT,
     pub ghost nonzero: { log_m ≢ 65535 },
     pub ghost of_factor: { IsNibbleBytes (power log_m) products.now },
@@ -77,10 +82,13 @@ impl Factor for General<'_> {
     }
 }
 
-/// The factors of two layers on four rows: of rows 0 and 2 and of rows 1 and 3, of rows 0 and 1, and of rows 2 and 3.
+/// The three factors that two layers of butterflies on four rows use.
 #[derive(Clone, Copy)]
 pub struct ThreeFactors<F02, F01, F23> {
+    /// The factor of the butterfly on rows 0 and 2 and of the butterfly on rows 1 and 3.
     pub f02: F02,
+    /// The factor of the butterfly on rows 0 and 1.
     pub f01: F01,
+    /// The factor of the butterfly on rows 2 and 3.
     pub f23: F23,
 }

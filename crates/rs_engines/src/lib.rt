@@ -1,4 +1,4 @@
-//! The engines by look-ups of nibbles, one at a time and by shuffles, and the engine chosen by name.
+//! Engines that look up products by nibbles, one at a time or by shuffles, and the engine that is chosen by name.
 #![tactic(auto)]
 
 pub mod any_factor;

@@ -1,4 +1,5 @@
-//! Products, butterflies and two layers of butterflies of chunks by shuffles: the lanes take a chunk at once, or one half and then the other.
+//! Products, butterflies and two layers of butterflies of chunks by shuffles. The vectors hold the 32 symbols of a
+//! chunk at once, or first one half of the symbols and then the other half.
 ghost use Rattle.std.specs.Prelude.{◌≡◌, ℕ, ◌+◌, ◌<◌, ◌≤◌, ◌⊎◌};
 ghost use Rattle.rs_field.specs.words.Field.{product};
 ghost use Rattle.rs_field.specs.rows.Rows.{symbol};
@@ -12,7 +13,7 @@ use crate::factors::{Factor, ThreeFactors};
 use crate::words::{put_words, times, words_at};
 use rs_field::engine::tables::Multiply128lutT;
 
-// Multiplies as many symbols as there are lanes, from `at` on.
+// Multiplies as many symbols of a chunk as a vector has lanes, from symbol `at` on.
 #[inline(always)]
 fn mul_lanes<V: ByteVector>(c: &mut [u8; 64], at: usize, factor: &Multiply128lutT)
     requires { at + V.LANES ≤ 32 }
@@ -25,7 +26,7 @@ fn mul_lanes<V: ByteVector>(c: &mut [u8; 64], at: usize, factor: &Multiply128lut
     put_words(times(words, factor), c, at);
 }
 
-/// Multiplies each symbol of a chunk.
+/// Multiplies each symbol of a chunk by a factor.
 #[inline(always)]
 pub fn mul_chunk<V: ByteVector>(c: &mut [u8; 64], factor: &Multiply128lutT)
     ensures { (f s : ℕ) → IsNibbleBytes f factor.now → s < 32
@@ -37,7 +38,7 @@ pub fn mul_chunk<V: ByteVector>(c: &mut [u8; 64], factor: &Multiply128lutT)
     }
 }
 
-// The butterfly of as many symbols of two chunks as there are lanes, from `at` on.
+// Computes a butterfly on as many symbols of two chunks as a vector has lanes, from symbol `at` on.
 #[inline(always)]
 fn lanes_of_two<V: ByteVector, D: Butterflies, F: Factor>(
     c0: &mut [u8; 64],
@@ -60,7 +61,7 @@ fn lanes_of_two<V: ByteVector, D: Butterflies, F: Factor>(
     put_words(y1, c1, at);
 }
 
-/// The butterfly of two chunks.
+/// Computes a butterfly on two chunks.
 #[inline(always)]
 pub fn two_chunks<V: ByteVector, D: Butterflies, F: Factor>(
     c0: &mut [u8; 64],
@@ -76,7 +77,8 @@ pub fn two_chunks<V: ByteVector, D: Butterflies, F: Factor>(
     }
 }
 
-// Two layers on as many symbols of four chunks as there are lanes: one load and one store of each.
+// Computes two layers of butterflies on as many symbols of four chunks as a vector has lanes, from symbol `at` on. Each
+// symbol is loaded and stored once.
 #[inline(always)]
 fn lanes_of_four<V: ByteVector, D: Butterflies, F02: Factor, F01: Factor, F23: Factor>(
     c0: &mut [u8; 64],
@@ -111,7 +113,7 @@ fn lanes_of_four<V: ByteVector, D: Butterflies, F02: Factor, F01: Factor, F23: F
     put_words(y3, c3, at);
 }
 
-/// Two layers on four chunks.
+/// Computes two layers of butterflies on four chunks.
 #[inline(always)]
 pub fn four_chunks<V: ByteVector, D: Butterflies, F02: Factor, F01: Factor, F23: Factor>(
     c0: &mut [u8; 64],

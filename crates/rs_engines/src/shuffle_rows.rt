@@ -14,7 +14,7 @@ use crate::factors::{Factor, General, Small, ThreeFactors};
 use crate::shuffle_chunks::{four_chunks, mul_chunk, two_chunks};
 use rs_field::engine::tables::Multiply128lutT;
 
-/// Multiplies each symbol of a row.
+/// Multiplies each symbol of a row by a factor.
 pub fn mul_chunks<V: ByteVector>(x: &mut [[u8; 64]], factor: &Multiply128lutT)
     ensures { (f k s : ℕ) → IsNibbleBytes f factor.now → k < length x.old → s < 32
         → symbol (chunk x.new k) s ≡ product (symbol (chunk x.old k) s) f }
@@ -24,7 +24,7 @@ pub fn mul_chunks<V: ByteVector>(x: &mut [[u8; 64]], factor: &Multiply128lutT)
     }
 }
 
-// The butterfly of two rows by a factor of this class.
+// Computes a butterfly on two rows, with a factor of class F.
 #[inline(always)]
 fn two_rows<V: ByteVector, D: Butterflies, F: Factor>(
     x0: &mut [[u8; 64]],
@@ -41,7 +41,7 @@ fn two_rows<V: ByteVector, D: Butterflies, F: Factor>(
     }
 }
 
-// Two layers on four rows by factors of these classes.
+// Computes two layers of butterflies on four rows, with factors of the classes F02, F01 and F23.
 fn four_rows<V: ByteVector, D: Butterflies, F02: Factor, F01: Factor, F23: Factor>(
     x0: &mut [[u8; 64]],
     x1: &mut [[u8; 64]],
@@ -63,7 +63,8 @@ fn four_rows<V: ByteVector, D: Butterflies, F02: Factor, F01: Factor, F23: Facto
     }
 }
 
-// A copy of the products of a factor. No chunk shares memory with it, so a loop over chunks can keep its vectors in registers.
+// Returns a copy of the products of a factor. No chunk shares memory with the copy, so a loop over chunks can keep the
+// products in registers.
 #[inline(always)]
 fn copied(products: &Multiply128lutT) -> Multiply128lutT
     ensures { result ≡ products.now }
@@ -74,7 +75,7 @@ fn copied(products: &Multiply128lutT) -> Multiply128lutT
     }
 }
 
-/// The butterfly of two rows.
+/// Computes a butterfly on two rows. There is a loop over chunks for each class of factors.
 #[inline(always)]
 pub fn one_layer<V: ByteVector, D: Butterflies>(
     x0: &mut [[u8; 64]],
@@ -99,8 +100,9 @@ pub fn one_layer<V: ByteVector, D: Butterflies>(
     }
 }
 
-/// Does two layers of butterflies on four rows. For the classes of factors that occur in transforms, there is a loop over chunks
-/// for each combination of classes. For all other combinations, the class of a factor is found out at each product.
+/// Computes two layers of butterflies on four rows. For the classes of factors that occur in transforms, there is a
+/// loop over chunks for each combination of classes. For all other combinations, the code finds the class of a factor
+/// again for each product.
 #[inline(always)]
 pub fn two_layers<V: ByteVector, D: Butterflies>(
     x0: &mut [[u8; 64]],

@@ -1,7 +1,7 @@
-//! Words in the lanes of two vectors of bytes, and their products by look-ups of nibbles.
+//! Words in the lanes of two vectors of bytes, and products of these words by look-ups of nibbles.
 //!
-//! A product is the sum of the products of the word's four nibbles. Each byte of these is one of the 16 bytes of a
-//! number, so a shuffle looks up those of all lanes at once.
+//! The product of a word is the sum of the products of its four nibbles. A number of 16 bytes holds one byte of the
+//! products of each value of a nibble, so a shuffle looks up this byte for all lanes at once.
 ghost use Rattle.std.specs.Prelude.{◌≡◌, ℕ, ◌+◌, ◌/◌, ◌%◌, ◌<◌, ◌≤◌, ◌⊎◌, slice_index, bit_xor};
 ghost use Rattle.rs_field.specs.words.Field.{product};
 ghost use Rattle.rs_field.specs.rows.Rows.{symbol};
@@ -11,14 +11,17 @@ ghost use Rattle.rs_engines.specs.Lanes.{lane};
 use crate::byte_vector::ByteVector;
 use rs_field::engine::tables::Multiply128lutT;
 
-/// A word a lane: the low byte of each, and the high byte of each.
+/// Words in lanes: lane i of the two vectors holds one word.
 #[derive(Clone, Copy)]
 pub struct Words<V: ByteVector> {
+    /// The low byte of each word.
     pub low: V,
+    /// The high byte of each word.
     pub high: V,
 }
 
-// One byte of the product of each word, from that byte of the products of its four nibbles.
+// Returns the low byte or the high byte of the product of each word. `numbers` hold this byte of the products of the
+// four nibbles.
 #[inline(always)]
 fn product_bytes<V: ByteVector>(low: V, high: V, numbers: &[u128; 4]) -> V
     ensures small { (i : ℕ) → i < V.LANES → slice_index (V.bytes low) i < 256 }
@@ -36,7 +39,7 @@ fn product_bytes<V: ByteVector>(low: V, high: V, numbers: &[u128; 4]) -> V
     first.sum(second)
 }
 
-/// The words of a chunk from `at` on.
+/// Returns the words of a chunk from symbol `at` on.
 #[inline(always)]
 pub fn words_at<V: ByteVector>(c: &[u8; 64], at: usize) -> Words<V>
     requires { at + V.LANES ≤ 32 }
@@ -49,7 +52,7 @@ pub fn words_at<V: ByteVector>(c: &[u8; 64], at: usize) -> Words<V>
     }
 }
 
-/// Makes them the words of a chunk from `at` on.
+/// Writes words into a chunk, from symbol `at` on.
 #[inline(always)]
 pub fn put_words<V: ByteVector>(words: Words<V>, c: &mut [u8; 64], at: usize)
     requires { at + V.LANES ≤ 32 }
@@ -62,7 +65,7 @@ pub fn put_words<V: ByteVector>(words: Words<V>, c: &mut [u8; 64], at: usize)
     words.high.store(c, at + 32);
 }
 
-/// The products of words.
+/// Returns the products of words with a factor.
 #[inline(always)]
 pub fn times<V: ByteVector>(words: Words<V>, factor: &Multiply128lutT) -> Words<V>
     ensures { (f i : ℕ) → IsNibbleBytes f factor.now → i < V.LANES
@@ -75,7 +78,8 @@ pub fn times<V: ByteVector>(words: Words<V>, factor: &Multiply128lutT) -> Words<
     }
 }
 
-/// Products of words if the products of low bytes have no high byte: six look-ups instead of eight.
+/// Returns the products of words with a factor whose products with low bytes have no high byte. This takes six look-ups
+/// instead of eight.
 #[inline(always)]
 pub fn times_small<V: ByteVector>(words: Words<V>, factor: &Multiply128lutT) -> Words<V>
     requires first { slice_index factor.now.hi 0 ≡ 0 }
@@ -93,7 +97,7 @@ pub fn times_small<V: ByteVector>(words: Words<V>, factor: &Multiply128lutT) -> 
     }
 }
 
-/// The sums of words.
+/// Returns the sums of words.
 #[inline(always)]
 pub fn add<V: ByteVector>(x: Words<V>, y: Words<V>) -> Words<V>
     ensures { (i : ℕ) → i < V.LANES

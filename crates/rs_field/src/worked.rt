@@ -6,13 +6,14 @@ ghost use Rattle.rs_field.specs.worked.Codes.{LowExamples, HighExamples, ShortLi
 ghost use Rattle.rs_field.specs.worked.Codes.{ChunkAndTailExample, RestoredExample, MixtureExample, SurplusExample};
 ghost use Rattle.rs_field.specs.worked.Calls.{EncodeOrder, DecodeOrder, NoRecoveryOrder, EncoderRound, DecoderRound, LargestIndex, MemoryOrder};
 
-/// Products of words, and columns of shards with and without a tail.
+/// Gives examples of products of words, and of columns of shards with and without a tail.
 pub fn words()
     ensures products { Products }
     ensures columns { ColumnsOfShards }
 {}
 
-/// The counts that each rate supports, the rate that the default rate is, and the errors of configurations.
+/// Gives examples of the counts that each rate supports, of the rate that the default rate chooses, and of the errors
+/// of configurations.
 pub fn counts()
     ensures powers { Powers }
     ensures supported { Supported }
@@ -22,7 +23,7 @@ pub fn counts()
     ensures validated { Validated }
 {}
 
-/// How many rows encoders and decoders have, and how many bytes of them are too many.
+/// Gives examples of the number of rows that encoders and decoders have, and of rows with too many bytes.
 pub fn rows()
     ensures blocks { BlockRowsExamples }
     ensures encoders { EncoderRowsExamples }
@@ -30,18 +31,19 @@ pub fn rows()
     ensures bytes { TooManyBytes }
 {}
 
-/// How many steps calls may count.
+/// Gives examples of how many steps calls may count.
 pub fn bounds()
     ensures { StepBounds }
 {}
 
-/// A transform of two words.
+/// Gives an example of a transform of two words.
 pub fn transforms()
     ensures { TransformOfTwo }
 {}
 
-/// Recovery shards with the polynomials that code their messages: at the low rate, at the high rate, and at the default rate. Those
-/// of the default rate are those of the low rate if the power of k is below the power of r, and those of the high rate else.
+/// Gives examples of recovery shards, with the polynomials that code their messages: at the low rate, at the high rate,
+/// and at the default rate. The default rate gives the recovery shards of the low rate if the power of k is below the
+/// power of r, and the recovery shards of the high rate otherwise.
 pub fn codes()
     ensures low { LowExamples low_rate }
     ensures short_line { ShortLineExample low_rate }
@@ -53,14 +55,14 @@ pub fn codes()
     ensures default_high { HighExamples default_rate }
 {}
 
-/// Which messages agree with given shards.
+/// Gives examples of which messages agree with given shards.
 pub fn agreement()
     ensures restored { RestoredExample }
     ensures mixture { MixtureExample }
     ensures surplus { SurplusExample }
 {}
 
-/// The order of errors, and the state after a call.
+/// Gives examples of the order of errors, and of the state after a call.
 pub fn refusals()
     ensures encode { EncodeOrder }
     ensures decode { DecodeOrder }

@@ -22,7 +22,7 @@ impl<'a> DecoderResult<'a> {
     ghost use Rattle.rs_rate.specs.DecoderView.{restored_by_rows};
     ghost use Rattle.rs_rate.specs.ResultView.{restored_originals};
 
-    // The result over the rows, with the number of restored originals in them.
+    // Makes the result over the rows. `restored_count` is the number of restored originals in the rows.
     pub(crate) fn new(rows: &'a DecoderRows, restored_count: usize) -> DecoderResult<'a>
         requires { restored_count ≡ length (restored_from rows.now 0) }
         ensures { restored_originals result ≡ restored_by_rows rows.now }
@@ -33,15 +33,19 @@ impl<'a> DecoderResult<'a> {
         }
     }
 
-    /// Returns the restored original with this index, or `None` if that original was added to the decoder or no original has
-    /// this index.
+    /// Returns the restored original with this index. Returns `None` if this original was added to the decoder, or if
+    /// `index` is not below the number of originals.
+    ///
+    /// The index of an original is its place in the order in which the originals were added to the encoder, counted
+    /// from 0.
     pub fn restored_original(&self, index: usize) -> Option<&[u8]>
         ensures { option_copied result ≡ restored_originals self.now index }
     {
         self.rows.restored_original(index)
     }
 
-    /// Returns an iterator over the restored originals with their indexes, in order of index. It knows its exact length.
+    /// Returns an iterator over the restored originals with their indexes, in order of index. The iterator has an exact
+    /// length.
     pub fn restored_original_iter(&self) -> RestoredOriginal<'_>
         ensures listed { Lists (restored_originals self.now) result }
         ensures few { length result < 2 ^ 64 }

@@ -19,6 +19,7 @@ impl<'a> EncoderResult<'a> {
     ghost use Rattle.rs_rate.specs.EncoderView.{lent_shards};
     ghost use Rattle.rs_rate.specs.ResultView.{recovery_shards};
 
+    // Makes the result over the rows.
     pub(crate) fn new(rows: &'a EncoderRows) -> EncoderResult<'a>
         ensures { recovery_shards result ≡ lent_shards rows.now }
     {
@@ -26,6 +27,8 @@ impl<'a> EncoderResult<'a> {
     }
 
     /// Returns the recovery shard with this index, or `None` if `index` is not below the number of recovery shards.
+    ///
+    /// Recovery shards have indexes of their own, which begin at 0: recovery shard 0 is not original 0.
     pub fn recovery(&self, index: usize) -> Option<&[u8]>
         ensures { MatchOption result (length (recovery_shards self.now) ≤ index)
             (λ shard. (index < length (recovery_shards self.now))
@@ -34,7 +37,8 @@ impl<'a> EncoderResult<'a> {
         self.rows.recovery(index)
     }
 
-    /// Returns an iterator over the recovery shards, in order of index. It knows its exact length.
+    /// Returns an iterator over the recovery shards, in order of index, from index 0 on. The iterator has an exact
+    /// length.
     pub fn recovery_iter(&self) -> Recovery<'_>
         ensures shards { result ≡ recovery_shards self.now }
         ensures few { length (recovery_shards self.now) < 2 ^ 64 }

@@ -1,4 +1,4 @@
-//! Rates of the code: their encoders, decoders, works and results.
+//! The rates of the code: their encoders and decoders, the memory that these pass on, and their results.
 #![tactic(auto)]
 
 mod decoder_result;

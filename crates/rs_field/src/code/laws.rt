@@ -1,7 +1,8 @@
 //! Laws of the definitions, as contracts of functions that do nothing.
 ghost use Rattle.std.specs.Prelude.{◌≡◌, ◌+◌, ◌^◌, length};
 ghost use Rattle.rs_field.specs.code.Code.{HasOnePolynomial, HasOneRecovery};
-ghost use Rattle.rs_field.specs.code.CodeLaws.{HasRecovery, IsLinear, IsColumnwise, IsCodedByStrips, CodesWhereStripsDo, HasOneCodeAtOnePower, IsFixedByPlaces, HasOneRestoration, NoticesChanges};
+ghost use Rattle.rs_field.specs.code.CodeLaws.{HasRecovery, IsLinear, IsColumnwise, IsCodedByStrips, CodesWhereStripsDo};
+ghost use Rattle.rs_field.specs.code.CodeLaws.{HasOneCodeAtOnePower, IsFixedByPlaces, HasOneRestoration, NoticesChanges};
 ghost use Rattle.rs_field.specs.code.Column.{ColumnsTellShard, IsColumn};
 ghost use Rattle.rs_field.specs.code.CountLaws.{SupportsRanges};
 ghost use Rattle.rs_field.specs.words.Field.{cantor_basis, polynomial};
@@ -12,7 +13,7 @@ ghost use Rattle.rs_field.specs.words.Subspace.{SubspaceIsShift};
 
 use crate::words::{CANTOR_BASIS, GF_BITS, GF_MODULUS, GF_ORDER, GF_POLYNOMIAL};
 
-/// The constants of the field are those of the definitions.
+/// States that the constants of the field are those of the definitions.
 #[tactic(auto, unfolding(crate::specs::words::Field::cantor_basis))]
 pub fn field_constants()
     ensures basis { CANTOR_BASIS ≡ cantor_basis }
@@ -22,22 +23,22 @@ pub fn field_constants()
     ensures modulus { GF_MODULUS + 1 ≡ GF_ORDER }
 {}
 
-/// The words are a field: sums and products obey the laws of a field. The product is the reduced carry-less product of the `bits`
-/// of the words. The nonzero words are the 65535 powers of the generator, the last of which is 1.
+/// States that the words are a field: sums and products obey the laws of a field. The product is the reduced carry-less
+/// product of the `bits` of the words. The nonzero words are the 65535 powers of the generator, the last of which is 1.
 pub fn field_laws()
     ensures field { IsField }
     ensures product { IsProductOfBits }
     ensures generated { IsGenerated }
 {}
 
-/// The default rate supports any two counts from 1 to 32768, and any two positive counts of which one is at most 2^n and the other
-/// at most 65536 - 2^n for some n. It supports no other counts.
+/// States which counts the default rate supports: any two counts from 1 to 32768, and any two positive counts of which
+/// one is at most 2^n and the other at most 65536 - 2^n for some n. The default rate supports no other counts.
 pub fn count_laws()
     ensures { SupportsRanges }
 {}
 
-/// The columns of a shard are its words, chunk by chunk, and shards with the same columns are equal. At most one polynomial codes
-/// given words, and a message has at most one list of recovery shards.
+/// States that the columns of a shard are its words, chunk by chunk, and that shards with the same columns are equal.
+/// At most one polynomial codes given words, and a message has at most one list of recovery shards.
 pub fn code_laws()
     ensures column { IsColumn }
     ensures shard { ColumnsTellShard }
@@ -45,9 +46,10 @@ pub fn code_laws()
     ensures recovery { HasOneRecovery }
 {}
 
-/// Every message has recovery shards. The recovery shards of the XOR of two messages are the XOR of their recovery shards. Each
-/// column is coded independently. If the two counts have the same power, the low and the high rate are the same code. A message
-/// may be coded strip by strip: the recovery shards of a strip are a strip of the recovery shards.
+/// States that every message has recovery shards, and how the recovery shards of related messages are related. The
+/// recovery shards of the XOR of two messages are the XOR of their recovery shards. Each column is coded independently.
+/// If the two counts have the same power, the low and the high rate are the same code. A message may be coded strip by
+/// strip: the recovery shards of a strip are a strip of the recovery shards.
 pub fn recovery_laws()
     ensures some { HasRecovery }
     ensures linear { IsLinear }
@@ -57,16 +59,17 @@ pub fn recovery_laws()
     ensures one_code { HasOneCodeAtOnePower }
 {}
 
-/// The shards at any k places of a codeword determine its message. So at most one result restores the missing originals, and a
-/// decoder that gets n shards notices up to n - k changed shards.
+/// States that the shards at any k places of a codeword determine its message. So at most one result restores the
+/// missing originals, and a decoder that gets n shards notices up to n - k changed shards.
 pub fn codeword_laws()
     ensures places { IsFixedByPlaces }
     ensures restored { HasOneRestoration }
     ensures changes { NoticesChanges }
 {}
 
-/// A decoder of any rate that gets at least k of the originals and recovery shards of a message returns exactly the lost originals,
-/// and never fails. The same holds for an encoder followed by a decoder, and for the one-call functions.
+/// States that a decoder of any rate that gets at least k of the originals and recovery shards of a message returns
+/// exactly the lost originals, and never fails. The same holds for an encoder followed by a decoder, and for the
+/// one-call functions.
 pub fn round_trip_laws()
     ensures lost { RestoresLost }
     ensures encoded { RestoresEncoded }
@@ -76,7 +79,8 @@ pub fn round_trip_laws()
     ensures one_call { RestoresInOneCall }
 {}
 
-/// The subspace polynomials shift coordinates, and the sums of logarithms of a locator are logarithms of products.
+/// States that the subspace polynomials shift coordinates, and that the sums of logarithms of a locator are logarithms
+/// of products.
 pub fn point_laws()
     ensures subspace { SubspaceIsShift }
     ensures locator { LocatesByProduct }

@@ -2,12 +2,15 @@
 ghost use Rattle.std.specs.Prelude.{◌≡◌, ◌+◌, ◌%◌, ◌≤◌};
 ghost use Rattle.rs_field.specs.code.Counts.{next_power};
 
-/// The `size` rows from `pos` on, and the points from `skew_delta` on. `size` is a power of two and `skew_delta` a
-/// multiple of it, and all points lie below 65536.
+/// A block of a transform: the `size` rows from `pos` on, and the points from `skew_delta` on. `size` is a power of
+/// two, `skew_delta` is a multiple of `size`, and all points are below 65536.
 #[derive(Clone, Copy, Debug, PartialEq, Eq, Hash)]
 pub struct Block {
+    /// The index of the first row.
     pub pos: usize,
+    /// The number of rows.
     pub size: usize,
+    /// The first point.
     pub skew_delta: usize,
     pub ghost power: { next_power size ≡ size },
     pub ghost points: { skew_delta + size ≤ 65536 },
@@ -18,7 +21,7 @@ impl Block {
     ghost use Rattle.std.specs.Prelude.{ℕ, ◌*◌, ◌^◌, ◌<◌};
     ghost use Rattle.rs_field.specs.rows.Layers.{is_halved, rows_of_part};
 
-    /// The block of these numbers.
+    /// Makes the block of `size` rows from `pos` on and of the points from `skew_delta` on.
     pub fn new(pos: usize, size: usize, skew_delta: usize) -> Block
         requires power { (d : ℕ) × (size ≡ 2 ^ d) }
         requires shift { skew_delta % size ≡ 0 }
@@ -34,8 +37,10 @@ impl Block {
         }
     }
 
-    /// Whether the layers of this block are one, between its halves, and not two, between its quarters. Of 8 and of 32
-    /// rows they are, so that what is left ends in four rows, which take two layers at once, and not in two.
+    /// Returns true if a transform of this block does one layer at once, between the halves of the block, and false if
+    /// it does two layers at once, between the quarters. It does one layer for 2, 8 and 32 rows. With this choice, the
+    /// recursion over larger blocks ends in blocks of four rows, which take two layers at once, and not in blocks of
+    /// two rows.
     #[tactic(auto, unfolding(crate::specs::rows::Layers::is_halved))]
     pub fn is_halved(self) -> bool
         ensures { result ≡ is_halved self.size }
@@ -43,7 +48,7 @@ impl Block {
         matches!(self.size, 2 | 8 | 32)
     }
 
-    /// The rows of a part that the layers of this block leave.
+    /// Returns the number of rows of each part that is left to transform once the layers of this block are done.
     pub fn part_rows(self) -> usize
         ensures { result ≡ rows_of_part self.size }
     {
@@ -54,7 +59,7 @@ impl Block {
         }
     }
 
-    /// The j-th part, of `rows` rows.
+    /// Returns part `j` of this block, counted from 0. Each part has `rows` rows, which is the result of `part_rows`.
     pub fn part(self, j: usize, rows: usize) -> Block
         requires large { 1 < self.size }
         requires rows { rows ≡ rows_of_part self.size }

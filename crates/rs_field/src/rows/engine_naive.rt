@@ -26,7 +26,7 @@ impl<'t> Naive<'t> {
     }
 }
 
-// Each symbol of x becomes its sum with the product of y's.
+// Adds to each symbol of x the product of the same symbol of y with the factor.
 fn mul_add_chunk(x: &mut [u8; 64], y: &[u8; 64], log_m: GfElement, exp: Exp<'_>, log: Log<'_>)
     requires { IsExpLog exp.now log.now }
     ensures { (s : ℕ) → s < 32
@@ -38,7 +38,7 @@ fn mul_add_chunk(x: &mut [u8; 64], y: &[u8; 64], log_m: GfElement, exp: Exp<'_>,
     }
 }
 
-// Each symbol of x becomes its product.
+// Multiplies each symbol of x by the factor.
 fn mul_chunk(x: &mut [u8; 64], log_m: GfElement, exp: Exp<'_>, log: Log<'_>)
     requires { IsExpLog exp.now log.now }
     ensures { (s : ℕ) → s < 32 → symbol x.new s ≡ product (symbol x.old s) (power log_m) }

@@ -16,12 +16,15 @@ use crate::engine::Engine;
 use crate::words::lent_tables::LentTables;
 use crate::words::{GfElement, Steps, locating};
 
-/// The logarithms of the factors of two layers on four rows: of rows 0 and 2 and of rows 1 and 3, of rows 0 and 1, and of
-/// rows 2 and 3; 65535 marks the factor zero.
+/// The logarithms of the three factors that two layers of butterflies on four rows use. 65535 represents the factor
+/// zero.
 #[derive(Clone, Copy, Debug, PartialEq, Eq, Hash)]
 pub struct ThreeLogarithms {
+    /// The logarithm of the factor of the butterfly on rows 0 and 2 and of the butterfly on rows 1 and 3.
     pub log_m02: GfElement,
+    /// The logarithm of the factor of the butterfly on rows 0 and 1.
     pub log_m01: GfElement,
+    /// The logarithm of the factor of the butterfly on rows 2 and 3.
     pub log_m23: GfElement,
 }
 
@@ -30,7 +33,7 @@ pub struct ThreeLogarithms {
 /// Each type with these parts is an engine. `impl Engine` defines its transforms, which handle blocks, cosets and unused rows, and
 /// its products and its locator. The factor of a butterfly is given by its logarithm `log_m`; 65535 represents the factor zero.
 pub trait Kernel: Drop {
-    /// The tables of transforms and locators.
+    /// Returns the tables of transforms and locators.
     fn tables(&self) -> LentTables<'_>;
 
     /// Adds `y` times the factor to `x`, and then the new `x` to `y`. Both rows have the same number of chunks.
@@ -53,10 +56,12 @@ pub trait Kernel: Drop {
             → symbol (chunk y.new k) s
             ≡ bit_xor (symbol (chunk y.old k) s) (symbol (chunk x.old k) s) };
 
-    /// Two layers of `fft_butterfly` on four rows: rows 0 and 2 and rows 1 and 3 by the factor of `log_m02`, then rows 0
-    /// and 1 by that of `log_m01`, and rows 2 and 3 by that of `log_m23`. All four have the same number of chunks.
+    /// Does two layers of `fft_butterfly` on four rows: first on rows 0 and 2 and on rows 1 and 3, with the factor of
+    /// `log_m02`, then on rows 0 and 1, with the factor of `log_m01`, and on rows 2 and 3, with the factor of
+    /// `log_m23`. All four rows have the same number of chunks.
     ///
-    /// An engine that keeps words of each row in registers writes its own.
+    /// The default body calls `fft_butterfly` four times. An engine can have a body of its own that loads and stores
+    /// each word once for both layers.
     fn fft_two_layers(
         &self,
         x0: &mut [[u8; 64]],
@@ -79,8 +84,11 @@ pub trait Kernel: Drop {
         self.fft_butterfly(x2, x3, logs.log_m23);
     }
 
-    /// Two layers of `ifft_butterfly` on four rows: rows 0 and 1 by the factor of `log_m01` and rows 2 and 3 by that of
-    /// `log_m23`, then rows 0 and 2 and rows 1 and 3 by that of `log_m02`. All four have the same number of chunks.
+    /// Does two layers of `ifft_butterfly` on four rows: first on rows 0 and 1, with the factor of `log_m01`, and on
+    /// rows 2 and 3, with the factor of `log_m23`, then on rows 0 and 2 and on rows 1 and 3, with the factor of
+    /// `log_m02`. All four rows have the same number of chunks.
+    ///
+    /// The default body calls `ifft_butterfly` four times.
     fn ifft_two_layers(
         &self,
         x0: &mut [[u8; 64]],

@@ -13,7 +13,7 @@ use super::block::Block;
 use super::kernel::{Kernel, ThreeLogarithms};
 use crate::words::{GfElement, Steps};
 
-/// Which way a transform goes.
+/// The direction of a transform.
 #[derive(Clone, Copy)]
 pub(crate) enum Direction {
     /// From coefficients to values.
@@ -22,7 +22,7 @@ pub(crate) enum Direction {
     Backward,
 }
 
-// One layer of butterflies, by the factor of a logarithm: of the chunks of two halves.
+// Does one layer of butterflies, with the factor of a logarithm, between the chunks of two halves.
 fn butterflies_of_halves<K: Kernel>(
     direction: Direction,
     kernel: &K,
@@ -43,7 +43,7 @@ fn butterflies_of_halves<K: Kernel>(
     }
 }
 
-// Two layers of butterflies, by the factors of three logarithms: of the chunks of four quarters.
+// Does two layers of butterflies, with the factors of three logarithms, between the chunks of four quarters.
 fn butterflies_of_quarters<K: Kernel>(
     direction: Direction,
     kernel: &K,
@@ -69,11 +69,11 @@ fn butterflies_of_quarters<K: Kernel>(
     }
 }
 
-/// The layers of the transform of a block of more than one row: the first ones of the forward transform, which leave the
-/// forward transforms of the parts of `part_rows` rows to do, each at the point where it begins, and the last ones of the
-/// backward transform, which come after the backward transforms of these parts.
+/// Does the layers of butterflies that lie between the parts of a block of more than one row. A forward transform of
+/// the block is these layers followed by the forward transform of each part. A backward transform of the block is the
+/// backward transform of each part followed by these layers. Each part has `part_rows` rows.
 ///
-/// Inlined, so that transforms of more than four rows are compiled for their direction.
+/// This function is inlined, so that transforms of more than four rows are compiled for their direction.
 #[tactic(auto, using(crate::proofs::of_rows::Parts::block_quarters))]
 #[inline(always)]
 pub(crate) fn layers<K: Kernel>(

@@ -9,7 +9,7 @@ ghost use Rattle.rs_field.specs.rows.Rows.{chunk};
 
 use std::simd::prelude::*;
 
-/// How many chunks a row of shards of this size has.
+/// Returns the number of chunks that a row of shards of `shard_bytes` bytes has.
 pub fn row_len(shard_bytes: usize) -> usize
     ensures { result ≡ row_len shard_bytes }
 {
@@ -30,8 +30,8 @@ pub fn insert(row: &mut [[u8; 64]], shard: &[u8])
     }
 }
 
-// The first chunks of a shard lie as they are. A single one is moved by itself: a copy of a length that is known only here
-// is a call.
+// Copies the whole chunks of a shard into the row as they are. A single chunk is copied by an assignment, because a
+// copy whose length is not known to the compiler is a call.
 fn put_whole(row: &mut [[u8; 64]], shard: &[u8], whole: usize)
     requires room { whole ≤ length row.old }
     requires within { whole * 64 ≤ length shard.now }
@@ -46,8 +46,8 @@ fn put_whole(row: &mut [[u8; 64]], shard: &[u8], whole: usize)
     }
 }
 
-// The halves of a tail lie from byte 0 and from byte 32 on. It isn't inlined: a loop over shards would work out beforehand
-// what it needs, also where no shard has a tail.
+// Copies the first half of a tail to byte 0 of the chunk and its second half to byte 32. This function is not inlined:
+// if it were, a loop over shards would compute the operands of these copies in advance, even if no shard has a tail.
 #[inline(never)]
 fn put_tail(chunk: &mut [u8; 64], tail: &[u8], half: usize)
     requires half { half ≤ 32 }
@@ -63,7 +63,7 @@ fn put_tail(chunk: &mut [u8; 64], tail: &[u8], half: usize)
     }
 }
 
-// By two copies of `half` bytes.
+// Copies the halves of a tail of fewer than 32 bytes into the chunk, by two copies of `half` bytes.
 fn put_short_tail(chunk: &mut [u8; 64], tail: &[u8], half: usize)
     requires half { half ≤ 32 }
     requires length { length tail.now ≡ 2 * half }
@@ -75,8 +75,10 @@ fn put_short_tail(chunk: &mut [u8; 64], tail: &[u8], half: usize)
     put_bytes(chunk, 32, &tail[half..]);
 }
 
-// By two moves of 32 bytes, which cost less than two of a length that is known only here: the last bytes of the tail end
-// where its second half is to end, and its first bytes end before that begins.
+// Copies the halves of a tail of at least 32 bytes into the chunk, by two moves of 32 bytes. Two moves of a constant
+// length cost less than two copies of a length that the compiler does not know. The last 32 bytes of the tail are
+// written first, so that they end where the second half has to end. Then the first 32 bytes are written to byte 0. They
+// overwrite every byte before byte 32.
 fn put_long_tail(chunk: &mut [u8; 64], tail: &[u8], half: usize)
     requires half { half ≤ 32 }
     requires long { 16 ≤ half }
@@ -91,7 +93,7 @@ fn put_long_tail(chunk: &mut [u8; 64], tail: &[u8], half: usize)
     put_32(chunk, 0, first);
 }
 
-// 32 bytes as a vector.
+// Returns 32 bytes as a vector.
 #[inline(always)]
 fn load_32(bytes: &[u8]) -> u8x32
     requires { length bytes.now ≡ 32 }
@@ -109,7 +111,7 @@ fn store_32(v: u8x32, places: &mut [u8])
     v.copy_to_slice(places);
 }
 
-// The bytes of a vector stand from byte `start` on.
+// Writes the bytes of a vector into a chunk, from byte `start` on.
 #[inline(always)]
 fn put_32(chunk: &mut [u8; 64], start: usize, v: u8x32)
     requires { start ≤ 32 }
@@ -143,7 +145,8 @@ pub fn undo_last_chunk_encoding(row: &mut [[u8; 64]], shard_bytes: usize)
     }
 }
 
-// The bytes from byte 32 on move to the end of the first half: all 32 of them, since what follows the shard is open.
+// Moves the bytes from byte 32 on to the end of the first half. All 32 bytes are moved, because the bytes after the
+// shard may have any value.
 fn join_tail(chunk: &mut [u8; 64], half: usize)
     requires { half ≤ 32 }
     ensures low { (b : ℕ) → b < half → slice_index «chunk».new b ≡ slice_index «chunk».old b }
@@ -154,7 +157,7 @@ fn join_tail(chunk: &mut [u8; 64], half: usize)
     put_32(chunk, half, high);
 }
 
-/// The shard that lies in the first bytes of a row.
+/// Returns the shard of `shard_bytes` bytes that is in the first bytes of a row.
 pub fn shard_of(row: &[[u8; 64]], shard_bytes: usize) -> &[u8]
     requires { length row.now ≡ row_len shard_bytes }
     ensures { result.now ≡ in_order shard_bytes (λ k. chunk row.now k) }
@@ -163,8 +166,8 @@ pub fn shard_of(row: &[[u8; 64]], shard_bytes: usize) -> &[u8]
     &bytes[..shard_bytes]
 }
 
-/// Whether a row is zero in each column that shards of this size have. The open bytes of the last chunk don't count.
-/// The row has as many chunks as such shards need.
+/// Returns whether a row is zero in each column that shards of `shard_bytes` bytes have. The bytes of the last chunk
+/// that no shard of this size uses may have any value. The row has as many chunks as such shards need.
 pub fn is_zero_row(row: &[[u8; 64]], shard_bytes: usize) -> bool
     requires { length row.now ≡ row_len shard_bytes }
     ensures { IsTrue result ↔ HasZeroColumns shard_bytes (λ k. chunk row.now k) }
@@ -176,7 +179,7 @@ pub fn is_zero_row(row: &[[u8; 64]], shard_bytes: usize) -> bool
         && (half == 0 || are_zero_bytes(&bytes[tail + 32..tail + 32 + half]))
 }
 
-// The loop has no way out before the last byte, so that many bytes are taken at a time.
+// Returns whether all bytes are zero. The loop never ends early, so that the compiler can take many bytes at a time.
 fn are_zero_bytes(bytes: &[u8]) -> bool
     ensures { IsTrue result ↔ EachIndex bytes.now (λ b. slice_index bytes.now b ≡ 0) }
 {
@@ -187,7 +190,7 @@ fn are_zero_bytes(bytes: &[u8]) -> bool
     bits == 0
 }
 
-/// A shard that lies in a row has its columns as the row's symbols.
+/// States that the columns of a shard that lies in a row are the row's symbols.
 pub fn layout_laws()
     ensures { LaysColumns }
 {}

@@ -1,9 +1,9 @@
-//! Rows that are marked: those of a transform that are wanted, or that hold anything.
+//! The rows of a transform that are used: rows whose results are wanted, or rows that may hold anything but zeros.
 ghost use Rattle.std.specs.Prelude.{◌≡◌, ℕ, ◌+◌, ◌-◌, ◌^◌, ◌<◌, ◌≤◌, true, false, length};
 ghost use Rattle.rs_field.specs.rows.MarkedRows.{is_marked, is_used, HasMarks};
 
-/// The rows of a block that are of use: of a forward transform those that are wanted, of a backward one those that may
-/// hold anything but zeros.
+/// The rows of a block that a transform uses. A forward transform uses the rows whose results are wanted. A backward
+/// transform uses the rows that may hold anything but zeros.
 #[derive(Clone, Copy, Debug, PartialEq, Eq, Hash)]
 pub enum UsedRows<'a> {
     /// The first rows; the value is their number.
@@ -13,7 +13,7 @@ pub enum UsedRows<'a> {
 }
 
 impl<'a> UsedRows<'a> {
-    /// Whether no row is used. Of marks it reads those up to the first used row.
+    /// Returns true if no row is used. If the rows are marked, this function reads the marks up to the first used row.
     pub fn are_none(self) -> bool
         ensures none { result ≡ true → (i : ℕ) → is_used self.entry i ≡ false }
         ensures some { result ≡ false → (i : ℕ) × (is_used self.entry i ≡ true) }
@@ -24,7 +24,8 @@ impl<'a> UsedRows<'a> {
         }
     }
 
-    /// The used rows among the `rows` rows from row `start` on. If there are marks, there is one for each of these rows.
+    /// Returns which of the `rows` rows from row `start` on are used. If there are marks, there is one for each of
+    /// these rows.
     pub fn part(self, start: usize, rows: usize) -> UsedRows<'a>
         requires end { start + rows < 2 ^ 64 }
         requires marks { HasMarks self (start + rows) }
@@ -38,7 +39,7 @@ impl<'a> UsedRows<'a> {
     }
 }
 
-// Whether any row is marked.
+// Returns whether any row is marked.
 fn any_marked(marks: &[bool]) -> bool
     ensures none { result ≡ false → (i : ℕ) → is_marked marks.now i ≡ false }
     ensures some { result ≡ true → (i : ℕ) × (is_marked marks.now i ≡ true) }
@@ -51,7 +52,7 @@ fn any_marked(marks: &[bool]) -> bool
     false
 }
 
-/// The number of the rows up to the last marked one.
+/// Returns the number of rows up to the last marked row, and 0 if no row is marked.
 pub fn marked_end(marks: &[bool]) -> usize
     ensures within { result ≤ length marks.now }
     ensures past { (i : ℕ) → result ≤ i → is_marked marks.now i ≡ false }

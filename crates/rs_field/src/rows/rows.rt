@@ -9,7 +9,7 @@ use super::ShardsRefMut;
 use crate::engine::Engine;
 use crate::words::{GfElement, Steps};
 
-/// Rows `start` to `end - 1` become zero bytes; a row step each.
+/// Fills rows `start` to `end - 1` with zero bytes, and counts one row step for each.
 pub fn clear_rows(steps: &mut Steps, rows: &mut ShardsRefMut<'_>, start: usize, end: usize)
     requires fits { Fits rows.old }
     requires ordered { start ≤ end }
@@ -23,7 +23,8 @@ pub fn clear_rows(steps: &mut Steps, rows: &mut ShardsRefMut<'_>, start: usize, 
     rows.zero(start..end);
 }
 
-/// Rows `to` to `to + count - 1` become those from `from` on; a row step each.
+/// Copies the `count` rows from row `from` on into the rows from row `to` on, and counts one row step for each. `from +
+/// count` is at most `to`.
 pub fn copy_rows(
     steps: &mut Steps,
     rows: &mut ShardsRefMut<'_>,
@@ -45,7 +46,7 @@ pub fn copy_rows(
     copy_run(rows.chunks, from * len, to * len, count * len);
 }
 
-// The n chunks from `to` on become those from `from` on.
+// Copies the n chunks from `from` on to `to` on.
 fn copy_run(chunks: &mut [[u8; 64]], from: usize, to: usize, n: usize)
     requires from_in { from + n ≤ length chunks.old }
     requires to_in { to + n ≤ length chunks.old }
@@ -55,7 +56,7 @@ fn copy_run(chunks: &mut [[u8; 64]], from: usize, to: usize, n: usize)
     chunks.copy_within(from..from + n, to);
 }
 
-/// Multiplies row `index` by the generator to the power `log_m`, by the engine; 65535 is the factor one.
+/// Multiplies row `index` by the generator to the power `log_m`, with `mul` of the engine. 65535 is the factor one.
 pub fn mul_row_at<E: Engine>(
     engine: &E,
     steps: &mut Steps,

@@ -14,7 +14,8 @@ pub struct ShardsRefMut<'a> {
     pub(crate) shard_count: usize,
     pub(crate) shard_len_64: usize,
     pub(crate) chunks: &'a mut [[u8; 64]],
-    // The marker takes no bytes. With it, the checker reads from the loan of a row what becomes of the list of rows.
+    // The marker takes no bytes. Because of the marker, the checker can see from the loan of a row how writing to the
+    // row changes the list of rows.
     marker: UnsafeCell<()>,
 }
 
@@ -150,7 +151,7 @@ impl<'a> ShardsRefMut<'a> {
         self.run(index * len, len)
     }
 
-    // All chunks, as their own loan.
+    // Lends all chunks, as a loan of their own.
     fn all(&mut self) -> &mut [[u8; 64]]
         ensures* lends { sem 𝓛 (LendsAll self.entry result) }
         ensures now { result.now ≡ self.old.chunks.now }
@@ -158,7 +159,8 @@ impl<'a> ShardsRefMut<'a> {
         &mut *self.chunks
     }
 
-    // The n chunks from a on, by the list's pointer: the checker doesn't follow a loan through `split_at_mut`.
+    // Lends the n chunks from a on, by the pointer to the chunks: the checker does not follow a loan through
+    // `split_at_mut`.
     fn run(&mut self, a: usize, n: usize) -> &mut [[u8; 64]]
         requires { a + n ≤ length self.old.chunks.now }
         ensures* lends { sem 𝓛 (LendsRun self.entry a n result) }
@@ -169,7 +171,7 @@ impl<'a> ShardsRefMut<'a> {
         unsafe { std::slice::from_raw_parts_mut(p.add(a), n) }
     }
 
-    // The n chunks from a on, and the m chunks from b on.
+    // Lends the n chunks from a on, and the m chunks from b on.
     fn two_runs(
         &mut self,
         a: usize,
@@ -193,7 +195,7 @@ impl<'a> ShardsRefMut<'a> {
         }
     }
 
-    // The n chunks from each of four places on.
+    // Lends four runs of n chunks each, from a, b, c and d on.
     fn four_runs(
         &mut self,
         a: usize,
@@ -227,7 +229,7 @@ impl<'a> ShardsRefMut<'a> {
     }
 }
 
-// The chunks of each run, as rows.
+// Makes a list of rows of each of two runs of chunks.
 fn two_lists<'a>(
     runs: (&'a mut [[u8; 64]], &'a mut [[u8; 64]]),
     count: usize,
@@ -246,7 +248,7 @@ fn two_lists<'a>(
     )
 }
 
-// The chunks from start to end - 1 become zero bytes.
+// Fills the chunks from `start` to `end - 1` with zero bytes.
 fn zero_run(chunks: &mut [[u8; 64]], start: usize, end: usize)
     requires ordered { start ≤ end }
     requires within { end ≤ length chunks.old }

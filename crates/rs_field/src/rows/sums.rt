@@ -9,6 +9,7 @@ use super::vectors::sum;
 use crate::words::Steps;
 use std::simd::prelude::*;
 
+// Adds y to x, byte by byte.
 #[inline(always)]
 fn xor_chunk(x: &mut [u8; 64], y: &[u8; 64])
     ensures bytes { (i : ℕ) → i < 64
@@ -35,7 +36,7 @@ pub fn xor(xs: &mut [[u8; 64]], ys: &[[u8; 64]])
     }
 }
 
-// The n chunks from a on become their sums with those from b on.
+// Adds the n chunks from b on to the n chunks from a on.
 fn xor_runs(chunks: &mut [[u8; 64]], a: usize, b: usize, n: usize)
     requires apart { (a + n ≤ b) ⊎ (b + n ≤ a) }
     requires a_in { a + n ≤ length chunks.old }

@@ -4,7 +4,7 @@ ghost use Rattle.rs_field.specs.rows.Rows.{symbol};
 
 use crate::words::GfElement;
 
-/// Symbol `s` of a chunk, for s below 32.
+/// Returns symbol `s` of a chunk, for s below 32.
 #[inline(always)]
 pub fn symbol_at(c: &[u8; 64], s: usize) -> GfElement
     requires { s < 32 }
@@ -13,7 +13,7 @@ pub fn symbol_at(c: &[u8; 64], s: usize) -> GfElement
     u16::from(c[s]) | (u16::from(c[s + 32]) << 8)
 }
 
-/// Symbol `s` of a chunk, for s below 32, becomes this word; the others are unchanged.
+/// Writes a word into symbol `s` of a chunk, for s below 32. The other symbols are unchanged.
 #[inline(always)]
 pub fn set_symbol(c: &mut [u8; 64], s: usize, word: GfElement)
     requires { s < 32 }
@@ -24,7 +24,7 @@ pub fn set_symbol(c: &mut [u8; 64], s: usize, word: GfElement)
     c[s + 32] = (word >> 8) as u8;
 }
 
-/// Adds a word to symbol `s` of a chunk, for s below 32; the others are unchanged.
+/// Adds a word to symbol `s` of a chunk, for s below 32. The other symbols are unchanged.
 #[inline(always)]
 pub fn add_symbol(c: &mut [u8; 64], s: usize, word: GfElement)
     requires { s < 32 }

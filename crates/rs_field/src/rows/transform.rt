@@ -1,8 +1,8 @@
-//! The transforms that engines share: one passage over blocks, cosets and unused rows, around layers of butterflies.
+//! The transforms that engines share. They handle blocks, cosets and unused rows around layers of butterflies.
 //!
-//! The method is that of Lin, Chung and Han in the form of Leopard-RS. A transform is two layers of butterflies between the
-//! quarters of its rows and a transform of each quarter, or, of 2, 8 and 32 rows, one layer between the halves and a
-//! transform of each half. So the recursion goes depth first, and a block that fits the cache stays in it.
+//! The method is that of Lin, Chung and Han in the form of Leopard-RS. A transform is two layers of butterflies between
+//! the quarters of its rows and a transform of each quarter. For 2, 8 and 32 rows, it is one layer between the halves
+//! and a transform of each half. So the recursion goes depth first, and a block that fits the cache stays in the cache.
 ghost use Rattle.std.specs.Prelude.{ℕ, ◌+◌, ◌<◌, ◌≤◌};
 ghost use Rattle.rs_field.specs.rows.Directions.{AreTransformed, ArePartsTransformed, UnusedAreZeroBackward, PartCounts};
 ghost use Rattle.rs_field.specs.rows.View.{word, Fits, SameExtent, SameRowsOutside};
@@ -18,14 +18,14 @@ use super::layers::{Direction, layers};
 use super::marked_rows::UsedRows;
 use crate::words::Steps;
 
-/// The transform of a block in a direction, by an engine's butterflies. At most `size / 2` of them are counted for each
-/// layer, and rows outside are unchanged.
+/// Transforms the rows of a block in a direction, with the butterflies of an engine. It counts at most `size / 2`
+/// butterflies for each layer. Rows outside the block are unchanged.
 ///
-/// Forward, row i of it, where it is used, becomes the sum over q of the old row q times the basis polynomial q at the
-/// point `skew_delta + i`; the rows that aren't used are open. Backward, the rows become those whose forward transform they
-/// were; those that aren't used are zero when the call begins.
+/// Forward, row i of the block, if it is used, becomes the sum over q of the old row q times the basis polynomial q at
+/// the point `skew_delta + i`. Rows that are not used hold anything afterwards. Backward, the rows become the rows
+/// whose forward transform they were. Rows that are not used must be zero when the call begins.
 ///
-/// Inlined, so that blocks of up to four rows are done without a call.
+/// This function is inlined, so that blocks of up to four rows are transformed without a call.
 #[inline(always)]
 #[cycle(transform)]
 pub(crate) fn transform<K: Kernel>(
@@ -61,7 +61,7 @@ pub(crate) fn transform<K: Kernel>(
     }
 }
 
-// The transform of more than four rows.
+// Transforms the rows of a block of more than four rows.
 #[cycle(transform)]
 fn transform_many<K: Kernel>(
     direction: Direction,
@@ -95,7 +95,8 @@ fn transform_many<K: Kernel>(
     }
 }
 
-// The transforms of the parts that the layers of a block leave. Inlined: short rows take little longer than a call.
+// Transforms each part that the layers of a block leave. This function is inlined, because a transform of short rows
+// takes little longer than a call.
 #[inline(always)]
 #[cycle(transform)]
 fn transform_parts<K: Kernel>(
@@ -129,8 +130,8 @@ fn transform_parts<K: Kernel>(
     }
 }
 
-/// The forward and the backward transform at one shift undo each other: where rows are those whose forward transform
-/// some rows were, their forward transform gives those back, and the other way round.
+/// States that the forward and the backward transform at one shift undo each other: the forward transform of the
+/// backward transform of some rows is these rows again, and so is the backward transform of their forward transform.
 pub fn transform_laws()
     ensures { TransformsAreInverse }
 {}

@@ -3,8 +3,8 @@ ghost use Rattle.std.specs.Prelude.{◌≡◌, ℕ, ◌<◌, slice_index, bit_xo
 
 use std::simd::prelude::*;
 
-/// The sum of two vectors of bytes: lane i is the XOR of their lanes i. The first clause states
-/// that lanes are bytes.
+/// Returns the sum of two vectors of bytes: lane i is the XOR of their lanes i. The first clause states that the lanes
+/// of both vectors are bytes.
 #[inline(always)]
 pub fn sum<const N: usize>(x: Simd<u8, N>, y: Simd<u8, N>) -> Simd<u8, N>
     ensures bytes { (i : ℕ) → i < N

@@ -6,8 +6,10 @@ ghost use Rattle.rs_field.specs.words.StepBounds.{CountsPairs, WalshCounts};
 use super::walsh_lanes::walsh_64;
 use super::{GfElement, Steps};
 
-// The sum modulo 65535, as `add_mod`: the larger of the sum without its carry, which is right up to 65535, and of the
-// sum less 65535, which is 0 up to there and right above. So a loop over entries becomes vector code without a choice.
+// Returns the sum modulo 65535, where 0 and 65535 both represent zero. The result is the larger of two numbers. The
+// first is the sum without its carry, which is right if the sum is at most 65535. The second is the sum less 65535, or
+// 0 if the sum is smaller, which is right if the sum is larger than 65535. Without a branch, a loop over entries
+// becomes vector code.
 #[inline(always)]
 pub(crate) fn branchless_add_mod(x: GfElement, y: GfElement) -> GfElement
     ensures { result % 65535 ≡ (x + y) % 65535 }
@@ -31,7 +33,7 @@ fn sub_mod(x: GfElement, y: GfElement) -> GfElement
     branchless_add_mod(x, !y)
 }
 
-// The sum and the difference modulo 65535.
+// Returns the sum and the difference modulo 65535.
 #[inline(always)]
 fn pair_sum(steps: &mut Steps, x: GfElement, y: GfElement) -> (GfElement, GfElement)
     ensures sum { result.0 % 65535 ≡ (x + y) % 65535 }
@@ -42,8 +44,8 @@ fn pair_sum(steps: &mut Steps, x: GfElement, y: GfElement) -> (GfElement, GfElem
     (branchless_add_mod(x, y), sub_mod(x, y))
 }
 
-// Two layers: sums and differences of entries 0 and 1 and of entries 2 and 3, and then of what became of 0 and 2 and of
-// 1 and 3.
+// Returns the result of two layers on four entries: first the sums and differences of entries 0 and 1 and of entries 2
+// and 3, then the sums and differences of the new entries 0 and 2 and of the new entries 1 and 3.
 #[inline(always)]
 fn four_sums(steps: &mut Steps, entries: [GfElement; 4]) -> [GfElement; 4]
     ensures values { IsFourSums (slice_index entries 0) (slice_index entries 1)
@@ -60,7 +62,8 @@ fn four_sums(steps: &mut Steps, entries: [GfElement; 4]) -> [GfElement; 4]
     [first, second, third, fourth]
 }
 
-// Two layers of sums and differences over four quarters, entry by entry: one load and one store of each entry instead of two.
+// Does two layers of sums and differences over four quarters, entry by entry. Each entry is loaded and stored once
+// instead of twice.
 #[inline(always)]
 fn quarter_sums(
     steps: &mut Steps,
@@ -84,7 +87,8 @@ fn quarter_sums(
     }
 }
 
-// One layer, entry by entry: the sums of two halves, and their differences.
+// Does one layer, entry by entry: the first half becomes the sums of both halves, and the second half their
+// differences.
 #[inline(always)]
 fn half_sums(steps: &mut Steps, x0: &mut [GfElement], x1: &mut [GfElement])
     requires { length x0.old ≡ length x1.old }
@@ -100,7 +104,8 @@ fn half_sums(steps: &mut Steps, x0: &mut [GfElement], x1: &mut [GfElement])
     }
 }
 
-// The transform of 128 entries, of which both halves are done in lanes: so are the quarters of 512 entries, and so on.
+// Transforms 128 entries: both halves in lanes, and then one layer between the halves. For 512 entries the quarters
+// have 128 entries, so the transforms of 512, 2048, 8192 and 32768 entries end here.
 fn walsh_128(steps: &mut Steps, entries: &mut [GfElement])
     requires { length entries.old ≡ 128 }
     ensures values { IsWalsh 128 (λ y. slice_index entries.old y) (λ w. slice_index entries.new w) }
@@ -112,12 +117,12 @@ fn walsh_128(steps: &mut Steps, entries: &mut [GfElement])
     half_sums(steps, low, high);
 }
 
-/// The Walsh-Hadamard transform modulo 65535: entry w becomes the sum of all entries y, with a minus sign where w and
-/// y have an odd number of set bits in common.
+/// Computes the Walsh-Hadamard transform modulo 65535: entry w becomes the sum of all entries y, with a minus sign if w
+/// and y have an odd number of set bits in common.
 ///
-/// The number n of entries is a power of two and at most 65536, and the entries from `truncated` on are 0. Only the residue of a
-/// new entry is fixed: 0 and 65535 both represent zero. At most n / 2 * log2(n) pair sums are counted. The transform is that of
-/// Leopard-RS, two layers at a time, quarter by quarter.
+/// The number n of entries is a power of two and at most 65536, and the entries from `truncated` on are 0. Only the
+/// residue of a new entry is fixed: 0 and 65535 both represent zero. At most n / 2 * log2(n) pair sums are counted. The
+/// transform is that of Leopard-RS, two layers at a time, quarter by quarter.
 pub fn fwht(steps: &mut Steps, entries: &mut [GfElement], truncated: usize)
     requires power { (d : ℕ) × (length entries.old ≡ 2 ^ d) }
     requires size { length entries.old ≤ 65536 }
@@ -143,8 +148,8 @@ pub fn fwht(steps: &mut Steps, entries: &mut [GfElement], truncated: usize)
         let (x2, x3) = high.split_at_mut(quarter);
         fwht(steps, x0, truncated);
         if truncated <= quarter {
-            // The other quarters are all zero and need no transform: all sums and all differences are the first one's
-            // entries.
+            // The other quarters are all zero and need no transform: all sums and all differences are the entries of
+            // the first quarter.
             x1.copy_from_slice(x0);
             x2.copy_from_slice(x0);
             x3.copy_from_slice(x0);

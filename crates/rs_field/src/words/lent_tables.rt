@@ -1,4 +1,4 @@
-//! The tables that transforms and locators read, lent by whoever holds them.
+//! The tables that transforms and locators read, lent by the value that holds them.
 ghost use Rattle.std.specs.Prelude.{◌≡◌, ◌^◌, ◌≤◌, ℕ};
 ghost use Rattle.rs_field.specs.words.Tables.{IsLogWalsh, IsLogWalshBelow, AreLogWalshes, IsSkew};
 
@@ -17,7 +17,7 @@ pub struct LentTables<'t> {
 }
 
 impl<'t> LentTables<'t> {
-    /// The transform of all 65536 logarithms.
+    /// Returns the transform of all 65536 logarithms.
     #[inline(always)]
     pub fn log_walsh(self) -> LogWalsh<'t>
         ensures { IsLogWalsh result.now }
@@ -25,7 +25,8 @@ impl<'t> LentTables<'t> {
         self.log_walsh_below(GF_ORDER)
     }
 
-    /// The transform of the logarithms of the words below `points`, each times 65536 / `points`.
+    /// Returns the transform of the logarithms of the words below `points`, each times 65536 / `points`. `points` is a
+    /// power of two, at most 65536.
     #[inline(always)]
     pub fn log_walsh_below(self, points: usize) -> LogWalsh<'t>
         requires power { (d : ℕ) × (points ≡ 2 ^ d) }

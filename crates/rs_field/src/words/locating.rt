@@ -18,7 +18,7 @@ fn counted_product(steps: &mut Steps, x: GfElement, y: GfElement) -> GfElement
     residue(u32::from(x) * u32::from(y))
 }
 
-// Each entry becomes its product with the factor at the same place.
+// Multiplies each entry by the factor at the same index.
 fn products(steps: &mut Steps, entries: &mut [GfElement], factors: &[GfElement])
     requires { length entries.old ≡ length factors.now }
     ensures products { (i : ℕ) → i < length entries.old
@@ -74,7 +74,7 @@ pub fn locate(steps: &mut Steps, erasures: &mut [GfElement], log_walsh: LogWalsh
     locate_marked(steps, erasures, count, log_walsh);
 }
 
-// The locator of points of which none is marked from `truncated_size` on.
+// Computes the locator of points, none of which is marked from `truncated_size` on.
 fn locate_marked(
     steps: &mut Steps,
     erasures: &mut [GfElement],

@@ -1,4 +1,4 @@
-//! The table of products by bytes, from that of products as words.
+//! The table of products as bytes, which is made from the table of products as words.
 ghost use Rattle.std.specs.Prelude.{◌≡◌, ℕ, ◌+◌, ◌*◌, ◌/◌, ◌%◌, ◌^◌, ◌<◌, IfOk, bit_xor};
 ghost use Rattle.rs_field.specs.words.Field.{product};
 ghost use Rattle.rs_field.specs.words.Products.{byte_at, IsNibbleList, IsNibbles, IsNibbleBytes, IsMul16, IsMul128};
@@ -7,7 +7,7 @@ use super::tables::{Mul16, Multiply128lutT};
 use super::{GF_ORDER, GfElement};
 use std::alloc::{AllocError, Global};
 
-// A number of 16 bytes, from its halves.
+// Returns the number of 16 bytes that has these halves.
 #[inline(always)]
 fn joined(low: u64, high: u64) -> u128
     ensures { result ≡ low + 2 ^ 64 * high }
@@ -15,8 +15,9 @@ fn joined(low: u64, high: u64) -> u128
     u128::from(low) | (u128::from(high) << 64)
 }
 
-// The number whose byte i is the sum of a, b, c and d at the set bits of i. A factor has a one in each byte whose place
-// has the bit, so that a multiplication fills eight bytes.
+// Returns the number whose byte i is the XOR of a if bit 0 of i is set, b if bit 1 is set, c if bit 2 is set, and d if
+// bit 3 is set. Each constant has a one in every byte whose index has the bit, so that one multiplication fills eight
+// bytes.
 #[inline(always)]
 fn spread(a: u8, b: u8, c: u8, d: u8) -> u128
     ensures { (i : ℕ) → i < 16
@@ -33,7 +34,8 @@ fn spread(a: u8, b: u8, c: u8, d: u8) -> u128
     joined(low, low ^ fourth)
 }
 
-// The number of the low bytes of sixteen products, as sums of four.
+// Returns the number that consists of the low bytes of the sixteen products of a list. It needs only four of the
+// products, because the others are sums of these four.
 #[inline(always)]
 fn low_bytes(words: &[GfElement; 16]) -> u128
     ensures { (n f i : ℕ) → IsNibbleList n f words.now → i < 16
@@ -47,7 +49,8 @@ fn low_bytes(words: &[GfElement; 16]) -> u128
     )
 }
 
-// The number of the high bytes of sixteen products, as sums of four.
+// Returns the number that consists of the high bytes of the sixteen products of a list. It needs only four of the
+// products, because the others are sums of these four.
 #[inline(always)]
 fn high_bytes(words: &[GfElement; 16]) -> u128
     ensures { (n f i : ℕ) → IsNibbleList n f words.now → i < 16
@@ -61,7 +64,7 @@ fn high_bytes(words: &[GfElement; 16]) -> u128
     )
 }
 
-// The bytes of the products with one factor.
+// Returns the bytes of the products with one factor.
 #[inline(always)]
 fn bytes_of(lists: &[[GfElement; 16]; 4]) -> Multiply128lutT
     ensures { (f : ℕ) → IsNibbles f lists.now → IsNibbleBytes f result }
@@ -82,7 +85,11 @@ fn bytes_of(lists: &[[GfElement; 16]; 4]) -> Multiply128lutT
     }
 }
 
-/// The table of products by bytes.
+/// Makes the table of products as bytes from the table of products as words.
+///
+/// # Errors
+///
+/// [`AllocError`] if the table cannot be allocated.
 pub fn mul128_table(alloc: Global, mul16: Mul16<'_>) -> Result<Vec<Multiply128lutT>, AllocError>
     requires { IsMul16 mul16.now }
     ensures { IfOk result (λ v. IsMul128 v.items) }

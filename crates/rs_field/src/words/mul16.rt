@@ -1,4 +1,4 @@
-//! The table of products as words, from the powers and logarithms.
+//! The table of products as words, which is made from the tables of powers and logarithms.
 ghost use Rattle.std.specs.Prelude.{◌≡◌, ℕ, ◌*◌, ◌^◌, ◌≤◌, IfOk};
 ghost use Rattle.rs_field.specs.words.Field.{product, power};
 ghost use Rattle.rs_field.specs.words.Tables.{IsExpLog};
@@ -8,7 +8,8 @@ use super::tables::{self, ExpLog};
 use super::{GF_ORDER, GfElement};
 use std::alloc::{AllocError, Global};
 
-// The sixteen sums of four products: entry i is that of the products at the set bits of i.
+// Returns the sixteen sums of four products. Entry i is the sum of a if bit 0 of i is set, b if bit 1 is set, c if bit
+// 2 is set, and d if bit 3 is set.
 #[inline(always)]
 fn nibble_sums(a: GfElement, b: GfElement, c: GfElement, d: GfElement) -> [GfElement; 16]
     ensures { (n f : ℕ) → a ≡ product (1 * 16 ^ n) f → b ≡ product (2 * 16 ^ n) f
@@ -36,7 +37,8 @@ fn nibble_sums(a: GfElement, b: GfElement, c: GfElement, d: GfElement) -> [GfEle
     ]
 }
 
-// The products of the words 0 to 15, each times `place`: four by the tables, the others as sums.
+// Returns the products of the words 0 to 15, each times `place`. Four products come from the tables, and the others are
+// sums of these four.
 #[inline(always)]
 fn nibble_list(place: GfElement, log_m: GfElement, t: &ExpLog) -> [GfElement; 16]
     requires tables { IsExpLog t.now.exp.items t.now.log.items }
@@ -51,7 +53,7 @@ fn nibble_list(place: GfElement, log_m: GfElement, t: &ExpLog) -> [GfElement; 16
     )
 }
 
-// The products with the generator to the power `log_m`.
+// Returns the products with the generator to the power `log_m`: one list for each nibble of a word.
 #[inline(always)]
 fn nibbles_of(log_m: GfElement, t: &ExpLog) -> [[GfElement; 16]; 4]
     requires { IsExpLog t.now.exp.items t.now.log.items }
@@ -65,7 +67,12 @@ fn nibbles_of(log_m: GfElement, t: &ExpLog) -> [[GfElement; 16]; 4]
     ]
 }
 
-/// The table of products, each entry from sixteen products.
+/// Makes the table of products as words from the tables of powers and logarithms. Each entry needs sixteen products;
+/// the others are sums.
+///
+/// # Errors
+///
+/// [`AllocError`] if the table cannot be allocated.
 pub fn mul16_table(alloc: Global, t: &ExpLog) -> Result<Vec<[[GfElement; 16]; 4]>, AllocError>
     requires { IsExpLog t.now.exp.items t.now.log.items }
     ensures { IfOk result (λ v. IsMul16 v.items) }

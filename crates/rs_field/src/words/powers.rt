@@ -13,7 +13,7 @@ const GENERATOR_PRODUCTS: [GfElement; GF_BITS] = [
     0x5499, 0xB887, 0x4F3F, 0xFDC5,
 ];
 
-// The product of a word and the generator.
+// Returns the product of a word and the generator.
 fn times_generator(z: GfElement) -> GfElement
     ensures { result ≡ product z generator }
 {
@@ -28,7 +28,7 @@ fn times_generator(z: GfElement) -> GfElement
     out
 }
 
-// The products of the generator with the words of the low byte.
+// Returns the products of the generator with the words 0 to 255.
 fn low_products() -> [GfElement; 256]
     ensures { (i : ℕ) → i < 256 → slice_index result i ≡ product i generator }
 {
@@ -39,7 +39,7 @@ fn low_products() -> [GfElement; 256]
     products
 }
 
-// The products of the generator with the words of the high byte.
+// Returns the products of the generator with 256 times the words 0 to 255.
 fn high_products() -> [GfElement; 256]
     ensures { (i : ℕ) → i < 256 → slice_index result i ≡ product (256 * i) generator }
 {
@@ -50,7 +50,7 @@ fn high_products() -> [GfElement; 256]
     products
 }
 
-// The product of a word and the generator, as the sum of those of its bytes.
+// Returns the product of a word and the generator, as the sum of the products of its two bytes.
 #[inline(always)]
 fn product_by_bytes(z: GfElement, low: &[GfElement; 256], high: &[GfElement; 256]) -> GfElement
     requires low { (i : ℕ) → i < 256 → slice_index low.now i ≡ product i generator }
@@ -60,7 +60,7 @@ fn product_by_bytes(z: GfElement, low: &[GfElement; 256], high: &[GfElement; 256
     low[(z & 255) as usize] ^ high[(z >> 8) as usize]
 }
 
-// A table of n entries of one value.
+// Makes a table of n entries that all have one value.
 fn filled(alloc: Global, value: GfElement, n: usize) -> Result<Vec<GfElement>, AllocError>
     ensures size { IfOk result (λ v. length v.items ≡ n) }
     ensures entries { IfOk result (λ v. (k : ℕ) → k < n → slice_index v.items k ≡ value) }
@@ -68,7 +68,11 @@ fn filled(alloc: Global, value: GfElement, n: usize) -> Result<Vec<GfElement>, A
     Ok(vec![in alloc; value; n]?)
 }
 
-/// The tables of powers and logarithms, by one walk over the powers of the generator.
+/// Makes the tables of powers and logarithms, in one loop over the powers of the generator.
+///
+/// # Errors
+///
+/// [`AllocError`] if one of the tables cannot be allocated.
 pub fn exp_log_table(alloc: Global) -> Result<ExpLog, AllocError>
     ensures { IfOk result (λ t. IsExpLog t.exp.items t.log.items) }
 {

@@ -165,7 +165,7 @@ pub fn add_mod(x: GfElement, y: GfElement) -> GfElement
     if sum < x { sum + 1 } else { sum }
 }
 
-// The even number 2u, for j an odd number 2u + 1 times a power of two.
+// Returns the even number 2u, where j is an odd number 2u + 1 times a power of two.
 fn skew_word(j: GfElement) -> GfElement
     requires { 0 < j }
     ensures { (d : ℕ) → (u : ℕ) → j ≡ (2 * u + 1) * 2 ^ d → result ≡ 2 * u }
@@ -177,8 +177,8 @@ fn skew_word(j: GfElement) -> GfElement
     odd - 1
 }
 
-// In these coordinates a subspace polynomial of degree 2 ^ d shifts its argument by d places, so each entry is one
-// look-up: at j - 2 ^ d the value is the odd part of j, less one.
+// Makes the table of the factors of butterflies. In these coordinates, a subspace polynomial of degree 2 ^ d shifts its
+// argument by d places, so each entry is one look-up: the value at j - 2 ^ d is the odd part of j, less one.
 fn skew_table(alloc: Global, exp_log: &ExpLog) -> Result<Vec<GfElement>, AllocError>
     requires { IsExpLog exp_log.now.exp.items exp_log.now.log.items }
     ensures { IfOk result (λ v. IsSkew v.items) }
@@ -191,7 +191,8 @@ fn skew_table(alloc: Global, exp_log: &ExpLog) -> Result<Vec<GfElement>, AllocEr
     Ok(table)
 }
 
-// The transforms of the logarithms of the words below each power of two, one after the other; no step is counted for them.
+// Makes the transforms of the logarithms of the words below each power of two, one after the other. No step is counted
+// for these transforms.
 fn log_walsh_table(alloc: Global, log: Log<'_>) -> Result<Vec<GfElement>, AllocError>
     requires { IsLog log.now }
     ensures { IfOk result (λ v. AreLogWalshes v.items) }
@@ -203,7 +204,7 @@ fn log_walsh_table(alloc: Global, log: Log<'_>) -> Result<Vec<GfElement>, AllocE
     Ok(table)
 }
 
-// Appends the transform of the logarithms of the words below `points` to those of fewer words.
+// Appends the transform of the logarithms of the words below `points` to the transforms that are in the table already.
 fn push_log_walsh(table: &mut Vec<GfElement>, log: Log<'_>, points: usize) -> Result<(), AllocError>
     requires log { IsLog log.now }
     requires power { (d : ℕ) × (points ≡ 2 ^ d) }
@@ -246,7 +247,7 @@ fn push_logs(table: &mut Vec<GfElement>, log: Log<'_>, points: usize) -> Result<
     Ok(())
 }
 
-// The logarithm of a word, and 0 at the word 0.
+// Returns the logarithm of a word, and 0 for the word 0.
 fn log_at(log: Log<'_>, z: usize) -> GfElement
     requires log { IsLog log.now }
     requires word { z < 65536 }

@@ -6,7 +6,7 @@ ghost use Rattle.rs_field.specs.words.StepBounds.{CountsPairs};
 use super::{GfElement, Steps};
 use std::simd::prelude::*;
 
-// The larger lanes.
+// Returns the larger of the two lanes, lane by lane.
 #[inline(always)]
 fn larger(x: u16x16, y: u16x16) -> u16x16
     ensures { (i : ℕ) → i < 16 → slice_index result i ≡ max (slice_index x i) (slice_index y i) }
@@ -14,7 +14,7 @@ fn larger(x: u16x16, y: u16x16) -> u16x16
     x.simd_max(y)
 }
 
-// The differences, and 0 where y is larger.
+// Returns the difference lane by lane, and 0 in each lane where y is larger.
 #[inline(always)]
 fn excess(x: u16x16, y: u16x16) -> u16x16
     ensures { (i : ℕ) → i < 16 → slice_index result i ≡ slice_index x i - slice_index y i }
@@ -22,7 +22,7 @@ fn excess(x: u16x16, y: u16x16) -> u16x16
     x.saturating_sub(y)
 }
 
-// The sums modulo 65535, as `branchless_add_mod` makes them.
+// Returns the sums modulo 65535, computed as in `branchless_add_mod`.
 #[inline(always)]
 fn add_mod_lanes(x: u16x16, y: u16x16) -> u16x16
     ensures { (i : ℕ) → i < 16
@@ -31,7 +31,7 @@ fn add_mod_lanes(x: u16x16, y: u16x16) -> u16x16
     larger(x + y, excess(x, !y))
 }
 
-// The differences modulo 65535: a complement is the negative.
+// Returns the differences modulo 65535. The complement of a word is its negative modulo 65535.
 #[inline(always)]
 fn sub_mod_lanes(x: u16x16, y: u16x16) -> u16x16
     ensures { (i : ℕ) → i < 16
@@ -40,7 +40,7 @@ fn sub_mod_lanes(x: u16x16, y: u16x16) -> u16x16
     add_mod_lanes(x, !y)
 }
 
-// Sums and differences of lanes at distance 1. In lanes 1, 3, .. the complement makes the difference.
+// Returns the sums and differences of lanes at distance 1. In lanes 1, 3, .. the complement makes the difference.
 #[inline(always)]
 fn layer_1(v: u16x16) -> u16x16
     ensures { IsLayer 1 v result }
@@ -54,7 +54,7 @@ fn layer_1(v: u16x16) -> u16x16
     )
 }
 
-// Sums and differences of lanes at distance 2.
+// Returns the sums and differences of lanes at distance 2. In lanes 2, 3, 6, 7, .. the complement makes the difference.
 #[inline(always)]
 fn layer_2(v: u16x16) -> u16x16
     ensures { IsLayer 2 v result }
@@ -68,7 +68,8 @@ fn layer_2(v: u16x16) -> u16x16
     )
 }
 
-// Sums and differences of lanes at distance 4.
+// Returns the sums and differences of lanes at distance 4. In lanes 4 to 7 and 12 to 15 the complement makes the
+// difference.
 #[inline(always)]
 fn layer_4(v: u16x16) -> u16x16
     ensures { IsLayer 4 v result }
@@ -82,7 +83,7 @@ fn layer_4(v: u16x16) -> u16x16
     )
 }
 
-// Sums and differences of lanes at distance 8.
+// Returns the sums and differences of lanes at distance 8. In lanes 8 to 15 the complement makes the difference.
 #[inline(always)]
 fn layer_8(v: u16x16) -> u16x16
     ensures { IsLayer 8 v result }
@@ -93,7 +94,7 @@ fn layer_8(v: u16x16) -> u16x16
     )
 }
 
-// The transform of the lanes.
+// Returns the transform of the 16 lanes.
 #[inline(always)]
 fn walsh_16(v: u16x16) -> u16x16
     ensures { IsWalsh 16 (λ y. slice_index v y) (λ w. slice_index result w) }
@@ -101,8 +102,8 @@ fn walsh_16(v: u16x16) -> u16x16
     layer_8(layer_4(layer_2(layer_1(v))))
 }
 
-// Two layers of four vectors: sums and differences of 0 and 1 and of 2 and 3, and then of what became of 0 and 2 and of
-// 1 and 3.
+// Returns the result of two layers on four vectors: first the sums and differences of vectors 0 and 1 and of vectors 2
+// and 3, then the sums and differences of the new vectors 0 and 2 and of the new vectors 1 and 3.
 #[inline(always)]
 fn vector_sums(x0: u16x16, x1: u16x16, x2: u16x16, x3: u16x16) -> (u16x16, u16x16, u16x16, u16x16)
     ensures { (i : ℕ) → i < 16
@@ -122,7 +123,7 @@ fn vector_sums(x0: u16x16, x1: u16x16, x2: u16x16, x3: u16x16) -> (u16x16, u16x1
     )
 }
 
-// The entries as a vector.
+// Returns 16 entries as a vector.
 #[inline(always)]
 fn lanes_of(entries: &[GfElement]) -> u16x16
     requires { length entries.now ≡ 16 }
@@ -131,7 +132,7 @@ fn lanes_of(entries: &[GfElement]) -> u16x16
     u16x16::from_slice(entries)
 }
 
-// Makes a vector's lanes the entries.
+// Writes the lanes of a vector into 16 entries.
 #[inline(always)]
 fn put_lanes(v: u16x16, entries: &mut [GfElement])
     requires { length entries.old ≡ 16 }
@@ -140,7 +141,7 @@ fn put_lanes(v: u16x16, entries: &mut [GfElement])
     v.copy_to_slice(entries);
 }
 
-/// The transform of 64 entries.
+/// Transforms 64 entries: 16 entries in the lanes of each vector, and then two layers between the four vectors.
 #[inline(always)]
 pub(crate) fn walsh_64(steps: &mut Steps, entries: &mut [GfElement])
     requires { length entries.old ≡ 64 }

@@ -13,14 +13,19 @@ use crate::rate::supported_counts::SupportedCounts;
 use rs_field::engine::GF_ORDER;
 use rs_field::error::Error;
 
-/// The counts, the size of a shard, whether the rate is the low rate for these counts, and the number of rows of a block. This
-/// number is the power of the number of originals at the low rate, and of the number of recovery shards at the high rate.
+/// The counts and the shard size of an encoder or a decoder, and what the rate chooses for these counts.
 #[derive(Clone, Copy, Debug, PartialEq, Eq, Hash)]
 pub struct Configuration {
+    /// The number of originals.
     pub original_count: usize,
+    /// The number of recovery shards.
     pub recovery_count: usize,
+    /// The size of a shard, in bytes.
     pub shard_bytes: usize,
+    /// Whether the rate is the low rate for these counts. If not, it is the high rate.
     pub is_low: bool,
+    /// The number of rows of a block: the least power of two that is not below the number of originals at the low rate,
+    /// and not below the number of recovery shards at the high rate.
     pub block_rows: usize,
 }
 
@@ -51,7 +56,8 @@ impl Configuration {
         })
     }
 
-    // Returns the configuration of a rate for these counts and this size, or the first error.
+    // Returns the configuration of a rate for these counts and this size. Fails with `UnsupportedShardCount` or
+    // `InvalidShardSize`, in this order.
     #[inline(always)]
     pub(crate) fn at<C: RateMarker>(
         original_count: usize,
@@ -68,7 +74,8 @@ impl Configuration {
         Configuration::new(counts, shard_bytes)
     }
 
-    // Returns the shape of an encoder: rows for the recovery shards at the low rate, else for the originals, in whole blocks.
+    // Returns the shape of an encoder. The encoder has rows for the recovery shards at the low rate, and for the
+    // originals at the high rate, rounded up to whole blocks.
     pub(crate) fn encoder_shape(self) -> EncoderShape
         requires { IsConfigured self }
         ensures shape { result ≡ shape_of_encoder self }
@@ -85,7 +92,8 @@ impl Configuration {
         }
     }
 
-    // Returns the shape of a decoder: the originals are before the recovery shards at the low rate, else after them.
+    // Returns the shape of a decoder. The rows of the originals are before the rows of the recovery shards at the low
+    // rate, and after them at the high rate.
     pub(crate) fn decoder_shape(self) -> DecoderShape
         requires { IsConfigured self }
         ensures shape { result ≡ shape_of_decoder self }

@@ -5,10 +5,12 @@ ghost use Rattle.rs_rate.specs.Configured.{choice_of};
 
 use rs_field::engine::GF_ORDER;
 
-/// Whether a rate is the low rate for some counts, and the number of rows of a block for these counts.
+/// What a rate chooses for two counts.
 #[derive(Clone, Copy, Debug, PartialEq, Eq, Hash)]
 pub struct Choice {
+    /// Whether the rate is the low rate for these counts. If not, it is the high rate.
     pub is_low: bool,
+    /// The number of rows of a block for these counts.
     pub block_rows: usize,
 }
 
@@ -68,7 +70,8 @@ pub(crate) fn high_choice(original_count: usize, recovery_count: usize) -> Optio
     fitting(false, power_of_two(recovery_count), original_count)
 }
 
-// Returns the choice of the default rate: the rate with the smaller blocks, and if these are equal, the one made for the smaller count.
+// Returns the choice of the default rate: the rate with the smaller blocks. If the blocks are equal, it is the rate
+// that is made for the smaller count.
 pub(crate) fn default_choice(original_count: usize, recovery_count: usize) -> Option<Choice>
     ensures { result ≡ choice_of default_rate original_count recovery_count }
 {

@@ -28,40 +28,55 @@ use std::alloc::Global;
 /// The memory of a decoder. It can pass from one decoder to the next, which then allocates only what is missing.
 #[derive(Drop)]
 pub struct DecoderWork {
+    /// The memory that a decoder had, if there was one.
     pub(crate) memory: Option<DecoderMemory>,
 }
 
-/// The chunks and the marks of the rows, and the entries of the locator for the rows.
+/// The memory of the rows of a decoder.
 #[derive(Drop)]
 pub struct DecoderMemory {
+    /// The chunks of the rows, row after row.
     pub(crate) chunks: Vec<[u8; 64]>,
+    /// A mark for each row.
     pub(crate) marks: Marks,
+    /// The entries of the locator, one for each row.
     pub(crate) entries: Vec<GfElement>,
 }
 
-/// The points of the shards of a decoder, the points of known zeros, and the number of rows of the decoder.
+/// The number of rows of a decoder, and where its shards are. Row i belongs to point i.
 #[derive(Clone, Copy, Debug, PartialEq, Eq, Hash)]
 pub struct Frame {
+    /// The number of rows.
     pub row_count: usize,
+    /// The row of original 0.
     pub originals_from: usize,
+    /// The row of recovery shard 0.
     pub recovery_from: usize,
+    /// The first point at which the value is known to be zero.
     pub zeros_from: usize,
+    /// The end of the points at which the value is known to be zero: the first point after them.
     pub zeros_to: usize,
 }
 
 /// The configuration of a decoder, and the rows of its shards.
 #[derive(Clone, Copy, Debug, PartialEq, Eq, Hash)]
 pub struct DecoderShape {
+    /// The configuration of the decoder.
     pub configuration: Configuration,
+    /// The rows of the shards.
     pub frame: Frame,
 }
 
-/// The rows of a decoder, and the numbers of given shards.
+/// The rows of a decoder.
 #[derive(Drop)]
 pub struct DecoderRows {
+    /// The configuration and the rows of the shards.
     pub(crate) shape: DecoderShape,
+    /// The number of originals that were added in the current round.
     pub(crate) originals_given: usize,
+    /// The number of recovery shards that were added in the current round.
     pub(crate) recovery_given: usize,
+    /// The chunks and marks of the rows, and the entries of the locator.
     pub(crate) memory: DecoderMemory,
     pub ghost laid: { DecoderCanBeLaid shape },
     pub ghost laid_out: { IsLaidOut shape memory },
@@ -70,7 +85,7 @@ pub struct DecoderRows {
 }
 
 impl Frame {
-    // The row of an original.
+    // Returns the row of the original with this index.
     pub(crate) fn original_row(self, index: usize) -> usize
         requires { original_row self index < 2 ^ 64 }
         ensures { result ≡ original_row self index }
@@ -78,7 +93,7 @@ impl Frame {
         self.originals_from + index
     }
 
-    // The row of a recovery shard.
+    // Returns the row of the recovery shard with this index.
     pub(crate) fn recovery_row(self, index: usize) -> usize
         requires { recovery_row self index < 2 ^ 64 }
         ensures { result ≡ recovery_row self index }
@@ -291,7 +306,11 @@ impl ObjectRows for DecoderRows {
         Ok(())
     }
 
-    ghost stays = { λ room. record { chunks = le_refl room.chunks; rows = le_refl room.rows; entries = le_refl room.entries } };
+    ghost stays = { λ room. record {
+      chunks = le_refl room.chunks;
+      rows = le_refl room.rows;
+      entries = le_refl room.entries;
+    } };
 
     ghost anyway = { λ work n size answer wanted same. some_anyway work _ (λ w roomy. same) };
 
@@ -306,7 +325,8 @@ impl DecoderRows {
     ghost use Rattle.rs_rate.specs.DecoderView.{decoder_state, restored_by_rows, restored_from};
     ghost use Rattle.rs_rate.specs.Decoding.{CanBeRestored};
 
-    // Puts a shard of a side into its row, if the row is free.
+    // Adds a shard of a side: copies it into its row and marks the row. Fails with the error for an invalid index, then
+    // with the error for a duplicate index, then with `DifferentShardSize`.
     pub(crate) fn add_shard(&mut self, side: Side, index: usize, shard: &[u8]) -> Result<(), Error>
         ensures answer { (rate : Rate)
             → result
@@ -351,7 +371,7 @@ impl DecoderRows {
         }
     }
 
-    // Fails with `NotEnoughShards` if too few shards are given.
+    // Fails with `NotEnoughShards` if fewer shards were added than there are originals.
     pub(crate) fn check_enough_given(&self) -> Result<(), Error>
         ensures { (rate : Rate) → result ≡ enough_given (decoder_state rate self.now) }
     {
@@ -365,6 +385,7 @@ impl DecoderRows {
         Ok(())
     }
 
+    // Returns the restored original with this index, or `None` if it was added or there is none.
     pub(crate) fn restored_original(&self, index: usize) -> Option<&[u8]>
         ensures { option_copied result ≡ restored_by_rows self.now index }
     {

@@ -18,25 +18,32 @@ use std::alloc::Global;
 /// The memory of an encoder. It can pass from one encoder to the next, which then allocates only what is missing.
 #[derive(Drop)]
 pub struct EncoderWork {
+    /// The chunks that an encoder had, if there was one.
     pub(crate) chunks: Option<Vec<[u8; 64]>>,
 }
 
 /// The configuration of an encoder, and the number of its rows.
 #[derive(Clone, Copy, Debug, PartialEq, Eq, Hash)]
 pub struct EncoderShape {
+    /// The configuration of the encoder.
     pub configuration: Configuration,
+    /// The number of rows of the encoder.
     pub row_count: usize,
 }
 
-/// The rows of an encoder, and the number of given originals.
+/// The rows of an encoder.
 #[derive(Drop)]
 pub struct EncoderRows {
+    /// The configuration and the number of rows.
     pub(crate) shape: EncoderShape,
+    /// The number of originals that were added in the current round.
     pub(crate) originals_given: usize,
+    /// The chunks of the rows, row after row.
     pub(crate) chunks: Vec<[u8; 64]>,
     pub ghost laid: { EncoderCanBeLaid shape },
     pub ghost no_more: { originals_given ≤ shape.configuration.original_count },
-    pub ghost whole: { vec_len chunks ≡ chunk_count shape.row_count shape.configuration.shard_bytes },
+    pub ghost whole: { vec_len chunks
+        ≡ chunk_count shape.row_count shape.configuration.shard_bytes },
     pub ghost own_room: { chunk_count shape.row_count shape.configuration.shard_bytes
         ≤ vec_capacity chunks },
     pub ghost sized: { chunk_count shape.row_count shape.configuration.shard_bytes * 64 < 2 ^ 64 },
@@ -134,12 +141,15 @@ impl ObjectRows for EncoderRows {
 
     ghost rows_set_up = { encoder_rows_set_up };
 
-    ghost own_room = { λ x size less. chunks_within _ _ size _ _ x.laid.rows less x.sized x.own_room };
+    ghost own_room = { λ x size less.
+        chunks_within _ _ size _ _ x.laid.rows less x.sized x.own_room };
 }
 
 impl EncoderRows {
     ghost use Rattle.rs_rate.specs.EncoderView.{encoder_state};
 
+    // Adds the next original. Fails with `TooManyOriginalShards` if all originals were added, and then with
+    // `DifferentShardSize` if the shard has another size.
     pub(crate) fn add_original_shard(&mut self, original_shard: &[u8]) -> Result<(), Error>
         ensures answer { (rate : Rate)
             → result ≡ answer_of (with_shard (encoder_state rate self.old) original_shard.now) }
@@ -184,6 +194,7 @@ impl EncoderRows {
         Ok(())
     }
 
+    // Returns the recovery shard with this index, or `None` if there is none.
     pub(crate) fn recovery(&self, index: usize) -> Option<&[u8]>
         ensures { MatchOption result (self.now.shape.configuration.recovery_count ≤ index)
             (λ shard. (index < self.now.shape.configuration.recovery_count)

@@ -10,8 +10,12 @@ use crate::rate::{RateDecoder, RateEncoder};
 use rs_field::engine::Engine;
 use rs_field::error::Error;
 
-/// Adds shards to an encoder in order. Fails with the error of the first shard that the encoder does not accept, and then does
-/// not call the iterator again.
+/// Adds the originals that an iterator yields to an encoder, in order.
+///
+/// # Errors
+///
+/// The errors of [`RateEncoder::add_original_shard`], for the first original that the encoder does not accept. The
+/// iterator is then not called again.
 pub fn add_shards<'a, E: Engine, X: RateEncoder<E>, I: Iterator<Item = &'a [u8]> + Drop>(
     encoder: &mut X,
     shards: I,
@@ -27,8 +31,12 @@ pub fn add_shards<'a, E: Engine, X: RateEncoder<E>, I: Iterator<Item = &'a [u8]>
     Ok(())
 }
 
-/// Adds originals to a decoder in order. Fails with the error of the first original that the decoder does not accept, and then
-/// does not call the iterator again.
+/// Adds the originals that an iterator yields, with their indexes, to a decoder, in order.
+///
+/// # Errors
+///
+/// The errors of [`RateDecoder::add_original_shard`], for the first original that the decoder does not accept. The
+/// iterator is then not called again.
 pub fn add_originals<
     'a,
     E: Engine,
@@ -48,8 +56,12 @@ pub fn add_originals<
     Ok(())
 }
 
-/// Adds recovery shards to a decoder in order. Fails with the error of the first recovery shard that the decoder does not
-/// accept, and then does not call the iterator again.
+/// Adds the recovery shards that an iterator yields, with their indexes, to a decoder, in order.
+///
+/// # Errors
+///
+/// The errors of [`RateDecoder::add_recovery_shard`], for the first recovery shard that the decoder does not accept.
+/// The iterator is then not called again.
 pub fn add_recovery<'a, E: Engine, X: RateDecoder<E>, I: Iterator<Item = (usize, &'a [u8])> + Drop>(
     decoder: &mut X,
     recovery: I,

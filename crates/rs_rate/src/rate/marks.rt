@@ -10,22 +10,26 @@ use crate::rate::memory::{make_room, set_length};
 use rs_field::error::Error;
 use std::alloc::Global;
 
-/// The shards whose rows are marked: the given shards until the decode, and then the originals that are restored.
+/// The shards whose rows are marked.
 #[derive(Clone, Copy, Debug, PartialEq, Eq, Hash)]
 pub enum MarkedShards {
+    /// The given shards. The rows are marked in this way until a decode.
     Given,
+    /// The originals that a decode restores.
     Restored,
 }
 
 /// A mark for each row of a decoder.
 #[derive(Drop)]
 pub struct Marks {
+    // A mark for each row.
     rows: Vec<bool>,
+    // The shards whose rows are marked.
     shards: MarkedShards,
 }
 
 impl Marks {
-    // Returns the marks of `rows` rows without a given shard, or `OutOfMemory`.
+    // Returns the marks of `rows` rows without a given shard, or fails with `OutOfMemory`.
     pub(crate) fn new(alloc: Global, rows: usize) -> Result<Marks, Error>
         ensures empty { IfOk result (λ marks. (p : ℕ) → is_marked (given_marks marks) p ≡ false) }
         ensures length { IfOk result (λ marks. mark_count marks ≡ rows) }
@@ -38,7 +42,7 @@ impl Marks {
         })
     }
 
-    // Makes room for the marks of `rows` rows. No mark changes.
+    // Makes room for the marks of `rows` rows, or fails with `OutOfMemory`. No mark changes.
     pub(crate) fn make_room(&mut self, rows: usize) -> Result<(), Error>
         ensures same { AreSameMarks self.old self.new }
         ensures room { OnOk result (rows ≤ mark_room self.new) }
@@ -129,7 +133,8 @@ impl Marks {
         }
     }
 
-    // Marks row `row` as holding a given shard. The first one of a round clears the marks of the last one.
+    // Marks row `row` as holding a given shard. The first given shard of a round clears the marks that the last round
+    // left.
     pub(crate) fn give(&mut self, row: usize)
         requires { row < mark_count self.old }
         ensures here { is_marked (given_marks self.new) row ≡ true }

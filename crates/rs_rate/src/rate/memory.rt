@@ -16,7 +16,7 @@ pub(crate) fn vec_of<T>(alloc: Global, memory: Option<Vec<T>>) -> Vec<T>
     }
 }
 
-// Makes room for `count` items. The items stay.
+// Makes room for `count` items, or fails with `OutOfMemory`. The items stay.
 pub(crate) fn make_room<T>(items: &mut Vec<T>, count: usize) -> Result<(), Error>
     ensures same { items.new.items ≡ items.old.items }
     ensures room { OnOk result (count ≤ vec_capacity items.new) }

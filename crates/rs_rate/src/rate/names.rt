@@ -1,4 +1,5 @@
-//! The rates that the names of types say. These laws are the contracts of functions that do nothing.
+//! Laws that state which rates the types have: each type has the rate that its name says. The laws are the contracts of
+//! functions that do nothing.
 ghost use Rattle.std.specs.Prelude.{◌≡◌};
 ghost use Rattle.rs_field.specs.code.Counts.{low_rate, high_rate, default_rate};
 

@@ -1,4 +1,4 @@
-//! The check that all originals are given, for a decode without recovery shards.
+//! The check that all originals were added, for a decode without recovery shards.
 ghost use Rattle.std.specs.Prelude.{◌≡◌, ◌⊎◌, if◌then◌else◌, ℕ, nat_le, true, false, List, length, count_by};
 ghost use Rattle.std.specs.Prelude.{slice_index_or, slice_set, Err, Ok, OnOk};
 ghost use Rattle.std.specs.Iterator.{IsFinite};
@@ -9,13 +9,14 @@ ghost use Rattle.rs_rate.specs.Giving.{Reaches, AreNoted};
 use rs_field::error::Error;
 use std::alloc::Global;
 
-/// Checks that all originals are given. The index of each original is noted in order.
+/// Checks that an iterator yields all originals. The index of each original is noted in order.
 ///
 /// # Errors
 ///
-/// - `OutOfMemory` if the marks of the indexes cannot be allocated.
-/// - For each original in order: `InvalidOriginalShardIndex`, then `DuplicateOriginalShardIndex`.
-/// - `NotEnoughShards` if originals are missing.
+/// - [`Error::OutOfMemory`] if the marks of the indexes cannot be allocated.
+/// - For each original in order: [`Error::InvalidOriginalShardIndex`] if its index is not below `original_count`, then
+///   [`Error::DuplicateOriginalShardIndex`] if its index was noted before.
+/// - [`Error::NotEnoughShards`] if originals are missing.
 pub fn check_originals_alone<'a, I: Iterator<Item = (usize, &'a [u8])> + Drop>(
     alloc: Global,
     original_count: usize,
@@ -59,7 +60,8 @@ fn note_all<'a, I: Iterator<Item = (usize, &'a [u8])> + Drop>(
     Ok(())
 }
 
-// Notes that the original with this index is given. Fails if the index is too large, or was noted before.
+// Notes that the original with this index was added. Fails with `InvalidOriginalShardIndex` if the index is too large,
+// and then with `DuplicateOriginalShardIndex` if it was noted before.
 fn note(given: &mut [bool], index: usize) -> Result<(), Error>
     ensures answer { result ≡ (if nat_le (length given.old) index
         then Err (Error.InvalidOriginalShardIndex (length given.old) index)

@@ -1,4 +1,4 @@
-//! The part that encoders and decoders share: an object holds an engine, and rows that are set up for two counts and a size.
+//! The part that encoders and decoders share: an object holds an engine, and rows for two counts and a shard size.
 ghost use Rattle.rs_rate.specs.SetUp.{IsSetUp};
 
 use crate::rate::configuration::Configuration;
@@ -57,6 +57,10 @@ pub trait ObjectRows: Sized {
     ghost where_roomy: { Self.Work → ℕ → ℕ → Answer → Answer → Type 0 };
 
     /// Makes rows with no shards. If there is a `work`, its memory is used.
+    ///
+    /// # Errors
+    ///
+    /// [`Error::OutOfMemory`] if the rows cannot be allocated, or if their bytes exceed `usize::MAX`.
     fn new(alloc: Global, configuration: Configuration, work: Self::Work) -> Result<Self, Error>
         requires { IsConfigured configuration }
         ensures configuration { IfOk result (λ x. configuration_of x ≡ configuration) }
@@ -69,6 +73,10 @@ pub trait ObjectRows: Sized {
 
     /// Sets the rows up for another configuration, with no shards. All memory is allocated first, so after an error the
     /// configuration and the shards are what they were.
+    ///
+    /// # Errors
+    ///
+    /// [`Error::OutOfMemory`] if the rows cannot be allocated, or if their bytes exceed `usize::MAX`.
     fn reset(&mut self, configuration: Configuration) -> Result<(), Error>
         requires { IsConfigured configuration }
         ensures ok { OnOk result
@@ -102,7 +110,9 @@ pub trait ObjectRows: Sized {
 /// An encoder or a decoder of a rate: it holds an engine, and rows that are set up for counts that the rate supports.
 #[derive(Drop)]
 pub struct RateObject<E: Engine, C: RateMarker, R: ObjectRows> {
+    /// The engine.
     pub(crate) engine: E,
+    /// The rows.
     pub(crate) rows: R,
     code: PhantomData<C>,
     pub ghost set_up: { IsSetUp C.rate (R.configuration_of rows) },

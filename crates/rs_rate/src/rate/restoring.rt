@@ -1,10 +1,11 @@
-//! The decoding of a round over rows, for every rate: from the rows of the given shards to those of the missing
-//! originals.
+//! The decoding of a round over rows, for every rate: it computes the rows of the missing originals from the rows of
+//! the given shards.
 //!
-//! The given rows are multiplied by the locator of the erased rows, and all other rows are cleared. Consider the polynomial
-//! through these rows. Its last coefficients, as many as there are surplus shards, are zero if and only if some message agrees
-//! with all given shards. The value of the polynomial plus its derivative at an erased row is the missing word times the
-//! derivative of the locator. The method is that of Lin, Chung and Han in the form of Leopard-RS. The check is our addition.
+//! The given rows are multiplied by the locator of the erased rows, and all other rows are cleared. Consider the
+//! polynomial through these rows. Its last coefficients, as many as there are surplus shards, are zero if and only if
+//! some message agrees with all given shards. The value of the polynomial plus its derivative at an erased row is the
+//! missing word times the derivative of the locator. The method is that of Lin, Chung and Han in the form of
+//! Leopard-RS. The check of surplus shards is our addition.
 ghost use Rattle.std.specs.Prelude.{◌≡◌, ℕ, ◌+◌, ◌-◌, ◌/◌, ◌%◌, ◌^◌, ◌<◌, ◌≤◌, ◌↔◌, true, false, length, replicate, slice_index};
 ghost use Rattle.rs_field.specs.words.StepBounds.{CountsRows, CountsUpTo, transform_steps};
 ghost use Rattle.rs_field.specs.words.Field.{product, power};
@@ -23,11 +24,14 @@ use rs_field::engine::layout::is_zero_row;
 use rs_field::engine::rows::{clear_rows, mul_row_at};
 use rs_field::engine::{Engine, GF_MODULUS, GfElement, ShardsRefMut, Steps};
 
-// The data on which a decode depends: the shape of its rows, the number of missing originals, and the number of surplus shards.
+// The data on which a decode depends.
 #[derive(Clone, Copy)]
 pub(crate) struct Tally {
+    // The shape of the rows.
     pub(crate) shape: DecoderShape,
+    // The number of missing originals.
     pub(crate) missing: usize,
+    // The number of shards that were added beyond the number of originals.
     pub(crate) surplus: usize,
 }
 

@@ -60,7 +60,10 @@ pub fn lent_recovery<E: Engine, C: RateMarker>(encoder: &Encoder<E, C>) -> Encod
 ///
 /// # Errors
 ///
-/// [`Error::NotEnoughShards`] or [`Error::InconsistentShards`], as `RateDecoder::decode`.
+/// - [`Error::NotEnoughShards`] if fewer shards were added than there are originals. The decoder then keeps what was
+///   added.
+/// - [`Error::InconsistentShards`] if more shards were added than there are originals, and no message matches them all.
+///   This error ends the round.
 pub fn decode_round<E: Engine, C: RateMarker>(
     decoder: &mut Decoder<E, C>,
     steps: &mut Steps,

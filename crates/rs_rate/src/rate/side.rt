@@ -8,7 +8,9 @@ use rs_field::error::Error;
 // A side of a codeword.
 #[derive(Clone, Copy)]
 pub(crate) enum Side {
+    // The originals.
     Original,
+    // The recovery shards.
     Recovery,
 }
 

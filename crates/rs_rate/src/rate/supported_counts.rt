@@ -22,12 +22,15 @@ pub type HighRateCounts = SupportedCounts<HighRateMarker>;
 /// Two counts that the default rate supports.
 pub type DefaultRateCounts = SupportedCounts<DefaultRateMarker>;
 
-/// Two counts that a rate supports, checked once. Encoders and decoders that are made by `with_counts` do not check them
-/// again.
+/// Two counts that a rate supports. They are checked once: encoders and decoders that are made by `with_counts` do not
+/// check them again.
 #[derive(Debug, PartialEq, Eq, Hash)]
 pub struct SupportedCounts<C: RateMarker> {
+    /// The number of originals.
     pub original_count: usize,
+    /// The number of recovery shards.
     pub recovery_count: usize,
+    /// What the rate chooses for these counts.
     pub(crate) choice: Choice,
     code: PhantomData<C>,
     pub ghost supported: { supports C.rate original_count recovery_count ≡ true },
