@@ -1,6 +1,6 @@
 -- The tables in memory of a C program.
 use Rattle.std.specs.Prelude.{◌≡◌, ℕ, ◌+◌, ◌*◌, ◌^◌, ◌<◌, List, [], ◌∷◌, slice_index, slice_index_or}
-use Rattle.rs_field.specs.declared.words.tables.Multiply128lutT.{Multiply128lutT}
+use Rattle.rs_field.specs.declared.words.table_types.Multiply128lutT.{Multiply128lutT}
 use Rattle.rs_field.specs.words.Field.{power}
 use Rattle.rs_field.specs.words.Products.{IsNibbleBytes}
 use Rattle.rs_field.specs.words.Tables.{IsSkew, AreLogWalshes}

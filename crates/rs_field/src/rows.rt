@@ -2,8 +2,10 @@
 pub mod block;
 pub mod bytes;
 pub mod derivative;
+pub mod engine;
 pub mod engine_naive;
 pub mod kernel;
+mod kernel_engine;
 mod layers;
 pub mod layout;
 pub mod marked_rows;

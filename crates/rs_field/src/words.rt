@@ -6,7 +6,9 @@ pub mod locating;
 mod mul128;
 mod mul16;
 mod powers;
+pub mod products;
 mod steps;
+pub mod table_types;
 pub mod tables;
 mod walsh_lanes;
 

@@ -1,7 +1,7 @@
 -- The tables of products with each power of the generator, nibble by nibble: as words, and by bytes.
 use Rattle.std.specs.Prelude.{◌≡◌, ℕ, ◌*◌, ◌/◌, ◌%◌, ◌^◌, ◌<◌, List, [], length, slice_index, slice_index_or}
 use Rattle.rs_field.specs.words.Field.{product, power}
-use Rattle.rs_field.specs.declared.words.tables.Multiply128lutT.{Multiply128lutT}
+use Rattle.rs_field.specs.declared.words.table_types.Multiply128lutT.{Multiply128lutT}
 
 -- word i is the word `i << 4n` times f
 pub record IsNibbleList (n f : ℕ) (words : List ℕ) : Type 0 where

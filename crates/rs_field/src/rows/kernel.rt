@@ -1,20 +1,12 @@
-//! The parts of an engine that differ from engine to engine, and the engine that is made of these parts.
-ghost use Rattle.std.specs.Prelude.{◌≡◌, ℕ, ◌^◌, ◌<◌, ◌≤◌, length, slice_index, bit_xor};
-ghost use Rattle.rs_field.specs.words.StepBounds.{LocatorCounts, LocatorCountsBelow};
+//! The parts of an engine that differ from engine to engine.
+ghost use Rattle.std.specs.Prelude.{◌≡◌, ℕ, ◌<◌, length, bit_xor};
 ghost use Rattle.rs_field.specs.words.Field.{product, power};
-ghost use Rattle.rs_field.specs.words.Locator.{IsLocatorBelow};
 ghost use Rattle.rs_field.specs.words.Tables.{times_factor};
 ghost use Rattle.rs_field.specs.rows.Rows.{chunk, symbol};
 ghost use Rattle.rs_field.specs.rows.TwoLayers.{IsForwardTwoLayers, IsBackwardTwoLayers};
 
-use super::ShardsRefMut;
-use super::block::Block;
-use super::layers::Direction::{Backward, Forward};
-use super::marked_rows::UsedRows;
-use super::transform::transform;
-use crate::engine::Engine;
 use crate::words::lent_tables::LentTables;
-use crate::words::{GfElement, Steps, locating};
+use crate::words::GfElement;
 
 /// The logarithms of the three factors that two layers of butterflies on four rows use. 65535 represents the factor
 /// zero.
@@ -115,82 +107,4 @@ pub trait Kernel: Drop {
     fn mul_row(&self, x: &mut [[u8; 64]], log_m: GfElement)
         ensures { (k s : ℕ) → k < length x.old → s < 32
             → symbol (chunk x.new k) s ≡ product (symbol (chunk x.old k) s) (power log_m) };
-}
-
-impl<K: Kernel> Engine for K {
-    fn fft(
-        &self,
-        steps: &mut Steps,
-        data: &mut ShardsRefMut<'_>,
-        pos: usize,
-        size: usize,
-        truncated_size: usize,
-        skew_delta: usize,
-    ) {
-        let wanted = UsedRows::First(truncated_size);
-        let block = Block::new(pos, size, skew_delta);
-        transform(Forward, self, steps, data, block, wanted);
-    }
-
-    fn ifft(
-        &self,
-        steps: &mut Steps,
-        data: &mut ShardsRefMut<'_>,
-        pos: usize,
-        size: usize,
-        truncated_size: usize,
-        skew_delta: usize,
-    ) {
-        let given = UsedRows::First(truncated_size);
-        let block = Block::new(pos, size, skew_delta);
-        transform(Backward, self, steps, data, block, given);
-    }
-
-    fn fft_wanted(
-        &self,
-        steps: &mut Steps,
-        data: &mut ShardsRefMut<'_>,
-        pos: usize,
-        wanted: &[bool],
-        skew_delta: usize,
-    ) {
-        let block = Block::new(pos, wanted.len(), skew_delta);
-        let wanted = UsedRows::Marked(wanted);
-        transform(Forward, self, steps, data, block, wanted);
-    }
-
-    fn ifft_given(
-        &self,
-        steps: &mut Steps,
-        data: &mut ShardsRefMut<'_>,
-        pos: usize,
-        given: &[bool],
-        skew_delta: usize,
-    ) {
-        let block = Block::new(pos, given.len(), skew_delta);
-        let given = UsedRows::Marked(given);
-        transform(Backward, self, steps, data, block, given);
-    }
-
-    fn mul(&self, steps: &mut Steps, x: &mut [[u8; 64]], log_m: GfElement) {
-        steps.row_step();
-        self.mul_row(x, log_m);
-    }
-
-    fn eval_poly(&self, steps: &mut Steps, erasures: &mut [GfElement], truncated_size: usize) {
-        let log_walsh = self.tables().log_walsh();
-        locating::eval_poly(steps, erasures, truncated_size, log_walsh);
-    }
-
-    fn locate(&self, steps: &mut Steps, erasures: &mut [GfElement])
-        requires power { (d : ℕ) × (length erasures.old ≡ 2 ^ d) }
-        requires few { length erasures.old ≤ 65536 }
-        ensures values { IsLocatorBelow (length erasures.old) (λ y. slice_index erasures.old y)
-            (λ x. slice_index erasures.new x) }
-        ensures counts { LocatorCounts steps.old steps.new }
-        ensures own_counts { LocatorCountsBelow (length erasures.old) steps.old steps.new }
-    {
-        let log_walsh = self.tables().log_walsh_below(erasures.len());
-        locating::locate(steps, erasures, log_walsh);
-    }
 }

@@ -6,7 +6,7 @@ ghost use Rattle.rs_field.specs.rows.View.{cell, word, Fits, SameExtent, SameRow
 ghost use Rattle.rs_field.specs.words.StepBounds.{CountsRows, RowProductCounts};
 
 use super::ShardsRefMut;
-use crate::engine::Engine;
+use super::engine::Engine;
 use crate::words::{GfElement, Steps};
 
 /// Fills rows `start` to `end - 1` with zero bytes, and counts one row step for each.

@@ -2,7 +2,7 @@
 ghost use Rattle.std.specs.Prelude.{◌≡◌, ◌^◌, ◌≤◌, ℕ};
 ghost use Rattle.rs_field.specs.words.Tables.{IsLogWalsh, IsLogWalshBelow, AreLogWalshes, IsSkew};
 
-use super::tables::{LogWalsh, Skew};
+use super::table_types::{LogWalsh, Skew};
 use super::{GF_ORDER, GfElement};
 
 /// The tables that transforms and locators read, lent.

@@ -3,7 +3,7 @@ ghost use Rattle.std.specs.Prelude.{◌≡◌, ℕ, ◌+◌, ◌*◌, ◌/◌, �
 ghost use Rattle.rs_field.specs.words.Field.{product};
 ghost use Rattle.rs_field.specs.words.Products.{byte_at, IsNibbleList, IsNibbles, IsNibbleBytes, IsMul16, IsMul128};
 
-use super::tables::{Mul16, Multiply128lutT};
+use super::table_types::{Mul16, Multiply128lutT};
 use super::{GF_ORDER, GfElement};
 use std::alloc::{AllocError, Global};
 

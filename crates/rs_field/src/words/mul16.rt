@@ -4,7 +4,8 @@ ghost use Rattle.rs_field.specs.words.Field.{product, power};
 ghost use Rattle.rs_field.specs.words.Tables.{IsExpLog};
 ghost use Rattle.rs_field.specs.words.Products.{IsNibbleList, IsNibbles, IsMul16};
 
-use super::tables::{self, ExpLog};
+use super::products;
+use super::table_types::ExpLog;
 use super::{GF_ORDER, GfElement};
 use std::alloc::{AllocError, Global};
 
@@ -46,10 +47,10 @@ fn nibble_list(place: GfElement, log_m: GfElement, t: &ExpLog) -> [GfElement; 16
     ensures { (n : ℕ) → place ≡ 16 ^ n → IsNibbleList n (power log_m) result }
 {
     nibble_sums(
-        tables::mul(place, log_m, &t.exp, &t.log),
-        tables::mul(2 * place, log_m, &t.exp, &t.log),
-        tables::mul(4 * place, log_m, &t.exp, &t.log),
-        tables::mul(8 * place, log_m, &t.exp, &t.log),
+        products::mul(place, log_m, &t.exp, &t.log),
+        products::mul(2 * place, log_m, &t.exp, &t.log),
+        products::mul(4 * place, log_m, &t.exp, &t.log),
+        products::mul(8 * place, log_m, &t.exp, &t.log),
     )
 }
 

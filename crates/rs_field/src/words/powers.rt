@@ -3,7 +3,7 @@ ghost use Rattle.std.specs.Prelude.{◌≡◌, ◌*◌, ◌<◌, IfOk, length, s
 ghost use Rattle.rs_field.specs.words.Field.{product, generator};
 ghost use Rattle.rs_field.specs.words.Tables.{IsExpLog};
 
-use super::tables::ExpLog;
+use super::table_types::ExpLog;
 use super::{GF_BITS, GF_MODULUS, GF_ORDER, GfElement};
 use std::alloc::{AllocError, Global};
 

@@ -1,55 +1,17 @@
 //! The tables of the field, made at run time and lent.
 ghost use Rattle.std.specs.Prelude.{◌≡◌, ◌+◌, ◌-◌, ◌*◌, ◌/◌, ◌%◌, ◌^◌, ◌<◌, ◌≤◌, length, slice_index, vec_len, IfOk, IfErr, OnOk, ℕ};
-ghost use Rattle.rs_field.specs.words.Field.{product, power};
+ghost use Rattle.rs_field.specs.words.Field.{power};
 ghost use Rattle.rs_field.specs.words.Tables.{IsExpLog, IsLog, IsLogWalsh, IsLogWalshBelow, AreLogWalshes, IsSkew};
 ghost use Rattle.rs_field.specs.words.Products.{IsMul16, IsMul128};
 ghost use Rattle.rs_field.specs.words.Walsh.{IsWalsh, log_or_zero};
 
 use super::fwht::{fwht, residue};
 use super::lent_tables::LentTables;
+pub use super::products::{add_mod, mul};
+pub use super::table_types::{Exp, ExpLog, Log, LogWalsh, Mul16, Mul128, Multiply128lutT, Skew};
 use super::{GF_BITS, GF_MODULUS, GF_ORDER, GfElement, Steps, mul16, mul128, powers};
 use crate::code::error::Error;
 use std::alloc::{AllocError, Global};
-
-/// A lent table of 65536 powers of the generator.
-pub type Exp<'a> = &'a [GfElement];
-
-/// A lent table of 65536 logarithms. The entry of 0, which has no logarithm, is 65535.
-pub type Log<'a> = &'a [GfElement];
-
-/// A lent table of the 65535 factors of butterflies, as logarithms. 65535 marks the factor zero.
-pub type Skew<'a> = &'a [GfElement];
-
-/// A lent table of n entries, a power of two: the Walsh-Hadamard transform of the logarithms of the words below n, each
-/// times 65536 / n. The logarithm of 0 counts as 0.
-///
-/// The entries are residues modulo 65535: 0 and 65535 both represent zero.
-pub type LogWalsh<'a> = &'a [GfElement];
-
-/// A lent table of 65536 entries. Entry m holds the products with the generator to the power m: word i of list n is the
-/// product of the word `i << 4n`.
-pub type Mul16<'a> = &'a [[[GfElement; 16]; 4]];
-
-/// A lent table of 65536 entries. Entry m holds the products with the generator to the power m, as bytes.
-pub type Mul128<'a> = &'a [Multiply128lutT];
-
-/// The products of one factor with the words 0 to 15, shifted by zero, one, two and three nibbles.
-#[derive(Clone, Debug, Drop, PartialEq, Eq, Hash)]
-pub struct Multiply128lutT {
-    /// Byte i of number n, the lowest first, is the low byte of the product of `i << 4n`.
-    pub lo: [u128; 4],
-    /// Byte i of number n, the lowest first, is the high byte of the product of `i << 4n`.
-    pub hi: [u128; 4],
-}
-
-/// The tables of powers and logarithms.
-#[derive(Drop)]
-pub struct ExpLog {
-    /// Entry n is the generator to the power n, for n up to 65535.
-    pub exp: Vec<GfElement>,
-    /// Entry z is the logarithm of z, for z up to 65535. Entry 0 is 65535.
-    pub log: Vec<GfElement>,
-}
 
 /// All tables. They are made once and lent to engines. They take 17,432,572 bytes.
 #[derive(Drop)]
@@ -142,27 +104,6 @@ pub fn get_mul128(tables: &Tables) -> Mul128<'_>
     ensures { IsMul128 result.now }
 {
     tables.mul128.as_slice()
-}
-
-/// Returns `x` times the generator to the power `log_m`. 65535 is the factor one. The tables are those of an [`ExpLog`].
-pub fn mul(x: GfElement, log_m: GfElement, exp: Exp<'_>, log: Log<'_>) -> GfElement
-    requires { IsExpLog exp.now log.now }
-    ensures { result ≡ product x (power log_m) }
-{
-    if x == 0 {
-        0
-    } else {
-        exp[add_mod(log[x as usize], log_m) as usize]
-    }
-}
-
-/// Returns the sum modulo 65535, where 0 and 65535 both represent zero.
-#[inline(always)]
-pub fn add_mod(x: GfElement, y: GfElement) -> GfElement
-    ensures { result % 65535 ≡ (x + y) % 65535 }
-{
-    let sum = x.wrapping_add(y);
-    if sum < x { sum + 1 } else { sum }
 }
 
 // Returns the even number 2u, where j is an odd number 2u + 1 times a power of two.

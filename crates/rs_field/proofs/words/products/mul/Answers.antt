@@ -3,7 +3,7 @@ use Rattle.rs_field.specs.words.Field.{product, power, log}
 use Rattle.rs_field.specs.words.Tables.{IsExpLog}
 use Rattle.rs_field.proofs.of_words.Product.{zero_product}
 use Rattle.rs_field.proofs.of_words.Power.{power-mod, product-log}
-use Rattle.rs_field.proofs.words.tables.mul.Goals as goal
+use Rattle.rs_field.proofs.words.products.mul.Goals as goal
 
 pub returns-then-x-eq0 : goal.returns-then-x-eq0
 returns-then-x-eq0 c = sym (ap (λ v. product v (power c.args.log_m)) c.if-x-eq0.true ∙ zero_product (power c.args.log_m))

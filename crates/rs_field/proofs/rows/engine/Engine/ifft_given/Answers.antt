@@ -1,6 +1,6 @@
 use Rattle.std.proofs.Common.{◌≡◌, ℕ, ◌+◌, ◌-◌, replicate, subst, arith}
 use Rattle.rs_field.specs.rows.View.{cell}
-use Rattle.rs_field.proofs.engine.Engine.ifft_given.Goals as goal
+use Rattle.rs_field.proofs.rows.engine.Engine.ifft_given.Goals as goal
 
 pub ifft-requires-clause-zeros : goal.ifft-requires-clause-zeros
 ifft-requires-clause-zeros g c i k hk from to =

@@ -4,7 +4,7 @@ use Rattle.rs_field.specs.words.Locator.{log_sum}
 use Rattle.rs_field.proofs.of_words.LocatorLemmas.{log_sum-same}
 use Rattle.rs_field.proofs.of_words.LocatorProduct.{none_marked_past}
 use Rattle.rs_field.proofs.of_words.Convolution.{few_bits}
-use Rattle.rs_field.proofs.engine.Engine.locate.Goals as goal
+use Rattle.rs_field.proofs.rows.engine.Engine.locate.Goals as goal
 
 -- A list whose first entries were replaced has the old entries after them.
 past : (front whole : List ℕ) (n y : ℕ) → length front ≡ n → n ≤ y → get_or (front ++ drop n whole) y 0 ≡ get_or whole y 0

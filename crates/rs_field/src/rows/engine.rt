@@ -1,0 +1,171 @@
+//! The trait of an engine.
+ghost use Rattle.std.specs.Prelude.{◌≡◌, ℕ, ◌+◌, ◌%◌, ◌^◌, ◌<◌, ◌≤◌, true, length, slice_index};
+ghost use Rattle.rs_field.specs.words.Field.{product, power};
+ghost use Rattle.rs_field.specs.rows.MarkedRows.{is_marked, OthersAreZero};
+ghost use Rattle.rs_field.specs.words.Transform.{forward};
+ghost use Rattle.rs_field.specs.rows.Rows.{chunk, symbol};
+ghost use Rattle.rs_field.specs.rows.View.{word, Fits, SameExtent, SameRowsOutside, AreZero};
+ghost use Rattle.rs_field.specs.words.Locator.{IsLocator, IsLocatorBelow};
+ghost use Rattle.rs_field.specs.words.StepBounds.{LocatorCounts, TransformCounts, RowProductCounts};
+
+use super::ShardsRefMut;
+use super::marked_rows::marked_end;
+use crate::words::{GF_ORDER, GfElement, Steps};
+
+/// An engine: the transforms of rows, the product of a row, and the locator that encoders and decoders need.
+///
+/// The transforms are those of Lin, Chung and Han ("Novel polynomial basis and its application to Reed-Solomon erasure
+/// codes"), in the form of Leopard-RS. They lead from coefficients in the basis of subspace polynomials to values on a coset,
+/// for each symbol by itself. Every call succeeds and allocates nothing.
+///
+/// A type that provides `fft`, `ifft`, `mul` and `eval_poly` is an engine. The other three calls have default bodies.
+pub trait Engine: Drop {
+    /// Transforms the `size` rows from `pos` on forward, at `skew_delta`.
+    ///
+    /// For i below `truncated_size`, row i of them becomes the sum, over q below `size`, of the old row q times the basis
+    /// polynomial q at the point `skew_delta + i`. The rows from `truncated_size` on hold anything afterwards. All other rows
+    /// are unchanged. `size` is a power of two, and `skew_delta` a multiple of it.
+    fn fft(
+        &self,
+        steps: &mut Steps,
+        data: &mut ShardsRefMut<'_>,
+        pos: usize,
+        size: usize,
+        truncated_size: usize,
+        skew_delta: usize,
+    )
+        requires fits { Fits «data».old }
+        requires power { (d : ℕ) × (size ≡ 2 ^ d) }
+        requires truncated { truncated_size ≤ size }
+        requires within { pos + size ≤ «data».old.shard_count }
+        requires shift { skew_delta % size ≡ 0 }
+        requires points { skew_delta + size ≤ 65536 }
+        ensures extent { SameExtent «data».old «data».new }
+        ensures others { SameRowsOutside pos (pos + size) «data».old «data».new }
+        ensures values { (k s i : ℕ) → k < «data».old.shard_len_64 → s < 32 → i < truncated_size
+            → word «data».new k s (pos + i)
+            ≡ forward size skew_delta (λ q. word «data».old k s (pos + q)) i }
+        ensures counts { TransformCounts size steps.old steps.new };
+
+    /// Transforms the `size` rows from `pos` on backward, at `skew_delta`: they become the rows whose forward transform they
+    /// were. The rows from `truncated_size` on must be zero before. All other rows are unchanged.
+    fn ifft(
+        &self,
+        steps: &mut Steps,
+        data: &mut ShardsRefMut<'_>,
+        pos: usize,
+        size: usize,
+        truncated_size: usize,
+        skew_delta: usize,
+    )
+        requires fits { Fits «data».old }
+        requires power { (d : ℕ) × (size ≡ 2 ^ d) }
+        requires truncated { truncated_size ≤ size }
+        requires within { pos + size ≤ «data».old.shard_count }
+        requires shift { skew_delta % size ≡ 0 }
+        requires points { skew_delta + size ≤ 65536 }
+        requires zeros { AreZero (pos + truncated_size) (pos + size) «data».old }
+        ensures extent { SameExtent «data».old «data».new }
+        ensures others { SameRowsOutside pos (pos + size) «data».old «data».new }
+        ensures values { (k s i : ℕ) → k < «data».old.shard_len_64 → s < 32 → i < size
+            → word «data».old k s (pos + i)
+            ≡ forward size skew_delta (λ q. word «data».new k s (pos + q)) i }
+        ensures counts { TransformCounts size steps.old steps.new };
+
+    /// Transforms the rows from `pos` on forward, at `skew_delta`, as many as `wanted` has marks.
+    ///
+    /// Row i of them, if it is marked as wanted, becomes the sum, over all q, of the old row q times the basis polynomial q at
+    /// the point `skew_delta + i`. Rows that are not wanted hold anything afterwards. All other rows are unchanged. The default
+    /// body makes one `fft` that is truncated after the last wanted row.
+    fn fft_wanted(
+        &self,
+        steps: &mut Steps,
+        data: &mut ShardsRefMut<'_>,
+        pos: usize,
+        wanted: &[bool],
+        skew_delta: usize,
+    )
+        requires fits { Fits «data».old }
+        requires power { (d : ℕ) × (length wanted.now ≡ 2 ^ d) }
+        requires within { pos + length wanted.now ≤ «data».old.shard_count }
+        requires shift { skew_delta % length wanted.now ≡ 0 }
+        requires points { skew_delta + length wanted.now ≤ 65536 }
+        ensures extent { SameExtent «data».old «data».new }
+        ensures others { SameRowsOutside pos (pos + length wanted.now) «data».old «data».new }
+        ensures values { (k s i : ℕ) → k < «data».old.shard_len_64 → s < 32
+            → is_marked wanted.now i ≡ true
+            → word «data».new k s (pos + i)
+            ≡ forward (length wanted.now) skew_delta (λ q. word «data».old k s (pos + q)) i }
+        ensures counts { TransformCounts (length wanted.now) steps.old steps.new }
+    {
+        let end = marked_end(wanted);
+        self.fft(steps, data, pos, wanted.len(), end, skew_delta);
+    }
+
+    /// Transforms the rows from `pos` on backward, at `skew_delta`, as many as `given` has marks: they become the rows whose
+    /// forward transform they were. Rows that are not marked as given must be zero before. All other rows are unchanged. The
+    /// default body makes one `ifft` that is truncated after the last given row.
+    fn ifft_given(
+        &self,
+        steps: &mut Steps,
+        data: &mut ShardsRefMut<'_>,
+        pos: usize,
+        given: &[bool],
+        skew_delta: usize,
+    )
+        requires fits { Fits «data».old }
+        requires power { (d : ℕ) × (length given.now ≡ 2 ^ d) }
+        requires within { pos + length given.now ≤ «data».old.shard_count }
+        requires shift { skew_delta % length given.now ≡ 0 }
+        requires points { skew_delta + length given.now ≤ 65536 }
+        requires zeros { OthersAreZero given.now pos «data».old }
+        ensures extent { SameExtent «data».old «data».new }
+        ensures others { SameRowsOutside pos (pos + length given.now) «data».old «data».new }
+        ensures values { (k s i : ℕ) → k < «data».old.shard_len_64 → s < 32 → i < length given.now
+            → word «data».old k s (pos + i)
+            ≡ forward (length given.now) skew_delta (λ q. word «data».new k s (pos + q)) i }
+        ensures counts { TransformCounts (length given.now) steps.old steps.new }
+    {
+        let end = marked_end(given);
+        self.ifft(steps, data, pos, given.len(), end, skew_delta);
+    }
+
+    /// Multiplies every symbol of every chunk of a row by the generator to the power `log_m`. 65535 is the factor one.
+    fn mul(&self, steps: &mut Steps, x: &mut [[u8; 64]], log_m: GfElement)
+        ensures products { (k s : ℕ) → k < length x.old → s < 32
+            → symbol (chunk x.new k) s ≡ product (symbol (chunk x.old k) s) (power log_m) }
+        ensures counts { RowProductCounts steps.old steps.new };
+
+    /// Computes the locator of the marked points, at all points at once: entry x becomes, modulo 65535, the sum over all
+    /// points y other than x of entry y times the logarithm of `x XOR y`.
+    ///
+    /// There are 65536 entries, and those from `truncated_size` on are 0; `truncated_size` is at most 65536. Only the residue of
+    /// a new entry is fixed: 0 and 65535 both represent zero. The locator is that of Leopard-RS.
+    fn eval_poly(&self, steps: &mut Steps, erasures: &mut [GfElement], truncated_size: usize)
+        requires size { length erasures.old ≡ 65536 }
+        requires truncated { truncated_size ≤ 65536 }
+        requires zeros { (y : ℕ) → truncated_size ≤ y → y < 65536 → slice_index erasures.old y ≡ 0 }
+        ensures values { IsLocator (λ y. slice_index erasures.old y)
+            (λ x. slice_index erasures.new x) }
+        ensures counts { LocatorCounts steps.old steps.new };
+
+    /// Computes the locator of marked points among the first ones, at these points. There are as many points as entries, a
+    /// power of two and at most 65536: entry x becomes, modulo 65535, the sum over these points y other than x of entry y times
+    /// the logarithm of `x XOR y`.
+    ///
+    /// Only the residue of a new entry is fixed: 0 and 65535 both represent zero. The default body makes one `eval_poly` over
+    /// 65536 entries on the stack, with no point after the entries marked.
+    fn locate(&self, steps: &mut Steps, erasures: &mut [GfElement])
+        requires power { (d : ℕ) × (length erasures.old ≡ 2 ^ d) }
+        requires few { length erasures.old ≤ 65536 }
+        ensures values { IsLocatorBelow (length erasures.old) (λ y. slice_index erasures.old y)
+            (λ x. slice_index erasures.new x) }
+        ensures counts { LocatorCounts steps.old steps.new }
+    {
+        let count = erasures.len();
+        let mut padded = [0; GF_ORDER];
+        padded[..count].copy_from_slice(erasures);
+        self.eval_poly(steps, &mut padded, count);
+        erasures.copy_from_slice(&padded[..count]);
+    }
+}
