@@ -8,9 +8,9 @@ use Rattle.rs_field.specs.code.Counts.{Rate, next_power, supports, is_low, low_r
 use Rattle.rs_field.specs.code.Placement.{encoder_rows, rounded_up}
 use Rattle.rs_field.proofs.of_code.NextPower.{next_power-small, power_is_own}
 use Rattle.rs_field.proofs.of_code.SupportedCounts.{low_fits}
-use Rattle.rs_rate.specs.declared.rate.configuration.Configuration.{Configuration}
-use Rattle.rs_rate.specs.declared.rate.decoder_work.Frame.{Frame}
-use Rattle.rs_rate.specs.declared.rate.decoder_work.DecoderShape.{DecoderShape}
+use Rattle.rs_rate.specs.declared.values.configuration.Configuration.{Configuration}
+use Rattle.rs_rate.specs.declared.values.shapes.Frame.{Frame}
+use Rattle.rs_rate.specs.declared.values.shapes.DecoderShape.{DecoderShape}
 use Rattle.rs_rate.specs.Configured.{configuration_at, rate_configuration, low_or_high, frame_of, shape_of_encoder, shape_of_decoder, IsConfigured}
 use Rattle.rs_rate.specs.DecoderView.{decoder_shape}
 use Rattle.rs_rate.specs.ShardRows.{memory_outcome, chunk_count}

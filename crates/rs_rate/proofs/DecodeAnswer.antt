@@ -24,7 +24,7 @@ use Rattle.rs_field.proofs.of_code.MadeShards.{has_recovery}
 use Rattle.rs_field.proofs.of_code.RateFrames.{HasFrame, has_frame}
 use Rattle.rs_field.proofs.of_code.Agreement.{AreColumns, consistent_exactly, restored_column, one_message}
 use Rattle.rs_field.proofs.of_words.LocatorProduct.{same_residue}
-use Rattle.rs_rate.specs.declared.rate.decoder_work.DecoderShape.{DecoderShape}
+use Rattle.rs_rate.specs.declared.values.shapes.DecoderShape.{DecoderShape}
 use Rattle.rs_rate.specs.DecoderView.{decoder_shape, restored_over, state_over}
 use Rattle.rs_rate.specs.Configured.{configuration_at, frame_of}
 use Rattle.rs_rate.specs.Decoding.{IsLocatorOf, RestoresShards, located_word}

@@ -15,15 +15,15 @@ use Rattle.rs_field.proofs.of_code.Entries.{all_some, count-nothing, count-enter
 use Rattle.rs_field.proofs.of_code.NextPower.{own_is_power}
 use Rattle.rs_rate.specs.Configured.{configuration_at}
 use Rattle.rs_rate.specs.Shapes.{DecoderCanBeLaid}
-use Rattle.rs_rate.specs.declared.rate.decoder_work.DecoderShape.{DecoderShape}
-use Rattle.rs_rate.specs.declared.rate.decoder_work.DecoderWork.{DecoderWork}
-use Rattle.rs_rate.specs.declared.rate.restoring.Tally.{Tally}
+use Rattle.rs_rate.specs.declared.values.shapes.DecoderShape.{DecoderShape}
+use Rattle.rs_rate.specs.declared.rows.decoder_work.DecoderWork.{DecoderWork}
+use Rattle.rs_rate.specs.declared.values.shapes.Tally.{Tally}
 use Rattle.rs_rate.specs.DecoderRoom.{HasRoom, room_if, work_room}
 use Rattle.rs_rate.specs.DecoderView.{state_over}
 use Rattle.rs_rate.specs.Decoding.{CanBeRestored}
-use Rattle.rs_rate.specs.declared.rate.marks.Marks.{Marks}
-use Rattle.rs_rate.specs.declared.rate.marks.MarkedShards.{MarkedShards}
-use Rattle.rs_rate.specs.declared.rate.marks.MarkedShards.TheVariants.{Given, Restored}
+use Rattle.rs_rate.specs.declared.rows.marks.Marks.{Marks}
+use Rattle.rs_rate.specs.declared.rows.marks.MarkedShards.{MarkedShards}
+use Rattle.rs_rate.specs.declared.rows.marks.MarkedShards.TheVariants.{Given, Restored}
 use Rattle.rs_rate.specs.Marks.{marks_of_given, given_marks, given_row_count, given_shards, restored_shards, HoldGiven}
 use Rattle.rs_rate.specs.ShardRows.{shard_laid_out, shard_in_order}
 

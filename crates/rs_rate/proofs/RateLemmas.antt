@@ -8,7 +8,7 @@ use Rattle.rs_field.specs.code.Column.{Shard, columns}
 use Rattle.rs_field.specs.code.Configuration.{configuration}
 use Rattle.rs_field.specs.code.Code.{Codes, AreRecovery, AreRecoveryWords}
 use Rattle.rs_field.proofs.of_code.SupportedCounts.{default_fits, high_powers, low_powers}
-use Rattle.rs_rate.specs.declared.rate.decoder_work.Frame.{Frame}
+use Rattle.rs_rate.specs.declared.values.shapes.Frame.{Frame}
 use Rattle.rs_rate.specs.Configured.{frame_of, low_or_high}
 use Rattle.rs_rate.proofs.PowerLemmas.{low_supported}
 use Rattle.rs_rate.proofs.HighCounts.{high_turned}

@@ -12,8 +12,8 @@ use Rattle.rs_field.specs.rows.MarkedRows.{is_marked}
 use Rattle.rs_field.proofs.of_code.Given.{count_below-zero, count_below-suc}
 use Rattle.rs_field.proofs.of_words.UpTo.{length-up_to, get-up_to}
 use Rattle.rs_field.proofs.of_code.Listed.{items_from-none, items_from-some, items_from-past, length-listed}
-use Rattle.rs_rate.specs.declared.rate.decoder_work.DecoderRows.{DecoderRows}
-use Rattle.rs_rate.specs.declared.rate.encoder_work.EncoderRows.{EncoderRows}
+use Rattle.rs_rate.specs.declared.rows.decoder_work.DecoderRows.{DecoderRows}
+use Rattle.rs_rate.specs.declared.rows.encoder_work.EncoderRows.{EncoderRows}
 use Rattle.rs_rate.specs.DecoderView.{restored_by_rows, restored_from}
 use Rattle.rs_rate.specs.EncoderView.{lent_shards}
 use Rattle.rs_rate.specs.Marks.{restored_marks, given_row_count, restored_shards}

@@ -8,9 +8,9 @@ use Rattle.rs_field.specs.code.Counts.{Rate}
 use Rattle.rs_field.specs.code.Given.{Shards, with_entry}
 use Rattle.rs_field.specs.rows.MarkedRows.{is_marked}
 use Rattle.rs_field.specs.rows.Rows.{Chunks}
-use Rattle.rs_rate.specs.declared.rate.decoder_work.DecoderRows.{DecoderRows}
-use Rattle.rs_rate.specs.declared.rate.side.Side.{Side}
-use Rattle.rs_rate.specs.declared.rate.side.Side.TheVariants.{Original, Recovery}
+use Rattle.rs_rate.specs.declared.rows.decoder_work.DecoderRows.{DecoderRows}
+use Rattle.rs_rate.specs.declared.values.side.Side.{Side}
+use Rattle.rs_rate.specs.declared.values.side.Side.TheVariants.{Original, Recovery}
 use Rattle.rs_rate.specs.Configured.{configuration_at}
 use Rattle.rs_rate.specs.DecoderView.{decoder_state, state_over}
 use Rattle.rs_rate.specs.Marks.{given_marks, given_row_count, given_shards}

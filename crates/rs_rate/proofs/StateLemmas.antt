@@ -11,8 +11,8 @@ use Rattle.rs_field.specs.code.Configuration.{Configuration, validation_outcome,
 use Rattle.rs_field.specs.code.Encoder.{EncoderState, fresh_encoder, with_shard, message_of, EncodeAnswers, after_encode}
 use Rattle.rs_field.specs.code.Code.{AreRecovery}
 use Rattle.rs_field.specs.words.UpTo.{up_to}
-use Rattle.rs_rate.specs.declared.rate.encoder_work.EncoderRows.{EncoderRows}
-use Rattle.rs_rate.specs.declared.rate.encoder_work.EncoderShape.{EncoderShape}
+use Rattle.rs_rate.specs.declared.rows.encoder_work.EncoderRows.{EncoderRows}
+use Rattle.rs_rate.specs.declared.values.shapes.EncoderShape.{EncoderShape}
 use Rattle.rs_rate.specs.Configured.{configuration_at}
 use Rattle.rs_rate.specs.EncoderView.{encoder_state}
 use Rattle.rs_rate.specs.ShardRows.{memory_outcome, chunk_count, shard_laid_out}

@@ -3,11 +3,11 @@ use Rattle.std.specs.Prelude.{◌≡◌, ◌%◌, ◌<◌, ℕ, Bool, true, if�
 use Rattle.rs_field.specs.code.Counts.{Rate, low_rate, high_rate, supports, is_low}
 use Rattle.rs_field.specs.code.Configuration.{Configuration as AsDefined, configuration}
 use Rattle.rs_field.specs.code.Placement.{placement, block_rows, encoder_rows, decoder_rows}
-use Rattle.rs_rate.specs.declared.rate.configuration.Configuration.{Configuration}
-use Rattle.rs_rate.specs.declared.rate.counts.Choice.{Choice}
-use Rattle.rs_rate.specs.declared.rate.decoder_work.Frame.{Frame}
-use Rattle.rs_rate.specs.declared.rate.decoder_work.DecoderShape.{DecoderShape}
-use Rattle.rs_rate.specs.declared.rate.encoder_work.EncoderShape.{EncoderShape}
+use Rattle.rs_rate.specs.declared.values.configuration.Configuration.{Configuration}
+use Rattle.rs_rate.specs.declared.values.counts.Choice.{Choice}
+use Rattle.rs_rate.specs.declared.values.shapes.Frame.{Frame}
+use Rattle.rs_rate.specs.declared.values.shapes.DecoderShape.{DecoderShape}
+use Rattle.rs_rate.specs.declared.values.shapes.EncoderShape.{EncoderShape}
 
 -- whether a rate is the low or the high rate for these counts, and the number of rows of a block
 abbrev pub choice_at : Rate → ℕ → ℕ → Choice

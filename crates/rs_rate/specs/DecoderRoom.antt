@@ -1,9 +1,9 @@
 -- The memory of a decoder: the room that it has, and how it is laid out for rows.
 use Rattle.std.specs.Prelude.{◌≡◌, ◌*◌, ◌^◌, ◌<◌, ◌≤◌, ℕ, Option, Some, None, vec_len}
 use Rattle.std.specs.Vec.{vec_capacity}
-use Rattle.rs_rate.specs.declared.rate.decoder_work.DecoderShape.{DecoderShape}
-use Rattle.rs_rate.specs.declared.rate.decoder_work.DecoderMemory.{DecoderMemory}
-use Rattle.rs_rate.specs.declared.rate.decoder_work.DecoderWork.{DecoderWork}
+use Rattle.rs_rate.specs.declared.values.shapes.DecoderShape.{DecoderShape}
+use Rattle.rs_rate.specs.declared.rows.decoder_work.DecoderMemory.{DecoderMemory}
+use Rattle.rs_rate.specs.declared.rows.decoder_work.DecoderWork.{DecoderWork}
 use Rattle.rs_rate.specs.Marks.{mark_count, mark_room}
 use Rattle.rs_rate.specs.ShardRows.{chunk_count}
 

@@ -5,8 +5,8 @@ use Rattle.rs_field.specs.code.Counts.{Rate}
 use Rattle.rs_field.specs.code.Given.{Shards, items_from}
 use Rattle.rs_field.specs.code.Decoder.{DecoderState}
 use Rattle.rs_field.specs.rows.Rows.{Chunks}
-use Rattle.rs_rate.specs.declared.rate.decoder_work.DecoderShape.{DecoderShape}
-use Rattle.rs_rate.specs.declared.rate.decoder_work.DecoderRows.{DecoderRows}
+use Rattle.rs_rate.specs.declared.values.shapes.DecoderShape.{DecoderShape}
+use Rattle.rs_rate.specs.declared.rows.decoder_work.DecoderRows.{DecoderRows}
 use Rattle.rs_rate.specs.Configured.{configuration_at, rate_configuration, frame_of}
 use Rattle.rs_rate.specs.Marks.{given_marks, restored_marks, given_shards, restored_shards}
 

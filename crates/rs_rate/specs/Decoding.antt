@@ -11,11 +11,11 @@ use Rattle.rs_field.specs.words.Transform.{forward, IsBackward}
 use Rattle.rs_field.specs.rows.MarkedRows.{is_marked}
 use Rattle.rs_field.specs.rows.View.{Fits}
 use Rattle.rs_field.specs.declared.rows.shards.ShardsRefMut.{ShardsRefMut}
-use Rattle.rs_rate.specs.declared.rate.decoder_work.Frame.{Frame}
-use Rattle.rs_rate.specs.declared.rate.decoder_work.DecoderShape.{DecoderShape}
-use Rattle.rs_rate.specs.declared.rate.marks.Marks.{Marks}
-use Rattle.rs_rate.specs.declared.rate.marks.MarkedShards.TheVariants.{Given}
-use Rattle.rs_rate.specs.declared.rate.restoring.Tally.{Tally}
+use Rattle.rs_rate.specs.declared.values.shapes.Frame.{Frame}
+use Rattle.rs_rate.specs.declared.values.shapes.DecoderShape.{DecoderShape}
+use Rattle.rs_rate.specs.declared.rows.marks.Marks.{Marks}
+use Rattle.rs_rate.specs.declared.rows.marks.MarkedShards.TheVariants.{Given}
+use Rattle.rs_rate.specs.declared.values.shapes.Tally.{Tally}
 use Rattle.rs_rate.specs.Marks.{given_marks, mark_count, given_row_count, erasure}
 use Rattle.rs_rate.specs.Shapes.{DecoderCanBeLaid, original_row}
 use Rattle.rs_rate.specs.ShardRows.{word_in, shard_in_order}

@@ -5,8 +5,8 @@ use Rattle.rs_field.specs.code.Counts.{Rate}
 use Rattle.rs_field.specs.code.Encoder.{EncoderState}
 use Rattle.rs_field.specs.words.UpTo.{up_to}
 use Rattle.rs_rate.specs.Configured.{configuration_at}
-use Rattle.rs_rate.specs.declared.rate.encoder_work.EncoderRows.{EncoderRows}
-use Rattle.rs_rate.specs.declared.rate.encoder_work.EncoderWork.{EncoderWork}
+use Rattle.rs_rate.specs.declared.rows.encoder_work.EncoderRows.{EncoderRows}
+use Rattle.rs_rate.specs.declared.rows.encoder_work.EncoderWork.{EncoderWork}
 use Rattle.rs_rate.specs.Memory.{room_of}
 use Rattle.rs_rate.specs.ShardRows.{shard_laid_out, shard_in_order}
 

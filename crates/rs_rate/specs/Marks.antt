@@ -5,10 +5,10 @@ use Rattle.rs_field.specs.code.Column.{IsShard}
 use Rattle.rs_field.specs.code.Given.{Shards}
 use Rattle.rs_field.specs.rows.MarkedRows.{is_marked}
 use Rattle.rs_field.specs.rows.Rows.{Chunks}
-use Rattle.rs_rate.specs.declared.rate.decoder_work.DecoderShape.{DecoderShape}
-use Rattle.rs_rate.specs.declared.rate.marks.Marks.{Marks}
-use Rattle.rs_rate.specs.declared.rate.marks.MarkedShards.{MarkedShards}
-use Rattle.rs_rate.specs.declared.rate.marks.MarkedShards.TheVariants.{Given, Restored}
+use Rattle.rs_rate.specs.declared.values.shapes.DecoderShape.{DecoderShape}
+use Rattle.rs_rate.specs.declared.rows.marks.Marks.{Marks}
+use Rattle.rs_rate.specs.declared.rows.marks.MarkedShards.{MarkedShards}
+use Rattle.rs_rate.specs.declared.rows.marks.MarkedShards.TheVariants.{Given, Restored}
 use Rattle.rs_rate.specs.Shapes.{original_row}
 use Rattle.rs_rate.specs.ShardRows.{shard_laid_out, shard_in_order}
 

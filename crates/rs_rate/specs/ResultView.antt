@@ -4,8 +4,8 @@ use Rattle.std.specs.Result.{result_map_both}
 use Rattle.rs_field.specs.code.Column.{Shard}
 use Rattle.rs_field.specs.code.Given.{Shards}
 use Rattle.rs_field.specs.declared.code.error.Error.{Error}
-use Rattle.rs_rate.specs.declared.encoder_result.EncoderResult.{EncoderResult}
-use Rattle.rs_rate.specs.declared.decoder_result.DecoderResult.{DecoderResult}
+use Rattle.rs_rate.specs.declared.objects.encoder_result.EncoderResult.{EncoderResult}
+use Rattle.rs_rate.specs.declared.objects.decoder_result.DecoderResult.{DecoderResult}
 use Rattle.rs_rate.specs.EncoderView.{lent_shards}
 use Rattle.rs_rate.specs.DecoderView.{restored_by_rows}
 

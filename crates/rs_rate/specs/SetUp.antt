@@ -3,7 +3,7 @@ use Rattle.std.specs.Prelude.{◌≡◌, ℕ, Result, Ok}
 use Rattle.rs_field.specs.declared.code.error.Error.{Error}
 use Rattle.rs_field.specs.code.Configuration.{validation_outcome}
 use Rattle.rs_field.specs.code.Counts.{Rate, is_low}
-use Rattle.rs_rate.specs.declared.rate.configuration.Configuration.{Configuration}
+use Rattle.rs_rate.specs.declared.values.configuration.Configuration.{Configuration}
 use Rattle.rs_rate.specs.Configured.{configuration_at, rate_configuration, low_or_high, IsConfigured}
 use Rattle.rs_rate.specs.ShardRows.{memory_outcome, chunk_count}
 

@@ -3,9 +3,9 @@ use Rattle.std.specs.Prelude.{◌≡◌, ◌≢◌, ◌+◌, ◌<◌, ◌≤◌,
 use Rattle.rs_field.specs.code.Counts.{next_power}
 use Rattle.rs_field.specs.code.Placement.{encoder_rows, decoder_rows}
 use Rattle.rs_rate.specs.Configured.{IsConfigured, low_or_high, frame_of}
-use Rattle.rs_rate.specs.declared.rate.encoder_work.EncoderShape.{EncoderShape}
-use Rattle.rs_rate.specs.declared.rate.decoder_work.DecoderShape.{DecoderShape}
-use Rattle.rs_rate.specs.declared.rate.decoder_work.Frame.{Frame}
+use Rattle.rs_rate.specs.declared.values.shapes.EncoderShape.{EncoderShape}
+use Rattle.rs_rate.specs.declared.values.shapes.DecoderShape.{DecoderShape}
+use Rattle.rs_rate.specs.declared.values.shapes.Frame.{Frame}
 
 -- a shape is right for an encoder: its configuration is valid, and it has enough rows for the originals and for the recovery shards
 pub record EncoderCanBeLaid (shape : EncoderShape) : Type 0 where

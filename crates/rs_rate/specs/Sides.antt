@@ -4,9 +4,9 @@ use Rattle.rs_field.specs.declared.code.error.Error.{Error}
 use Rattle.rs_field.specs.declared.code.error.Error.TheVariants.{InvalidOriginalShardIndex, InvalidRecoveryShardIndex, DuplicateOriginalShardIndex, DuplicateRecoveryShardIndex}
 use Rattle.rs_field.specs.code.Column.{Shard}
 use Rattle.rs_field.specs.code.Decoder.{DecoderState, with_original, with_recovery}
-use Rattle.rs_rate.specs.declared.rate.decoder_work.DecoderShape.{DecoderShape}
-use Rattle.rs_rate.specs.declared.rate.side.Side.{Side}
-use Rattle.rs_rate.specs.declared.rate.side.Side.TheVariants.{Original, Recovery}
+use Rattle.rs_rate.specs.declared.values.shapes.DecoderShape.{DecoderShape}
+use Rattle.rs_rate.specs.declared.values.side.Side.{Side}
+use Rattle.rs_rate.specs.declared.values.side.Side.TheVariants.{Original, Recovery}
 
 -- the number of shards of a side
 abbrev pub side_count : Side → DecoderShape → ℕ

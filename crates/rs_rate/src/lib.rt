@@ -1,9 +1,11 @@
-//! The rates of the code: their encoders and decoders, the memory that these pass on, and their results.
+//! Rates of the code: their encoders, decoders, works and results.
 #![tactic(auto)]
 
-mod decoder_result;
-mod encoder_result;
+mod objects;
+mod passes;
 pub mod rate;
+mod rows;
+mod values;
 
-pub use decoder_result::{DecoderResult, RestoredOriginal};
-pub use encoder_result::{EncoderResult, Recovery};
+pub use objects::decoder_result::{DecoderResult, RestoredOriginal};
+pub use objects::encoder_result::{EncoderResult, Recovery};

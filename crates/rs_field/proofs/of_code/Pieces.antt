@@ -203,7 +203,7 @@ is_strip start strip size width part width_is part_is chunks begins less =
           }
       | inr last ↦
           let here : part ≡ size - start = part_is ∙ min-eq_right last in
-          record { order = omega arith; inside = omega (arith, here, less); begins = from; ends = inr (omega (arith, here, less)); }
+          record { order = omega arith; inside = omega (arith, here, less); begins = from; ends = inr (omega (arith, here, less)) }
     ]
 
 -- A room has at least the length of the bytes that were written.

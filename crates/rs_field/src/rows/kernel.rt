@@ -5,8 +5,8 @@ ghost use Rattle.rs_field.specs.words.Tables.{times_factor};
 ghost use Rattle.rs_field.specs.rows.Rows.{chunk, symbol};
 ghost use Rattle.rs_field.specs.rows.TwoLayers.{IsForwardTwoLayers, IsBackwardTwoLayers};
 
-use crate::words::lent_tables::LentTables;
 use crate::words::GfElement;
+use crate::words::lent_tables::LentTables;
 
 /// The logarithms of the three factors that two layers of butterflies on four rows use. 65535 represents the factor
 /// zero.

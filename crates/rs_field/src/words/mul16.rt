@@ -4,9 +4,8 @@ ghost use Rattle.rs_field.specs.words.Field.{product, power};
 ghost use Rattle.rs_field.specs.words.Tables.{IsExpLog};
 ghost use Rattle.rs_field.specs.words.Products.{IsNibbleList, IsNibbles, IsMul16};
 
-use super::products;
 use super::table_types::ExpLog;
-use super::{GF_ORDER, GfElement};
+use super::{GF_ORDER, GfElement, products};
 use std::alloc::{AllocError, Global};
 
 // Returns the sixteen sums of four products. Entry i is the sum of a if bit 0 of i is set, b if bit 1 is set, c if bit

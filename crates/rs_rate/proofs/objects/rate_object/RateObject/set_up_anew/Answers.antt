@@ -1,0 +1,33 @@
+use Rattle.std.proofs.Common.{ap₂, sym, ◌∙◌, refl}
+use Rattle.rs_rate.specs.SetUp.{IsSetUp}
+use Rattle.rs_rate.proofs.ConfiguredLemmas.{is_asked, either_way}
+use Rattle.rs_rate.proofs.StateLemmas.{memory_outcome-made, on_ok-at, on_err-at}
+use Rattle.rs_rate.proofs.objects.rate_object.RateObject.set_up_anew.Goals as goal
+
+pub returns-in_err-configuration-clause-grown : goal.returns-in_err-configuration-clause-grown
+returns-in_err-configuration-clause-grown g c = g.met.R.ObjectRows.stays _
+
+pub returns : goal.returns
+returns g c =
+    let is = is_asked g.R.ObjectRows.row_count g.met.R.ObjectRows.rows_set_up g.C.RateMarker.rate _ _ _ _ c.in_ok-configuration.ensures in
+    let old = c.args.self.now in
+    let own = g.R.ObjectRows.configuration_of old.rows in
+    let roomy = rw (is.count, is.bytes, ← is.answer) at c.reset.ensures.roomy in
+    record {
+      answer = rw (is.count, is.bytes, ← is.answer) at c.reset.ensures.answer;
+      ok = rw (← is.own) (on_ok-at g.C.RateMarker.rate c.reset.result _ c.reset.ensures.ok);
+      err = on_err-at g.C.RateMarker.rate c.reset.result _ c.reset.ensures.err;
+      roomy = roomy;
+      own = λ within.
+          let rows = ap₂ (g.R.ObjectRows.row_count g.C.RateMarker.rate) within.0 within.1 ∙ sym (g.met.R.ObjectRows.rows_set_up g.C.RateMarker.rate own old.set_up) in
+          let room = rw (← rows) at (g.met.R.ObjectRows.own_room old.rows c.args.shard_bytes within.2) in
+          memory_outcome-made _ c.reset.result room.0 (roomy room.1 ∙ is.answer);
+      engine = refl;
+      grown = c.reset.ensures.grown;
+    }
+
+pub invariant_of-self : goal.invariant_of-self
+invariant_of-self g c =
+    let own : IsSetUp g.C.RateMarker.rate (g.R.ObjectRows.configuration_of c.reset.new.self) = either_way c.reset.result c.reset.ensures.configuration c.reset.ensures.kept
+    (λ same. rw same c.in_ok-configuration.ensures.1) (λ kept. rw kept c.args.self.now.set_up) in
+    record { set_up = own }

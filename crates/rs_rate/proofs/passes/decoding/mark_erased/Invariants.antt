@@ -1,0 +1,9 @@
+use Rattle.std.proofs.Common.{◌≡◌, ℕ, ◌<◌, slice_index, length}
+use Rattle.rs_rate.specs.Marks.{erasure}
+use Rattle.rs_rate.proofs.passes.decoding.mark_erased.Given as goal
+
+abbrev pub invariant-loop-row : goal.invariant-loop-row
+invariant-loop-row l = record {
+  entries : length l.entries ≡ l.fn.frame.row_count;
+  erased : (y : ℕ) → y < l.row → slice_index l.entries y ≡ erasure l.fn.frame.zeros_from l.fn.frame.zeros_to l.given y;
+}

@@ -1,0 +1,12 @@
+//! Encoders, decoders and their results, with the traits that they have. This is the highest floor of the crate.
+pub mod decoder_result;
+pub mod decoders;
+pub mod encoder_result;
+pub mod encoders;
+pub mod giving;
+pub mod names;
+pub mod originals_alone;
+pub mod rate_object;
+pub mod rates;
+pub mod rounds;
+pub mod traits;

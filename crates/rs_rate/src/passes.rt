@@ -1,0 +1,6 @@
+//! The passes over rows that encode and decode. Above the floor of rows.
+pub mod decoding;
+pub mod encoding;
+pub mod high_encoding;
+pub mod low_encoding;
+pub mod restoring;

@@ -1,0 +1,200 @@
+//! The decoding of a round, for every rate: the locator of the erased rows, the rows over the chunks, the tails, and
+//! the round's end.
+ghost use Rattle.std.specs.Prelude.{◌≡◌, ℕ, ◌+◌, ◌-◌, ◌*◌, ◌/◌, ◌%◌, ◌^◌, ◌<◌, ◌≤◌, ◌⊎◌, ◌&&◌, if◌then◌else◌};
+ghost use Rattle.std.specs.Prelude.{true, List, length, slice_index, IfOk, MatchResult};
+ghost use Rattle.rs_field.specs.words.StepBounds.{CountsUpTo, LocatorCounts, transform_steps};
+ghost use Rattle.rs_field.specs.code.Bounds.{DecodeCounts};
+ghost use Rattle.rs_field.specs.code.Counts.{Rate};
+ghost use Rattle.rs_field.specs.code.Decoder.{fresh_decoder, Restored, NoneAgrees};
+ghost use Rattle.rs_field.specs.rows.MarkedRows.{is_marked};
+ghost use Rattle.rs_rate.specs.DecoderRoom.{memory_room};
+ghost use Rattle.rs_rate.specs.Configured.{configuration_at};
+ghost use Rattle.rs_rate.specs.DecoderView.{decoder_state, restored_by_rows, restored_from};
+ghost use Rattle.rs_rate.specs.Decoding.{CanBeRestored, IsLocatorOf, RestoresShards};
+ghost use Rattle.rs_rate.specs.Marks.{erasure, given_marks, restored_marks, mark_count, WantsMissing};
+ghost use Rattle.rs_rate.specs.SetUp.{IsSetUp};
+ghost use Rattle.rs_rate.specs.Shapes.{DecoderCanBeLaid, original_row};
+ghost use Rattle.rs_rate.specs.ShardRows.{chunk_count, shard_laid_out, shard_in_order};
+
+use crate::passes::restoring::restore_rows;
+use crate::rows::decoder_work::{DecoderMemory, DecoderRows};
+use crate::rows::marks::Marks;
+use crate::rows::shard_rows::{in_order_are_bytes, move_tail};
+use crate::values::shapes::{DecoderShape, Frame, Tally};
+use rs_field::bytes::are_words;
+use rs_field::engine::layout::row_len;
+use rs_field::engine::{Engine, GfElement, ShardsRefMut, Steps};
+use rs_field::error::Error;
+
+// Restores the missing originals and returns their number, or fails if no message agrees with all given shards. The round ends.
+pub(crate) fn decode_rows<E: Engine>(
+    engine: &E,
+    steps: &mut Steps,
+    rows: &mut DecoderRows,
+) -> Result<usize, Error>
+    requires enough { rows.old.shape.configuration.original_count
+        ≤ rows.old.originals_given + rows.old.recovery_given }
+    ensures state { (rate : Rate)
+        → decoder_state rate rows.new
+        ≡ fresh_decoder (configuration_at rate rows.old.shape.configuration) }
+    ensures answer { (rate : Rate) → IsSetUp rate rows.old.shape.configuration
+        → MatchResult result
+        (λ _. Restored (decoder_state rate rows.old) (restored_by_rows rows.new))
+        (NoneAgrees (decoder_state rate rows.old)) }
+    ensures counted { IfOk result (λ count. count ≡ length (restored_from rows.new 0)) }
+    ensures shape { rows.new.shape ≡ rows.old.shape }
+    ensures room { memory_room rows.new.memory ≡ memory_room rows.old.memory }
+    ensures counts { DecodeCounts rows.old.shape.frame.row_count steps.old steps.new }
+{
+    let tally = rows.tally();
+    let agrees = restore(engine, steps, &mut rows.memory, tally);
+    let answer = if agrees {
+        Ok(tally.missing)
+    } else {
+        Err(Error::InconsistentShards {
+            original_received_count: rows.originals_given,
+            recovery_received_count: rows.recovery_given,
+        })
+    };
+    in_order_are_bytes(
+        rows.memory.chunks.as_slice(),
+        tally.shape.frame.row_count,
+        tally.shape.configuration.shard_bytes,
+    );
+    rows.originals_given = 0;
+    rows.recovery_given = 0;
+    answer
+}
+
+// Restores the missing originals in their rows if some message agrees with all given shards, and returns whether one does. If
+// all originals and no recovery shards are given, there is nothing to restore. Afterwards the marks are those of restored
+// originals.
+fn restore<E: Engine>(
+    engine: &E,
+    steps: &mut Steps,
+    memory: &mut DecoderMemory,
+    tally: Tally,
+) -> bool
+    requires whole { chunk_count tally.shape.frame.row_count tally.shape.configuration.shard_bytes
+        ≤ length memory.old.chunks.items }
+    requires entries { length memory.old.entries.items ≡ tally.shape.frame.row_count }
+    requires facts { CanBeRestored tally memory.old.marks }
+    ensures marks { WantsMissing tally.shape memory.old.marks memory.new.marks }
+    ensures length { length memory.new.chunks.items ≡ length memory.old.chunks.items }
+    ensures entries { length memory.new.entries.items ≡ length memory.old.entries.items }
+    ensures room { memory_room memory.new ≡ memory_room memory.old }
+    ensures nothing { tally.missing ≡ 0 → tally.surplus ≡ 0 → result ≡ true }
+    ensures restored { 0 < tally.missing + tally.surplus
+        → (locator : List ℕ) × IsLocatorOf tally.shape.frame (given_marks memory.old.marks) locator
+        × RestoresShards tally.shape
+        (given_marks memory.old.marks) locator tally.surplus memory.old.chunks.items
+        memory.new.chunks.items result }
+    ensures counts { DecodeCounts tally.shape.frame.row_count steps.old steps.new }
+{
+    let shape = tally.shape;
+    if tally.missing == 0 && tally.surplus == 0 {
+        memory.marks.want_missing(shape);
+        return true;
+    }
+    let entries = memory.entries.as_mut_slice();
+    make_locator(engine, steps, entries, memory.marks.given(), shape);
+    let chunks = memory.chunks.as_mut_slice();
+    let locator = memory.entries.as_slice();
+    restore_chunks(engine, steps, chunks, &mut memory.marks, locator, tally)
+}
+
+// Computes the locator of the erased rows, at all rows.
+fn make_locator<E: Engine>(
+    engine: &E,
+    steps: &mut Steps,
+    entries: &mut [GfElement],
+    given: &[bool],
+    shape: DecoderShape,
+)
+    requires laid { DecoderCanBeLaid shape }
+    requires entries { length entries.old ≡ shape.frame.row_count }
+    requires marked { shape.frame.row_count ≤ length given.now }
+    ensures locator { IsLocatorOf shape.frame given.now entries.new }
+    ensures counts { LocatorCounts steps.old steps.new }
+{
+    mark_erased(entries, given, shape.frame);
+    engine.locate(steps, entries);
+    are_words(entries);
+}
+
+// Sets the entries of the erased rows to 1 and all other entries to 0.
+fn mark_erased(entries: &mut [GfElement], given: &[bool], frame: Frame)
+    requires entries { length entries.old ≡ frame.row_count }
+    requires marked { frame.row_count ≤ length given.now }
+    ensures { (row : ℕ) → row < frame.row_count
+        → slice_index entries.new row ≡ erasure frame.zeros_from frame.zeros_to given.now row }
+{
+    for row in 0..frame.row_count {
+        entries[row] = erased_at(given, frame, row);
+    }
+}
+
+// Returns the entry of a row: 0 if the row is known to be zero or its shard is given, else 1.
+fn erased_at(given: &[bool], frame: Frame, row: usize) -> GfElement
+    requires marked { row < length given.now }
+    ensures { result ≡ erasure frame.zeros_from frame.zeros_to given.now row }
+{
+    let is_zero = frame.zeros_from <= row && row < frame.zeros_to;
+    if is_zero || given[row] { 0 } else { 1 }
+}
+
+// Restores the missing originals over all chunks if some message agrees, and moves their tails.
+#[tactic(auto, unfolding(crate::specs::ShardRows::chunk_count))]
+fn restore_chunks<E: Engine>(
+    engine: &E,
+    steps: &mut Steps,
+    chunks: &mut [[u8; 64]],
+    marks: &mut Marks,
+    locator: &[GfElement],
+    tally: Tally,
+) -> bool
+    requires whole { chunk_count tally.shape.frame.row_count tally.shape.configuration.shard_bytes
+        ≤ length chunks.old }
+    requires facts { CanBeRestored tally marks.old }
+    requires located { length locator.now ≡ tally.shape.frame.row_count }
+    ensures marks { WantsMissing tally.shape marks.old marks.new }
+    ensures shards { RestoresShards tally.shape
+        (given_marks marks.old) locator.now tally.surplus chunks.old chunks.new result }
+    ensures counts { CountsUpTo
+        (3 * transform_steps tally.shape.frame.row_count + 4 * tally.shape.frame.row_count)
+        0 0 steps.old steps.new }
+{
+    let len = row_len(tally.shape.configuration.shard_bytes);
+    let mut rows = ShardsRefMut::new(tally.shape.frame.row_count, len, chunks);
+    let agrees = restore_rows(engine, steps, &mut rows, marks, locator, tally);
+    if agrees {
+        move_restored_tails(steps, chunks, marks, tally.shape);
+    }
+    agrees
+}
+
+// Moves the tails of the restored originals, and counts one row step for each of them.
+fn move_restored_tails(
+    steps: &mut Steps,
+    chunks: &mut [[u8; 64]],
+    marks: &Marks,
+    shape: DecoderShape,
+)
+    requires laid { DecoderCanBeLaid shape }
+    requires marked { mark_count marks.now ≡ shape.frame.row_count }
+    requires whole { chunk_count shape.frame.row_count shape.configuration.shard_bytes
+        ≤ length chunks.old }
+    ensures moved { (i : ℕ) → i < shape.configuration.original_count
+        → let p = original_row shape.frame i in is_marked (restored_marks marks.now) p ≡ true
+        → shard_in_order chunks.new shape.configuration.shard_bytes p
+        ≡ shard_laid_out chunks.old shape.configuration.shard_bytes p }
+    ensures counts { CountsUpTo shape.configuration.original_count 0 0 steps.old steps.new }
+{
+    for i in 0..shape.configuration.original_count {
+        let row = shape.frame.original_row(i);
+        if marks.is_restored(row) {
+            steps.row_step();
+            move_tail(chunks, row, shape.configuration.shard_bytes);
+        }
+    }
+}

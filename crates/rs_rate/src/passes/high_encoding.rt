@@ -1,0 +1,102 @@
+//! The coding of the high rate: originals as values at the points from the first block's end on, recovery shards as
+//! values at the first points.
+ghost use Rattle.std.specs.Prelude.{◌≡◌, ℕ, ◌+◌, ◌*◌, ◌%◌, ◌^◌, ◌<◌, ◌≤◌, true};
+ghost use Rattle.rs_field.specs.words.StepBounds.{CountsUpTo, transform_steps};
+ghost use Rattle.rs_field.specs.code.Counts.{next_power, supports, high_rate};
+ghost use Rattle.rs_field.specs.code.Placement.{encoder_rows};
+ghost use Rattle.rs_field.specs.words.Transform.{forward};
+ghost use Rattle.rs_field.specs.rows.View.{word, Fits, SameExtent, SameRowsOutside};
+ghost use Rattle.rs_rate.specs.Coding.{SumsBlocks, CodesWords, CodingCounts, further_blocks};
+
+use crate::values::configuration::Configuration;
+use rs_field::engine::rows::clear_rows;
+use rs_field::engine::utils::xor_within;
+use rs_field::engine::{Engine, ShardsRefMut, Steps};
+
+// Computes the recovery shards in the first rows from the originals in the rows.
+pub(crate) fn code_high<E: Engine>(
+    engine: &E,
+    steps: &mut Steps,
+    rows: &mut ShardsRefMut<'_>,
+    configuration: Configuration,
+)
+    requires fits { Fits rows.old }
+    requires supported { supports high_rate configuration.original_count
+        configuration.recovery_count ≡ true }
+    requires rows { rows.old.shard_count
+        ≡ encoder_rows high_rate configuration.original_count configuration.recovery_count }
+    requires block { configuration.block_rows ≡ next_power configuration.recovery_count }
+    ensures extent { SameExtent rows.old rows.new }
+    ensures words { (k s : ℕ) → k < rows.old.shard_len_64 → s < 32
+        → CodesWords high_rate configuration.original_count configuration.recovery_count
+        (word rows.old k s) (word rows.new k s) }
+    ensures counts { CodingCounts high_rate configuration.original_count
+        configuration.recovery_count steps.old steps.new }
+{
+    let block = configuration.block_rows;
+    sum_blocks(engine, steps, rows, configuration.original_count, block);
+    engine.fft(steps, rows, 0, block, configuration.recovery_count, 0);
+}
+
+// Transforms each block of originals backward into the coefficients of its combination, and sums these in the first block.
+fn sum_blocks<E: Engine>(
+    engine: &E,
+    steps: &mut Steps,
+    rows: &mut ShardsRefMut<'_>,
+    original_count: usize,
+    block: usize,
+)
+    requires fits { Fits rows.old }
+    requires power { (d : ℕ) × (block ≡ 2 ^ d) }
+    requires some { 0 < original_count }
+    requires enough { original_count ≤ rows.old.shard_count }
+    requires whole { rows.old.shard_count % block ≡ 0 }
+    requires points { rows.old.shard_count + block ≤ 65536 }
+    ensures extent { SameExtent rows.old rows.new }
+    ensures sums { (n : ℕ) × (original_count ≤ n * block) × (n * block + block ≤ 65536)
+        × ((k s : ℕ) → k < rows.old.shard_len_64 → s < 32
+        → SumsBlocks block n original_count (word rows.old k s) (word rows.new k s)) }
+    ensures counts { CountsUpTo
+        (block + transform_steps block + further_blocks block rows.old.shard_count
+        * (2 * block + transform_steps block)) 0 0 steps.old steps.new }
+{
+    pass_block(engine, steps, rows, 0, original_count, block);
+    let mut start = block;
+    while start < original_count {
+        pass_block(engine, steps, rows, start, original_count, block);
+        xor_within(steps, rows, 0, start, block);
+        start += block;
+    }
+}
+
+// Transforms the `block` rows from `start` on backward. They become the coefficients of the combination whose values are the
+// originals of these rows, at the points from `start + block` on, and zero after them.
+fn pass_block<E: Engine>(
+    engine: &E,
+    steps: &mut Steps,
+    rows: &mut ShardsRefMut<'_>,
+    start: usize,
+    original_count: usize,
+    block: usize,
+)
+    requires fits { Fits rows.old }
+    requires power { (d : ℕ) × (block ≡ 2 ^ d) }
+    requires some { start < original_count }
+    requires aligned { start % block ≡ 0 }
+    requires within { start + block ≤ rows.old.shard_count }
+    requires points { rows.old.shard_count + block ≤ 65536 }
+    ensures extent { SameExtent rows.old rows.new }
+    ensures others { SameRowsOutside start (start + block) rows.old rows.new }
+    ensures values { (k s i : ℕ) → k < rows.old.shard_len_64 → s < 32 → i < block
+        → start + i < original_count
+        → forward block (start + block) (λ q. word rows.new k s (start + q)) i
+        ≡ word rows.old k s (start + i) }
+    ensures zeros { (k s i : ℕ) → k < rows.old.shard_len_64 → s < 32 → i < block
+        → original_count ≤ start + i
+        → forward block (start + block) (λ q. word rows.new k s (start + q)) i ≡ 0 }
+    ensures counts { CountsUpTo (block + transform_steps block) 0 0 steps.old steps.new }
+{
+    let count = block.min(original_count - start);
+    clear_rows(steps, rows, start + count, start + block);
+    engine.ifft(steps, rows, start, block, count, start + block);
+}

@@ -1,0 +1,7 @@
+//! The rows of encoders and decoders, in which shards are added and results are found. Above the floor of values.
+pub mod decoder_work;
+pub mod encoder_work;
+pub mod marks;
+pub mod memory;
+pub mod object_rows;
+pub mod shard_rows;

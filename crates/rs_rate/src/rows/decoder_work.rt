@@ -1,0 +1,378 @@
+//! The work of a decoder, which is the memory that decoders pass on, and the rows of a decoder in this memory.
+ghost use Rattle.std.specs.Prelude.{◌≡◌, ◌≢◌, ℕ, ◌+◌, ◌%◌, ◌<◌, ◌≤◌, true, false, length, vec_len};
+ghost use Rattle.std.specs.Prelude.{IfOk, IfErr, IfSome, OnOk, OnErr, IsOk, MatchOption, [], ◌∷◌, option_copied};
+ghost use Rattle.std.specs.Vec.{vec_capacity};
+ghost use Rattle.rs_field.specs.code.Column.{IsShard};
+ghost use Rattle.rs_field.specs.code.Counts.{Rate};
+ghost use Rattle.rs_field.specs.code.Outcome.{answer_of, state_after};
+ghost use Rattle.rs_field.specs.code.Configuration.{UpToMemory};
+ghost use Rattle.rs_field.specs.code.Decoder.{fresh_decoder, enough_given};
+ghost use Rattle.rs_field.specs.rows.MarkedRows.{is_marked};
+ghost use Rattle.rs_rate.specs.Shapes.{DecoderCanBeLaid};
+ghost use Rattle.rs_rate.specs.ShardRows.{memory_outcome, chunk_count, shard_laid_out};
+ghost use Rattle.rs_rate.specs.Marks.{given_marks, mark_count, mark_room, AreSameMarks, HoldGiven};
+ghost use Rattle.rs_rate.specs.DecoderRoom.{IsLaidOut};
+ghost use Rattle.rs_rate.specs.Sides.{with_shard_of_side};
+
+use crate::rows::marks::Marks;
+use crate::rows::memory::{make_room, set_chunks, set_length};
+use crate::rows::object_rows::ObjectRows;
+use crate::rows::shard_rows::{insert_at, shard_at, shard_is_bytes};
+use crate::values::configuration::Configuration;
+use crate::values::shapes::{DecoderShape, Tally, chunk_count};
+use crate::values::side::Side;
+use rs_field::engine::GfElement;
+use rs_field::error::Error;
+use std::alloc::Global;
+
+/// The memory of a decoder. It can pass from one decoder to the next, which then allocates only what is missing.
+#[derive(Drop)]
+pub struct DecoderWork {
+    /// The memory that a decoder had, if there was one.
+    pub(crate) memory: Option<DecoderMemory>,
+}
+
+/// The memory of the rows of a decoder.
+#[derive(Drop)]
+pub struct DecoderMemory {
+    /// The chunks of the rows, row after row.
+    pub(crate) chunks: Vec<[u8; 64]>,
+    /// A mark for each row.
+    pub(crate) marks: Marks,
+    /// The entries of the locator, one for each row.
+    pub(crate) entries: Vec<GfElement>,
+}
+
+/// The rows of a decoder.
+#[derive(Drop)]
+pub struct DecoderRows {
+    /// The configuration and the rows of the shards.
+    pub(crate) shape: DecoderShape,
+    /// The number of originals that were added in the current round.
+    pub(crate) originals_given: usize,
+    /// The number of recovery shards that were added in the current round.
+    pub(crate) recovery_given: usize,
+    /// The chunks and marks of the rows, and the entries of the locator.
+    pub(crate) memory: DecoderMemory,
+    pub ghost laid: { DecoderCanBeLaid shape },
+    pub ghost laid_out: { IsLaidOut shape memory },
+    pub ghost given: { HoldGiven shape originals_given recovery_given
+        (given_marks memory.marks) memory.chunks.items },
+}
+
+impl DecoderWork {
+    ghost use Rattle.rs_rate.specs.DecoderRoom.{work_room};
+
+    /// Makes a work that holds no memory.
+    pub fn new() -> DecoderWork
+        ensures { work_room result ≡ record { chunks = 0; rows = 0; entries = 0 } }
+    {
+        DecoderWork { memory: None }
+    }
+}
+
+impl Default for DecoderWork {
+    ghost use Rattle.rs_rate.specs.DecoderRoom.{work_room};
+
+    ghost is_default = { λ work. work_room work ≡ record { chunks = 0; rows = 0; entries = 0 } };
+
+    fn default() -> DecoderWork {
+        DecoderWork::new()
+    }
+}
+
+impl DecoderMemory {
+    ghost use Rattle.rs_rate.specs.DecoderRoom.{HasRoom, Grows, memory_room, shape_chunks, work_room, IsLaidOut};
+
+    // Returns the memory that another object passes on, if there is any.
+    fn of(work: Option<DecoderWork>) -> Option<DecoderMemory>
+        ensures { IfSome work (λ w. w.memory ≡ result) }
+    {
+        match work {
+            Some(work) => work.memory,
+            None => None,
+        }
+    }
+
+    // Allocates memory that is laid out for a shape, without given shards. The function is not inlined: in the branches of its
+    // callers, the compiler takes the clearing for rare and does not use `memset`. The chunks are allocated last, because
+    // clearing them removes from the cache what other allocations read.
+    #[inline(never)]
+    fn new(alloc: Global, shape: DecoderShape) -> Result<DecoderMemory, Error>
+        ensures laid_out { IfOk result (IsLaidOut shape) }
+        ensures empty { IfOk result (λ m. (p : ℕ) → is_marked (given_marks m.marks) p ≡ false) }
+        ensures answer { UpToMemory (memory_outcome (shape_chunks shape)) (answer_of result) }
+    {
+        let row_count = shape.frame.row_count;
+        let chunk_count = chunk_count(row_count, shape.configuration.shard_bytes)?;
+        let marks = Marks::new(alloc, row_count)?;
+        let entries = vec![in alloc; 0; row_count]?;
+        Ok(DecoderMemory {
+            chunks: vec![in alloc; [0; 64]; chunk_count]?,
+            marks,
+            entries,
+        })
+    }
+
+    // Returns memory that is laid out for a shape, without given shards. If there is a `work`, its memory is used.
+    #[inline(always)]
+    fn laid_out(
+        alloc: Global,
+        shape: DecoderShape,
+        work: Option<DecoderWork>,
+    ) -> Result<DecoderMemory, Error>
+        requires { DecoderCanBeLaid shape }
+        ensures laid_out { IfOk result (IsLaidOut shape) }
+        ensures empty { IfOk result (λ m. (p : ℕ) → is_marked (given_marks m.marks) p ≡ false) }
+        ensures answer { UpToMemory (memory_outcome (shape_chunks shape)) (answer_of result) }
+        ensures grown { IfOk result (λ m. IfSome work (λ w. Grows (work_room w) (memory_room m))) }
+        ensures roomy { IfSome work
+            (λ w. HasRoom (work_room w) shape.frame.row_count shape.configuration.shard_bytes
+            → answer_of result ≡ memory_outcome (shape_chunks shape)) }
+    {
+        match DecoderMemory::of(work) {
+            Some(mut memory) => {
+                memory.lay_out(shape)?;
+                Ok(memory)
+            }
+            None => DecoderMemory::new(alloc, shape),
+        }
+    }
+
+    // Makes room for a number of chunks and of rows. Nothing else changes.
+    fn grow(&mut self, chunks: usize, rows: usize) -> Result<(), Error>
+        ensures kept { (self.new.chunks.items ≡ self.old.chunks.items)
+            × AreSameMarks self.old.marks self.new.marks
+            × (self.new.entries.items ≡ self.old.entries.items) }
+        ensures room { OnOk result
+            ((chunks ≤ vec_capacity self.new.chunks) × (rows ≤ mark_room self.new.marks)
+            × (rows ≤ vec_capacity self.new.entries)) }
+        ensures grown { Grows (memory_room self.old) (memory_room self.new) }
+        ensures memory { IfErr result (λ e. e ≡ Error.OutOfMemory) }
+        ensures enough { chunks ≤ vec_capacity self.old.chunks → rows ≤ mark_room self.old.marks
+            → rows ≤ vec_capacity self.old.entries → IsOk result }
+    {
+        make_room(&mut self.chunks, chunks)?;
+        self.marks.make_room(rows)?;
+        make_room(&mut self.entries, rows)
+    }
+
+    // Lays the memory out for a shape, without given shards. All memory is allocated first. The entries of the locator may have
+    // any values, because each decode writes them.
+    fn lay_out(&mut self, shape: DecoderShape) -> Result<(), Error>
+        ensures laid_out { OnOk result (IsLaidOut shape self.new) }
+        ensures empty { OnOk result ((p : ℕ) → is_marked (given_marks self.new.marks) p ≡ false) }
+        ensures kept { OnErr result
+            ((self.new.chunks.items ≡ self.old.chunks.items)
+            × AreSameMarks self.old.marks self.new.marks
+            × (self.new.entries.items ≡ self.old.entries.items)) }
+        ensures answer { UpToMemory (memory_outcome (shape_chunks shape)) result }
+        ensures grown { Grows (memory_room self.old) (memory_room self.new) }
+        ensures roomy { HasRoom
+            (memory_room self.old) shape.frame.row_count shape.configuration.shard_bytes
+            → result ≡ memory_outcome (shape_chunks shape) }
+    {
+        let rows = shape.frame.row_count;
+        let chunks = chunk_count(rows, shape.configuration.shard_bytes)?;
+        self.grow(chunks, rows)?;
+        set_chunks(&mut self.chunks, chunks);
+        self.marks.set_empty(rows);
+        set_length(&mut self.entries, rows, 0);
+        Ok(())
+    }
+
+    // Lays a shard into row `row` of rows of its size, and marks the row.
+    fn enter(&mut self, row: usize, shard: &[u8])
+        requires room { chunk_count (row + 1) (length shard.now) ≤ vec_len self.old.chunks }
+        requires even { length shard.now % 2 ≡ 0 }
+        requires marked { row < mark_count self.old.marks }
+        ensures here { shard_laid_out self.new.chunks.items (length shard.now) row ≡ shard.now }
+        ensures others { (i : ℕ) → i ≢ row
+            → shard_laid_out self.new.chunks.items (length shard.now) i
+            ≡ shard_laid_out self.old.chunks.items (length shard.now) i }
+        ensures shard { IsShard (length shard.now) shard.now }
+        ensures mark { is_marked (given_marks self.new.marks) row ≡ true }
+        ensures other_marks { (p : ℕ) → p ≢ row
+            → is_marked (given_marks self.new.marks) p ≡ is_marked (given_marks self.old.marks) p }
+        ensures lengths { (vec_len self.new.chunks ≡ vec_len self.old.chunks)
+            × (mark_count self.new.marks ≡ mark_count self.old.marks)
+            × (vec_len self.new.entries ≡ vec_len self.old.entries) }
+        ensures grown { memory_room self.new ≡ memory_room self.old }
+    {
+        shard_is_bytes(shard);
+        insert_at(self.chunks.as_mut_slice(), shard, row);
+        self.marks.give(row);
+    }
+}
+
+impl ObjectRows for DecoderRows {
+    ghost use Rattle.std.proofs.Common.{le_refl};
+    ghost use Rattle.rs_field.specs.code.Decoder.{DecoderState};
+    ghost use Rattle.rs_field.specs.code.Placement.{decoder_rows};
+    ghost use Rattle.rs_rate.specs.RowsLaws.{some_anyway, decoder_rows_set_up, room_within};
+    ghost use Rattle.rs_rate.specs.DecoderRoom.{DecoderRoom, HasRoom, Grows, memory_room, work_room};
+    ghost use Rattle.rs_rate.specs.DecoderView.{decoder_state};
+
+    type Work = Option<DecoderWork>;
+
+    ghost State = { DecoderState };
+
+    ghost Room = { DecoderRoom };
+
+    ghost row_count = { decoder_rows };
+
+    ghost configuration_of = { λ x. x.shape.configuration };
+
+    ghost state = { decoder_state };
+
+    ghost fresh = { fresh_decoder };
+
+    ghost room = { λ x. memory_room x.memory };
+
+    ghost has_room = { HasRoom };
+
+    ghost grows = { Grows };
+
+    ghost grows_from = { λ work room. IfSome work (λ w. Grows (work_room w) room) };
+
+    ghost where_roomy = { λ work n size answer wanted. IfSome work
+        (λ w. HasRoom (work_room w) n size → answer ≡ wanted) };
+
+    #[inline(always)]
+    fn new(
+        alloc: Global,
+        configuration: Configuration,
+        work: Option<DecoderWork>,
+    ) -> Result<DecoderRows, Error> {
+        let shape = configuration.decoder_shape();
+        let memory = DecoderMemory::laid_out(alloc, shape, work)?;
+        Ok(DecoderRows {
+            shape,
+            originals_given: 0,
+            recovery_given: 0,
+            memory,
+        })
+    }
+
+    #[inline(always)]
+    fn reset(&mut self, configuration: Configuration) -> Result<(), Error> {
+        let shape = configuration.decoder_shape();
+        self.memory.lay_out(shape)?;
+        self.shape = shape;
+        self.originals_given = 0;
+        self.recovery_given = 0;
+        Ok(())
+    }
+
+    ghost stays = { λ room. record {
+      chunks = le_refl room.chunks;
+      rows = le_refl room.rows;
+      entries = le_refl room.entries;
+    } };
+
+    ghost anyway = { λ work n size answer wanted same. some_anyway work _ (λ w roomy. same) };
+
+    ghost rows_set_up = { decoder_rows_set_up };
+
+    ghost own_room = { λ x size less.
+        room_within _ _ size _ _ x.laid.rows less x.laid_out.sized x.laid_out.room };
+}
+
+impl DecoderRows {
+    ghost use Rattle.rs_rate.specs.DecoderRoom.{memory_room};
+    ghost use Rattle.rs_rate.specs.DecoderView.{decoder_state, restored_by_rows, restored_from};
+    ghost use Rattle.rs_rate.specs.Decoding.{CanBeRestored};
+
+    // Adds a shard of a side: copies it into its row and marks the row. Fails with the error for an invalid index, then
+    // with the error for a duplicate index, then with `DifferentShardSize`.
+    pub(crate) fn add_shard(&mut self, side: Side, index: usize, shard: &[u8]) -> Result<(), Error>
+        ensures answer { (rate : Rate)
+            → result
+            ≡ answer_of (with_shard_of_side side (decoder_state rate self.old) index shard.now) }
+        ensures left { (rate : Rate) → decoder_state rate self.new
+            ≡ state_after (decoder_state rate self.old)
+            (with_shard_of_side side (decoder_state rate self.old) index shard.now) }
+        ensures shape { self.new.shape ≡ self.old.shape }
+        ensures room { memory_room self.new.memory ≡ memory_room self.old.memory }
+    {
+        if index >= side.count(self.shape) {
+            return Err(side.index_refused(self.shape, index));
+        }
+        let row = side.row(self.shape, index);
+        if self.memory.marks.is_given(row) {
+            return Err(side.repeat_refused(index));
+        }
+        if shard.len() != self.shape.configuration.shard_bytes {
+            return Err(Error::DifferentShardSize {
+                shard_bytes: self.shape.configuration.shard_bytes,
+                got: shard.len(),
+            });
+        }
+        self.memory.enter(row, shard);
+        self.originals_given += side.originals();
+        self.recovery_given += side.recovery();
+        Ok(())
+    }
+
+    // Returns the numbers on which a decode of the rows depends.
+    pub(crate) fn tally(&self) -> Tally
+        requires { self.now.shape.configuration.original_count
+            ≤ self.now.originals_given + self.now.recovery_given }
+        ensures shape { result.shape ≡ self.now.shape }
+        ensures facts { CanBeRestored result self.now.memory.marks }
+    {
+        let given = self.originals_given + self.recovery_given;
+        Tally {
+            shape: self.shape,
+            missing: self.shape.configuration.original_count - self.originals_given,
+            surplus: given - self.shape.configuration.original_count,
+        }
+    }
+
+    // Fails with `NotEnoughShards` if fewer shards were added than there are originals.
+    pub(crate) fn check_enough_given(&self) -> Result<(), Error>
+        ensures { (rate : Rate) → result ≡ enough_given (decoder_state rate self.now) }
+    {
+        if self.originals_given + self.recovery_given < self.shape.configuration.original_count {
+            return Err(Error::NotEnoughShards {
+                original_count: self.shape.configuration.original_count,
+                original_received_count: self.originals_given,
+                recovery_received_count: self.recovery_given,
+            });
+        }
+        Ok(())
+    }
+
+    // Returns the restored original with this index, or `None` if it was added or there is none.
+    pub(crate) fn restored_original(&self, index: usize) -> Option<&[u8]>
+        ensures { option_copied result ≡ restored_by_rows self.now index }
+    {
+        if index >= self.shape.configuration.original_count {
+            return None;
+        }
+        let row = self.shape.frame.original_row(index);
+        if !self.memory.marks.is_restored(row) {
+            return None;
+        }
+        Some(shard_at(
+            self.memory.chunks.as_slice(),
+            self.shape.configuration.shard_bytes,
+            row,
+        ))
+    }
+
+    // Returns the first restored original from an index on, with its index.
+    pub(crate) fn next_restored(&self, from: usize) -> Option<(usize, &[u8])>
+        ensures { MatchOption result (restored_from self.now from ≡ [])
+            (λ item. (item.0 < self.now.shape.configuration.original_count)
+            × (restored_from self.now from
+            ≡ (item.0, item.1.now) ∷ restored_from self.now (item.0 + 1))) }
+    {
+        for index in from..self.shape.configuration.original_count {
+            if let Some(shard) = self.restored_original(index) {
+                return Some((index, shard));
+            }
+        }
+        None
+    }
+}

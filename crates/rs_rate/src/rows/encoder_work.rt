@@ -1,0 +1,206 @@
+//! The work of an encoder, which is the memory that encoders pass on, and the rows of an encoder in this memory.
+ghost use Rattle.std.specs.Prelude.{◌≡◌, ℕ, ◌*◌, ◌^◌, ◌<◌, ◌≤◌, vec_len, IfSome, MatchOption};
+ghost use Rattle.std.specs.Vec.{vec_capacity};
+ghost use Rattle.rs_field.specs.code.Column.{IsShard};
+ghost use Rattle.rs_field.specs.code.Counts.{Rate};
+ghost use Rattle.rs_field.specs.code.Outcome.{answer_of, state_after};
+ghost use Rattle.rs_field.specs.code.Encoder.{fresh_encoder, with_shard, message_of};
+ghost use Rattle.rs_rate.specs.Shapes.{EncoderCanBeLaid};
+ghost use Rattle.rs_rate.specs.ShardRows.{chunk_count, shard_laid_out, shard_in_order};
+
+use crate::rows::memory::{make_room, set_chunks, vec_of};
+use crate::rows::object_rows::ObjectRows;
+use crate::rows::shard_rows::{insert_at, shard_at, shard_is_bytes};
+use crate::values::configuration::Configuration;
+use crate::values::shapes::{EncoderShape, chunk_count};
+use rs_field::error::Error;
+use std::alloc::Global;
+
+/// The memory of an encoder. It can pass from one encoder to the next, which then allocates only what is missing.
+#[derive(Drop)]
+pub struct EncoderWork {
+    /// The chunks that an encoder had, if there was one.
+    pub(crate) chunks: Option<Vec<[u8; 64]>>,
+}
+
+/// The rows of an encoder.
+#[derive(Drop)]
+pub struct EncoderRows {
+    /// The configuration and the number of rows.
+    pub(crate) shape: EncoderShape,
+    /// The number of originals that were added in the current round.
+    pub(crate) originals_given: usize,
+    /// The chunks of the rows, row after row.
+    pub(crate) chunks: Vec<[u8; 64]>,
+    pub ghost laid: { EncoderCanBeLaid shape },
+    pub ghost no_more: { originals_given ≤ shape.configuration.original_count },
+    pub ghost whole: { vec_len chunks
+        ≡ chunk_count shape.row_count shape.configuration.shard_bytes },
+    pub ghost own_room: { chunk_count shape.row_count shape.configuration.shard_bytes
+        ≤ vec_capacity chunks },
+    pub ghost sized: { chunk_count shape.row_count shape.configuration.shard_bytes * 64 < 2 ^ 64 },
+    pub ghost shards: { (i : ℕ) → i < originals_given
+        → IsShard shape.configuration.shard_bytes
+        (shard_laid_out chunks.items shape.configuration.shard_bytes i) },
+}
+
+impl EncoderWork {
+    ghost use Rattle.rs_rate.specs.EncoderView.{work_room};
+
+    /// Makes a work that holds no memory.
+    pub fn new() -> EncoderWork
+        ensures { work_room result ≡ 0 }
+    {
+        EncoderWork { chunks: None }
+    }
+}
+
+impl Default for EncoderWork {
+    ghost use Rattle.rs_rate.specs.EncoderView.{work_room};
+
+    ghost is_default = { λ work. work_room work ≡ 0 };
+
+    fn default() -> EncoderWork {
+        EncoderWork::new()
+    }
+}
+
+impl ObjectRows for EncoderRows {
+    ghost use Rattle.std.proofs.Common.{le_refl};
+    ghost use Rattle.rs_field.specs.code.Encoder.{EncoderState};
+    ghost use Rattle.rs_field.specs.code.Placement.{encoder_rows};
+    ghost use Rattle.rs_rate.specs.RowsLaws.{some_anyway, encoder_rows_set_up, chunks_within};
+    ghost use Rattle.rs_rate.specs.EncoderView.{encoder_state, work_room};
+
+    type Work = Option<EncoderWork>;
+
+    ghost State = { EncoderState };
+
+    ghost Room = { ℕ };
+
+    ghost row_count = { encoder_rows };
+
+    ghost configuration_of = { λ x. x.shape.configuration };
+
+    ghost state = { encoder_state };
+
+    ghost fresh = { fresh_encoder };
+
+    ghost room = { λ x. vec_capacity x.chunks };
+
+    ghost has_room = { λ room n size. chunk_count n size ≤ room };
+
+    ghost grows = { λ old new. old ≤ new };
+
+    ghost grows_from = { λ work room. IfSome work (λ w. work_room w ≤ room) };
+
+    ghost where_roomy = { λ work n size answer wanted. IfSome work
+        (λ w. chunk_count n size ≤ work_room w → answer ≡ wanted) };
+
+    fn new(
+        alloc: Global,
+        configuration: Configuration,
+        work: Option<EncoderWork>,
+    ) -> Result<EncoderRows, Error> {
+        let shape = configuration.encoder_shape();
+        let count = chunk_count(shape.row_count, configuration.shard_bytes)?;
+        let mut chunks = match work {
+            Some(work) => vec_of(alloc, work.chunks),
+            None => Vec::new(alloc),
+        };
+        make_room(&mut chunks, count)?;
+        set_chunks(&mut chunks, count);
+        Ok(EncoderRows {
+            shape,
+            originals_given: 0,
+            chunks,
+        })
+    }
+
+    fn reset(&mut self, configuration: Configuration) -> Result<(), Error> {
+        let shape = configuration.encoder_shape();
+        let count = chunk_count(shape.row_count, configuration.shard_bytes)?;
+        make_room(&mut self.chunks, count)?;
+        self.originals_given = 0;
+        set_chunks(&mut self.chunks, count);
+        self.shape = shape;
+        Ok(())
+    }
+
+    ghost stays = { le_refl };
+
+    ghost anyway = { λ work n size answer wanted same. some_anyway work _ (λ w roomy. same) };
+
+    ghost rows_set_up = { encoder_rows_set_up };
+
+    ghost own_room = { λ x size less.
+        chunks_within _ _ size _ _ x.laid.rows less x.sized x.own_room };
+}
+
+impl EncoderRows {
+    ghost use Rattle.rs_rate.specs.EncoderView.{encoder_state};
+
+    // Adds the next original. Fails with `TooManyOriginalShards` if all originals were added, and then with
+    // `DifferentShardSize` if the shard has another size.
+    pub(crate) fn add_original_shard(&mut self, original_shard: &[u8]) -> Result<(), Error>
+        ensures answer { (rate : Rate)
+            → result ≡ answer_of (with_shard (encoder_state rate self.old) original_shard.now) }
+        ensures left { (rate : Rate)
+            → encoder_state rate self.new
+            ≡ state_after (encoder_state rate self.old)
+            (with_shard (encoder_state rate self.old) original_shard.now) }
+        ensures shape { self.new.shape ≡ self.old.shape }
+        ensures room { vec_capacity self.new.chunks ≡ vec_capacity self.old.chunks }
+    {
+        if self.originals_given == self.shape.configuration.original_count {
+            return Err(Error::TooManyOriginalShards {
+                original_count: self.shape.configuration.original_count,
+            });
+        }
+        if original_shard.len() != self.shape.configuration.shard_bytes {
+            return Err(Error::DifferentShardSize {
+                shard_bytes: self.shape.configuration.shard_bytes,
+                got: original_shard.len(),
+            });
+        }
+        shard_is_bytes(original_shard);
+        insert_at(
+            self.chunks.as_mut_slice(),
+            original_shard,
+            self.originals_given,
+        );
+        self.originals_given += 1;
+        Ok(())
+    }
+
+    // Fails with `TooFewOriginalShards` if originals are missing.
+    pub(crate) fn check_all_given(&self) -> Result<(), Error>
+        ensures { (rate : Rate) → result ≡ answer_of (message_of (encoder_state rate self.now)) }
+    {
+        if self.originals_given < self.shape.configuration.original_count {
+            return Err(Error::TooFewOriginalShards {
+                original_count: self.shape.configuration.original_count,
+                original_received_count: self.originals_given,
+            });
+        }
+        Ok(())
+    }
+
+    // Returns the recovery shard with this index, or `None` if there is none.
+    pub(crate) fn recovery(&self, index: usize) -> Option<&[u8]>
+        ensures { MatchOption result (self.now.shape.configuration.recovery_count ≤ index)
+            (λ shard. (index < self.now.shape.configuration.recovery_count)
+            × (shard.now
+            ≡ shard_in_order self.now.chunks.items
+            self.now.shape.configuration.shard_bytes index)) }
+    {
+        if index >= self.shape.configuration.recovery_count {
+            return None;
+        }
+        Some(shard_at(
+            self.chunks.as_slice(),
+            self.shape.configuration.shard_bytes,
+            index,
+        ))
+    }
+}
