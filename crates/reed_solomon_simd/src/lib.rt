@@ -224,7 +224,8 @@ pub mod engine {
         /// // The logarithms of 2 and 3 are 21845 and 43690.
         /// let mut erasures = [0; GF_ORDER];
         /// erasures[0] = 1;
-        /// eval_poly(&mut Steps::new(), &mut erasures, GF_ORDER, get_log_walsh(&tables));
+        /// let log_walsh = get_log_walsh(&tables);
+        /// eval_poly(&mut Steps::new(), &mut erasures, GF_ORDER, log_walsh);
         /// assert_eq!(rt; [erasures[2], erasures[3]], [21845, 43690]);
         /// ```
         pub use rs_field::engine::tables::{LogWalsh, get_log_walsh, get_log_walsh_below};
@@ -259,7 +260,8 @@ pub mod engine {
         /// // The logarithms of 2 and 3 are 21845 and 43690.
         /// let mut erasures = [0; GF_ORDER];
         /// erasures[0] = 1;
-        /// eval_poly(&mut Steps::new(), &mut erasures, GF_ORDER, get_log_walsh(&tables));
+        /// let log_walsh = get_log_walsh(&tables);
+        /// eval_poly(&mut Steps::new(), &mut erasures, GF_ORDER, log_walsh);
         /// assert_eq!(rt; [erasures[2], erasures[3]], [21845, 43690]);
         /// ```
         ///
@@ -267,7 +269,8 @@ pub mod engine {
         ///
         /// ```
         /// let mut first = [1, 0, 0, 0];
-        /// locate(&mut Steps::new(), &mut first, get_log_walsh_below(&tables, 4));
+        /// let log_walsh = get_log_walsh_below(&tables, 4);
+        /// locate(&mut Steps::new(), &mut first, log_walsh);
         /// assert_eq!(rt; [first[2], first[3]], [21845, 43690]);
         /// ```
         pub use rs_field::engine::utils::{eval_poly, locate};

@@ -227,20 +227,13 @@ fn a_locator_of_one_point_is_made_of_logarithms(rt: HostRuntime) -> Result<(), F
 
     let mut erasures = [0; GF_ORDER];
     erasures[0] = 1;
-    eval_poly(
-        &mut Steps::new(),
-        &mut erasures,
-        GF_ORDER,
-        get_log_walsh(&tables),
-    );
+    let log_walsh = get_log_walsh(&tables);
+    eval_poly(&mut Steps::new(), &mut erasures, GF_ORDER, log_walsh);
     assert_eq!(rt; [erasures[2], erasures[3]], [21845, 43690]);
 
     let mut first = [1, 0, 0, 0];
-    locate(
-        &mut Steps::new(),
-        &mut first,
-        get_log_walsh_below(&tables, 4),
-    );
+    let log_walsh = get_log_walsh_below(&tables, 4);
+    locate(&mut Steps::new(), &mut first, log_walsh);
     assert_eq!(rt; [first[2], first[3]], [21845, 43690]);
     Ok(())
 }
