@@ -1,4 +1,4 @@
-//! Received shards and rooms for the missing originals, in different memory.
+//! A store of received shards, and of rooms for the missing originals in other memory.
 use crate::pieces::Pieces;
 use crate::rooms::Rooms;
 use rs_field::error::Error;
@@ -7,7 +7,9 @@ use rs_rate::rate::DefaultRateCounts;
 /// Received shards, and rooms that share no memory with them.
 #[derive(Drop)]
 pub struct Apart<'a, 'b, P, R> {
+    /// The received shards.
     pub pieces: &'a P,
+    /// The rooms for the missing originals.
     pub rooms: &'b mut R,
 }
 

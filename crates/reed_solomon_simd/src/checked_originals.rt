@@ -1,4 +1,4 @@
-//! Checks of originals that lie in a slice.
+//! Checks of originals in a slice, without any memory.
 ghost use Rattle.std.specs.Prelude.{◌≡◌, ◌+◌, ◌≤◌, length, OnOk, Err, MatchResult};
 ghost use Rattle.rs_field.specs.code.Column.{IsShard};
 ghost use Rattle.rs_field.specs.code.Encoder.{EncoderState, with_shard};
@@ -15,7 +15,11 @@ use rs_rate::rate::DefaultRateCounts;
 ///
 /// # Errors
 ///
-/// The errors of `encode` for these originals, but for a want of memory.
+/// - [`Error::TooFewOriginalShards`] with 0 received shards if there is no original.
+/// - [`Error::InvalidShardSize`] if the size of the first original is zero or odd.
+/// - [`Error::OutOfMemory`] if the rows for the whole shards would take more than `usize::MAX` bytes.
+/// - For each original in order: [`Error::TooManyOriginalShards`], then [`Error::DifferentShardSize`].
+/// - [`Error::TooFewOriginalShards`] if there are fewer originals than the counts say.
 pub fn check_originals(counts: DefaultRateCounts, originals: &[&[u8]]) -> Result<usize, Error>
     ensures { MatchResult result
         (λ size. AreChecked counts.original_count counts.recovery_count size
@@ -44,7 +48,7 @@ pub fn check_originals(counts: DefaultRateCounts, originals: &[&[u8]]) -> Result
     Ok(shard_bytes)
 }
 
-// Checks the original with this index.
+// Checks the original with this index. Fails with `TooManyOriginalShards`, and then with `DifferentShardSize`.
 fn check_original(
     original_count: usize,
     shard_bytes: usize,

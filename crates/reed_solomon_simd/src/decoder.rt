@@ -1,4 +1,4 @@
-//! The plain decoder: the default rate over an engine chosen by name.
+//! The plain decoder: a decoder of the default rate, over an engine that is chosen by name.
 ghost use Rattle.std.specs.Prelude.{◌≡◌, ◌≢◌, Err, IfOk, OnOk, OnErr};
 ghost use Rattle.std.specs.Borrow.{sem};
 ghost use Rattle.rs_field.specs.code.Configuration.{start_outcome, UpToMemory, FitsWithin};
@@ -28,13 +28,20 @@ use std::alloc::Global;
 ///
 /// # Examples
 ///
+/// Originals 0 and 2 of three originals are lost. Original 1 and two recovery shards restore them:
+///
 /// ```
+/// // ORIGINAL is [b"Three shards", b" of one size", b" are coded. "].
+/// // recovery holds its two recovery shards.
 /// let mut decoder = ReedSolomonDecoder::new(alloc, 3, 2, 12, engine)?;
 /// decoder.add_original_shard(1, ORIGINAL[1])?;
 /// for (index, shard) in recovery.recovery_iter().enumerate() {
 ///     decoder.add_recovery_shard(index, shard)?;
 /// }
 /// let restored = decoder.decode()?;
+/// // restored.restored_original(0) is Some(b"Three shards").
+/// // restored.restored_original(1) is None, because original 1 was not missing.
+/// // restored.restored_original(2) is Some(b" are coded. ").
 /// ```
 #[derive(Drop)]
 pub struct ReedSolomonDecoder<'t> {
@@ -74,10 +81,16 @@ impl<'t> ReedSolomonDecoder<'t> {
     ///
     /// # Examples
     ///
-    /// A decoder for 3 originals and 2 recovery shards of 12 bytes:
+    /// A decoder for 3 originals and 2 recovery shards of 12 bytes, to which nothing was added yet:
     ///
     /// ```
     /// let mut decoder = ReedSolomonDecoder::new(alloc, 3, 2, 12, engine)?;
+    /// let error = Error::NotEnoughShards {
+    ///     original_count: 3,
+    ///     original_received_count: 0,
+    ///     recovery_received_count: 0,
+    /// };
+    /// assert_eq!(rt; decoder.decode().err(), Some(error));
     /// ```
     pub fn new(
         alloc: Global,
@@ -118,10 +131,17 @@ impl<'t> ReedSolomonDecoder<'t> {
     ///
     /// # Examples
     ///
-    /// The next message has 3 originals and 2 recovery shards of 2 bytes:
+    /// The next message has 3 originals and 2 recovery shards of 2 bytes. Original 1 and both recovery shards restore
+    /// the others:
     ///
     /// ```
-    /// decoder.reset(3, 2, 2)
+    /// decoder.reset(3, 2, 2)?;
+    /// decoder.add_original_shard(1, &[0, 0])?;
+    /// decoder.add_recovery_shard(0, &[3, 0])?;
+    /// decoder.add_recovery_shard(1, &[5, 0])?;
+    /// let restored = decoder.decode()?;
+    /// assert_eq!(rt; restored.restored_original(0), Some([2, 0].as_slice()));
+    /// assert_eq!(rt; restored.restored_original(2), Some([4, 0].as_slice()));
     /// ```
     pub fn reset(
         &mut self,
@@ -163,6 +183,7 @@ impl<'t> ReedSolomonDecoder<'t> {
     /// All originals are added, except for those whose indexes are in `lost`:
     ///
     /// ```
+    /// // If there are 3 originals and lost is [0, 2], this adds original 1 only.
     /// for (index, original) in originals.iter().enumerate() {
     ///     if lost.contains(&index) {
     ///         continue;
@@ -195,6 +216,7 @@ impl<'t> ReedSolomonDecoder<'t> {
     /// All recovery shards that an encoder computed are added:
     ///
     /// ```
+    /// // If recovery holds two recovery shards, they are added with the indexes 0 and 1.
     /// for (index, shard) in recovery.recovery_iter().enumerate() {
     ///     decoder.add_recovery_shard(index, shard)?;
     /// }
@@ -229,11 +251,13 @@ impl<'t> ReedSolomonDecoder<'t> {
     ///
     /// ```
     /// let restored = decoder.decode()?;
+    /// // restored.restored_original_iter() yields (0, b"Three shards") and then (2, b" are coded. ").
     /// ```
     ///
-    /// This is true then:
+    /// The value of the last line is true then:
     ///
     /// ```
+    /// // ORIGINAL is [b"Three shards", b" of one size", b" are coded. "].
     /// let first = restored.restored_original(0) == Some(ORIGINAL[0]);
     /// let last = restored.restored_original(2) == Some(ORIGINAL[2]);
     /// restored.restored_original_iter().len() == 2 && first && last

@@ -1,4 +1,4 @@
-//! The plain encoder: the default rate over an engine chosen by name.
+//! The plain encoder: an encoder of the default rate, over an engine that is chosen by name.
 ghost use Rattle.std.specs.Prelude.{◌≡◌, ◌≢◌, ◌≤◌, Err, IfOk, OnOk, OnErr};
 ghost use Rattle.std.specs.Borrow.{sem};
 ghost use Rattle.rs_field.specs.code.Configuration.{start_outcome, UpToMemory, FitsWithin};
@@ -27,12 +27,17 @@ use std::alloc::Global;
 ///
 /// # Examples
 ///
+/// Three originals of 12 bytes get two recovery shards:
+///
 /// ```
+/// // ORIGINAL is [b"Three shards", b" of one size", b" are coded. "].
 /// let mut encoder = ReedSolomonEncoder::new(alloc, 3, 2, 12, engine)?;
 /// for shard in ORIGINAL {
 ///     encoder.add_original_shard(shard)?;
 /// }
 /// let recovery = encoder.encode()?;
+/// // The bytes of recovery.recovery(0) are 8B 6B 49 8D 2D 0E E3 62 FC E6 D5 C8.
+/// // The bytes of recovery.recovery(1) are DF 0D 2F AD 07 23 9A 4E 8B 99 E5 FE.
 /// ```
 #[derive(Drop)]
 pub struct ReedSolomonEncoder<'t> {
@@ -72,10 +77,15 @@ impl<'t> ReedSolomonEncoder<'t> {
     ///
     /// # Examples
     ///
-    /// An encoder for 3 originals and 2 recovery shards of 12 bytes:
+    /// An encoder for 3 originals and 2 recovery shards of 12 bytes, to which nothing was added yet:
     ///
     /// ```
     /// let mut encoder = ReedSolomonEncoder::new(alloc, 3, 2, 12, engine)?;
+    /// let error = Error::TooFewOriginalShards {
+    ///     original_count: 3,
+    ///     original_received_count: 0,
+    /// };
+    /// assert_eq!(rt; encoder.encode().err(), Some(error));
     /// ```
     pub fn new(
         alloc: Global,
@@ -116,11 +126,12 @@ impl<'t> ReedSolomonEncoder<'t> {
     ///
     /// # Examples
     ///
-    /// An encoder that was made for these counts and this size is reset to other ones and back. The second `reset` returns
-    /// `Ok(())`, whatever the first one returned:
+    /// An encoder that was made for `original_count`, `recovery_count` and `shard_bytes` is reset to another
+    /// configuration and back:
     ///
     /// ```
     /// let _ = encoder.reset(between.0, between.1, between.2);
+    /// // This is Ok(()), also if the first reset failed.
     /// encoder.reset(original_count, recovery_count, shard_bytes)
     /// ```
     pub fn reset(
@@ -167,6 +178,8 @@ impl<'t> ReedSolomonEncoder<'t> {
     /// for shard in ORIGINAL {
     ///     encoder.add_original_shard(shard)?;
     /// }
+    /// let error = Error::TooManyOriginalShards { original_count: 3 };
+    /// assert_eq!(rt; encoder.add_original_shard(ORIGINAL[0]), Err(error));
     /// ```
     pub fn add_original_shard(&mut self, original_shard: &[u8]) -> Result<(), Error>
         ensures answer { result ≡ answer_of (with_shard (state_of self.old) original_shard.now) }
@@ -189,7 +202,8 @@ impl<'t> ReedSolomonEncoder<'t> {
     ///
     /// # Examples
     ///
-    /// The recovery shard with index 0 is added to a decoder:
+    /// The recovery shard with index 0 is added to a decoder. If the originals are `[2, 0]`, `[0, 0]` and `[4, 0]`, and
+    /// there are two recovery shards, the recovery shard with index 0 is `[3, 0]`:
     ///
     /// ```
     /// match encoder.encode()?.recovery(0) {

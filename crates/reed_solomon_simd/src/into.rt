@@ -1,4 +1,4 @@
-//! Encoding and decoding in one call into memory of the caller.
+//! Functions that encode or decode in one call and write the result into memory of the caller.
 ghost use Rattle.std.specs.Prelude.{◌≡◌, All, length, map, Ok, Err, OnOk, OnErr};
 ghost use Rattle.rs_field.specs.code.Code.{AreRecovery};
 ghost use Rattle.rs_field.specs.code.Configuration.{validation_outcome};
@@ -24,10 +24,16 @@ use std::alloc::Global;
 ///
 /// # Errors
 ///
-/// - The errors of [`encode`](crate::encode) as [`RoomError::Refused`]: the counts, then the originals.
+/// - As [`RoomError::Refused`], in this order: [`Error::UnsupportedShardCount`]; [`Error::TooFewOriginalShards`] with 0
+///   received shards if there is no original; [`Error::InvalidShardSize`]; [`Error::OutOfMemory`] if the rows for the
+///   whole shards would take more than `usize::MAX` bytes; for each original in order,
+///   [`Error::TooManyOriginalShards`] and [`Error::DifferentShardSize`]; [`Error::TooFewOriginalShards`].
 /// - [`RoomError::WrongNumberOfRooms`] if `recovery` does not have `recovery_count` items.
 /// - [`RoomError::WrongLength`] for the first item that does not have the size of the originals.
-/// - [`Error::OutOfMemory`](crate::Error::OutOfMemory) as [`RoomError::Refused`] if the work area cannot be allocated.
+/// - [`Error::OutOfMemory`] as [`RoomError::Refused`] if the work area cannot be allocated.
+///
+/// The order is proved, except for the last line: the contract allows [`Error::OutOfMemory`] at any place after the check
+/// of the size of the first original.
 ///
 /// # Examples
 ///
@@ -60,7 +66,8 @@ pub fn encode_into<E: Engine>(
     Ok(())
 }
 
-// Encodes originals of this size into rooms of their size.
+// Encodes originals of `shard_bytes` bytes into rooms of the same size. Fails with `OutOfMemory` if the work area
+// cannot be allocated.
 fn encode_lent<E: Engine>(
     alloc: Global,
     counts: DefaultRateCounts,
@@ -88,16 +95,22 @@ fn encode_lent<E: Engine>(
 
 /// Decodes the received shards, and writes the missing originals into `restored`, in order of their index.
 ///
-/// `original` and `recovery` have the received shards with their indexes, each numbered from 0 on their own. All shards and
-/// rooms have the size of the first recovery shard. The call allocates a work area for a part of each shard, whatever the
-/// size of the shards. If it is given more shards than originals, it allocates memory for the missing originals as well,
-/// since only the last bytes may show that no message matches. After an error the rooms hold what they held.
+/// `original` and `recovery` hold the received shards with their indexes. The index of an original is its place in the
+/// order in which the originals were added to the encoder, counted from 0. Recovery shards have indexes of their own,
+/// which also begin at 0. `restored` has a room for each missing original: memory that the original is written into. All
+/// shards and rooms have the size of the first recovery shard.
 ///
-/// If no recovery shard comes, nothing can be restored. Then only the indexes of the originals are looked at, and no size.
+/// The call allocates a work area for at most 2048 bytes of each shard, and two lists of references to shards. If there
+/// are more shards than originals, it also allocates memory for the missing originals, because only the last bytes may
+/// show that no message matches all shards. After an error the rooms hold what they held.
+///
+/// If there is no recovery shard, nothing can be restored. Then the call checks only the indexes of the originals, and no
+/// size.
 ///
 /// # Errors
 ///
-/// The errors of [`decode`](crate::decode), as [`RoomError::Refused`], and then:
+/// The errors of [`decode`](crate::decode), as [`RoomError::Refused`], except for [`Error::OutOfMemory`] for the map,
+/// because this call makes no map. Then:
 ///
 /// - [`RoomError::WrongNumberOfRooms`] if there are not as many rooms as missing originals.
 /// - [`RoomError::WrongLength`] for the first room that does not have the size of the shards.

@@ -1,4 +1,4 @@
-//! The originals of one message, which are gathered without copying them.
+//! The originals of one message, which are gathered as references, without copying their bytes.
 ghost use Rattle.std.specs.Prelude.{◌≡◌, ◌≤◌, [], All, Ok, IfOk, IfErr, vec_len};
 ghost use Rattle.std.specs.Vec.{vec_capacity};
 ghost use Rattle.rs_field.specs.code.Column.{IsShard};
@@ -46,13 +46,16 @@ impl<'a> LentOriginals<'a> {
     ghost use Rattle.rs_rate.specs.Giving.{Reaches, IsEncoding};
     ghost use Rattle.reed_solomon_simd.specs.LentState.{lent_state};
 
-    // Makes a list without originals, for these counts and this size.
+    // Makes a list without originals, for these counts and this size. Fails with `InvalidShardSize`, and then with
+    // `OutOfMemory` if the rows for the whole shards would take more than `usize::MAX` bytes, or if the list cannot be
+    // allocated.
     fn new(
         alloc: Global,
         counts: DefaultRateCounts,
         shard_bytes: usize,
     ) -> Result<LentOriginals<'a>, Error>
-        ensures answer { let c = default_of counts.original_count counts.recovery_count shard_bytes in
+        ensures answer { let c =
+            default_of counts.original_count counts.recovery_count shard_bytes in
             UpToMemory
             (start_outcome (encoder_rows default_rate c.original_count c.recovery_count) c)
             (answer_of result) }
@@ -72,10 +75,12 @@ impl<'a> LentOriginals<'a> {
     ///
     /// # Errors
     ///
-    /// - [`Error::TooFewOriginalShards`] with 0 received shards if no original comes.
-    /// - [`Error::InvalidShardSize`] or [`Error::OutOfMemory`] for the size of the first original.
-    /// - For each original in order: [`Error::TooManyOriginalShards`], then [`Error::DifferentShardSize`]. No further
-    ///   original is asked for.
+    /// - [`Error::TooFewOriginalShards`] with 0 received shards if `original` yields no shard.
+    /// - [`Error::InvalidShardSize`] if the size of the first original is zero or odd.
+    /// - [`Error::OutOfMemory`] if the rows for the whole shards would take more than `usize::MAX` bytes, or if the
+    ///   list of references cannot be allocated.
+    /// - For each original in order: [`Error::TooManyOriginalShards`], then [`Error::DifferentShardSize`]. The iterator
+    ///   is then not called again.
     pub fn gather<I: Iterator<Item = &'a [u8]> + Drop>(
         alloc: Global,
         counts: DefaultRateCounts,
@@ -101,7 +106,7 @@ impl<'a> LentOriginals<'a> {
         Ok(originals)
     }
 
-    // Adds the next original.
+    // Adds the next original. Fails with `TooManyOriginalShards`, and then with `DifferentShardSize`.
     fn add(&mut self, shard: &'a [u8]) -> Result<(), Error>
         ensures answer { result ≡ answer_of (with_shard (lent_state self.old) shard.now) }
         ensures left { lent_state self.new
@@ -123,13 +128,14 @@ impl<'a> LentOriginals<'a> {
         Ok(())
     }
 
-    // Adds originals in order, and stops at the first one that cannot be added.
+    // Adds originals in order. Fails with the error of the first original that cannot be added.
     fn add_all<I: Iterator<Item = &'a [u8]> + Drop>(&mut self, originals: I) -> Result<(), Error>
         requires can { I.can_next originals }
         requires ends { IsFinite (I.remaining originals) }
         ensures reaches { (calls : Calls I.next_gives originals)
             × ((items : List Shard) → BeginsWith items calls
-            → Reaches (with_shards (lent_state self.old) items) result (λ s. lent_state self.new ≡ s)) }
+            → Reaches (with_shards (lent_state self.old) items) result
+            (λ s. lent_state self.new ≡ s)) }
         ensures counts { self.new.counts ≡ self.old.counts }
     {
         for shard in originals {
@@ -206,7 +212,7 @@ impl<'a> LentOriginals<'a> {
     }
 }
 
-// Returns `count` empty vectors, each with memory for `bytes` bytes.
+// Returns `count` empty vectors, each with memory for `bytes` bytes, or fails with `OutOfMemory`.
 pub(crate) fn empty_vectors(
     alloc: Global,
     count: usize,

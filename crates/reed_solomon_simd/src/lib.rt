@@ -1,8 +1,8 @@
 //! Reed-Solomon erasure codes over GF(2^16) in n log n, with the paths of the crate reed-solomon-simd.
 //!
 //! A message of `original_count` shards of one even size is encoded into `recovery_count` recovery shards. Any
-//! `original_count` of all these shards give back every original. Originals are numbered from 0 in their order, and
-//! recovery shards are numbered from 0 on their own.
+//! `original_count` of all these shards give back every original. The index of an original is its place in the order in
+//! which originals are added, counted from 0. Recovery shards have indexes of their own, which also begin at 0.
 //!
 //! [`encode`] and [`decode`] do a whole round in one call. [`ReedSolomonEncoder`] and [`ReedSolomonDecoder`] code many
 //! messages with the same memory. The module [`rate`] has objects whose rate, engine and memory the caller chooses.
@@ -41,6 +41,8 @@ pub use room_error::RoomError;
 /// An error is printed as a text. Here a program writes it to its error output:
 ///
 /// ```
+/// // If refusal is Error::NotEnoughShards { original_count: 3, original_received_count: 1, recovery_received_count: 1 },
+/// // the text is "not enough shards: 1 original + 1 recovery < 3 original_count\n".
 /// match format!(in alloc; "{refusal}\n") {
 ///     Ok(text) => write_text(err, text.as_str()),
 ///     Err(_) => write_text(err, "out of memory\n"),
@@ -55,6 +57,8 @@ pub use slices::{decode_slice, encode_slice};
 /// Shards that are needed after the round must be copied:
 ///
 /// ```
+/// // ORIGINAL is [b"Three shards", b" of one size", b" are coded. "].
+/// // If originals 0 and 2 were lost, originals becomes [(0, b"Three shards"), (2, b" are coded. ")].
 /// for (index, shard) in lent.restored_original_iter() {
 ///     originals.push((index, shard.to_vec(alloc)?))?;
 /// }
@@ -65,9 +69,15 @@ pub use rs_rate::{DecoderResult, EncoderResult, Recovery, RestoredOriginal};
 ///
 /// # Examples
 ///
+/// One recovery shard of three originals is their XOR:
+///
 /// ```
 /// let tables = Tables::new(alloc)?;
 /// let engine = DefaultEngine::new(&tables, EngineKind::Ssse3);
+/// let original: [&[u8]; 3] = [&[1, 2], &[4, 8], &[16, 32]];
+/// let recovery = encode(alloc, 3, 1, original.into_iter(), engine)?;
+/// assert_eq!(rt; recovery.len(), 1);
+/// assert_eq!(rt; recovery[0].as_slice(), [21, 42].as_slice());
 /// ```
 pub mod engine {
     pub use rs_engines::engine_default::{DefaultEngine, EngineKind};
@@ -76,6 +86,7 @@ pub mod engine {
     /// # Examples
     ///
     /// ```
+    /// // For the word "ssse3", from_str returns Ok(EngineKind::Ssse3). For "sse", it returns Err(UnknownEngine).
     /// let Ok(engine) = EngineKind::from_str(engine.as_str()) else {
     ///     return Err(Fault::Usage);
     /// };
@@ -85,18 +96,30 @@ pub mod engine {
     ///
     /// # Examples
     ///
+    /// The product of 4 and 2 is 11:
+    ///
     /// ```
-    /// NoSimd::new(&tables)
+    /// let engine = NoSimd::new(&tables);
+    /// let log_2 = get_exp_log(&tables).log[2];
+    /// let mut row = [[0; 64]];
+    /// row[0][0] = 4;
+    /// engine.mul(&mut Steps::new(), &mut row, log_2);
+    /// assert_eq!(rt; row[0][0], 11);
     /// ```
     pub use rs_engines::engine_nosimd::NoSimd;
     /// The engines with vectors of 32 bytes and of 16 bytes.
     ///
     /// # Examples
     ///
+    /// The product of 4 and 2 is 11:
+    ///
     /// ```
     /// let engine = Ssse3::new(&tables);
-    /// let mut steps = Steps::new();
-    /// let mut encoder = DefaultRateEncoder::new(alloc, 3, 2, 12, engine, None)?;
+    /// let log_2 = get_exp_log(&tables).log[2];
+    /// let mut row = [[0; 64]];
+    /// row[0][0] = 4;
+    /// engine.mul(&mut Steps::new(), &mut row, log_2);
+    /// assert_eq!(rt; row[0][0], 11);
     /// ```
     pub use rs_engines::engine_shuffle::{Avx2, Ssse3};
     /// The constants of the field.
@@ -119,6 +142,7 @@ pub mod engine {
     /// logarithm of x. The logarithm of 1 is 0 modulo 65535:
     ///
     /// ```
+    /// // log[2] is 21845, and log[3] is 43690.
     /// let mut first = [1, 0, 0, 0];
     /// engine.locate(&mut steps, &mut first);
     /// assert_eq!(rt; [first[0] % 65535, first[1] % 65535], [0, 0]);
@@ -129,8 +153,15 @@ pub mod engine {
     ///
     /// # Examples
     ///
+    /// The product of 4 and 2 is 11:
+    ///
     /// ```
-    /// Naive::new(&tables)
+    /// let engine = Naive::new(&tables);
+    /// let log_2 = get_exp_log(&tables).log[2];
+    /// let mut row = [[0; 64]];
+    /// row[0][0] = 4;
+    /// engine.mul(&mut Steps::new(), &mut row, log_2);
+    /// assert_eq!(rt; row[0][0], 11);
     /// ```
     pub use rs_field::engine::Naive;
     /// The rows that an engine works on, and the count of its steps.
@@ -151,9 +182,15 @@ pub mod engine {
     ///
     /// # Examples
     ///
+    /// One recovery shard of three originals is their XOR:
+    ///
     /// ```
     /// let tables = Tables::new(alloc)?;
     /// let engine = DefaultEngine::new(&tables, EngineKind::Ssse3);
+    /// let original: [&[u8]; 3] = [&[1, 2], &[4, 8], &[16, 32]];
+    /// let recovery = encode(alloc, 3, 1, original.into_iter(), engine)?;
+    /// assert_eq!(rt; recovery.len(), 1);
+    /// assert_eq!(rt; recovery[0].as_slice(), [21, 42].as_slice());
     /// ```
     pub mod tables {
         /// All tables; the powers and logarithms, the product of two words with them, and the factors of butterflies.
@@ -181,8 +218,15 @@ pub mod engine {
         ///
         /// # Examples
         ///
+        /// The locator of point 0 at a point x other than 0 is the logarithm of x:
+        ///
         /// ```
-        /// eval_poly(steps, erasures, GF_ORDER, get_log_walsh(tables));
+        /// // The logarithms of 2 and 3 are 21845 and 43690.
+        /// let mut erasures = [0; GF_ORDER];
+        /// erasures[0] = 1;
+        /// let log_walsh = get_log_walsh(&tables);
+        /// eval_poly(&mut Steps::new(), &mut erasures, GF_ORDER, log_walsh);
+        /// assert_eq!(rt; [erasures[2], erasures[3]], [21845, 43690]);
         /// ```
         pub use rs_field::engine::tables::{LogWalsh, get_log_walsh, get_log_walsh_below};
         /// The products by nibbles, as words and as bytes.
@@ -209,16 +253,25 @@ pub mod engine {
         ///
         /// # Examples
         ///
-        /// `eval_poly` computes the locator of points below 65536, at all 65536 points:
+        /// `eval_poly` computes the locator of points below 65536, at all 65536 points. The locator of point 0 at a point x
+        /// other than 0 is the logarithm of x:
         ///
         /// ```
-        /// eval_poly(steps, erasures, GF_ORDER, get_log_walsh(tables));
+        /// // The logarithms of 2 and 3 are 21845 and 43690.
+        /// let mut erasures = [0; GF_ORDER];
+        /// erasures[0] = 1;
+        /// let log_walsh = get_log_walsh(&tables);
+        /// eval_poly(&mut Steps::new(), &mut erasures, GF_ORDER, log_walsh);
+        /// assert_eq!(rt; [erasures[2], erasures[3]], [21845, 43690]);
         /// ```
         ///
-        /// `locate` computes the locator of points below a power of two, here 64, at these points:
+        /// `locate` computes the locator of points below a power of two, here 4, at these points:
         ///
         /// ```
-        /// locate(steps, erasures, get_log_walsh_below(tables, 64));
+        /// let mut first = [1, 0, 0, 0];
+        /// let log_walsh = get_log_walsh_below(&tables, 4);
+        /// locate(&mut Steps::new(), &mut first, log_walsh);
+        /// assert_eq!(rt; [first[2], first[3]], [21845, 43690]);
         /// ```
         pub use rs_field::engine::utils::{eval_poly, locate};
         /// Sums of chunks and of ranges of rows. The sum of two bytes is their XOR.
@@ -252,22 +305,35 @@ pub mod engine {
 /// An encoder of the default rate for 3 originals and 2 recovery shards of 12 bytes:
 ///
 /// ```
+/// // ORIGINAL is [b"Three shards", b" of one size", b" are coded. "].
 /// let engine = Ssse3::new(&tables);
 /// let mut steps = Steps::new();
 /// let mut encoder = DefaultRateEncoder::new(alloc, 3, 2, 12, engine, None)?;
+/// for shard in ORIGINAL {
+///     encoder.add_original_shard(shard)?;
+/// }
+/// let recovery = encoder.encode(&mut steps)?;
+/// // The bytes of recovery.recovery(0) are 8B 6B 49 8D 2D 0E E3 62 FC E6 D5 C8.
+/// // The bytes of recovery.recovery(1) are DF 0D 2F AD 07 23 9A 4E 8B 99 E5 FE.
 /// ```
 pub mod rate {
     /// The encoders and decoders of each rate, and the traits that they share.
     ///
     /// # Examples
     ///
+    /// Originals 0 and 2 of three originals are lost. Original 1 and two recovery shards restore them:
+    ///
     /// ```
+    /// // ORIGINAL is [b"Three shards", b" of one size", b" are coded. "].
+    /// // recovery holds its two recovery shards.
     /// let mut decoder = DefaultRateDecoder::new(alloc, 3, 2, 12, engine, None)?;
     /// decoder.add_original_shard(1, ORIGINAL[1])?;
     /// for (index, shard) in recovery.recovery_iter().enumerate() {
     ///     decoder.add_recovery_shard(index, shard)?;
     /// }
     /// let restored = decoder.decode(&mut steps)?;
+    /// // restored.restored_original(0) is Some(b"Three shards"), and restored.restored_original(2) is
+    /// // Some(b" are coded. ").
     /// ```
     pub use rs_rate::rate::{
         DefaultRateDecoder, DefaultRateEncoder, HighRateDecoder, HighRateEncoder, LowRateDecoder,
@@ -280,6 +346,8 @@ pub mod rate {
     /// The counts are checked for both objects at once. After that, `with_counts` checks only the size:
     ///
     /// ```
+    /// // For (60000, 5000), new fails with
+    /// // Error::UnsupportedShardCount { original_count: 60000, recovery_count: 5000 }. For (60000, 4000), it succeeds.
     /// let counts = DefaultRateCounts::new(original_count, recovery_count)?;
     /// let encoder = DefaultRateEncoder::with_counts(alloc, counts, shard_bytes, engine, None)?;
     /// let decoder = DefaultRateDecoder::with_counts(alloc, counts, shard_bytes, other, None)?;
@@ -294,6 +362,7 @@ pub mod rate {
     ///
     /// ```
     /// let (engine, work) = decoder.into_parts();
+    /// // This is Ok(decoder). The new decoder has the same engine, and no shards.
     /// R::decoder(
     ///     alloc,
     ///     original_count,
@@ -313,6 +382,7 @@ pub mod rate {
     ///
     /// ```
     /// let mut encoder = R::encoder(alloc, 2, 3, 2, engine, None)?;
+    /// // This returns Err(Error::TooFewOriginalShards { original_count: 2, original_received_count: 0 }).
     /// let _ = encoder.encode(steps)?;
     /// ```
     pub use rs_rate::rate::{DefaultRate, HighRate, LowRate, Rate};

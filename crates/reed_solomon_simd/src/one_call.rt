@@ -1,4 +1,4 @@
-//! Encoding and decoding in one call, over iterators of shards.
+//! Functions that encode or decode in one call, over iterators of shards.
 ghost use Rattle.std.specs.Prelude.{◌≡◌, List, Err, IfOk, IfErr};
 ghost use Rattle.std.specs.Iterator.{IsFinite};
 ghost use Rattle.rs_field.specs.code.Column.{Shard};
@@ -17,18 +17,23 @@ use std::collections::BTreeMap;
 
 /// Encodes the originals and returns the recovery shards, in order of their index.
 ///
-/// `original` gives the originals in order; the first one has index 0. All have the size of the first original, an even number
-/// of bytes above zero. After an error, and after the end of the iterator, `encode` does not call `next` again.
+/// `original` yields the originals in order; the first one has index 0. All have the size of the first original, an even
+/// number of bytes above zero. After an error, and after the end of the iterator, `encode` does not call `next` again.
 ///
 /// # Errors
 ///
 /// - [`Error::UnsupportedShardCount`] if the counts are not [supported](crate::ReedSolomonEncoder::supports).
-/// - [`Error::TooFewOriginalShards`] with 0 received shards if `original` gives no shard.
+/// - [`Error::TooFewOriginalShards`] with 0 received shards if `original` yields no shard.
 /// - [`Error::InvalidShardSize`] if the size of the first original is zero or odd.
-/// - [`Error::OutOfMemory`] if the rows cannot be allocated.
+/// - [`Error::OutOfMemory`] if the rows for the whole shards would take more than `usize::MAX` bytes, or if the list of
+///   references cannot be allocated.
 /// - For each original in order: [`Error::TooManyOriginalShards`], then [`Error::DifferentShardSize`].
 /// - [`Error::TooFewOriginalShards`] if there are fewer than `original_count` originals.
-/// - [`Error::OutOfMemory`] if the results cannot be allocated.
+/// - [`Error::OutOfMemory`] if the results or the work area cannot be allocated. The work area holds at most 4096 bytes of
+///   each shard.
+///
+/// The order is proved, with one exception: if the check of the size of the first original finds no error, the contract
+/// allows [`Error::OutOfMemory`] instead of any other result.
 ///
 /// # Examples
 ///
@@ -66,33 +71,42 @@ pub fn encode<'a, I: Iterator<Item = &'a [u8]> + Drop>(
 
 /// Decodes the received shards and returns the missing originals, by their index.
 ///
-/// `original` and `recovery` give the received shards with their indexes. Originals are numbered from 0 in the order in
-/// which they were encoded, and recovery shards are numbered from 0 on their own. All shards have the size of the first
-/// recovery shard. After an error, `decode` calls neither iterator again.
+/// `original` and `recovery` yield the received shards with their indexes. The index of an original is its place in the
+/// order in which the originals were added to the encoder, counted from 0. Recovery shards have indexes of their own, which
+/// also begin at 0. All shards have the size of the first recovery shard. After an error, `decode` calls neither iterator
+/// again.
 ///
-/// If `recovery` gives no shard, nothing can be restored. Then only the indexes of the originals are looked at, and no size.
+/// If `recovery` yields no shard, nothing can be restored. Then `decode` checks only the indexes of the originals, and no
+/// size.
 ///
 /// # Errors
 ///
-/// If `recovery` gives a shard:
+/// If `recovery` yields a shard:
 ///
 /// - [`Error::UnsupportedShardCount`] if the counts are not [supported](crate::ReedSolomonDecoder::supports).
 /// - [`Error::InvalidShardSize`] if the size of the first recovery shard is zero or odd.
-/// - [`Error::OutOfMemory`] if the rows cannot be allocated.
+/// - [`Error::OutOfMemory`] if the rows for the whole shards would take more than `usize::MAX` bytes, or if the lists of
+///   references cannot be allocated.
 /// - For each original in order: [`Error::InvalidOriginalShardIndex`], [`Error::DuplicateOriginalShardIndex`],
 ///   [`Error::DifferentShardSize`].
 /// - For each recovery shard in order: [`Error::InvalidRecoveryShardIndex`], [`Error::DuplicateRecoveryShardIndex`],
 ///   [`Error::DifferentShardSize`].
 /// - [`Error::NotEnoughShards`] if there are fewer than `original_count` shards.
+/// - [`Error::OutOfMemory`] if the vectors of the results or the work area cannot be allocated. The work area holds at most
+///   2048 bytes of each shard.
 /// - [`Error::InconsistentShards`] if there are more than `original_count` shards and no message matches them all.
-/// - [`Error::OutOfMemory`] if the results cannot be allocated.
+/// - [`Error::OutOfMemory`] if the map of the results cannot be allocated.
 ///
-/// If `recovery` gives no shard:
+/// If `recovery` yields no shard:
 ///
 /// - [`Error::UnsupportedShardCount`] if the counts are not [supported](crate::ReedSolomonDecoder::supports).
 /// - [`Error::OutOfMemory`] if the marks of the indexes cannot be allocated.
 /// - For each original in order: [`Error::InvalidOriginalShardIndex`], [`Error::DuplicateOriginalShardIndex`].
 /// - [`Error::NotEnoughShards`] if originals are missing.
+///
+/// The order is proved, with one exception: if the check of the size of the first recovery shard finds no error, or if
+/// `recovery` yields no shard and the check of the counts finds no error, the contract allows [`Error::OutOfMemory`]
+/// instead of any other result.
 ///
 /// # Examples
 ///

@@ -1,4 +1,5 @@
-//! The shards that were received of a message. A decode reads them piece by piece.
+//! The shards that were received of a message. A decode reads them piece by piece. A piece is a range of the bytes of a
+//! shard.
 ghost use Rattle.std.specs.Prelude.{◌≡◌, ◌<◌, ◌≤◌, ℕ, length, Some, option_copied};
 ghost use Rattle.std.specs.List.{between};
 ghost use Rattle.rs_field.specs.code.Column.{Shard};
@@ -8,7 +9,7 @@ ghost use Rattle.reed_solomon_simd.specs.Received.{given_in};
 use crate::received_shards::ReceivedShards;
 use rs_rate::rate::DefaultRateCounts;
 
-/// Received shards of a message, with the counts and the size that they belong to.
+/// Received shards of a message, with the counts and the size of the message.
 pub trait Pieces {
     ghost use Rattle.std.specs.Prelude.{◌≡◌, ◌<◌, ◌≤◌, option_copied};
     ghost use Rattle.rs_field.specs.code.Counts.{default_rate};
@@ -22,7 +23,8 @@ pub trait Pieces {
     fn counts(&self) -> DefaultRateCounts
         ensures originals { result.original_count
             ≡ (received self.now).configuration.original_count }
-        ensures recovery { result.recovery_count ≡ (received self.now).configuration.recovery_count };
+        ensures recovery { result.recovery_count
+            ≡ (received self.now).configuration.recovery_count };
 
     /// Returns the size of each shard in bytes.
     fn shard_bytes(&self) -> usize
@@ -45,7 +47,7 @@ pub trait Pieces {
         ensures { option_copied result ≡ pieces_of start end (received self.now).recovery index };
 }
 
-/// Shards that are slices of the caller's memory.
+/// Received shards that are slices of the caller's memory.
 impl<'a> Pieces for ReceivedShards<'a> {
     ghost use Rattle.reed_solomon_simd.specs.ReceivedState.{received_state};
 
@@ -68,7 +70,8 @@ impl<'a> Pieces for ReceivedShards<'a> {
     }
 }
 
-// A piece of the shard in a place.
+// Returns the bytes of the shard in place `index` from byte `start` up to, but not including, byte `end`, or `None` if
+// the place has no shard.
 fn piece_at<'a>(
     places: &[Option<&'a [u8]>],
     index: usize,

@@ -1,4 +1,4 @@
-//! The shards of a message that were received, as slices of the caller's memory.
+//! The shards that were received of a message, as slices of the caller's memory.
 ghost use Rattle.std.specs.Prelude.{◌≡◌, ◌<◌, ◌≤◌, ◌+◌, ◌==◌, nat_lt, IfOk, if◌then◌else◌, None, Ok, Err, length, MatchResult, OnOk};
 ghost use Rattle.rs_field.specs.code.Column.{IsShard};
 ghost use Rattle.rs_field.specs.code.Configuration.{start_outcome};
@@ -15,16 +15,18 @@ use rs_field::error::Error;
 use rs_rate::rate::DefaultRateCounts;
 use std::alloc::Global;
 
-/// Received shards of one kind, each in the place of its index, and their number.
+/// Received shards of one kind: originals or recovery shards.
 #[derive(Drop)]
 pub struct Places<'a> {
+    /// A place for each index, with the shard if it was received.
     pub(crate) shards: Vec<Option<&'a [u8]>>,
+    /// The number of shards that were received.
     pub(crate) number: usize,
     pub ghost counted: { number ≡ count_below (length shards.items) (given_in shards.items) },
 }
 
 impl<'a> Places<'a> {
-    // So many places with no shard.
+    // Makes `count` places with no shard, or fails with `OutOfMemory`.
     fn new(alloc: Global, count: usize) -> Result<Places<'a>, Error>
         ensures { MatchResult result
             (λ places. (length places.shards.items ≡ count)
@@ -35,7 +37,7 @@ impl<'a> Places<'a> {
         Ok(Places { shards, number: 0 })
     }
 
-    // Enters a shard in a place that has none.
+    // Puts a shard into a place that has none.
     fn enter(&mut self, index: usize, shard: &'a [u8])
         requires inside { index < length self.old.shards.items }
         requires free { given_in self.old.shards.items index ≡ None }
@@ -48,12 +50,16 @@ impl<'a> Places<'a> {
     }
 }
 
-/// The shards that were received of one message, with the counts and the size that they belong to.
+/// The shards that were received of one message, with the counts and the size of the message.
 #[derive(Drop)]
 pub struct ReceivedShards<'a> {
+    /// The counts of the message.
     pub(crate) counts: DefaultRateCounts,
+    /// The size of a shard, in bytes.
     pub(crate) shard_bytes: usize,
+    /// The received originals.
     pub(crate) originals: Places<'a>,
+    /// The received recovery shards.
     pub(crate) recovery: Places<'a>,
     pub ghost set_up: { let c =
         default_of counts.original_count counts.recovery_count shard_bytes in
@@ -72,7 +78,9 @@ impl<'a> ReceivedShards<'a> {
     ghost use Rattle.rs_field.specs.code.Decoder.{originals_given, recovery_given};
     ghost use Rattle.reed_solomon_simd.specs.ReceivedState.{received_state};
 
-    // No shard yet, where counts and size are supported.
+    // Makes an empty set of received shards for these counts and this size. Fails with `InvalidShardSize`, and then
+    // with `OutOfMemory` if the rows for the whole shards would take more than `usize::MAX` bytes, or if the lists of
+    // references cannot be allocated.
     pub(crate) fn new(
         alloc: Global,
         counts: DefaultRateCounts,
@@ -96,7 +104,8 @@ impl<'a> ReceivedShards<'a> {
         })
     }
 
-    // Adds the original with this index.
+    // Adds the original with this index. Fails with `InvalidOriginalShardIndex`, then with
+    // `DuplicateOriginalShardIndex`, and then with `DifferentShardSize`.
     pub(crate) fn add_original(&mut self, index: usize, shard: &'a [u8]) -> Result<(), Error>
         ensures answer { result
             ≡ answer_of (with_original (received_state self.old) index shard.now) }
@@ -119,7 +128,8 @@ impl<'a> ReceivedShards<'a> {
         Ok(())
     }
 
-    // Adds the recovery shard with this index.
+    // Adds the recovery shard with this index. Fails with `InvalidRecoveryShardIndex`, then with
+    // `DuplicateRecoveryShardIndex`, and then with `DifferentShardSize`.
     pub(crate) fn add_recovery(&mut self, index: usize, shard: &'a [u8]) -> Result<(), Error>
         ensures answer { result
             ≡ answer_of (with_recovery (received_state self.old) index shard.now) }
@@ -180,9 +190,12 @@ pub fn surplus_of(
     recovery_received_count: usize,
 ) -> Result<usize, Error>
     requires total { original_received_count + recovery_received_count ≤ 131072 }
-    ensures answer { answer_of result ≡ (if nat_lt (original_received_count + recovery_received_count) original_count
-        then Err (Error.NotEnoughShards original_count original_received_count recovery_received_count) else Ok tt) }
-    ensures number { IfOk result (λ n. original_received_count + recovery_received_count ≡ original_count + n) }
+    ensures answer { answer_of result
+        ≡ (if nat_lt (original_received_count + recovery_received_count) original_count
+        then Err (Error.NotEnoughShards
+        original_count original_received_count recovery_received_count) else Ok tt) }
+    ensures number { IfOk result
+        (λ n. original_received_count + recovery_received_count ≡ original_count + n) }
 {
     let received = original_received_count + recovery_received_count;
     if received < original_count {
@@ -195,7 +208,7 @@ pub fn surplus_of(
     Ok(received - original_count)
 }
 
-// `DifferentShardSize` for a shard of another size.
+// Fails with `DifferentShardSize` if the shard does not have `shard_bytes` bytes.
 fn check_size(shard_bytes: usize, shard: &[u8]) -> Result<(), Error>
     ensures answer { result
         ≡ (if length shard.now == shard_bytes then Ok tt

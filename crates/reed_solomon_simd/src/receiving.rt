@@ -1,4 +1,4 @@
-//! Collecting the shards that were received of a message.
+//! Functions that collect the shards that were received of a message.
 ghost use Rattle.std.specs.Prelude.{◌≡◌};
 ghost use Rattle.std.specs.Iterator.{IsFinite};
 ghost use Rattle.std.specs.Option.{option_map};
@@ -14,18 +14,24 @@ use rs_rate::rate::DefaultRateCounts;
 use rs_rate::rate::originals_alone::check_originals_alone;
 use std::alloc::Global;
 
-/// Returns the received shards, or `None` if no recovery shard comes and every original is there. The shard size is that
-/// of the first recovery shard.
+/// Returns the received shards, or `None` if `recovery` yields no shard and `original` yields every original. The shard
+/// size is that of the first recovery shard.
 ///
 /// # Errors
 ///
-/// If `recovery` gives a shard:
+/// If `recovery` yields a shard:
 ///
-/// - `InvalidShardSize` or `OutOfMemory` for the size of the first recovery shard.
-/// - Otherwise the error of the first shard that is not accepted: all originals in order, then all recovery shards in
-///   order. The iterators are not called again.
+/// - [`Error::InvalidShardSize`] if the size of the first recovery shard is zero or odd.
+/// - [`Error::OutOfMemory`] if the rows for the whole shards would take more than `usize::MAX` bytes, or if the lists
+///   of references cannot be allocated.
+/// - For each original in order: [`Error::InvalidOriginalShardIndex`], [`Error::DuplicateOriginalShardIndex`],
+///   [`Error::DifferentShardSize`].
+/// - For each recovery shard in order: [`Error::InvalidRecoveryShardIndex`], [`Error::DuplicateRecoveryShardIndex`],
+///   [`Error::DifferentShardSize`].
 ///
-/// If `recovery` gives no shard: the errors of [`check_originals_alone`].
+/// If `recovery` yields no shard: the errors of [`check_originals_alone`].
+///
+/// After an error, neither iterator is called again.
 pub fn received_shards<'a, O, R>(
     alloc: Global,
     counts: DefaultRateCounts,
@@ -56,7 +62,7 @@ where
     Ok(Some(received))
 }
 
-// Adds originals in order, up to the first that is not accepted.
+// Adds originals in order. Fails with the error of the first original that is not accepted.
 fn add_originals<'a, I: Iterator<Item = (usize, &'a [u8])> + Drop>(
     received: &mut ReceivedShards<'a>,
     originals: I,
@@ -74,7 +80,7 @@ fn add_originals<'a, I: Iterator<Item = (usize, &'a [u8])> + Drop>(
     Ok(())
 }
 
-// Adds recovery shards in order, up to the first that is not accepted.
+// Adds recovery shards in order. Fails with the error of the first recovery shard that is not accepted.
 fn add_recovery<'a, I: Iterator<Item = (usize, &'a [u8])> + Drop>(
     received: &mut ReceivedShards<'a>,
     recovery: I,

@@ -1,4 +1,4 @@
-//! The missing originals of received shards: as vectors, and in memory of the caller.
+//! Functions that restore the missing originals of received shards, as vectors or into memory of the caller.
 ghost use Rattle.std.specs.Prelude.{◌≡◌, ◌⊎◌, ◌+◌, All, true, false, IfErr, Ok, Err, length, map, MatchResult, OnOk, OnErr};
 ghost use Rattle.rs_field.specs.code.Counts.{default_rate};
 ghost use Rattle.rs_field.specs.code.Decoder.{IsDecoder, enough_given, originals_given, recovery_given, Restored, NoneAgrees};
@@ -21,12 +21,12 @@ use rs_field::error::Error;
 use std::alloc::Global;
 use std::collections::BTreeMap;
 
-/// Returns the missing originals as vectors, in order of index. There must be `missing` of them.
+/// Returns the missing originals as vectors, in order of index. `missing` is their number.
 ///
 /// # Errors
 ///
+/// - [`Error::OutOfMemory`] if the vectors or the work area cannot be allocated.
 /// - [`Error::InconsistentShards`] if no message matches all received shards.
-/// - [`Error::OutOfMemory`] if the work area or the vectors cannot be allocated.
 pub fn restore_vectors<E: Engine, P: Pieces>(
     alloc: Global,
     engine: E,
@@ -45,7 +45,8 @@ pub fn restore_vectors<E: Engine, P: Pieces>(
     Ok(vectors)
 }
 
-// Writes the missing originals into rooms that share no memory with the received shards, in order of index.
+// Writes the missing originals into rooms that share no memory with the received shards, in order of index. Fails with
+// `OutOfMemory`, and with `InconsistentShards` if no message matches all received shards.
 fn restore_apart<E: Engine, P: Pieces, R: Rooms>(
     alloc: Global,
     engine: E,
@@ -75,8 +76,8 @@ fn restore_apart<E: Engine, P: Pieces, R: Rooms>(
     decode_strips(alloc, engine, &mut store)
 }
 
-/// Writes the missing originals into rooms of their size, in order of index, where as many shards as originals were
-/// received. Any such shards have a message.
+/// Writes the missing originals into rooms of their size, in order of index. As many shards as originals were received,
+/// so there is a message that matches them all.
 ///
 /// # Errors
 ///
@@ -103,14 +104,15 @@ pub fn restore_lent<E: Engine>(
     restore_apart(alloc, engine, received, &mut lent)
 }
 
-/// Writes the missing originals into rooms that are part of the store. If `surplus` is above zero, they go to vectors
-/// first, since a later strip may show that no message matches. There must be `missing` missing originals, and `surplus`
-/// more received shards than originals.
+/// Writes the missing originals into rooms that are part of the store. `missing` is the number of missing originals,
+/// and `surplus` is the number of received shards beyond the number of originals. If `surplus` is above zero, the
+/// originals are restored into vectors first, because a later strip may show that no message matches all received
+/// shards.
 ///
 /// # Errors
 ///
+/// - [`Error::OutOfMemory`] if the vectors or the work area cannot be allocated.
 /// - [`Error::InconsistentShards`] if no message matches all received shards.
-/// - [`Error::OutOfMemory`] if the work area or the vectors cannot be allocated.
 ///
 /// After an error the rooms hold what they held.
 pub fn restore_in_place<E: Engine, S: Pieces + Rooms>(
@@ -146,13 +148,16 @@ pub fn restore_in_place<E: Engine, S: Pieces + Rooms>(
     put_all(vectors.as_slice(), shard_bytes, store)
 }
 
-/// Writes the missing originals into rooms of the caller, in order of index. With surplus shards they go to vectors first,
-/// since a later strip may show that no message matches.
+/// Writes the missing originals into rooms of the caller, in order of index. If there are more shards than originals,
+/// the originals are restored into vectors first, because a later strip may show that no message matches all received
+/// shards.
 ///
 /// # Errors
 ///
-/// - [`RoomError::Refused`] with [`Error::NotEnoughShards`], [`Error::InconsistentShards`] or [`Error::OutOfMemory`].
-/// - [`RoomError::WrongNumberOfRooms`] if the rooms are more or fewer than the missing originals.
+/// - [`RoomError::Refused`] with [`Error::NotEnoughShards`] if there are fewer shards than originals, then with
+///   [`Error::OutOfMemory`] if memory cannot be allocated, and then with [`Error::InconsistentShards`] if no message
+///   matches all received shards.
+/// - [`RoomError::WrongNumberOfRooms`] if there are not as many rooms as missing originals.
 /// - [`RoomError::WrongLength`] for the first room that does not have the size of the shards.
 ///
 /// After an error the rooms hold what they held.
@@ -173,7 +178,8 @@ pub fn restore_into<E: Engine>(
     restore_by_vectors(alloc, received, engine, rooms)
 }
 
-// Whether no message is needed to know that the shards have one, and each missing original has a room of its size.
+// Returns true if the missing originals can be written into the rooms strip by strip: there are as many shards as
+// originals, so they belong to a message, and each missing original has a room of its size.
 fn can_be_written(surplus: usize, received: &ReceivedShards<'_>, rooms: &[&mut [u8]]) -> bool
     ensures exact { result ≡ true → surplus ≡ 0 }
     ensures number { result ≡ true
@@ -185,7 +191,7 @@ fn can_be_written(surplus: usize, received: &ReceivedShards<'_>, rooms: &[&mut [
     surplus == 0 && check_rooms(received.missing(), received.shard_bytes, rooms).is_ok()
 }
 
-// Writes the missing originals into rooms strip by strip.
+// Writes the missing originals into rooms, strip by strip.
 fn restore_directly<E: Engine>(
     alloc: Global,
     received: &ReceivedShards<'_>,
@@ -206,7 +212,7 @@ fn restore_directly<E: Engine>(
     Ok(())
 }
 
-// Writes the missing originals into rooms, once all of them are restored.
+// Restores all missing originals into vectors, and then copies them into the rooms.
 fn restore_by_vectors<E: Engine>(
     alloc: Global,
     received: &ReceivedShards<'_>,
@@ -225,7 +231,7 @@ fn restore_by_vectors<E: Engine>(
     Ok(())
 }
 
-// Writes vectors into rooms of their size.
+// Copies vectors into rooms of their size.
 fn fill_rooms(vectors: &[Vec<u8>], shard_bytes: usize, rooms: &mut [&mut [u8]])
     requires number { length vectors.now ≡ length rooms.old }
     requires sized { All (λ vector. length vector.items ≡ shard_bytes) vectors.now }
@@ -237,7 +243,7 @@ fn fill_rooms(vectors: &[Vec<u8>], shard_bytes: usize, rooms: &mut [&mut [u8]])
     let _ = put_all(vectors, shard_bytes, &mut lent);
 }
 
-// Puts each vector into its room, from the first byte on.
+// Copies each vector into its room, from the first byte on.
 fn put_all<R: Rooms>(vectors: &[Vec<u8>], shard_bytes: usize, rooms: &mut R) -> Result<(), Error>
     requires number { length vectors.now ≡ length (R.held rooms.old) }
     requires sized { All (λ vector. length vector.items ≡ shard_bytes) vectors.now }
@@ -256,7 +262,8 @@ fn put_all<R: Rooms>(vectors: &[Vec<u8>], shard_bytes: usize, rooms: &mut R) -> 
     Ok(())
 }
 
-/// Returns restored originals by their index.
+/// Returns a map of the restored originals, with their indexes as keys. `restored` holds the missing originals of
+/// `received` in order of index.
 ///
 /// # Errors
 ///

@@ -5,7 +5,7 @@ use std::fmt;
 /// The reason why a call that writes into memory of the caller failed.
 #[derive(Clone, Copy, Debug, PartialEq, Eq, Hash)]
 pub enum RoomError {
-    /// The shards cannot be coded.
+    /// The shards cannot be encoded or decoded.
     Refused(
         /// The reason.
         Error,

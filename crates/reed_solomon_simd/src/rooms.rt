@@ -1,4 +1,4 @@
-//! Rooms that shards are written into, strip by strip.
+//! Rooms: memory that shards are written into, strip by strip.
 ghost use Rattle.std.specs.Prelude.{◌≡◌, ◌+◌, ◌≤◌, ◌++◌, List, All, OnOk, length, take, drop};
 ghost use Rattle.rs_field.specs.code.Column.{Shard};
 ghost use Rattle.reed_solomon_simd.specs.Into.{rooms_fit};
@@ -7,22 +7,22 @@ ghost use Rattle.reed_solomon_simd.specs.Rooms.{bytes_in};
 use crate::room_error::RoomError;
 use rs_field::error::Error;
 
-/// Rooms for shards, one for each. A shard comes strip by strip, in order.
+/// Rooms for shards: each room is memory for one shard. A shard is written strip by strip, in order.
 pub trait Rooms {
     ghost use Rattle.std.specs.Prelude.{◌≡◌, ◌≢◌, ℕ, Bool, true, List, [], ◌++◌, ◌<◌, ◌≤◌, ◌+◌, length, take, drop, Err, OnOk, OnErr, slice_index_or};
     ghost use Rattle.rs_field.specs.code.Column.{Shard};
     ghost use Rattle.rs_field.specs.code.Pieces.{room_length};
 
-    /// What each room holds.
+    /// The bytes that each room holds.
     ghost held: { Self → List Shard };
 
     /// Whether a room grows with each strip. Otherwise it is as long as its shard from the start.
     ghost grows: { Bool };
 
-    /// Where rooms are.
+    /// The type of the places of rooms.
     ghost Places: { Type 0 };
 
-    /// Where the rooms are.
+    /// The places of the rooms in memory.
     ghost places: { Self → Places };
 
     /// The loan by which the rooms are held, or 0 if they are not lent.
@@ -49,7 +49,7 @@ pub trait Rooms {
         ensures loan { loan self.new ≡ loan self.old };
 }
 
-/// Vectors, which grow.
+/// Rooms that are vectors, and grow with each strip.
 impl Rooms for Vec<Vec<u8>> {
     ghost use Rattle.std.specs.Prelude.{map, true, ⊤};
 
@@ -69,9 +69,10 @@ impl Rooms for Vec<Vec<u8>> {
     }
 }
 
-/// Memory of the caller: slices that are as long as the shards.
+/// Rooms that are slices of the caller's memory. Each slice is as long as its shard.
 #[derive(Drop)]
 pub struct LentRooms<'a, 'b> {
+    /// The slices, one for each shard.
     pub rooms: &'a mut [&'b mut [u8]],
 }
 

@@ -1,5 +1,6 @@
-//! Decoding strip by strip. The work area has room for one strip of each shard, so it stays in the cache. A strip of each
-//! received shard goes into it, and a strip of each restored original goes from it into the rooms.
+//! Decoding strip by strip. The work area has room for one strip of each shard, so it stays in the cache. For each strip,
+//! the bytes of the received shards are copied into the work area, and the restored bytes are copied from there into the
+//! rooms.
 ghost use Rattle.std.specs.Prelude.{◌≡◌, ◌⊎◌, ◌-◌, ◌+◌, ◌≤◌, ℕ, All, true, false, length, Ok, OnOk, IfErr};
 ghost use Rattle.rs_field.specs.code.Counts.{default_rate};
 ghost use Rattle.rs_field.specs.code.Decoder.{IsDecoder, fresh_decoder, enough_given, originals_given, Restored, NoneAgrees};
@@ -19,15 +20,16 @@ use rs_rate::rate::rounds::{decode_round, lent_originals};
 use rs_rate::rate::{DefaultRateDecoder, RateDecoder};
 use std::alloc::Global;
 
-/// How many bytes of each shard are decoded at a time.
+/// The number of bytes of each shard that are decoded at a time.
 const STRIP_BYTES: usize = 2048;
 
 /// Writes the missing originals into rooms, in order of index. The store has the received shards and the rooms.
 ///
 /// # Errors
 ///
-/// - [`Error::InconsistentShards`] if no message matches all received shards. The rooms may then hold some strips.
-/// - [`Error::OutOfMemory`] if the work area cannot be allocated, or if a room cannot grow.
+/// - [`Error::OutOfMemory`] if the work area cannot be allocated.
+/// - For each strip in order: [`Error::InconsistentShards`] if no message matches all received shards, and then
+///   [`Error::OutOfMemory`] if a room cannot grow. The rooms may then hold some strips.
 pub fn decode_strips<E: Engine, S: Pieces + Rooms>(
     alloc: Global,
     engine: E,
@@ -67,7 +69,7 @@ pub fn decode_strips<E: Engine, S: Pieces + Rooms>(
     Ok(())
 }
 
-// Decodes one strip of the received shards, and writes the missing originals' strip into the rooms.
+// Decodes one strip of the received shards, and writes this strip of the missing originals into the rooms.
 fn decode_strip<E: Engine, S: Pieces + Rooms>(
     decoder: &mut DefaultRateDecoder<E>,
     start: usize,
@@ -103,7 +105,7 @@ fn decode_strip<E: Engine, S: Pieces + Rooms>(
     put_pieces(&lent_originals(decoder, restored_count), start, end, store)
 }
 
-// Adds a strip of each received original to a decoder that has no original. It never fails.
+// Adds a strip of each received original to a decoder that has no original. This never fails.
 fn add_original_pieces<E: Engine, P: Pieces>(
     decoder: &mut DefaultRateDecoder<E>,
     received: &P,
@@ -130,7 +132,7 @@ fn add_original_pieces<E: Engine, P: Pieces>(
     Ok(())
 }
 
-// Adds a strip of each received recovery shard to a decoder that has no recovery shard. It never fails.
+// Adds a strip of each received recovery shard to a decoder that has no recovery shard. This never fails.
 fn add_recovery_pieces<E: Engine, P: Pieces>(
     decoder: &mut DefaultRateDecoder<E>,
     received: &P,

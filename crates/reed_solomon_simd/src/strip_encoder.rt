@@ -1,5 +1,5 @@
-//! Encoding strip by strip. The work area has room for one strip of each shard, so it stays in the cache. A strip of each
-//! original goes into it, and a strip of each recovery shard goes from it into the rooms.
+//! Encoding strip by strip. The work area has room for one strip of each shard, so it stays in the cache. For each strip,
+//! the bytes of the originals are copied into the work area, and the recovery bytes are copied from there into the rooms.
 ghost use Rattle.std.specs.Prelude.{◌≡◌, ℕ, List, ◌-◌, ◌+◌, ◌≤◌, All, true, false, length, Ok, Err, OnOk, OnErr};
 ghost use Rattle.rs_field.specs.code.Code.{AreRecovery};
 ghost use Rattle.rs_field.specs.code.Column.{Shard};
@@ -21,7 +21,7 @@ use rs_rate::rate::rounds::{encode_round, lent_recovery};
 use rs_rate::rate::{DefaultRateCounts, DefaultRateEncoder, RateEncoder};
 use std::alloc::Global;
 
-/// How many bytes of each shard are encoded at a time.
+/// The number of bytes of each shard that are encoded at a time.
 const STRIP_BYTES: usize = 4096;
 
 /// Writes the recovery shards of originals of one size into rooms.
@@ -68,7 +68,7 @@ pub fn encode_strips<E: Engine, R: Rooms>(
     Ok(())
 }
 
-// Encodes one strip of the originals, and writes the recovery shards' strip into the rooms.
+// Encodes one strip of the originals, and writes this strip of the recovery shards into the rooms.
 fn encode_strip<E: Engine, R: Rooms>(
     encoder: &mut DefaultRateEncoder<E>,
     originals: &[&[u8]],

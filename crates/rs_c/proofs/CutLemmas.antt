@@ -1,4 +1,4 @@
--- Shards that are cut from a buffer, and a piece that is written into one of them.
+-- Lemmas about the shards that a buffer is cut into, and about a piece that is written into one of these shards.
 use Rattle.std.proofs.Common.{◌≡◌, ℕ, zero, suc, ◌+◌, ◌-◌, ◌*◌, ◌<◌, ◌≤◌, List, [], ◌∷◌, ◌++◌, length, take, drop, get_or, refl, sym, ap, ap₂, ◌∙◌, inl, inr, arith, All}
 use Rattle.std.proofs.Math.Nat.{suc-mul, mul-le-mul_right}
 use Rattle.std.proofs.Math.Seq.{take-append-add}
@@ -7,12 +7,12 @@ use Rattle.std.proofs.lemmas.List.{append_assoc, length-append, length-take-le, 
 use Rattle.std.proofs.lemmas.List.Elements.{All-cons}
 use Rattle.rs_c.specs.Buffers.{shards_in_buffer, concatenation}
 
--- cutting a buffer into n shards gives n shards
+-- Cutting a buffer into n shards gives n shards.
 pub cut-length : (n size : ℕ) (bytes : List ℕ) → length (shards_in_buffer n size bytes) ≡ n
 cut-length zero size bytes = refl
 cut-length (suc n) size bytes = ap suc (cut-length n size (drop size bytes))
 
--- shard i of a buffer that is cut has the bytes from i times the size on
+-- Shard i of a buffer consists of the bytes from i times the size on.
 pub cut-at : (n size : ℕ) (bytes : List ℕ) (i : ℕ) → i < n → get_or (shards_in_buffer n size bytes) i [] ≡ take size (drop (i * size) bytes)
 cut-at zero size bytes i inside = absurd (let no : ⊥ = omega (arith, inside) in no)
 cut-at (suc n) size bytes zero inside = ap (λ (m : ℕ). take size (drop m bytes)) (let e : 0 ≡ 0 * size = omega arith in e)
@@ -21,7 +21,7 @@ cut-at (suc n) size bytes (suc i) inside =
     cut-at n size (drop size bytes) i (omega (arith, inside))
     ∙ ap (take size) (drop-drop (i * size) size bytes ∙ ap (λ (m : ℕ). drop m bytes) (let e : size + i * size ≡ suc i * size = omega (arith, more) in e))
 
--- shards that are cut from a whole buffer are the buffer
+-- If a buffer has the length of n shards, its n shards, one after the other, are the buffer.
 pub joined-cut : (n size : ℕ) (bytes : List ℕ) → length bytes ≡ n * size → concatenation (shards_in_buffer n size bytes) ≡ bytes
 joined-cut zero size [] whole = refl
 joined-cut zero size (b ∷ bytes) whole = absurd (let no : ⊥ = omega (arith, whole) in no)
@@ -29,7 +29,7 @@ joined-cut (suc n) size bytes whole =
     let more = suc-mul n size in let left = length-drop size bytes in
     ap (λ (l : List ℕ). take size bytes ++ l) (joined-cut n size (drop size bytes) (omega (arith, whole, more, left))) ∙ take-append-drop size bytes
 
--- shards that are cut from a whole buffer have the size
+-- If a buffer has the length of n shards, each of its n shards has the shard size.
 pub cut-sized : (n size : ℕ) (bytes : List ℕ) → length bytes ≡ n * size → All (λ s. length s ≡ size) (shards_in_buffer n size bytes)
 cut-sized zero size bytes whole k d h = absurd (let no : ⊥ = omega (arith, h) in no)
 cut-sized (suc n) size bytes whole k d h =
@@ -37,11 +37,11 @@ cut-sized (suc n) size bytes whole k d h =
     All-cons (λ s. length s ≡ size) (take size bytes) (shards_in_buffer n size (drop size bytes)) (length-take-le size bytes (omega (arith, whole, more)))
     (cut-sized n size (drop size bytes) (omega (arith, whole, more, left))) k d h
 
--- whole buffers of the same shards are the same
+-- If two buffers have the length of n shards and the same n shards, they are equal.
 pub cut-same : (n size : ℕ) (one other : List ℕ) → length one ≡ n * size → length one ≡ length other → shards_in_buffer n size one ≡ shards_in_buffer n size other → one ≡ other
 cut-same n size one other whole long same = sym (joined-cut n size one whole) ∙ ap concatenation same ∙ joined-cut n size other (sym long ∙ whole)
 
--- a shard that is long enough for some bytes lies in the buffer that far
+-- If shard i has room for m bytes from byte `start` on, these bytes are inside the buffer.
 pub room-inside : (size i start m whole : ℕ) (bytes : List ℕ) → 0 < m → start + m ≤ whole → length (take size (drop (i * size) bytes)) ≡ whole
     → (start + m ≤ size) × (i * size + start + m ≤ length bytes)
 room-inside size i start m whole bytes some fits is =
@@ -57,21 +57,21 @@ room-inside size i start m whole bytes some fits is =
     ]
 
 module _ (size i start : ℕ) (bytes piece : List ℕ) (fits : start + length piece ≤ size) (inside : i * size + start + length piece ≤ length bytes) where
-  -- the buffer with the piece
+  -- the buffer after the piece was written
   abbrev with_piece : List ℕ
   with_piece = take (i * size + start) bytes ++ (piece ++ drop (i * size + start + length piece) bytes)
 
   front : length (take (i * size + start) bytes) ≡ i * size + start
   front = length-take-le (i * size + start) bytes (omega (arith, inside))
 
-  -- it is as long as before
+  -- Writing the piece does not change the length of the buffer.
   pub put-long : length with_piece ≡ length bytes
   put-long =
       let back = length-drop (i * size + start + length piece) bytes in
       let middle = length-append piece (drop (i * size + start + length piece) bytes) in
       length-append (take (i * size + start) bytes) (piece ++ drop (i * size + start + length piece) bytes) ∙ omega (arith, front, back, middle, inside)
 
-  -- from the shard on
+  -- the bytes of the new buffer from shard i on
   from-shard : drop (i * size) with_piece ≡ take start (drop (i * size) bytes) ++ (piece ++ drop (start + length piece) (drop (i * size) bytes))
   from-shard =
       drop-append-le (i * size) (take (i * size + start) bytes) (piece ++ drop (i * size + start + length piece) bytes) (omega (arith, front))
@@ -79,7 +79,7 @@ module _ (size i start : ℕ) (bytes piece : List ℕ) (fits : start + length pi
       (ap (λ (m : ℕ). drop m bytes) (let e : i * size + start + length piece ≡ i * size + (start + length piece) = omega arith in e)
       ∙ sym (drop-drop (start + length piece) (i * size) bytes))
 
-  -- the shard
+  -- Shard i of the new buffer is the old shard i with the piece written into it.
   pub put-here : take size (drop (i * size) with_piece)
       ≡ take start (take size (drop (i * size) bytes)) ++ (piece ++ drop (start + length piece) (take size (drop (i * size) bytes)))
   put-here =
@@ -97,7 +97,7 @@ module _ (size i start : ℕ) (bytes piece : List ℕ) (fits : start + length pi
       ∙ ap₂ (λ (a b : List ℕ). a ++ (piece ++ b)) (sym (take-take start size own (omega (arith, fits))))
       (sym (ap (λ (m : ℕ). drop (start + length piece) (take m own)) (sym whole) ∙ drop-take (start + length piece) rest own))
 
-  -- another shard
+  -- Each other shard is unchanged.
   pub put-other : (j : ℕ) → (j ≡ i → ⊥) → take size (drop (j * size) with_piece) ≡ take size (drop (j * size) bytes)
   put-other j other = elim (cases_order j i) [
     | inl same ↦ absurd (other same)

@@ -1,4 +1,4 @@
--- Indexes of marks that are 0, and the places of their shards in a buffer.
+-- Lemmas about the indexes of marks that are 0, and about the places of their shards in a buffer.
 use Rattle.std.proofs.Common.{◌≡◌, ℕ, zero, suc, ◌+◌, ◌*◌, ◌<◌, ◌≤◌, Bool, cond, List, [], ◌∷◌, ◌++◌, length, map, take, drop, get_or, refl, sym, ap, ◌∙◌, inl, inr, arith}
 use Rattle.std.proofs.Math.Nat.{suc-mul}
 use Rattle.std.proofs.lemmas.Bool.{cases_eq, cases_order, eq-eqb, ne_eqb}
@@ -8,7 +8,7 @@ use Rattle.rs_field.specs.code.Given.{Shards}
 use Rattle.rs_c.specs.Buffers.{lost_indexes, shard_place, with_restored}
 use Rattle.rs_c.proofs.MarkedLemmas.{present}
 
--- each mark is 0, or is counted
+-- The number of lost indexes and the number of marks that are not 0 add up to the number of marks.
 pub lost-count : (i : ℕ) (marks : List ℕ) → length (lost_indexes i marks) + present marks ≡ length marks
 lost-count i [] = refl
 lost-count i (mark ∷ marks) = elim (cases_eq mark 0) [
@@ -16,7 +16,7 @@ lost-count i (mark ∷ marks) = elim (cases_eq mark 0) [
   | inr kept ↦ let others = lost-count (i + 1) marks in rw (ne_eqb mark 0 kept) (omega (arith, others))
 ]
 
--- a mark that is 0 is the next lost index
+-- If mark i is 0, i is the next lost index.
 pub lost-next : (i : ℕ) (marks so_far : List ℕ) → i < length marks → get_or marks i 0 ≡ 0
     → (so_far ++ (i ∷ [])) ++ lost_indexes (i + 1) (drop (i + 1) marks) ≡ so_far ++ lost_indexes i (drop i marks)
 lost-next i marks so_far inside lost =
@@ -24,19 +24,19 @@ lost-next i marks so_far inside lost =
     ∙ ap (λ (l : List ℕ). so_far ++ l) (sym (ap (lost_indexes i) (drop_more marks i 0 inside)
     ∙ ap (λ (b : Bool). cond b (i ∷ lost_indexes (i + 1) (drop (i + 1) marks)) (lost_indexes (i + 1) (drop (i + 1) marks))) (eq-eqb (get_or marks i 0) 0 lost)))
 
--- another mark is none
+-- If mark i is not 0, i is no lost index.
 pub kept-next : (i : ℕ) (marks : List ℕ) → i < length marks → (get_or marks i 0 ≡ 0 → ⊥)
     → lost_indexes (i + 1) (drop (i + 1) marks) ≡ lost_indexes i (drop i marks)
 kept-next i marks inside kept =
     sym (ap (lost_indexes i) (drop_more marks i 0 inside)
     ∙ ap (λ (b : Bool). cond b (i ∷ lost_indexes (i + 1) (drop (i + 1) marks)) (lost_indexes (i + 1) (drop (i + 1) marks))) (ne_eqb (get_or marks i 0) 0 kept))
 
--- after the last mark all lost indexes are found
+-- After the last mark, all lost indexes are found.
 pub lost-end : (i : ℕ) (marks found : List ℕ) → length marks ≤ i → found ++ lost_indexes i (drop i marks) ≡ lost_indexes 0 marks → found ≡ lost_indexes 0 marks
 lost-end i marks found past is =
     sym (append-nil found) ∙ ap (λ (l : List ℕ). found ++ lost_indexes i l) (sym (drop_all i marks past)) ∙ is
 
--- lost index n, counted in the list, is that of a mark which is 0
+-- a lost index is the index of a mark that is 0
 abbrev IsLost : ℕ → List ℕ → ℕ → ℕ → Type 0
 IsLost i marks lost j = (lost ≡ i + j) × (j < length marks) × (get_or marks j 0 ≡ 0)
 
@@ -60,7 +60,7 @@ lost-mark i (mark ∷ marks) = elim (cases_eq mark 0) [
   | inr kept ↦ let all = lost-later i mark marks (lost_indexes (i + 1) marks) (lost-mark (i + 1) marks) in rw (ne_eqb mark 0 kept) all
 ]
 
--- numbers of a list grow
+-- each number of a list is larger than the numbers before it
 abbrev Grow : List ℕ → Type 0
 Grow indexes = (n m : ℕ) → n < m → m < length indexes → get_or indexes n 0 < get_or indexes m 0
 
@@ -69,7 +69,7 @@ grow-first i marks indexes lost grow n zero order inside = absurd (let no : ⊥ 
 grow-first i marks indexes lost grow zero (suc m) order inside = let (j, (same, below, zero_here)) = lost m (omega (arith, inside)) in omega (arith, same)
 grow-first i marks indexes lost grow (suc n) (suc m) order inside = grow n m (omega (arith, order)) (omega (arith, inside))
 
--- lost indexes grow
+-- Each lost index is larger than the lost indexes before it.
 pub lost-grow : (i : ℕ) (marks : List ℕ) → Grow (lost_indexes i marks)
 lost-grow i [] = λ n m order inside. absurd (let no : ⊥ = omega (arith, inside) in no)
 lost-grow i (mark ∷ marks) = elim (cases_eq mark 0) [
@@ -78,7 +78,7 @@ lost-grow i (mark ∷ marks) = elim (cases_eq mark 0) [
   | inr kept ↦ let all = lost-grow (i + 1) marks in rw (ne_eqb mark 0 kept) all
 ]
 
--- two numbers at different places of a list that grows are not the same
+-- If each number of a list is larger than the numbers before it, numbers at different places are different.
 pub grow-apart : (indexes : List ℕ) → Grow indexes → (n m : ℕ) → n < length indexes → m < length indexes → (n ≡ m → ⊥)
     → get_or indexes n 0 ≡ get_or indexes m 0 → ⊥
 grow-apart indexes grow n m inside there other same = elim (cases_order n m) [
@@ -87,7 +87,7 @@ grow-apart indexes grow n m inside there other same = elim (cases_order n m) [
   | inr (inr after) ↦ let less = grow m n after inside in omega (arith, less, same)
 ]
 
--- functions that agree on the list of lost indexes agree at each lost index
+-- If two functions have the same values on the list of lost indexes, they have the same value at each lost index.
 module _ {T : Type 0} (f g : ℕ → T) where
   abbrev Agree : ℕ → List ℕ → Type 0
   Agree i marks = (j : ℕ) → j < length marks → get_or marks j 0 ≡ 0 → f (i + j) ≡ g (i + j)
@@ -111,17 +111,18 @@ module _ {T : Type 0} (f g : ℕ → T) where
         agree-later i mark marks (λ zero_here. absurd (kept zero_here)) (lost-same (i + 1) marks others)
   ]
 
--- the place of a later shard, in the buffer without the first shard
+-- Place j of the buffer without its first shard is place j + 1 of the whole buffer.
 pub place-next : (size j : ℕ) (bytes : List ℕ) → shard_place size (drop size bytes) j ≡ shard_place size bytes (suc j)
 place-next size j bytes =
     let more = suc-mul j size in
     ap (take size) (drop-drop (j * size) size bytes ∙ ap (λ (m : ℕ). drop m bytes) (let e : size + j * size ≡ suc j * size = omega (arith, more) in e))
 
--- the first place
+-- Place 0 of a buffer consists of its first bytes.
 pub place-first : (size : ℕ) (bytes : List ℕ) → shard_place size bytes 0 ≡ take size bytes
 place-first size bytes = ap (λ (m : ℕ). take size (drop m bytes)) (let e : 0 * size ≡ 0 = omega arith in e)
 
--- a buffer whose places hold the restored originals, and else what the old buffer holds
+-- If each place of a buffer holds the restored original of its index, or what the old buffer holds if there is none,
+-- the buffer is the old buffer with the restored originals.
 pub with-placed : (restored : Shards) (i size n : ℕ) (old new : List ℕ) → length new ≡ n * size
     → ((j : ℕ) → j < n → shard_place size new j ≡ unwrap_or (restored (i + j)) (shard_place size old j)) → new ≡ with_restored restored i size n old
 with-placed restored i size zero old new whole each = nil_from_length new (omega (arith, whole))

@@ -11,12 +11,12 @@ use Rattle.rs_field.specs.code.OneCall.{Items, one_by_one, note_outcome, origina
 use Rattle.rs_c.specs.Answers.{all_or_refused}
 use Rattle.rs_c.specs.Buffers.{marked_shards}
 
--- how many marks aren't 0
+-- the number of marks that are not 0
 abbrev pub present : List ℕ → ℕ
 present [] = 0
 present (mark ∷ marks) = cond (not (mark == 0)) (1 + present marks) (present marks)
 
--- no more marks are not 0 than there are
+-- The number of marks that are not 0 is at most the number of marks.
 pub present-most : (marks : List ℕ) → present marks ≤ length marks
 present-most [] = omega arith
 present-most (mark ∷ marks) = by_mark (mark == 0) (present-most marks)
@@ -25,11 +25,11 @@ present-most (mark ∷ marks) = by_mark (mark == 0) (present-most marks)
     by_mark true others = omega (arith, others)
     by_mark false others = omega (arith, others)
 
--- the number of marks that aren't 0 is what `count_by` counts
+-- `count_by` counts the marks that are not 0.
 pub count-present : (marks : List ℕ) → present marks ≡ count_by (λ mark. not (mark == 0)) marks
 count-present marks = is_count_by present (λ mark. not (mark == 0)) refl (λ mark others. refl) marks
 
--- the first of the marked shards has the size
+-- The first marked shard has the shard size.
 pub marked-sized : (i size : ℕ) (marks bytes : List ℕ) (first : ℕ × Shard) (rest : Items) → length bytes ≡ length marks * size → marked_shards i size marks bytes ≡ first ∷ rest → length first.1 ≡ size
 marked-sized i size [] bytes first rest sized is = absurd (let no : ⊥ = cc in no)
 marked-sized i size (mark ∷ marks) bytes first rest sized is =
@@ -41,7 +41,7 @@ marked-sized i size (mark ∷ marks) bytes first rest sized is =
           ap (λ (item : ℕ × Shard). length item.1) (sym same) ∙ length-take-le size bytes (omega (arith, sized, more))
     ]
 
--- if a mark is not 0, the marked shards are not none
+-- If a mark is not 0, there is a marked shard.
 pub marked-some : (i size : ℕ) (marks bytes : List ℕ) → 0 < present marks → marked_shards i size marks bytes ≡ [] → ⊥
 marked-some i size [] bytes some is = omega (arith, some)
 marked-some i size (mark ∷ marks) bytes some is = elim (cases_eq mark 0) [
@@ -49,24 +49,25 @@ marked-some i size (mark ∷ marks) bytes some is = elim (cases_eq mark 0) [
   | inr kept ↦ let there = rw (ne_eqb mark 0 kept) at is in cc
 ]
 
--- no index from i on is among those given
+-- no index from i on is in the list of noted indexes
 abbrev IsBelow : ℕ → List ℕ → Type 0
 IsBelow i given = (j : ℕ) → i ≤ j → list_any (nat_eq j) given ≡ false
 
--- an index that is in range and new is noted
+-- Noting an index succeeds if the index is below k and was not noted before.
 note_outcome-next : (k i : ℕ) (given : List ℕ) → i < k → IsBelow i given → note_outcome k given i ≡ Ok (i ∷ given)
 note_outcome-next k i given inside below = rw (lt-leb k i inside, below i (omega arith)) refl
 
--- and then none from the next one on is among them
+-- If no index from i on was noted, then after i was noted no index from i + 1 on was noted.
 below-next : (i : ℕ) (given : List ℕ) → IsBelow i given → IsBelow (i + 1) (i ∷ given)
 below-next i given below j h = ap (λ (b : Bool). b || list_any (nat_eq j) given) (ne_eqb j i (λ same. omega (arith, same, h))) ∙ below j (omega (arith, h))
 
--- this many items are noted
+-- noting the indexes of these items succeeds, and `count` more indexes are noted afterwards
 abbrev NotesAll : ℕ → List ℕ → Items → ℕ → Type 0
 NotesAll k given items count =
     (all : List ℕ) × (one_by_one (λ so_far item. note_outcome k so_far item.0) given items ≡ Ok all) × (length all ≡ length given + count)
 
--- the marked originals from index i on, as many as there are marks
+-- Noting the indexes of the marked originals from index i on succeeds, and notes as many indexes as there are marks
+-- that are not 0.
 notes-all : (k i size : ℕ) (marks bytes given : List ℕ) → i + length marks ≡ k → IsBelow i given → NotesAll k given (marked_shards i size marks bytes) (present marks)
 notes-all k i size [] bytes given ends below = (given, refl, omega arith)
 notes-all k i size (mark ∷ marks) bytes given ends below = elim (cases_eq mark 0) [
@@ -76,7 +77,7 @@ notes-all k i size (mark ∷ marks) bytes given ends below = elim (cases_eq mark
       rw (ne_eqb mark 0 kept) (others.0, rw (note_outcome-next k i given (omega (arith, ends)) below) others.1, others.2 ∙ omega arith)
 ]
 
--- whether all marked originals are given, by the number of marks
+-- The check that all originals are given returns a result that depends only on the number of marks that are not 0.
 pub originals_alone-marked : (k size : ℕ) (marks bytes : List ℕ) → length marks ≡ k
     → originals_alone k (marked_shards 0 size marks bytes) ≡ all_or_refused k (count_by (λ mark. not (mark == 0)) marks)
 originals_alone-marked k size marks bytes many =

@@ -1,4 +1,4 @@
--- The state of a decoder to which the marked shards of two buffers were added.
+-- Lemmas about the state of a decoder to which the marked shards of two buffers were added.
 use Rattle.std.proofs.Common.{◌≡◌, ℕ, zero, suc, ◌+◌, ◌*◌, ◌<◌, ◌≤◌, ◌==◌, Bool, true, false, not, cond, List, [], ◌∷◌, ◌++◌, length, map, take, drop, get_or, All, Result, Ok, Err, Some, None, refl, sym, ap, ap₂, subst, ◌∙◌, inl, inr, arith}
 use Rattle.std.specs.Prelude.{◌⊎◌, OnOk, IfErr, MatchResult, nat_lt, is_some, unwrap_or}
 use Rattle.std.proofs.Math.Path.{fun_ext}
@@ -29,15 +29,15 @@ use Rattle.rs_c.proofs.LostLemmas.{lost-mark, place-first, place-next}
 
 -- ---- marked shards by their index
 
--- a mark that is 0 has no shard
+-- If the mark of an index is 0, the map of the marked shards has no shard at this index.
 pub map-lost : (size : ℕ) (marks bytes : List ℕ) (i : ℕ) → get_or marks i 0 ≡ 0 → marked_map size marks bytes i ≡ None
 map-lost size marks bytes i lost = rw (eq-eqb (get_or marks i 0) 0 lost) refl
 
--- another mark has the shard in its place
+-- If the mark of an index is not 0, the map of the marked shards has the shard that is in the place with this index.
 pub map-kept : (size : ℕ) (marks bytes : List ℕ) (i : ℕ) → (get_or marks i 0 ≡ 0 → ⊥) → marked_map size marks bytes i ≡ Some (shard_place size bytes i)
 map-kept size marks bytes i kept = rw (ne_eqb (get_or marks i 0) 0 kept) refl
 
--- a place lies in its buffer
+-- A place whose index is below the number of shards is as long as a shard.
 pub place-long : (size : ℕ) (bytes : List ℕ) (count i : ℕ) → length bytes ≡ count * size → i < count → length (shard_place size bytes i) ≡ size
 place-long size bytes count i whole inside =
     let more = suc-mul i size in
@@ -45,7 +45,7 @@ place-long size bytes count i whole inside =
     let left = length-drop (i * size) bytes in
     length-take-le size (drop (i * size) bytes) (omega (arith, left, whole, below, more))
 
--- the bytes of a place
+-- Each byte of a place is below 256.
 pub place-bytes : (size : ℕ) (bytes : List ℕ) (i : ℕ) → All (λ b. b < 256) bytes → length (shard_place size bytes i) ≡ size → All (λ b. b < 256) (shard_place size bytes i)
 place-bytes size bytes i all long k d inside =
     let below : k < size = omega (arith, inside, long) in
@@ -60,7 +60,7 @@ place-bytes size bytes i all long k d inside =
         let cut = length-take size (drop (i * size) bytes) in
         absurd (let no : ⊥ = omega (arith, left, cut, past, inside) in no)
 
--- marked shards are within the bounds of their buffer
+-- Each marked shard has an index below the number of shards, the shard size, and bytes below 256.
 pub map-within : (count size : ℕ) (marks bytes : List ℕ) → length marks ≡ count → length bytes ≡ count * size → All (λ b. b < 256) bytes
     → AreWithin count size (marked_map size marks bytes)
 map-within count size marks bytes number whole all =
@@ -79,7 +79,7 @@ map-within count size marks bytes number whole all =
       | inr past ↦ absurd (kept (get_or_past marks i 0 (omega (arith, past, number))))
     ]
 
--- a piece that is written into the place of a lost shard changes no marked shard
+-- Writing a piece into the place of a lost shard changes no marked shard.
 pub map-put : (size i start : ℕ) (marks bytes piece : List ℕ) → start + length piece ≤ size → i * size + start + length piece ≤ length bytes → get_or marks i 0 ≡ 0
     → marked_map size marks (take (i * size + start) bytes ++ (piece ++ drop (i * size + start + length piece) bytes)) ≡ marked_map size marks bytes
 map-put size i start marks bytes piece fits inside lost = fun_ext (λ j. elim (cases_eq j i) [
@@ -89,7 +89,7 @@ map-put size i start marks bytes piece fits inside lost = fun_ext (λ j. elim (c
   | inr other ↦ ap (λ (x : Shard). cond (get_or marks j 0 == 0) None (Some x)) (put-other size i start bytes piece fits inside j other)
 ])
 
--- the places of lost originals are as long as a shard
+-- The place of each lost original is as long as a shard.
 pub lost-long : (size count : ℕ) (marks bytes : List ℕ) → length marks ≡ count → length bytes ≡ count * size
     → All (λ room. length room ≡ size) (map (λ i. shard_place size bytes i) (lost_indexes 0 marks))
 lost-long size count marks bytes number whole n d inside =
@@ -99,7 +99,7 @@ lost-long size count marks bytes number whole n d inside =
     ap length (get_or-map (λ (i : ℕ). shard_place size bytes i) (lost_indexes 0 marks) n 0 d there)
     ∙ place-long size bytes count (get_or (lost_indexes 0 marks) n 0) whole (omega (arith, same, below, number))
 
--- ---- how many there are
+-- ---- the number of marked shards
 
 count-front : (n : ℕ) (given : Shards) → count_below (suc n) given ≡ cond (is_some (given 0)) 1 0 + count_below n (λ i. given (suc i))
 count-front zero given =
@@ -110,7 +110,8 @@ count-front (suc n) given =
     let back = count_below-suc n (λ i. given (suc i)) in
     count_below-suc (suc n) given ∙ omega (arith, front, back)
 
--- as many as marks that are not 0
+-- If a map has a shard exactly at the indexes whose marks are not 0, the number of its shards is the number of marks
+-- that are not 0.
 pub map-count : (marks : List ℕ) (given : Shards) → ((j : ℕ) → j < length marks → is_some (given j) ≡ not (get_or marks j 0 == 0))
     → count_below (length marks) given ≡ present marks
 map-count [] given each = count_below-zero given
@@ -131,21 +132,22 @@ map-some size marks bytes j = by_mark (get_or marks j 0 == 0)
     by_mark true = refl
     by_mark false = refl
 
--- as many originals are given as marks of originals are not 0
+-- The number of given originals is the number of marks of originals that are not 0.
 pub marked-originals : (k r size : ℕ) (own originals other recovery : List ℕ) → length own ≡ k → originals_given (marked_state k r size own originals other recovery) ≡ present own
 marked-originals k r size own originals other recovery number =
     ap (λ (n : ℕ). count_below n (marked_map size own originals)) (sym number)
     ∙ map-count own (marked_map size own originals) (λ j inside. map-some size own originals j)
 
--- as many recovery shards are given as marks of recovery shards are not 0
+-- The number of given recovery shards is the number of marks of recovery shards that are not 0.
 pub marked-recovery : (k r size : ℕ) (own originals other recovery : List ℕ) → length other ≡ r → recovery_given (marked_state k r size own originals other recovery) ≡ present other
 marked-recovery k r size own originals other recovery number =
     ap (λ (n : ℕ). count_below n (marked_map size other recovery)) (sym number)
     ∙ map-count other (marked_map size other recovery) (λ j inside. map-some size other recovery j)
 
--- ---- one call over the marked shards
+-- ---- one call for the marked shards
 
--- adding marked shards in order, one after another, adds the map
+-- Adding the marked shards one after another, in order, leads to the state whose shards are the map of the marked
+-- shards.
 module _ (put : Shards → DecoderState) (add : DecoderState → ℕ × Shard → Result DecoderState Error) (size : ℕ) (given : Shards) (count : ℕ)
     (taken : (n : ℕ) (shard : Shard) → given n ≡ Some shard → length shard ≡ size → n < count → add (put (first n given)) (n, shard) ≡ Ok (put (first (n + 1) given))) where
   pub marked-added : (n : ℕ) (marks bytes : List ℕ) → length bytes ≡ length marks * size → n + length marks ≤ count
@@ -180,7 +182,7 @@ module _ (put : Shards → DecoderState) (add : DecoderState → ℕ × Shard �
 
 module _ (k r size : ℕ) (own originals other recovery : List ℕ) (own_number : length own ≡ k) (other_number : length other ≡ r)
     (own_whole : length originals ≡ k * size) (other_whole : length recovery ≡ r * size) where
-  -- both buffers' shards are added, and none is refused
+  -- Adding the marked shards of both buffers to a decoder succeeds.
   both-added : with_both (fresh_decoder (default_of k r size)) (marked_shards 0 size own originals) (marked_shards 0 size other recovery)
       ≡ Ok (marked_state k r size own originals other recovery)
   both-added =
@@ -206,7 +208,7 @@ module _ (k r size : ℕ) (own originals other recovery : List ℕ) (own_number 
       (first-all (0 + length other) other_map (λ i past. map-lost size other recovery i (get_or_past other i 0 (omega (arith, past))))) in
       ap (result_and_then (λ now. with_recoveries now (marked_shards 0 size other recovery))) one ∙ two
 
-  -- the state is one that a decoder can have
+  -- A decoder can have this state.
   pub marked-decoder : All (λ b. b < 256) originals → All (λ b. b < 256) recovery → start_outcome (decoder_rows default_rate k r) (default_of k r size) ≡ Ok tt
       → IsDecoder default_rate (marked_state k r size own originals other recovery)
   marked-decoder own_bytes other_bytes made =
@@ -219,7 +221,7 @@ module _ (k r size : ℕ) (own originals other recovery : List ℕ) (own_number 
         recovery_within = map-within r size other recovery other_number other_whole other_bytes;
       }
 
-  -- if a recovery shard is marked, one call looks at the first one
+  -- If a recovery shard is marked, there is a first marked recovery shard, and it has the shard size.
   module _ (some : 0 < present other) where
     first-marked : (first : ℕ × Shard) × (rest : Items) × (marked_shards 0 size other recovery ≡ first ∷ rest) × (length first.1 ≡ size)
     first-marked = by_items (marked_shards 0 size other recovery) refl
@@ -229,7 +231,8 @@ module _ (k r size : ℕ) (own originals other recovery : List ℕ) (own_number 
         by_items [] is = absurd (marked-some 0 size other recovery some is)
         by_items (item ∷ items) is = (item, items, is, marked-sized 0 size other recovery item items (other_whole ∙ ap (λ (n : ℕ). n * size) (sym other_number)) is)
 
-    -- one call leads to the state, or returns the error of setting up a decoder
+    -- One call adds the marked shards to a decoder, which leads to this state, or fails with the error of setting up
+    -- the decoder.
     pub marked-led : (o : Result (Unit {0}) Error) → start_outcome (decoder_rows default_rate k r) (default_of k r size) ≡ o
         → IsDecoding k r (marked_shards 0 size own originals) (marked_shards 0 size other recovery)
         (result_and_then (λ _. Ok (Some (marked_state k r size own originals other recovery))) o)
@@ -251,17 +254,18 @@ module _ (k r size : ℕ) (own originals other recovery : List ℕ) (own_number 
         by_outcome items (Ok u) both = ap (result_and_then (λ s. Ok (Some s))) both
         by_outcome items (Err e) both = refl
 
--- ---- how many shards the marks of a struct of buffers count
+-- ---- the number of shards in a struct of buffers
 
--- as many originals as their marks that are not 0
+-- The number of given originals is the number of marks of originals that are not 0, for a struct of buffers.
 pub originals-counted : (x : MarkedBuffers) → originals_given (state_in x) ≡ present x.original_marks.now
 originals-counted x = marked-originals x.counts.original_count x.counts.recovery_count x.size x.original_marks.now x.originals.now x.recovery_marks.now x.recovery.now x.originals_number
 
--- as many recovery shards as their marks that are not 0
+-- The number of given recovery shards is the number of marks of recovery shards that are not 0, for a struct of
+-- buffers.
 pub recovery-counted : (x : MarkedBuffers) → recovery_given (state_in x) ≡ present x.recovery_marks.now
 recovery-counted x = marked-recovery x.counts.original_count x.counts.recovery_count x.size x.original_marks.now x.originals.now x.recovery_marks.now x.recovery.now x.recovery_number
 
--- whether shards are enough, by the numbers of marks
+-- The check that enough shards were given, in terms of the numbers of marks that are not 0.
 pub enough-marked : (x : MarkedBuffers) (own other : ℕ) → own ≡ present x.original_marks.now → other ≡ present x.recovery_marks.now
     → enough_given (state_in x)
     ≡ cond (nat_lt (own + other) x.counts.original_count) (Err (NotEnoughShards x.counts.original_count own other)) (Ok tt)
@@ -269,7 +273,7 @@ enough-marked x own other own_is other_is =
     ap₂ (λ (a b : ℕ). cond (nat_lt (a + b) x.counts.original_count) (Err (NotEnoughShards x.counts.original_count a b)) (Ok tt))
     (originals-counted x ∙ sym own_is) (recovery-counted x ∙ sym other_is)
 
--- what a call does if it succeeds, and what it does if it fails, together
+-- A fact about the successes of a call and a fact about its errors, as one fact about its result.
 pub both-outcomes : (P : Type 0) (Q : Error → Type 0) (result : Result (Unit {0}) Error) → OnOk result P → IfErr result Q → MatchResult result (λ _. P) Q
 both-outcomes P Q (Ok u) done failed = done
 both-outcomes P Q (Err e) done failed = failed

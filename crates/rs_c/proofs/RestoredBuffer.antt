@@ -1,4 +1,4 @@
--- A buffer whose lost originals were restored in their places.
+-- Lemmas about a buffer whose lost originals were restored in their places.
 use Rattle.std.proofs.Common.{◌≡◌, ℕ, suc, ◌+◌, ◌*◌, ◌<◌, ◌==◌, ◌&&◌, Bool, true, false, not, cond, List, [], ◌∷◌, ◌++◌, length, map, get_or, Option, Some, None, Result, Ok, Err, MatchResult, refl, sym, ap, ap₂, ◌∙◌, inl, inr, arith}
 use Rattle.std.specs.Prelude.{◌⊎◌, OnErr, is_some, unwrap_or}
 use Rattle.std.proofs.lemmas.Bool.{cases_eq, eq-eqb, ne_eqb, lt-ltb}
@@ -54,14 +54,15 @@ lost-listed out message i (mark ∷ marks) each =
 
 module _ (k r size : ℕ) (own originals other recovery new : List ℕ) (own_number : length own ≡ k) (own_whole : length originals ≡ k * size)
     (long : length new ≡ length originals) (kept : marked_map size own new ≡ marked_map size own originals) where
-  -- The place of an original whose mark is not 0 is not changed.
+  -- The place of an original whose mark is not 0 is unchanged.
   place-kept : (j : ℕ) → (get_or own j 0 ≡ 0 → ⊥) → shard_place size new j ≡ shard_place size originals j
   place-kept j marked =
       let both : Some (shard_place size new j) ≡ Some (shard_place size originals j) =
       sym (map-kept size own new j marked) ∙ ap (λ (m : Shards). m j) kept ∙ map-kept size own originals j marked in
       ap (λ o. unwrap_or o (shard_place size new j)) both
 
-  -- A message's missing shard at an index, by the mark.
+  -- The missing shard of a message at an index is the shard of the message if the mark is 0, and there is none
+  -- otherwise.
   missing-mark : (message : List Shard) (j : ℕ) → j < k
       → missing_of (marked_state k r size own originals other recovery) message j ≡ cond (get_or own j 0 == 0) (Some (shard_at message j)) None
   unfolding missing_of
@@ -75,7 +76,8 @@ module _ (k r size : ℕ) (own originals other recovery new : List ℕ) (own_num
       by_mark true = refl
       by_mark false = refl
 
-  -- If the places of the lost originals hold what is restored, the buffer is the one with the restored originals.
+  -- If the places of the lost originals hold the restored originals, the whole buffer is the old buffer with the
+  -- restored originals.
   pub buffer-restored : (holds : HoldRestored (marked_state k r size own originals other recovery) (map (λ i. shard_place size new i) (lost_indexes 0 own)))
       → new ≡ with_restored holds.out 0 size k originals
   buffer-restored holds =
@@ -107,7 +109,7 @@ module _ (k r size : ℕ) (own originals other recovery new : List ℕ) (own_num
             ∙ sym (ap (λ (o : Option Shard). unwrap_or o (shard_place size originals j)) (rw (ne_eqb (get_or own j 0) 0 marked) at here))
       ])
 
-  -- If the places of the lost originals hold what they held, the buffer is not changed.
+  -- If the places of the lost originals are unchanged, the whole buffer is unchanged.
   pub buffer-same : map (λ i. shard_place size new i) (lost_indexes 0 own) ≡ map (λ i. shard_place size originals i) (lost_indexes 0 own) → new ≡ originals
   buffer-same same =
       with-placed nothing 0 size k originals new (long ∙ own_whole) (λ j inside.
@@ -121,7 +123,7 @@ module _ (k r size : ℕ) (own originals other recovery new : List ℕ) (own_num
       ])
       ∙ with-nothing 0 size k originals own_whole
 
--- ---- what one call returns for the marked shards
+-- ---- the result of one call for the marked shards
 
 module _ (k r size : ℕ) (own other originals recovery : List ℕ) (own_number : length own ≡ k) (other_number : length other ≡ r)
     (own_whole : length originals ≡ k * size) (other_whole : length recovery ≡ r * size) (some : 0 < present other) where
@@ -136,12 +138,12 @@ module _ (k r size : ℕ) (own other originals recovery : List ℕ) (own_number 
     leads : IsDecoding k r (marked_shards 0 size own originals) (marked_shards 0 size other recovery) (Ok (Some (marked_state k r size own originals other recovery)))
     leads = marked-led k r size own originals other recovery own_number other_number own_whole other_whole some (Ok tt) made
 
-    -- If memory cannot be allocated, one call may return that.
+    -- One call may fail with `OutOfMemory`.
     pub short-answers : (e : Error) → e ≡ OutOfMemory → OneDecodeAnswers k r (marked_shards 0 size own originals) (marked_shards 0 size other recovery) (Err e)
     short-answers e lacks =
         decoding-answered k r (marked_shards 0 size own originals) (marked_shards 0 size other recovery) (marked_state k r size own originals other recovery) leads (Err e) (inr (ap Err lacks))
 
-    -- One call returns what restoring into the buffer returns.
+    -- The result of restoring into the buffer is a result of one call.
     pub restored-answers : (rooms : List Shard) (result : Result (Unit {0}) Error)
         → MatchResult (enough_given (marked_state k r size own originals other recovery))
         (λ _. MatchResult result (λ _. HoldRestored (marked_state k r size own originals other recovery) rooms)
@@ -165,7 +167,8 @@ module _ (k r size : ℕ) (own other originals recovery : List ℕ) (own_number 
             let is : e ≡ f = cc in
             decoding-few k r _ _ (marked_state k r size own originals other recovery) leads e (ap Err is ∙ sym few)
 
-    -- What restoring into the buffer does: it restores, or it fails as one call does, or memory cannot be allocated.
+    -- the result of restoring into the buffer: it restores the originals, or it fails with an error of one call, or
+    -- with `OutOfMemory`
     abbrev Restores : List Shard → Result (Unit {0}) Error → Type 0
     Restores rooms result =
         MatchResult (enough_given (marked_state k r size own originals other recovery))
@@ -183,7 +186,7 @@ module _ (k r size : ℕ) (own other originals recovery : List ℕ) (own_number 
     done-answers rooms (inl does) = restored-answers rooms (Ok tt) does
     done-answers rooms (inr lacks) = absurd (let no : ⊥ = cc in no)
 
--- ---- a struct of buffers that was changed in the places of lost originals alone
+-- ---- a struct of buffers in which only the places of lost originals were changed
 
 module _ (k r size : ℕ) (own originals other recovery lost : List ℕ) (y : MarkedBuffers)
     (same : besides_rooms y ≡ (marked_state k r size own originals other recovery, own, lost, length originals)) where
@@ -196,17 +199,17 @@ module _ (k r size : ℕ) (own originals other recovery lost : List ℕ) (y : Ma
       ap (λ (n : ℕ). map (λ i. shard_place n y.originals.now i) y.lost.now) size-same
       ∙ ap (λ (l : List ℕ). map (λ i. shard_place size y.originals.now i) l) (ap (λ t. t.2) same ∙ listed)
 
-  -- The marked originals are not changed.
+  -- The marked originals are unchanged.
   pub marked-same : marked_map size own y.originals.now ≡ marked_map size own originals
   marked-same =
       ap₂ (λ (n : ℕ) (marks : List ℕ). marked_map n marks y.originals.now) (sym size-same) (sym (ap (λ t. t.1) same))
       ∙ ap (λ t. t.0.originals) same
 
-  -- The buffer is as long as before.
+  -- The length of the buffer is unchanged.
   pub length-same : length y.originals.now ≡ length originals
   length-same = ap (λ t. t.3) same
 
--- What follows from what a call does if it fails.
+-- If P implies Q and P holds whenever a call fails, Q holds whenever the call fails.
 pub was-done-err : {P Q : Type 0} (result : Result (Unit {0}) Error) → (P → Q) → OnErr result P → OnErr result Q
 was-done-err (Ok u) then done = done
 was-done-err (Err e) then done = then done

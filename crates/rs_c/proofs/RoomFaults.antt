@@ -1,4 +1,4 @@
--- The results of calls of the library over rooms, in terms of faults.
+-- The results of calls that write into rooms, with each error replaced by its fault.
 use Rattle.std.proofs.Common.{◌≡◌, ℕ, ◌==◌, Bool, true, false, cond, List, [], ◌∷◌, length, map, Result, Ok, Err, MatchResult, MutBor, refl, sym, ap, subst, ◌∙◌}
 use Rattle.rs_field.specs.declared.code.error.Error.{Error}
 use Rattle.rs_field.specs.code.Column.{Shard}
@@ -14,7 +14,7 @@ use Rattle.rs_c.specs.declared.fault.Fault.TheVariants.{Refused}
 use Rattle.rs_c.specs.Arrays.{EncodesArrays, DecodesArrays, Fills, rooms_fit, lengths_fit, KeepsRooms}
 use Rattle.rs_c.specs.RoomFaults.{fault_of_room}
 
--- a result in terms of faults
+-- a result whose error is replaced by its fault
 abbrev pub told : Result (Unit {0}) RoomError → Result (Unit {0}) Fault
 told (Ok u) = Ok tt
 told (Err e) = Err (fault_of_room e)
@@ -49,7 +49,7 @@ fills-told shards old new answer fills =
     by_outcome (Ok u) does = (ap told does.0, does.1)
     by_outcome (Err e) does = (ap told does.0, does.1)
 
--- an encode into rooms is one over arrays
+-- A result of `encode_into`, with its error replaced by its fault, is a result of an encode over arrays.
 pub encodes-told : (k r : ℕ) (originals : List Shard) (old new : List (List ℕ)) (answer : Result (Unit {0}) RoomError) (other : Result (Unit {0}) Fault)
     → other ≡ told answer → EncodesInto k r originals old new answer → EncodesArrays k r originals old new other
 encodes-told k r originals old new answer other is encodes =
@@ -60,7 +60,7 @@ encodes-told k r originals old new answer other is encodes =
     by_coded (Ok shards) fills = fills-told shards old new answer fills
     by_coded (Err e) does = (ap told does.0, does.1)
 
--- a decode into rooms is one over arrays
+-- A result of `decode_into`, with its error replaced by its fault, is a result of a decode over arrays.
 pub decodes-told : (k r : ℕ) (originals recovery : Items) (old new : List (List ℕ)) (answer : Result (Unit {0}) RoomError) (other : Result (Unit {0}) Fault)
     → other ≡ told answer → DecodesInto k r originals recovery old new answer → DecodesArrays k r originals recovery old new other
 decodes-told k r originals recovery old new answer other is decodes =
@@ -73,7 +73,7 @@ decodes-told k r originals recovery old new answer other is decodes =
     by_decoded (Ok restored) (items, listing, fills) = (items, listing, fills-told (map (λ (item : ℕ × Shard). item.1) items) old new answer fills)
     by_decoded (Err e) does = (ap told does.0, does.1)
 
--- rooms that are held by the same loans are where they were
+-- If the loans of the rooms are the same as before, the array still points to the same rooms.
 pub keeps-rooms : (old new : List (MutBor (List ℕ))) → loans_of new ≡ loans_of old → KeepsRooms old new
 keeps-rooms old new same = first new ∙ ap (map (λ loan. loan.0)) same ∙ sym (first old)
   where

@@ -1,15 +1,15 @@
--- Pieces of a text that are written over a room one after another.
+-- Lemmas about pieces of a text that are written into a room one after another.
 use Rattle.std.proofs.Common.{◌≡◌, ℕ, ◌+◌, ◌-◌, ◌<◌, ◌≤◌, min, List, [], ◌++◌, length, take, drop, sym, ap, subst, ◌∙◌, inl, inr, arith, append_assoc, append-nil}
 use Rattle.std.proofs.Math.Seq.{take-nil, take-append-add, take-append_seam, drop-append_seam}
 use Rattle.std.proofs.lemmas.Bool.{cases_lt}
 use Rattle.std.proofs.lemmas.List.{take_all, drop_all, take-append-le, length-append, length-take, length-drop, drop-drop}
 use Rattle.rs_c.specs.Texts.{written_over, WritesText}
 
--- before the first piece the room is as it was
+-- If nothing was written, the room is unchanged.
 pub over-nothing : (room : List ℕ) → written_over [] room ≡ room
 over-nothing room = ap (λ l. l ++ room) (take-nil (length room))
 
--- a piece that begins past the room's end isn't written
+-- A piece that begins after the end of the room changes nothing.
 pub over-past : (text piece old : List ℕ) → length old ≤ length text → written_over (text ++ piece) old ≡ written_over text old
 over-past text piece old past =
     ap (λ l. l ++ drop (length (text ++ piece)) old) (take-append-le (length old) text piece past)
@@ -17,7 +17,7 @@ over-past text piece old past =
     (drop_all (length (text ++ piece)) old (let long = length-append text piece in omega (arith, past, long))
     ∙ sym (drop_all (length text) old past))
 
--- a piece that begins inside the room is written as far as it fits
+-- A piece that begins inside the room is written as far as it fits.
 module _ (text piece old room : List ℕ) (at fits : ℕ) (sized : length text ≡ at) (is : room ≡ written_over text old)
     (inside : at < length old)
     (fit : fits ≡ min (length piece) (length old - at)) where
@@ -60,16 +60,16 @@ module _ (text piece old room : List ℕ) (at fits : ℕ) (sized : length text �
       ∙ ap (λ n. take (length old) (text ++ piece) ++ drop n old)
       (let long = length-append text piece in omega (arith, sized, long))
 
--- a text with one more piece ends where the piece does
+-- A text followed by a piece is as long as both together.
 pub longer : (text piece : List ℕ) (at end : ℕ) → length text ≡ at → end ≡ at + length piece
     → length (text ++ piece) ≡ end
 longer text piece at end sized is = length-append text piece ∙ ap (λ n. n + length piece) sized ∙ sym is
 
--- no words at the end of a text change nothing
+-- Empty words at the end of a text change nothing.
 pub ended : (text old new : List ℕ) (told : ℕ) → WritesText (text ++ []) old new told → WritesText text old new told
 ended text old new told writes = subst (λ whole. WritesText whole old new told) (append-nil text) writes
 
--- a room keeps its length
+-- Writing a text into a room does not change the length of the room.
 pub length-over : (text old : List ℕ) → length (written_over text old) ≡ length old
 length-over text old =
     let front = length-take (length old) text in

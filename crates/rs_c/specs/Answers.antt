@@ -1,4 +1,4 @@
--- What the calls over buffers return and write.
+-- The results of the calls over buffers, and the bytes that they write.
 use Rattle.std.specs.Prelude.{◌≡◌, ◌≢◌, ℕ, ◌+◌, ◌==◌, not, count_by, List, take, drop, length, nat_lt, if◌then◌else◌, Result, Ok, Err, MatchResult}
 use Rattle.rs_field.specs.declared.code.error.Error.{Error}
 use Rattle.rs_field.specs.declared.code.error.Error.TheVariants.{NotEnoughShards, OutOfMemory}
@@ -16,24 +16,28 @@ abbrev pub Writes : {T : Type 0} → Result T Error → (T → List ℕ) → Lis
 Writes outcome bytes old new answer =
     MatchResult outcome (λ x. (answer ≡ Ok tt) × (new ≡ bytes x)) (λ e. (answer ≡ Err (Refused e)) × (new ≡ old))
 
--- the refusals of an encode that the library doesn't come to: the counts, then the lengths of originals and of recovery shards
+-- the result of the checks of an encode over buffers that come before the library is called: first the counts, then the
+-- length of the originals, then the length of the recovery shards
 abbrev pub encode_lengths : ℕ → ℕ → ℕ → ℕ → ℕ → Result (Unit {0}) Fault
 encode_lengths k r size originals recovery =
     result_and_then (λ _. result_and_then (λ _. length_outcome r size recovery) (length_outcome k size originals)) (as_fault (counts_outcome k r))
 
--- what `rs_encode` returns and writes: if counts and lengths are right, the result of one-call `encode` for these shards, one shard after the other
+-- the result of `rs_encode` and the bytes that it writes. If the counts and lengths are right, this is the result of
+-- one-call `encode` for these shards, one recovery shard after the other
 abbrev pub EncodesBuffer : ℕ → ℕ → ℕ → List ℕ → List ℕ → List ℕ → Result (Unit {0}) Fault → Type 0
 EncodesBuffer k r size originals old new answer =
     MatchResult (encode_lengths k r size (length originals) (length old))
     (λ _. (coded : Result (List Shard) Error) × OneEncodeAnswers k r (shards_in_buffer k size originals) coded × Writes coded concatenation old new answer)
     (λ fault. (answer ≡ Err fault) × (new ≡ old))
 
--- the refusals of a decode that the library doesn't come to: the counts, then the lengths of originals, of recovery shards and of marks
+-- the result of the checks of a decode over buffers that come before the library is called: first the counts, then the
+-- lengths of the originals, of the recovery shards and of the marks
 abbrev pub decode_lengths : ℕ → ℕ → ℕ → ℕ → ℕ → ℕ → Result (Unit {0}) Fault
 decode_lengths k r size originals recovery marks =
     result_and_then (λ _. length_outcome (k + r) 1 marks) (encode_lengths k r size originals recovery)
 
--- what `rs_decode` returns and writes: if counts and lengths are right, the result of one-call `decode` for the marked shards, each restored original in its place
+-- the result of `rs_decode` and the bytes that it writes. If the counts and lengths are right, this is the result of
+-- one-call `decode` for the marked shards, with each restored original in its place
 abbrev pub DecodesBuffer : ℕ → ℕ → ℕ → List ℕ → List ℕ → List ℕ → List ℕ → Result (Unit {0}) Fault → Type 0
 DecodesBuffer k r size marks recovery old new answer =
     MatchResult (decode_lengths k r size (length old) (length recovery) (length marks))
@@ -41,14 +45,14 @@ DecodesBuffer k r size marks recovery old new answer =
     × Writes decoded (λ restored. with_restored restored 0 size k old) old new answer)
     (λ fault. (answer ≡ Err fault) × (new ≡ old))
 
--- how many shards are there, by their marks
+-- the number of marks that are not 0
 abbrev pub marked_number : List ℕ → ℕ
 marked_number marks = count_by (λ mark. not (mark == 0)) marks
 
--- a decode with this many recovery shards doesn't lack memory if they are none
+-- a decode does not fail with `OutOfMemory` if the number of recovery shards is 0
 abbrev pub WantsNoMemory : ℕ → Result (Unit {0}) Fault → Type 0
 WantsNoMemory number answer = number ≡ 0 → answer ≢ Err (Refused OutOfMemory)
 
--- the result of a decode without recovery shards that was given so many of the k originals
+-- the result of a decode without recovery shards that received `given` of the k originals
 abbrev pub all_or_refused : ℕ → ℕ → Result (Unit {0}) Error
 all_or_refused k given = if nat_lt given k then Err (NotEnoughShards k given 0) else Ok tt

@@ -1,4 +1,4 @@
--- Shards anywhere, and rooms for those that are written.
+-- Shards anywhere in memory, and rooms for the shards that a call writes.
 use Rattle.std.specs.Prelude.{◌≡◌, ℕ, ◌==◌, List, [], ◌∷◌, length, map, if◌then◌else◌, Result, Ok, Err, MatchResult}
 use Rattle.std.specs.Borrow.{Bor, MutBor}
 use Rattle.rs_field.specs.declared.code.error.Error.{Error}
@@ -10,49 +10,52 @@ use Rattle.rs_c.specs.declared.fault.Fault.{Fault}
 use Rattle.rs_c.specs.declared.fault.Fault.TheVariants.{Refused, WrongLength, WrongNumberOfRooms}
 use Rattle.rs_c.specs.declared.layouts.RsShard.{RsShard}
 
--- the shards that an array leads to
+-- the shards to which the references of an array point
 abbrev pub shards_of : List (Bor Shard) → List Shard
 shards_of array = map (λ shard. shard.now) array
 
--- the shards that an array leads to, with their indexes
+-- the shards to which the items of an array point, with their indexes
 abbrev pub items_of : List RsShard → Items
 items_of array = map (λ shard. (shard.index, shard.bytes.now)) array
 
--- what rooms hold
+-- the bytes that rooms hold
 abbrev pub bytes_in : List (MutBor (List ℕ)) → List (List ℕ)
 bytes_in rooms = map (λ room. room.now) rooms
 
--- an array leads to the rooms that it led to
+-- an array still points to the same rooms
 abbrev pub KeepsRooms : List (MutBor (List ℕ)) → List (MutBor (List ℕ)) → Type 0
 KeepsRooms old new = map (λ room. room.ref_ptr) new ≡ map (λ room. room.ref_ptr) old
 
--- there are as many rooms as shards to be written, or the fault, with both numbers
+-- the result of checking that there are as many rooms as shards to write: a success, or a fault with both numbers
 abbrev pub as_many : ℕ → ℕ → Result (Unit {0}) Fault
 as_many wanted got = if wanted == got then Ok tt else Err (WrongNumberOfRooms wanted got)
 
--- each room is as long as its shard, or the fault of the first that isn't, with both lengths
+-- the result of checking that each room is as long as its shard: a success, or a fault with both lengths for the first
+-- room that is not
 abbrev pub lengths_fit : List Shard → List (List ℕ) → Result (Unit {0}) Fault
 lengths_fit [] rooms = Ok tt
 lengths_fit (shard ∷ shards) [] = Ok tt
 lengths_fit (shard ∷ shards) (room ∷ rooms) =
     if length room == length shard then lengths_fit shards rooms else Err (WrongLength (length shard) (length room))
 
--- rooms go with shards: as many, and then each as long
+-- the result of checking that rooms fit shards: first their number, and then the length of each
 abbrev pub rooms_fit : List Shard → List (List ℕ) → Result (Unit {0}) Fault
 rooms_fit shards rooms = result_and_then (λ _. lengths_fit shards rooms) (as_many (length shards) (length rooms))
 
--- a call is done, and its rooms hold these shards; or rooms don't go with them, and hold what they held
+-- a call succeeds and its rooms hold these shards, or the rooms do not fit the shards, the call fails and the rooms are
+-- unchanged
 abbrev pub Fills : List Shard → List (List ℕ) → List (List ℕ) → Result (Unit {0}) Fault → Type 0
 Fills shards old new answer =
     MatchResult (rooms_fit shards old) (λ _. (answer ≡ Ok tt) × (new ≡ shards)) (λ fault. (answer ≡ Err fault) × (new ≡ old))
 
--- what an encode over arrays returns: the result of one-call `encode` for these originals, written into the rooms
+-- the result of an encode over arrays: the result of one-call `encode` for these originals, written into the rooms
 abbrev pub EncodesArrays : ℕ → ℕ → List Shard → List (List ℕ) → List (List ℕ) → Result (Unit {0}) Fault → Type 0
 EncodesArrays k r originals old new answer =
     (coded : Result (List Shard) Error) × OneEncodeAnswers k r originals coded
     × MatchResult coded (λ shards. Fills shards old new answer) (λ e. (answer ≡ Err (Refused e)) × (new ≡ old))
 
--- what a decode over arrays returns: the result of one-call `decode` for these shards, the restored originals written into the rooms in order of index
+-- the result of a decode over arrays: the result of one-call `decode` for these shards. The restored originals are
+-- written into the rooms, in order of index
 abbrev pub DecodesArrays : ℕ → ℕ → Items → Items → List (List ℕ) → List (List ℕ) → Result (Unit {0}) Fault → Type 0
 DecodesArrays k r originals recovery old new answer =
     (decoded : Result Shards Error) × OneDecodeAnswers k r originals recovery decoded

@@ -8,7 +8,8 @@ use Rattle.rs_field.specs.code.OneCall.{Items, default_of}
 use Rattle.rs_c.specs.declared.fault.Fault.{Fault}
 use Rattle.rs_c.specs.declared.fault.Fault.TheVariants.{WrongLength}
 
--- a buffer has count * size bytes, or the fault, with the wanted length, as far as a number of 64 bits goes, and its own
+-- the result of checking that a buffer has count * size bytes: a success, or a fault with the wanted length and the
+-- length of the buffer. If the wanted length is 2^64 or more, the fault holds 2^64 - 1 instead
 abbrev pub length_outcome : ℕ → ℕ → ℕ → Result (Unit {0}) Fault
 length_outcome count size got =
     if count * size == got then Ok tt
@@ -19,7 +20,7 @@ abbrev pub shards_in_buffer : ℕ → ℕ → List ℕ → List Shard
 shards_in_buffer zero size bytes = []
 shards_in_buffer (suc n) size bytes = take size bytes ∷ shards_in_buffer n size (drop size bytes)
 
--- the shards whose marks aren't 0, with their indexes, the first of which is i
+-- the shards whose marks are not 0, with their indexes. The first mark belongs to index i
 abbrev pub marked_shards : ℕ → ℕ → List ℕ → List ℕ → Items
 marked_shards i size [] bytes = []
 marked_shards i size (mark ∷ marks) bytes =
@@ -30,11 +31,11 @@ marked_shards i size (mark ∷ marks) bytes =
 abbrev pub shard_place : ℕ → List ℕ → ℕ → Shard
 shard_place size bytes i = take size (drop (i * size) bytes)
 
--- the shards whose marks are not 0, by their index
+-- the map from indexes to the shards whose marks are not 0
 abbrev pub marked_map : ℕ → List ℕ → List ℕ → Shards
 marked_map size marks bytes i = if slice_index_or marks i 0 == 0 then None else Some (shard_place size bytes i)
 
--- the indexes of the marks that are 0, if the first mark has index i
+-- the indexes of the marks that are 0. The first mark has index i
 abbrev pub lost_indexes : ℕ → List ℕ → List ℕ
 lost_indexes i [] = []
 lost_indexes i (mark ∷ marks) = if mark == 0 then i ∷ lost_indexes (i + 1) marks else lost_indexes (i + 1) marks
@@ -52,7 +53,8 @@ marked_state k r size own originals other recovery =
 abbrev pub concatenation : List Shard → List ℕ
 concatenation shards = flat_map (λ shard. shard) shards
 
--- the n shards of a buffer, the first of which has index i, each replaced by the one that a map has at its index, if it has one
+-- the bytes of a buffer of n shards, after some shards were restored: if the map has a shard for an index, this shard
+-- replaces the shard of the buffer. The first shard of the buffer has index i
 abbrev pub with_restored : Shards → ℕ → ℕ → ℕ → List ℕ → List ℕ
 with_restored restored i size zero bytes = []
 with_restored restored i size (suc n) bytes =

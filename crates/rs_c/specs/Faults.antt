@@ -7,11 +7,11 @@ use Rattle.rs_c.specs.declared.fault.Fault.{Fault}
 use Rattle.rs_c.specs.declared.fault.Fault.TheVariants.{Refused, WrongLength, WrongNumberOfRooms, TablesNotMade}
 use Rattle.rs_c.specs.declared.fault.RsFault.{RsFault}
 
--- a number and three counts
+-- a fault with this number and these three values
 abbrev pub numbers : ℕ → ℕ → ℕ → ℕ → RsFault
 numbers number first second third = record { number = number; first = first; second = second; third = third }
 
--- the numbers of a refusal of the library
+-- the number and the values of an error of the library
 abbrev pub numbers_of : Error → RsFault
 numbers_of OutOfMemory = numbers 1 0 0 0
 numbers_of (UnsupportedShardCount original_count recovery_count) = numbers 2 original_count recovery_count 0
@@ -26,7 +26,7 @@ numbers_of (DuplicateOriginalShardIndex index) = numbers 10 index 0 0
 numbers_of (DuplicateRecoveryShardIndex index) = numbers 11 index 0 0
 numbers_of (InconsistentShards original_received_count recovery_received_count) = numbers 12 original_received_count recovery_received_count 0
 
--- the numbers of an answer: zeros where nothing was refused
+-- the number and the values of a result: zeros for a success
 abbrev pub fault_of : Result (Unit {0}) Fault → RsFault
 fault_of (Ok _) = numbers 0 0 0 0
 fault_of (Err (Refused error)) = numbers_of error
@@ -34,6 +34,6 @@ fault_of (Err (WrongLength wanted got)) = numbers 13 wanted got 0
 fault_of (Err (WrongNumberOfRooms wanted got)) = numbers 14 wanted got 0
 fault_of (Err TablesNotMade) = numbers 15 0 0 0
 
--- a refusal of the library as a fault
+-- a result of the library, whose error becomes a fault
 abbrev pub as_fault : {T : Type 0} → Result T Error → Result T Fault
 as_fault result = result_map_both (λ x. x) Refused result

@@ -9,10 +9,10 @@ use Rattle.rs_c.specs.Buffers.{marked_state, shard_place}
 abbrev pub state_in : MarkedBuffers → DecoderState
 state_in x = marked_state x.counts.original_count x.counts.recovery_count x.size x.original_marks.now x.originals.now x.recovery_marks.now x.recovery.now
 
--- what the places of the lost originals hold, in order of index
+-- the bytes in the places of the lost originals, in order of index
 abbrev pub rooms_in : MarkedBuffers → List Shard
 rooms_in x = map (λ i. shard_place x.size x.originals.now i) x.lost.now
 
--- what is not changed when a place of a lost original is written
+-- the parts of the buffers that stay the same when the place of a lost original is written
 abbrev pub besides_rooms : MarkedBuffers → DecoderState × List ℕ × List ℕ × ℕ
 besides_rooms x = (state_in x, x.original_marks.now, x.lost.now, length x.originals.now)

@@ -1,10 +1,10 @@
--- The faults that errors of rooms are.
+-- The fault that each error of a call that writes into rooms becomes.
 use Rattle.reed_solomon_simd.specs.declared.room_error.RoomError.{RoomError}
 use Rattle.reed_solomon_simd.specs.declared.room_error.RoomError.TheVariants.{Refused as refused, WrongLength as wrong_length, WrongNumberOfRooms as wrong_number}
 use Rattle.rs_c.specs.declared.fault.Fault.{Fault}
 use Rattle.rs_c.specs.declared.fault.Fault.TheVariants.{Refused, WrongLength, WrongNumberOfRooms}
 
--- the fault of an error
+-- the fault that an error becomes
 abbrev pub fault_of_room : RoomError → Fault
 fault_of_room (refused error) = Refused error
 fault_of_room (wrong_number wanted got) = WrongNumberOfRooms wanted got

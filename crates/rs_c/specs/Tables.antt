@@ -7,11 +7,11 @@ use Rattle.rs_field.specs.words.Tables.{IsSkew, AreLogWalshes}
 use Rattle.rs_c.specs.declared.tables.RsTables.{RsTables}
 use Rattle.rs_c.specs.declared.tables.TheConstants.{STAMP}
 
--- number n of numbers of 16 bytes, each from two halves, the lower first
+-- number n of a list of numbers of 16 bytes. Each number is stored as two halves, the lower half first
 abbrev pub number : List ℕ → ℕ → ℕ
 number halves n = slice_index halves (2 * n) + 2 ^ 64 * slice_index halves (2 * n + 1)
 
--- the products with one factor, whose eight numbers stand as halves, those of the low bytes first
+-- the products with one factor. Their eight numbers are stored as halves, the four numbers of the low bytes first
 abbrev pub products_of : List ℕ → Multiply128lutT
 products_of halves =
     record {
@@ -19,15 +19,15 @@ products_of halves =
       hi = number halves 4 ∷ number halves 5 ∷ number halves 6 ∷ number halves 7 ∷ [];
     }
 
--- entry m has the products with the generator to the power m
+-- entry m of the table holds the products with the generator to the power m
 abbrev pub AreProducts : List (List ℕ) → Type 0
 AreProducts table = (m : ℕ) → m < 65536 → IsNibbleBytes (power m) (products_of (slice_index_or table m []))
 
--- the tables carry the stamp that the call that makes them writes last
+-- the tables have the stamp that `rs_tables_make` writes last
 abbrev pub AreStamped : RsTables → Type 0
 AreStamped tables = tables.stamp ≡ STAMP
 
--- the tables are those of the field, with the stamp, as the call that makes them leaves them
+-- the tables are filled: they hold the tables of the field, and the stamp
 pub record AreTables (tables : RsTables) : Type 0 where
   pub products : AreProducts tables.products
   pub skew : IsSkew tables.skew

@@ -8,7 +8,7 @@ use Rattle.rs_c.specs.declared.fault.Fault.TheVariants.{Refused, WrongLength, Wr
 use Rattle.rs_c.specs.declared.fault.RsFault.{RsFault}
 use Rattle.rs_c.specs.FaultTexts.{text_of}
 
--- the refusal of a decoder's shards that has these numbers
+-- the error about a decoder's shards that has these numbers, if there is one
 abbrev pub shard_refusal_with : RsFault → Option Error
 shard_refusal_with fault =
     if fault.number == 8 then Some (InvalidOriginalShardIndex fault.first fault.second)
@@ -18,7 +18,7 @@ shard_refusal_with fault =
     else if fault.number == 12 then Some (InconsistentShards fault.first fault.second)
     else None
 
--- the refusal of the library that has these numbers
+-- the error of the library that has these numbers, if there is one
 abbrev pub refusal_with : RsFault → Option Error
 refusal_with fault =
     if fault.number == 1 then Some OutOfMemory
@@ -30,7 +30,7 @@ refusal_with fault =
     else if fault.number == 7 then Some (NotEnoughShards fault.first fault.second fault.third)
     else shard_refusal_with fault
 
--- the fault that has these numbers
+-- the fault that has these numbers, if there is one
 abbrev pub fault_with : RsFault → Option Fault
 fault_with fault =
     if fault.number == 13 then Some (WrongLength fault.first fault.second)
@@ -38,15 +38,16 @@ fault_with fault =
     else if fault.number == 15 then Some TablesNotMade
     else option_map Refused (refusal_with fault)
 
--- the text of a fault, and none where there is no fault
+-- the text of a fault, or an empty text if there is no fault
 abbrev pub text_with : Option Fault → List ℕ
 text_with (Some fault) = text_of fault
 text_with None = []
 
--- a room with as much of a text as fits written from its first byte on, and the rest as it was
+-- the bytes of a room after a text was written into it from the first byte on, as much of the text as fits. The other
+-- bytes of the room are unchanged
 abbrev pub written_over : List ℕ → List ℕ → List ℕ
 written_over text room = take (length room) text ++ drop (length text) room
 
--- the text's length is returned, and the room has as much of it as fits
+-- the call returns the length of the text, and the room holds as much of the text as fits
 abbrev pub WritesText : List ℕ → List ℕ → List ℕ → ℕ → Type 0
 WritesText text old new told = (told ≡ length text) × (new ≡ written_over text old)

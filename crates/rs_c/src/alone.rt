@@ -1,4 +1,4 @@
-//! Decodes that are given no recovery shard: whether all originals are there.
+//! The check of a decode without recovery shards: all originals must be among the given shards.
 ghost use Rattle.std.specs.Prelude.{◌≡◌, ◌≢◌, ℕ, ◌≤◌, List, MatchResult};
 ghost use Rattle.rs_field.specs.code.OneCall.{note_outcome, originals_alone};
 ghost use Rattle.rs_c.specs.Arrays.{items_of};
@@ -10,7 +10,14 @@ use rs_field::error::Error;
 // A bit for each index below 65536.
 type Bits = [u64; 1024];
 
-/// Checks that all originals are given. It notes the index of each in order, and then compares their number. It needs no memory.
+/// Checks that all originals are given. The index of each given original is noted in order, and then their number is
+/// compared with `original_count`. The call allocates nothing.
+///
+/// # Errors
+///
+/// - For each original in order: [`Error::InvalidOriginalShardIndex`] if its index is not below `original_count`, then
+///   [`Error::DuplicateOriginalShardIndex`] if its index was noted before.
+/// - [`Error::NotEnoughShards`] if originals are missing.
 pub fn check_alone(original_count: usize, originals: &[RsShard<'_>]) -> Result<(), Error>
     requires { original_count ≤ 65536 }
     ensures answer { result ≡ originals_alone original_count (items_of originals.now) }
@@ -31,10 +38,12 @@ pub fn check_alone(original_count: usize, originals: &[RsShard<'_>]) -> Result<(
     Ok(())
 }
 
-// Notes that the original of this index is given: the index has to be below the count, and not noted yet.
+// Notes that the original with this index is given. Fails with `InvalidOriginalShardIndex` if the index is not below
+// `original_count`, and then with `DuplicateOriginalShardIndex` if it was noted before.
 fn note(bits: &mut Bits, original_count: usize, index: usize) -> Result<(), Error>
     requires { original_count ≤ 65536 }
-    ensures answer { (indexes : List ℕ) → AreNoted indexes bits.old → MatchResult (note_outcome original_count indexes index)
+    ensures answer { (indexes : List ℕ) → AreNoted indexes bits.old
+        → MatchResult (note_outcome original_count indexes index)
         (λ all. (result ≡ Ok tt) × AreNoted all bits.new) (λ e. result ≡ Err e) }
     ensures memory { result ≢ Err Error.OutOfMemory }
 {

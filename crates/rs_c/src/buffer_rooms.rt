@@ -1,4 +1,4 @@
-//! The shards of a buffer as rooms, one after the other.
+//! Rooms for shards that are the parts of a buffer, one after the other.
 ghost use Rattle.std.specs.Prelude.{◌≡◌, ◌+◌, ◌*◌, ◌≤◌, ◌++◌, length, take, drop};
 
 use reed_solomon_simd::Error;
@@ -7,8 +7,11 @@ use reed_solomon_simd::rooms::Rooms;
 /// Rooms of one size, one after the other in a buffer.
 #[derive(Drop)]
 pub struct BufferRooms<'a> {
+    /// The number of rooms.
     pub count: usize,
+    /// The size of each room, in bytes.
     pub size: usize,
+    /// The buffer.
     pub bytes: &'a mut [u8],
 }
 
@@ -34,7 +37,8 @@ impl Rooms for BufferRooms<'_> {
     }
 }
 
-/// Writes a piece into one of the places of a buffer, after the first `start` bytes of the place.
+/// Writes a piece of a shard into the place with this index of a buffer, after the first `start` bytes of the place.
+/// Each place has `size` bytes.
 pub fn put(buffer: &mut [u8], index: usize, size: usize, start: usize, piece: &[u8])
     requires { index * size + start + length piece.now ≤ length buffer.old }
     ensures { buffer.new ≡ take (index * size + start) buffer.old

@@ -1,10 +1,15 @@
-//! Tests of lengths.
+//! The check of the length of a buffer.
 ghost use Rattle.std.specs.Prelude.{◌≡◌};
 ghost use Rattle.rs_c.specs.Buffers.{length_outcome};
 
 use crate::fault::Fault;
 
-/// `WrongLength` where a buffer of this length doesn't have so many shards of this size and no more.
+/// Checks that a buffer of `got` bytes holds exactly `count` shards of `size` bytes.
+///
+/// # Errors
+///
+/// [`Fault::WrongLength`] if the buffer has another length. If `count * size` exceeds `usize::MAX`, the fault holds
+/// `usize::MAX` as the wanted length.
 pub fn check_length(count: usize, size: usize, got: usize) -> Result<(), Fault>
     ensures { result ≡ length_outcome count size got }
 {

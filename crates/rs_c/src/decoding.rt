@@ -1,4 +1,4 @@
-//! Decoding, of shards in buffers and of shards anywhere.
+//! The two calls that decode: one for shards in buffers, and one for shards anywhere in memory.
 ghost use Rattle.std.specs.Prelude.{◌≡◌, ◌⊎◌, ◌*◌, All, Ok, Err, MatchResult, OnErr, drop, length, map};
 ghost use Rattle.rs_field.specs.code.Configuration.{start_outcome};
 ghost use Rattle.rs_field.specs.code.Counts.{default_rate};
@@ -26,7 +26,22 @@ use rs_field::error::Error;
 use rs_rate::rate::DefaultRateCounts;
 use std::alloc::Global;
 
-/// Writes the originals whose mark is 0 to their places.
+/// Restores the originals whose mark is 0, and writes each of them into its place in the buffer `originals`. `marks`
+/// has one byte for each original, and then one byte for each recovery shard. A shard was received if its mark is not
+/// 0.
+///
+/// # Errors
+///
+/// - [`Fault::Refused`] with [`Error::UnsupportedShardCount`] if the counts are not supported.
+/// - [`Fault::WrongLength`] for `originals`, then for `recovery`, then for `marks`.
+/// - If all marks of recovery shards are 0: [`Fault::Refused`] with [`Error::NotEnoughShards`] if an original is
+///   missing.
+/// - Otherwise, as [`Fault::Refused`] and in this order: [`Error::InvalidShardSize`]; [`Error::OutOfMemory`] if the
+///   rows for the whole shards would take more than `usize::MAX` bytes, or if the list of the lost originals cannot be
+///   allocated; [`Error::NotEnoughShards`]; [`Error::OutOfMemory`] if the work area cannot be allocated, or the vectors
+///   for the missing originals if there are more shards than originals; [`Error::InconsistentShards`].
+///
+/// After an error the buffer is unchanged.
 pub fn decode_buffer(
     alloc: Global,
     engine: Borrowing<'_>,
@@ -37,7 +52,8 @@ pub fn decode_buffer(
     recovery: &[u8],
     marks: &[u8],
 ) -> Result<(), Fault>
-    ensures answer { DecodesBuffer original_count recovery_count shard_bytes marks.now recovery.now originals.old originals.new result }
+    ensures answer { DecodesBuffer original_count recovery_count shard_bytes
+        marks.now recovery.now originals.old originals.new result }
     ensures memory { WantsNoMemory (marked_number (drop original_count marks.now)) result }
 {
     let counts = DefaultRateCounts::new(original_count, recovery_count)?;
@@ -61,7 +77,9 @@ pub fn decode_buffer(
     Ok(())
 }
 
-// Writes the originals whose mark is 0 to their places, where the rows of a decoder for these shards can be allocated.
+// Restores the originals whose mark is 0, and writes each of them into its place. The size is valid, and the rows for
+// the whole shards take at most `usize::MAX` bytes. Fails with `OutOfMemory` if the list of the lost originals cannot
+// be allocated, and then with the errors of `restore_buffers`.
 fn restore_marked(
     alloc: Global,
     engine: Borrowing<'_>,
@@ -81,9 +99,12 @@ fn restore_marked(
         marks.entry.0.now originals.old marks.entry.1.now recovery.now in
         MatchResult (enough_given s)
         (λ _. MatchResult result
-        (λ _. HoldRestored s (map (λ i. shard_place size originals.new i) (lost_indexes 0 marks.entry.0.now)))
-        (λ e. NoneAgrees s e ⊎ (e ≡ Error.OutOfMemory))) (λ e. result ≡ Err e) ⊎ (result ≡ Err Error.OutOfMemory) }
-    ensures marked { marked_map size marks.entry.0.now originals.new ≡ marked_map size marks.entry.0.now originals.old }
+        (λ _. HoldRestored s
+        (map (λ i. shard_place size originals.new i) (lost_indexes 0 marks.entry.0.now)))
+        (λ e. NoneAgrees s e ⊎ (e ≡ Error.OutOfMemory))) (λ e. result ≡ Err e)
+        ⊎ (result ≡ Err Error.OutOfMemory) }
+    ensures marked { marked_map size marks.entry.0.now originals.new
+        ≡ marked_map size marks.entry.0.now originals.old }
     ensures long { length originals.new ≡ length originals.old }
     ensures untouched { OnErr result (originals.new ≡ originals.old) }
 {
@@ -102,7 +123,9 @@ fn restore_marked(
     restore_buffers(alloc, engine, &mut buffers)
 }
 
-// Writes the originals whose mark is 0 to their places.
+// Restores the originals whose mark is 0, and writes each of them into its place. Fails with `NotEnoughShards`, then
+// with `OutOfMemory` if the work area or the vectors for the lost originals cannot be allocated, and then with
+// `InconsistentShards`.
 fn restore_buffers(
     alloc: Global,
     engine: Borrowing<'_>,
@@ -112,7 +135,8 @@ fn restore_buffers(
     requires fit { All (λ room. length room ≡ buffers.old.size) (rooms_in buffers.old) }
     ensures answer { MatchResult (enough_given (state_in buffers.old))
         (λ _. MatchResult result (λ _. HoldRestored (state_in buffers.old) (rooms_in buffers.new))
-        (λ e. NoneAgrees (state_in buffers.old) e ⊎ (e ≡ Error.OutOfMemory))) (λ e. result ≡ Err e) }
+        (λ e. NoneAgrees (state_in buffers.old) e ⊎ (e ≡ Error.OutOfMemory)))
+        (λ e. result ≡ Err e) }
     ensures untouched { OnErr result (rooms_in buffers.new ≡ rooms_in buffers.old) }
     ensures others { besides_rooms buffers.new ≡ besides_rooms buffers.old }
     ensures loan { buffers.new.originals.ghost_name ≡ buffers.old.originals.ghost_name }
@@ -128,7 +152,18 @@ fn restore_buffers(
     restore_in_place(alloc, engine, missing, surplus, buffers)
 }
 
-/// Writes the originals that aren't among the given shards into rooms, one for each, in order of index.
+/// Restores the originals that are not among the given shards, and writes them into rooms in order of their index.
+/// There is one room for each of them.
+///
+/// # Errors
+///
+/// - [`Fault::Refused`] with [`Error::UnsupportedShardCount`] if the counts are not supported.
+/// - If there is no recovery shard: the errors of [`check_alone`] as [`Fault::Refused`], and then
+///   [`Fault::WrongNumberOfRooms`] if there is a room.
+/// - Otherwise: the errors of [`received_shards`] as [`Fault::Refused`], and then the errors of [`restore_into`] as
+///   faults.
+///
+/// After an error the rooms are unchanged.
 pub fn decode_arrays(
     alloc: Global,
     engine: Borrowing<'_>,
@@ -138,7 +173,8 @@ pub fn decode_arrays(
     recovery: &[RsShard<'_>],
     restored: &mut [&mut [u8]],
 ) -> Result<(), Fault>
-    ensures answer { DecodesArrays original_count recovery_count (items_of originals.now) (items_of recovery.now)
+    ensures answer { DecodesArrays original_count recovery_count
+        (items_of originals.now) (items_of recovery.now)
         (bytes_in restored.old) (bytes_in restored.new) result }
     ensures kept { KeepsRooms restored.old restored.new }
     ensures memory { WantsNoMemory (length recovery.now) result }
@@ -157,14 +193,15 @@ pub fn decode_arrays(
     Ok(())
 }
 
-// How many marks aren't 0.
+// Returns how many marks are not 0.
 fn count_marked(marks: &[u8]) -> usize
     ensures { result ≡ marked_number marks.now }
 {
     marks.iter().filter(|mark| **mark != 0).count()
 }
 
-// Whether all originals are marked, where no recovery shard is.
+// Checks that all originals are marked, for a decode in which no recovery shard is marked. Fails with `NotEnoughShards`
+// if the mark of an original is 0.
 fn check_all_marked(marks: &[u8]) -> Result<(), Error>
     ensures { result ≡ all_or_refused (length marks.now) (marked_number marks.now) }
 {

@@ -1,4 +1,4 @@
-//! Encoding, of shards in a buffer and of shards anywhere.
+//! The two calls that encode: one for shards in buffers, and one for shards anywhere in memory.
 ghost use Rattle.std.specs.Prelude.{◌≡◌, ◌*◌, length, Ok, Err, OnOk, OnErr};
 ghost use Rattle.rs_field.specs.code.Code.{AreRecovery};
 ghost use Rattle.rs_field.specs.code.Encoder.{message_of};
@@ -18,7 +18,17 @@ use reed_solomon_simd::{Error, encode_into};
 use rs_rate::rate::DefaultRateCounts;
 use std::alloc::Global;
 
-/// Writes the recovery shards of the originals, one after the other.
+/// Encodes the originals in a buffer, and writes their recovery shards into the buffer `recovery`, one after the other.
+///
+/// # Errors
+///
+/// - [`Fault::Refused`] with [`Error::UnsupportedShardCount`] if the counts are not supported.
+/// - [`Fault::WrongLength`] for `originals`, then for `recovery`.
+/// - [`Fault::Refused`] with [`Error::InvalidShardSize`] if `shard_bytes` is zero or odd.
+/// - [`Fault::Refused`] with [`Error::OutOfMemory`] if the rows for the whole shards would take more than `usize::MAX`
+///   bytes, if the list of references cannot be allocated, or if the work area cannot be allocated.
+///
+/// After an error the buffer is unchanged.
 pub fn encode_buffer(
     alloc: Global,
     engine: Borrowing<'_>,
@@ -28,7 +38,8 @@ pub fn encode_buffer(
     originals: &[u8],
     recovery: &mut [u8],
 ) -> Result<(), Fault>
-    ensures { EncodesBuffer original_count recovery_count shard_bytes originals.now recovery.old recovery.new result }
+    ensures { EncodesBuffer original_count recovery_count shard_bytes
+        originals.now recovery.old recovery.new result }
 {
     let counts = DefaultRateCounts::new(original_count, recovery_count)?;
     check_length(original_count, shard_bytes, originals.len())?;
@@ -47,7 +58,12 @@ pub fn encode_buffer(
     Ok(())
 }
 
-/// Writes the recovery shards of the originals into rooms, one for each.
+/// Encodes the originals, and writes their recovery shards into rooms. There is one room for each recovery shard.
+///
+/// # Errors
+///
+/// The errors of [`encode_into`], as faults and in the same order: the counts, the originals, the number of rooms, the
+/// length of a room, and the memory for the work area. After an error the rooms are unchanged.
 pub fn encode_arrays(
     alloc: Global,
     engine: Borrowing<'_>,
@@ -56,7 +72,8 @@ pub fn encode_arrays(
     originals: &[&[u8]],
     recovery: &mut [&mut [u8]],
 ) -> Result<(), Fault>
-    ensures answer { EncodesArrays original_count recovery_count (shards_of originals.now) (bytes_in recovery.old) (bytes_in recovery.new) result }
+    ensures answer { EncodesArrays original_count recovery_count
+        (shards_of originals.now) (bytes_in recovery.old) (bytes_in recovery.new) result }
     ensures kept { KeepsRooms recovery.old recovery.new }
 {
     encode_into(
@@ -70,7 +87,8 @@ pub fn encode_arrays(
     Ok(())
 }
 
-// Writes the recovery shards of gathered originals one after the other.
+// Writes the recovery shards of gathered originals into a buffer, one after the other. Fails with `OutOfMemory` if the
+// work area cannot be allocated.
 fn write_recovery(
     alloc: Global,
     engine: Borrowing<'_>,
@@ -83,10 +101,13 @@ fn write_recovery(
     requires counts { (lent_state originals.now).configuration.recovery_count ≡ recovery_count }
     requires size { (lent_state originals.now).configuration.shard_bytes ≡ shard_bytes }
     requires whole { length recovery.old ≡ recovery_count * shard_bytes }
-    ensures coded { OnOk result (AreRecovery (lent_state originals.now).configuration (lent_state originals.now).given (shards_in_buffer recovery_count shard_bytes recovery.new)) }
+    ensures coded { OnOk result
+        (AreRecovery (lent_state originals.now).configuration (lent_state originals.now).given
+        (shards_in_buffer recovery_count shard_bytes recovery.new)) }
     ensures whole { length recovery.new ≡ length recovery.old }
     ensures refused { OnErr result (result ≡ Err Error.OutOfMemory) }
-    ensures untouched { OnErr result (shards_in_buffer recovery_count shard_bytes recovery.new ≡ shards_in_buffer recovery_count shard_bytes recovery.old) }
+    ensures untouched { OnErr result (shards_in_buffer recovery_count shard_bytes recovery.new
+        ≡ shards_in_buffer recovery_count shard_bytes recovery.old) }
 {
     let mut rooms = BufferRooms {
         count: recovery_count,

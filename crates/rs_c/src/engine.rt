@@ -1,4 +1,4 @@
-//! The engine over tables in memory of the caller.
+//! The engine by shuffles, over tables in memory of the caller.
 ghost use Rattle.std.specs.Prelude.{MatchOption};
 ghost use Rattle.rs_field.specs.words.Field.{power};
 ghost use Rattle.rs_field.specs.words.Products.{IsNibbleBytes};
@@ -15,7 +15,7 @@ use rs_field::engine::kernel::{Kernel, ThreeLogarithms};
 use rs_field::engine::lent_tables::LentTables;
 use rs_field::engine::tables::Multiply128lutT;
 
-/// The engine by shuffles over borrowed tables.
+/// The engine by shuffles, over tables that a program in C lends.
 #[derive(Clone, Copy)]
 pub struct Borrowing<'t> {
     tables: &'t RsTables,
@@ -23,7 +23,8 @@ pub struct Borrowing<'t> {
 }
 
 impl<'t> Borrowing<'t> {
-    /// The engine over these tables, or None if they don't carry the stamp of made tables.
+    /// Makes the engine over these tables. Returns `None` if the tables do not have the stamp that `rs_tables_make`
+    /// writes.
     pub fn new(tables: &'t RsTables) -> Option<Borrowing<'t>>
         requires stamped { AreStamped tables.now → AreTables tables.now }
         ensures { MatchOption result (¬ AreStamped tables.now) (λ _. AreStamped tables.now) }
@@ -34,7 +35,7 @@ impl<'t> Borrowing<'t> {
         Some(Borrowing { tables })
     }
 
-    // The products with the generator to this power.
+    // Returns the products with the generator to the power `log_m`.
     #[inline(always)]
     fn products(&self, log_m: GfElement) -> Multiply128lutT
         ensures { IsNibbleBytes (power log_m) result }

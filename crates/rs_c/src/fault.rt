@@ -1,21 +1,33 @@
-//! Faults, and their numbers.
+//! The reasons why a call from C fails, and their numbers.
 use reed_solomon_simd::RoomError;
 use rs_field::error::Error;
 
-/// Why a call was refused.
+/// The reason why a call failed.
 #[derive(Clone, Copy, Debug, PartialEq, Eq, Hash)]
 pub enum Fault {
-    /// The library refused it.
+    /// The library refused the counts or the shards, or could not allocate memory. The value is the error of the
+    /// library.
     Refused(Error),
-    /// A buffer has another length than counts and size say, or a room another than its shard.
-    WrongLength { wanted: usize, got: usize },
-    /// There are more rooms or fewer than shards to be written.
-    WrongNumberOfRooms { wanted: usize, got: usize },
-    /// The tables don't carry the stamp of made tables.
+    /// A buffer does not have the length that the counts and the size require, or a room does not have the size of its
+    /// shard.
+    WrongLength {
+        /// The right length, in bytes.
+        wanted: usize,
+        /// The length of the buffer or of the room, in bytes.
+        got: usize,
+    },
+    /// The number of rooms is not the number of shards to write.
+    WrongNumberOfRooms {
+        /// The number of shards to write.
+        wanted: usize,
+        /// The number of rooms.
+        got: usize,
+    },
+    /// The tables do not have the stamp that `rs_tables_make` writes.
     TablesNotMade,
 }
 
-/// A refusal of the library as a fault.
+/// Converts an error of the library into a fault.
 impl From<Error> for Fault {
     ghost use Rattle.std.specs.Prelude.{◌≡◌};
     ghost use Rattle.rs_c.specs.declared.fault.Fault.TheVariants.{Refused as refused};
@@ -27,7 +39,7 @@ impl From<Error> for Fault {
     }
 }
 
-/// An error of a call that writes into memory of the caller, as a fault.
+/// Converts an error of a call that writes into memory of the caller into a fault.
 impl From<RoomError> for Fault {
     ghost use Rattle.std.specs.Prelude.{◌≡◌};
     ghost use Rattle.rs_c.specs.RoomFaults.{fault_of_room};
@@ -45,13 +57,17 @@ impl From<RoomError> for Fault {
     }
 }
 
-/// A fault as C reads it: its number, and up to three counts, indexes or sizes.
+/// A fault as a program in C reads it. It is `struct rs_fault` of the header.
 #[repr(C)]
 #[derive(Clone, Copy, Debug, PartialEq, Eq, Hash)]
 pub struct RsFault {
+    /// The number of the fault, from 1 to 15, or 0 if there is none.
     pub number: u32,
+    /// The first value of the fault: a count, an index, or a size in bytes. It is 0 if the fault has no values.
     pub first: usize,
+    /// The second value of the fault, or 0 if the fault has fewer values.
     pub second: usize,
+    /// The third value of the fault, or 0 if the fault has fewer values.
     pub third: usize,
 }
 
@@ -59,6 +75,7 @@ impl RsFault {
     ghost use Rattle.std.specs.Prelude.{◌≡◌, Err};
     ghost use Rattle.rs_c.specs.Faults.{fault_of, numbers, numbers_of};
 
+    // Makes a fault of its number and three values.
     fn new(number: u32, first: usize, second: usize, third: usize) -> RsFault
         ensures { result ≡ numbers number first second third }
     {
@@ -70,7 +87,7 @@ impl RsFault {
         }
     }
 
-    /// The numbers of an answer: zeros where nothing was refused.
+    /// Returns the fault of a result. All its numbers are 0 if the result is a success.
     pub fn of(answer: Result<(), Fault>) -> RsFault
         ensures { result ≡ fault_of answer }
     {
@@ -83,7 +100,7 @@ impl RsFault {
         }
     }
 
-    // A refusal of the library.
+    // Returns the fault of an error of the library.
     fn of_refusal(error: Error) -> RsFault
         ensures { result ≡ numbers_of error }
     {
@@ -91,7 +108,7 @@ impl RsFault {
         RsFault::new(RsFault::number_of(error), first, second, third)
     }
 
-    // The number of an error.
+    // Returns the number of the fault of an error of the library.
     fn number_of(error: Error) -> u32
         ensures { result ≡ (numbers_of error).number }
     {
@@ -111,9 +128,10 @@ impl RsFault {
         }
     }
 
-    // The counts, indexes or sizes of an error.
+    // Returns the three values of the fault of an error: counts, indexes or sizes, and then zeros.
     fn counts_of(error: Error) -> (usize, usize, usize)
-        ensures { let n = numbers_of error in (result.0 ≡ n.first) × (result.1 ≡ n.second) × (result.2 ≡ n.third) }
+        ensures { let n = numbers_of error in
+            (result.0 ≡ n.first) × (result.1 ≡ n.second) × (result.2 ≡ n.third) }
     {
         match error {
             Error::OutOfMemory => (0, 0, 0),

@@ -1,5 +1,5 @@
-//! The width of the vectors that this build is for.
+//! The width of the vectors of this build.
 use std::simd::prelude::*;
 
-/// The vectors of a processor with SSSE3. A build for one with AVX2 has `u8x32` here.
+/// Vectors of 16 bytes, the width of SSSE3. In a build for AVX2, this type is `u8x32`.
 pub type Lanes = u8x16;

@@ -1,15 +1,18 @@
-//! How shards lie in memory: one after the other in a buffer, or anywhere.
+//! The two ways in which shards lie in memory: one after the other in a buffer, or anywhere.
 ghost use Rattle.std.specs.Prelude.{◌≡◌, ◌*◌, length};
 ghost use Rattle.std.specs.Iterator.{YieldsFirstRef, item_count};
 ghost use Rattle.rs_c.specs.Buffers.{shards_in_buffer};
 
 use std::marker::Model;
 
-/// The shards of a buffer that are still to come, one after the other.
+/// An iterator over the shards of a buffer, which lie one after the other.
 #[derive(Drop)]
 pub struct Joined<'a> {
+    // The bytes of the shards that are still to come.
     bytes: &'a [u8],
+    // The size of each shard, in bytes.
     size: usize,
+    // The number of shards that are still to come.
     left: usize,
 }
 
@@ -26,7 +29,7 @@ impl<'a> Model for Joined<'a> {
 }
 
 impl<'a> Joined<'a> {
-    /// So many shards of this size.
+    /// Makes an iterator over the `count` shards of `size` bytes that are in `bytes`.
     pub fn new(count: usize, size: usize, bytes: &'a [u8]) -> Joined<'a>
         requires { length bytes.now ≡ count * size }
         ensures { result ≡ shards_in_buffer count size bytes.now }
@@ -57,10 +60,12 @@ impl<'a> Iterator for Joined<'a> {
     }
 }
 
-/// A shard that lies anywhere, with its index.
+/// A shard anywhere in memory, with its index. It is `struct rs_shard` of the header.
 #[repr(C)]
 #[derive(Clone, Copy, Debug, PartialEq, Eq, Hash)]
 pub struct RsShard<'a> {
+    /// The index of the shard. Originals and recovery shards have indexes of their own, which both begin at 0.
     pub index: usize,
+    /// The bytes of the shard.
     pub bytes: &'a [u8],
 }

@@ -1,4 +1,4 @@
-//! The coder for programs in C, and in languages that call C.
+//! The library for programs in C, and in languages that call C.
 #![tactic(auto)]
 
 mod alone;
@@ -24,7 +24,8 @@ ghost use Rattle.rs_c.specs.declared.fault.Fault.{Fault as FaultOf};
 ghost use Rattle.rs_c.specs.Tables.{AreStamped, AreTables};
 ghost use Rattle.rs_c.specs.Faults.{numbers, fault_of};
 ghost use Rattle.rs_c.specs.Answers.{EncodesBuffer, DecodesBuffer, marked_number, WantsNoMemory};
-ghost use Rattle.rs_c.specs.Arrays.{shards_of, items_of, bytes_in, KeepsRooms, EncodesArrays, DecodesArrays};
+ghost use Rattle.rs_c.specs.Arrays.{shards_of, items_of, bytes_in, KeepsRooms};
+ghost use Rattle.rs_c.specs.Arrays.{EncodesArrays, DecodesArrays};
 ghost use Rattle.rs_c.specs.Texts.{fault_with, text_with, WritesText};
 
 use decoding::{decode_arrays, decode_buffer};
@@ -36,7 +37,8 @@ use rs_rate::rate::DefaultRateCounts;
 use std::alloc::Global;
 use tables::{RsTables, fill};
 
-/// Fills the tables and returns 0, or returns 1 if it cannot allocate, and then leaves them as they were.
+/// Fills the tables and returns 0. If memory cannot be allocated, it returns 1, which is `RS_OUT_OF_MEMORY`, and leaves
+/// the tables as they were.
 #[unsafe(no_mangle)]
 pub extern "C" fn rs_tables_make(alloc: Global, tables: &mut RsTables) -> u32
     ensures made { result ≡ 0 → AreTables tables.new }
@@ -48,7 +50,7 @@ pub extern "C" fn rs_tables_make(alloc: Global, tables: &mut RsTables) -> u32
     }
 }
 
-/// Returns 1 if the counts are supported, else 0.
+/// Returns 1 if `original_count` originals with `recovery_count` recovery shards are supported, and 0 if they are not.
 #[unsafe(no_mangle)]
 pub extern "C" fn rs_supports(original_count: usize, recovery_count: usize) -> u32
     ensures yes { (result ≡ 1) ↔ (supports default_rate original_count recovery_count ≡ true) }
@@ -60,10 +62,12 @@ pub extern "C" fn rs_supports(original_count: usize, recovery_count: usize) -> u
     }
 }
 
-/// Writes the recovery shards of the originals. Shards lie one after the other in a buffer.
+/// Encodes the originals in a buffer, and writes their recovery shards into the buffer `recovery`. In both buffers, the
+/// shards lie one after the other. Fills `fault`, and returns its number, which is 0 after a success.
 ///
-/// The call fails if the tables were not made, then for counts that are not supported, then for the length of `originals`, then for
-/// the length of `recovery`, then as one call does for these shards. With a fault it writes nothing but the fault.
+/// The call fails, in this order, if the tables were not made, if the counts are not supported, if `originals` has a
+/// wrong length, if `recovery` has a wrong length, and with the errors of one-call `encode` for these shards. If the
+/// call fails, it writes nothing but the fault.
 #[unsafe(no_mangle)]
 pub extern "C" fn rs_encode(
     alloc: Global,
@@ -82,7 +86,7 @@ pub extern "C" fn rs_encode(
         → (answer : Result (Unit {0}) FaultOf) × (fault.new ≡ fault_of answer)
         × EncodesBuffer original_count recovery_count shard_bytes
         originals.now recovery.old recovery.new answer }
-    ensures told { result ≡ fault.new.number }
+    ensures returns_number { result ≡ fault.new.number }
 {
     let answer = match Borrowing::new(tables) {
         Some(engine) => encode_buffer(
@@ -100,10 +104,12 @@ pub extern "C" fn rs_encode(
     fault.number
 }
 
-/// Restores, in their places, the originals whose mark is 0.
+/// Restores the originals whose mark is 0, and writes each of them into its place in the buffer `originals`. Fills
+/// `fault`, and returns its number, which is 0 after a success.
 ///
-/// The call fails if the tables were not made, then for counts that are not supported, then for the lengths of `originals`, of
-/// `recovery` and of `marks`, then as one call does for the shards whose mark is not 0. With a fault it writes nothing but the fault.
+/// The call fails, in this order, if the tables were not made, if the counts are not supported, if `originals`,
+/// `recovery` or `marks` has a wrong length, and with the errors of one-call `decode` for the shards whose mark is not
+/// 0. If the call fails, it writes nothing but the fault. If all marks of recovery shards are 0, it allocates nothing.
 #[unsafe(no_mangle)]
 pub extern "C" fn rs_decode(
     alloc: Global,
@@ -124,7 +130,7 @@ pub extern "C" fn rs_decode(
         × DecodesBuffer original_count recovery_count shard_bytes
         marks.now recovery.now originals.old originals.new answer
         × WantsNoMemory (marked_number (drop original_count marks.now)) answer }
-    ensures told { result ≡ fault.new.number }
+    ensures returns_number { result ≡ fault.new.number }
 {
     let answer = match Borrowing::new(tables) {
         Some(engine) => decode_buffer(
@@ -143,11 +149,13 @@ pub extern "C" fn rs_decode(
     fault.number
 }
 
-/// Writes the recovery shards of the originals into rooms. Shards and rooms lie anywhere. The shards' size is that of the first
-/// original.
+/// Encodes the originals, and writes their recovery shards into rooms. The originals and the rooms can be anywhere in
+/// memory. The shard size is that of the first original. Fills `fault`, and returns its number, which is 0 after a
+/// success.
 ///
-/// The call fails if the tables were not made, then for counts that are not supported, then as one call does for these shards, then
-/// for another number of rooms than `recovery_count`, then for the length of a room. With a fault it writes nothing but the fault.
+/// The call fails, in this order, if the tables were not made, if the counts are not supported, with the errors of
+/// one-call `encode` for these shards, if there are not `recovery_count` rooms, and if a room has a wrong length. If
+/// the call fails, it writes nothing but the fault.
 #[unsafe(no_mangle)]
 pub extern "C" fn rs_encode_shards(
     alloc: Global,
@@ -166,7 +174,7 @@ pub extern "C" fn rs_encode_shards(
         × EncodesArrays original_count recovery_count (shards_of originals.now)
         (bytes_in recovery.old) (bytes_in recovery.new) answer }
     ensures kept { KeepsRooms recovery.old recovery.new }
-    ensures told { result ≡ fault.new.number }
+    ensures returns_number { result ≡ fault.new.number }
 {
     let answer = match Borrowing::new(tables) {
         Some(engine) => encode_arrays(
@@ -183,12 +191,13 @@ pub extern "C" fn rs_encode_shards(
     fault.number
 }
 
-/// Writes the originals that aren't among the given shards into rooms, in order of their index. The shards' size is that of the
-/// first recovery shard.
+/// Restores the originals that are not among the given shards, and writes them into rooms, in order of their index. The
+/// shards and the rooms can be anywhere in memory. The shard size is that of the first recovery shard. Fills `fault`,
+/// and returns its number, which is 0 after a success.
 ///
-/// The call fails if the tables were not made, then for counts that are not supported, then as one call does for these shards, then
-/// for another number of rooms than there are missing originals, then for the length of a room. With a fault it writes nothing but
-/// the fault. Without recovery shards it needs no memory.
+/// The call fails, in this order, if the tables were not made, if the counts are not supported, with the errors of
+/// one-call `decode` for these shards, if there are not as many rooms as missing originals, and if a room has a wrong
+/// length. If the call fails, it writes nothing but the fault. If there are no recovery shards, it allocates nothing.
 #[unsafe(no_mangle)]
 pub extern "C" fn rs_decode_shards(
     alloc: Global,
@@ -205,11 +214,12 @@ pub extern "C" fn rs_decode_shards(
         → (fault.new ≡ numbers 15 0 0 0) × (bytes_in restored.new ≡ bytes_in restored.old) }
     ensures answer { AreStamped tables.now
         → (answer : Result (Unit {0}) FaultOf) × (fault.new ≡ fault_of answer)
-        × DecodesArrays original_count recovery_count (items_of originals.now) (items_of recovery.now)
+        × DecodesArrays original_count recovery_count
+        (items_of originals.now) (items_of recovery.now)
         (bytes_in restored.old) (bytes_in restored.new) answer
         × WantsNoMemory (length recovery.now) answer }
     ensures kept { KeepsRooms restored.old restored.new }
-    ensures told { result ≡ fault.new.number }
+    ensures returns_number { result ≡ fault.new.number }
 {
     let answer = match Borrowing::new(tables) {
         Some(engine) => decode_arrays(
@@ -227,8 +237,8 @@ pub extern "C" fn rs_decode_shards(
     fault.number
 }
 
-/// Writes the text of a fault, as much as fits, and returns its whole length: 0 if the number is that of no fault. It needs no
-/// memory.
+/// Writes the text of a fault into `text`, as much of it as fits, and returns the length of the whole text. If no fault
+/// has this number, it writes nothing and returns 0. It allocates nothing.
 #[unsafe(no_mangle)]
 pub extern "C" fn rs_fault_text(fault: &RsFault, text: &mut [u8]) -> usize
     ensures { WritesText (text_with (fault_with fault.now)) text.old text.new result }
@@ -236,7 +246,7 @@ pub extern "C" fn rs_fault_text(fault: &RsFault, text: &mut [u8]) -> usize
     text::write_text(*fault, text)
 }
 
-/// The version of this interface: the major number times 65536, and the minor number.
+/// Returns the version of this interface: the major number times 65536, plus the minor number.
 #[unsafe(no_mangle)]
 pub extern "C" fn rs_version() -> u32
     ensures { result ≡ 65539 }

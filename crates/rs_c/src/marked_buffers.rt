@@ -1,4 +1,4 @@
-//! The shards of a message in two buffers. Marks say which shards were received.
+//! The shards of a message in two buffers, with marks that say which shards were received.
 ghost use Rattle.std.specs.Prelude.{◌≡◌, ◌++◌, ◌<◌, ◌≤◌, ◌-◌, ◌*◌, List, ℕ, MatchResult, length, option_copied};
 ghost use Rattle.std.specs.List.{between};
 ghost use Rattle.std.specs.Option.{option_map};
@@ -12,16 +12,23 @@ use reed_solomon_simd::rooms::Rooms;
 use rs_rate::rate::DefaultRateCounts;
 use std::alloc::Global;
 
-/// Buffers with a place for each shard. The shards whose mark is not 0 were received. The places of the other originals
-/// are rooms.
+/// Two buffers with a place for each shard. The shards whose mark is not 0 were received. The places of the other
+/// originals are the rooms into which these originals are restored.
 #[derive(Drop)]
 pub struct MarkedBuffers<'a, 'b> {
+    /// The counts of the message.
     pub counts: DefaultRateCounts,
+    /// The size of a shard, in bytes.
     pub size: usize,
+    /// A mark for each original.
     pub original_marks: &'a [u8],
+    /// A mark for each recovery shard.
     pub recovery_marks: &'a [u8],
+    /// The originals, one after the other.
     pub originals: &'b mut [u8],
+    /// The recovery shards, one after the other.
     pub recovery: &'a [u8],
+    /// The indexes of the originals whose mark is 0, in order.
     pub lost: &'a [usize],
     pub ghost originals_number: { length original_marks.now ≡ counts.original_count },
     pub ghost recovery_number: { length recovery_marks.now ≡ counts.recovery_count },
@@ -88,7 +95,8 @@ impl<'a, 'b> Rooms for MarkedBuffers<'a, 'b> {
     }
 }
 
-// A piece of a shard in a buffer, or `None` if its mark is 0.
+// Returns the bytes of a shard in a buffer from byte `start` up to, but not including, byte `end`, or `None` if the
+// mark of the shard is 0.
 fn marked_piece<'a>(
     marks: &[u8],
     size: usize,
@@ -101,8 +109,11 @@ fn marked_piece<'a>(
     requires order { start ≤ end }
     requires inside { end ≤ size }
     requires some { 0 < size }
-    requires whole { (shard : Shard) → marked_map size marks.now bytes.now index ≡ Some shard → length shard ≡ size }
-    ensures { option_copied result ≡ option_map (λ shard. between start end shard) (marked_map size marks.now bytes.now index) }
+    requires whole { (shard : Shard)
+        → marked_map size marks.now bytes.now index ≡ Some shard → length shard ≡ size }
+    ensures { option_copied result
+        ≡ option_map (λ shard. between start end shard)
+        (marked_map size marks.now bytes.now index) }
 {
     if marks[index] == 0 {
         return None;
@@ -117,7 +128,8 @@ fn marked_piece<'a>(
 ///
 /// [`Error::OutOfMemory`] if the vector cannot be allocated.
 pub fn indexes_of_lost(alloc: Global, marks: &[u8]) -> Result<Vec<usize>, Error>
-    ensures { MatchResult result (λ lost. lost.items ≡ lost_indexes 0 marks.now) (λ e. e ≡ Error.OutOfMemory) }
+    ensures { MatchResult result (λ lost. lost.items ≡ lost_indexes 0 marks.now)
+        (λ e. e ≡ Error.OutOfMemory) }
 {
     let mut lost = Vec::with_capacity(alloc, marks.len())?;
     for index in 0..marks.len() {

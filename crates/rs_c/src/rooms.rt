@@ -1,10 +1,14 @@
-//! Rooms of the caller, one for each shard that is written.
+//! The check of the number of rooms.
 ghost use Rattle.std.specs.Prelude.{◌≡◌};
 ghost use Rattle.rs_c.specs.Arrays.{as_many};
 
 use crate::fault::Fault;
 
-/// `WrongNumberOfRooms` where there are more rooms or fewer than shards to be written.
+/// Checks that there are as many rooms as shards to write.
+///
+/// # Errors
+///
+/// [`Fault::WrongNumberOfRooms`] if there are not `wanted` rooms.
 pub fn check_number(wanted: usize, got: usize) -> Result<(), Fault>
     ensures { result ≡ as_many wanted got }
 {

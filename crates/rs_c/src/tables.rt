@@ -1,4 +1,4 @@
-//! The tables in memory of the caller.
+//! The tables, in memory of the caller.
 ghost use Rattle.std.specs.Prelude.{◌≡◌, ℕ, ◌+◌, ◌*◌, ◌/◌, ◌%◌, ◌^◌, ◌<◌, length, OnOk, OnErr};
 ghost use Rattle.rs_field.specs.words.Products.{IsNibbleBytes, IsMul128};
 ghost use Rattle.rs_c.specs.Tables.{products_of, AreProducts, AreTables};
@@ -8,32 +8,37 @@ use rs_field::engine::{GF_ORDER, GfElement};
 use rs_field::error::Error;
 use std::alloc::Global;
 
-/// What made tables hold in their stamp: the letters RS, and the number of this layout. It changes with the layout.
+/// The stamp of filled tables: the letters R and S, and the number of the layout of [`RsTables`]. The number changes if
+/// the layout changes.
 pub const STAMP: u32 = 0x5253_0001;
 
-// Tables of zeros don't carry it.
+// Tables that consist of zeros do not have the stamp.
 const _: () = prove!(STAMP != 0);
 
-/// How many words of 64 bits the tables take: `RS_TABLE_WORDS` of the header, which `c/build` compares.
+/// The number of words of 64 bits that the tables take. This is `RS_TABLE_WORDS` of the header, and `c/build` compares
+/// the two numbers.
 const TABLE_WORDS: usize = 1097728;
 
 const _: () = prove!(size_of::<RsTables>() == 8 * TABLE_WORDS);
 
-/// What the engine reads, as plain arrays. The caller allocates it, one call fills it, and all others borrow it.
+/// All tables that the engine reads, as plain arrays. The caller allocates them, `rs_tables_make` fills them, and all
+/// other calls borrow them.
 #[repr(C)]
 #[derive(Clone, Copy)]
 pub struct RsTables {
-    /// Entry m has the products with the generator to the power m, by bytes, as halves of `Multiply128lutT`'s numbers.
+    /// Entry m holds the products with the generator to the power m, as bytes: the lower and the upper half of each number
+    /// of a `Multiply128lutT`.
     pub products: [[u64; 16]; 65536],
     /// The factors of the butterflies.
     pub skew: [GfElement; 65535],
-    /// The transforms of logarithms that locators are made of.
+    /// The transforms of the logarithms of the words below each power of two, one after the other. Locators are computed
+    /// from them.
     pub log_walsh: [GfElement; 131071],
-    /// `STAMP` once the tables are filled. It is written last.
+    /// [`STAMP`] if the tables are filled. `rs_tables_make` writes it last.
     pub stamp: u32,
 }
 
-// The lower half of a number.
+// Returns the lower half of a number of 128 bits.
 #[inline(always)]
 fn low(number: u128) -> u64
     ensures { result ≡ number % 2 ^ 64 }
@@ -41,7 +46,7 @@ fn low(number: u128) -> u64
     (number & 0xFFFF_FFFF_FFFF_FFFF) as u64
 }
 
-// The upper half of a number of 128 bits.
+// Returns the upper half of a number of 128 bits.
 #[inline(always)]
 fn high(number: u128) -> u64
     ensures { result ≡ number / 2 ^ 64 }
@@ -49,7 +54,7 @@ fn high(number: u128) -> u64
     (number >> 64) as u64
 }
 
-// The products with one factor as halves.
+// Returns the products with one factor as halves of their numbers.
 fn halves(products: &Multiply128lutT) -> [u64; 16]
     ensures { (f : ℕ) → IsNibbleBytes f products.now → IsNibbleBytes f (products_of result) }
 {
@@ -75,7 +80,7 @@ fn halves(products: &Multiply128lutT) -> [u64; 16]
     ]
 }
 
-// A number from its halves.
+// Returns the number that has these halves.
 #[inline(always)]
 fn joined(low: u64, high: u64) -> u128
     ensures { result ≡ low + 2 ^ 64 * high }
@@ -83,7 +88,7 @@ fn joined(low: u64, high: u64) -> u128
     u128::from(low) | (u128::from(high) << 64)
 }
 
-/// The products with one factor from their halves.
+/// Returns the products with one factor, made of the halves of their numbers.
 #[inline(always)]
 pub fn whole(halves: &[u64; 16]) -> Multiply128lutT
     ensures { result ≡ products_of halves.now }
@@ -115,7 +120,11 @@ fn fill_products(table: &mut [[u64; 16]], mul128: Mul128<'_>)
     }
 }
 
-/// Fills the tables, or fails with `OutOfMemory` and leaves them as they were.
+/// Fills the tables.
+///
+/// # Errors
+///
+/// [`Error::OutOfMemory`] if memory cannot be allocated. The tables are then unchanged.
 pub fn fill(alloc: Global, tables: &mut RsTables) -> Result<(), Error>
     ensures made { OnOk result (AreTables tables.new) }
     ensures err { OnErr result ((result ≡ Err Error.OutOfMemory) × (tables.new ≡ tables.old)) }

@@ -1,5 +1,6 @@
-//! The calls as a C program makes them: that they find memory, no contract says. The tables are larger than a stack, and only an
-//! optimised build copies them from place to place without one: `rt test` runs these tests, `rt try` has no room for two of them.
+//! Tests that call the functions as a program in C does. They show that the calls can allocate memory, which no
+//! contract states. The tables are larger than a stack, and only an optimised build copies them without room on the
+//! stack. So `rt test` runs these tests, and two of them fail in `rt try`.
 ghost use Rattle.std.specs.Prelude.{◌≡◌, length, IfOk};
 
 use crate::fault::RsFault;
@@ -27,8 +28,8 @@ const NONE: RsFault = RsFault {
     third: 0,
 };
 
-// Tables that were not made, in memory that isn't given back: a vector that gives it back moves each item over the stack, for which
-// tables are too large.
+// Returns tables that were not made. Their memory is leaked, because freeing the vector would move the tables over the
+// stack, and they are too large for the stack.
 fn unmade(alloc: Global) -> Result<&'static mut [RsTables], AllocError>
     ensures { IfOk result (λ tables. length tables.now ≡ 1) }
 {

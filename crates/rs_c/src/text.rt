@@ -8,7 +8,7 @@ use crate::fault::{Fault, RsFault};
 use crate::writing::{write_one, write_three, write_two, write_words};
 use rs_field::error::Error;
 
-// The fault that has these numbers.
+// Returns the fault that has these numbers, or `None` if there is none.
 fn read(fault: RsFault) -> Option<Fault>
     ensures { result ≡ fault_with fault }
 {
@@ -30,7 +30,8 @@ fn read(fault: RsFault) -> Option<Fault>
     }
 }
 
-// The refusal of the library that has these numbers: of counts and sizes here.
+// Returns the error of the library that has these numbers, or `None` if there is none. This function reads the errors
+// about counts and sizes itself.
 fn read_refusal(fault: RsFault) -> Option<Error>
     ensures { result ≡ refusal_with fault }
 {
@@ -62,7 +63,7 @@ fn read_refusal(fault: RsFault) -> Option<Error>
     }
 }
 
-// Of the refusals of a decoder's shards.
+// Returns the error about a decoder's shards that has these numbers, or `None` if there is none.
 fn read_shard_refusal(fault: RsFault) -> Option<Error>
     ensures { result ≡ shard_refusal_with fault }
 {
@@ -86,7 +87,7 @@ fn read_shard_refusal(fault: RsFault) -> Option<Error>
     }
 }
 
-// Writes the text of a refusal of the library, as much as fits, and returns its whole length.
+// Writes the text of an error of the library, as much of it as fits, and returns the length of the whole text.
 fn write_refusal(error: Error, room: &mut [u8]) -> usize
     ensures { WritesText (refusal_text error) room.old room.new result }
 {
@@ -176,7 +177,7 @@ fn write_refusal(error: Error, room: &mut [u8]) -> usize
     }
 }
 
-// Writes the text of a fault, as much as fits, and returns its whole length.
+// Writes the text of a fault, as much of it as fits, and returns the length of the whole text.
 fn write_fault(fault: Fault, room: &mut [u8]) -> usize
     ensures { WritesText (text_of fault) room.old room.new result }
 {
@@ -201,8 +202,8 @@ fn write_fault(fault: Fault, room: &mut [u8]) -> usize
     }
 }
 
-/// Writes the text of the fault that has these numbers, as much as fits, and returns its whole length: 0 if the number is that
-/// of no fault.
+/// Writes the text of the fault that has these numbers, as much of it as fits, and returns the length of the whole
+/// text. If no fault has this number, it writes nothing and returns 0.
 pub fn write_text(fault: RsFault, room: &mut [u8]) -> usize
     ensures { WritesText (text_with (fault_with fault)) room.old room.new result }
 {

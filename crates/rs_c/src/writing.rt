@@ -1,8 +1,9 @@
-//! Texts of words and decimal numbers, written into a room as far as they fit. They need no memory.
+//! Functions that write texts of words and decimal numbers into a room, as far as they fit. They allocate nothing.
 ghost use Rattle.std.specs.Prelude.{◌≡◌, ℕ, ◌+◌, ◌≤◌, List, ◌++◌, length, decimal};
 ghost use Rattle.rs_c.specs.Texts.{written_over, WritesText};
 
-// Writes a piece after the first `at` bytes of a text, as much as fits, and returns where the piece ends.
+// Writes a piece of a text into a room, after the first `at` bytes of the text, as much of the piece as fits. Returns
+// the place in the text where the piece ends.
 fn put_bytes(room: &mut [u8], at: usize, piece: &[u8]) -> usize
     requires { at + length piece.now ≤ 65536 }
     ensures end { result ≡ at + length piece.now }
@@ -16,16 +17,19 @@ fn put_bytes(room: &mut [u8], at: usize, piece: &[u8]) -> usize
     at + piece.len()
 }
 
-// Writes words, as `put_bytes` writes a piece.
+// Writes words into a room, after the first `at` bytes of a text, as much as fits. Returns the place in the text where
+// the words end.
 fn put(room: &mut [u8], at: usize, words: &str) -> usize
     requires { at + length words.now ≤ 65536 }
     ensures end { result ≡ at + length words.now }
-    ensures written { (text old : List ℕ) → length text ≡ at → room.old ≡ written_over text old → room.new ≡ written_over (text ++ words.now) old }
+    ensures written { (text old : List ℕ) → length text ≡ at → room.old ≡ written_over text old
+        → room.new ≡ written_over (text ++ words.now) old }
 {
     put_bytes(room, at, words.as_bytes())
 }
 
-// Writes the decimal digits of a number, as `put_bytes` writes a piece: the digits before the last one first.
+// Writes the decimal digits of a number into a room, after the first `at` bytes of a text, as many as fit. Returns the
+// place in the text where the digits end. All digits but the last one are written by a call of this function itself.
 fn put_number(room: &mut [u8], at: usize, number: usize) -> usize
     requires { at ≤ 65000 }
     ensures end { (result ≡ at + length (decimal number)) × (result ≤ at + 20) }
@@ -40,7 +44,7 @@ fn put_number(room: &mut [u8], at: usize, number: usize) -> usize
     put_bytes(room, end, &[digit])
 }
 
-/// Writes words, and returns their length.
+/// Writes words into a room, as much as fits, and returns the length of the words.
 pub fn write_words(room: &mut [u8], words: &str) -> usize
     requires { length words.now ≤ 100 }
     ensures { WritesText words.now room.old room.new result }
@@ -48,24 +52,26 @@ pub fn write_words(room: &mut [u8], words: &str) -> usize
     put(room, 0, words)
 }
 
-/// Writes words, a number and words, and returns the length of the whole text.
+/// Writes words, a number and words into a room, as much as fits, and returns the length of the whole text.
 pub fn write_one(room: &mut [u8], first: (&str, usize), end: &str) -> usize
     requires first { length first.0.now ≤ 100 }
     requires end { length end.now ≤ 100 }
-    ensures { WritesText (first.entry.0.now ++ decimal first.entry.1 ++ end.now) room.old room.new result }
+    ensures { WritesText (first.entry.0.now ++ decimal first.entry.1 ++ end.now)
+        room.old room.new result }
 {
     let at = put(room, 0, first.0);
     let at = put_number(room, at, first.1);
     put(room, at, end)
 }
 
-/// Writes words with two numbers, and returns the length of the whole text.
+/// Writes words with two numbers into a room, as much as fits, and returns the length of the whole text.
 pub fn write_two(room: &mut [u8], first: (&str, usize), second: (&str, usize), end: &str) -> usize
     requires first { length first.0.now ≤ 100 }
     requires second { length second.0.now ≤ 100 }
     requires end { length end.now ≤ 100 }
     ensures { WritesText
-        (first.entry.0.now ++ decimal first.entry.1 ++ second.entry.0.now ++ decimal second.entry.1 ++ end.now)
+        (first.entry.0.now ++ decimal first.entry.1 ++ second.entry.0.now ++ decimal second.entry.1
+        ++ end.now)
         room.old room.new result }
 {
     let at = put(room, 0, first.0);
@@ -75,7 +81,7 @@ pub fn write_two(room: &mut [u8], first: (&str, usize), second: (&str, usize), e
     put(room, at, end)
 }
 
-/// Writes words with three numbers, and returns the length of the whole text.
+/// Writes words with three numbers into a room, as much as fits, and returns the length of the whole text.
 pub fn write_three(
     room: &mut [u8],
     first: (&str, usize),

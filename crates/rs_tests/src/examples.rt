@@ -1,8 +1,30 @@
-//! The examples of doc comments that show numbers.
-use reed_solomon_simd::engine::tables::Tables;
-use reed_solomon_simd::engine::{DefaultEngine, EngineKind};
-use reed_solomon_simd::{decode, decode_into, encode, encode_into};
+//! The examples of doc comments that show numbers, and the numbers that comments of examples state.
+use reed_solomon_simd::engine::tables::{Tables, get_exp_log, get_log_walsh, get_log_walsh_below};
+use reed_solomon_simd::engine::utils::{eval_poly, locate};
+use reed_solomon_simd::engine::{
+    DefaultEngine, Engine, EngineKind, GF_ORDER, Naive, NoSimd, Ssse3, Steps, UnknownEngine,
+};
+use reed_solomon_simd::rate::DefaultRateCounts;
+use reed_solomon_simd::{
+    Error, ReedSolomonDecoder, ReedSolomonEncoder, decode, decode_into, encode, encode_into,
+    encode_slice,
+};
+use rs_callers::walking::restored_copies;
+use std::str::FromStr;
 use std::test::Fail;
+
+// The message of the examples.
+const ORIGINAL: [&[u8]; 3] = [b"Three shards", b" of one size", b" are coded. "];
+
+// The recovery shards of `ORIGINAL`, which the Rust crate reed-solomon-simd 3.1.0 computed.
+const RECOVERY: [[u8; 12]; 2] = [
+    [
+        0x8B, 0x6B, 0x49, 0x8D, 0x2D, 0x0E, 0xE3, 0x62, 0xFC, 0xE6, 0xD5, 0xC8,
+    ],
+    [
+        0xDF, 0x0D, 0x2F, 0xAD, 0x07, 0x23, 0x9A, 0x4E, 0x8B, 0x99, 0xE5, 0xFE,
+    ],
+];
 
 #[test]
 fn a_recovery_shard_is_the_sum_of_all(rt: HostRuntime) -> Result<(), Fail> {
@@ -63,5 +85,155 @@ fn missing_originals_are_written_into_arrays(rt: HostRuntime) -> Result<(), Fail
     decode_into(alloc, 2, 3, &[], &recovery, &mut restored, engine)?;
     drop(restored);
     assert_eq!(rt; (first, second), ([0, 0], [1, 0]));
+    Ok(())
+}
+
+#[test]
+fn three_shards_have_these_recovery_shards(rt: HostRuntime) -> Result<(), Fail> {
+    let alloc = rt.alloc();
+    let tables = Tables::new(alloc)?;
+    let engine = DefaultEngine::new(&tables, EngineKind::Ssse3);
+    let mut encoder = ReedSolomonEncoder::new(alloc, 3, 2, 12, engine)?;
+    let error = Error::TooFewOriginalShards {
+        original_count: 3,
+        original_received_count: 0,
+    };
+    assert_eq!(rt; encoder.encode().err(), Some(error));
+    for shard in ORIGINAL {
+        encoder.add_original_shard(shard)?;
+    }
+    let error = Error::TooManyOriginalShards { original_count: 3 };
+    assert_eq!(rt; encoder.add_original_shard(ORIGINAL[0]), Err(error));
+    let recovery = encoder.encode()?;
+    for index in 0..2 {
+        assert_eq!(rt; recovery.recovery(index), Some(RECOVERY[index].as_slice()));
+    }
+    let recovery = encode_slice(alloc, 3, 2, &ORIGINAL, engine)?;
+    assert_eq!(rt; recovery.len(), 2);
+    for index in 0..2 {
+        assert_eq!(rt; recovery[index].as_slice(), RECOVERY[index].as_slice());
+    }
+    Ok(())
+}
+
+#[test]
+fn originals_0_and_2_come_back(rt: HostRuntime) -> Result<(), Fail> {
+    let alloc = rt.alloc();
+    let tables = Tables::new(alloc)?;
+    let engine = DefaultEngine::new(&tables, EngineKind::Ssse3);
+    let mut decoder = ReedSolomonDecoder::new(alloc, 3, 2, 12, engine)?;
+    let error = Error::NotEnoughShards {
+        original_count: 3,
+        original_received_count: 0,
+        recovery_received_count: 0,
+    };
+    assert_eq!(rt; decoder.decode().err(), Some(error));
+    decoder.add_original_shard(1, ORIGINAL[1])?;
+    for index in 0..2 {
+        decoder.add_recovery_shard(index, &RECOVERY[index])?;
+    }
+    let restored = decoder.decode()?;
+    assert_eq!(rt; restored.restored_original(0), Some(ORIGINAL[0]));
+    assert_eq!(rt; restored.restored_original(1), None);
+    assert_eq!(rt; restored.restored_original(2), Some(ORIGINAL[2]));
+    let copies = restored_copies(alloc, &restored)?;
+    assert_eq!(rt; copies.len(), 2);
+    assert_eq!(rt; (copies[0].0, copies[0].1.as_slice()), (0, ORIGINAL[0]));
+    assert_eq!(rt; (copies[1].0, copies[1].1.as_slice()), (2, ORIGINAL[2]));
+    Ok(())
+}
+
+#[test]
+fn a_decoder_is_reset(rt: HostRuntime) -> Result<(), Fail> {
+    let alloc = rt.alloc();
+    let tables = Tables::new(alloc)?;
+    let engine = DefaultEngine::new(&tables, EngineKind::Ssse3);
+    let mut decoder = ReedSolomonDecoder::new(alloc, 3, 2, 12, engine)?;
+    decoder.reset(3, 2, 2)?;
+    decoder.add_original_shard(1, &[0, 0])?;
+    decoder.add_recovery_shard(0, &[3, 0])?;
+    decoder.add_recovery_shard(1, &[5, 0])?;
+    let restored = decoder.decode()?;
+    assert_eq!(rt; restored.restored_original(0), Some([2, 0].as_slice()));
+    assert_eq!(rt; restored.restored_original(2), Some([4, 0].as_slice()));
+    Ok(())
+}
+
+#[test]
+fn errors_of_examples(rt: HostRuntime) -> Result<(), Fail> {
+    let alloc = rt.alloc();
+    let error = Error::UnsupportedShardCount {
+        original_count: 60000,
+        recovery_count: 5000,
+    };
+    assert_eq!(rt; DefaultRateCounts::new(60000, 5000).err(), Some(error));
+    assert!(rt; DefaultRateCounts::new(60000, 4000).is_ok());
+    let refusal = Error::NotEnoughShards {
+        original_count: 3,
+        original_received_count: 1,
+        recovery_received_count: 1,
+    };
+    let text = format!(in alloc; "{refusal}\n")?;
+    assert_eq!(rt;
+        text.as_str(),
+        "not enough shards: 1 original + 1 recovery < 3 original_count\n"
+    );
+    assert_eq!(rt; EngineKind::from_str("ssse3"), Ok(EngineKind::Ssse3));
+    assert_eq!(rt; EngineKind::from_str("sse"), Err(UnknownEngine));
+    Ok(())
+}
+
+#[test]
+fn the_engine_without_vectors_multiplies(rt: HostRuntime) -> Result<(), Fail> {
+    let tables = Tables::new(rt.alloc())?;
+    let engine = NoSimd::new(&tables);
+    let log_2 = get_exp_log(&tables).log[2];
+    let mut row = [[0; 64]];
+    row[0][0] = 4;
+    engine.mul(&mut Steps::new(), &mut row, log_2);
+    assert_eq!(rt; row[0][0], 11);
+    Ok(())
+}
+
+#[test]
+fn the_plain_engine_multiplies(rt: HostRuntime) -> Result<(), Fail> {
+    let tables = Tables::new(rt.alloc())?;
+    let engine = Naive::new(&tables);
+    let log_2 = get_exp_log(&tables).log[2];
+    let mut row = [[0; 64]];
+    row[0][0] = 4;
+    engine.mul(&mut Steps::new(), &mut row, log_2);
+    assert_eq!(rt; row[0][0], 11);
+    Ok(())
+}
+
+#[test]
+fn the_engine_by_shuffles_multiplies(rt: HostRuntime) -> Result<(), Fail> {
+    let tables = Tables::new(rt.alloc())?;
+    let engine = Ssse3::new(&tables);
+    let log_2 = get_exp_log(&tables).log[2];
+    let mut row = [[0; 64]];
+    row[0][0] = 4;
+    engine.mul(&mut Steps::new(), &mut row, log_2);
+    assert_eq!(rt; row[0][0], 11);
+    Ok(())
+}
+
+#[test]
+fn a_locator_of_one_point_is_made_of_logarithms(rt: HostRuntime) -> Result<(), Fail> {
+    let tables = Tables::new(rt.alloc())?;
+    let log = &get_exp_log(&tables).log;
+    assert_eq!(rt; [log[2], log[3]], [21845, 43690]);
+
+    let mut erasures = [0; GF_ORDER];
+    erasures[0] = 1;
+    let log_walsh = get_log_walsh(&tables);
+    eval_poly(&mut Steps::new(), &mut erasures, GF_ORDER, log_walsh);
+    assert_eq!(rt; [erasures[2], erasures[3]], [21845, 43690]);
+
+    let mut first = [1, 0, 0, 0];
+    let log_walsh = get_log_walsh_below(&tables, 4);
+    locate(&mut Steps::new(), &mut first, log_walsh);
+    assert_eq!(rt; [first[2], first[3]], [21845, 43690]);
     Ok(())
 }

@@ -6,7 +6,7 @@ use Rattle.rs_c.specs.declared.layouts.RsShard.{RsShard}
 use Rattle.rs_c.proofs.AloneLemmas.{note_outcome-none, notes-ok, notes-err, noting, noting-next, noting-done, noting-refused}
 use Rattle.rs_c.proofs.alone.check_alone.Goals as goal
 
--- an array's entry past its end
+-- the default value for an entry after the end of an array
 nothing : RsShard
 nothing = record { index = 0; bytes = record { ref_ptr = (0, 0); now = [] } }
 

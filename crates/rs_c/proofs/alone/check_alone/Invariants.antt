@@ -3,7 +3,8 @@ use Rattle.rs_c.specs.Alone.{AreNoted}
 use Rattle.rs_c.proofs.AloneLemmas.{noting}
 use Rattle.rs_c.proofs.alone.check_alone.Given as goal
 
--- the indexes so far are noted, as many as shards were seen, and the others lead on from them
+-- The indexes of the shards so far are noted. Noting the indexes of all shards has the same outcome as noting the
+-- remaining indexes after these.
 abbrev pub invariant-loop-shard : goal.invariant-loop-shard
 invariant-loop-shard l =
     (so_far : List ℕ) × AreNoted so_far l.bits × (length so_far ≡ l.shard-index)

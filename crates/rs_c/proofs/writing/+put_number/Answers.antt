@@ -4,7 +4,7 @@ use Rattle.std.proofs.lemmas.List.{length-append}
 use Rattle.rs_c.specs.Texts.{written_over}
 use Rattle.rs_c.proofs.writing.+put_number.Goals as goal
 
--- a number below ten is its only digit
+-- The decimal text of a number below ten is one digit.
 last-digit : (n : ℕ) → n < 10 → decimal n ≡ (48 + n % 10) ∷ []
 last-digit n small = decimal_digit n small ∙ ap (λ d. (48 + d) ∷ []) (let same : n ≡ n % 10 = omega (arith, small) in same)
 
