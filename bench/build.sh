@@ -83,14 +83,15 @@ library() {
     cc -std=c11 -O2 -fPIC -c -o "$room/heap.o" "$project/c/heap.c"
     object "$room/$name.c.o" "${name}_" "$project/crates/rs_c/out/librs_c.a" "$room/heap.o" \
         rs_tables_make rs_encode rs_decode rs_encode_shards rs_decode_shards
-    object "$room/$name.rattle.o" "${name}_" "$project/crates/rs_bench/out/librs_bench.a" "$kit/c/liblibc_c.a" \
+    object "$room/$name.rattle.o" "${name}_" "$project/crates/rs_bench/out/librs_bench.a" "$room/heap.o" \
         rs_bench_encode rs_bench_decode rs_bench_tables
     mv "$project/crates/rs_c/out" "$project/proved/$build"
     ld -r -o "$room/$name.o" "$room/$name.c.o" "$room/$name.rattle.o"
     echo "$stamp" > "$room/$name.stamp"
 }
 
-# object OBJECT PREFIX LIBRARY HEAP CALL..: makes one object of a static library and its allocator. It defines only the calls.
+# object OBJECT PREFIX LIBRARY HEAP CALL..: makes one object of a static library and its allocator. It defines only the calls. All
+# libraries have the allocator of the library for C, whose memory begins at multiples of 64.
 object() {
     local out=$1 prefix=$2 archive=$3 heap=$4 call renames=() keeps=()
     shift 4
