@@ -1,5 +1,5 @@
 # bench/run reads this file. It defines functions that prove, build and link both libraries. They need these variables:
-# bench: this folder; top: the top of the checkout; room: the working folder; kit: the folder of the toolchain.
+# bench: this folder; top: the top of the checkout; room: the working folder.
 
 # take_sources STATE: copies the sources of a state into $room/sources/STATE. The state `now` is the checkout as its files are. The
 # state `before` is BASE, a folder with another checkout or a revision of git.
