@@ -4,7 +4,7 @@ use Rattle.std.specs.declared.vec.Vec.{Vec}
 use Rattle.reed_solomon_simd.specs.declared.Error.TheVariants.{OutOfMemory}
 use Rattle.reed_solomon_simd.specs.Column.{Shard}
 use Rattle.reed_solomon_simd.specs.OneCall.{Items}
-use Rattle.rs.specs.declared.command.Given.{Given}
+use Rattle.rs.specs.declared.command.GivenShards.{GivenShards}
 use Rattle.rs.specs.declared.command.Item.{Item}
 use Rattle.rs.specs.declared.command.Item.TheVariants.{Original, Recovery}
 use Rattle.rs.specs.declared.command.Command.{Command}
@@ -34,8 +34,8 @@ abbrev pub as_items : {Y Z : Type 0} → Vec (ℕ × Vec ℕ Y) Z → Items
 as_items vector = map as_item vector.items
 
 -- given shards as shards of a command line
-abbrev pub as_given : Given → GivenItems
-as_given given = record { originals = as_items given.original; recovery = as_items given.recovery }
+abbrev pub given_items : GivenShards → GivenItems
+given_items given = record { originals = as_items given.original; recovery = as_items given.recovery }
 
 -- given shards, and then other given shards
 abbrev pub with_items : GivenItems → GivenItems → GivenItems
@@ -49,7 +49,7 @@ as_item_of_line (Recovery indexed) = Line.RecoveryItem (as_item indexed)
 -- a task as a task of a command line
 abbrev pub as_task : Task → Line.Task
 as_task (Encode original) = Line.Coded (as_shards original)
-as_task (Decode given) = Line.Restored (as_given given)
+as_task (Decode given) = Line.Restored (given_items given)
 
 -- the request that a command was read from
 abbrev pub as_request : Command → Line.Request

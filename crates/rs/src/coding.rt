@@ -3,9 +3,9 @@ ghost use Rattle.std.specs.Prelude.{◌≡◌, IfOk, MatchResult, map};
 ghost use Rattle.reed_solomon_simd.specs.Kind.{kind_of};
 ghost use Rattle.reed_solomon_simd.specs.OneCall.{shards_in};
 ghost use Rattle.rs.specs.Printed.{lines_of, concatenation, ListsShards, CodesLines, RestoresLines, OrLacksMemory};
-ghost use Rattle.rs.specs.Reading.{as_given};
+ghost use Rattle.rs.specs.Reading.{given_items};
 
-use crate::command::{Command, Counts, Given, Task};
+use crate::command::{Command, Counts, GivenShards, Task};
 use crate::hexadecimal::line;
 use reed_solomon_simd::engine::{DefaultEngine, EngineKind};
 use reed_solomon_simd::{Error, decode, encode};
@@ -84,10 +84,10 @@ fn recovery_lines(
 fn restored_lines(
     alloc: Global,
     counts: Counts,
-    given: &Given,
+    given: &GivenShards,
     engine: DefaultEngine<'_>,
 ) -> Result<Vec<String>, Error>
-    ensures { OrLacksMemory (RestoresLines counts.original counts.recovery (as_given given.now))
+    ensures { OrLacksMemory (RestoresLines counts.original counts.recovery (given_items given.now))
         result }
 {
     let original = given

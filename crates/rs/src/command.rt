@@ -4,7 +4,7 @@ ghost use Rattle.std.specs.Option.{option_zip};
 ghost use Rattle.std.specs.String.{string_bytes};
 ghost use Rattle.rs.specs.Number.{number_of};
 ghost use Rattle.rs.specs.CommandLine.{shards_of, indexed_shard_of, item_of, items_of, task_of, request_of};
-ghost use Rattle.rs.specs.Reading.{Reads, as_shards, as_item, as_item_of_line, as_given, as_task, as_request};
+ghost use Rattle.rs.specs.Reading.{Reads, as_shards, as_item, as_item_of_line, given_items, as_task, as_request};
 
 use crate::fault::Fault;
 use crate::hexadecimal::word;
@@ -25,7 +25,7 @@ pub type IndexedShard = (usize, Vec<u8>);
 
 /// The shards that a decoder is given, in order.
 #[derive(Debug, Drop, PartialEq, Eq)]
-pub struct Given {
+pub struct GivenShards {
     pub original: Vec<IndexedShard>,
     pub recovery: Vec<IndexedShard>,
 }
@@ -36,7 +36,7 @@ pub enum Task {
     /// The recovery shards of these originals are wanted.
     Encode(Vec<Vec<u8>>),
     /// The originals that are not among these shards are wanted.
-    Decode(Given),
+    Decode(GivenShards),
 }
 
 /// A command line that was read.
@@ -54,13 +54,13 @@ enum Item {
     Recovery(IndexedShard),
 }
 
-impl Given {
+impl GivenShards {
     ghost use Rattle.rs.specs.CommandLine.{GivenItems, with_item};
-    ghost use Rattle.rs.specs.Reading.{with_items, as_given, as_item_of_line};
+    ghost use Rattle.rs.specs.Reading.{with_items, given_items, as_item_of_line};
 
     // Adds an item after the other items of its kind.
     fn push(&mut self, item: Item) -> Result<(), AllocError>
-        ensures { OnOk result ((left : GivenItems) → with_items (as_given self.new) left ≡ with_items (as_given self.old) (with_item (as_item_of_line item) left)) }
+        ensures { OnOk result ((left : GivenItems) → with_items (given_items self.new) left ≡ with_items (given_items self.old) (with_item (as_item_of_line item) left)) }
     {
         match item {
             Item::Original(indexed) => self.original.push(indexed)?,
@@ -128,10 +128,10 @@ fn read_item(alloc: Global, text: &str) -> Result<Item, Fault>
 }
 
 // Reads the shards of words that are ITEMs.
-fn read_items(alloc: Global, words: &[String]) -> Result<Given, Fault>
-    ensures { Reads as_given (items_of (map string_bytes words.now)) result }
+fn read_items(alloc: Global, words: &[String]) -> Result<GivenShards, Fault>
+    ensures { Reads given_items (items_of (map string_bytes words.now)) result }
 {
-    let mut given = Given {
+    let mut given = GivenShards {
         original: Vec::new(alloc),
         recovery: Vec::new(alloc),
     };

@@ -3,14 +3,14 @@ use Rattle.std.proofs.Common.{◌≡◌, ℕ, ◌+◌, ◌-◌, ◌<◌, ◌≤�
 use Rattle.std.proofs.Math.Seq.{take-nil, take-append-add, take-append_seam, drop-append_seam}
 use Rattle.std.proofs.lemmas.Bool.{cases_lt}
 use Rattle.std.proofs.lemmas.List.{take_all, drop_all, take-append-le, length-append, length-take, length-drop, drop-drop}
-use Rattle.rs_c.specs.Texts.{written_over, WritesText}
+use Rattle.rs_c.specs.Texts.{text_over, WritesText}
 
 -- If nothing was written, the room is unchanged.
-pub over-nothing : (room : List ℕ) → written_over [] room ≡ room
+pub over-nothing : (room : List ℕ) → text_over [] room ≡ room
 over-nothing room = ap (λ l. l ++ room) (take-nil (length room))
 
 -- A piece that begins after the end of the room changes nothing.
-pub over-past : (text piece old : List ℕ) → length old ≤ length text → written_over (text ++ piece) old ≡ written_over text old
+pub over-past : (text piece old : List ℕ) → length old ≤ length text → text_over (text ++ piece) old ≡ text_over text old
 over-past text piece old past =
     ap (λ l. l ++ drop (length (text ++ piece)) old) (take-append-le (length old) text piece past)
     ∙ ap (λ l. take (length old) text ++ l)
@@ -18,7 +18,7 @@ over-past text piece old past =
     ∙ sym (drop_all (length text) old past))
 
 -- A piece that begins inside the room is written as far as it fits.
-module _ (text piece old room : List ℕ) (at fits : ℕ) (sized : length text ≡ at) (is : room ≡ written_over text old)
+module _ (text piece old room : List ℕ) (at fits : ℕ) (sized : length text ≡ at) (is : room ≡ text_over text old)
     (inside : at < length old)
     (fit : fits ≡ min (length piece) (length old - at)) where
   begins : room ≡ text ++ drop at old
@@ -49,7 +49,7 @@ module _ (text piece old room : List ℕ) (at fits : ℕ) (sized : length text �
         ∙ sym (drop_all (at + length piece) old (omega (arith, long, inside))))
   ]
 
-  pub over-inside : take at room ++ (take fits piece ++ drop fits (drop at room)) ≡ written_over (text ++ piece) old
+  pub over-inside : take at room ++ (take fits piece ++ drop fits (drop at room)) ≡ text_over (text ++ piece) old
   over-inside =
       ap (λ l. l ++ (take fits piece ++ drop fits (drop at room))) front
       ∙ ap (λ l. text ++ (take fits piece ++ l)) back ∙ ap (λ l. text ++ l) middle
@@ -70,7 +70,7 @@ pub ended : (text old new : List ℕ) (told : ℕ) → WritesText (text ++ []) o
 ended text old new told writes = subst (λ whole. WritesText whole old new told) (append-nil text) writes
 
 -- Writing a text into a room does not change the length of the room.
-pub length-over : (text old : List ℕ) → length (written_over text old) ≡ length old
+pub length-over : (text old : List ℕ) → length (text_over text old) ≡ length old
 length-over text old =
     let front = length-take (length old) text in
     let back = length-drop (length text) old in

@@ -45,9 +45,9 @@ text_with None = []
 
 -- the bytes of a room after a text was written into it from the first byte on, as much of the text as fits. The other
 -- bytes of the room are unchanged
-abbrev pub written_over : List ℕ → List ℕ → List ℕ
-written_over text room = take (length room) text ++ drop (length text) room
+abbrev pub text_over : List ℕ → List ℕ → List ℕ
+text_over text room = take (length room) text ++ drop (length text) room
 
 -- the call returns the length of the text, and the room holds as much of the text as fits
 abbrev pub WritesText : List ℕ → List ℕ → List ℕ → ℕ → Type 0
-WritesText text old new told = (told ≡ length text) × (new ≡ written_over text old)
+WritesText text old new told = (told ≡ length text) × (new ≡ text_over text old)

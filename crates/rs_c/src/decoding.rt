@@ -13,7 +13,7 @@ ghost use Rattle.rs_c.specs.Arrays.{items_of, DecodesArrays, KeepsRooms, bytes_i
 
 use crate::alone::check_alone;
 use crate::buffers::check_length;
-use crate::engine::Borrowing;
+use crate::engine::TableEngine;
 use crate::fault::Fault;
 use crate::layouts::RsShard;
 use crate::marked_buffers::{MarkedBuffers, indexes_of_lost};
@@ -44,7 +44,7 @@ use std::alloc::Global;
 /// After an error the buffer is unchanged.
 pub fn decode_buffer(
     alloc: Global,
-    engine: Borrowing<'_>,
+    engine: TableEngine<'_>,
     original_count: usize,
     recovery_count: usize,
     shard_bytes: usize,
@@ -82,7 +82,7 @@ pub fn decode_buffer(
 // be allocated, and then with the errors of `restore_buffers`.
 fn restore_marked(
     alloc: Global,
-    engine: Borrowing<'_>,
+    engine: TableEngine<'_>,
     counts: DefaultRateCounts,
     size: usize,
     marks: (&[u8], &[u8]),
@@ -128,7 +128,7 @@ fn restore_marked(
 // `InconsistentShards`.
 fn restore_buffers(
     alloc: Global,
-    engine: Borrowing<'_>,
+    engine: TableEngine<'_>,
     buffers: &mut MarkedBuffers<'_, '_>,
 ) -> Result<(), Error>
     requires set_up { IsDecoder default_rate (state_in buffers.old) }
@@ -166,7 +166,7 @@ fn restore_buffers(
 /// After an error the rooms are unchanged.
 pub fn decode_arrays(
     alloc: Global,
-    engine: Borrowing<'_>,
+    engine: TableEngine<'_>,
     original_count: usize,
     recovery_count: usize,
     originals: &[RsShard<'_>],

@@ -10,9 +10,9 @@ ghost use Rattle.rs_c.specs.Arrays.{shards_of, EncodesArrays, KeepsRooms, bytes_
 
 use crate::buffer_rooms::BufferRooms;
 use crate::buffers::check_length;
-use crate::engine::Borrowing;
+use crate::engine::TableEngine;
 use crate::fault::Fault;
-use crate::layouts::Joined;
+use crate::layouts::BufferShards;
 use reed_solomon_simd::lent_originals::LentOriginals;
 use reed_solomon_simd::{Error, encode_into};
 use rs_rate::rate::DefaultRateCounts;
@@ -31,7 +31,7 @@ use std::alloc::Global;
 /// After an error the buffer is unchanged.
 pub fn encode_buffer(
     alloc: Global,
-    engine: Borrowing<'_>,
+    engine: TableEngine<'_>,
     original_count: usize,
     recovery_count: usize,
     shard_bytes: usize,
@@ -44,7 +44,7 @@ pub fn encode_buffer(
     let counts = DefaultRateCounts::new(original_count, recovery_count)?;
     check_length(original_count, shard_bytes, originals.len())?;
     check_length(recovery_count, shard_bytes, recovery.len())?;
-    let shards = Joined::new(original_count, shard_bytes, originals);
+    let shards = BufferShards::new(original_count, shard_bytes, originals);
     let gathered = LentOriginals::gather(alloc, counts, shards)?;
     gathered.check_all_given()?;
     write_recovery(
@@ -66,7 +66,7 @@ pub fn encode_buffer(
 /// length of a room, and the memory for the work area. After an error the rooms are unchanged.
 pub fn encode_arrays(
     alloc: Global,
-    engine: Borrowing<'_>,
+    engine: TableEngine<'_>,
     original_count: usize,
     recovery_count: usize,
     originals: &[&[u8]],
@@ -91,7 +91,7 @@ pub fn encode_arrays(
 // work area cannot be allocated.
 fn write_recovery(
     alloc: Global,
-    engine: Borrowing<'_>,
+    engine: TableEngine<'_>,
     originals: &LentOriginals<'_>,
     recovery_count: usize,
     shard_bytes: usize,

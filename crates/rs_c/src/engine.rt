@@ -17,22 +17,22 @@ use rs_field::engine::tables::Multiply128lutT;
 
 /// The engine by shuffles, over tables that a program in C lends.
 #[derive(Clone, Copy)]
-pub struct Borrowing<'t> {
+pub struct TableEngine<'t> {
     tables: &'t RsTables,
     ghost made: { AreTables tables.now },
 }
 
-impl<'t> Borrowing<'t> {
+impl<'t> TableEngine<'t> {
     /// Makes the engine over these tables. Returns `None` if the tables do not have the stamp that `rs_tables_make`
     /// writes.
-    pub fn new(tables: &'t RsTables) -> Option<Borrowing<'t>>
+    pub fn new(tables: &'t RsTables) -> Option<TableEngine<'t>>
         requires stamped { AreStamped tables.now → AreTables tables.now }
         ensures { MatchOption result (¬ AreStamped tables.now) (λ _. AreStamped tables.now) }
     {
         if tables.stamp != STAMP {
             return None;
         }
-        Some(Borrowing { tables })
+        Some(TableEngine { tables })
     }
 
     // Returns the products with the generator to the power `log_m`.
@@ -44,7 +44,7 @@ impl<'t> Borrowing<'t> {
     }
 }
 
-impl Kernel for Borrowing<'_> {
+impl Kernel for TableEngine<'_> {
     fn tables(&self) -> LentTables<'_> {
         LentTables {
             skew: &self.tables.skew,

@@ -7,7 +7,7 @@ use std::marker::Model;
 
 /// An iterator over the shards of a buffer, which lie one after the other.
 #[derive(Drop)]
-pub struct Joined<'a> {
+pub struct BufferShards<'a> {
     // The bytes of the shards that are still to come.
     bytes: &'a [u8],
     // The size of each shard, in bytes.
@@ -16,7 +16,7 @@ pub struct Joined<'a> {
     left: usize,
 }
 
-impl<'a> Model for Joined<'a> {
+impl<'a> Model for BufferShards<'a> {
     ghost use Rattle.std.specs.Prelude.{◌≡◌, ◌*◌, List, length};
     ghost use Rattle.rs_field.specs.code.Column.{Shard};
     ghost use Rattle.rs_c.specs.Buffers.{shards_in_buffer};
@@ -28,13 +28,13 @@ impl<'a> Model for Joined<'a> {
     ghost invariant = { λ x. length x.bytes.now ≡ x.left * x.size };
 }
 
-impl<'a> Joined<'a> {
+impl<'a> BufferShards<'a> {
     /// Makes an iterator over the `count` shards of `size` bytes that are in `bytes`.
-    pub fn new(count: usize, size: usize, bytes: &'a [u8]) -> Joined<'a>
+    pub fn new(count: usize, size: usize, bytes: &'a [u8]) -> BufferShards<'a>
         requires { length bytes.now ≡ count * size }
         ensures { result ≡ shards_in_buffer count size bytes.now }
     {
-        Joined {
+        BufferShards {
             bytes,
             size,
             left: count,
@@ -42,7 +42,7 @@ impl<'a> Joined<'a> {
     }
 }
 
-impl<'a> Iterator for Joined<'a> {
+impl<'a> Iterator for BufferShards<'a> {
     type Item = &'a [u8];
 
     ghost next_gives = { YieldsFirstRef (λ shards. shards) };

@@ -1,14 +1,14 @@
 //! Functions that write texts of words and decimal numbers into a room, as far as they fit. They allocate nothing.
 ghost use Rattle.std.specs.Prelude.{◌≡◌, ℕ, ◌+◌, ◌≤◌, List, ◌++◌, length, decimal};
-ghost use Rattle.rs_c.specs.Texts.{written_over, WritesText};
+ghost use Rattle.rs_c.specs.Texts.{text_over, WritesText};
 
 // Writes a piece of a text into a room, after the first `at` bytes of the text, as much of the piece as fits. Returns
 // the place in the text where the piece ends.
 fn put_bytes(room: &mut [u8], at: usize, piece: &[u8]) -> usize
     requires { at + length piece.now ≤ 65536 }
     ensures end { result ≡ at + length piece.now }
-    ensures written { (text old : List ℕ) → length text ≡ at → room.old ≡ written_over text old
-        → room.new ≡ written_over (text ++ piece.now) old }
+    ensures written { (text old : List ℕ) → length text ≡ at → room.old ≡ text_over text old
+        → room.new ≡ text_over (text ++ piece.now) old }
 {
     if at < room.len() {
         let fits = piece.len().min(room.len() - at);
@@ -22,8 +22,8 @@ fn put_bytes(room: &mut [u8], at: usize, piece: &[u8]) -> usize
 fn put(room: &mut [u8], at: usize, words: &str) -> usize
     requires { at + length words.now ≤ 65536 }
     ensures end { result ≡ at + length words.now }
-    ensures written { (text old : List ℕ) → length text ≡ at → room.old ≡ written_over text old
-        → room.new ≡ written_over (text ++ words.now) old }
+    ensures written { (text old : List ℕ) → length text ≡ at → room.old ≡ text_over text old
+        → room.new ≡ text_over (text ++ words.now) old }
 {
     put_bytes(room, at, words.as_bytes())
 }
@@ -33,8 +33,8 @@ fn put(room: &mut [u8], at: usize, words: &str) -> usize
 fn put_number(room: &mut [u8], at: usize, number: usize) -> usize
     requires { at ≤ 65000 }
     ensures end { (result ≡ at + length (decimal number)) × (result ≤ at + 20) }
-    ensures written { (text old : List ℕ) → length text ≡ at → room.old ≡ written_over text old
-        → room.new ≡ written_over (text ++ decimal number) old }
+    ensures written { (text old : List ℕ) → length text ≡ at → room.old ≡ text_over text old
+        → room.new ≡ text_over (text ++ decimal number) old }
 {
     let digit = b'0' + (number % 10) as u8;
     if number < 10 {

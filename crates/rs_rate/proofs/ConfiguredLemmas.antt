@@ -5,7 +5,7 @@ use Rattle.std.proofs.lemmas.Nat.{pow_pos}
 use Rattle.rs_field.specs.declared.code.error.Error.{Error}
 use Rattle.rs_field.specs.code.Configuration.{Configuration as AsDefined, configuration, validation_outcome, start_outcome}
 use Rattle.rs_field.specs.code.Counts.{Rate, next_power, supports, is_low, low_rate}
-use Rattle.rs_field.specs.code.Placement.{encoder_rows, rounded_up}
+use Rattle.rs_field.specs.code.Placement.{encoder_rows, next_multiple}
 use Rattle.rs_field.proofs.of_code.NextPower.{next_power-small, power_is_own}
 use Rattle.rs_field.proofs.of_code.SupportedCounts.{low_fits}
 use Rattle.rs_rate.specs.declared.values.configuration.Configuration.{Configuration}
@@ -18,7 +18,7 @@ use Rattle.rs_rate.specs.SetUp.{IsSetUp, rows_of}
 use Rattle.rs_rate.specs.Shapes.{EncoderCanBeLaid, DecoderCanBeLaid, HasPlaces}
 use Rattle.rs_rate.proofs.DecoderRows.{low_frame-is}
 use Rattle.rs_rate.proofs.HighCounts.{high_turned, rows-fit}
-use Rattle.rs_rate.proofs.PowerLemmas.{low_small, rounded_up-by}
+use Rattle.rs_rate.proofs.PowerLemmas.{low_small, next_multiple-by}
 use Rattle.rs_rate.proofs.StateLemmas.{start_outcome-by}
 use Rattle.rs_rate.proofs.RateLemmas.{chooses, chosen, block-is, block_alike, frame_alike, high_frame-is}
 
@@ -42,7 +42,7 @@ rate_configuration-by c low is choice =
 pub record HasBlocks (c : Configuration) (coded : ℕ) : Type 0 where
   pub some : 0 < c.block_rows
   pub few : c.block_rows + coded ≤ 65536
-  pub rows : rounded_up coded c.block_rows ≡ encoder_rows (low_or_high c.is_low) c.original_count c.recovery_count
+  pub rows : next_multiple coded c.block_rows ≡ encoder_rows (low_or_high c.is_low) c.original_count c.recovery_count
 
 pub blocks-known : (c : Configuration) → IsConfigured c → (low : Bool) → c.is_low ≡ low → HasBlocks c (cond low c.recovery_count c.original_count)
 blocks-known c is low choice =
@@ -52,7 +52,7 @@ blocks-known c is low choice =
     record {
       some = omega (arith, positive, fit.power.1, known.1);
       few = omega (arith, fit.points, fit.enough, known.1);
-      rows = ap (rounded_up (cond low c.recovery_count c.original_count)) known.1 ∙ rounded_up-by low c.original_count c.recovery_count
+      rows = ap (next_multiple (cond low c.recovery_count c.original_count)) known.1 ∙ next_multiple-by low c.original_count c.recovery_count
           ∙ ap (λ (b : Bool). encoder_rows (low_or_high b) c.original_count c.recovery_count) (sym choice);
     }
 

@@ -9,7 +9,7 @@ use Rattle.rs_field.specs.code.Placement.{encoder_rows}
 use Rattle.rs_field.proofs.of_code.NextPower.{next_power-small}
 use Rattle.rs_field.proofs.of_code.SupportedCounts.{low_fits}
 use Rattle.rs_rate.specs.Configured.{low_or_high}
-use Rattle.rs_rate.proofs.PowerLemmas.{low_small, rounded_up-by, multiple_least, multiple_room}
+use Rattle.rs_rate.proofs.PowerLemmas.{low_small, next_multiple-by, multiple_least, multiple_room}
 
 -- The high rate supports k and r exactly if the low rate supports r and k.
 pub high_turned : (k r : ℕ) → supports low_rate r k ≡ supports high_rate k r
@@ -35,7 +35,7 @@ low_rows-fit k r is =
     let fits = low_fits k r is in
     let positive : 0 < next_power k = (let p = pow_pos known.0 in omega (arith, known.2)) in
     let parts : (r + next_power k - 1) / next_power k * next_power k + (r + next_power k - 1) % next_power k ≡ r + next_power k - 1 = div-add-mod' (r + next_power k - 1) (next_power k) in
-    let rows : encoder_rows low_rate k r ≡ (r + next_power k - 1) / next_power k * next_power k = sym (rounded_up-by true k r) in
+    let rows : encoder_rows low_rate k r ≡ (r + next_power k - 1) / next_power k * next_power k = sym (next_multiple-by true k r) in
     let rest : (r + next_power k - 1) % next_power k < next_power k = omega arith in
     let multiple : encoder_rows low_rate k r % next_power k ≡ 0 = ap (λ n. n % next_power k) rows ∙ mul-mod_left ((r + next_power k - 1) / next_power k) (next_power k) in
     record {
@@ -49,4 +49,4 @@ low_rows-fit k r is =
 
 pub rows-fit : (low : Bool) (k r : ℕ) → supports (low_or_high low) k r ≡ true → HasRows (cond low k r) (cond low r k) (encoder_rows (low_or_high low) k r)
 rows-fit true k r is = low_rows-fit k r is
-rows-fit false k r is = subst (λ (n : ℕ). HasRows r k n) (sym (rounded_up-by true r k) ∙ rounded_up-by false k r) (low_rows-fit r k (high_turned k r ∙ is))
+rows-fit false k r is = subst (λ (n : ℕ). HasRows r k n) (sym (next_multiple-by true r k) ∙ next_multiple-by false k r) (low_rows-fit r k (high_turned k r ∙ is))

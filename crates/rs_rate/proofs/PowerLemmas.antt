@@ -6,7 +6,7 @@ use Rattle.std.proofs.Math.Nat.{div-eq_of_lt-le, zero-mod, mul-mod_left, mul-le-
 use Rattle.std.specs.Int.{next_multiple_of}
 use Rattle.rs_field.proofs.of_code.NextPower.{next_power-large}
 use Rattle.rs_field.specs.code.Counts.{next_power, supports, is_low, low_rate}
-use Rattle.rs_field.specs.code.Placement.{rounded_up, encoder_rows}
+use Rattle.rs_field.specs.code.Placement.{next_multiple, encoder_rows}
 use Rattle.rs_field.proofs.of_code.SupportedCounts.{low_fits}
 use Rattle.rs_rate.specs.Configured.{low_or_high}
 
@@ -15,8 +15,8 @@ unfolding supports
 low_supported k r some_k some_r fit = rw (lt-ltb 0 k some_k, lt-ltb 0 r some_r, le-leb (next_power k + r) 65536 fit) refl
 
 -- The multiple of m that is at least n and below n + m is n rounded up to a multiple of m.
-pub rounded_up-is : (n m result : ℕ) → 0 < m → n ≤ result → result < n + m → result % m ≡ 0 → result ≡ rounded_up n m
-rounded_up-is n m result some low high multiple =
+pub next_multiple-is : (n m result : ℕ) → 0 < m → n ≤ result → result < n + m → result % m ≡ 0 → result ≡ next_multiple n m
+next_multiple-is n m result some low high multiple =
     let whole : result / m * m + result % m ≡ result = div-add-mod' result m in
     let below : result / m * m ≤ n + m - 1 = omega arith in
     let above : n + m - 1 < (result / m + 1) * m = omega arith in
@@ -25,10 +25,10 @@ rounded_up-is n m result some low high multiple =
     product ∙ ap (λ q. q * m) (sym quotient)
 
 -- The number of rows of an encoder of the low rate or of the high rate.
-pub rounded_up-by : (low : Bool) (k r : ℕ) → rounded_up (cond low r k) (next_power (cond low k r)) ≡ encoder_rows (low_or_high low) k r
+pub next_multiple-by : (low : Bool) (k r : ℕ) → next_multiple (cond low r k) (next_power (cond low k r)) ≡ encoder_rows (low_or_high low) k r
 unfolding encoder_rows is_low
-rounded_up-by true k r = refl
-rounded_up-by false k r = refl
+next_multiple-by true k r = refl
+next_multiple-by false k r = refl
 
 -- The next multiple of m, from n on, is below n + m.
 pub next_multiple_of-below : (n m : ℕ) → 0 < m → next_multiple_of n m < n + m

@@ -4,7 +4,7 @@ use Rattle.std.proofs.Common.{ap, arith}
 use Rattle.std.proofs.Math.Nat.{mul-le-mul_left}
 use Rattle.rs_field.specs.rows.Layout.{row_len}
 use Rattle.rs_field.specs.code.Counts.{Rate, next_power, is_low}
-use Rattle.rs_field.specs.code.Placement.{encoder_rows, decoder_rows, rounded_up}
+use Rattle.rs_field.specs.code.Placement.{encoder_rows, decoder_rows, next_multiple}
 use Rattle.rs_rate.specs.declared.values.configuration.Configuration.{Configuration}
 use Rattle.rs_rate.specs.Configured.{low_or_high}
 use Rattle.rs_rate.specs.SetUp.{IsSetUp, rows_of}
@@ -19,7 +19,7 @@ some_anyway (Some w) P each = each w
 -- two rates have the same number of encoder rows for counts for which they are both the low rate or both the high rate
 pub encoder_rows_alike : (one other : Rate) (k r : ℕ) → is_low one k r ≡ is_low other k r → encoder_rows one k r ≡ encoder_rows other k r
 unfolding encoder_rows
-encoder_rows_alike one other k r same = ap (λ b. if b then rounded_up r (next_power k) else rounded_up k (next_power r)) same
+encoder_rows_alike one other k r same = ap (λ b. if b then next_multiple r (next_power k) else next_multiple k (next_power r)) same
 
 -- the rows that an encoder is set up with are the rows of its rate
 pub encoder_rows_set_up : (rate : Rate) (c : Configuration) → IsSetUp rate c → rows_of encoder_rows c ≡ encoder_rows rate c.original_count c.recovery_count

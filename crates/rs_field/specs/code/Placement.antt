@@ -31,12 +31,12 @@ unfoldable pub block_rows : Rate → ℕ → ℕ → ℕ
 block_rows rate k r = if is_low rate k r then next_power k else next_power r
 
 -- n rounded up to a multiple of m
-abbrev pub rounded_up : ℕ → ℕ → ℕ
-rounded_up n m = (n + m - 1) / m * m
+abbrev pub next_multiple : ℕ → ℕ → ℕ
+next_multiple n m = (n + m - 1) / m * m
 
 -- the number of rows of an encoder: the number of recovery shards at the low rate, or of originals at the high rate, rounded up to whole blocks
 unfoldable pub encoder_rows : Rate → ℕ → ℕ → ℕ
-encoder_rows rate k r = if is_low rate k r then rounded_up r (next_power k) else rounded_up k (next_power r)
+encoder_rows rate k r = if is_low rate k r then next_multiple r (next_power k) else next_multiple k (next_power r)
 
 -- the number of rows of a decoder: at the low rate the power of m + r, with m the power of k; at the high rate the power of m + k, with m the power of r
 unfoldable pub decoder_rows : Rate → ℕ → ℕ → ℕ

@@ -9,7 +9,7 @@ use Rattle.rs_field.specs.code.Given.{Shards, nothing, with_entry}
 use Rattle.rs_field.specs.code.Encoder.{EncoderState, fresh_encoder, with_shard, message_of, after_encode}
 use Rattle.rs_field.specs.code.Decoder.{fresh_decoder, with_original, with_recovery, enough_given, after_decode}
 use Rattle.rs_field.specs.code.OneCall.{default_of, encoding_outcome, decoding_outcome, OneEncodeAnswers, OneDecodes, OneDecodeAnswers}
-use Rattle.rs_field.specs.worked.Codes.{two_given, surplus_given}
+use Rattle.rs_field.specs.worked.Codes.{state_of_two, state_of_surplus}
 
 -- a shard of n zero bytes
 abbrev pub zeros : ℕ → Shard
@@ -62,8 +62,8 @@ EncoderRound =
 abbrev pub DecoderRound : Type 0
 DecoderRound =
     (enough_given (record { configuration = default_of 2 3 2; originals = nothing; recovery = with_entry nothing 2 (zeros 2) }) ≡ Err (NotEnoughShards 2 0 1))
-    × (enough_given two_given ≡ Ok tt) × (after_decode two_given ≡ fresh_decoder (default_of 2 3 2))
-    × (after_decode (surplus_given (7 ∷ 8 ∷ [])) ≡ fresh_decoder (default_of 1 2 2))
+    × (enough_given state_of_two ≡ Ok tt) × (after_decode state_of_two ≡ fresh_decoder (default_of 2 3 2))
+    × (after_decode (state_of_surplus (7 ∷ 8 ∷ [])) ≡ fresh_decoder (default_of 1 2 2))
     × (enough_given (fresh_decoder (default_of 2 3 2)) ≡ Err (NotEnoughShards 2 0 0))
 
 -- the largest index fails like every other index that is too large

@@ -86,8 +86,8 @@ abbrev pub HighExamples : Rate → Type 0
 HighExamples rate = SumExample rate × HighLineExample rate × HighCubicExample rate × HighPaddedExample rate
 
 -- a decoder of two originals and three recovery shards that was given the first two recovery shards
-abbrev pub two_given : DecoderState
-two_given = record {
+abbrev pub state_of_two : DecoderState
+state_of_two = record {
   configuration = configuration default_rate 2 3 2;
   originals = nothing;
   recovery = with_entry (with_entry nothing 0 (2 ∷ 0 ∷ [])) 1 (3 ∷ 0 ∷ []);
@@ -96,9 +96,9 @@ two_given = record {
 -- one message agrees with the two recovery shards, no other does, and it is restored
 abbrev pub RestoredExample : Type 0
 RestoredExample =
-    IsAgreeing two_given (low_bytes (0 ∷ 1 ∷ []))
-    × ((message : List Shard) → IsAgreeing two_given message → message ≡ low_bytes (0 ∷ 1 ∷ []))
-    × Restored two_given (with_entry (with_entry nothing 0 (0 ∷ 0 ∷ [])) 1 (1 ∷ 0 ∷ []))
+    IsAgreeing state_of_two (low_bytes (0 ∷ 1 ∷ []))
+    × ((message : List Shard) → IsAgreeing state_of_two message → message ≡ low_bytes (0 ∷ 1 ∷ []))
+    × Restored state_of_two (with_entry (with_entry nothing 0 (0 ∷ 0 ∷ [])) 1 (1 ∷ 0 ∷ []))
 
 -- two originals and two recovery shards, given out of order, agree with a message of four shards
 abbrev pub MixtureExample : Type 0
@@ -112,8 +112,8 @@ MixtureExample =
     (low_bytes (0 ∷ 0 ∷ 2 ∷ 3 ∷ []))
 
 -- a decoder of one original and two recovery shards that was given the original and one recovery shard
-abbrev pub surplus_given : Shard → DecoderState
-surplus_given recovery = record {
+abbrev pub state_of_surplus : Shard → DecoderState
+state_of_surplus recovery = record {
   configuration = configuration default_rate 1 2 2;
   originals = with_entry nothing 0 (7 ∷ 9 ∷ []);
   recovery = with_entry nothing 0 recovery;
@@ -122,4 +122,4 @@ surplus_given recovery = record {
 -- if the recovery shard is a copy of the original, nothing is missing; if it is another shard, no message agrees
 abbrev pub SurplusExample : Type 0
 SurplusExample =
-    DecodeAnswers (surplus_given (7 ∷ 9 ∷ [])) (Ok nothing) × DecodeAnswers (surplus_given (7 ∷ 8 ∷ [])) (Err (InconsistentShards 1 1))
+    DecodeAnswers (state_of_surplus (7 ∷ 9 ∷ [])) (Ok nothing) × DecodeAnswers (state_of_surplus (7 ∷ 8 ∷ [])) (Err (InconsistentShards 1 1))

@@ -264,13 +264,13 @@ impl ObjectRows for DecoderRows {
         Ok(())
     }
 
-    ghost stays = { λ room. record {
+    ghost grows_from_itself = { λ room. record {
       chunks = le_refl room.chunks;
       rows = le_refl room.rows;
       entries = le_refl room.entries;
     } };
 
-    ghost anyway = { λ work n size answer wanted same. some_anyway work _ (λ w roomy. same) };
+    ghost equal_with_room = { λ work n size answer wanted same. some_anyway work _ (λ w roomy. same) };
 
     ghost rows_set_up = { decoder_rows_set_up };
 

@@ -127,9 +127,9 @@ impl ObjectRows for EncoderRows {
         Ok(())
     }
 
-    ghost stays = { le_refl };
+    ghost grows_from_itself = { le_refl };
 
-    ghost anyway = { λ work n size answer wanted same. some_anyway work _ (λ w roomy. same) };
+    ghost equal_with_room = { λ work n size answer wanted same. some_anyway work _ (λ w roomy. same) };
 
     ghost rows_set_up = { encoder_rows_set_up };
 

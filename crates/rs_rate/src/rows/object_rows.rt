@@ -87,10 +87,10 @@ pub trait ObjectRows: Sized {
             → result ≡ set_up_outcome row_count configuration };
 
     /// Each room is at least as large as itself.
-    ghost stays: { (room : Room) → grows room room };
+    ghost grows_from_itself: { (room : Room) → grows room room };
 
     /// If two results are always equal, they are equal if there is room.
-    ghost anyway: { (work : Self.Work) (n size : ℕ) (answer wanted : Answer) → answer ≡ wanted
+    ghost equal_with_room: { (work : Self.Work) (n size : ℕ) (answer wanted : Answer) → answer ≡ wanted
         → where_roomy work n size answer wanted };
 
     /// Rows that are set up for a configuration have the number that the rate defines for the two counts.

@@ -1,7 +1,7 @@
 use Rattle.std.proofs.Common.{◌≡◌, ℕ, ◌+◌, ◌<◌, ◌≤◌, ◌^◌, ◌/◌, ◌%◌, [], ◌∷◌, ◌++◌, length, decimal, sym, ap, ◌∙◌, arith, append_assoc, lit<}
 use Rattle.std.proofs.lemmas.Fmt.{decimal_digit, decimal_step, length-decimal-le}
 use Rattle.std.proofs.lemmas.List.{length-append}
-use Rattle.rs_c.specs.Texts.{written_over}
+use Rattle.rs_c.specs.Texts.{text_over}
 use Rattle.rs_c.proofs.writing.+put_number.Goals as goal
 
 -- The decimal text of a number below ten is one digit.
@@ -15,7 +15,7 @@ returns-then-number-lt10-clause-end t c =
 
 pub returns-then-number-lt10-clause-written : goal.returns-then-number-lt10-clause-written
 returns-then-number-lt10-clause-written t c text old sized is =
-    c.put_bytes.ensures.written text old sized is ∙ ap (λ digits. written_over (text ++ digits) old) (sym (last-digit c.args.number c.if-number-lt10.true))
+    c.put_bytes.ensures.written text old sized is ∙ ap (λ digits. text_over (text ++ digits) old) (sym (last-digit c.args.number c.if-number-lt10.true))
 
 pub returns-clause-end : goal.returns-clause-end
 returns-clause-end t c =
@@ -31,4 +31,4 @@ returns-clause-written t c text old sized is =
     let front = decimal (n / 10) in
     let ends : length (text ++ front) ≡ c.put_number-end.result = length-append text front ∙ ap (λ m. m + length front) sized ∙ sym c.put_number-end.ensures.end.0 in
     c.put_bytes-2.ensures.written (text ++ front) old ends (c.put_number-end.ensures.written text old sized is)
-    ∙ ap (λ whole. written_over whole old) (append_assoc text front ((48 + n % 10) ∷ []) ∙ ap (λ digits. text ++ digits) (sym (decimal_step n c.if-number-lt10.false (omega (arith, c.ranges.number)))))
+    ∙ ap (λ whole. text_over whole old) (append_assoc text front ((48 + n % 10) ∷ []) ∙ ap (λ digits. text ++ digits) (sym (decimal_step n c.if-number-lt10.false (omega (arith, c.ranges.number)))))

@@ -14,7 +14,7 @@ use Rattle.rs_field.specs.code.Code.{AreRecovery}
 use Rattle.rs_field.specs.code.CodeLaws.{changed_shards}
 use Rattle.rs_field.specs.code.Given.{Shards, nothing, with_entry, count_below}
 use Rattle.rs_field.specs.code.Decoder.{IsAgreeing, IsConsistent, missing_of, Restored, DecodeAnswers}
-use Rattle.rs_field.specs.worked.Codes.{low_bytes, two_given, surplus_given, MixtureExample}
+use Rattle.rs_field.specs.worked.Codes.{low_bytes, state_of_two, state_of_surplus, MixtureExample}
 use Rattle.rs_field.proofs.of_words.Linear.{passes_below}
 use Rattle.rs_field.proofs.of_code.Agreement.{one_message}
 use Rattle.rs_field.proofs.of_code.Changes.{changes_noticed}
@@ -45,7 +45,7 @@ unfolding passes_below placement low_placement high_placement is_low next_power 
 copies = recovery_from _ _ _ ((2311 ∷ []) ∷ []) refl
 
 -- The message of two originals agrees with two of its recovery shards.
-agrees : IsAgreeing two_given message
+agrees : IsAgreeing state_of_two message
 agrees = record {
   shards = message_shards;
   own = nothing_among message;
@@ -53,16 +53,16 @@ agrees = record {
 }
 
 -- No other message of two originals agrees with these two recovery shards.
-only : (m : List Shard) → IsAgreeing two_given m → m ≡ message
+only : (m : List Shard) → IsAgreeing state_of_two m → m ≡ message
 unfolding supports next_power first_below with_entry count_below
-only m a = one_message two_given.configuration two_given.originals two_given.recovery m message refl refl (lit≤ tt) a agrees
+only m a = one_message state_of_two.configuration state_of_two.originals state_of_two.recovery m message refl refl (lit≤ tt) a agrees
 
 -- The originals that are restored.
 abbrev out : Shards
 out = with_entry (with_entry nothing 0 (0 ∷ 0 ∷ [])) 1 (1 ∷ 0 ∷ [])
 
 -- Both originals are restored, and nothing else.
-out_missing : (i : ℕ) → out i ≡ missing_of two_given message i
+out_missing : (i : ℕ) → out i ≡ missing_of state_of_two message i
 unfolding with_entry missing_of
 out_missing zero = refl
 out_missing (suc zero) = refl
@@ -75,7 +75,7 @@ out_missing (suc (suc i)) = none ∙ sym (ap (λ (b : Bool). cond (b && true) (S
     ]
 
 -- A decoder with two of the recovery shards restores the message.
-restored : Restored two_given out
+restored : Restored state_of_two out
 restored = record { message = message; agrees = agrees; only = only; missing = out_missing }
 
 -- A message of four originals.
@@ -108,7 +108,7 @@ abbrev copied : List Shard
 copied = (7 ∷ 9 ∷ []) ∷ (7 ∷ 9 ∷ []) ∷ []
 
 -- The message of one original agrees with the original and a copy of the original.
-original_agrees : IsAgreeing (surplus_given (7 ∷ 9 ∷ [])) original
+original_agrees : IsAgreeing (state_of_surplus (7 ∷ 9 ∷ [])) original
 original_agrees = record {
   shards = shards_from 1 2 original refl;
   own = entered_among nothing 0 (7 ∷ 9 ∷ []) original (nothing_among original) refl;
@@ -116,33 +116,33 @@ original_agrees = record {
 }
 
 -- No message agrees with an original and a recovery shard that is no copy of the original.
-inconsistent : IsConsistent (surplus_given (7 ∷ 8 ∷ [])) → ⊥
+inconsistent : IsConsistent (state_of_surplus (7 ∷ 8 ∷ [])) → ⊥
 unfolding supports next_power first_below with_entry count_below changed_shards
 inconsistent =
-    let given = surplus_given (7 ∷ 8 ∷ []) in
+    let given = state_of_surplus (7 ∷ 8 ∷ []) in
     changes_noticed given.configuration original copied given.originals given.recovery refl refl (shards_from 1 2 original refl) copies (lit< tt) (lit≤ tt)
 
 -- No other message of one original agrees with the original and its copy.
-only_original : (m : List Shard) → IsAgreeing (surplus_given (7 ∷ 9 ∷ [])) m → m ≡ original
+only_original : (m : List Shard) → IsAgreeing (state_of_surplus (7 ∷ 9 ∷ [])) m → m ≡ original
 unfolding supports next_power first_below with_entry count_below
 only_original m a =
-    let given = surplus_given (7 ∷ 9 ∷ []) in
+    let given = state_of_surplus (7 ∷ 9 ∷ []) in
     one_message given.configuration given.originals given.recovery m original refl refl (lit≤ tt) a original_agrees
 
 -- No original is missing if the only original is given.
-none_missing : (i : ℕ) → nothing i ≡ missing_of (surplus_given (7 ∷ 9 ∷ [])) original i
+none_missing : (i : ℕ) → nothing i ≡ missing_of (state_of_surplus (7 ∷ 9 ∷ [])) original i
 unfolding with_entry missing_of
 none_missing zero = refl
 none_missing (suc i) =
-    sym (ap (λ (b : Bool). cond (b && not (is_some ((surplus_given (7 ∷ 9 ∷ [])).originals (suc i)))) (Some (shard_at original (suc i))) None) (le-ltb (suc i) 1 (omega arith)))
+    sym (ap (λ (b : Bool). cond (b && not (is_some ((state_of_surplus (7 ∷ 9 ∷ [])).originals (suc i)))) (Some (shard_at original (suc i))) None) (le-ltb (suc i) 1 (omega arith)))
 
 -- A decode of the original and its copy restores no original.
-agreed : DecodeAnswers (surplus_given (7 ∷ 9 ∷ [])) (Ok nothing)
+agreed : DecodeAnswers (state_of_surplus (7 ∷ 9 ∷ [])) (Ok nothing)
 unfolding with_entry count_below
 agreed = record { message = original; agrees = original_agrees; only = only_original; missing = none_missing }
 
 -- A decode of an original and a recovery shard that is no copy of the original returns `InconsistentShards`.
-refused : DecodeAnswers (surplus_given (7 ∷ 8 ∷ [])) (Err (InconsistentShards 1 1))
+refused : DecodeAnswers (state_of_surplus (7 ∷ 8 ∷ [])) (Err (InconsistentShards 1 1))
 unfolding with_entry count_below
 refused = record { refusal = refl; surplus = omega arith; none = inconsistent }
 

@@ -5,7 +5,7 @@ use Rattle.rs_rate.proofs.StateLemmas.{memory_outcome-made, on_ok-at, on_err-at}
 use Rattle.rs_rate.proofs.objects.rate_object.RateObject.set_up_anew.Goals as goal
 
 pub returns-in_err-configuration-clause-grown : goal.returns-in_err-configuration-clause-grown
-returns-in_err-configuration-clause-grown g c = g.met.R.ObjectRows.stays _
+returns-in_err-configuration-clause-grown g c = g.met.R.ObjectRows.grows_from_itself _
 
 pub returns : goal.returns
 returns g c =

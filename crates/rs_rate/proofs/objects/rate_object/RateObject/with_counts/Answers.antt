@@ -4,7 +4,7 @@ use Rattle.rs_rate.proofs.ConfiguredLemmas.{is_asked}
 use Rattle.rs_rate.proofs.objects.rate_object.RateObject.with_counts.Goals as goal
 
 pub returns-in_err-configuration-clause-roomy : goal.returns-in_err-configuration-clause-roomy
-returns-in_err-configuration-clause-roomy g c = g.met.R.ObjectRows.anyway c.args.work _ c.args.shard_bytes _ _ (search rules)
+returns-in_err-configuration-clause-roomy g c = g.met.R.ObjectRows.equal_with_room c.args.work _ c.args.shard_bytes _ _ (search rules)
 
 pub returns-in_err-rows-clause-roomy : goal.returns-in_err-rows-clause-roomy
 returns-in_err-rows-clause-roomy g c =

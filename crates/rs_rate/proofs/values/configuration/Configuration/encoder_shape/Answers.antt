@@ -2,7 +2,7 @@ use Rattle.std.proofs.Common.{ℕ, true, false, refl, sym, ap, ◌∙◌, subst,
 use Rattle.rs_rate.specs.declared.values.shapes.EncoderShape.{EncoderShape}
 use Rattle.rs_rate.specs.Shapes.{EncoderCanBeLaid}
 use Rattle.rs_rate.proofs.ConfiguredLemmas.{HasBlocks, blocks-known, encoder-laid}
-use Rattle.rs_rate.proofs.PowerLemmas.{rounded_up-is, next_multiple_of-below}
+use Rattle.rs_rate.proofs.PowerLemmas.{next_multiple-is, next_multiple_of-below}
 use Rattle.rs_rate.proofs.values.configuration.Configuration.encoder_shape.Goals.{then-self, else-self}
 use Rattle.rs_rate.proofs.values.configuration.Configuration.encoder_shape.Goals as goal
 
@@ -26,7 +26,7 @@ returns-clause-shape c =
     ] in
     let e = c.next_multiple_of.ensures in
     ap (λ (n : ℕ). let shape : EncoderShape = record { configuration = c.args.self; row_count = n } in shape)
-    (rounded_up-is c.if-self.coded c.args.self.block_rows c.next_multiple_of.result known.some e.lower_bound e.upper_bound e.multiple ∙ known.rows)
+    (next_multiple-is c.if-self.coded c.args.self.block_rows c.next_multiple_of.result known.some e.lower_bound e.upper_bound e.multiple ∙ known.rows)
 
 pub returns-clause-laid : goal.returns-clause-laid
 returns-clause-laid c = subst EncoderCanBeLaid (sym (returns-clause-shape c)) (encoder-laid c.args.self c.requires)
