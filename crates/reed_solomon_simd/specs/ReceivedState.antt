@@ -4,7 +4,7 @@ use Rattle.rs_field.specs.code.OneCall.{default_of}
 use Rattle.reed_solomon_simd.specs.declared.received_shards.ReceivedShards.{ReceivedShards}
 use Rattle.reed_solomon_simd.specs.Received.{given_in}
 
--- the configuration, and the received shards
+-- the state with the configuration of received shards, and with these shards
 abbrev pub received_state : ReceivedShards → DecoderState
 received_state x =
     record {

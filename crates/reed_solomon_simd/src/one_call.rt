@@ -2,7 +2,9 @@
 ghost use Rattle.std.specs.Prelude.{◌≡◌, List, Err, IfOk, IfErr};
 ghost use Rattle.std.specs.Iterator.{IsFinite};
 ghost use Rattle.rs_field.specs.code.Column.{Shard};
-ghost use Rattle.rs_field.specs.code.OneCall.{Items, Lends, LendsItems, counts_outcome, collected_shards, collected_map, OneEncodeAnswers, OneDecodeAnswers};
+ghost use Rattle.rs_field.specs.code.OneCall.{Items, Lends, LendsItems, counts_outcome};
+ghost use Rattle.rs_field.specs.code.OneCall.{collected_shards, collected_map, OneEncodeAnswers};
+ghost use Rattle.rs_field.specs.code.OneCall.{OneDecodeAnswers};
 ghost use Rattle.rs_field.specs.code.RoundTrip.{AreCoded};
 ghost use Rattle.rs_rate.specs.Calls.{Calls, BeginsWith, BeginsWithItems};
 

@@ -1,5 +1,6 @@
 //! The shards that were received of a message, as slices of the caller's memory.
-ghost use Rattle.std.specs.Prelude.{◌≡◌, ◌<◌, ◌≤◌, ◌+◌, ◌==◌, nat_lt, IfOk, if◌then◌else◌, None, Ok, Err, length, MatchResult, OnOk};
+ghost use Rattle.std.specs.Prelude.{◌≡◌, ◌<◌, ◌≤◌, ◌+◌, ◌==◌, nat_lt, IfOk, if◌then◌else◌, None};
+ghost use Rattle.std.specs.Prelude.{Ok, Err, length, MatchResult, OnOk};
 ghost use Rattle.rs_field.specs.code.Column.{IsShard};
 ghost use Rattle.rs_field.specs.code.Configuration.{start_outcome};
 ghost use Rattle.rs_field.specs.code.Counts.{default_rate};

@@ -1,7 +1,9 @@
 //! Functions that restore the missing originals of received shards, as vectors or into memory of the caller.
-ghost use Rattle.std.specs.Prelude.{◌≡◌, ◌⊎◌, ◌+◌, All, true, false, IfErr, Ok, Err, length, map, MatchResult, OnOk, OnErr};
+ghost use Rattle.std.specs.Prelude.{◌≡◌, ◌⊎◌, ◌+◌, All, true, false, IfErr, Ok, Err, length, map};
+ghost use Rattle.std.specs.Prelude.{MatchResult, OnOk, OnErr};
 ghost use Rattle.rs_field.specs.code.Counts.{default_rate};
-ghost use Rattle.rs_field.specs.code.Decoder.{IsDecoder, enough_given, originals_given, recovery_given, Restored, NoneAgrees};
+ghost use Rattle.rs_field.specs.code.Decoder.{IsDecoder, enough_given, originals_given};
+ghost use Rattle.rs_field.specs.code.Decoder.{recovery_given, Restored, NoneAgrees};
 ghost use Rattle.rs_field.specs.code.OneCall.{collected_shards, collected_map};
 ghost use Rattle.rs_field.specs.code.Pieces.{ArePut, room_length};
 ghost use Rattle.rs_field.specs.code.PieceStates.{HoldRestored};

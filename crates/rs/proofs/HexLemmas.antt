@@ -1,4 +1,4 @@
--- The library's readings of hexadecimal digits are those of specs/.
+-- Lemmas that the functions of the crate `hex` read hexadecimal digits as the definitions of `specs/` say.
 use Rattle.std.proofs.Common.{◌≡◌, ℕ, ◌+◌, ◌*◌, ◌/◌, ◌%◌, ◌==◌, Bool, true, false, cond, List, [], ◌∷◌, length, Option, Some, None, Result, Ok, Err, refl, ap, ap₂, ◌∙◌, arith, subst}
 use Rattle.std.specs.Prelude.{MatchResult}
 use Rattle.std.proofs.lemmas.Bool.{eqb-true}
@@ -16,7 +16,7 @@ hex_of-same (b ∷ rest) = ap (λ t. digit_of (b / 16) ∷ digit_of (b % 16) ∷
 digit_value-same : (c : ℕ) → hex_digit_value c ≡ digit_value c
 digit_value-same c = grind (arith, nat_tests)
 
--- what the library answers for a text, against the bytes of the text
+-- a result of the crate `hex` agrees with the bytes that the definitions give for a text
 abbrev Reads : Result (List ℕ) FromHexError → Option (List ℕ) → Type 0
 Reads r o = MatchResult r (λ bytes. o ≡ Some bytes) (λ e. o ≡ None)
 
@@ -42,7 +42,7 @@ none_before (Some a) (Some b) = refl
 none_before (Some a) None = refl
 none_before None b = refl
 
--- an odd number of digits is no HEX
+-- A text with an odd number of digits is no HEX.
 odd_none : (text : List ℕ) → length text % 2 ≡ 1 → bytes_of_hex text ≡ None
 unfolding bytes_of_hex
 odd_none [] h = absurd (omega arith)
@@ -58,10 +58,10 @@ reads_tested text false odd = reads_pairs 0 text
 reads : (text : List ℕ) → Reads (decode_of text) (bytes_of_hex text)
 reads text = reads_tested text (length text % 2 == 1) (eqb-true (length text % 2) 1)
 
--- where the library decodes a text, its bytes are those of the HEX
+-- If the crate `hex` decodes a text, it returns the bytes that the text represents.
 pub reads_ok : (text bytes : List ℕ) → decode_of text ≡ Ok bytes → bytes_of_hex text ≡ Some bytes
 reads_ok text bytes e = subst (λ r. Reads r (bytes_of_hex text)) e (reads text)
 
--- and where it refuses one, the text is no HEX
+-- If the crate `hex` fails to decode a text, the text is no HEX.
 pub reads_err : (text : List ℕ) (x : FromHexError) → decode_of text ≡ Err x → bytes_of_hex text ≡ None
 reads_err text x e = subst (λ r. Reads r (bytes_of_hex text)) e (reads text)

@@ -1,4 +1,4 @@
--- Entries by ascending index are the list of the map that they make.
+-- Lemmas that entries in ascending order of index are the list of the map that they make.
 use Rattle.std.proofs.Common.{◌≡◌, ℕ, zero, suc, ◌+◌, ◌<◌, ◌≤◌, Bool, true, false, cond, List, [], ◌∷◌, ◌++◌, max, Less, refl, sym, ap, ap₂, ◌∙◌, arith}
 use Rattle.std.specs.Prelude.{Some, None, ⊤, nat_eq}
 use Rattle.std.specs.List.Sorted.{IsStrictlySortedBy}
@@ -11,12 +11,12 @@ use Rattle.reed_solomon_simd.specs.Given.{Shards, items_at, items_from, Lists}
 use Rattle.reed_solomon_simd.specs.OneCall.{Items}
 use Rattle.reed_solomon_simd.proofs.Listed.{items_from-zero, items_from-suc}
 
--- the indexes ascend, from one on
+-- the indexes are in ascending order, and the first one is at least `from`
 abbrev Ascends : ℕ → Items → Type 0
 Ascends from [] = ⊤
 Ascends from (item ∷ items) = (from ≤ item.0) × Ascends (suc item.0) items
 
--- an index above all of them
+-- an index above all indexes of the entries
 abbrev bound : Items → ℕ
 bound [] = 0
 bound (item ∷ items) = max (suc item.0) (bound items)
@@ -27,24 +27,25 @@ unequal x y apart = grind (arith, nat_tests, apart)
 equal : (x : ℕ) → nat_eq x x ≡ true
 equal x = grind (arith, nat_tests)
 
--- an index below all of them, or above, has no entry
+-- An index below all indexes of the entries has no entry.
 none_below : (from i : ℕ) (items : Items) → Ascends from items → i < from → lookup (nat_eq i) items ≡ None
 none_below from i [] up below = refl
 none_below from i (item ∷ items) up below =
     ap (λ b. cond b (Some item.1) (lookup (nat_eq i) items)) (unequal i item.0 (λ e. omega (arith, up.0, below, e)))
     ∙ none_below (suc item.0) i items up.1 (omega (arith, up.0, below))
 
+-- An index that is at least the bound of the entries has no entry.
 none_above : (i : ℕ) (items : Items) → bound items ≤ i → lookup (nat_eq i) items ≡ None
 none_above i [] above = refl
 none_above i (item ∷ items) above =
     ap (λ b. cond b (Some item.1) (lookup (nat_eq i) items)) (unequal i item.0 (λ e. grind (arith, above, e)))
     ∙ none_above i items (grind (arith, above))
 
--- a map has, from an index on, what the entries have
+-- a map has the same shards as the entries at all indexes from `from` on
 abbrev AgreesFrom : ℕ → Shards → Items → Type 0
 AgreesFrom from given items = (i : ℕ) → from ≤ i → given i ≡ lookup (nat_eq i) items
 
--- one index more: the first entry has it, or none
+-- The step of the induction over indexes: the first entry has the index `from`, or no entry has it.
 ascending_more : (n from : ℕ) (given : Shards) (item : ℕ × Shard) (items : Items) → Ascends from (item ∷ items) → AgreesFrom from given (item ∷ items)
     → ((others : Items) → Ascends (suc from) others → AgreesFrom (suc from) given others → others ≡ items_from (suc from) n given)
     → item ∷ items ≡ items_from from (suc n) given
@@ -67,7 +68,7 @@ ascending_more n from given item items up agrees others = by_first (nat_eq from 
         ∙ ap (λ o. items_at from o ++ items_from (suc from) n given) (sym none)
         ∙ sym (items_from-suc from n given)
 
--- entries that ascend and make a map are its list
+-- Entries in ascending order that make a map are the list of the map, from an index on.
 ascending_from : (n from : ℕ) (given : Shards) (items : Items) → Ascends from items → AgreesFrom from given items
     → ((i : ℕ) → from + n ≤ i → given i ≡ None) → items ≡ items_from from n given
 ascending_from zero from given [] up agrees past = sym (items_from-zero from given)
@@ -99,7 +100,7 @@ all_from_zero : (ks : List ℕ) → AllByRecursion (λ y. 0 ≤ y) ks
 all_from_zero [] = tt
 all_from_zero (y ∷ ks) = (omega arith, all_from_zero ks)
 
--- entries by ascending index list the map that they make
+-- Entries in ascending order of index are the list of the map that they make.
 pub lists-sorted : (given : Shards) (items : Items) → IsStrictlySortedBy nat_cmp (keys_of items) → ((i : ℕ) → given i ≡ lookup (nat_eq i) items) → Lists given items
 lists-sorted given items sorted each =
     let past : (i : ℕ) → bound items ≤ i → given i ≡ None = λ i above. each i ∙ none_above i items above in

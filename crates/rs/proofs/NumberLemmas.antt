@@ -1,4 +1,4 @@
--- What `parse` answers for a text, as a number in decimal digits.
+-- Lemmas about the number that `parse` returns for a text.
 use Rattle.std.proofs.Common.{◌≡◌, ◌≢◌, ℕ, suc, ◌==◌, ◌^◌, ◌<◌, Bool, true, false, List, [], ◌∷◌, length, get_or, Some, None, Result, Ok, Err, refl, arith}
 use Rattle.std.specs.Prelude.{nat_lt, ◌&&◌, if◌then◌else◌}
 use Rattle.std.specs.Result.{OkIff, result_ok}
@@ -26,12 +26,12 @@ tested : (text : List ℕ) {E : Type 0} (r : Result ℕ E)
 tested text (Ok x) q = ((q.0.0, lt-ltb 0 (length text) q.0.1, lt-ltb (digits_value 10 text) (2 ^ 64) q.0.2), q.1)
 tested text (Err e) q = λ p. q (p.0, ltb-true 0 (length text) p.1, ltb-true (digits_value 10 text) (2 ^ 64) p.2)
 
--- the number that `parse` answers for a text that doesn't begin with a plus
+-- If a text does not begin with a plus sign, `parse` returns the number that the text represents.
 pub number_of-parsed : (text : List ℕ) {E : Type 0} (r : Result ℕ E) → ParsesUnsigned 64 10 text r → get_or text 0 0 ≢ 43 → result_ok r ≡ number_of text
 number_of-parsed text r parsed no_plus =
     by_tests (digits_value 10 text) (all_ascii_digits text) (nat_lt 0 (length text)) (nat_lt (digits_value 10 text) (2 ^ 64)) r (tested text r (parse_plain model 64 text r parsed no_plus))
 
--- an empty text begins with no plus
+-- An empty text does not begin with a plus sign.
 pub no_plus_in-empty : (text : List ℕ) → (length text == 0) ≡ true → get_or text 0 0 ≢ 43
 no_plus_in-empty [] empty = λ e. omega arith
 no_plus_in-empty (c ∷ rest) empty = absurd (let e : suc (length rest) ≡ 0 = eqb-true _ _ empty in omega arith)

@@ -9,12 +9,13 @@ digit_value c =
     else if nat_le 97 c && nat_le c 102 then Some (c - 97 + 10)
     else None
 
--- bytes after the byte of two digits was put before them, or None if one of the three is None
+-- bytes with one more byte before them, which two digits represent; or None if one of the three arguments is None
 abbrev pub byte_before : Option ℕ → Option ℕ → Option (List ℕ) → Option (List ℕ)
 byte_before (Some high) (Some low) (Some bytes) = Some ((high * 16 + low) ∷ bytes)
 byte_before _ _ _ = None
 
--- the bytes of a text of pairs of digits, of which the first is worth 16 times as much; None for another text
+-- the bytes that a text of pairs of hexadecimal digits represents, the higher digit of each byte first; or None for any
+-- other text
 unfoldable pub bytes_of_hex : List ℕ → Option (List ℕ)
 bytes_of_hex [] = Some []
 bytes_of_hex (high ∷ []) = None

@@ -14,7 +14,7 @@ use Rattle.rs.specs.declared.fault.Fault.TheVariants.{Usage, Refused}
 use Rattle.rs.specs.Hex.{hex_of}
 use Rattle.rs.specs.CommandLine.{GivenItems, Task, Coded, Restored, Request, request_of}
 
--- a shard's line: its HEX and a line end
+-- the line of a shard: its bytes as HEX, and a line end
 abbrev pub line_of : Shard → List ℕ
 line_of shard = hex_of shard ++ 10 ∷ []
 
@@ -22,7 +22,7 @@ line_of shard = hex_of shard ++ 10 ∷ []
 abbrev pub lines_of : List Shard → List ℕ
 lines_of shards = flat_map line_of shards
 
--- the line of a shard with its index: the index in decimal digits, a blank, and the shard's line
+-- the line of a shard with its index: the index in decimal digits, a blank, the bytes as HEX, and a line end
 abbrev pub indexed_line_of : ℕ × Shard → List ℕ
 indexed_line_of item = decimal item.0 ++ 32 ∷ line_of item.1
 
@@ -53,24 +53,25 @@ Answers k r (Restored given) answer = RestoresLines k r given answer
 abbrev pub IsAnswered : Request → Result (List ℕ) Error → Type 0
 IsAnswered request answer = Answers request.original_count request.recovery_count request.task answer
 
--- a text is the lines that the request of words leads to
+-- a text consists of the lines that the program prints for these words
 abbrev pub Prints : List (List ℕ) → List ℕ → Type 0
 Prints words text = (request : Request) × (request_of words ≡ Some request) × IsAnswered request (Ok text)
 
--- an error that the request of words leads to: the error of the one-call function, or `OutOfMemory`
+-- an error is the one for these words: the error of the one-call function for their request, or `OutOfMemory`
 abbrev pub Refuses : List (List ℕ) → Error → Type 0
 Refuses words e = ((request : Request) × (request_of words ≡ Some request) × IsAnswered request (Err e)) ⊎ (e ≡ OutOfMemory)
 
--- texts one after another
+-- the concatenation of texts
 abbrev pub concatenation : {Y Z : Type 0} → Vec (String Y) Z → List ℕ
 concatenation texts = flat_map string_bytes texts.items
 
--- a result has the property P, or it is `OutOfMemory`
+-- a result has the property P, or it is the error `OutOfMemory`
 abbrev pub OrLacksMemory : {Y Z : Type 0} → (Result (List ℕ) Error → Type 0) → Result (Vec (String Y) Z) Error → Type 0
 OrLacksMemory P (Ok texts) = P (Ok (concatenation texts))
 OrLacksMemory P (Err e) = P (Err e) ⊎ (e ≡ OutOfMemory)
 
--- a fault is the reason why words lead to no lines: they are no command line, or their request fails
+-- a fault is the reason why the program prints no lines for these words: they are not a valid command line, or their
+-- request fails
 abbrev pub HasFault : List (List ℕ) → Fault → Type 0
 HasFault words Usage = request_of words ≡ None
 HasFault words (Refused e) = Refuses words e

@@ -16,15 +16,16 @@ abbrev pub status_of : Fault → ℕ
 status_of Usage = 2
 status_of (Refused e) = 1
 
--- a fault is reported unchanged, or an error is reported as `OutOfMemory`
+-- the fault that the program reports is the fault itself, or `OutOfMemory` instead of an error
 abbrev pub IsReportedAs : Fault → Fault → Type 0
 IsReportedAs Usage told = told ≡ Usage
 IsReportedAs (Refused e) told = (told ≡ Refused e) ⊎ (told ≡ Refused OutOfMemory)
 
--- a text is appended to known bytes, or only a first part of the text if a write failed
+-- a text is appended to the bytes that a writer holds, or only a first part of the text if a write failed
 abbrev pub AppendsFront : Option (List ℕ) → Option (List ℕ) → List ℕ → Type 0
 AppendsFront old new text = (n : ℕ) × Appends old new (take n text)
 
--- a first part of a text is appended to known bytes, and the rest is missing because a write failed
+-- only a first part of a text is appended to the bytes that a writer holds, and the rest is missing because a write
+-- failed
 abbrev pub CutShort : Option (List ℕ) → Option (List ℕ) → List ℕ → Type 0
 CutShort old new text = (n : ℕ) × (n < length text) × Appends old new (take n text)

@@ -1,8 +1,9 @@
-//! A command carried out: the recovery shards or the restored originals that it asks for, as lines of text.
+//! The execution of a command: the recovery shards or the restored originals that it asks for, as lines of text.
 ghost use Rattle.std.specs.Prelude.{◌≡◌, IfOk, MatchResult, map};
 ghost use Rattle.reed_solomon_simd.specs.Kind.{kind_of};
 ghost use Rattle.reed_solomon_simd.specs.OneCall.{shards_in};
-ghost use Rattle.rs.specs.Printed.{lines_of, concatenation, ListsShards, CodesLines, RestoresLines, OrLacksMemory};
+ghost use Rattle.rs.specs.Printed.{lines_of, concatenation, ListsShards};
+ghost use Rattle.rs.specs.Printed.{CodesLines, RestoresLines, OrLacksMemory};
 ghost use Rattle.rs.specs.Reading.{given_items};
 
 use crate::command::{Command, Counts, GivenShards, Task};
@@ -12,10 +13,13 @@ use reed_solomon_simd::{Error, decode, encode};
 use std::alloc::Global;
 use std::collections::BTreeMap;
 
-/// The lines that carry out a command, and the kind of the engine that coded them. Only this module makes such a value.
+/// The lines that a command prints, and the kind of the engine that computed them. Only this module can make such a
+/// value.
 #[derive(Drop)]
 pub struct Lines {
+    // The texts whose concatenation is the output.
     texts: Vec<String>,
+    // The kind of the engine.
     engine: EngineKind,
 }
 
@@ -25,12 +29,13 @@ impl Lines {
     ghost use Rattle.rs.specs.Coding.{AnswersWith};
     ghost use Rattle.rs.specs.Reading.{as_request};
 
-    /// Codes what the command asks for with this engine, and makes a line of text for each shard. It has no tables, so it
-    /// can make no other engine.
+    /// Encodes or decodes as the command says, with this engine, and makes a line of text for each resulting shard. The
+    /// function gets no tables, so it cannot make another engine.
     ///
     /// # Errors
     ///
-    /// The error of the one-call function, or `OutOfMemory` if a line cannot be allocated.
+    /// The errors of [`encode`] or [`decode`], in the same order, and then [`Error::OutOfMemory`] if a line cannot be
+    /// allocated.
     pub fn new(alloc: Global, engine: DefaultEngine<'_>, command: &Command) -> Result<Lines, Error>
         ensures engine { IfOk result (λ lines. lines.engine ≡ kind_of engine.entry) }
         ensures answer { AnswersWith (as_request command.now) result }
@@ -45,7 +50,7 @@ impl Lines {
         })
     }
 
-    /// Returns the lines in order, each with its line end.
+    /// Returns the texts of all lines, in order. Their concatenation is the output: each line ends with a line end.
     pub fn texts(&self) -> &[String]
         ensures { result.now ≡ self.now.texts.items }
     {
@@ -65,7 +70,8 @@ fn kind(engine: DefaultEngine<'_>) -> EngineKind
     }
 }
 
-// Encodes the originals and makes a line for each recovery shard.
+// Encodes the originals, and returns a line for each recovery shard. Fails with the errors of `encode`, and then with
+// `OutOfMemory`.
 fn recovery_lines(
     alloc: Global,
     counts: Counts,
@@ -80,7 +86,8 @@ fn recovery_lines(
     shard_lines(alloc, recovery.as_slice())
 }
 
-// Decodes the given shards and makes a line for each restored original.
+// Decodes the given shards, and returns a line for each restored original. Fails with the errors of `decode`, and then
+// with `OutOfMemory`.
 fn restored_lines(
     alloc: Global,
     counts: Counts,
@@ -109,7 +116,7 @@ fn restored_lines(
     indexed_lines(alloc, &restored)
 }
 
-// Makes a line for each shard.
+// Returns a line for each shard, or fails with `OutOfMemory`.
 fn shard_lines(alloc: Global, shards: &[Vec<u8>]) -> Result<Vec<String>, Error>
     ensures { let wanted = lines_of (map (λ v. v.items) shards.now) in
         MatchResult result (λ texts. concatenation texts ≡ wanted) (λ e. e ≡ Error.OutOfMemory) }
@@ -121,7 +128,7 @@ fn shard_lines(alloc: Global, shards: &[Vec<u8>]) -> Result<Vec<String>, Error>
     Ok(texts)
 }
 
-// Makes a line for each shard of a map: its index and the shard.
+// Returns a line for each shard of a map: the index, a blank, and the shard. Fails with `OutOfMemory`.
 fn indexed_lines(alloc: Global, shards: &BTreeMap<usize, Vec<u8>>) -> Result<Vec<String>, Error>
     ensures { MatchResult result (λ texts. ListsShards (shards_in shards.now) (concatenation texts))
         (λ e. e ≡ Error.OutOfMemory) }

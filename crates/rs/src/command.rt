@@ -1,10 +1,12 @@
-//! The words of a command line read as a command.
+//! The reading of a command line: it turns the words into a command.
 ghost use Rattle.std.specs.Prelude.{◌≡◌, [], None, Err, map, take, OnOk, IfErr};
 ghost use Rattle.std.specs.Option.{option_zip};
 ghost use Rattle.std.specs.String.{string_bytes};
 ghost use Rattle.rs.specs.Number.{number_of};
-ghost use Rattle.rs.specs.CommandLine.{shards_of, indexed_shard_of, item_of, items_of, task_of, request_of};
-ghost use Rattle.rs.specs.Reading.{Reads, as_shards, as_item, as_item_of_line, given_items, as_task, as_request};
+ghost use Rattle.rs.specs.CommandLine.{shards_of, indexed_shard_of, item_of, items_of, task_of};
+ghost use Rattle.rs.specs.CommandLine.{request_of};
+ghost use Rattle.rs.specs.Reading.{Reads, as_shards, as_item, as_item_of_line, given_items, as_task};
+ghost use Rattle.rs.specs.Reading.{as_request};
 
 use crate::fault::Fault;
 use crate::hexadecimal::word;
@@ -13,44 +15,53 @@ use reed_solomon_simd::engine::EngineKind;
 use std::alloc::{AllocError, Global};
 use std::str::FromStr;
 
-/// The counts of originals and of recovery shards.
+/// The two counts of a message.
 #[derive(Clone, Copy, Debug, PartialEq, Eq, Hash)]
 pub struct Counts {
+    /// The number of originals.
     pub original: usize,
+    /// The number of recovery shards.
     pub recovery: usize,
 }
 
-/// A shard after its index.
+/// The index of a shard, and the bytes of the shard.
 pub type IndexedShard = (usize, Vec<u8>);
 
-/// The shards that a decoder is given, in order.
+/// The shards that a command passes to a decoder, in the order of the command line.
 #[derive(Debug, Drop, PartialEq, Eq)]
 pub struct GivenShards {
+    /// The originals, with their indexes.
     pub original: Vec<IndexedShard>,
+    /// The recovery shards, with their indexes.
     pub recovery: Vec<IndexedShard>,
 }
 
-/// The two kinds of commands.
+/// What a command asks for.
 #[derive(Debug, Drop, PartialEq, Eq)]
 pub enum Task {
-    /// The recovery shards of these originals are wanted.
+    /// Compute the recovery shards of these originals.
     Encode(Vec<Vec<u8>>),
-    /// The originals that are not among these shards are wanted.
+    /// Restore the originals that are not among these shards.
     Decode(GivenShards),
 }
 
 /// A command line that was read.
 #[derive(Debug, Drop, PartialEq, Eq)]
 pub struct Command {
+    /// The kind of the engine to use.
     pub engine: EngineKind,
+    /// The counts of originals and of recovery shards.
     pub counts: Counts,
+    /// What the command asks for, with the shards.
     pub task: Task,
 }
 
-// A word of a command line that asks for originals.
+// A word of a command line that represents a received shard.
 #[derive(Debug, Drop, PartialEq, Eq)]
 enum Item {
+    // An original: the word oI=HEX.
     Original(IndexedShard),
+    // A recovery shard: the word rI=HEX.
     Recovery(IndexedShard),
 }
 
@@ -58,9 +69,10 @@ impl GivenShards {
     ghost use Rattle.rs.specs.CommandLine.{GivenItems, with_item};
     ghost use Rattle.rs.specs.Reading.{with_items, given_items, as_item_of_line};
 
-    // Adds an item after the other items of its kind.
+    // Adds an item after the other items of its kind. Fails if memory cannot be allocated.
     fn push(&mut self, item: Item) -> Result<(), AllocError>
-        ensures { OnOk result ((left : GivenItems) → with_items (given_items self.new) left ≡ with_items (given_items self.old) (with_item (as_item_of_line item) left)) }
+        ensures { OnOk result ((left : GivenItems) → with_items (given_items self.new) left
+            ≡ with_items (given_items self.old) (with_item (as_item_of_line item) left)) }
     {
         match item {
             Item::Original(indexed) => self.original.push(indexed)?,
@@ -70,9 +82,10 @@ impl GivenShards {
     }
 }
 
-// Reads the counts, which are two numbers.
+// Reads the two counts, which must be numbers. Fails with `Usage` if one of them is not.
 fn read_counts(original: &str, recovery: &str) -> Result<Counts, Fault>
-    ensures read { Reads (λ counts. (counts.original, counts.recovery)) (option_zip (number_of original.now) (number_of recovery.now)) result }
+    ensures read { Reads (λ counts. (counts.original, counts.recovery))
+        (option_zip (number_of original.now) (number_of recovery.now)) result }
     ensures usage { IfErr result (λ fault. fault ≡ Fault.Usage) }
 {
     let Some(original) = number(original) else {
@@ -84,7 +97,8 @@ fn read_counts(original: &str, recovery: &str) -> Result<Counts, Fault>
     Ok(Counts { original, recovery })
 }
 
-// Reads the shards of words that are HEX.
+// Reads the shards of words, each of which must be HEX. Fails with `Usage` at the first word that is not, or with
+// `OutOfMemory`.
 fn read_shards(alloc: Global, words: &[String]) -> Result<Vec<Vec<u8>>, Fault>
     ensures { Reads as_shards (shards_of (map string_bytes words.now)) result }
 {
@@ -98,7 +112,7 @@ fn read_shards(alloc: Global, words: &[String]) -> Result<Vec<Vec<u8>>, Fault>
     Ok(shards)
 }
 
-// Reads the index and the shard of I=HEX.
+// Reads a text I=HEX: an index and a shard. Fails with `Usage` for any other text, or with `OutOfMemory`.
 fn read_indexed_shard(alloc: Global, text: &str) -> Result<IndexedShard, Fault>
     ensures { Reads as_item (indexed_shard_of text.now) result }
 {
@@ -114,7 +128,8 @@ fn read_indexed_shard(alloc: Global, text: &str) -> Result<IndexedShard, Fault>
     Ok((index, shard))
 }
 
-// Reads the shard of oI=HEX or rI=HEX.
+// Reads a word oI=HEX, which is an original, or rI=HEX, which is a recovery shard. Fails with `Usage` for any other
+// word, or with `OutOfMemory`.
 fn read_item(alloc: Global, text: &str) -> Result<Item, Fault>
     ensures { Reads as_item_of_line (item_of text.now) result }
 {
@@ -127,7 +142,8 @@ fn read_item(alloc: Global, text: &str) -> Result<Item, Fault>
     Err(Fault::Usage)
 }
 
-// Reads the shards of words that are ITEMs.
+// Reads the shards of words, each of which must be an ITEM. Fails with `Usage` at the first word that is not, or with
+// `OutOfMemory`.
 fn read_items(alloc: Global, words: &[String]) -> Result<GivenShards, Fault>
     ensures { Reads given_items (items_of (map string_bytes words.now)) result }
 {
@@ -142,7 +158,8 @@ fn read_items(alloc: Global, words: &[String]) -> Result<GivenShards, Fault>
     Ok(given)
 }
 
-// Reads the words after the counts of a command with this name.
+// Reads the name of a command and the words after its counts. Fails with `Usage` if the name or a word is not valid, or
+// with `OutOfMemory`.
 fn read_task(alloc: Global, name: &str, words: &[String]) -> Result<Task, Fault>
     ensures read { Reads as_task (task_of name.now (map string_bytes words.now)) result }
     ensures begun { task_of name.now [] ≡ None → result ≡ Err Fault.Usage }
@@ -154,11 +171,20 @@ fn read_task(alloc: Global, name: &str, words: &[String]) -> Result<Task, Fault>
     }
 }
 
-/// Reads a command line from left to right, up to the first fault: `Usage` if a word is not allowed at its place, or `OutOfMemory`,
-/// which can only come after the command, the engine and the counts were read.
+/// Reads a command line: the name of the command, the engine, the two counts, and the shards.
+///
+/// # Errors
+///
+/// The words are read from left to right, and the first error is returned:
+///
+/// - [`Fault::Usage`] if there are fewer than four words, or if the engine, a count or the name of the command is not
+///   valid.
+/// - For each further word in order: [`Fault::Usage`] if the word is not valid, or [`Fault::Refused`] with
+///   [`Error::OutOfMemory`](reed_solomon_simd::Error::OutOfMemory) if its shard cannot be allocated.
 pub fn read_command(alloc: Global, words: &[String]) -> Result<Command, Fault>
     ensures read { Reads as_request (request_of (map string_bytes words.now)) result }
-    ensures begun { request_of (take 4 (map string_bytes words.now)) ≡ None → result ≡ Err Fault.Usage }
+    ensures begun { request_of (take 4 (map string_bytes words.now)) ≡ None
+        → result ≡ Err Fault.Usage }
 {
     let [name, engine, original, recovery, words @ ..] = words else {
         return Err(Fault::Usage);

@@ -4,11 +4,13 @@ use reed_solomon_simd::Error;
 use std::alloc::{AllocError, AllocFailed, Global};
 use std::io::Write;
 
-/// The reason why there are no lines for a command line.
+/// The reason why the program prints no lines for a command line.
 #[derive(Clone, Copy, Debug, PartialEq, Eq, Hash)]
 pub enum Fault {
-    /// The words are no command line.
+    /// The words are not a valid command line.
     Usage,
+    /// The command line is valid, but the counts or the shards are not, or memory could not be allocated. The value is the
+    /// error.
     Refused(Error),
 }
 
@@ -17,7 +19,7 @@ impl Fault {
     ghost use Rattle.std.specs.Io.KnownBytes.{Appends};
     ghost use Rattle.rs.specs.Told.{fault_message, status_of, IsReportedAs, AppendsFront};
 
-    /// Returns the exit status of the program.
+    /// Returns the exit status of the program for this fault: 2 for `Usage`, and 1 for every error.
     pub fn status(&self) -> u8
         ensures { result ≡ status_of self.now }
     {
@@ -27,11 +29,13 @@ impl Fault {
         }
     }
 
-    /// Writes the message of the fault, or of `OutOfMemory` if the text of an error cannot be allocated. Returns whether the whole
-    /// message was written.
+    /// Writes the message of the fault to `err`, or the message of `OutOfMemory` if the text of an error cannot be
+    /// allocated. Returns whether the whole message was written.
     pub fn tell<X: Write>(&self, alloc: Global, err: &mut X) -> bool
-        ensures { (told : Fault) × IsReportedAs self.now told × AppendsFront (X.contents err.old) (X.contents err.new) (fault_message told)
-            × (IsTrue result → Appends (X.contents err.old) (X.contents err.new) (fault_message told)) }
+        ensures { (told : Fault) × IsReportedAs self.now told
+            × AppendsFront (X.contents err.old) (X.contents err.new) (fault_message told)
+            × (IsTrue result
+            → Appends (X.contents err.old) (X.contents err.new) (fault_message told)) }
     {
         match self {
             Fault::Usage => write_text(err, "usage\n"),

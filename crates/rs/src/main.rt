@@ -1,5 +1,6 @@
-//! `rs encode ENGINE K R HEX..` prints the recovery shards of the originals HEX. `rs decode ENGINE K R ITEM..` prints the
-//! originals that are missing among the given shards; each ITEM is an original `oI=HEX` or a recovery shard `rI=HEX`.
+//! The program `rs`. `rs encode ENGINE K R HEX..` prints the recovery shards of the originals HEX. `rs decode ENGINE K
+//! R ITEM..` prints the originals that are missing among the given shards. Each ITEM is an original `oI=HEX` or a
+//! recovery shard `rI=HEX`, where I is the index of the shard.
 #![tactic(auto)]
 
 mod coding;

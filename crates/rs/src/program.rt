@@ -1,4 +1,5 @@
-//! The whole program over words and two writers: read the words, code, and write the lines or the fault.
+//! The whole program, as a function of the words and of two writers. It reads the words, encodes or decodes, and writes
+//! the lines or the message of the fault.
 ghost use Rattle.std.specs.Prelude.{◌≡◌, ◌≤◌, ℕ, List, ◌⊎◌, None, Err, IfOk, map, take, MatchResult};
 ghost use Rattle.std.specs.Io.KnownBytes.{Appends};
 ghost use Rattle.std.specs.String.{string_bytes};
@@ -18,7 +19,8 @@ use reed_solomon_simd::engine::tables::Tables;
 use std::alloc::Global;
 use std::io::Write;
 
-// Reads the words, makes the tables, and codes what the words ask for.
+// Reads the words, makes the tables, and encodes or decodes as the words say. Fails with the first fault: of the words,
+// then `OutOfMemory` for the tables, then of the shards.
 fn answer(alloc: Global, words: &[String]) -> Result<Lines, Fault>
     ensures begun { request_of (take 4 (map string_bytes words.now)) ≡ None → result ≡ Err Usage }
     ensures answer { let given = map string_bytes words.now in
@@ -33,19 +35,22 @@ fn answer(alloc: Global, words: &[String]) -> Result<Lines, Fault>
 
 /// Does what the words ask for, and returns the exit status.
 ///
-/// The function reads all words, makes the tables, codes in one call, makes every line, and only then writes the first line.
+/// The function reads all words, makes the tables, encodes or decodes in one call, makes every line, and only then
+/// writes the first line.
 ///
 /// - Status 0: all lines were written to `out`, and nothing to `err`.
-/// - Status 1: the words ask for something that is refused, or memory could not be allocated. The error's text was written
-///   to `err`, and nothing to `out`. A failed write to `out` also gives status 1; a failed write to `err` changes no status.
-/// - Status 2: the words are no command line. `usage` was written to `err`, and nothing to `out`.
+/// - Status 1: the library refused the counts or the shards, or memory could not be allocated. The text of the error
+///   was written to `err`, and nothing to `out`. If a write to `out` fails, the status is 1 as well. A failed write to
+///   `err` does not change the status.
+/// - Status 2: the words are not a valid command line. `usage` was written to `err`, and nothing to `out`.
 ///
-/// The command, the engine and the counts are read before anything is allocated: if one of them is wrong, the status is
+/// The command, the engine and the counts are read before anything is allocated. If one of them is wrong, the status is
 /// always 2.
 pub fn run<O: Write, X: Write>(alloc: Global, words: &[String], out: &mut O, err: &mut X) -> u8
     ensures status { result ≤ 2 }
     ensures printed { result ≡ 0
-        → (text : List ℕ) × Prints (map string_bytes words.now) text × Appends (O.contents out.old) (O.contents out.new) text }
+        → (text : List ℕ) × Prints (map string_bytes words.now) text
+        × Appends (O.contents out.old) (O.contents out.new) text }
     ensures quiet { result ≡ 0 → err.new ≡ err.old }
     ensures refused { result ≡ 1
         → ((e : Error) × Refuses (map string_bytes words.now) e × (out.new ≡ out.old)

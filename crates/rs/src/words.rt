@@ -1,4 +1,4 @@
-//! The words of the command line.
+//! The words of the command line, as the operating system passes them.
 ghost use Rattle.std.specs.Prelude.{◌≡◌, drop, IfOk};
 ghost use Rattle.std.specs.Vec.Iter.{into_iter_items};
 
@@ -9,11 +9,12 @@ use std::env;
 use std::env::Args;
 use std::io::ErrorKind;
 
-/// Returns all words after the program's name, in order.
+/// Returns all words after the name of the program, in order.
 ///
 /// # Errors
 ///
-/// `Usage` if a word is not UTF-8, and `OutOfMemory` if the words cannot be allocated.
+/// [`Fault::Usage`] if a word is not UTF-8, and [`Fault::Refused`] with [`Error::OutOfMemory`] if the words cannot be
+/// allocated.
 pub fn read_words(rt: &HostRuntime) -> Result<Vec<String>, Fault> {
     match env::args(rt) {
         Ok(arguments) => Ok(words_after_name(rt.alloc(), arguments)?),
@@ -22,7 +23,7 @@ pub fn read_words(rt: &HostRuntime) -> Result<Vec<String>, Fault> {
     }
 }
 
-// Returns all arguments but the first one, which is the program's name.
+// Returns all arguments but the first one, which is the name of the program. Fails if memory cannot be allocated.
 fn words_after_name(alloc: Global, mut arguments: Args) -> Result<Vec<String>, AllocError>
     ensures { IfOk result (λ words. words.items ≡ drop 1 (into_iter_items arguments)) }
 {

@@ -1,4 +1,4 @@
-//! Texts written to standard output and standard error.
+//! Functions that write texts to standard output and standard error.
 ghost use Rattle.std.specs.Prelude.{◌≡◌, false, IsTrue, flat_map};
 ghost use Rattle.std.specs.Io.KnownBytes.{Appends};
 ghost use Rattle.std.specs.String.{string_bytes};
@@ -6,12 +6,15 @@ ghost use Rattle.rs.specs.Told.{AppendsFront, CutShort};
 
 use std::io::{ErrorKind, Write};
 
-/// Writes a text to its end, or until a write fails; answers whether all of it was written.
+/// Writes a text to its end, or until a write fails. Returns whether the whole text was written.
 ///
-/// This is `write_all`, whose contract leaves open what was written before a failure.
+/// The function does the same as `write_all`. But the contract of `write_all` does not state what was written before a
+/// failure.
 pub fn write_text<W: Write>(writer: &mut W, text: &str) -> bool
-    ensures whole { IsTrue result → Appends (W.contents writer.old) (W.contents writer.new) text.now }
-    ensures cut { result ≡ false → CutShort (W.contents writer.old) (W.contents writer.new) text.now }
+    ensures whole { IsTrue result
+        → Appends (W.contents writer.old) (W.contents writer.new) text.now }
+    ensures cut { result ≡ false
+        → CutShort (W.contents writer.old) (W.contents writer.new) text.now }
     ensures front { AppendsFront (W.contents writer.old) (W.contents writer.new) text.now }
 {
     let bytes = text.as_bytes();
@@ -30,11 +33,13 @@ pub fn write_text<W: Write>(writer: &mut W, text: &str) -> bool
     written == bytes.len()
 }
 
-/// Writes texts one after another, to the end of the last or until a write fails; answers whether all of them were
+/// Writes texts one after another, to the end of the last text or until a write fails. Returns whether all texts were
 /// written.
 pub fn write_texts<W: Write>(writer: &mut W, texts: &[String]) -> bool
-    ensures whole { IsTrue result → Appends (W.contents writer.old) (W.contents writer.new) (flat_map string_bytes texts.now) }
-    ensures cut { result ≡ false → CutShort (W.contents writer.old) (W.contents writer.new) (flat_map string_bytes texts.now) }
+    ensures whole { IsTrue result → Appends (W.contents writer.old) (W.contents writer.new)
+        (flat_map string_bytes texts.now) }
+    ensures cut { result ≡ false → CutShort (W.contents writer.old) (W.contents writer.new)
+        (flat_map string_bytes texts.now) }
 {
     for text in texts {
         if !write_text(writer, text.as_str()) {

@@ -1,4 +1,5 @@
-//! Callers of encoders, decoders and rates. Their proofs use only the contracts of these.
+//! Callers of encoders, decoders and rates. The proofs of these functions use only the contracts of the functions that
+//! they call.
 ghost use Rattle.std.specs.Prelude.{◌≡◌, ◌<◌, ◌+◌, ◌⊎◌, length, Ok, IfOk, IfErr, OnOk, OnErr, MatchResult, Err};
 ghost use Rattle.reed_solomon_simd.specs.Counts.{default_rate};
 ghost use Rattle.reed_solomon_simd.specs.Placement.{encoder_rows, decoder_rows};
@@ -17,6 +18,9 @@ use std::alloc::Global;
 
 /// Encodes twice. The first `encode` ends the round, so the second one finds no originals, whether the first result was dropped
 /// or forgotten.
+/// # Errors
+///
+/// [`Error::TooFewOriginalShards`] with 0 received shards, always.
 pub fn encode_twice<E: Engine, X: RateEncoder<E> + Drop>(
     encoder: &mut X,
     steps: &mut Steps,
@@ -40,6 +44,9 @@ pub fn encode_twice<E: Engine, X: RateEncoder<E> + Drop>(
 }
 
 /// Calls `encode` while originals are missing. It fails and changes nothing.
+/// # Errors
+///
+/// [`Error::TooFewOriginalShards`], always.
 pub fn encode_too_early<E: Engine, X: RateEncoder<E> + Drop>(
     encoder: &mut X,
     steps: &mut Steps,
@@ -58,6 +65,9 @@ pub fn encode_too_early<E: Engine, X: RateEncoder<E> + Drop>(
 
 /// Resets a decoder of the default rate from any configuration to one of the high rate. After an error, also after
 /// `OutOfMemory`, everything is as it was.
+/// # Errors
+///
+/// [`Error::OutOfMemory`] if the rows cannot be allocated.
 pub fn pass_to_high<E: Engine>(decoder: &mut DefaultRateDecoder<E>) -> Result<(), Error>
     ensures answer { UpToMemory
         (start_outcome (decoder_rows default_rate 3 2) (configuration default_rate 3 2 2)) result }
@@ -73,7 +83,13 @@ pub fn pass_to_high<E: Engine>(decoder: &mut DefaultRateDecoder<E>) -> Result<()
     decoder.reset(3, 2, 2)
 }
 
-/// Makes an encoder and a decoder for counts that are checked once. The error for the counts comes before the error for the size.
+/// Makes an encoder and a decoder for two counts, which are checked only once.
+///
+/// # Errors
+///
+/// - [`Error::UnsupportedShardCount`] if the counts are not supported.
+/// - [`Error::InvalidShardSize`] if `shard_bytes` is zero or odd.
+/// - [`Error::OutOfMemory`] if the rows cannot be allocated, or if their bytes exceed `usize::MAX`.
 pub fn both_sides<E: Engine>(
     alloc: Global,
     original_count: usize,
@@ -96,8 +112,12 @@ pub fn both_sides<E: Engine>(
     Ok((encoder, decoder))
 }
 
-/// Makes an encoder of any rate and encodes without originals. If the rate supports the counts, `encode` fails with
-/// `TooFewOriginalShards`.
+/// Makes an encoder of any rate for 2 originals and 3 recovery shards of 2 bytes, and encodes without originals.
+///
+/// # Errors
+///
+/// - [`Error::OutOfMemory`] if the rows cannot be allocated.
+/// - [`Error::TooFewOriginalShards`] otherwise.
 pub fn encode_nothing<E: Engine, R: Rate<E>>(
     alloc: Global,
     engine: E,
@@ -114,6 +134,9 @@ pub fn encode_nothing<E: Engine, R: Rate<E>>(
 
 /// Makes a decoder from the parts of another decoder of the same rate and configuration. The new decoder has the same engine and
 /// no shards. Since nothing is allocated, the call never fails.
+/// # Errors
+///
+/// The call never fails. Its contract states this.
 pub fn make_again<E: Engine, R: Rate<E>>(
     alloc: Global,
     decoder: R::RateDecoder,
@@ -141,6 +164,9 @@ pub fn make_again<E: Engine, R: Rate<E>>(
 }
 
 /// Resets an encoder to another configuration and back to its own. Its room never shrinks, so the second `reset` never fails.
+/// # Errors
+///
+/// The call never fails. Its contract states this.
 pub fn reset_and_back<E: Engine, X: RateEncoder<E>>(
     encoder: &mut X,
     original_count: usize,
@@ -179,8 +205,13 @@ pub fn decode_inconsistent<E: Engine, X: RateDecoder<E> + Drop>(
     (first, next)
 }
 
-/// Decodes. With exactly as many shards as there are originals, this never fails, whichever shards these are and whatever bytes
-/// they hold.
+/// Decodes with a decoder of any rate, and drops the result. If exactly as many shards were added as there are
+/// originals, this never fails, whichever shards these are and whatever bytes they hold.
+///
+/// # Errors
+///
+/// - [`Error::NotEnoughShards`] if fewer shards than originals were added.
+/// - [`Error::InconsistentShards`] if more shards than originals were added and no message matches them all.
 pub fn decode_just_enough<E: Engine, X: RateDecoder<E> + Drop>(
     decoder: &mut X,
     steps: &mut Steps,

@@ -12,7 +12,12 @@ use std::collections::BTreeMap;
 
 const ORIGINAL: [&[u8]; 3] = [b"Three shards", b" of one size", b" are coded. "];
 
-/// Uses the one-call functions. Fails with `OutOfMemory` if memory cannot be allocated.
+/// Encodes three originals, loses two of them and restores them, with the one-call functions. Returns whether exactly
+/// the lost originals came back.
+///
+/// # Errors
+///
+/// [`Error::OutOfMemory`] if memory cannot be allocated.
 pub fn in_one_call(alloc: Global) -> Result<bool, Error> {
     let tables = Tables::new(alloc)?;
     let engine = DefaultEngine::new(&tables, EngineKind::Ssse3);
@@ -26,7 +31,12 @@ pub fn in_one_call(alloc: Global) -> Result<bool, Error> {
     Ok(are_in(&restored))
 }
 
-/// Uses the one-call functions over slices. Fails with `OutOfMemory` if memory cannot be allocated.
+/// Encodes three originals, loses two of them and restores them, with the one-call functions over slices. Returns
+/// whether exactly the lost originals came back.
+///
+/// # Errors
+///
+/// [`Error::OutOfMemory`] if memory cannot be allocated.
 pub fn over_slices(alloc: Global) -> Result<bool, Error> {
     let tables = Tables::new(alloc)?;
     let engine = DefaultEngine::new(&tables, EngineKind::Ssse3);
@@ -46,7 +56,12 @@ fn are_in(restored: &BTreeMap<usize, Vec<u8>>) -> bool {
     restored.len() == 2 && first == Some(ORIGINAL[0]) && last == Some(ORIGINAL[2])
 }
 
-/// Uses objects. Fails with `OutOfMemory` if memory cannot be allocated.
+/// Encodes three originals, loses two of them and restores them, with plain objects. Returns whether exactly the lost
+/// originals came back.
+///
+/// # Errors
+///
+/// [`Error::OutOfMemory`] if memory cannot be allocated.
 pub fn with_objects(alloc: Global) -> Result<bool, Error> {
     let tables = Tables::new(alloc)?;
     let engine = DefaultEngine::new(&tables, EngineKind::Ssse3);
@@ -66,7 +81,12 @@ pub fn with_objects(alloc: Global) -> Result<bool, Error> {
     Ok(are_restored(&restored))
 }
 
-/// Uses objects of a rate and an engine. Fails with `OutOfMemory` if memory cannot be allocated.
+/// Encodes three originals, loses two of them and restores them, with objects of a rate and an engine. Returns whether
+/// exactly the lost originals came back.
+///
+/// # Errors
+///
+/// [`Error::OutOfMemory`] if memory cannot be allocated.
 pub fn with_a_rate_and_an_engine(alloc: Global) -> Result<bool, Error> {
     let tables = Tables::new(alloc)?;
     let engine = Ssse3::new(&tables);

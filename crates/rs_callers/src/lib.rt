@@ -1,4 +1,5 @@
-//! Callers of the library, whose proofs use only its contracts: round trips, objects, results, lent rows, and every public path.
+//! Callers of the library, whose proofs use only its contracts: round trips, objects, results, stripes of a file, lent rows,
+//! and every public path.
 #![tactic(auto)]
 
 pub mod callers;
@@ -8,5 +9,6 @@ pub mod one_call;
 pub mod plain_callers;
 pub mod rate_round_trip;
 pub mod round_trip;
+pub mod stripes;
 pub mod surface;
 pub mod walking;

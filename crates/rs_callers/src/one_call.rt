@@ -8,6 +8,9 @@ use std::alloc::Global;
 use std::collections::BTreeMap;
 
 /// Returns the recovery shards of originals that are vectors.
+/// # Errors
+///
+/// The errors of [`encode`], in the same order.
 pub fn encode_vectors(
     alloc: Global,
     original_count: usize,
@@ -23,6 +26,9 @@ pub fn encode_vectors(
 }
 
 /// Returns the recovery shards of originals that are arrays.
+/// # Errors
+///
+/// The errors of [`encode_slice`], in the same order.
 pub fn encode_arrays<const K: usize, const N: usize>(
     alloc: Global,
     recovery_count: usize,
@@ -35,6 +41,9 @@ pub fn encode_arrays<const K: usize, const N: usize>(
 }
 
 /// Returns the missing originals. The received shards are vectors with their indexes.
+/// # Errors
+///
+/// The errors of [`decode_slice`], in the same order.
 pub fn decode_vectors(
     alloc: Global,
     original_count: usize,

@@ -1,4 +1,4 @@
-//! Callers of the plain objects. Their proofs use only the contracts of these objects.
+//! Callers of the plain objects. The proofs of these functions use only the contracts of the objects.
 ghost use Rattle.std.specs.Prelude.{◌≡◌, length, Ok, Err, MatchResult};
 ghost use Rattle.reed_solomon_simd.specs.Configuration.{validation_outcome, FitsWithin};
 ghost use Rattle.reed_solomon_simd.specs.Decoder.{fresh_decoder, enough_given, after_decode, IsConsistent, NoneAgrees};
@@ -10,6 +10,9 @@ ghost use Rattle.reed_solomon_simd.specs.OneCall.{default_of};
 use reed_solomon_simd::{Error, ReedSolomonDecoder, ReedSolomonEncoder};
 
 /// Encodes with a plain encoder and forgets the result. This ends the round too, so the next `encode` finds no originals.
+/// # Errors
+///
+/// [`Error::TooFewOriginalShards`] with 0 received shards, always.
 pub fn forget_a_round(encoder: &mut ReedSolomonEncoder<'_>) -> Result<(), Error>
     requires { length (encoder_state encoder.old).given
         ≡ (encoder_state encoder.old).configuration.original_count }
@@ -26,6 +29,9 @@ pub fn forget_a_round(encoder: &mut ReedSolomonEncoder<'_>) -> Result<(), Error>
 
 /// Resets a plain encoder to another configuration, and then back to its own counts and a size that is not larger than its own.
 /// The second `reset` never fails.
+/// # Errors
+///
+/// The call never fails. Its contract states this.
 pub fn encoder_reset_and_back(
     encoder: &mut ReedSolomonEncoder<'_>,
     original_count: usize,
@@ -47,6 +53,9 @@ pub fn encoder_reset_and_back(
 
 /// Resets a plain decoder to another configuration, and then back to its own counts and a size that is not larger than its own.
 /// The second `reset` never fails.
+/// # Errors
+///
+/// The call never fails. Its contract states this.
 pub fn decoder_reset_and_back(
     decoder: &mut ReedSolomonDecoder<'_>,
     original_count: usize,
@@ -68,6 +77,9 @@ pub fn decoder_reset_and_back(
 
 /// Decodes with a plain decoder to which enough shards were added. This ends the round, whatever `decode` returns and whatever
 /// happens to the result, so the next `decode` finds no shards.
+/// # Errors
+///
+/// [`Error::NotEnoughShards`] with 0 received shards, always.
 pub fn end_a_round(decoder: &mut ReedSolomonDecoder<'_>) -> Result<(), Error>
     requires { enough_given (decoder_state decoder.old) ≡ Ok tt }
     ensures answer { result
@@ -79,7 +91,7 @@ pub fn end_a_round(decoder: &mut ReedSolomonDecoder<'_>) -> Result<(), Error>
     decode_only(decoder)
 }
 
-// Decodes, forgets the result, and returns whether the decode succeeded, or its error.
+// Decodes with a plain decoder, forgets the result, and returns whether the decode succeeded, or its error.
 fn decode_only(decoder: &mut ReedSolomonDecoder<'_>) -> Result<(), Error>
     ensures answer { MatchResult (enough_given (decoder_state decoder.old))
         (λ _. MatchResult result (λ _. IsConsistent (decoder_state decoder.old))

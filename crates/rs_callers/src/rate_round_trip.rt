@@ -14,10 +14,15 @@ use reed_solomon_simd::{EncoderResult, Error};
 use rs_rate::rate::giving::{add_originals, add_recovery, add_shards};
 use std::alloc::Global;
 
-/// Encodes the originals with an encoder of a rate, drops the originals and the recovery shards with the indexes in `lost` and
-/// `recovery_lost`, and decodes with a decoder of the rate. Returns exactly the lost originals, each as it was, in order of their
-/// index. If the counts and the size are valid and at least as many shards are left as there are originals, the call can only
-/// fail with `OutOfMemory`.
+/// Encodes the originals with an encoder of a rate, drops the originals and the recovery shards with the indexes in
+/// `lost` and `recovery_lost`, and decodes with a decoder of the rate. Returns exactly the lost originals, each as it
+/// was, in order of their index.
+///
+/// # Errors
+///
+/// - If the counts and the size are valid, all originals have this size, and at least as many shards are left as there
+///   are originals: only [`Error::OutOfMemory`] if memory cannot be allocated.
+/// - Otherwise: the errors of the calls that encode and decode.
 pub fn round_trip_at_a_rate<E: Engine + Copy, R: Rate<E>>(
     alloc: Global,
     originals: &[Vec<u8>],

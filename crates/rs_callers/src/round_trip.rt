@@ -6,7 +6,8 @@ ghost use Rattle.reed_solomon_simd.specs.DecoderObject.{state_of as decoder_stat
 ghost use Rattle.reed_solomon_simd.specs.EncoderObject.{state_of as encoder_state};
 ghost use Rattle.reed_solomon_simd.specs.Given.{Lists};
 ghost use Rattle.reed_solomon_simd.specs.Giving.{Reaches};
-ghost use Rattle.reed_solomon_simd.specs.OneCall.{collected_map, default_of, shards_in, with_shards, with_originals, with_recoveries};
+ghost use Rattle.reed_solomon_simd.specs.OneCall.{collected_map, default_of, shards_in};
+ghost use Rattle.reed_solomon_simd.specs.OneCall.{with_shards, with_originals, with_recoveries};
 ghost use Rattle.reed_solomon_simd.specs.ResultView.{recovery_shards};
 ghost use Rattle.reed_solomon_simd.specs.RoundTrip.{AreCoded, AreLeft, OneBringsBack};
 ghost use Rattle.rs_callers.specs.Losing.{items_in, lost_at, left_of, left_below};
@@ -19,9 +20,14 @@ use reed_solomon_simd::{
 use std::alloc::Global;
 use std::collections::BTreeMap;
 
-/// Encodes the originals in one call, drops the originals and the recovery shards with the indexes in `lost` and `recovery_lost`,
-/// and decodes in another call. Returns exactly the lost originals, each as it was. If the counts and the size are valid and at
-/// least as many shards are left as there are originals, the call can only fail with `OutOfMemory`.
+/// Encodes the originals in one call, drops the originals and the recovery shards with the indexes in `lost` and
+/// `recovery_lost`, and decodes in another call. Returns exactly the lost originals, each as it was.
+///
+/// # Errors
+///
+/// - If the counts and the size are valid, all originals have this size, and at least as many shards are left as there
+///   are originals: only [`Error::OutOfMemory`] if memory cannot be allocated.
+/// - Otherwise: the errors of the calls that encode and decode.
 pub fn round_trip_in_one_call(
     alloc: Global,
     originals: &[Vec<u8>],
@@ -57,8 +63,12 @@ pub fn round_trip_in_one_call(
     decode(alloc, k, r, kept, received, engine)
 }
 
-/// Restores the lost originals of a message from the originals and the recovery shards that are left. If each shard has its own
-/// index and none is there twice, a success returns exactly the lost originals, each as it was.
+/// Restores the lost originals of a message from the originals and the recovery shards that are left. If each shard has
+/// its own index and no shard is there twice, a success returns exactly the lost originals, each as it was.
+///
+/// # Errors
+///
+/// The errors of [`decode_slice`], in the same order.
 pub fn restore_what_is_left(
     alloc: Global,
     original_count: usize,
@@ -83,10 +93,15 @@ pub fn restore_what_is_left(
     )
 }
 
-/// Encodes the originals with a plain encoder, drops the originals and the recovery shards with the indexes in `lost` and
-/// `recovery_lost`, and decodes with a plain decoder. Returns exactly the lost originals, each as it was, in order of their index.
-/// If the counts and the size are valid and at least as many shards are left as there are originals, the call can only fail with
-/// `OutOfMemory`.
+/// Encodes the originals with a plain encoder, drops the originals and the recovery shards with the indexes in `lost`
+/// and `recovery_lost`, and decodes with a plain decoder. Returns exactly the lost originals, each as it was, in order
+/// of their index.
+///
+/// # Errors
+///
+/// - If the counts and the size are valid, all originals have this size, and at least as many shards are left as there
+///   are originals: only [`Error::OutOfMemory`] if memory cannot be allocated.
+/// - Otherwise: the errors of the calls that encode and decode.
 pub fn round_trip_by_plain_objects(
     alloc: Global,
     originals: &[Vec<u8>],

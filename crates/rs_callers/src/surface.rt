@@ -2,7 +2,8 @@
 //! this file would not compile, or the prover would refuse it.
 ghost use Rattle.std.specs.Iterator.{IsFinite};
 ghost use Rattle.std.specs.Option.{option_copied, option_map};
-ghost use Rattle.std.specs.Prelude.{◌≡◌, ℕ, ◌^◌, ◌<◌, ◌≤◌, true, List, [], ◌∷◌, length, map, slice_get, slice_index, bit_xor};
+ghost use Rattle.std.specs.Prelude.{◌≡◌, ℕ, ◌^◌, ◌<◌, ◌≤◌, true, List, [], ◌∷◌, length, map};
+ghost use Rattle.std.specs.Prelude.{slice_get, slice_index, bit_xor};
 ghost use Rattle.std.specs.Prelude.{codes, Some, None, Result, Ok, Err, IfOk, IfSome, MatchResult};
 ghost use Rattle.reed_solomon_simd.specs.Column.{Shard};
 ghost use Rattle.reed_solomon_simd.specs.Counts.{low_rate, high_rate, default_rate, supports};
@@ -168,7 +169,11 @@ pub fn chosen<'t>(
     [naive.into(), no_simd.into(), avx2.into(), ssse3.into()]
 }
 
-/// Returns the kind that a word names.
+/// Returns the kind of engine whose name a word is.
+///
+/// # Errors
+///
+/// [`UnknownEngine`] if the word is no name of an engine.
 pub fn kind_named(name: &str) -> Result<EngineKind, UnknownEngine>
     ensures { MatchResult result (λ kind. engine_named name.now ≡ Some kind)
         (λ _. engine_named name.now ≡ None) }
@@ -204,7 +209,11 @@ pub fn names<E: Engine>()
     ensures default_decoder { ⟦<DefaultRateDecoder<E> as RateDecoder<E>>⟧.rate ≡ default_rate }
 {}
 
-/// Checks two counts for each rate.
+/// Checks two counts for the low, the high and the default rate.
+///
+/// # Errors
+///
+/// [`Error::UnsupportedShardCount`] if one of the rates does not support the counts.
 pub fn counts_at_each(
     original_count: usize,
     recovery_count: usize,
@@ -242,6 +251,10 @@ pub fn first_shards<'a>(
 }
 
 /// Adds the first recovery shard of a plain encoder to a plain decoder.
+///
+/// # Errors
+///
+/// The errors of [`ReedSolomonEncoder::encode`], and then those of [`ReedSolomonDecoder::add_recovery_shard`].
 pub fn add_first(
     encoder: &mut ReedSolomonEncoder<'_>,
     decoder: &mut ReedSolomonDecoder<'_>,
@@ -266,6 +279,10 @@ pub fn both_support(original_count: usize, recovery_count: usize) -> bool
 }
 
 /// Encodes the shards that an iterator lends, in one call.
+///
+/// # Errors
+///
+/// The errors of [`encode`], in the same order.
 pub fn encoded<'a, I: Iterator<Item = &'a [u8]> + Drop>(
     alloc: Global,
     original_count: usize,
@@ -282,6 +299,10 @@ pub fn encoded<'a, I: Iterator<Item = &'a [u8]> + Drop>(
 }
 
 /// Decodes the originals and the recovery shards that two iterators lend, in one call.
+///
+/// # Errors
+///
+/// The errors of [`decode`], in the same order.
 pub fn decoded<'a, O, R>(
     alloc: Global,
     original_count: usize,
@@ -312,7 +333,11 @@ where
     )
 }
 
-/// Encodes one array, and decodes it with nothing missing, over slices.
+/// Encodes one array into one recovery shard, and decodes it with nothing missing, over slices.
+///
+/// # Errors
+///
+/// The errors of [`encode_slice`], and then those of [`decode_slice`].
 pub fn one_array(
     alloc: Global,
     shard: [u8; 64],

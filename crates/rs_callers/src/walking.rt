@@ -6,8 +6,11 @@ ghost use Rattle.reed_solomon_simd.specs.ResultView.{recovery_shards, restored_o
 use reed_solomon_simd::{DecoderResult, EncoderResult, Error};
 use std::alloc::Global;
 
-/// Returns copies of the recovery shards of a result, in order of their index. Fails with `OutOfMemory` if the copies cannot be
-/// allocated.
+/// Returns copies of the recovery shards of a result, in order of their index.
+///
+/// # Errors
+///
+/// [`Error::OutOfMemory`] if the copies cannot be allocated.
 pub fn recovery_copies(alloc: Global, lent: &EncoderResult<'_>) -> Result<Vec<Vec<u8>>, Error>
     ensures copies { IfOk result
         (λ shards. map (λ shard. shard.items) shards.items ≡ recovery_shards lent.now) }
@@ -20,8 +23,11 @@ pub fn recovery_copies(alloc: Global, lent: &EncoderResult<'_>) -> Result<Vec<Ve
     Ok(shards)
 }
 
-/// Returns copies of the restored originals of a result, with their indexes, in order of their index. Fails with `OutOfMemory` if
-/// the copies cannot be allocated.
+/// Returns copies of the restored originals of a result, with their indexes, in order of their index.
+///
+/// # Errors
+///
+/// [`Error::OutOfMemory`] if the copies cannot be allocated.
 pub fn restored_copies(
     alloc: Global,
     lent: &DecoderResult<'_>,

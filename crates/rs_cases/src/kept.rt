@@ -37,7 +37,7 @@ pub struct Kept {
 }
 
 impl Kept {
-    /// Nothing yet.
+    /// Makes a value that keeps nothing yet.
     pub fn new(alloc: Global, way: Way) -> Kept {
         Kept {
             alloc,

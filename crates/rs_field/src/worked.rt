@@ -1,10 +1,15 @@
 //! Worked examples: what the definitions say at small numbers, as contracts of functions that do nothing.
 ghost use Rattle.rs_field.specs.code.Counts.{low_rate, high_rate, default_rate};
-ghost use Rattle.rs_field.specs.worked.Numbers.{Products, ColumnsOfShards, Powers, Supported, Unsupported, OfOneRate, Choices};
-ghost use Rattle.rs_field.specs.worked.Numbers.{Validated, TooManyBytes, BlockRowsExamples, EncoderRowsExamples, DecoderRowsExamples, TransformOfTwo, StepBounds};
+ghost use Rattle.rs_field.specs.worked.Numbers.{Products, ColumnsOfShards, Powers, Supported};
+ghost use Rattle.rs_field.specs.worked.Numbers.{Unsupported, OfOneRate, Choices};
+ghost use Rattle.rs_field.specs.worked.Numbers.{Validated, TooManyBytes, BlockRowsExamples};
+ghost use Rattle.rs_field.specs.worked.Numbers.{EncoderRowsExamples, DecoderRowsExamples};
+ghost use Rattle.rs_field.specs.worked.Numbers.{TransformOfTwo, StepBounds};
 ghost use Rattle.rs_field.specs.worked.Codes.{LowExamples, HighExamples, ShortLineExample, CubicExample, TailExample};
 ghost use Rattle.rs_field.specs.worked.Codes.{ChunkAndTailExample, RestoredExample, MixtureExample, SurplusExample};
-ghost use Rattle.rs_field.specs.worked.Calls.{EncodeOrder, DecodeOrder, NoRecoveryOrder, EncoderRound, DecoderRound, LargestIndex, MemoryOrder};
+ghost use Rattle.rs_field.specs.worked.Calls.{EncodeOrder, DecodeOrder, NoRecoveryOrder};
+ghost use Rattle.rs_field.specs.worked.Calls.{EncoderRound, DecoderRound, LargestIndex};
+ghost use Rattle.rs_field.specs.worked.Calls.{MemoryOrder};
 
 /// Gives examples of products of words, and of columns of shards with and without a tail.
 pub fn words()

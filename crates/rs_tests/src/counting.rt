@@ -91,7 +91,7 @@ impl Engine for Counting<'_> {
     }
 }
 
-// The calls of an encode of these originals.
+// Returns how often an encode of these originals calls its engine.
 fn calls_of_encode<'t, R: Rate<Counting<'t>>>(
     alloc: Global,
     tables: &'t Tables,
@@ -122,7 +122,7 @@ fn an_encode_transforms_each_block_and_once_more(rt: HostRuntime) -> Result<(), 
 
 type Item = (usize, [u8; 2]);
 
-// The calls of a decode of these shards, at four of each.
+// Returns how often a decode of these shards, for four originals and four recovery shards, calls its engine.
 fn calls_of_decode<'t, R: Rate<Counting<'t>>>(
     alloc: Global,
     tables: &'t Tables,
@@ -140,8 +140,8 @@ fn calls_of_decode<'t, R: Rate<Counting<'t>>>(
     Ok(decoder.into_parts().0.calls.get())
 }
 
-// The shards agree with one message of four originals. A decode calls `mul` at most once for each given shard, and for each that
-// is restored.
+// Checks how often decodes call their engine. All shards belong to one message of four originals. A decode calls `mul`
+// at most once for each given shard and once for each restored shard.
 fn counts_decodes<'t, R: Rate<Counting<'t>>, A: Abort + AllocGlobal>(
     rt: &A,
     tables: &'t Tables,
@@ -248,7 +248,7 @@ impl Kernel for Butterflies<'_> {
     }
 }
 
-// The engine after a decode of eight originals, all of them zeros and lost, from eight recovery shards.
+// Returns the engine after a decode of eight originals of zeros, which are all lost, from eight recovery shards.
 fn after_decode<E: Engine, D: RateDecoder<E> + Drop>(alloc: Global, engine: E) -> Result<E, Error> {
     let mut decoder = D::new(alloc, 8, 8, 2, engine, None)?;
     for index in 0..8 {
@@ -270,8 +270,9 @@ fn a_decode_over_16_rows_locates_at_16_points(rt: HostRuntime) -> Result<(), Fai
     Ok(())
 }
 
-// A transform of 16 rows has two layers of eight butterflies between its quarters, and four in each quarter. Two quarters
-// hold nothing given, at the low rate the first two, at the high rate the last two; of the other two nothing is wanted.
+// Checks that a decode leaves out the quarters in which no row is used. A transform of 16 rows has two layers of eight
+// butterflies between its quarters, and four butterflies in each quarter. Two quarters hold no given row: the first two
+// at the low rate, and the last two at the high rate. In the other two quarters, no row is wanted.
 fn check_empty_quarters<'t, D: RateDecoder<Butterflies<'t>> + Drop>(
     rt: &impl Abort,
     alloc: Global,

@@ -1,4 +1,5 @@
-//! The three levels of use, as the documents quote them: that they find memory, no contract says.
+//! Tests of the three levels of use, as the documents quote them. They show that the calls can allocate memory, which
+//! no contract states.
 use rs_callers::levels;
 use std::test::Fail;
 

@@ -1,4 +1,4 @@
-//! Tests of what no contract says, and of what contracts come to at numbers, a file for each matter.
+//! Tests of facts that no contract states, and of what contracts state for concrete numbers. Each file has one subject.
 #![tactic(auto)]
 
 #[cfg(test)]
@@ -13,5 +13,7 @@ mod locators;
 mod rows;
 #[cfg(test)]
 mod sizes;
+#[cfg(test)]
+mod stripes;
 #[cfg(test)]
 mod tables;

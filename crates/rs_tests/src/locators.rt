@@ -1,4 +1,5 @@
-//! Locators that are known by hand, of every engine: of the residue that the contract fixes nothing is said at numbers.
+//! Tests of locators that are known by hand, for every engine. The contract fixes only the residue of an entry, and
+//! these tests show numbers.
 ghost use Rattle.std.specs.Prelude.{◌≡◌, ◌≤◌, length};
 
 use reed_solomon_simd::engine::tables::{Tables, get_exp_log};
@@ -8,7 +9,7 @@ use reed_solomon_simd::engine::{
 use std::process::Abort;
 use std::test::Fail;
 
-// The locator of the points from `first` up to `end`.
+// Returns the locator of the points from `first` up to, but not including, `end`, as the engine computes it.
 fn located<E: Engine>(engine: &E, first: usize, end: usize) -> [GfElement; 65536]
     requires { end ≤ 65536 }
 {
@@ -21,7 +22,8 @@ fn located<E: Engine>(engine: &E, first: usize, end: usize) -> [GfElement; 65536
     entries
 }
 
-// Each product of differences is named by its logarithm; that of one is 0 or 65535.
+// Checks locators at all points. An entry is the logarithm of a product of differences of points. The logarithm of one
+// is 0 or 65535.
 fn check_locators<E: Engine>(rt: &impl Abort, engine: &E, log: &[GfElement])
     requires { length log.now ≡ 65536 }
 {

@@ -1,5 +1,5 @@
-//! Rows that are known by hand: transforms and products of each engine, and rows that are lent, cleared and summed. The
-//! contracts state this for all rows; these tests show numbers.
+//! Tests of rows that are known by hand: transforms and products of each engine, and rows that are lent, cleared and
+//! summed. The contracts state this for all rows, and these tests show numbers.
 use reed_solomon_simd::engine::tables::{Tables, get_exp_log};
 use reed_solomon_simd::engine::utils::xor_within;
 use reed_solomon_simd::engine::{
@@ -8,7 +8,7 @@ use reed_solomon_simd::engine::{
 use std::process::Abort;
 use std::test::Fail;
 
-// A chunk whose bytes differ from place to place.
+// Returns a chunk whose bytes differ from place to place.
 fn mixed(first: u8) -> [u8; 64] {
     let mut chunk = [first; 64];
     for i in 0..64 {
@@ -17,13 +17,14 @@ fn mixed(first: u8) -> [u8; 64] {
     chunk
 }
 
-// A chunk whose first symbol is this byte, and whose others are zero.
+// Returns a chunk whose first symbol is this byte, and whose other symbols are zero.
 fn first_symbol(byte: u8) -> [u8; 64] {
     let mut chunk = [0; 64];
     chunk[0] = byte;
     chunk
 }
 
+// Checks a forward and a backward transform.
 fn check_transforms(rt: &impl Abort, engine: DefaultEngine<'_>) {
     let mut steps = Steps::new();
     let mut four = [mixed(3), [0; 64], [0; 64], [0; 64]];
@@ -37,7 +38,7 @@ fn check_transforms(rt: &impl Abort, engine: DefaultEngine<'_>) {
     assert_eq!(rt; two, [first_symbol(2), first_symbol(4)]);
 }
 
-// Rows of 0 to 5 chunks.
+// Checks products of rows of 0 to 5 chunks.
 fn check_products(rt: &impl Abort, engine: DefaultEngine<'_>, naive: Naive<'_>, log_m: GfElement) {
     let row = [mixed(3), mixed(5), mixed(7), mixed(11), mixed(13)];
     let mut steps = Steps::new();

@@ -1,5 +1,6 @@
-//! Counts and sizes that users have, by each level of use: shards are coded, as many are lost as can be, and what is lost
-//! comes back. That these calls find memory where there is some, no contract states.
+//! Tests with counts and sizes that users have, at each level of use: messages are encoded, as many shards are lost as
+//! possible, and the lost originals come back. The tests show that these calls can allocate memory, which no contract
+//! states.
 mod losses;
 mod objects;
 mod one_call;

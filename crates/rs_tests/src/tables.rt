@@ -1,5 +1,5 @@
-//! Entries of the tables that are known by hand: what the definitions of the contracts should come to. And that a copy of an
-//! entry finds memory, no contract says.
+//! Tests of entries of the tables that are known by hand, and a test that an entry can be cloned, which no contract
+//! states.
 use reed_solomon_simd::engine::tables::{
     Tables, get_exp_log, get_mul16, get_mul128, get_skew, mul,
 };
@@ -35,7 +35,7 @@ fn check_factors(rt: &impl Abort, tables: &Tables) {
     assert_eq!(rt; skew[4], t.log[4]);
 }
 
-// The products of 0 to 7 with 2 are 0, 2, 3, 1, 11, 9, 8 and 10.
+// Checks the products of 0 to 7 with 2, which are 0, 2, 3, 1, 11, 9, 8 and 10.
 fn check_products(rt: &impl Abort, tables: &Tables) {
     let log_2 = get_exp_log(tables).log[2] as usize;
     let mul16 = get_mul16(tables);

@@ -1,4 +1,4 @@
-//! Command lines through `run`, over writers in memory, with every engine.
+//! Tests that run command lines through `run` with writers in memory, with every engine.
 use super::*;
 use std::alloc::AllocError;
 use std::io;
@@ -6,10 +6,10 @@ use std::io::ErrorKind;
 use std::process::Abort;
 use std::test::Fail;
 
-// The words that name an engine.
+// The names of the engines.
 const ENGINES: [&str; 4] = ["naive", "nosimd", "avx2", "ssse3"];
 
-// Command lines, and what is printed for them.
+// Command lines, and the lines that the program prints for them.
 const PRINTED: [(&str, &str); 6] = [
     ("encode ENGINE 2 3 0000 0100", "0200\n0300\n0400\n"),
     ("encode ENGINE 3 1 0102 0408 1020", "152a\n"),
@@ -25,7 +25,7 @@ const PRINTED: [(&str, &str); 6] = [
     ("decode ENGINE 1 1 o0=", ""),
 ];
 
-// Command lines that are refused, and the texts of their refusals.
+// Valid command lines whose counts or shards are wrong, and the texts of their errors.
 const REFUSED: [(&str, &str); 4] = [
     (
         "encode ENGINE 0 1",
@@ -45,7 +45,7 @@ const REFUSED: [(&str, &str); 4] = [
     ),
 ];
 
-// Words that are no command line.
+// Words that are not a valid command line.
 const BAD: [&str; 6] = [
     "version",
     "encode ENGINE 1 1 0",
@@ -55,7 +55,7 @@ const BAD: [&str; 6] = [
     "encode ENGINE 18446744073709551616 1",
 ];
 
-// Splits a line at its blanks, and puts an engine's word where the line says ENGINE.
+// Splits a line at its blanks, and replaces ENGINE by the name of an engine.
 fn words_of(alloc: Global, line: &str, engine: &str) -> Result<Vec<String>, AllocError> {
     let mut words = Vec::new(alloc);
     for word in line.split(' ') {
@@ -65,7 +65,7 @@ fn words_of(alloc: Global, line: &str, engine: &str) -> Result<Vec<String>, Allo
     Ok(words)
 }
 
-// Checks what `run` writes and returns for this line with each engine.
+// Checks what `run` writes and returns for a line, with each engine.
 fn check(
     rt: &(impl Abort + AllocGlobal),
     line: &str,
@@ -110,7 +110,8 @@ fn bad_lines_are_told(rt: HostRuntime) -> Result<(), Fail> {
     check(&rt, "", "", "usage\n", 2)
 }
 
-// A writer that takes one byte at a time, is interrupted before each, and fails once its room is full.
+// A writer that takes one byte at a time. Each write fails once as interrupted before it succeeds, and writes fail when
+// the room is full.
 #[derive(Drop)]
 struct Filling {
     taken: Vec<u8>,
@@ -151,7 +152,7 @@ impl Write for Filling {
     }
 }
 
-// The lines are ten bytes long.
+// The output for this command line has ten bytes.
 #[test]
 fn failed_writes_give_status_one(rt: HostRuntime) -> Result<(), Fail> {
     let alloc = rt.alloc();

@@ -1,14 +1,18 @@
 //! Laws of the definitions, as contracts of functions that do nothing.
 ghost use Rattle.std.specs.Prelude.{◌≡◌, ◌+◌, ◌^◌, length};
 ghost use Rattle.rs_field.specs.code.Code.{HasOnePolynomial, HasOneRecovery};
-ghost use Rattle.rs_field.specs.code.CodeLaws.{HasRecovery, IsLinear, IsColumnwise, IsCodedByStrips, CodesWhereStripsDo};
-ghost use Rattle.rs_field.specs.code.CodeLaws.{HasOneCodeAtOnePower, IsFixedByPlaces, HasOneRestoration, NoticesChanges};
+ghost use Rattle.rs_field.specs.code.CodeLaws.{HasRecovery, IsLinear, IsColumnwise};
+ghost use Rattle.rs_field.specs.code.CodeLaws.{IsCodedByStrips, CodesWhereStripsDo};
+ghost use Rattle.rs_field.specs.code.CodeLaws.{HasOneCodeAtOnePower, IsFixedByPlaces};
+ghost use Rattle.rs_field.specs.code.CodeLaws.{HasOneRestoration, NoticesChanges};
 ghost use Rattle.rs_field.specs.code.Column.{ColumnsTellShard, IsColumn};
 ghost use Rattle.rs_field.specs.code.CountLaws.{SupportsRanges};
 ghost use Rattle.rs_field.specs.words.Field.{cantor_basis, polynomial};
 ghost use Rattle.rs_field.specs.words.Laws.{IsField, IsGenerated, IsProductOfBits};
 ghost use Rattle.rs_field.specs.words.Locator.{LocatesByProduct};
-ghost use Rattle.rs_field.specs.code.RoundTrip.{RestoresLost, RestoresEncoded, RestoresLeft, CodesInOneCall, EncodesInOneCall, RestoresInOneCall};
+ghost use Rattle.rs_field.specs.code.RoundTrip.{RestoresLost, RestoresEncoded, RestoresLeft};
+ghost use Rattle.rs_field.specs.code.RoundTrip.{CodesInOneCall, EncodesInOneCall};
+ghost use Rattle.rs_field.specs.code.RoundTrip.{RestoresInOneCall};
 ghost use Rattle.rs_field.specs.words.Subspace.{SubspaceIsShift};
 
 use crate::words::{CANTOR_BASIS, GF_BITS, GF_MODULUS, GF_ORDER, GF_POLYNOMIAL};

@@ -3,7 +3,9 @@ ghost use Rattle.std.specs.Prelude.{◌≡◌, ℕ, ◌+◌, ◌-◌, ◌*◌, �
 ghost use Rattle.std.specs.Borrow.{sem};
 ghost use Rattle.rs_field.specs.rows.Rows.{chunk, SameOutside};
 ghost use Rattle.rs_field.specs.rows.View.{row_at, Fits, SameExtent, SameRowsOutside, AreZero, HasRows, IsListOf};
-ghost use Rattle.rs_field.specs.rows.Lending.{LendsAll, LendsRun, LendsRow, LendsTwoRuns, LendsTwoRows, LendsFourRuns, LendsFourRows, LendsHalves};
+ghost use Rattle.rs_field.specs.rows.Lending.{LendsAll, LendsRun, LendsRow, LendsTwoRuns};
+ghost use Rattle.rs_field.specs.rows.Lending.{LendsTwoRows, LendsFourRuns, LendsFourRows};
+ghost use Rattle.rs_field.specs.rows.Lending.{LendsHalves};
 
 use std::cell::UnsafeCell;
 use std::ops::Range;
@@ -11,8 +13,11 @@ use std::ops::Range;
 /// A list of rows of equal length, over one lent slice. Each row is a list of chunks of 64 bytes.
 #[derive(Drop)]
 pub struct ShardsRefMut<'a> {
+    /// The number of rows.
     pub(crate) shard_count: usize,
+    /// The number of chunks of each row.
     pub(crate) shard_len_64: usize,
+    /// The chunks of all rows, row after row, and then any further chunks of the lent slice.
     pub(crate) chunks: &'a mut [[u8; 64]],
     // The marker takes no bytes. Because of the marker, the checker can see from the loan of a row how writing to the
     // row changes the list of rows.

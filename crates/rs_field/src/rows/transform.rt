@@ -4,7 +4,8 @@
 //! the quarters of its rows and a transform of each quarter. For 2, 8 and 32 rows, it is one layer between the halves
 //! and a transform of each half. So the recursion goes depth first, and a block that fits the cache stays in the cache.
 ghost use Rattle.std.specs.Prelude.{ℕ, ◌+◌, ◌<◌, ◌≤◌};
-ghost use Rattle.rs_field.specs.rows.Directions.{AreTransformed, ArePartsTransformed, UnusedAreZeroBackward, PartCounts};
+ghost use Rattle.rs_field.specs.rows.Directions.{AreTransformed, ArePartsTransformed};
+ghost use Rattle.rs_field.specs.rows.Directions.{UnusedAreZeroBackward, PartCounts};
 ghost use Rattle.rs_field.specs.rows.View.{word, Fits, SameExtent, SameRowsOutside};
 ghost use Rattle.rs_field.specs.rows.MarkedRows.{is_used, HasMarks};
 ghost use Rattle.rs_field.specs.words.StepBounds.{TransformCounts};

@@ -1,5 +1,6 @@
 //! The tables of the field, made at run time and lent.
-ghost use Rattle.std.specs.Prelude.{◌≡◌, ◌+◌, ◌-◌, ◌*◌, ◌/◌, ◌%◌, ◌^◌, ◌<◌, ◌≤◌, length, slice_index, vec_len, IfOk, IfErr, OnOk, ℕ};
+ghost use Rattle.std.specs.Prelude.{◌≡◌, ◌+◌, ◌-◌, ◌*◌, ◌/◌, ◌%◌, ◌^◌, ◌<◌, ◌≤◌, length};
+ghost use Rattle.std.specs.Prelude.{slice_index, vec_len, IfOk, IfErr, OnOk, ℕ};
 ghost use Rattle.rs_field.specs.words.Field.{power};
 ghost use Rattle.rs_field.specs.words.Tables.{IsExpLog, IsLog, IsLogWalsh, IsLogWalshBelow, AreLogWalshes, IsSkew};
 ghost use Rattle.rs_field.specs.words.Products.{IsMul16, IsMul128};

@@ -159,8 +159,10 @@ pub trait RateEncoder<E: Engine>: Sized {
     ghost use Rattle.rs_field.specs.code.Counts.{Rate as WhichRate, supports as supports_counts};
     ghost use Rattle.rs_field.specs.code.Placement.{encoder_rows};
     ghost use Rattle.rs_field.specs.code.Outcome.{answer_of, state_after};
-    ghost use Rattle.rs_field.specs.code.Configuration.{configuration, validation_outcome, start_outcome, UpToMemory, FitsWithin};
-    ghost use Rattle.rs_field.specs.code.Encoder.{EncoderState, IsEncoder, fresh_encoder, with_shard, EncodeAnswers, after_encode};
+    ghost use Rattle.rs_field.specs.code.Configuration.{configuration, validation_outcome};
+    ghost use Rattle.rs_field.specs.code.Configuration.{start_outcome, UpToMemory, FitsWithin};
+    ghost use Rattle.rs_field.specs.code.Encoder.{EncoderState, IsEncoder, fresh_encoder};
+    ghost use Rattle.rs_field.specs.code.Encoder.{with_shard, EncodeAnswers, after_encode};
     ghost use Rattle.rs_rate.specs.ShardRows.{chunk_count};
     ghost use Rattle.rs_rate.specs.EncoderView.{work_room};
     ghost use Rattle.rs_rate.specs.ResultView.{answered_shards};
@@ -317,9 +319,12 @@ pub trait RateDecoder<E: Engine>: Sized {
     ghost use Rattle.rs_field.specs.code.Counts.{Rate as WhichRate, supports as supports_counts};
     ghost use Rattle.rs_field.specs.code.Placement.{decoder_rows};
     ghost use Rattle.rs_field.specs.code.Outcome.{answer_of, state_after};
-    ghost use Rattle.rs_field.specs.code.Configuration.{configuration, validation_outcome, start_outcome, UpToMemory, FitsWithin};
+    ghost use Rattle.rs_field.specs.code.Configuration.{configuration, validation_outcome};
+    ghost use Rattle.rs_field.specs.code.Configuration.{start_outcome, UpToMemory, FitsWithin};
     ghost use Rattle.rs_field.specs.code.Bounds.{DecodeCountsAt};
-    ghost use Rattle.rs_field.specs.code.Decoder.{DecoderState, IsDecoder, fresh_decoder, with_original, with_recovery, DecodeAnswers, after_decode};
+    ghost use Rattle.rs_field.specs.code.Decoder.{DecoderState, IsDecoder, fresh_decoder};
+    ghost use Rattle.rs_field.specs.code.Decoder.{with_original, with_recovery, DecodeAnswers};
+    ghost use Rattle.rs_field.specs.code.Decoder.{after_decode};
     ghost use Rattle.rs_rate.specs.DecoderRoom.{DecoderRoom, HasRoom, Grows, work_room};
     ghost use Rattle.rs_rate.specs.ResultView.{answered_originals};
     ghost use Rattle.rs_rate.specs.Loan.{AfterLoan};

@@ -1,6 +1,7 @@
 //! The two sides of a codeword: the originals and the recovery shards.
 ghost use Rattle.std.specs.Prelude.{◌≡◌, ◌^◌, ◌<◌};
-ghost use Rattle.rs_rate.specs.Sides.{side_count, side_row, side_originals, side_recovery, index_refused, repeat_refused};
+ghost use Rattle.rs_rate.specs.Sides.{side_count, side_row, side_originals, side_recovery};
+ghost use Rattle.rs_rate.specs.Sides.{index_refused, repeat_refused};
 
 use crate::values::shapes::DecoderShape;
 use rs_field::error::Error;

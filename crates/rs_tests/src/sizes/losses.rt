@@ -1,9 +1,9 @@
-//! Messages of which shards are lost.
+//! Messages of which some shards are lost.
 use reed_solomon_simd::DecoderResult;
 use std::alloc::{AllocError, Global};
 use std::collections::BTreeMap;
 
-/// Which shards of a message are lost. In all ways but `Half`, as many as there are recovery shards.
+/// Which shards of a message are lost. In all ways but `Half`, as many shards are lost as there are recovery shards.
 #[derive(Clone, Copy, Debug)]
 pub enum Loss {
     /// The first originals, and then the first recovery shards.
@@ -30,13 +30,15 @@ pub const LOSSES: [Loss; 5] = [
 /// A message, and which of its shards are lost.
 #[derive(Clone, Copy)]
 pub struct Message<'a> {
+    /// The originals.
     pub originals: &'a [Vec<u8>],
+    /// The number of recovery shards.
     pub recovery_count: usize,
     loss: Loss,
 }
 
 impl<'a> Message<'a> {
-    /// A message of these originals.
+    /// Makes a message of these originals.
     pub fn new(originals: &'a [Vec<u8>], recovery_count: usize, loss: Loss) -> Message<'a> {
         Message {
             originals,
@@ -45,7 +47,7 @@ impl<'a> Message<'a> {
         }
     }
 
-    /// Whether the original of this index is lost.
+    /// Returns whether the original with this index is lost.
     pub fn loses_original(&self, index: usize) -> bool {
         let (k, r) = (self.originals.len(), self.recovery_count);
         match self.loss {
@@ -57,7 +59,7 @@ impl<'a> Message<'a> {
         }
     }
 
-    /// Whether the recovery shard of this index is lost.
+    /// Returns whether the recovery shard with this index is lost.
     pub fn loses_recovery(&self, index: usize) -> bool {
         let (k, r) = (self.originals.len(), self.recovery_count);
         match self.loss {
@@ -69,7 +71,7 @@ impl<'a> Message<'a> {
         }
     }
 
-    // What has to be restored of this index.
+    // Returns the original with this index if it is lost, or `None`.
     fn wanted(&self, index: usize) -> Option<&[u8]> {
         if self.loses_original(index) {
             self.originals.get(index).map(|shard| shard.as_slice())
@@ -78,7 +80,7 @@ impl<'a> Message<'a> {
         }
     }
 
-    /// Whether just the lost originals are in a result, each as it was.
+    /// Returns whether exactly the lost originals are in a result, each as it was.
     pub fn is_in_result(&self, restored: &DecoderResult<'_>) -> bool {
         let mut agrees = true;
         for index in 0..self.originals.len() {
@@ -87,7 +89,7 @@ impl<'a> Message<'a> {
         agrees
     }
 
-    /// Whether just the lost originals are in a map, each as it was.
+    /// Returns whether exactly the lost originals are in a map, each as it was.
     pub fn is_in_map(&self, restored: &BTreeMap<usize, Vec<u8>>) -> bool {
         let mut agrees = true;
         for index in 0..self.originals.len() {
@@ -98,7 +100,7 @@ impl<'a> Message<'a> {
     }
 }
 
-// Whether a place is among those that `r` steps over `k + r` places reach, at even distances.
+// Returns whether a place is among `r` places at even distances, of `k + r` places.
 fn is_even(place: usize, k: usize, r: usize) -> bool {
     let all = k.saturating_add(r);
     let before = place.saturating_mul(r).checked_div(all);
@@ -106,7 +108,11 @@ fn is_even(place: usize, k: usize, r: usize) -> bool {
     before != after
 }
 
-/// So many originals of this size, whose bytes differ from shard to shard.
+/// Returns `count` originals of `shard_bytes` bytes, whose bytes differ from shard to shard.
+///
+/// # Errors
+///
+/// [`AllocError`] if the originals cannot be allocated.
 pub fn drawn(alloc: Global, count: usize, shard_bytes: usize) -> Result<Vec<Vec<u8>>, AllocError> {
     let mut state: u64 = 41;
     let mut shards = Vec::new(alloc);

@@ -1,4 +1,4 @@
-//! The one-call functions, over iterators and over slices.
+//! Tests of the one-call functions, over iterators and over slices.
 use super::losses::{LOSSES, Loss, Message, drawn};
 use super::{COUNTS, SIZES};
 use reed_solomon_simd::engine::tables::Tables;
@@ -8,7 +8,7 @@ use std::alloc::Global;
 use std::process::Abort;
 use std::test::Fail;
 
-// Whether just what is lost comes back, by iterators.
+// Returns whether exactly the lost originals come back, by calls over iterators.
 fn comes_back(
     alloc: Global,
     message: &Message<'_>,
@@ -32,7 +32,7 @@ fn comes_back(
     Ok(message.is_in_map(&restored))
 }
 
-// Whether just what is lost comes back, over slices.
+// Returns whether exactly the lost originals come back, by calls over slices.
 fn comes_back_in_slices(
     alloc: Global,
     message: &Message<'_>,
@@ -56,7 +56,7 @@ fn comes_back_in_slices(
     Ok(message.is_in_map(&restored))
 }
 
-// The engine that codes shards of this size: the slow ones code short shards.
+// Returns the engine for shards of this size. The slow engines are used for short shards.
 fn engine_for(tables: &Tables, shard_bytes: usize) -> DefaultEngine<'_> {
     let kind = match shard_bytes {
         0..64 => EngineKind::Naive,
@@ -91,7 +91,7 @@ fn one_call_at_counts_and_sizes_of_users(rt: HostRuntime) -> Result<(), Fail> {
     Ok(())
 }
 
-// All originals alone are enough; without the last they are too few.
+// Checks that all originals without a recovery shard are enough, and that all but the last one are not enough.
 fn check_originals_alone(
     rt: &impl Abort,
     alloc: Global,

@@ -1,4 +1,5 @@
-//! Sizes of shards about the ends of strips. Every way to encode in one call gives what an encoder of whole shards gives.
+//! Tests with sizes of shards close to the ends of strips. Every way to encode in one call returns what an encoder of
+//! whole shards returns.
 ghost use Rattle.std.specs.Prelude.{◌≤◌};
 
 use super::losses::drawn;
@@ -23,7 +24,7 @@ const COUNTS: [(usize, usize); 7] = [
     (100, 30),
 ];
 
-// The recovery shards one after the other, by an encoder of whole shards.
+// Returns the recovery shards, one after the other, as an encoder of whole shards computes them.
 fn encoded_whole(
     alloc: Global,
     originals: &[Vec<u8>],
