@@ -1,5 +1,6 @@
 -- Restored originals are entered in a map by their index, one after another.
-use Rattle.std.proofs.Common.{◌≡◌, ℕ, ◌+◌, ◌-◌, ◌<◌, ◌≤◌, Bool, true, cond, List, [], ◌∷◌, length, get_or, Bor, Option, Some, None, refl, sym, ap, ap₂, subst, ◌∙◌, arith}
+use Rattle.std.proofs.Common.{◌≡◌, ℕ, ◌+◌, ◌-◌, ◌<◌, ◌≤◌, Bool, true, cond, List, [], ◌∷◌, length, get_or, Bor, Option}
+use Rattle.std.proofs.Common.{Some, None, refl, sym, ap, ap₂, subst, ◌∙◌, arith}
 use Rattle.std.specs.Prelude.{is_some, not, ◌&&◌}
 use Rattle.std.proofs.lemmas.Bool.{lt-ltb}
 use Rattle.std.specs.Option.{option_map}
@@ -23,14 +24,16 @@ pub record AreEntered (s : DecoderState) (index : ℕ) (left : List Shard) (vect
   pub whole : with_entries vectors (items_from index (s.configuration.original_count - index) out) ≡ out
 
 -- Before the first index, the list holds all restored originals and the map is empty.
-pub entered-none : (s : DecoderState) (rooms left : List Shard) (vectors : Shards) → HoldRestored s rooms → left ≡ rooms → vectors ≡ nothing → AreEntered s 0 left vectors
+pub entered-none : (s : DecoderState) (rooms left : List Shard) (vectors : Shards) → HoldRestored s rooms → left ≡ rooms
+    → vectors ≡ nothing → AreEntered s 0 left vectors
 entered-none s rooms left vectors holds is empty =
     let k = s.configuration.original_count in
     let m = holds.restored.message in
     let here : Lists holds.out (items_below s.configuration.original_count holds.out) =
     record { count = k; none_past = λ i past. holds.restored.missing i ∙ missing-past s m i past; in_order = refl } in
     let items : holds.items ≡ items_from 0 (s.configuration.original_count - 0) holds.out =
-    lists-same holds.out holds.items (items_below k holds.out) holds.listed here ∙ ap (λ (n : ℕ). items_from 0 n holds.out) (let e : k ≡ k - 0 = omega arith in e) in
+    lists-same holds.out holds.items (items_below k holds.out) holds.listed here
+        ∙ ap (λ (n : ℕ). items_from 0 n holds.out) (let e : k ≡ k - 0 = omega arith in e) in
     record {
       out = holds.out;
       restored = holds.restored;
@@ -44,7 +47,8 @@ module _ (s : DecoderState) (i : ℕ) (left : List Shard) (vectors : Shards) (ar
     unfolding missing_of
     some-here =
         are.restored.missing i
-        ∙ ap₂ (λ (a b : Bool). cond (a && not b) (Some (shard_at are.restored.message i)) None) (lt-ltb i s.configuration.original_count inside) (ap is_some free)
+        ∙ ap₂ (λ (a b : Bool). cond (a && not b) (Some (shard_at are.restored.message i)) None)
+            (lt-ltb i s.configuration.original_count inside) (ap is_some free)
 
     begins : items_from i (s.configuration.original_count - i) are.out
         ≡ (i, shard_at are.restored.message i) ∷ items_from (i + 1) (s.configuration.original_count - (i + 1)) are.out
@@ -53,45 +57,56 @@ module _ (s : DecoderState) (i : ℕ) (left : List Shard) (vectors : Shards) (ar
     -- If the original with index i is missing, the list still holds a shard.
     pub entered-short : left ≡ [] → ⊥
     entered-short none =
-        let both : [] ≡ shard_at are.restored.message i ∷ shards_listed (items_from (i + 1) (s.configuration.original_count - (i + 1)) are.out) =
+        let both : [] ≡ shard_at are.restored.message i ∷ shards_listed
+            (items_from (i + 1) (s.configuration.original_count - (i + 1)) are.out) =
         sym none ∙ are.left_is ∙ ap shards_listed begins in
         let no : ⊥ = cc in no
 
     -- If the original with index i is missing, the first shard of the list is entered at index i.
     pub entered-next : (x : Shard) (rest : List Shard) (new : Shards) → left ≡ x ∷ rest
-        → ((items others : Items) → items ≡ (i, x) ∷ others → with_entries new others ≡ with_entries vectors items) → AreEntered s (i + 1) rest new
+        → ((items others : Items) → items ≡ (i, x) ∷ others → with_entries new others ≡ with_entries vectors items)
+        → AreEntered s (i + 1) rest new
     entered-next x rest new is step =
-        let both : x ∷ rest ≡ shard_at are.restored.message i ∷ shards_listed (items_from (i + 1) (s.configuration.original_count - (i + 1)) are.out) =
+        let both : x ∷ rest ≡ shard_at are.restored.message i ∷ shards_listed
+            (items_from (i + 1) (s.configuration.original_count - (i + 1)) are.out) =
         sym is ∙ are.left_is ∙ ap shards_listed begins in
         let same : shard_at are.restored.message i ≡ x = cc in
         record {
           out = are.out;
           restored = are.restored;
           left_is = cc;
-          whole = step (items_from i (s.configuration.original_count - i) are.out) (items_from (i + 1) (s.configuration.original_count - (i + 1)) are.out)
-              (begins ∙ ap (λ (y : Shard). (i, y) ∷ items_from (i + 1) (s.configuration.original_count - (i + 1)) are.out) same)
+          whole = step (items_from i (s.configuration.original_count - i) are.out)
+              (items_from (i + 1) (s.configuration.original_count - (i + 1)) are.out)
+              (begins ∙ ap (λ (y : Shard).
+                  (i, y) ∷ items_from (i + 1) (s.configuration.original_count - (i + 1)) are.out) same)
               ∙ are.whole;
         }
 
   -- If the original with index i was received, the map and the list do not change.
-  pub entered-skipped : i < s.configuration.original_count → is_some (s.originals i) ≡ true → AreEntered s (i + 1) left vectors
+  pub entered-skipped : i < s.configuration.original_count → is_some (s.originals i) ≡ true
+      → AreEntered s (i + 1) left vectors
   unfolding missing_of
   entered-skipped inside some =
       let none : are.out i ≡ None =
       are.restored.missing i
-      ∙ ap₂ (λ (a b : Bool). cond (a && not b) (Some (shard_at are.restored.message i)) None) (lt-ltb i s.configuration.original_count inside) some in
+      ∙ ap₂ (λ (a b : Bool). cond (a && not b) (Some (shard_at are.restored.message i)) None)
+          (lt-ltb i s.configuration.original_count inside) some in
       let same = items_from-none i s.configuration.original_count are.out inside none in
-      record { out = are.out; restored = are.restored; left_is = are.left_is ∙ ap shards_listed same; whole = ap (with_entries vectors) (sym same) ∙ are.whole }
+      record { out = are.out; restored = are.restored; left_is = are.left_is ∙ ap shards_listed same; whole =
+          ap (with_entries vectors) (sym same) ∙ are.whole }
 
   -- After the last index, the map holds all restored originals.
   pub entered-all : s.configuration.original_count ≤ i → Restored s vectors
   entered-all past =
-      subst (Restored s) (sym are.whole ∙ ap (with_entries vectors) (items_from-past i s.configuration.original_count are.out past)) are.restored
+      subst (Restored s) (sym are.whole
+          ∙ ap (with_entries vectors) (items_from-past i s.configuration.original_count are.out past)) are.restored
 
 -- If a place holds a shard, the map of the places has a shard at the index of the place.
-pub some-place : (places : List (Option (Bor Shard))) (i : ℕ) (found : Option (Bor Shard)) → get_or places i found ≡ found → i < length places → is_some found ≡ true
+pub some-place : (places : List (Option (Bor Shard))) (i : ℕ) (found : Option (Bor Shard))
+    → get_or places i found ≡ found → i < length places → is_some found ≡ true
     → is_some (given_in places i) ≡ true
-some-place places i found is inside some = by_option (get_or places i None) (get_or_default places i None found inside ∙ is)
+some-place places i found is inside some =
+    by_option (get_or places i None) (get_or_default places i None found inside ∙ is)
   where
     by_option : (o : Option (Bor Shard)) → o ≡ found → is_some (option_map (λ (s : Bor Shard). s.now) o) ≡ true
     by_option (Some s) same = refl

@@ -16,9 +16,15 @@ use Rattle.rs_rate.proofs.StateLemmas.{valid-supported}
 
 some_originals : (rate : Rate) (k r : ℕ) → supports rate k r ≡ true → 0 < k
 unfolding supports
-some_originals low_rate k r is = ltb-true 0 k (and_parts (nat_lt 0 k) (nat_lt 0 r) (and_parts (nat_lt 0 k && nat_lt 0 r) (nat_le (next_power k + r) 65536) is).0).0
-some_originals high_rate k r is = ltb-true 0 k (and_parts (nat_lt 0 k) (nat_lt 0 r) (and_parts (nat_lt 0 k && nat_lt 0 r) (nat_le (next_power r + k) 65536) is).0).0
-some_originals default_rate k r is = ltb-true 0 k (and_parts (nat_lt 0 k) (nat_lt 0 r) (and_parts (nat_lt 0 k && nat_lt 0 r) (nat_le (min (next_power k) (next_power r) + max k r) 65536) is).0).0
+some_originals low_rate k r is =
+    ltb-true 0 k (and_parts (nat_lt 0 k) (nat_lt 0 r)
+    (and_parts (nat_lt 0 k && nat_lt 0 r) (nat_le (next_power k + r) 65536) is).0).0
+some_originals high_rate k r is =
+    ltb-true 0 k (and_parts (nat_lt 0 k) (nat_lt 0 r)
+    (and_parts (nat_lt 0 k && nat_lt 0 r) (nat_le (next_power r + k) 65536) is).0).0
+some_originals default_rate k r is =
+    ltb-true 0 k (and_parts (nat_lt 0 k) (nat_lt 0 r)
+    (and_parts (nat_lt 0 k && nat_lt 0 r) (nat_le (min (next_power k) (next_power r) + max k r) 65536) is).0).0
 
 -- A valid configuration has at least one original.
 pub valid-some : (c : Configuration) → validation_outcome c ≡ Ok tt → 0 < c.original_count
@@ -27,24 +33,29 @@ valid-some c valid =
 
 -- The outcome of the check for enough shards, for given numbers of originals and recovery shards.
 abbrev by_counts : ℕ → ℕ → ℕ → Result (Unit {0}) Error
-by_counts k originals recovery = cond (nat_lt (originals + recovery) k) (Err (NotEnoughShards k originals recovery)) (Ok tt)
+by_counts k originals recovery =
+    cond (nat_lt (originals + recovery) k) (Err (NotEnoughShards k originals recovery)) (Ok tt)
 
 -- A decoder without shards fails with `NotEnoughShards`.
-pub fresh-too_few : (c : Configuration) → validation_outcome c ≡ Ok tt → enough_given (fresh_decoder c) ≡ Err (NotEnoughShards c.original_count 0 0)
+pub fresh-too_few : (c : Configuration) → validation_outcome c ≡ Ok tt
+    → enough_given (fresh_decoder c) ≡ Err (NotEnoughShards c.original_count 0 0)
 fresh-too_few c valid =
     ap₂ (λ (o r : ℕ). by_counts c.original_count o r) (count-nothing c.original_count) (count-nothing c.recovery_count)
-    ∙ ap (λ (b : Bool). cond b (Err (NotEnoughShards c.original_count 0 0)) (Ok tt)) (lt-ltb 0 c.original_count (valid-some c valid))
+    ∙ ap (λ (b : Bool). cond b (Err (NotEnoughShards c.original_count 0 0)) (Ok tt))
+        (lt-ltb 0 c.original_count (valid-some c valid))
 
 -- After a round, a decoder has no shards.
 pub ended : (s : DecoderState) → enough_given s ≡ Ok tt → after_decode s ≡ fresh_decoder s.configuration
 ended s enough = ap (λ (m : Result (Unit {0}) Error). cond (is_ok m) (fresh_decoder s.configuration) s) enough
 
 -- A property of the shards that one-call `decode` returns is a property of the shards in its map.
-pub collected_shards-holds : {Y : Type 0} (result : Result (BTreeMap ℕ (Vec ℕ Y)) Error) (P : Shards → Type 0) → IfOk (collected_map result) P → IfOk result (λ m. P (shards_in m))
+pub collected_shards-holds : {Y : Type 0} (result : Result (BTreeMap ℕ (Vec ℕ Y)) Error) (P : Shards → Type 0)
+    → IfOk (collected_map result) P → IfOk result (λ m. P (shards_in m))
 collected_shards-holds (Ok m) P h = h
 collected_shards-holds (Err e) P h = tt
 
 -- A property of the error of a collected map holds for the error of the result.
-pub collected_shards-refused : {Y : Type 0} (result : Result (BTreeMap ℕ (Vec ℕ Y)) Error) (P : Error → Type 0) → IfErr (collected_map result) P → IfErr result P
+pub collected_shards-refused : {Y : Type 0} (result : Result (BTreeMap ℕ (Vec ℕ Y)) Error) (P : Error → Type 0)
+    → IfErr (collected_map result) P → IfErr result P
 collected_shards-refused (Ok m) P h = tt
 collected_shards-refused (Err e) P h = h

@@ -1,5 +1,7 @@
 -- Originals in a list are checked one after another.
-use Rattle.std.proofs.Common.{◌≡◌, ℕ, zero, suc, ◌+◌, ◌<◌, ◌≤◌, List, [], ◌∷◌, ◌++◌, length, take, get_or, All, Result, Ok, Err, MatchResult, inl, refl, sym, ap, subst, arith, append_assoc, append-nil, length-append}
+use Rattle.std.proofs.Common.{◌≡◌, ℕ, zero, suc, ◌+◌, ◌<◌, ◌≤◌, List, [], ◌∷◌, ◌++◌, length, take, get_or, All, Result}
+use Rattle.std.proofs.Common.{Ok, Err, MatchResult, inl, refl, sym, ap, subst, arith, append_assoc, append-nil}
+use Rattle.std.proofs.Common.{length-append}
 use Rattle.std.proofs.lemmas.Bool.{lt-leb, lt-ltb, le-ltb, eq-eqb}
 use Rattle.std.proofs.lemmas.List.Elements.{recursion_from_All}
 use Rattle.rs_field.specs.declared.code.error.Error.{Error}
@@ -22,61 +24,85 @@ use Rattle.reed_solomon_simd.proofs.SetUp.{started-parts}
 use Rattle.reed_solomon_simd.specs.Checked.{AreChecked}
 
 -- The error of the first original that cannot be added is the outcome of adding all originals.
-refused-at : (s : EncoderState) (shards : List Shard) (i : ℕ) (e : Error) → i < length shards → length s.given + i ≤ s.configuration.original_count
+refused-at : (s : EncoderState) (shards : List Shard) (i : ℕ) (e : Error) → i < length shards
+    → length s.given + i ≤ s.configuration.original_count
     → ((j : ℕ) → j < i → length (get_or shards j []) ≡ s.configuration.shard_bytes)
-    → Err e ≡ answer_of (with_shard (record s { given = s.given ++ take i shards }) (get_or shards i [])) → with_shards s shards ≡ Err e
+    → Err e ≡ answer_of (with_shard (record s { given = s.given ++ take i shards }) (get_or shards i []))
+    → with_shards s shards ≡ Err e
 refused-at s [] i e inside room sized refused = absurd (let no : ⊥ = omega (arith, inside) in no)
 refused-at s (x ∷ xs) zero e inside room sized refused =
-    let same : record s { given = s.given ++ [] } ≡ s = ap (λ (given : List Shard). record s { given = given }) (append-nil s.given) in
-    adds-err with_shard s x xs e (outcome-err _ e (subst (λ (t : EncoderState). Err e ≡ answer_of (with_shard t x)) same refused))
+    let same : record s { given = s.given ++ [] } ≡ s =
+        ap (λ (given : List Shard). record s { given = given }) (append-nil s.given) in
+    adds-err with_shard s x xs e
+        (outcome-err _ e (subst (λ (t : EncoderState). Err e ≡ answer_of (with_shard t x)) same refused))
 refused-at s (x ∷ xs) (suc i) e inside room sized refused =
     let next : EncoderState = record s { given = s.given ++ x ∷ [] } in
     let long : length (s.given ++ x ∷ []) ≡ length s.given + 1 = length-append s.given (x ∷ []) in
     let taken : with_shard s x ≡ Ok (record s { given = s.given ++ x ∷ [] }) =
-    rw (lt-leb s.configuration.original_count (length s.given) (omega (arith, room)), eq-eqb (length x) s.configuration.shard_bytes (sized 0 (omega arith))) refl in
+    rw (lt-leb s.configuration.original_count (length s.given) (omega (arith, room)), eq-eqb
+        (length x) s.configuration.shard_bytes (sized 0 (omega arith))) refl in
     adds-ok with_shard s next x xs (Err e) taken
-    (refused-at next xs i e (omega (arith, inside)) (omega (arith, long, room)) (λ j h. sized (suc j) (omega (arith, h)))
-    (subst (λ (given : List Shard). Err e ≡ answer_of (with_shard (record s { given = given }) (get_or xs i []))) (sym (append_assoc s.given (x ∷ []) (take i xs))) refused))
+    (refused-at next xs i e (omega (arith, inside)) (omega (arith, long, room))
+        (λ j h. sized (suc j) (omega (arith, h)))
+    (subst (λ (given : List Shard). Err e ≡ answer_of (with_shard (record s { given = given }) (get_or xs i [])))
+        (sym (append_assoc s.given (x ∷ []) (take i xs))) refused))
 
-module _ (k r size : ℕ) (shards : List Shard) (some : 0 < length shards) (first : length (get_or shards 0 []) ≡ size) where
+module _ (k r size : ℕ) (shards : List Shard) (some : 0 < length shards)
+    (first : length (get_or shards 0 []) ≡ size) where
   -- If setting up with the size of the first original fails, one call fails with the same error.
-  pub checked-unset : (e : Error) → Err e ≡ start_outcome (encoder_rows default_rate k r) (default_of k r size) → OneEncodeAnswers k r shards (Err e)
+  pub checked-unset : (e : Error) → Err e ≡ start_outcome (encoder_rows default_rate k r) (default_of k r size)
+      → OneEncodeAnswers k r shards (Err e)
   checked-unset e refused = by_shards shards some first
     where
-      by_shards : (shards : List Shard) → 0 < length shards → length (get_or shards 0 []) ≡ size → OneEncodeAnswers k r shards (Err e)
+      by_shards : (shards : List Shard) → 0 < length shards → length (get_or shards 0 []) ≡ size
+          → OneEncodeAnswers k r shards (Err e)
       by_shards [] some first = absurd (let no : ⊥ = omega (arith, some) in no)
       by_shards (x ∷ xs) some first =
           encoding-refused k r (x ∷ xs) e (encoding-unset k r x xs e
-          (inl (subst (λ (n : ℕ). Err e ≡ start_outcome (encoder_rows default_rate k r) (default_of k r n)) (sym first) refused)))
+          (inl (subst (λ (n : ℕ). Err e ≡ start_outcome (encoder_rows default_rate k r) (default_of k r n))
+              (sym first) refused)))
 
   -- If setting up succeeds, the outcome of adding the originals is the outcome of encoding.
-  pub checked-led : Ok tt ≡ start_outcome (encoder_rows default_rate k r) (default_of k r size) → (o : Result EncoderState Error)
+  pub checked-led : Ok tt ≡ start_outcome (encoder_rows default_rate k r) (default_of k r size)
+      → (o : Result EncoderState Error)
       → with_shards (fresh_encoder (default_of k r size)) shards ≡ o → IsEncoding k r shards o
   checked-led made o is = by_shards shards some first is
     where
-      by_shards : (shards : List Shard) → 0 < length shards → length (get_or shards 0 []) ≡ size → with_shards (fresh_encoder (default_of k r size)) shards ≡ o → IsEncoding k r shards o
+      by_shards : (shards : List Shard) → 0 < length shards → length (get_or shards 0 []) ≡ size
+          → with_shards (fresh_encoder (default_of k r size)) shards ≡ o → IsEncoding k r shards o
       by_shards [] some first is = absurd (let no : ⊥ = omega (arith, some) in no)
       by_shards (x ∷ xs) some first is =
-          encoding-given k r x xs (fresh_encoder (default_of k r size)) (inl (subst (λ (n : ℕ). Ok tt ≡ start_outcome (encoder_rows default_rate k r) (default_of k r n)) (sym first) made))
+          encoding-given k r x xs (fresh_encoder (default_of k r size))
+              (inl (subst (λ (n : ℕ). Ok tt ≡ start_outcome (encoder_rows default_rate k r) (default_of k r n))
+              (sym first) made))
           (ap (λ (n : ℕ). fresh_encoder (default_of k r n)) (sym first)) o is
 
   -- If an original cannot be added, one call fails with its error.
-  pub checked-refused : Ok tt ≡ start_outcome (encoder_rows default_rate k r) (default_of k r size) → (i : ℕ) (e : Error) → i < length shards → i ≤ k
+  pub checked-refused : Ok tt ≡ start_outcome (encoder_rows default_rate k r) (default_of k r size)
+      → (i : ℕ) (e : Error) → i < length shards → i ≤ k
       → ((j : ℕ) → j < i → length (get_or shards j []) ≡ size)
-      → Err e ≡ answer_of (with_shard (record { configuration = default_of k r size; given = take i shards }) (get_or shards i [])) → OneEncodeAnswers k r shards (Err e)
+      → Err e ≡ answer_of (with_shard (record { configuration = default_of k r size; given = take i shards })
+          (get_or shards i [])) → OneEncodeAnswers k r shards (Err e)
   checked-refused made i e inside room sized refused =
-      encoding-refused k r shards e (checked-led made (Err e) (refused-at (fresh_encoder (default_of k r size)) shards i e inside (omega (arith, room)) sized refused))
+      encoding-refused k r shards e
+          (checked-led made (Err e)
+          (refused-at (fresh_encoder (default_of k r size)) shards i e inside (omega (arith, room)) sized refused))
 
-  module _ (made : Ok tt ≡ start_outcome (encoder_rows default_rate k r) (default_of k r size)) (few : length shards ≤ k) (sized : All (λ s. length s ≡ size) shards) where
+  module _ (made : Ok tt ≡ start_outcome (encoder_rows default_rate k r) (default_of k r size))
+      (few : length shards ≤ k) (sized : All (λ s. length s ≡ size) shards) where
     -- If every original can be added, the encoder has all originals.
     pub checked-all : IsEncoding k r shards (Ok (record { configuration = default_of k r size; given = shards }))
-    checked-all = checked-led made _ (takes-all shards (fresh_encoder (default_of k r size)) (omega (arith, few)) (recursion_from_All (λ s. length s ≡ size) shards sized))
+    checked-all = checked-led made _
+        (takes-all shards (fresh_encoder (default_of k r size)) (omega (arith, few))
+        (recursion_from_All (λ s. length s ≡ size) shards sized))
 
     -- If there are too few originals, one call fails with `TooFewOriginalShards`.
     pub checked-few : length shards < k → OneEncodeAnswers k r shards (Err (TooFewOriginalShards k (length shards)))
     checked-few less =
-        encoding-answers k r shards (record { configuration = default_of k r size; given = shards }) checked-all (Err (TooFewOriginalShards k (length shards)))
-        (encode_answers-refused (record { configuration = default_of k r size; given = shards }) (TooFewOriginalShards k (length shards)) (rw (lt-ltb (length shards) k less) refl))
+        encoding-answers k r shards (record { configuration = default_of k r size; given = shards }) checked-all
+            (Err (TooFewOriginalShards k (length shards)))
+        (encode_answers-refused (record { configuration = default_of k r size; given = shards })
+            (TooFewOriginalShards k (length shards)) (rw (lt-ltb (length shards) k less) refl))
 
 module _ (k r size : ℕ) (shards : List Shard) (is : AreChecked k r size shards) where
   -- The encoder to which the checked originals were added.
@@ -102,6 +128,7 @@ module _ (k r size : ℕ) (shards : List Shard) (is : AreChecked k r size shards
       }) whole
 
   -- The recovery shards of checked originals, or `OutOfMemory`, are a result of one call.
-  pub checked-encodes : (result : Result (List Shard) Error) → MatchResult result (λ recovery. AreRecovery (default_of k r size) shards recovery) (λ e. e ≡ OutOfMemory)
+  pub checked-encodes : (result : Result (List Shard) Error)
+      → MatchResult result (λ recovery. AreRecovery (default_of k r size) shards recovery) (λ e. e ≡ OutOfMemory)
       → OneEncodeAnswers k r shards result
   checked-encodes = encoded-all k r shards checked is.led whole

@@ -1,5 +1,6 @@
 -- Gathered originals: the encoder state that they represent, and the result of encoding them.
-use Rattle.std.proofs.Common.{◌≡◌, ℕ, ◌<◌, ◌^◌, ◌%◌, Bool, true, false, cond, List, [], length, All, Bor, Ok, Err, Result, MatchResult, IfOk, inl, inr, refl, sym, ap, ◌∙◌, arith}
+use Rattle.std.proofs.Common.{◌≡◌, ℕ, ◌<◌, ◌^◌, ◌%◌, Bool, true, false, cond, List, [], length, All, Bor, Ok, Err}
+use Rattle.std.proofs.Common.{Result, MatchResult, IfOk, inl, inr, refl, sym, ap, ◌∙◌, arith}
 use Rattle.std.specs.Prelude.{nat_le}
 use Rattle.std.proofs.lemmas.Bool.{cases_lt, le-leb}
 use Rattle.std.proofs.lemmas.Grind.{common_steps}
@@ -24,9 +25,11 @@ use Rattle.reed_solomon_simd.specs.Rooms.{shards_of}
 use Rattle.reed_solomon_simd.proofs.SetUp.{started-parts, valid-even}
 
 -- Each shard of a list of shards of one size has this length.
-pub shards-long : (size : ℕ) (xs : List (Bor (List ℕ))) → All (IsShard size) (shards_of xs) → All (λ x. length x.now ≡ size) xs
+pub shards-long : (size : ℕ) (xs : List (Bor (List ℕ))) → All (IsShard size) (shards_of xs)
+    → All (λ x. length x.now ≡ size) xs
 shards-long size xs sized k d h =
-    ap length (sym (get_or-map (λ (x : Bor (List ℕ)). x.now) xs k d [] h)) ∙ (sized k [] (let n = length-map xs (λ (x : Bor (List ℕ)). x.now) in omega (arith, h, n))).length_is
+    ap length (sym (get_or-map (λ (x : Bor (List ℕ)). x.now) xs k d [] h))
+        ∙ (sized k [] (let n = length-map xs (λ (x : Bor (List ℕ)). x.now) in omega (arith, h, n))).length_is
 
 -- Gathered originals represent a state that an encoder can have.
 pub gathered-is : (x : LentOriginals) → IsEncoder default_rate (lent_state x)
@@ -36,16 +39,19 @@ gathered-is x =
       of_rate = refl;
       valid = parts.0;
       fits = parts.1;
-      no_more = (let n = length-map x.shards.items (λ (shard : Bor (List ℕ)). shard.now) in let long = x.no_more in let all = x.shards.ok.0 in omega (arith, n, long, all));
+      no_more = (let n = length-map x.shards.items (λ (shard : Bor (List ℕ)). shard.now) in let long = x.no_more in
+          let all = x.shards.ok.0 in omega (arith, n, long, all));
       sized = x.sized;
     }
 
 -- An encoder with all its originals has recovery shards.
-pub has-made : (s : EncoderState) → IsEncoder default_rate s → Ok tt ≡ answer_of (message_of s) → (recovery : List Shard) × AreRecovery s.configuration s.given recovery
+pub has-made : (s : EncoderState) → IsEncoder default_rate s → Ok tt ≡ answer_of (message_of s)
+    → (recovery : List Shard) × AreRecovery s.configuration s.given recovery
 has-made s is all =
     let whole = message-whole s all in
     let few = is.no_more in
-    has_recovery s.configuration s.given (valid-supported s.configuration is.valid) (valid-even s.configuration is.valid)
+    has_recovery s.configuration s.given (valid-supported s.configuration is.valid)
+        (valid-even s.configuration is.valid)
     (record { length_is = omega (arith, few, whole.0); each = is.sized })
 
 module _ (k r : ℕ) (shards : List Shard) (s : EncoderState) (is : IsEncoding k r shards (Ok s)) where
@@ -55,12 +61,16 @@ module _ (k r : ℕ) (shards : List Shard) (s : EncoderState) (is : IsEncoding k
 
   -- The result of encoding all originals is a result of one call.
   pub encoded-all : Ok tt ≡ answer_of (message_of s) → (result : Result (List Shard) Error)
-      → MatchResult result (λ recovery. AreRecovery s.configuration s.given recovery) (λ e. e ≡ OutOfMemory) → OneEncodeAnswers k r shards result
-  encoded-all all (Ok recovery) coded = encoding-answers k r shards s is (Ok recovery) (encode_answers-made s recovery all coded)
+      → MatchResult result (λ recovery. AreRecovery s.configuration s.given recovery) (λ e. e ≡ OutOfMemory)
+      → OneEncodeAnswers k r shards result
+  encoded-all all (Ok recovery) coded =
+      encoding-answers k r shards s is (Ok recovery) (encode_answers-made s recovery all coded)
   encoded-all all (Err e) lacks = inr (encoding-opened k r shards s is, ap Err lacks)
 
   -- The recovery shards of all originals are the recovery shards of the code.
   pub encoded-coded : IsEncoder default_rate s → Ok tt ≡ answer_of (message_of s) → (result : Result (List Shard) Error)
-      → MatchResult result (λ recovery. AreRecovery s.configuration s.given recovery) (λ e. e ≡ OutOfMemory) → IfOk result (AreCoded k r shards)
-  encoded-coded valid all (Ok recovery) coded = encoding-coded k r shards s is valid recovery (Ok recovery) (encode_answers-made s recovery all coded) refl
+      → MatchResult result (λ recovery. AreRecovery s.configuration s.given recovery) (λ e. e ≡ OutOfMemory)
+      → IfOk result (AreCoded k r shards)
+  encoded-coded valid all (Ok recovery) coded =
+      encoding-coded k r shards s is valid recovery (Ok recovery) (encode_answers-made s recovery all coded) refl
   encoded-coded valid all (Err e) lacks = tt

@@ -1,4 +1,5 @@
--- Each plain object has a valid configuration of the default rate, at most as many shards as the configuration allows, and room for its rows.
+-- Each plain object has a valid configuration of the default rate, at most as many shards as the configuration allows,
+-- and room for its rows.
 use Rattle.std.proofs.Common.{◌≤◌}
 use Rattle.rs_field.specs.code.Counts.{default_rate}
 use Rattle.rs_field.specs.code.Encoder.{IsEncoder}

@@ -1,5 +1,8 @@
--- The round trip with an encoder and a decoder: shards are added one after another, some are lost, and exactly the lost originals are restored.
-use Rattle.std.proofs.Common.{◌≡◌, ℕ, ◌+◌, ◌≤◌, ◌&&◌, ◌++◌, ◌∷◌, [], Bool, true, false, cond, List, All, length, refl, sym, ap, subst, ◌∙◌, nat_lt, Some, None, Result, Ok, Err, IfOk, inl, arith, append_assoc, append-nil, length-append}
+-- The round trip with an encoder and a decoder: shards are added one after another, some are lost, and exactly the lost
+-- originals are restored.
+use Rattle.std.proofs.Common.{◌≡◌, ℕ, ◌+◌, ◌≤◌, ◌&&◌, ◌++◌, ◌∷◌, [], Bool, true, false, cond, List, All, length, refl}
+use Rattle.std.proofs.Common.{sym, ap, subst, ◌∙◌, nat_lt, Some, None, Result, Ok, Err, IfOk, inl, arith, append_assoc}
+use Rattle.std.proofs.Common.{append-nil, length-append}
 use Rattle.std.specs.List.{AllByRecursion}
 use Rattle.std.specs.Prelude.{MatchResult, IsOkAnd, is_ok}
 use Rattle.std.proofs.lemmas.Bool.{lt-leb, eq-eqb, le-ltb}
@@ -23,98 +26,131 @@ use Rattle.rs_field.proofs.of_code.Left.{kept_of, kept-left, just-lost, enough-l
 use Rattle.rs_field.proofs.of_code.OneRoundTrip.{encoded_all, all_taken, taken_gives_back}
 
 -- If a fresh encoder took all shards and encoded them, the shards are a message and the result is its recovery shards.
-pub codes-given : (rate : Rate) (c : Configuration) (shards recovery : List Shard) (new_encoder encoder : EncoderState) → new_encoder ≡ fresh_encoder c → with_shards new_encoder shards ≡ Ok encoder
-    → IsEncoder rate encoder → EncodeAnswers encoder (Ok recovery) → AreShards c.original_count c.shard_bytes shards × AreRecovery c shards recovery
-codes-given rate c shards recovery new_encoder encoder fresh given is encoded = encoded_all rate c shards recovery encoder is (ap (λ s. with_shards s shards) (sym fresh) ∙ given) encoded
+pub codes-given : (rate : Rate) (c : Configuration) (shards recovery : List Shard) (new_encoder encoder : EncoderState)
+    → new_encoder ≡ fresh_encoder c → with_shards new_encoder shards ≡ Ok encoder
+    → IsEncoder rate encoder → EncodeAnswers encoder (Ok recovery) → AreShards c.original_count c.shard_bytes shards
+    × AreRecovery c shards recovery
+codes-given rate c shards recovery new_encoder encoder fresh given is encoded =
+    encoded_all rate c shards recovery encoder is (ap (λ s. with_shards s shards) (sym fresh) ∙ given) encoded
 
 -- If a fresh decoder took all shards that are not lost, its result satisfies `GivesBack`.
-pub gives-back : (c : Configuration) (shards recovery : List Shard) (lost recovery_lost : ℕ → Bool) (new_decoder half decoder : DecoderState) (result : Result Shards Error)
-    → AreShards c.original_count c.shard_bytes shards × AreRecovery c shards recovery → new_decoder ≡ fresh_decoder c → with_originals new_decoder (kept_of shards lost) ≡ Ok half
-    → with_recoveries half (kept_of recovery recovery_lost) ≡ Ok decoder → DecodeAnswers decoder result → GivesBack shards (kept_of shards lost) (kept_of recovery recovery_lost) result
+pub gives-back : (c : Configuration) (shards recovery : List Shard) (lost recovery_lost : ℕ → Bool)
+    (new_decoder half decoder : DecoderState) (result : Result Shards Error)
+    → AreShards c.original_count c.shard_bytes shards × AreRecovery c shards recovery → new_decoder ≡ fresh_decoder c
+    → with_originals new_decoder (kept_of shards lost) ≡ Ok half
+    → with_recoveries half (kept_of recovery recovery_lost) ≡ Ok decoder → DecodeAnswers decoder result
+    → GivesBack shards (kept_of shards lost) (kept_of recovery recovery_lost) result
 gives-back c shards recovery lost recovery_lost new_decoder half decoder result all start_outcome own coded answers =
-    taken_gives_back c shards recovery (kept_of shards lost) (kept_of recovery recovery_lost) decoder result all.0 all.1 (kept-left shards lost) (kept-left recovery recovery_lost)
+    taken_gives_back c shards recovery (kept_of shards lost) (kept_of recovery recovery_lost) decoder result all.0 all.1
+        (kept-left shards lost) (kept-left recovery recovery_lost)
     (
-    ap (λ s. result_and_then (λ now. with_recoveries now (kept_of recovery recovery_lost)) (with_originals s (kept_of shards lost))) (sym start_outcome)
+    ap (λ s. result_and_then (λ now. with_recoveries now (kept_of recovery recovery_lost))
+        (with_originals s (kept_of shards lost))) (sym start_outcome)
     ∙ ap (result_and_then (λ now. with_recoveries now (kept_of recovery recovery_lost))) own
     ∙ coded
     )
     answers
 
 -- Copies of the restored originals are copies of the lost originals.
-pub copies-lost : {V : Type 0} (shards : List Shard) (lost : ℕ → Bool) (received : Items) (out : Shards) (result : Result V Error) (items : V → List (ℕ × Shard))
+pub copies-lost : {V : Type 0} (shards : List Shard) (lost : ℕ → Bool) (received : Items) (out : Shards)
+    (result : Result V Error) (items : V → List (ℕ × Shard))
     → GivesBack shards (kept_of shards lost) received (Ok out) → IfOk result (λ v. Lists out (items v))
-    → IfOk result (λ v. Lists (λ i. cond (nat_lt i (length shards) && lost i) (Some (shard_at shards i)) None) (items v))
+    → IfOk result (λ v. Lists (λ i. cond (nat_lt i (length shards) && lost i) (Some (shard_at shards i)) None)
+        (items v))
 copies-lost shards lost received out result items back copies =
-    subst (λ (given : Shards). IfOk result (λ v. Lists given (items v))) (fun_ext (just-lost shards lost (Ok out) back.restored)) copies
+    subst (λ (given : Shards). IfOk result (λ v. Lists given (items v)))
+        (fun_ext (just-lost shards lost (Ok out) back.restored)) copies
 
 -- ---- calls that do not fail
 
 -- An encoder takes shards of its size, as long as it has room for them.
-pub takes-all : (shards : List Shard) (s : EncoderState) → length s.given + length shards ≤ s.configuration.original_count → AllByRecursion (λ x. length x ≡ s.configuration.shard_bytes) shards
+pub takes-all : (shards : List Shard) (s : EncoderState)
+    → length s.given + length shards ≤ s.configuration.original_count
+    → AllByRecursion (λ x. length x ≡ s.configuration.shard_bytes) shards
     → with_shards s shards ≡ Ok (record s { given = s.given ++ shards })
 takes-all [] s room sized = ap (λ given. Ok (record s { given = given })) (sym (append-nil s.given))
 takes-all (x ∷ xs) s room sized =
     let first : with_shard s x ≡ Ok (record s { given = s.given ++ x ∷ [] }) =
-    rw (lt-leb s.configuration.original_count (length s.given) (omega arith), eq-eqb (length x) s.configuration.shard_bytes sized.0) refl in
+    rw (lt-leb s.configuration.original_count (length s.given) (omega arith), eq-eqb
+        (length x) s.configuration.shard_bytes sized.0) refl in
     let long : length (s.given ++ x ∷ []) ≡ length s.given + 1 = length-append s.given (x ∷ []) in
     ap (result_and_then (λ next. with_shards next xs)) first
     ∙ takes-all xs (record s { given = s.given ++ x ∷ [] }) (omega (arith, long)) sized.1
     ∙ ap (λ given. Ok (record s { given = given })) (append_assoc s.given (x ∷ []) xs)
 
-module _ (c : Configuration) (shards : List Shard) (new_encoder : EncoderState) (fresh : new_encoder ≡ fresh_encoder c) (count : length shards ≡ c.original_count)
+module _ (c : Configuration) (shards : List Shard) (new_encoder : EncoderState) (fresh : new_encoder ≡ fresh_encoder c)
+    (count : length shards ≡ c.original_count)
     (sized : All (λ shard. length shard ≡ c.shard_bytes) shards) where
   -- A fresh encoder takes a whole message.
   pub takes-message : with_shards new_encoder shards ≡ Ok (record { configuration = c; given = shards })
   takes-message =
-      ap (λ s. with_shards s shards) fresh ∙ takes-all shards (fresh_encoder c) (omega (arith, count)) (recursion_from_All (λ x. length x ≡ c.shard_bytes) shards sized)
+      ap (λ s. with_shards s shards) fresh
+          ∙ takes-all shards (fresh_encoder c) (omega (arith, count))
+          (recursion_from_All (λ x. length x ≡ c.shard_bytes) shards sized)
 
   -- Adding a message to a fresh encoder does not fail.
   pub gives-all : (P : EncoderState → Type 0) (e : Error) → Reaches (with_shards new_encoder shards) (Err e) P → ⊥
-  gives-all P e reached = let taken = takes-message in let refused = reached-err (with_shards new_encoder shards) P e reached in cc
+  gives-all P e reached = let taken = takes-message in let refused =
+      reached-err (with_shards new_encoder shards) P e reached in cc
 
   -- Encoding a whole message does not fail.
-  pub encodes : (encoder : EncoderState) (e : Error) → with_shards new_encoder shards ≡ Ok encoder → EncodeAnswers encoder (Err e) → ⊥
+  pub encodes : (encoder : EncoderState) (e : Error) → with_shards new_encoder shards ≡ Ok encoder
+      → EncodeAnswers encoder (Err e) → ⊥
   encodes encoder e given answers =
       let taken = takes-message in
       let is : encoder ≡ record { configuration = c; given = shards } = cc in
-      by_test (nat_lt (length shards) c.original_count) (le-ltb (length shards) c.original_count (omega (arith, count))) (subst (λ (s : EncoderState). EncodeAnswers s (Err e)) is answers)
+      by_test (nat_lt (length shards) c.original_count) (le-ltb (length shards) c.original_count (omega (arith, count)))
+          (subst (λ (s : EncoderState). EncodeAnswers s (Err e)) is answers)
     where
-      by_test : (few : Bool) → few ≡ false → MatchResult (cond few (Err (TooFewOriginalShards c.original_count (length shards))) (Ok shards))
-          (λ message. IsOkAnd {T = List Shard} {E = Error} (Err e) (AreRecovery c message)) (λ f. ◌≡◌ {A = Result (List Shard) Error} (Err e) (Err f)) → ⊥
+      by_test : (few : Bool) → few ≡ false
+          → MatchResult (cond few (Err (TooFewOriginalShards c.original_count (length shards))) (Ok shards))
+          (λ message. IsOkAnd {T = List Shard} {E = Error} (Err e) (AreRecovery c message))
+              (λ f. ◌≡◌ {A = Result (List Shard) Error} (Err e) (Err f)) → ⊥
       by_test true whole h = absurd (let no : ⊥ = cc in no)
       by_test false whole h = h
 
   -- After a round, the encoder has the state that it had before the message was added.
-  pub round-ends : (encoder : EncoderState) → with_shards new_encoder shards ≡ Ok encoder → after_encode encoder ≡ new_encoder
+  pub round-ends : (encoder : EncoderState) → with_shards new_encoder shards ≡ Ok encoder
+      → after_encode encoder ≡ new_encoder
   round-ends encoder given =
       let taken = takes-message in
       let is : encoder ≡ record { configuration = c; given = shards } = cc in
       ap after_encode is
-      ∙ ap (λ (few : Bool). cond (is_ok (cond few (Err (TooFewOriginalShards c.original_count (length shards))) (Ok shards))) (fresh_encoder c) (record { configuration = c; given = shards }))
+      ∙ ap (λ (few : Bool).
+          cond (is_ok (cond few (Err (TooFewOriginalShards c.original_count (length shards))) (Ok shards)))
+          (fresh_encoder c) (record { configuration = c; given = shards }))
       (le-ltb (length shards) c.original_count (omega (arith, count)))
       ∙ sym fresh
 
-module _ (c : Configuration) (shards recovery : List Shard) (lost recovery_lost : ℕ → Bool) (new_decoder : DecoderState) (fresh : new_decoder ≡ fresh_decoder c)
+module _ (c : Configuration) (shards recovery : List Shard) (lost recovery_lost : ℕ → Bool) (new_decoder : DecoderState)
+    (fresh : new_decoder ≡ fresh_decoder c)
     (all : AreShards c.original_count c.shard_bytes shards × AreRecovery c shards recovery) where
   -- Adding the originals that are not lost to a fresh decoder does not fail.
-  pub gives-kept : (P : DecoderState → Type 0) (e : Error) → Reaches (with_originals new_decoder (kept_of shards lost)) (Err e) P → ⊥
+  pub gives-kept : (P : DecoderState → Type 0) (e : Error)
+      → Reaches (with_originals new_decoder (kept_of shards lost)) (Err e) P → ⊥
   gives-kept P e reached =
       let refused = reached-err (with_originals new_decoder (kept_of shards lost)) P e reached in
       let both = ap (λ s. with_originals s (kept_of shards lost)) (sym fresh) ∙ refused in
       let taken = sym (ap (result_and_then (λ now. with_recoveries now (kept_of recovery recovery_lost))) both)
-      ∙ all_taken c shards recovery (kept_of shards lost) (kept_of recovery recovery_lost) all.0 all.1 (kept-left shards lost) (kept-left recovery recovery_lost) in
+      ∙ all_taken c shards recovery (kept_of shards lost) (kept_of recovery recovery_lost) all.0 all.1
+          (kept-left shards lost) (kept-left recovery recovery_lost) in
       cc
 
   -- Adding the recovery shards that are not lost to the decoder does not fail.
-  pub gives-received : (half : DecoderState) (P : DecoderState → Type 0) (e : Error) → with_originals new_decoder (kept_of shards lost) ≡ Ok half
+  pub gives-received : (half : DecoderState) (P : DecoderState → Type 0) (e : Error)
+      → with_originals new_decoder (kept_of shards lost) ≡ Ok half
       → Reaches (with_recoveries half (kept_of recovery recovery_lost)) (Err e) P → ⊥
   gives-received half P e given reached =
       let refused = reached-err (with_recoveries half (kept_of recovery recovery_lost)) P e reached in
       let both = ap (λ s. with_originals s (kept_of shards lost)) (sym fresh) ∙ given in
-      let taken = sym (ap (result_and_then (λ now. with_recoveries now (kept_of recovery recovery_lost))) both ∙ refused)
-      ∙ all_taken c shards recovery (kept_of shards lost) (kept_of recovery recovery_lost) all.0 all.1 (kept-left shards lost) (kept-left recovery recovery_lost) in
+      let taken = sym (ap (result_and_then (λ now. with_recoveries now (kept_of recovery recovery_lost))) both
+          ∙ refused)
+      ∙ all_taken c shards recovery (kept_of shards lost) (kept_of recovery recovery_lost) all.0 all.1
+          (kept-left shards lost) (kept-left recovery recovery_lost) in
       cc
 
 -- If as many shards are left as there are originals, restoring fails only with `OutOfMemory`.
-pub restores : (shards : List Shard) (kept received : Items) (e : Error) → GivesBack shards kept received (Err e) → length shards ≤ length kept + length received → e ≡ OutOfMemory
-restores shards kept received e back many = enough-left shards kept received (Err e) (record { answer = inl back.answer; restored = tt }) many
+pub restores : (shards : List Shard) (kept received : Items) (e : Error) → GivesBack shards kept received (Err e)
+    → length shards ≤ length kept + length received → e ≡ OutOfMemory
+restores shards kept received e back many =
+    enough-left shards kept received (Err e) (record { answer = inl back.answer; restored = tt }) many

@@ -24,7 +24,8 @@ received-decoder x =
     }
 
 -- After all strips are restored, the rooms hold the restored originals.
-pub strips-restored : (s : DecoderState) (grows : Bool) (rooms : List Shard) → IsDecoder default_rate s → enough_given s ≡ Ok tt
+pub strips-restored : (s : DecoderState) (grows : Bool) (rooms : List Shard) → IsDecoder default_rate s
+    → enough_given s ≡ Ok tt
     → IsRestoredBelow s grows s.configuration.shard_bytes rooms → HoldRestored s rooms
 strips-restored s grows rooms is enough done =
     restored-all s grows rooms (valid-supported s.configuration is.valid) (valid-even s.configuration is.valid)

@@ -1,5 +1,6 @@
 -- Facts about the configuration of a coder that was set up.
-use Rattle.std.proofs.Common.{◌≡◌, ℕ, ◌<◌, ◌^◌, ◌%◌, Bool, true, false, cond, Ok, Err, Result, inl, inr, refl, sym, ap, ◌∙◌, arith}
+use Rattle.std.proofs.Common.{◌≡◌, ℕ, ◌<◌, ◌^◌, ◌%◌, Bool, true, false, cond, Ok, Err, Result, inl, inr, refl, sym, ap}
+use Rattle.std.proofs.Common.{◌∙◌, arith}
 use Rattle.std.specs.Prelude.{nat_le}
 use Rattle.std.proofs.lemmas.Bool.{cases_lt, le-leb}
 use Rattle.std.proofs.lemmas.Grind.{common_steps}
@@ -9,10 +10,12 @@ use Rattle.rs_field.specs.code.Configuration.{Configuration, validation_outcome,
 use Rattle.rs_field.specs.code.Outcome.{result_and_then}
 
 -- If setting up succeeds, the configuration is valid and the size of its rows in bytes fits a `usize`.
-pub started-parts : (rows : ℕ) (c : Configuration) → start_outcome rows c ≡ Ok tt → (validation_outcome c ≡ Ok tt) × (bytes_of_rows rows c.shard_bytes < 2 ^ 64)
+pub started-parts : (rows : ℕ) (c : Configuration) → start_outcome rows c ≡ Ok tt → (validation_outcome c ≡ Ok tt)
+    × (bytes_of_rows rows c.shard_bytes < 2 ^ 64)
 started-parts rows c is = by_outcome (validation_outcome c) is
   where
-    by_test : (many : Bool) → nat_le (2 ^ 64) (bytes_of_rows rows c.shard_bytes) ≡ many → ◌≡◌ {A = Result (Unit {0}) Error} (cond many (Err OutOfMemory) (Ok tt)) (Ok tt)
+    by_test : (many : Bool) → nat_le (2 ^ 64) (bytes_of_rows rows c.shard_bytes) ≡ many
+        → ◌≡◌ {A = Result (Unit {0}) Error} (cond many (Err OutOfMemory) (Ok tt)) (Ok tt)
         → bytes_of_rows rows c.shard_bytes < 2 ^ 64
     by_test true same is = absurd (let no : ⊥ = cc in no)
     by_test false same is = elim (cases_lt (bytes_of_rows rows c.shard_bytes) (2 ^ 64)) [
@@ -21,7 +24,9 @@ started-parts rows c is = by_outcome (validation_outcome c) is
     ]
 
     by_outcome : (o : Result (Unit {0}) Error)
-        → ◌≡◌ {A = Result (Unit {0}) Error} (result_and_then (λ _. cond (nat_le (2 ^ 64) (bytes_of_rows rows c.shard_bytes)) (Err OutOfMemory) (Ok tt)) o) (Ok tt)
+        → ◌≡◌ {A = Result (Unit {0}) Error}
+            (result_and_then (λ _. cond (nat_le (2 ^ 64) (bytes_of_rows rows c.shard_bytes)) (Err OutOfMemory) (Ok tt))
+            o) (Ok tt)
         → (◌≡◌ {A = Result (Unit {0}) Error} o (Ok tt)) × (bytes_of_rows rows c.shard_bytes < 2 ^ 64)
     by_outcome (Ok u) is = (refl, by_test (nat_le (2 ^ 64) (bytes_of_rows rows c.shard_bytes)) refl is)
     by_outcome (Err e) is = absurd (let no : ⊥ = cc in no)

@@ -1,5 +1,6 @@
 -- A round of a decoder over a strip of each received shard.
-use Rattle.std.proofs.Common.{◌≡◌, ℕ, suc, ◌+◌, ◌-◌, ◌<◌, ◌≤◌, Bool, true, cond, List, [], ◌∷◌, length, drop, get_or, Bor, Result, Ok, Err, Option, Some, None, refl, sym, ap, ap₂, ◌∙◌, subst, inl, inr, arith}
+use Rattle.std.proofs.Common.{◌≡◌, ℕ, suc, ◌+◌, ◌-◌, ◌<◌, ◌≤◌, Bool, true, cond, List, [], ◌∷◌, length, drop, get_or}
+use Rattle.std.proofs.Common.{Bor, Result, Ok, Err, Option, Some, None, refl, sym, ap, ap₂, ◌∙◌, subst, inl, inr, arith}
 use Rattle.std.specs.Prelude.{◌⊎◌, nat_lt, unwrap_or, MatchResult}
 use Rattle.std.specs.List.{between}
 use Rattle.std.specs.Option.{option_map}
@@ -11,7 +12,8 @@ use Rattle.rs_field.specs.declared.code.error.Error.{Error}
 use Rattle.rs_field.specs.declared.code.error.Error.TheVariants.{OutOfMemory}
 use Rattle.rs_field.specs.code.Column.{Shard}
 use Rattle.rs_field.specs.code.Configuration.{configuration}
-use Rattle.rs_field.specs.code.Decoder.{DecoderState, fresh_decoder, with_original, with_recovery, enough_given, Restored, NoneAgrees, DecodeAnswers, after_decode}
+use Rattle.rs_field.specs.code.Decoder.{DecoderState, fresh_decoder, with_original, with_recovery, enough_given}
+use Rattle.rs_field.specs.code.Decoder.{Restored, NoneAgrees, DecodeAnswers, after_decode}
 use Rattle.rs_field.specs.code.Given.{Shards, AreWithin, Lists, nothing, with_entry}
 use Rattle.rs_field.specs.code.Pieces.{IsStrip, ArePut}
 use Rattle.rs_field.specs.code.PieceStates.{pieces_of, state_of_pieces, shards_listed}
@@ -53,21 +55,25 @@ first-skipped n given free = fun_ext (λ i. elim (cases_lt i n) [
 ])
 
 -- Entering the shard with index n into the shards below n gives the shards below n + 1.
-first-entered : (n : ℕ) (given : Shards) (shard : Shard) → given n ≡ Some shard → with_entry (first n given) n shard ≡ first (n + 1) given
+first-entered : (n : ℕ) (given : Shards) (shard : Shard) → given n ≡ Some shard
+    → with_entry (first n given) n shard ≡ first (n + 1) given
 first-entered n given shard found = fun_ext (λ i. elim (entered_cases (first n given) n i shard) [
   | inl here ↦ here.1 ∙ sym found ∙ sym (ap given here.0) ∙ sym (first-inside (n + 1) i given (omega (arith, here.0)))
   | inr other ↦ other.1 ∙ elim (cases_lt i n) [
     | inl inside ↦ first-inside n i given inside ∙ sym (first-inside (n + 1) i given (omega (arith, inside)))
-    | inr outside ↦ first-outside n i given outside ∙ sym (first-outside (n + 1) i given (omega (arith, outside, other.0)))
+    | inr outside ↦ first-outside n i given outside
+        ∙ sym (first-outside (n + 1) i given (omega (arith, outside, other.0)))
   ]
 ])
 
 -- Each piece has the length of the strip.
-pub piece-sized : (start end i : ℕ) (given : Shards) (piece : Shard) → start ≤ end → ((i : ℕ) (shard : Shard) → given i ≡ Some shard → end ≤ length shard)
+pub piece-sized : (start end i : ℕ) (given : Shards) (piece : Shard) → start ≤ end
+    → ((i : ℕ) (shard : Shard) → given i ≡ Some shard → end ≤ length shard)
     → pieces_of start end given i ≡ Some piece → length piece ≡ end - start
 piece-sized start end i given piece order inside found = by_shard (given i) refl found
   where
-    by_shard : (o : Option Shard) → given i ≡ o → option_map (λ s. between start end s) o ≡ Some piece → length piece ≡ end - start
+    by_shard : (o : Option Shard) → given i ≡ o → option_map (λ s. between start end s) o ≡ Some piece
+        → length piece ≡ end - start
     by_shard (Some shard) is found =
         let room = inside i shard is in
         ap length (ap (λ o. unwrap_or o piece) (sym found))
@@ -86,16 +92,19 @@ pub pieces-past : (start end n count size : ℕ) (given : Shards) → AreWithin 
 pieces-past start end n count size given within all i past =
     ap (λ o. option_map (λ s. between start end s) o) (within.none_past i (omega (arith, all, past)))
 
-module _ (s now : DecoderState) (n : ℕ) (given : Shards) (shard : Shard) (found : given n ≡ Some shard) (sized : length shard ≡ s.configuration.shard_bytes) where
+module _ (s now : DecoderState) (n : ℕ) (given : Shards) (shard : Shard) (found : given n ≡ Some shard)
+    (sized : length shard ≡ s.configuration.shard_bytes) where
   module _ (is : now ≡ record s { originals = first n given }) (inside : n < s.configuration.original_count) where
     -- Adding original n to a decoder that has the originals below n gives the originals below n + 1.
     pub original-taken : with_original now n shard ≡ Ok (record s { originals = first (n + 1) given })
     original-taken =
         ap (λ (t : DecoderState). with_original t n shard) is
-        ∙ rw (lt-leb s.configuration.original_count n inside, first-outside n n given (let e : n ≤ n = omega arith in e), eq-eqb (length shard) s.configuration.shard_bytes sized)
+        ∙ rw (lt-leb s.configuration.original_count n inside, first-outside n n given
+            (let e : n ≤ n = omega arith in e), eq-eqb (length shard) s.configuration.shard_bytes sized)
         (ap (λ (g : Shards). Ok (record s { originals = g })) (first-entered n given shard found))
 
-    pub original-next : (next : DecoderState) → next ≡ state_after now (with_original now n shard) → next ≡ record s { originals = first (n + 1) given }
+    pub original-next : (next : DecoderState) → next ≡ state_after now (with_original now n shard)
+        → next ≡ record s { originals = first (n + 1) given }
     original-next next left = left ∙ ap (state_after now) original-taken
 
     pub original-refused : (e : Error) → Err e ≡ answer_of (with_original now n shard) → ⊥
@@ -106,10 +115,12 @@ module _ (s now : DecoderState) (n : ℕ) (given : Shards) (shard : Shard) (foun
     pub recovery-taken : with_recovery now n shard ≡ Ok (record s { recovery = first (n + 1) given })
     recovery-taken =
         ap (λ (t : DecoderState). with_recovery t n shard) is
-        ∙ rw (lt-leb s.configuration.recovery_count n inside, first-outside n n given (let e : n ≤ n = omega arith in e), eq-eqb (length shard) s.configuration.shard_bytes sized)
+        ∙ rw (lt-leb s.configuration.recovery_count n inside, first-outside n n given
+            (let e : n ≤ n = omega arith in e), eq-eqb (length shard) s.configuration.shard_bytes sized)
         (ap (λ (g : Shards). Ok (record s { recovery = g })) (first-entered n given shard found))
 
-    pub recovery-next : (next : DecoderState) → next ≡ state_after now (with_recovery now n shard) → next ≡ record s { recovery = first (n + 1) given }
+    pub recovery-next : (next : DecoderState) → next ≡ state_after now (with_recovery now n shard)
+        → next ≡ record s { recovery = first (n + 1) given }
     recovery-next next left = left ∙ ap (state_after now) recovery-taken
 
     pub recovery-refused : (e : Error) → Err e ≡ answer_of (with_recovery now n shard) → ⊥
@@ -126,27 +137,32 @@ left-next n items rest item most left =
     let inside : n < length items = omega (arith, long, some, most) in
     let both : get_or items n item ∷ drop (n + 1) items ≡ item ∷ rest = sym (drop_more items n item inside) ∙ left in (
       inside,
-      get_or-map (λ (x : ℕ × Shard). x.1) items n item [] inside ∙ (let same : get_or items n item ≡ item = cc in ap (λ (x : ℕ × Shard). x.1) same),
+      get_or-map (λ (x : ℕ × Shard). x.1) items n item [] inside
+          ∙ (let same : get_or items n item ≡ item = cc in ap (λ (x : ℕ × Shard). x.1) same),
       (let same : drop (n + 1) items ≡ rest = cc in same),
     )
 
 -- If no items remain after the first n, all n items were taken.
 pub left-none : (n : ℕ) (items : Items) → n ≤ length items → drop n items ≡ [] → n ≡ length items
-left-none n items most left = let long = length-drop n items in let none : length (drop n items) ≡ 0 = ap length left in omega (arith, long, none, most)
+left-none n items most left = let long = length-drop n items in let none : length (drop n items) ≡ 0 = ap length left in
+    omega (arith, long, none, most)
 
 -- ---- a round
 
 -- A fresh decoder with all pieces has the state of the pieces.
 pub pieces-added : (start end : ℕ) (x zero one two : DecoderState)
-    → zero ≡ fresh_decoder (configuration x.configuration.rate x.configuration.original_count x.configuration.recovery_count (end - start))
-    → one ≡ record zero { originals = pieces_of start end x.originals } → two ≡ record one { recovery = pieces_of start end x.recovery }
+    → zero ≡ fresh_decoder
+        (configuration x.configuration.rate x.configuration.original_count x.configuration.recovery_count (end - start))
+    → one ≡ record zero { originals = pieces_of start end x.originals }
+    → two ≡ record one { recovery = pieces_of start end x.recovery }
     → two ≡ state_of_pieces start end x
 pieces-added start end x zero one two fresh first second =
     second
     ∙ ap (λ (s : DecoderState). record s { recovery = pieces_of start end x.recovery })
     (first ∙ ap (λ (s : DecoderState). record s { originals = pieces_of start end x.originals }) fresh)
 
-module _ (start end : ℕ) (x state : DecoderState) (is : state ≡ state_of_pieces start end x) (enough : enough_given x ≡ Ok tt) where
+module _ (start end : ℕ) (x state : DecoderState) (is : state ≡ state_of_pieces start end x)
+    (enough : enough_given x ≡ Ok tt) where
   enough-here : enough_given (state_of_pieces start end x) ≡ Ok tt
   enough-here = enough-pieces start end x ∙ enough
 
@@ -154,7 +170,9 @@ module _ (start end : ℕ) (x state : DecoderState) (is : state ≡ state_of_pie
       → MatchResult result (Restored (state_of_pieces start end x)) (NoneAgrees (state_of_pieces start end x))
   answers-here result answers =
       let here = subst (λ (s : DecoderState). DecodeAnswers s result) is answers in
-      subst (λ (o : Result (Unit {0}) Error). MatchResult o (λ _. MatchResult result (Restored (state_of_pieces start end x)) (NoneAgrees (state_of_pieces start end x)))
+      subst (λ (o : Result (Unit {0}) Error).
+          MatchResult o (λ _. MatchResult result (Restored (state_of_pieces start end x))
+          (NoneAgrees (state_of_pieces start end x)))
       (λ e. result ≡ Err e)) enough-here here
 
   -- A round that succeeds restores the missing pieces.
@@ -171,21 +189,28 @@ module _ (start end : ℕ) (x state : DecoderState) (is : state ≡ state_of_pie
 
 -- ---- a strip, if only the rooms of the store were changed
 
-module _ (start end size : ℕ) (x now : DecoderState) (grows : Bool) (same : now ≡ x) (long : size ≡ x.configuration.shard_bytes) (strip : IsStrip start end size) where
+module _ (start end size : ℕ) (x now : DecoderState) (grows : Bool) (same : now ≡ x)
+    (long : size ≡ x.configuration.shard_bytes) (strip : IsStrip start end size) where
   here : IsStrip start end x.configuration.shard_bytes
   here = subst (λ (n : ℕ). IsStrip start end n) long strip
 
   -- If no message agrees with the pieces of a strip, no message agrees with the shards.
-  pub strip-refused : (e : Error) → NoneAgrees (state_of_pieces start end now) e ⊎ ((grows ≡ true) × (e ≡ OutOfMemory)) → NoneAgrees x e ⊎ (e ≡ OutOfMemory)
-  strip-refused e (inl none) = inl (none-pieces start end x e here (subst (λ (s : DecoderState). NoneAgrees (state_of_pieces start end s) e) same none))
+  pub strip-refused : (e : Error) → NoneAgrees (state_of_pieces start end now) e ⊎ ((grows ≡ true) × (e ≡ OutOfMemory))
+      → NoneAgrees x e ⊎ (e ≡ OutOfMemory)
+  strip-refused e (inl none) =
+      inl (none-pieces start end x e here
+      (subst (λ (s : DecoderState). NoneAgrees (state_of_pieces start end s) e) same none))
   strip-refused e (inr short) = inr short.1
 
   -- A round restored the missing pieces of a strip, and they were put into the rooms.
   abbrev pub ArePiecesPut : DecoderState → List Shard → List Shard → Type 0
-  ArePiecesPut s old new = (out : Shards) × Restored (state_of_pieces start end s) out × (items : Items) × Lists out items × ArePut start end (shards_listed items) old new
+  ArePiecesPut s old new =
+      (out : Shards) × Restored (state_of_pieces start end s) out × (items : Items) × Lists out items
+      × ArePut start end (shards_listed items) old new
 
   -- If all bytes before a strip are restored, and the strip is restored, all bytes before its end are restored.
-  pub strip-restored : (old new : List Shard) → ArePiecesPut now old new → IsRestoredBelow x grows start old → IsRestoredBelow x grows end new
+  pub strip-restored : (old new : List Shard) → ArePiecesPut now old new → IsRestoredBelow x grows start old
+      → IsRestoredBelow x grows end new
   strip-restored old new made done =
       let (out, restored, items, listing, put) = subst (λ (s : DecoderState). ArePiecesPut s old new) same made in
       restored-further x grows start end out items here restored listing old new put done

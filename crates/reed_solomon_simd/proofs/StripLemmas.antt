@@ -12,10 +12,12 @@ use Rattle.rs_rate.specs.Giving.{Reaches}
 use Rattle.reed_solomon_simd.specs.Rooms.{shards_of}
 use Rattle.reed_solomon_simd.proofs.ObjectRoundTrip.{codes-given, gives-all, encodes, round-ends}
 
-module _ (start end r : ℕ) (originals : List (Bor Shard)) (order : start ≤ end) (inside : All (λ shard. end ≤ length shard.now) originals)
+module _ (start end r : ℕ) (originals : List (Bor Shard)) (order : start ≤ end)
+    (inside : All (λ shard. end ≤ length shard.now) originals)
     (first : EncoderState) (fresh : first ≡ fresh_encoder (default_of (length originals) r (end - start))) where
   -- Adding the pieces of a strip does not fail.
-  pub strip-added : (P : EncoderState → Type 0) (e : Error) → Reaches (with_shards first (pieces start end (shards_of originals))) (Err e) P → ⊥
+  pub strip-added : (P : EncoderState → Type 0) (e : Error)
+      → Reaches (with_shards first (pieces start end (shards_of originals))) (Err e) P → ⊥
   strip-added =
       gives-all (default_of (length originals) r (end - start)) (pieces start end (shards_of originals)) first fresh
       (pieces-count start end originals) (pieces-sized start end originals order inside)
@@ -37,5 +39,6 @@ module _ (start end r : ℕ) (originals : List (Bor Shard)) (order : start ≤ e
     pub strip-codes : (made : List Shard) → IsEncoder default_rate given → EncodeAnswers given (Ok made)
         → AreRecovery (default_of (length originals) r (end - start)) (pieces start end (shards_of originals)) made
     strip-codes made is answers =
-        let both = codes-given default_rate (default_of (length originals) r (end - start)) (pieces start end (shards_of originals)) made first given fresh led is answers in
+        let both = codes-given default_rate (default_of (length originals) r (end - start))
+            (pieces start end (shards_of originals)) made first given fresh led is answers in
         both.1

@@ -23,8 +23,10 @@ engine_of object = object.decoder.engine
 abbrev pub room_of : ReedSolomonDecoder → DecoderRoom
 room_of object = memory_room object.decoder.rows.memory
 
--- when the loan of the restored originals ends, the decoder has the state after a decode, and its engine and its room are unchanged
+-- when the loan of the restored originals ends, the decoder has the state after a decode, and its engine and its room
+-- are unchanged
 abbrev pub EndsDecode : MutBor ReedSolomonDecoder → ReedSolomonDecoder → Fml
 EndsDecode object old =
     AfterLoan (the_row (record { mir = named 1; lft = [] })) object
-    (λ now. (state_of now ≡ after_decode (state_of old)) × (engine_of now ≡ engine_of old) × (room_of now ≡ room_of old))
+    (λ now. (state_of now ≡ after_decode (state_of old)) × (engine_of now ≡ engine_of old)
+        × (room_of now ≡ room_of old))

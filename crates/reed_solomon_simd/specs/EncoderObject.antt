@@ -23,8 +23,10 @@ engine_of object = object.encoder.engine
 abbrev pub room_of : ReedSolomonEncoder → ℕ
 room_of object = vec_capacity object.encoder.rows.chunks
 
--- when the loan of the recovery shards ends, the encoder has the state after an encode, and its engine and its room are unchanged
+-- when the loan of the recovery shards ends, the encoder has the state after an encode, and its engine and its room are
+-- unchanged
 abbrev pub EndsEncode : MutBor ReedSolomonEncoder → ReedSolomonEncoder → Fml
 EndsEncode object old =
     AfterLoan (the_row (record { mir = named 1; lft = [] })) object
-    (λ now. (state_of now ≡ after_encode (state_of old)) × (engine_of now ≡ engine_of old) × (room_of now ≡ room_of old))
+    (λ now. (state_of now ≡ after_encode (state_of old)) × (engine_of now ≡ engine_of old)
+        × (room_of now ≡ room_of old))

@@ -1,5 +1,6 @@
 -- The results of the calls that write into memory of the caller.
-use Rattle.std.specs.Prelude.{◌≡◌, ◌⊎◌, ℕ, ◌==◌, List, [], ◌∷◌, length, map, if◌then◌else◌, Result, Ok, Err, MatchResult}
+use Rattle.std.specs.Prelude.{◌≡◌, ◌⊎◌, ℕ, ◌==◌, List, [], ◌∷◌, length, map, if◌then◌else◌, Result, Ok, Err}
+use Rattle.std.specs.Prelude.{MatchResult}
 use Rattle.rs_field.specs.declared.code.error.Error.{Error}
 use Rattle.rs_field.specs.code.Column.{Shard}
 use Rattle.rs_field.specs.declared.code.error.Error.TheVariants.{OutOfMemory}
@@ -43,12 +44,14 @@ EncodesInto k r originals old new answer =
 abbrev pub DecodesInto : ℕ → ℕ → Items → Items → List (List ℕ) → List (List ℕ) → Result (Unit {0}) RoomError → Type 0
 DecodesInto k r originals recovery old new answer =
     (decoded : Result Shards Error) × OneDecodeAnswers k r originals recovery decoded
-    × MatchResult decoded (λ restored. (items : Items) × Lists restored items × Fills (map (λ item. item.1) items) old new answer)
+    × MatchResult decoded
+        (λ restored. (items : Items) × Lists restored items × Fills (map (λ item. item.1) items) old new answer)
     (λ e. (answer ≡ Err (Refused e)) × (new ≡ old))
 
 -- the result of writing the missing originals of a decoder into rooms: the result of its decode, or `OutOfMemory`
 abbrev pub RestoresInto : DecoderState → List (List ℕ) → List (List ℕ) → Result (Unit {0}) RoomError → Type 0
 RestoresInto s old new answer =
     (decoded : Result Shards Error) × (DecodeAnswers s decoded ⊎ (decoded ≡ Err OutOfMemory))
-    × MatchResult decoded (λ restored. (items : Items) × Lists restored items × Fills (map (λ item. item.1) items) old new answer)
+    × MatchResult decoded
+        (λ restored. (items : Items) × Lists restored items × Fills (map (λ item. item.1) items) old new answer)
     (λ e. (answer ≡ Err (Refused e)) × (new ≡ old))

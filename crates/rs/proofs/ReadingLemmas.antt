@@ -9,7 +9,9 @@ by_letter : {T : Type 0} (letter : ℕ) (original recovery : Option T) → lette
 by_letter letter original recovery no_original no_recovery = grind (arith, nat_tests)
 
 -- A word that begins with neither `o` nor `r` is no ITEM.
-pub item_of-other : (text : List ℕ) → ((rest : List ℕ) → text ≢ 111 ∷ rest) → ((rest : List ℕ) → text ≢ 114 ∷ rest) → item_of text ≡ None
+pub item_of-other : (text : List ℕ) → ((rest : List ℕ) → text ≢ 111 ∷ rest) → ((rest : List ℕ) → text ≢ 114 ∷ rest)
+    → item_of text ≡ None
 item_of-other [] no_original no_recovery = refl
 item_of-other (letter ∷ rest) no_original no_recovery =
-    by_letter letter _ _ (λ e. no_original rest (ap (λ first. first ∷ rest) e)) (λ e. no_recovery rest (ap (λ first. first ∷ rest) e))
+    by_letter letter _ _ (λ e. no_original rest (ap (λ first. first ∷ rest) e))
+        (λ e. no_recovery rest (ap (λ first. first ∷ rest) e))

@@ -1,7 +1,9 @@
 -- Bytes as hexadecimal digits.
-use Rattle.std.specs.Prelude.{ℕ, ◌+◌, ◌-◌, ◌*◌, ◌/◌, ◌%◌, ◌&&◌, nat_le, if◌then◌else◌, List, [], ◌∷◌, Option, Some, None, codes, slice_index}
+use Rattle.std.specs.Prelude.{ℕ, ◌+◌, ◌-◌, ◌*◌, ◌/◌, ◌%◌, ◌&&◌, nat_le, if◌then◌else◌, List, [], ◌∷◌, Option, Some}
+use Rattle.std.specs.Prelude.{None, codes, slice_index}
 
--- the value of a hexadecimal digit of either case: `0` to `9` are 48 to 57, `A` to `F` are 65 to 70, and `a` to `f` are 97 to 102
+-- the value of a hexadecimal digit of either case: `0` to `9` are 48 to 57, `A` to `F` are 65 to 70, and `a` to `f` are
+-- 97 to 102
 abbrev pub digit_value : ℕ → Option ℕ
 digit_value c =
     if nat_le 48 c && nat_le c 57 then Some (c - 48)

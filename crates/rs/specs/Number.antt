@@ -7,5 +7,6 @@ use Rattle.std.specs.Str.Parse.{digits_value}
 -- text
 abbrev pub number_of : List ℕ → Option ℕ
 number_of text =
-    if all_ascii_digits text && nat_lt 0 (length text) && nat_lt (digits_value 10 text) (2 ^ 64) then Some (digits_value 10 text)
+    if all_ascii_digits text && nat_lt 0 (length text) && nat_lt (digits_value 10 text) (2 ^ 64) then Some
+        (digits_value 10 text)
     else None

@@ -36,12 +36,14 @@ ListsShards shards text = (items : Items) × Lists shards items × (text ≡ ind
 
 -- the lines of the recovery shards that one-call `encode` returns, or its error
 abbrev pub CodesLines : ℕ → ℕ → List Shard → Result (List ℕ) Error → Type 0
-CodesLines k r shards (Ok text) = (recovery : List Shard) × OneEncodeAnswers k r shards (Ok recovery) × (text ≡ lines_of recovery)
+CodesLines k r shards (Ok text) =
+    (recovery : List Shard) × OneEncodeAnswers k r shards (Ok recovery) × (text ≡ lines_of recovery)
 CodesLines k r shards (Err e) = OneEncodeAnswers k r shards (Err e)
 
 -- the lines of the originals that one-call `decode` returns, or its error
 abbrev pub RestoresLines : ℕ → ℕ → GivenItems → Result (List ℕ) Error → Type 0
-RestoresLines k r given (Ok text) = (restored : Shards) × OneDecodeAnswers k r given.originals given.recovery (Ok restored) × ListsShards restored text
+RestoresLines k r given (Ok text) =
+    (restored : Shards) × OneDecodeAnswers k r given.originals given.recovery (Ok restored) × ListsShards restored text
 RestoresLines k r given (Err e) = OneDecodeAnswers k r given.originals given.recovery (Err e)
 
 -- the result of a task for these counts: a text or an error
@@ -59,7 +61,8 @@ Prints words text = (request : Request) × (request_of words ≡ Some request) �
 
 -- an error is the one for these words: the error of the one-call function for their request, or `OutOfMemory`
 abbrev pub Refuses : List (List ℕ) → Error → Type 0
-Refuses words e = ((request : Request) × (request_of words ≡ Some request) × IsAnswered request (Err e)) ⊎ (e ≡ OutOfMemory)
+Refuses words e = ((request : Request) × (request_of words ≡ Some request) × IsAnswered request (Err e))
+    ⊎ (e ≡ OutOfMemory)
 
 -- the concatenation of texts
 abbrev pub concatenation : {Y Z : Type 0} → Vec (String Y) Z → List ℕ

@@ -39,7 +39,8 @@ given_items given = record { originals = as_items given.original; recovery = as_
 
 -- given shards, followed by other given shards
 abbrev pub with_items : GivenItems → GivenItems → GivenItems
-with_items given others = record { originals = given.originals ++ others.originals; recovery = given.recovery ++ others.recovery }
+with_items given others =
+    record { originals = given.originals ++ others.originals; recovery = given.recovery ++ others.recovery }
 
 -- an item of a command, in the form of the definitions
 abbrev pub as_item_of_line : Item → Line.Item
@@ -54,4 +55,5 @@ as_task (Decode given) = Line.Restored (given_items given)
 -- the request that a command represents
 abbrev pub as_request : Command → Line.Request
 as_request command =
-    record { engine = command.engine; original_count = command.counts.original; recovery_count = command.counts.recovery; task = as_task command.task }
+    record { engine = command.engine; original_count = command.counts.original; recovery_count =
+        command.counts.recovery; task = as_task command.task }

@@ -1,5 +1,6 @@
 -- Lemmas that lead from the results of inner calls to the result of an encode over buffers.
-use Rattle.std.proofs.Common.{◌≡◌, inl, inr, ℕ, zero, suc, ◌*◌, ◌<◌, true, List, length, take, drop, Result, Ok, sym, ap, ◌∙◌, refl, arith}
+use Rattle.std.proofs.Common.{◌≡◌, inl, inr, ℕ, zero, suc, ◌*◌, ◌<◌, true, List, length, take, drop, Result, Ok, sym}
+use Rattle.std.proofs.Common.{ap, ◌∙◌, refl, arith}
 use Rattle.std.proofs.Math.Nat.{suc-mul}
 use Rattle.std.proofs.lemmas.Bool.{cases_eq, ne_eqb}
 use Rattle.std.proofs.lemmas.List.{length-take-le}
@@ -23,12 +24,14 @@ fits-length count size got is = elim (cases_eq (count * size) got) [
 
 -- If the counts are supported and the checks of both lengths find no fault, the checks before the library is called
 -- succeed.
-pub lengths-ok : (k r size originals recovery : ℕ) → supports default_rate k r ≡ true → Ok tt ≡ length_outcome k size originals → Ok tt ≡ length_outcome r size recovery
+pub lengths-ok : (k r size originals recovery : ℕ) → supports default_rate k r ≡ true
+    → Ok tt ≡ length_outcome k size originals → Ok tt ≡ length_outcome r size recovery
     → encode_lengths k r size originals recovery ≡ Ok tt
 lengths-ok k r size originals recovery supported own other = rw (supported, ← own, ← other) refl
 
 -- If the shards of a buffer were added to an encoder, the configuration of the encoder has their size.
-pub gathered-size : (k r size : ℕ) (bytes : List ℕ) (s : EncoderState) → 0 < k → length bytes ≡ k * size → IsEncoding k r (shards_in_buffer k size bytes) (Ok s) → s.configuration ≡ default_of k r size
+pub gathered-size : (k r size : ℕ) (bytes : List ℕ) (s : EncoderState) → 0 < k → length bytes ≡ k * size
+    → IsEncoding k r (shards_in_buffer k size bytes) (Ok s) → s.configuration ≡ default_of k r size
 gathered-size zero r size bytes s some whole is = absurd (let no : ⊥ = omega (arith, some) in no)
 gathered-size (suc n) r size bytes s some whole is =
     let more = suc-mul n size in
@@ -36,6 +39,10 @@ gathered-size (suc n) r size bytes s some whole is =
     ∙ ap (λ (m : ℕ). default_of (suc n) r m) (length-take-le size bytes (omega (arith, whole, more)))
 
 -- If the counts and lengths are right, the result of the encode over buffers is the result of one call.
-pub encodes : (k r size : ℕ) (originals old new : List ℕ) (answer : Result (Unit {0}) Fault) (coded : Result (List Shard) Error) → supports default_rate k r ≡ true → Ok tt ≡ length_outcome k size (length originals)
-    → Ok tt ≡ length_outcome r size (length old) → OneEncodeAnswers k r (shards_in_buffer k size originals) coded → Writes coded concatenation old new answer → EncodesBuffer k r size originals old new answer
-encodes k r size originals old new answer coded supported own other answers writes = rw (lengths-ok k r size (length originals) (length old) supported own other) (coded, answers, writes)
+pub encodes : (k r size : ℕ) (originals old new : List ℕ) (answer : Result (Unit {0}) Fault)
+    (coded : Result (List Shard) Error) → supports default_rate k r ≡ true
+    → Ok tt ≡ length_outcome k size (length originals)
+    → Ok tt ≡ length_outcome r size (length old) → OneEncodeAnswers k r (shards_in_buffer k size originals) coded
+    → Writes coded concatenation old new answer → EncodesBuffer k r size originals old new answer
+encodes k r size originals old new answer coded supported own other answers writes =
+    rw (lengths-ok k r size (length originals) (length old) supported own other) (coded, answers, writes)

@@ -1,8 +1,10 @@
 -- Lemmas about the indexes of marks that are 0, and about the places of their shards in a buffer.
-use Rattle.std.proofs.Common.{◌≡◌, ℕ, zero, suc, ◌+◌, ◌*◌, ◌<◌, ◌≤◌, Bool, cond, List, [], ◌∷◌, ◌++◌, length, map, take, drop, get_or, refl, sym, ap, ◌∙◌, inl, inr, arith}
+use Rattle.std.proofs.Common.{◌≡◌, ℕ, zero, suc, ◌+◌, ◌*◌, ◌<◌, ◌≤◌, Bool, cond, List, [], ◌∷◌, ◌++◌, length, map, take}
+use Rattle.std.proofs.Common.{drop, get_or, refl, sym, ap, ◌∙◌, inl, inr, arith}
 use Rattle.std.proofs.Math.Nat.{suc-mul}
 use Rattle.std.proofs.lemmas.Bool.{cases_eq, cases_order, eq-eqb, ne_eqb}
-use Rattle.std.proofs.lemmas.List.{append_assoc, append-nil, drop_all, drop_more, take-append-drop, length-drop, nil_from_length, drop-drop}
+use Rattle.std.proofs.lemmas.List.{append_assoc, append-nil, drop_all, drop_more, take-append-drop, length-drop}
+use Rattle.std.proofs.lemmas.List.{nil_from_length, drop-drop}
 use Rattle.std.specs.Prelude.{unwrap_or}
 use Rattle.rs_field.specs.code.Given.{Shards}
 use Rattle.rs_c.specs.Buffers.{lost_indexes, shard_place, with_restored}
@@ -22,17 +24,20 @@ pub lost-next : (i : ℕ) (marks so_far : List ℕ) → i < length marks → get
 lost-next i marks so_far inside lost =
     append_assoc so_far (i ∷ []) (lost_indexes (i + 1) (drop (i + 1) marks))
     ∙ ap (λ (l : List ℕ). so_far ++ l) (sym (ap (lost_indexes i) (drop_more marks i 0 inside)
-    ∙ ap (λ (b : Bool). cond b (i ∷ lost_indexes (i + 1) (drop (i + 1) marks)) (lost_indexes (i + 1) (drop (i + 1) marks))) (eq-eqb (get_or marks i 0) 0 lost)))
+    ∙ ap (λ (b : Bool). cond b (i ∷ lost_indexes (i + 1) (drop (i + 1) marks))
+        (lost_indexes (i + 1) (drop (i + 1) marks))) (eq-eqb (get_or marks i 0) 0 lost)))
 
 -- If mark i is not 0, i is no lost index.
 pub kept-next : (i : ℕ) (marks : List ℕ) → i < length marks → (get_or marks i 0 ≡ 0 → ⊥)
     → lost_indexes (i + 1) (drop (i + 1) marks) ≡ lost_indexes i (drop i marks)
 kept-next i marks inside kept =
     sym (ap (lost_indexes i) (drop_more marks i 0 inside)
-    ∙ ap (λ (b : Bool). cond b (i ∷ lost_indexes (i + 1) (drop (i + 1) marks)) (lost_indexes (i + 1) (drop (i + 1) marks))) (ne_eqb (get_or marks i 0) 0 kept))
+    ∙ ap (λ (b : Bool). cond b (i ∷ lost_indexes (i + 1) (drop (i + 1) marks))
+        (lost_indexes (i + 1) (drop (i + 1) marks))) (ne_eqb (get_or marks i 0) 0 kept))
 
 -- After the last mark, all lost indexes are found.
-pub lost-end : (i : ℕ) (marks found : List ℕ) → length marks ≤ i → found ++ lost_indexes i (drop i marks) ≡ lost_indexes 0 marks → found ≡ lost_indexes 0 marks
+pub lost-end : (i : ℕ) (marks found : List ℕ) → length marks ≤ i
+    → found ++ lost_indexes i (drop i marks) ≡ lost_indexes 0 marks → found ≡ lost_indexes 0 marks
 lost-end i marks found past is =
     sym (append-nil found) ∙ ap (λ (l : List ℕ). found ++ lost_indexes i l) (sym (drop_all i marks past)) ∙ is
 
@@ -47,7 +52,8 @@ lost-later : (i mark : ℕ) (marks indexes : List ℕ) → AreLost (i + 1) marks
 lost-later i mark marks indexes rest n inside =
     let (j, (same, below, zero_here)) = rest n inside in (suc j, (omega (arith, same), omega (arith, below), zero_here))
 
-lost-first : (i mark : ℕ) (marks indexes : List ℕ) → mark ≡ 0 → AreLost i (mark ∷ marks) indexes → AreLost i (mark ∷ marks) (i ∷ indexes)
+lost-first : (i mark : ℕ) (marks indexes : List ℕ) → mark ≡ 0 → AreLost i (mark ∷ marks) indexes
+    → AreLost i (mark ∷ marks) (i ∷ indexes)
 lost-first i mark marks indexes lost rest zero inside = (0, (omega arith, omega arith, lost))
 lost-first i mark marks indexes lost rest (suc n) inside = rest n (omega (arith, inside))
 
@@ -55,9 +61,11 @@ pub lost-mark : (i : ℕ) (marks : List ℕ) → AreLost i marks (lost_indexes i
 lost-mark i [] = λ n inside. absurd (let no : ⊥ = omega (arith, inside) in no)
 lost-mark i (mark ∷ marks) = elim (cases_eq mark 0) [
   | inl lost ↦
-      let all = lost-first i mark marks (lost_indexes (i + 1) marks) lost (lost-later i mark marks (lost_indexes (i + 1) marks) (lost-mark (i + 1) marks)) in
+      let all = lost-first i mark marks (lost_indexes (i + 1) marks) lost
+          (lost-later i mark marks (lost_indexes (i + 1) marks) (lost-mark (i + 1) marks)) in
       rw (eq-eqb mark 0 lost) all
-  | inr kept ↦ let all = lost-later i mark marks (lost_indexes (i + 1) marks) (lost-mark (i + 1) marks) in rw (ne_eqb mark 0 kept) all
+  | inr kept ↦ let all = lost-later i mark marks (lost_indexes (i + 1) marks) (lost-mark (i + 1) marks) in
+      rw (ne_eqb mark 0 kept) all
 ]
 
 -- each number of a list is larger than the numbers before it
@@ -66,15 +74,18 @@ Grow indexes = (n m : ℕ) → n < m → m < length indexes → get_or indexes n
 
 grow-first : (i : ℕ) (marks indexes : List ℕ) → AreLost (i + 1) marks indexes → Grow indexes → Grow (i ∷ indexes)
 grow-first i marks indexes lost grow n zero order inside = absurd (let no : ⊥ = omega (arith, order) in no)
-grow-first i marks indexes lost grow zero (suc m) order inside = let (j, (same, below, zero_here)) = lost m (omega (arith, inside)) in omega (arith, same)
-grow-first i marks indexes lost grow (suc n) (suc m) order inside = grow n m (omega (arith, order)) (omega (arith, inside))
+grow-first i marks indexes lost grow zero (suc m) order inside = let (j, (same, below, zero_here)) =
+    lost m (omega (arith, inside)) in omega (arith, same)
+grow-first i marks indexes lost grow (suc n) (suc m) order inside =
+    grow n m (omega (arith, order)) (omega (arith, inside))
 
 -- Each lost index is larger than the lost indexes before it.
 pub lost-grow : (i : ℕ) (marks : List ℕ) → Grow (lost_indexes i marks)
 lost-grow i [] = λ n m order inside. absurd (let no : ⊥ = omega (arith, inside) in no)
 lost-grow i (mark ∷ marks) = elim (cases_eq mark 0) [
   | inl lost ↦
-      let all = grow-first i marks (lost_indexes (i + 1) marks) (lost-mark (i + 1) marks) (lost-grow (i + 1) marks) in rw (eq-eqb mark 0 lost) all
+      let all = grow-first i marks (lost_indexes (i + 1) marks) (lost-mark (i + 1) marks) (lost-grow (i + 1) marks) in
+          rw (eq-eqb mark 0 lost) all
   | inr kept ↦ let all = lost-grow (i + 1) marks in rw (ne_eqb mark 0 kept) all
 ]
 
@@ -96,18 +107,21 @@ module _ {T : Type 0} (f g : ℕ → T) where
   agree-later i mark marks here rest zero inside lost =
       let step : i ≡ i + 0 = omega arith in ap f (sym step) ∙ here lost ∙ ap g step
   agree-later i mark marks here rest (suc j) inside lost =
-      let step : i + 1 + j ≡ i + suc j = omega arith in ap f (sym step) ∙ rest j (omega (arith, inside)) lost ∙ ap g step
+      let step : i + 1 + j ≡ i + suc j = omega arith in ap f (sym step) ∙ rest j (omega (arith, inside)) lost
+          ∙ ap g step
 
   pub lost-same : (i : ℕ) (marks : List ℕ) → map f (lost_indexes i marks) ≡ map g (lost_indexes i marks) → Agree i marks
   lost-same i [] same = λ j inside lost. absurd (let no : ⊥ = omega (arith, inside) in no)
   lost-same i (mark ∷ marks) same = elim (cases_eq mark 0) [
     | inl lost ↦
-        let all : f i ∷ map f (lost_indexes (i + 1) marks) ≡ g i ∷ map g (lost_indexes (i + 1) marks) = rw (eq-eqb mark 0 lost) at same in
+        let all : f i ∷ map f (lost_indexes (i + 1) marks) ≡ g i ∷ map g (lost_indexes (i + 1) marks) =
+            rw (eq-eqb mark 0 lost) at same in
         let here : f i ≡ g i = cc in
         let others : map f (lost_indexes (i + 1) marks) ≡ map g (lost_indexes (i + 1) marks) = cc in
         agree-later i mark marks (λ zero_here. here) (lost-same (i + 1) marks others)
     | inr kept ↦
-        let others : map f (lost_indexes (i + 1) marks) ≡ map g (lost_indexes (i + 1) marks) = rw (ne_eqb mark 0 kept) at same in
+        let others : map f (lost_indexes (i + 1) marks) ≡ map g (lost_indexes (i + 1) marks) =
+            rw (ne_eqb mark 0 kept) at same in
         agree-later i mark marks (λ zero_here. absurd (kept zero_here)) (lost-same (i + 1) marks others)
   ]
 
@@ -115,7 +129,8 @@ module _ {T : Type 0} (f g : ℕ → T) where
 pub place-next : (size j : ℕ) (bytes : List ℕ) → shard_place size (drop size bytes) j ≡ shard_place size bytes (suc j)
 place-next size j bytes =
     let more = suc-mul j size in
-    ap (take size) (drop-drop (j * size) size bytes ∙ ap (λ (m : ℕ). drop m bytes) (let e : size + j * size ≡ suc j * size = omega (arith, more) in e))
+    ap (take size) (drop-drop (j * size) size bytes
+        ∙ ap (λ (m : ℕ). drop m bytes) (let e : size + j * size ≡ suc j * size = omega (arith, more) in e))
 
 -- Place 0 of a buffer consists of its first bytes.
 pub place-first : (size : ℕ) (bytes : List ℕ) → shard_place size bytes 0 ≡ take size bytes
@@ -124,14 +139,16 @@ place-first size bytes = ap (λ (m : ℕ). take size (drop m bytes)) (let e : 0 
 -- If each place of a buffer holds the restored original of its index, or what the old buffer holds if there is none,
 -- the buffer is the old buffer with the restored originals.
 pub with-placed : (restored : Shards) (i size n : ℕ) (old new : List ℕ) → length new ≡ n * size
-    → ((j : ℕ) → j < n → shard_place size new j ≡ unwrap_or (restored (i + j)) (shard_place size old j)) → new ≡ with_restored restored i size n old
+    → ((j : ℕ) → j < n → shard_place size new j ≡ unwrap_or (restored (i + j)) (shard_place size old j))
+    → new ≡ with_restored restored i size n old
 with-placed restored i size zero old new whole each = nil_from_length new (omega (arith, whole))
 with-placed restored i size (suc n) old new whole each =
     let more = suc-mul n size in
     let left = length-drop size new in
     let none : i + 0 ≡ i = omega arith in
     let first : take size new ≡ unwrap_or (restored i) (take size old) =
-    sym (place-first size new) ∙ each 0 (omega arith) ∙ ap (λ (m : ℕ). unwrap_or (restored m) (shard_place size old 0)) none
+    sym (place-first size new) ∙ each 0 (omega arith)
+        ∙ ap (λ (m : ℕ). unwrap_or (restored m) (shard_place size old 0)) none
     ∙ ap (λ (l : List ℕ). unwrap_or (restored i) l) (place-first size old) in
     sym (take-append-drop size new)
     ∙ ap (λ (l : List ℕ). l ++ drop size new) first

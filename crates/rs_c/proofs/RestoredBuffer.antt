@@ -1,5 +1,7 @@
 -- Lemmas about a buffer whose lost originals were restored in their places.
-use Rattle.std.proofs.Common.{◌≡◌, ℕ, suc, ◌+◌, ◌*◌, ◌<◌, ◌==◌, ◌&&◌, Bool, true, false, not, cond, List, [], ◌∷◌, ◌++◌, length, map, get_or, Option, Some, None, Result, Ok, Err, MatchResult, refl, sym, ap, ap₂, ◌∙◌, inl, inr, arith}
+use Rattle.std.proofs.Common.{◌≡◌, ℕ, suc, ◌+◌, ◌*◌, ◌<◌, ◌==◌, ◌&&◌, Bool, true, false, not, cond, List, [], ◌∷◌, ◌++◌}
+use Rattle.std.proofs.Common.{length, map, get_or, Option, Some, None, Result, Ok, Err, MatchResult, refl, sym, ap, ap₂}
+use Rattle.std.proofs.Common.{◌∙◌, inl, inr, arith}
 use Rattle.std.specs.Prelude.{◌⊎◌, OnErr, is_some, unwrap_or}
 use Rattle.std.proofs.lemmas.Bool.{cases_eq, eq-eqb, ne_eqb, lt-ltb}
 use Rattle.rs_field.specs.declared.code.error.Error.{Error}
@@ -17,7 +19,8 @@ use Rattle.rs_field.proofs.of_code.ListedMaps.{lists-same}
 use Rattle.rs_field.proofs.of_code.RestoredBelow.{missing-past}
 use Rattle.rs_rate.specs.Giving.{IsDecoding}
 use Rattle.rs_rate.proofs.OneCall.{decoding-refused}
-use Rattle.reed_solomon_simd.proofs.RestoringLemmas.{decoding-answered, decoding-few, decoding-none-agrees, decoding-restored}
+use Rattle.reed_solomon_simd.proofs.RestoringLemmas.{decoding-answered, decoding-few, decoding-none-agrees}
+use Rattle.reed_solomon_simd.proofs.RestoringLemmas.{decoding-restored}
 use Rattle.rs_c.specs.Buffers.{lost_indexes, marked_shards, marked_map, marked_state, shard_place, with_restored}
 use Rattle.rs_c.specs.declared.marked_buffers.MarkedBuffers.{MarkedBuffers}
 use Rattle.rs_c.specs.MarkedState.{besides_rooms, rooms_in}
@@ -38,21 +41,25 @@ lost-listed out message i (mark ∷ marks) each =
     ap out (sym none) ∙ each 0 (omega arith) ∙ ap (λ (n : ℕ). cond (mark == 0) (Some (shard_at message n)) None) none in
     let others = lost-listed out message (i + 1) marks (λ j inside.
     let next : i + 1 + j ≡ i + suc j = omega arith in
-    ap out next ∙ each (suc j) (omega (arith, inside)) ∙ ap (λ (n : ℕ). cond (get_or marks j 0 == 0) (Some (shard_at message n)) None) (sym next)) in
+    ap out next ∙ each (suc j) (omega (arith, inside))
+        ∙ ap (λ (n : ℕ). cond (get_or marks j 0 == 0) (Some (shard_at message n)) None) (sym next)) in
     ap shards_listed (items_from-suc i (length marks) out)
     ∙ elim (cases_eq mark 0) [
       | inl lost ↦
           rw (eq-eqb mark 0 lost)
-          (ap (λ (o : Option Shard). shards_listed (items_at i o ++ items_from (suc i) (length marks) out)) (rw (eq-eqb mark 0 lost) at here)
+          (ap (λ (o : Option Shard). shards_listed (items_at i o ++ items_from (suc i) (length marks) out))
+              (rw (eq-eqb mark 0 lost) at here)
           ∙ ap (λ (n : ℕ). shard_at message i ∷ shards_listed (items_from n (length marks) out)) step
           ∙ ap (λ (l : List Shard). shard_at message i ∷ l) others)
       | inr kept ↦
           rw (ne_eqb mark 0 kept)
-          (ap (λ (o : Option Shard). shards_listed (items_at i o ++ items_from (suc i) (length marks) out)) (rw (ne_eqb mark 0 kept) at here)
+          (ap (λ (o : Option Shard). shards_listed (items_at i o ++ items_from (suc i) (length marks) out))
+              (rw (ne_eqb mark 0 kept) at here)
           ∙ ap (λ (n : ℕ). shards_listed (items_from n (length marks) out)) step ∙ others)
     ]
 
-module _ (k r size : ℕ) (own originals other recovery new : List ℕ) (own_number : length own ≡ k) (own_whole : length originals ≡ k * size)
+module _ (k r size : ℕ) (own originals other recovery new : List ℕ) (own_number : length own ≡ k)
+    (own_whole : length originals ≡ k * size)
     (long : length new ≡ length originals) (kept : marked_map size own new ≡ marked_map size own originals) where
   -- The place of an original whose mark is not 0 is unchanged.
   place-kept : (j : ℕ) → (get_or own j 0 ≡ 0 → ⊥) → shard_place size new j ≡ shard_place size originals j
@@ -64,69 +71,87 @@ module _ (k r size : ℕ) (own originals other recovery new : List ℕ) (own_num
   -- The missing shard of a message at an index is the shard of the message if the mark is 0, and there is none
   -- otherwise.
   missing-mark : (message : List Shard) (j : ℕ) → j < k
-      → missing_of (marked_state k r size own originals other recovery) message j ≡ cond (get_or own j 0 == 0) (Some (shard_at message j)) None
+      → missing_of (marked_state k r size own originals other recovery) message j
+      ≡ cond (get_or own j 0 == 0) (Some (shard_at message j)) None
   unfolding missing_of
   missing-mark message j inside =
-      ap (λ (b : Bool). cond (b && not (is_some (marked_map size own originals j))) (Some (shard_at message j)) None) (lt-ltb j k inside)
+      ap (λ (b : Bool). cond (b && not (is_some (marked_map size own originals j))) (Some (shard_at message j)) None)
+          (lt-ltb j k inside)
       ∙ by_mark (get_or own j 0 == 0)
     where
       by_mark : (zero_here : Bool)
-          → cond (not (is_some (cond zero_here None (Some (shard_place size originals j))))) (Some (shard_at message j)) None
+          → cond (not (is_some (cond zero_here None (Some (shard_place size originals j)))))
+              (Some (shard_at message j)) None
           ≡ cond zero_here (Some (shard_at message j)) None
       by_mark true = refl
       by_mark false = refl
 
   -- If the places of the lost originals hold the restored originals, the whole buffer is the old buffer with the
   -- restored originals.
-  pub buffer-restored : (holds : HoldRestored (marked_state k r size own originals other recovery) (map (λ i. shard_place size new i) (lost_indexes 0 own)))
+  pub buffer-restored :
+      (holds : HoldRestored (marked_state k r size own originals other recovery)
+      (map (λ i. shard_place size new i) (lost_indexes 0 own)))
       → new ≡ with_restored holds.out 0 size k originals
   buffer-restored holds =
       let s : DecoderState = marked_state k r size own originals other recovery in
       let message : List Shard = holds.restored.message in
-      let by_index : (j : ℕ) → j < k → holds.out j ≡ cond (get_or own j 0 == 0) (Some (shard_at holds.restored.message j)) None =
+      let by_index : (j : ℕ) → j < k
+          → holds.out j ≡ cond (get_or own j 0 == 0) (Some (shard_at holds.restored.message j)) None =
       (λ j inside. holds.restored.missing j ∙ missing-mark message j inside) in
       let lists : Lists holds.out (items_below k holds.out) =
-      record { count = k; none_past = λ i past. holds.restored.missing i ∙ missing-past s message i past; in_order = refl } in
-      let listed : shards_listed (items_below (length own) holds.out) ≡ map (λ n. shard_at holds.restored.message n) (lost_indexes 0 own) =
+      record { count = k; none_past = λ i past. holds.restored.missing i ∙ missing-past s message i past; in_order =
+          refl } in
+      let listed : shards_listed (items_below (length own) holds.out)
+          ≡ map (λ n. shard_at holds.restored.message n) (lost_indexes 0 own) =
       lost-listed holds.out message 0 own (λ j inside.
       let same : 0 + j ≡ j = omega arith in
       ap holds.out same ∙ by_index j (omega (arith, inside, own_number))
       ∙ ap (λ (n : ℕ). cond (get_or own j 0 == 0) (Some (shard_at holds.restored.message n)) None) (sym same)) in
-      let all : map (λ i. shard_place size new i) (lost_indexes 0 own) ≡ map (λ n. shard_at holds.restored.message n) (lost_indexes 0 own) =
+      let all : map (λ i. shard_place size new i) (lost_indexes 0 own)
+          ≡ map (λ n. shard_at holds.restored.message n) (lost_indexes 0 own) =
       holds.held ∙ ap shards_listed (lists-same holds.out holds.items (items_below k holds.out) holds.listed lists)
       ∙ ap (λ (n : ℕ). shards_listed (items_below n holds.out)) (sym own_number) ∙ listed in
       with-placed holds.out 0 size k originals new (long ∙ own_whole) (λ j inside.
       let same : 0 + j ≡ j = omega arith in
-      let here : holds.out (0 + j) ≡ cond (get_or own j 0 == 0) (Some (shard_at holds.restored.message j)) None = ap holds.out same ∙ by_index j inside in
+      let here : holds.out (0 + j) ≡ cond (get_or own j 0 == 0) (Some (shard_at holds.restored.message j)) None =
+          ap holds.out same ∙ by_index j inside in
       let below : j < length own = omega (arith, inside, own_number) in
       elim (cases_eq (get_or own j 0) 0) [
         | inl lost ↦
             let placed = lost-same (λ i. shard_place size new i) (λ n. shard_at message n) 0 own all j below lost in
-            ap (λ (n : ℕ). shard_place size new n) (sym same) ∙ placed ∙ ap (λ (n : ℕ). shard_at holds.restored.message n) same
-            ∙ sym (ap (λ (o : Option Shard). unwrap_or o (shard_place size originals j)) (rw (eq-eqb (get_or own j 0) 0 lost) at here))
+            ap (λ (n : ℕ). shard_place size new n) (sym same) ∙ placed
+                ∙ ap (λ (n : ℕ). shard_at holds.restored.message n) same
+            ∙ sym (ap (λ (o : Option Shard). unwrap_or o (shard_place size originals j))
+                (rw (eq-eqb (get_or own j 0) 0 lost) at here))
         | inr marked ↦
             place-kept j marked
-            ∙ sym (ap (λ (o : Option Shard). unwrap_or o (shard_place size originals j)) (rw (ne_eqb (get_or own j 0) 0 marked) at here))
+            ∙ sym (ap (λ (o : Option Shard). unwrap_or o (shard_place size originals j))
+                (rw (ne_eqb (get_or own j 0) 0 marked) at here))
       ])
 
   -- If the places of the lost originals are unchanged, the whole buffer is unchanged.
-  pub buffer-same : map (λ i. shard_place size new i) (lost_indexes 0 own) ≡ map (λ i. shard_place size originals i) (lost_indexes 0 own) → new ≡ originals
+  pub buffer-same : map (λ i. shard_place size new i) (lost_indexes 0 own)
+      ≡ map (λ i. shard_place size originals i) (lost_indexes 0 own) → new ≡ originals
   buffer-same same =
       with-placed nothing 0 size k originals new (long ∙ own_whole) (λ j inside.
       let here : 0 + j ≡ j = omega arith in
       let below : j < length own = omega (arith, inside, own_number) in
       elim (cases_eq (get_or own j 0) 0) [
         | inl lost ↦
-            let placed = lost-same (λ i. shard_place size new i) (λ i. shard_place size originals i) 0 own same j below lost in
-            ap (λ (n : ℕ). shard_place size new n) (sym here) ∙ placed ∙ ap (λ (n : ℕ). shard_place size originals n) here
+            let placed = lost-same (λ i. shard_place size new i)
+                (λ i. shard_place size originals i) 0 own same j below lost in
+            ap (λ (n : ℕ). shard_place size new n) (sym here) ∙ placed
+                ∙ ap (λ (n : ℕ). shard_place size originals n) here
         | inr marked ↦ place-kept j marked
       ])
       ∙ with-nothing 0 size k originals own_whole
 
 -- ---- the result of one call for the marked shards
 
-module _ (k r size : ℕ) (own other originals recovery : List ℕ) (own_number : length own ≡ k) (other_number : length other ≡ r)
-    (own_whole : length originals ≡ k * size) (other_whole : length recovery ≡ r * size) (some : 0 < present other) where
+module _ (k r size : ℕ) (own other originals recovery : List ℕ) (own_number : length own ≡ k)
+    (other_number : length other ≡ r)
+    (own_whole : length originals ≡ k * size) (other_whole : length recovery ≡ r * size)
+        (some : 0 < present other) where
   -- If a decoder cannot be set up, one call returns the error.
   pub unset-answers : (e : Error) → start_outcome (decoder_rows default_rate k r) (default_of k r size) ≡ Err e
       → OneDecodeAnswers k r (marked_shards 0 size own originals) (marked_shards 0 size other recovery) (Err e)
@@ -135,33 +160,47 @@ module _ (k r size : ℕ) (own other originals recovery : List ℕ) (own_number 
       (marked-led k r size own originals other recovery own_number other_number own_whole other_whole some (Err e) made)
 
   module _ (made : start_outcome (decoder_rows default_rate k r) (default_of k r size) ≡ Ok tt) where
-    leads : IsDecoding k r (marked_shards 0 size own originals) (marked_shards 0 size other recovery) (Ok (Some (marked_state k r size own originals other recovery)))
-    leads = marked-led k r size own originals other recovery own_number other_number own_whole other_whole some (Ok tt) made
+    leads : IsDecoding k r (marked_shards 0 size own originals) (marked_shards 0 size other recovery)
+        (Ok (Some (marked_state k r size own originals other recovery)))
+    leads = marked-led k r size own originals other recovery own_number other_number own_whole other_whole some
+        (Ok tt) made
 
     -- One call may fail with `OutOfMemory`.
-    pub short-answers : (e : Error) → e ≡ OutOfMemory → OneDecodeAnswers k r (marked_shards 0 size own originals) (marked_shards 0 size other recovery) (Err e)
+    pub short-answers : (e : Error) → e ≡ OutOfMemory
+        → OneDecodeAnswers k r (marked_shards 0 size own originals) (marked_shards 0 size other recovery) (Err e)
     short-answers e lacks =
-        decoding-answered k r (marked_shards 0 size own originals) (marked_shards 0 size other recovery) (marked_state k r size own originals other recovery) leads (Err e) (inr (ap Err lacks))
+        decoding-answered k r (marked_shards 0 size own originals) (marked_shards 0 size other recovery)
+            (marked_state k r size own originals other recovery) leads (Err e) (inr (ap Err lacks))
 
     -- The result of restoring into the buffer is a result of one call.
     pub restored-answers : (rooms : List Shard) (result : Result (Unit {0}) Error)
         → MatchResult (enough_given (marked_state k r size own originals other recovery))
         (λ _. MatchResult result (λ _. HoldRestored (marked_state k r size own originals other recovery) rooms)
-        (λ e. NoneAgrees (marked_state k r size own originals other recovery) e ⊎ (e ≡ OutOfMemory))) (λ e. result ≡ Err e)
+        (λ e. NoneAgrees (marked_state k r size own originals other recovery) e ⊎ (e ≡ OutOfMemory)))
+            (λ e. result ≡ Err e)
         → MatchResult result (λ _. (holds : HoldRestored (marked_state k r size own originals other recovery) rooms)
-        × OneDecodeAnswers k r (marked_shards 0 size own originals) (marked_shards 0 size other recovery) (Ok holds.out))
+        × OneDecodeAnswers k r (marked_shards 0 size own originals) (marked_shards 0 size other recovery)
+            (Ok holds.out))
         (λ e. OneDecodeAnswers k r (marked_shards 0 size own originals) (marked_shards 0 size other recovery) (Err e))
-    restored-answers rooms result does = by_outcome (enough_given (marked_state k r size own originals other recovery)) refl result does
+    restored-answers rooms result does =
+        by_outcome (enough_given (marked_state k r size own originals other recovery)) refl result does
       where
-        by_outcome : (o : Result (Unit {0}) Error) → enough_given (marked_state k r size own originals other recovery) ≡ o → (result : Result (Unit {0}) Error)
-            → MatchResult o (λ _. MatchResult result (λ _. HoldRestored (marked_state k r size own originals other recovery) rooms)
-            (λ e. NoneAgrees (marked_state k r size own originals other recovery) e ⊎ (e ≡ OutOfMemory))) (λ e. result ≡ Err e)
+        by_outcome : (o : Result (Unit {0}) Error)
+            → enough_given (marked_state k r size own originals other recovery) ≡ o → (result : Result (Unit {0}) Error)
+            → MatchResult o (λ _.
+                MatchResult result (λ _. HoldRestored (marked_state k r size own originals other recovery) rooms)
+            (λ e. NoneAgrees (marked_state k r size own originals other recovery) e ⊎ (e ≡ OutOfMemory)))
+                (λ e. result ≡ Err e)
             → MatchResult result (λ _. (holds : HoldRestored (marked_state k r size own originals other recovery) rooms)
-            × OneDecodeAnswers k r (marked_shards 0 size own originals) (marked_shards 0 size other recovery) (Ok holds.out))
-            (λ e. OneDecodeAnswers k r (marked_shards 0 size own originals) (marked_shards 0 size other recovery) (Err e))
+            × OneDecodeAnswers k r (marked_shards 0 size own originals) (marked_shards 0 size other recovery)
+                (Ok holds.out))
+            (λ e. OneDecodeAnswers k r (marked_shards 0 size own originals) (marked_shards 0 size other recovery)
+                (Err e))
         by_outcome (Ok u) enough (Ok v) holds =
-            (holds, decoding-restored k r _ _ (marked_state k r size own originals other recovery) leads enough (Ok holds.out) holds.restored)
-        by_outcome (Ok u) enough (Err e) why = decoding-none-agrees k r _ _ (marked_state k r size own originals other recovery) leads enough e why
+            (holds, decoding-restored k r _ _ (marked_state k r size own originals other recovery) leads enough
+                (Ok holds.out) holds.restored)
+        by_outcome (Ok u) enough (Err e) why =
+            decoding-none-agrees k r _ _ (marked_state k r size own originals other recovery) leads enough e why
         by_outcome (Err f) few (Ok v) same = absurd (let no : ⊥ = cc in no)
         by_outcome (Err f) few (Err e) same =
             let is : e ≡ f = cc in
@@ -173,7 +212,8 @@ module _ (k r size : ℕ) (own other originals recovery : List ℕ) (own_number 
     Restores rooms result =
         MatchResult (enough_given (marked_state k r size own originals other recovery))
         (λ _. MatchResult result (λ _. HoldRestored (marked_state k r size own originals other recovery) rooms)
-        (λ e. NoneAgrees (marked_state k r size own originals other recovery) e ⊎ (e ≡ OutOfMemory))) (λ e. result ≡ Err e) ⊎ (result ≡ Err OutOfMemory)
+        (λ e. NoneAgrees (marked_state k r size own originals other recovery) e ⊎ (e ≡ OutOfMemory)))
+            (λ e. result ≡ Err e) ⊎ (result ≡ Err OutOfMemory)
 
     pub failed-answers : (rooms : List Shard) (e : Error) → Restores rooms (Err e)
         → OneDecodeAnswers k r (marked_shards 0 size own originals) (marked_shards 0 size other recovery) (Err e)
@@ -194,7 +234,8 @@ module _ (k r size : ℕ) (own originals other recovery lost : List ℕ) (y : Ma
   size-same = ap (λ t. t.0.configuration.shard_bytes) same
 
   -- The rooms are the places of the lost indexes.
-  pub rooms-placed : lost ≡ lost_indexes 0 own → rooms_in y ≡ map (λ i. shard_place size y.originals.now i) (lost_indexes 0 own)
+  pub rooms-placed : lost ≡ lost_indexes 0 own
+      → rooms_in y ≡ map (λ i. shard_place size y.originals.now i) (lost_indexes 0 own)
   rooms-placed listed =
       ap (λ (n : ℕ). map (λ i. shard_place n y.originals.now i) y.lost.now) size-same
       ∙ ap (λ (l : List ℕ). map (λ i. shard_place size y.originals.now i) l) (ap (λ t. t.2) same ∙ listed)

@@ -1,13 +1,17 @@
 -- The results of calls that write into rooms, with each error replaced by its fault.
-use Rattle.std.proofs.Common.{◌≡◌, ℕ, ◌==◌, Bool, true, false, cond, List, [], ◌∷◌, length, map, Result, Ok, Err, MatchResult, MutBor, refl, sym, ap, subst, ◌∙◌}
+use Rattle.std.proofs.Common.{◌≡◌, ℕ, ◌==◌, Bool, true, false, cond, List, [], ◌∷◌, length, map, Result, Ok, Err}
+use Rattle.std.proofs.Common.{MatchResult, MutBor, refl, sym, ap, subst, ◌∙◌}
 use Rattle.rs_field.specs.declared.code.error.Error.{Error}
 use Rattle.rs_field.specs.code.Column.{Shard}
 use Rattle.rs_field.specs.code.Given.{Shards, Lists}
 use Rattle.rs_field.specs.code.OneCall.{Items}
 use Rattle.rs_field.specs.code.Outcome.{result_and_then}
 use Rattle.reed_solomon_simd.specs.declared.room_error.RoomError.{RoomError}
-use Rattle.reed_solomon_simd.specs.declared.room_error.RoomError.TheVariants.{Refused as refused, WrongLength as wrong_length, WrongNumberOfRooms as wrong_number}
-use Rattle.reed_solomon_simd.specs.Into.{EncodesInto, DecodesInto, Fills as fills_rooms, rooms_fit as fit_rooms, lengths_fit as fit_lengths}
+use Rattle.reed_solomon_simd.specs.declared.room_error.RoomError.TheVariants.{Refused as refused}
+use Rattle.reed_solomon_simd.specs.declared.room_error.RoomError.TheVariants.{WrongLength as wrong_length}
+use Rattle.reed_solomon_simd.specs.declared.room_error.RoomError.TheVariants.{WrongNumberOfRooms as wrong_number}
+use Rattle.reed_solomon_simd.specs.Into.{EncodesInto, DecodesInto, Fills as fills_rooms, rooms_fit as fit_rooms}
+use Rattle.reed_solomon_simd.specs.Into.{lengths_fit as fit_lengths}
 use Rattle.reed_solomon_simd.specs.Rooms.{loans_of}
 use Rattle.rs_c.specs.declared.fault.Fault.{Fault}
 use Rattle.rs_c.specs.declared.fault.Fault.TheVariants.{Refused}
@@ -19,7 +23,8 @@ abbrev pub told : Result (Unit {0}) RoomError → Result (Unit {0}) Fault
 told (Ok u) = Ok tt
 told (Err e) = Err (fault_of_room e)
 
-lengths-told : (shards : List Shard) (rooms : List (List ℕ)) → lengths_fit shards rooms ≡ told (fit_lengths shards rooms)
+lengths-told : (shards : List Shard) (rooms : List (List ℕ))
+    → lengths_fit shards rooms ≡ told (fit_lengths shards rooms)
 lengths-told [] rooms = refl
 lengths-told (shard ∷ shards) [] = refl
 lengths-told (shard ∷ shards) (room ∷ rooms) = by_test (lengths-told shards rooms) (length room == length shard)
@@ -34,43 +39,63 @@ fit-told : (shards : List Shard) (rooms : List (List ℕ)) → rooms_fit shards 
 fit-told shards rooms = by_test (length shards == length rooms)
   where
     by_test : (same : Bool) → ◌≡◌ {A = Result (Unit {0}) Fault}
-        (result_and_then (λ _. lengths_fit shards rooms) (cond {A = Result (Unit {0}) Fault} same (Ok tt) (Err (fault_of_room (wrong_number (length shards) (length rooms))))))
-        (told (result_and_then (λ _. fit_lengths shards rooms) (cond {A = Result (Unit {0}) RoomError} same (Ok tt) (Err (wrong_number (length shards) (length rooms))))))
+        (result_and_then (λ _. lengths_fit shards rooms)
+            (cond {A = Result (Unit {0}) Fault} same (Ok tt)
+            (Err (fault_of_room (wrong_number (length shards) (length rooms))))))
+        (told (result_and_then (λ _. fit_lengths shards rooms)
+            (cond {A = Result (Unit {0}) RoomError} same (Ok tt) (Err (wrong_number (length shards) (length rooms))))))
     by_test true = lengths-told shards rooms
     by_test false = refl
 
-fills-told : (shards : List Shard) (old new : List (List ℕ)) (answer : Result (Unit {0}) RoomError) → fills_rooms shards old new answer → Fills shards old new (told answer)
+fills-told : (shards : List Shard) (old new : List (List ℕ)) (answer : Result (Unit {0}) RoomError)
+    → fills_rooms shards old new answer → Fills shards old new (told answer)
 fills-told shards old new answer fills =
-    subst (λ (o : Result (Unit {0}) Fault). MatchResult o (λ _. (told answer ≡ Ok tt) × (new ≡ shards)) (λ fault. (told answer ≡ Err fault) × (new ≡ old)))
+    subst (λ (o : Result (Unit {0}) Fault).
+        MatchResult o (λ _. (told answer ≡ Ok tt) × (new ≡ shards)) (λ fault. (told answer ≡ Err fault) × (new ≡ old)))
     (sym (fit-told shards old)) (by_outcome (fit_rooms shards old) fills)
   where
-    by_outcome : (o : Result (Unit {0}) RoomError) → MatchResult o (λ _. (answer ≡ Ok tt) × (new ≡ shards)) (λ e. (answer ≡ Err e) × (new ≡ old))
-        → MatchResult (told o) (λ _. (told answer ≡ Ok tt) × (new ≡ shards)) (λ fault. (told answer ≡ Err fault) × (new ≡ old))
+    by_outcome : (o : Result (Unit {0}) RoomError)
+        → MatchResult o (λ _. (answer ≡ Ok tt) × (new ≡ shards)) (λ e. (answer ≡ Err e) × (new ≡ old))
+        → MatchResult (told o) (λ _. (told answer ≡ Ok tt) × (new ≡ shards))
+            (λ fault. (told answer ≡ Err fault) × (new ≡ old))
     by_outcome (Ok u) does = (ap told does.0, does.1)
     by_outcome (Err e) does = (ap told does.0, does.1)
 
 -- A result of `encode_into`, with its error replaced by its fault, is a result of an encode over arrays.
-pub encodes-told : (k r : ℕ) (originals : List Shard) (old new : List (List ℕ)) (answer : Result (Unit {0}) RoomError) (other : Result (Unit {0}) Fault)
+pub encodes-told : (k r : ℕ) (originals : List Shard) (old new : List (List ℕ)) (answer : Result (Unit {0}) RoomError)
+    (other : Result (Unit {0}) Fault)
     → other ≡ told answer → EncodesInto k r originals old new answer → EncodesArrays k r originals old new other
 encodes-told k r originals old new answer other is encodes =
-    subst (λ (o : Result (Unit {0}) Fault). EncodesArrays k r originals old new o) (sym is) (encodes.0, encodes.1, by_coded encodes.0 encodes.2)
+    subst (λ (o : Result (Unit {0}) Fault). EncodesArrays k r originals old new o) (sym is)
+        (encodes.0, encodes.1, by_coded encodes.0 encodes.2)
   where
-    by_coded : (coded : Result (List Shard) Error) → MatchResult coded (λ shards. fills_rooms shards old new answer) (λ e. (answer ≡ Err (refused e)) × (new ≡ old))
-        → MatchResult coded (λ shards. Fills shards old new (told answer)) (λ e. (told answer ≡ Err (Refused e)) × (new ≡ old))
+    by_coded : (coded : Result (List Shard) Error)
+        → MatchResult coded (λ shards. fills_rooms shards old new answer)
+        (λ e. (answer ≡ Err (refused e)) × (new ≡ old))
+        → MatchResult coded (λ shards. Fills shards old new (told answer))
+            (λ e. (told answer ≡ Err (Refused e)) × (new ≡ old))
     by_coded (Ok shards) fills = fills-told shards old new answer fills
     by_coded (Err e) does = (ap told does.0, does.1)
 
 -- A result of `decode_into`, with its error replaced by its fault, is a result of a decode over arrays.
-pub decodes-told : (k r : ℕ) (originals recovery : Items) (old new : List (List ℕ)) (answer : Result (Unit {0}) RoomError) (other : Result (Unit {0}) Fault)
-    → other ≡ told answer → DecodesInto k r originals recovery old new answer → DecodesArrays k r originals recovery old new other
+pub decodes-told : (k r : ℕ) (originals recovery : Items) (old new : List (List ℕ))
+    (answer : Result (Unit {0}) RoomError) (other : Result (Unit {0}) Fault)
+    → other ≡ told answer → DecodesInto k r originals recovery old new answer
+    → DecodesArrays k r originals recovery old new other
 decodes-told k r originals recovery old new answer other is decodes =
-    subst (λ (o : Result (Unit {0}) Fault). DecodesArrays k r originals recovery old new o) (sym is) (decodes.0, decodes.1, by_decoded decodes.0 decodes.2)
+    subst (λ (o : Result (Unit {0}) Fault). DecodesArrays k r originals recovery old new o) (sym is)
+        (decodes.0, decodes.1, by_decoded decodes.0 decodes.2)
   where
-    by_decoded : (decoded : Result Shards Error) → MatchResult decoded (λ restored. (items : Items) × Lists restored items × fills_rooms (map (λ item. item.1) items) old new answer)
+    by_decoded : (decoded : Result Shards Error)
+        → MatchResult decoded
+        (λ restored. (items : Items) × Lists restored items × fills_rooms (map (λ item. item.1) items) old new answer)
         (λ e. (answer ≡ Err (refused e)) × (new ≡ old))
-        → MatchResult decoded (λ restored. (items : Items) × Lists restored items × Fills (map (λ item. item.1) items) old new (told answer))
+        → MatchResult decoded
+            (λ restored. (items : Items) × Lists restored items
+            × Fills (map (λ item. item.1) items) old new (told answer))
         (λ e. (told answer ≡ Err (Refused e)) × (new ≡ old))
-    by_decoded (Ok restored) (items, listing, fills) = (items, listing, fills-told (map (λ (item : ℕ × Shard). item.1) items) old new answer fills)
+    by_decoded (Ok restored) (items, listing, fills) =
+        (items, listing, fills-told (map (λ (item : ℕ × Shard). item.1) items) old new answer fills)
     by_decoded (Err e) does = (ap told does.0, does.1)
 
 -- If the loans of the rooms are the same as before, the array still points to the same rooms.

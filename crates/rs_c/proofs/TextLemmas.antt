@@ -1,8 +1,10 @@
 -- Lemmas about pieces of a text that are written into a room one after another.
-use Rattle.std.proofs.Common.{◌≡◌, ℕ, ◌+◌, ◌-◌, ◌<◌, ◌≤◌, min, List, [], ◌++◌, length, take, drop, sym, ap, subst, ◌∙◌, inl, inr, arith, append_assoc, append-nil}
+use Rattle.std.proofs.Common.{◌≡◌, ℕ, ◌+◌, ◌-◌, ◌<◌, ◌≤◌, min, List, [], ◌++◌, length, take, drop, sym, ap, subst, ◌∙◌}
+use Rattle.std.proofs.Common.{inl, inr, arith, append_assoc, append-nil}
 use Rattle.std.proofs.Math.Seq.{take-nil, take-append-add, take-append_seam, drop-append_seam}
 use Rattle.std.proofs.lemmas.Bool.{cases_lt}
-use Rattle.std.proofs.lemmas.List.{take_all, drop_all, take-append-le, length-append, length-take, length-drop, drop-drop}
+use Rattle.std.proofs.lemmas.List.{take_all, drop_all, take-append-le, length-append, length-take, length-drop}
+use Rattle.std.proofs.lemmas.List.{drop-drop}
 use Rattle.rs_c.specs.Texts.{text_over, WritesText}
 
 -- If nothing was written, the room is unchanged.
@@ -10,7 +12,8 @@ pub over-nothing : (room : List ℕ) → text_over [] room ≡ room
 over-nothing room = ap (λ l. l ++ room) (take-nil (length room))
 
 -- A piece that begins after the end of the room changes nothing.
-pub over-past : (text piece old : List ℕ) → length old ≤ length text → text_over (text ++ piece) old ≡ text_over text old
+pub over-past : (text piece old : List ℕ) → length old ≤ length text
+    → text_over (text ++ piece) old ≡ text_over text old
 over-past text piece old past =
     ap (λ l. l ++ drop (length (text ++ piece)) old) (take-append-le (length old) text piece past)
     ∙ ap (λ l. take (length old) text ++ l)

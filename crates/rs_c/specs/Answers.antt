@@ -1,5 +1,6 @@
 -- The results of the calls over buffers, and the bytes that they write.
-use Rattle.std.specs.Prelude.{◌≡◌, ◌≢◌, ℕ, ◌+◌, ◌==◌, not, count_by, List, take, drop, length, nat_lt, if◌then◌else◌, Result, Ok, Err, MatchResult}
+use Rattle.std.specs.Prelude.{◌≡◌, ◌≢◌, ℕ, ◌+◌, ◌==◌, not, count_by, List, take, drop, length, nat_lt, if◌then◌else◌}
+use Rattle.std.specs.Prelude.{Result, Ok, Err, MatchResult}
 use Rattle.rs_field.specs.declared.code.error.Error.{Error}
 use Rattle.rs_field.specs.declared.code.error.Error.TheVariants.{NotEnoughShards, OutOfMemory}
 use Rattle.rs_field.specs.code.Outcome.{result_and_then}
@@ -20,14 +21,16 @@ Writes outcome bytes old new answer =
 -- length of the originals, then the length of the recovery shards
 abbrev pub encode_lengths : ℕ → ℕ → ℕ → ℕ → ℕ → Result (Unit {0}) Fault
 encode_lengths k r size originals recovery =
-    result_and_then (λ _. result_and_then (λ _. length_outcome r size recovery) (length_outcome k size originals)) (as_fault (counts_outcome k r))
+    result_and_then (λ _. result_and_then (λ _. length_outcome r size recovery) (length_outcome k size originals))
+        (as_fault (counts_outcome k r))
 
 -- the result of `rs_encode` and the bytes that it writes. If the counts and lengths are right, this is the result of
 -- one-call `encode` for these shards, one recovery shard after the other
 abbrev pub EncodesBuffer : ℕ → ℕ → ℕ → List ℕ → List ℕ → List ℕ → Result (Unit {0}) Fault → Type 0
 EncodesBuffer k r size originals old new answer =
     MatchResult (encode_lengths k r size (length originals) (length old))
-    (λ _. (coded : Result (List Shard) Error) × OneEncodeAnswers k r (shards_in_buffer k size originals) coded × Writes coded concatenation old new answer)
+    (λ _. (coded : Result (List Shard) Error) × OneEncodeAnswers k r (shards_in_buffer k size originals) coded
+        × Writes coded concatenation old new answer)
     (λ fault. (answer ≡ Err fault) × (new ≡ old))
 
 -- the result of the checks of a decode over buffers that come before the library is called: first the counts, then the
@@ -41,7 +44,9 @@ decode_lengths k r size originals recovery marks =
 abbrev pub DecodesBuffer : ℕ → ℕ → ℕ → List ℕ → List ℕ → List ℕ → List ℕ → Result (Unit {0}) Fault → Type 0
 DecodesBuffer k r size marks recovery old new answer =
     MatchResult (decode_lengths k r size (length old) (length recovery) (length marks))
-    (λ _. (decoded : Result Shards Error) × OneDecodeAnswers k r (marked_shards 0 size (take k marks) old) (marked_shards 0 size (drop k marks) recovery) decoded
+    (λ _. (decoded : Result Shards Error)
+        × OneDecodeAnswers k r (marked_shards 0 size (take k marks) old)
+        (marked_shards 0 size (drop k marks) recovery) decoded
     × Writes decoded (λ restored. with_restored restored 0 size k old) old new answer)
     (λ fault. (answer ≡ Err fault) × (new ≡ old))
 

@@ -8,6 +8,8 @@ use Rattle.rs_c.specs.declared.fault.Fault.TheVariants.{Refused, WrongLength, Wr
 -- the text of a fault
 abbrev pub text_of : Fault → List ℕ
 text_of (Refused error) = refusal_text error
-text_of (WrongLength wanted got) = codes "wrong length: expected " ++ decimal wanted ++ codes " bytes, got " ++ decimal got ++ codes " bytes"
-text_of (WrongNumberOfRooms wanted got) = codes "wrong number of rooms: expected " ++ decimal wanted ++ codes ", got " ++ decimal got
+text_of (WrongLength wanted got) =
+    codes "wrong length: expected " ++ decimal wanted ++ codes " bytes, got " ++ decimal got ++ codes " bytes"
+text_of (WrongNumberOfRooms wanted got) =
+    codes "wrong number of rooms: expected " ++ decimal wanted ++ codes ", got " ++ decimal got
 text_of TablesNotMade = codes "tables not made: rs_tables_make has not filled them"

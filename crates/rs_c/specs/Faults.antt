@@ -2,7 +2,12 @@
 use Rattle.std.specs.Prelude.{ℕ, Result, Ok, Err}
 use Rattle.std.specs.Result.{result_map_both}
 use Rattle.rs_field.specs.declared.code.error.Error.{Error}
-use Rattle.rs_field.specs.declared.code.error.Error.TheVariants.{OutOfMemory, UnsupportedShardCount, InvalidShardSize, DifferentShardSize, TooFewOriginalShards, TooManyOriginalShards, NotEnoughShards, InvalidOriginalShardIndex, InvalidRecoveryShardIndex, DuplicateOriginalShardIndex, DuplicateRecoveryShardIndex, InconsistentShards}
+use Rattle.rs_field.specs.declared.code.error.Error.TheVariants.{OutOfMemory, UnsupportedShardCount, InvalidShardSize}
+use Rattle.rs_field.specs.declared.code.error.Error.TheVariants.{DifferentShardSize, TooFewOriginalShards}
+use Rattle.rs_field.specs.declared.code.error.Error.TheVariants.{TooManyOriginalShards, NotEnoughShards}
+use Rattle.rs_field.specs.declared.code.error.Error.TheVariants.{InvalidOriginalShardIndex, InvalidRecoveryShardIndex}
+use Rattle.rs_field.specs.declared.code.error.Error.TheVariants.{DuplicateOriginalShardIndex}
+use Rattle.rs_field.specs.declared.code.error.Error.TheVariants.{DuplicateRecoveryShardIndex, InconsistentShards}
 use Rattle.rs_c.specs.declared.fault.Fault.{Fault}
 use Rattle.rs_c.specs.declared.fault.Fault.TheVariants.{Refused, WrongLength, WrongNumberOfRooms, TablesNotMade}
 use Rattle.rs_c.specs.declared.fault.RsFault.{RsFault}
@@ -17,14 +22,17 @@ numbers_of OutOfMemory = numbers 1 0 0 0
 numbers_of (UnsupportedShardCount original_count recovery_count) = numbers 2 original_count recovery_count 0
 numbers_of (InvalidShardSize shard_bytes) = numbers 3 shard_bytes 0 0
 numbers_of (DifferentShardSize shard_bytes got) = numbers 4 shard_bytes got 0
-numbers_of (TooFewOriginalShards original_count original_received_count) = numbers 5 original_count original_received_count 0
+numbers_of (TooFewOriginalShards original_count original_received_count) =
+    numbers 5 original_count original_received_count 0
 numbers_of (TooManyOriginalShards original_count) = numbers 6 original_count 0 0
-numbers_of (NotEnoughShards original_count original_received_count recovery_received_count) = numbers 7 original_count original_received_count recovery_received_count
+numbers_of (NotEnoughShards original_count original_received_count recovery_received_count) =
+    numbers 7 original_count original_received_count recovery_received_count
 numbers_of (InvalidOriginalShardIndex original_count index) = numbers 8 original_count index 0
 numbers_of (InvalidRecoveryShardIndex recovery_count index) = numbers 9 recovery_count index 0
 numbers_of (DuplicateOriginalShardIndex index) = numbers 10 index 0 0
 numbers_of (DuplicateRecoveryShardIndex index) = numbers 11 index 0 0
-numbers_of (InconsistentShards original_received_count recovery_received_count) = numbers 12 original_received_count recovery_received_count 0
+numbers_of (InconsistentShards original_received_count recovery_received_count) =
+    numbers 12 original_received_count recovery_received_count 0
 
 -- the number and the values of a result: zeros for a success
 abbrev pub fault_of : Result (Unit {0}) Fault → RsFault

@@ -7,7 +7,8 @@ use Rattle.rs_c.specs.Buffers.{marked_state, shard_place}
 
 -- the state of a decoder to which the marked shards were added
 abbrev pub state_in : MarkedBuffers → DecoderState
-state_in x = marked_state x.counts.original_count x.counts.recovery_count x.size x.original_marks.now x.originals.now x.recovery_marks.now x.recovery.now
+state_in x = marked_state x.counts.original_count x.counts.recovery_count x.size x.original_marks.now x.originals.now
+    x.recovery_marks.now x.recovery.now
 
 -- the bytes in the places of the lost originals, in order of index
 abbrev pub rooms_in : MarkedBuffers → List Shard

@@ -1,6 +1,8 @@
 -- The fault that each error of a call that writes into rooms becomes.
 use Rattle.reed_solomon_simd.specs.declared.room_error.RoomError.{RoomError}
-use Rattle.reed_solomon_simd.specs.declared.room_error.RoomError.TheVariants.{Refused as refused, WrongLength as wrong_length, WrongNumberOfRooms as wrong_number}
+use Rattle.reed_solomon_simd.specs.declared.room_error.RoomError.TheVariants.{Refused as refused}
+use Rattle.reed_solomon_simd.specs.declared.room_error.RoomError.TheVariants.{WrongLength as wrong_length}
+use Rattle.reed_solomon_simd.specs.declared.room_error.RoomError.TheVariants.{WrongNumberOfRooms as wrong_number}
 use Rattle.rs_c.specs.declared.fault.Fault.{Fault}
 use Rattle.rs_c.specs.declared.fault.Fault.TheVariants.{Refused, WrongLength, WrongNumberOfRooms}
 

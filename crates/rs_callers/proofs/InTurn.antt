@@ -1,5 +1,6 @@
 -- Listed shards are added one after another: the outcome after each shard.
-use Rattle.std.proofs.Common.{◌≡◌, refl, ℕ, ◌+◌, ◌<◌, Bool, true, false, List, ◌∷◌, length, map, drop, get_or, Result, Ok, Err, sym, ap, ◌∙◌, Vec, drop-cons, add-one}
+use Rattle.std.proofs.Common.{◌≡◌, refl, ℕ, ◌+◌, ◌<◌, Bool, true, false, List, ◌∷◌, length, map, drop, get_or, Result}
+use Rattle.std.proofs.Common.{Ok, Err, sym, ap, ◌∙◌, Vec, drop-cons, add-one}
 use Rattle.std.specs.List.{enumerate_from, filter}
 use Rattle.reed_solomon_simd.specs.declared.Error.{Error}
 use Rattle.reed_solomon_simd.specs.Column.{Shard}
@@ -10,12 +11,16 @@ use Rattle.reed_solomon_simd.specs.Outcome.{result_and_then}
 abbrev pub shards_from : {Y : Type 0} → ℕ → List (Vec ℕ Y) → List Shard
 shards_from n vectors = map (λ vector. vector.items) (drop n vectors)
 
-pub shards_from-next : {Y : Type 0} (n : ℕ) (vectors : List (Vec ℕ Y)) (d : Vec ℕ Y) → n < length vectors → shards_from n vectors ≡ (get_or vectors n d).items ∷ shards_from (n + 1) vectors
-shards_from-next n vectors d inside = ap (map (λ vector. vector.items)) (drop-cons vectors n d inside ∙ ap (λ m. get_or vectors n d ∷ drop m vectors) (sym (add-one n)))
+pub shards_from-next : {Y : Type 0} (n : ℕ) (vectors : List (Vec ℕ Y)) (d : Vec ℕ Y) → n < length vectors
+    → shards_from n vectors ≡ (get_or vectors n d).items ∷ shards_from (n + 1) vectors
+shards_from-next n vectors d inside =
+    ap (map (λ vector. vector.items))
+    (drop-cons vectors n d inside ∙ ap (λ m. get_or vectors n d ∷ drop m vectors) (sym (add-one n)))
 
 module _ {S T : Type 0} (add : S → T → Result S Error) where
   -- If an item is added without an error, the outcome is the outcome of adding the other items to the next state.
-  pub taken-next : (s next : S) (item : T) (items : List T) → add s item ≡ Ok next → one_by_one add s (item ∷ items) ≡ one_by_one add next items
+  pub taken-next : (s next : S) (item : T) (items : List T) → add s item ≡ Ok next
+      → one_by_one add s (item ∷ items) ≡ one_by_one add next items
   taken-next s next item items is = ap (result_and_then (λ t. one_by_one add t items)) is
 
 module _ {S : Type 0} (add : S → ℕ × Shard → Result S Error) (kept : ℕ × Shard → Bool) where
@@ -23,17 +28,21 @@ module _ {S : Type 0} (add : S → ℕ × Shard → Result S Error) (kept : ℕ 
   abbrev pub led_by : S → ℕ → List Shard → Result S Error
   led_by s n shards = one_by_one add s (filter kept (enumerate_from n shards))
 
-  -- If a shard that is kept is added without an error, the outcome is the outcome of adding the later shards to the next state.
-  pub kept-next : (s next : S) (n m index : ℕ) (shard : Shard) (shards rest : List Shard) → shards ≡ shard ∷ rest → index ≡ n → m ≡ n + 1 → kept (index, shard) ≡ true
+  -- If a shard that is kept is added without an error, the outcome is the outcome of adding the later shards to the
+  -- next state.
+  pub kept-next : (s next : S) (n m index : ℕ) (shard : Shard) (shards rest : List Shard) → shards ≡ shard ∷ rest
+      → index ≡ n → m ≡ n + 1 → kept (index, shard) ≡ true
       → add s (index, shard) ≡ Ok next → led_by s n shards ≡ led_by next m rest
   kept-next s next n m index shard shards rest is first after keeps taken = rw (is, after, ← first, keeps, taken) refl
 
   -- If a shard that is kept cannot be added, its error is the outcome.
-  pub kept-refused : (s : S) (n index : ℕ) (shard : Shard) (shards rest : List Shard) (e : Error) → shards ≡ shard ∷ rest → index ≡ n → kept (index, shard) ≡ true
+  pub kept-refused : (s : S) (n index : ℕ) (shard : Shard) (shards rest : List Shard) (e : Error)
+      → shards ≡ shard ∷ rest → index ≡ n → kept (index, shard) ≡ true
       → add s (index, shard) ≡ Err e → led_by s n shards ≡ Err e
   kept-refused s n index shard shards rest e is first keeps refused = rw (is, ← first, keeps, refused) refl
 
   -- If a shard is not kept, the outcome is the outcome of adding the later shards.
-  pub lost-next : (s : S) (n m index : ℕ) (shard : Shard) (shards rest : List Shard) → shards ≡ shard ∷ rest → index ≡ n → m ≡ n + 1 → kept (index, shard) ≡ false
+  pub lost-next : (s : S) (n m index : ℕ) (shard : Shard) (shards rest : List Shard) → shards ≡ shard ∷ rest → index ≡ n
+      → m ≡ n + 1 → kept (index, shard) ≡ false
       → led_by s n shards ≡ led_by s m rest
   lost-next s n m index shard shards rest is first after passes = rw (is, after, ← first, passes) refl

@@ -6,9 +6,12 @@ use Rattle.reed_solomon_simd.specs.OneCall.{Items}
 use Rattle.rs_callers.specs.Losing.{is_left, left_from}
 
 -- From one number on, the number of shards that are left is the number of indexes that are not lost.
-pub left-count : (n : ℕ) (lost : List ℕ) (shards : List Shard) → length (filter (is_left lost) (enumerate_from n shards)) ≡ left_from n (length shards) lost
+pub left-count : (n : ℕ) (lost : List ℕ) (shards : List Shard)
+    → length (filter (is_left lost) (enumerate_from n shards)) ≡ left_from n (length shards) lost
 left-count n lost [] = refl
-left-count n lost (x ∷ shards) = by_test (list_any (λ index. nat_eq index n) lost) (filter (is_left lost) (enumerate_from (n + 1) shards)) (left-count (n + 1) lost shards)
+left-count n lost (x ∷ shards) =
+    by_test (list_any (λ index. nat_eq index n) lost) (filter (is_left lost) (enumerate_from (n + 1) shards))
+    (left-count (n + 1) lost shards)
   where
     by_test : (gone : Bool) (rest : Items) → length rest ≡ left_from (n + 1) (length shards) lost
         → length (cond (not gone) ((n, x) ∷ rest) rest) ≡ cond gone 0 1 + left_from (n + 1) (length shards) lost

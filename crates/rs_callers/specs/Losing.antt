@@ -1,5 +1,6 @@
 -- Shards that are lost.
-use Rattle.std.specs.Prelude.{ℕ, zero, suc, ◌+◌, Bool, ◌&&◌, not, List, length, map, nat_lt, nat_eq, Some, None, if◌then◌else◌}
+use Rattle.std.specs.Prelude.{ℕ, zero, suc, ◌+◌, Bool, ◌&&◌, not, List, length, map, nat_lt, nat_eq, Some, None}
+use Rattle.std.specs.Prelude.{if◌then◌else◌}
 use Rattle.std.specs.List.{list_any, filter, enumerate_from}
 use Rattle.std.specs.declared.vec.Vec.{Vec}
 use Rattle.reed_solomon_simd.specs.Column.{Shard, shard_at}

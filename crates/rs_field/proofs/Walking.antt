@@ -15,10 +15,12 @@ pub use contract.Running.{tables}
 pub use Rattle.std.proofs.Math.Nat.{mul-le-mul_right}
 pub use Rattle.std.proofs.raw_atomic.Walks.{proved}
 pub use types.ByLocal.{alloc_all, env, free_all, get, lands_as, look_at, look_in_at, pass_all, sets, sets_last, through}
-pub use types.Kit.{ !, at_ret, await, done, drop, feq_i, feq_l, fjoin, fjoin3, fpack, frame, fsplit, fsplit3, group, join, keep, later, move, pick}
+pub use types.Kit.{!, at_ret, await, done, drop, feq_i, feq_l, fjoin, fjoin3, fpack, frame, fsplit, fsplit3, group}
+pub use types.Kit.{join, keep, later, move, pick}
 pub use types.Kit.{qed, raw, rewrite, some, split, split3, suffices, use0, use1, use2, ‵, ◌$◌, ◌∵◌, ◌⊛◌, use3}
 pub use types.Part.{agg, look_in, sub, whole}
-pub use types.Run.{addr, and_then, bin, blocks, enter, exec, first, fld, from, hop, lit, load, no_more, of_opd, returns, stop, unit_lit}
+pub use types.Run.{addr, and_then, bin, blocks, enter, exec, first, fld, from, hop, lit, load, no_more, of_opd, returns}
+pub use types.Run.{stop, unit_lit}
 pub use borrow.Table.Elements.{at, at_mul, length-take-le}
 pub use denote.Array.{Array}
 pub use denote.Builtin.{u8, usize, unit, RefOf}
@@ -40,4 +42,5 @@ pub use denote.Triple.Call.{calls_at}
 pub use denote.Triple.Clauses.{lasts}
 pub use denote.Triple.Spec.{triple_of}
 pub use denote.Triple.Table.{framed}
-pub use denote.Triple.Walked.{Goes-dropped, Goes-spent_ref, Stays, ends_at, says, stay_dropped, walk_of, stay_ref, Goes-ref}
+pub use denote.Triple.Walked.{Goes-dropped, Goes-spent_ref, Stays, ends_at, says, stay_dropped, walk_of, stay_ref}
+pub use denote.Triple.Walked.{Goes-ref}

@@ -1,4 +1,5 @@
--- Lemmas of rows: layers, parts, lending and layout. They use the lemmas of `words`, and the columns and powers of two of `code`.
+-- Lemmas of rows: layers, parts, lending and layout. They use the lemmas of `words`, and the columns and powers of two
+-- of `code`.
 pub mod LentChunks
 pub mod Runs
 pub mod FourRuns

@@ -1,4 +1,5 @@
--- Rows of chunks: their symbols, steps on them, layers, lending, and where shards lie. They rest on `words`, and on columns of shards of `code`.
+-- Rows of chunks: their symbols, steps on them, layers, lending, and where shards lie. They rest on `words`, and on
+-- columns of shards of `code`.
 pub mod Rows
 pub mod View
 pub mod MarkedRows

@@ -4,14 +4,16 @@ use Rattle.std.specs.Prelude.{Result, Ok, Err, is_ok, cond, MatchResult}
 use Rattle.std.specs.Result.{result_map_both}
 use Rattle.rs_field.specs.declared.code.error.Error.{Error}
 use Rattle.rs_field.specs.code.Given.{Shards}
-use Rattle.rs_field.specs.code.Decoder.{DecoderState, fresh_decoder, enough_given, Restored, NoneAgrees, DecodeAnswers, after_decode}
+use Rattle.rs_field.specs.code.Decoder.{DecoderState, fresh_decoder, enough_given, Restored, NoneAgrees, DecodeAnswers}
+use Rattle.rs_field.specs.code.Decoder.{after_decode}
 use Rattle.rs_field.specs.code.Counts.{next_power, is_low, low_rate}
 use Rattle.rs_field.specs.code.Placement.{placement, low_placement, decoder_rows}
 use Rattle.rs_rate.specs.Configured.{frame_of}
 
 -- The frame of a decoder of the low rate, with each number written out.
 pub low_frame-is : (k r : ℕ) → frame_of low_rate k r
-    ≡ record { row_count = next_power (next_power k + r); originals_from = 0; recovery_from = next_power k; zeros_from = k; zeros_to = next_power k }
+    ≡ record { row_count = next_power (next_power k + r); originals_from = 0; recovery_from = next_power k; zeros_from =
+        k; zeros_to = next_power k }
 unfolding frame_of placement low_placement is_low decoder_rows
 low_frame-is k r = refl
 
@@ -20,7 +22,8 @@ abbrev LeftBy : DecoderState → Result (Unit {0}) Error → DecoderState
 LeftBy s enough = cond (is_ok enough) (fresh_decoder s.configuration) s
 
 abbrev AnswersBy : DecoderState → Result (Unit {0}) Error → Result Shards Error → Type 0
-AnswersBy s enough result = MatchResult enough (λ _. MatchResult result (Restored s) (NoneAgrees s)) (λ e. result ≡ Err e)
+AnswersBy s enough result =
+    MatchResult enough (λ _. MatchResult result (Restored s) (NoneAgrees s)) (λ e. result ≡ Err e)
 
 -- If too few shards were added, `decode` does not change the state.
 pub after_decode-refused : (s : DecoderState) (e : Error) → Err e ≡ enough_given s → s ≡ after_decode s
@@ -33,7 +36,8 @@ decode_answers-refused s e refused = subst (λ enough. AnswersBy s enough (Err e
 pub after_decode-made : (s : DecoderState) → Ok tt ≡ enough_given s → after_decode s ≡ fresh_decoder s.configuration
 after_decode-made s made = sym (ap (LeftBy s) made)
 
-pub decode_answers-made : (s : DecoderState) (out : Shards) (told : Result ℕ Error) → Ok tt ≡ enough_given s → MatchResult told (λ _. Restored s out) (NoneAgrees s)
+pub decode_answers-made : (s : DecoderState) (out : Shards) (told : Result ℕ Error) → Ok tt ≡ enough_given s
+    → MatchResult told (λ _. Restored s out) (NoneAgrees s)
     → DecodeAnswers s (result_map_both (λ _. out) (λ e. e) told)
 decode_answers-made s out (Ok count) made restored = subst (λ enough. AnswersBy s enough (Ok out)) made restored
 decode_answers-made s out (Err e) made none = subst (λ enough. AnswersBy s enough (Err e)) made none

@@ -19,7 +19,8 @@ from_start : (n shift : ℕ) (f : ℕ → ℕ) (i : ℕ) → forward n shift f i
 from_start n shift f i = ap (λ s. forward n s f i) (sym (zero-add shift)) ∙ forward-moved n 0 shift f i
 
 -- The combination is copied to one more run of rows and transformed there to its values.
-pub further-more : (size start r wanted : ℕ) (first now copied new : ℕ → ℕ) → wanted ≡ min size (r - start) → size ≤ start
+pub further-more : (size start r wanted : ℕ) (first now copied new : ℕ → ℕ) → wanted ≡ min size (r - start)
+    → size ≤ start
     → ((q : ℕ) → q < size → now q ≡ first q)
     → ((i : ℕ) → size ≤ i → i < start → i < r → now i ≡ forward size 0 first (size + i))
     → ((q : ℕ) → q < size → copied (start + q) ≡ now q)
@@ -27,14 +28,16 @@ pub further-more : (size start r wanted : ℕ) (first now copied new : ℕ → �
     → ((i : ℕ) → i < wanted → new (start + i) ≡ forward size (start + size) (λ q. copied (start + q)) i)
     → ((i : ℕ) → i < start → new i ≡ copied i)
     → (i : ℕ) → size ≤ i → i < start + size → i < r → new i ≡ forward size 0 first (size + i)
-further-more size start r wanted first now copied new few after combination values copy kept transform kept_too i low high inside =
+further-more size start r wanted first now copied new few after combination values copy kept transform kept_too i low
+    high inside =
     elim (cases_lt i start) [
       | inl before ↦ kept_too i before ∙ kept i before ∙ values i low before inside
       | inr here ↦
           let place : start + (i - start) ≡ i = omega arith in
           let point : start + size + (i - start) ≡ size + i = omega arith in
           ap new (sym place) ∙ transform (i - start) (omega arith)
-          ∙ forward-same size (start + size) (λ q. copied (start + q)) first (i - start) (λ q h. copy q h ∙ combination q h)
+          ∙ forward-same size (start + size) (λ q. copied (start + q)) first (i - start)
+              (λ q h. copy q h ∙ combination q h)
           ∙ from_start size (start + size) first (i - start) ∙ ap (forward size 0 first) point
     ]
 
@@ -84,7 +87,8 @@ recovery_words k r old new words recovery (combination, originals, zeros, values
     )
 
 -- A column that satisfies `CodesLow` satisfies `CodesWords` of the low rate.
-pub codes_words : (k r : ℕ) (old new : ℕ → ℕ) → supports low_rate k r ≡ true → CodesLow k r (next_power k) old new → CodesWords low_rate k r old new
+pub codes_words : (k r : ℕ) (old new : ℕ → ℕ) → supports low_rate k r ≡ true → CodesLow k r (next_power k) old new
+    → CodesWords low_rate k r old new
 codes_words k r old new supported coded_column =
     recovery_words k r old new (up_to k old) (up_to r new) coded_column
     (λ j h. get-up_to k old j 0 h) (λ i h. get-up_to r new i 0 h) (low_fits k r supported).2

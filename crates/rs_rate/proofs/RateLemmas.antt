@@ -1,5 +1,7 @@
--- A rate uses the low or the high rate for two supported counts, and has the rows, the frame and the recovery shards of this rate.
-use Rattle.std.proofs.Common.{◌≡◌, ℕ, ◌+◌, ◌<◌, ◌≤◌, Bool, true, false, cond, List, refl, sym, ap, ap₂, ◌∙◌, subst, true≢false, arith}
+-- A rate uses the low or the high rate for two supported counts, and has the rows, the frame and the recovery shards of
+-- this rate.
+use Rattle.std.proofs.Common.{◌≡◌, ℕ, ◌+◌, ◌<◌, ◌≤◌, Bool, true, false, cond, List, refl, sym, ap, ap₂, ◌∙◌, subst}
+use Rattle.std.proofs.Common.{true≢false, arith}
 use Rattle.std.specs.Prelude.{slice_index, if◌then◌else◌}
 use Rattle.rs_field.specs.code.Counts.{Rate, next_power, supports, is_low, low_rate, high_rate, default_rate}
 use Rattle.rs_field.specs.code.Placement.{Placement, placement, low_placement, high_placement, block_rows, decoder_rows}
@@ -15,7 +17,8 @@ use Rattle.rs_rate.proofs.HighCounts.{high_turned}
 
 -- The frame of a decoder of the high rate, with each number written out.
 pub high_frame-is : (k r : ℕ) → frame_of high_rate k r
-    ≡ record { row_count = next_power (next_power r + k); originals_from = next_power r; recovery_from = 0; zeros_from = next_power r + k; zeros_to = 65536 }
+    ≡ record { row_count = next_power (next_power r + k); originals_from = next_power r; recovery_from = 0; zeros_from =
+        next_power r + k; zeros_to = 65536 }
 unfolding frame_of placement high_placement is_low decoder_rows
 high_frame-is k r = refl
 
@@ -25,7 +28,8 @@ unfolding is_low
 chooses true k r = refl
 chooses false k r = refl
 
--- If a rate uses the low rate for supported counts, the low rate supports the counts. If it uses the high rate, the high rate supports them.
+-- If a rate uses the low rate for supported counts, the low rate supports the counts. If it uses the high rate, the
+-- high rate supports them.
 chosen_low : (rate : Rate) (k r : ℕ) → supports rate k r ≡ true → is_low rate k r ≡ true → supports low_rate k r ≡ true
 chosen_low low_rate k r is low = is
 chosen_low high_rate k r is low = absurd (true≢false (sym low ∙ chooses false k r))
@@ -34,7 +38,8 @@ chosen_low default_rate k r is low =
     let powers = low_powers k r low in
     low_supported k r fits.0 fits.1 (omega (arith, fits.2, powers))
 
-chosen_high : (rate : Rate) (k r : ℕ) → supports rate k r ≡ true → is_low rate k r ≡ false → supports high_rate k r ≡ true
+chosen_high : (rate : Rate) (k r : ℕ) → supports rate k r ≡ true → is_low rate k r ≡ false
+    → supports high_rate k r ≡ true
 chosen_high low_rate k r is high = absurd (true≢false (sym (chooses true k r) ∙ high))
 chosen_high high_rate k r is high = is
 chosen_high default_rate k r is high =
@@ -42,12 +47,15 @@ chosen_high default_rate k r is high =
     let powers = high_powers k r high in
     sym (high_turned k r) ∙ low_supported r k fits.1 fits.0 (omega (arith, fits.2, powers))
 
-pub chosen : (rate : Rate) (k r : ℕ) (low : Bool) → supports rate k r ≡ true → is_low rate k r ≡ low → supports (low_or_high low) k r ≡ true
+pub chosen : (rate : Rate) (k r : ℕ) (low : Bool) → supports rate k r ≡ true → is_low rate k r ≡ low
+    → supports (low_or_high low) k r ≡ true
 chosen rate k r true is low = chosen_low rate k r is low
 chosen rate k r false is high = chosen_high rate k r is high
 
--- Two rates that use the same one of the low and the high rate have the same blocks, frame, placement and recovery words.
-pub block_alike : (one other : Rate) (k r : ℕ) → is_low one k r ≡ is_low other k r → block_rows one k r ≡ block_rows other k r
+-- Two rates that use the same one of the low and the high rate have the same blocks, frame, placement and recovery
+-- words.
+pub block_alike : (one other : Rate) (k r : ℕ) → is_low one k r ≡ is_low other k r
+    → block_rows one k r ≡ block_rows other k r
 unfolding block_rows
 block_alike one other k r same = ap (λ b. if b then next_power k else next_power r) same
 
@@ -57,33 +65,45 @@ unfolding block_rows is_low
 block-is true k r = refl
 block-is false k r = refl
 
-placement_alike : (one other : Rate) (k r : ℕ) → is_low one k r ≡ is_low other k r → placement one k r ≡ placement other k r
+placement_alike : (one other : Rate) (k r : ℕ) → is_low one k r ≡ is_low other k r
+    → placement one k r ≡ placement other k r
 unfolding placement
 placement_alike one other k r same = ap (λ b. if b then low_placement k else high_placement k r) same
 
-pub frame_alike : (one other : Rate) (k r : ℕ) → is_low one k r ≡ is_low other k r → frame_of one k r ≡ frame_of other k r
+pub frame_alike : (one other : Rate) (k r : ℕ) → is_low one k r ≡ is_low other k r
+    → frame_of one k r ≡ frame_of other k r
 unfolding frame_of decoder_rows
 frame_alike one other k r same =
     ap₂ (λ (n : ℕ) (p : Placement).
-    let frame : Frame = record { row_count = n; originals_from = p.originals_from; recovery_from = p.recovery_from; zeros_from = p.zeros_from; zeros_to = p.zeros_to } in frame)
-    (ap (λ b. if b then next_power (next_power k + r) else next_power (next_power r + k)) same) (placement_alike one other k r same)
+    let frame : Frame = record
+        { row_count = n; originals_from = p.originals_from; recovery_from = p.recovery_from; zeros_from =
+        p.zeros_from; zeros_to = p.zeros_to } in frame)
+    (ap (λ b. if b then next_power (next_power k + r) else next_power (next_power r + k)) same)
+        (placement_alike one other k r same)
 
-codes_alike : (one other : Rate) (k r : ℕ) (words polynomial : List ℕ) → is_low one k r ≡ is_low other k r → Codes one k r words polynomial → Codes other k r words polynomial
+codes_alike : (one other : Rate) (k r : ℕ) (words polynomial : List ℕ) → is_low one k r ≡ is_low other k r
+    → Codes one k r words polynomial → Codes other k r words polynomial
 codes_alike one other k r words polynomial alike codes =
     let same = placement_alike one other k r alike in
     record {
       degree = codes.degree ∙ ap (λ p. p.degree_bound) same;
       coefficients = codes.coefficients;
-      originals = λ j h. subst (λ (p : Placement). value polynomial (p.originals_from + j) ≡ slice_index words j) same (codes.originals j h);
-      zeros = λ x from to. codes.zeros x (subst (λ (p : Placement). p.zeros_from ≤ x) (sym same) from) (subst (λ (p : Placement). x < p.zeros_to) (sym same) to);
+      originals = λ j h. subst (λ (p : Placement). value polynomial (p.originals_from + j) ≡ slice_index words j) same
+          (codes.originals j h);
+      zeros = λ x from to.
+          codes.zeros x (subst (λ (p : Placement). p.zeros_from ≤ x) (sym same) from)
+          (subst (λ (p : Placement). x < p.zeros_to) (sym same) to);
     }
 
 recovery_alike : (one other : Rate) (k r : ℕ) (words recovery : List ℕ) → is_low one k r ≡ is_low other k r
     → AreRecoveryWords one k r words recovery → AreRecoveryWords other k r words recovery
 recovery_alike one other k r words recovery alike (polynomial, codes, values) =
-    (polynomial, codes_alike one other k r words polynomial alike codes, λ i inside. values i inside ∙ ap (λ p. value polynomial (p.recovery_from + i)) (placement_alike one other k r alike))
+    (polynomial, codes_alike one other k r words polynomial alike codes, λ i inside.
+        values i inside ∙ ap (λ p. value polynomial (p.recovery_from + i)) (placement_alike one other k r alike))
 
 pub shards_alike : (one other : Rate) (k r size : ℕ) (message recovery : List Shard) → is_low one k r ≡ is_low other k r
-    → AreRecovery (configuration one k r size) message recovery → AreRecovery (configuration other k r size) message recovery
+    → AreRecovery (configuration one k r size) message recovery
+    → AreRecovery (configuration other k r size) message recovery
 shards_alike one other k r size message recovery alike coded =
-    record { shards = coded.shards; words = λ j inside. recovery_alike one other k r (columns j message) (columns j recovery) alike (coded.words j inside) }
+    record { shards = coded.shards; words = λ j inside.
+        recovery_alike one other k r (columns j message) (columns j recovery) alike (coded.words j inside) }

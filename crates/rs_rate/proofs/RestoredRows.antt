@@ -15,28 +15,36 @@ use Rattle.rs_rate.specs.Decoding.{RestoresWords}
 use Rattle.rs_rate.specs.ShardRows.{word_in, row_chunk, shard_laid_out, shard_in_order}
 
 -- Words that are equal to restored words at the same rows are restored.
-restores_alike : (shape : DecoderShape) (marks : List Bool) (locator : List ℕ) (surplus : ℕ) (old new old_too new_too : ℕ → ℕ → ℕ → ℕ) (agrees : Bool)
+restores_alike : (shape : DecoderShape) (marks : List Bool) (locator : List ℕ) (surplus : ℕ)
+    (old new old_too new_too : ℕ → ℕ → ℕ → ℕ) (agrees : Bool)
     → ((k s i : ℕ) → old k s i ≡ old_too k s i) → ((k s i : ℕ) → new k s i ≡ new_too k s i)
-    → RestoresWords shape marks locator surplus old new agrees → RestoresWords shape marks locator surplus old_too new_too agrees
+    → RestoresWords shape marks locator surplus old new agrees
+    → RestoresWords shape marks locator surplus old_too new_too agrees
 restores_alike shape marks locator surplus old new old_too new_too agrees same_old same_new r =
-    subst (λ (f : ℕ → ℕ → ℕ → ℕ). RestoresWords shape marks locator surplus f new_too agrees) (fun_ext (λ k. fun_ext (λ s. fun_ext (λ i. same_old k s i))))
-    (subst (λ (f : ℕ → ℕ → ℕ → ℕ). RestoresWords shape marks locator surplus old f agrees) (fun_ext (λ k. fun_ext (λ s. fun_ext (λ i. same_new k s i)))) r)
+    subst (λ (f : ℕ → ℕ → ℕ → ℕ). RestoresWords shape marks locator surplus f new_too agrees)
+        (fun_ext (λ k. fun_ext (λ s. fun_ext (λ i. same_old k s i))))
+    (subst (λ (f : ℕ → ℕ → ℕ → ℕ). RestoresWords shape marks locator surplus old f agrees)
+        (fun_ext (λ k. fun_ext (λ s. fun_ext (λ i. same_new k s i)))) r)
 
-pub restores_read : (shape : DecoderShape) (marks : List Bool) (locator : List ℕ) (surplus n : ℕ) (before after : Chunks) (old new : ShardsRefMut) (agrees : Bool)
+pub restores_read : (shape : DecoderShape) (marks : List Bool) (locator : List ℕ) (surplus n : ℕ)
+    (before after : Chunks) (old new : ShardsRefMut) (agrees : Bool)
     → old.shard_len_64 ≡ n → new.shard_len_64 ≡ n → old.chunks.now ≡ before → new.chunks.now ≡ after
-    → RestoresWords shape marks locator surplus (word old) (word new) agrees → RestoresWords shape marks locator surplus (word_in before n) (word_in after n) agrees
+    → RestoresWords shape marks locator surplus (word old) (word new) agrees
+    → RestoresWords shape marks locator surplus (word_in before n) (word_in after n) agrees
 unfolding cell
 restores_read shape marks locator surplus n before after old new agrees len len_too was is restored =
     restores_alike shape marks locator surplus (word old) (word new) (word_in before n) (word_in after n) agrees
     (λ k s i. ap₂ (λ (m : ℕ) (xs : Chunks). symbol (chunk xs (i * m + k)) s) len was)
     (λ k s i. ap₂ (λ (m : ℕ) (xs : Chunks). symbol (chunk xs (i * m + k)) s) len_too is) restored
 
--- If a row belongs to a missing original, the tail of its shard was moved in at most one row step, and no other row was changed.
+-- If a row belongs to a missing original, the tail of its shard was moved in at most one row step, and no other row was
+-- changed.
 pub record TailMoved (marks : List Bool) (size p : ℕ) (old new : Chunks) (before after : Steps) : Type 0 where
   pub moved_here : is_marked marks p ≡ true → shard_in_order new size p ≡ shard_laid_out old size p
   pub others : (i k : ℕ) → i ≢ p → k < row_len size → row_chunk new size i k ≡ row_chunk old size i k
   pub counts : CountsUpTo 1 0 0 before after
 
 -- Entries that are equal at all rows have the same locator.
-pub locator_same : (rows : ℕ) (old entries new : ℕ → ℕ) → ((y : ℕ) → y < rows → entries y ≡ old y) → IsLocatorBelow rows entries new → IsLocatorBelow rows old new
+pub locator_same : (rows : ℕ) (old entries new : ℕ → ℕ) → ((y : ℕ) → y < rows → entries y ≡ old y)
+    → IsLocatorBelow rows entries new → IsLocatorBelow rows old new
 locator_same rows old entries new same l x hx = l x hx ∙ ap (λ n. n % 65535) (log_sum-same rows entries old x same)

@@ -8,7 +8,8 @@ use Rattle.rs_field.specs.words.StepBounds.{CountsUpTo}
 use Rattle.rs_field.specs.code.Bounds.{encode_steps_at}
 use Rattle.rs_field.specs.declared.words.steps.Steps.{Steps}
 
--- a combination of m basis polynomials has the k old words as its values at the points from 0 on and is zero at the points from k to m - 1, and the r new words are its values at the points from m on
+-- a combination of m basis polynomials has the k old words as its values at the points from 0 on and is zero at the
+-- points from k to m - 1, and the r new words are its values at the points from m on
 abbrev pub CodesLow : ℕ → ℕ → ℕ → (ℕ → ℕ) → (ℕ → ℕ) → Type 0
 CodesLow k r m old new =
     (combination : ℕ → ℕ)
@@ -16,7 +17,8 @@ CodesLow k r m old new =
     × ((j : ℕ) → k ≤ j → j < m → forward m 0 combination j ≡ 0)
     × ((i : ℕ) → i < r → new i ≡ forward m 0 combination (m + i))
 
--- the first m words are the sum of n combinations of m basis polynomials; the values of combination u at the m points from (u + 1) * m on are the old words from u * m on, and zero after the last of the k old words
+-- the first m words are the sum of n combinations of m basis polynomials; the values of combination u at the m points
+-- from (u + 1) * m on are the old words from u * m on, and zero after the last of the k old words
 abbrev pub SumsBlocks : ℕ → ℕ → ℕ → (ℕ → ℕ) → (ℕ → ℕ) → Type 0
 SumsBlocks m n k old sums =
     (combinations : ℕ → ℕ → ℕ)
@@ -32,6 +34,7 @@ CodesWords rate k r old new = AreRecoveryWords rate k r (up_to k old) (up_to r n
 abbrev pub further_blocks : ℕ → ℕ → ℕ
 further_blocks m rows = (rows - m) / m
 
--- coding counts at most the row steps of an encode without the steps that move tails, of which there is one for each recovery shard
+-- coding counts at most the row steps of an encode without the steps that move tails, of which there is one for each
+-- recovery shard
 abbrev pub CodingCounts : Rate → ℕ → ℕ → Steps → Steps → Type 0
 CodingCounts rate k r old new = CountsUpTo (encode_steps_at rate k r - r) 0 0 old new

@@ -24,29 +24,35 @@ configuration_at rate c = configuration rate c.original_count c.recovery_count c
 -- the configuration of a rate for these counts and this size
 abbrev pub rate_configuration : Rate → ℕ → ℕ → ℕ → Configuration
 rate_configuration rate k r size =
-    record { original_count = k; recovery_count = r; shard_bytes = size; is_low = is_low rate k r; block_rows = block_rows rate k r }
+    record { original_count = k; recovery_count = r; shard_bytes = size; is_low = is_low rate k r; block_rows =
+        block_rows rate k r }
 
 -- the low rate or the high rate
 abbrev pub low_or_high : Bool → Rate
 low_or_high low = if low then low_rate else high_rate
 
--- a configuration is valid: its size is positive and even, its rate, which is the low or the high rate, supports its counts, and its blocks are those of this rate
+-- a configuration is valid: its size is positive and even, its rate, which is the low or the high rate, supports its
+-- counts, and its blocks are those of this rate
 pub record IsConfigured (c : Configuration) : Type 0 where
   pub positive : 0 < c.shard_bytes
   pub even : c.shard_bytes % 2 ≡ 0
   pub supported : supports (low_or_high c.is_low) c.original_count c.recovery_count ≡ true
   pub block : c.block_rows ≡ block_rows (low_or_high c.is_low) c.original_count c.recovery_count
 
--- the frame of a decoder of this rate: its number of rows, and the rows of originals, of recovery shards and of known zeros
+-- the frame of a decoder of this rate: its number of rows, and the rows of originals, of recovery shards and of known
+-- zeros
 unfoldable pub frame_of : Rate → ℕ → ℕ → Frame
 frame_of rate k r =
     let p = placement rate k r in
-    record { row_count = decoder_rows rate k r; originals_from = p.originals_from; recovery_from = p.recovery_from; zeros_from = p.zeros_from; zeros_to = p.zeros_to }
+    record { row_count = decoder_rows rate k r; originals_from = p.originals_from; recovery_from =
+        p.recovery_from; zeros_from = p.zeros_from; zeros_to = p.zeros_to }
 
 -- the shape of an encoder with this configuration
 abbrev pub shape_of_encoder : Configuration → EncoderShape
-shape_of_encoder c = record { configuration = c; row_count = encoder_rows (low_or_high c.is_low) c.original_count c.recovery_count }
+shape_of_encoder c =
+    record { configuration = c; row_count = encoder_rows (low_or_high c.is_low) c.original_count c.recovery_count }
 
 -- the shape of a decoder with this configuration
 abbrev pub shape_of_decoder : Configuration → DecoderShape
-shape_of_decoder c = record { configuration = c; frame = frame_of (low_or_high c.is_low) c.original_count c.recovery_count }
+shape_of_decoder c =
+    record { configuration = c; frame = frame_of (low_or_high c.is_low) c.original_count c.recovery_count }

@@ -11,7 +11,8 @@ use Rattle.rs_rate.specs.ShardRows.{chunk_count}
 abbrev pub shape_chunks : DecoderShape → ℕ
 shape_chunks shape = chunk_count shape.frame.row_count shape.configuration.shard_bytes
 
--- the room of a decoder's memory: for how many chunks, for the marks of how many rows, and for how many entries of the locator
+-- the room of a decoder's memory: for how many chunks, for the marks of how many rows, and for how many entries of the
+-- locator
 pub record DecoderRoom : Type 0 where
   pub chunks : ℕ
   pub rows : ℕ
@@ -37,7 +38,8 @@ pub record HasRoom (room : DecoderRoom) (count size : ℕ) : Type 0 where
   pub rows : count ≤ room.rows
   pub entries : count ≤ room.entries
 
--- memory is laid out for a shape: it has the chunks, the marks and the entries of all rows of the shape, and room for these
+-- memory is laid out for a shape: it has the chunks, the marks and the entries of all rows of the shape, and room for
+-- these
 pub record IsLaidOut (shape : DecoderShape) (memory : DecoderMemory) : Type 0 where
   pub whole : vec_len memory.chunks ≡ shape_chunks shape
   pub marked : mark_count memory.marks ≡ shape.frame.row_count

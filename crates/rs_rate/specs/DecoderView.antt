@@ -15,8 +15,10 @@ abbrev pub state_over : Rate → DecoderShape → List Bool → Chunks → Decod
 state_over rate s marks chunks =
     record {
       configuration = configuration_at rate s.configuration;
-      originals = given_shards marks chunks s.configuration.shard_bytes s.frame.originals_from s.configuration.original_count;
-      recovery = given_shards marks chunks s.configuration.shard_bytes s.frame.recovery_from s.configuration.recovery_count;
+      originals = given_shards marks chunks s.configuration.shard_bytes s.frame.originals_from
+          s.configuration.original_count;
+      recovery = given_shards marks chunks s.configuration.shard_bytes s.frame.recovery_from
+          s.configuration.recovery_count;
     }
 
 -- the state of a decoder of this rate over the rows
@@ -25,7 +27,8 @@ decoder_state rate rows = state_over rate rows.shape (given_marks rows.memory.ma
 
 -- the restored originals of a decoder, which are in the marked rows
 abbrev pub restored_over : DecoderShape → List Bool → Chunks → Shards
-restored_over s marks chunks = restored_shards marks chunks s.configuration.shard_bytes s.frame.originals_from s.configuration.original_count
+restored_over s marks chunks =
+    restored_shards marks chunks s.configuration.shard_bytes s.frame.originals_from s.configuration.original_count
 
 -- the restored originals in a decoder's rows after a round
 abbrev pub restored_by_rows : DecoderRows → Shards

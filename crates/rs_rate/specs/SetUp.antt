@@ -7,11 +7,13 @@ use Rattle.rs_rate.specs.declared.values.configuration.Configuration.{Configurat
 use Rattle.rs_rate.specs.Configured.{configuration_at, rate_configuration, low_or_high, IsConfigured}
 use Rattle.rs_rate.specs.ShardRows.{memory_outcome, chunk_count}
 
--- a configuration is valid for a rate, which chooses for its counts the low or the high rate that the configuration names
+-- a configuration is valid for a rate, which chooses for its counts the low or the high rate that the configuration
+-- names
 pub record IsSetUp (rate : Rate) (c : Configuration) : Type 0 where
   pub valid : validation_outcome (configuration_at rate c) ≡ Ok tt
   pub chosen : c ≡ rate_configuration rate c.original_count c.recovery_count c.shard_bytes
-  pub alike : is_low (low_or_high c.is_low) c.original_count c.recovery_count ≡ is_low rate c.original_count c.recovery_count
+  pub alike : is_low (low_or_high c.is_low) c.original_count c.recovery_count
+      ≡ is_low rate c.original_count c.recovery_count
   pub configured : IsConfigured c
 
 -- the number of rows of a configuration, from the function that gives the number of rows for a rate and two counts

@@ -7,10 +7,13 @@ use Rattle.rs_rate.specs.declared.values.shapes.EncoderShape.{EncoderShape}
 use Rattle.rs_rate.specs.declared.values.shapes.DecoderShape.{DecoderShape}
 use Rattle.rs_rate.specs.declared.values.shapes.Frame.{Frame}
 
--- a shape is right for an encoder: its configuration is valid, and it has enough rows for the originals and for the recovery shards
+-- a shape is right for an encoder: its configuration is valid, and it has enough rows for the originals and for the
+-- recovery shards
 pub record EncoderCanBeLaid (shape : EncoderShape) : Type 0 where
   pub configured : IsConfigured shape.configuration
-  pub rows : shape.row_count ≡ encoder_rows (low_or_high shape.configuration.is_low) shape.configuration.original_count shape.configuration.recovery_count
+  pub rows : shape.row_count
+      ≡ encoder_rows (low_or_high shape.configuration.is_low) shape.configuration.original_count
+      shape.configuration.recovery_count
   pub originals : shape.configuration.original_count ≤ shape.row_count
   pub recovery : shape.configuration.recovery_count ≤ shape.row_count
 
@@ -22,7 +25,8 @@ original_row frame index = frame.originals_from + index
 abbrev pub recovery_row : Frame → ℕ → ℕ
 recovery_row frame index = frame.recovery_from + index
 
--- the number of rows of a frame is a power of two and at most 65536, and k originals and r recovery shards are in different rows
+-- the number of rows of a frame is a power of two and at most 65536, and k originals and r recovery shards are in
+-- different rows
 pub record HasPlaces (k r : ℕ) (frame : Frame) : Type 0 where
   pub power : next_power frame.row_count ≡ frame.row_count
   pub few : frame.row_count ≤ 65536
@@ -33,6 +37,10 @@ pub record HasPlaces (k r : ℕ) (frame : Frame) : Type 0 where
 -- a shape is right for a decoder: its configuration is valid, and its frame has a row for each of its shards
 pub record DecoderCanBeLaid (shape : DecoderShape) : Type 0 where
   pub configured : IsConfigured shape.configuration
-  pub rows : shape.frame.row_count ≡ decoder_rows (low_or_high shape.configuration.is_low) shape.configuration.original_count shape.configuration.recovery_count
-  pub frame : shape.frame ≡ frame_of (low_or_high shape.configuration.is_low) shape.configuration.original_count shape.configuration.recovery_count
+  pub rows : shape.frame.row_count
+      ≡ decoder_rows (low_or_high shape.configuration.is_low) shape.configuration.original_count
+      shape.configuration.recovery_count
+  pub frame : shape.frame
+      ≡ frame_of (low_or_high shape.configuration.is_low) shape.configuration.original_count
+      shape.configuration.recovery_count
   pub places : HasPlaces shape.configuration.original_count shape.configuration.recovery_count shape.frame

@@ -1,5 +1,6 @@
 -- Any k words are coded by a polynomial, so they have recovery words.
-use Rattle.std.proofs.Common.{rules, ◌≡◌, ℕ, zero, suc, ◌+◌, ◌-◌, ◌^◌, ◌<◌, ◌≤◌, Bool, true, cond, List, [], ◌∷◌, length, refl, ap, ◌∙◌, arith, pow_mono}
+use Rattle.std.proofs.Common.{rules, ◌≡◌, ℕ, zero, suc, ◌+◌, ◌-◌, ◌^◌, ◌<◌, ◌≤◌, Bool, true, cond, List, [], ◌∷◌}
+use Rattle.std.proofs.Common.{length, refl, ap, ◌∙◌, arith, pow_mono}
 use Rattle.std.specs.Prelude.{slice_index, nat_lt}
 use Rattle.std.proofs.lemmas.Bool.{cases_lt, lt-ltb, le-ltb}
 use Rattle.std.proofs.lemmas.Grind.{common_steps}
@@ -28,12 +29,14 @@ first-word : (k : ℕ) (f : ℕ → ℕ) → ((i : ℕ) → i < k → f i < 2 ^ 
 first-word k f words i = grind (arith, common_steps, cases_lt, first-below, first-past)
 
 -- In a frame, any k words are coded by a polynomial.
-pub coded_in : (p : Placement) (k r e bound zeros_end : ℕ) (words : List ℕ) → IsFrame p k r e bound zeros_end → ((j : ℕ) → j < k → slice_index words j < 65536)
+pub coded_in : (p : Placement) (k r e bound zeros_end : ℕ) (words : List ℕ) → IsFrame p k r e bound zeros_end
+    → ((j : ℕ) → j < k → slice_index words j < 65536)
     → (q : List ℕ) × CodesIn p k bound zeros_end words q
 coded_in p k r e bound zeros_end words f are_words =
     let room : 2 ^ e ≤ 2 ^ 16 = pow_mono f.few in
     let zeros : (p.zeros_from ≤ zeros_end) × (zeros_end ≤ 2 ^ e) = f.zeros in
-    let q = interpolated p.originals_from bound (first k (λ j. slice_index words j)) (omega arith) (λ i h. first-word k (λ j. slice_index words j) are_words i) in (
+    let q = interpolated p.originals_from bound (first k (λ j. slice_index words j)) (omega arith)
+        (λ i h. first-word k (λ j. slice_index words j) are_words i) in (
       q.0,
       record {
         degree = q.1.degree;
@@ -41,12 +44,14 @@ coded_in p k r e bound zeros_end words f are_words =
         originals = λ j hj. q.1.at j (omega arith) ∙ first-below k (λ i. slice_index words i) j hj;
         zeros = λ x above below.
             let back : x ≡ p.originals_from + (x - p.originals_from) = omega arith in
-            ap (value q.0) back ∙ q.1.at (x - p.originals_from) (omega arith) ∙ first-past k (λ i. slice_index words i) (x - p.originals_from) (omega arith);
+            ap (value q.0) back ∙ q.1.at (x - p.originals_from) (omega arith)
+                ∙ first-past k (λ i. slice_index words i) (x - p.originals_from) (omega arith);
       },
     )
 
 -- Any k words have a polynomial that codes the words.
-pub coded : (rate : Rate) (k r : ℕ) (words : List ℕ) → supports rate k r ≡ true → ((j : ℕ) → j < k → slice_index words j < 65536)
+pub coded : (rate : Rate) (k r : ℕ) (words : List ℕ) → supports rate k r ≡ true
+    → ((j : ℕ) → j < k → slice_index words j < 65536)
     → (p : List ℕ) × Codes rate k r words p
 coded rate k r words is are_words =
     let f = has_frame rate k r is in
@@ -55,7 +60,8 @@ coded rate k r words is are_words =
     (p.0, p.1)
 
 -- The words that a polynomial codes are below 65536.
-pub coded_lt : (rate : Rate) (k r : ℕ) (words p : List ℕ) → Codes rate k r words p → (j : ℕ) → j < k → slice_index words j < 65536
+pub coded_lt : (rate : Rate) (k r : ℕ) (words p : List ℕ) → Codes rate k r words p → (j : ℕ) → j < k
+    → slice_index words j < 65536
 coded_lt rate k r words p codes j hj = search (rules, value_lt, words_from)
 
 -- The first n values of a function.
@@ -75,9 +81,11 @@ length-values_of zero f = refl
 length-values_of (suc n) f = ap suc (length-values_of n (λ i. f (suc i)))
 
 -- Any k words have recovery words.
-pub recovered : (rate : Rate) (k r : ℕ) (words : List ℕ) → supports rate k r ≡ true → ((j : ℕ) → j < k → slice_index words j < 65536)
+pub recovered : (rate : Rate) (k r : ℕ) (words : List ℕ) → supports rate k r ≡ true
+    → ((j : ℕ) → j < k → slice_index words j < 65536)
     → (recovery : List ℕ) × (length recovery ≡ r) × AreRecoveryWords rate k r words recovery
 recovered rate k r words is are_words =
     let p = coded rate k r words is are_words in
     let f : ℕ → ℕ = λ i. value p.0 ((placement rate k r).recovery_from + i) in
-    (values_of r (λ i. value p.0 ((placement rate k r).recovery_from + i)), length-values_of r f, (p.0, p.1, λ i hi. values_of-at r (λ i. value p.0 ((placement rate k r).recovery_from + i)) i hi))
+    (values_of r (λ i. value p.0 ((placement rate k r).recovery_from + i)), length-values_of r f,
+        (p.0, p.1, λ i hi. values_of-at r (λ i. value p.0 ((placement rate k r).recovery_from + i)) i hi))

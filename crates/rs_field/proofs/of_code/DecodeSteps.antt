@@ -7,10 +7,13 @@ use Rattle.rs_field.specs.declared.words.steps.Steps.{Steps}
 use Rattle.rs_field.proofs.of_words.Counting.{counted}
 
 -- The steps of a locator, three transforms and four steps for each row are within the bound of a decode.
-pub counts_decode : (w : ℕ) (a b c : Steps) → LocatorCounts a b → CountsUpTo (3 * transform_steps w + 4 * w) 0 0 b c → CountsUpTo (decode_steps w) 1048576 65536 a c
+pub counts_decode : (w : ℕ) (a b c : Steps) → LocatorCounts a b → CountsUpTo (3 * transform_steps w + 4 * w) 0 0 b c
+    → CountsUpTo (decode_steps w) 1048576 65536 a c
 unfolding transform_steps decode_steps
 counts_decode w a b c p q =
-    let thirds : 3 * (w / 2) * log2 w ≤ 3 * w / 2 * log2 w = mul-le-mul_right (log2 w) (let halves : 3 * (w / 2) ≤ 3 * w / 2 = omega arith in halves) in
+    let thirds : 3 * (w / 2) * log2 w ≤ 3 * w / 2 * log2 w =
+        mul-le-mul_right (log2 w) (let halves : 3 * (w / 2) ≤ 3 * w / 2 = omega arith in halves) in
     let same : 3 * (w / 2 * log2 w) ≡ 3 * (w / 2) * log2 w = sym (mul_assoc 3 (w / 2) (log2 w)) in
-    counted (decode_steps w) 1048576 65536 a c (omega arith, omega (arith, thirds, same, p.row_steps_most, q.row_steps_most))
+    counted (decode_steps w) 1048576 65536 a c
+        (omega arith, omega (arith, thirds, same, p.row_steps_most, q.row_steps_most))
     (omega arith, omega arith) (omega arith, omega arith)

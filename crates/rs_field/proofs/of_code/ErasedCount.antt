@@ -1,5 +1,6 @@
 -- The erased points, the given shards and the known zeros are together as many as the rows.
-use Rattle.std.proofs.Common.{rules, ◌≡◌, ℕ, zero, suc, ◌+◌, ◌-◌, ◌*◌, ◌^◌, ◌<◌, ◌≤◌, ◌⊎◌, Bool, cond, length, refl, sym, ap, ◌∙◌, arith, inl, inr, add-zero, add-suc}
+use Rattle.std.proofs.Common.{rules, ◌≡◌, ℕ, zero, suc, ◌+◌, ◌-◌, ◌*◌, ◌^◌, ◌<◌, ◌≤◌, ◌⊎◌, Bool, cond, length, refl}
+use Rattle.std.proofs.Common.{sym, ap, ◌∙◌, arith, inl, inr, add-zero, add-suc}
 use Rattle.std.specs.Prelude.{is_some}
 use Rattle.std.proofs.lemmas.Bool.{cases_eq}
 use Rattle.std.proofs.lemmas.Grind.{common_steps}
@@ -12,19 +13,22 @@ use Rattle.rs_field.proofs.of_code.Frame.{IsFrame}
 use Rattle.rs_field.proofs.of_words.LocatorProduct.{marked, marked-more, marked-same, AreMarks}
 
 -- The marks of the n rows: each row is marked except the known zeros and the places of given shards.
-pub record AreErasures (p : Placement) (k r n zeros_end : ℕ) (originals recovery : Shards) (marks : ℕ → ℕ) : Type 0 where
+pub record AreErasures (p : Placement) (k r n zeros_end : ℕ) (originals recovery : Shards)
+    (marks : ℕ → ℕ) : Type 0 where
   pub are_marks : AreMarks n marks
   pub own : (i : ℕ) → i < k → marks (p.originals_from + i) ≡ cond (is_some (originals i)) 0 1
   pub coded : (i : ℕ) → i < r → marks (p.recovery_from + i) ≡ cond (is_some (recovery i)) 0 1
   pub known : (x : ℕ) → p.zeros_from ≤ x → x < zeros_end → marks x ≡ 0
-  pub other : (x : ℕ) → x < n → (x < p.originals_from) ⊎ (p.originals_from + k ≤ x) → (x < p.recovery_from) ⊎ (p.recovery_from + r ≤ x)
+  pub other : (x : ℕ) → x < n → (x < p.originals_from) ⊎ (p.originals_from + k ≤ x) → (x < p.recovery_from)
+      ⊎ (p.recovery_from + r ≤ x)
       → (x < p.zeros_from) ⊎ (zeros_end ≤ x) → marks x ≡ 1
 
 total-marked : (n : ℕ) (marks : ℕ → ℕ) → AreMarks n marks → length (marked n marks) ≡ total n marks
 unfolding total marked
 total-marked zero marks m = refl
 total-marked (suc n) marks m =
-    grind (arith, common_steps, cases_eq, marked-more, marked-same, total-marked n marks (record { mark = λ y hy. m.mark y (omega arith) }))
+    grind (arith, common_steps, cases_eq, marked-more, marked-same, total-marked n marks
+        (record { mark = λ y hy. m.mark y (omega arith) }))
 
 -- If n further entries are all m, the sum grows by n times m.
 past_same : (m a n b : ℕ) (f : ℕ → ℕ) → a + n ≡ b → ((x : ℕ) → a ≤ x → x < b → f x ≡ m) → total b f ≡ total a f + n * m
@@ -38,22 +42,28 @@ one_of_two : (b : Bool) → cond b 0 1 + cond b 1 0 ≡ 1
 one_of_two b = search rules
 
 -- If n further entries are one exactly where the map has no shard, the sum and the number of shards grow together by n.
-past_given : (a n : ℕ) (f : ℕ → ℕ) (g : Shards) → ((i : ℕ) → i < n → f (a + i) ≡ cond (is_some (g i)) 0 1) → total (a + n) f + count_below n g ≡ total a f + n
+past_given : (a n : ℕ) (f : ℕ → ℕ) (g : Shards) → ((i : ℕ) → i < n → f (a + i) ≡ cond (is_some (g i)) 0 1)
+    → total (a + n) f + count_below n g ≡ total a f + n
 past_given a zero f g is = omega (arith, ap (λ k. total k f) (add-zero a), count_below-zero g)
 past_given a (suc n) f g is =
     let rest : total (a + n) f + count_below n g ≡ total a f + n = past_given a n f g (λ i h. is i (omega arith)) in
-    omega (arith, rest, ap (λ k. total k f) (add-suc a n), total-suc (a + n) f, count_below-suc n g, is n (omega arith), one_of_two (is_some (g n)))
+    omega (arith, rest, ap (λ k. total k f) (add-suc a n), total-suc (a + n) f, count_below-suc n g, is n
+        (omega arith), one_of_two (is_some (g n)))
 
--- In a frame, the erased points, the coefficients and the given shards are together as many as the rows and the originals.
+-- In a frame, the erased points, the coefficients and the given shards are together as many as the rows and the
+-- originals.
 pub erased_count : (p : Placement) (k r e bound zeros_end : ℕ) (originals recovery : Shards) (marks : ℕ → ℕ)
     → IsFrame p k r e bound zeros_end → AreErasures p k r (2 ^ e) zeros_end originals recovery marks
     → length (marked (2 ^ e) marks) + bound + (count_below k originals + count_below r recovery) ≡ 2 ^ e + k
 erased_count p k r e bound zeros_end originals recovery marks f h =
     let erased : length (marked (2 ^ e) marks) ≡ total (2 ^ e) marks = total-marked (2 ^ e) marks h.are_marks in
-    let own : total (p.originals_from + k) marks + count_below k originals ≡ total p.originals_from marks + k = past_given p.originals_from k marks originals h.own in
-    let coded : total (p.recovery_from + r) marks + count_below r recovery ≡ total p.recovery_from marks + r = past_given p.recovery_from r marks recovery h.coded in
+    let own : total (p.originals_from + k) marks + count_below k originals ≡ total p.originals_from marks + k =
+        past_given p.originals_from k marks originals h.own in
+    let coded : total (p.recovery_from + r) marks + count_below r recovery ≡ total p.recovery_from marks + r =
+        past_given p.recovery_from r marks recovery h.coded in
     let none =
-    past_same 0 (p.originals_from + k) (zeros_end - (p.originals_from + k)) zeros_end marks (omega arith) (λ x above below. h.known x (omega arith) below) in
+    past_same 0 (p.originals_from + k) (zeros_end - (p.originals_from + k)) zeros_end marks (omega arith)
+        (λ x above below. h.known x (omega arith) below) in
     elim f.order [
       | inl low ↦
           let start : total p.originals_from marks ≡ 0 = ap (λ n. total n marks) low.0 ∙ total-zero marks in
@@ -63,8 +73,10 @@ erased_count p k r e bound zeros_end originals recovery marks f h =
           omega (arith, erased, own, coded, none, start, (ap (λ n. total n marks) low.1), rest, low.0, low.1)
       | inr high ↦
           let gap =
-          past_same 1 (p.recovery_from + r) (p.originals_from - (p.recovery_from + r)) p.originals_from marks (omega (arith, high.0, high.1))
+          past_same 1 (p.recovery_from + r) (p.originals_from - (p.recovery_from + r)) p.originals_from marks
+              (omega (arith, high.0, high.1))
           (λ x above below. h.other x (omega arith) (inl below) (inr above) (inl (omega arith))) in
           let last : total (2 ^ e) marks ≡ total zeros_end marks = ap (λ n. total n marks) (sym high.2) in
-          omega (arith, erased, own, coded, none, (ap (λ n. total n marks) high.0 ∙ total-zero marks), gap, last, high.0, high.1, high.2)
+          omega (arith, erased, own, coded, none,
+              (ap (λ n. total n marks) high.0 ∙ total-zero marks), gap, last, high.0, high.1, high.2)
     ]

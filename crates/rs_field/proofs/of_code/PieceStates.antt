@@ -1,5 +1,7 @@
--- Facts about a message and given shards hold for their pieces. This is the half of a decode by strips in which no strips are joined.
-use Rattle.std.proofs.Common.{◌≡◌, ℕ, ◌+◌, ◌-◌, ◌/◌, ◌%◌, ◌<◌, ◌≤◌, Bool, true, false, cond, List, [], length, take, drop, get_or, refl, sym, ap, ap₂, ◌∙◌, subst, inl, inr, arith}
+-- Facts about a message and given shards hold for their pieces. This is the half of a decode by strips in which no
+-- strips are joined.
+use Rattle.std.proofs.Common.{◌≡◌, ℕ, ◌+◌, ◌-◌, ◌/◌, ◌%◌, ◌<◌, ◌≤◌, Bool, true, false, cond, List, [], length, take}
+use Rattle.std.proofs.Common.{drop, get_or, refl, sym, ap, ap₂, ◌∙◌, subst, inl, inr, arith}
 use Rattle.std.specs.Prelude.{Option, Some, None, is_some, unwrap_or, not, ◌&&◌, nat_lt}
 use Rattle.std.specs.List.{between}
 use Rattle.std.specs.Option.{option_map}
@@ -28,11 +30,13 @@ module _ (start end : ℕ) where
       let long = length-map xs (λ (s : Shard). between start end s) in
       elim (cases_lt i (length xs)) [
         | inl inside ↦ get_or-map (λ (s : Shard). between start end s) xs i [] [] inside
-        | inr past ↦ get_or_past (pieces start end xs) i [] (omega (arith, past, long)) ∙ sym (ap (λ (s : Shard). between start end s) (get_or_past xs i [] past) ∙ none)
+        | inr past ↦ get_or_past (pieces start end xs) i [] (omega (arith, past, long))
+            ∙ sym (ap (λ (s : Shard). between start end s) (get_or_past xs i [] past) ∙ none)
       ]
 
   -- Pieces of shards are shards.
-  pub shards-cut : (count size : ℕ) (xs : List Shard) → IsStrip start end size → AreShards count size xs → AreShards count (end - start) (pieces start end xs)
+  pub shards-cut : (count size : ℕ) (xs : List Shard) → IsStrip start end size → AreShards count size xs
+      → AreShards count (end - start) (pieces start end xs)
   shards-cut count size xs strip are =
       record {
         length_is = length-map xs (λ (s : Shard). between start end s) ∙ are.length_is;
@@ -40,43 +44,56 @@ module _ (start end : ℕ) where
             let s = are.each i d h in
             let left = length-drop start (get_or xs i d) in
             record {
-              length_is = length-take-le (end - start) (drop start (get_or xs i d)) (omega (arith, left, s.length_is, strip.inside));
-              bytes = All-take (λ b. b < 256) (end - start) (drop start (get_or xs i d)) (All-drop (λ b. b < 256) start (get_or xs i d) s.bytes);
+              length_is = length-take-le (end - start) (drop start (get_or xs i d))
+                  (omega (arith, left, s.length_is, strip.inside));
+              bytes = All-take (λ b. b < 256) (end - start) (drop start (get_or xs i d))
+                  (All-drop (λ b. b < 256) start (get_or xs i d) s.bytes);
             });
       }
 
   -- The pieces of recovery shards are the recovery shards of the message's pieces.
-  pub recovery-cut : (rate : Rate) (k r size : ℕ) (message all : List Shard) → IsStrip start end size → AreShards k size message
-      → AreRecovery (configuration rate k r size) message all → AreRecovery (configuration rate k r (end - start)) (pieces start end message) (pieces start end all)
+  pub recovery-cut : (rate : Rate) (k r size : ℕ) (message all : List Shard) → IsStrip start end size
+      → AreShards k size message
+      → AreRecovery (configuration rate k r size) message all
+      → AreRecovery (configuration rate k r (end - start)) (pieces start end message) (pieces start end all)
   recovery-cut rate k r size message all strip are coded =
       record {
         shards = shards-cut r size all strip coded.shards;
         words = λ j inside.
             subst (λ (words : List ℕ). AreRecoveryWords rate k r words (columns j (pieces start end all)))
-            (sym (columns-pieces start end j message (λ i d h. subst (λ (n : ℕ). IsStrip start end n) (sym (are.each i d h).length_is) strip) inside))
+            (sym (columns-pieces start end j message
+                (λ i d h. subst (λ (n : ℕ). IsStrip start end n) (sym (are.each i d h).length_is) strip) inside))
             (subst (λ (words : List ℕ). AreRecoveryWords rate k r (columns (start / 2 + j) message) words)
-            (sym (columns-pieces start end j all (λ i d h. subst (λ (n : ℕ). IsStrip start end n) (sym (coded.shards.each i d h).length_is) strip) inside))
+            (sym (columns-pieces start end j all
+                (λ i d h. subst (λ (n : ℕ). IsStrip start end n) (sym (coded.shards.each i d h).length_is) strip)
+                inside))
             (coded.words (start / 2 + j) (omega (arith, inside, strip.order, strip.inside, strip.begins))));
       }
 
   -- Each piece in a map is a piece of a shard in the map.
-  whole_of : (o : Option Shard) (p : Shard) → option_map (λ s. between start end s) o ≡ Some p → (s : Shard) × (o ≡ Some s) × (between start end s ≡ p)
+  whole_of : (o : Option Shard) (p : Shard) → option_map (λ s. between start end s) o ≡ Some p → (s : Shard)
+      × (o ≡ Some s) × (between start end s ≡ p)
   whole_of (Some s) p is = (s, refl, ap (λ o. unwrap_or o p) is)
   whole_of None p is = absurd (let no : ⊥ = cc in no)
 
   -- If a message agrees with shards, its pieces agree with the pieces of the shards.
-  pub agrees-cut : (rate : Rate) (k r size : ℕ) (originals recovery : Shards) (message : List Shard) → IsStrip start end size → Agrees (configuration rate k r size) originals recovery message
-      → Agrees (configuration rate k r (end - start)) (pieces_of start end originals) (pieces_of start end recovery) (pieces start end message)
+  pub agrees-cut : (rate : Rate) (k r size : ℕ) (originals recovery : Shards) (message : List Shard)
+      → IsStrip start end size → Agrees (configuration rate k r size) originals recovery message
+      → Agrees (configuration rate k r (end - start)) (pieces_of start end originals) (pieces_of start end recovery)
+          (pieces start end message)
   agrees-cut rate k r size originals recovery message strip agrees =
       record {
         shards = shards-cut k size message strip agrees.shards;
         own = λ i p is.
-            let s = whole_of (originals i) p is in shard_at-pieces i message ∙ ap (λ (x : Shard). between start end x) (agrees.own i s.0 s.1) ∙ s.2;
+            let s = whole_of (originals i) p is in
+                shard_at-pieces i message ∙ ap (λ (x : Shard). between start end x) (agrees.own i s.0 s.1) ∙ s.2;
         coded = (
           pieces start end agrees.coded.0,
           recovery-cut rate k r size message agrees.coded.0 strip agrees.shards agrees.coded.1,
           λ i p is.
-              let s = whole_of (recovery i) p is in shard_at-pieces i agrees.coded.0 ∙ ap (λ (x : Shard). between start end x) (agrees.coded.2 i s.0 s.1) ∙ s.2,
+              let s = whole_of (recovery i) p is in
+                  shard_at-pieces i agrees.coded.0 ∙ ap (λ (x : Shard). between start end x) (agrees.coded.2 i s.0 s.1)
+                  ∙ s.2,
         );
       }
 
@@ -85,45 +102,66 @@ module _ (start end : ℕ) where
   is_some-map None = refl
 
   -- A missing piece is the piece of the missing shard.
-  missing-cut : (s : DecoderState) (message : List Shard) (i : ℕ) → missing_of (state_of_pieces start end s) (pieces start end message) i ≡ option_map (λ x. between start end x) (missing_of s message i)
+  missing-cut : (s : DecoderState) (message : List Shard) (i : ℕ)
+      → missing_of (state_of_pieces start end s) (pieces start end message) i
+      ≡ option_map (λ x. between start end x) (missing_of s message i)
   unfolding missing_of
   missing-cut s message i =
-      ap₂ (λ (b : Bool) (x : Shard). cond (nat_lt i s.configuration.original_count && not b) (Some x) None) (is_some-map (s.originals i)) (shard_at-pieces i message)
+      ap₂ (λ (b : Bool) (x : Shard). cond (nat_lt i s.configuration.original_count && not b) (Some x) None)
+          (is_some-map (s.originals i)) (shard_at-pieces i message)
       ∙ by_test (nat_lt i s.configuration.original_count && not (is_some (s.originals i)))
     where
-      by_test : (b : Bool) → cond b (Some (between start end (shard_at message i))) None ≡ option_map (λ x. between start end x) (cond b (Some (shard_at message i)) None)
+      by_test : (b : Bool)
+          → cond b (Some (between start end (shard_at message i))) None
+          ≡ option_map (λ x. between start end x) (cond b (Some (shard_at message i)) None)
       by_test true = refl
       by_test false = refl
 
   -- The restored pieces are the pieces of the missing shards of any message that agrees.
-  pub restored-cut : (s : DecoderState) (message : List Shard) (out : Shards) → IsStrip start end s.configuration.shard_bytes
+  pub restored-cut : (s : DecoderState) (message : List Shard) (out : Shards)
+      → IsStrip start end s.configuration.shard_bytes
       → Agrees s.configuration s.originals s.recovery message → Restored (state_of_pieces start end s) out
       → (i : ℕ) → out i ≡ option_map (λ x. between start end x) (missing_of s message i)
   restored-cut s message out strip agrees restored i =
       let c = s.configuration in
-      let cut = agrees-cut c.rate c.original_count c.recovery_count c.shard_bytes s.originals s.recovery message strip agrees in
-      restored.missing i ∙ ap (λ (m : List Shard). missing_of (state_of_pieces start end s) m i) (sym (restored.only (pieces start end message) cut)) ∙ missing-cut s message i
+      let cut = agrees-cut c.rate c.original_count c.recovery_count c.shard_bytes s.originals s.recovery message strip
+          agrees in
+      restored.missing i ∙ ap (λ (m : List Shard). missing_of (state_of_pieces start end s) m i)
+          (sym (restored.only (pieces start end message) cut)) ∙ missing-cut s message i
 
-  -- If the pieces of a strip are consistent, each of their columns is a column of a message, as the column of the shards is.
-  has-cut : (rate : Rate) (k r size j : ℕ) (originals recovery : Shards) (words : ℕ → ℕ) → IsStrip start end size → j < (end - start) / 2
-      → AreSized k size originals → AreSized r size recovery → HasWords (placement rate k r) originals recovery (start / 2 + j) words
+  -- If the pieces of a strip are consistent, each of their columns is a column of a message, as the column of the
+  -- shards is.
+  has-cut : (rate : Rate) (k r size j : ℕ) (originals recovery : Shards) (words : ℕ → ℕ) → IsStrip start end size
+      → j < (end - start) / 2
+      → AreSized k size originals → AreSized r size recovery
+      → HasWords (placement rate k r) originals recovery (start / 2 + j) words
       → HasWords (placement rate k r) (pieces_of start end originals) (pieces_of start end recovery) j words
   has-cut rate k r size j originals recovery words strip inside own_sized coded_sized has =
       record {
         own = λ i p is.
             let s = whole_of (originals i) p is in
-            has.own i s.0 s.1 ∙ sym (column-piece start end j s.0 (subst (λ (n : ℕ). IsStrip start end n) (sym (own_sized.each i s.0 s.1).1.length_is) strip) inside) ∙ ap (column j) s.2;
+            has.own i s.0 s.1 ∙ sym
+                (column-piece start end j s.0
+                (subst (λ (n : ℕ). IsStrip start end n) (sym (own_sized.each i s.0 s.1).1.length_is) strip) inside)
+                ∙ ap (column j) s.2;
         coded = λ i p is.
             let s = whole_of (recovery i) p is in
-            has.coded i s.0 s.1 ∙ sym (column-piece start end j s.0 (subst (λ (n : ℕ). IsStrip start end n) (sym (coded_sized.each i s.0 s.1).1.length_is) strip) inside) ∙ ap (column j) s.2;
+            has.coded i s.0 s.1 ∙ sym
+                (column-piece start end j s.0
+                (subst (λ (n : ℕ). IsStrip start end n) (sym (coded_sized.each i s.0 s.1).1.length_is) strip) inside)
+                ∙ ap (column j) s.2;
       }
 
-  pub taken-whole : (rate : Rate) (k r size j : ℕ) (originals recovery : Shards) (words : ℕ → ℕ → ℕ) → IsStrip start end size → j < (end - start) / 2
-      → AreSized k size originals → AreSized r size recovery → HasWords (placement rate k r) originals recovery (start / 2 + j) (words (start / 2 + j))
+  pub taken-whole : (rate : Rate) (k r size j : ℕ) (originals recovery : Shards) (words : ℕ → ℕ → ℕ)
+      → IsStrip start end size → j < (end - start) / 2
+      → AreSized k size originals → AreSized r size recovery
+      → HasWords (placement rate k r) originals recovery (start / 2 + j) (words (start / 2 + j))
       → Consistent (configuration rate k r (end - start)) (pieces_of start end originals) (pieces_of start end recovery)
       → (p : List ℕ) × IsTaken (configuration rate k r size) originals recovery words (start / 2 + j) p
   taken-whole rate k r size j originals recovery words strip inside own_sized coded_sized has (message, agrees) =
-      let (p, codes, takes) = column_taken (configuration rate k r (end - start)) (pieces_of start end originals) (pieces_of start end recovery) message j (words (start / 2 + j)) inside agrees
+      let (p, codes, takes) =
+          column_taken (configuration rate k r (end - start)) (pieces_of start end originals)
+          (pieces_of start end recovery) message j (words (start / 2 + j)) inside agrees
       (has-cut rate k r size j originals recovery (words (start / 2 + j)) strip inside own_sized coded_sized has) in (
         p,
         (
@@ -146,7 +184,8 @@ AreConsistentBelow rate k r size originals recovery bound =
 pub consistent-whole : (rate : Rate) (k r size : ℕ) (originals recovery : Shards) (words : ℕ → ℕ → ℕ) → size % 2 ≡ 0
     → AreSized k size originals → AreSized r size recovery
     → ((j : ℕ) → j < size / 2 → HasWords (placement rate k r) originals recovery j (words j))
-    → AreConsistentBelow rate k r size originals recovery size → Consistent (configuration rate k r size) originals recovery
+    → AreConsistentBelow rate k r size originals recovery size
+    → Consistent (configuration rate k r size) originals recovery
 consistent-whole rate k r size originals recovery words even own_sized coded_sized has each =
     consistent (configuration rate k r size) originals recovery words even own_sized coded_sized has (λ j inside.
     let (start, end, strip, from, to, pieces_agree) = each j inside in
@@ -154,4 +193,5 @@ consistent-whole rate k r size originals recovery words even own_sized coded_siz
     let here : j - start / 2 < (end - start) / 2 = omega (arith, from, to, strip.begins, strip.order) in
     subst (λ (i : ℕ). (p : List ℕ) × IsTaken (configuration rate k r size) originals recovery words i p) place
     (taken-whole start end rate k r size (j - start / 2) originals recovery words strip here own_sized coded_sized
-    (subst (λ (i : ℕ). HasWords (placement rate k r) originals recovery i (words i)) (sym place) (has j inside)) pieces_agree))
+    (subst (λ (i : ℕ). HasWords (placement rate k r) originals recovery i (words i)) (sym place) (has j inside))
+        pieces_agree))

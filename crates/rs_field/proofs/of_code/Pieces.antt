@@ -1,9 +1,13 @@
 -- Pieces of shards. Their columns are columns of the shards, so coding each piece codes the shards.
-use Rattle.std.proofs.Common.{◌≡◌, ◌⊎◌, ℕ, suc, ◌+◌, ◌-◌, ◌*◌, ◌/◌, ◌%◌, ◌<◌, ◌≤◌, List, [], ◌∷◌, ◌++◌, length, take, drop, map, get_or, min, Bool, true, false, refl, sym, ap, ap₂, ◌∙◌, subst, inl, inr, arith, All}
+use Rattle.std.proofs.Common.{◌≡◌, ◌⊎◌, ℕ, suc, ◌+◌, ◌-◌, ◌*◌, ◌/◌, ◌%◌, ◌<◌, ◌≤◌, List, [], ◌∷◌, ◌++◌, length, take}
+use Rattle.std.proofs.Common.{drop, map, get_or, min, Bool, true, false, refl, sym, ap, ap₂, ◌∙◌, subst, inl, inr}
+use Rattle.std.proofs.Common.{arith, All}
 use Rattle.std.specs.List.{between}
 use Rattle.std.proofs.Math.Nat.{min-eq_left, min-eq_right}
 use Rattle.std.proofs.lemmas.Bool.{cases_lt}
-use Rattle.std.proofs.lemmas.List.{get_or-take, get_or-drop, get_or-map, get_or_default, length-take-le, length-drop, length-map, length-append, take_all, take_at, drop_at, take_more, drop_more, take-append-drop, map-append, append_assoc, ext_get_or as same_from}
+use Rattle.std.proofs.lemmas.List.{get_or-take, get_or-drop, get_or-map, get_or_default, length-take-le, length-drop}
+use Rattle.std.proofs.lemmas.List.{length-map, length-append, take_all, take_at, drop_at, take_more, drop_more}
+use Rattle.std.proofs.lemmas.List.{take-append-drop, map-append, append_assoc, ext_get_or as same_from}
 use Rattle.std.specs.Prelude.{Result, Ok, Err}
 use Rattle.std.specs.Borrow.{Bor}
 use Rattle.std.proofs.lemmas.List.Elements.{All-map, All-append, All-nil}
@@ -25,7 +29,8 @@ column-head a j s whole room inside =
     let long : length (take a s) ≡ a = length-take-le a s room in
     ap (λ (c : ℕ). column c (take a s)) parts
     ∙ column-chunk (j / 32) (j % 32) (take a s) (omega arith) (omega (arith, long))
-    ∙ ap₂ (λ (x y : ℕ). x + 256 * y) (get_or-take a s (j / 32 * 64 + j % 32) 0 (omega arith)) (get_or-take a s (j / 32 * 64 + j % 32 + 32) 0 (omega arith))
+    ∙ ap₂ (λ (x y : ℕ). x + 256 * y) (get_or-take a s (j / 32 * 64 + j % 32) 0 (omega arith))
+        (get_or-take a s (j / 32 * 64 + j % 32 + 32) 0 (omega arith))
     ∙ sym (column-chunk (j / 32) (j % 32) s (omega arith) (omega arith))
     ∙ ap (λ (c : ℕ). column c s) (sym parts)
 
@@ -37,24 +42,29 @@ column-rest a j s whole =
     let low : a + (j / 32 * 64 + j % 32) ≡ (a / 64 + j / 32) * 64 + j % 32 = omega arith in
     let left : length (drop a s) ≡ length s - a = length-drop a s in
     let words : chunk_words (drop a s) (j / 32 * 64) ≡ chunk_words s ((a / 64 + j / 32) * 64) =
-    ap (λ (n : ℕ). min 64 n / 2) (let e : length (drop a s) - j / 32 * 64 ≡ length s - (a / 64 + j / 32) * 64 = omega (arith, left) in e) in
+    ap (λ (n : ℕ). min 64 n / 2)
+        (let e : length (drop a s) - j / 32 * 64 ≡ length s - (a / 64 + j / 32) * 64 = omega (arith, left) in e) in
     ap (λ (c : ℕ). column c (drop a s)) parts
     ∙ column-at (j / 32) (j % 32) (drop a s) (omega arith)
     ∙ ap₂ (λ (x y : ℕ). x + 256 * y)
     (get_or-drop a s (j / 32 * 64 + j % 32) 0 ∙ ap (λ (i : ℕ). get_or s i 0) low)
     (get_or-drop a s (j / 32 * 64 + j % 32 + chunk_words (drop a s) (j / 32 * 64)) 0
-    ∙ ap (λ (i : ℕ). get_or s i 0) (let e : a + (j / 32 * 64 + j % 32 + chunk_words (drop a s) (j / 32 * 64)) ≡ (a / 64 + j / 32) * 64 + j % 32 + chunk_words (drop a s) (j / 32 * 64) = omega arith in e)
+    ∙ ap (λ (i : ℕ). get_or s i 0)
+        (let e : a + (j / 32 * 64 + j % 32 + chunk_words (drop a s) (j / 32 * 64))
+        ≡ (a / 64 + j / 32) * 64 + j % 32 + chunk_words (drop a s) (j / 32 * 64) = omega arith in e)
     ∙ ap (λ (w : ℕ). get_or s ((a / 64 + j / 32) * 64 + j % 32 + w) 0) words)
     ∙ sym (column-at (a / 64 + j / 32) (j % 32) s (omega arith))
     ∙ ap (λ (c : ℕ). column c s) place
 
 -- A column of a strip of a shard is a column of the shard.
-pub column-piece : (start end j : ℕ) (s : Shard) → IsStrip start end (length s) → j < (end - start) / 2 → column j (between start end s) ≡ column (start / 2 + j) s
+pub column-piece : (start end j : ℕ) (s : Shard) → IsStrip start end (length s) → j < (end - start) / 2
+    → column j (between start end s) ≡ column (start / 2 + j) s
 column-piece start end j s strip inside =
     let left : length (drop start s) ≡ length s - start = length-drop start s in
     elim strip.ends [
       | inl whole ↦
-          column-head (end - start) j (drop start s) (omega (arith, whole, strip.begins, strip.order)) (omega (arith, left, strip.inside)) inside
+          column-head (end - start) j (drop start s) (omega (arith, whole, strip.begins, strip.order))
+              (omega (arith, left, strip.inside)) inside
           ∙ column-rest start j s strip.begins
       | inr last ↦
           ap (column j) (take_all (end - start) (drop start s) (omega (arith, left, last)))
@@ -62,23 +72,29 @@ column-piece start end j s strip inside =
     ]
 
 -- The columns of the strips of shards are columns of the shards.
-pub columns-pieces : (start end j : ℕ) (xs : List Shard) → All (λ s. IsStrip start end (length s)) xs → j < (end - start) / 2 → columns j (pieces start end xs) ≡ columns (start / 2 + j) xs
+pub columns-pieces : (start end j : ℕ) (xs : List Shard) → All (λ s. IsStrip start end (length s)) xs
+    → j < (end - start) / 2 → columns j (pieces start end xs) ≡ columns (start / 2 + j) xs
 columns-pieces start end j [] strips inside = refl
 columns-pieces start end j (s ∷ xs) strips inside =
     ap₂ (λ (x : ℕ) (l : List ℕ). x ∷ l) (column-piece start end j s (strips 0 s (omega arith)) inside)
     (columns-pieces start end j xs (λ i d h. strips (suc i) d (omega (arith, h))) inside)
 
 -- The columns of the heads of shards are columns of the shards.
-pub columns-heads : (a j : ℕ) (xs : List Shard) → a % 64 ≡ 0 → All (λ s. a ≤ length s) xs → j < a / 2 → columns j (heads a xs) ≡ columns j xs
+pub columns-heads : (a j : ℕ) (xs : List Shard) → a % 64 ≡ 0 → All (λ s. a ≤ length s) xs → j < a / 2
+    → columns j (heads a xs) ≡ columns j xs
 columns-heads a j [] whole room inside = refl
 columns-heads a j (s ∷ xs) whole room inside =
     ap₂ (λ (x : ℕ) (l : List ℕ). x ∷ l) (column-head a j s whole (room 0 s (omega arith)) inside)
     (columns-heads a j xs whole (λ i d h. room (suc i) d (omega (arith, h))) inside)
 
--- If the heads are unchanged and coded, and the strips after them are coded, then the heads and strips together are coded.
-pub coded-further : (rate : Rate) (k r start end : ℕ) (originals old new : List Shard) → All (λ s. IsStrip start end (length s)) originals
-    → All (λ s. start ≤ length s) old → All (λ s. IsStrip start end (length s)) new → start % 64 ≡ 0 → heads start new ≡ heads start old
-    → AreCodedBelow rate k r start originals old → AreRecovery (configuration rate k r (end - start)) (pieces start end originals) (pieces start end new)
+-- If the heads are unchanged and coded, and the strips after them are coded, then the heads and strips together are
+-- coded.
+pub coded-further : (rate : Rate) (k r start end : ℕ) (originals old new : List Shard)
+    → All (λ s. IsStrip start end (length s)) originals
+    → All (λ s. start ≤ length s) old → All (λ s. IsStrip start end (length s)) new → start % 64 ≡ 0
+    → heads start new ≡ heads start old
+    → AreCodedBelow rate k r start originals old
+    → AreRecovery (configuration rate k r (end - start)) (pieces start end originals) (pieces start end new)
     → AreCodedBelow rate k r end originals new
 coded-further rate k r start end originals old new own before after whole kept coded further j inside =
     elim (cases_lt j (start / 2)) [
@@ -91,15 +107,21 @@ coded-further rate k r start end originals old new own before after whole kept c
           let here : j - start / 2 < (end - start) / 2 = omega (arith, high) in
           let place : start / 2 + (j - start / 2) ≡ j = omega (arith, high) in
           subst (λ (i : ℕ). AreRecoveryWords rate k r (columns i originals) (columns i new)) place
-          (subst (λ (words : List ℕ). AreRecoveryWords rate k r words (columns (start / 2 + (j - start / 2)) new)) (columns-pieces start end (j - start / 2) originals own here)
-          (subst (λ (words : List ℕ). AreRecoveryWords rate k r (columns (j - start / 2) (pieces start end originals)) words) (columns-pieces start end (j - start / 2) new after here)
+          (subst (λ (words : List ℕ). AreRecoveryWords rate k r words (columns (start / 2 + (j - start / 2)) new))
+              (columns-pieces start end (j - start / 2) originals own here)
+          (subst (λ (words : List ℕ).
+              AreRecoveryWords rate k r (columns (j - start / 2) (pieces start end originals)) words)
+              (columns-pieces start end (j - start / 2) new after here)
           (further.words (j - start / 2) here)))
     ]
 
 -- If each byte is in a strip that is coded, the whole shards are coded.
-pub strips-join : (c : Configuration) (message all : List Shard) → AreShards c.original_count c.shard_bytes message → AreShards c.recovery_count c.shard_bytes all
-    → ((byte : ℕ) → byte < c.shard_bytes → (start : ℕ) × (end : ℕ) × IsStrip start end c.shard_bytes × (start ≤ byte) × (byte < end)
-    × AreRecovery (configuration c.rate c.original_count c.recovery_count (end - start)) (pieces start end message) (pieces start end all))
+pub strips-join : (c : Configuration) (message all : List Shard) → AreShards c.original_count c.shard_bytes message
+    → AreShards c.recovery_count c.shard_bytes all
+    → ((byte : ℕ) → byte < c.shard_bytes → (start : ℕ) × (end : ℕ) × IsStrip start end c.shard_bytes × (start ≤ byte)
+        × (byte < end)
+    × AreRecovery (configuration c.rate c.original_count c.recovery_count (end - start)) (pieces start end message)
+        (pieces start end all))
     → AreRecovery c message all
 strips-join c message all own made strips =
     record {
@@ -111,24 +133,35 @@ strips-join c message all own made strips =
           let strip : IsStrip start end c.shard_bytes = found.2 in
           let after : start ≤ 2 * j = found.3 in
           let before : 2 * j < end = found.4 in
-          let coded : AreRecovery (configuration c.rate c.original_count c.recovery_count (end - start)) (pieces start end message) (pieces start end all) = found.5 in
+          let coded : AreRecovery (configuration c.rate c.original_count c.recovery_count (end - start))
+              (pieces start end message) (pieces start end all) = found.5 in
           let whole : start % 64 ≡ 0 = strip.begins in
-          let ends : j < end / 2 = elim strip.ends [ inl even ↦ omega (arith, even, before) | inr last ↦ omega (arith, last, inside) ] in
+          let ends : j < end / 2 =
+              elim strip.ends [ inl even ↦ omega (arith, even, before) | inr last ↦ omega (arith, last, inside) ] in
           let here : j - start / 2 < (end - start) / 2 = omega (arith, whole, after, ends) in
           let place : start / 2 + (j - start / 2) ≡ j = omega (arith, whole, after) in
-          subst (λ (i : ℕ). AreRecoveryWords c.rate c.original_count c.recovery_count (columns i message) (columns i all)) place
-          (subst (λ (words : List ℕ). AreRecoveryWords c.rate c.original_count c.recovery_count words (columns (start / 2 + (j - start / 2)) all))
-          (columns-pieces start end (j - start / 2) message (λ i d h. subst (λ (n : ℕ). IsStrip start end n) (sym (own.each i d h).length_is) strip) here)
-          (subst (λ (words : List ℕ). AreRecoveryWords c.rate c.original_count c.recovery_count (columns (j - start / 2) (pieces start end message)) words)
-          (columns-pieces start end (j - start / 2) all (λ i d h. subst (λ (n : ℕ). IsStrip start end n) (sym (made.each i d h).length_is) strip) here)
+          subst (λ (i : ℕ). AreRecoveryWords c.rate c.original_count c.recovery_count (columns i message)
+              (columns i all)) place
+          (subst (λ (words : List ℕ).
+              AreRecoveryWords c.rate c.original_count c.recovery_count words
+              (columns (start / 2 + (j - start / 2)) all))
+          (columns-pieces start end (j - start / 2) message
+              (λ i d h. subst (λ (n : ℕ). IsStrip start end n) (sym (own.each i d h).length_is) strip) here)
+          (subst (λ (words : List ℕ).
+              AreRecoveryWords c.rate c.original_count c.recovery_count
+              (columns (j - start / 2) (pieces start end message)) words)
+          (columns-pieces start end (j - start / 2) all
+              (λ i d h. subst (λ (n : ℕ). IsStrip start end n) (sym (made.each i d h).length_is) strip) here)
           (coded.words (j - start / 2) here)));
     }
 
 -- ---- rooms
 
-module _ (start end : ℕ) (made old new : List Shard) (put : ArePut start end made old new) (order : start ≤ end) (inside : All (λ s. start ≤ length s) old)
+module _ (start end : ℕ) (made old new : List Shard) (put : ArePut start end made old new) (order : start ≤ end)
+    (inside : All (λ s. start ≤ length s) old)
     (number : length made ≡ length old) (sized : All (λ s. length s ≡ end - start) made) where
-  at : (i : ℕ) → i < length old → get_or new i [] ≡ take start (get_or old i []) ++ (get_or made i [] ++ drop end (get_or old i []))
+  at : (i : ℕ) → i < length old
+      → get_or new i [] ≡ take start (get_or old i []) ++ (get_or made i [] ++ drop end (get_or old i []))
   at = put.1
 
   long : (i : ℕ) → i < length old → length (get_or made i []) ≡ end - start
@@ -150,7 +183,8 @@ module _ (start end : ℕ) (made old new : List Shard) (put : ArePut start end m
   pub put-heads : heads start new ≡ heads start old
   put-heads =
       same_from [] (heads start new) (heads start old) (simp length-map put.0) (λ i h.
-      let here : i < length old = (let n = length-map new (λ (s : Shard). take start s) in omega (arith, h, n, put.0)) in
+      let here : i < length old =
+          (let n = length-map new (λ (s : Shard). take start s) in omega (arith, h, n, put.0)) in
       get_or-map (λ (s : Shard). take start s) new i [] [] (omega (arith, here, put.0))
       ∙ ap (take start) (at i here) ∙ take_at (take start (get_or old i [])) _ start (front i here)
       ∙ sym (get_or-map (λ (s : Shard). take start s) old i [] [] here))
@@ -159,14 +193,16 @@ module _ (start end : ℕ) (made old new : List Shard) (put : ArePut start end m
   pub put-pieces : pieces start end new ≡ made
   put-pieces =
       same_from [] (pieces start end new) made (simp length-map (put.0 ∙ sym number)) (λ i h.
-      let here : i < length old = (let n = length-map new (λ (s : Shard). between start end s) in omega (arith, h, n, put.0)) in
+      let here : i < length old =
+          (let n = length-map new (λ (s : Shard). between start end s) in omega (arith, h, n, put.0)) in
       get_or-map (λ (s : Shard). between start end s) new i [] [] (omega (arith, here, put.0))
       ∙ ap (λ (s : Shard). take (end - start) (drop start s)) (at i here)
       ∙ ap (take (end - start)) (drop_at (take start (get_or old i [])) _ start (front i here))
       ∙ take_at (get_or made i []) _ (end - start) (long i here))
 
   -- If the bytes of the heads and of the pieces are below 256, the bytes of the longer heads are below 256.
-  pub put-bytes : All (All (λ b. b < 256)) (heads start old) → All (All (λ b. b < 256)) made → All (All (λ b. b < 256)) (heads end new)
+  pub put-bytes : All (All (λ b. b < 256)) (heads start old) → All (All (λ b. b < 256)) made
+      → All (All (λ b. b < 256)) (heads end new)
   put-bytes before bytes i d h =
       let here : i < length old = (let n = length-map new (λ (s : Shard). take end s) in omega (arith, h, n, put.0)) in
       let first = front i here in
@@ -177,23 +213,28 @@ module _ (start end : ℕ) (made old new : List Shard) (put : ArePut start end m
       let both = length-append (take start (get_or old i [])) (get_or made i []) in
       subst (λ (s : Shard). All (λ b. b < 256) s)
       (sym (get_or-map (λ (s : Shard). take end s) new i [] d (omega (arith, here, put.0))
-      ∙ ap (take end) (at i here ∙ sym (append_assoc (take start (get_or old i [])) (get_or made i []) (drop end (get_or old i []))))
+      ∙ ap (take end) (at i here
+          ∙ sym (append_assoc (take start (get_or old i [])) (get_or made i []) (drop end (get_or old i []))))
       ∙ take_at (take start (get_or old i []) ++ get_or made i []) _ end (omega (arith, both, first, piece, order))))
-      (All-append (λ b. b < 256) (take start (get_or old i [])) (get_or made i []) head (bytes i [] (omega (arith, here, number))))
+      (All-append (λ b. b < 256) (take start (get_or old i [])) (get_or made i []) head
+          (bytes i [] (omega (arith, here, number))))
 
 -- ---- the state when all bytes below a number are done
 
 -- A part of the width of a strip, or of all remaining bytes if there are fewer, is a strip.
-pub is_strip : (start strip size width part : ℕ) → width ≡ min strip size → part ≡ min width (size - start) → strip % 64 ≡ 0
+pub is_strip : (start strip size width part : ℕ) → width ≡ min strip size → part ≡ min width (size - start)
+    → strip % 64 ≡ 0
     → (start % 64 ≡ 0) ⊎ (start ≡ size) → start < size → IsStrip start (start + part) size
 is_strip start strip size width part width_is part_is chunks begins less =
-    let from : start % 64 ≡ 0 = elim begins [ inl whole ↦ whole | inr last ↦ absurd (let no : ⊥ = omega (arith, last, less) in no) ] in
+    let from : start % 64 ≡ 0 =
+        elim begins [ inl whole ↦ whole | inr last ↦ absurd (let no : ⊥ = omega (arith, last, less) in no) ] in
     elim (cases_lt width (size - start)) [
       | inl more ↦
           let here : part ≡ width = part_is ∙ min-eq_left (let le : width ≤ size - start = omega (arith, more) in le) in
           let full : width ≡ strip = elim (cases_lt strip size) [
             | inl small ↦ width_is ∙ min-eq_left (let le : strip ≤ size = omega (arith, small) in le)
-            | inr large ↦ absurd (let all = width_is ∙ min-eq_right large in let no : ⊥ = omega (arith, all, more, less) in no)
+            | inr large ↦ absurd
+                (let all = width_is ∙ min-eq_right large in let no : ⊥ = omega (arith, all, more, less) in no)
           ] in
           record {
             order = omega arith;
@@ -203,7 +244,8 @@ is_strip start strip size width part width_is part_is chunks begins less =
           }
       | inr last ↦
           let here : part ≡ size - start = part_is ∙ min-eq_right last in
-          record { order = omega arith; inside = omega (arith, here, less); begins = from; ends = inr (omega (arith, here, less)) }
+          record { order = omega arith; inside = omega (arith, here, less); begins = from; ends =
+              inr (omega (arith, here, less)) }
     ]
 
 -- A room has at least the length of the bytes that were written.
@@ -212,13 +254,16 @@ room-from true written size inside = omega arith
 room-from false written size inside = inside
 
 -- After a strip is put into a room, the room has the length for the end of the strip.
-pub room-further : (grows : Bool) (start end size : ℕ) → start ≤ end → end ≤ size → end + (room_length grows start size - end) ≡ room_length grows end size
+pub room-further : (grows : Bool) (start end size : ℕ) → start ≤ end → end ≤ size
+    → end + (room_length grows start size - end) ≡ room_length grows end size
 room-further true start end size order inside = omega (arith, order)
 room-further false start end size order inside = omega (arith, inside)
 
 -- A strip of a shard is a strip of a room with the length for the end of the strip.
-pub room-strip : (grows : Bool) (start end size : ℕ) → IsStrip start end size → IsStrip start end (room_length grows end size)
-room-strip true start end size strip = record { order = strip.order; inside = omega arith; begins = strip.begins; ends = inr refl }
+pub room-strip : (grows : Bool) (start end size : ℕ) → IsStrip start end size
+    → IsStrip start end (room_length grows end size)
+room-strip true start end size strip =
+    record { order = strip.order; inside = omega arith; begins = strip.begins; ends = inr refl }
 room-strip false start end size strip = strip
 
 -- After the last strip, a room is as long as its shard.
@@ -234,18 +279,25 @@ pub record IsDone (k r size end : ℕ) (grows : Bool) (rate : Rate) (originals r
   pub bytes : All (All (λ b. b < 256)) (heads end rooms)
 
 -- After one more strip is coded and put, the rooms hold the bytes up to the end of the strip.
-pub done-further : (grows : Bool) (rate : Rate) (k r size start end : ℕ) (originals made old new : List Shard) → IsStrip start end size → All (λ s. length s ≡ size) originals
-    → IsDone k r size start grows rate originals old → AreRecovery (configuration rate k r (end - start)) (pieces start end originals) made → ArePut start end made old new
+pub done-further : (grows : Bool) (rate : Rate) (k r size start end : ℕ) (originals made old new : List Shard)
+    → IsStrip start end size → All (λ s. length s ≡ size) originals
+    → IsDone k r size start grows rate originals old
+    → AreRecovery (configuration rate k r (end - start)) (pieces start end originals) made
+    → ArePut start end made old new
     → IsDone k r size end grows rate originals new
 done-further grows rate k r size start end originals made old new strip sized done recovery put =
     let inside : All (λ s. start ≤ length s) old = (λ i d h.
-    let n = done.fit i d h in let from = room-from grows start size (let le : start ≤ size = omega (arith, strip.order, strip.inside) in le) in omega (arith, n, from)) in
+    let n = done.fit i d h in let from =
+        room-from grows start size (let le : start ≤ size = omega (arith, strip.order, strip.inside) in le) in
+        omega (arith, n, from)) in
     let number : length made ≡ length old = recovery.shards.length_is ∙ sym done.number in
     let long : All (λ s. length s ≡ end - start) made = (λ i d h. (recovery.shards.each i d h).length_is) in
     let fit : All (λ s. length s ≡ room_length grows end size) new = (λ i d h.
     let here : i < length old = omega (arith, h, put.0) in
-    ap length (get_or_default new i d [] h) ∙ put-length start end made old new put strip.order inside number long i here
-    ∙ ap (λ (n : ℕ). end + (n - end)) (done.fit i [] here) ∙ room-further grows start end size strip.order strip.inside) in
+    ap length (get_or_default new i d [] h)
+        ∙ put-length start end made old new put strip.order inside number long i here
+    ∙ ap (λ (n : ℕ). end + (n - end)) (done.fit i [] here) ∙ room-further grows start end size strip.order strip.inside)
+        in
     record {
       number = put.0 ∙ done.number;
       fit = fit;
@@ -256,11 +308,13 @@ done-further grows rate k r size start end originals made old new strip sized do
           strip.begins (put-heads start end made old new put strip.order inside number long) done.coded
           (subst (λ (l : List Shard). AreRecovery (configuration rate k r (end - start)) (pieces start end originals) l)
           (sym (put-pieces start end made old new put strip.order inside number long)) recovery);
-      bytes = put-bytes start end made old new put strip.order inside number long done.bytes (λ i d h. (recovery.shards.each i d h).bytes);
+      bytes = put-bytes start end made old new put strip.order inside number long done.bytes
+          (λ i d h. (recovery.shards.each i d h).bytes);
     }
 
 -- Before the first strip, the rooms satisfy `IsDone` for zero bytes.
-pub done-none : (grows : Bool) (rate : Rate) (k r size : ℕ) (originals rooms : List Shard) → length rooms ≡ r → All (λ s. length s ≡ room_length grows 0 size) rooms
+pub done-none : (grows : Bool) (rate : Rate) (k r size : ℕ) (originals rooms : List Shard) → length rooms ≡ r
+    → All (λ s. length s ≡ room_length grows 0 size) rooms
     → IsDone k r size 0 grows rate originals rooms
 done-none grows rate k r size originals rooms number fit =
     record {
@@ -271,7 +325,8 @@ done-none grows rate k r size originals rooms number fit =
     }
 
 -- After the last strip, the rooms hold the recovery shards.
-pub done-all : (grows : Bool) (rate : Rate) (k r size : ℕ) (originals rooms : List Shard) → IsDone k r size size grows rate originals rooms
+pub done-all : (grows : Bool) (rate : Rate) (k r size : ℕ) (originals rooms : List Shard)
+    → IsDone k r size size grows rate originals rooms
     → AreRecovery (configuration rate k r size) originals rooms
 done-all grows rate k r size originals rooms done =
     record {
@@ -282,7 +337,8 @@ done-all grows rate k r size originals rooms done =
             record {
               length_is = long;
               bytes = subst (λ (s : Shard). All (λ b. b < 256) s)
-                  (get_or-map (λ (s : Shard). take size s) rooms i d d h ∙ take_all size (get_or rooms i d) (omega (arith, long)))
+                  (get_or-map (λ (s : Shard). take size s) rooms i d d h
+                      ∙ take_all size (get_or rooms i d) (omega (arith, long)))
                   (done.bytes i d (let n = length-map rooms (λ (s : Shard). take size s) in omega (arith, h, n)));
             };
       };
@@ -292,7 +348,8 @@ done-all grows rate k r size originals rooms done =
 -- ---- pieces that are added
 
 pub pieces-count : (start end : ℕ) (xs : List (Bor Shard)) → length (pieces start end (map (λ x. x.now) xs)) ≡ length xs
-pieces-count start end xs = length-map (map (λ (x : Bor Shard). x.now) xs) (λ (s : Shard). between start end s) ∙ length-map xs (λ (x : Bor Shard). x.now)
+pieces-count start end xs = length-map (map (λ (x : Bor Shard). x.now) xs) (λ (s : Shard). between start end s)
+    ∙ length-map xs (λ (x : Bor Shard). x.now)
 
 pub pieces-sized : (start end : ℕ) (xs : List (Bor Shard)) → start ≤ end → All (λ x. end ≤ length x.now) xs
     → All (λ s. length s ≡ end - start) (pieces start end (map (λ x. x.now) xs))
@@ -304,18 +361,23 @@ pieces-sized start end xs order inside =
     length-take-le (end - start) (drop start (get_or xs i d).now) (omega (arith, left, room, order))))
 
 pieces-append : (start end : ℕ) (xs ys : List (Bor Shard))
-    → pieces start end (map (λ x. x.now) (xs ++ ys)) ≡ pieces start end (map (λ x. x.now) xs) ++ pieces start end (map (λ x. x.now) ys)
+    → pieces start end (map (λ x. x.now) (xs ++ ys)) ≡ pieces start end (map (λ x. x.now) xs)
+    ++ pieces start end (map (λ x. x.now) ys)
 pieces-append start end xs ys =
     ap (λ (l : List Shard). map (λ (s : Shard). between start end s) l) (map-append (λ (x : Bor Shard). x.now) xs ys)
-    ∙ map-append (λ (s : Shard). between start end s) (map (λ (x : Bor Shard). x.now) xs) (map (λ (x : Bor Shard). x.now) ys)
+    ∙ map-append (λ (s : Shard). between start end s) (map (λ (x : Bor Shard). x.now) xs)
+        (map (λ (x : Bor Shard). x.now) ys)
 
 -- Adding two lists of shards is adding the second list after the first.
-adds-append : (s t : EncoderState) (xs ys : List Shard) → with_shards s xs ≡ Ok t → with_shards s (xs ++ ys) ≡ with_shards t ys
+adds-append : (s t : EncoderState) (xs ys : List Shard) → with_shards s xs ≡ Ok t
+    → with_shards s (xs ++ ys) ≡ with_shards t ys
 adds-append s t [] ys is = (let same : s ≡ t = cc in ap (λ (u : EncoderState). with_shards u ys) same)
 adds-append s t (x ∷ xs) ys is = by_outcome (with_shard s x) (λ n led. adds-append n t xs ys led) is
   where
-    by_outcome : (o : Result EncoderState Error) → ((n : EncoderState) → with_shards n xs ≡ Ok t → with_shards n (xs ++ ys) ≡ with_shards t ys)
-        → result_and_then (λ n. with_shards n xs) o ≡ Ok t → result_and_then (λ n. with_shards n (xs ++ ys)) o ≡ with_shards t ys
+    by_outcome : (o : Result EncoderState Error)
+        → ((n : EncoderState) → with_shards n xs ≡ Ok t → with_shards n (xs ++ ys) ≡ with_shards t ys)
+        → result_and_then (λ n. with_shards n xs) o ≡ Ok t
+        → result_and_then (λ n. with_shards n (xs ++ ys)) o ≡ with_shards t ys
     by_outcome (Ok n) more is = more n is
     by_outcome (Err e) more is = absurd (let no : ⊥ = cc in no)
 
@@ -327,7 +389,8 @@ module _ (start end i : ℕ) (xs : List (Bor Shard)) (d : Bor Shard) (first now 
   given-next next taken =
       ap (λ (l : List (Bor Shard)). with_shards first (pieces start end (map (λ x. x.now) l))) (take_more xs i d inside)
       ∙ ap (with_shards first) (pieces-append start end (take i xs) (get_or xs i d ∷ []))
-      ∙ adds-append first now (pieces start end (map (λ x. x.now) (take i xs))) (pieces start end (map (λ x. x.now) (get_or xs i d ∷ []))) led
+      ∙ adds-append first now (pieces start end (map (λ x. x.now) (take i xs)))
+          (pieces start end (map (λ x. x.now) (get_or xs i d ∷ []))) led
       ∙ ap (result_and_then (λ (s : EncoderState). Ok s)) taken
 
   -- The error of the first piece that cannot be added is the outcome of adding all pieces.
@@ -337,5 +400,7 @@ module _ (start end i : ℕ) (xs : List (Bor Shard)) (d : Bor Shard) (first now 
       ap (λ (l : List (Bor Shard)). with_shards first (pieces start end (map (λ x. x.now) l)))
       (sym (take-append-drop i xs) ∙ ap (λ (l : List (Bor Shard)). take i xs ++ l) (drop_more xs i d inside))
       ∙ ap (with_shards first) (pieces-append start end (take i xs) (get_or xs i d ∷ drop (i + 1) xs))
-      ∙ adds-append first now (pieces start end (map (λ x. x.now) (take i xs))) (pieces start end (map (λ x. x.now) (get_or xs i d ∷ drop (i + 1) xs))) led
-      ∙ ap (result_and_then (λ (s : EncoderState). with_shards s (pieces start end (map (λ x. x.now) (drop (i + 1) xs))))) refused
+      ∙ adds-append first now (pieces start end (map (λ x. x.now) (take i xs)))
+          (pieces start end (map (λ x. x.now) (get_or xs i d ∷ drop (i + 1) xs))) led
+      ∙ ap (result_and_then
+          (λ (s : EncoderState). with_shards s (pieces start end (map (λ x. x.now) (drop (i + 1) xs))))) refused

@@ -1,5 +1,6 @@
 -- The shards at k places of a codeword determine its message.
-use Rattle.std.proofs.Common.{rules, ◌≡◌, ℕ, zero, suc, ◌+◌, ◌-◌, ◌%◌, ◌<◌, ◌≤◌, ◌⊎◌, Bool, true, false, cond, List, ◌++◌, length, sym, ap, ◌∙◌, arith, inl, inr, pow_mono, refl, add-zero, add-suc}
+use Rattle.std.proofs.Common.{rules, ◌≡◌, ℕ, zero, suc, ◌+◌, ◌-◌, ◌%◌, ◌<◌, ◌≤◌, ◌⊎◌, Bool, true, false, cond, List}
+use Rattle.std.proofs.Common.{◌++◌, length, sym, ap, ◌∙◌, arith, inl, inr, pow_mono, refl, add-zero, add-suc}
 use Rattle.std.specs.Prelude.{slice_index, nat_lt, Option, Some, is_some}
 use Rattle.std.proofs.lemmas.Bool.{cases_lt, lt-ltb, le-ltb}
 use Rattle.std.proofs.lemmas.List.{get_or_append_left, get_or-append_right, length-map, map-append}
@@ -33,7 +34,8 @@ below_or-then k f g x h = ap (λ (b : Bool). cond b (f x) (g (x - k))) (le-ltb x
 
 -- ---- points
 
--- The points of a codeword are distinct from the known zeros, and k points and all known zeros are as many as the coefficients.
+-- The points of a codeword are distinct from the known zeros, and k points and all known zeros are as many as the
+-- coefficients.
 record IsSpread (p : Placement) (k r : ℕ) : Type 0 where
   originals : p.originals_from + k ≡ p.zeros_from
   recovery : p.recovery_from + r ≤ 65536
@@ -49,17 +51,21 @@ point : Placement → ℕ → ℕ → ℕ
 point p k x = below_or k (λ i. p.originals_from + i) (λ i. p.recovery_from + i) x
 
 -- Each point is the point of an original or of a recovery shard.
-point_cases : (p : Placement) (k r x : ℕ) → x < k + r → ((x < k) × (point p k x ≡ p.originals_from + x)) ⊎ ((k ≤ x) × (x - k < r) × (point p k x ≡ p.recovery_from + (x - k)))
+point_cases : (p : Placement) (k r x : ℕ) → x < k + r → ((x < k) × (point p k x ≡ p.originals_from + x))
+    ⊎ ((k ≤ x) × (x - k < r) × (point p k x ≡ p.recovery_from + (x - k)))
 unfolding point
 point_cases p k r x h = grind (arith, common_steps, cases_lt, below_or-first, below_or-then)
 
 -- A point is a word and is not a known zero.
-point_apart : (p : Placement) (k r x : ℕ) → IsSpread p k r → x < k + r → (point p k x < 65536) × ((point p k x < p.zeros_from) ⊎ (p.zeros_to ≤ point p k x))
+point_apart : (p : Placement) (k r x : ℕ) → IsSpread p k r → x < k + r → (point p k x < 65536)
+    × ((point p k x < p.zeros_from) ⊎ (p.zeros_to ≤ point p k x))
 point_apart p k r x s hx =
     elim (point_cases p k r x hx) [
       | inl first ↦ (omega (arith, first.0, first.1), inl (omega (arith, first.0, first.1)))
       | inr later ↦
-          (omega (arith, later.1, later.2), elim (s.apart (x - k) later.1) [ inl past ↦ inr (omega (arith, later.2, past)) | inr before ↦ inl (omega (arith, later.2, before)) ])
+          (omega (arith, later.1, later.2), elim
+              (s.apart (x - k) later.1)
+              [ inl past ↦ inr (omega (arith, later.2, past)) | inr before ↦ inl (omega (arith, later.2, before)) ])
     ]
 
 -- Different places have different points.
@@ -68,10 +74,14 @@ point_once p k r x y s hx hy same =
     elim (point_cases p k r x hx) [
       | inl a ↦ elim (point_cases p k r y hy) [
         | inl b ↦ omega (arith, a.1, b.1)
-        | inr b ↦ absurd (elim (s.apart (y - k) b.1) [ inl past ↦ omega (arith, a.0, a.1, b.2, past) | inr before ↦ omega (arith, a.0, a.1, b.2, before) ])
+        | inr b ↦ absurd (elim
+            (s.apart (y - k) b.1)
+            [ inl past ↦ omega (arith, a.0, a.1, b.2, past) | inr before ↦ omega (arith, a.0, a.1, b.2, before) ])
       ]
       | inr a ↦ elim (point_cases p k r y hy) [
-        | inl b ↦ absurd (elim (s.apart (x - k) a.1) [ inl past ↦ omega (arith, b.0, b.1, a.2, past) | inr before ↦ omega (arith, b.0, b.1, a.2, before) ])
+        | inl b ↦ absurd (elim
+            (s.apart (x - k) a.1)
+            [ inl past ↦ omega (arith, b.0, b.1, a.2, past) | inr before ↦ omega (arith, b.0, b.1, a.2, before) ])
         | inr b ↦ omega (arith, a.0, a.2, b.0, b.2)
       ]
     ]
@@ -79,8 +89,11 @@ point_once p k r x y s hx hy same =
 -- ---- polynomials
 
 -- Two polynomials that code and have the same values at the points of k places are equal.
-fixed_by_points : (rate : Rate) (k r : ℕ) (words other p o : List ℕ) (place : ℕ → ℕ) → supports rate k r ≡ true → Codes rate k r words p → Codes rate k r other o
-    → ArePlaces k (k + r) place → ((i : ℕ) → i < k → value p (point (placement rate k r) k (place i)) ≡ value o (point (placement rate k r) k (place i))) → p ≡ o
+fixed_by_points : (rate : Rate) (k r : ℕ) (words other p o : List ℕ) (place : ℕ → ℕ) → supports rate k r ≡ true
+    → Codes rate k r words p → Codes rate k r other o
+    → ArePlaces k (k + r) place
+    → ((i : ℕ) → i < k → value p (point (placement rate k r) k (place i))
+        ≡ value o (point (placement rate k r) k (place i))) → p ≡ o
 fixed_by_points rate k r words other p o place is cp co are same = by_spread (spread_of (has_frame rate k r is))
   where
     spread_of : HasFrame rate k r → IsSpread (placement rate k r) k r
@@ -91,21 +104,27 @@ fixed_by_points rate k r words other p o place is cp co are same = by_spread (sp
     at = below_or k (λ i. point (placement rate k r) k (place i)) (λ i. (placement rate k r).zeros_from + i)
 
     at_place : (i : ℕ) → i < k → at i ≡ point (placement rate k r) k (place i)
-    at_place i h = below_or-first k (λ n. point (placement rate k r) k (place n)) (λ n. (placement rate k r).zeros_from + n) i h
+    at_place i h = below_or-first k (λ n. point (placement rate k r) k (place n))
+        (λ n. (placement rate k r).zeros_from + n) i h
 
     at_zero : (i : ℕ) → k ≤ i → at i ≡ (placement rate k r).zeros_from + (i - k)
-    at_zero i h = below_or-then k (λ n. point (placement rate k r) k (place n)) (λ n. (placement rate k r).zeros_from + n) i h
+    at_zero i h = below_or-then k (λ n. point (placement rate k r) k (place n))
+        (λ n. (placement rate k r).zeros_from + n) i h
 
     by_spread : IsSpread (placement rate k r) k r → p ≡ o
     by_spread s =
-        same_from_values (placement rate k r).degree_bound p o cp.degree co.degree (words_from p cp.coefficients) (words_from o co.coefficients) at
+        same_from_values (placement rate k r).degree_bound p o cp.degree co.degree (words_from p cp.coefficients)
+            (words_from o co.coefficients) at
         (λ i hi. elim (cases_lt i k) [
-          | inl few ↦ omega (arith, at_place i few, (point_apart (placement rate k r) k r (place i) s (are.below i few)).0)
+          | inl few ↦ omega (arith, at_place i few,
+              (point_apart (placement rate k r) k r (place i) s (are.below i few)).0)
           | inr zero_point ↦ omega (arith, at_zero i zero_point)
         ])
         (λ i j hi hj e. elim (cases_lt i k) [
           | inl few ↦ elim (cases_lt j k) [
-            | inl more ↦ are.once i j few more (point_once (placement rate k r) k r (place i) (place j) s (are.below i few) (are.below j more) (sym (at_place i few) ∙ e ∙ at_place j more))
+            | inl more ↦ are.once i j few more
+                (point_once (placement rate k r) k r (place i) (place j) s (are.below i few) (are.below j more)
+                (sym (at_place i few) ∙ e ∙ at_place j more))
             | inr zero_point ↦ absurd (elim (point_apart (placement rate k r) k r (place i) s (are.below i few)).1 [
               | inl before ↦ omega (arith, at_place i few, at_zero j zero_point, e, before)
               | inr past ↦ omega (arith, at_place i few, at_zero j zero_point, e, past)
@@ -129,21 +148,28 @@ fixed_by_points rate k r words other p o place is cp co are same = by_spread (sp
 -- ---- shards
 
 -- The word of a codeword at a place is the polynomial's value at the point of the place.
-codeword_word : (rate : Rate) (k r x : ℕ) (message recovery p : List ℕ) → Codes rate k r message p → ((i : ℕ) → i < r → slice_index recovery i ≡ value p ((placement rate k r).recovery_from + i))
+codeword_word : (rate : Rate) (k r x : ℕ) (message recovery p : List ℕ) → Codes rate k r message p
+    → ((i : ℕ) → i < r → slice_index recovery i ≡ value p ((placement rate k r).recovery_from + i))
     → length message ≡ k → x < k + r → value p (point (placement rate k r) k x) ≡ slice_index (message ++ recovery) x
 codeword_word rate k r x message recovery p codes at size hx =
     elim (point_cases (placement rate k r) k r x hx) [
-      | inl own ↦ ap (value p) own.1 ∙ codes.originals x own.0 ∙ sym (get_or_append_left message recovery 0 x (omega (arith, own.0)))
-      | inr coded ↦ ap (value p) coded.2 ∙ sym (at (x - k) coded.1) ∙ sym (get_or-append_right message recovery k x 0 size coded.0)
+      | inl own ↦ ap (value p) own.1 ∙ codes.originals x own.0
+          ∙ sym (get_or_append_left message recovery 0 x (omega (arith, own.0)))
+      | inr coded ↦ ap (value p) coded.2 ∙ sym (at (x - k) coded.1)
+          ∙ sym (get_or-append_right message recovery k x 0 size coded.0)
     ]
 
 -- The polynomial's value at the point of a place is the column of the shard at this place.
-codeword_column : (rate : Rate) (k r j x : ℕ) (message recovery : List Shard) (p : List ℕ) → Codes rate k r (columns j message) p
-    → ((i : ℕ) → i < r → slice_index (columns j recovery) i ≡ value p ((placement rate k r).recovery_from + i)) → length message ≡ k → x < k + r
+codeword_column : (rate : Rate) (k r j x : ℕ) (message recovery : List Shard) (p : List ℕ)
+    → Codes rate k r (columns j message) p
+    → ((i : ℕ) → i < r → slice_index (columns j recovery) i ≡ value p ((placement rate k r).recovery_from + i))
+    → length message ≡ k → x < k + r
     → value p (point (placement rate k r) k x) ≡ column j (shard_at (message ++ recovery) x)
 codeword_column rate k r j x message recovery p codes at size hx =
-    codeword_word rate k r x (columns j message) (columns j recovery) p codes at (length-map message (column j) ∙ size) hx
-    ∙ ap (λ (ws : List ℕ). slice_index ws x) (sym (map-append (column j) message recovery)) ∙ columns-at j (message ++ recovery) x
+    codeword_word rate k r x (columns j message) (columns j recovery) p codes at
+        (length-map message (column j) ∙ size) hx
+    ∙ ap (λ (ws : List ℕ). slice_index ws x) (sym (map-append (column j) message recovery))
+    ∙ columns-at j (message ++ recovery) x
 
 -- Messages whose codewords agree at k places are equal.
 pub fixed_by_places : (c : Configuration) (one other one_recovery other_recovery : List Shard) (place : ℕ → ℕ)
@@ -151,26 +177,34 @@ pub fixed_by_places : (c : Configuration) (one other one_recovery other_recovery
     → AreShards c.original_count c.shard_bytes one → AreShards c.original_count c.shard_bytes other
     → AreRecovery c one one_recovery → AreRecovery c other other_recovery
     → ArePlaces c.original_count (c.original_count + c.recovery_count) place
-    → ((i : ℕ) → i < c.original_count → shard_at (one ++ one_recovery) (place i) ≡ shard_at (other ++ other_recovery) (place i)) → one ≡ other
+    → ((i : ℕ) → i < c.original_count
+        → shard_at (one ++ one_recovery) (place i) ≡ shard_at (other ++ other_recovery) (place i)) → one ≡ other
 fixed_by_places c one other one_recovery other_recovery place is even a b recovery_a recovery_b are same =
-    shards_from_columns c.original_count c.shard_bytes one other a b even (λ i j hi hj. in_column i j hi (recovery_a.words j hj) (recovery_b.words j hj))
+    shards_from_columns c.original_count c.shard_bytes one other a b even
+        (λ i j hi hj. in_column i j hi (recovery_a.words j hj) (recovery_b.words j hj))
   where
-    in_column : (i j : ℕ) → i < c.original_count → AreRecoveryWords c.rate c.original_count c.recovery_count (columns j one) (columns j one_recovery)
-        → AreRecoveryWords c.rate c.original_count c.recovery_count (columns j other) (columns j other_recovery) → slice_index (columns j one) i ≡ slice_index (columns j other) i
+    in_column : (i j : ℕ) → i < c.original_count
+        → AreRecoveryWords c.rate c.original_count c.recovery_count (columns j one) (columns j one_recovery)
+        → AreRecoveryWords c.rate c.original_count c.recovery_count (columns j other) (columns j other_recovery)
+        → slice_index (columns j one) i ≡ slice_index (columns j other) i
     in_column i j hi (p, codes_p, at_p) (o, codes_o, at_o) =
         sym (codes_p.originals i hi)
         ∙ ap (λ (q : List ℕ). value q ((placement c.rate c.original_count c.recovery_count).originals_from + i))
-        (fixed_by_points c.rate c.original_count c.recovery_count (columns j one) (columns j other) p o place is codes_p codes_o are
+        (fixed_by_points c.rate c.original_count c.recovery_count (columns j one)
+            (columns j other) p o place is codes_p codes_o are
         (λ n hn.
-        codeword_column c.rate c.original_count c.recovery_count j (place n) one one_recovery p codes_p at_p a.length_is (are.below n hn)
+        codeword_column c.rate c.original_count c.recovery_count j (place n) one one_recovery p codes_p at_p a.length_is
+            (are.below n hn)
         ∙ ap (column j) (same n hn)
-        ∙ sym (codeword_column c.rate c.original_count c.recovery_count j (place n) other other_recovery o codes_o at_o b.length_is (are.below n hn))))
+        ∙ sym (codeword_column c.rate c.original_count c.recovery_count j
+            (place n) other other_recovery o codes_o at_o b.length_is (are.below n hn))))
         ∙ codes_o.originals i hi
 
 -- ---- places of given shards
 
 -- The indexes below n that have a shard, as places.
-pub places_given : (n : ℕ) (given : Shards) → (place : ℕ → ℕ) × ArePlaces (count_below n given) n place × ((i : ℕ) → i < count_below n given → is_some (given (place i)) ≡ true)
+pub places_given : (n : ℕ) (given : Shards) → (place : ℕ → ℕ) × ArePlaces (count_below n given) n place
+    × ((i : ℕ) → i < count_below n given → is_some (given (place i)) ≡ true)
 places_given zero given = (
   λ i. i,
   record {
@@ -181,23 +215,34 @@ places_given zero given = (
 )
 places_given (suc n) given = with_last (places_given n given) (is_some (given n)) refl
   where
-    with_last : (place : ℕ → ℕ) × ArePlaces (count_below n given) n place × ((i : ℕ) → i < count_below n given → is_some (given (place i)) ≡ true)
+    with_last : (place : ℕ → ℕ) × ArePlaces (count_below n given) n place
+        × ((i : ℕ) → i < count_below n given → is_some (given (place i)) ≡ true)
         → (b : Bool) → is_some (given n) ≡ b
-        → (place : ℕ → ℕ) × ArePlaces (count_below (suc n) given) (suc n) place × ((i : ℕ) → i < count_below (suc n) given → is_some (given (place i)) ≡ true)
+        → (place : ℕ → ℕ) × ArePlaces (count_below (suc n) given) (suc n) place
+        × ((i : ℕ) → i < count_below (suc n) given → is_some (given (place i)) ≡ true)
     with_last (place, are, some) false e =
-        let count : count_below (suc n) given ≡ count_below n given = count_below-suc n given ∙ ap (λ (b : Bool). count_below n given + cond b 1 0) e ∙ add-zero (count_below n given) in (
+        let count : count_below (suc n) given ≡ count_below n given =
+            count_below-suc n given ∙ ap (λ (b : Bool). count_below n given + cond b 1 0) e
+            ∙ add-zero (count_below n given) in (
           place,
-          record { below = λ i h. (let b = are.below i (omega arith) in omega arith); once = λ i j h k. are.once i j (omega arith) (omega arith) },
+          record { below = λ i h.
+              (let b = are.below i (omega arith) in omega arith); once = λ i j h k.
+              are.once i j (omega arith) (omega arith) },
           λ i h. some i (omega arith),
         )
     with_last (place, are, some) true e =
         let m : ℕ = count_below n given in
-        let count : count_below (suc n) given ≡ count_below n given + 1 = count_below-suc n given ∙ ap (λ (b : Bool). count_below n given + cond b 1 0) e in
-        let first : (i : ℕ) → i < count_below n given → below_or m place (λ i. n) i ≡ place i = λ i h. below_or-first m place (λ i. n) i h in
-        let last : (i : ℕ) → count_below n given ≤ i → below_or m place (λ i. n) i ≡ n = λ i h. below_or-then m place (λ i. n) i h in (
+        let count : count_below (suc n) given ≡ count_below n given + 1 =
+            count_below-suc n given ∙ ap (λ (b : Bool). count_below n given + cond b 1 0) e in
+        let first : (i : ℕ) → i < count_below n given → below_or m place (λ i. n) i ≡ place i = λ i h.
+            below_or-first m place (λ i. n) i h in
+        let last : (i : ℕ) → count_below n given ≤ i → below_or m place (λ i. n) i ≡ n = λ i h.
+            below_or-then m place (λ i. n) i h in (
           below_or m place (λ i. n),
           record {
-            below = λ i h. elim (cases_lt i m) [ inl few ↦ (let b = are.below i few in omega (arith, first i few)) | inr end ↦ omega (arith, last i end) ];
+            below = λ i h. elim (cases_lt i m)
+                [ inl few ↦ (let b = are.below i few in omega (arith, first i few)) | inr end ↦
+                omega (arith, last i end) ];
             once = λ i j h k same. elim (cases_lt i m) [
               | inl few ↦ elim (cases_lt j m) [
                 | inl more ↦ are.once i j few more (sym (first i few) ∙ same ∙ first j more)
@@ -219,18 +264,27 @@ places_given (suc n) given = with_last (places_given n given) (is_some (given n)
 pub by_place : ℕ → Shards → Shards → Shards
 by_place k originals recovery = below_or k originals recovery
 
-pub count-by_place : (k r : ℕ) (originals recovery : Shards) → count_below (k + r) (by_place k originals recovery) ≡ count_below k originals + count_below r recovery
+pub count-by_place : (k r : ℕ) (originals recovery : Shards)
+    → count_below (k + r) (by_place k originals recovery) ≡ count_below k originals + count_below r recovery
 unfolding by_place
-count-by_place k zero originals recovery = search (rules, below_or, add-zero, count_below-same, below_or-first, count_below-zero)
+count-by_place k zero originals recovery =
+    search (rules, below_or, add-zero, count_below-same, below_or-first, count_below-zero)
 count-by_place k (suc r) originals recovery =
-    let rest : count_below (k + r) (below_or k originals recovery) ≡ count_below k originals + count_below r recovery = count-by_place k r originals recovery in
-    let here : below_or k originals recovery (k + r) ≡ recovery r = below_or-then k originals recovery (k + r) (omega arith) ∙ ap recovery (omega arith) in
-    let last : count_below (suc (k + r)) (below_or k originals recovery) ≡ count_below (k + r) (below_or k originals recovery) + cond (is_some (recovery r)) 1 0
-    = count_below-suc (k + r) (below_or k originals recovery) ∙ ap (λ (o : Option Shard). count_below (k + r) (below_or k originals recovery) + cond (is_some o) 1 0) here in
-    ap (λ n. count_below n (below_or k originals recovery)) (add-suc k r) ∙ last ∙ (let more = count_below-suc r recovery in omega arith)
+    let rest : count_below (k + r) (below_or k originals recovery) ≡ count_below k originals + count_below r recovery =
+        count-by_place k r originals recovery in
+    let here : below_or k originals recovery (k + r) ≡ recovery r =
+        below_or-then k originals recovery (k + r) (omega arith) ∙ ap recovery (omega arith) in
+    let last : count_below (suc (k + r)) (below_or k originals recovery)
+        ≡ count_below (k + r) (below_or k originals recovery) + cond (is_some (recovery r)) 1 0
+    = count_below-suc (k + r) (below_or k originals recovery)
+        ∙ ap (λ (o : Option Shard). count_below (k + r) (below_or k originals recovery) + cond (is_some o) 1 0) here in
+    ap (λ n. count_below n (below_or k originals recovery)) (add-suc k r) ∙ last
+        ∙ (let more = count_below-suc r recovery in omega arith)
 
 -- A given shard is at its place in the codeword of each message that agrees.
-pub codeword_given : (c : Configuration) (originals recovery : Shards) (message : List Shard) (a : Agrees c originals recovery message) (x : ℕ) (shard : Shard)
+pub codeword_given : (c : Configuration) (originals recovery : Shards) (message : List Shard)
+    (a : Agrees c originals recovery message) (x : ℕ) (shard : Shard)
     → by_place c.original_count originals recovery x ≡ Some shard → shard_at (message ++ a.coded.0) x ≡ shard
 unfolding by_place
-codeword_given c originals recovery message a x shard e = search (rules, cases_lt, get_or_append_left, below_or-first, get_or-append_right, below_or-then)
+codeword_given c originals recovery message a x shard e =
+    search (rules, cases_lt, get_or_append_left, below_or-first, get_or-append_right, below_or-then)

@@ -1,5 +1,6 @@
 -- Every rate has a frame for supported counts.
-use Rattle.std.proofs.Common.{rules, ◌≡◌, ℕ, ◌+◌, ◌-◌, ◌^◌, ◌≤◌, Bool, true, false, cond, min, max, refl, sym, ap, ◌∙◌, arith, pow_mono, subst}
+use Rattle.std.proofs.Common.{rules, ◌≡◌, ℕ, ◌+◌, ◌-◌, ◌^◌, ◌≤◌, Bool, true, false, cond, min, max, refl, sym, ap, ◌∙◌}
+use Rattle.std.proofs.Common.{arith, pow_mono, subst}
 use Rattle.rs_field.specs.code.Counts.{Rate, low_rate, high_rate, default_rate, next_power, supports, is_low}
 use Rattle.rs_field.specs.code.Placement.{low_placement, high_placement, placement, decoder_rows}
 use Rattle.rs_field.proofs.of_code.NextPower.{next_power-small, next_power-above}
@@ -13,7 +14,8 @@ low_frame k r fit most =
     let n = next_power-small (next_power k + r) fit in (n.0, n.2, grind (arith, n.2, n.3, n.1))
 
 pub high_frame : (k r : ℕ) → next_power r + k ≤ 65536 → r ≤ next_power r
-    → (e : ℕ) × (next_power (next_power r + k) ≡ 2 ^ e) × IsFrame (high_placement k r) k r e (2 ^ e - next_power r) (2 ^ e)
+    → (e : ℕ) × (next_power (next_power r + k) ≡ 2 ^ e)
+    × IsFrame (high_placement k r) k r e (2 ^ e - next_power r) (2 ^ e)
 unfolding high_placement
 high_frame k r fit most =
     let n = next_power-small (next_power r + k) fit in
@@ -27,7 +29,8 @@ pub record HasFrame (rate : Rate) (k r : ℕ) : Type 0 where
   pub rows : decoder_rows rate k r ≡ 2 ^ exponent
   pub frame : IsFrame (placement rate k r) k r exponent bound zeros_end
 
-pub frame_by : (rate : Rate) (k r : ℕ) → (is_low rate k r ≡ true → next_power k + r ≤ 65536) → (is_low rate k r ≡ false → next_power r + k ≤ 65536) → HasFrame rate k r
+pub frame_by : (rate : Rate) (k r : ℕ) → (is_low rate k r ≡ true → next_power k + r ≤ 65536)
+    → (is_low rate k r ≡ false → next_power r + k ≤ 65536) → HasFrame rate k r
 unfolding placement decoder_rows
 frame_by rate k r low high = by_rate (is_low rate k r) refl
   where
@@ -40,7 +43,9 @@ frame_by rate k r low high = by_rate (is_low rate k r) refl
           bound = next_power k;
           zeros_end = next_power k;
           rows = ap (λ b. cond b (next_power (next_power k + r)) (next_power (next_power r + k))) e ∙ f.1;
-          frame = subst (λ (b : Bool). IsFrame (cond b (low_placement k) (high_placement k r)) k r f.0 (next_power k) (next_power k)) (sym e) f.2;
+          frame = subst (λ (b : Bool).
+              IsFrame (cond b (low_placement k) (high_placement k r)) k r f.0 (next_power k) (next_power k))
+              (sym e) f.2;
         }
     by_rate false e =
         let f = high_frame k r (high e) (next_power-above r (omega arith)) in
@@ -49,7 +54,9 @@ frame_by rate k r low high = by_rate (is_low rate k r) refl
           bound = 2 ^ f.0 - next_power r;
           zeros_end = 2 ^ f.0;
           rows = ap (λ b. cond b (next_power (next_power k + r)) (next_power (next_power r + k))) e ∙ f.1;
-          frame = subst (λ (b : Bool). IsFrame (cond b (low_placement k) (high_placement k r)) k r f.0 (2 ^ f.0 - next_power r) (2 ^ f.0)) (sym e) f.2;
+          frame = subst (λ (b : Bool).
+              IsFrame (cond b (low_placement k) (high_placement k r)) k r f.0 (2 ^ f.0 - next_power r) (2 ^ f.0))
+              (sym e) f.2;
         }
 
 -- For supported counts, the rate has a frame.

@@ -1,5 +1,7 @@
--- A decode by strips: the bytes in the rooms after some strips, and the proof that the rooms hold the restored originals after all strips.
-use Rattle.std.proofs.Common.{◌≡◌, ℕ, zero, suc, ◌+◌, ◌-◌, ◌/◌, ◌%◌, ◌<◌, ◌≤◌, ◌⊎◌, Bool, true, false, cond, List, [], ◌++◌, length, take, drop, get_or, All, refl, sym, ap, ap₂, ◌∙◌, subst, inl, inr, arith}
+-- A decode by strips: the bytes in the rooms after some strips, and the proof that the rooms hold the restored
+-- originals after all strips.
+use Rattle.std.proofs.Common.{◌≡◌, ℕ, zero, suc, ◌+◌, ◌-◌, ◌/◌, ◌%◌, ◌<◌, ◌≤◌, ◌⊎◌, Bool, true, false, cond, List, []}
+use Rattle.std.proofs.Common.{◌++◌, length, take, drop, get_or, All, refl, sym, ap, ap₂, ◌∙◌, subst, inl, inr, arith}
 use Rattle.std.specs.Prelude.{Some, None, is_some, unwrap_or, not, ◌&&◌, nat_le, nat_lt, Result, Ok, Err}
 use Rattle.std.specs.List.{between}
 use Rattle.std.specs.Option.{option_map}
@@ -12,7 +14,8 @@ use Rattle.rs_field.specs.declared.code.error.Error.{Error}
 use Rattle.rs_field.specs.declared.code.error.Error.TheVariants.{InconsistentShards, NotEnoughShards}
 use Rattle.rs_field.specs.code.Column.{Shard, column}
 use Rattle.rs_field.specs.code.Counts.{supports}
-use Rattle.rs_field.specs.code.Decoder.{DecoderState, IsAgreeing, originals_given, recovery_given, enough_given, missing_of, Restored, NoneAgrees}
+use Rattle.rs_field.specs.code.Decoder.{DecoderState, IsAgreeing, originals_given, recovery_given, enough_given}
+use Rattle.rs_field.specs.code.Decoder.{missing_of, Restored, NoneAgrees}
 use Rattle.rs_field.specs.code.Given.{Shards, AreWithin, Consistent, Lists, items_below, count_below}
 use Rattle.rs_field.specs.code.OneCall.{Items}
 use Rattle.rs_field.specs.code.Pieces.{pieces, IsStrip, ArePut, room_length}
@@ -25,14 +28,16 @@ use Rattle.rs_field.proofs.of_code.Given.{count_below-zero, count_below-suc}
 use Rattle.rs_field.proofs.of_code.Listed.{length-listed}
 use Rattle.rs_field.proofs.of_code.ListedMaps.{lists-same, listed-changed, listed-all}
 use Rattle.rs_field.proofs.of_code.Pieces.{put-length, room-from, room-further, room-whole}
-use Rattle.rs_field.proofs.of_code.PieceStates.{is_some-map, agrees-cut, restored-cut, consistent-whole, AreConsistentBelow}
+use Rattle.rs_field.proofs.of_code.PieceStates.{is_some-map, agrees-cut, restored-cut, consistent-whole}
+use Rattle.rs_field.proofs.of_code.PieceStates.{AreConsistentBelow}
 use Rattle.rs_field.proofs.of_code.RateFrames.{has_frame}
 
 -- ---- numbers of pieces
 
 -- The outcome of the check for enough shards, from the numbers of given shards.
 abbrev by_counts : ℕ → ℕ → ℕ → Result (Unit {0}) Error
-by_counts k originals recovery = cond (nat_lt (originals + recovery) k) (Err (NotEnoughShards k originals recovery)) (Ok tt)
+by_counts k originals recovery =
+    cond (nat_lt (originals + recovery) k) (Err (NotEnoughShards k originals recovery)) (Ok tt)
 
 module _ (start end : ℕ) where
   -- The number of given pieces is the number of given shards.
@@ -40,7 +45,8 @@ module _ (start end : ℕ) where
   count-pieces zero given = count_below-zero (pieces_of start end given) ∙ sym (count_below-zero given)
   count-pieces (suc n) given =
       count_below-suc n (pieces_of start end given)
-      ∙ ap₂ (λ (m : ℕ) (b : Bool). m + cond b 1 0) (count-pieces n given) (is_some-map start end (given n)) ∙ sym (count_below-suc n given)
+      ∙ ap₂ (λ (m : ℕ) (b : Bool). m + cond b 1 0) (count-pieces n given) (is_some-map start end (given n))
+      ∙ sym (count_below-suc n given)
 
   -- There are enough pieces exactly if there are enough shards.
   pub enough-pieces : (s : DecoderState) → enough_given (state_of_pieces start end s) ≡ enough_given s
@@ -60,7 +66,8 @@ module _ (start end : ℕ) where
         surplus = omega (arith, none.surplus, own, other);
         none = λ some. none.none (
           pieces start end some.0,
-          agrees-cut start end c.rate c.original_count c.recovery_count c.shard_bytes s.originals s.recovery some.0 strip some.1,
+          agrees-cut start end c.rate c.original_count c.recovery_count c.shard_bytes s.originals s.recovery some.0
+              strip some.1,
         );
       }
 
@@ -69,12 +76,15 @@ module _ (start end : ℕ) where
 -- The word of column j at a point: the word of the original or the recovery shard that has this point.
 word_at : Placement → ℕ → Shards → Shards → ℕ → ℕ → ℕ
 word_at p k originals recovery j x =
-    cond (nat_le p.originals_from x && nat_lt x (p.originals_from + k)) (column j (unwrap_or (originals (x - p.originals_from)) []))
+    cond (nat_le p.originals_from x && nat_lt x (p.originals_from + k))
+        (column j (unwrap_or (originals (x - p.originals_from)) []))
     (column j (unwrap_or (recovery (x - p.recovery_from)) []))
 
 -- The words at the points of given shards are words of these shards.
-has-words : (p : Placement) (k r e bound zeros_end size j : ℕ) (originals recovery : Shards) → IsFrame p k r e bound zeros_end
-    → AreSized k size originals → AreSized r size recovery → HasWords p originals recovery j (word_at p k originals recovery j)
+has-words : (p : Placement) (k r e bound zeros_end size j : ℕ) (originals recovery : Shards)
+    → IsFrame p k r e bound zeros_end
+    → AreSized k size originals → AreSized r size recovery
+    → HasWords p originals recovery j (word_at p k originals recovery j)
 unfolding word_at
 has-words p k r e bound zeros_end size j originals recovery frame own_sized coded_sized =
     record {
@@ -83,7 +93,8 @@ has-words p k r e bound zeros_end size j originals recovery frame own_sized code
           let from : p.originals_from ≤ p.originals_from + i = omega arith in
           let to : p.originals_from + i < p.originals_from + k = omega (arith, below) in
           let place : p.originals_from + i - p.originals_from ≡ i = omega arith in
-          rw (le-leb p.originals_from (p.originals_from + i) from, lt-ltb (p.originals_from + i) (p.originals_from + k) to, place, is) refl;
+          rw (le-leb p.originals_from (p.originals_from + i) from, lt-ltb (p.originals_from + i)
+              (p.originals_from + k) to, place, is) refl;
       coded = λ i s is.
           let below = (coded_sized.each i s is).0 in
           let place : p.recovery_from + i - p.recovery_from ≡ i = omega arith in
@@ -99,12 +110,16 @@ has-words p k r e bound zeros_end size j originals recovery frame own_sized code
     apart : (i : ℕ) → i < r → p.recovery_from + i < p.originals_from + k → p.recovery_from + i < p.originals_from
     apart i below less =
         elim frame.order [
-          | inl first ↦ absurd (let zeros = frame.zeros in let no : ⊥ = omega (arith, first.0, first.1, zeros.0, frame.follow, less) in no)
+          | inl first ↦ absurd
+              (let zeros = frame.zeros in let no : ⊥ = omega (arith, first.0, first.1, zeros.0, frame.follow, less) in
+              no)
           | inr later ↦ omega (arith, later.0, later.1, below)
         ]
 
-    by_first : (b : Bool) (i : ℕ) (s : Shard) → p.recovery_from + i - p.recovery_from ≡ i → recovery i ≡ Some s → p.originals_from + k ≤ p.recovery_from + i
-        → cond (b && nat_lt (p.recovery_from + i) (p.originals_from + k)) (column j (unwrap_or (originals (p.recovery_from + i - p.originals_from)) []))
+    by_first : (b : Bool) (i : ℕ) (s : Shard) → p.recovery_from + i - p.recovery_from ≡ i → recovery i ≡ Some s
+        → p.originals_from + k ≤ p.recovery_from + i
+        → cond (b && nat_lt (p.recovery_from + i) (p.originals_from + k))
+            (column j (unwrap_or (originals (p.recovery_from + i - p.originals_from)) []))
         (column j (unwrap_or (recovery (p.recovery_from + i - p.recovery_from)) [])) ≡ column j s
     by_first true i s place is past = rw (le-ltb (p.recovery_from + i) (p.originals_from + k) past, place, is) refl
     by_first false i s place is past = rw (place, is) refl
@@ -114,90 +129,120 @@ sized-within : (count size : ℕ) (given : Shards) → AreWithin count size give
 sized-within count size given within =
     record {
       each = λ i shard is. (
-        elim (cases_lt i count) [ inl inside ↦ inside | inr past ↦ absurd (none-some shard (sym (within.none_past i past) ∙ is)) ],
+        elim (cases_lt i count)
+            [ inl inside ↦ inside | inr past ↦ absurd (none-some shard (sym (within.none_past i past) ∙ is)) ],
         within.sized i shard is,
       );
     }
 
 -- If the pieces in all strips are consistent, the shards are consistent.
-all-consistent : (s : DecoderState) → supports s.configuration.rate s.configuration.original_count s.configuration.recovery_count ≡ true
-    → s.configuration.shard_bytes % 2 ≡ 0 → AreSized s.configuration.original_count s.configuration.shard_bytes s.originals
+all-consistent : (s : DecoderState)
+    → supports s.configuration.rate s.configuration.original_count s.configuration.recovery_count ≡ true
+    → s.configuration.shard_bytes % 2 ≡ 0
+    → AreSized s.configuration.original_count s.configuration.shard_bytes s.originals
     → AreSized s.configuration.recovery_count s.configuration.shard_bytes s.recovery
-    → AreConsistentBelow s.configuration.rate s.configuration.original_count s.configuration.recovery_count s.configuration.shard_bytes s.originals s.recovery s.configuration.shard_bytes
+    → AreConsistentBelow s.configuration.rate s.configuration.original_count s.configuration.recovery_count
+        s.configuration.shard_bytes s.originals s.recovery s.configuration.shard_bytes
     → Consistent s.configuration s.originals s.recovery
 all-consistent s supported even own_sized coded_sized each =
     let c = s.configuration in
     let p = placement c.rate c.original_count c.recovery_count in
     let h = has_frame c.rate c.original_count c.recovery_count supported in
-    consistent-whole c.rate c.original_count c.recovery_count c.shard_bytes s.originals s.recovery (word_at p c.original_count s.originals s.recovery) even own_sized coded_sized
-    (λ j inside. has-words p c.original_count c.recovery_count h.exponent h.bound h.zeros_end c.shard_bytes j s.originals s.recovery h.frame own_sized coded_sized) each
+    consistent-whole c.rate c.original_count c.recovery_count c.shard_bytes s.originals s.recovery
+        (word_at p c.original_count s.originals s.recovery) even own_sized coded_sized
+    (λ j inside. has-words p c.original_count c.recovery_count h.exponent h.bound h.zeros_end c.shard_bytes j
+        s.originals s.recovery h.frame own_sized coded_sized) each
 
 -- ---- rooms
 
-some-missing : (s : DecoderState) (message : List Shard) (i : ℕ) → i < s.configuration.original_count → is_some (missing_of s message i) ≡ not (is_some (s.originals i))
+some-missing : (s : DecoderState) (message : List Shard) (i : ℕ) → i < s.configuration.original_count
+    → is_some (missing_of s message i) ≡ not (is_some (s.originals i))
 unfolding missing_of
 some-missing s message i inside =
-    ap (λ b. is_some (cond (b && not (is_some (s.originals i))) (Some (get_or message i [])) None)) (lt-ltb i s.configuration.original_count inside)
+    ap (λ b. is_some (cond (b && not (is_some (s.originals i))) (Some (get_or message i [])) None))
+        (lt-ltb i s.configuration.original_count inside)
     ∙ by_test (is_some (s.originals i))
   where
     by_test : (b : Bool) → is_some (cond (not b) (Some (get_or message i [])) None) ≡ not b
     by_test true = refl
     by_test false = refl
 
-pub missing-past : (s : DecoderState) (message : List Shard) (i : ℕ) → s.configuration.original_count ≤ i → missing_of s message i ≡ None
+pub missing-past : (s : DecoderState) (message : List Shard) (i : ℕ) → s.configuration.original_count ≤ i
+    → missing_of s message i ≡ None
 unfolding missing_of
-missing-past s message i outside = ap (λ a. cond (a && not (is_some (s.originals i))) (Some (get_or message i [])) None) (le-ltb i s.configuration.original_count outside)
+missing-past s message i outside =
+    ap (λ a. cond (a && not (is_some (s.originals i))) (Some (get_or message i [])) None)
+    (le-ltb i s.configuration.original_count outside)
 
 -- Each original is either missing or given.
-pub count-missing : (s : DecoderState) (message : List Shard) → count_below s.configuration.original_count (missing_of s message) + originals_given s ≡ s.configuration.original_count
+pub count-missing : (s : DecoderState) (message : List Shard)
+    → count_below s.configuration.original_count (missing_of s message) + originals_given s
+    ≡ s.configuration.original_count
 count-missing s message = below s.configuration.original_count (omega arith)
   where
     by_test : (a b n : ℕ) → a + b ≡ n → (given : Bool) → (a + cond (not given) 1 0) + (b + cond given 1 0) ≡ suc n
     by_test a b n is true = omega (arith, is)
     by_test a b n is false = omega (arith, is)
 
-    below : (n : ℕ) → n ≤ s.configuration.original_count → count_below n (missing_of s message) + count_below n s.originals ≡ n
+    below : (n : ℕ) → n ≤ s.configuration.original_count
+        → count_below n (missing_of s message) + count_below n s.originals ≡ n
     below zero h = ap₂ (λ (a b : ℕ). a + b) (count_below-zero (missing_of s message)) (count_below-zero s.originals)
     below (suc n) h =
         ap₂ (λ (a b : ℕ). a + b)
-        (count_below-suc n (missing_of s message) ∙ ap (λ b. count_below n (missing_of s message) + cond b 1 0) (some-missing s message n (omega arith)))
+        (count_below-suc n (missing_of s message)
+            ∙ ap (λ b. count_below n (missing_of s message) + cond b 1 0) (some-missing s message n (omega arith)))
         (count_below-suc n s.originals)
-        ∙ by_test (count_below n (missing_of s message)) (count_below n s.originals) n (below n (omega arith)) (is_some (s.originals n))
+        ∙ by_test (count_below n (missing_of s message)) (count_below n s.originals) n (below n (omega arith))
+            (is_some (s.originals n))
 
 -- The missing shards of a message, in order of index.
 abbrev pub missing_shards : DecoderState → List Shard → List Shard
 missing_shards s message = shards_listed (items_below s.configuration.original_count (missing_of s message))
 
-missing-lists : (s : DecoderState) (message : List Shard) → Lists (missing_of s message) (items_below s.configuration.original_count (missing_of s message))
-missing-lists s message = record { count = s.configuration.original_count; none_past = missing-past s message; in_order = refl }
+missing-lists : (s : DecoderState) (message : List Shard)
+    → Lists (missing_of s message) (items_below s.configuration.original_count (missing_of s message))
+missing-lists s message =
+    record { count = s.configuration.original_count; none_past = missing-past s message; in_order = refl }
 
 -- The missing shards of a message are as many as originals are missing.
-missing-number : (s : DecoderState) (message : List Shard) → length (missing_shards s message) + originals_given s ≡ s.configuration.original_count
+missing-number : (s : DecoderState) (message : List Shard)
+    → length (missing_shards s message) + originals_given s ≡ s.configuration.original_count
 missing-number s message =
     let k = s.configuration.original_count in
-    ap (λ (n : ℕ). n + originals_given s) (length-map (items_below k (missing_of s message)) (λ item. item.1) ∙ length-listed k (missing_of s message)) ∙ count-missing s message
+    ap (λ (n : ℕ). n + originals_given s)
+        (length-map (items_below k (missing_of s message)) (λ item. item.1) ∙ length-listed k (missing_of s message))
+        ∙ count-missing s message
 
 -- The missing shards of a message have the shard size.
-missing-sized : (s : DecoderState) (message : List Shard) → IsAgreeing s message → All (λ x. length x ≡ s.configuration.shard_bytes) (missing_shards s message)
+missing-sized : (s : DecoderState) (message : List Shard) → IsAgreeing s message
+    → All (λ x. length x ≡ s.configuration.shard_bytes) (missing_shards s message)
 unfolding missing_of
 missing-sized s message agrees =
     listed-all (λ x. length x ≡ s.configuration.shard_bytes) s.configuration.original_count 0 (missing_of s message)
     (λ i x is. by_test i x (cases_lt i s.configuration.original_count) (is_some (s.originals i)) is)
   where
-    by_test : (i : ℕ) (x : Shard) → (i < s.configuration.original_count) ⊎ (s.configuration.original_count ≤ i) → (b : Bool)
-        → cond (nat_lt i s.configuration.original_count && not b) (Some (get_or message i [])) None ≡ Some x → length x ≡ s.configuration.shard_bytes
-    by_test i x (inl inside) true found = absurd (let found = rw (lt-ltb i s.configuration.original_count inside) at found in let no : ⊥ = cc in no)
+    by_test : (i : ℕ) (x : Shard) → (i < s.configuration.original_count) ⊎ (s.configuration.original_count ≤ i)
+        → (b : Bool)
+        → cond (nat_lt i s.configuration.original_count && not b) (Some (get_or message i [])) None ≡ Some x
+        → length x ≡ s.configuration.shard_bytes
+    by_test i x (inl inside) true found =
+        absurd (let found = rw (lt-ltb i s.configuration.original_count inside) at found in let no : ⊥ = cc in no)
     by_test i x (inl inside) false found =
         let found = rw (lt-ltb i s.configuration.original_count inside) at found in
-        ap length (sym (ap (λ o. unwrap_or o x) found)) ∙ (agrees.shards.each i [] (omega (arith, inside, agrees.shards.length_is))).length_is
-    by_test i x (inr past) b found = absurd (let found = rw (le-ltb i s.configuration.original_count past) at found in let no : ⊥ = cc in no)
+        ap length (sym (ap (λ o. unwrap_or o x) found))
+            ∙ (agrees.shards.each i [] (omega (arith, inside, agrees.shards.length_is))).length_is
+    by_test i x (inr past) b found =
+        absurd (let found = rw (le-ltb i s.configuration.original_count past) at found in let no : ⊥ = cc in no)
 
--- The strips below a byte are restored: their pieces are consistent, and each room holds the first bytes of the missing shard of each message that agrees.
+-- The strips below a byte are restored: their pieces are consistent, and each room holds the first bytes of the missing
+-- shard of each message that agrees.
 pub record IsRestoredBelow (s : DecoderState) (grows : Bool) (bound : ℕ) (rooms : List Shard) : Type 0 where
-  pub consistent : AreConsistentBelow s.configuration.rate s.configuration.original_count s.configuration.recovery_count s.configuration.shard_bytes s.originals s.recovery bound
+  pub consistent : AreConsistentBelow s.configuration.rate s.configuration.original_count s.configuration.recovery_count
+      s.configuration.shard_bytes s.originals s.recovery bound
   pub number : length rooms + originals_given s ≡ s.configuration.original_count
   pub fit : All (λ room. length room ≡ room_length grows bound s.configuration.shard_bytes) rooms
-  pub held : (message : List Shard) → IsAgreeing s message → (i : ℕ) → i < length rooms → take bound (get_or rooms i []) ≡ take bound (get_or (missing_shards s message) i [])
+  pub held : (message : List Shard) → IsAgreeing s message → (i : ℕ) → i < length rooms
+      → take bound (get_or rooms i []) ≡ take bound (get_or (missing_shards s message) i [])
 
 -- Joining a piece to the first bytes of a shard gives more first bytes.
 take-joined : (start : ℕ) (old piece rest : Shard) → start ≤ length old
@@ -208,18 +253,21 @@ take-joined start old piece rest inside =
     ∙ take-append-add (take start old) (piece ++ rest) (length piece)
     ∙ ap (λ (l : Shard). take start old ++ l) (take-append_seam piece rest)
 
-module _ (s : DecoderState) (grows : Bool) (start end : ℕ) (out : Shards) (items : Items) (strip : IsStrip start end s.configuration.shard_bytes)
+module _ (s : DecoderState) (grows : Bool) (start end : ℕ) (out : Shards) (items : Items)
+    (strip : IsStrip start end s.configuration.shard_bytes)
     (restored : Restored (state_of_pieces start end s) out) (listing : Lists out items) where
   -- The listed items are the missing pieces.
   items-are : shards_listed items ≡ missing_shards (state_of_pieces start end s) restored.message
   items-are =
       ap shards_listed (lists-same (missing_of (state_of_pieces start end s) restored.message) items _
-      (subst (λ (g : Shards). Lists g items) (fun_ext restored.missing) listing) (missing-lists (state_of_pieces start end s) restored.message))
+      (subst (λ (g : Shards). Lists g items) (fun_ext restored.missing) listing)
+          (missing-lists (state_of_pieces start end s) restored.message))
 
   -- The listed items are as many as originals are missing.
   pub pieces-number : length items + originals_given s ≡ s.configuration.original_count
   pieces-number =
-      ap₂ (λ (a b : ℕ). a + b) (sym (length-map items (λ item. item.1)) ∙ ap length items-are) (sym (count-pieces start end s.configuration.original_count s.originals))
+      ap₂ (λ (a b : ℕ). a + b) (sym (length-map items (λ item. item.1)) ∙ ap length items-are)
+          (sym (count-pieces start end s.configuration.original_count s.originals))
       ∙ missing-number (state_of_pieces start end s) restored.message
 
   pub pieces-sized : All (λ x. length x ≡ end - start) (shards_listed items)
@@ -228,31 +276,40 @@ module _ (s : DecoderState) (grows : Bool) (start end : ℕ) (out : Shards) (ite
       (missing-sized (state_of_pieces start end s) restored.message restored.agrees)
 
   -- The listed items are the pieces of the missing shards of each message that agrees.
-  items-cut : (message : List Shard) → IsAgreeing s message → shards_listed items ≡ pieces start end (missing_shards s message)
+  items-cut : (message : List Shard) → IsAgreeing s message
+      → shards_listed items ≡ pieces start end (missing_shards s message)
   items-cut message agrees =
       let k = s.configuration.original_count in
-      let same : out ≡ (λ i. option_map (λ x. between start end x) (missing_of s message i)) = fun_ext (restored-cut start end s message out strip agrees restored) in
-      ap shards_listed (lists-same (missing_of (state_of_pieces start end s) restored.message) items (items_below k (missing_of (state_of_pieces start end s) restored.message))
-      (subst (λ (g : Shards). Lists g items) (fun_ext restored.missing) listing) (missing-lists (state_of_pieces start end s) restored.message))
+      let same : out ≡ (λ i. option_map (λ x. between start end x) (missing_of s message i)) =
+          fun_ext (restored-cut start end s message out strip agrees restored) in
+      ap shards_listed (lists-same (missing_of (state_of_pieces start end s) restored.message) items
+          (items_below k (missing_of (state_of_pieces start end s) restored.message))
+      (subst (λ (g : Shards). Lists g items) (fun_ext restored.missing) listing)
+          (missing-lists (state_of_pieces start end s) restored.message))
       ∙ ap (λ (g : Shards). shards_listed (items_below k g)) (sym (fun_ext restored.missing) ∙ same)
       ∙ listed-changed (λ x. between start end x) k 0 (missing_of s message)
 
   -- After the listed items are put into the rooms, one more strip is restored.
-  pub restored-further : (old new : List Shard) → ArePut start end (shards_listed items) old new → IsRestoredBelow s grows start old → IsRestoredBelow s grows end new
+  pub restored-further : (old new : List Shard) → ArePut start end (shards_listed items) old new
+      → IsRestoredBelow s grows start old → IsRestoredBelow s grows end new
   restored-further old new put before =
       let c = s.configuration in
       let number = length-map items (λ item. item.1) in
       let all = pieces-number in
       let inside : All (λ x. start ≤ length x) old = (λ i d h.
       let n = before.fit i d h in
-      let from = room-from grows start c.shard_bytes (let le : start ≤ s.configuration.shard_bytes = omega (arith, strip.order, strip.inside) in le) in
+      let from = room-from grows start c.shard_bytes
+          (let le : start ≤ s.configuration.shard_bytes = omega (arith, strip.order, strip.inside) in le) in
       omega (arith, n, from)) in
       let as_many : length (shards_listed items) ≡ length old = omega (arith, number, all, before.number) in
       let size : (i : ℕ) → i < length old → start + length (get_or (shards_listed items) i []) ≡ end = (λ i h.
-      let piece = pieces-sized i [] (omega (arith, number, all, before.number, h)) in omega (arith, piece, strip.order)) in
-      let at : (i : ℕ) → i < length old → take end (get_or new i []) ≡ take start (get_or old i []) ++ get_or (shards_listed items) i [] =
+      let piece = pieces-sized i [] (omega (arith, number, all, before.number, h)) in omega (arith, piece, strip.order))
+          in
+      let at : (i : ℕ) → i < length old
+          → take end (get_or new i []) ≡ take start (get_or old i []) ++ get_or (shards_listed items) i [] =
       (λ i h. ap₂ (λ (n : ℕ) (x : Shard). take n x) (sym (size i h)) (put.1 i h)
-      ∙ take-joined start (get_or old i []) (get_or (shards_listed items) i []) (drop end (get_or old i [])) (inside i [] h)) in
+      ∙ take-joined start (get_or old i []) (get_or (shards_listed items) i []) (drop end (get_or old i []))
+          (inside i [] h)) in
       record {
         consistent = λ j inside. elim (cases_lt j (start / 2)) [
           | inl low ↦ before.consistent j low
@@ -261,24 +318,30 @@ module _ (s : DecoderState) (grows : Bool) (start end : ℕ) (out : Shards) (ite
         number = ap (λ (n : ℕ). n + originals_given s) put.0 ∙ before.number;
         fit = λ i d h.
             let here : i < length old = omega (arith, h, put.0) in
-            ap length (get_or_default new i d [] h) ∙ put-length start end (shards_listed items) old new put strip.order inside as_many pieces-sized i here
-            ∙ ap (λ (n : ℕ). end + (n - end)) (before.fit i [] here) ∙ room-further grows start end c.shard_bytes strip.order strip.inside;
+            ap length (get_or_default new i d [] h)
+                ∙ put-length start end (shards_listed items) old new put strip.order inside as_many pieces-sized i here
+            ∙ ap (λ (n : ℕ). end + (n - end)) (before.fit i [] here)
+            ∙ room-further grows start end c.shard_bytes strip.order strip.inside;
         held = λ message agrees i h.
             let here : i < length old = omega (arith, h, put.0) in
             let n = missing-number s message in
             let shard : Shard = get_or (missing_shards s message) i [] in
-            let cut : get_or (shards_listed items) i [] ≡ take (end - start) (drop start (get_or (missing_shards s message) i [])) =
+            let cut : get_or (shards_listed items) i []
+                ≡ take (end - start) (drop start (get_or (missing_shards s message) i [])) =
             ap (λ (l : List Shard). get_or l i []) (items-cut message agrees)
-            ∙ get_or-map (λ x. between start end x) (missing_shards s message) i [] [] (omega (arith, here, before.number, n)) in
+            ∙ get_or-map (λ x. between start end x) (missing_shards s message) i [] []
+                (omega (arith, here, before.number, n)) in
             at i here ∙ ap₂ (λ (a b : Shard). a ++ b) (before.held message agrees i here) cut
             ∙ sym (take-add start (end - start) (get_or (missing_shards s message) i []))
-            ∙ ap (λ (n : ℕ). take n (get_or (missing_shards s message) i [])) (let e : start + (end - start) ≡ end = omega (arith, strip.order) in e);
+            ∙ ap (λ (n : ℕ). take n (get_or (missing_shards s message) i []))
+                (let e : start + (end - start) ≡ end = omega (arith, strip.order) in e);
       }
 
 -- After all strips are restored, the rooms hold the restored originals.
 pub restored-all : (s : DecoderState) (grows : Bool) (rooms : List Shard)
     → supports s.configuration.rate s.configuration.original_count s.configuration.recovery_count ≡ true
-    → s.configuration.shard_bytes % 2 ≡ 0 → AreWithin s.configuration.original_count s.configuration.shard_bytes s.originals
+    → s.configuration.shard_bytes % 2 ≡ 0
+    → AreWithin s.configuration.original_count s.configuration.shard_bytes s.originals
     → AreWithin s.configuration.recovery_count s.configuration.shard_bytes s.recovery
     → s.configuration.original_count ≤ originals_given s + recovery_given s
     → IsRestoredBelow s grows s.configuration.shard_bytes rooms → HoldRestored s rooms
@@ -310,8 +373,10 @@ module _ (s : DecoderState) (rooms : List Shard) (holds : HoldRestored s rooms) 
   held-are : rooms ≡ missing_shards s holds.restored.message
   held-are =
       holds.held
-      ∙ ap shards_listed (lists-same (missing_of s holds.restored.message) holds.items (items_below s.configuration.original_count (missing_of s holds.restored.message))
-      (subst (λ (g : Shards). Lists g holds.items) (fun_ext holds.restored.missing) holds.listed) (missing-lists s holds.restored.message))
+      ∙ ap shards_listed (lists-same (missing_of s holds.restored.message) holds.items
+          (items_below s.configuration.original_count (missing_of s holds.restored.message))
+      (subst (λ (g : Shards). Lists g holds.items) (fun_ext holds.restored.missing) holds.listed)
+          (missing-lists s holds.restored.message))
 
   -- Rooms that hold the restored originals are as many as originals are missing.
   pub held-number : length rooms + originals_given s ≡ s.configuration.original_count

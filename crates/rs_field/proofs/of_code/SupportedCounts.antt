@@ -16,11 +16,13 @@ pub high_fits : (k r : ℕ) → supports high_rate k r ≡ true → (0 < k) × (
 unfolding supports
 high_fits k r is = fits k r (next_power r + k) is
 
-pub default_fits : (k r : ℕ) → supports default_rate k r ≡ true → (0 < k) × (0 < r) × (min (next_power k) (next_power r) + max k r ≤ 65536)
+pub default_fits : (k r : ℕ) → supports default_rate k r ≡ true → (0 < k) × (0 < r)
+    × (min (next_power k) (next_power r) + max k r ≤ 65536)
 unfolding supports
 default_fits k r is = fits k r (min (next_power k) (next_power r) + max k r) is
 
--- If the default rate is the low rate, the power of k is at most the power of r. Otherwise the power of r is at most the power of k.
+-- If the default rate is the low rate, the power of k is at most the power of r. Otherwise the power of r is at most
+-- the power of k.
 pub low_powers : (k r : ℕ) → is_low default_rate k r ≡ true → next_power k ≤ next_power r
 unfolding is_low
 low_powers k r low = grind (arith, common_steps)

@@ -1,5 +1,6 @@
 -- The layers of a block of rows, from the effect of butterflies on the range of its chunks.
-use Rattle.std.proofs.Common.{◌≡◌, ℕ, ◌+◌, ◌-◌, ◌*◌, ◌/◌, ◌<◌, ◌≤◌, List, true, false, length, take, drop, get_or, ap, sym, subst, ◌∙◌, arith}
+use Rattle.std.proofs.Common.{◌≡◌, ℕ, ◌+◌, ◌-◌, ◌*◌, ◌/◌, ◌<◌, ◌≤◌, List, true, false, length, take, drop, get_or, ap}
+use Rattle.std.proofs.Common.{sym, subst, ◌∙◌, arith}
 use Rattle.std.proofs.lemmas.Grind.{common_steps}
 use borrow.Rule.Slice.PartMut.{put_mid}
 use Rattle.rs_field.specs.rows.Rows.{Chunks, chunk}
@@ -20,10 +21,12 @@ of_part : (ch : Chunks) (a m p : ℕ) → p < m → chunk (take m (drop a ch)) p
 of_part ch a m p below = grind (arith, common_steps)
 
 -- A chunk of a part is a chunk of the list into which the part was written.
-of_written : (ch part : Chunks) (a m p : ℕ) → a + m ≤ length ch → length part ≡ m → p < m → chunk part p ≡ chunk (put_mid a m ch part) (a + p)
+of_written : (ch part : Chunks) (a m p : ℕ) → a + m ≤ length ch → length part ≡ m → p < m
+    → chunk part p ≡ chunk (put_mid a m ch part) (a + p)
 of_written ch part a m p within long below = grind (arith, common_steps)
 
-module _ (block : Block) (old : ShardsRefMut) (fits : Fits old) (within : block.pos + block.size ≤ old.shard_count) where
+module _ (block : Block) (old : ShardsRefMut) (fits : Fits old)
+    (within : block.pos + block.size ≤ old.shard_count) where
   abbrev n : ℕ
   n = old.shard_len_64
 
@@ -43,20 +46,25 @@ module _ (block : Block) (old : ShardsRefMut) (fits : Fits old) (within : block.
   pub block_long : length given ≡ block.size * n
   block_long = grind (arith, common_steps, whole, end)
 
-  module _ (new : ShardsRefMut) (part : Chunks) (len : new.shard_len_64 ≡ n) (written : new.chunks.now ≡ put_mid (block.pos * n) m old.chunks.now part) (long : length part ≡ block.size * n) where
+  module _ (new : ShardsRefMut) (part : Chunks) (len : new.shard_len_64 ≡ n)
+      (written : new.chunks.now ≡ put_mid (block.pos * n) m old.chunks.now part)
+      (long : length part ≡ block.size * n) where
     -- Chunk p of the block is chunk k of row r.
     old_cell : (p k r : ℕ) → p < block.size * n → block.pos * n + p ≡ r * n + k → chunk given p ≡ cell old k r
     unfolding cell
-    old_cell p k r below is = of_part old.chunks.now (block.pos * n) m p (omega (arith, whole, below)) ∙ ap (λ i. chunk old.chunks.now i) is
+    old_cell p k r below is = of_part old.chunks.now (block.pos * n) m p (omega (arith, whole, below))
+        ∙ ap (λ i. chunk old.chunks.now i) is
 
     new_cell : (p k r : ℕ) → p < block.size * n → block.pos * n + p ≡ r * n + k → chunk part p ≡ cell new k r
     unfolding cell
     new_cell p k r below is =
         of_written old.chunks.now part (block.pos * n) m p end (long ∙ sym whole) (omega (arith, whole, below))
-        ∙ ap (λ i. chunk (put_mid (block.pos * n) m old.chunks.now part) i) is ∙ ap (λ chunks. chunk chunks (r * n + k)) (sym written)
+        ∙ ap (λ i. chunk (put_mid (block.pos * n) m old.chunks.now part) i) is
+        ∙ ap (λ chunks. chunk chunks (r * n + k)) (sym written)
         ∙ ap (λ l. chunk new.chunks.now (r * l + k)) (sym len)
 
-    module _ (large : 1 < block.size) (direction : Direction) (skew : List ℕ) (table : IsSkew skew) (k s : ℕ) (hk : k < n) (hs : s < 32) where
+    module _ (large : 1 < block.size) (direction : Direction) (skew : List ℕ) (table : IsSkew skew) (k s : ℕ)
+        (hk : k < n) (hs : s < 32) where
       -- The rows of a block are among those of the tables.
       in_table : IsBlock skew block.size block.skew_delta
       in_table = record {
@@ -68,10 +76,12 @@ module _ (block : Block) (old : ShardsRefMut) (fits : Fits old) (within : block.
       }
 
       abbrev Made : ℕ → ℕ → Type 0
-      Made size rows = AreLayers direction size rows block.skew_delta (λ q. word old k s (block.pos + q)) (λ q. word new k s (block.pos + q))
+      Made size rows = AreLayers direction size rows block.skew_delta (λ q. word old k s (block.pos + q))
+          (λ q. word new k s (block.pos + q))
 
       pub one_layer_made : is_halved block.size ≡ true
-          → ((p : ℕ) → p < block.size / 2 * n → IsButterfly direction (get_or skew (block.skew_delta + block.size / 2 - 1) 0)
+          → ((p : ℕ) → p < block.size / 2 * n
+              → IsButterfly direction (get_or skew (block.skew_delta + block.size / 2 - 1) 0)
           (chunk given p) (chunk given (block.size / 2 * n + p)) (chunk part p) (chunk part (block.size / 2 * n + p)))
           → Made block.size (rows_of_part block.size)
       one_layer_made halved pairs =
@@ -79,7 +89,8 @@ module _ (block : Block) (old : ShardsRefMut) (fits : Fits old) (within : block.
           let twice : block.size ≡ h + h = block_halves block large in
           let rows : block.size * n ≡ h * n + h * n = omega (arith, ap (λ v. v * n) twice) in
           let of_rows : (q : ℕ) → q < h → IsButterfly direction (get_or skew (block.skew_delta + h - 1) 0)
-          (cell old k (block.pos + q)) (cell old k (block.pos + h + q)) (cell new k (block.pos + q)) (cell new k (block.pos + h + q)) = λ q hq.
+          (cell old k (block.pos + q)) (cell old k (block.pos + h + q)) (cell new k (block.pos + q))
+              (cell new k (block.pos + h + q)) = λ q hq.
           let p : ℕ = q * n + k in
           let below : p < h * n = row_within q h k n hq hk in
           let pair = pairs p below in
@@ -95,22 +106,31 @@ module _ (block : Block) (old : ShardsRefMut) (fits : Fits old) (within : block.
           ) at pair in
           subst (λ (r : ℕ). Made block.size r) (sym (part_of_halved block.size halved))
           (subst (λ (v : ℕ). Made v h) (sym twice)
-          (layer_of_halves direction skew h block.skew_delta block.pos k s old new (subst (λ (v : ℕ). IsBlock skew v block.skew_delta) twice in_table) hs of_rows))
+          (layer_of_halves direction skew h block.skew_delta block.pos k s old new
+              (subst (λ (v : ℕ). IsBlock skew v block.skew_delta) twice in_table) hs of_rows))
 
       pub two_layers_made : is_halved block.size ≡ false
-          → ((p : ℕ) → p < block.size / 4 * n → AreTwoLayers direction (get_or skew (block.skew_delta + 2 * (block.size / 4) - 1) 0)
-          (get_or skew (block.skew_delta + block.size / 4 - 1) 0) (get_or skew (block.skew_delta + 2 * (block.size / 4) + block.size / 4 - 1) 0)
-          (chunk given p) (chunk given (block.size / 4 * n + p)) (chunk given (2 * (block.size / 4 * n) + p)) (chunk given (3 * (block.size / 4 * n) + p))
-          (chunk part p) (chunk part (block.size / 4 * n + p)) (chunk part (2 * (block.size / 4 * n) + p)) (chunk part (3 * (block.size / 4 * n) + p)))
+          → ((p : ℕ) → p < block.size / 4 * n
+              → AreTwoLayers direction (get_or skew (block.skew_delta + 2 * (block.size / 4) - 1) 0)
+          (get_or skew (block.skew_delta + block.size / 4 - 1) 0)
+              (get_or skew (block.skew_delta + 2 * (block.size / 4) + block.size / 4 - 1) 0)
+          (chunk given p) (chunk given (block.size / 4 * n + p)) (chunk given (2 * (block.size / 4 * n) + p))
+              (chunk given (3 * (block.size / 4 * n) + p))
+          (chunk part p) (chunk part (block.size / 4 * n + p)) (chunk part (2 * (block.size / 4 * n) + p))
+              (chunk part (3 * (block.size / 4 * n) + p)))
           → Made block.size (rows_of_part block.size)
       two_layers_made more fours =
           let h : ℕ = block.size / 4 in
           let times : block.size ≡ 4 * h = block_quarters block large more in
           let rows : block.size * n ≡ 4 * (h * n) = omega (arith, ap (λ v. v * n) times) in
-          let of_rows : (q : ℕ) → q < h → AreTwoLayers direction (get_or skew (block.skew_delta + 2 * h - 1) 0) (get_or skew (block.skew_delta + h - 1) 0)
+          let of_rows : (q : ℕ) → q < h
+              → AreTwoLayers direction (get_or skew (block.skew_delta + 2 * h - 1) 0)
+              (get_or skew (block.skew_delta + h - 1) 0)
           (get_or skew (block.skew_delta + 2 * h + h - 1) 0)
-          (cell old k (block.pos + q)) (cell old k (block.pos + h + q)) (cell old k (block.pos + 2 * h + q)) (cell old k (block.pos + 3 * h + q))
-          (cell new k (block.pos + q)) (cell new k (block.pos + h + q)) (cell new k (block.pos + 2 * h + q)) (cell new k (block.pos + 3 * h + q)) = λ q hq.
+          (cell old k (block.pos + q)) (cell old k (block.pos + h + q)) (cell old k (block.pos + 2 * h + q))
+              (cell old k (block.pos + 3 * h + q))
+          (cell new k (block.pos + q)) (cell new k (block.pos + h + q)) (cell new k (block.pos + 2 * h + q))
+              (cell new k (block.pos + 3 * h + q)) = λ q hq.
           let p : ℕ = q * n + k in
           let below : p < h * n = row_within q h k n hq hk in
           let four = fours p below in
@@ -134,4 +154,5 @@ module _ (block : Block) (old : ShardsRefMut) (fits : Fits old) (within : block.
           ) at four in
           subst (λ (r : ℕ). Made block.size r) (sym (part_of_more block.size more))
           (subst (λ (v : ℕ). Made v h) (sym times)
-          (layers_of_four direction skew h block.skew_delta block.pos k s old new (subst (λ (v : ℕ). IsBlock skew v block.skew_delta) times in_table) hs of_rows))
+          (layers_of_four direction skew h block.skew_delta block.pos k s old new
+              (subst (λ (v : ℕ). IsBlock skew v block.skew_delta) times in_table) hs of_rows))

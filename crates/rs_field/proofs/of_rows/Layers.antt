@@ -1,5 +1,7 @@
--- One layer of butterflies between the halves of a block, and two layers between its quarters, for one symbol of the rows.
-use Rattle.std.proofs.Common.{rules, ◌≡◌, ℕ, suc, ◌+◌, ◌-◌, ◌*◌, ◌%◌, ◌^◌, ◌<◌, ◌≤◌, cond, nat_lt, List, get_or, bit_xor, sym, ap, ap₂, ◌∙◌, subst, arith, zero}
+-- One layer of butterflies between the halves of a block, and two layers between its quarters, for one symbol of the
+-- rows.
+use Rattle.std.proofs.Common.{rules, ◌≡◌, ℕ, suc, ◌+◌, ◌-◌, ◌*◌, ◌%◌, ◌^◌, ◌<◌, ◌≤◌, cond, nat_lt, List, get_or}
+use Rattle.std.proofs.Common.{bit_xor, sym, ap, ap₂, ◌∙◌, subst, arith, zero}
 use Rattle.std.proofs.Math.Nat.{mul-le-mul_right}
 use Rattle.std.proofs.lemmas.Grind.{common_steps}
 use Rattle.rs_field.specs.words.Field.{product}
@@ -7,7 +9,8 @@ use Rattle.rs_field.specs.words.Subspace.{subspace}
 use Rattle.rs_field.specs.words.Transform.{forward}
 use Rattle.rs_field.specs.words.Tables.{IsSkew, times_factor}
 use Rattle.rs_field.specs.rows.Pairs.{IsForwardTwo, IsBackwardTwo}
-use Rattle.rs_field.specs.rows.TwoLayers.{forward_first, forward_second, backward_first, backward_second, IsForwardFour, IsBackwardFour}
+use Rattle.rs_field.specs.rows.TwoLayers.{forward_first, forward_second, backward_first, backward_second, IsForwardFour}
+use Rattle.rs_field.specs.rows.TwoLayers.{IsBackwardFour}
 use Rattle.rs_field.specs.rows.Layers.{ArePartsOf}
 use Rattle.rs_field.proofs.of_words.Combination.{forward-same, lower_half, upper_half}
 use Rattle.rs_field.proofs.of_words.Halves.{half_power, few_halves, shift_half, table_factor, xor_undo}
@@ -21,12 +24,14 @@ pub record IsBlock (skew : List ℕ) (size shift : ℕ) : Type 0 where
   pub points : shift + size ≤ 65536
 
 -- Both halves of a block of more than two rows are blocks.
-block_halves : (skew : List ℕ) (n shift : ℕ) → IsBlock skew (n + n) shift → 1 < n → IsBlock skew n shift × IsBlock skew n (shift + n)
+block_halves : (skew : List ℕ) (n shift : ℕ) → IsBlock skew (n + n) shift → 1 < n → IsBlock skew n shift
+    × IsBlock skew n (shift + n)
 block_halves skew n shift b large =
     let p = half_power (n + n) b.large b.power in
     let half : n ≡ 2 ^ p.0 = omega (arith, p.2) in
     let s = shift_half (n + n) p.0 shift p.1 b.aligned in (
-      record { table = b.table; large = large; power = (p.0, half); aligned = subst (λ (m : ℕ). shift % m ≡ 0) (sym half) s.0; points = omega (arith, b.points) },
+      record { table = b.table; large = large; power =
+          (p.0, half); aligned = subst (λ (m : ℕ). shift % m ≡ 0) (sym half) s.0; points = omega (arith, b.points) },
       record {
         table = b.table;
         large = large;
@@ -45,94 +50,121 @@ pub record IsLayer (skew : List ℕ) (half shift : ℕ) (f g : ℕ → ℕ) : Ty
   pub first : (q : ℕ) → q < half → g q ≡ bit_xor (f q) (times_factor (factor skew half shift) (f (half + q)))
   pub second : (q : ℕ) → q < half → g (half + q) ≡ bit_xor (f (half + q)) (g q)
 
-made : (skew : List ℕ) (n e shift : ℕ) (f g : ℕ → ℕ) → IsBlock skew (n + n) shift → n + n ≡ 2 ^ suc e → n ≡ 2 ^ e → IsLayer skew n shift f g
+made : (skew : List ℕ) (n e shift : ℕ) (f g : ℕ → ℕ) → IsBlock skew (n + n) shift → n + n ≡ 2 ^ suc e → n ≡ 2 ^ e
+    → IsLayer skew n shift f g
     → (q : ℕ) → q < 2 ^ e → g q ≡ bit_xor (f q) (product (f (2 ^ e + q)) (subspace e shift))
 made skew n e shift f g b is half l q hq = grind (arith, common_steps, table_factor)
 
 -- Transforming the first half of the words after one layer gives the first half of the transform of the whole.
-layer_low : (skew : List ℕ) (n shift i : ℕ) (f g : ℕ → ℕ) → IsBlock skew (n + n) shift → i < n → IsLayer skew n shift f g
+layer_low : (skew : List ℕ) (n shift i : ℕ) (f g : ℕ → ℕ) → IsBlock skew (n + n) shift → i < n
+    → IsLayer skew n shift f g
     → forward n shift g i ≡ forward (n + n) shift f i
 layer_low skew n shift i f g b hi l =
     let (e, is, part) = half_power (n + n) b.large b.power in
     let half : n ≡ 2 ^ e = omega (arith, part) in
     ap (λ m. forward m shift g i) half
     ∙ lower_half e shift f g i (few_halves (n + n) e shift is b.points) (subst (λ (m : ℕ). shift % m ≡ 0) is b.aligned)
-    (subst (λ (m : ℕ). shift + m ≤ 65536) is b.points) (subst (λ (m : ℕ). i < m) half hi) (made skew n e shift f g b is half l)
+    (subst (λ (m : ℕ). shift + m ≤ 65536) is b.points) (subst (λ (m : ℕ). i < m) half hi)
+        (made skew n e shift f g b is half l)
     ∙ ap (λ m. forward m shift f i) (sym is)
 
 -- Transforming the second half of the words after one layer gives the second half of the transform of the whole.
-layer_high : (skew : List ℕ) (n shift i : ℕ) (f g : ℕ → ℕ) → IsBlock skew (n + n) shift → i < n → IsLayer skew n shift f g
+layer_high : (skew : List ℕ) (n shift i : ℕ) (f g : ℕ → ℕ) → IsBlock skew (n + n) shift → i < n
+    → IsLayer skew n shift f g
     → forward n (shift + n) (λ q. g (n + q)) i ≡ forward (n + n) shift f (n + i)
 layer_high skew n shift i f g b hi l =
     let (e, is, part) = half_power (n + n) b.large b.power in
     let half : n ≡ 2 ^ e = omega (arith, part) in
     ap (λ m. forward m (shift + m) (λ q. g (n + q)) i) half
-    ∙ upper_half e shift f g (λ q. g (n + q)) i (few_halves (n + n) e shift is b.points) (subst (λ (m : ℕ). shift % m ≡ 0) is b.aligned)
-    (subst (λ (m : ℕ). shift + m ≤ 65536) is b.points) (subst (λ (m : ℕ). i < m) half hi) (made skew n e shift f g b is half l)
+    ∙ upper_half e shift f g (λ q. g (n + q)) i (few_halves (n + n) e shift is b.points)
+        (subst (λ (m : ℕ). shift % m ≡ 0) is b.aligned)
+    (subst (λ (m : ℕ). shift + m ≤ 65536) is b.points) (subst (λ (m : ℕ). i < m) half hi)
+        (made skew n e shift f g b is half l)
     (λ q hq. l.second q (subst (λ (m : ℕ). q < m) (sym half) hq) ∙ ap (λ m. bit_xor (f (m + q)) (g q)) half)
     ∙ ap₂ (λ m o. forward m shift f (o + i)) (sym is) (sym half)
 
 -- The transform of part j, with another name for the place where the part begins.
-as_part : (size n shift j i to at : ℕ) (f g : ℕ → ℕ) (place : ℕ → ℕ) → shift + j * n ≡ to → j * n + i ≡ at → ((q : ℕ) → j * n + q ≡ place q)
-    → forward n to (λ q. g (place q)) i ≡ forward size shift f at → forward n (shift + j * n) (λ q. g (j * n + q)) i ≡ forward size shift f (j * n + i)
+as_part : (size n shift j i to at : ℕ) (f g : ℕ → ℕ) (place : ℕ → ℕ) → shift + j * n ≡ to → j * n + i ≡ at
+    → ((q : ℕ) → j * n + q ≡ place q)
+    → forward n to (λ q. g (place q)) i ≡ forward size shift f at
+    → forward n (shift + j * n) (λ q. g (j * n + q)) i ≡ forward size shift f (j * n + i)
 as_part size n shift j i to at f g place e is same r = search (rules, forward-same)
 
 -- One layer leaves two parts of the transform.
-pub one_layer : (skew : List ℕ) (n shift : ℕ) (f g : ℕ → ℕ) → IsBlock skew (n + n) shift → IsLayer skew n shift f g → ArePartsOf (n + n) n shift f g
+pub one_layer : (skew : List ℕ) (n shift : ℕ) (f g : ℕ → ℕ) → IsBlock skew (n + n) shift → IsLayer skew n shift f g
+    → ArePartsOf (n + n) n shift f g
 one_layer skew n shift f g b l zero i hj hi =
-    as_part (n + n) n shift 0 i shift i f g (λ q. q) (omega arith) (omega arith) (λ q. omega arith) (layer_low skew n shift i f g b hi l)
+    as_part (n + n) n shift 0 i shift i f g (λ q. q) (omega arith) (omega arith) (λ q. omega arith)
+        (layer_low skew n shift i f g b hi l)
 one_layer skew n shift f g b l (suc zero) i hj hi =
-    as_part (n + n) n shift 1 i (shift + n) (n + i) f g (λ q. n + q) (omega arith) (omega arith) (λ q. omega arith) (layer_high skew n shift i f g b hi l)
-one_layer skew n shift f g b l (suc (suc j)) i hj hi = let le : 2 * n ≤ suc (suc j) * n = mul-le-mul_right n (omega arith) in absurd (omega arith)
+    as_part (n + n) n shift 1 i (shift + n) (n + i) f g (λ q. n + q) (omega arith) (omega arith) (λ q. omega arith)
+        (layer_high skew n shift i f g b hi l)
+one_layer skew n shift f g b l (suc (suc j)) i hj hi = let le : 2 * n ≤ suc (suc j) * n =
+    mul-le-mul_right n (omega arith) in absurd (omega arith)
 
 -- Two layers leave four parts of the transform.
-pub two_layers : (skew : List ℕ) (n shift : ℕ) (f g h : ℕ → ℕ) → IsBlock skew (n + n + (n + n)) shift → IsLayer skew (n + n) shift f g
-    → IsLayer skew n shift g h → IsLayer skew n (shift + (n + n)) (λ q. g (n + n + q)) (λ q. h (n + n + q)) → ArePartsOf (n + n + (n + n)) n shift f h
+pub two_layers : (skew : List ℕ) (n shift : ℕ) (f g h : ℕ → ℕ) → IsBlock skew (n + n + (n + n)) shift
+    → IsLayer skew (n + n) shift f g
+    → IsLayer skew n shift g h → IsLayer skew n (shift + (n + n)) (λ q. g (n + n + q)) (λ q. h (n + n + q))
+    → ArePartsOf (n + n + (n + n)) n shift f h
 two_layers skew n shift f g h b l low high = parts (block_halves skew (n + n) shift b (omega (arith, b.large)))
   where
-    parts : IsBlock skew (n + n) shift × IsBlock skew (n + n) (shift + (n + n)) → ArePartsOf (n + n + (n + n)) n shift f h
+    parts : IsBlock skew (n + n) shift × IsBlock skew (n + n) (shift + (n + n))
+        → ArePartsOf (n + n + (n + n)) n shift f h
     parts b2 zero i hj hi =
         as_part (n + n + (n + n)) n shift 0 i shift i f h (λ q. q) (omega arith) (omega arith) (λ q. omega arith)
         (layer_low skew n shift i g h b2.0 hi low ∙ layer_low skew (n + n) shift i f g b (omega arith) l)
     parts b2 (suc zero) i hj hi =
-        as_part (n + n + (n + n)) n shift 1 i (shift + n) (n + i) f h (λ q. n + q) (omega arith) (omega arith) (λ q. omega arith)
+        as_part (n + n + (n + n)) n shift 1 i (shift + n) (n + i) f h (λ q. n + q) (omega arith) (omega arith)
+            (λ q. omega arith)
         (layer_high skew n shift i g h b2.0 hi low ∙ layer_low skew (n + n) shift (n + i) f g b (omega arith) l)
     parts b2 (suc (suc zero)) i hj hi =
-        as_part (n + n + (n + n)) n shift 2 i (shift + (n + n)) (n + n + i) f h (λ q. n + n + q) (omega arith) (omega arith) (λ q. omega arith)
-        (layer_low skew n (shift + (n + n)) i (λ q. g (n + n + q)) (λ q. h (n + n + q)) b2.1 hi high ∙ layer_high skew (n + n) shift i f g b (omega arith) l)
+        as_part (n + n + (n + n)) n shift 2 i (shift + (n + n)) (n + n + i) f h (λ q. n + n + q) (omega arith)
+            (omega arith) (λ q. omega arith)
+        (layer_low skew n (shift + (n + n)) i (λ q. g (n + n + q)) (λ q. h (n + n + q)) b2.1 hi high
+            ∙ layer_high skew (n + n) shift i f g b (omega arith) l)
     parts b2 (suc (suc (suc zero))) i hj hi =
-        as_part (n + n + (n + n)) n shift 3 i (shift + (n + n) + n) (n + n + (n + i)) f h (λ q. n + n + (n + q)) (omega arith) (omega arith) (λ q. omega arith)
-        (layer_high skew n (shift + (n + n)) i (λ q. g (n + n + q)) (λ q. h (n + n + q)) b2.1 hi high ∙ layer_high skew (n + n) shift (n + i) f g b (omega arith) l)
-    parts b2 (suc (suc (suc (suc j)))) i hj hi = let le : 4 * n ≤ suc (suc (suc (suc j))) * n = mul-le-mul_right n (omega arith) in absurd (omega arith)
+        as_part (n + n + (n + n)) n shift 3 i (shift + (n + n) + n) (n + n + (n + i)) f h (λ q. n + n + (n + q))
+            (omega arith) (omega arith) (λ q. omega arith)
+        (layer_high skew n (shift + (n + n)) i (λ q. g (n + n + q)) (λ q. h (n + n + q)) b2.1 hi high
+            ∙ layer_high skew (n + n) shift (n + i) f g b (omega arith) l)
+    parts b2 (suc (suc (suc (suc j)))) i hj hi = let le : 4 * n ≤ suc (suc (suc (suc j))) * n =
+        mul-le-mul_right n (omega arith) in absurd (omega arith)
 
 -- ---- butterflies of four words
 
 -- The words between the two layers of butterflies.
 between : (log_m half : ℕ) (f : ℕ → ℕ) → ℕ → ℕ
-between log_m half f q = cond (nat_lt q half) (forward_first log_m (f q) (f (half + q))) (forward_second log_m (f (q - half)) (f q))
+between log_m half f q =
+    cond (nat_lt q half) (forward_first log_m (f q) (f (half + q))) (forward_second log_m (f (q - half)) (f q))
 
-between_first : (log_m half : ℕ) (f : ℕ → ℕ) (q : ℕ) → q < half → between log_m half f q ≡ forward_first log_m (f q) (f (half + q))
+between_first : (log_m half : ℕ) (f : ℕ → ℕ) (q : ℕ) → q < half
+    → between log_m half f q ≡ forward_first log_m (f q) (f (half + q))
 unfolding between
 between_first log_m half f q hq = grind (arith, common_steps)
 
-between_second : (log_m half : ℕ) (f : ℕ → ℕ) (q : ℕ) → between log_m half f (half + q) ≡ forward_second log_m (f q) (f (half + q))
+between_second : (log_m half : ℕ) (f : ℕ → ℕ) (q : ℕ)
+    → between log_m half f (half + q) ≡ forward_second log_m (f q) (f (half + q))
 unfolding between
 between_second log_m half f q = grind (arith, common_steps)
 
 -- A relation of four old words and four new words holds at each offset in the four quarters of n words.
 abbrev pub at_quarters : (ℕ → ℕ → ℕ → ℕ → ℕ → ℕ → ℕ → ℕ → Type 0) → ℕ → (ℕ → ℕ) → (ℕ → ℕ) → Type 0
 at_quarters related n f h =
-    (q : ℕ) → q < n → related (f q) (f (n + q)) (f (n + n + q)) (f (n + n + (n + q))) (h q) (h (n + q)) (h (n + n + q)) (h (n + n + (n + q)))
+    (q : ℕ) → q < n → related (f q) (f (n + q)) (f (n + n + q)) (f (n + n + (n + q))) (h q) (h (n + q)) (h (n + n + q))
+        (h (n + n + (n + q)))
 
 -- Forward butterflies of four words leave the four parts of the transform of a block.
 pub forward_parts : (skew : List ℕ) (n shift : ℕ) (f h : ℕ → ℕ) → IsBlock skew (n + n + (n + n)) shift
-    → at_quarters (IsForwardFour (factor skew (n + n) shift) (factor skew n shift) (factor skew n (shift + (n + n)))) n f h
+    → at_quarters (IsForwardFour (factor skew (n + n) shift) (factor skew n shift) (factor skew n (shift + (n + n)))) n
+        f h
     → ArePartsOf (n + n + (n + n)) n shift f h
 forward_parts skew n shift f h b four =
     two_layers skew n shift f g h b
     (record {
       first = λ q hq. between_first m (n + n) f q hq;
-      second = λ q hq. between_second m (n + n) f q ∙ ap (bit_xor (f (n + n + q))) (sym (between_first m (n + n) f q hq));
+      second = λ q hq. between_second m (n + n) f q
+          ∙ ap (bit_xor (f (n + n + q))) (sym (between_first m (n + n) f q hq));
     })
     (record {
       first = λ q hq. (four q hq).0 ∙ sym (ap₂ (forward_first (factor skew n shift)) (g0 q hq) (g1 q hq));
@@ -171,7 +203,8 @@ undo_second log_m x y = grind (arith, common_steps, undo_first, xor_undo)
 -- Two forward layers undo two backward layers.
 pub backward_undone : (m02 m01 m23 x0 x1 x2 x3 y0 y1 y2 y3 : ℕ) → IsBackwardFour m02 m01 m23 x0 x1 x2 x3 y0 y1 y2 y3
     → IsForwardFour m02 m01 m23 y0 y1 y2 y3 x0 x1 x2 x3
-backward_undone m02 m01 m23 x0 x1 x2 x3 y0 y1 y2 y3 (e0, e1, e2, e3) = grind (arith, common_steps, undo_first, undo_second)
+backward_undone m02 m01 m23 x0 x1 x2 x3 y0 y1 y2 y3 (e0, e1, e2, e3) =
+    grind (arith, common_steps, undo_first, undo_second)
 
 -- ---- rows
 
@@ -181,7 +214,8 @@ pair_undone log_m x y x' y' (first, second) = search (rules, xor_undo)
 
 -- Butterflies between the halves of a block of rows are one layer.
 pub half_rows : (skew : List ℕ) (n shift pos : ℕ) (f g : ℕ → ℕ) → IsBlock skew (n + n) shift
-    → ((q : ℕ) → q < n → IsForwardTwo (factor skew n shift) (f (pos + q)) (f (pos + n + q)) (g (pos + q)) (g (pos + n + q)))
+    → ((q : ℕ) → q < n → IsForwardTwo (factor skew n shift) (f (pos + q)) (f (pos + n + q)) (g (pos + q))
+        (g (pos + n + q)))
     → ArePartsOf (n + n) n shift (λ q. f (pos + q)) (λ q. g (pos + q))
 half_rows skew n shift pos f g b pair = search (rules, one_layer)
 
@@ -191,17 +225,21 @@ FourRows m02 m01 m23 f g a b c d = IsForwardFour m02 m01 m23 (f a) (f b) (f c) (
 
 -- Butterflies between the quarters of a block of rows are two layers.
 pub four_rows : (skew : List ℕ) (n shift pos : ℕ) (f g : ℕ → ℕ) → IsBlock skew (4 * n) shift
-    → ((q : ℕ) → q < n → FourRows (get_or skew (shift + 2 * n - 1) 0) (get_or skew (shift + n - 1) 0) (get_or skew (shift + 2 * n + n - 1) 0) f g
+    → ((q : ℕ) → q < n → FourRows (get_or skew (shift + 2 * n - 1) 0) (get_or skew (shift + n - 1) 0)
+        (get_or skew (shift + 2 * n + n - 1) 0) f g
     (pos + q) (pos + n + q) (pos + 2 * n + q) (pos + 3 * n + q))
     → ArePartsOf (4 * n) n shift (λ q. f (pos + q)) (λ q. g (pos + q))
 four_rows skew n shift pos f g b four =
     subst (λ (m : ℕ). ArePartsOf m n shift (λ q. f (pos + q)) (λ q. g (pos + q))) (sym whole)
-    (forward_parts skew n shift (λ q. f (pos + q)) (λ q. g (pos + q)) (subst (λ (m : ℕ). IsBlock skew m shift) whole b) placed)
+    (forward_parts skew n shift (λ q. f (pos + q)) (λ q. g (pos + q))
+        (subst (λ (m : ℕ). IsBlock skew m shift) whole b) placed)
   where
     whole : 4 * n ≡ n + n + (n + n)
     whole = omega arith
 
-    placed : at_quarters (IsForwardFour (factor skew (n + n) shift) (factor skew n shift) (factor skew n (shift + (n + n)))) n (λ q. f (pos + q)) (λ q. g (pos + q))
+    placed : at_quarters
+        (IsForwardFour (factor skew (n + n) shift) (factor skew n shift) (factor skew n (shift + (n + n)))) n
+        (λ q. f (pos + q)) (λ q. g (pos + q))
     placed q hq =
         let on02 : shift + 2 * n - 1 ≡ shift + (n + n) - 1 = omega arith in
         let on23 : shift + 2 * n + n - 1 ≡ shift + (n + n) + n - 1 = omega arith in

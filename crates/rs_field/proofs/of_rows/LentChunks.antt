@@ -1,5 +1,6 @@
 -- Two or four slices of chunks are lent at once, and a list of chunks is cut into the parts.
-use Rattle.rs_field.proofs.Walking.{◌≡◌, sym, ap, ◌∙◌, ℕ, ◌+◌, ◌-◌, ◌≤◌, arith, [], ◌∷◌, ◌++◌, length, take, drop_list, take-append-drop, length-drop, drop-drop, length-take-le}
+use Rattle.rs_field.proofs.Walking.{◌≡◌, sym, ap, ◌∙◌, ℕ, ◌+◌, ◌-◌, ◌≤◌, arith, [], ◌∷◌, ◌++◌, length, take, drop_list}
+use Rattle.rs_field.proofs.Walking.{take-append-drop, length-drop, drop-drop, length-take-le}
 use Rattle.rs_field.proofs.Walking.{named, Lft, u8, RattleType, Array, MutSlice, row, tuple_type, shape}
 use seplogic.Ra.Ura.{Ura}
 use types.Logic.{Logic}
@@ -41,17 +42,20 @@ module _ {M : Type 1} {𝓤 : Ura M} (𝓛 : Logic 𝓤) (κ : Lft) where
   fours = declared (tuple_type (Slice κ ∷ Slice κ ∷ Slice κ ∷ Slice κ ∷ [])) (slice, (slice, (slice, (slice, tt))))
 
 -- From chunk i on, a list is n chunks, the chunks up to chunk j, and the rest.
-pub cut_at : (xs : Chunks) (i n j : ℕ) → i + n ≤ j → drop_list i xs ≡ take n (drop_list i xs) ++ (between (i + n) j xs ++ drop_list j xs)
+pub cut_at : (xs : Chunks) (i n j : ℕ) → i + n ≤ j
+    → drop_list i xs ≡ take n (drop_list i xs) ++ (between (i + n) j xs ++ drop_list j xs)
 cut_at xs i n j within =
     let to : (i + n) + (j - (i + n)) ≡ j = omega arith in
     sym (take-append-drop n (drop_list i xs))
     ∙ ap (λ (l : Chunks). take n (drop_list i xs) ++ l)
     (drop-drop n i xs ∙ sym (take-append-drop (j - (i + n)) (drop_list (i + n) xs))
-    ∙ ap (λ (l : Chunks). between (i + n) j xs ++ l) (drop-drop (j - (i + n)) (i + n) xs ∙ ap (λ (h : ℕ). drop_list h xs) to))
+    ∙ ap (λ (l : Chunks). between (i + n) j xs ++ l)
+        (drop-drop (j - (i + n)) (i + n) xs ∙ ap (λ (h : ℕ). drop_list h xs) to))
 
 -- A list from chunk i on is its next n chunks and the chunks after them.
 pub cut_last : (xs : Chunks) (i n : ℕ) → drop_list i xs ≡ take n (drop_list i xs) ++ drop_list (i + n) xs
-cut_last xs i n = sym (take-append-drop n (drop_list i xs)) ∙ ap (λ (l : Chunks). take n (drop_list i xs) ++ l) (drop-drop n i xs)
+cut_last xs i n = sym (take-append-drop n (drop_list i xs))
+    ∙ ap (λ (l : Chunks). take n (drop_list i xs) ++ l) (drop-drop n i xs)
 
 -- The lengths of the parts into which a list of chunks is cut.
 pub taken : (xs : Chunks) (i n : ℕ) → i + n ≤ length xs → length (take n (drop_list i xs)) ≡ n

@@ -1,12 +1,14 @@
 -- The parts of a block that its first layers leave: their rows, their position among the points, and their row steps.
-use Rattle.std.proofs.Common.{◌≡◌, ℕ, ◌+◌, ◌*◌, ◌/◌, ◌%◌, ◌^◌, ◌<◌, ◌≤◌, ◌≢◌, Bool, true, false, cond, refl, sym, ap, ◌∙◌, subst, inl, inr, arith}
+use Rattle.std.proofs.Common.{◌≡◌, ℕ, ◌+◌, ◌*◌, ◌/◌, ◌%◌, ◌^◌, ◌<◌, ◌≤◌, ◌≢◌, Bool, true, false, cond, refl, sym, ap}
+use Rattle.std.proofs.Common.{◌∙◌, subst, inl, inr, arith}
 use Rattle.std.proofs.Math.Nat.{mul-le-mul_right, add-mul-mod_self_right, mul-div_cancel, mul-mod_left}
 use Rattle.std.proofs.lemmas.Bool.{cases_Bool, cases_lt, true≢false}
 use Rattle.std.proofs.lemmas.Nat.{pow_pos}
 use Rattle.std.proofs.lemmas.Grind.{common_steps}
 use Rattle.rs_field.specs.rows.Layers.{is_halved, rows_of_part, layer_steps}
 use Rattle.rs_field.specs.words.StepBounds.{transform_steps}
-use Rattle.rs_field.proofs.of_words.Halves.{few_halves, half_power, quarter_power, steps_half, steps_quarters, two_halves}
+use Rattle.rs_field.proofs.of_words.Halves.{few_halves, half_power, quarter_power, steps_half, steps_quarters}
+use Rattle.rs_field.proofs.of_words.Halves.{two_halves}
 use Rattle.rs_field.proofs.of_code.NextPower.{own_is_power}
 use Rattle.rs_field.specs.declared.rows.block.Block.{Block}
 use Rattle.rs_field.proofs.of_words.Combination.{aligned_parts}
@@ -71,7 +73,8 @@ part_found block n is large =
             smaller = omega (arith, p.2, pos, whole);
             count = 2;
             whole = omega (arith, whole);
-            steps = omega (arith, steps_of_halved size halved, steps_half size p.0 (size / 2) (few_halves size p.0 0 p.1 (omega arith)) p.1 p.2);
+            steps = omega (arith, steps_of_halved size halved, steps_half size p.0 (size / 2)
+                (few_halves size p.0 0 p.1 (omega arith)) p.1 p.2);
           })
       | inr more ↦
           let ne = not_two size more in
@@ -83,7 +86,8 @@ part_found block n is large =
             smaller = omega (arith, q.2, pos, q.3);
             count = 4;
             whole = q.3;
-            steps = omega (arith, steps_of_more size more, steps_quarters size q.0 (size / 4) (omega arith) q.1 q.2, q.3);
+            steps = omega (arith, steps_of_more size more, steps_quarters size q.0 (size / 4)
+                (omega arith) q.1 q.2, q.3);
           })
     ]
 
@@ -91,14 +95,17 @@ part_found block n is large =
 pub part_within : (size n j : ℕ) → IsPart size n → j * n < size → j * n + n ≤ size
 part_within size n j p within =
     elim (cases_lt j p.count) [
-      | inl before ↦ let next : j + 1 ≤ p.count = omega arith in let le : (j + 1) * n ≤ p.count * n = mul-le-mul_right n next in let w = p.whole in omega arith
-      | inr past ↦ let le : p.count * n ≤ j * n = mul-le-mul_right n past in let w = p.whole in absurd (let no : ⊥ = omega arith in no)
+      | inl before ↦ let next : j + 1 ≤ p.count = omega arith in let le : (j + 1) * n ≤ p.count * n =
+          mul-le-mul_right n next in let w = p.whole in omega arith
+      | inr past ↦ let le : p.count * n ≤ j * n = mul-le-mul_right n past in let w = p.whole in
+          absurd (let no : ⊥ = omega arith in no)
     ]
 
 -- Part j of a block begins at a multiple of its rows.
 pub part_aligned : (size n shift j : ℕ) → IsPart size n → shift % size ≡ 0 → (shift + j * n) % n ≡ 0
 part_aligned size n shift j p aligned =
-    add-mul-mod_self_right shift j n ∙ ap (λ v. v % n) (aligned_parts size p.count n shift p.whole aligned) ∙ mul-mod_left (shift / size * p.count) n
+    add-mul-mod_self_right shift j n ∙ ap (λ v. v % n) (aligned_parts size p.count n shift p.whole aligned)
+        ∙ mul-mod_left (shift / size * p.count) n
 
 -- ---- the parts one by one
 

@@ -19,8 +19,10 @@ pub one_row : (size shift i : ℕ) (f : ℕ → ℕ) → size ≡ 1 → i < size
 one_row size shift i f e h fits = grind (arith, common_steps, forward-one)
 
 -- The transform of rows of zeros is rows of zeros.
-pub zero_rows : (rows : ShardsRefMut) (k s a size shift i : ℕ) → s < 32 → i < size → ((q : ℕ) → q < size → cell rows k (a + q) ≡ replicate 64 0)
+pub zero_rows : (rows : ShardsRefMut) (k s a size shift i : ℕ) → s < 32 → i < size
+    → ((q : ℕ) → q < size → cell rows k (a + q) ≡ replicate 64 0)
     → word rows k s (a + i) ≡ forward size shift (λ q. word rows k s (a + q)) i
 zero_rows rows k s a size shift i hs hi zeros =
-    let none : (q : ℕ) → q < size → word rows k s (a + q) ≡ 0 = λ q hq. ap (λ (c : List ℕ). symbol c s) (zeros q hq) ∙ symbol-zero s hs in
+    let none : (q : ℕ) → q < size → word rows k s (a + q) ≡ 0 = λ q hq.
+        ap (λ (c : List ℕ). symbol c s) (zeros q hq) ∙ symbol-zero s hs in
     none i hi ∙ sym (forward-zero size shift (λ q. word rows k s (a + q)) i none)

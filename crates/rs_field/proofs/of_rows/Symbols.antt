@@ -1,5 +1,6 @@
 -- Symbols, and the two bytes of each symbol.
-use Rattle.std.proofs.Common.{◌≡◌, ℕ, ◌+◌, ◌*◌, ◌<◌, List, [], ◌∷◌, zero, suc, Fits, w8, length, get_or, take, replicate, arith, ap, ap₂, subst, ◌∙◌}
+use Rattle.std.proofs.Common.{◌≡◌, ℕ, ◌+◌, ◌*◌, ◌<◌, List, [], ◌∷◌, zero, suc, Fits, w8, length, get_or, take}
+use Rattle.std.proofs.Common.{replicate, arith, ap, ap₂, subst, ◌∙◌}
 use Rattle.std.specs.Prelude.{flat_map}
 use Rattle.std.proofs.lemmas.List.{get_or-replicate}
 use Rattle.std.proofs.lemmas.List.Concat.{get_or-flat_map}
@@ -12,7 +13,8 @@ symbol-zero s h =
     ap₂ P (get_or-replicate 64 s 0 0 (omega arith)) (get_or-replicate 64 (s + 32) 0 0 (omega arith))
 
 -- An element of a chunk is a byte, if the chunks joined are bytes.
-pub byte_fits : (chunks : Chunks) (bytes : List ℕ) → bytes ≡ flat_map (λ x. x) chunks → ((j : ℕ) → get_or bytes j 0 < 256)
+pub byte_fits : (chunks : Chunks) (bytes : List ℕ) → bytes ≡ flat_map (λ x. x) chunks
+    → ((j : ℕ) → get_or bytes j 0 < 256)
     → (k i : ℕ) → k < length chunks → i < length (chunk chunks k) → get_or (chunk chunks k) i 0 < 256
 byte_fits chunks bytes e fits k i hk hi =
     let offset : ℕ = length (flat_map (λ (x : List ℕ). x) (take k chunks)) + i in

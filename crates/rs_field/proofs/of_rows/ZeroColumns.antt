@@ -1,8 +1,10 @@
--- A row is zero in each column of its shard exactly if the bytes of its whole chunks and of both halves of its tail are zero.
+-- A row is zero in each column of its shard exactly if the bytes of its whole chunks and of both halves of its tail are
+-- zero.
 use Rattle.std.proofs.lemmas.Grind.{common_steps}
 use Rattle.std.proofs.lemmas.Bool.{cases_lt}
 use Rattle.std.proofs.lemmas.List.{get_or-take, get_or-drop, length-take-le, length-drop}
-use Rattle.std.proofs.Common.{◌≡◌, ℕ, ◌+◌, ◌-◌, ◌*◌, ◌/◌, ◌%◌, ◌<◌, ◌≤◌, List, [], length, get_or, take, drop, ap, ap₂, sym, subst, ◌∙◌, arith, inl, inr}
+use Rattle.std.proofs.Common.{◌≡◌, ℕ, ◌+◌, ◌-◌, ◌*◌, ◌/◌, ◌%◌, ◌<◌, ◌≤◌, List, [], length, get_or, take, drop, ap, ap₂}
+use Rattle.std.proofs.Common.{sym, subst, ◌∙◌, arith, inl, inr}
 use Rattle.std.specs.Prelude.{slice_index, EachIndex}
 use Rattle.std.specs.List.{flat_map}
 use Rattle.rs_field.specs.rows.Rows.{Chunks, chunk, symbol}
@@ -38,7 +40,8 @@ part-length : (bytes : List ℕ) (a n : ℕ) → a + n ≤ length bytes → leng
 part-length bytes a n within = let left = length-drop a bytes in length-take-le n (drop a bytes) (omega arith)
 
 pub zero-from : (bytes : List ℕ) (a n : ℕ) → a + n ≤ length bytes → AreZero (take n (drop a bytes)) → ZeroFrom bytes a n
-zero-from bytes a n within zeros i h = sym (part-at bytes a n i h) ∙ zeros i (subst (λ m. i < m) (sym (part-length bytes a n within)) h)
+zero-from bytes a n within zeros i h =
+    sym (part-at bytes a n i h) ∙ zeros i (subst (λ m. i < m) (sym (part-length bytes a n within)) h)
 
 pub zero-part : (bytes : List ℕ) (a n : ℕ) → a + n ≤ length bytes → ZeroFrom bytes a n → AreZero (take n (drop a bytes))
 zero-part bytes a n within zeros i h =
@@ -52,10 +55,12 @@ byte-of size row bytes is q b low within = grind (arith, common_steps, get-flat)
 symbol-bytes : (size : ℕ) (row : Chunks) (bytes : List ℕ) → IsRow size row bytes → (q i : ℕ) → i < 32 → q < row_len size
     → symbol (chunk row q) i ≡ slice_index bytes (q * 64 + i) + 256 * slice_index bytes (q * 64 + (i + 32))
 symbol-bytes size row bytes is q i low within =
-    ap₂ (λ u v. u + 256 * v) (byte-of size row bytes is q i (omega arith) within) (byte-of size row bytes is q (i + 32) (omega arith) within)
+    ap₂ (λ u v. u + 256 * v) (byte-of size row bytes is q i (omega arith) within)
+        (byte-of size row bytes is q (i + 32) (omega arith) within)
 
 pub zero_columns : (size : ℕ) (row : Chunks) (bytes : List ℕ) → IsRow size row bytes
-    → ZeroFrom bytes 0 (tail size + half size) → ZeroFrom bytes (tail size + 32) (half size) → HasZeroColumns size (λ k. chunk row k)
+    → ZeroFrom bytes 0 (tail size + half size) → ZeroFrom bytes (tail size + 32) (half size)
+    → HasZeroColumns size (λ k. chunk row k)
 zero_columns size row bytes is first second j h =
     symbol-bytes size row bytes is (j / 32) (j % 32) (omega arith) (omega arith)
     ∙ ap₂ (λ u v. u + 256 * v) (before (j / 32 * 64 + j % 32) (omega arith)) high
@@ -74,7 +79,8 @@ zero_columns size row bytes is first second j h =
 
 -- If the columns are zero, both bytes of each symbol are zero.
 zero-bytes : (size : ℕ) (row : Chunks) (bytes : List ℕ) → IsRow size row bytes → HasZeroColumns size (λ k. chunk row k)
-    → (q i : ℕ) → i < 32 → q * 32 + i < size / 2 → (slice_index bytes (q * 64 + i) ≡ 0) × (slice_index bytes (q * 64 + (i + 32)) ≡ 0)
+    → (q i : ℕ) → i < 32 → q * 32 + i < size / 2 → (slice_index bytes (q * 64 + i) ≡ 0)
+    × (slice_index bytes (q * 64 + (i + 32)) ≡ 0)
 zero-bytes size row bytes is zeros q i low within =
     let k : (q * 32 + i) / 32 ≡ q = omega arith in
     let s : (q * 32 + i) % 32 ≡ i = omega arith in
@@ -83,7 +89,8 @@ zero-bytes size row bytes is zeros q i low within =
     = sym (symbol-bytes size row bytes is q i low (omega arith)) ∙ word in
     (omega arith, omega arith)
 
-pub zero-first : (size : ℕ) (row : Chunks) (bytes : List ℕ) → IsRow size row bytes → HasZeroColumns size (λ k. chunk row k)
+pub zero-first : (size : ℕ) (row : Chunks) (bytes : List ℕ) → IsRow size row bytes
+    → HasZeroColumns size (λ k. chunk row k)
     → ZeroFrom bytes 0 (tail size + half size)
 zero-first size row bytes is zeros b h =
     elim (cases_lt (b % 64) 32) [
@@ -92,10 +99,12 @@ zero-first size row bytes is zeros b h =
           ap (slice_index bytes) at ∙ (zero-bytes size row bytes is zeros (b / 64) (b % 64) low (omega arith)).0
       | inr high ↦
           let at : 0 + b ≡ b / 64 * 64 + (b % 64 - 32 + 32) = omega arith in
-          ap (slice_index bytes) at ∙ (zero-bytes size row bytes is zeros (b / 64) (b % 64 - 32) (omega arith) (omega arith)).1
+          ap (slice_index bytes) at
+              ∙ (zero-bytes size row bytes is zeros (b / 64) (b % 64 - 32) (omega arith) (omega arith)).1
     ]
 
-pub zero-second : (size : ℕ) (row : Chunks) (bytes : List ℕ) → IsRow size row bytes → HasZeroColumns size (λ k. chunk row k)
+pub zero-second : (size : ℕ) (row : Chunks) (bytes : List ℕ) → IsRow size row bytes
+    → HasZeroColumns size (λ k. chunk row k)
     → ZeroFrom bytes (tail size + 32) (half size)
 zero-second size row bytes is zeros b h =
     let at : size / 64 * 64 + 32 + b ≡ size / 64 * 64 + (b + 32) = omega arith in

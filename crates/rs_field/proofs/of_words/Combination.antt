@@ -1,5 +1,7 @@
 -- Sums of basis polynomials: a sum of 2n terms is two sums of n terms, and the values of a sum on a block of points.
-use Rattle.std.proofs.Common.{◌≡◌, ℕ, zero, suc, ◌+◌, ◌-◌, ◌*◌, ◌/◌, ◌%◌, ◌^◌, ◌<◌, ◌≤◌, ◌≢◌, cond, eqb, bit_xor, refl, sym, ap, ap₂, ◌∙◌, inl, inr, arith, one-mul, add-zero, add-suc, add_assoc, pow-suc, pow-add, pow_mono}
+use Rattle.std.proofs.Common.{◌≡◌, ℕ, zero, suc, ◌+◌, ◌-◌, ◌*◌, ◌/◌, ◌%◌, ◌^◌, ◌<◌, ◌≤◌, ◌≢◌, cond, eqb, bit_xor, refl}
+use Rattle.std.proofs.Common.{sym, ap, ap₂, ◌∙◌, inl, inr, arith, one-mul, add-zero, add-suc, add_assoc, pow-suc}
+use Rattle.std.proofs.Common.{pow-add, pow_mono}
 use Rattle.std.proofs.Math.Nat.{div-eq_of_lt, mul-add-div_right, zero-div, two-pow-succ}
 use Rattle.std.specs.Int.Bits.{xor_comm, xor_assoc, xor_zero_r, xor_lt, xor_shifted}
 use Rattle.std.proofs.lemmas.Bool.{cases_eq, cases_lt}
@@ -11,7 +13,8 @@ use Rattle.rs_field.specs.words.Transform.{sum_below, forward}
 use Rattle.rs_field.proofs.of_words.Linear.{xor_swap}
 use Rattle.rs_field.proofs.of_words.Product.{product_lt, product_one, zero_product, product_xor_left, product_xor_right}
 use Rattle.rs_field.proofs.of_words.Total.{product-comm, product-assoc, product-right_comm}
-use Rattle.rs_field.proofs.of_words.Subspace.{product_below_lt, product_below-same, product_below-suc, product_below-zero, subspace_shift}
+use Rattle.rs_field.proofs.of_words.Subspace.{product_below_lt, product_below-same, product_below-suc}
+use Rattle.rs_field.proofs.of_words.Subspace.{product_below-zero, subspace_shift}
 
 -- ---- sums
 
@@ -22,23 +25,27 @@ sum_below-suc n f = refl
 pub sum_below_lt : (n : ℕ) (f : ℕ → ℕ) → ((i : ℕ) → i < n → f i < 2 ^ 16) → sum_below n f < 2 ^ 16
 unfolding sum_below
 sum_below_lt zero f words = pow_pos 16
-sum_below_lt (suc n) f words = xor_lt 16 (sum_below n f) (f n) (sum_below_lt n f (λ i h. words i (omega arith))) (words n (omega arith))
+sum_below_lt (suc n) f words =
+    xor_lt 16 (sum_below n f) (f n) (sum_below_lt n f (λ i h. words i (omega arith))) (words n (omega arith))
 
 pub sum_below-same : (n : ℕ) (f g : ℕ → ℕ) → ((i : ℕ) → i < n → f i ≡ g i) → sum_below n f ≡ sum_below n g
 unfolding sum_below
 sum_below-same zero f g same = refl
-sum_below-same (suc n) f g same = ap₂ bit_xor (sum_below-same n f g (λ i h. same i (omega arith))) (same n (omega arith))
+sum_below-same (suc n) f g same =
+    ap₂ bit_xor (sum_below-same n f g (λ i h. same i (omega arith))) (same n (omega arith))
 
 pub sum_below-zero : (n : ℕ) (f : ℕ → ℕ) → ((i : ℕ) → i < n → f i ≡ 0) → sum_below n f ≡ 0
 unfolding sum_below
 sum_below-zero zero f zeros = refl
 sum_below-zero (suc n) f zeros = ap₂ bit_xor (sum_below-zero n f (λ i h. zeros i (omega arith))) (zeros n (omega arith))
 
-pub sum_below-xor : (n : ℕ) (f g : ℕ → ℕ) → sum_below n (λ q. bit_xor (f q) (g q)) ≡ bit_xor (sum_below n f) (sum_below n g)
+pub sum_below-xor : (n : ℕ) (f g : ℕ → ℕ)
+    → sum_below n (λ q. bit_xor (f q) (g q)) ≡ bit_xor (sum_below n f) (sum_below n g)
 unfolding sum_below
 sum_below-xor zero f g = refl
 sum_below-xor (suc n) f g =
-    ap (λ v. bit_xor v (bit_xor (f n) (g n))) (sum_below-xor n f g) ∙ xor_swap (sum_below n f) (sum_below n g) (f n) (g n)
+    ap (λ v. bit_xor v (bit_xor (f n) (g n))) (sum_below-xor n f g)
+        ∙ xor_swap (sum_below n f) (sum_below n g) (f n) (g n)
 
 pub sum_below-product : (n : ℕ) (f : ℕ → ℕ) (c : ℕ) → sum_below n (λ q. product (f q) c) ≡ product (sum_below n f) c
 unfolding sum_below
@@ -62,12 +69,15 @@ product_below-one_more (suc n) e s f g he one is same =
     elim (cases_eq e n) [
       | inl last ↦
           product_below-suc n g
-          ∙ ap₂ product (product_below-same n g f (λ i h. same i (omega arith) (λ (x : i ≡ e). let no : ⊥ = omega arith in no))) (ap g (sym last) ∙ is)
+          ∙ ap₂ product (product_below-same n g f
+              (λ i h. same i (omega arith) (λ (x : i ≡ e). let no : ⊥ = omega arith in no))) (ap g (sym last) ∙ is)
           ∙ ap (λ v. product v s)
-          (sym (product_below-suc n f ∙ ap (product (product_below n f)) (ap f (sym last) ∙ one) ∙ product_one (product_below n f) (product_below_lt n f)))
+          (sym (product_below-suc n f ∙ ap (product (product_below n f)) (ap f (sym last) ∙ one)
+              ∙ product_one (product_below n f) (product_below_lt n f)))
       | inr other ↦
           product_below-suc n g
-          ∙ ap₂ product (product_below-one_more n e s f g (omega arith) one is (λ d h. same d (omega arith))) (same n (omega arith) (λ (x : n ≡ e). other (sym x)))
+          ∙ ap₂ product (product_below-one_more n e s f g (omega arith) one is (λ d h. same d (omega arith)))
+              (same n (omega arith) (λ (x : n ≡ e). other (sym x)))
           ∙ product-assoc (product_below n f) s (f n)
           ∙ ap (product (product_below n f)) (product-comm s (f n))
           ∙ sym (product-assoc (product_below n f) (f n) s)
@@ -76,7 +86,8 @@ product_below-one_more (suc n) e s f g he one is same =
 
 product_below-ones : (n : ℕ) → product_below n (λ d. 1) ≡ 1
 product_below-ones zero = product_below-zero (λ d. 1)
-product_below-ones (suc n) = product_below-suc n (λ d. 1) ∙ ap (λ v. product v 1) (product_below-ones n) ∙ product_one 1 (omega arith)
+product_below-ones (suc n) = product_below-suc n (λ d. 1) ∙ ap (λ v. product v 1) (product_below-ones n)
+    ∙ product_one 1 (omega arith)
 
 -- The factor of the basis polynomial q at the bit d.
 factor : ℕ → ℕ → ℕ → ℕ
@@ -94,7 +105,8 @@ factor-bit q x d b e = ap (λ (b : ℕ). cond (eqb b 1) (subspace d x) 1) e
 bit_below : (d e q : ℕ) → d < e → (2 ^ e + q) / 2 ^ d % 2 ≡ q / 2 ^ d % 2
 bit_below d e q h =
     let k : ℕ = e - suc d in
-    grind (arith, common_steps, mul-add-div_right (pow_pos d) (2 ^ k * 2) q, even (2 ^ k) (q / 2 ^ d), pow-add 2 k (suc d), regroup (2 ^ k) d)
+    grind (arith, common_steps, mul-add-div_right (pow_pos d) (2 ^ k * 2) q, even (2 ^ k) (q / 2 ^ d), pow-add 2 k
+        (suc d), regroup (2 ^ k) d)
   where
     regroup : (m d : ℕ) → m * 2 ^ suc d ≡ m * 2 * 2 ^ d
     regroup m d = omega (arith, ap (λ v. m * v) (pow-suc 2 d))
@@ -135,7 +147,8 @@ basis-half e q x he hq =
 
 -- ---- the forward transform
 
-pub forward_is : (n shift : ℕ) (f : ℕ → ℕ) (i : ℕ) → forward n shift f i ≡ sum_below n (λ q. product (f q) (basis q (shift + i)))
+pub forward_is : (n shift : ℕ) (f : ℕ → ℕ) (i : ℕ)
+    → forward n shift f i ≡ sum_below n (λ q. product (f q) (basis q (shift + i)))
 unfolding forward
 forward_is n shift f i = refl
 
@@ -143,26 +156,32 @@ pub forward_lt : (n shift : ℕ) (f : ℕ → ℕ) (i : ℕ) → forward n shift
 unfolding forward
 forward_lt n shift f i = sum_below_lt n _ (λ q h. product_lt (f q) (basis q (shift + i)))
 
-pub forward-same : (n shift : ℕ) (f g : ℕ → ℕ) (i : ℕ) → ((q : ℕ) → q < n → f q ≡ g q) → forward n shift f i ≡ forward n shift g i
+pub forward-same : (n shift : ℕ) (f g : ℕ → ℕ) (i : ℕ) → ((q : ℕ) → q < n → f q ≡ g q)
+    → forward n shift f i ≡ forward n shift g i
 unfolding forward
 forward-same n shift f g i same = grind (arith, common_steps, sum_below-same)
 
 pub forward-zero : (n shift : ℕ) (f : ℕ → ℕ) (i : ℕ) → ((q : ℕ) → q < n → f q ≡ 0) → forward n shift f i ≡ 0
 unfolding forward
 forward-zero n shift f i zeros =
-    sum_below-zero n _ (λ q h. ap (λ v. product v (basis q (shift + i))) (zeros q h) ∙ zero_product (basis q (shift + i)))
+    sum_below-zero n _ (λ q h. ap (λ v. product v (basis q (shift + i))) (zeros q h)
+        ∙ zero_product (basis q (shift + i)))
 
-pub forward-xor : (n shift : ℕ) (f g : ℕ → ℕ) (i : ℕ) → forward n shift (λ q. bit_xor (f q) (g q)) i ≡ bit_xor (forward n shift f i) (forward n shift g i)
+pub forward-xor : (n shift : ℕ) (f g : ℕ → ℕ) (i : ℕ)
+    → forward n shift (λ q. bit_xor (f q) (g q)) i ≡ bit_xor (forward n shift f i) (forward n shift g i)
 unfolding forward
 forward-xor n shift f g i =
-    sum_below-same n (λ q. product (bit_xor (f q) (g q)) (basis q (shift + i))) (λ q. bit_xor (product (f q) (basis q (shift + i))) (product (g q) (basis q (shift + i))))
+    sum_below-same n (λ q. product (bit_xor (f q) (g q)) (basis q (shift + i)))
+        (λ q. bit_xor (product (f q) (basis q (shift + i))) (product (g q) (basis q (shift + i))))
     (λ q h. product_xor_left (f q) (g q) (basis q (shift + i)))
     ∙ sum_below-xor n (λ q. product (f q) (basis q (shift + i))) (λ q. product (g q) (basis q (shift + i)))
 
-pub forward-product : (n shift : ℕ) (f : ℕ → ℕ) (c i : ℕ) → forward n shift (λ q. product (f q) c) i ≡ product (forward n shift f i) c
+pub forward-product : (n shift : ℕ) (f : ℕ → ℕ) (c i : ℕ)
+    → forward n shift (λ q. product (f q) c) i ≡ product (forward n shift f i) c
 unfolding forward
 forward-product n shift f c i =
-    sum_below-same n (λ q. product (product (f q) c) (basis q (shift + i))) (λ q. product (product (f q) (basis q (shift + i))) c)
+    sum_below-same n (λ q. product (product (f q) c) (basis q (shift + i)))
+        (λ q. product (product (f q) (basis q (shift + i))) c)
     (λ q h. product-right_comm (f q) c (basis q (shift + i)))
     ∙ sum_below-product n (λ q. product (f q) (basis q (shift + i))) c
 
@@ -173,11 +192,15 @@ forward-moved n shift more f i = ap (λ x. sum_below n (λ q. product (f q) (bas
 
 -- The forward transform of one word is this word.
 pub forward-one : (shift : ℕ) (f : ℕ → ℕ) (i : ℕ) → f 0 < 2 ^ 16 → forward 1 shift f i ≡ f 0
-forward-one shift f i word = grind (arith, common_steps, forward_is, sum_below-suc, sum_below-zero, basis-zero, product_one)
+forward-one shift f i word =
+    grind (arith, common_steps, forward_is, sum_below-suc, sum_below-zero, basis-zero, product_one)
 
--- A sum of 2 ^ (e + 1) terms is the sum of its first half plus the subspace polynomial e times the sum of its second half.
+-- A sum of 2 ^ (e + 1) terms is the sum of its first half plus the subspace polynomial e times the sum of its second
+-- half.
 pub forward-half : (e shift : ℕ) (f : ℕ → ℕ) (i : ℕ) → e < 16
-    → forward (2 ^ suc e) shift f i ≡ bit_xor (forward (2 ^ e) shift f i) (product (forward (2 ^ e) shift (λ q. f (2 ^ e + q)) i) (subspace e (shift + i)))
+    → forward (2 ^ suc e) shift f i
+    ≡ bit_xor (forward (2 ^ e) shift f i)
+        (product (forward (2 ^ e) shift (λ q. f (2 ^ e + q)) i) (subspace e (shift + i)))
 forward-half e shift f i he =
     let x : ℕ = shift + i in
     let s : ℕ = subspace e x in
@@ -185,7 +208,8 @@ forward-half e shift f i he =
     ∙ ap (λ n. sum_below n (λ q. product (f q) (basis q x))) (two-pow-succ e)
     ∙ sum_below-add (2 ^ e) (2 ^ e) (λ q. product (f q) (basis q x))
     ∙ ap₂ bit_xor (sym (forward_is (2 ^ e) shift f i))
-    (sum_below-same (2 ^ e) (λ q. product (f (2 ^ e + q)) (basis (2 ^ e + q) x)) (λ q. product (product (f (2 ^ e + q)) (basis q x)) s)
+    (sum_below-same (2 ^ e) (λ q. product (f (2 ^ e + q)) (basis (2 ^ e + q) x))
+        (λ q. product (product (f (2 ^ e + q)) (basis q x)) s)
     (λ q h. ap (product (f (2 ^ e + q))) (basis-half e q x he h) ∙ sym (product-assoc (f (2 ^ e + q)) (basis q x) s))
     ∙ sum_below-product (2 ^ e) (λ q. product (f (2 ^ e + q)) (basis q x)) s
     ∙ ap (λ v. product v s) (sym (forward_is (2 ^ e) shift (λ q. f (2 ^ e + q)) i)))
@@ -203,40 +227,50 @@ even_block : (e shift : ℕ) → shift % 2 ^ suc e ≡ 0 → (u : ℕ) × (shift
 even_block e shift h = (shift / 2 ^ suc e, aligned_parts (2 ^ suc e) 2 (2 ^ e) shift (omega (arith, pow-suc 2 e)) h)
 
 -- On the first half of a block, the subspace polynomial e has the value that it has at the start of the block.
-pub lower_factor : (e shift i : ℕ) → e < 16 → shift % 2 ^ suc e ≡ 0 → shift + 2 ^ suc e ≤ 65536 → i < 2 ^ e → subspace e (shift + i) ≡ subspace e shift
-lower_factor e shift i he whole fits hi = grind (arith, common_steps, two-pow-succ, even_block, subspace_shift, div-mul-add, add-zero, pow_pos)
+pub lower_factor : (e shift i : ℕ) → e < 16 → shift % 2 ^ suc e ≡ 0 → shift + 2 ^ suc e ≤ 65536 → i < 2 ^ e
+    → subspace e (shift + i) ≡ subspace e shift
+lower_factor e shift i he whole fits hi =
+    grind (arith, common_steps, two-pow-succ, even_block, subspace_shift, div-mul-add, add-zero, pow_pos)
 
 -- On the second half of a block, the subspace polynomial e has the value at the start of the block XOR 1.
-pub upper_factor : (e shift i : ℕ) → e < 16 → shift % 2 ^ suc e ≡ 0 → shift + 2 ^ suc e ≤ 65536 → i < 2 ^ e → subspace e (shift + (2 ^ e + i)) ≡ bit_xor (subspace e shift) 1
+pub upper_factor : (e shift i : ℕ) → e < 16 → shift % 2 ^ suc e ≡ 0 → shift + 2 ^ suc e ≤ 65536 → i < 2 ^ e
+    → subspace e (shift + (2 ^ e + i)) ≡ bit_xor (subspace e shift) 1
 upper_factor e shift i he whole fits hi =
     let d : 2 ^ suc e ≡ 2 ^ e + 2 ^ e = two-pow-succ e in
     let b = even_block e shift whole in
     subspace_shift e (shift + (2 ^ e + i)) (omega arith) (omega arith)
-    ∙ ap (λ v. (v + (2 ^ e + i)) / 2 ^ e) b.1 ∙ ap (λ v. v / 2 ^ e) (next (b.0 * 2) (2 ^ e) i) ∙ div-mul-add (b.0 * 2 + 1) (2 ^ e) i hi
+    ∙ ap (λ v. (v + (2 ^ e + i)) / 2 ^ e) b.1 ∙ ap (λ v. v / 2 ^ e) (next (b.0 * 2) (2 ^ e) i)
+    ∙ div-mul-add (b.0 * 2 + 1) (2 ^ e) i hi
     ∙ sym (xor_shifted b.0 1 1 (omega arith))
     ∙ ap (λ v. bit_xor v 1)
-    (sym (subspace_shift e shift (omega arith) (omega arith) ∙ ap (λ v. v / 2 ^ e) (b.1 ∙ sym (add-zero (b.0 * 2 * 2 ^ e))) ∙ div-mul-add (b.0 * 2) (2 ^ e) 0 (pow_pos e)))
+    (sym (subspace_shift e shift (omega arith) (omega arith)
+        ∙ ap (λ v. v / 2 ^ e) (b.1 ∙ sym (add-zero (b.0 * 2 * 2 ^ e))) ∙ div-mul-add (b.0 * 2) (2 ^ e) 0 (pow_pos e)))
   where
     next : (u m i : ℕ) → u * m + (m + i) ≡ (u + 1) * m + i
     next u m i = omega arith
 
 mixed : (e shift : ℕ) (f g : ℕ → ℕ) (i : ℕ)
     → ((q : ℕ) → q < 2 ^ e → g q ≡ bit_xor (f q) (product (f (2 ^ e + q)) (subspace e shift)))
-    → forward (2 ^ e) shift g i ≡ bit_xor (forward (2 ^ e) shift f i) (product (forward (2 ^ e) shift (λ q. f (2 ^ e + q)) i) (subspace e shift))
+    → forward (2 ^ e) shift g i
+    ≡ bit_xor (forward (2 ^ e) shift f i) (product (forward (2 ^ e) shift (λ q. f (2 ^ e + q)) i) (subspace e shift))
 mixed e shift f g i made =
     let c : ℕ = subspace e shift in
     forward-same (2 ^ e) shift g (λ q. bit_xor (f q) (product (f (2 ^ e + q)) c)) i made
     ∙ forward-xor (2 ^ e) shift f (λ q. product (f (2 ^ e + q)) c) i
     ∙ ap (bit_xor (forward (2 ^ e) shift f i)) (forward-product (2 ^ e) shift (λ q. f (2 ^ e + q)) c i)
 
--- The transform of the first half of the rows after a butterfly is the first half of the transform of all rows before the butterfly.
-pub lower_half : (e shift : ℕ) (f g : ℕ → ℕ) (i : ℕ) → e < 16 → shift % 2 ^ suc e ≡ 0 → shift + 2 ^ suc e ≤ 65536 → i < 2 ^ e
+-- The transform of the first half of the rows after a butterfly is the first half of the transform of all rows before
+-- the butterfly.
+pub lower_half : (e shift : ℕ) (f g : ℕ → ℕ) (i : ℕ) → e < 16 → shift % 2 ^ suc e ≡ 0 → shift + 2 ^ suc e ≤ 65536
+    → i < 2 ^ e
     → ((q : ℕ) → q < 2 ^ e → g q ≡ bit_xor (f q) (product (f (2 ^ e + q)) (subspace e shift)))
     → forward (2 ^ e) shift g i ≡ forward (2 ^ suc e) shift f i
 lower_half e shift f g i he whole fits hi made = grind (arith, common_steps, mixed, forward-half, lower_factor)
 
--- The transform of the second half of the rows after a butterfly is the second half of the transform of all rows before the butterfly.
-pub upper_half : (e shift : ℕ) (f g h : ℕ → ℕ) (i : ℕ) → e < 16 → shift % 2 ^ suc e ≡ 0 → shift + 2 ^ suc e ≤ 65536 → i < 2 ^ e
+-- The transform of the second half of the rows after a butterfly is the second half of the transform of all rows before
+-- the butterfly.
+pub upper_half : (e shift : ℕ) (f g h : ℕ → ℕ) (i : ℕ) → e < 16 → shift % 2 ^ suc e ≡ 0 → shift + 2 ^ suc e ≤ 65536
+    → i < 2 ^ e
     → ((q : ℕ) → q < 2 ^ e → g q ≡ bit_xor (f q) (product (f (2 ^ e + q)) (subspace e shift)))
     → ((q : ℕ) → q < 2 ^ e → h q ≡ bit_xor (f (2 ^ e + q)) (g q))
     → forward (2 ^ e) (shift + 2 ^ e) h i ≡ forward (2 ^ suc e) shift f (2 ^ e + i)
@@ -251,9 +285,11 @@ upper_half e shift f g h i he whole fits hi made sums =
     ∙ forward-xor (2 ^ e) shift second g j
     ∙ ap (bit_xor top) (mixed e shift f g j made)
     ∙ one_more top low c (forward_lt (2 ^ e) shift second j)
-    ∙ sym (forward-half e shift f j he ∙ ap (λ v. bit_xor low (product top v)) (upper_factor e shift i he whole fits hi))
+    ∙ sym (forward-half e shift f j he
+        ∙ ap (λ v. bit_xor low (product top v)) (upper_factor e shift i he whole fits hi))
   where
-    one_more : (top low c : ℕ) → top < 2 ^ 16 → bit_xor top (bit_xor low (product top c)) ≡ bit_xor low (product top (bit_xor c 1))
+    one_more : (top low c : ℕ) → top < 2 ^ 16
+        → bit_xor top (bit_xor low (product top c)) ≡ bit_xor low (product top (bit_xor c 1))
     one_more top low c word =
         xor_comm top (bit_xor low (product top c)) ∙ xor_assoc low (product top c) top
         ∙ ap (bit_xor low) (ap (bit_xor (product top c)) (sym (product_one top word)) ∙ sym (product_xor_right top c 1))

@@ -1,5 +1,6 @@
 -- Sums and multiples of polynomials, and a polynomial times linear factors.
-use Rattle.std.proofs.Common.{◌≡◌, ℕ, zero, suc, ◌+◌, ◌<◌, ◌≤◌, List, [], ◌∷◌, length, bit_xor, refl, ap, sym, ◌∙◌, arith}
+use Rattle.std.proofs.Common.{◌≡◌, ℕ, zero, suc, ◌+◌, ◌<◌, ◌≤◌, List, [], ◌∷◌, length, bit_xor, refl, ap, sym, ◌∙◌}
+use Rattle.std.proofs.Common.{arith}
 use Rattle.std.specs.Prelude.{All}
 use Rattle.std.specs.Int.Bits.{xor_lt, xor_zero_r}
 use Rattle.rs_field.specs.words.Field.{product}
@@ -43,20 +44,23 @@ unfolding value add
 value_add [] q x = refl
 value_add (a ∷ p) [] x = sym (xor_zero_r (bit_xor a (product x (value p x))))
 value_add (a ∷ p) (b ∷ q) x =
-    rw (value_add p q x, product_xor_right x (value p x) (value q x)) (xor_swap a b (product x (value p x)) (product x (value q x)))
+    rw (value_add p q x, product_xor_right x (value p x) (value q x))
+        (xor_swap a b (product x (value p x)) (product x (value q x)))
 
 -- The value of a multiple is the multiple of the value.
 pub value_scale : (c : ℕ) (p : List ℕ) (x : ℕ) → value (scale c p) x ≡ product c (value p x)
 unfolding value scale
 value_scale c [] x = sym (product_zero c)
 value_scale c (a ∷ p) x =
-    ap (bit_xor (product c a)) (ap (product x) (value_scale c p x) ∙ product-left_comm x c (value p x)) ∙ sym (product_xor_right c a (product x (value p x)))
+    ap (bit_xor (product c a)) (ap (product x) (value_scale c p x) ∙ product-left_comm x c (value p x))
+        ∙ sym (product_xor_right c a (product x (value p x)))
 
 -- Multiplying a polynomial by x + a multiplies its value by the value of x + a.
 pub value_with_root : (a : ℕ) (p : List ℕ) (x : ℕ) → value (with_root a p) x ≡ product (bit_xor x a) (value p x)
 unfolding with_root value
 value_with_root a p x =
-    value_add (0 ∷ p) (scale a p) x ∙ ap (bit_xor (product x (value p x))) (value_scale a p x) ∙ sym (product_xor_left x a (value p x))
+    value_add (0 ∷ p) (scale a p) x ∙ ap (bit_xor (product x (value p x))) (value_scale a p x)
+        ∙ sym (product_xor_left x a (value p x))
 
 pub length-scale : (c : ℕ) (p : List ℕ) → length (scale c p) ≡ length p
 unfolding scale
@@ -97,13 +101,16 @@ words_times (a ∷ r) p h = words_with_root a (times r p) (words_times r p h)
 pub length-times : (a n : ℕ) (p : List ℕ) → length (times (points a n) p) ≡ n + length p
 unfolding times points
 length-times a zero p = omega arith
-length-times a (suc n) p = let e : length (times (points a n) p) ≡ n + length p = length-times a n p in length-with_root (a + n) (times (points a n) p) ∙ omega arith
+length-times a (suc n) p = let e : length (times (points a n) p) ≡ n + length p = length-times a n p in
+    length-with_root (a + n) (times (points a n) p) ∙ omega arith
 
 -- The value of a polynomial times the factors at n points is its value times the product of the factors.
-pub value-times : (a n : ℕ) (p : List ℕ) → WordsOneByOne p → (x : ℕ) → value (times (points a n) p) x ≡ product (product_below n (λ i. bit_xor x (a + i))) (value p x)
+pub value-times : (a n : ℕ) (p : List ℕ) → WordsOneByOne p → (x : ℕ)
+    → value (times (points a n) p) x ≡ product (product_below n (λ i. bit_xor x (a + i))) (value p x)
 unfolding times points
 value-times a zero p w x = grind (arith, common_steps, product_below-zero, one_product, value_lt)
-value-times a (suc n) p w x = grind (arith, common_steps, value_with_root, product-assoc, product-comm, product_below-suc, value-times a n p w x)
+value-times a (suc n) p w x =
+    grind (arith, common_steps, value_with_root, product-assoc, product-comm, product_below-suc, value-times a n p w x)
 
 -- Words in the recursive form `WordsOneByOne` are words by `All`.
 pub all_words : (p : List ℕ) → WordsOneByOne p → All (λ w. w < 65536) p

@@ -1,10 +1,14 @@
 -- The powers of the generator: each nonzero word is one of 65535 powers.
-use Rattle.std.proofs.Common.{◌≡◌, ℕ, zero, suc, ◌+◌, ◌-◌, ◌*◌, ◌/◌, ◌%◌, ◌^◌, ◌<◌, ◌≢◌, Bool, true, false, ◌||◌, eqb, refl, sym, ap, ap₂, ◌∙◌, subst, arith, inl, inr, add-suc, add-zero, mul-zero, mul-suc, one-mul, mul_assoc, add-one, add-mul, mul_right_comm, true≢false, lit<, mod-lt, eqb-true, ne_eqb, eq-eqb}
+use Rattle.std.proofs.Common.{◌≡◌, ℕ, zero, suc, ◌+◌, ◌-◌, ◌*◌, ◌/◌, ◌%◌, ◌^◌, ◌<◌, ◌≢◌, Bool, true, false, ◌||◌, eqb}
+use Rattle.std.proofs.Common.{refl, sym, ap, ap₂, ◌∙◌, subst, arith, inl, inr, add-suc, add-zero, mul-zero, mul-suc}
+use Rattle.std.proofs.Common.{one-mul, mul_assoc, add-one, add-mul, mul_right_comm, true≢false, lit<, mod-lt, eqb-true}
+use Rattle.std.proofs.Common.{ne_eqb, eq-eqb}
 use Rattle.std.proofs.Math.Nat.{mod-add-div}
 use Rattle.std.proofs.lemmas.Nat.{shr_below, mul-mod_first}
 use Rattle.std.proofs.lemmas.Bool.{cases_eq, cases_order}
 use Rattle.std.proofs.lemmas.Grind.{common_steps}
-use Rattle.rs_field.specs.words.Field.{combine, cantor_basis, bits, monomials, from_bits, carryless, reduce, product, nth_power, power, generator, log}
+use Rattle.rs_field.specs.words.Field.{combine, cantor_basis, bits, monomials, from_bits, carryless, reduce, product}
+use Rattle.rs_field.specs.words.Field.{nth_power, power, generator, log}
 use Rattle.rs_field.proofs.of_words.Search.{first_below-passes, first_below_most}
 use Rattle.rs_field.proofs.of_words.Linear.{passes_below, from_passes_below}
 use Rattle.rs_field.proofs.of_words.Product.{product_lt, product_comm, product_assoc, product_one, one_product}
@@ -20,13 +24,15 @@ pub nth_power-add : (x m n : ℕ) → x < 2 ^ 16 → nth_power x (m + n) ≡ pro
 unfolding nth_power
 nth_power-add x m zero hx = ap (nth_power x) (add-zero m) ∙ sym (product_one (nth_power x m) (raised_lt x m))
 nth_power-add x m (suc n) hx =
-    ap (nth_power x) (add-suc m n) ∙ ap (λ v. product v x) (nth_power-add x m n hx) ∙ product_assoc (nth_power x m) (nth_power x n) x (raised_lt x m) (raised_lt x n) hx
+    ap (nth_power x) (add-suc m n) ∙ ap (λ v. product v x) (nth_power-add x m n hx)
+        ∙ product_assoc (nth_power x m) (nth_power x n) x (raised_lt x m) (raised_lt x n) hx
 
 pub nth_power-mul : (x m n : ℕ) → x < 2 ^ 16 → nth_power (nth_power x m) n ≡ nth_power x (m * n)
 unfolding nth_power
 nth_power-mul x m zero hx = ap (nth_power x) (sym (mul-zero m))
 nth_power-mul x m (suc n) hx =
-    ap (λ v. product v (nth_power x m)) (nth_power-mul x m n hx) ∙ sym (nth_power-add x (m * n) m hx) ∙ ap (nth_power x) (sym (mul-suc m n))
+    ap (λ v. product v (nth_power x m)) (nth_power-mul x m n hx) ∙ sym (nth_power-add x (m * n) m hx)
+        ∙ ap (nth_power x) (sym (mul-suc m n))
 
 pub one_raised : (n : ℕ) → nth_power 1 n ≡ 1
 unfolding nth_power
@@ -48,7 +54,8 @@ fast_is zero x n hx hn = let z : 0 ≡ n = omega arith in ap (nth_power x) z
 fast_is (suc k) x n hx hn =
     let half : n / 2 < 2 ^ k = shr_below n k 1 (subst (λ (j : ℕ). n < 2 ^ j) (sym (add-one k)) hn) in
     let whole : n % 2 + 2 * (n / 2) ≡ n = omega arith in
-    cc (fast_is k (product x x) (n / 2) (product_lt x x) half, raised_two x hx, nth_power-mul x 2 (n / 2) hx, nth_power-add x (n % 2) (2 * (n / 2)) hx)
+    cc (fast_is k (product x x) (n / 2) (product_lt x x) half, raised_two x hx, nth_power-mul x 2
+        (n / 2) hx, nth_power-add x (n % 2) (2 * (n / 2)) hx)
 
 pub generator_lt : generator < 2 ^ 16
 unfolding generator
@@ -62,7 +69,8 @@ unfolding generator
 generator_pos = omega arith
 
 -- The power 65535 of the generator is 1, and the powers for 65535 divided by one prime factor are not 1.
-check_powers : (fast 16 generator 65535 ≡ 1) × (eqb (fast 16 generator 21845) 1 ≡ false) × (eqb (fast 16 generator 13107) 1 ≡ false)
+check_powers : (fast 16 generator 65535 ≡ 1) × (eqb (fast 16 generator 21845) 1 ≡ false)
+    × (eqb (fast 16 generator 13107) 1 ≡ false)
     × (eqb (fast 16 generator 3855) 1 ≡ false) × (eqb (fast 16 generator 255) 1 ≡ false)
 unfolding fast nth_power generator combine bits from_bits cantor_basis monomials carryless reduce product
 check_powers = (refl, refl, refl, refl, refl)
@@ -83,7 +91,8 @@ not_one n hn test e = grind (arith, common_steps, power_is, true≢false)
 unfoldable has_inverses : ℕ → Bool
 has_inverses p = passes_below p (λ r. eqb r 0 || eqb (r * r ^ (p - 2) % p) 1)
 
-check_inverses : (has_inverses 3 ≡ true) × (has_inverses 5 ≡ true) × (has_inverses 17 ≡ true) × (has_inverses 257 ≡ true)
+check_inverses : (has_inverses 3 ≡ true) × (has_inverses 5 ≡ true) × (has_inverses 17 ≡ true)
+    × (has_inverses 257 ≡ true)
 unfolding has_inverses passes_below
 check_inverses = (refl, refl, refl, refl)
 
@@ -93,10 +102,12 @@ unfolding power
 unit_from p q k m t whole bezout one =
     let exponent : k * (m * q) ≡ q + 65535 * t =
     sym (mul_assoc k m q) ∙ ap (λ v. v * q) bezout ∙ expand p q t ∙ ap (λ v. q + v * t) whole in
-    let left : nth_power generator (k * (m * q)) ≡ 1 = sym (nth_power-mul generator k (m * q) generator_lt) ∙ ap (λ v. nth_power v (m * q)) one ∙ one_raised (m * q) in
+    let left : nth_power generator (k * (m * q)) ≡ 1 = sym (nth_power-mul generator k (m * q) generator_lt)
+        ∙ ap (λ v. nth_power v (m * q)) one ∙ one_raised (m * q) in
     let right : nth_power generator (q + 65535 * t) ≡ nth_power generator q =
     nth_power-add generator q (65535 * t) generator_lt
-    ∙ ap (product (nth_power generator q)) (sym (nth_power-mul generator 65535 t generator_lt) ∙ ap (λ v. nth_power v t) power_turn ∙ one_raised t)
+    ∙ ap (product (nth_power generator q))
+        (sym (nth_power-mul generator 65535 t generator_lt) ∙ ap (λ v. nth_power v t) power_turn ∙ one_raised t)
     ∙ product_one (nth_power generator q) (raised_lt generator q) in
     sym right ∙ ap (nth_power generator) (sym exponent) ∙ left
 
@@ -106,7 +117,8 @@ dividend n p e = sym (mod-add-div n p) ∙ ap (λ v. v + p * (n / p)) e
 inverse_of : (p r : ℕ) → has_inverses p ≡ true → r < p → r ≢ 0 → r * r ^ (p - 2) % p ≡ 1
 unfolding has_inverses
 inverse_of p r h hr apart =
-    eqb-true (r * r ^ (p - 2) % p) 1 (rw (ne_eqb r 0 apart) at (from_passes_below p (λ r. eqb r 0 || eqb (r * r ^ (p - 2) % p) 1) h r hr))
+    eqb-true (r * r ^ (p - 2) % p) 1
+        (rw (ne_eqb r 0 apart) at (from_passes_below p (λ r. eqb r 0 || eqb (r * r ^ (p - 2) % p) 1) h r hr))
 
 divided : (p q k : ℕ) → p * q ≡ 65535 → 0 < p → has_inverses p ≡ true → power q ≢ 1 → power k ≡ 1 → k % p ≡ 0
 divided p q k whole pos h apart one =
@@ -156,8 +168,10 @@ power_apart : (i j : ℕ) → i < j → j < 65535 → power i ≡ power j → �
 power_apart i j hij hj e =
     let gap : i + (j - i) ≡ j = omega arith in
     let same : product 1 (power i) ≡ product (power (j - i)) (power i) =
-    one_product (power i) (power_lt i) ∙ e ∙ ap power (sym gap) ∙ power-add i (j - i) ∙ product_comm (power i) (power (j - i)) (power_lt i) (power_lt (j - i)) in
-    let one : 1 ≡ power (j - i) = product_cancel (power i) 1 (power (j - i)) (power_pos i) (power_lt i) (lit< tt) (power_lt (j - i)) same in
+    one_product (power i) (power_lt i) ∙ e ∙ ap power (sym gap) ∙ power-add i (j - i)
+        ∙ product_comm (power i) (power (j - i)) (power_lt i) (power_lt (j - i)) in
+    let one : 1 ≡ power (j - i) =
+        product_cancel (power i) 1 (power (j - i)) (power_pos i) (power_lt i) (lit< tt) (power_lt (j - i)) same in
     let none : j - i ≡ 0 = order (j - i) (omega arith) (sym one) in
     omega arith
 

@@ -1,10 +1,13 @@
 -- The laws of the product of words.
-use Rattle.std.proofs.Common.{◌≡◌, ℕ, zero, suc, ◌+◌, ◌*◌, ◌/◌, ◌%◌, ◌^◌, ◌<◌, List, [], ◌∷◌, Bool, true, ◌&&◌, eqb, bit_xor, refl, sym, ap, ap₂, ◌∙◌, arith, eqb-true, ltb, ltb-true, zero-mul, one-mul, mod-lt}
+use Rattle.std.proofs.Common.{◌≡◌, ℕ, zero, suc, ◌+◌, ◌*◌, ◌/◌, ◌%◌, ◌^◌, ◌<◌, List, [], ◌∷◌, Bool, true, ◌&&◌, eqb}
+use Rattle.std.proofs.Common.{bit_xor, refl, sym, ap, ap₂, ◌∙◌, arith, eqb-true, ltb, ltb-true, zero-mul, one-mul}
+use Rattle.std.proofs.Common.{mod-lt}
 use Rattle.std.specs.Int.Bits.{xor_shr, xor_lt}
 use Rattle.std.proofs.lemmas.Bool.{and_parts}
 use Rattle.std.proofs.lemmas.Grind.{common_steps}
 use Rattle.rs_field.specs.words.Field.{combine, cantor_basis, bits, monomials, from_bits, carryless, reduce, product}
-use Rattle.rs_field.proofs.of_words.Linear.{xor_swap, xor_times_pow, lowest_xor, combine_xor, IsAdditive, additive_zero, agree_below, passes_below, from_passes_below}
+use Rattle.rs_field.proofs.of_words.Linear.{xor_swap, xor_times_pow, lowest_xor, combine_xor, IsAdditive, additive_zero}
+use Rattle.rs_field.proofs.of_words.Linear.{agree_below, passes_below, from_passes_below}
 
 pub bits_xor : (x y : ℕ) → bits (bit_xor x y) ≡ bit_xor (bits x) (bits y)
 unfolding bits
@@ -18,7 +21,8 @@ carryless_xor_left : (n a c b : ℕ) → carryless n (bit_xor a c) b ≡ bit_xor
 unfolding carryless
 carryless_xor_left zero a c b = refl
 carryless_xor_left (suc n) a c b =
-    ap₂ bit_xor (lowest_xor a c b) (ap (λ x. carryless n x (b * 2)) (xor_shr a c 1) ∙ carryless_xor_left n (a / 2) (c / 2) (b * 2))
+    ap₂ bit_xor (lowest_xor a c b)
+        (ap (λ x. carryless n x (b * 2)) (xor_shr a c 1) ∙ carryless_xor_left n (a / 2) (c / 2) (b * 2))
     ∙ xor_swap (a % 2 * b) (c % 2 * b) (carryless n (a / 2) (b * 2)) (carryless n (c / 2) (b * 2))
 
 digit_times_lt : (d b m : ℕ) → d < 2 → b < m → d * b < m
@@ -35,7 +39,8 @@ unfolding carryless
 carryless_xor_right zero a b c = refl
 carryless_xor_right (suc n) a b c =
     let two : 0 < 2 = omega arith in
-    ap₂ bit_xor (digit_times_xor (a % 2) b c (mod-lt a two)) (ap (carryless n (a / 2)) (xor_times_pow 1 b c) ∙ carryless_xor_right n (a / 2) (b * 2) (c * 2))
+    ap₂ bit_xor (digit_times_xor (a % 2) b c (mod-lt a two))
+        (ap (carryless n (a / 2)) (xor_times_pow 1 b c) ∙ carryless_xor_right n (a / 2) (b * 2) (c * 2))
     ∙ xor_swap (a % 2 * b) (a % 2 * c) (carryless n (a / 2) (b * 2)) (carryless n (a / 2) (c * 2))
 
 reduce_xor : (n p q : ℕ) → reduce n (bit_xor p q) ≡ bit_xor (reduce n p) (reduce n q)
@@ -68,7 +73,8 @@ unfolding combine entries_below
 combine_lt [] x h = omega arith
 combine_lt (b ∷ bs) x h =
     let first : b < 2 ^ 16 = ltb-true b (2 ^ 16) (and_parts _ _ h).0 in
-    xor_lt 16 _ _ (digit_times_lt (x % 2) b (2 ^ 16) (mod-lt x (omega arith)) first) (combine_lt bs (x / 2) (and_parts _ _ h).1)
+    xor_lt 16 _ _ (digit_times_lt (x % 2) b (2 ^ 16) (mod-lt x (omega arith)) first)
+        (combine_lt bs (x / 2) (and_parts _ _ h).1)
 
 pub from_bits_lt : (v : ℕ) → from_bits v < 2 ^ 16
 unfolding from_bits entries_below monomials
@@ -81,9 +87,12 @@ product_lt x y = from_bits_lt _
 -- ---- by computation on the powers of two
 
 -- Two maps that keep XOR and pass a test at each power of two are equal on words.
-pub same_on_words : (f g : ℕ → ℕ) → IsAdditive 16 f → IsAdditive 16 g → passes_below 16 (λ i. eqb (f (2 ^ i)) (g (2 ^ i))) ≡ true → (x : ℕ) → x < 2 ^ 16 → f x ≡ g x
+pub same_on_words : (f g : ℕ → ℕ) → IsAdditive 16 f → IsAdditive 16 g
+    → passes_below 16 (λ i. eqb (f (2 ^ i)) (g (2 ^ i))) ≡ true → (x : ℕ) → x < 2 ^ 16 → f x ≡ g x
 same_on_words f g hf hg same x hx =
-    agree_below 16 f g hf hg (λ i hi. eqb-true (f (2 ^ i)) (g (2 ^ i)) (from_passes_below 16 (λ i. eqb (f (2 ^ i)) (g (2 ^ i))) same i hi)) 16 (omega arith) x hx
+    agree_below 16 f g hf hg
+        (λ i hi. eqb-true (f (2 ^ i)) (g (2 ^ i)) (from_passes_below 16 (λ i. eqb (f (2 ^ i)) (g (2 ^ i))) same i hi))
+        16 (omega arith) x hx
 
 -- The coordinates of a word determine the word.
 pub from_bits-bits : (x : ℕ) → x < 2 ^ 16 → from_bits (bits x) ≡ x
@@ -107,14 +116,20 @@ same_on_pairs f g fl fr gl gr same x y hx hy =
 
 -- Two maps that are additive in three words are equal if they agree at the 4096 triples of powers of two.
 pub same_on_triples : (f g : ℕ → ℕ → ℕ → ℕ)
-    → ((y z : ℕ) → IsAdditive 16 (λ x. f x y z)) → ((x z : ℕ) → IsAdditive 16 (λ y. f x y z)) → ((x y : ℕ) → IsAdditive 16 (f x y))
-    → ((y z : ℕ) → IsAdditive 16 (λ x. g x y z)) → ((x z : ℕ) → IsAdditive 16 (λ y. g x y z)) → ((x y : ℕ) → IsAdditive 16 (g x y))
-    → passes_below 16 (λ i. passes_below 16 (λ j. passes_below 16 (λ k. eqb (f (2 ^ i) (2 ^ j) (2 ^ k)) (g (2 ^ i) (2 ^ j) (2 ^ k))))) ≡ true
+    → ((y z : ℕ) → IsAdditive 16 (λ x. f x y z)) → ((x z : ℕ) → IsAdditive 16 (λ y. f x y z))
+    → ((x y : ℕ) → IsAdditive 16 (f x y))
+    → ((y z : ℕ) → IsAdditive 16 (λ x. g x y z)) → ((x z : ℕ) → IsAdditive 16 (λ y. g x y z))
+    → ((x y : ℕ) → IsAdditive 16 (g x y))
+    → passes_below 16 (λ i.
+        passes_below 16 (λ j. passes_below 16 (λ k. eqb (f (2 ^ i) (2 ^ j) (2 ^ k)) (g (2 ^ i) (2 ^ j) (2 ^ k)))))
+        ≡ true
     → (x y z : ℕ) → x < 2 ^ 16 → y < 2 ^ 16 → z < 2 ^ 16 → f x y z ≡ g x y z
 same_on_triples f g f1 f2 f3 g1 g2 g3 same x y z hx hy hz =
     agree_below 16 (λ x. f x y z) (λ x. g x y z) (f1 y z) (g1 y z)
     (λ i hi. same_on_pairs (f (2 ^ i)) (g (2 ^ i)) (f2 (2 ^ i)) (f3 (2 ^ i)) (g2 (2 ^ i)) (g3 (2 ^ i))
-    (from_passes_below 16 (λ i. passes_below 16 (λ j. passes_below 16 (λ k. eqb (f (2 ^ i) (2 ^ j) (2 ^ k)) (g (2 ^ i) (2 ^ j) (2 ^ k))))) same i hi) y z hy hz)
+    (from_passes_below 16
+        (λ i. passes_below 16 (λ j. passes_below 16 (λ k. eqb (f (2 ^ i) (2 ^ j) (2 ^ k)) (g (2 ^ i) (2 ^ j) (2 ^ k)))))
+        same i hi) y z hy hz)
     16 (omega arith) x hx
 
 pub additive_left : (y : ℕ) → IsAdditive 16 (λ x. product x y)
@@ -124,10 +139,16 @@ pub additive_right : (x : ℕ) → IsAdditive 16 (product x)
 additive_right x = record { xor = λ a b ha hb. product_xor_right x a b }
 
 -- The laws of the product hold at powers of two.
-check_laws : (passes_below 16 (λ i. passes_below 16 (λ j. eqb (product (2 ^ i) (2 ^ j)) (product (2 ^ j) (2 ^ i)))) ≡ true)
-    × (passes_below 16 (λ i. passes_below 16 (λ j. passes_below 16 (λ k. eqb (product (product (2 ^ i) (2 ^ j)) (2 ^ k)) (product (2 ^ i) (product (2 ^ j) (2 ^ k)))))) ≡ true)
+check_laws : (passes_below 16 (λ i. passes_below 16 (λ j. eqb (product (2 ^ i) (2 ^ j)) (product (2 ^ j) (2 ^ i))))
+    ≡ true)
+    × (passes_below 16 (λ i.
+        passes_below 16 (λ j.
+        passes_below 16 (λ k.
+        eqb (product (product (2 ^ i) (2 ^ j)) (2 ^ k)) (product (2 ^ i) (product (2 ^ j) (2 ^ k)))))) ≡ true)
     × (passes_below 16 (λ i. eqb (product (2 ^ i) 1) (2 ^ i)) ≡ true)
-    × (passes_below 16 (λ i. passes_below 16 (λ j. eqb (bits (product (2 ^ i) (2 ^ j))) (reduce 16 (carryless 16 (bits (2 ^ i)) (bits (2 ^ j)))))) ≡ true)
+    × (passes_below 16 (λ i.
+        passes_below 16 (λ j.
+        eqb (bits (product (2 ^ i) (2 ^ j))) (reduce 16 (carryless 16 (bits (2 ^ i)) (bits (2 ^ j)))))) ≡ true)
 unfolding passes_below combine bits from_bits cantor_basis monomials carryless reduce product
 check_laws = (refl, refl, refl, refl)
 
@@ -135,7 +156,8 @@ pub product_comm : (x y : ℕ) → x < 2 ^ 16 → y < 2 ^ 16 → product x y ≡
 product_comm =
     same_on_pairs product (λ x y. product y x) additive_left additive_right additive_right additive_left check_laws.0
 
-pub product_assoc : (x y z : ℕ) → x < 2 ^ 16 → y < 2 ^ 16 → z < 2 ^ 16 → product (product x y) z ≡ product x (product y z)
+pub product_assoc : (x y z : ℕ) → x < 2 ^ 16 → y < 2 ^ 16 → z < 2 ^ 16
+    → product (product x y) z ≡ product x (product y z)
 product_assoc =
     same_on_triples (λ x y z. product (product x y) z) (λ x y z. product x (product y z))
     (λ y z. record { xor = λ a b ha hb. ap (λ v. product v z) (product_xor_left a b y) ∙ product_xor_left _ _ z })
@@ -147,7 +169,8 @@ product_assoc =
     check_laws.1
 
 pub product_one : (x : ℕ) → x < 2 ^ 16 → product x 1 ≡ x
-product_one = same_on_words (λ x. product x 1) (λ x. x) (additive_left 1) (record { xor = λ a b ha hb. refl }) check_laws.2
+product_one = same_on_words (λ x. product x 1) (λ x. x) (additive_left 1)
+    (record { xor = λ a b ha hb. refl }) check_laws.2
 
 pub one_product : (x : ℕ) → x < 2 ^ 16 → product 1 x ≡ x
 one_product x hx = product_comm 1 x (omega arith) hx ∙ product_one x hx
@@ -166,11 +189,14 @@ bits-product =
     (λ x. record { xor = λ a b ha hb. ap bits (product_xor_right x a b) ∙ bits_xor (product x a) (product x b) })
     (λ y. record {
       xor = λ a b ha hb.
-          ap (reduce 16) (ap (λ v. carryless 16 v (bits y)) (bits_xor a b) ∙ carryless_xor_left 16 (bits a) (bits b) (bits y)) ∙ reduce_xor 16 (carryless 16 (bits a) (bits y)) (carryless 16 (bits b) (bits y));
+          ap (reduce 16) (ap (λ v. carryless 16 v (bits y)) (bits_xor a b)
+              ∙ carryless_xor_left 16 (bits a) (bits b) (bits y))
+              ∙ reduce_xor 16 (carryless 16 (bits a) (bits y)) (carryless 16 (bits b) (bits y));
     })
     (λ x. record {
       xor = λ a b ha hb.
-          ap (reduce 16) (ap (carryless 16 (bits x)) (bits_xor a b) ∙ carryless_xor_right 16 (bits x) (bits a) (bits b)) ∙ reduce_xor 16 (carryless 16 (bits x) (bits a)) (carryless 16 (bits x) (bits b));
+          ap (reduce 16) (ap (carryless 16 (bits x)) (bits_xor a b) ∙ carryless_xor_right 16 (bits x) (bits a) (bits b))
+              ∙ reduce_xor 16 (carryless 16 (bits x) (bits a)) (carryless 16 (bits x) (bits b));
     })
     check_laws.3
 

@@ -1,11 +1,13 @@
 -- Equations of sums and products of given words are proved by multiplying out and cancelling equal terms in pairs.
-use Rattle.std.proofs.Common.{◌≡◌, ℕ, zero, suc, ◌^◌, ◌<◌, List, [], ◌∷◌, ◌++◌, Bool, true, false, ◌&&◌, cond, eqb, leb, eqb-true, get_or, bit_xor, refl, sym, ap, ap₂, ◌∙◌, arith}
+use Rattle.std.proofs.Common.{◌≡◌, ℕ, zero, suc, ◌^◌, ◌<◌, List, [], ◌∷◌, ◌++◌, Bool, true, false, ◌&&◌, cond, eqb, leb}
+use Rattle.std.proofs.Common.{eqb-true, get_or, bit_xor, refl, sym, ap, ap₂, ◌∙◌, arith}
 use Rattle.std.specs.Int.Bits.{xor_comm, xor_assoc, xor_self, xor_zero_r}
 use Rattle.std.proofs.lemmas.Bool.{cases_Bool, and_parts}
 use Rattle.std.proofs.lemmas.Nat.{pow_pos}
 use Rattle.std.proofs.lemmas.Grind.{common_steps}
 use Rattle.rs_field.specs.words.Field.{product}
-use Rattle.rs_field.proofs.of_words.Product.{product_lt, product_xor_left, product_xor_right, product_zero, zero_product, product_one, one_product}
+use Rattle.rs_field.proofs.of_words.Product.{product_lt, product_xor_left, product_xor_right, product_zero}
+use Rattle.rs_field.proofs.of_words.Product.{zero_product, product_one, one_product}
 use Rattle.rs_field.proofs.of_words.Total.{product-assoc, product-left_comm}
 use Rattle.rs_field.proofs.of_words.Roots.{WordsOneByOne, same_from_xor}
 
@@ -89,12 +91,14 @@ mono-merge : (ts l m : List ℕ) → mono ts (merge l m) ≡ product (mono ts l)
 unfolding mono
 mono-merge ts [] m = sym (one_product (mono ts m) (mono_lt ts m))
 mono-merge ts (i ∷ l) m =
-    mono-insert ts i (merge l m) ∙ ap (product (get_or ts i 0)) (mono-merge ts l m) ∙ sym (product-assoc (get_or ts i 0) (mono ts l) (mono ts m))
+    mono-insert ts i (merge l m) ∙ ap (product (get_or ts i 0)) (mono-merge ts l m)
+        ∙ sym (product-assoc (get_or ts i 0) (mono ts l) (mono ts m))
 
 total-append : (ts : List ℕ) (p q : List (List ℕ)) → total ts (p ++ q) ≡ bit_xor (total ts p) (total ts q)
 unfolding total
 total-append ts [] q = refl
-total-append ts (m ∷ p) q = ap (bit_xor (mono ts m)) (total-append ts p q) ∙ sym (xor_assoc (mono ts m) (total ts p) (total ts q))
+total-append ts (m ∷ p) q =
+    ap (bit_xor (mono ts m)) (total-append ts p q) ∙ sym (xor_assoc (mono ts m) (total ts p) (total ts q))
 
 total-each : (ts m : List ℕ) (p : List (List ℕ)) → total ts (each m p) ≡ product (mono ts m) (total ts p)
 unfolding total
@@ -105,7 +109,8 @@ total-each ts m (l ∷ p) =
 total-multiply : (ts : List ℕ) (p q : List (List ℕ)) → total ts (multiply p q) ≡ product (total ts p) (total ts q)
 unfolding total
 total-multiply ts [] q = sym (zero_product (total ts q))
-total-multiply ts (m ∷ p) q = grind (arith, common_steps, total-append, total-each, product_xor_left, total-multiply ts p q)
+total-multiply ts (m ∷ p) q =
+    grind (arith, common_steps, total-append, total-each, product_xor_left, total-multiply ts p q)
 
 term_lt : (ts : List ℕ) (i : ℕ) → WordsOneByOne ts → get_or ts i 0 < 2 ^ 16
 term_lt [] i h = pow_pos 16
@@ -117,17 +122,21 @@ unfolding total mono
 total-expanded ts (v i) h = sym (xor_zero_r _ ∙ product_one (get_or ts i 0) (term_lt ts i h))
 total-expanded ts nought h = refl
 total-expanded ts unit h = refl
-total-expanded ts (plus a b) h = ap₂ bit_xor (total-expanded ts a h) (total-expanded ts b h) ∙ sym (total-append ts (expanded a) (expanded b))
-total-expanded ts (times a b) h = ap₂ product (total-expanded ts a h) (total-expanded ts b h) ∙ sym (total-multiply ts (expanded a) (expanded b))
+total-expanded ts (plus a b) h = ap₂ bit_xor (total-expanded ts a h) (total-expanded ts b h)
+    ∙ sym (total-append ts (expanded a) (expanded b))
+total-expanded ts (times a b) h = ap₂ product (total-expanded ts a h) (total-expanded ts b h)
+    ∙ sym (total-multiply ts (expanded a) (expanded b))
 
 same_is : (l m : List ℕ) → same l m ≡ true → l ≡ m
 same_is [] [] h = refl
 same_is [] (j ∷ m) h = cc
 same_is (i ∷ l) [] h = cc
 same_is (i ∷ l) (j ∷ m) h =
-    ap₂ (λ (x : ℕ) (xs : List ℕ). x ∷ xs) (eqb-true i j (and_parts (eqb i j) (same l m) h).0) (same_is l m (and_parts (eqb i j) (same l m) h).1)
+    ap₂ (λ (x : ℕ) (xs : List ℕ). x ∷ xs) (eqb-true i j (and_parts (eqb i j) (same l m) h).0)
+        (same_is l m (and_parts (eqb i j) (same l m) h).1)
 
-stripped : (ts m : List ℕ) (p : List (List ℕ)) → (strip m p).1 ≡ true → total ts p ≡ bit_xor (mono ts m) (total ts (strip m p).0)
+stripped : (ts m : List ℕ) (p : List (List ℕ)) → (strip m p).1 ≡ true
+    → total ts p ≡ bit_xor (mono ts m) (total ts (strip m p).0)
 unfolding total
 stripped ts m [] h = cc
 stripped ts m (l ∷ p) h = by_test (stripped ts m p) (same m l) refl h
@@ -135,7 +144,8 @@ stripped ts m (l ∷ p) h = by_test (stripped ts m p) (same m l) refl h
     exchange : (a b c : ℕ) → bit_xor a (bit_xor b c) ≡ bit_xor b (bit_xor a c)
     exchange a b c = sym (xor_assoc a b c) ∙ ap (λ x. bit_xor x c) (xor_comm a b) ∙ xor_assoc b a c
 
-    by_test : ((strip m p).1 ≡ true → total ts p ≡ bit_xor (mono ts m) (total ts (strip m p).0)) → (t : Bool) → same m l ≡ t → (kept t l p (strip m p)).1 ≡ true
+    by_test : ((strip m p).1 ≡ true → total ts p ≡ bit_xor (mono ts m) (total ts (strip m p).0)) → (t : Bool)
+        → same m l ≡ t → (kept t l p (strip m p)).1 ≡ true
         → bit_xor (mono ts l) (total ts p) ≡ bit_xor (mono ts m) (total ts (kept t l p (strip m p)).0)
     by_test ih true e h = ap (λ x. bit_xor (mono ts x) (total ts p)) (sym (same_is m l e))
     by_test ih false e h = ap (bit_xor (mono ts l)) (ih h) ∙ exchange (mono ts l) (mono ts m) (total ts (strip m p).0)
@@ -146,7 +156,8 @@ cancelled n ts [] h = refl
 cancelled zero ts (m ∷ p) h = cc
 cancelled (suc n) ts (m ∷ p) h =
     ap (bit_xor (mono ts m)) (stripped ts m p (and_parts _ _ h).0)
-    ∙ sym (xor_assoc (mono ts m) (mono ts m) (total ts (strip m p).0)) ∙ ap (λ x. bit_xor x (total ts (strip m p).0)) (xor_self (mono ts m))
+    ∙ sym (xor_assoc (mono ts m) (mono ts m) (total ts (strip m p).0))
+    ∙ ap (λ x. bit_xor x (total ts (strip m p).0)) (xor_self (mono ts m))
     ∙ cancelled n ts (strip m p).0 (and_parts _ _ h).1
 
 abbrev pub equal_by_algebra : Expr → Expr → Bool

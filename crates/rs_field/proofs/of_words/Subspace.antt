@@ -1,5 +1,8 @@
 -- Products over the words below a power of two.
-use Rattle.std.proofs.Common.{◌≡◌, ℕ, zero, suc, ◌+◌, ◌-◌, ◌*◌, ◌/◌, ◌^◌, ◌<◌, ◌≤◌, bit_xor, refl, sym, ap, ap₂, ◌∙◌, subst, arith, add-zero, zero-add, add-suc, pow_mono, lt_of_le_of_lt, zero-mul, one-mul, suc-mul, add_assoc, add-one, pow-add, sub-add_cancel, add-sub_cancel, mul-lt-mul_of_pos_right}
+use Rattle.std.proofs.Common.{◌≡◌, ℕ, zero, suc, ◌+◌, ◌-◌, ◌*◌, ◌/◌, ◌^◌, ◌<◌, ◌≤◌, bit_xor, refl, sym, ap, ap₂, ◌∙◌}
+use Rattle.std.proofs.Common.{subst, arith, add-zero, zero-add, add-suc, pow_mono, lt_of_le_of_lt, zero-mul, one-mul}
+use Rattle.std.proofs.Common.{suc-mul, add_assoc, add-one, pow-add, sub-add_cancel, add-sub_cancel}
+use Rattle.std.proofs.Common.{mul-lt-mul_of_pos_right}
 use Rattle.std.proofs.Math.Nat.{div-eq_of_lt, two-pow-succ}
 use Rattle.std.specs.Int.Bits.{xor_assoc, xor_shr, xor_lt, xor_shifted}
 use Rattle.std.proofs.lemmas.Nat.{pow_pos, shr-shr, shl-shr, shr_le}
@@ -37,7 +40,8 @@ product_below-add m zero f words =
 product_below-add m (suc n) f words =
     ap (λ k. product_below k f) (add-suc m n)
     ∙ ap (λ v. product v (f (m + n))) (product_below-add m n f (λ i h. words i (omega arith)))
-    ∙ product_assoc (product_below m f) (product_below n (λ i. f (m + i))) (f (m + n)) (product_below_lt m f) (product_below_lt n _) (words (m + n) (omega arith))
+    ∙ product_assoc (product_below m f) (product_below n (λ i. f (m + i))) (f (m + n)) (product_below_lt m f)
+        (product_below_lt n _) (words (m + n) (omega arith))
 
 subspace_is : (d x : ℕ) → subspace d x ≡ product_below (2 ^ d) (λ y. bit_xor x y)
 unfolding subspace
@@ -45,7 +49,9 @@ subspace_is d x = refl
 
 -- The product over the points from 0 on is the subspace polynomial.
 pub subspace_from_zero : (e x : ℕ) → product_below (2 ^ e) (λ i. bit_xor x (0 + i)) ≡ subspace e x
-subspace_from_zero e x = product_below-same (2 ^ e) (λ i. bit_xor x (0 + i)) (λ y. bit_xor x y) (λ i h. ap (bit_xor x) (zero-add i)) ∙ sym (subspace_is e x)
+subspace_from_zero e x =
+    product_below-same (2 ^ e) (λ i. bit_xor x (0 + i)) (λ y. bit_xor x y) (λ i h. ap (bit_xor x) (zero-add i))
+    ∙ sym (subspace_is e x)
 
 -- The product x * (x + 1) is x shifted right by one bit.
 times_next : (u : ℕ) → u < 2 ^ 16 → product u (bit_xor u 1) ≡ u / 2
@@ -58,7 +64,8 @@ top_bit d y h =
 
 -- The value s_d(x) is x shifted right by d bits.
 pub subspace_shift : (d x : ℕ) → d ≤ 16 → x < 2 ^ 16 → subspace d x ≡ x / 2 ^ d
-subspace_shift zero x hd hx = grind (arith, common_steps, subspace_is, product_below-suc, product_below-zero, one_product)
+subspace_shift zero x hd hx =
+    grind (arith, common_steps, subspace_is, product_below-suc, product_below-zero, one_product)
 subspace_shift (suc d) x hd hx =
     let less : d ≤ 16 = omega arith in
     let half : 2 ^ suc d ≤ 2 ^ 16 = pow_mono hd in
@@ -77,7 +84,8 @@ subspace_shift (suc d) x hd hx =
     subspace_is (suc d) x
     ∙ ap (λ n. product_below n (λ y. bit_xor x y)) (two-pow-succ d)
     ∙ product_below-add (2 ^ d) (2 ^ d) (λ y. bit_xor x y) words
-    ∙ ap₂ product (sym (subspace_is d x) ∙ subspace_shift d x less hx) (upper ∙ subspace_shift d (bit_xor x (2 ^ d)) less moved ∙ xor_shr x (2 ^ d) d ∙ ap (bit_xor u) one)
+    ∙ ap₂ product (sym (subspace_is d x) ∙ subspace_shift d x less hx)
+        (upper ∙ subspace_shift d (bit_xor x (2 ^ d)) less moved ∙ xor_shr x (2 ^ d) d ∙ ap (bit_xor u) one)
     ∙ times_next u hu
     ∙ shr-shr x d 1
     ∙ ap (λ k. x / 2 ^ k) (add-suc d 0 ∙ ap suc (add-zero d))
@@ -87,7 +95,8 @@ pub product_below-mul : (m n : ℕ) (f : ℕ → ℕ) → ((i : ℕ) → i < m *
     → product_below (m * n) f ≡ product_below m (λ u. product_below n (λ i. f (u * n + i)))
 product_below-mul zero n f words = grind (arith, common_steps, zero-mul, product_below-zero)
 product_below-mul (suc m) n f words =
-    grind (arith, common_steps, suc-mul, product_below-add, product_below-suc, product_below-mul m n f (λ i h. words i (omega arith)))
+    grind (arith, common_steps, suc-mul, product_below-add, product_below-suc, product_below-mul m n f
+        (λ i h. words i (omega arith)))
 
 -- The product of the words from 1 to 2 ^ k - 1 is 1.
 nonzero_words : (k : ℕ) → k ≤ 16 → product_below (2 ^ k - 1) (λ i. i + 1) ≡ 1
@@ -100,7 +109,8 @@ nonzero_words (suc k) hk =
       product_below-add (2 ^ k - 1) (2 ^ k) (λ i. i + 1) (λ i h. omega arith),
       nonzero_words k (omega arith),
       product_one 1 (omega arith),
-      product_below-same (2 ^ k) (λ i. 2 ^ k - 1 + i + 1) (λ y. bit_xor (2 ^ k) y) (λ i h. shifted (2 ^ k) i pos ∙ top_bit k i h),
+      product_below-same (2 ^ k) (λ i. 2 ^ k - 1 + i + 1) (λ y. bit_xor (2 ^ k) y)
+          (λ i h. shifted (2 ^ k) i pos ∙ top_bit k i h),
       subspace_is k (2 ^ k),
       subspace_shift k (2 ^ k) (omega arith) (omega arith),
       one-mul (2 ^ k),
@@ -111,13 +121,16 @@ nonzero_words (suc k) hk =
     shifted m i pos = omega arith
 
 -- The product of x + y over a block of words y is the number of the block plus 1, for a word x below 2 ^ d.
-block : (d x v : ℕ) → d ≤ 16 → x < 2 ^ d → suc v * 2 ^ d < 2 ^ 16 → product_below (2 ^ d) (λ i. bit_xor x (2 ^ d + (v * 2 ^ d + i))) ≡ v + 1
+block : (d x v : ℕ) → d ≤ 16 → x < 2 ^ d → suc v * 2 ^ d < 2 ^ 16
+    → product_below (2 ^ d) (λ i. bit_xor x (2 ^ d + (v * 2 ^ d + i))) ≡ v + 1
 block d x v hd hx hv =
     let wide : 2 ^ d ≤ 2 ^ 16 = pow_mono hd in
     let x_word : x < 2 ^ 16 = omega arith in
     let low : x / 2 ^ d ≡ 0 = div-eq_of_lt hx in
     product_below-same (2 ^ d) (λ i. bit_xor x (2 ^ d + (v * 2 ^ d + i))) (λ y. bit_xor (bit_xor x (suc v * 2 ^ d)) y)
-    (λ i h. ap (bit_xor x) (sym (add_assoc (2 ^ d) (v * 2 ^ d) i) ∙ ap (λ k. k + i) (one_more_block (2 ^ d) v) ∙ sym (xor_shifted (suc v) d i h))
+    (λ i h. ap (bit_xor x)
+        (sym (add_assoc (2 ^ d) (v * 2 ^ d) i) ∙ ap (λ k. k + i) (one_more_block (2 ^ d) v)
+        ∙ sym (xor_shifted (suc v) d i h))
     ∙ sym (xor_assoc x (suc v * 2 ^ d) i))
     ∙ sym (subspace_is d (bit_xor x (suc v * 2 ^ d)))
     ∙ subspace_shift d (bit_xor x (suc v * 2 ^ d)) hd (xor_lt 16 x (suc v * 2 ^ d) x_word hv)
@@ -132,17 +145,22 @@ outside d x hd hx =
     let wide : 2 ^ d ≤ 2 ^ 16 = pow_mono hd in
     let pos : 0 < 2 ^ (16 - d) = pow_pos (16 - d) in
     let all : 2 ^ (16 - d) * 2 ^ d ≡ 65536 = sym (pow-add 2 (16 - d) d) ∙ ap (λ (e : ℕ). 2 ^ e) (sub-add_cancel hd) in
-    let count : 65536 - 2 ^ d ≡ (2 ^ (16 - d) - 1) * 2 ^ d = ap (λ v. v - 2 ^ d) (sym all) ∙ less_one (2 ^ (16 - d)) (2 ^ d) pos in
+    let count : 65536 - 2 ^ d ≡ (2 ^ (16 - d) - 1) * 2 ^ d =
+        ap (λ v. v - 2 ^ d) (sym all) ∙ less_one (2 ^ (16 - d)) (2 ^ d) pos in
     cc (
-      product_below-mul (2 ^ (16 - d) - 1) (2 ^ d) (λ i. bit_xor x (2 ^ d + i)) (λ i h. xor_lt 16 x (2 ^ d + i) (omega arith) (omega arith)),
-      product_below-same (2 ^ (16 - d) - 1) (λ v. product_below (2 ^ d) (λ i. bit_xor x (2 ^ d + (v * 2 ^ d + i)))) (λ v. v + 1)
+      product_below-mul (2 ^ (16 - d) - 1) (2 ^ d) (λ i. bit_xor x (2 ^ d + i))
+          (λ i h. xor_lt 16 x (2 ^ d + i) (omega arith) (omega arith)),
+      product_below-same (2 ^ (16 - d) - 1) (λ v. product_below (2 ^ d) (λ i. bit_xor x (2 ^ d + (v * 2 ^ d + i))))
+          (λ v. v + 1)
           (λ v h. block d x v hd hx (room v (2 ^ (16 - d)) (2 ^ d) (pow_pos d) h all)),
       nonzero_words (16 - d) (omega arith),
     )
   where
     less_one : (m n : ℕ) → 0 < m → m * n - n ≡ (m - 1) * n
     less_one zero n h = absurd (omega arith)
-    less_one (suc m) n h = let e : suc m * n ≡ m * n + n = suc-mul m n in let s : suc m - 1 ≡ m = omega arith in ap (λ v. v - n) e ∙ add-sub_cancel (m * n) n ∙ ap (λ v. v * n) (sym s)
+    less_one (suc m) n h = let e : suc m * n ≡ m * n + n = suc-mul m n in let s : suc m - 1 ≡ m = omega arith in
+        ap (λ v. v - n) e ∙ add-sub_cancel (m * n) n ∙ ap (λ v. v * n) (sym s)
 
     room : (v m n : ℕ) → 0 < n → v < m - 1 → m * n ≡ 65536 → suc v * n < 65536
-    room v m n pos h e = let lt : suc v < m = omega arith in subst (λ (w : ℕ). suc v * n < w) e (mul-lt-mul_of_pos_right lt pos)
+    room v m n pos h e = let lt : suc v < m = omega arith in
+        subst (λ (w : ℕ). suc v * n < w) e (mul-lt-mul_of_pos_right lt pos)

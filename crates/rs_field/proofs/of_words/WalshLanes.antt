@@ -1,5 +1,6 @@
 -- Larger lanes of two vectors, and layers of sums and differences in 16 lanes.
-use Rattle.std.proofs.Common.{◌≡◌, ℕ, zero, suc, ◌+◌, ◌-◌, ◌*◌, ◌/◌, ◌%◌, ◌<◌, ◌≤◌, ◌^◌, Bool, true, false, ◌&&◌, cond, List, [], ◌∷◌, ◌++◌, map, length, get_or, max, refl, ap, ap₂, ◌∙◌, arith, w16, Fits}
+use Rattle.std.proofs.Common.{◌≡◌, ℕ, zero, suc, ◌+◌, ◌-◌, ◌*◌, ◌/◌, ◌%◌, ◌<◌, ◌≤◌, ◌^◌, Bool, true, false, ◌&&◌, cond}
+use Rattle.std.proofs.Common.{List, [], ◌∷◌, ◌++◌, map, length, get_or, max, refl, ap, ap₂, ◌∙◌, arith, w16, Fits}
 use Rattle.std.specs.Prelude.{◌==◌, if◌then◌else◌, nat_eq, nat_lt}
 use Rattle.std.specs.Simd.Lanes.{Each1}
 use Rattle.std.proofs.Math.Dec.{ltb}
@@ -17,13 +18,16 @@ use lib.Lanes.{zip2, sel_l, top}
 larger_chosen : (a b : ℕ) → cond (ltb a b) b a ≡ max a b
 larger_chosen a b = grind (arith, common_steps)
 
-compared : (xs ys : List ℕ) → sel_l (map (top 15) (zip2 (λ a b. cond (ltb a b) 65535 0) xs ys)) ys xs ≡ sel_l (zip2 ltb xs ys) ys xs
+compared : (xs ys : List ℕ)
+    → sel_l (map (top 15) (zip2 (λ a b. cond (ltb a b) 65535 0) xs ys)) ys xs ≡ sel_l (zip2 ltb xs ys) ys xs
 compared xs ys = ap (λ ms. sel_l ms ys xs) (tops_compared w16 ltb xs ys)
 
 -- `simd_max` gives the larger of two lanes in each lane.
 pub larger_lane : (xs ys : List ℕ) (i : ℕ) → length xs ≡ 16 → length ys ≡ 16 → i < 16
-    → get_or (sel_l (map (top 15) (zip2 (λ a b. cond (ltb a b) 65535 0) xs ys)) ys xs) i 0 ≡ max (get_or xs i 0) (get_or ys i 0)
-larger_lane xs ys i hx hy h = grind (arith, common_steps, length-zip2, compared, get_or-sel_l, get_or-zip2, larger_chosen)
+    → get_or (sel_l (map (top 15) (zip2 (λ a b. cond (ltb a b) 65535 0) xs ys)) ys xs) i 0
+    ≡ max (get_or xs i 0) (get_or ys i 0)
+larger_lane xs ys i hx hy h =
+    grind (arith, common_steps, length-zip2, compared, get_or-sel_l, get_or-zip2, larger_chosen)
 
 pub length-larger : (xs ys : List ℕ) → length xs ≡ 16 → length ys ≡ 16
     → length (sel_l (map (top 15) (zip2 (λ a b. cond (ltb a b) 65535 0) xs ys)) ys xs) ≡ 16
@@ -38,20 +42,24 @@ lane_below (x ∷ v) (suc i) h = lane_below v i h.1
 
 -- The sum of lanes m and k, which a swizzle and a shuffle brought together.
 summed : (v w : List ℕ) (r m k : ℕ) → length v ≡ 16 → m < 16 → k < 16
-    → r % 65535 ≡ (get_or (v ++ v) m 0 + get_or (v ++ w) k 0) % 65535 → r % 65535 ≡ (get_or v m 0 + get_or v k 0) % 65535
+    → r % 65535 ≡ (get_or (v ++ v) m 0 + get_or (v ++ w) k 0) % 65535
+    → r % 65535 ≡ (get_or v m 0 + get_or v k 0) % 65535
 summed v w r m k size hm hk e =
-    e ∙ ap₂ (λ a b. (a + b) % 65535) (get_or_append_left v v 0 m (omega arith)) (get_or_append_left v w 0 k (omega arith))
+    e ∙ ap₂ (λ a b. (a + b) % 65535) (get_or_append_left v v 0 m (omega arith))
+        (get_or_append_left v w 0 k (omega arith))
 
 -- A sum with a complemented lane is a difference, because the complement is the negative modulo 65535.
 subtracted : (v : List ℕ) (r m k : ℕ) → length v ≡ 16 → Each1 (Fits w16) v → m < 16 → k < 16
-    → r % 65535 ≡ (get_or (v ++ v) m 0 + get_or (v ++ map (λ n. 65535 - n) v) (16 + k) 0) % 65535 → r % 65535 ≡ (get_or v m 0 + 65534 * get_or v k 0) % 65535
+    → r % 65535 ≡ (get_or (v ++ v) m 0 + get_or (v ++ map (λ n. 65535 - n) v) (16 + k) 0) % 65535
+    → r % 65535 ≡ (get_or v m 0 + 65534 * get_or v k 0) % 65535
 subtracted v r m k size fits hm hk e = grind (arith, common_steps)
 
 -- Lane k receives the lanes m and n of two vectors that a layer with distance d joins.
 abbrev joins : ℕ → ℕ → ℕ → ℕ → Bool → Bool
 joins d k m n even = cond even (nat_eq m (k + d) && (nat_eq n k && nat_lt m 16)) (nat_eq m (k - d) && nat_eq n (16 + k))
 
-joined : (v : List ℕ) (r d k m n : ℕ) (even : Bool) → length v ≡ 16 → Each1 (Fits w16) v → k < 16 → joins d k m n even ≡ true
+joined : (v : List ℕ) (r d k m n : ℕ) (even : Bool) → length v ≡ 16 → Each1 (Fits w16) v → k < 16
+    → joins d k m n even ≡ true
     → r % 65535 ≡ (get_or (v ++ v) m 0 + get_or (v ++ map (λ x. 65535 - x) v) n 0) % 65535
     → r % 65535 ≡ cond even (get_or v (k + d) 0 + get_or v k 0) (get_or v (k - d) 0 + 65534 * get_or v k 0) % 65535
 joined v r d k m n true size fits h test e = grind (arith, common_steps, and_parts, ltb-true, summed, eqb-true)
@@ -61,7 +69,8 @@ joined v r d k m n false size fits h test e = grind (arith, common_steps, and_pa
 pub layer_joined : (d : ℕ) (v new ms ns : List ℕ) → length v ≡ 16 → Each1 (Fits w16) v → length ms ≡ 16 → length ns ≡ 16
     → passes_below 16 (λ k. joins d k (get_or ms k 0) (get_or ns k 0) (k / d % 2 == 0)) ≡ true
     → ((k : ℕ) → k < 16 → get_or new k 0 % 65535
-    ≡ (get_or (map (λ m. get_or (v ++ v) m 0) ms) k 0 + get_or (map (λ n. get_or (v ++ map (λ x. 65535 - x) v) n 0) ns) k 0) % 65535)
+    ≡ (get_or (map (λ m. get_or (v ++ v) m 0) ms) k 0 + get_or
+        (map (λ n. get_or (v ++ map (λ x. 65535 - x) v) n 0) ns) k 0) % 65535)
     → IsLayer d v new
 layer_joined d v new ms ns size fits hm hn test e k h =
     joined v (get_or new k 0) d k (get_or ms k 0) (get_or ns k 0) (k / d % 2 == 0) size fits h
@@ -76,22 +85,27 @@ by_parity b even odd = (if b == 0 then even else odd) % 65535
 
 -- A layer joins the transforms of two halves of n lanes.
 stage : (e n half a : ℕ) (f g new : List ℕ) → n ≡ 2 ^ suc e → half ≡ 2 ^ e → a + (half + half) ≤ 16
-    → ((i : ℕ) → i < half → (a + i) / half % 2 ≡ 0) → ((i : ℕ) → i < half → (a + (half + i)) / half % 2 ≡ 1) → IsLayer half g new
+    → ((i : ℕ) → i < half → (a + i) / half % 2 ≡ 0) → ((i : ℕ) → i < half → (a + (half + i)) / half % 2 ≡ 1)
+    → IsLayer half g new
     → IsWalsh half (λ y. get_or f (a + y) 0) (λ w. get_or g (a + w) 0)
     → IsWalsh half (λ y. get_or f (a + half + y) 0) (λ w. get_or g (a + half + w) 0)
     → IsWalsh n (λ y. get_or f (a + y) 0) (λ w. get_or new (a + w) 0)
 stage e n half a f g new is h room first second layer low high =
-    walsh-halves e n half (λ y. get_or f (a + y) 0) (λ w. get_or g (a + w) 0) (λ w. get_or g (a + half + w) 0) (λ w. get_or new (a + w) 0) is h low
-    (walsh-same half (λ y. get_or f (a + half + y) 0) (λ y. get_or f (a + (half + y)) 0) (λ w. get_or g (a + half + w) 0) (λ y hy. ap (λ k. get_or f k 0) (omega arith)) high)
+    walsh-halves e n half (λ y. get_or f (a + y) 0) (λ w. get_or g (a + w) 0) (λ w. get_or g (a + half + w) 0)
+        (λ w. get_or new (a + w) 0) is h low
+    (walsh-same half (λ y. get_or f (a + half + y) 0) (λ y. get_or f (a + (half + y)) 0)
+        (λ w. get_or g (a + half + w) 0) (λ y hy. ap (λ k. get_or f k 0) (omega arith)) high)
     (record {
       sums = λ i hi.
           let there : a + i + half ≡ a + half + i = omega arith in
           layer (a + i) (omega arith)
-          ∙ ap (λ b. by_parity b (get_or g (a + i + half) 0 + get_or g (a + i) 0) (get_or g (a + i - half) 0 + 65534 * get_or g (a + i) 0)) (first i hi)
+          ∙ ap (λ b. by_parity b (get_or g (a + i + half) 0 + get_or g (a + i) 0)
+              (get_or g (a + i - half) 0 + 65534 * get_or g (a + i) 0)) (first i hi)
           ∙ ap (λ k. (get_or g k 0 + get_or g (a + i) 0) % 65535) there ∙ ap (λ v. v % 65535) (omega arith);
       differences = λ i hi.
           layer (a + (half + i)) (omega arith)
-          ∙ ap (λ b. by_parity b (get_or g (a + (half + i) + half) 0 + get_or g (a + (half + i)) 0) (get_or g (a + (half + i) - half) 0 + 65534 * get_or g (a + (half + i)) 0)) (second i hi)
+          ∙ ap (λ b. by_parity b (get_or g (a + (half + i) + half) 0 + get_or g (a + (half + i)) 0)
+              (get_or g (a + (half + i) - half) 0 + 65534 * get_or g (a + (half + i)) 0)) (second i hi)
           ∙ ap₂ (λ k m. (get_or g k 0 + 65534 * get_or g m 0) % 65535) (omega arith) (omega arith);
     })
 
@@ -104,13 +118,17 @@ four_layers f g1 g2 g3 g4 l1 l2 l4 l8 =
     (λ w hw. let z : w ≡ 0 + w = omega arith in ap (λ k. get_or g4 k 0 % 65535) z ∙ whole w hw)
   where
     two : (a : ℕ) → a + 2 ≤ 16 → a % 2 ≡ 0 → IsWalsh 2 (λ y. get_or f (a + y) 0) (λ w. get_or g1 (a + w) 0)
-    two a le even = stage 0 2 1 a f f g1 refl refl le (λ i h. omega arith) (λ i h. omega arith) l1 (walsh-one 1 (λ y. get_or f (a + y) 0) refl) (walsh-one 1 (λ y. get_or f (a + 1 + y) 0) refl)
+    two a le even = stage 0 2 1 a f f g1 refl refl le (λ i h. omega arith) (λ i h. omega arith) l1
+        (walsh-one 1 (λ y. get_or f (a + y) 0) refl) (walsh-one 1 (λ y. get_or f (a + 1 + y) 0) refl)
 
     four : (a : ℕ) → a + 4 ≤ 16 → a % 4 ≡ 0 → IsWalsh 4 (λ y. get_or f (a + y) 0) (λ w. get_or g2 (a + w) 0)
-    four a le even = stage 1 4 2 a f g1 g2 refl refl le (λ i h. omega arith) (λ i h. omega arith) l2 (two a (omega arith) (omega arith)) (two (a + 2) (omega arith) (omega arith))
+    four a le even = stage 1 4 2 a f g1 g2 refl refl le (λ i h. omega arith) (λ i h. omega arith) l2
+        (two a (omega arith) (omega arith)) (two (a + 2) (omega arith) (omega arith))
 
     eight : (a : ℕ) → a + 8 ≤ 16 → a % 8 ≡ 0 → IsWalsh 8 (λ y. get_or f (a + y) 0) (λ w. get_or g3 (a + w) 0)
-    eight a le even = stage 2 8 4 a f g2 g3 refl refl le (λ i h. omega arith) (λ i h. omega arith) l4 (four a (omega arith) (omega arith)) (four (a + 4) (omega arith) (omega arith))
+    eight a le even = stage 2 8 4 a f g2 g3 refl refl le (λ i h. omega arith) (λ i h. omega arith) l4
+        (four a (omega arith) (omega arith)) (four (a + 4) (omega arith) (omega arith))
 
     whole : IsWalsh 16 (λ y. get_or f (0 + y) 0) (λ w. get_or g4 (0 + w) 0)
-    whole = stage 3 16 8 0 f g3 g4 refl refl (omega arith) (λ i h. omega arith) (λ i h. omega arith) l8 (eight 0 (omega arith) (omega arith)) (eight (0 + 8) (omega arith) (omega arith))
+    whole = stage 3 16 8 0 f g3 g4 refl refl (omega arith) (λ i h. omega arith) (λ i h. omega arith) l8
+        (eight 0 (omega arith) (omega arith)) (eight (0 + 8) (omega arith) (omega arith))

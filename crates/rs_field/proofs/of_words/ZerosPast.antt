@@ -1,5 +1,6 @@
 -- The points below 2 ^ e are enough: the roots at larger points can be divided out, or added.
-use Rattle.std.proofs.Common.{◌≡◌, ℕ, zero, suc, ◌+◌, ◌-◌, ◌^◌, ◌<◌, ◌≤◌, List, length, bit_xor, sym, ap, ◌∙◌, arith, inl, inr, pow_mono, subst}
+use Rattle.std.proofs.Common.{◌≡◌, ℕ, zero, suc, ◌+◌, ◌-◌, ◌^◌, ◌<◌, ◌≤◌, List, length, bit_xor, sym, ap, ◌∙◌, arith}
+use Rattle.std.proofs.Common.{inl, inr, pow_mono, subst}
 use Rattle.std.specs.Int.Bits.{xor_self}
 use Rattle.std.proofs.lemmas.Bool.{cases_eq}
 use Rattle.rs_field.specs.words.Field.{product}
@@ -32,33 +33,43 @@ root_there a zero p i hi = absurd (let no : ⊥ = omega arith in no)
 root_there a (suc n) p i hi =
     value_with_root (a + n) (times (points a n) p) (a + i)
     ∙ elim (cases_eq i n) [
-      | inl same ↦ ap (λ k. product k (value (times (points a n) p) (a + i))) (ap (λ j. bit_xor (a + i) (a + j)) (sym same) ∙ xor_self (a + i)) ∙ zero_product (value (times (points a n) p) (a + i))
-      | inr apart ↦ ap (product (bit_xor (a + i) (a + n))) (root_there a n p i (omega arith)) ∙ product_zero (bit_xor (a + i) (a + n))
+      | inl same ↦ ap (λ k. product k (value (times (points a n) p) (a + i)))
+          (ap (λ j. bit_xor (a + i) (a + j)) (sym same) ∙ xor_self (a + i))
+          ∙ zero_product (value (times (points a n) p) (a + i))
+      | inr apart ↦ ap (product (bit_xor (a + i) (a + n))) (root_there a n p i (omega arith))
+          ∙ product_zero (bit_xor (a + i) (a + n))
     ]
 
 -- Below 2 ^ e, adding roots at all points from 2 ^ e on does not change the value.
-pub value-inside : (e : ℕ) (q : List ℕ) → e ≤ 16 → WordsOneByOne q → (x : ℕ) → x < 2 ^ e → value (times (points (2 ^ e) (65536 - 2 ^ e)) q) x ≡ value q x
+pub value-inside : (e : ℕ) (q : List ℕ) → e ≤ 16 → WordsOneByOne q → (x : ℕ) → x < 2 ^ e
+    → value (times (points (2 ^ e) (65536 - 2 ^ e)) q) x ≡ value q x
 value-inside e q he words x hx =
     cc (value-times (2 ^ e) (65536 - 2 ^ e) q words x, outside e x he hx, one_product (value q x) (value_lt q x words))
 
 -- At a point from 2 ^ e on, the polynomial with the added roots is zero.
-pub zero_outside : (e : ℕ) (q : List ℕ) (x : ℕ) → 2 ^ e ≤ x → x < 65536 → value (times (points (2 ^ e) (65536 - 2 ^ e)) q) x ≡ 0
-zero_outside e q x above below = grind (arith, common_steps, root_there (2 ^ e) (65536 - 2 ^ e) q (x - 2 ^ e) (omega arith))
+pub zero_outside : (e : ℕ) (q : List ℕ) (x : ℕ) → 2 ^ e ≤ x → x < 65536
+    → value (times (points (2 ^ e) (65536 - 2 ^ e)) q) x ≡ 0
+zero_outside e q x above below =
+    grind (arith, common_steps, root_there (2 ^ e) (65536 - 2 ^ e) q (x - 2 ^ e) (omega arith))
 
--- A polynomial that is zero at each point from 2 ^ e on has, below 2 ^ e, the values of a polynomial without these roots.
-pub narrowed : (e b : ℕ) (p : List ℕ) → e ≤ 16 → length p ≡ b + (65536 - 2 ^ e) → WordsOneByOne p → ((x : ℕ) → 2 ^ e ≤ x → x < 65536 → value p x ≡ 0)
+-- A polynomial that is zero at each point from 2 ^ e on has, below 2 ^ e, the values of a polynomial without these
+-- roots.
+pub narrowed : (e b : ℕ) (p : List ℕ) → e ≤ 16 → length p ≡ b + (65536 - 2 ^ e) → WordsOneByOne p
+    → ((x : ℕ) → 2 ^ e ≤ x → x < 65536 → value p x ≡ 0)
     → (q : List ℕ) × (length q ≡ b) × WordsOneByOne q × ((x : ℕ) → x < 2 ^ e → value q x ≡ value p x)
 narrowed e b p he size words none =
     let room : 2 ^ e ≤ 2 ^ 16 = pow_mono he in
     let count = length-points (2 ^ e) (65536 - 2 ^ e) in
     let (q, degree, coefficients, at) = divided_by 65536 (points (2 ^ e) (65536 - 2 ^ e)) p b (omega arith)
-    (subst (λ (n : ℕ). AreFalling n (points (2 ^ e) (65536 - 2 ^ e))) (omega arith) (falling_points (2 ^ e) (65536 - 2 ^ e))) (omega arith) words
+    (subst (λ (n : ℕ). AreFalling n (points (2 ^ e) (65536 - 2 ^ e))) (omega arith)
+        (falling_points (2 ^ e) (65536 - 2 ^ e))) (omega arith) words
     (roots_points (2 ^ e) (65536 - 2 ^ e) p (λ i hi. none (2 ^ e + i) (omega arith) (omega arith))) in
     (q, degree, coefficients, λ x hx. sym (at x ∙ value-inside e q he coefficients x hx))
 
 -- A polynomial has, below 2 ^ e, the values of a polynomial that is zero at each point from 2 ^ e on.
 pub widened : (e b : ℕ) (q : List ℕ) → e ≤ 16 → length q ≡ b → WordsOneByOne q
-    → (p : List ℕ) × (length p ≡ b + (65536 - 2 ^ e)) × WordsOneByOne p × ((x : ℕ) → x < 2 ^ e → value p x ≡ value q x) × ((x : ℕ) → 2 ^ e ≤ x → x < 65536 → value p x ≡ 0)
+    → (p : List ℕ) × (length p ≡ b + (65536 - 2 ^ e)) × WordsOneByOne p × ((x : ℕ) → x < 2 ^ e → value p x ≡ value q x)
+    × ((x : ℕ) → 2 ^ e ≤ x → x < 65536 → value p x ≡ 0)
 widened e b q he size words = (
   times (points (2 ^ e) (65536 - 2 ^ e)) q,
   length-times (2 ^ e) (65536 - 2 ^ e) q ∙ omega arith,

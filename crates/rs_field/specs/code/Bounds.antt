@@ -3,7 +3,8 @@ use Rattle.std.specs.Prelude.{ℕ, ◌+◌, ◌*◌, ◌/◌}
 use Rattle.rs_field.specs.declared.words.steps.Steps.{Steps}
 use Rattle.rs_field.specs.code.Counts.{Rate}
 use Rattle.rs_field.specs.code.Placement.{block_rows, encoder_rows, decoder_rows}
-pub use Rattle.rs_field.specs.words.StepBounds.{CountsUpTo, CountsRows, CountsPairs, CountsProducts, WalshCounts, LocatorCountsBelow, LocatorCounts, TransformCounts, RowProductCounts}
+pub use Rattle.rs_field.specs.words.StepBounds.{CountsUpTo, CountsRows, CountsPairs, CountsProducts, WalshCounts}
+pub use Rattle.rs_field.specs.words.StepBounds.{LocatorCountsBelow, LocatorCounts, TransformCounts, RowProductCounts}
 unfoldable pub use Rattle.rs_field.specs.words.StepBounds.{log2, transform_steps}
 
 -- a bound on the row steps of an encode with c blocks of m rows: c + 1 transforms of m rows, and two steps for each row
@@ -14,7 +15,8 @@ encode_steps c m = (c + 1) * transform_steps m + 2 * c * m
 abbrev pub encode_steps_at : Rate → ℕ → ℕ → ℕ
 encode_steps_at rate k r = encode_steps (encoder_rows rate k r / block_rows rate k r) (block_rows rate k r)
 
--- a bound on the row steps of a decode with w rows: three transforms, and four steps for each row; a test whether a row is zero is one step
+-- a bound on the row steps of a decode with w rows: three transforms, and four steps for each row; a test whether a row
+-- is zero is one step
 unfoldable pub decode_steps : ℕ → ℕ
 decode_steps w = 3 * w / 2 * log2 w + 4 * w
 

@@ -6,14 +6,16 @@ use Rattle.rs_field.specs.code.Counts.{Rate}
 use Rattle.rs_field.specs.code.Placement.{placement}
 use Rattle.rs_field.specs.code.Configuration.{Configuration}
 
--- a polynomial codes k words if its degree is below the bound, its values at the points of the originals are these words, and its value at each zero point is zero
+-- a polynomial codes k words if its degree is below the bound, its values at the points of the originals are these
+-- words, and its value at each zero point is zero
 pub record Codes (rate : Rate) (k r : ℕ) (words polynomial : List ℕ) : Type 0 where
   pub degree : length polynomial ≡ (placement rate k r).degree_bound
   pub coefficients : AreWords polynomial
   pub originals : (j : ℕ) → j < k → value polynomial ((placement rate k r).originals_from + j) ≡ slice_index words j
   pub zeros : (x : ℕ) → (placement rate k r).zeros_from ≤ x → x < (placement rate k r).zeros_to → value polynomial x ≡ 0
 
--- recovery words are the values of a polynomial at the points of the recovery shards, if this polynomial codes the words of the originals
+-- recovery words are the values of a polynomial at the points of the recovery shards, if this polynomial codes the
+-- words of the originals
 abbrev pub AreRecoveryWords : Rate → ℕ → ℕ → List ℕ → List ℕ → Type 0
 AreRecoveryWords rate k r words recovery =
     (polynomial : List ℕ) × Codes rate k r words polynomial
@@ -22,12 +24,14 @@ AreRecoveryWords rate k r words recovery =
 -- shards are the recovery shards of a message if they have its size, and their words in each column are recovery words
 pub record AreRecovery (c : Configuration) (message recovery : List Shard) : Type 0 where
   pub shards : AreShards c.recovery_count c.shard_bytes recovery
-  pub words : (j : ℕ) → j < c.shard_bytes / 2 → AreRecoveryWords c.rate c.original_count c.recovery_count (columns j message) (columns j recovery)
+  pub words : (j : ℕ) → j < c.shard_bytes / 2
+      → AreRecoveryWords c.rate c.original_count c.recovery_count (columns j message) (columns j recovery)
 
 -- two polynomials that code the same words are equal
 abbrev pub HasOnePolynomial : Type 0
 HasOnePolynomial =
-    (rate : Rate) (k r : ℕ) (words one other : List ℕ) → k ≤ 65536 → Codes rate k r words one → Codes rate k r words other → one ≡ other
+    (rate : Rate) (k r : ℕ) (words one other : List ℕ) → k ≤ 65536 → Codes rate k r words one
+        → Codes rate k r words other → one ≡ other
 
 -- two lists of recovery shards of one message are equal
 abbrev pub HasOneRecovery : Type 0

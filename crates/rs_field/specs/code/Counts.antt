@@ -18,7 +18,8 @@ supports low_rate k r = nat_lt 0 k && nat_lt 0 r && nat_le (next_power k + r) 65
 supports high_rate k r = nat_lt 0 k && nat_lt 0 r && nat_le (next_power r + k) 65536
 supports default_rate k r = nat_lt 0 k && nat_lt 0 r && nat_le (min (next_power k) (next_power r) + max k r) 65536
 
--- whether a rate is the low rate for these counts; the default rate is the low rate if the power of k is below the power of r, or if these are equal and k is above r
+-- whether a rate is the low rate for these counts; the default rate is the low rate if the power of k is below the
+-- power of r, or if these are equal and k is above r
 unfoldable pub is_low : Rate → ℕ → ℕ → Bool
 is_low low_rate k r = true
 is_low high_rate k r = false

@@ -1,7 +1,11 @@
 -- A decoder: its state, and the outcomes of its calls.
-use Rattle.std.specs.Prelude.{◌≡◌, ℕ, ◌+◌, ◌^◌, ◌<◌, ◌==◌, ◌&&◌, not, length, nat_le, nat_lt, if◌then◌else◌, List, Some, None, is_some, Result, Ok, Err, is_ok, MatchResult}
+use Rattle.std.specs.Prelude.{◌≡◌, ℕ, ◌+◌, ◌^◌, ◌<◌, ◌==◌, ◌&&◌, not, length, nat_le, nat_lt, if◌then◌else◌, List, Some}
+use Rattle.std.specs.Prelude.{None, is_some, Result, Ok, Err, is_ok, MatchResult}
 use Rattle.rs_field.specs.declared.code.error.Error.{Error}
-use Rattle.rs_field.specs.declared.code.error.Error.TheVariants.{InvalidOriginalShardIndex, InvalidRecoveryShardIndex, DuplicateOriginalShardIndex, DuplicateRecoveryShardIndex, DifferentShardSize, NotEnoughShards, InconsistentShards}
+use Rattle.rs_field.specs.declared.code.error.Error.TheVariants.{InvalidOriginalShardIndex, InvalidRecoveryShardIndex}
+use Rattle.rs_field.specs.declared.code.error.Error.TheVariants.{DuplicateOriginalShardIndex}
+use Rattle.rs_field.specs.declared.code.error.Error.TheVariants.{DuplicateRecoveryShardIndex, DifferentShardSize}
+use Rattle.rs_field.specs.declared.code.error.Error.TheVariants.{NotEnoughShards, InconsistentShards}
 use Rattle.rs_field.specs.code.Column.{Shard, shard_at}
 use Rattle.rs_field.specs.code.Counts.{Rate}
 use Rattle.rs_field.specs.code.Configuration.{Configuration, validation_outcome, bytes_of_rows}
@@ -14,11 +18,14 @@ pub record DecoderState : Type 0 where
   pub originals : Shards
   pub recovery : Shards
 
--- a state that a decoder of this rate can be in: a valid configuration whose rows' bytes are a `usize`, and shards of the size given at indexes below the counts
+-- a state that a decoder of this rate can be in: a valid configuration whose rows' bytes are a `usize`, and shards of
+-- the size given at indexes below the counts
 pub record IsDecoder (rate : Rate) (s : DecoderState) : Type 0 where
   pub of_rate : s.configuration.rate ≡ rate
   pub valid : validation_outcome s.configuration ≡ Ok tt
-  pub fits : bytes_of_rows (decoder_rows rate s.configuration.original_count s.configuration.recovery_count) s.configuration.shard_bytes < 2 ^ 64
+  pub fits : bytes_of_rows
+      (decoder_rows rate s.configuration.original_count s.configuration.recovery_count) s.configuration.shard_bytes < 2
+      ^ 64
   pub originals_within : AreWithin s.configuration.original_count s.configuration.shard_bytes s.originals
   pub recovery_within : AreWithin s.configuration.recovery_count s.configuration.shard_bytes s.recovery
 
@@ -26,7 +33,8 @@ pub record IsDecoder (rate : Rate) (s : DecoderState) : Type 0 where
 abbrev pub fresh_decoder : Configuration → DecoderState
 fresh_decoder c = record { configuration = c; originals = nothing; recovery = nothing }
 
--- the outcome of adding an original: first the index is checked, then whether the original was added before, and then the size
+-- the outcome of adding an original: first the index is checked, then whether the original was added before, and then
+-- the size
 abbrev pub with_original : DecoderState → ℕ → Shard → Result DecoderState Error
 with_original s index shard =
     let c = s.configuration in
@@ -35,7 +43,8 @@ with_original s index shard =
     else if not (length shard == c.shard_bytes) then Err (DifferentShardSize c.shard_bytes (length shard))
     else Ok (record s { originals = with_entry s.originals index shard })
 
--- the outcome of adding a recovery shard: first the index is checked, then whether the recovery shard was added before, and then the size
+-- the outcome of adding a recovery shard: first the index is checked, then whether the recovery shard was added before,
+-- and then the size
 abbrev pub with_recovery : DecoderState → ℕ → Shard → Result DecoderState Error
 with_recovery s index shard =
     let c = s.configuration in
@@ -56,7 +65,8 @@ recovery_given s = count_below s.configuration.recovery_count s.recovery
 abbrev pub enough_given : DecoderState → Result (Unit {0}) Error
 enough_given s =
     let k = s.configuration.original_count in
-    if nat_lt (originals_given s + recovery_given s) k then Err (NotEnoughShards k (originals_given s) (recovery_given s)) else Ok tt
+    if nat_lt (originals_given s + recovery_given s) k then Err
+        (NotEnoughShards k (originals_given s) (recovery_given s)) else Ok tt
 
 -- a message agrees with the shards that were added to a decoder
 abbrev pub IsAgreeing : DecoderState → List Shard → Type 0
@@ -84,9 +94,11 @@ pub record NoneAgrees (s : DecoderState) (e : Error) : Type 0 where
   pub surplus : s.configuration.original_count < originals_given s + recovery_given s
   pub none : IsConsistent s → ⊥
 
--- what `decode` returns: `NotEnoughShards` for too few shards, `InconsistentShards` if no message agrees with them, else the restored originals
+-- what `decode` returns: `NotEnoughShards` for too few shards, `InconsistentShards` if no message agrees with them,
+-- else the restored originals
 abbrev pub DecodeAnswers : DecoderState → Result Shards Error → Type 0
-DecodeAnswers s result = MatchResult (enough_given s) (λ _. MatchResult result (Restored s) (NoneAgrees s)) (λ e. result ≡ Err e)
+DecodeAnswers s result =
+    MatchResult (enough_given s) (λ _. MatchResult result (Restored s) (NoneAgrees s)) (λ e. result ≡ Err e)
 
 -- the state after `decode`: the same state if too few shards were added, else a state without shards
 abbrev pub after_decode : DecoderState → DecoderState

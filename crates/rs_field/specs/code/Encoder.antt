@@ -1,7 +1,9 @@
 -- An encoder: its state, and the outcomes of its calls.
-use Rattle.std.specs.Prelude.{◌≡◌, ◌^◌, ◌<◌, ◌≤◌, All, List, [], ◌∷◌, ◌++◌, ◌==◌, not, length, nat_le, nat_lt, if◌then◌else◌, Result, Ok, Err, is_ok, IsOkAnd, MatchResult}
+use Rattle.std.specs.Prelude.{◌≡◌, ◌^◌, ◌<◌, ◌≤◌, All, List, [], ◌∷◌, ◌++◌, ◌==◌, not, length, nat_le, nat_lt}
+use Rattle.std.specs.Prelude.{if◌then◌else◌, Result, Ok, Err, is_ok, IsOkAnd, MatchResult}
 use Rattle.rs_field.specs.declared.code.error.Error.{Error}
-use Rattle.rs_field.specs.declared.code.error.Error.TheVariants.{TooManyOriginalShards, TooFewOriginalShards, DifferentShardSize}
+use Rattle.rs_field.specs.declared.code.error.Error.TheVariants.{TooManyOriginalShards, TooFewOriginalShards}
+use Rattle.rs_field.specs.declared.code.error.Error.TheVariants.{DifferentShardSize}
 use Rattle.rs_field.specs.code.Column.{Shard, IsShard}
 use Rattle.rs_field.specs.code.Counts.{Rate}
 use Rattle.rs_field.specs.code.Configuration.{Configuration, validation_outcome, bytes_of_rows}
@@ -13,11 +15,14 @@ pub record EncoderState : Type 0 where
   pub configuration : Configuration
   pub given : List Shard
 
--- a state that an encoder of this rate can have: the configuration is valid, its rows have at most `usize::MAX` bytes, and at most k originals of the size were added
+-- a state that an encoder of this rate can have: the configuration is valid, its rows have at most `usize::MAX` bytes,
+-- and at most k originals of the size were added
 pub record IsEncoder (rate : Rate) (s : EncoderState) : Type 0 where
   pub of_rate : s.configuration.rate ≡ rate
   pub valid : validation_outcome s.configuration ≡ Ok tt
-  pub fits : bytes_of_rows (encoder_rows rate s.configuration.original_count s.configuration.recovery_count) s.configuration.shard_bytes < 2 ^ 64
+  pub fits : bytes_of_rows
+      (encoder_rows rate s.configuration.original_count s.configuration.recovery_count) s.configuration.shard_bytes < 2
+      ^ 64
   pub no_more : length s.given ≤ s.configuration.original_count
   pub sized : All (IsShard s.configuration.shard_bytes) s.given
 

@@ -1,5 +1,6 @@
 -- Given shards with their indexes, and the messages that agree with them.
-use Rattle.std.specs.Prelude.{◌≡◌, ℕ, zero, suc, ◌+◌, ◌≤◌, ◌==◌, List, [], ◌∷◌, ◌++◌, Option, Some, None, is_some, if◌then◌else◌}
+use Rattle.std.specs.Prelude.{◌≡◌, ℕ, zero, suc, ◌+◌, ◌≤◌, ◌==◌, List, [], ◌∷◌, ◌++◌, Option, Some, None, is_some}
+use Rattle.std.specs.Prelude.{if◌then◌else◌}
 use Rattle.rs_field.specs.code.Column.{Shard, IsShard, AreShards, shard_at}
 use Rattle.rs_field.specs.code.Configuration.{Configuration}
 use Rattle.rs_field.specs.code.Code.{AreRecovery}
@@ -50,7 +51,8 @@ pub record Lists (given : Shards) (items : List (ℕ × Shard)) : Type 0 where
 abbrev pub AreAmong : Shards → List Shard → Type 0
 AreAmong given shards = (i : ℕ) (shard : Shard) → given i ≡ Some shard → shard_at shards i ≡ shard
 
--- a message agrees with given shards if each given original is its own original with this index, and each given recovery shard is its own recovery shard with this index
+-- a message agrees with given shards if each given original is its own original with this index, and each given
+-- recovery shard is its own recovery shard with this index
 pub record Agrees (c : Configuration) (originals recovery : Shards) (message : List Shard) : Type 0 where
   pub shards : AreShards c.original_count c.shard_bytes message
   pub own : AreAmong originals message

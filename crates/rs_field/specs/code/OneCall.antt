@@ -1,5 +1,6 @@
 -- What the one-call functions return for lists of shards.
-use Rattle.std.specs.Prelude.{◌≡◌, ℕ, List, [], ◌∷◌, ◌⊎◌, length, map, nat_le, nat_lt, nat_eq, if◌then◌else◌, Option, Result, Ok, Err, IsOk, MatchResult}
+use Rattle.std.specs.Prelude.{◌≡◌, ℕ, List, [], ◌∷◌, ◌⊎◌, length, map, nat_le, nat_lt, nat_eq, if◌then◌else◌, Option}
+use Rattle.std.specs.Prelude.{Result, Ok, Err, IsOk, MatchResult}
 use Rattle.std.specs.BTreeMap.{BTreeMap, get}
 use Rattle.std.specs.Borrow.{Bor}
 use Rattle.std.specs.Iterator.{AlwaysYields}
@@ -9,7 +10,9 @@ use Rattle.std.specs.Ordering.{nat_cmp}
 use Rattle.std.specs.Result.{result_map_both}
 use Rattle.std.specs.declared.vec.Vec.{Vec}
 use Rattle.rs_field.specs.declared.code.error.Error.{Error}
-use Rattle.rs_field.specs.declared.code.error.Error.TheVariants.{UnsupportedShardCount, TooFewOriginalShards, InvalidOriginalShardIndex, DuplicateOriginalShardIndex, NotEnoughShards, OutOfMemory}
+use Rattle.rs_field.specs.declared.code.error.Error.TheVariants.{UnsupportedShardCount, TooFewOriginalShards}
+use Rattle.rs_field.specs.declared.code.error.Error.TheVariants.{InvalidOriginalShardIndex, DuplicateOriginalShardIndex}
+use Rattle.rs_field.specs.declared.code.error.Error.TheVariants.{NotEnoughShards, OutOfMemory}
 use Rattle.rs_field.specs.code.Column.{Shard}
 use Rattle.rs_field.specs.code.Counts.{default_rate, supports}
 use Rattle.rs_field.specs.code.Placement.{encoder_rows, decoder_rows}
@@ -52,7 +55,8 @@ with_recoveries s items = one_by_one (λ now item. with_recovery now item.0 item
 abbrev pub with_both : DecoderState → Items → Items → Result DecoderState Error
 with_both s originals recoveries = result_and_then (λ now. with_recoveries now recoveries) (with_originals s originals)
 
--- the outcome of the checks that `encode` makes before it allocates: first the counts, then whether there is an original, and then the size of the first original
+-- the outcome of the checks that `encode` makes before it allocates: first the counts, then whether there is an
+-- original, and then the size of the first original
 abbrev pub encode_opening : ℕ → ℕ → List Shard → Result (Unit {0}) Error
 encode_opening k r [] = result_and_then (λ _. Err (TooFewOriginalShards k 0)) (counts_outcome k r)
 encode_opening k r (shard ∷ _) = validation_outcome (default_of k r (length shard))
@@ -62,13 +66,15 @@ abbrev pub encoding_outcome : ℕ → ℕ → List Shard → Result EncoderState
 encoding_outcome k r [] = result_and_then (λ _. Err (TooFewOriginalShards k 0)) (counts_outcome k r)
 encoding_outcome k r (shard ∷ shards) =
     let c = default_of k r (length shard) in
-    result_and_then (λ _. with_shards (fresh_encoder c) (shard ∷ shards)) (start_outcome (encoder_rows default_rate k r) c)
+    result_and_then (λ _. with_shards (fresh_encoder c) (shard ∷ shards))
+        (start_outcome (encoder_rows default_rate k r) c)
 
 -- a result is `OutOfMemory`, and the checks before the first allocation find no error
 abbrev pub LacksMemory : {T : Type 0} → Result (Unit {0}) Error → Result T Error → Type 0
 LacksMemory opening result = IsOk opening × (result ≡ Err OutOfMemory)
 
--- the relation of the originals to the result of one-call `encode`: the recovery shards, the first error, or `OutOfMemory`
+-- the relation of the originals to the result of one-call `encode`: the recovery shards, the first error, or
+-- `OutOfMemory`
 abbrev pub OneEncodeAnswers : ℕ → ℕ → List Shard → Result (List Shard) Error → Type 0
 OneEncodeAnswers k r shards result =
     MatchResult (encoding_outcome k r shards) (λ s. EncodeAnswers s result) (λ e. result ≡ Err e)
@@ -81,13 +87,15 @@ note_outcome k given index =
     else if list_any (nat_eq index) given then Err (DuplicateOriginalShardIndex index)
     else Ok (index ∷ given)
 
--- the outcome of a decode without recovery shards: the index of each original is noted in order, and k indexes are needed
+-- the outcome of a decode without recovery shards: the index of each original is noted in order, and k indexes are
+-- needed
 abbrev pub originals_alone : ℕ → Items → Result (Unit {0}) Error
 originals_alone k originals =
     result_and_then (λ given. if nat_lt (length given) k then Err (NotEnoughShards k (length given) 0) else Ok tt)
     (one_by_one (λ given item. note_outcome k given item.0) [] originals)
 
--- the outcome of the checks that `decode` makes before it allocates: first the counts, and then the size of the first recovery shard
+-- the outcome of the checks that `decode` makes before it allocates: first the counts, and then the size of the first
+-- recovery shard
 abbrev pub decode_opening : ℕ → ℕ → Items → Result (Unit {0}) Error
 decode_opening k r [] = counts_outcome k r
 decode_opening k r (item ∷ _) = validation_outcome (default_of k r (length item.1))
@@ -96,7 +104,8 @@ decode_opening k r (item ∷ _) = validation_outcome (default_of k r (length ite
 abbrev pub decoding_outcome : ℕ → ℕ → Items → ℕ × Shard → Items → Result DecoderState Error
 decoding_outcome k r originals first rest =
     let c = default_of k r (length first.1) in
-    result_and_then (λ _. with_both (fresh_decoder c) originals (first ∷ rest)) (start_outcome (decoder_rows default_rate k r) c)
+    result_and_then (λ _. with_both (fresh_decoder c) originals (first ∷ rest))
+        (start_outcome (decoder_rows default_rate k r) c)
 
 -- the relation of received shards to the result of one-call `decode` if memory can be allocated
 abbrev pub OneDecodes : ℕ → ℕ → Items → Items → Result Shards Error → Type 0
@@ -106,7 +115,8 @@ OneDecodes k r originals [] result =
 OneDecodes k r originals (first ∷ rest) result =
     MatchResult (decoding_outcome k r originals first rest) (λ s. DecodeAnswers s result) (λ e. result ≡ Err e)
 
--- the relation of received shards to the result of one-call `decode`: the restored originals, the first error, or `OutOfMemory`
+-- the relation of received shards to the result of one-call `decode`: the restored originals, the first error, or
+-- `OutOfMemory`
 abbrev pub OneDecodeAnswers : ℕ → ℕ → Items → Items → Result Shards Error → Type 0
 OneDecodeAnswers k r originals recovery result =
     OneDecodes k r originals recovery result ⊎ LacksMemory (decode_opening k r recovery) result

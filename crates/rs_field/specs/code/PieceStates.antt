@@ -16,7 +16,8 @@ pieces_of start end given = λ i. option_map (λ s. between start end s) (given 
 abbrev pub state_of_pieces : ℕ → ℕ → DecoderState → DecoderState
 state_of_pieces start end s =
     record {
-      configuration = configuration s.configuration.rate s.configuration.original_count s.configuration.recovery_count (end - start);
+      configuration = configuration s.configuration.rate s.configuration.original_count s.configuration.recovery_count
+          (end - start);
       originals = pieces_of start end s.originals;
       recovery = pieces_of start end s.recovery;
     }

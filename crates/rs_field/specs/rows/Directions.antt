@@ -23,14 +23,16 @@ abbrev pub AreTwoLayers : Direction → ℕ → ℕ → ℕ → OnFourChunks
 AreTwoLayers Direction.Forward log_m02 log_m01 log_m23 = IsForwardTwoLayers log_m02 log_m01 log_m23
 AreTwoLayers Direction.Backward log_m02 log_m01 log_m23 = IsBackwardTwoLayers log_m02 log_m01 log_m23
 
--- after forward layers, the transforms of the parts of the new words are the parts of the transform of the old words; for backward layers, old and new words change roles
+-- after forward layers, the transforms of the parts of the new words are the parts of the transform of the old words;
+-- for backward layers, old and new words change roles
 abbrev pub AreLayers : Direction → ℕ → ℕ → ℕ → (ℕ → ℕ) → (ℕ → ℕ) → Type 0
 AreLayers Direction.Forward size n shift old new = ArePartsOf size n shift old new
 AreLayers Direction.Backward size n shift old new = ArePartsOf size n shift new old
 
 -- the new words are the transform of the old words; after a forward transform this holds only for the used words
 abbrev pub AreTransformed : Direction → (ℕ → Bool) → ℕ → ℕ → (ℕ → ℕ) → (ℕ → ℕ) → Type 0
-AreTransformed Direction.Forward used size shift old new = (i : ℕ) → i < size → used i ≡ true → new i ≡ forward size shift old i
+AreTransformed Direction.Forward used size shift old new =
+    (i : ℕ) → i < size → used i ≡ true → new i ≡ forward size shift old i
 AreTransformed Direction.Backward used size shift old new = IsBackward size shift old new
 
 -- for a backward transform, the unused rows among the `size` rows from row `pos` on are zero bytes

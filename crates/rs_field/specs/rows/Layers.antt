@@ -17,4 +17,5 @@ layer_steps size = if is_halved size then size / 2 else size
 -- the transform of each part of n words of g is the same part of the transform of all words of f
 abbrev pub ArePartsOf : ℕ → ℕ → ℕ → (ℕ → ℕ) → (ℕ → ℕ) → Type 0
 ArePartsOf size n shift f g =
-    (j i : ℕ) → j * n < size → i < n → forward n (shift + j * n) (λ q. g (j * n + q)) i ≡ forward size shift f (j * n + i)
+    (j i : ℕ) → j * n < size → i < n
+        → forward n (shift + j * n) (λ q. g (j * n + q)) i ≡ forward size shift f (j * n + i)

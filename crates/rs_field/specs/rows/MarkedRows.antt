@@ -10,7 +10,8 @@ is_marked marks i = slice_index_or marks i false
 
 -- among the `size` rows from row `pos` on, all rows except for some are zero bytes
 abbrev pub AreZeroBut : (ℕ → Bool) → ℕ → ℕ → ShardsRefMut → Type 0
-AreZeroBut some pos size rows = (i k : ℕ) → k < rows.shard_len_64 → i < size → some i ≡ false → cell rows k (pos + i) ≡ replicate 64 0
+AreZeroBut some pos size rows =
+    (i k : ℕ) → k < rows.shard_len_64 → i < size → some i ≡ false → cell rows k (pos + i) ≡ replicate 64 0
 
 -- among the rows from row `pos` on, as many as there are marks, all rows except for the marked ones are zero bytes
 abbrev pub OthersAreZero : List Bool → ℕ → ShardsRefMut → Type 0

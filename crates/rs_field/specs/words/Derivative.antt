@@ -7,7 +7,8 @@ use Rattle.rs_field.specs.words.Transform.{forward}
 abbrev pub IsInBasis : ℕ → (ℕ → ℕ) → List ℕ → Type 0
 IsInBasis n f p = (x : ℕ) → x < 65536 → forward n 0 f x ≡ value p x
 
--- the n old words are the coefficients of a polynomial in the subspace basis, and the n new words are those of this polynomial plus its derivative
+-- the n old words are the coefficients of a polynomial in the subspace basis, and the n new words are those of this
+-- polynomial plus its derivative
 abbrev pub IsDerivativeAdded : ℕ → (ℕ → ℕ) → (ℕ → ℕ) → Type 0
 IsDerivativeAdded n old new =
     (p : List ℕ) → length p ≡ n → AreWords p → IsInBasis n old p

@@ -1,4 +1,5 @@
--- The field of 65536 elements, in Cantor coordinates. A word is a number below 65536; the sum of two words is `bit_xor`.
+-- The field of 65536 elements, in Cantor coordinates. A word is a number below 65536; the sum of two words is
+-- `bit_xor`.
 use Rattle.std.specs.Prelude.{ℕ, zero, suc, ◌+◌, ◌*◌, ◌/◌, ◌%◌, ◌^◌, ◌==◌, List, [], ◌∷◌, bit_xor}
 use Rattle.rs_field.specs.words.Search.{first_below}
 

@@ -14,15 +14,18 @@ pub record CountsUpTo (row_steps pair_sums products : ℕ) (old new : Steps) : T
 
 -- exactly n row steps were counted and nothing else
 abbrev pub CountsRows : ℕ → Steps → Steps → Type 0
-CountsRows n old new = (new.row_steps ≡ old.row_steps + n) × (new.pair_sums ≡ old.pair_sums) × (new.products ≡ old.products)
+CountsRows n old new =
+    (new.row_steps ≡ old.row_steps + n) × (new.pair_sums ≡ old.pair_sums) × (new.products ≡ old.products)
 
 -- exactly n pair sums were counted and nothing else
 abbrev pub CountsPairs : ℕ → Steps → Steps → Type 0
-CountsPairs n old new = (new.row_steps ≡ old.row_steps) × (new.pair_sums ≡ old.pair_sums + n) × (new.products ≡ old.products)
+CountsPairs n old new =
+    (new.row_steps ≡ old.row_steps) × (new.pair_sums ≡ old.pair_sums + n) × (new.products ≡ old.products)
 
 -- exactly n products were counted and nothing else
 abbrev pub CountsProducts : ℕ → Steps → Steps → Type 0
-CountsProducts n old new = (new.row_steps ≡ old.row_steps) × (new.pair_sums ≡ old.pair_sums) × (new.products ≡ old.products + n)
+CountsProducts n old new =
+    (new.row_steps ≡ old.row_steps) × (new.pair_sums ≡ old.pair_sums) × (new.products ≡ old.products + n)
 
 -- the logarithm to base 2 of a power of two
 unfoldable pub log2 : ℕ → ℕ

@@ -21,13 +21,16 @@ Recovers rate message polynomial recovery =
 
 -- one original is a constant polynomial: each recovery shard is its copy
 abbrev pub ConstantExample : Rate → Type 0
-ConstantExample rate = Recovers rate ((7 ∷ 9 ∷ []) ∷ []) ((7 + 256 * 9) ∷ []) ((7 ∷ 9 ∷ []) ∷ (7 ∷ 9 ∷ []) ∷ (7 ∷ 9 ∷ []) ∷ [])
+ConstantExample rate =
+    Recovers rate ((7 ∷ 9 ∷ []) ∷ []) ((7 + 256 * 9) ∷ []) ((7 ∷ 9 ∷ []) ∷ (7 ∷ 9 ∷ []) ∷ (7 ∷ 9 ∷ []) ∷ [])
 
--- the words 0, 1 at the points 0, 1 are values of the polynomial x, and the recovery words are its values at the points 2, 3, 4
+-- the words 0, 1 at the points 0, 1 are values of the polynomial x, and the recovery words are its values at the points
+-- 2, 3, 4
 abbrev pub LineExample : Rate → Type 0
 LineExample rate = Recovers rate (low_bytes (0 ∷ 1 ∷ [])) (0 ∷ 1 ∷ []) (low_bytes (2 ∷ 3 ∷ 4 ∷ []))
 
--- 1, 1 are a constant; their XOR with the line's 0, 1 is 1, 0, the polynomial 1 + x, whose recovery shards are the XOR of both
+-- 1, 1 are a constant; their XOR with the line's 0, 1 is 1, 0, the polynomial 1 + x, whose recovery shards are the XOR
+-- of both
 abbrev pub LinearExample : Rate → Type 0
 LinearExample rate =
     Recovers rate (low_bytes (1 ∷ 1 ∷ [])) (1 ∷ 0 ∷ []) (low_bytes (1 ∷ 1 ∷ 1 ∷ []))
@@ -39,13 +42,17 @@ LinearExample rate =
 abbrev pub ShortLineExample : Rate → Type 0
 ShortLineExample rate = Recovers rate (low_bytes (0 ∷ 1 ∷ [])) (0 ∷ 1 ∷ []) (low_bytes (2 ∷ 3 ∷ []))
 
--- the words 0, 0, 2, 3 at the points 0 to 3 are values of the polynomial x * x * x + x * x, and the recovery words are its values at the points 4 to 7
+-- the words 0, 0, 2, 3 at the points 0 to 3 are values of the polynomial x * x * x + x * x, and the recovery words are
+-- its values at the points 4 to 7
 abbrev pub CubicExample : Rate → Type 0
-CubicExample rate = Recovers rate (low_bytes (0 ∷ 0 ∷ 2 ∷ 3 ∷ [])) (0 ∷ 0 ∷ 1 ∷ 1 ∷ []) (low_bytes (11 ∷ 9 ∷ 14 ∷ 13 ∷ []))
+CubicExample rate = Recovers rate (low_bytes (0 ∷ 0 ∷ 2 ∷ 3 ∷ [])) (0 ∷ 0 ∷ 1 ∷ 1 ∷ [])
+    (low_bytes (11 ∷ 9 ∷ 14 ∷ 13 ∷ []))
 
--- the words 0, 0, 1 are at the points 0 to 2, the point 3 is a zero point, and the recovery words are at the points 4 to 8
+-- the words 0, 0, 1 are at the points 0 to 2, the point 3 is a zero point, and the recovery words are at the points 4
+-- to 8
 abbrev pub PaddedExample : Rate → Type 0
-PaddedExample rate = Recovers rate (low_bytes (0 ∷ 0 ∷ 1 ∷ [])) (0 ∷ 3 ∷ 2 ∷ 1 ∷ []) (low_bytes (10 ∷ 8 ∷ 12 ∷ 15 ∷ 8 ∷ []))
+PaddedExample rate =
+    Recovers rate (low_bytes (0 ∷ 0 ∷ 1 ∷ [])) (0 ∷ 3 ∷ 2 ∷ 1 ∷ []) (low_bytes (10 ∷ 8 ∷ 12 ∷ 15 ∷ 8 ∷ []))
 
 -- examples of the low rate, and of the default rate if the power of k is below the power of r
 abbrev pub LowExamples : Rate → Type 0
@@ -63,11 +70,13 @@ last_words bytes = map (λ b. replicate 64 0 ++ b ∷ 0 ∷ []) bytes
 
 -- a chunk is followed by a tail of one word
 abbrev pub ChunkAndTailExample : Type 0
-ChunkAndTailExample = AreRecovery (configuration default_rate 2 3 66) (last_words (0 ∷ 1 ∷ [])) (last_words (2 ∷ 3 ∷ 4 ∷ []))
+ChunkAndTailExample =
+    AreRecovery (configuration default_rate 2 3 66) (last_words (0 ∷ 1 ∷ [])) (last_words (2 ∷ 3 ∷ 4 ∷ []))
 
 -- at the high rate, if there is one recovery shard, it is the sum of all originals
 abbrev pub SumExample : Rate → Type 0
-SumExample rate = AreRecovery (configuration rate 3 1 2) ((1 ∷ 2 ∷ []) ∷ (4 ∷ 8 ∷ []) ∷ (16 ∷ 32 ∷ []) ∷ []) ((21 ∷ 42 ∷ []) ∷ [])
+SumExample rate = AreRecovery (configuration rate 3 1 2) ((1 ∷ 2 ∷ []) ∷ (4 ∷ 8 ∷ []) ∷ (16 ∷ 32 ∷ []) ∷ [])
+    ((21 ∷ 42 ∷ []) ∷ [])
 
 -- at the high rate, the words 0, 1 are at the points 2, 3 and their recovery words are at the points 0, 1
 abbrev pub HighLineExample : Rate → Type 0
@@ -75,9 +84,11 @@ HighLineExample rate = AreRecovery (configuration rate 2 2 2) (low_bytes (0 ∷ 
 
 -- at the high rate, the words 0, 0, 2, 3 are at the points 4 to 7 and their recovery words are at the points 0 to 3
 abbrev pub HighCubicExample : Rate → Type 0
-HighCubicExample rate = AreRecovery (configuration rate 4 4 2) (low_bytes (0 ∷ 0 ∷ 2 ∷ 3 ∷ [])) (low_bytes (11 ∷ 9 ∷ 14 ∷ 13 ∷ []))
+HighCubicExample rate =
+    AreRecovery (configuration rate 4 4 2) (low_bytes (0 ∷ 0 ∷ 2 ∷ 3 ∷ [])) (low_bytes (11 ∷ 9 ∷ 14 ∷ 13 ∷ []))
 
--- at the high rate, the words 2, 0, 4 are at the points 2 to 4, the points from 5 on are zero points, and the recovery words are at the points 0, 1
+-- at the high rate, the words 2, 0, 4 are at the points 2 to 4, the points from 5 on are zero points, and the recovery
+-- words are at the points 0, 1
 abbrev pub HighPaddedExample : Rate → Type 0
 HighPaddedExample rate = AreRecovery (configuration rate 3 2 2) (low_bytes (2 ∷ 0 ∷ 4 ∷ [])) (low_bytes (3 ∷ 5 ∷ []))
 
@@ -122,4 +133,5 @@ state_of_surplus recovery = record {
 -- if the recovery shard is a copy of the original, nothing is missing; if it is another shard, no message agrees
 abbrev pub SurplusExample : Type 0
 SurplusExample =
-    DecodeAnswers (state_of_surplus (7 ∷ 9 ∷ [])) (Ok nothing) × DecodeAnswers (state_of_surplus (7 ∷ 8 ∷ [])) (Err (InconsistentShards 1 1))
+    DecodeAnswers (state_of_surplus (7 ∷ 9 ∷ [])) (Ok nothing)
+        × DecodeAnswers (state_of_surplus (7 ∷ 8 ∷ [])) (Err (InconsistentShards 1 1))

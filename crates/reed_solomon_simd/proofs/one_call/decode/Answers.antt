@@ -11,19 +11,26 @@ returns-in_err-counts-clause-calls g c = (
   no-calls c.args.original,
   no-calls c.args.recovery,
   λ originals recoveries begins further.
-      let led = decoding-refused c.args.original_count c.args.recovery_count originals recoveries _ (decoding-uncounted c.args.original_count c.args.recovery_count originals recoveries _ c.in_err-counts.ensures) in search rules,
+      let led = decoding-refused c.args.original_count c.args.recovery_count originals recoveries _
+          (decoding-uncounted c.args.original_count c.args.recovery_count originals recoveries _
+          c.in_err-counts.ensures) in search rules,
 )
 
 pub returns-in_err-counts-clause-answer : goal.returns-in_err-counts-clause-answer
-returns-in_err-counts-clause-answer g c = always-both (λ item. (item.0, item.1.now)) (λ item. (item.0, item.1.now)) _ (returns-in_err-counts-clause-calls g c)
+returns-in_err-counts-clause-answer g c =
+    always-both (λ item. (item.0, item.1.now)) (λ item. (item.0, item.1.now)) _ (returns-in_err-counts-clause-calls g c)
 
 pub returns-in_err-received-clause-calls : goal.returns-in_err-received-clause-calls
 returns-in_err-received-clause-calls g c =
     let run = rw (c.in_ok-counts.ensures.0, c.in_ok-counts.ensures.1) at c.in_err-received.ensures in
-    (run.0, run.1, λ originals recoveries begins further. let led = decoding-refused c.args.original_count c.args.recovery_count originals recoveries _ (run.2 originals recoveries begins further) in search rules)
+    (run.0, run.1, λ originals recoveries begins further. let led =
+        decoding-refused c.args.original_count c.args.recovery_count originals recoveries _
+        (run.2 originals recoveries begins further) in search rules)
 
 pub returns-in_err-received-clause-answer : goal.returns-in_err-received-clause-answer
-returns-in_err-received-clause-answer g c = always-both (λ item. (item.0, item.1.now)) (λ item. (item.0, item.1.now)) _ (returns-in_err-received-clause-calls g c)
+returns-in_err-received-clause-answer g c =
+    always-both (λ item. (item.0, item.1.now)) (λ item. (item.0, item.1.now)) _
+    (returns-in_err-received-clause-calls g c)
 
 pub returns-in_default-clause-calls : goal.returns-in_default-clause-calls
 returns-in_default-clause-calls g c =
@@ -31,12 +38,15 @@ returns-in_default-clause-calls g c =
       run.0,
       run.1,
       λ originals recoveries begins further.
-          subst (λ restored. OneDecodeAnswers c.args.original_count c.args.recovery_count originals recoveries (Ok restored)) (sym (shards_in-empty c.new-in_default.result c.new-in_default.ensures.empty))
-          (decoding-nothing c.args.original_count c.args.recovery_count originals recoveries (run.2 originals recoveries begins further)),
+          subst (λ restored. OneDecodeAnswers c.args.original_count c.args.recovery_count originals recoveries
+              (Ok restored)) (sym (shards_in-empty c.new-in_default.result c.new-in_default.ensures.empty))
+          (decoding-nothing c.args.original_count c.args.recovery_count originals recoveries
+              (run.2 originals recoveries begins further)),
     )
 
 pub returns-in_default-clause-answer : goal.returns-in_default-clause-answer
-returns-in_default-clause-answer g c = always-both (λ item. (item.0, item.1.now)) (λ item. (item.0, item.1.now)) _ (returns-in_default-clause-calls g c)
+returns-in_default-clause-answer g c =
+    always-both (λ item. (item.0, item.1.now)) (λ item. (item.0, item.1.now)) _ (returns-in_default-clause-calls g c)
 
 pub returns-in_err-surplus-clause-calls : goal.returns-in_err-surplus-clause-calls
 returns-in_err-surplus-clause-calls g c =
@@ -44,11 +54,15 @@ returns-in_err-surplus-clause-calls g c =
       run.0,
       run.1,
       λ originals recoveries begins further.
-          let led = decoding-few c.args.original_count c.args.recovery_count originals recoveries _ (run.2 originals recoveries begins further) c.in_err-surplus.field-0.0 c.in_err-surplus.ensures.answer in search rules,
+          let led = decoding-few c.args.original_count c.args.recovery_count originals recoveries _
+              (run.2 originals recoveries begins further) c.in_err-surplus.field-0.0 c.in_err-surplus.ensures.answer in
+              search rules,
     )
 
 pub returns-in_err-surplus-clause-answer : goal.returns-in_err-surplus-clause-answer
-returns-in_err-surplus-clause-answer g c = always-both (λ item. (item.0, item.1.now)) (λ item. (item.0, item.1.now)) _ (returns-in_err-surplus-clause-calls g c)
+returns-in_err-surplus-clause-answer g c =
+    always-both (λ item. (item.0, item.1.now)) (λ item. (item.0, item.1.now)) _
+    (returns-in_err-surplus-clause-calls g c)
 
 pub returns-in_err-restored-clause-calls : goal.returns-in_err-restored-clause-calls
 returns-in_err-restored-clause-calls g c =
@@ -56,11 +70,16 @@ returns-in_err-restored-clause-calls g c =
       run.0,
       run.1,
       λ originals recoveries begins further.
-          let led = decoding-none-agrees c.args.original_count c.args.recovery_count originals recoveries _ (run.2 originals recoveries begins further) (sym c.in_ok-surplus.ensures.answer) c.in_err-restored.field-0.0 c.in_err-restored.ensures in search rules,
+          let led = decoding-none-agrees c.args.original_count c.args.recovery_count originals recoveries _
+              (run.2 originals recoveries begins further)
+              (sym c.in_ok-surplus.ensures.answer) c.in_err-restored.field-0.0 c.in_err-restored.ensures in
+              search rules,
     )
 
 pub returns-in_err-restored-clause-answer : goal.returns-in_err-restored-clause-answer
-returns-in_err-restored-clause-answer g c = always-both (λ item. (item.0, item.1.now)) (λ item. (item.0, item.1.now)) _ (returns-in_err-restored-clause-calls g c)
+returns-in_err-restored-clause-answer g c =
+    always-both (λ item. (item.0, item.1.now)) (λ item. (item.0, item.1.now)) _
+    (returns-in_err-restored-clause-calls g c)
 
 pub returns-clause-calls : goal.returns-clause-calls
 returns-clause-calls g c =
@@ -68,8 +87,10 @@ returns-clause-calls g c =
       run.0,
       run.1,
       λ originals recoveries begins further.
-          decoding-restored c.args.original_count c.args.recovery_count originals recoveries _ (run.2 originals recoveries begins further) (sym c.in_ok-surplus.ensures.answer) _ c.by_index.ensures,
+          decoding-restored c.args.original_count c.args.recovery_count originals recoveries _
+              (run.2 originals recoveries begins further) (sym c.in_ok-surplus.ensures.answer) _ c.by_index.ensures,
     )
 
 pub returns-clause-answer : goal.returns-clause-answer
-returns-clause-answer g c = always-both (λ item. (item.0, item.1.now)) (λ item. (item.0, item.1.now)) _ (returns-clause-calls g c)
+returns-clause-answer g c =
+    always-both (λ item. (item.0, item.1.now)) (λ item. (item.0, item.1.now)) _ (returns-clause-calls g c)

@@ -6,15 +6,20 @@ use Rattle.rs_field.specs.code.Decoder.{DecoderState}
 use Rattle.rs_field.specs.code.OneCall.{shards_in}
 use Rattle.reed_solomon_simd.specs.Received.{given_in}
 use Rattle.reed_solomon_simd.specs.ReceivedState.{received_state}
-use Rattle.reed_solomon_simd.proofs.ByIndex.{AreEntered, entered-none, entered-short, entered-next, entered-skipped, entered-all, some-place}
+use Rattle.reed_solomon_simd.proofs.ByIndex.{AreEntered, entered-none, entered-short, entered-next, entered-skipped}
+use Rattle.reed_solomon_simd.proofs.ByIndex.{entered-all, some-place}
 use Rattle.reed_solomon_simd.proofs.Collecting.{shards_in-empty, with_entries-inserted}
-use Rattle.reed_solomon_simd.proofs.restoring.by_index.Goals.{then-is_none+in-Some+in_ok-insert+in-Some-1, then-is_none+in-Some+in_ok-insert+in-None-1, then-is_none+in_default, else-is_none}
+use Rattle.reed_solomon_simd.proofs.restoring.by_index.Goals.{then-is_none+in-Some+in_ok-insert+in-Some-1}
+use Rattle.reed_solomon_simd.proofs.restoring.by_index.Goals.{then-is_none+in-Some+in_ok-insert+in-None-1}
+use Rattle.reed_solomon_simd.proofs.restoring.by_index.Goals.{then-is_none+in_default, else-is_none}
 use Rattle.reed_solomon_simd.proofs.restoring.by_index.Goals as goal
 
 pub loop-index-init : goal.loop-index-init
 loop-index-init c =
-    entered-none (received_state c.args.received.now) (map (λ v. v.items) c.args.restored.items) (map (λ v. v.items) (into_iter_items c.into_iter-left.result))
-    (shards_in c.new-vectors.result) c.requires (ap (map (λ v. v.items)) (search rules)) (shards_in-empty c.new-vectors.result c.new-vectors.ensures.empty)
+    entered-none (received_state c.args.received.now) (map (λ v. v.items) c.args.restored.items)
+        (map (λ v. v.items) (into_iter_items c.into_iter-left.result))
+    (shards_in c.new-vectors.result) c.requires (ap (map (λ v. v.items)) (search rules))
+        (shards_in-empty c.new-vectors.result c.new-vectors.ensures.empty)
 
 pub loop-index-preserved : goal.loop-index-preserved
 loop-index-preserved c =
@@ -24,33 +29,50 @@ loop-index-preserved c =
     elim c.if-is_none.branch [
       | then-is_none+in-Some+in_ok-insert+in-Some-1 w ↦
           let free : given_in c.args.received.now.originals.shards.items c.loop-index.index ≡ None = search rules in
-          let items : into_iter_items c.loop-index.left ≡ w.in-Some.shard ∷ into_iter_items w.next.new.self = search rules in
-          subst (λ left. AreEntered (received_state c.args.received.now) (c.loop-index.index + 1) (map (λ v. v.items) (into_iter_items left)) (shards_in c.if-is_none.vectors)) (sym w.left-is)
-          (subst (λ vectors. AreEntered (received_state c.args.received.now) (c.loop-index.index + 1) (map (λ v. v.items) (into_iter_items w.next.new.self)) (shards_in vectors)) (sym w.vectors-is)
-          (entered-next s i _ (shards_in c.loop-index.vectors) now c.loop-index-test.true free w.in-Some.shard.items (map (λ v. v.items) (into_iter_items w.next.new.self)) (shards_in w.insert.new.self)
+          let items : into_iter_items c.loop-index.left ≡ w.in-Some.shard ∷ into_iter_items w.next.new.self =
+              search rules in
+          subst (λ left. AreEntered (received_state c.args.received.now) (c.loop-index.index + 1)
+              (map (λ v. v.items) (into_iter_items left)) (shards_in c.if-is_none.vectors)) (sym w.left-is)
+          (subst (λ vectors. AreEntered (received_state c.args.received.now) (c.loop-index.index + 1)
+              (map (λ v. v.items) (into_iter_items w.next.new.self)) (shards_in vectors)) (sym w.vectors-is)
+          (entered-next s i _ (shards_in c.loop-index.vectors) now c.loop-index-test.true free w.in-Some.shard.items
+              (map (λ v. v.items) (into_iter_items w.next.new.self)) (shards_in w.insert.new.self)
           (ap (map (λ v. v.items)) items)
-          (λ all others is. with_entries-inserted c.loop-index.vectors w.insert.new.self i w.in-Some.shard w.in-Some.shard.items all others is refl w.in_ok-insert.ensures.updates)))
+          (λ all others is. with_entries-inserted c.loop-index.vectors w.insert.new.self i w.in-Some.shard
+              w.in-Some.shard.items all others is refl w.in_ok-insert.ensures.updates)))
       | then-is_none+in-Some+in_ok-insert+in-None-1 w ↦
           let free : given_in c.args.received.now.originals.shards.items c.loop-index.index ≡ None = search rules in
-          let items : into_iter_items c.loop-index.left ≡ w.in-Some.shard ∷ into_iter_items w.next.new.self = search rules in
-          subst (λ left. AreEntered (received_state c.args.received.now) (c.loop-index.index + 1) (map (λ v. v.items) (into_iter_items left)) (shards_in c.if-is_none.vectors)) (sym w.left-is)
-          (subst (λ vectors. AreEntered (received_state c.args.received.now) (c.loop-index.index + 1) (map (λ v. v.items) (into_iter_items w.next.new.self)) (shards_in vectors)) (sym w.vectors-is)
-          (entered-next s i _ (shards_in c.loop-index.vectors) now c.loop-index-test.true free w.in-Some.shard.items (map (λ v. v.items) (into_iter_items w.next.new.self)) (shards_in w.insert.new.self)
+          let items : into_iter_items c.loop-index.left ≡ w.in-Some.shard ∷ into_iter_items w.next.new.self =
+              search rules in
+          subst (λ left. AreEntered (received_state c.args.received.now) (c.loop-index.index + 1)
+              (map (λ v. v.items) (into_iter_items left)) (shards_in c.if-is_none.vectors)) (sym w.left-is)
+          (subst (λ vectors. AreEntered (received_state c.args.received.now) (c.loop-index.index + 1)
+              (map (λ v. v.items) (into_iter_items w.next.new.self)) (shards_in vectors)) (sym w.vectors-is)
+          (entered-next s i _ (shards_in c.loop-index.vectors) now c.loop-index-test.true free w.in-Some.shard.items
+              (map (λ v. v.items) (into_iter_items w.next.new.self)) (shards_in w.insert.new.self)
           (ap (map (λ v. v.items)) items)
-          (λ all others is. with_entries-inserted c.loop-index.vectors w.insert.new.self i w.in-Some.shard w.in-Some.shard.items all others is refl w.in_ok-insert.ensures.updates)))
+          (λ all others is. with_entries-inserted c.loop-index.vectors w.insert.new.self i w.in-Some.shard
+              w.in-Some.shard.items all others is refl w.in_ok-insert.ensures.updates)))
       | then-is_none+in_default w ↦
           let free : given_in c.args.received.now.originals.shards.items c.loop-index.index ≡ None = search rules in
           let zero : length (into_iter_items c.loop-index.left) ≡ 0 = search rules in
-          let none : into_iter_items c.loop-index.left ≡ [] = nil_from_length (into_iter_items c.loop-index.left) zero in
-          absurd (entered-short s i _ (shards_in c.loop-index.vectors) now c.loop-index-test.true free (ap (map (λ v. v.items)) none))
+          let none : into_iter_items c.loop-index.left ≡ [] =
+              nil_from_length (into_iter_items c.loop-index.left) zero in
+          absurd (entered-short s i _ (shards_in c.loop-index.vectors) now c.loop-index-test.true free
+              (ap (map (λ v. v.items)) none))
       | else-is_none w ↦
           let found : is_some c.index.result.now ≡ true = search rules in
-          let place : get_or c.args.received.now.originals.shards.items c.loop-index.index c.index.result.now ≡ c.index.result.now = search rules in
-          let some = some-place c.args.received.now.originals.shards.items i c.index.result.now place (omega (arith, c.loop-index-test.true, c.args.received.now.original_places)) found in
-          subst (λ left. AreEntered (received_state c.args.received.now) (c.loop-index.index + 1) (map (λ v. v.items) (into_iter_items left)) (shards_in c.if-is_none.vectors)) (sym w.left-is)
-          (subst (λ vectors. AreEntered (received_state c.args.received.now) (c.loop-index.index + 1) (map (λ v. v.items) (into_iter_items c.loop-index.left)) (shards_in vectors)) (sym w.vectors-is)
+          let place : get_or c.args.received.now.originals.shards.items c.loop-index.index c.index.result.now
+              ≡ c.index.result.now = search rules in
+          let some = some-place c.args.received.now.originals.shards.items i c.index.result.now place
+              (omega (arith, c.loop-index-test.true, c.args.received.now.original_places)) found in
+          subst (λ left. AreEntered (received_state c.args.received.now) (c.loop-index.index + 1)
+              (map (λ v. v.items) (into_iter_items left)) (shards_in c.if-is_none.vectors)) (sym w.left-is)
+          (subst (λ vectors. AreEntered (received_state c.args.received.now) (c.loop-index.index + 1)
+              (map (λ v. v.items) (into_iter_items c.loop-index.left)) (shards_in vectors)) (sym w.vectors-is)
           (entered-skipped s i _ (shards_in c.loop-index.vectors) now c.loop-index-test.true some))
     ]
 
 pub returns : goal.returns
-returns c = entered-all (received_state c.args.received.now) c.loop-index.index _ (shards_in c.loop-index.vectors) c.loop-index.invariant (omega (arith, c.loop-index-test.false))
+returns c = entered-all (received_state c.args.received.now) c.loop-index.index _
+    (shards_in c.loop-index.vectors) c.loop-index.invariant (omega (arith, c.loop-index-test.false))

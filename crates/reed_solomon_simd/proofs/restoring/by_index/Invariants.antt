@@ -7,4 +7,5 @@ use Rattle.reed_solomon_simd.proofs.restoring.by_index.Given as goal
 
 -- The vectors taken so far are in the map, and the iterator holds the others.
 abbrev pub invariant-loop-index : goal.invariant-loop-index
-invariant-loop-index l = AreEntered (received_state l.received) l.index (map (λ v. v.items) (into_iter_items l.left)) (shards_in l.vectors)
+invariant-loop-index l =
+    AreEntered (received_state l.received) l.index (map (λ v. v.items) (into_iter_items l.left)) (shards_in l.vectors)

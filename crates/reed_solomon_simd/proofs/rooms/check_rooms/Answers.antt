@@ -7,7 +7,8 @@ use Rattle.reed_solomon_simd.proofs.RoomFits.{fits-many, fits-all, fits-first}
 use Rattle.reed_solomon_simd.proofs.rooms.check_rooms.Goals as goal
 
 -- The bytes of room i are element i of `bytes_in`.
-bytes-at : (i : ℕ) (rooms : List (MutBor (List ℕ))) (d : MutBor (List ℕ)) → i < length rooms → get_or (bytes_in rooms) i [] ≡ (get_or rooms i d).now
+bytes-at : (i : ℕ) (rooms : List (MutBor (List ℕ))) (d : MutBor (List ℕ)) → i < length rooms
+    → get_or (bytes_in rooms) i [] ≡ (get_or rooms i d).now
 bytes-at i rooms d h = get_or-map (λ room. room.now) rooms i d [] h
 
 pub returns-then-rooms-index-clause-answer : goal.returns-then-rooms-index-clause-answer
@@ -19,10 +20,12 @@ returns-then-rooms-index-clause-answer c = λ shards number sized.
     let here = bytes-at i c.args.rooms.now d inside in
     let many : length c.args.rooms.now ≡ c.args.count = search rules in
     let other : length (get_or (bytes_in c.args.rooms.now) c.loop-index.index []) ≡ c.args.shard_bytes → ⊥ =
-    (λ same. let fact : length (get_or c.args.rooms.now c.loop-index.index d).now ≡ c.args.shard_bytes = ap length (sym here) ∙ same in let no : ⊥ = search rules in no) in
+    (λ same. let fact : length (get_or c.args.rooms.now c.loop-index.index d).now ≡ c.args.shard_bytes =
+        ap length (sym here) ∙ same in let no : ⊥ = search rules in no) in
     ap (λ (n : ℕ). Err (WrongLength c.args.shard_bytes n)) (ap length (sym here))
     ∙ sym (fits-many shards (bytes_in c.args.rooms.now) (number ∙ sym many ∙ sym all)
-    ∙ fits-first c.args.shard_bytes i shards (bytes_in c.args.rooms.now) (number ∙ sym many ∙ sym all) sized (omega (arith, inside, all)) c.loop-index.invariant other)
+    ∙ fits-first c.args.shard_bytes i shards (bytes_in c.args.rooms.now) (number ∙ sym many ∙ sym all) sized
+        (omega (arith, inside, all)) c.loop-index.invariant other)
 
 pub loop-index-preserved : goal.loop-index-preserved
 loop-index-preserved c = λ i h.
@@ -42,4 +45,5 @@ returns-clause-answer c = λ shards number sized.
     let many : length c.args.rooms.now ≡ c.args.count = search rules in
     let done = c.loop-index-test.false in
     sym (fits-many shards (bytes_in c.args.rooms.now) (number ∙ sym many ∙ sym all)
-    ∙ fits-all c.args.shard_bytes shards (bytes_in c.args.rooms.now) sized (λ i h. c.loop-index.invariant i (omega (arith, h, all, done))))
+    ∙ fits-all c.args.shard_bytes shards (bytes_in c.args.rooms.now) sized
+        (λ i h. c.loop-index.invariant i (omega (arith, h, all, done))))

@@ -5,7 +5,8 @@ use Rattle.rs_field.specs.code.PieceStates.{shards_listed}
 use Rattle.rs_rate.specs.ResultView.{restored_originals}
 use Rattle.reed_solomon_simd.proofs.strip_decoder.put_pieces.Given as goal
 
--- The rooms below the index hold their pieces, the others hold what they held before the loop, and the iterator holds the other pieces.
+-- The rooms below the index hold their pieces, the others hold what they held before the loop, and the iterator holds
+-- the other pieces.
 abbrev pub invariant-loop-piece : goal.invariant-loop-piece
 invariant-loop-piece g l =
     record {
@@ -17,7 +18,8 @@ invariant-loop-piece g l =
       put : (i : ℕ) → i < l.room → get_or (g.R.Rooms.held l.rooms) i []
           ≡ take l.start (get_or (g.R.Rooms.held l.initial.rooms) i [])
           ++ (get_or (shards_listed items) i [] ++ drop l.end (get_or (g.R.Rooms.held l.initial.rooms) i []));
-      others : (i : ℕ) → l.room ≤ i → get_or (g.R.Rooms.held l.rooms) i [] ≡ get_or (g.R.Rooms.held l.initial.rooms) i [];
+      others : (i : ℕ) → l.room ≤ i
+          → get_or (g.R.Rooms.held l.rooms) i [] ≡ get_or (g.R.Rooms.held l.initial.rooms) i [];
       places : g.R.Rooms.places l.rooms ≡ g.R.Rooms.places l.initial.rooms;
       loan : g.R.Rooms.loan l.rooms ≡ g.R.Rooms.loan l.initial.rooms;
     }

@@ -7,14 +7,18 @@ use Rattle.rs_rate.specs.EncoderView.{encoder_state}
 use Rattle.reed_solomon_simd.specs.Rooms.{shards_of}
 use Rattle.reed_solomon_simd.proofs.strip_encoder.encode_strips.Given as goal
 
--- All bytes before `start` are coded. A chunk begins at `start`, or the shards end there. If bytes are left, the encoder is ready for the next strip.
+-- All bytes before `start` are coded. A chunk begins at `start`, or the shards end there. If bytes are left, the
+-- encoder is ready for the next strip.
 abbrev pub invariant-loop-start : goal.invariant-loop-start
 invariant-loop-start g l =
     record {
       inside : l.start ≤ l.shard_bytes;
       begins : (l.start % 64 ≡ 0) ⊎ (l.start ≡ l.shard_bytes);
-      fresh : l.start < l.shard_bytes → encoder_state default_rate l.encoder.rows ≡ fresh_encoder (default_of l.counts.original_count l.counts.recovery_count l.width);
-      done : IsDone l.counts.original_count l.counts.recovery_count l.shard_bytes l.start g.R.Rooms.grows default_rate (shards_of l.originals) (g.R.Rooms.held l.rooms);
+      fresh : l.start < l.shard_bytes
+          → encoder_state default_rate l.encoder.rows
+          ≡ fresh_encoder (default_of l.counts.original_count l.counts.recovery_count l.width);
+      done : IsDone l.counts.original_count l.counts.recovery_count l.shard_bytes l.start g.R.Rooms.grows default_rate
+          (shards_of l.originals) (g.R.Rooms.held l.rooms);
       places : g.R.Rooms.places l.rooms ≡ g.R.Rooms.places l.initial.rooms;
       loan : g.R.Rooms.loan l.rooms ≡ g.R.Rooms.loan l.initial.rooms;
     }

@@ -10,7 +10,8 @@ invariant-loop-index g l =
       put : (i : ℕ) → i < l.index → get_or (g.R.Rooms.held l.rooms) i []
           ≡ take l.start (get_or (g.R.Rooms.held l.initial.rooms) i [])
           ++ (get_or (recovery_shards l.lent) i [] ++ drop l.end (get_or (g.R.Rooms.held l.initial.rooms) i []));
-      others : (i : ℕ) → l.index ≤ i → get_or (g.R.Rooms.held l.rooms) i [] ≡ get_or (g.R.Rooms.held l.initial.rooms) i [];
+      others : (i : ℕ) → l.index ≤ i
+          → get_or (g.R.Rooms.held l.rooms) i [] ≡ get_or (g.R.Rooms.held l.initial.rooms) i [];
       places : g.R.Rooms.places l.rooms ≡ g.R.Rooms.places l.initial.rooms;
       loan : g.R.Rooms.loan l.rooms ≡ g.R.Rooms.loan l.initial.rooms;
     }

@@ -12,10 +12,12 @@ loop-preserved g c =
     elim c.match-write.branch [
       | in-Ok w ↦ rw w.written-is (record {
         within = front-within bytes c.loop.written w.in-Ok.count c.loop.invariant.within w.in-Ok.ensures.bound;
-        written = appends-front before now after bytes c.loop.written w.in-Ok.count c.loop.invariant.written w.in-Ok.ensures.bytes;
+        written = appends-front before now after bytes c.loop.written w.in-Ok.count c.loop.invariant.written
+            w.in-Ok.ensures.bytes;
       })
       | in-Err w ↦ rw w.written-is (record {
         within = c.loop.invariant.within;
-        written = appends-keeps before now after (take c.loop.written bytes) c.loop.invariant.written w.in-Err.ensures.bytes;
+        written = appends-keeps before now after
+            (take c.loop.written bytes) c.loop.invariant.written w.in-Err.ensures.bytes;
       })
     ]

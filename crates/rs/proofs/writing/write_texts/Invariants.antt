@@ -6,4 +6,5 @@ use Rattle.rs.proofs.writing.write_texts.Given as goal
 -- All texts before the current one are written.
 abbrev pub invariant-loop-text : goal.invariant-loop-text
 invariant-loop-text g l =
-    Appends (g.W.Write.contents l.initial.writer) (g.W.Write.contents l.writer) (flat_map string_bytes (take l.text-index l.texts))
+    Appends (g.W.Write.contents l.initial.writer) (g.W.Write.contents l.writer)
+        (flat_map string_bytes (take l.text-index l.texts))

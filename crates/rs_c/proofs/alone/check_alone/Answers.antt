@@ -1,9 +1,11 @@
-use Rattle.std.proofs.Common.{rules, ◌≡◌, ℕ, ◌+◌, [], ◌∷◌, List, length, drop, Ok, Err, get_or, ap, sym, refl, ◌∙◌, arith}
+use Rattle.std.proofs.Common.{rules, ◌≡◌, ℕ, ◌+◌, [], ◌∷◌, List, length, drop, Ok, Err, get_or, ap, sym, refl, ◌∙◌}
+use Rattle.std.proofs.Common.{arith}
 use Rattle.std.proofs.lemmas.Bool.{cond_below, cond_above}
 use Rattle.rs_field.specs.declared.code.error.Error.TheVariants.{NotEnoughShards}
 use Rattle.rs_field.specs.code.Outcome.{result_and_then}
 use Rattle.rs_c.specs.declared.layouts.RsShard.{RsShard}
-use Rattle.rs_c.proofs.AloneLemmas.{note_outcome-none, notes-ok, notes-err, noting, noting-next, noting-done, noting-refused}
+use Rattle.rs_c.proofs.AloneLemmas.{note_outcome-none, notes-ok, notes-err, noting, noting-next, noting-done}
+use Rattle.rs_c.proofs.AloneLemmas.{noting-refused}
 use Rattle.rs_c.proofs.alone.check_alone.Goals as goal
 
 -- the default value for an entry after the end of an array

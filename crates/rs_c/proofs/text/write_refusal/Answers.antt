@@ -1,4 +1,6 @@
-use Rattle.rs_field.specs.declared.code.error.Error.TheVariants.{DuplicateOriginalShardIndex, DuplicateRecoveryShardIndex, InvalidOriginalShardIndex, InvalidRecoveryShardIndex, TooFewOriginalShards}
+use Rattle.rs_field.specs.declared.code.error.Error.TheVariants.{DuplicateOriginalShardIndex}
+use Rattle.rs_field.specs.declared.code.error.Error.TheVariants.{DuplicateRecoveryShardIndex, InvalidOriginalShardIndex}
+use Rattle.rs_field.specs.declared.code.error.Error.TheVariants.{InvalidRecoveryShardIndex, TooFewOriginalShards}
 use Rattle.rs_field.specs.code.Texts.{text_of as refusal_text}
 use Rattle.rs_c.proofs.TextLemmas.{ended}
 use Rattle.rs_c.proofs.text.write_refusal.Goals as goal

@@ -6,5 +6,6 @@ use Rattle.rs_callers.proofs.callers.decode_inconsistent.Goals as goal
 pub returns-clause-next : goal.returns-clause-next
 returns-clause-next g c enough =
     let s = g.X.RateDecoder.state c.args.decoder.now in
-    let few = ap enough_given (c.decode_just_enough-first.ensures.state ∙ ended s enough) ∙ fresh-too_few s.configuration (g.met.X.RateDecoder.valid c.args.decoder.now).valid in
+    let few = ap enough_given (c.decode_just_enough-first.ensures.state ∙ ended s enough)
+        ∙ fresh-too_few s.configuration (g.met.X.RateDecoder.valid c.args.decoder.now).valid in
     search rules

@@ -8,5 +8,6 @@ use Rattle.rs_callers.proofs.plain_callers.end_a_round.Goals as goal
 pub returns-clause-answer : goal.returns-clause-answer
 returns-clause-answer c =
     let s = state_of c.args.decoder.now in
-    let few = ap enough_given (c.decode_only.ensures.state ∙ ended s c.requires) ∙ fresh-too_few s.configuration (valid-decoder c.args.decoder.now).valid in
+    let few = ap enough_given (c.decode_only.ensures.state ∙ ended s c.requires)
+        ∙ fresh-too_few s.configuration (valid-decoder c.args.decoder.now).valid in
     search rules

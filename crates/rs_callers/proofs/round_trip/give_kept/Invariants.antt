@@ -6,7 +6,8 @@ use Rattle.rs_callers.specs.Losing.{is_left, left_of}
 use Rattle.rs_callers.proofs.InTurn.{shards_from}
 use Rattle.rs_callers.proofs.round_trip.give_kept.Given as goal
 
--- Adding all originals that are left to the first decoder has the same outcome as adding the remaining ones to the current decoder.
+-- Adding all originals that are left to the first decoder has the same outcome as adding the remaining ones to the
+-- current decoder.
 abbrev pub invariant-loop-index : goal.invariant-loop-index
 invariant-loop-index l =
     with_originals (state_of l.initial.decoder) (left_of (shards_from 0 l.originals) l.lost)

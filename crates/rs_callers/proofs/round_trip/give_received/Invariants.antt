@@ -7,7 +7,8 @@ use Rattle.reed_solomon_simd.specs.ResultView.{recovery_shards}
 use Rattle.rs_callers.specs.Losing.{is_left, left_of}
 use Rattle.rs_callers.proofs.round_trip.give_received.Given as goal
 
--- Adding all recovery shards that are left to the first decoder has the same outcome as adding the remaining ones to the current decoder.
+-- Adding all recovery shards that are left to the first decoder has the same outcome as adding the remaining ones to
+-- the current decoder.
 abbrev pub invariant-loop-index : goal.invariant-loop-index
 invariant-loop-index l =
     with_recoveries (state_of l.initial.decoder) (left_of (recovery_shards l.recovery) l.lost)

@@ -10,12 +10,15 @@ returns-then-LANES-lt32 g c s h =
     elim (cases_lt s 16) [
       | inl low ↦
           let next = c.lanes_of_two-then-LANES-lt32.ensures in
-          two_kept_after butterfly _ _ _ _ _ _ (next.kept_0 s h (inl low)) (next.kept_1 s h (inl low)) (c.lanes_of_two.ensures.butterfly s s (omega arith) (omega arith))
+          two_kept_after butterfly _ _ _ _ _ _ (next.kept_0 s h (inl low)) (next.kept_1 s h (inl low))
+              (c.lanes_of_two.ensures.butterfly s s (omega arith) (omega arith))
       | inr high ↦
           let past = c.lanes_of_two.ensures in
-          two_kept_before butterfly _ _ _ _ _ _ (past.kept_0 s h (inr (omega arith))) (past.kept_1 s h (inr (omega arith)))
+          two_kept_before butterfly _ _ _ _ _ _ (past.kept_0 s h (inr (omega arith)))
+              (past.kept_1 s h (inr (omega arith)))
           (c.lanes_of_two-then-LANES-lt32.ensures.butterfly (s - 16) s (omega arith) (omega arith))
     ]
 
 pub returns-else-LANES-lt32 : goal.returns-else-LANES-lt32
-returns-else-LANES-lt32 g c s h = let width = g.met.V.ByteVector.width in c.lanes_of_two.ensures.butterfly s s (omega arith) (omega arith)
+returns-else-LANES-lt32 g c s h = let width = g.met.V.ByteVector.width in
+    c.lanes_of_two.ensures.butterfly s s (omega arith) (omega arith)

@@ -1,5 +1,6 @@
 -- A message agrees with given shards if it has these shards. The laws of the code show that no other message agrees.
-use Rattle.std.proofs.Common.{◌≡◌, Bool, true, cond, inl, inr, ℕ, zero, suc, List, [], ◌∷◌, refl, sym, ap, ◌∙◌, arith, lit<, lit≤}
+use Rattle.std.proofs.Common.{◌≡◌, Bool, true, cond, inl, inr, ℕ, zero, suc, List, [], ◌∷◌, refl, sym, ap, ◌∙◌, arith}
+use Rattle.std.proofs.Common.{lit<, lit≤}
 use Rattle.std.specs.Prelude.{Some, None, ◌&&◌, not, is_some, Ok, Err}
 use Rattle.std.proofs.lemmas.Bool.{le-ltb}
 use Rattle.rs_field.specs.declared.code.error.Error.TheVariants.{InconsistentShards}
@@ -36,12 +37,14 @@ message_shards = shards_from 2 2 message refl
 
 -- The recovery shards of the message of two originals are values of the polynomial x.
 line : AreRecovery (configuration default_rate 2 3 2) message recovered
-unfolding passes_below placement low_placement high_placement is_low next_power first_below value product combine bits from_bits cantor_basis monomials carryless reduce column
+unfolding passes_below placement low_placement high_placement is_low next_power first_below value product combine bits
+    from_bits cantor_basis monomials carryless reduce column
 line = recovery_from _ _ _ ((0 ∷ 1 ∷ []) ∷ []) refl
 
 -- The recovery shards of one original are values of a constant.
 copies : AreRecovery (configuration default_rate 1 2 2) ((7 ∷ 9 ∷ []) ∷ []) ((7 ∷ 9 ∷ []) ∷ (7 ∷ 9 ∷ []) ∷ [])
-unfolding passes_below placement low_placement high_placement is_low next_power first_below value product combine bits from_bits cantor_basis monomials carryless reduce column
+unfolding passes_below placement low_placement high_placement is_low next_power first_below value product combine bits
+    from_bits cantor_basis monomials carryless reduce column
 copies = recovery_from _ _ _ ((2311 ∷ []) ∷ []) refl
 
 -- The message of two originals agrees with two of its recovery shards.
@@ -49,13 +52,15 @@ agrees : IsAgreeing state_of_two message
 agrees = record {
   shards = message_shards;
   own = nothing_among message;
-  coded = (recovered, line, entered_among _ 1 (3 ∷ 0 ∷ []) recovered (entered_among nothing 0 (2 ∷ 0 ∷ []) recovered (nothing_among recovered) refl) refl);
+  coded = (recovered, line, entered_among _ 1 (3 ∷ 0 ∷ []) recovered
+      (entered_among nothing 0 (2 ∷ 0 ∷ []) recovered (nothing_among recovered) refl) refl);
 }
 
 -- No other message of two originals agrees with these two recovery shards.
 only : (m : List Shard) → IsAgreeing state_of_two m → m ≡ message
 unfolding supports next_power first_below with_entry count_below
-only m a = one_message state_of_two.configuration state_of_two.originals state_of_two.recovery m message refl refl (lit≤ tt) a agrees
+only m a = one_message state_of_two.configuration state_of_two.originals state_of_two.recovery m message refl refl
+    (lit≤ tt) a agrees
 
 -- The originals that are restored.
 abbrev out : Shards
@@ -66,12 +71,15 @@ out_missing : (i : ℕ) → out i ≡ missing_of state_of_two message i
 unfolding with_entry missing_of
 out_missing zero = refl
 out_missing (suc zero) = refl
-out_missing (suc (suc i)) = none ∙ sym (ap (λ (b : Bool). cond (b && true) (Some (shard_at message (suc (suc i)))) None) (le-ltb (suc (suc i)) 2 (omega arith)))
+out_missing (suc (suc i)) =
+    none ∙ sym (ap (λ (b : Bool). cond (b && true) (Some (shard_at message (suc (suc i)))) None)
+    (le-ltb (suc (suc i)) 2 (omega arith)))
   where
     none : out (suc (suc i)) ≡ None
     none = elim (entered_cases (with_entry nothing 0 (0 ∷ 0 ∷ [])) 1 (suc (suc i)) (1 ∷ 0 ∷ [])) [
       | inl one ↦ absurd (omega (arith, one.0))
-      | inr other ↦ elim (entered_cases nothing 0 (suc (suc i)) (0 ∷ 0 ∷ [])) [ inl first ↦ absurd (omega (arith, first.0)) | inr last ↦ other.1 ∙ last.1 ]
+      | inr other ↦ elim (entered_cases nothing 0 (suc (suc i)) (0 ∷ 0 ∷ []))
+          [ inl first ↦ absurd (omega (arith, first.0)) | inr last ↦ other.1 ∙ last.1 ]
     ]
 
 -- A decoder with two of the recovery shards restores the message.
@@ -88,7 +96,8 @@ four_more = low_bytes (11 ∷ 9 ∷ 14 ∷ 13 ∷ [])
 
 -- The recovery shards of the message of four originals are values of a polynomial that is zero from the point 8 on.
 cubic : AreRecovery (configuration default_rate 4 4 2) four four_more
-unfolding passes_below is_low next_power first_below value product combine bits from_bits cantor_basis monomials carryless reduce column
+unfolding passes_below is_low next_power first_below value product combine bits from_bits cantor_basis monomials
+    carryless reduce column
 cubic = recovery_from_high 3 _ _ _ ((11 ∷ 6 ∷ 5 ∷ 1 ∷ []) ∷ []) refl
 
 -- The message of four originals agrees with two of its originals and two of its recovery shards.
@@ -96,7 +105,8 @@ mixture : MixtureExample
 mixture = record {
   shards = shards_from 4 2 four refl;
   own = entered_among _ 1 (0 ∷ 0 ∷ []) four (entered_among nothing 3 (3 ∷ 0 ∷ []) four (nothing_among four) refl) refl;
-  coded = (four_more, cubic, entered_among _ 0 (11 ∷ 0 ∷ []) four_more (entered_among nothing 2 (14 ∷ 0 ∷ []) four_more (nothing_among four_more) refl) refl);
+  coded = (four_more, cubic, entered_among _ 0 (11 ∷ 0 ∷ []) four_more
+      (entered_among nothing 2 (14 ∷ 0 ∷ []) four_more (nothing_among four_more) refl) refl);
 }
 
 -- A message of one original.
@@ -120,7 +130,8 @@ inconsistent : IsConsistent (state_of_surplus (7 ∷ 8 ∷ [])) → ⊥
 unfolding supports next_power first_below with_entry count_below changed_shards
 inconsistent =
     let given = state_of_surplus (7 ∷ 8 ∷ []) in
-    changes_noticed given.configuration original copied given.originals given.recovery refl refl (shards_from 1 2 original refl) copies (lit< tt) (lit≤ tt)
+    changes_noticed given.configuration original copied given.originals given.recovery refl refl
+        (shards_from 1 2 original refl) copies (lit< tt) (lit≤ tt)
 
 -- No other message of one original agrees with the original and its copy.
 only_original : (m : List Shard) → IsAgreeing (state_of_surplus (7 ∷ 9 ∷ [])) m → m ≡ original
@@ -134,7 +145,9 @@ none_missing : (i : ℕ) → nothing i ≡ missing_of (state_of_surplus (7 ∷ 9
 unfolding with_entry missing_of
 none_missing zero = refl
 none_missing (suc i) =
-    sym (ap (λ (b : Bool). cond (b && not (is_some ((state_of_surplus (7 ∷ 9 ∷ [])).originals (suc i)))) (Some (shard_at original (suc i))) None) (le-ltb (suc i) 1 (omega arith)))
+    sym (ap (λ (b : Bool).
+        cond (b && not (is_some ((state_of_surplus (7 ∷ 9 ∷ [])).originals (suc i))))
+        (Some (shard_at original (suc i))) None) (le-ltb (suc i) 1 (omega arith)))
 
 -- A decode of the original and its copy restores no original.
 agreed : DecodeAnswers (state_of_surplus (7 ∷ 9 ∷ [])) (Ok nothing)

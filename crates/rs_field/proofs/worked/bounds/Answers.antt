@@ -7,5 +7,6 @@ use Rattle.rs_field.specs.code.Counts.{is_low, next_power}
 use Rattle.rs_field.proofs.worked.bounds.Goals as goal
 
 pub returns : goal.returns
-unfolding log2 transform_steps encode_steps decode_steps block_rows encoder_rows decoder_rows is_low next_power first_below
+unfolding log2 transform_steps encode_steps decode_steps block_rows encoder_rows decoder_rows is_low next_power
+    first_below
 returns c = search rules

@@ -8,25 +8,30 @@ use Rattle.rs_field.specs.code.Column.{column}
 use Rattle.rs_field.specs.code.Counts.{next_power, is_low, low_rate, high_rate, default_rate}
 use Rattle.rs_field.specs.code.Placement.{placement, low_placement, high_placement}
 use Rattle.rs_field.specs.code.CodeLaws.{xor_bytes, xor_shards}
-use Rattle.rs_field.specs.worked.Codes.{LowExamples, HighExamples, ShortLineExample, CubicExample, TailExample, ChunkAndTailExample}
+use Rattle.rs_field.specs.worked.Codes.{LowExamples, HighExamples, ShortLineExample, CubicExample, TailExample}
+use Rattle.rs_field.specs.worked.Codes.{ChunkAndTailExample}
 use Rattle.rs_field.proofs.of_words.Linear.{passes_below}
 use Rattle.rs_field.proofs.of_code.Decided.{codes_from, recovery_from, recovery_from_high}
 use Rattle.rs_field.proofs.worked.codes.Goals as goal
 
 -- The examples of the low rate pass the tests.
-low : LowExamples low_rate × LowExamples default_rate × ShortLineExample low_rate × CubicExample low_rate × TailExample × ChunkAndTailExample
-unfolding passes_below placement low_placement high_placement is_low next_power first_below value product combine bits from_bits cantor_basis monomials carryless reduce column xor_bytes xor_shards
+low : LowExamples low_rate × LowExamples default_rate × ShortLineExample low_rate × CubicExample low_rate × TailExample
+    × ChunkAndTailExample
+unfolding passes_below placement low_placement high_placement is_low next_power first_below value product combine bits
+    from_bits cantor_basis monomials carryless reduce column xor_bytes xor_shards
 low = (
   (
     (codes_from _ _ _ _ _ refl, recovery_from _ _ _ ((2311 ∷ []) ∷ []) refl),
     (codes_from _ _ _ _ _ refl, recovery_from _ _ _ ((0 ∷ 1 ∷ []) ∷ []) refl),
-    ((codes_from _ _ _ _ _ refl, recovery_from _ _ _ ((1 ∷ 0 ∷ []) ∷ []) refl), refl, (codes_from _ _ _ _ _ refl, recovery_from _ _ _ ((1 ∷ 1 ∷ []) ∷ []) refl), refl),
+    ((codes_from _ _ _ _ _ refl, recovery_from _ _ _ ((1 ∷ 0 ∷ []) ∷ []) refl), refl,
+        (codes_from _ _ _ _ _ refl, recovery_from _ _ _ ((1 ∷ 1 ∷ []) ∷ []) refl), refl),
     (codes_from _ _ _ _ _ refl, recovery_from _ _ _ ((0 ∷ 3 ∷ 2 ∷ 1 ∷ []) ∷ []) refl),
   ),
   (
     (codes_from _ _ _ _ _ refl, recovery_from _ _ _ ((2311 ∷ []) ∷ []) refl),
     (codes_from _ _ _ _ _ refl, recovery_from _ _ _ ((0 ∷ 1 ∷ []) ∷ []) refl),
-    ((codes_from _ _ _ _ _ refl, recovery_from _ _ _ ((1 ∷ 0 ∷ []) ∷ []) refl), refl, (codes_from _ _ _ _ _ refl, recovery_from _ _ _ ((1 ∷ 1 ∷ []) ∷ []) refl), refl),
+    ((codes_from _ _ _ _ _ refl, recovery_from _ _ _ ((1 ∷ 0 ∷ []) ∷ []) refl), refl,
+        (codes_from _ _ _ _ _ refl, recovery_from _ _ _ ((1 ∷ 1 ∷ []) ∷ []) refl), refl),
     (codes_from _ _ _ _ _ refl, recovery_from _ _ _ ((0 ∷ 3 ∷ 2 ∷ 1 ∷ []) ∷ []) refl),
   ),
   (codes_from _ _ _ _ _ refl, recovery_from _ _ _ ((0 ∷ 1 ∷ []) ∷ []) refl),
@@ -38,7 +43,8 @@ low = (
 
 -- The examples of the high rate pass the tests, below 4 or below 8.
 high : HighExamples high_rate × HighExamples default_rate
-unfolding passes_below is_low next_power first_below value product combine bits from_bits cantor_basis monomials carryless reduce column
+unfolding passes_below is_low next_power first_below value product combine bits from_bits cantor_basis monomials
+    carryless reduce column
 high = (
   (
     recovery_from_high 2 _ _ _ ((10773 ∷ 15782 ∷ 5554 ∷ []) ∷ []) refl,

@@ -3,7 +3,8 @@ use Rattle.rs_field.specs.words.Search.{first_below}
 use Rattle.rs_field.specs.code.Counts.{next_power, supports, is_low}
 use Rattle.rs_field.specs.code.Placement.{encoder_rows, decoder_rows}
 use Rattle.rs_field.specs.code.Given.{with_entry, count_below}
-use Rattle.rs_field.specs.worked.Calls.{EncodeOrder, DecodeOrder, NoRecoveryOrder, EncoderRound, DecoderRound, LargestIndex, MemoryOrder}
+use Rattle.rs_field.specs.worked.Calls.{EncodeOrder, DecodeOrder, NoRecoveryOrder, EncoderRound, DecoderRound}
+use Rattle.rs_field.specs.worked.Calls.{LargestIndex, MemoryOrder}
 use Rattle.rs_field.proofs.worked.refusals.Goals as goal
 
 encode : EncodeOrder
@@ -44,4 +45,5 @@ memory = (
 )
 
 pub returns : goal.returns
-returns c = record { encode = encode; decode = decode; no_recovery = no_recovery; encoder = encoder; decoder = decoder; index = index; memory = memory }
+returns c = record { encode = encode; decode = decode; no_recovery = no_recovery; encoder = encoder; decoder =
+    decoder; index = index; memory = memory }

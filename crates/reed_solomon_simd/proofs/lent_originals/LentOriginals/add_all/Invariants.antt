@@ -7,6 +7,7 @@ use Rattle.reed_solomon_simd.proofs.lent_originals.LentOriginals.add_all.Given a
 abbrev pub invariant-loop-shard : goal.invariant-loop-shard
 invariant-loop-shard g l =
     record {
-      led : LeadsOn g.I.Iterator.next_gives (λ shard. shard.now) with_shard l.fn.originals (lent_state l.initial.self) l.shard-iterator (lent_state l.self);
+      led : LeadsOn g.I.Iterator.next_gives (λ shard. shard.now) with_shard l.fn.originals
+          (lent_state l.initial.self) l.shard-iterator (lent_state l.self);
       counts : l.self.counts ≡ l.initial.self.counts;
     }

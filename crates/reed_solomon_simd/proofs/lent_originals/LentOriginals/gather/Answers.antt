@@ -1,13 +1,15 @@
 use Rattle.std.proofs.Common.{rules}
 use Rattle.rs_field.specs.code.Encoder.{with_shard}
-use Rattle.rs_rate.proofs.Giving.{no-calls, ended-calls, ended-run, first-then, outcome-ok, outcome-err, reached-ok, reached-err, adds-ok, adds-err}
+use Rattle.rs_rate.proofs.Giving.{no-calls, ended-calls, ended-run, first-then, outcome-ok, outcome-err, reached-ok}
+use Rattle.rs_rate.proofs.Giving.{reached-err, adds-ok, adds-err}
 use Rattle.rs_rate.proofs.OneCall.{encoding-unset, encoding-given}
 use Rattle.reed_solomon_simd.proofs.lent_originals.LentOriginals.gather.Goals as goal
 
 pub returns-in_default-clause-gathered : goal.returns-in_default-clause-gathered
 returns-in_default-clause-gathered g c = (
   ended-calls c.args.original c.next.new.self c.in_default.ensures.steps,
-  ended-run g.I.Iterator.next_gives (λ shard. shard.now) _ c.args.original c.next.new.self c.in_default.ensures.steps (let supported = c.args.counts.supported in search rules),
+  ended-run g.I.Iterator.next_gives (λ shard. shard.now) _ c.args.original c.next.new.self c.in_default.ensures.steps
+      (let supported = c.args.counts.supported in search rules),
 )
 
 pub returns-in_err-originals-clause-gathered : goal.returns-in_err-originals-clause-gathered
@@ -15,7 +17,8 @@ returns-in_err-originals-clause-gathered g c =
     first-then g.I.Iterator.next_gives (λ shard. shard.now) _ c.in-Some.ensures.steps (
       no-calls c.next.new.self,
       λ others begins.
-          let led = encoding-unset c.args.counts.original_count c.args.counts.recovery_count c.in-Some.first.now others _ c.in_err-originals.ensures.answer in search rules,
+          let led = encoding-unset c.args.counts.original_count c.args.counts.recovery_count c.in-Some.first.now others
+              _ c.in_err-originals.ensures.answer in search rules,
     )
 
 pub returns-in_err-add-clause-gathered : goal.returns-in_err-add-clause-gathered
@@ -23,8 +26,10 @@ returns-in_err-add-clause-gathered g c =
     first-then g.I.Iterator.next_gives (λ shard. shard.now) _ c.in-Some.ensures.steps (
       no-calls c.next.new.self,
       λ others begins.
-          let led = encoding-given c.args.counts.original_count c.args.counts.recovery_count c.in-Some.first.now others _ c.in_ok-originals.ensures.answer c.in_ok-originals.ensures.made _
-          (adds-err with_shard _ c.in-Some.first.now others _ (outcome-err _ _ c.in_err-add.ensures.answer)) in search rules,
+          let led = encoding-given c.args.counts.original_count c.args.counts.recovery_count c.in-Some.first.now others
+              _ c.in_ok-originals.ensures.answer c.in_ok-originals.ensures.made _
+          (adds-err with_shard _ c.in-Some.first.now others _ (outcome-err _ _ c.in_err-add.ensures.answer)) in
+              search rules,
     )
 
 pub returns-in_err-add_all-clause-gathered : goal.returns-in_err-add_all-clause-gathered
@@ -32,8 +37,11 @@ returns-in_err-add_all-clause-gathered g c =
     first-then g.I.Iterator.next_gives (λ shard. shard.now) _ c.in-Some.ensures.steps (
       c.in_err-add_all.ensures.reaches.0,
       λ others begins.
-          let led = encoding-given c.args.counts.original_count c.args.counts.recovery_count c.in-Some.first.now others _ c.in_ok-originals.ensures.answer c.in_ok-originals.ensures.made _
-          (adds-ok with_shard _ _ c.in-Some.first.now others _ (outcome-ok _ _ _ c.in_ok-add.ensures.answer c.in_ok-add.ensures.left) (reached-err _ _ _ (c.in_err-add_all.ensures.reaches.1 others begins))) in search rules,
+          let led = encoding-given c.args.counts.original_count c.args.counts.recovery_count c.in-Some.first.now others
+              _ c.in_ok-originals.ensures.answer c.in_ok-originals.ensures.made _
+          (adds-ok with_shard _ _ c.in-Some.first.now others _
+              (outcome-ok _ _ _ c.in_ok-add.ensures.answer c.in_ok-add.ensures.left)
+              (reached-err _ _ _ (c.in_err-add_all.ensures.reaches.1 others begins))) in search rules,
     )
 
 pub returns-clause-gathered : goal.returns-clause-gathered
@@ -41,6 +49,9 @@ returns-clause-gathered g c =
     first-then g.I.Iterator.next_gives (λ shard. shard.now) _ c.in-Some.ensures.steps (
       c.in_ok-add_all.ensures.reaches.0,
       λ others begins.
-          encoding-given c.args.counts.original_count c.args.counts.recovery_count c.in-Some.first.now others _ c.in_ok-originals.ensures.answer c.in_ok-originals.ensures.made _
-          (adds-ok with_shard _ _ c.in-Some.first.now others _ (outcome-ok _ _ _ c.in_ok-add.ensures.answer c.in_ok-add.ensures.left) (reached-ok _ _ (c.in_ok-add_all.ensures.reaches.1 others begins))),
+          encoding-given c.args.counts.original_count c.args.counts.recovery_count c.in-Some.first.now others _
+              c.in_ok-originals.ensures.answer c.in_ok-originals.ensures.made _
+          (adds-ok with_shard _ _ c.in-Some.first.now others _
+              (outcome-ok _ _ _ c.in_ok-add.ensures.answer c.in_ok-add.ensures.left)
+              (reached-ok _ _ (c.in_ok-add_all.ensures.reaches.1 others begins))),
     )

@@ -11,7 +11,8 @@ pub invariant_of-self : goal.invariant_of-self
 invariant_of-self c =
     record {
       counted = ap (λ n. n + 1) c.args.self.now.counted
-          ∙ sym (places-counted c.args.self.now.shards.items c.args.index c.args.shard c.requires.inside c.requires.free);
+          ∙ sym (places-counted c.args.self.now.shards.items c.args.index c.args.shard c.requires.inside
+              c.requires.free);
     }
 
 pub returns-clause-entered : goal.returns-clause-entered

@@ -8,4 +8,5 @@ invariant_of-self-clause-originals_within c =
     let x = c.args.self.now in
     let inside : c.args.index < x.counts.original_count = omega (arith, c.if-index-original_count.false) in
     subst (AreWithin x.counts.original_count x.shard_bytes) (sym c.enter.ensures.entered)
-    (entered-within x.counts.original_count x.shard_bytes _ c.args.index c.args.shard.now inside c.in_ok-check_size.ensures.shard x.originals_within)
+    (entered-within x.counts.original_count x.shard_bytes _ c.args.index c.args.shard.now inside
+        c.in_ok-check_size.ensures.shard x.originals_within)

@@ -10,7 +10,8 @@ use Rattle.rs_field.proofs.code.laws.codeword_laws.Goals as goal
 -- Two restorations are equal, since both are the missing shards of the one message that agrees.
 one_restoration : HasOneRestoration
 one_restoration s one other a b =
-    fun_ext (λ i. a.missing i ∙ ap (λ (m : List Shard). missing_of s m i) (b.only a.message a.agrees) ∙ sym (b.missing i))
+    fun_ext (λ i. a.missing i ∙ ap (λ (m : List Shard). missing_of s m i) (b.only a.message a.agrees)
+        ∙ sym (b.missing i))
 
 pub returns : goal.returns
 returns c = record { places = fixed_by_places; restored = one_restoration; changes = changes_noticed }

@@ -18,7 +18,8 @@ derivative_within-requires-then-size-gt1 t c =
     let even = two_halves c.args.size c.if-size-gt1.true c.requires.power in
     let extent_low = c.derivative_within.ensures.extent in
     let extent_mid = c.xor_within.ensures.extent in
-    let fits = fits_kept c.derivative_within.new.data c.xor_within.new.data extent_mid (fits_kept c.args.data.now c.derivative_within.new.data extent_low c.requires.fits) in
+    let fits = fits_kept c.derivative_within.new.data c.xor_within.new.data extent_mid
+        (fits_kept c.args.data.now c.derivative_within.new.data extent_low c.requires.fits) in
     (omega arith, (fits, ((p.0, p.2), (omega arith, omega arith))))
 
 pub returns-then-size-gt1-clause-derivative : goal.returns-then-size-gt1-clause-derivative
@@ -28,10 +29,15 @@ returns-then-size-gt1-clause-derivative t c k s hk hs =
     let extent_mid = c.xor_within.ensures.extent in
     let pos = c.args.pos in
     let half = c.args.size / 2 in
-    let kept_low = outside_cell pos (pos + half) c.args.data.now c.derivative_within.new.data extent_low c.derivative_within.ensures.others in
-    let kept_mid = outside_cell pos (pos + half) c.derivative_within.new.data c.xor_within.new.data extent_mid c.xor_within.ensures.others in
-    let kept_high = outside_cell (pos + half) (pos + half + half) c.xor_within.new.data c.derivative_within-then-size-gt1.new.data c.derivative_within-then-size-gt1.ensures.extent c.derivative_within-then-size-gt1.ensures.others in
-    derivative_rows c.args.data.now c.derivative_within.new.data c.xor_within.new.data c.derivative_within-then-size-gt1.new.data k s c.args.pos c.args.size
+    let kept_low = outside_cell pos
+        (pos + half) c.args.data.now c.derivative_within.new.data extent_low c.derivative_within.ensures.others in
+    let kept_mid = outside_cell pos
+        (pos + half) c.derivative_within.new.data c.xor_within.new.data extent_mid c.xor_within.ensures.others in
+    let kept_high = outside_cell (pos + half)
+        (pos + half + half) c.xor_within.new.data c.derivative_within-then-size-gt1.new.data
+        c.derivative_within-then-size-gt1.ensures.extent c.derivative_within-then-size-gt1.ensures.others in
+    derivative_rows c.args.data.now c.derivative_within.new.data c.xor_within.new.data
+        c.derivative_within-then-size-gt1.new.data k s c.args.pos c.args.size
     c.if-size-gt1.true c.requires.power c.requires.words
     (c.derivative_within.ensures.derivative k s hk hs)
     (λ q hq. kept_low (c.args.pos + c.args.size / 2 + q) k hk (inr (omega arith)))
@@ -47,10 +53,12 @@ returns-then-size-gt1-clause-counts t c =
     let low = c.derivative_within.ensures.counts in
     let sums = c.xor_within.ensures.counts in
     let high = c.derivative_within-then-size-gt1.ensures.counts in
-    (omega (arith, whole, low.0, sums.0, high.0), omega (arith, low.1, sums.1, high.1), omega (arith, low.2, sums.2, high.2))
+    (omega (arith, whole, low.0, sums.0, high.0), omega (arith, low.1, sums.1, high.1), omega
+        (arith, low.2, sums.2, high.2))
 
 pub returns-else-size-gt1-clause-counts : goal.returns-else-size-gt1-clause-counts
-returns-else-size-gt1-clause-counts t c = let none = no_steps c.args.size (omega (arith, c.if-size-gt1.false)) in (omega (arith, none), omega arith, omega arith)
+returns-else-size-gt1-clause-counts t c = let none = no_steps c.args.size (omega (arith, c.if-size-gt1.false)) in
+    (omega (arith, none), omega arith, omega arith)
 
 pub returns-else-size-gt1-clause-derivative : goal.returns-else-size-gt1-clause-derivative
 returns-else-size-gt1-clause-derivative t c k s hk hs =

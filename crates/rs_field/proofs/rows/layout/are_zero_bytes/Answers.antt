@@ -15,5 +15,6 @@ loop-byte-preserved c =
         | inl before ↦ c.loop-byte.invariant.0 (omega arith) i before
         | inr last ↦ let at : i ≡ n = omega arith in ap (slice_index c.args.bytes.now) at ∙ (omega arith)
       ],
-      λ zeros. ap₂ bit_or (c.loop-byte.invariant.1 (λ i h. zeros i (omega arith))) (zeros n (omega arith)) ∙ or_zero_l 0,
+      λ zeros. ap₂ bit_or (c.loop-byte.invariant.1 (λ i h. zeros i (omega arith))) (zeros n (omega arith))
+          ∙ or_zero_l 0,
     )

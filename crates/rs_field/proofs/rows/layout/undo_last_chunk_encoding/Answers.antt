@@ -1,4 +1,5 @@
-use Rattle.std.proofs.Common.{[], ◌≡◌, ◌∙◌, ◌<◌, ◌+◌, ◌%◌, ◌/◌, length, arith, refl, ap, get_or-set_other, get_or-set_same}
+use Rattle.std.proofs.Common.{[], ◌≡◌, ◌∙◌, ◌<◌, ◌+◌, ◌%◌, ◌/◌, length, arith, refl, ap, get_or-set_other}
+use Rattle.std.proofs.Common.{get_or-set_same}
 use Rattle.std.specs.Prelude.{slice_index}
 use Rattle.rs_field.proofs.of_rows.LayoutLemmas.{in_order-is}
 use Rattle.rs_field.proofs.rows.layout.undo_last_chunk_encoding.Goals as goal

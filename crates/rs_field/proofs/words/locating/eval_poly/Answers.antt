@@ -6,4 +6,6 @@ pub locate_marked-requires-clause-power : goal.locate_marked-requires-clause-pow
 locate_marked-requires-clause-power c = (16, c.requires.size)
 
 pub returns-clause-counts : goal.returns-clause-counts
-returns-clause-counts c = counts-below 16 (length c.args.erasures.now) c.args.steps.now c.locate_marked.new.steps c.requires.size (omega arith) c.locate_marked.ensures.counts
+returns-clause-counts c =
+    counts-below 16 (length c.args.erasures.now) c.args.steps.now c.locate_marked.new.steps c.requires.size
+    (omega arith) c.locate_marked.ensures.counts

@@ -22,11 +22,13 @@ loop-n-preserved c =
       log_length = length-set c.loop-n.log.items c.loop-n.z c.loop-n.n ∙ i.log_length;
       at = power_next c.loop-n.n c.loop-n.z c.product_by_bytes-z.result i.at c.product_by_bytes-z.ensures;
       exp_so_far = exp_more c.loop-n.exp.items c.loop-n.n c.loop-n.z i.exp_length c.loop-n-test.true i.at i.exp_so_far;
-      log_so_far = log_more c.loop-n.log.items c.loop-n.n c.loop-n.z i.log_length c.loop-n-test.true i.at (omega arith) i.log_so_far;
+      log_so_far = log_more c.loop-n.log.items c.loop-n.n c.loop-n.z i.log_length c.loop-n-test.true i.at
+          (omega arith) i.log_so_far;
       log_zero = log_zero_more c.loop-n.log.items c.loop-n.n c.loop-n.z i.at i.log_zero;
     }
 
 pub returns : goal.returns
 returns c =
     let i = c.loop-n.invariant in
-    filled_tables c.loop-n.exp.items c.loop-n.log.items c.loop-n.n i.exp_length i.log_length (omega arith) i.exp_so_far i.log_so_far i.log_zero
+    filled_tables c.loop-n.exp.items c.loop-n.log.items c.loop-n.n i.exp_length i.log_length
+        (omega arith) i.exp_so_far i.log_so_far i.log_zero

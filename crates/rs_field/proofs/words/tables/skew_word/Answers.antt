@@ -18,7 +18,8 @@ loop-odd-preserved c = record {
   factor = λ d u is. smaller u (c.loop-odd.invariant.factor d u is);
 }
   where
-    smaller : (u : ℕ) → (e : ℕ) × (c.loop-odd.odd ≡ (2 * u + 1) * 2 ^ e) → (x : ℕ) × (c.loop-odd.odd / 2 ≡ (2 * u + 1) * 2 ^ x)
+    smaller : (u : ℕ) → (e : ℕ) × (c.loop-odd.odd ≡ (2 * u + 1) * 2 ^ e) → (x : ℕ)
+        × (c.loop-odd.odd / 2 ≡ (2 * u + 1) * 2 ^ x)
     smaller u (e, is) = halve c.loop-odd.odd u e c.loop-odd-test.true is
 
 pub returns : goal.returns

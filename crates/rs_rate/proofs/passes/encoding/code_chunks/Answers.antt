@@ -9,25 +9,35 @@ use Rattle.rs_rate.proofs.ConfiguredLemmas.{rate_configuration-by}
 use Rattle.rs_rate.proofs.passes.encoding.code_chunks.Goals as goal
 
 pub code_low-requires-clause-block : goal.code_low-requires-clause-block
-code_low-requires-clause-block g c = (rate_configuration-by c.args.shape.configuration true c.requires.laid.configured c.if-configuration.true).1
+code_low-requires-clause-block g c =
+    (rate_configuration-by c.args.shape.configuration true c.requires.laid.configured c.if-configuration.true).1
 
 pub returns-then-configuration-clause-words : goal.returns-then-configuration-clause-words
 returns-then-configuration-clause-words g c = λ k s inside symbols.
     let own = c.args.shape.configuration in
     let n : ℕ = row_len own.shard_bytes in
     let len : c.new-rows.result.shard_len_64 ≡ n = c.new-rows.ensures.len_64 ∙ c.row_len-len.ensures in
-    subst (λ (low : Bool). CodesWords (low_or_high low) own.original_count own.recovery_count (word_in c.args.chunks.now n k s) (word_in c.chunks-1.given.0 n k s)) (sym c.if-configuration.true)
-    (rows-read low_rate own.original_count own.recovery_count n k s c.args.chunks.now c.chunks-1.given.0 c.new-rows.result c.code_low.new.rows
-    len (c.code_low.ensures.extent.len_64 ∙ len) c.new-rows.ensures.chunks (search rules) (c.code_low.ensures.words k s (omega arith) symbols))
+    subst (λ (low : Bool).
+        CodesWords (low_or_high low) own.original_count own.recovery_count (word_in c.args.chunks.now n k s)
+        (word_in c.chunks-1.given.0 n k s)) (sym c.if-configuration.true)
+    (rows-read low_rate own.original_count own.recovery_count n k s c.args.chunks.now c.chunks-1.given.0
+        c.new-rows.result c.code_low.new.rows
+    len (c.code_low.ensures.extent.len_64 ∙ len) c.new-rows.ensures.chunks (search rules)
+        (c.code_low.ensures.words k s (omega arith) symbols))
 
 pub code_high-requires-clause-block : goal.code_high-requires-clause-block
-code_high-requires-clause-block g c = (rate_configuration-by c.args.shape.configuration false c.requires.laid.configured c.if-configuration.false).1
+code_high-requires-clause-block g c =
+    (rate_configuration-by c.args.shape.configuration false c.requires.laid.configured c.if-configuration.false).1
 
 pub returns-else-configuration-clause-words : goal.returns-else-configuration-clause-words
 returns-else-configuration-clause-words g c = λ k s inside symbols.
     let own = c.args.shape.configuration in
     let n : ℕ = row_len own.shard_bytes in
     let len : c.new-rows.result.shard_len_64 ≡ n = c.new-rows.ensures.len_64 ∙ c.row_len-len.ensures in
-    subst (λ (low : Bool). CodesWords (low_or_high low) own.original_count own.recovery_count (word_in c.args.chunks.now n k s) (word_in c.chunks-else-configuration-1.given.0 n k s)) (sym c.if-configuration.false)
-    (rows-read high_rate own.original_count own.recovery_count n k s c.args.chunks.now c.chunks-else-configuration-1.given.0 c.new-rows.result c.code_high.new.rows
-    len (c.code_high.ensures.extent.len_64 ∙ len) c.new-rows.ensures.chunks (search rules) (c.code_high.ensures.words k s (omega arith) symbols))
+    subst (λ (low : Bool).
+        CodesWords (low_or_high low) own.original_count own.recovery_count (word_in c.args.chunks.now n k s)
+        (word_in c.chunks-else-configuration-1.given.0 n k s)) (sym c.if-configuration.false)
+    (rows-read high_rate own.original_count own.recovery_count n k s c.args.chunks.now
+        c.chunks-else-configuration-1.given.0 c.new-rows.result c.code_high.new.rows
+    len (c.code_high.ensures.extent.len_64 ∙ len) c.new-rows.ensures.chunks (search rules)
+        (c.code_high.ensures.words k s (omega arith) symbols))

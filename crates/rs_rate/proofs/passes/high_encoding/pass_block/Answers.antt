@@ -13,10 +13,12 @@ returns-clause-values g c = λ k s i inside symbols low given.
     let len : c.clear_rows.new.rows.shard_len_64 ≡ c.args.rows.now.shard_len_64 = c.clear_rows.ensures.extent.len_64 in
     sym (c.ifft.ensures.values k s i (omega arith) symbols low)
     ∙ ap (λ x. symbol x s)
-    (outside_cell _ _ c.args.rows.now c.clear_rows.new.rows c.clear_rows.ensures.extent c.clear_rows.ensures.others (c.args.start + i) k inside (inl (omega arith)))
+    (outside_cell _ _ c.args.rows.now c.clear_rows.new.rows c.clear_rows.ensures.extent c.clear_rows.ensures.others
+        (c.args.start + i) k inside (inl (omega arith)))
 
 pub returns-clause-zeros : goal.returns-clause-zeros
 returns-clause-zeros g c = λ k s i inside symbols low past.
     let len : c.clear_rows.new.rows.shard_len_64 ≡ c.args.rows.now.shard_len_64 = c.clear_rows.ensures.extent.len_64 in
     sym (c.ifft.ensures.values k s i (omega arith) symbols low)
-    ∙ ap (λ x. symbol x s) (c.clear_rows.ensures.zeros (c.args.start + i) k (omega arith) (omega arith) (omega arith)) ∙ symbol-zero s symbols
+    ∙ ap (λ x. symbol x s) (c.clear_rows.ensures.zeros (c.args.start + i) k (omega arith) (omega arith) (omega arith))
+    ∙ symbol-zero s symbols

@@ -12,8 +12,10 @@ invariant-loop-start g l = record {
   fits : Fits l.rows;
   extent : SameExtent l.fn.rows l.rows;
   left : (i k : ℕ) → k < l.fn.rows.shard_len_64 → l.start ≤ i → cell l.rows k i ≡ cell l.fn.rows k i;
-  sums : (k s : ℕ) → k < l.fn.rows.shard_len_64 → s < 32 → SumsBlocks l.block (l.start / l.block) l.original_count (word l.fn.rows k s) (word l.rows k s);
-  counts : CountsUpTo (l.block + transform_steps l.block + further_blocks l.block l.start * (2 * l.block + transform_steps l.block)) 0 0 l.fn.steps l.steps;
+  sums : (k s : ℕ) → k < l.fn.rows.shard_len_64 → s < 32
+      → SumsBlocks l.block (l.start / l.block) l.original_count (word l.fn.rows k s) (word l.rows k s);
+  counts : CountsUpTo (l.block + transform_steps l.block + further_blocks l.block l.start *
+      (2 * l.block + transform_steps l.block)) 0 0 l.fn.steps l.steps;
 }
 
 abbrev pub decreases-loop-start : goal.decreases-loop-start

@@ -25,31 +25,41 @@ loop-p-preserved g c =
     let p = c.loop-p.p in
     let before = c.loop-p.invariant in
     let count = before.extent.count in
-    let step : RowLocated c.args.given.now c.args.locator.now c.loop-p.p c.loop-p.rows c.if-given-p.rows c.loop-p.steps c.if-given-p.steps =
+    let step : RowLocated c.args.given.now c.args.locator.now c.loop-p.p c.loop-p.rows c.if-given-p.rows c.loop-p.steps
+        c.if-given-p.steps =
     elim c.if-given-p.branch [
       | then-given-p w ↦
           let given = w.if-given-p.true in
-          subst (λ (r : ShardsRefMut). RowLocated marks locator p mid r c.loop-p.steps c.if-given-p.steps) (sym w.rows-is)
+          subst (λ (r : ShardsRefMut). RowLocated marks locator p mid r c.loop-p.steps c.if-given-p.steps)
+              (sym w.rows-is)
           (subst (λ (t : Steps). RowLocated marks locator p mid w.mul_row_at.new.rows c.loop-p.steps t) (sym w.steps-is)
           (record {
             extent = w.mul_row_at.ensures.extent;
             others = w.mul_row_at.ensures.others;
-            located_here = λ k s hk hs. w.mul_row_at.ensures.products k s hk hs ∙ sym (located_word-at marks locator (word mid k s) p true given);
+            located_here = λ k s hk hs.
+                w.mul_row_at.ensures.products k s hk hs
+                ∙ sym (located_word-at marks locator (word mid k s) p true given);
             cleared = λ k hk none. absurd (true≢false (sym given ∙ none));
             counts = w.mul_row_at.ensures.counts;
           }))
       | else-given-p w ↦
           let none = w.if-given-p.false in
           let cleared_len = w.clear_rows.ensures.extent.len_64 in
-          subst (λ (r : ShardsRefMut). RowLocated marks locator p mid r c.loop-p.steps c.if-given-p.steps) (sym w.rows-is)
+          subst (λ (r : ShardsRefMut). RowLocated marks locator p mid r c.loop-p.steps c.if-given-p.steps)
+              (sym w.rows-is)
           (subst (λ (t : Steps). RowLocated marks locator p mid w.clear_rows.new.rows c.loop-p.steps t) (sym w.steps-is)
           (record {
             extent = w.clear_rows.ensures.extent;
             others = w.clear_rows.ensures.others;
             located_here = λ k s hk hs.
-                ap (λ x. symbol x s) (w.clear_rows.ensures.zeros p k (omega (arith, hk, cleared_len)) (omega arith) (omega arith)) ∙ symbol-zero s hs ∙ sym (located_word-at marks locator (word mid k s) p false none);
-            cleared = λ k hk _. w.clear_rows.ensures.zeros p k (omega (arith, hk, cleared_len)) (omega arith) (omega arith);
-            counts = counts_rows 1 c.loop-p.steps w.clear_rows.new.steps (subst (λ (n : ℕ). CountsRows n c.loop-p.steps w.clear_rows.new.steps) (let one : c.loop-p.p + 1 - c.loop-p.p ≡ 1 = omega arith in one) w.clear_rows.ensures.counts);
+                ap (λ x. symbol x s)
+                    (w.clear_rows.ensures.zeros p k (omega (arith, hk, cleared_len)) (omega arith) (omega arith))
+                    ∙ symbol-zero s hs ∙ sym (located_word-at marks locator (word mid k s) p false none);
+            cleared = λ k hk _. w.clear_rows.ensures.zeros p k (omega (arith, hk, cleared_len)) (omega arith)
+                (omega arith);
+            counts = counts_rows 1 c.loop-p.steps w.clear_rows.new.steps
+                (subst (λ (n : ℕ). CountsRows n c.loop-p.steps w.clear_rows.new.steps)
+                (let one : c.loop-p.p + 1 - c.loop-p.p ≡ 1 = omega arith in one) w.clear_rows.ensures.counts);
           }))
     ] in
     let len : c.loop-p.rows.shard_len_64 ≡ c.args.rows.now.shard_len_64 = before.extent.len_64 in
@@ -62,7 +72,9 @@ loop-p-preserved g c =
         | inr high ↦
             let here : c.loop-p.p ≡ q = omega arith in
             subst (λ (i : ℕ). word new k s i ≡ located_word marks locator (word old k s) i) here
-            (step.located_here k s (omega arith) hs ∙ located_word-same marks locator (word old k s) (word mid k s) p (ap (λ x. symbol x s) (before.left k p hk (omega arith))))
+            (step.located_here k s (omega arith) hs
+                ∙ located_word-same marks locator (word old k s) (word mid k s) p
+                (ap (λ x. symbol x s) (before.left k p hk (omega arith))))
       ];
       cleared = λ k q hk hq none. elim (cases_lt q p) [
         | inl low ↦ kept q k (omega arith) (inl low) ∙ before.cleared k q hk low none

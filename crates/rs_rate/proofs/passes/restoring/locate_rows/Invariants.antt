@@ -12,7 +12,8 @@ invariant-loop-p g l = record {
   extent : SameExtent l.initial.rows l.rows;
   located : (k s q : ℕ) → k < l.initial.rows.shard_len_64 → s < 32 → q < l.p
       → word l.rows k s q ≡ located_word l.given l.locator (word l.initial.rows k s) q;
-  cleared : (k q : ℕ) → k < l.initial.rows.shard_len_64 → q < l.p → is_marked l.given q ≡ false → cell l.rows k q ≡ replicate 64 0;
+  cleared : (k q : ℕ) → k < l.initial.rows.shard_len_64 → q < l.p → is_marked l.given q ≡ false
+      → cell l.rows k q ≡ replicate 64 0;
   left : (k q : ℕ) → k < l.initial.rows.shard_len_64 → l.p ≤ q → cell l.rows k q ≡ cell l.initial.rows k q;
   counts : CountsUpTo l.p 0 0 l.initial.steps l.steps;
 }

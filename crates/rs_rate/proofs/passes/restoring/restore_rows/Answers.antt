@@ -8,7 +8,8 @@ use Rattle.rs_rate.specs.Marks.{given_marks}
 use Rattle.rs_rate.proofs.DecoderLemmas.{all_given, rows_power}
 use Rattle.rs_rate.proofs.RestoringRows.{from_row_zero}
 use Rattle.rs_rate.proofs.passes.restoring.restore_rows.Goals as goal
-use Rattle.rs_rate.proofs.passes.restoring.restore_rows.Goals.{else-agrees-via-then-agrees+else-tally-gt0, else-agrees-via-else-agrees}
+use Rattle.rs_rate.proofs.passes.restoring.restore_rows.Goals.{else-agrees-via-then-agrees+else-tally-gt0}
+use Rattle.rs_rate.proofs.passes.restoring.restore_rows.Goals.{else-agrees-via-else-agrees}
 
 pub formal_derivative-requires-clause-power : goal.formal_derivative-requires-clause-power
 formal_derivative-requires-clause-power g c =
@@ -42,11 +43,15 @@ returns-then-tally-gt0-clause-words g c =
         word added k t,
         subst (λ (n : ℕ). IsDerivativeAdded n (word passed k t) (word added k t)) (shape.count ∙ c.requires.rows.count)
             (c.formal_derivative.ensures.derivative k t (omega (arith, hk, shape.len_64, c.requires.rows.len)) ht),
-        c.reveal_rows.ensures.revealed k t i (omega (arith, hk, valued_extent.len_64, added_extent.len_64, shape.len_64, c.requires.rows.len)) ht hi (missing.missing i hi ∙ ap not none)
+        c.reveal_rows.ensures.revealed k t i
+            (omega (arith, hk, valued_extent.len_64, added_extent.len_64, shape.len_64, c.requires.rows.len)) ht hi
+            (missing.missing i hi ∙ ap not none)
             ∙ ap (λ w. product w (power (65535 - slice_index locator (from + i))))
             (from_row_zero _ rows (from + i) (word valued k t) (word added k t) wanted_size
-            (c.fft_wanted.ensures.values k t (from + i) (omega (arith, hk, added_extent.len_64, shape.len_64, c.requires.rows.len)) ht
-            (ap (λ (xs : List Bool). is_marked xs (from + i)) c.restored.ensures.marks ∙ missing.missing i hi ∙ ap not none))),
+            (c.fft_wanted.ensures.values k t (from + i)
+                (omega (arith, hk, added_extent.len_64, shape.len_64, c.requires.rows.len)) ht
+            (ap (λ (xs : List Bool). is_marked xs (from + i)) c.restored.ensures.marks ∙ missing.missing i hi
+                ∙ ap not none))),
       );
     }
 
@@ -59,7 +64,9 @@ returns-else-agrees-clause-words g c =
       found = c.interpolate-agrees.ensures.coefficients;
       revealed = λ agreed k t hk ht i hi none. elim c.else-agrees.branch [
         | else-agrees-via-then-agrees+else-tally-gt0 w ↦
-            absurd (true≢false (sym (all_given marks s.frame.originals_from s.configuration.original_count (omega (arith, w.if-tally-gt0.false, c.requires.facts.missing_counted)) i hi) ∙ none))
+            absurd (true≢false (sym
+                (all_given marks s.frame.originals_from s.configuration.original_count
+                (omega (arith, w.if-tally-gt0.false, c.requires.facts.missing_counted)) i hi) ∙ none))
         | else-agrees-via-else-agrees w ↦ absurd (true≢false (sym agreed ∙ w.if-agrees.false))
       ];
     }

@@ -26,11 +26,15 @@ loop-i-preserved g c =
     let p = c.original_row-row.result in
     let before = c.loop-i.invariant in
     let count = before.extent.count in
-    let step : RowRevealed (restored_marks c.args.marks.now) c.args.locator.now c.original_row-row.result c.loop-i.rows c.if-is_restored.rows c.loop-i.steps c.if-is_restored.steps =
+    let step : RowRevealed
+        (restored_marks c.args.marks.now) c.args.locator.now c.original_row-row.result c.loop-i.rows
+        c.if-is_restored.rows c.loop-i.steps c.if-is_restored.steps =
     elim c.if-is_restored.branch [
       | then-is_restored w ↦
-          subst (λ (r : ShardsRefMut). RowRevealed marks locator p mid r c.loop-i.steps c.if-is_restored.steps) (sym w.rows-is)
-          (subst (λ (t : Steps). RowRevealed marks locator p mid w.mul_row_at.new.rows c.loop-i.steps t) (sym w.steps-is)
+          subst (λ (r : ShardsRefMut). RowRevealed marks locator p mid r c.loop-i.steps c.if-is_restored.steps)
+              (sym w.rows-is)
+          (subst (λ (t : Steps). RowRevealed marks locator p mid w.mul_row_at.new.rows c.loop-i.steps t)
+              (sym w.steps-is)
           (record {
             extent = w.mul_row_at.ensures.extent;
             others = w.mul_row_at.ensures.others;
@@ -38,12 +42,14 @@ loop-i-preserved g c =
             counts = w.mul_row_at.ensures.counts;
           }))
       | else-is_restored w ↦
-          subst (λ (r : ShardsRefMut). RowRevealed marks locator p mid r c.loop-i.steps c.if-is_restored.steps) (sym w.rows-is)
+          subst (λ (r : ShardsRefMut). RowRevealed marks locator p mid r c.loop-i.steps c.if-is_restored.steps)
+              (sym w.rows-is)
           (subst (λ (t : Steps). RowRevealed marks locator p mid mid c.loop-i.steps t) (sym w.steps-is)
           (record {
             extent = record { name = refl; count = refl; len_64 = refl; length = refl };
             others = λ k _. refl;
-            revealed_here = λ k s hk hs marked. absurd (true≢false (sym marked ∙ sym c.is_restored.ensures ∙ w.if-is_restored.false));
+            revealed_here = λ k s hk hs marked.
+                absurd (true≢false (sym marked ∙ sym c.is_restored.ensures ∙ w.if-is_restored.false));
             counts = counts_none 1 0 0 c.loop-i.steps;
           }))
     ] in
@@ -53,12 +59,16 @@ loop-i-preserved g c =
       fits = fits_kept mid new step.extent before.fits;
       extent = extent_then old mid new before.extent step.extent;
       revealed = λ k s j hk hs hj marked. elim (cases_lt j c.loop-i.i) [
-        | inl low ↦ ap (λ x. symbol x s) (kept (from + j) k (omega arith) (inl (omega arith))) ∙ before.revealed k s j hk hs low marked
+        | inl low ↦ ap (λ x. symbol x s) (kept (from + j) k (omega arith) (inl (omega arith)))
+            ∙ before.revealed k s j hk hs low marked
         | inr high ↦
             let here : c.original_row-row.result ≡ c.args.shape.frame.originals_from + j = omega arith in
             subst (λ (q : ℕ). word new k s q ≡ product (word old k s q) (power (65535 - slice_index locator q))) here
-            (step.revealed_here k s (omega arith) hs (ap (is_marked marks) here ∙ marked) ∙ ap (λ x. product (symbol x s) (power (65535 - slice_index locator p))) (before.left k p hk (omega arith)))
+            (step.revealed_here k s (omega arith) hs (ap (is_marked marks) here ∙ marked)
+                ∙ ap (λ x. product (symbol x s) (power (65535 - slice_index locator p)))
+                (before.left k p hk (omega arith)))
       ];
       left = λ k q hk hq. kept q k (omega arith) (inr (omega arith)) ∙ before.left k q hk (omega arith);
-      counts = counts_then c.loop-i.i 1 c.args.steps.now c.loop-i.steps c.if-is_restored.steps before.counts step.counts;
+      counts = counts_then c.loop-i.i 1 c.args.steps.now c.loop-i.steps c.if-is_restored.steps before.counts
+          step.counts;
     }

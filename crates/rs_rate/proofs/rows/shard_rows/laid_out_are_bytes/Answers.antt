@@ -6,4 +6,6 @@ use Rattle.rs_rate.proofs.rows.shard_rows.laid_out_are_bytes.Goals as goal
 pub returns : goal.returns
 returns c = λ i few.
     shard-laid_out c.args.shard_bytes (row_chunk c.args.chunks.now c.args.shard_bytes i)
-    (λ k b inside small. row-fits c.args.chunks.now c.as_flattened.result.now c.args.shard_bytes c.args.count i k b c.as_flattened.ensures.value c.are_bytes.ensures.each c.told-chunks few c.requires.room inside small)
+    (λ k b inside small.
+        row-fits c.args.chunks.now c.as_flattened.result.now c.args.shard_bytes c.args.count i k b
+        c.as_flattened.ensures.value c.are_bytes.ensures.each c.told-chunks few c.requires.room inside small)

@@ -19,11 +19,13 @@ returns-clause-facts c =
     let w = c.args.self.now in
     let most = rows_most w in
     let own = w.shape.configuration in
-    let some = (supported-in_field (low_or_high own.is_low) own.original_count own.recovery_count w.laid.configured.supported).0 in
+    let some = (supported-in_field
+        (low_or_high own.is_low) own.original_count own.recovery_count w.laid.configured.supported).0 in
     record {
       laid = w.laid;
       marked = w.laid_out.marked;
-      shards = given_if_some w.memory.marks w.shape.frame.originals_from w.shape.configuration.original_count w.shape.frame.recovery_from w.shape.configuration.recovery_count
+      shards = given_if_some w.memory.marks w.shape.frame.originals_from w.shape.configuration.original_count
+          w.shape.frame.recovery_from w.shape.configuration.recovery_count
           (omega (arith, some, c.requires, w.given.originals_counted, w.given.recovery_counted));
       missing_counted = omega (arith, most.0, w.given.originals_counted);
       surplus_counted = omega (arith, c.requires, w.given.originals_counted, w.given.recovery_counted);

@@ -18,10 +18,12 @@ returns-then-self-clause-shape c =
     rw (c.power_of_two.ensures.value, known.1, c.if-self.true, low_frame-is own.original_count own.recovery_count) refl
 
 pub returns-then-self-clause-laid : goal.returns-then-self-clause-laid
-returns-then-self-clause-laid c = subst DecoderCanBeLaid (sym (returns-then-self-clause-shape c)) (decoder-laid c.args.self c.requires)
+returns-then-self-clause-laid c =
+    subst DecoderCanBeLaid (sym (returns-then-self-clause-shape c)) (decoder-laid c.args.self c.requires)
 
 pub overflow_add-block-else-self : goal.overflow_add-block-else-self
-overflow_add-block-else-self c = let few = (blocks-known c.args.self c.requires false c.if-self.false).few in omega (arith, few)
+overflow_add-block-else-self c = let few =
+    (blocks-known c.args.self c.requires false c.if-self.false).few in omega (arith, few)
 
 pub power_of_two-requires-else-self : goal.power_of_two-requires-else-self
 power_of_two-requires-else-self c = (blocks-known c.args.self c.requires false c.if-self.false).few
@@ -30,7 +32,9 @@ pub returns-else-self-clause-shape : goal.returns-else-self-clause-shape
 returns-else-self-clause-shape c =
     let own = c.args.self in
     let known = rate_configuration-by own false c.requires c.if-self.false in
-    rw (c.power_of_two-else-self.ensures.value, known.1, c.if-self.false, high_frame-is own.original_count own.recovery_count) refl
+    rw (c.power_of_two-else-self.ensures.value, known.1, c.if-self.false, high_frame-is own.original_count
+        own.recovery_count) refl
 
 pub returns-else-self-clause-laid : goal.returns-else-self-clause-laid
-returns-else-self-clause-laid c = subst DecoderCanBeLaid (sym (returns-else-self-clause-shape c)) (decoder-laid c.args.self c.requires)
+returns-else-self-clause-laid c =
+    subst DecoderCanBeLaid (sym (returns-else-self-clause-shape c)) (decoder-laid c.args.self c.requires)

@@ -15,8 +15,11 @@ use Rattle.rs_rate.proofs.ConfiguredLemmas.{is_asked}
 use Rattle.rs_rate.proofs.values.supported_counts.SupportedCounts.check_decoder_rows.Goals as goal
 
 -- Setting up a decoder has the outcome of allocating the rows of its shape.
-asked-of : (rate : Rate) (k r size : ℕ) (c : Configuration) (shape : DecoderShape) → (c ≡ rate_configuration rate k r size) × IsSetUp rate c → shape.configuration ≡ c
-    → DecoderCanBeLaid shape → start_outcome (decoder_rows rate k r) (configuration rate k r size) ≡ memory_outcome (chunk_count shape.frame.row_count size)
+asked-of : (rate : Rate) (k r size : ℕ) (c : Configuration) (shape : DecoderShape)
+    → (c ≡ rate_configuration rate k r size) × IsSetUp rate c → shape.configuration ≡ c
+    → DecoderCanBeLaid shape
+    → start_outcome (decoder_rows rate k r) (configuration rate k r size)
+    ≡ memory_outcome (chunk_count shape.frame.row_count size)
 asked-of rate k r size c shape set_up own laid =
     let is = is_asked decoder_rows decoder_rows_set_up rate k r size c set_up in
     let rows : shape.frame.row_count ≡ decoder_rows rate k r = laid.rows ∙ rw own is.count in
@@ -24,14 +27,18 @@ asked-of rate k r size c shape set_up own laid =
 
 pub returns-in_err-chunk_count : goal.returns-in_err-chunk_count
 returns-in_err-chunk_count g c =
-    let led = asked-of g.C.RateMarker.rate c.args.self.original_count c.args.self.recovery_count c.args.shard_bytes c.in_ok-new.field-0 c.decoder_shape-shape.result c.in_ok-new.ensures
+    let led = asked-of g.C.RateMarker.rate c.args.self.original_count c.args.self.recovery_count c.args.shard_bytes
+        c.in_ok-new.field-0 c.decoder_shape-shape.result c.in_ok-new.ensures
     c.decoder_shape-shape.ensures.own c.decoder_shape-shape.ensures.laid in
     let refused : c.from_residual-in_err-chunk_count.result ≡ Err OutOfMemory = search rules in
-    refused ∙ sym (led ∙ ap (λ (b : Bool). cond b (Err OutOfMemory) (Ok tt)) (le-leb (2 ^ 64) _ c.in_err-chunk_count.ensures.1))
+    refused ∙ sym (led ∙ ap (λ (b : Bool). cond b (Err OutOfMemory) (Ok tt))
+        (le-leb (2 ^ 64) _ c.in_err-chunk_count.ensures.1))
 
 pub returns : goal.returns
 returns g c =
-    let led = asked-of g.C.RateMarker.rate c.args.self.original_count c.args.self.recovery_count c.args.shard_bytes c.in_ok-new.field-0 c.decoder_shape-shape.result c.in_ok-new.ensures
+    let led = asked-of g.C.RateMarker.rate c.args.self.original_count c.args.self.recovery_count c.args.shard_bytes
+        c.in_ok-new.field-0 c.decoder_shape-shape.result c.in_ok-new.ensures
     c.decoder_shape-shape.ensures.own c.decoder_shape-shape.ensures.laid in
     let n = c.in_ok-chunk_count.ensures.0 in
-    sym (led ∙ ap (λ (b : Bool). cond b (Err OutOfMemory) (Ok tt)) (lt-leb (2 ^ 64) _ (rw n at c.in_ok-chunk_count.ensures.1)))
+    sym (led ∙ ap (λ (b : Bool). cond b (Err OutOfMemory) (Ok tt))
+        (lt-leb (2 ^ 64) _ (rw n at c.in_ok-chunk_count.ensures.1)))
