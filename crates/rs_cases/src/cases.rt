@@ -118,13 +118,6 @@ pub enum Rule {
     Points(usize),
 }
 
-/// A count of originals and a count of recovery shards.
-#[derive(Clone, Copy)]
-pub struct Counts {
-    pub original_count: usize,
-    pub recovery_count: usize,
-}
-
 /// An action: calls that are made with a level of use.
 #[derive(Drop)]
 pub enum Action {
@@ -150,10 +143,10 @@ pub enum Action {
     Make(Configuration, Rule),
     /// Computes the digest of the recovery shards.
     Digest,
-    /// Checks that all these counts are supported.
-    Supports(Vec<Counts>),
-    /// Checks that none of these counts is supported.
-    Excludes(Vec<Counts>),
+    /// Checks that the counts of all these configurations are supported.
+    Supports(Vec<Configuration>),
+    /// Checks that none of the counts of these configurations is supported.
+    Excludes(Vec<Configuration>),
     /// Makes all calls that take a configuration. All of them must fail with the same error.
     Configure(Configuration),
 }

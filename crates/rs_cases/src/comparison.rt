@@ -46,7 +46,26 @@ pub fn text_of(kept: &Kept, answer: &Answer) -> Result<String, AllocError> {
         Ok(Returned::Nothing) => Ok(String::new(kept.alloc)),
         Ok(Returned::Shards(object)) => text_of_shards(kept.alloc, kept.result(*object)),
         Ok(Returned::Digest(digest)) => digest.clone(),
-        Err(failure) => format!(in kept.alloc; "{failure}"),
+        Err(failure) => text_of_failure(kept.alloc, *failure),
+    }
+}
+
+fn text_of_failure(alloc: Global, failure: Failure) -> Result<String, AllocError> {
+    match failure {
+        Failure::Refused(error) => format!(in alloc; "{error}"),
+        Failure::OtherError(one, other) => format!(in alloc; "{one}, and then {other}"),
+        Failure::OtherCounts(counts) => {
+            let (k, r, _) = counts.numbers();
+            format!(in alloc; "not {k}+{r}")
+        }
+        Failure::NoShards => String::from_str(alloc, "no such shards are kept"),
+        Failure::Disagrees => String::from_str(
+            alloc,
+            "the result differs by index, walk and counts",
+        ),
+        Failure::OtherRound => String::from_str(alloc, "the second round returns other shards"),
+        Failure::NotRefused => String::from_str(alloc, "not refused"),
+        Failure::OtherCalls => String::from_str(alloc, "not so by other calls"),
     }
 }
 

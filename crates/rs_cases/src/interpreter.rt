@@ -1,5 +1,5 @@
 //! The interpreter: does an action of a case with a level of use.
-use crate::cases::{Action, Configuration, Counts, Given, Object, Role, Rule, Shard, Shards, Way};
+use crate::cases::{Action, Configuration, Given, Object, Role, Rule, Shard, Shards, Way};
 use crate::kept::{Kept, Works};
 use crate::level::{Answer, Level};
 use crate::message::{digest_of, message};
@@ -29,13 +29,13 @@ pub enum Failure {
     Disagrees,
     /// The second of two equal rounds returned other shards.
     OtherRound,
-    /// A call says otherwise whether these counts are supported.
-    OtherCounts(Counts),
-    /// Two calls that take the same configuration returned these.
-    OtherAnswers(Answer, Answer),
-    /// No call refuses the configuration.
+    /// A call says otherwise whether the counts of this configuration are supported.
+    OtherCounts(Configuration),
+    /// Two calls that take the same configuration failed with these errors.
+    OtherError(Error, Error),
+    /// A call accepts a configuration that all calls must refuse.
     NotRefused,
-    /// `supports`, `validate` or `new` says otherwise.
+    /// `supports`, `validate` or `new` says otherwise than `start`.
     OtherCalls,
 }
 
@@ -48,23 +48,6 @@ impl From<Error> for Failure {
 impl From<AllocError> for Failure {
     fn from(_error: AllocError) -> Failure {
         Failure::Refused(Error::OutOfMemory)
-    }
-}
-
-impl fmt::Display for Failure {
-    fn fmt<W: fmt::Write>(&self, f: &mut fmt::Formatter<W>) -> fmt::Result {
-        match self {
-            Failure::Refused(error) => write!(f, "{error}"),
-            Failure::NoShards => write!(f, "no such shards are kept"),
-            Failure::Disagrees => write!(f, "the result differs by index, walk and counts"),
-            Failure::OtherRound => write!(f, "the second round returns other shards"),
-            Failure::OtherCounts(counts) => {
-                write!(f, "not {}+{}", counts.original_count, counts.recovery_count)
-            }
-            Failure::OtherAnswers(one, other) => write!(f, "{one:?} and {other:?}"),
-            Failure::NotRefused => write!(f, "not refused"),
-            Failure::OtherCalls => write!(f, "not so by other calls"),
-        }
     }
 }
 
@@ -89,7 +72,10 @@ pub fn act<C: Level>(level: &mut C, kept: &mut Kept, action: &Action) -> Result<
         }
         Action::Forget => kept.forgets = true,
         Action::Make(configuration, rule) => make(level, kept, *configuration, *rule)?,
-        Action::Digest => return digest(kept),
+        Action::Digest => {
+            let digest = digest_of(kept.alloc, kept.recovery.as_slice())?;
+            return Ok(Returned::Digest(digest));
+        }
         Action::Supports(pairs) => check_counts(level, pairs, true)?,
         Action::Excludes(pairs) => check_counts(level, pairs, false)?,
         Action::Configure(configuration) => configure(level, *configuration)?,
@@ -210,65 +196,48 @@ fn make<C: Level>(
     Ok(())
 }
 
-// Returns the digest of the last recovery shards.
-fn digest(kept: &Kept) -> Result<Returned, Failure> {
-    let digest = digest_of(kept.alloc, kept.recovery.as_slice())?;
-    Ok(Returned::Digest(digest))
-}
-
-// Checks that all these counts are supported, or that none of them is.
-fn check_counts<C: Level>(level: &C, pairs: &[Counts], supported: bool) -> Result<(), Failure> {
-    for counts in pairs {
-        if !tells_counts(level, *counts, supported) {
-            return Err(Failure::OtherCounts(*counts));
+// Checks that the counts of all these configurations are supported, or that none of them is.
+fn check_counts<C: Level>(
+    level: &C,
+    configurations: &[Configuration],
+    supported: bool,
+) -> Result<(), Failure> {
+    for configuration in configurations {
+        let unsupported = Error::UnsupportedShardCount {
+            original_count: configuration.original_count,
+            recovery_count: configuration.recovery_count,
+        };
+        let answer = if supported { Ok(()) } else { Err(unsupported) };
+        if !level.tells(*configuration, answer) {
+            return Err(Failure::OtherCounts(*configuration));
         }
     }
     Ok(())
 }
 
-// Returns whether all calls say that the counts are supported, or that they are not.
-fn tells_counts<C: Level>(level: &C, counts: Counts, supported: bool) -> bool {
-    let (original_count, recovery_count) = (counts.original_count, counts.recovery_count);
-    let configuration = Configuration {
-        original_count,
-        recovery_count,
-        shard_bytes: 64,
-    };
-    let answer = if supported {
-        Ok(())
-    } else {
-        Err(Error::UnsupportedShardCount {
-            original_count,
-            recovery_count,
-        })
-    };
-    level.tells(configuration, answer)
-}
-
 // Checks that every call that takes a configuration fails with the same error. The calls do not change the objects.
 fn configure<C: Level>(level: &mut C, configuration: Configuration) -> Result<(), Failure> {
     let mut works = Works::default();
-    let answer = level.start(Object::Encoder, configuration, &mut works);
-    is_same(
-        level.start(Object::Decoder, configuration, &mut works),
-        answer,
-    )?;
-    is_same(level.reset(Object::Encoder, configuration), answer)?;
-    is_same(level.reset(Object::Decoder, configuration), answer)?;
-    if answer.is_ok() {
+    let Err(error) = level.start(Object::Encoder, configuration, &mut works) else {
         return Err(Failure::NotRefused);
-    }
-    if !level.tells(configuration, answer) {
+    };
+    check_error(
+        level.start(Object::Decoder, configuration, &mut works),
+        error,
+    )?;
+    check_error(level.reset(Object::Encoder, configuration), error)?;
+    check_error(level.reset(Object::Decoder, configuration), error)?;
+    if !level.tells(configuration, Err(error)) {
         return Err(Failure::OtherCalls);
     }
-    Ok(answer?)
+    Err(Failure::Refused(error))
 }
 
-// Fails if two calls have not returned the same.
-fn is_same(answer: Answer, other: Answer) -> Result<(), Failure> {
-    if answer == other {
-        Ok(())
-    } else {
-        Err(Failure::OtherAnswers(answer, other))
+// Checks that a call fails with this error.
+fn check_error(answer: Answer, error: Error) -> Result<(), Failure> {
+    match answer {
+        Err(other) if other == error => Ok(()),
+        Err(other) => Err(Failure::OtherError(error, other)),
+        Ok(()) => Err(Failure::NotRefused),
     }
 }

@@ -1,5 +1,5 @@
 //! The report of the cases of a file.
-use crate::cases::{CaseFile, Left, LevelName, Step};
+use crate::cases::{CaseFile, Left, LevelName, Step, Way};
 use crate::comparison::{Answer, text_of};
 use crate::kept::Kept;
 use std::alloc::{AllocError, Global};
@@ -61,7 +61,12 @@ impl Report {
             write!(self.text, " {} {},", file.count_by(*level), level.word())?;
         }
         write!(self.text, " of {} cases;", file.cases.len())?;
-        for way in &file.ways {
+        self.write_ways(&file.ways)
+    }
+
+    // Writes the words that name these ways, and ends the line.
+    fn write_ways(&mut self, ways: &[Way]) -> Result<(), AllocError> {
+        for way in ways {
             write!(self.text, " {}", way.word())?;
         }
         self.text.push_str("\n")

@@ -1,5 +1,5 @@
 //! The words of a line, read as numbers, counts and shards.
-use crate::cases::{Configuration, Counts, Given, Role, Rule, Shard, Shards};
+use crate::cases::{Configuration, Given, Role, Rule, Shard, Shards};
 use crate::fault::Fault;
 use std::alloc::Global;
 
@@ -41,8 +41,8 @@ fn byte(word: &str) -> Result<u8, Fault> {
     Ok(byte)
 }
 
-/// Reads pairs of counts K+R.
-pub fn pairs(alloc: Global, words: &[&str]) -> Result<Vec<Counts>, Fault> {
+/// Reads pairs of counts K+R, as configurations for shards of 64 bytes.
+pub fn pairs(alloc: Global, words: &[&str]) -> Result<Vec<Configuration>, Fault> {
     let mut pairs = Vec::new(alloc);
     for word in words {
         pairs.push(pair(word)?)?;
@@ -51,13 +51,14 @@ pub fn pairs(alloc: Global, words: &[&str]) -> Result<Vec<Counts>, Fault> {
 }
 
 // Reads a pair of counts K+R.
-fn pair(word: &str) -> Result<Counts, Fault> {
+fn pair(word: &str) -> Result<Configuration, Fault> {
     let Some((originals, recoveries)) = word.split_once('+') else {
         return Err(Fault::Arguments);
     };
-    Ok(Counts {
+    Ok(Configuration {
         original_count: number(originals)?,
         recovery_count: number(recoveries)?,
+        shard_bytes: 64,
     })
 }
 
