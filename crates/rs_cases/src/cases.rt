@@ -1,163 +1,236 @@
-//! Files of cases, and how they are run.
-use crate::actions::text_of_expected;
-use crate::kept::{Kept, Way};
-use crate::levels::Levels;
-use anyhow::{Context, Result, bail};
-use reed_solomon_simd::engine::Engine;
-use std::alloc::Global;
+//! The cases of a data file, as values.
+/// The level of use at which an action is run.
+#[derive(Clone, Copy, PartialEq, Eq)]
+pub enum LevelName {
+    /// The one-call functions.
+    Call,
+    /// The plain objects.
+    Plain,
+    /// The objects of the low rate.
+    Low,
+    /// The objects of the high rate.
+    High,
+    /// The objects of the default rate.
+    Default,
+}
+
+impl LevelName {
+    /// Returns the word that names the level in data files.
+    pub fn word(self) -> &'static str {
+        match self {
+            LevelName::Call => "call",
+            LevelName::Plain => "plain",
+            LevelName::Low => "low",
+            LevelName::High => "high",
+            LevelName::Default => "default",
+        }
+    }
+}
+
+/// From where a case gets its object.
+#[derive(Clone, Copy)]
+pub enum Way {
+    /// The object is made without memory of another one.
+    New,
+    /// The object of the previous case is reset.
+    Reset,
+    /// The object is made with the memory of the previous case's object.
+    HandedOn,
+}
+
+impl Way {
+    /// Returns the word that names the way in data files.
+    pub fn word(self) -> &'static str {
+        match self {
+            Way::New => "new",
+            Way::Reset => "reset",
+            Way::HandedOn => "handed-on",
+        }
+    }
+}
+
+/// The counts of shards, and the size of a shard in bytes, that an object is made for.
+#[derive(Clone, Copy)]
+pub struct Configuration {
+    pub original_count: usize,
+    pub recovery_count: usize,
+    pub shard_bytes: usize,
+}
+
+impl Configuration {
+    /// Returns the count of originals, the count of recovery shards, and the size.
+    pub fn numbers(self) -> (usize, usize, usize) {
+        (self.original_count, self.recovery_count, self.shard_bytes)
+    }
+}
+
+/// One of the two objects of a level.
+#[derive(Clone, Copy)]
+pub enum Object {
+    Encoder,
+    Decoder,
+}
+
+/// The role in which a shard is given.
+#[derive(Clone, Copy)]
+pub enum Role {
+    /// The encoder's next original.
+    Next,
+    /// An original for the decoder.
+    Original,
+    /// A recovery shard for the decoder.
+    Recovery,
+}
+
+/// A shard with its index.
+#[derive(Drop, PartialEq, Eq)]
+pub struct Shard {
+    pub index: usize,
+    pub bytes: Vec<u8>,
+}
+
+/// The shards that one word of a line names.
+#[derive(Drop)]
+pub enum Shards {
+    /// The word has the bytes of one shard.
+    Written(Shard),
+    /// The shards with the indexes from `start` to `end` - 1, of a message or of its recovery shards.
+    Range { start: usize, end: usize },
+}
+
+/// What one word of an action gives to an object.
+#[derive(Drop)]
+pub enum Given {
+    /// Shards in a role.
+    Shards(Role, Shards),
+    /// The iterator for this role ends once at this place, and goes on if `next` is called again.
+    End(Role),
+}
+
+/// The rule that makes the originals of a message.
+#[derive(Clone, Copy)]
+pub enum Rule {
+    /// Byte i of original j is (7 i + 13 j + 5) mod 251.
+    Counted,
+    /// The bytes come from the generator ChaCha8, whose 32 seed bytes all have this value.
+    Drawn(u8),
+    /// The originals are the words from this one on, each with its low byte first.
+    Points(usize),
+}
+
+/// An action: calls that are made with a level of use.
+#[derive(Drop)]
+pub enum Action {
+    /// Makes the object.
+    Start(Object, Configuration),
+    /// Resets the object.
+    Reset(Object, Configuration),
+    /// Takes both objects apart. The next object that is made gets their memory.
+    TakeApart,
+    /// The next object that is made gets a work that holds nothing.
+    EmptyWorks,
+    /// Gives shards.
+    Give(Vec<Given>),
+    /// Encodes or decodes.
+    Run(Object),
+    /// Gives shards, and encodes or decodes.
+    Round(Object, Vec<Given>),
+    /// Gets an object in the way in which the case is run, does the round twice, and then gives the first shards once more.
+    Rounds(Object, Configuration, Vec<Given>),
+    /// The results of the case are forgotten from here on, and not dropped.
+    Forget,
+    /// Makes a message by a rule, and encodes it.
+    Make(Configuration, Rule),
+    /// Computes the digest of the recovery shards.
+    Digest,
+    /// Checks that the counts of all these configurations are supported.
+    Supports(Vec<Configuration>),
+    /// Checks that none of the counts of these configurations is supported.
+    Excludes(Vec<Configuration>),
+    /// Makes all calls that take a configuration. All of them must fail with the same error.
+    Configure(Configuration),
+}
+
+/// How many originals and how many recovery shards a call has not asked for.
+#[derive(Clone, Copy, PartialEq, Eq)]
+pub struct Left {
+    pub originals: usize,
+    pub recoveries: usize,
+}
+
+impl Left {
+    /// The call has asked for all shards.
+    pub const NONE: Left = Left {
+        originals: 0,
+        recoveries: 0,
+    };
+}
+
+/// The expected result of an action.
+#[derive(Drop)]
+pub enum Expected {
+    /// The action returns these shards, in order, or no shards.
+    Shards(Vec<Shards>),
+    /// The action returns this text: the text of an error, or a digest.
+    Text(String),
+}
+
+/// An action with its expected result.
+#[derive(Drop)]
+pub struct Step {
+    /// The line of the file, counted from 1.
+    pub line: usize,
+    /// The action as the line has it.
+    pub text: String,
+    /// Whether the action is only run after an action that lacked memory.
+    pub is_else: bool,
+    pub action: Action,
+    pub expected: Expected,
+    /// The shards that the call leaves.
+    pub left: Left,
+}
+
+/// A line of a case.
+#[derive(Drop)]
+pub enum Line {
+    /// The lines after this one are run with this level.
+    By(LevelName),
+    Step(Step),
+}
 
 /// A case: actions that follow one another, and the levels of use that run them.
 #[derive(Drop)]
-struct Case<'a> {
-    line: usize,
-    levels: &'a str,
-    actions: Vec<&'a str>,
+pub struct Case {
+    pub levels: Vec<LevelName>,
+    pub lines: Vec<Line>,
+}
+
+impl Case {
+    /// Returns whether the level with this name runs the case.
+    pub fn is_by(&self, name: LevelName) -> bool {
+        self.levels.contains(&name)
+    }
 }
 
 /// The cases of a file.
 #[derive(Drop)]
-pub struct CaseFile<'a> {
-    name: &'a str,
+pub struct CaseFile {
     /// The ways in which cases get their objects. Every case is run once in each of these ways.
-    ways: &'a str,
+    pub ways: Vec<Way>,
     /// Whether the cases are run with every engine.
     pub every_engine: bool,
-    cases: Vec<Case<'a>>,
+    pub cases: Vec<Case>,
 }
 
-/// The results of the cases.
-#[derive(Drop)]
-pub struct Report {
-    pub text: String,
-    pub differing: u64,
-}
-
-impl<'a> CaseFile<'a> {
-    /// Reads the cases of a text.
-    pub fn new(alloc: Global, name: &'a str, text: &'a str) -> Result<CaseFile<'a>> {
-        let mut file = CaseFile {
-            name,
-            ways: "new",
-            every_engine: false,
-            cases: Vec::new(alloc),
-        };
-        for (index, line) in text.lines().enumerate() {
-            file.read_line(alloc, index, line.trim())?;
-        }
-        Ok(file)
-    }
-
-    // Reads a line: it is empty, a comment, a setting of the file, the first action of a case after its levels, or a further
-    // action.
-    fn read_line(&mut self, alloc: Global, index: usize, line: &'a str) -> Result<()> {
-        if line.is_empty() || line.starts_with('#') {
-            return Ok(());
-        }
-        if let Some(ways) = line.strip_prefix("ways ") {
-            self.ways = ways;
-        } else if line == "every engine" {
-            self.every_engine = true;
-        } else if let Some((levels, action)) = line.split_once(" | ") {
-            self.cases.push(Case {
-                line: index.saturating_add(1),
-                levels,
-                actions: vec![in alloc; action]?,
-            })?;
-        } else {
-            let case = self.cases.last_mut().context("an action before any case")?;
-            case.actions.push(line)?;
-        }
-        Ok(())
-    }
-
-    // Writes how many cases each level of these names runs.
-    fn write_counts(&self, names: &[&str], report: &mut Report) -> Result<()> {
-        for name in names {
-            let count = self.cases.iter().filter(|case| case.is_by(name)).count();
-            write!(report.text, " {count} {name},")?;
-        }
-        Ok(())
-    }
-}
-
-impl Case<'_> {
-    // Returns whether the level with this name runs the case.
-    fn is_by(&self, name: &str) -> bool {
-        self.levels.split_whitespace().any(|own| own == name)
-    }
-}
-
-impl<E: Engine + Copy> Levels<'_, E> {
-    /// Runs the cases of a file in each of its ways, and writes how many of them each level runs.
-    pub fn run(&mut self, file: &CaseFile<'_>, engine: &str, report: &mut Report) -> Result<()> {
-        for name in file.ways.split_whitespace() {
-            self.run_in(way_of(name)?, file, report)?;
-        }
-        write!(report.text, "{} with {engine}:", file.name)?;
-        file.write_counts(self.names, report)?;
-        writeln!(report.text, " of {} cases; {}", file.cases.len(), file.ways)?;
-        Ok(())
-    }
-
-    // Runs the cases in one way.
-    fn run_in(&mut self, way: Way, file: &CaseFile<'_>, report: &mut Report) -> Result<()> {
-        for case in &file.cases {
-            self.run_case(way, case, report)?;
-        }
-        Ok(())
-    }
-
-    // Runs the case with each of its levels that is in `names`.
-    fn run_case(&mut self, way: Way, case: &Case<'_>, report: &mut Report) -> Result<()> {
-        for name in self.names {
+impl CaseFile {
+    /// Returns how many cases the level with this name runs.
+    pub fn count_by(&self, name: LevelName) -> usize {
+        let mut count = 0usize;
+        for case in &self.cases {
             if case.is_by(name) {
-                self.run_by(name, way, case, report)?;
+                count = count.saturating_add(1);
             }
         }
-        Ok(())
+        count
     }
-
-    // Runs the actions with a level. After an action `by LEVEL`, the next actions are run with that level. If an action fails
-    // with `OutOfMemory`, only the actions `else` that follow it are run. Otherwise these are left out.
-    fn run_by(&mut self, name: &str, way: Way, case: &Case<'_>, report: &mut Report) -> Result<()> {
-        let mut kept = Kept::new(self.alloc, way);
-        let mut level = name;
-        let mut lacking = false;
-        for action in &case.actions {
-            if let Some(next) = action.strip_prefix("by ") {
-                level = next;
-                continue;
-            }
-            let action = match (lacking, action.strip_prefix("else ")) {
-                (true, None) => break,
-                (false, Some(_)) => continue,
-                (_, other) => other.unwrap_or(*action),
-            };
-            let (action, expected) = action.split_once("->").unwrap_or((action, ""));
-            let answer = self.answer_by(level, &mut kept, action)?;
-            if !is_expected(&kept, answer.as_str(), expected.trim()) {
-                lacking = lacking || answer.as_str() == "out of memory";
-                let line = case.line;
-                writeln!(report.text, "{line}, {level}, {way:?}: {action}->{answer}")?;
-                report.differing = report.differing.saturating_add(1);
-            }
-        }
-        Ok(())
-    }
-}
-
-// Returns the way with this name.
-fn way_of(name: &str) -> Result<Way> {
-    match name {
-        "new" => Ok(Way::New),
-        "reset" => Ok(Way::Reset),
-        "handed-on" => Ok(Way::HandedOn),
-        _ => bail!("no such way"),
-    }
-}
-
-// Returns whether the answer is the expected text, or the text of the expected shards.
-fn is_expected(kept: &Kept, answer: &str, expected: &str) -> bool {
-    answer.trim() == expected
-        || text_of_expected(kept, expected).is_ok_and(|text| text.as_str() == answer)
 }

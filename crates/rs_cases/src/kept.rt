@@ -1,39 +1,33 @@
 //! What a case keeps from action to action.
-use crate::level::{Answer, Works};
+use crate::cases::{Left, Object, Shard, Way};
 use crate::watch::Watch;
-use reed_solomon_simd::{DecoderResult, EncoderResult};
+use reed_solomon_simd::rate::{DecoderWork, EncoderWork};
+use reed_solomon_simd::{DecoderResult, EncoderResult, Error};
 use std::alloc::Global;
 use std::mem;
 
-/// From where a case gets its object.
-#[derive(Clone, Copy, Debug)]
-pub enum Way {
-    /// The object is made without memory of another one.
-    New,
-    /// The object of the previous case is reset.
-    Reset,
-    /// The object is made with the memory of the previous case's object.
-    HandedOn,
+/// The memory of objects that were taken apart.
+#[derive(Default, Drop)]
+pub struct Works {
+    pub encoder: Option<EncoderWork>,
+    pub decoder: Option<DecoderWork>,
 }
 
-/// A shard with its index.
-pub type Item = (usize, Vec<u8>);
-
-/// The message and the last answers.
+/// The message and the last results.
 #[derive(Drop)]
 pub struct Kept {
     pub alloc: Global,
     pub way: Way,
     pub works: Works,
-    pub message: Vec<Item>,
-    pub recovery: Vec<Item>,
-    pub restored: Vec<Item>,
+    pub message: Vec<Shard>,
+    pub recovery: Vec<Shard>,
+    pub restored: Vec<Shard>,
     /// Whether the last result had the same shards by index and by its iterator, and the right number of shards.
     pub agrees: bool,
     /// Whether results are forgotten, and not dropped.
     pub forgets: bool,
-    /// How many originals and recovery shards the last call has left untaken.
-    pub left: (usize, usize),
+    /// The shards that the last call has not asked for.
+    pub left: Left,
 }
 
 impl Kept {
@@ -48,17 +42,36 @@ impl Kept {
             restored: Vec::new(alloc),
             agrees: true,
             forgets: false,
-            left: (0, 0),
+            left: Left::NONE,
+        }
+    }
+
+    /// Returns the last result of the object: recovery shards of an encoder, and restored originals of a decoder.
+    pub fn result(&self, object: Object) -> &[Shard] {
+        match object {
+            Object::Encoder => self.recovery.as_slice(),
+            Object::Decoder => self.restored.as_slice(),
+        }
+    }
+
+    /// Takes the last result of the object.
+    pub fn take_result(&mut self, object: Object) -> Vec<Shard> {
+        let empty = Vec::new(self.alloc);
+        match object {
+            Object::Encoder => mem::replace(&mut self.recovery, empty),
+            Object::Decoder => mem::replace(&mut self.restored, empty),
         }
     }
 
     /// Keeps the recovery shards of a result. The result is read before the watch ends, and copied after that.
-    pub fn keep_recovery(&mut self, lent: EncoderResult<'_>, watch: Watch) -> Answer {
+    pub fn keep_recovery(&mut self, lent: EncoderResult<'_>, watch: Watch) -> Result<(), Error> {
         self.agrees = recovery_agrees(&lent);
         drop(watch);
         self.recovery.clear();
-        for (index, shard) in lent.recovery_iter().enumerate() {
-            self.recovery.push((index, shard.to_vec(self.alloc)?))?;
+        for shard in lent.recovery_iter() {
+            let index = self.recovery.len();
+            let bytes = shard.to_vec(self.alloc)?;
+            self.recovery.push(Shard { index, bytes })?;
         }
         if self.forgets {
             mem::forget(lent);
@@ -67,12 +80,13 @@ impl Kept {
     }
 
     /// Keeps the restored originals of a result. The result is read before the watch ends, and copied after that.
-    pub fn keep_restored(&mut self, lent: DecoderResult<'_>, watch: Watch) -> Answer {
+    pub fn keep_restored(&mut self, lent: DecoderResult<'_>, watch: Watch) -> Result<(), Error> {
         self.agrees = restored_agrees(&lent);
         drop(watch);
         self.restored.clear();
         for (index, shard) in lent.restored_original_iter() {
-            self.restored.push((index, shard.to_vec(self.alloc)?))?;
+            let bytes = shard.to_vec(self.alloc)?;
+            self.restored.push(Shard { index, bytes })?;
         }
         if self.forgets {
             mem::forget(lent);
@@ -108,9 +122,19 @@ fn restored_agrees(lent: &DecoderResult<'_>) -> bool {
         agrees = agrees && lent.restored_original(index) == Some(shard);
     }
     agrees = agrees && has_left(&walk, 0) && walk.next().is_none() && walk.next().is_none();
-    let by_index = (0..65536).filter(|index| lent.restored_original(*index).is_some());
-    agrees = agrees && has_left(&walk, 0) && by_index.count() == all;
+    agrees = agrees && has_left(&walk, 0) && count_restored(lent) == all;
     agrees && lent.restored_original(usize::MAX).is_none()
+}
+
+// Returns how many indexes have a restored original.
+fn count_restored(lent: &DecoderResult<'_>) -> usize {
+    let mut count = 0usize;
+    for index in 0..65536 {
+        if lent.restored_original(index).is_some() {
+            count = count.saturating_add(1);
+        }
+    }
+    count
 }
 
 // Returns whether an iterator has `left` items left, by `len` and by `size_hint`.

@@ -1,38 +1,10 @@
 //! The trait of the levels of use, so that each action of a case is written once for all levels.
-use crate::kept::Kept;
+use crate::cases::{Configuration, Object, Role, Shard};
+use crate::kept::{Kept, Works};
 use reed_solomon_simd::Error;
-use reed_solomon_simd::rate::{DecoderWork, EncoderWork};
-
-/// The counts of originals and of recovery shards, and the size in bytes, that an object is made for.
-pub type Configuration = (usize, usize, usize);
 
 /// The result of a call of the library: success or its error.
 pub type Answer = Result<(), Error>;
-
-/// One of the two objects of a level.
-#[derive(Clone, Copy)]
-pub enum Object {
-    Encoder,
-    Decoder,
-}
-
-/// The role in which a shard is given.
-#[derive(Clone, Copy)]
-pub enum Role {
-    /// The encoder's next original.
-    Next,
-    /// An original for the decoder.
-    Original,
-    /// A recovery shard for the decoder.
-    Recovery,
-}
-
-/// The memory of objects that were taken apart.
-#[derive(Default, Drop)]
-pub struct Works {
-    pub encoder: Option<EncoderWork>,
-    pub decoder: Option<DecoderWork>,
-}
 
 /// An encoder and a decoder of one level of use.
 pub trait Level {
@@ -43,7 +15,7 @@ pub trait Level {
     fn reset(&mut self, object: Object, configuration: Configuration) -> Answer;
 
     /// Gives a shard. If it is the encoder's next original, the index is ignored.
-    fn give(&mut self, role: Role, index: usize, shard: &[u8]) -> Answer;
+    fn give(&mut self, role: Role, shard: &Shard) -> Answer;
 
     /// Encodes the given originals, and keeps the recovery shards.
     fn encode(&mut self, kept: &mut Kept) -> Answer;

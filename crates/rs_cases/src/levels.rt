@@ -1,27 +1,35 @@
-//! The levels of use, side by side over one engine.
-use crate::actions::do_action;
+//! The levels of use, side by side over one engine, and how they run the cases of a file.
+use crate::cases::{Action, Case, CaseFile, Left, LevelName, Line, Step, Way};
+use crate::comparison::is_expected;
+use crate::interpreter::{Failure, Returned, act};
 use crate::kept::Kept;
 use crate::one_call::OneCall;
 use crate::plain::Plain;
 use crate::rated::Rated;
-use anyhow::{Result, bail};
+use crate::report::Report;
 use reed_solomon_simd::Error;
 use reed_solomon_simd::engine::{DefaultEngine, Engine};
 use reed_solomon_simd::rate::{DefaultRate, HighRate, LowRate};
 use std::alloc::{AllocError, Global};
 
-/// The words that name the levels: the one-call functions, the plain objects, and the objects of each rate.
-pub const LEVELS: &[&str] = &["call", "plain", "low", "high", "default"];
+/// All levels: the one-call functions, the plain objects, and the objects of each rate.
+pub const LEVELS: &[LevelName] = &[
+    LevelName::Call,
+    LevelName::Plain,
+    LevelName::Low,
+    LevelName::High,
+    LevelName::Default,
+];
 
 /// The levels of objects of a rate. These objects work with any engine.
-pub const RATES: &[&str] = &["low", "high", "default"];
+pub const RATES: &[LevelName] = &[LevelName::Low, LevelName::High, LevelName::Default];
 
 /// The levels. The levels of the rates work with any engine, the other ones with an engine that is chosen by name.
 #[derive(Drop)]
 pub struct Levels<'t, E: Engine> {
     /// The names of the levels that are run.
-    pub names: &'static [&'static str],
-    pub alloc: Global,
+    names: &'static [LevelName],
+    alloc: Global,
     call: OneCall<'t>,
     plain: Plain<'t>,
     low: Rated<E, LowRate<E>>,
@@ -35,7 +43,7 @@ impl<'t, E: Engine + Copy> Levels<'t, E> {
         alloc: Global,
         engine: E,
         chosen: DefaultEngine<'t>,
-        names: &'static [&'static str],
+        names: &'static [LevelName],
     ) -> Result<Levels<'t, E>, Error> {
         Ok(Levels {
             names,
@@ -48,35 +56,95 @@ impl<'t, E: Engine + Copy> Levels<'t, E> {
         })
     }
 
-    // Does an action with a level.
-    fn do_by(&mut self, level: &str, kept: &mut Kept, action: &str) -> Result<String> {
-        match level {
-            "call" => do_action(&mut self.call, kept, action),
-            "plain" => do_action(&mut self.plain, kept, action),
-            "low" => do_action(&mut self.low, kept, action),
-            "high" => do_action(&mut self.high, kept, action),
-            "default" => do_action(&mut self.default, kept, action),
-            _ => bail!("no such level"),
+    /// Runs the cases of a file in each of its ways, and writes how many of them each level runs.
+    pub fn run(
+        &mut self,
+        file: &CaseFile,
+        engine: &str,
+        report: &mut Report,
+    ) -> Result<(), AllocError> {
+        for way in &file.ways {
+            self.run_in(*way, file, report)?;
         }
+        report.summarize(file, engine, self.names)
     }
 
-    /// Does an action with a level, and returns the text of its shards or of its error, and how many shards the call did not take.
-    pub fn answer_by(
-        &mut self,
-        level: &str,
-        kept: &mut Kept,
-        action: &str,
-    ) -> Result<String, AllocError> {
-        kept.agrees = true;
-        kept.left = (0, 0);
-        let mut answer = match self.do_by(level, kept, action) {
-            Ok(text) => text,
-            Err(refusal) => format!(in kept.alloc; "{refusal}")?,
-        };
-        let (originals, recoveries) = kept.left;
-        if originals > 0 || recoveries > 0 {
-            write!(answer, ", {originals} and {recoveries} left")?;
+    // Runs the cases in one way.
+    fn run_in(&mut self, way: Way, file: &CaseFile, report: &mut Report) -> Result<(), AllocError> {
+        for case in &file.cases {
+            self.run_case(way, case, report)?;
         }
-        Ok(answer)
+        Ok(())
+    }
+
+    // Runs the case with each of its levels that is in `names`.
+    fn run_case(&mut self, way: Way, case: &Case, report: &mut Report) -> Result<(), AllocError> {
+        for name in self.names {
+            if case.is_by(*name) {
+                self.run_by(*name, way, case, report)?;
+            }
+        }
+        Ok(())
+    }
+
+    // Runs the lines of a case with a level. After a line `by LEVEL`, the next actions are run with that level. If an action lacks
+    // memory, only the actions `else` that follow it are run. Otherwise these are left out.
+    fn run_by(
+        &mut self,
+        name: LevelName,
+        way: Way,
+        case: &Case,
+        report: &mut Report,
+    ) -> Result<(), AllocError> {
+        let mut kept = Kept::new(self.alloc, way);
+        let mut level = name;
+        let mut lacking = false;
+        for line in &case.lines {
+            match line {
+                Line::By(next) => level = *next,
+                Line::Step(step) if lacking && !step.is_else => break,
+                Line::Step(step) if !lacking && step.is_else => {}
+                Line::Step(step) => {
+                    let lacks = self.run_step(level, &mut kept, step, report)?;
+                    lacking = lacking || lacks;
+                }
+            }
+        }
+        Ok(())
+    }
+
+    // Runs an action with a level, and compares its result with the expected one. Returns whether memory was lacking where this was
+    // not expected.
+    fn run_step(
+        &mut self,
+        level: LevelName,
+        kept: &mut Kept,
+        step: &Step,
+        report: &mut Report,
+    ) -> Result<bool, AllocError> {
+        kept.agrees = true;
+        kept.left = Left::NONE;
+        let answer = self.act_by(level, kept, &step.action);
+        if is_expected(kept, &answer, step)? {
+            return Ok(false);
+        }
+        report.differ(level, kept, step, &answer)?;
+        Ok(matches!(answer, Err(Failure::Refused(Error::OutOfMemory))))
+    }
+
+    // Does an action with a level.
+    fn act_by(
+        &mut self,
+        level: LevelName,
+        kept: &mut Kept,
+        action: &Action,
+    ) -> Result<Returned, Failure> {
+        match level {
+            LevelName::Call => act(&mut self.call, kept, action),
+            LevelName::Plain => act(&mut self.plain, kept, action),
+            LevelName::Low => act(&mut self.low, kept, action),
+            LevelName::High => act(&mut self.high, kept, action),
+            LevelName::Default => act(&mut self.default, kept, action),
+        }
     }
 }

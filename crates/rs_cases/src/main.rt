@@ -1,26 +1,33 @@
 //! Runs cases of coding from data files with each level of use. The words of the command line are the names of the files. The
 //! format of a file is explained at the top of the file.
 //!
-//! Prints a line for each file and engine, and a line for each action whose result is not the expected one, with the line
-//! of its case. If there is such an action, the exit status is 1.
+//! Prints a line for each file and engine, and a line for each action whose result is not the expected one, with the action's file
+//! and line. If there is such an action, the exit status is 1.
 #![tactic(auto)]
 
-mod actions;
 mod cases;
+mod comparison;
+mod fault;
+mod interpreter;
 mod kept;
 mod level;
 mod levels;
-mod notation;
+mod message;
 mod one_call;
 mod plain;
 mod rated;
+mod reading;
+mod report;
 mod watch;
+mod words;
 
 use anyhow::{Result, ensure};
-use cases::{CaseFile, Report};
+use cases::CaseFile;
 use levels::{LEVELS, Levels, RATES};
+use reading::read_file;
 use reed_solomon_simd::engine::tables::Tables;
 use reed_solomon_simd::engine::{Avx2, DefaultEngine, Engine, EngineKind, Naive, NoSimd, Ssse3};
+use report::Report;
 use std::alloc::Global;
 use std::{env, fs};
 use watch::Watch;
@@ -28,7 +35,7 @@ use watch::Watch;
 // Runs a file's cases with each engine that can be chosen by name, or only with the first one.
 fn run_over_kinds(
     alloc: Global,
-    file: &CaseFile<'_>,
+    file: &CaseFile,
     tables: &Tables,
     report: &mut Report,
 ) -> Result<()> {
@@ -50,23 +57,18 @@ fn run_over_kinds(
 // Runs a file's cases with the objects of the rates over an engine.
 fn run_over<E: Engine + Copy>(
     alloc: Global,
-    file: &CaseFile<'_>,
+    file: &CaseFile,
     engine: E,
     name: &str,
     tables: &Tables,
     report: &mut Report,
 ) -> Result<()> {
     let idle = DefaultEngine::new(tables, EngineKind::Naive);
-    Levels::new(alloc, engine, idle, RATES)?.run(file, name, report)
+    Ok(Levels::new(alloc, engine, idle, RATES)?.run(file, name, report)?)
 }
 
 // Runs a file's cases with the type of each engine.
-fn run_over_types(
-    alloc: Global,
-    file: &CaseFile<'_>,
-    t: &Tables,
-    report: &mut Report,
-) -> Result<()> {
+fn run_over_types(alloc: Global, file: &CaseFile, t: &Tables, report: &mut Report) -> Result<()> {
     run_over(alloc, file, Naive::new(t), "Naive", t, report)?;
     run_over(alloc, file, NoSimd::new(t), "NoSimd", t, report)?;
     run_over(alloc, file, Avx2::new(t), "Avx2", t, report)?;
@@ -78,19 +80,20 @@ fn main(rt: HostRuntime) -> Result<()> {
     let watch = Watch::new(alloc);
     let tables = Tables::new(alloc)?;
     drop(watch);
-    let mut report = Report {
-        text: String::new(alloc),
-        differing: 0,
-    };
-    for name in env::args(&rt)?.skip(1) {
+    let mut differing = 0u64;
+    let mut names = env::args(&rt)?;
+    let _program = names.next();
+    for name in names {
         let text = fs::read_to_string(&rt, name.as_str())?;
-        let file = CaseFile::new(alloc, name.as_str(), text.as_str())?;
+        let file = read_file(alloc, name.as_str(), text.as_str())?;
+        let mut report = Report::new(alloc, name);
         run_over_kinds(alloc, &file, &tables, &mut report)?;
         if file.every_engine {
             run_over_types(alloc, &file, &tables, &mut report)?;
         }
+        rt.print(report.text.as_str())?;
+        differing = differing.saturating_add(report.differing);
     }
-    rt.print(report.text.as_str())?;
-    ensure!(report.differing == 0, "{} actions differ", report.differing);
+    ensure!(differing == 0, "{differing} actions differ");
     Ok(())
 }

@@ -1,6 +1,7 @@
 //! The one-call functions. The given shards are passed when the call is made.
-use crate::kept::{Item, Kept};
-use crate::level::{Answer, Configuration, Level, Object, Role, Works};
+use crate::cases::{Configuration, Left, Object, Role, Shard};
+use crate::kept::{Kept, Works};
+use crate::level::{Answer, Level};
 use crate::watch::Watch;
 use reed_solomon_simd::engine::DefaultEngine;
 use reed_solomon_simd::{decode, encode};
@@ -13,9 +14,9 @@ pub struct OneCall<'t> {
     engine: DefaultEngine<'t>,
     configuration: Configuration,
     // The items of the iterators. `None` is a place at which an iterator ends once.
-    next: Vec<Option<Item>>,
-    original: Vec<Option<Item>>,
-    recovery: Vec<Option<Item>>,
+    next: Vec<Option<Shard>>,
+    original: Vec<Option<Shard>>,
+    recovery: Vec<Option<Shard>>,
 }
 
 impl<'t> OneCall<'t> {
@@ -24,7 +25,11 @@ impl<'t> OneCall<'t> {
         OneCall {
             alloc,
             engine,
-            configuration: (1, 1, 2),
+            configuration: Configuration {
+                original_count: 1,
+                recovery_count: 1,
+                shard_bytes: 2,
+            },
             next: Vec::new(alloc),
             original: Vec::new(alloc),
             recovery: Vec::new(alloc),
@@ -32,7 +37,7 @@ impl<'t> OneCall<'t> {
     }
 
     // Returns the shards that are given in this role.
-    fn given(&mut self, role: Role) -> &mut Vec<Option<Item>> {
+    fn given(&mut self, role: Role) -> &mut Vec<Option<Shard>> {
         match role {
             Role::Next => &mut self.next,
             Role::Original => &mut self.original,
@@ -59,9 +64,10 @@ impl Level for OneCall<'_> {
         Ok(())
     }
 
-    fn give(&mut self, role: Role, index: usize, shard: &[u8]) -> Answer {
-        let item = (index, shard.to_vec(self.alloc)?);
-        self.given(role).push(Some(item))?;
+    fn give(&mut self, role: Role, shard: &Shard) -> Answer {
+        let bytes = shard.bytes.as_slice().to_vec(self.alloc)?;
+        let index = shard.index;
+        self.given(role).push(Some(Shard { index, bytes }))?;
         Ok(())
     }
 
@@ -71,44 +77,61 @@ impl Level for OneCall<'_> {
     }
 
     fn encode(&mut self, kept: &mut Kept) -> Answer {
-        let (k, r, _) = self.configuration;
+        let counts = self.configuration;
+        let (k, r) = (counts.original_count, counts.recovery_count);
         let mut places = self.next.iter();
-        let shards = places.by_ref().map_while(lent).map(|item| item.1);
+        let shards = places.by_ref().map_while(lent_bytes);
         let watch = Watch::new(self.alloc);
         let answer = encode(self.alloc, k, r, shards, self.engine);
         drop(watch);
-        kept.left = (places.len(), 0);
+        let originals = places.len();
+        kept.left = Left {
+            originals,
+            recoveries: 0,
+        };
         self.next.clear();
         kept.recovery.clear();
-        for item in answer?.into_iter().enumerate() {
-            kept.recovery.push(item)?;
+        for (index, bytes) in answer?.into_iter().enumerate() {
+            kept.recovery.push(Shard { index, bytes })?;
         }
         Ok(())
     }
 
     fn decode(&mut self, kept: &mut Kept) -> Answer {
-        let (k, r, _) = self.configuration;
+        let counts = self.configuration;
+        let (k, r) = (counts.original_count, counts.recovery_count);
         let (mut originals, mut recoveries) = (self.original.iter(), self.recovery.iter());
         let original = originals.by_ref().map_while(lent);
         let recovery = recoveries.by_ref().map_while(lent);
         let watch = Watch::new(self.alloc);
         let answer = decode(self.alloc, k, r, original, recovery, self.engine);
         drop(watch);
-        kept.left = (originals.len(), recoveries.len());
+        kept.left = Left {
+            originals: originals.len(),
+            recoveries: recoveries.len(),
+        };
         self.original.clear();
         self.recovery.clear();
         kept.restored.clear();
-        for item in answer? {
-            kept.restored.push(item)?;
+        for (index, bytes) in answer? {
+            kept.restored.push(Shard { index, bytes })?;
         }
         Ok(())
     }
 }
 
-// Returns the item that an iterator lends at this place.
-fn lent(place: &Option<Item>) -> Option<(usize, &[u8])> {
+// Returns the original that the iterator for `encode` lends at this place.
+fn lent_bytes(place: &Option<Shard>) -> Option<&[u8]> {
     match place {
-        Some((index, shard)) => Some((*index, shard.as_slice())),
+        Some(shard) => Some(shard.bytes.as_slice()),
+        None => None,
+    }
+}
+
+// Returns the item that an iterator for `decode` lends at this place.
+fn lent(place: &Option<Shard>) -> Option<(usize, &[u8])> {
+    match place {
+        Some(shard) => Some((shard.index, shard.bytes.as_slice())),
         None => None,
     }
 }

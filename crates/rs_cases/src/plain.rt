@@ -1,6 +1,7 @@
 //! The plain objects.
-use crate::kept::Kept;
-use crate::level::{Answer, Configuration, Level, Object, Role, Works};
+use crate::cases::{Configuration, Object, Role, Shard};
+use crate::kept::{Kept, Works};
+use crate::level::{Answer, Level};
 use crate::watch::Watch;
 use reed_solomon_simd::engine::DefaultEngine;
 use reed_solomon_simd::{Error, ReedSolomonDecoder, ReedSolomonEncoder};
@@ -28,8 +29,14 @@ impl<'t> Plain<'t> {
 }
 
 impl Level for Plain<'_> {
-    fn start(&mut self, object: Object, (k, r, size): Configuration, _works: &mut Works) -> Answer {
+    fn start(
+        &mut self,
+        object: Object,
+        configuration: Configuration,
+        _works: &mut Works,
+    ) -> Answer {
         let (alloc, engine) = (self.alloc, self.engine);
+        let (k, r, size) = configuration.numbers();
         let _watch = Watch::new(alloc);
         match object {
             Object::Encoder => self.encoder = ReedSolomonEncoder::new(alloc, k, r, size, engine)?,
@@ -38,7 +45,8 @@ impl Level for Plain<'_> {
         Ok(())
     }
 
-    fn reset(&mut self, object: Object, (k, r, size): Configuration) -> Answer {
+    fn reset(&mut self, object: Object, configuration: Configuration) -> Answer {
+        let (k, r, size) = configuration.numbers();
         let _watch = Watch::new(self.alloc);
         match object {
             Object::Encoder => self.encoder.reset(k, r, size),
@@ -46,12 +54,13 @@ impl Level for Plain<'_> {
         }
     }
 
-    fn give(&mut self, role: Role, index: usize, shard: &[u8]) -> Answer {
+    fn give(&mut self, role: Role, shard: &Shard) -> Answer {
+        let bytes = shard.bytes.as_slice();
         let _watch = Watch::new(self.alloc);
         match role {
-            Role::Next => self.encoder.add_original_shard(shard),
-            Role::Original => self.decoder.add_original_shard(index, shard),
-            Role::Recovery => self.decoder.add_recovery_shard(index, shard),
+            Role::Next => self.encoder.add_original_shard(bytes),
+            Role::Original => self.decoder.add_original_shard(shard.index, bytes),
+            Role::Recovery => self.decoder.add_recovery_shard(shard.index, bytes),
         }
     }
 
@@ -67,7 +76,8 @@ impl Level for Plain<'_> {
         kept.keep_restored(lent, watch)
     }
 
-    fn tells(&self, (k, r, _): Configuration, answer: Answer) -> bool {
+    fn tells(&self, configuration: Configuration, answer: Answer) -> bool {
+        let (k, r, _) = configuration.numbers();
         let supported = !matches!(answer, Err(Error::UnsupportedShardCount { .. }));
         ReedSolomonEncoder::supports(k, r) == supported
             && ReedSolomonDecoder::supports(k, r) == supported

@@ -1,6 +1,7 @@
 //! The objects of a rate over an engine.
-use crate::kept::Kept;
-use crate::level::{Answer, Configuration, Level, Object, Role, Works};
+use crate::cases::{Configuration, Object, Role, Shard};
+use crate::kept::{Kept, Works};
+use crate::level::{Answer, Level};
 use crate::watch::Watch;
 use reed_solomon_simd::Error;
 use reed_solomon_simd::engine::{Engine, Steps};
@@ -30,7 +31,8 @@ impl<E: Engine + Copy, R: Rate<E>> Rated<E, R> {
 }
 
 impl<E: Engine + Copy, R: Rate<E>> Level for Rated<E, R> {
-    fn start(&mut self, object: Object, (k, r, size): Configuration, works: &mut Works) -> Answer {
+    fn start(&mut self, object: Object, configuration: Configuration, works: &mut Works) -> Answer {
+        let (k, r, size) = configuration.numbers();
         let _watch = Watch::new(self.alloc);
         match object {
             Object::Encoder => {
@@ -45,7 +47,8 @@ impl<E: Engine + Copy, R: Rate<E>> Level for Rated<E, R> {
         Ok(())
     }
 
-    fn reset(&mut self, object: Object, (k, r, size): Configuration) -> Answer {
+    fn reset(&mut self, object: Object, configuration: Configuration) -> Answer {
+        let (k, r, size) = configuration.numbers();
         let _watch = Watch::new(self.alloc);
         match object {
             Object::Encoder => self.encoder.reset(k, r, size),
@@ -53,12 +56,13 @@ impl<E: Engine + Copy, R: Rate<E>> Level for Rated<E, R> {
         }
     }
 
-    fn give(&mut self, role: Role, index: usize, shard: &[u8]) -> Answer {
+    fn give(&mut self, role: Role, shard: &Shard) -> Answer {
+        let bytes = shard.bytes.as_slice();
         let _watch = Watch::new(self.alloc);
         match role {
-            Role::Next => self.encoder.add_original_shard(shard),
-            Role::Original => self.decoder.add_original_shard(index, shard),
-            Role::Recovery => self.decoder.add_recovery_shard(index, shard),
+            Role::Next => self.encoder.add_original_shard(bytes),
+            Role::Original => self.decoder.add_original_shard(shard.index, bytes),
+            Role::Recovery => self.decoder.add_recovery_shard(shard.index, bytes),
         }
     }
 
@@ -83,7 +87,8 @@ impl<E: Engine + Copy, R: Rate<E>> Level for Rated<E, R> {
         Ok(())
     }
 
-    fn tells(&self, (k, r, size): Configuration, answer: Answer) -> bool {
+    fn tells(&self, configuration: Configuration, answer: Answer) -> bool {
+        let (k, r, size) = configuration.numbers();
         let supported = !matches!(answer, Err(Error::UnsupportedShardCount { .. }));
         let valid = match answer {
             Err(Error::OutOfMemory) => Ok(()),

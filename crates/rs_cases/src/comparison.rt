@@ -1,0 +1,79 @@
+//! Compares the answer of an action with its expected result.
+use crate::cases::{Expected, Shard, Shards, Step};
+use crate::interpreter::{Failure, Returned, named};
+use crate::kept::Kept;
+use std::alloc::{AllocError, Global};
+
+/// What an action has returned, or why it has failed.
+pub type Answer = Result<Returned, Failure>;
+
+/// Returns whether the answer is the expected result, and whether the call has left the expected shards.
+pub fn is_expected(kept: &Kept, answer: &Answer, step: &Step) -> Result<bool, AllocError> {
+    let same = match &step.expected {
+        Expected::Shards(expected) => are_expected(kept, answer, expected),
+        Expected::Text(expected) => text_of(kept, answer)?.as_str() == expected.as_str(),
+    };
+    Ok(same && kept.left == step.left)
+}
+
+// Returns whether the answer is these shards. An action that returns no shards has none.
+fn are_expected(kept: &Kept, answer: &Answer, expected: &[Shards]) -> bool {
+    match answer {
+        Ok(Returned::Nothing) => expected.is_empty(),
+        Ok(Returned::Shards(object)) => are_same(kept, kept.result(*object), expected),
+        Ok(Returned::Digest(_)) | Err(_) => false,
+    }
+}
+
+// Returns whether the shards are the expected ones, in order. Expected indexes name originals of the message.
+fn are_same(kept: &Kept, shards: &[Shard], expected: &[Shards]) -> bool {
+    let mut rest = shards;
+    for part in expected {
+        let Some(wanted) = named(part, kept.message.as_slice()) else {
+            return false;
+        };
+        let Some(after) = rest.strip_prefix(wanted) else {
+            return false;
+        };
+        rest = after;
+    }
+    rest.is_empty()
+}
+
+/// Returns the text of an answer: a space and I=HEX for each shard, a digest, or the text of the failure.
+pub fn text_of(kept: &Kept, answer: &Answer) -> Result<String, AllocError> {
+    match answer {
+        Ok(Returned::Nothing) => Ok(String::new(kept.alloc)),
+        Ok(Returned::Shards(object)) => text_of_shards(kept.alloc, kept.result(*object)),
+        Ok(Returned::Digest(digest)) => digest.clone(),
+        Err(failure) => text_of_failure(kept.alloc, *failure),
+    }
+}
+
+fn text_of_failure(alloc: Global, failure: Failure) -> Result<String, AllocError> {
+    match failure {
+        Failure::Refused(error) => format!(in alloc; "{error}"),
+        Failure::OtherError(one, other) => format!(in alloc; "{one}, and then {other}"),
+        Failure::OtherCounts(counts) => {
+            let (k, r, _) = counts.numbers();
+            format!(in alloc; "not {k}+{r}")
+        }
+        Failure::NoShards => String::from_str(alloc, "no such shards are kept"),
+        Failure::Disagrees => String::from_str(
+            alloc,
+            "the result differs by index, walk and counts",
+        ),
+        Failure::OtherRound => String::from_str(alloc, "the second round returns other shards"),
+        Failure::NotRefused => String::from_str(alloc, "not refused"),
+        Failure::OtherCalls => String::from_str(alloc, "not so by other calls"),
+    }
+}
+
+fn text_of_shards(alloc: Global, shards: &[Shard]) -> Result<String, AllocError> {
+    let mut text = String::new(alloc);
+    for shard in shards {
+        let digits = hex::encode(alloc, shard.bytes.as_slice())?;
+        write!(text, " {}={digits}", shard.index)?;
+    }
+    Ok(text)
+}

@@ -1,0 +1,243 @@
+//! The interpreter: does an action of a case with a level of use.
+use crate::cases::{Action, Configuration, Given, Object, Role, Rule, Shard, Shards, Way};
+use crate::kept::{Kept, Works};
+use crate::level::{Answer, Level};
+use crate::message::{digest_of, message};
+use reed_solomon_simd::Error;
+use reed_solomon_simd::rate::{DecoderWork, EncoderWork};
+use std::alloc::AllocError;
+use std::{fmt, slice};
+
+/// What an action has returned.
+#[derive(Drop)]
+pub enum Returned {
+    Nothing,
+    /// The shards that are kept as the result of this object.
+    Shards(Object),
+    /// A digest in hexadecimal digits.
+    Digest(String),
+}
+
+/// Why an action has failed.
+#[derive(Clone, Copy)]
+pub enum Failure {
+    /// A call of the library failed.
+    Refused(Error),
+    /// The line names shards that are not there.
+    NoShards,
+    /// A result has other shards or another number of shards by index than by its iterator.
+    Disagrees,
+    /// The second of two equal rounds returned other shards.
+    OtherRound,
+    /// A call says otherwise whether the counts of this configuration are supported.
+    OtherCounts(Configuration),
+    /// Two calls that take the same configuration failed with these errors.
+    OtherError(Error, Error),
+    /// A call accepts a configuration that all calls must refuse.
+    NotRefused,
+    /// `supports`, `validate` or `new` says otherwise than `start`.
+    OtherCalls,
+}
+
+impl From<Error> for Failure {
+    fn from(error: Error) -> Failure {
+        Failure::Refused(error)
+    }
+}
+
+impl From<AllocError> for Failure {
+    fn from(_error: AllocError) -> Failure {
+        Failure::Refused(Error::OutOfMemory)
+    }
+}
+
+/// Does an action with a level of use, and returns what its calls return. Fails with the error of the library.
+pub fn act<C: Level>(level: &mut C, kept: &mut Kept, action: &Action) -> Result<Returned, Failure> {
+    match action {
+        Action::Start(object, configuration) => {
+            level.start(*object, *configuration, &mut kept.works)?;
+        }
+        Action::Reset(object, configuration) => level.reset(*object, *configuration)?,
+        Action::TakeApart => level.take_works(&mut kept.works)?,
+        Action::EmptyWorks => {
+            kept.works.encoder = Some(EncoderWork::default());
+            kept.works.decoder = Some(DecoderWork::default());
+        }
+        Action::Give(given) => give_all(level, kept, given)?,
+        Action::Run(object) => return run(level, kept, *object),
+        Action::Round(object, given) => return round(level, kept, *object, given),
+        Action::Rounds(object, configuration, given) => {
+            obtain(level, kept, *object, *configuration)?;
+            return two_rounds(level, kept, *object, given);
+        }
+        Action::Forget => kept.forgets = true,
+        Action::Make(configuration, rule) => make(level, kept, *configuration, *rule)?,
+        Action::Digest => {
+            let digest = digest_of(kept.alloc, kept.recovery.as_slice())?;
+            return Ok(Returned::Digest(digest));
+        }
+        Action::Supports(pairs) => check_counts(level, pairs, true)?,
+        Action::Excludes(pairs) => check_counts(level, pairs, false)?,
+        Action::Configure(configuration) => configure(level, *configuration)?,
+    }
+    Ok(Returned::Nothing)
+}
+
+/// Returns the shards that a word names. A word that names indexes names shards of `kept`.
+pub fn named<'a>(shards: &'a Shards, kept: &'a [Shard]) -> Option<&'a [Shard]> {
+    match shards {
+        Shards::Written(shard) => Some(slice::from_ref(shard)),
+        Shards::Range { start, end } => kept.get(*start..*end),
+    }
+}
+
+// Gives the shards of an action.
+fn give_all<C: Level>(level: &mut C, kept: &Kept, given: &[Given]) -> Result<(), Failure> {
+    for part in given {
+        give(level, kept, part)?;
+    }
+    Ok(())
+}
+
+// Gives the shards of a word. Indexes name originals of the message, or recovery shards of the last result.
+fn give<C: Level>(level: &mut C, kept: &Kept, given: &Given) -> Result<(), Failure> {
+    let (role, shards) = match given {
+        Given::Shards(role, shards) => (*role, shards),
+        Given::End(role) => return Ok(level.end_once(*role)?),
+    };
+    let source = match role {
+        Role::Next | Role::Original => kept.message.as_slice(),
+        Role::Recovery => kept.recovery.as_slice(),
+    };
+    let Some(shards) = named(shards, source) else {
+        return Err(Failure::NoShards);
+    };
+    Ok(give_shards(level, role, shards)?)
+}
+
+fn give_shards<C: Level>(level: &mut C, role: Role, shards: &[Shard]) -> Answer {
+    for shard in shards {
+        level.give(role, shard)?;
+    }
+    Ok(())
+}
+
+// Encodes or decodes the given shards.
+fn run<C: Level>(level: &mut C, kept: &mut Kept, object: Object) -> Result<Returned, Failure> {
+    match object {
+        Object::Encoder => level.encode(kept)?,
+        Object::Decoder => level.decode(kept)?,
+    }
+    if !kept.agrees {
+        return Err(Failure::Disagrees);
+    }
+    Ok(Returned::Shards(object))
+}
+
+// Gives shards, and encodes or decodes.
+fn round<C: Level>(
+    level: &mut C,
+    kept: &mut Kept,
+    object: Object,
+    given: &[Given],
+) -> Result<Returned, Failure> {
+    give_all(level, kept, given)?;
+    run(level, kept, object)
+}
+
+// Makes or resets the object, in the way in which the case is run.
+fn obtain<C: Level>(
+    level: &mut C,
+    kept: &mut Kept,
+    object: Object,
+    configuration: Configuration,
+) -> Answer {
+    match kept.way {
+        Way::New => level.start(object, configuration, &mut Works::default()),
+        Way::Reset => level.reset(object, configuration),
+        Way::HandedOn => {
+            level.take_works(&mut kept.works)?;
+            level.start(object, configuration, &mut kept.works)
+        }
+    }
+}
+
+// Does the round twice with an object, and then gives it the first shards once more.
+fn two_rounds<C: Level>(
+    level: &mut C,
+    kept: &mut Kept,
+    object: Object,
+    given: &[Given],
+) -> Result<Returned, Failure> {
+    round(level, kept, object, given)?;
+    let first = kept.take_result(object);
+    let returned = round(level, kept, object, given)?;
+    if first.as_slice() != kept.result(object) {
+        return Err(Failure::OtherRound);
+    }
+    if let Some(part) = given.first() {
+        give(level, kept, part)?;
+    }
+    Ok(returned)
+}
+
+// Encodes a message that is made by a rule. Keeps the message and its recovery shards.
+fn make<C: Level>(
+    level: &mut C,
+    kept: &mut Kept,
+    configuration: Configuration,
+    rule: Rule,
+) -> Result<(), Failure> {
+    let (count, size) = (configuration.original_count, configuration.shard_bytes);
+    kept.message = message(kept.alloc, rule, count, size)?;
+    obtain(level, kept, Object::Encoder, configuration)?;
+    give_shards(level, Role::Next, kept.message.as_slice())?;
+    run(level, kept, Object::Encoder)?;
+    Ok(())
+}
+
+// Checks that the counts of all these configurations are supported, or that none of them is.
+fn check_counts<C: Level>(
+    level: &C,
+    configurations: &[Configuration],
+    supported: bool,
+) -> Result<(), Failure> {
+    for configuration in configurations {
+        let unsupported = Error::UnsupportedShardCount {
+            original_count: configuration.original_count,
+            recovery_count: configuration.recovery_count,
+        };
+        let answer = if supported { Ok(()) } else { Err(unsupported) };
+        if !level.tells(*configuration, answer) {
+            return Err(Failure::OtherCounts(*configuration));
+        }
+    }
+    Ok(())
+}
+
+// Checks that every call that takes a configuration fails with the same error. The calls do not change the objects.
+fn configure<C: Level>(level: &mut C, configuration: Configuration) -> Result<(), Failure> {
+    let mut works = Works::default();
+    let Err(error) = level.start(Object::Encoder, configuration, &mut works) else {
+        return Err(Failure::NotRefused);
+    };
+    check_error(
+        level.start(Object::Decoder, configuration, &mut works),
+        error,
+    )?;
+    check_error(level.reset(Object::Encoder, configuration), error)?;
+    check_error(level.reset(Object::Decoder, configuration), error)?;
+    if !level.tells(configuration, Err(error)) {
+        return Err(Failure::OtherCalls);
+    }
+    Err(Failure::Refused(error))
+}
+
+// Checks that a call fails with this error.
+fn check_error(answer: Answer, error: Error) -> Result<(), Failure> {
+    match answer {
+        Err(other) if other == error => Ok(()),
+        Err(other) => Err(Failure::OtherError(error, other)),
+        Ok(()) => Err(Failure::NotRefused),
+    }
+}

@@ -1,0 +1,74 @@
+//! The report of the cases of a file.
+use crate::cases::{CaseFile, Left, LevelName, Step, Way};
+use crate::comparison::{Answer, text_of};
+use crate::kept::Kept;
+use std::alloc::{AllocError, Global};
+
+/// The results of the cases of one file.
+#[derive(Drop)]
+pub struct Report {
+    file: String,
+    pub text: String,
+    /// How many actions have another result than the expected one.
+    pub differing: u64,
+}
+
+impl Report {
+    /// Makes a report of the file with this name.
+    pub fn new(alloc: Global, file: String) -> Report {
+        Report {
+            file,
+            text: String::new(alloc),
+            differing: 0,
+        }
+    }
+
+    /// Writes a line for an action whose result is not the expected one: where the action is, how it was run, and its answer.
+    pub fn differ(
+        &mut self,
+        level: LevelName,
+        kept: &Kept,
+        step: &Step,
+        answer: &Answer,
+    ) -> Result<(), AllocError> {
+        let (line, level, way) = (step.line, level.word(), kept.way.word());
+        write!(
+            self.text,
+            "{}:{line}, {level}, {way}: {}->",
+            self.file, step.text
+        )?;
+        self.text.push_str(text_of(kept, answer)?.as_str())?;
+        if kept.left != Left::NONE {
+            let Left {
+                originals,
+                recoveries,
+            } = kept.left;
+            write!(self.text, ", {originals} and {recoveries} left")?;
+        }
+        self.differing = self.differing.saturating_add(1);
+        self.text.push_str("\n")
+    }
+
+    /// Writes the line of an engine: how many cases each of these levels has run, of how many cases, and in which ways.
+    pub fn summarize(
+        &mut self,
+        file: &CaseFile,
+        engine: &str,
+        levels: &[LevelName],
+    ) -> Result<(), AllocError> {
+        write!(self.text, "{} with {engine}:", self.file)?;
+        for level in levels {
+            write!(self.text, " {} {},", file.count_by(*level), level.word())?;
+        }
+        write!(self.text, " of {} cases;", file.cases.len())?;
+        self.write_ways(&file.ways)
+    }
+
+    // Writes the words that name these ways, and ends the line.
+    fn write_ways(&mut self, ways: &[Way]) -> Result<(), AllocError> {
+        for way in ways {
+            write!(self.text, " {}", way.word())?;
+        }
+        self.text.push_str("\n")
+    }
+}

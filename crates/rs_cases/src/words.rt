@@ -1,0 +1,144 @@
+//! The words of a line, read as numbers, counts and shards.
+use crate::cases::{Configuration, Given, Role, Rule, Shard, Shards};
+use crate::fault::Fault;
+use std::alloc::Global;
+
+/// Reads a number.
+pub fn number(word: &str) -> Result<usize, Fault> {
+    let Ok(number) = word.parse::<usize>() else {
+        return Err(Fault::Number);
+    };
+    Ok(number)
+}
+
+/// Reads two counts and a size from three words.
+pub fn configuration(words: &[&str]) -> Result<Configuration, Fault> {
+    let [originals, recoveries, size] = words else {
+        return Err(Fault::Arguments);
+    };
+    Ok(Configuration {
+        original_count: number(originals)?,
+        recovery_count: number(recoveries)?,
+        shard_bytes: number(size)?,
+    })
+}
+
+/// Reads the rule of a message: its name, and the seed or the first word.
+pub fn rule(words: &[&str]) -> Result<Rule, Fault> {
+    match words {
+        ["counted"] => Ok(Rule::Counted),
+        ["drawn", seed] => Ok(Rule::Drawn(byte(seed)?)),
+        ["points", from] => Ok(Rule::Points(number(from)?)),
+        _ => Err(Fault::Rule),
+    }
+}
+
+// Reads a number below 256.
+fn byte(word: &str) -> Result<u8, Fault> {
+    let Ok(byte) = word.parse::<u8>() else {
+        return Err(Fault::Number);
+    };
+    Ok(byte)
+}
+
+/// Reads pairs of counts K+R, as configurations for shards of 64 bytes.
+pub fn pairs(alloc: Global, words: &[&str]) -> Result<Vec<Configuration>, Fault> {
+    let mut pairs = Vec::new(alloc);
+    for word in words {
+        pairs.push(pair(word)?)?;
+    }
+    Ok(pairs)
+}
+
+// Reads a pair of counts K+R.
+fn pair(word: &str) -> Result<Configuration, Fault> {
+    let Some((originals, recoveries)) = word.split_once('+') else {
+        return Err(Fault::Arguments);
+    };
+    Ok(Configuration {
+        original_count: number(originals)?,
+        recovery_count: number(recoveries)?,
+        shard_bytes: 64,
+    })
+}
+
+/// Reads what each word gives to an object.
+pub fn given(alloc: Global, words: &[&str]) -> Result<Vec<Given>, Fault> {
+    let mut given = Vec::new(alloc);
+    for word in words {
+        given.push(given_by(alloc, word)?)?;
+    }
+    Ok(given)
+}
+
+// Reads what a word gives. A word that begins with `o` or `r` gives originals or recovery shards to the decoder, and every other
+// word gives originals to the encoder. The rest of the word is `end`, or names shards.
+fn given_by(alloc: Global, word: &str) -> Result<Given, Fault> {
+    let (role, rest) = role_of(word);
+    if rest == "end" {
+        return Ok(Given::End(role));
+    }
+    Ok(Given::Shards(role, shards(alloc, rest, 0)?))
+}
+
+// Returns the role that a word names, and the rest of the word.
+fn role_of(word: &str) -> (Role, &str) {
+    if let Some(rest) = word.strip_prefix('o') {
+        return (Role::Original, rest);
+    }
+    if let Some(rest) = word.strip_prefix('r') {
+        return (Role::Recovery, rest);
+    }
+    (Role::Next, word)
+}
+
+/// Reads the shards of an expected result. A shard without an index has the index of its word.
+pub fn expected_shards(alloc: Global, text: &str) -> Result<Vec<Shards>, Fault> {
+    let mut expected = Vec::new(alloc);
+    for (place, word) in text.split_whitespace().enumerate() {
+        expected.push(shards(alloc, word, place)?)?;
+    }
+    Ok(expected)
+}
+
+// Reads the shards of a word: @A..B, or I=SHARD, or SHARD, which is a shard with the index `index`.
+fn shards(alloc: Global, word: &str, index: usize) -> Result<Shards, Fault> {
+    if let Some(range) = word.strip_prefix('@') {
+        return range_of(range);
+    }
+    let (index, digits) = match word.split_once('=') {
+        Some((own, digits)) => (number(own)?, digits),
+        None => (index, word),
+    };
+    let bytes = bytes_of(alloc, digits)?;
+    Ok(Shards::Written(Shard { index, bytes }))
+}
+
+// Reads the range A..B.
+fn range_of(range: &str) -> Result<Shards, Fault> {
+    let Some((start, end)) = range.split_once("..") else {
+        return Err(Fault::Arguments);
+    };
+    Ok(Shards::Range {
+        start: number(start)?,
+        end: number(end)?,
+    })
+}
+
+// Reads the bytes of a shard, whose pieces have `+` between them.
+fn bytes_of(alloc: Global, text: &str) -> Result<Vec<u8>, Fault> {
+    let mut bytes = Vec::new(alloc);
+    for piece in text.split('+') {
+        bytes.extend_from_slice(piece_of(alloc, piece)?.as_slice())?;
+    }
+    Ok(bytes)
+}
+
+// Reads a piece of a shard: HEX, or HEX*N for N times the bytes of HEX.
+fn piece_of(alloc: Global, piece: &str) -> Result<Vec<u8>, Fault> {
+    let Some((digits, times)) = piece.split_once('*') else {
+        return Ok(hex::decode(alloc, piece)?);
+    };
+    let bytes = hex::decode(alloc, digits)?;
+    Ok(bytes.repeat(alloc, number(times)?)?)
+}
