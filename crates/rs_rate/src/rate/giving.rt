@@ -1,5 +1,5 @@
-//! Functions that add shards to encoders and decoders one after another, and that make decoders of the default rate for
-//! the shards of one message. The one-call functions and the calls from C use them.
+//! Functions that add shards to encoders and decoders one after another, and a function that makes a decoder of the
+//! default rate for the shards of one message.
 ghost use Rattle.std.specs.Prelude.{◌≡◌, List};
 ghost use Rattle.std.specs.Iterator.{IsFinite};
 ghost use Rattle.std.specs.Option.{option_map};
