@@ -140,8 +140,9 @@ impl<'t> ReedSolomonDecoder<'t> {
     /// decoder.add_recovery_shard(0, &[3, 0])?;
     /// decoder.add_recovery_shard(1, &[5, 0])?;
     /// let restored = decoder.decode()?;
-    /// assert_eq!(rt; restored.restored_original(0), Some([2, 0].as_slice()));
-    /// assert_eq!(rt; restored.restored_original(2), Some([4, 0].as_slice()));
+    /// let (first, last) = ([2, 0], [4, 0]);
+    /// assert_eq!(rt; restored.restored_original(0).ok_or("none")?, first.as_slice());
+    /// assert_eq!(rt; restored.restored_original(2).ok_or("none")?, last.as_slice());
     /// ```
     pub fn reset(
         &mut self,

@@ -202,11 +202,11 @@ impl<'t> ReedSolomonEncoder<'t> {
     ///
     /// # Examples
     ///
-    /// The recovery shard with index 0 is added to a decoder. If the originals are `[2, 0]`, `[0, 0]` and `[4, 0]`, and
-    /// there are two recovery shards, the recovery shard with index 0 is `[3, 0]`:
+    /// The recovery shard with index 0 is added to a decoder:
     ///
     /// ```
     /// match encoder.encode()?.recovery(0) {
+    ///     // If the originals are [2, 0], [0, 0] and [4, 0] and there are two recovery shards, shard is [3, 0].
     ///     Some(shard) => decoder.add_recovery_shard(0, shard),
     ///     None => Ok(()),
     /// }

@@ -106,7 +106,10 @@ fn three_shards_have_these_recovery_shards(rt: HostRuntime) -> Result<(), Fail> 
     assert_eq!(rt; encoder.add_original_shard(ORIGINAL[0]), Err(error));
     let recovery = encoder.encode()?;
     for index in 0..2 {
-        assert_eq!(rt; recovery.recovery(index), Some(RECOVERY[index].as_slice()));
+        assert_eq!(rt;
+            recovery.recovery(index).ok_or("none")?,
+            RECOVERY[index].as_slice()
+        );
     }
     let recovery = encode_slice(alloc, 3, 2, &ORIGINAL, engine)?;
     assert_eq!(rt; recovery.len(), 2);
@@ -154,8 +157,15 @@ fn a_decoder_is_reset(rt: HostRuntime) -> Result<(), Fail> {
     decoder.add_recovery_shard(0, &[3, 0])?;
     decoder.add_recovery_shard(1, &[5, 0])?;
     let restored = decoder.decode()?;
-    assert_eq!(rt; restored.restored_original(0), Some([2, 0].as_slice()));
-    assert_eq!(rt; restored.restored_original(2), Some([4, 0].as_slice()));
+    let (first, last) = ([2, 0], [4, 0]);
+    assert_eq!(rt;
+        restored.restored_original(0).ok_or("none")?,
+        first.as_slice()
+    );
+    assert_eq!(rt;
+        restored.restored_original(2).ok_or("none")?,
+        last.as_slice()
+    );
     Ok(())
 }
 

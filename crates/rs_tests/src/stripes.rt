@@ -2,40 +2,61 @@
 use reed_solomon_simd::decode_slice;
 use reed_solomon_simd::engine::tables::Tables;
 use reed_solomon_simd::engine::{DefaultEngine, EngineKind};
-use rs_callers::stripes::{SHARD_BYTES, STRIPE_BYTES, encode_file};
+use rs_callers::stripes::{STRIPE_BYTES, encode_file};
+use std::alloc::{AllocError, Global};
+use std::process::Abort;
 use std::test::Fail;
 
-// The file has two whole stripes, and 10 bytes more. The shards of the last stripe have 4 bytes, because 4 shards of 4 bytes are
-// the shortest ones that hold 10 bytes. Of each stripe, originals 0 and 1 are lost.
+// Returns a file of `count` bytes.
+fn file_of(alloc: Global, count: usize) -> Result<Vec<u8>, AllocError> {
+    let mut file = Vec::new(alloc);
+    for i in 0..count {
+        file.push((i % 251) as u8)?;
+    }
+    Ok(file)
+}
+
+// Loses originals 0 and 1 of a stripe, restores them, and checks that they come back. A stripe that is shorter than its four
+// shards is filled up with zeros.
+fn check_stripe<A: Abort + AllocGlobal>(
+    rt: &A,
+    engine: DefaultEngine<'_>,
+    stripe: &[u8],
+    recovery: &[Vec<u8>],
+) -> Result<(), Fail> {
+    let alloc = rt.alloc();
+    let shard_bytes = stripe.len().div_ceil(8).saturating_mul(2).max(2);
+    let mut padded = stripe.to_vec(alloc)?;
+    padded.resize(shard_bytes.saturating_mul(4), 0)?;
+    let mut original: Vec<&[u8]> = Vec::new(alloc);
+    for shard in padded.chunks(shard_bytes) {
+        original.push(shard)?;
+    }
+    assert_eq!(rt; [original.len(), recovery.len()], [4, 2]);
+    let kept = [(2, original[2]), (3, original[3])];
+    let received = [(0, recovery[0].as_slice()), (1, recovery[1].as_slice())];
+    let restored = decode_slice(alloc, 4, 2, &kept, &received, engine)?;
+    assert_eq!(rt; restored.len(), 2);
+    for index in 0..2 {
+        let own = restored.get(&index).ok_or("none")?;
+        assert_eq!(rt; own.as_slice(), original[index]);
+    }
+    Ok(())
+}
+
+// The file has two whole stripes, and 10 bytes more. The shards of the last stripe have 4 bytes, because that is the smallest even
+// size with which four shards hold 10 bytes.
 #[test]
 fn stripes_of_a_file_come_back(rt: HostRuntime) -> Result<(), Fail> {
     let alloc = rt.alloc();
     let tables = Tables::new(alloc)?;
     let engine = DefaultEngine::new(&tables, EngineKind::Ssse3);
-    let mut file = vec![in alloc; 0; 2 * STRIPE_BYTES + 16]?;
-    for i in 0..2 * STRIPE_BYTES + 10 {
-        file[i] = (i % 251) as u8;
-    }
-    let written = encode_file(alloc, &file[..2 * STRIPE_BYTES + 10], engine)?;
+    let file = file_of(alloc, 2 * STRIPE_BYTES + 10)?;
+    let written = encode_file(alloc, file.as_slice(), engine)?;
     assert_eq!(rt; written.len(), 6);
-    for (stripe, shard_bytes) in [(0, SHARD_BYTES), (1, SHARD_BYTES), (2, 4)] {
-        let at = stripe * STRIPE_BYTES;
-        let shard = |index: usize| &file[at + index * shard_bytes..at + (index + 1) * shard_bytes];
-        let kept = [(2, shard(2)), (3, shard(3))];
-        let received = [
-            (0, written[2 * stripe].as_slice()),
-            (1, written[2 * stripe + 1].as_slice()),
-        ];
-        let restored = decode_slice(alloc, 4, 2, &kept, &received, engine)?;
-        assert_eq!(rt; restored.len(), 2);
-        for index in 0..2 {
-            let own = restored.get(&index).map(|shard| shard.as_slice());
-            assert_eq!(rt;
-                own,
-                Some(shard(index)),
-                "original {index} of stripe {stripe}"
-            );
-        }
+    assert_eq!(rt; [written[3].len(), written[4].len()], [1024, 4]);
+    for (stripe, recovery) in file.chunks(STRIPE_BYTES).zip(written.chunks(2)) {
+        check_stripe(&rt, engine, stripe, recovery)?;
     }
     Ok(())
 }

@@ -1,4 +1,4 @@
-//! Shards added one after another to the objects of a rate. Proved callers use these functions.
+//! Functions that add shards one after another to the encoders and decoders of a rate. Proved callers use them.
 ghost use Rattle.std.specs.Prelude.{◌≡◌, List};
 ghost use Rattle.std.specs.Iterator.{IsFinite};
 ghost use Rattle.rs_field.specs.code.Column.{Shard};
