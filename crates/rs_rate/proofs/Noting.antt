@@ -31,8 +31,8 @@ note_outcome-none n =
 -- The outcome of noting an index, from the test of its range and the test of its place.
 abbrev pub tested : ℕ → ℕ → Bool → Bool → Result (Unit {0}) Error
 tested count index outside taken =
-    if outside then Err (InvalidOriginalShardIndex count index) else if taken then Err
-        (DuplicateOriginalShardIndex index) else Ok tt
+    if outside then Err (InvalidOriginalShardIndex count index) else if taken
+    then Err (DuplicateOriginalShardIndex index) else Ok tt
 
 -- The list after noting an index, from the test of its range and the test whether it is already in the list.
 abbrev pub noted_by : ℕ → List ℕ → ℕ → Bool → Bool → Result (List ℕ) Error

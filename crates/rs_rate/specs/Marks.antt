@@ -63,14 +63,16 @@ given_row_count marks from (suc n) = given_row_count marks from n + (if is_marke
 -- the given shards in the n rows from row `from` on, by their indexes
 unfoldable pub given_shards : List Bool → Chunks → ℕ → ℕ → ℕ → Shards
 given_shards marks chunks size from n i =
-    if nat_lt i n then (if is_marked marks (from + i) then Some (shard_laid_out chunks size (from + i)) else None) else
-        None
+    if nat_lt i n
+    then (if is_marked marks (from + i) then Some (shard_laid_out chunks size (from + i)) else None)
+    else None
 
 -- the restored originals in the n rows from row `from` on, by their indexes
 unfoldable pub restored_shards : List Bool → Chunks → ℕ → ℕ → ℕ → Shards
 restored_shards marks chunks size from n i =
-    if nat_lt i n then (if is_marked marks (from + i) then Some (shard_in_order chunks size (from + i)) else None) else
-        None
+    if nat_lt i n
+    then (if is_marked marks (from + i) then Some (shard_in_order chunks size (from + i)) else None)
+    else None
 
 -- every given shard is in one of the k rows of originals or one of the r rows of recovery shards
 abbrev pub ArePlaced : ℕ → ℕ → ℕ → ℕ → List Bool → Type 0

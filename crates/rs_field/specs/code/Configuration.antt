@@ -20,8 +20,8 @@ configuration rate k r size = record { rate = rate; original_count = k; recovery
 -- success, or the first error of a configuration: the counts are checked before the size
 abbrev pub validation_outcome : Configuration → Result (Unit {0}) Error
 validation_outcome c =
-    if not (supports c.rate c.original_count c.recovery_count) then Err
-        (UnsupportedShardCount c.original_count c.recovery_count)
+    if not (supports c.rate c.original_count c.recovery_count)
+    then Err (UnsupportedShardCount c.original_count c.recovery_count)
     else if c.shard_bytes == 0 || c.shard_bytes % 2 == 1 then Err (InvalidShardSize c.shard_bytes)
     else Ok tt
 

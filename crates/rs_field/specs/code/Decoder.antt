@@ -65,8 +65,8 @@ recovery_given s = count_below s.configuration.recovery_count s.recovery
 abbrev pub enough_given : DecoderState → Result (Unit {0}) Error
 enough_given s =
     let k = s.configuration.original_count in
-    if nat_lt (originals_given s + recovery_given s) k then Err
-        (NotEnoughShards k (originals_given s) (recovery_given s)) else Ok tt
+    if nat_lt (originals_given s + recovery_given s) k
+    then Err (NotEnoughShards k (originals_given s) (recovery_given s)) else Ok tt
 
 -- a message agrees with the shards that were added to a decoder
 abbrev pub IsAgreeing : DecoderState → List Shard → Type 0

@@ -49,14 +49,14 @@ pub record AreLeft (shards : List Shard) (items : Items) : Type 0 where
 -- success if at least k shards are left, else the error
 abbrev pub enough_left : ℕ → Items → Items → Result (Unit {0}) Error
 enough_left k originals recovery =
-    if nat_lt (length originals + length recovery) k then Err
-        (NotEnoughShards k (length originals) (length recovery)) else Ok tt
+    if nat_lt (length originals + length recovery) k
+    then Err (NotEnoughShards k (length originals) (length recovery)) else Ok tt
 
 -- the lost shards of a list, by their indexes: those whose indexes no item has
 unfoldable pub lost_of : List Shard → Items → Shards
 lost_of shards items i =
-    if nat_lt i (length shards) && not (list_any (λ item. nat_eq i item.0) items) then Some
-    (shard_at shards i) else None
+    if nat_lt i (length shards) && not (list_any (λ item. nat_eq i item.0) items)
+    then Some (shard_at shards i) else None
 
 -- what a decoder returns for known originals: exactly the lost originals if there are enough shards, else
 -- `NotEnoughShards`
