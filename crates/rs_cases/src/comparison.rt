@@ -1,24 +1,24 @@
-//! Compares the answer of an action with its expected result.
+//! Compares the outcome of an action with its expected result.
 use crate::cases::{Expected, Shard, Shards, Step};
 use crate::interpreter::{Failure, Returned, named};
 use crate::kept::Kept;
 use std::alloc::{AllocError, Global};
 
 /// What an action has returned, or why it has failed.
-pub type Answer = Result<Returned, Failure>;
+pub type Outcome = Result<Returned, Failure>;
 
-/// Returns whether the answer is the expected result, and whether the call has left the expected shards.
-pub fn is_expected(kept: &Kept, answer: &Answer, step: &Step) -> Result<bool, AllocError> {
+/// Returns whether the outcome is the expected result, and whether the call has left the expected shards.
+pub fn is_expected(kept: &Kept, outcome: &Outcome, step: &Step) -> Result<bool, AllocError> {
     let same = match &step.expected {
-        Expected::Shards(expected) => are_expected(kept, answer, expected),
-        Expected::Text(expected) => text_of(kept, answer)?.as_str() == expected.as_str(),
+        Expected::Shards(expected) => are_expected(kept, outcome, expected),
+        Expected::Text(expected) => text_of(kept, outcome)?.as_str() == expected.as_str(),
     };
     Ok(same && kept.left == step.left)
 }
 
-// Returns whether the answer is these shards. An action that returns no shards has none.
-fn are_expected(kept: &Kept, answer: &Answer, expected: &[Shards]) -> bool {
-    match answer {
+// Returns whether the outcome is these shards. An action that returns no shards has none.
+fn are_expected(kept: &Kept, outcome: &Outcome, expected: &[Shards]) -> bool {
+    match outcome {
         Ok(Returned::Nothing) => expected.is_empty(),
         Ok(Returned::Shards(object)) => are_same(kept, kept.result(*object), expected),
         Ok(Returned::Digest(_)) | Err(_) => false,
@@ -40,9 +40,9 @@ fn are_same(kept: &Kept, shards: &[Shard], expected: &[Shards]) -> bool {
     rest.is_empty()
 }
 
-/// Returns the text of an answer: a space and I=HEX for each shard, a digest, or the text of the failure.
-pub fn text_of(kept: &Kept, answer: &Answer) -> Result<String, AllocError> {
-    match answer {
+/// Returns the text of an outcome: a space and I=HEX for each shard, a digest, or the text of the failure.
+pub fn text_of(kept: &Kept, outcome: &Outcome) -> Result<String, AllocError> {
+    match outcome {
         Ok(Returned::Nothing) => Ok(String::new(kept.alloc)),
         Ok(Returned::Shards(object)) => text_of_shards(kept.alloc, kept.result(*object)),
         Ok(Returned::Digest(digest)) => digest.clone(),

@@ -6,7 +6,7 @@ use crate::message::{digest_of, message};
 use reed_solomon_simd::Error;
 use reed_solomon_simd::rate::{DecoderWork, EncoderWork};
 use std::alloc::AllocError;
-use std::{fmt, slice};
+use std::slice;
 
 /// What an action has returned.
 #[derive(Drop)]

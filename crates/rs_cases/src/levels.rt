@@ -124,12 +124,12 @@ impl<'t, E: Engine + Copy> Levels<'t, E> {
     ) -> Result<bool, AllocError> {
         kept.agrees = true;
         kept.left = Left::NONE;
-        let answer = self.act_by(level, kept, &step.action);
-        if is_expected(kept, &answer, step)? {
+        let outcome = self.act_by(level, kept, &step.action);
+        if is_expected(kept, &outcome, step)? {
             return Ok(false);
         }
-        report.differ(level, kept, step, &answer)?;
-        Ok(matches!(answer, Err(Failure::Refused(Error::OutOfMemory))))
+        report.differ(level, kept, step, &outcome)?;
+        Ok(matches!(outcome, Err(Failure::Refused(Error::OutOfMemory))))
     }
 
     // Does an action with a level.

@@ -1,11 +1,15 @@
 //! The one-call functions. The given shards are passed when the call is made.
+ghost use Rattle.std.specs.Prelude.{length};
+ghost use Rattle.std.specs.Iterator.{at_most};
+
 use crate::cases::{Configuration, Left, Object, Role, Shard};
 use crate::kept::{Kept, Works};
 use crate::level::{Answer, Level};
 use crate::watch::Watch;
 use reed_solomon_simd::engine::DefaultEngine;
-use reed_solomon_simd::{decode, encode};
+use reed_solomon_simd::{Error, decode, encode};
 use std::alloc::Global;
+use std::collections::BTreeMap;
 
 /// The one-call functions, with the counts and the shards for the next call.
 #[derive(Drop)]
@@ -44,6 +48,24 @@ impl<'t> OneCall<'t> {
             Role::Recovery => &mut self.recovery,
         }
     }
+
+    // Decodes the shards at these places. Returns the result of the call, and what it has not asked for.
+    fn decode_places<'a>(
+        &self,
+        originals: &'a [Option<Shard>],
+        recoveries: &'a [Option<Shard>],
+    ) -> (Result<BTreeMap<usize, Vec<u8>>, Error>, Left) {
+        let (k, r, _) = self.configuration.numbers();
+        let (mut original, mut recovery) = (Received(originals), Received(recoveries));
+        let watch = Watch::new(self.alloc);
+        let answer = decode(self.alloc, k, r, &mut original, &mut recovery, self.engine);
+        drop(watch);
+        let left = Left {
+            originals: original.0.len(),
+            recoveries: recovery.0.len(),
+        };
+        (answer, left)
+    }
 }
 
 impl Level for OneCall<'_> {
@@ -77,16 +99,13 @@ impl Level for OneCall<'_> {
     }
 
     fn encode(&mut self, kept: &mut Kept) -> Answer {
-        let counts = self.configuration;
-        let (k, r) = (counts.original_count, counts.recovery_count);
-        let mut places = self.next.iter();
-        let shards = places.by_ref().map_while(lent_bytes);
+        let (k, r, _) = self.configuration.numbers();
+        let mut originals = Originals(self.next.as_slice());
         let watch = Watch::new(self.alloc);
-        let answer = encode(self.alloc, k, r, shards, self.engine);
+        let answer = encode(self.alloc, k, r, &mut originals, self.engine);
         drop(watch);
-        let originals = places.len();
         kept.left = Left {
-            originals,
+            originals: originals.0.len(),
             recoveries: 0,
         };
         self.next.clear();
@@ -98,18 +117,9 @@ impl Level for OneCall<'_> {
     }
 
     fn decode(&mut self, kept: &mut Kept) -> Answer {
-        let counts = self.configuration;
-        let (k, r) = (counts.original_count, counts.recovery_count);
-        let (mut originals, mut recoveries) = (self.original.iter(), self.recovery.iter());
-        let original = originals.by_ref().map_while(lent);
-        let recovery = recoveries.by_ref().map_while(lent);
-        let watch = Watch::new(self.alloc);
-        let answer = decode(self.alloc, k, r, original, recovery, self.engine);
-        drop(watch);
-        kept.left = Left {
-            originals: originals.len(),
-            recoveries: recoveries.len(),
-        };
+        let (originals, recoveries) = (self.original.as_slice(), self.recovery.as_slice());
+        let (answer, left) = self.decode_places(originals, recoveries);
+        kept.left = left;
         self.original.clear();
         self.recovery.clear();
         kept.restored.clear();
@@ -120,18 +130,40 @@ impl Level for OneCall<'_> {
     }
 }
 
-// Returns the original that the iterator for `encode` lends at this place.
-fn lent_bytes(place: &Option<Shard>) -> Option<&[u8]> {
-    match place {
-        Some(shard) => Some(shard.bytes.as_slice()),
-        None => None,
+// Lends the originals for `encode`, and ends once at each `None`.
+#[derive(Drop)]
+struct Originals<'a>(&'a [Option<Shard>]);
+
+impl<'a> Iterator for Originals<'a> {
+    type Item = &'a [u8];
+
+    ghost remaining = { λ s. at_most (length s.0.now) };
+
+    fn next(&mut self) -> Option<&'a [u8]> {
+        let (place, rest) = self.0.split_first()?;
+        self.0 = rest;
+        match place {
+            Some(shard) => Some(shard.bytes.as_slice()),
+            None => None,
+        }
     }
 }
 
-// Returns the item that an iterator for `decode` lends at this place.
-fn lent(place: &Option<Shard>) -> Option<(usize, &[u8])> {
-    match place {
-        Some(shard) => Some((shard.index, shard.bytes.as_slice())),
-        None => None,
+// Lends shards with their indexes for `decode`, and ends once at each `None`.
+#[derive(Drop)]
+struct Received<'a>(&'a [Option<Shard>]);
+
+impl<'a> Iterator for Received<'a> {
+    type Item = (usize, &'a [u8]);
+
+    ghost remaining = { λ s. at_most (length s.0.now) };
+
+    fn next(&mut self) -> Option<(usize, &'a [u8])> {
+        let (place, rest) = self.0.split_first()?;
+        self.0 = rest;
+        match place {
+            Some(shard) => Some((shard.index, shard.bytes.as_slice())),
+            None => None,
+        }
     }
 }

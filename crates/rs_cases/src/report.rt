@@ -1,6 +1,6 @@
 //! The report of the cases of a file.
 use crate::cases::{CaseFile, Left, LevelName, Step, Way};
-use crate::comparison::{Answer, text_of};
+use crate::comparison::{Outcome, text_of};
 use crate::kept::Kept;
 use std::alloc::{AllocError, Global};
 
@@ -23,13 +23,13 @@ impl Report {
         }
     }
 
-    /// Writes a line for an action whose result is not the expected one: where the action is, how it was run, and its answer.
+    /// Writes a line for an action whose result is not the expected one: where the action is, how it was run, and its outcome.
     pub fn differ(
         &mut self,
         level: LevelName,
         kept: &Kept,
         step: &Step,
-        answer: &Answer,
+        outcome: &Outcome,
     ) -> Result<(), AllocError> {
         let (line, level, way) = (step.line, level.word(), kept.way.word());
         write!(
@@ -37,7 +37,7 @@ impl Report {
             "{}:{line}, {level}, {way}: {}->",
             self.file, step.text
         )?;
-        self.text.push_str(text_of(kept, answer)?.as_str())?;
+        self.text.push_str(text_of(kept, outcome)?.as_str())?;
         if kept.left != Left::NONE {
             let Left {
                 originals,
