@@ -1,0 +1,5 @@
+pub mod Fields
+pub mod Files
+pub mod Loop
+pub mod NameLemmas
+pub mod Sets

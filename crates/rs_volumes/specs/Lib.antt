@@ -1,0 +1,3 @@
+pub mod Description
+pub mod Reading
+pub mod Sound
