@@ -3,3 +3,4 @@ pub mod Files
 pub mod Loop
 pub mod NameLemmas
 pub mod Sets
+pub mod Hashes

@@ -3,10 +3,19 @@
 #![tactic(auto)]
 
 pub mod checking;
+pub mod coding_error;
+pub mod creating;
 pub mod description;
+pub mod digest;
 pub mod fault;
+pub mod hashing;
+pub mod head;
+pub mod pieces;
+pub mod placement;
 mod reading;
+pub mod restoring;
 mod writing;
 
 pub use reading::read_description;
 pub use writing::write_description;
+
