@@ -39,14 +39,16 @@ file_again : (f : SetFile) (rest : List ℕ) → FileFits f → file_at (file_sp
 unfolding file_at
 file_again f rest fits =
     let regrouped : file_spelling f ++ rest ≡ to_le_bytes w64 f.size ++ (to_le_bytes w64 f.modified ++ (to_le_bytes w32 f.mode ++ (name_spelling f.name ++ rest))) =
-        append_assoc (to_le_bytes w64 f.size) (to_le_bytes w64 f.modified ++ (to_le_bytes w32 f.mode ++ name_spelling f.name)) rest
-        ∙ ap (λ (x : List ℕ). to_le_bytes w64 f.size ++ x) (append_assoc (to_le_bytes w64 f.modified) (to_le_bytes w32 f.mode ++ name_spelling f.name) rest
-        ∙ ap (λ (x : List ℕ). to_le_bytes w64 f.modified ++ x) (append_assoc (to_le_bytes w32 f.mode) (name_spelling f.name) rest)) in
+    append_assoc (to_le_bytes w64 f.size) (to_le_bytes w64 f.modified ++ (to_le_bytes w32 f.mode ++ name_spelling f.name)) rest
+    ∙ ap (λ (x : List ℕ). to_le_bytes w64 f.size ++ x) (append_assoc (to_le_bytes w64 f.modified) (to_le_bytes w32 f.mode ++ name_spelling f.name) rest
+    ∙ ap (λ (x : List ℕ). to_le_bytes w64 f.modified ++ x) (append_assoc (to_le_bytes w32 f.mode) (name_spelling f.name) rest)) in
     ap file_at regrouped
-    ∙ rw (number_again w64 (2 ^ 64) wide64 f.size (to_le_bytes w64 f.modified ++ (to_le_bytes w32 f.mode ++ (name_spelling f.name ++ rest))) fits.size,
+    ∙ rw (
+      number_again w64 (2 ^ 64) wide64 f.size (to_le_bytes w64 f.modified ++ (to_le_bytes w32 f.mode ++ (name_spelling f.name ++ rest))) fits.size,
       number_again w64 (2 ^ 64) wide64 f.modified (to_le_bytes w32 f.mode ++ (name_spelling f.name ++ rest)) fits.modified,
       number_again w32 (2 ^ 32) wide32 f.mode (name_spelling f.name ++ rest) fits.mode,
-      name_again f.name rest fits.name) refl
+      name_again f.name rest fits.name,
+    ) refl
 
 -- ---- files
 
@@ -71,7 +73,7 @@ unfolding files_at
 files_again [] rest fits = refl
 files_again (f ∷ fs) rest fits =
     let regrouped : flat_map file_spelling (f ∷ fs) ++ rest ≡ file_spelling f ++ (flat_map file_spelling fs ++ rest) =
-        ap (λ (x : List ℕ). x ++ rest) (flat_map-cons file_spelling f fs) ∙ append_assoc (file_spelling f) (flat_map file_spelling fs) rest in
+    ap (λ (x : List ℕ). x ++ rest) (flat_map-cons file_spelling f fs) ∙ append_assoc (file_spelling f) (flat_map file_spelling fs) rest in
     ap (files_at (suc (length fs))) regrouped
     ∙ rw (file_again f (flat_map file_spelling fs ++ rest) fits.0, files_again fs rest fits.1) refl
 
@@ -133,11 +135,14 @@ opening_again o rest fits =
     let b : List ℕ = to_le_bytes w64 o.block_bytes ++ k in
     let regrouped : spelled o ++ rest ≡ to_le_bytes w32 1 ++ (to_le_bytes w32 1 ++ b) = simp append_assoc in
     ap opening_at regrouped
-    ∙ rw (one_again Code (to_le_bytes w32 1 ++ b), one_again Digest b,
+    ∙ rw (
+      one_again Code (to_le_bytes w32 1 ++ b),
+      one_again Digest b,
       number_again w64 (2 ^ 64) wide64 o.block_bytes k fits.block_bytes,
       number_again w32 (2 ^ 32) wide32 o.original_count r fits.original_count,
       number_again w32 (2 ^ 32) wide32 o.recovery_count n fits.recovery_count,
-      number_again w32 (2 ^ 32) wide32 o.file_count rest fits.file_count) refl
+      number_again w32 (2 ^ 32) wide32 o.file_count rest fits.file_count,
+    ) refl
 
 -- ---- the digests
 
@@ -175,26 +180,28 @@ description_takes bytes s fits e =
     let t3 = digests_take (a.0.0.original_count + a.0.0.recovery_count) b.0.1 c.0 c.1 in
     let made : FileSet = record { block_bytes = a.0.0.block_bytes; original_count = a.0.0.original_count; recovery_count = a.0.0.recovery_count; files = b.0.0; digests = c.0 } in
     let counted : opening_spelling a.0.0.block_bytes a.0.0.original_count a.0.0.recovery_count a.0.0.file_count ≡ opening_spelling a.0.0.block_bytes a.0.0.original_count a.0.0.recovery_count (length b.0.0) =
-        ap (λ (n : ℕ). opening_spelling a.0.0.block_bytes a.0.0.original_count a.0.0.recovery_count n) (sym t2.1) in
+    ap (λ (n : ℕ). opening_spelling a.0.0.block_bytes a.0.0.original_count a.0.0.recovery_count n) (sym t2.1) in
     let whole : bytes ≡ spelling made =
-        t1.0.parts ∙ ap (λ (x : List ℕ). spelled a.0.0 ++ x) (t2.0.parts ∙ ap (λ (x : List ℕ). flat_map file_spelling b.0.0 ++ x) t3.0)
-        ∙ ap (λ (x : List ℕ). x ++ (flat_map file_spelling b.0.0 ++ c.0)) counted in
+    t1.0.parts ∙ ap (λ (x : List ℕ). spelled a.0.0 ++ x) (t2.0.parts ∙ ap (λ (x : List ℕ). flat_map file_spelling b.0.0 ++ x) t3.0)
+    ∙ ap (λ (x : List ℕ). x ++ (flat_map file_spelling b.0.0 ++ c.0)) counted in
     let few : length b.0.0 < 2 ^ 32 = subst (λ (n : ℕ). n < 2 ^ 32) (sym t2.1) t1.1.file_count in
-    subst (λ (v : FileSet). Fits v × (bytes ≡ spelling v)) (ok_is made s c.2)
-    (record {
-      block_bytes = t1.1.block_bytes;
-      original_count = t1.1.original_count;
-      recovery_count = t1.1.recovery_count;
-      count = few;
-      files = t2.2;
-      digests = t3.1;
-    }, whole)
+    subst (λ (v : FileSet). Fits v × (bytes ≡ spelling v)) (ok_is made s c.2) (
+      record {
+        block_bytes = t1.1.block_bytes;
+        original_count = t1.1.original_count;
+        recovery_count = t1.1.recovery_count;
+        count = few;
+        files = t2.2;
+        digests = t3.1;
+      },
+      whole,
+    )
 
 pub description_again : (s : FileSet) → Fits s → description_in (spelling s) ≡ Ok s
 unfolding description_in
 description_again s fits =
     let o : Opening = record { block_bytes = s.block_bytes; original_count = s.original_count; recovery_count = s.recovery_count; file_count = length s.files } in
     let opening : opening_at (spelling s) ≡ Ok (o, flat_map file_spelling s.files ++ s.digests) =
-        opening_again o (flat_map file_spelling s.files ++ s.digests)
-        (record { block_bytes = fits.block_bytes; original_count = fits.original_count; recovery_count = fits.recovery_count; file_count = fits.count }) in
+    opening_again o (flat_map file_spelling s.files ++ s.digests)
+    (record { block_bytes = fits.block_bytes; original_count = fits.original_count; recovery_count = fits.recovery_count; file_count = fits.count }) in
     rw (opening, files_again s.files s.digests fits.files, digests_again (s.original_count + s.recovery_count) s.digests fits.digests) refl

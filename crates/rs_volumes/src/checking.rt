@@ -1,5 +1,5 @@
 //! Checks whether a description is sound: whether its numbers fit each other, and its names are safe.
-ghost use Rattle.std.specs.Prelude.{◌≡◌, ◌<◌, ◌^◌, ◌==◌, true, [], All, OnOk};
+ghost use Rattle.std.specs.Prelude.{◌≡◌, ◌<◌, ◌^◌, ◌==◌, true, [], All, OnOk, IsTrue, length};
 ghost use Rattle.std.specs.Str.{is_utf8};
 ghost use Rattle.rs_volumes.specs.Description.{set_of, files_of};
 ghost use Rattle.rs_volumes.specs.Sound.{blocks_of, blocks_in, is_part, has_parts, is_name, is_before, files_outcome, allows_counts, allows_block, set_outcome};
@@ -174,4 +174,29 @@ pub fn check(description: &Description) -> Result<(), Fault>
         return Err(Fault::Blocks);
     }
     Ok(())
+}
+
+/// Returns whether a description can be written: it has fewer than 2^32 files, and each name is shorter than 2^16 bytes.
+pub fn fits(description: &Description) -> bool
+    ensures count { IsTrue result → length description.now.files.items < 2 ^ 32 }
+    ensures names { IsTrue result
+        → All (λ file. length file.name.items < 2 ^ 16) description.now.files.items }
+{
+    let files = description.files.as_slice();
+    if files.len() >= 1 << 32 {
+        return false;
+    }
+    has_short_names(files)
+}
+
+// Whether each name is shorter than 2^16 bytes.
+fn has_short_names(files: &[FileEntry]) -> bool
+    ensures { IsTrue result → All (λ file. length file.name.items < 2 ^ 16) files.now }
+{
+    for file in files {
+        if file.name.len() >= 1 << 16 {
+            return false;
+        }
+    }
+    true
 }

@@ -1,8 +1,7 @@
 //! Why blocks were not created or restored.
 use std::alloc::{AllocError, AllocFailed};
 use std::error::Error;
-use std::fmt;
-use std::io;
+use std::{fmt, io};
 
 /// Why blocks were not created or restored.
 #[derive(Debug, Drop)]

@@ -18,4 +18,3 @@ mod writing;
 
 pub use reading::read_description;
 pub use writing::write_description;
-

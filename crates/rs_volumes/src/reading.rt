@@ -118,12 +118,15 @@ struct Numbers {
 // Reads the numbers with which a description begins.
 #[tactic(auto, unfolding(crate::specs::Reading::opening_at))]
 fn numbers_of(bytes: &[u8]) -> Result<(Numbers, &[u8]), ReadError>
-    ensures { Gives (λ x. (record {
-          block_bytes = x.0.block_bytes;
-          original_count = x.0.original_count;
-          recovery_count = x.0.recovery_count;
-          file_count = x.0.file_count;
-        }, x.1.now)) result (opening_at bytes.now) }
+    ensures { Gives (λ x. (
+      record {
+        block_bytes = x.0.block_bytes;
+        original_count = x.0.original_count;
+        recovery_count = x.0.recovery_count;
+        file_count = x.0.file_count;
+      },
+      x.1.now,
+    )) result (opening_at bytes.now) }
 {
     let rest = one_of(Fault::Code, bytes)?;
     let rest = one_of(Fault::Digest, rest)?;

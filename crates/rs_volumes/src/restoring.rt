@@ -59,7 +59,16 @@ pub fn restore<S: BlockSource, W: BlockSink>(
     while start < shape.block_bytes {
         let end = start + piece_bytes.min(shape.block_bytes - start);
         let pieces = read_all(alloc, shape, plan, start, end, source)?;
-        restore_piece(alloc, shape, start, engine, plan, &pieces, &mut hashers, sink)?;
+        restore_piece(
+            alloc,
+            shape,
+            start,
+            engine,
+            plan,
+            &pieces,
+            &mut hashers,
+            sink,
+        )?;
         start = end;
     }
     compare(plan.wanted.as_slice(), digests, &mut hashers)
@@ -122,7 +131,13 @@ fn restore_piece<W: BlockSink>(
     hashers: &mut Vec<Sha256>,
     sink: &mut W,
 ) -> Result<(), CodingError> {
-    put_read(start, plan.wanted.as_slice(), pieces.originals.as_slice(), hashers, sink)?;
+    put_read(
+        start,
+        plan.wanted.as_slice(),
+        pieces.originals.as_slice(),
+        hashers,
+        sink,
+    )?;
     if pieces.recovery.is_empty() {
         return Ok(());
     }
@@ -138,7 +153,13 @@ fn restore_piece<W: BlockSink>(
     for (index, piece) in restored {
         found.push((index, piece))?;
     }
-    put_read(start, plan.wanted.as_slice(), found.as_slice(), hashers, sink)
+    put_read(
+        start,
+        plan.wanted.as_slice(),
+        found.as_slice(),
+        hashers,
+        sink,
+    )
 }
 
 // Writes the pieces of wanted blocks.
@@ -161,11 +182,7 @@ fn put_read<W: BlockSink>(
 }
 
 // Compares the digest of each wanted block with the digest of the description.
-fn compare(
-    wanted: &[bool],
-    digests: &[u8],
-    hashers: &mut Vec<Sha256>,
-) -> Result<(), CodingError> {
+fn compare(wanted: &[bool], digests: &[u8], hashers: &mut Vec<Sha256>) -> Result<(), CodingError> {
     for (index, is_wanted) in wanted.iter().enumerate() {
         if *is_wanted {
             if index >= hashers.len() {

@@ -1,8 +1,8 @@
 //! Writes a description.
-ghost use Rattle.std.specs.Prelude.{◌≡◌, ◌<◌, ◌^◌, ◌++◌, length, OnOk, IfOk};
+ghost use Rattle.std.specs.Prelude.{◌≡◌, ◌<◌, ◌^◌, ◌++◌, length, All, OnOk, IfOk};
 ghost use Rattle.std.specs.Int.{w32, w64, to_le_bytes};
-ghost use Rattle.std.specs.List.{flat_map, AllByRecursion};
-ghost use Rattle.rs_volumes.specs.Description.{file_of, files_of, set_of, file_spelling, name_spelling, opening_spelling, spelling, Fits, FileFits};
+ghost use Rattle.std.specs.List.{flat_map};
+ghost use Rattle.rs_volumes.specs.Description.{file_of, files_of, set_of, file_spelling, name_spelling, opening_spelling, spelling};
 
 use crate::description::{Description, FileEntry};
 use std::alloc::{AllocError, Global};
@@ -53,7 +53,7 @@ fn put_file(out: &mut Vec<u8>, file: &FileEntry) -> Result<(), AllocError>
 
 // Writes the files.
 fn put_files(out: &mut Vec<u8>, files: &[FileEntry]) -> Result<(), AllocError>
-    requires { AllByRecursion FileFits (files_of files.now) }
+    requires { All (λ file. length file.name.items < 2 ^ 16) files.now }
     ensures { OnOk result (out.new.items
         ≡ out.old.items ++ flat_map file_spelling (files_of files.now)) }
 {
@@ -74,7 +74,8 @@ fn put_files(out: &mut Vec<u8>, files: &[FileEntry]) -> Result<(), AllocError>
 /// A set of one file with a name of five bytes, one original block and one recovery block has a description of 119 bytes: 28 for the
 /// numbers at the beginning, 27 for the file, and 32 for each of the two digests.
 pub fn write_description(alloc: Global, description: &Description) -> Result<Vec<u8>, AllocError>
-    requires { Fits (set_of description.now) }
+    requires count { length description.now.files.items < 2 ^ 32 }
+    requires names { All (λ file. length file.name.items < 2 ^ 16) description.now.files.items }
     ensures { IfOk result (λ v. v.items ≡ spelling (set_of description.now)) }
 {
     let mut out = Vec::new(alloc);

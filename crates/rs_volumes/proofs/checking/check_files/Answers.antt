@@ -31,7 +31,7 @@ loop-file-preserved c =
     let later : is_before c.loop-file.previous.now c.file-item.result.name.items ≡ true = search rules in
     record {
       same = rw c.as_slice-previous.ensures.value (c.loop-file.invariant.same
-      ∙ passes_at c.args.files.now c.loop-file.file-index c.file-item.result c.loop-file-test.true c.file-item.is short c.loop-file.previous.now good later);
+          ∙ passes_at c.args.files.now c.loop-file.file-index c.file-item.result c.loop-file-test.true c.file-item.is short c.loop-file.previous.now good later);
       sized = λ k d lt. elim (cases_lt k c.loop-file.file-index) [
         | inl less ↦ c.loop-file.invariant.sized k d less
         | inr le ↦

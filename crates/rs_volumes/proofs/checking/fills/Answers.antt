@@ -13,7 +13,7 @@ loop-file-preserved c =
     let fits : blocks_of c.args.block_bytes c.file-item.result.size ≤ c.loop-file.left = omega (arith, c.block_count-blocks.ensures) in
     record {
       same = rw c.block_count-blocks.ensures (c.loop-file.invariant.same
-      ∙ fills_at c.args.files.now c.loop-file.file-index c.file-item.result c.loop-file-test.true c.file-item.is c.args.block_bytes c.loop-file.left fits);
+          ∙ fills_at c.args.files.now c.loop-file.file-index c.file-item.result c.loop-file-test.true c.file-item.is c.args.block_bytes c.loop-file.left fits);
     }
 
 pub returns : goal.returns

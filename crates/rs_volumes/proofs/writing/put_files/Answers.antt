@@ -1,22 +1,15 @@
 use Rattle.std.proofs.Common.{◌≡◌, ℕ, ◌+◌, ◌<◌, ◌^◌, List, [], ◌∷◌, ◌++◌, length, get_or, take, refl, sym, ap, ◌∙◌, append_assoc}
-use Rattle.std.specs.List.{flat_map, AllByRecursion}
+use Rattle.std.specs.List.{flat_map}
 use Rattle.std.proofs.lemmas.List.{take_more, map-append, append-nil}
 use Rattle.std.proofs.lemmas.Grind.{flat_map-append}
 use Rattle.std.proofs.lemmas.List.Concat.{flat_map-cons}
-use Rattle.std.proofs.lemmas.List.Elements.{All-from_recursion}
 use Rattle.rs_volumes.specs.declared.description.FileEntry.{FileEntry}
-use Rattle.rs_volumes.specs.Description.{file_of, files_of, file_spelling, FileFits}
+use Rattle.rs_volumes.specs.Description.{file_of, files_of, file_spelling}
 use Rattle.rs_volumes.proofs.writing.put_files.Goals as goal
-
--- the names of files that fit, at each place
-names_fit : (files : List FileEntry) → AllByRecursion FileFits (files_of files) → AllByRecursion (λ f. length f.name.items < 2 ^ 16) files
-names_fit [] fits = tt
-names_fit (f ∷ fs) fits = (fits.0.name, names_fit fs fits.1)
 
 pub put_file-requires : goal.put_file-requires
 put_file-requires c =
-    rw c.file-item.is (All-from_recursion (λ f. length f.name.items < 2 ^ 16) c.args.files.now
-    (names_fit c.args.files.now c.requires) c.loop-file.file-index _ c.loop-file-test.true)
+    rw c.file-item.is (c.requires c.loop-file.file-index _ c.loop-file-test.true)
 
 files_further : (files : List FileEntry) (i : ℕ) (file : FileEntry) → i < length files → file ≡ get_or files i file
     → flat_map file_spelling (files_of (take (i + 1) files)) ≡ flat_map file_spelling (files_of (take i files)) ++ file_spelling (file_of file)
