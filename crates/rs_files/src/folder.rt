@@ -1,5 +1,5 @@
 //! Sizes that a set is cut into.
-ghost use Rattle.std.specs.Prelude.{◌≡◌, ◌<◌, ◌^◌, ◌%◌};
+ghost use Rattle.std.specs.Prelude.{◌≡◌, ◌<◌, ◌≤◌, ◌^◌, ◌%◌, IfSome};
 
 use crate::settings::Recovery;
 use anyhow::{Result, bail};
@@ -22,6 +22,7 @@ pub struct Cut {
 fn blocks_of(files: &[FileEntry], block_bytes: u64) -> Option<u64>
     requires some { 0 < block_bytes }
     requires few { block_bytes < 2 ^ 63 }
+    ensures { IfSome result (λ blocks. blocks ≤ 65536) }
 {
     let mut total = 0u64;
     for file in files {
@@ -58,17 +59,18 @@ pub fn default_block(files: &[FileEntry]) -> Result<u64> {
         );
     }
     for _ in 0..64 {
-        if high - low <= 1 {
-            return Ok(high * 4096);
+        let gap = high.saturating_sub(low);
+        if gap <= 1 {
+            break;
         }
-        let middle = low + (high - low) / 2;
+        let middle = low.saturating_add(gap / 2);
         if has_at_most(files, middle, wanted) {
             high = middle;
         } else {
             low = middle;
         }
     }
-    Ok(high * 4096)
+    Ok(high.saturating_mul(4096))
 }
 
 // Whether the files have at most this many blocks of `pages` * 4096 bytes.

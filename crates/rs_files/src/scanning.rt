@@ -8,7 +8,6 @@ use rs_volumes::description::{Description, FileEntry};
 use rs_volumes::digest::is_digest;
 use rs_volumes::placement::{Place, places_of};
 use sha2::{Digest, Sha256};
-use std::alloc::Global;
 use std::fs;
 use std::fs::OpenFile;
 use std::io::{Read, Seek, SeekFrom};
@@ -137,50 +136,61 @@ pub fn scan_set<R: Runtime + AllocGlobal>(
     folder: Option<&str>,
     shown: bool,
 ) -> Result<Scan> {
+    let Volumes {
+        first,
+        paths,
+        records,
+    } = volumes;
+    let Volume {
+        description,
+        digest: _,
+        record_count: _,
+        records_at: _,
+    } = first;
+    scan_blocks(
+        rt,
+        description,
+        paths.as_slice(),
+        records.as_slice(),
+        folder,
+        shown,
+    )
+}
+
+// Looks for the blocks that a description tells of.
+fn scan_blocks<R: Runtime + AllocGlobal>(
+    rt: &R,
+    description: Description,
+    volumes: &[String],
+    records: &[(u64, u64)],
+    folder: Option<&str>,
+    shown: bool,
+) -> Result<Scan> {
     let alloc = rt.alloc();
-    let description = volumes.first.description;
     if description.block_bytes == 0 {
         bail!("the blocks are empty");
     }
-    let mut paths = crate::creating::paths_of(
-        alloc,
-        folder.unwrap_or(""),
-        description.files.as_slice(),
-    )?;
+    let files = description.files.as_slice();
+    let mut paths = crate::creating::paths_of(alloc, folder.unwrap_or(""), files)?;
     let places = places_of(alloc, &description)?;
-    let origins = vec![in alloc; None; blocks_of(&description)]?;
-    let total = (blocks_of(&description) as u64).saturating_mul(description.block_bytes);
+    let blocks = blocks_of(&description);
+    let total = (blocks as u64).saturating_mul(description.block_bytes);
     let mut scanner = Scanner {
-        alloc,
-        origins,
+        origins: vec![in alloc; None; blocks]?,
         states: Vec::new(alloc),
         buffer: vec![in alloc; 0u8; CHUNK]?,
         progress: Progress::new(rt, shown, total),
     };
-    for (index, file) in description.files.as_slice().iter().enumerate() {
-        let state = match (folder, paths.get(index)) {
-            (Some(_), Some(path)) => {
-                scanner.scan_file(
-                    rt,
-                    &description,
-                    file,
-                    index,
-                    path.as_str(),
-                    places.as_slice(),
-                )
-            }
-            _ => FileState::Missing,
-        };
-        scanner.states.push(state)?;
-    }
-    for (path, records) in volumes.paths.iter().zip(volumes.records.as_slice()) {
-        let holder = paths.len();
-        scanner.scan_volume(rt, &description, holder, path.as_str(), *records)?;
-        paths.push(path.clone()?)?;
-    }
+    scanner.scan_files(
+        rt,
+        &description,
+        folder.is_some(),
+        paths.as_slice(),
+        places.as_slice(),
+    )?;
+    scanner.scan_volumes(rt, &description, volumes, records, &mut paths)?;
     scanner.progress.end(rt);
     let Scanner {
-        alloc: _,
         origins,
         states,
         buffer: _,
@@ -198,7 +208,6 @@ pub fn scan_set<R: Runtime + AllocGlobal>(
 // What was found so far.
 #[derive(Drop)]
 struct Scanner {
-    alloc: Global,
     origins: Vec<Option<Origin>>,
     states: Vec<FileState>,
     buffer: Vec<u8>,
@@ -206,6 +215,44 @@ struct Scanner {
 }
 
 impl Scanner {
+    // Compares the blocks of all files with their digests. If there is no folder, all files are missing.
+    fn scan_files<R: Runtime>(
+        &mut self,
+        rt: &R,
+        description: &Description,
+        has_folder: bool,
+        paths: &[String],
+        places: &[Place],
+    ) -> Result<()> {
+        for (index, file) in description.files.as_slice().iter().enumerate() {
+            let state = match paths.get(index) {
+                Some(path) if has_folder => {
+                    self.scan_file(rt, description, file, index, path.as_str(), places)
+                }
+                _ => FileState::Missing,
+            };
+            self.states.push(state)?;
+        }
+        Ok(())
+    }
+
+    // Looks for blocks in all volumes, and appends their paths.
+    fn scan_volumes<R: Runtime>(
+        &mut self,
+        rt: &R,
+        description: &Description,
+        volumes: &[String],
+        records: &[(u64, u64)],
+        paths: &mut Vec<String>,
+    ) -> Result<()> {
+        for (number, path) in volumes.iter().enumerate() {
+            let place = records.get(number).copied().unwrap_or((0, 0));
+            self.scan_volume(rt, description, paths.len(), path.as_str(), place)?;
+            paths.push(path.clone()?)?;
+        }
+        Ok(())
+    }
+
     // Notes that a block was found.
     fn note(&mut self, index: usize, origin: Origin) {
         if let Some(place) = self.origins.get_mut(index) {
