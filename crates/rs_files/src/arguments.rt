@@ -1,0 +1,33 @@
+//! Reads the values of options.
+use crate::settings::Recovery;
+
+/// Reads a number of bytes: digits, and then perhaps `K`, `M` or `G` for 2^10, 2^20 or 2^30 bytes.
+pub fn bytes_of(text: &str) -> Option<u64> {
+    let (digits, unit) = if let Some(front) = text.strip_suffix('K') {
+        (front, 1024)
+    } else if let Some(front) = text.strip_suffix('M') {
+        (front, 1024 * 1024)
+    } else if let Some(front) = text.strip_suffix('G') {
+        (front, 1024 * 1024 * 1024)
+    } else {
+        (text, 1)
+    };
+    match digits.parse::<u64>() {
+        Ok(number) => number.checked_mul(unit),
+        Err(_) => None,
+    }
+}
+
+/// Reads how many recovery blocks are wanted: `5%` or `300`.
+pub fn recovery_of(text: &str) -> Option<Recovery> {
+    if let Some(front) = text.strip_suffix('%') {
+        return match front.parse::<u32>() {
+            Ok(percent) if percent <= 10000 => Some(Recovery::Percent(percent)),
+            _ => None,
+        };
+    }
+    match text.parse::<u32>() {
+        Ok(count) => Some(Recovery::Count(count)),
+        Err(_) => None,
+    }
+}

@@ -1,0 +1,229 @@
+//! `create`: makes a volume with the recovery blocks of files.
+use crate::folder::{Cut, cut_files, piece_bytes};
+use crate::names::{last_of, parent_of, path_in, text_of};
+use crate::output::{Part, exists};
+use crate::progress::Progress;
+use crate::settings::{Request, STATUS_WHOLE};
+use crate::source::{FileBlocks, Origin};
+use crate::volume_sink::{RECORD_HEAD_BYTES, VolumeSink};
+use crate::walking::{Found, find};
+use anyhow::{Result, bail, ensure};
+use reed_solomon_simd::engine::tables::Tables;
+use reed_solomon_simd::engine::{DefaultEngine, EngineKind};
+use rs_volumes::checking::fits;
+use rs_volumes::creating::{Shape, create as create_blocks};
+use rs_volumes::description::{Description, FileEntry};
+use rs_volumes::placement::places_of;
+use rs_volumes::write_description;
+use std::alloc::Global;
+use std::fs;
+use std::os::unix::fs::MetadataExt;
+use std::rt::Runtime;
+
+/// The numbers of a description without its files and digests.
+const OPENING_BYTES: u64 = 28;
+
+/// The numbers of a file in a description, without its name.
+const ENTRY_BYTES: u64 = 22;
+
+/// The number of bytes of the description of a set.
+pub fn description_bytes(files: &[FileEntry], cut: Cut) -> u64 {
+    let mut bytes = OPENING_BYTES;
+    for file in files {
+        bytes = bytes
+            .saturating_add(ENTRY_BYTES)
+            .saturating_add(file.name.len() as u64);
+    }
+    let blocks = u64::from(cut.original_count) + u64::from(cut.recovery_count);
+    bytes.saturating_add(32 * blocks)
+}
+
+/// The number of bytes of a volume.
+pub fn volume_bytes(description_bytes: u64, records: u64, block_bytes: u64) -> u64 {
+    let record = block_bytes.saturating_add(RECORD_HEAD_BYTES);
+    records
+        .saturating_mul(record)
+        .saturating_add(description_bytes.saturating_mul(2))
+        .saturating_add(128)
+}
+
+// The path of the volume that a request writes.
+fn output_of(alloc: Global, request: &Request) -> Result<String> {
+    if let Some(path) = &request.output {
+        return Ok(path.clone()?);
+    }
+    match request.paths.as_slice() {
+        [path] => {
+            let path = crate::names::trimmed(path.as_str());
+            let name = last_of(path);
+            if name == "." || name == ".." || name.is_empty() {
+                bail!("say which volume to write, as -o SET.rsv");
+            }
+            Ok(format!(in alloc; "{path}.rsv")?)
+        }
+        _ => bail!("say which volume to write, as -o SET.rsv"),
+    }
+}
+
+// Fails if a volume exists and may not be overwritten.
+pub fn check_free<R: Runtime>(rt: &R, path: &str, force: bool) -> Result<()> {
+    ensure!(
+        force || !exists(rt, path),
+        "{path} exists: use --force to overwrite it"
+    );
+    Ok(())
+}
+
+/// The paths of the files of a set.
+pub fn paths_of(alloc: Global, folder: &str, files: &[FileEntry]) -> Result<Vec<String>> {
+    let mut paths = Vec::new(alloc);
+    for file in files {
+        paths.push(path_in(alloc, folder, text_of(file.name.as_slice()))?)?;
+    }
+    Ok(paths)
+}
+
+/// Where the original blocks of a set lie in its files.
+pub fn origins_of(alloc: Global, description: &Description) -> Result<Vec<Option<Origin>>> {
+    let mut origins = Vec::new(alloc);
+    if description.block_bytes == 0 {
+        return Ok(origins);
+    }
+    for place in &places_of(alloc, description)? {
+        origins.push(Some(Origin {
+            holder: place.file,
+            offset: place.offset,
+            bytes: place.bytes,
+        }))?;
+    }
+    Ok(origins)
+}
+
+// Fails if a file has changed since it was found.
+fn check_unchanged<R: Runtime>(rt: &R, paths: &[String], files: &[FileEntry]) -> Result<()> {
+    for (path, file) in paths.iter().zip(files) {
+        let metadata = fs::metadata(rt, path.as_str())?;
+        let modified = u64::from_le_bytes(metadata.mtime().to_le_bytes());
+        if metadata.len() != file.size || modified != file.modified {
+            bail!("{} changed while it was read: try again", path.as_str());
+        }
+    }
+    Ok(())
+}
+
+/// Volumes that are to be written: their parts, the first block that goes into them, and how many records each has.
+#[derive(Drop)]
+pub struct Volumes {
+    pub parts: Vec<Part>,
+    pub first: usize,
+    pub counts: Vec<u64>,
+}
+
+/// Codes the blocks of files, and writes volumes.
+pub fn write_volumes<R: Runtime + AllocGlobal>(
+    rt: &R,
+    request: &Request,
+    found: Found,
+    cut: Cut,
+    volumes: &Volumes,
+) -> Result<()> {
+    let alloc = rt.alloc();
+    let shape = Shape {
+        original_count: cut.original_count as usize,
+        recovery_count: cut.recovery_count as usize,
+        block_bytes: cut.block_bytes as usize,
+    };
+    let length = description_bytes(found.files.as_slice(), cut);
+    let paths = paths_of(alloc, found.folder.as_str(), found.files.as_slice())?;
+    let mut description = Description {
+        block_bytes: cut.block_bytes,
+        original_count: cut.original_count,
+        recovery_count: cut.recovery_count,
+        files: found.files,
+        digests: Vec::new(alloc),
+    };
+    let origins = origins_of(alloc, &description)?;
+    let mut sink = VolumeSink::new(
+        rt,
+        alloc,
+        volumes.parts.as_slice(),
+        volumes.first,
+        cut.block_bytes,
+        length,
+    )?;
+    if shape.original_count > 0 {
+        let total = (shape.original_count as u64).saturating_mul(cut.block_bytes);
+        let progress = Progress::new(rt, request.progress, total);
+        let mut source = FileBlocks::new(rt, alloc, paths.as_slice(), origins.as_slice(), progress);
+        let tables = Tables::new(alloc)?;
+        let engine = DefaultEngine::new(&tables, EngineKind::Ssse3);
+        let piece = piece_bytes(&shape, request.memory);
+        description.digests = create_blocks(alloc, shape, piece, engine, &mut source, &mut sink)?;
+        source.end();
+    }
+    check_unchanged(rt, paths.as_slice(), description.files.as_slice())?;
+    describe(alloc, &description, length, volumes, &mut sink)
+}
+
+// Writes the description into the volumes.
+fn describe<R: Runtime>(
+    alloc: Global,
+    description: &Description,
+    length: u64,
+    volumes: &Volumes,
+    sink: &mut VolumeSink<'_, R>,
+) -> Result<()> {
+    let bytes = written(alloc, description)?;
+    ensure!(
+        bytes.len() as u64 == length,
+        "the description has another length than expected"
+    );
+    sink.describe(bytes.as_slice(), volumes.counts.as_slice())
+}
+
+// The bytes of a description. They are read again, so that no volume is written that cannot be read.
+fn written(alloc: Global, description: &Description) -> Result<Vec<u8>> {
+    if !fits(description) {
+        bail!("there are too many files, or a name is too long");
+    }
+    let bytes = write_description(alloc, description)?;
+    rs_volumes::read_description(alloc, bytes.as_slice())?;
+    Ok(bytes)
+}
+
+/// Makes the recovery blocks of files, and writes them into one volume.
+pub fn create<R: Runtime + AllocGlobal>(rt: &R, request: &Request) -> Result<u8> {
+    let alloc = rt.alloc();
+    let output = output_of(alloc, request)?;
+    check_free(rt, output.as_str(), request.force)?;
+    let found = find(rt, request.paths.as_slice(), last_of(output.as_str()))?;
+    let cut = cut_files(
+        found.files.as_slice(),
+        request.block_bytes,
+        request.recovery,
+    )?;
+    let length = description_bytes(found.files.as_slice(), cut);
+    let records = u64::from(cut.recovery_count);
+    let size = volume_bytes(length, records, cut.block_bytes);
+    let part = Part::begin(rt, alloc, output.as_str(), size)?;
+    let volumes = Volumes {
+        parts: vec![in alloc; part]?,
+        first: cut.original_count as usize,
+        counts: vec![in alloc; records]?,
+    };
+    let count = found.files.len();
+    write_volumes(rt, request, found, cut, &volumes)?;
+    for part in &volumes.parts {
+        part.finish(rt, request.force)?;
+    }
+    if !request.quiet {
+        let k = cut.original_count;
+        let r = cut.recovery_count;
+        let b = cut.block_bytes;
+        println!(rt;
+            "{}: {count} files in {k} blocks of {b} bytes, {r} recovery blocks",
+            output.as_str()
+        )?;
+    }
+    Ok(STATUS_WHOLE)
+}

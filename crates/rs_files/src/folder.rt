@@ -1,0 +1,143 @@
+//! Sizes that a set is cut into.
+ghost use Rattle.std.specs.Prelude.{◌≡◌, ◌<◌, ◌≤◌, ◌^◌, ◌%◌, IfSome};
+
+use crate::settings::Recovery;
+use anyhow::{Result, bail};
+use rs_volumes::checking::{allows_block, allows_counts, block_count};
+use rs_volumes::creating::Shape;
+use rs_volumes::description::FileEntry;
+
+/// The number of blocks that files are cut into by default, at most.
+const BLOCKS: u64 = 2000;
+
+/// The blocks of a set.
+#[derive(Clone, Copy)]
+pub struct Cut {
+    pub block_bytes: u64,
+    pub original_count: u32,
+    pub recovery_count: u32,
+}
+
+// The number of blocks of all files, or `None` if there are more than 65536.
+fn blocks_of(files: &[FileEntry], block_bytes: u64) -> Option<u64>
+    requires some { 0 < block_bytes }
+    requires few { block_bytes < 2 ^ 63 }
+    ensures { IfSome result (λ blocks. blocks ≤ 65536) }
+{
+    let mut total = 0u64;
+    for file in files {
+        if file.size >= 1 << 62 {
+            return None;
+        }
+        let blocks = block_count(block_bytes, file.size);
+        if blocks > 65536 || total > 65536 {
+            return None;
+        }
+        total += blocks;
+    }
+    if total > 65536 { None } else { Some(total) }
+}
+
+// How many blocks the files may have by default: 2000, or more if there are many files.
+fn blocks_wanted(files: &[FileEntry]) -> u64 {
+    let filled = files.iter().filter(|file| file.size > 0).count() as u64;
+    if filled <= BLOCKS / 2 {
+        BLOCKS
+    } else {
+        filled.saturating_mul(2).min(65536)
+    }
+}
+
+/// The smallest multiple of 4096 bytes for which the files have at most 2000 blocks, or a few more if there are many files.
+pub fn default_block(files: &[FileEntry]) -> Result<u64> {
+    let wanted = blocks_wanted(files);
+    let mut low = 0u64;
+    let mut high = 1u64 << 28;
+    if !has_at_most(files, high, wanted) {
+        bail!(
+            "there are too many files: a set has at most 65536 blocks, and each file at least one"
+        );
+    }
+    for _ in 0..64 {
+        let gap = high.saturating_sub(low);
+        if gap <= 1 {
+            break;
+        }
+        let middle = low.saturating_add(gap / 2);
+        if has_at_most(files, middle, wanted) {
+            high = middle;
+        } else {
+            low = middle;
+        }
+    }
+    Ok(high.saturating_mul(4096))
+}
+
+// Whether the files have at most this many blocks of `pages` * 4096 bytes.
+fn has_at_most(files: &[FileEntry], pages: u64, wanted: u64) -> bool {
+    if pages == 0 || pages > 1 << 28 {
+        return false;
+    }
+    match blocks_of(files, pages * 4096) {
+        Some(blocks) => blocks <= wanted,
+        None => false,
+    }
+}
+
+/// Cuts the files into blocks.
+pub fn cut_files(files: &[FileEntry], block: Option<u64>, recovery: Recovery) -> Result<Cut> {
+    let block_bytes = match block {
+        Some(bytes) => bytes,
+        None => default_block(files)?,
+    };
+    if !allows_block(block_bytes) {
+        bail!("a block must have an even number of bytes, from 2 to 2^40");
+    }
+    let Some(blocks) = blocks_of(files, block_bytes) else {
+        bail!(
+            "blocks of {block_bytes} bytes are too small for these files: leave --block out, or write a larger number"
+        );
+    };
+    let original_count = blocks as u32;
+    let recovery_count = recovery_count(blocks, recovery);
+    if !allows_counts(original_count, recovery_count) {
+        bail!(
+            "{original_count} blocks with {recovery_count} recovery blocks are not supported: use larger blocks, with --block"
+        );
+    }
+    Ok(Cut {
+        block_bytes,
+        original_count,
+        recovery_count,
+    })
+}
+
+// The number of recovery blocks.
+fn recovery_count(blocks: u64, recovery: Recovery) -> u32
+    requires { blocks < 2 ^ 32 }
+{
+    if blocks == 0 {
+        return 0;
+    }
+    match recovery {
+        Recovery::Count(count) => count,
+        Recovery::Percent(percent) => {
+            let count = blocks * u64::from(percent) / 100;
+            count.max(1).min(65536) as u32
+        }
+    }
+}
+
+/// How many bytes of each block are coded at a time, so that the memory suffices: a multiple of 64.
+pub fn piece_bytes(shape: &Shape, memory: u64) -> usize
+    ensures some { 0 < result }
+    ensures chunks { result % 64 ≡ 0 }
+{
+    let k = shape.original_count.min(65536) as u64;
+    let r = shape.recovery_count.min(65536) as u64;
+    let rows = k.max(r) + 2 * k.min(r);
+    let fixed = 24_000_000 + 400 * (k + r) + 2 * rows * 4096;
+    let left = memory.saturating_sub(fixed);
+    let bytes = (left / (k + r + 1)).min((shape.block_bytes as u64).min(1 << 40) + 64);
+    ((bytes / 64) * 64).max(64) as usize
+}

@@ -1,0 +1,70 @@
+//! `info`: shows what a volume describes.
+use crate::names::text_of;
+use crate::settings::{Request, STATUS_WHOLE};
+use crate::volume::{Volume, open_volume};
+use anyhow::{Result, bail};
+use serde_json::{Value, json};
+use std::alloc::{AllocError, Global};
+use std::rt::Runtime;
+
+// The files of a volume as JSON.
+fn files_json(
+    alloc: Global,
+    volume: &Volume,
+) -> std::result::Result<Vec<Value>, serde_json::Error> {
+    let mut files = Vec::new(alloc);
+    for file in volume.description.files.as_slice() {
+        let name = text_of(file.name.as_slice());
+        let size = file.size;
+        let value = json!(in alloc; {"name": name, "size": size})?;
+        files.push(value).map_err(AllocError::from)?;
+    }
+    Ok(files)
+}
+
+// Prints what a volume describes as JSON.
+fn tell_json<R: Runtime + AllocGlobal>(rt: &R, volume: &Volume) -> Result<()> {
+    let alloc = rt.alloc();
+    let files = Value::Array(files_json(alloc, volume)?);
+    let block = volume.description.block_bytes;
+    let k = volume.description.original_count;
+    let r = volume.description.recovery_count;
+    let records = volume.record_count;
+    let value =
+        json!(in alloc; {"block_bytes": block, "original_blocks": k, "recovery_blocks": r, "blocks_here": records, "files": files})?;
+    let text = value.to_string(alloc)?;
+    println!(rt; "{text}")?;
+    Ok(())
+}
+
+// Prints what a volume describes.
+fn tell<R: Runtime>(rt: &R, path: &str, volume: &Volume) -> Result<()> {
+    let block = volume.description.block_bytes;
+    let k = volume.description.original_count;
+    let r = volume.description.recovery_count;
+    let records = volume.record_count;
+    println!(rt;
+        "{path}: {k} original blocks and {r} recovery blocks of {block} bytes, {records} of them here"
+    )?;
+    for file in volume.description.files.as_slice() {
+        let size = file.size;
+        println!(rt; "{size:>14}  {}", text_of(file.name.as_slice()))?;
+    }
+    Ok(())
+}
+
+/// Shows what volumes describe.
+pub fn info<R: Runtime + AllocGlobal>(rt: &R, request: &Request) -> Result<u8> {
+    if request.paths.is_empty() {
+        bail!("no volume is given");
+    }
+    for path in &request.paths {
+        let volume = open_volume(rt, path.as_str())?;
+        if request.json {
+            tell_json(rt, &volume)?;
+        } else {
+            tell(rt, path.as_str(), &volume)?;
+        }
+    }
+    Ok(STATUS_WHOLE)
+}

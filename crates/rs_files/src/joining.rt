@@ -1,0 +1,75 @@
+//! `join`: restores all files of a set from volumes.
+use crate::creating::check_free;
+use crate::names::{path_in, text_of};
+use crate::restoring::{begin_parts, set_attributes, write_blocks};
+use crate::scanning::{Scan, open_volumes, scan_set};
+use crate::settings::{Request, STATUS_LOST, STATUS_MENDED, STATUS_WHOLE};
+use crate::verifying::tell;
+use anyhow::{Result, bail};
+use std::alloc::Global;
+use std::rt::Runtime;
+
+// The paths of all files, below a folder. None of them may exist.
+fn targets<R: Runtime>(
+    rt: &R,
+    alloc: Global,
+    found: &Scan,
+    folder: &str,
+    force: bool,
+) -> Result<Vec<Option<String>>> {
+    let mut paths = Vec::new(alloc);
+    for file in found.description.files.as_slice() {
+        let path = path_in(alloc, folder, text_of(file.name.as_slice()))?;
+        check_free(rt, path.as_str(), force)?;
+        paths.push(Some(path))?;
+    }
+    Ok(paths)
+}
+
+/// Restores all files of a set from volumes.
+pub fn join<R: Runtime + AllocGlobal>(rt: &R, request: &Request) -> Result<u8> {
+    let alloc = rt.alloc();
+    let Some(folder) = &request.to else {
+        bail!("say where the files go, as --to FOLDER");
+    };
+    let volumes = open_volumes(rt, request.paths.as_slice())?;
+    let found = scan_set(rt, volumes, None, request.progress)?;
+    let counts = found.counts();
+    if counts.lost > counts.recovery {
+        if !request.quiet {
+            tell(rt, &found, counts)?;
+        }
+        return Ok(STATUS_LOST);
+    }
+    let paths = targets(rt, alloc, &found, folder.as_str(), request.force)?;
+    let parts = begin_parts(rt, alloc, &found, paths.as_slice())?;
+    write_blocks(
+        rt,
+        alloc,
+        &found,
+        parts.as_slice(),
+        request.memory,
+        request.progress,
+    )?;
+    for (file, part) in found
+        .description
+        .files
+        .as_slice()
+        .iter()
+        .zip(parts.as_slice())
+    {
+        if let Some(part) = part {
+            set_attributes(rt, part, file)?;
+            part.finish(rt, request.force)?;
+        }
+    }
+    if !request.quiet {
+        let count = found.description.files.len();
+        println!(rt; "{count} files were restored")?;
+    }
+    Ok(if counts.lost == 0 {
+        STATUS_WHOLE
+    } else {
+        STATUS_MENDED
+    })
+}

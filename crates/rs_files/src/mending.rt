@@ -1,0 +1,114 @@
+//! `repair`: restores damaged and missing files.
+use crate::names::{path_in, text_of};
+use crate::output::{Part, exists};
+use crate::restoring::{begin_parts, set_attributes, write_blocks};
+use crate::scanning::{FileState, Scan, open_volumes, scan_set};
+use crate::settings::{Request, STATUS_LOST, STATUS_MENDED, STATUS_WHOLE};
+use crate::verifying::{folder_of, tell};
+use anyhow::{Result, ensure};
+use std::alloc::Global;
+use std::fs;
+use std::rt::Runtime;
+
+// The paths of the files that are to be restored, below a folder.
+fn targets(alloc: Global, found: &Scan, folder: &str) -> Result<Vec<Option<String>>> {
+    let mut paths = Vec::new(alloc);
+    for (file, state) in found
+        .description
+        .files
+        .as_slice()
+        .iter()
+        .zip(found.states.as_slice())
+    {
+        let path = if *state == FileState::Whole {
+            None
+        } else {
+            Some(path_in(alloc, folder, text_of(file.name.as_slice()))?)
+        };
+        paths.push(path)?;
+    }
+    Ok(paths)
+}
+
+// Moves a damaged file out of the way.
+fn keep_damaged<R: Runtime>(rt: &R, alloc: Global, path: &str, force: bool) -> Result<()> {
+    if !exists(rt, path) {
+        return Ok(());
+    }
+    let kept = format!(in alloc; "{path}.damaged")?;
+    ensure!(
+        force || !exists(rt, kept.as_str()),
+        "{} exists: move it away, or use --force",
+        kept.as_str()
+    );
+    fs::rename(rt, path, kept.as_str())?;
+    Ok(())
+}
+
+// Gives the restored files their final names.
+fn finish<R: Runtime>(
+    rt: &R,
+    alloc: Global,
+    found: &Scan,
+    parts: &[Option<Part>],
+    in_place: bool,
+    force: bool,
+) -> Result<usize> {
+    let mut count = 0usize;
+    for (file, part) in found.description.files.as_slice().iter().zip(parts) {
+        if let Some(part) = part {
+            set_attributes(rt, part, file)?;
+            if in_place {
+                keep_damaged(rt, alloc, part.path.as_str(), force)?;
+            }
+            part.finish(rt, force)?;
+            count = count.saturating_add(1);
+        }
+    }
+    Ok(count)
+}
+
+/// Restores the damaged and missing files of a set.
+pub fn repair<R: Runtime + AllocGlobal>(rt: &R, request: &Request) -> Result<u8> {
+    let alloc = rt.alloc();
+    let folder = folder_of(request)?;
+    let volumes = open_volumes(rt, request.paths.as_slice())?;
+    let found = scan_set(rt, volumes, Some(folder), request.progress)?;
+    let counts = found.counts();
+    if counts.lost > counts.recovery || found.has_whole_files() {
+        if !request.quiet {
+            tell(rt, &found, counts)?;
+        }
+        return Ok(if counts.lost > counts.recovery {
+            STATUS_LOST
+        } else {
+            STATUS_WHOLE
+        });
+    }
+    let target = match &request.to {
+        Some(to) => to.as_str(),
+        None => folder,
+    };
+    let paths = targets(alloc, &found, target)?;
+    let parts = begin_parts(rt, alloc, &found, paths.as_slice())?;
+    write_blocks(
+        rt,
+        alloc,
+        &found,
+        parts.as_slice(),
+        request.memory,
+        request.progress,
+    )?;
+    let count = finish(
+        rt,
+        alloc,
+        &found,
+        parts.as_slice(),
+        request.to.is_none(),
+        request.force,
+    )?;
+    if !request.quiet {
+        println!(rt; "{count} files were restored")?;
+    }
+    Ok(STATUS_MENDED)
+}

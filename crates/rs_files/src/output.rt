@@ -1,0 +1,76 @@
+//! Files that appear under their final names only when they are whole.
+use crate::names::{folder_to_open, parent_of};
+use anyhow::{Result, bail};
+use std::alloc::Global;
+use std::fs;
+use std::fs::{OpenFile, OpenOptions};
+use std::io::{Seek, SeekFrom, Write};
+use std::rt::{Files, Runtime};
+
+/// A file that is being written under the name `NAME.part`.
+#[derive(Drop)]
+pub struct Part {
+    /// The path of the finished file.
+    pub path: String,
+    /// The path while it is written.
+    pub part: String,
+}
+
+/// Returns whether something exists at a path.
+pub fn exists<R: Runtime>(rt: &R, path: &str) -> bool {
+    fs::symlink_metadata(rt, path).is_ok()
+}
+
+impl Part {
+    /// Begins a file, and makes its folder. A part that an earlier run left behind is replaced.
+    pub fn begin<R: Runtime>(rt: &R, alloc: Global, path: &str, size: u64) -> Result<Part> {
+        let folder = parent_of(path);
+        if !folder.is_empty() {
+            fs::create_dir_all(rt, folder)?;
+        }
+        let part = format!(in alloc; "{path}.part")?;
+        if exists(rt, part.as_str()) {
+            fs::remove_file(rt, part.as_str())?;
+        }
+        let mut options = OpenOptions::new();
+        let file = options
+            .write(true)
+            .create_new(true)
+            .open(rt, part.as_str())?;
+        file.set_len(size)?;
+        Ok(Part {
+            path: String::from_str(alloc, path)?,
+            part,
+        })
+    }
+
+    /// Opens the file to write into it.
+    pub fn open<R: Runtime>(&self, rt: &R) -> std::io::Result<R::File> {
+        let mut options = OpenOptions::new();
+        options.write(true).open(rt, self.part.as_str())
+    }
+
+    /// Syncs the file and gives it its final name. Nothing is overwritten.
+    pub fn finish<R: Runtime>(&self, rt: &R, overwrite: bool) -> Result<()> {
+        let file = self.open(rt)?;
+        file.sync_all()?;
+        if !overwrite && exists(rt, self.path.as_str()) {
+            bail!("{} exists: use --force to overwrite it", self.path.as_str());
+        }
+        fs::rename(rt, self.part.as_str(), self.path.as_str())?;
+        sync_folder(rt, parent_of(self.path.as_str()))
+    }
+}
+
+/// Syncs a folder, so that new names in it last.
+pub fn sync_folder<R: Runtime>(rt: &R, folder: &str) -> Result<()> {
+    let opened = fs::open(rt, folder_to_open(folder))?;
+    opened.sync_all()?;
+    Ok(())
+}
+
+/// Writes bytes at a place of a file.
+pub fn write_at<F: Seek + Write>(file: &mut F, offset: u64, bytes: &[u8]) -> std::io::Result<()> {
+    file.seek(SeekFrom::Start(offset))?;
+    file.write_all(bytes)
+}

@@ -1,0 +1,62 @@
+//! Progress on standard error.
+use std::rt::Runtime;
+use std::time::Instant;
+
+/// How far a command is. It prints a line when another hundredth is done.
+#[derive(Drop)]
+pub struct Progress {
+    shown: bool,
+    total: u64,
+    done: u64,
+    percent: u64,
+    start: Option<Instant>,
+}
+
+impl Progress {
+    /// Begins to count up to `total` bytes. Nothing is printed if `shown` is false.
+    pub fn new<R: Runtime>(rt: &R, shown: bool, total: u64) -> Progress {
+        let start = if shown { Instant::now(rt).ok() } else { None };
+        Progress {
+            shown,
+            total,
+            done: 0,
+            percent: 0,
+            start,
+        }
+    }
+
+    /// Counts more bytes.
+    pub fn advance<R: Runtime>(&mut self, rt: &R, bytes: u64) {
+        self.done = self.done.saturating_add(bytes);
+        if !self.shown || self.total == 0 {
+            return;
+        }
+        let percent = (self.done.saturating_mul(100) / self.total).min(100);
+        if percent > self.percent {
+            self.percent = percent;
+            self.print(rt);
+        }
+    }
+
+    // Prints the line: percent, rate, and time left.
+    fn print<R: Runtime>(&self, rt: &R) {
+        let percent = self.percent;
+        let Some(start) = self.start else {
+            return;
+        };
+        let Ok(elapsed) = start.elapsed(rt) else {
+            return;
+        };
+        let millis = (elapsed.as_millis().min(1_000_000_000_000) as u64).max(1);
+        let rate = self.done / millis / 1000;
+        let left = (millis / 1000).saturating_mul(100 - percent.min(100)) / percent.max(1);
+        let _ = eprint!(rt; "\r{percent}%, {rate} MB/s, {left} s left   ");
+    }
+
+    /// Ends the line.
+    pub fn end<R: Runtime>(&self, rt: &R) {
+        if self.shown && self.percent > 0 {
+            let _ = eprintln!(rt; "");
+        }
+    }
+}

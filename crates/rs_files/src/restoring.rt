@@ -1,0 +1,204 @@
+//! Writes files that are restored from blocks.
+ghost use Rattle.rs_field.specs.code.Given.{nothing};
+
+use crate::folder::piece_bytes;
+use crate::output::{Part, write_at};
+use crate::progress::Progress;
+use crate::scanning::Scan;
+use crate::source::FileBlocks;
+use anyhow::Result;
+use reed_solomon_simd::engine::tables::Tables;
+use reed_solomon_simd::engine::{DefaultEngine, EngineKind};
+use rs_volumes::creating::Shape;
+use rs_volumes::description::FileEntry;
+use rs_volumes::pieces::BlockSink;
+use rs_volumes::placement::Place;
+use rs_volumes::restoring::{Plan, restore};
+use std::alloc::Global;
+use std::fs::{FileTimes, OpenFile, Permissions};
+use std::io;
+use std::io::ErrorKind;
+use std::os::unix::fs::PermissionsExt;
+use std::rt::{Files, Runtime};
+use std::time::{Duration, UNIX_EPOCH};
+
+/// A part of a file that is open to be written.
+#[derive(Drop)]
+struct Opened<F: Drop> {
+    file: usize,
+    handle: F,
+}
+
+/// Files that are being restored.
+#[derive(Drop)]
+struct FileSink<'a, R: Runtime> {
+    rt: &'a R,
+    /// The part of each file that is restored.
+    parts: &'a [Option<Part>],
+    places: &'a [Place],
+    opened: Option<Opened<R::File>>,
+}
+
+impl<'a, R: Runtime> BlockSink for FileSink<'a, R> {
+    ghost written = { λ _. nothing };
+
+    fn put(&mut self, index: usize, start: usize, piece: &[u8]) -> io::Result<()> {
+        let Some(place) = self.places.get(index).copied() else {
+            return Err(io::Error::from(ErrorKind::NotFound));
+        };
+        let Some(Some(part)) = self.parts.get(place.file) else {
+            return Err(io::Error::from(ErrorKind::NotFound));
+        };
+        let from = start as u64;
+        if from >= place.bytes {
+            return Ok(());
+        }
+        let count = (place.bytes - from).min(piece.len() as u64) as usize;
+        let mut opened = match self.opened.take() {
+            Some(opened) if opened.file == place.file => opened,
+            _ => Opened {
+                file: place.file,
+                handle: part.open(self.rt)?,
+            },
+        };
+        write_at(
+            &mut opened.handle,
+            place.offset.wrapping_add(from),
+            &piece[..count],
+        )?;
+        self.opened = Some(opened);
+        Ok(())
+    }
+}
+
+// Which blocks are read and which are written, to restore the files with a part.
+fn plan_for(alloc: Global, scan: &Scan, parts: &[Option<Part>]) -> Result<Plan> {
+    let wanted = wanted_blocks(alloc, scan, parts)?;
+    let k = wanted.len();
+    let mut originals = Vec::new(alloc);
+    let mut lost = 0usize;
+    let mut loses_wanted = false;
+    for (index, is_wanted) in wanted.iter().enumerate() {
+        let found = matches!(scan.origins.get(index), Some(Some(_)));
+        if !found {
+            lost = lost.saturating_add(1);
+            loses_wanted = loses_wanted || *is_wanted;
+        }
+    }
+    for (index, is_wanted) in wanted.iter().enumerate() {
+        let found = matches!(scan.origins.get(index), Some(Some(_)));
+        if found && (loses_wanted || *is_wanted) {
+            originals.push(index)?;
+        }
+    }
+    let recovery = if loses_wanted {
+        recovery_blocks(alloc, scan, k, lost)?
+    } else {
+        Vec::new(alloc)
+    };
+    Ok(Plan {
+        originals,
+        recovery,
+        wanted,
+    })
+}
+
+// Whether each original block is part of a file that is restored.
+fn wanted_blocks(alloc: Global, scan: &Scan, parts: &[Option<Part>]) -> Result<Vec<bool>> {
+    let mut wanted = Vec::new(alloc);
+    for place in &scan.places {
+        wanted.push(matches!(parts.get(place.file), Some(Some(_))))?;
+    }
+    Ok(wanted)
+}
+
+// The first recovery blocks that were found, at most `count` of them.
+fn recovery_blocks(alloc: Global, scan: &Scan, k: usize, count: usize) -> Result<Vec<usize>> {
+    let mut recovery = Vec::new(alloc);
+    for (index, origin) in scan.origins.iter().enumerate() {
+        if index >= k && origin.is_some() && recovery.len() < count {
+            recovery.push(index - k)?;
+        }
+    }
+    Ok(recovery)
+}
+
+/// Begins a part for each file that is to be restored. `paths` has the path of each file, if it is to be restored.
+pub fn begin_parts<R: Runtime>(
+    rt: &R,
+    alloc: Global,
+    scan: &Scan,
+    paths: &[Option<String>],
+) -> Result<Vec<Option<Part>>> {
+    let mut parts = Vec::new(alloc);
+    for (file, path) in scan.description.files.as_slice().iter().zip(paths) {
+        let part = match path {
+            Some(path) => Some(Part::begin(rt, alloc, path.as_str(), file.size)?),
+            None => None,
+        };
+        parts.push(part)?;
+    }
+    Ok(parts)
+}
+
+/// Writes the blocks of the files that have a part, and compares each with its digest.
+pub fn write_blocks<R: Runtime>(
+    rt: &R,
+    alloc: Global,
+    scan: &Scan,
+    parts: &[Option<Part>],
+    memory: u64,
+    shown: bool,
+) -> Result<()> {
+    let plan = plan_for(alloc, scan, parts)?;
+    let shape = Shape {
+        original_count: scan.description.original_count as usize,
+        recovery_count: scan.description.recovery_count as usize,
+        block_bytes: scan.description.block_bytes as usize,
+    };
+    let blocks = (plan.originals.len() as u64).saturating_add(plan.recovery.len() as u64);
+    let total = blocks.saturating_mul(scan.description.block_bytes);
+    let progress = Progress::new(rt, shown, total);
+    let mut source = FileBlocks::new(
+        rt,
+        alloc,
+        scan.paths.as_slice(),
+        scan.origins.as_slice(),
+        progress,
+    );
+    let mut sink = FileSink {
+        rt,
+        parts,
+        places: scan.places.as_slice(),
+        opened: None,
+    };
+    let tables = Tables::new(alloc)?;
+    let engine = DefaultEngine::new(&tables, EngineKind::Ssse3);
+    let piece = piece_bytes(&shape, memory);
+    let digests = scan.description.digests.as_slice();
+    restore(
+        alloc,
+        shape,
+        piece,
+        engine,
+        &plan,
+        digests,
+        &mut source,
+        &mut sink,
+    )?;
+    source.end();
+    Ok(())
+}
+
+/// Gives a restored file its permission bits and its time.
+pub fn set_attributes<R: Runtime>(rt: &R, part: &Part, file: &FileEntry) -> Result<()> {
+    let handle = part.open(rt)?;
+    handle.set_permissions(Permissions::from_mode(file.mode & 0o7777))?;
+    let seconds = i64::from_le_bytes(file.modified.to_le_bytes());
+    if let Ok(seconds) = u64::try_from(seconds) {
+        if let Some(time) = UNIX_EPOCH.checked_add(Duration::from_secs(seconds)) {
+            handle.set_times(FileTimes::new().set_modified(time))?;
+        }
+    }
+    Ok(())
+}

@@ -1,0 +1,396 @@
+//! Looks for the blocks of a set, in its files and in volumes.
+use crate::progress::Progress;
+use crate::source::Origin;
+use crate::volume::{Volume, open_volume};
+use crate::volume_sink::RECORD_HEAD_BYTES;
+use anyhow::{Result, bail};
+use rs_volumes::description::{Description, FileEntry};
+use rs_volumes::digest::is_digest;
+use rs_volumes::placement::{Place, places_of};
+use sha2::{Digest, Sha256};
+use std::fs;
+use std::fs::OpenFile;
+use std::io::{Read, Seek, SeekFrom};
+use std::rt::{Files, Runtime};
+
+/// How many bytes are read at a time.
+const CHUNK: usize = 1 << 18;
+
+/// The state of a file of a set.
+#[derive(Clone, Copy, Debug, PartialEq, Eq)]
+pub enum FileState {
+    /// The file has its length, and each block has its digest.
+    Whole,
+    /// The file is there, and is not whole.
+    Damaged,
+    /// There is no such file, or it cannot be opened.
+    Missing,
+}
+
+/// What was found of a set.
+#[derive(Drop)]
+pub struct Scan {
+    pub description: Description,
+    /// Where each original block lies in its file.
+    pub places: Vec<Place>,
+    /// Where each block was found: the original blocks, then the recovery blocks.
+    pub origins: Vec<Option<Origin>>,
+    /// The state of each file.
+    pub states: Vec<FileState>,
+    /// The paths of the files, and then of the volumes.
+    pub paths: Vec<String>,
+}
+
+/// The volumes of one set.
+#[derive(Drop)]
+pub struct Volumes {
+    pub first: Volume,
+    /// The paths of the volumes that belong to the set, and their records: how many, and where the first one begins.
+    pub paths: Vec<String>,
+    pub records: Vec<(u64, u64)>,
+}
+
+/// Opens volumes. The first one that can be read names the set; a volume of another set is an error.
+pub fn open_volumes<R: Runtime + AllocGlobal>(rt: &R, paths: &[String]) -> Result<Volumes> {
+    let alloc = rt.alloc();
+    let mut first: Option<Volume> = None;
+    let mut found = Vec::new(alloc);
+    let mut records = Vec::new(alloc);
+    for path in paths {
+        match open_volume(rt, path.as_str()) {
+            Err(error) => eprintln!(rt; "rs_files: {error:#}")?,
+            Ok(volume) => {
+                if let Some(known) = &first {
+                    if known.digest != volume.digest {
+                        bail!("{} belongs to another set", path.as_str());
+                    }
+                }
+                found.push(path.clone()?)?;
+                records.push((volume.record_count, volume.records_at))?;
+                if first.is_none() {
+                    first = Some(volume);
+                }
+            }
+        }
+    }
+    match first {
+        None => bail!("no volume can be read"),
+        Some(first) => Ok(Volumes {
+            first,
+            paths: found,
+            records,
+        }),
+    }
+}
+
+// The SHA-256 of a block: `bytes` bytes of a file from an offset on, and then zeros up to the size of a block.
+fn hash_block<F: Read + Seek>(
+    file: &mut F,
+    offset: u64,
+    bytes: u64,
+    block_bytes: u64,
+    buffer: &mut Vec<u8>,
+) -> std::io::Result<[u8; 32]> {
+    let mut hasher = Sha256::new();
+    file.seek(SeekFrom::Start(offset))?;
+    let mut left = bytes;
+    for _ in 0..u64::MAX {
+        if left == 0 {
+            break;
+        }
+        let count = left.min(buffer.len() as u64) as usize;
+        if count == 0 {
+            break;
+        }
+        file.read_exact(&mut buffer[..count])?;
+        hasher.update(&buffer[..count]);
+        left -= count as u64;
+    }
+    add_zeros(&mut hasher, block_bytes.saturating_sub(bytes));
+    Ok(hasher.finalize())
+}
+
+// Adds zeros to a hasher.
+fn add_zeros(hasher: &mut Sha256, count: u64) {
+    let zeros = [0u8; 4096];
+    let mut left = count;
+    for _ in 0..u64::MAX {
+        if left == 0 {
+            return;
+        }
+        let part = left.min(4096) as usize;
+        hasher.update(&zeros[..part]);
+        left -= part as u64;
+    }
+}
+
+// The number of blocks that a description tells of.
+fn blocks_of(description: &Description) -> usize {
+    (u64::from(description.original_count) + u64::from(description.recovery_count)) as usize
+}
+
+/// Looks for all blocks of a set: in its files below `folder`, if a folder is given, and in the volumes.
+pub fn scan_set<R: Runtime + AllocGlobal>(
+    rt: &R,
+    volumes: Volumes,
+    folder: Option<&str>,
+    shown: bool,
+) -> Result<Scan> {
+    let Volumes {
+        first,
+        paths,
+        records,
+    } = volumes;
+    let Volume {
+        description,
+        digest: _,
+        record_count: _,
+        records_at: _,
+    } = first;
+    scan_blocks(
+        rt,
+        description,
+        paths.as_slice(),
+        records.as_slice(),
+        folder,
+        shown,
+    )
+}
+
+// Looks for the blocks that a description tells of.
+fn scan_blocks<R: Runtime + AllocGlobal>(
+    rt: &R,
+    description: Description,
+    volumes: &[String],
+    records: &[(u64, u64)],
+    folder: Option<&str>,
+    shown: bool,
+) -> Result<Scan> {
+    let alloc = rt.alloc();
+    if description.block_bytes == 0 {
+        bail!("the blocks are empty");
+    }
+    let files = description.files.as_slice();
+    let mut paths = crate::creating::paths_of(alloc, folder.unwrap_or(""), files)?;
+    let places = places_of(alloc, &description)?;
+    let blocks = blocks_of(&description);
+    let total = (blocks as u64).saturating_mul(description.block_bytes);
+    let mut scanner = Scanner {
+        origins: vec![in alloc; None; blocks]?,
+        states: Vec::new(alloc),
+        buffer: vec![in alloc; 0u8; CHUNK]?,
+        progress: Progress::new(rt, shown, total),
+    };
+    scanner.scan_files(
+        rt,
+        &description,
+        folder.is_some(),
+        paths.as_slice(),
+        places.as_slice(),
+    )?;
+    scanner.scan_volumes(rt, &description, volumes, records, &mut paths)?;
+    scanner.progress.end(rt);
+    let Scanner {
+        origins,
+        states,
+        buffer: _,
+        progress: _,
+    } = scanner;
+    Ok(Scan {
+        description,
+        places,
+        origins,
+        states,
+        paths,
+    })
+}
+
+// What was found so far.
+#[derive(Drop)]
+struct Scanner {
+    origins: Vec<Option<Origin>>,
+    states: Vec<FileState>,
+    buffer: Vec<u8>,
+    progress: Progress,
+}
+
+impl Scanner {
+    // Compares the blocks of all files with their digests. If there is no folder, all files are missing.
+    fn scan_files<R: Runtime>(
+        &mut self,
+        rt: &R,
+        description: &Description,
+        has_folder: bool,
+        paths: &[String],
+        places: &[Place],
+    ) -> Result<()> {
+        for (index, file) in description.files.as_slice().iter().enumerate() {
+            let state = match paths.get(index) {
+                Some(path) if has_folder => {
+                    self.scan_file(rt, description, file, index, path.as_str(), places)
+                }
+                _ => FileState::Missing,
+            };
+            self.states.push(state)?;
+        }
+        Ok(())
+    }
+
+    // Looks for blocks in all volumes, and appends their paths.
+    fn scan_volumes<R: Runtime>(
+        &mut self,
+        rt: &R,
+        description: &Description,
+        volumes: &[String],
+        records: &[(u64, u64)],
+        paths: &mut Vec<String>,
+    ) -> Result<()> {
+        for (number, path) in volumes.iter().enumerate() {
+            let place = records.get(number).copied().unwrap_or((0, 0));
+            self.scan_volume(rt, description, paths.len(), path.as_str(), place)?;
+            paths.push(path.clone()?)?;
+        }
+        Ok(())
+    }
+
+    // Notes that a block was found.
+    fn note(&mut self, index: usize, origin: Origin) {
+        if let Some(place) = self.origins.get_mut(index) {
+            if place.is_none() {
+                *place = Some(origin);
+            }
+        }
+    }
+
+    // Compares the blocks of a file with their digests.
+    fn scan_file<R: Runtime>(
+        &mut self,
+        rt: &R,
+        description: &Description,
+        entry: &FileEntry,
+        holder: usize,
+        path: &str,
+        places: &[Place],
+    ) -> FileState {
+        let Ok(mut file) = fs::open(rt, path) else {
+            return FileState::Missing;
+        };
+        let Ok(metadata) = file.metadata() else {
+            return FileState::Missing;
+        };
+        if !metadata.is_file() {
+            return FileState::Missing;
+        }
+        let mut whole = metadata.len() == entry.size;
+        for (index, place) in places.iter().enumerate() {
+            if place.file == holder
+                && !self.scan_block(rt, description, &mut file, holder, index, *place)
+            {
+                whole = false;
+            }
+        }
+        if whole {
+            FileState::Whole
+        } else {
+            FileState::Damaged
+        }
+    }
+
+    // Compares a block of a file with its digest.
+    fn scan_block<R: Runtime>(
+        &mut self,
+        rt: &R,
+        description: &Description,
+        file: &mut R::File,
+        holder: usize,
+        index: usize,
+        place: Place,
+    ) -> bool {
+        let size = description.block_bytes;
+        let own = hash_block(file, place.offset, place.bytes, size, &mut self.buffer);
+        self.progress.advance(rt, size);
+        match own {
+            Ok(own) if is_digest(description.digests.as_slice(), index, &own) => {
+                let origin = Origin {
+                    holder,
+                    offset: place.offset,
+                    bytes: place.bytes,
+                };
+                self.note(index, origin);
+                true
+            }
+            _ => false,
+        }
+    }
+
+    // Looks for blocks in the records of a volume. A record that cannot be read is left out.
+    fn scan_volume<R: Runtime>(
+        &mut self,
+        rt: &R,
+        description: &Description,
+        holder: usize,
+        path: &str,
+        records: (u64, u64),
+    ) -> Result<()> {
+        let mut file = fs::open(rt, path)?;
+        let size = description.block_bytes;
+        let record = size.saturating_add(RECORD_HEAD_BYTES);
+        for number in 0..records.0 {
+            let at = records.1.wrapping_add(number.wrapping_mul(record));
+            let offset = at.wrapping_add(RECORD_HEAD_BYTES);
+            let Ok(index) = index_at::<R>(&mut file, at) else {
+                continue;
+            };
+            let Ok(own) = hash_block(&mut file, offset, size, size, &mut self.buffer) else {
+                continue;
+            };
+            self.progress.advance(rt, size);
+            if is_digest(description.digests.as_slice(), index, &own) {
+                let origin = Origin {
+                    holder,
+                    offset,
+                    bytes: size,
+                };
+                self.note(index, origin);
+            }
+        }
+        Ok(())
+    }
+}
+
+// Reads the index of a record.
+fn index_at<R: Runtime>(file: &mut R::File, offset: u64) -> std::io::Result<usize> {
+    let mut bytes = [0u8; 4];
+    file.seek(SeekFrom::Start(offset))?;
+    file.read_exact(&mut bytes)?;
+    Ok(u32::from_le_bytes(bytes) as usize)
+}
+
+/// Counts of a scan.
+#[derive(Clone, Copy)]
+pub struct Counts {
+    /// Original blocks that were not found.
+    pub lost: usize,
+    /// Recovery blocks that were found.
+    pub recovery: usize,
+    /// Recovery blocks that the set has.
+    pub recovery_count: usize,
+}
+
+impl Scan {
+    /// Counts the blocks that were found.
+    pub fn counts(&self) -> Counts {
+        let k = (self.description.original_count as usize).min(self.origins.len());
+        let (originals, recovery) = self.origins.split_at(k);
+        Counts {
+            lost: originals.iter().filter(|place| place.is_none()).count(),
+            recovery: recovery.iter().filter(|place| place.is_some()).count(),
+            recovery_count: recovery.len(),
+        }
+    }
+
+    /// Returns whether all files are whole.
+    pub fn has_whole_files(&self) -> bool {
+        self.states.iter().all(|state| *state == FileState::Whole)
+    }
+}

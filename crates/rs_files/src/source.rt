@@ -1,0 +1,103 @@
+//! Blocks that are read from files and volumes.
+ghost use Rattle.rs_field.specs.code.Given.{nothing};
+
+use crate::progress::Progress;
+use rs_volumes::pieces::BlockSource;
+use std::alloc::Global;
+use std::io::{ErrorKind, Read, Seek, SeekFrom};
+use std::rt::{Files, Runtime};
+use std::{fs, io};
+
+/// Where a block lies: in a file or in a volume.
+#[derive(Clone, Copy)]
+pub struct Origin {
+    /// The file or volume, by its index in a list of paths.
+    pub holder: usize,
+    /// The first byte of the block in it.
+    pub offset: u64,
+    /// How many bytes of the block are there. The others are zeros.
+    pub bytes: u64,
+}
+
+/// A file that is open to be read.
+#[derive(Drop)]
+pub struct Opened<F: Drop> {
+    holder: usize,
+    file: F,
+}
+
+/// Blocks in files and volumes.
+#[derive(Drop)]
+pub struct FileBlocks<'a, R: Runtime> {
+    rt: &'a R,
+    alloc: Global,
+    /// The paths of the files and volumes.
+    paths: &'a [String],
+    /// Where each block is, if it is known.
+    origins: &'a [Option<Origin>],
+    opened: Option<Opened<R::File>>,
+    progress: Progress,
+}
+
+impl<'a, R: Runtime> FileBlocks<'a, R> {
+    /// Makes a source of blocks. Its progress is counted in bytes that were read.
+    pub fn new(
+        rt: &'a R,
+        alloc: Global,
+        paths: &'a [String],
+        origins: &'a [Option<Origin>],
+        progress: Progress,
+    ) -> FileBlocks<'a, R> {
+        FileBlocks {
+            rt,
+            alloc,
+            paths,
+            origins,
+            opened: None,
+            progress,
+        }
+    }
+
+    /// Ends the line of progress.
+    pub fn end(&self) {
+        self.progress.end(self.rt);
+    }
+
+    // Fills the front of `piece` from a file, beginning at an offset.
+    fn fill(&mut self, holder: usize, offset: u64, piece: &mut [u8]) -> io::Result<()> {
+        let mut opened = match self.opened.take() {
+            Some(opened) if opened.holder == holder => opened,
+            _ => {
+                let Some(path) = self.paths.get(holder) else {
+                    return Err(io::Error::from(ErrorKind::NotFound));
+                };
+                let file = fs::open(self.rt, path.as_str())?;
+                Opened { holder, file }
+            }
+        };
+        opened.file.seek(SeekFrom::Start(offset))?;
+        opened.file.read_exact(piece)?;
+        self.opened = Some(opened);
+        Ok(())
+    }
+}
+
+impl<'a, R: Runtime> BlockSource for FileBlocks<'a, R> {
+    ghost blocks = { λ _. nothing };
+
+    fn piece(&mut self, index: usize, start: usize, end: usize) -> io::Result<Vec<u8>> {
+        let mut piece = vec![in self.alloc; 0u8; end - start]?;
+        let Some(Some(origin)) = self.origins.get(index).copied() else {
+            return Err(io::Error::from(ErrorKind::NotFound));
+        };
+        let from = start as u64;
+        let to = (end as u64).min(origin.bytes);
+        if from < to {
+            let count = (to - from) as usize;
+            let offset = origin.offset.wrapping_add(from);
+            self.fill(origin.holder, offset, &mut piece[..count])?;
+        }
+        self.progress.advance(self.rt, (end - start) as u64);
+        Ok(piece)
+    }
+}

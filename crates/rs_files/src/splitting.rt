@@ -1,0 +1,98 @@
+//! `split`: spreads files over volumes.
+use crate::creating::{Volumes, check_free, description_bytes, volume_bytes, write_volumes};
+use crate::folder::{Cut, cut_files};
+use crate::names::path_in;
+use crate::output::Part;
+use crate::settings::{Recovery, Request, STATUS_WHOLE};
+use crate::walking::find;
+use anyhow::{Result, bail};
+use std::alloc::Global;
+use std::rt::Runtime;
+
+// The number of recovery blocks with which `lose` of `volumes` volumes may be lost.
+fn recovery_needed(original_count: u64, volumes: u64, lose: u64) -> Option<u32> {
+    for count in 0..65537u64 {
+        let blocks = original_count.saturating_add(count);
+        let share = blocks.div_ceil(volumes.max(1));
+        if share.saturating_mul(lose) <= count {
+            return u32::try_from(count).ok();
+        }
+    }
+    None
+}
+
+// How many blocks a volume has.
+fn share_of(blocks: u64, volumes: u64, number: u64) -> u64 {
+    let volumes = volumes.max(1);
+    let more = if number < blocks % volumes { 1 } else { 0 };
+    (blocks / volumes).saturating_add(more)
+}
+
+// Cuts the files so that the volumes that may be lost can be restored.
+fn cut_for(files: &[rs_volumes::description::FileEntry], request: &Request) -> Result<Cut> {
+    let first = cut_files(files, request.block_bytes, Recovery::Count(1))?;
+    let wanted = recovery_needed(
+        u64::from(first.original_count),
+        u64::from(request.volumes),
+        u64::from(request.lose),
+    );
+    match wanted {
+        Some(count) if first.original_count > 0 => {
+            cut_files(files, Some(first.block_bytes), Recovery::Count(count))
+        }
+        Some(_) => Ok(first),
+        None => bail!("so many volumes cannot be lost: use larger blocks, with --block"),
+    }
+}
+
+// Begins the volumes.
+fn begin<R: Runtime>(
+    rt: &R,
+    alloc: Global,
+    request: &Request,
+    folder: &str,
+    cut: Cut,
+    length: u64,
+) -> Result<Volumes> {
+    let blocks = u64::from(cut.original_count) + u64::from(cut.recovery_count);
+    let mut parts = Vec::new(alloc);
+    let mut counts = Vec::new(alloc);
+    for number in 0..request.volumes {
+        let shown = u64::from(number) + 1;
+        let name = format!(in alloc; "volume{shown:04}.rsv")?;
+        let path = path_in(alloc, folder, name.as_str())?;
+        check_free(rt, path.as_str(), request.force)?;
+        let records = share_of(blocks, u64::from(request.volumes), u64::from(number));
+        let size = volume_bytes(length, records, cut.block_bytes);
+        parts.push(Part::begin(rt, alloc, path.as_str(), size)?)?;
+        counts.push(records)?;
+    }
+    Ok(Volumes {
+        parts,
+        first: 0,
+        counts,
+    })
+}
+
+/// Spreads all blocks of files over volumes.
+pub fn split<R: Runtime + AllocGlobal>(rt: &R, request: &Request) -> Result<u8> {
+    let alloc = rt.alloc();
+    let Some(folder) = &request.output else {
+        bail!("say where the volumes go, as -o FOLDER");
+    };
+    let found = find(rt, request.paths.as_slice(), "")?;
+    let cut = cut_for(found.files.as_slice(), request)?;
+    let length = description_bytes(found.files.as_slice(), cut);
+    let volumes = begin(rt, alloc, request, folder.as_str(), cut, length)?;
+    let count = found.files.len();
+    write_volumes(rt, request, found, cut, &volumes)?;
+    for part in &volumes.parts {
+        part.finish(rt, request.force)?;
+    }
+    if !request.quiet {
+        let n = request.volumes;
+        let lose = request.lose;
+        println!(rt; "{count} files in {n} volumes, of which {lose} may be lost")?;
+    }
+    Ok(STATUS_WHOLE)
+}

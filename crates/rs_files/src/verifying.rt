@@ -1,0 +1,122 @@
+//! `verify`: looks for damage.
+use crate::names::{folder_to_open, parent_of, text_of};
+use crate::scanning::{Counts, FileState, Scan, open_volumes, scan_set};
+use crate::settings::{Request, STATUS_LOST, STATUS_MENDED, STATUS_WHOLE};
+use anyhow::{Result, bail};
+use serde_json::{Value, json};
+use std::alloc::{AllocError, Global};
+use std::rt::Runtime;
+
+/// The folder of the files: the one of the request, or else the folder of the first volume.
+pub fn folder_of(request: &Request) -> Result<&str> {
+    if let Some(folder) = &request.folder {
+        return Ok(folder.as_str());
+    }
+    match request.paths.first() {
+        Some(path) => Ok(folder_to_open(parent_of(path.as_str()))),
+        None => bail!("no volume is given"),
+    }
+}
+
+/// The status of a scan: whole, can be mended, or cannot be mended.
+pub fn status_of(scan: &Scan, counts: Counts) -> u8 {
+    if counts.lost > counts.recovery {
+        STATUS_LOST
+    } else if scan.has_whole_files() && counts.recovery == counts.recovery_count {
+        STATUS_WHOLE
+    } else {
+        STATUS_MENDED
+    }
+}
+
+// The word for the state of a file.
+fn word_of(state: FileState) -> &'static str {
+    match state {
+        FileState::Whole => "whole",
+        FileState::Damaged => "damaged",
+        FileState::Missing => "missing",
+    }
+}
+
+/// Says what is damaged, and what to do.
+pub fn tell<R: Runtime>(rt: &R, scan: &Scan, counts: Counts) -> Result<()> {
+    for (file, state) in scan
+        .description
+        .files
+        .as_slice()
+        .iter()
+        .zip(scan.states.as_slice())
+    {
+        if *state != FileState::Whole {
+            let word = word_of(*state);
+            println!(rt; "{word}: {}", text_of(file.name.as_slice()))?;
+        }
+    }
+    let Counts {
+        lost,
+        recovery,
+        recovery_count,
+    } = counts;
+    let status = status_of(scan, counts);
+    if status == STATUS_WHOLE {
+        println!(rt; "all files and all {recovery_count} recovery blocks are whole")?;
+    } else if status == STATUS_LOST {
+        let lacking = lost.saturating_sub(recovery);
+        println!(rt;
+            "{lost} blocks are lost and {recovery} recovery blocks are whole: {lacking} more blocks are needed"
+        )?;
+    } else {
+        println!(rt;
+            "{lost} blocks are lost and {recovery} of {recovery_count} recovery blocks are whole: this can be repaired"
+        )?;
+    }
+    Ok(())
+}
+
+// The files with their states, as JSON.
+fn files_json(alloc: Global, scan: &Scan) -> std::result::Result<Vec<Value>, serde_json::Error> {
+    let mut files = Vec::new(alloc);
+    for (file, state) in scan
+        .description
+        .files
+        .as_slice()
+        .iter()
+        .zip(scan.states.as_slice())
+    {
+        let name = text_of(file.name.as_slice());
+        let word = word_of(*state);
+        let size = file.size;
+        let value = json!(in alloc; {"name": name, "size": size, "state": word})?;
+        files.push(value).map_err(AllocError::from)?;
+    }
+    Ok(files)
+}
+
+// Prints the result as JSON.
+fn tell_json<R: Runtime + AllocGlobal>(rt: &R, scan: &Scan, counts: Counts) -> Result<()> {
+    let alloc = rt.alloc();
+    let files = Value::Array(files_json(alloc, scan)?);
+    let lost = counts.lost as u64;
+    let found = counts.recovery as u64;
+    let count = counts.recovery_count as u64;
+    let status = u64::from(status_of(scan, counts));
+    let value =
+        json!(in alloc; {"status": status, "lost_blocks": lost, "recovery_blocks": count, "whole_recovery_blocks": found, "files": files})?;
+    let text = value.to_string(alloc)?;
+    println!(rt; "{text}")?;
+    Ok(())
+}
+
+/// Looks for damage in the files of a set and in its volumes.
+pub fn verify<R: Runtime + AllocGlobal>(rt: &R, request: &Request) -> Result<u8> {
+    let folder = folder_of(request)?;
+    let volumes = open_volumes(rt, request.paths.as_slice())?;
+    let found = scan_set(rt, volumes, Some(folder), request.progress)?;
+    let counts = found.counts();
+    if request.json {
+        tell_json(rt, &found, counts)?;
+    } else if !request.quiet {
+        tell(rt, &found, counts)?;
+    }
+    Ok(status_of(&found, counts))
+}

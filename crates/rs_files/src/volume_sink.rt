@@ -1,0 +1,112 @@
+//! Volumes that are being written.
+ghost use Rattle.rs_field.specs.code.Given.{nothing};
+
+use crate::output::{Part, write_at};
+use anyhow::Result;
+use rs_volumes::digest::digest_of;
+use rs_volumes::head::{HEAD_BYTES, Head, write_head};
+use rs_volumes::pieces::BlockSink;
+use std::alloc::Global;
+use std::io;
+use std::io::ErrorKind;
+use std::rt::{Files, Runtime};
+
+/// The number of bytes before the block in a record: the index, and zero.
+pub const RECORD_HEAD_BYTES: u64 = 8;
+
+/// Volumes that are being written. The blocks from the index `first` on are dealt to them in turn.
+#[derive(Drop)]
+pub struct VolumeSink<'a, R: Runtime> {
+    rt: &'a R,
+    alloc: Global,
+    parts: &'a [Part],
+    files: Vec<R::File>,
+    first: usize,
+    block_bytes: u64,
+    description_bytes: u64,
+}
+
+impl<'a, R: Runtime> VolumeSink<'a, R> {
+    /// Opens the parts of all volumes.
+    pub fn new(
+        rt: &'a R,
+        alloc: Global,
+        parts: &'a [Part],
+        first: usize,
+        block_bytes: u64,
+        description_bytes: u64,
+    ) -> Result<VolumeSink<'a, R>> {
+        let mut files = Vec::new(alloc);
+        for part in parts {
+            files.push(part.open(rt)?)?;
+        }
+        Ok(VolumeSink {
+            rt,
+            alloc,
+            parts,
+            files,
+            first,
+            block_bytes,
+            description_bytes,
+        })
+    }
+
+    // Where the record with this number begins in its volume.
+    fn record_at(&self, number: u64) -> u64 {
+        let record = self.block_bytes.wrapping_add(RECORD_HEAD_BYTES);
+        (HEAD_BYTES as u64)
+            .wrapping_add(self.description_bytes)
+            .wrapping_add(number.wrapping_mul(record))
+    }
+
+    /// Writes the description and the heads of all volumes. `counts` has the number of records of each volume.
+    pub fn describe(&mut self, description: &[u8], counts: &[u64]) -> Result<()> {
+        let digest = digest_of(description);
+        for (number, file) in self.files.iter_mut().enumerate() {
+            let record_count = counts.get(number).copied().unwrap_or(0);
+            let head = Head {
+                description_bytes: description.len() as u64,
+                record_count,
+                digest,
+            };
+            let head = write_head(self.alloc, &head)?;
+            let record = self.block_bytes.wrapping_add(RECORD_HEAD_BYTES);
+            let end = (HEAD_BYTES as u64)
+                .wrapping_add(description.len() as u64)
+                .wrapping_add(record_count.wrapping_mul(record));
+            write_at(file, HEAD_BYTES as u64, description)?;
+            write_at(file, end, description)?;
+            write_at(
+                file,
+                end.wrapping_add(description.len() as u64),
+                head.as_slice(),
+            )?;
+            write_at(file, 0, head.as_slice())?;
+        }
+        Ok(())
+    }
+}
+
+impl<'a, R: Runtime> BlockSink for VolumeSink<'a, R> {
+    ghost written = { λ _. nothing };
+
+    fn put(&mut self, index: usize, start: usize, piece: &[u8]) -> io::Result<()> {
+        if index < self.first || self.files.is_empty() {
+            return Ok(());
+        }
+        let slot = index - self.first;
+        let number = slot % self.files.len();
+        let record = self.record_at((slot / self.files.len()) as u64);
+        let Some(file) = self.files.get_mut(number) else {
+            return Err(io::Error::from(ErrorKind::NotFound));
+        };
+        if start == 0 {
+            let index = (index as u64).to_le_bytes();
+            write_at(file, record, &index)?;
+        }
+        let offset = record
+            .wrapping_add(RECORD_HEAD_BYTES)
+            .wrapping_add(start as u64);
+        write_at(file, offset, piece)
+    }
+}

@@ -1,0 +1,147 @@
+//! Finds the files of a set.
+use crate::names::{folder_to_open, last_of, parent_of, path_in, trimmed};
+use anyhow::{Result, bail};
+use rs_volumes::checking::is_name;
+use rs_volumes::description::FileEntry;
+use std::alloc::Global;
+use std::fs;
+use std::os::unix::fs::{MetadataExt, PermissionsExt};
+use std::rt::Runtime;
+
+/// The files of a set, in order of their names, and the folder that the names begin at.
+#[derive(Drop)]
+pub struct Found {
+    pub folder: String,
+    pub files: Vec<FileEntry>,
+}
+
+// A file or folder that is still to be looked at: its path, and its name in the set, which is empty for the folder of the set itself.
+#[derive(Drop)]
+struct Waiting {
+    path: String,
+    name: String,
+}
+
+// The name that a path has in the set. A path that ends in `.` or `..` is the folder of the set itself.
+fn name_in_set(path: &str) -> &str {
+    match last_of(path) {
+        "" | "." | ".." => "",
+        name => name,
+    }
+}
+
+// The folder that the name of a path begins at.
+fn folder_of(path: &str) -> &str {
+    if name_in_set(path).is_empty() {
+        path
+    } else {
+        parent_of(path)
+    }
+}
+
+/// Finds all regular files below the paths, in order of their names. Volumes with the name `skipped` are left out.
+pub fn find<R: Runtime + AllocGlobal>(rt: &R, paths: &[String], skipped: &str) -> Result<Found> {
+    let alloc = rt.alloc();
+    let Some(first) = paths.first() else {
+        bail!("no file is given");
+    };
+    let folder = folder_of(trimmed(first.as_str()));
+    let mut files = Vec::new(alloc);
+    for path in paths {
+        let path = trimmed(path.as_str());
+        if folder_of(path) != folder {
+            bail!("the files must be in one folder: give that folder, or the files in it");
+        }
+        walk(rt, path, name_in_set(path), skipped, &mut files)?;
+    }
+    sort_files(&mut files)?;
+    Ok(Found {
+        folder: String::from_str(alloc, folder_to_open(folder))?,
+        files,
+    })
+}
+
+// Sorts files by their names.
+fn sort_files(files: &mut Vec<FileEntry>) -> Result<()> {
+    files.sort_by(|one, other| one.name.as_slice().cmp(other.name.as_slice()))?;
+    Ok(())
+}
+
+// Appends all files at a path and below it.
+fn walk<R: Runtime + AllocGlobal>(
+    rt: &R,
+    path: &str,
+    name: &str,
+    skipped: &str,
+    files: &mut Vec<FileEntry>,
+) -> Result<()> {
+    let alloc = rt.alloc();
+    let mut waiting = Vec::new(alloc);
+    waiting.push(Waiting {
+        path: String::from_str(alloc, path)?,
+        name: String::from_str(alloc, name)?,
+    })?;
+    for _ in 0..u64::MAX {
+        match waiting.pop() {
+            None => return Ok(()),
+            Some(next) => visit(rt, &next, skipped, &mut waiting, files)?,
+        }
+    }
+    Ok(())
+}
+
+// Looks at a path: appends a file, or the entries of a folder.
+fn visit<R: Runtime + AllocGlobal>(
+    rt: &R,
+    next: &Waiting,
+    skipped: &str,
+    waiting: &mut Vec<Waiting>,
+    files: &mut Vec<FileEntry>,
+) -> Result<()> {
+    let metadata = fs::metadata(rt, next.path.as_str())?;
+    if metadata.is_dir() {
+        return list(rt, next, waiting);
+    }
+    if !metadata.is_file() || is_skipped(next.name.as_str(), skipped) {
+        return Ok(());
+    }
+    if !is_name(next.name.as_str().as_bytes()) {
+        bail!("the name {:?} cannot be part of a set", next.name.as_str());
+    }
+    files.push(FileEntry {
+        size: metadata.len(),
+        modified: u64::from_le_bytes(metadata.mtime().to_le_bytes()),
+        mode: metadata.permissions().mode() & 0o7777,
+        name: Vec::from_slice(rt.alloc(), next.name.as_str().as_bytes())?,
+    })?;
+    Ok(())
+}
+
+// Whether a file is the volume that is being written, or a part of it.
+fn is_skipped(name: &str, skipped: &str) -> bool {
+    if skipped.is_empty() {
+        return false;
+    }
+    name == skipped || name.strip_suffix(".part") == Some(skipped)
+}
+
+// Appends the entries of a folder, except for symbolic links.
+fn list<R: Runtime + AllocGlobal>(
+    rt: &R,
+    folder: &Waiting,
+    waiting: &mut Vec<Waiting>,
+) -> Result<()> {
+    let alloc = rt.alloc();
+    for entry in fs::read_dir(rt, folder_to_open(folder.path.as_str()))? {
+        let entry = entry?;
+        if entry.file_type()?.is_symlink() {
+            continue;
+        }
+        let name = entry.file_name();
+        waiting.push(Waiting {
+            path: path_in(alloc, folder.path.as_str(), name)?,
+            name: path_in(alloc, folder.name.as_str(), name)?,
+        })?;
+    }
+    Ok(())
+}

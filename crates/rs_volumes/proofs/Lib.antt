@@ -1,0 +1,6 @@
+pub mod Fields
+pub mod Files
+pub mod Loop
+pub mod NameLemmas
+pub mod Sets
+pub mod Hashes

@@ -1,0 +1,4 @@
+pub mod Description
+pub mod Reading
+pub mod Sound
+pub mod Hashing

@@ -1,0 +1,133 @@
+//! Makes the recovery blocks of a set, and the digests of all its blocks, piece by piece.
+ghost use Rattle.std.specs.Prelude.{◌≡◌, ◌<◌, ◌≤◌, ◌%◌, IfOk, vec_len};
+
+use crate::coding_error::CodingError;
+use crate::hashing::{absorb, finish, new_hashers};
+use crate::pieces::{BlockSink, BlockSource};
+use reed_solomon_simd::encode_slice;
+use reed_solomon_simd::engine::DefaultEngine;
+use sha2::Sha256;
+use std::alloc::Global;
+
+/// The numbers of blocks of a set, and the size of a block in bytes.
+#[derive(Clone, Copy, Debug)]
+pub struct Shape {
+    /// The number of original blocks, k.
+    pub original_count: usize,
+    /// The number of recovery blocks, r.
+    pub recovery_count: usize,
+    /// The size of a block in bytes.
+    pub block_bytes: usize,
+}
+
+// The hashers of the original blocks and of the recovery blocks.
+#[derive(Drop)]
+struct Hashers {
+    originals: Vec<Sha256>,
+    recovery: Vec<Sha256>,
+}
+
+/// Reads all original blocks, writes all blocks into the sink, and returns the SHA-256 of each block, 32 bytes each: first those of the
+/// original blocks, then those of the recovery blocks.
+///
+/// The function reads `piece_bytes` bytes of each original block at a time. It needs about k + r times as much memory.
+///
+/// # Errors
+///
+/// - [`CodingError::Read`] and [`CodingError::Write`] if the source or the sink fails.
+/// - [`CodingError::Code`] if the code does not support the numbers of blocks or their size.
+/// - [`CodingError::Memory`] if memory cannot be allocated.
+pub fn create<S: BlockSource, W: BlockSink>(
+    alloc: Global,
+    shape: Shape,
+    piece_bytes: usize,
+    engine: DefaultEngine<'_>,
+    source: &mut S,
+    sink: &mut W,
+) -> Result<Vec<u8>, CodingError>
+    requires some { 0 < piece_bytes }
+    requires chunks { piece_bytes % 64 ≡ 0 }
+{
+    let mut hashers = Hashers {
+        originals: new_hashers(alloc, shape.original_count)?,
+        recovery: new_hashers(alloc, shape.recovery_count)?,
+    };
+    let mut start = 0;
+    while start < shape.block_bytes {
+        let end = start + piece_bytes.min(shape.block_bytes - start);
+        create_piece(alloc, shape, start, end, engine, source, sink, &mut hashers)?;
+        start = end;
+    }
+    let mut digests = Vec::new(alloc);
+    finish(&mut hashers.originals, &mut digests)?;
+    finish(&mut hashers.recovery, &mut digests)?;
+    Ok(digests)
+}
+
+// Makes a piece of each recovery block.
+fn create_piece<S: BlockSource, W: BlockSink>(
+    alloc: Global,
+    shape: Shape,
+    start: usize,
+    end: usize,
+    engine: DefaultEngine<'_>,
+    source: &mut S,
+    sink: &mut W,
+    hashers: &mut Hashers,
+) -> Result<(), CodingError>
+    requires order { start ≤ end }
+    requires originals { vec_len hashers.old.originals ≡ shape.original_count }
+    requires recovery { vec_len hashers.old.recovery ≡ shape.recovery_count }
+    ensures originals { vec_len hashers.new.originals ≡ shape.original_count }
+    ensures recovery { vec_len hashers.new.recovery ≡ shape.recovery_count }
+{
+    let pieces = read_pieces(alloc, shape.original_count, start, end, source)?;
+    let made = encode_slice(
+        alloc,
+        shape.original_count,
+        shape.recovery_count,
+        pieces.as_slice(),
+        engine,
+    )?;
+    absorb(&mut hashers.originals, pieces.as_slice());
+    absorb(&mut hashers.recovery, made.as_slice());
+    put_pieces(sink, 0, start, pieces.as_slice())?;
+    put_pieces(sink, shape.original_count, start, made.as_slice())
+}
+
+// Reads a piece of each block with an index below `count`.
+fn read_pieces<S: BlockSource>(
+    alloc: Global,
+    count: usize,
+    start: usize,
+    end: usize,
+    source: &mut S,
+) -> Result<Vec<Vec<u8>>, CodingError>
+    requires { start ≤ end }
+    ensures { IfOk result (λ pieces. vec_len pieces ≡ count) }
+{
+    let mut pieces = Vec::new(alloc);
+    for index in 0..count {
+        match source.piece(index, start, end) {
+            Ok(piece) => pieces.push(piece)?,
+            Err(error) => return Err(CodingError::Read(index, error)),
+        }
+    }
+    Ok(pieces)
+}
+
+// Writes a piece of each block from the index `first` on.
+fn put_pieces<W: BlockSink>(
+    sink: &mut W,
+    first: usize,
+    start: usize,
+    pieces: &[Vec<u8>],
+) -> Result<(), CodingError> {
+    for (number, piece) in pieces.iter().enumerate() {
+        let index = first.wrapping_add(number);
+        if let Err(error) = sink.put(index, start, piece.as_slice()) {
+            return Err(CodingError::Write(index, error));
+        }
+    }
+    Ok(())
+}

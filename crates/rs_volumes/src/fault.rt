@@ -1,0 +1,97 @@
+//! Why bytes are no volume of this format.
+ghost use Rattle.std.specs.Prelude.{◌≡◌};
+ghost use Rattle.rs_volumes.specs.declared.fault.ReadError.TheVariants.{Memory};
+
+use std::alloc::{AllocError, AllocFailed};
+use std::error::Error;
+use std::fmt;
+
+/// What is wrong with the bytes of a volume. If several things are wrong, it is the one that the reader meets first.
+#[derive(Clone, Copy, Debug, PartialEq, Eq)]
+pub enum Fault {
+    /// The bytes do not begin with the magic number of a volume.
+    Magic,
+    /// The version is not 1.
+    Version,
+    /// A number that must be zero is not.
+    Reserved,
+    /// The bytes end inside a field.
+    Short,
+    /// More bytes follow the last digest.
+    Trailing,
+    /// The code is not the code with number 1.
+    Code,
+    /// The digest is not the digest with number 1, which is SHA-256.
+    Digest,
+    /// The block size is zero, odd, or above 2^40 bytes.
+    BlockSize,
+    /// The code does not support the numbers of blocks.
+    Counts,
+    /// A file is longer than 2^62 bytes.
+    Length,
+    /// A name is empty, is not UTF-8, is absolute, or has an empty part or a part `.` or `..`.
+    Name,
+    /// The names are not in strictly increasing order.
+    Order,
+    /// The files do not have as many blocks as the description says.
+    Blocks,
+}
+
+impl fmt::Display for Fault {
+    fn fmt<W: fmt::Write>(&self, f: &mut fmt::Formatter<W>) -> fmt::Result {
+        let text = match self {
+            Fault::Magic => "it does not begin as a volume does",
+            Fault::Version => "its version is not 1: a newer program may read it",
+            Fault::Reserved => "a number that must be zero is not",
+            Fault::Short => "it ends too early",
+            Fault::Trailing => "bytes follow its description",
+            Fault::Code => "it uses a code that this program does not know",
+            Fault::Digest => "it uses a digest that this program does not know",
+            Fault::BlockSize => "its block size is zero, odd or too large",
+            Fault::Counts => "its numbers of blocks are not supported",
+            Fault::Length => "a file is too long",
+            Fault::Name => "the name of a file is not allowed",
+            Fault::Order => "the names of its files are not in order",
+            Fault::Blocks => "the number of its blocks does not fit its files",
+        };
+        write!(f, "{text}")
+    }
+}
+
+impl Error for Fault {}
+
+/// Why a description was not read.
+#[derive(Debug, Drop)]
+pub enum ReadError {
+    /// Memory could not be allocated.
+    Memory,
+    /// The bytes are no sound description.
+    Fault(Fault),
+}
+
+impl fmt::Display for ReadError {
+    fn fmt<W: fmt::Write>(&self, f: &mut fmt::Formatter<W>) -> fmt::Result {
+        match self {
+            ReadError::Memory => write!(f, "out of memory"),
+            ReadError::Fault(fault) => write!(f, "{fault}"),
+        }
+    }
+}
+
+impl Error for ReadError {}
+
+impl From<AllocError> for ReadError {
+    ghost from_gives = { λ _ e. e ≡ Memory };
+
+    fn from(_error: AllocError) -> ReadError {
+        ReadError::Memory
+    }
+}
+
+impl<T: Drop> From<AllocFailed<T>> for ReadError {
+    ghost from_gives = { λ _ e. e ≡ Memory };
+
+    fn from(_error: AllocFailed<T>) -> ReadError {
+        ReadError::Memory
+    }
+}

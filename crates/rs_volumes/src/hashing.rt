@@ -1,0 +1,47 @@
+//! The digests of many blocks, whose bytes come piece by piece.
+ghost use Rattle.std.specs.Prelude.{◌≡◌, ◌++◌, List, IfOk, OnOk, length, map, flat_map, vec_len};
+ghost use Rattle.rs_field.specs.code.Column.{Shard};
+ghost use Rattle.sha2.specs.Sha256.{sha256};
+ghost use Rattle.rs_volumes.specs.Hashing.{AreHashed, joined, empty_blocks};
+
+use sha2::{Digest, Sha256};
+use std::alloc::{AllocError, Global};
+
+/// Makes the hashers of this many blocks, of which no byte has come.
+pub fn new_hashers(alloc: Global, count: usize) -> Result<Vec<Sha256>, AllocError>
+    ensures { IfOk result (λ hashers. AreHashed hashers.items (empty_blocks count)) }
+{
+    let mut hashers = Vec::new(alloc);
+    for _ in 0..count {
+        hashers.push(Sha256::new())?;
+    }
+    Ok(hashers)
+}
+
+/// Adds the next piece of each block.
+pub fn absorb(hashers: &mut Vec<Sha256>, pieces: &[Vec<u8>])
+    requires { vec_len hashers.old ≡ length pieces.now }
+    ensures hashed { (blocks : List Shard) → AreHashed hashers.old.items blocks
+        → AreHashed hashers.new.items (joined blocks (map (λ piece. piece.items) pieces.now)) }
+    ensures number { vec_len hashers.new ≡ vec_len hashers.old }
+{
+    for index in 0..pieces.len() {
+        hashers[index].update(pieces[index].as_slice());
+    }
+}
+
+/// Appends the digest of each block to `digests`. The hashers then begin again.
+///
+/// # Errors
+///
+/// [`AllocError`] if memory cannot be allocated.
+pub fn finish(hashers: &mut Vec<Sha256>, digests: &mut Vec<u8>) -> Result<(), AllocError>
+    ensures { (blocks : List Shard) → AreHashed hashers.old.items blocks
+        → OnOk result (digests.new.items ≡ digests.old.items ++ flat_map sha256 blocks) }
+{
+    for index in 0..hashers.len() {
+        let digest = hashers[index].finalize_reset();
+        digests.extend_from_slice(&digest)?;
+    }
+    Ok(())
+}

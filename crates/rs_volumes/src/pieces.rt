@@ -1,0 +1,51 @@
+//! Blocks that are read and written piece by piece.
+ghost use Rattle.rs_field.specs.code.Given.{Shards};
+
+use std::io;
+
+/// Blocks that can be read piece by piece: the original blocks, with the indexes 0 to k - 1, and the recovery blocks, with the indexes k
+/// to k + r - 1.
+///
+/// A file can return anything, so no contract can state what it returns. An implementation that reads files therefore knows no block: its
+/// ghost member `blocks` is the map without a block.
+pub trait BlockSource {
+    ghost use Rattle.std.specs.Prelude.{◌≡◌, ◌-◌, ◌≤◌, ℕ, List, Some, IfOk, length};
+    ghost use Rattle.std.specs.List.{between};
+    ghost use Rattle.rs_field.specs.code.Column.{Shard};
+    ghost use Rattle.rs_field.specs.code.Given.{Shards};
+
+    /// The blocks that are known, by their indexes.
+    ghost blocks: { Self → Shards };
+
+    /// Reads a piece of the block `index`: its bytes from byte `start` up to, but not including, byte `end`.
+    ///
+    /// # Errors
+    ///
+    /// Any error of the system, if the piece cannot be read or memory cannot be allocated.
+    fn piece(&mut self, index: usize, start: usize, end: usize) -> io::Result<Vec<u8>>
+        requires { start ≤ end }
+        ensures sized { IfOk result (λ piece. length piece.items ≡ end - start) }
+        ensures bytes { IfOk result (λ piece. (block : Shard) → blocks self.old index ≡ Some block
+            → piece.items ≡ between start end block) }
+        ensures kept { blocks self.new ≡ blocks self.old };
+}
+
+/// Blocks that can be written piece by piece, in order of their bytes. The indexes are those of [`BlockSource`].
+pub trait BlockSink {
+    ghost use Rattle.std.specs.Prelude.{◌≡◌, ◌≢◌, ◌++◌, ℕ, Some, OnOk};
+    ghost use Rattle.rs_field.specs.code.Column.{Shard};
+    ghost use Rattle.rs_field.specs.code.Given.{Shards};
+
+    /// The bytes that were written of each block, as far as they are known.
+    ghost written: { Self → Shards };
+
+    /// Writes the next piece of the block `index`, which begins at byte `start` of the block.
+    ///
+    /// # Errors
+    ///
+    /// Any error of the system.
+    fn put(&mut self, index: usize, start: usize, piece: &[u8]) -> io::Result<()>
+        ensures here { OnOk result ((before : Shard) → written self.old index ≡ Some before
+            → written self.new index ≡ Some (before ++ piece.now)) }
+        ensures others { OnOk result ((i : ℕ) → i ≢ index → written self.new i ≡ written self.old i) };
+}

@@ -1,0 +1,198 @@
+//! Restores blocks of a set from any k of its blocks, piece by piece.
+ghost use Rattle.std.specs.Prelude.{◌≡◌, ◌<◌, ◌≤◌, ◌%◌};
+
+use crate::coding_error::CodingError;
+use crate::creating::Shape;
+use crate::digest::is_digest;
+use crate::hashing::new_hashers;
+use crate::pieces::{BlockSink, BlockSource};
+use reed_solomon_simd::decode_slice;
+use reed_solomon_simd::engine::DefaultEngine;
+use sha2::{Digest, Sha256};
+use std::alloc::Global;
+
+/// The blocks that a restore reads and writes.
+#[derive(Drop)]
+pub struct Plan {
+    /// The original blocks that are read, by their indexes, each once.
+    pub originals: Vec<usize>,
+    /// The recovery blocks that are read, by their numbers from 0, each once.
+    pub recovery: Vec<usize>,
+    /// Whether an original block is to be written, for each of the k original blocks.
+    pub wanted: Vec<bool>,
+}
+
+// The pieces that were read, with their indexes.
+#[derive(Drop)]
+struct Pieces {
+    originals: Vec<(usize, Vec<u8>)>,
+    recovery: Vec<(usize, Vec<u8>)>,
+}
+
+/// Writes the wanted original blocks into the sink. If a wanted block is not read, it is restored from the blocks that are read.
+///
+/// The function reads `piece_bytes` bytes of each block at a time. After the last piece it compares the digest of each block that it wrote
+/// with the digest in `digests`.
+///
+/// # Errors
+///
+/// - [`CodingError::Read`] and [`CodingError::Write`] if the source or the sink fails.
+/// - [`CodingError::Code`] if the blocks that are read are too few, or if the code refuses them.
+/// - [`CodingError::Missing`] for a wanted block that is neither read nor restored.
+/// - [`CodingError::Digest`] for the first block that was written and does not have its digest.
+/// - [`CodingError::Memory`] if memory cannot be allocated.
+pub fn restore<S: BlockSource, W: BlockSink>(
+    alloc: Global,
+    shape: Shape,
+    piece_bytes: usize,
+    engine: DefaultEngine<'_>,
+    plan: &Plan,
+    digests: &[u8],
+    source: &mut S,
+    sink: &mut W,
+) -> Result<(), CodingError>
+    requires some { 0 < piece_bytes }
+    requires chunks { piece_bytes % 64 ≡ 0 }
+{
+    let mut hashers = new_hashers(alloc, plan.wanted.len())?;
+    let mut start = 0;
+    while start < shape.block_bytes {
+        let end = start + piece_bytes.min(shape.block_bytes - start);
+        let pieces = read_all(alloc, shape, plan, start, end, source)?;
+        restore_piece(
+            alloc,
+            shape,
+            start,
+            engine,
+            plan,
+            &pieces,
+            &mut hashers,
+            sink,
+        )?;
+        start = end;
+    }
+    compare(plan.wanted.as_slice(), digests, &mut hashers)
+}
+
+// Reads a piece of each block of the plan.
+fn read_all<S: BlockSource>(
+    alloc: Global,
+    shape: Shape,
+    plan: &Plan,
+    start: usize,
+    end: usize,
+    source: &mut S,
+) -> Result<Pieces, CodingError>
+    requires { start ≤ end }
+{
+    Ok(Pieces {
+        originals: read_pieces(alloc, plan.originals.as_slice(), 0, start, end, source)?,
+        recovery: read_pieces(
+            alloc,
+            plan.recovery.as_slice(),
+            shape.original_count,
+            start,
+            end,
+            source,
+        )?,
+    })
+}
+
+// Reads a piece of each of these blocks. The source has the block `number` at the index `first` + `number`.
+fn read_pieces<S: BlockSource>(
+    alloc: Global,
+    numbers: &[usize],
+    first: usize,
+    start: usize,
+    end: usize,
+    source: &mut S,
+) -> Result<Vec<(usize, Vec<u8>)>, CodingError>
+    requires { start ≤ end }
+{
+    let mut pieces = Vec::new(alloc);
+    for number in numbers {
+        let index = first.wrapping_add(*number);
+        match source.piece(index, start, end) {
+            Ok(piece) => pieces.push((*number, piece))?,
+            Err(error) => return Err(CodingError::Read(index, error)),
+        }
+    }
+    Ok(pieces)
+}
+
+// Writes a piece of each wanted block.
+fn restore_piece<W: BlockSink>(
+    alloc: Global,
+    shape: Shape,
+    start: usize,
+    engine: DefaultEngine<'_>,
+    plan: &Plan,
+    pieces: &Pieces,
+    hashers: &mut Vec<Sha256>,
+    sink: &mut W,
+) -> Result<(), CodingError> {
+    put_read(
+        start,
+        plan.wanted.as_slice(),
+        pieces.originals.as_slice(),
+        hashers,
+        sink,
+    )?;
+    if pieces.recovery.is_empty() {
+        return Ok(());
+    }
+    let restored = decode_slice(
+        alloc,
+        shape.original_count,
+        shape.recovery_count,
+        pieces.originals.as_slice(),
+        pieces.recovery.as_slice(),
+        engine,
+    )?;
+    let mut found = Vec::new(alloc);
+    for (index, piece) in restored {
+        found.push((index, piece))?;
+    }
+    put_read(
+        start,
+        plan.wanted.as_slice(),
+        found.as_slice(),
+        hashers,
+        sink,
+    )
+}
+
+// Writes the pieces of wanted blocks.
+fn put_read<W: BlockSink>(
+    start: usize,
+    wanted: &[bool],
+    pieces: &[(usize, Vec<u8>)],
+    hashers: &mut Vec<Sha256>,
+    sink: &mut W,
+) -> Result<(), CodingError> {
+    for (index, piece) in pieces {
+        if *index < wanted.len() && *index < hashers.len() && wanted[*index] {
+            hashers[*index].update(piece.as_slice());
+            if let Err(error) = sink.put(*index, start, piece.as_slice()) {
+                return Err(CodingError::Write(*index, error));
+            }
+        }
+    }
+    Ok(())
+}
+
+// Compares the digest of each wanted block with the digest of the description.
+fn compare(wanted: &[bool], digests: &[u8], hashers: &mut Vec<Sha256>) -> Result<(), CodingError> {
+    for (index, is_wanted) in wanted.iter().enumerate() {
+        if *is_wanted {
+            if index >= hashers.len() {
+                return Err(CodingError::Missing(index));
+            }
+            let own = hashers[index].finalize_reset();
+            if !is_digest(digests, index, &own) {
+                return Err(CodingError::Digest(index));
+            }
+        }
+    }
+    Ok(())
+}
