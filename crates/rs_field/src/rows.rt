@@ -1,4 +1,5 @@
-//! Rows of chunks: lent, laid out, summed, transformed, and the plain engine. It rests on `words` and `code`, and makes and meets the calls of `trait Engine`.
+//! Rows of chunks: how they are lent, laid out, summed and transformed, the trait `Engine`, and the plain engine. This
+//! folder imports from `words`, and from `code` only `Error`.
 pub mod block;
 pub mod bytes;
 pub mod derivative;

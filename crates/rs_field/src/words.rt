@@ -1,5 +1,5 @@
-//! Words: constants of the field, tables, the locator, and the count of steps. Of the other modules, this one uses only the error
-//! `OutOfMemory`.
+//! Words: constants of the field, tables, the locator, and the count of steps. It imports from other folders
+//! only the type `Error`.
 mod fwht;
 pub mod lent_tables;
 pub mod locating;

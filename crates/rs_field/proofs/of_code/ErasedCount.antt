@@ -41,7 +41,8 @@ past_same m a (suc n) b f e all =
 one_of_two : (b : Bool) → cond b 0 1 + cond b 1 0 ≡ 1
 one_of_two b = search rules
 
--- If n further entries are one exactly where the map has no shard, the sum and the number of shards grow together by n.
+-- If n further entries are one exactly where the map has no shard, the sum of the entries plus the number of
+-- shards grows by n.
 past_given : (a n : ℕ) (f : ℕ → ℕ) (g : Shards) → ((i : ℕ) → i < n → f (a + i) ≡ cond (is_some (g i)) 0 1)
     → total (a + n) f + count_below n g ≡ total a f + n
 past_given a zero f g is = omega (arith, ap (λ k. total k f) (add-zero a), count_below-zero g)

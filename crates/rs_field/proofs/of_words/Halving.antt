@@ -86,7 +86,7 @@ walsh-same n f g h same is = walsh-near n f g h (λ y hy. ap (λ v. v % 65535) (
 pub walsh-at : (n m : ℕ) (f g : ℕ → ℕ) → n ≡ m → IsWalsh n f g → IsWalsh m f g
 walsh-at n m f g same is = subst (λ (k : ℕ). IsWalsh k f g) same is
 
--- ---- quarters
+-- ---- a transform from its four quarters
 
 -- Two layers make a transform from the transforms of its four quarters.
 walsh-quarters : (e n q : ℕ) (old t0 t1 t2 t3 new : ℕ → ℕ) → n ≡ 2 ^ suc (suc e) → q ≡ 2 ^ e

@@ -161,7 +161,7 @@ none_marked_past d e x hd none =
     grind (arith, common_steps, unmarked_past (2 ^ d) (65536 - 2 ^ d) e x
         (λ y a b. none y a (omega arith)), pow_mono hd)
 
--- ---- residues
+-- ---- powers of sums with equal residues modulo 65535
 
 -- Sums with equal residues modulo 65535 have the same power.
 pub same_residue : (l s : ℕ) → l % 65535 ≡ s % 65535 → power l ≡ power s

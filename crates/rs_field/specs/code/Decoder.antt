@@ -18,8 +18,8 @@ pub record DecoderState : Type 0 where
   pub originals : Shards
   pub recovery : Shards
 
--- a state that a decoder of this rate can be in: a valid configuration whose rows' bytes are a `usize`, and shards of
--- the size given at indexes below the counts
+-- a state in which a decoder of this rate can be: the configuration is valid, the bytes of all rows fit a `usize`, and
+-- each given shard has the size and an index below the count
 pub record IsDecoder (rate : Rate) (s : DecoderState) : Type 0 where
   pub of_rate : s.configuration.rate ≡ rate
   pub valid : validation_outcome s.configuration ≡ Ok tt

@@ -8,7 +8,7 @@ use Rattle.rs_field.specs.code.Decoder.{DecoderState, Restored}
 use Rattle.rs_field.specs.code.Given.{Shards, Lists}
 use Rattle.rs_field.specs.code.OneCall.{Items}
 
--- the same piece of each given shard
+-- the bytes of each given shard from `start` to `end`
 abbrev pub pieces_of : ℕ → ℕ → Shards → Shards
 pieces_of start end given = λ i. option_map (λ s. between start end s) (given i)
 

@@ -4,7 +4,8 @@ use Rattle.rs_field.specs.words.Field.{product, power, log}
 use Rattle.rs_field.specs.words.Subspace.{subspace}
 use Rattle.rs_field.specs.words.Walsh.{IsWalsh, log_or_zero}
 
--- the powers of the generator and the logarithms of the words; the logarithm of 0 reads 65535
+-- the powers of the generator and the logarithms of the words; the entry of 0 in the table of logarithms is
+-- 65535
 pub record IsExpLog (exp_table log_table : List ℕ) : Type 0 where
   pub exp_length : length exp_table ≡ 65536
   pub log_length : length log_table ≡ 65536

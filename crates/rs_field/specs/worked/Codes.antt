@@ -29,8 +29,8 @@ ConstantExample rate =
 abbrev pub LineExample : Rate → Type 0
 LineExample rate = Recovers rate (low_bytes (0 ∷ 1 ∷ [])) (0 ∷ 1 ∷ []) (low_bytes (2 ∷ 3 ∷ 4 ∷ []))
 
--- 1, 1 are a constant; their XOR with the line's 0, 1 is 1, 0, the polynomial 1 + x, whose recovery shards are the XOR
--- of both
+-- the message 1, 1 has the polynomial 1. Its XOR with the message 0, 1 above is 1, 0, with the polynomial 1 + x, whose
+-- recovery shards are the XOR of both lists
 abbrev pub LinearExample : Rate → Type 0
 LinearExample rate =
     Recovers rate (low_bytes (1 ∷ 1 ∷ [])) (1 ∷ 0 ∷ []) (low_bytes (1 ∷ 1 ∷ 1 ∷ []))

@@ -10,9 +10,10 @@ use crate::words::Steps;
 
 /// Adds to a polynomial its derivative, where the rows are its coefficients in the subspace basis.
 ///
-/// In each symbol by itself, the rows become the coefficients of polynomial plus derivative. There is a power of two of
-/// rows, at most 65536. Each subspace polynomial has derivative one, so the step is XORs of rows alone, exactly
-/// `n / 2 * log2(n)` of them over n rows; the method is that of Lin, Chung and Han in the form of Leopard-RS.
+/// For each symbol, the rows become the coefficients of the sum of the polynomial and its derivative. The number of
+/// rows is a power of two and at most 65536. Each subspace polynomial has derivative one, so the step is XORs of rows
+/// alone, exactly `n / 2 * log2(n)` of them over n rows. The method is that of Lin, Chung and Han in the form of
+/// Leopard-RS.
 pub fn formal_derivative(steps: &mut Steps, data: &mut ShardsRefMut<'_>)
     requires fits { Fits «data».old }
     requires power { (d : ℕ) × («data».old.shard_count ≡ 2 ^ d) }
@@ -27,8 +28,8 @@ pub fn formal_derivative(steps: &mut Steps, data: &mut ShardsRefMut<'_>)
     derivative_within(steps, data, 0, size);
 }
 
-// Adds the derivative to the `size` rows from `pos` on, depth first. The rows of the second half are added to the first half's
-// sums before they are changed: they then are still the polynomial's own.
+// Adds the derivative to the `size` rows from `pos` on, depth first. The rows of the second half are added to those of
+// the first half before they change: at that time they are still coefficients of the polynomial itself.
 fn derivative_within(steps: &mut Steps, data: &mut ShardsRefMut<'_>, pos: usize, size: usize)
     requires fits { Fits «data».old }
     requires power { (d : ℕ) × (size ≡ 2 ^ d) }

@@ -22,9 +22,9 @@ use crate::words::{GF_ORDER, GfElement, Steps};
 pub trait Engine: Drop {
     /// Transforms the `size` rows from `pos` on forward, at `skew_delta`.
     ///
-    /// For i below `truncated_size`, row i of them becomes the sum, over q below `size`, of the old row q times the basis
-    /// polynomial q at the point `skew_delta + i`. The rows from `truncated_size` on hold anything afterwards. All other rows
-    /// are unchanged. `size` is a power of two, and `skew_delta` a multiple of it.
+    /// For i below `truncated_size`, row `pos + i` becomes the sum, over q below `size`, of the old row `pos + q` times
+    /// the basis polynomial q at the point `skew_delta + i`. The rows from `pos + truncated_size` on hold anything
+    /// afterwards. All other rows are unchanged. `size` is a power of two, and `skew_delta` a multiple of it.
     fn fft(
         &self,
         steps: &mut Steps,
@@ -47,8 +47,9 @@ pub trait Engine: Drop {
             ≡ forward size skew_delta (λ q. word «data».old k s (pos + q)) i }
         ensures counts { TransformCounts size steps.old steps.new };
 
-    /// Transforms the `size` rows from `pos` on backward, at `skew_delta`: they become the rows whose forward transform they
-    /// were. The rows from `truncated_size` on must be zero before. All other rows are unchanged.
+    /// Transforms the `size` rows from `pos` on backward, at `skew_delta`: afterwards they hold the rows of which the
+    /// old rows are the forward transform. The rows from `pos + truncated_size` on must be zero before. All other rows
+    /// are unchanged.
     fn ifft(
         &self,
         steps: &mut Steps,
@@ -72,11 +73,11 @@ pub trait Engine: Drop {
             ≡ forward size skew_delta (λ q. word «data».new k s (pos + q)) i }
         ensures counts { TransformCounts size steps.old steps.new };
 
-    /// Transforms the rows from `pos` on forward, at `skew_delta`, as many as `wanted` has marks.
+    /// Transforms as many rows as `wanted` has marks, from row `pos` on, forward at `skew_delta`.
     ///
-    /// Row i of them, if it is marked as wanted, becomes the sum, over all q, of the old row q times the basis polynomial q at
-    /// the point `skew_delta + i`. Rows that are not wanted hold anything afterwards. All other rows are unchanged. The default
-    /// body makes one `fft` that is truncated after the last wanted row.
+    /// Row `pos + i`, if it is marked as wanted, becomes the sum, over all q, of the old row `pos + q` times the basis
+    /// polynomial q at the point `skew_delta + i`. Rows that are not wanted hold anything afterwards. All other rows
+    /// are unchanged. The default body makes one `fft` that is truncated after the last wanted row.
     fn fft_wanted(
         &self,
         steps: &mut Steps,
@@ -102,9 +103,11 @@ pub trait Engine: Drop {
         self.fft(steps, data, pos, wanted.len(), end, skew_delta);
     }
 
-    /// Transforms the rows from `pos` on backward, at `skew_delta`, as many as `given` has marks: they become the rows whose
-    /// forward transform they were. Rows that are not marked as given must be zero before. All other rows are unchanged. The
-    /// default body makes one `ifft` that is truncated after the last given row.
+    /// Transforms as many rows as `given` has marks, from row `pos` on, backward at `skew_delta`.
+    ///
+    /// Afterwards they hold the rows of which the old rows are the forward transform. Rows that are not marked as given
+    /// must be zero before. All other rows are unchanged. The default body makes one `ifft` that is truncated after the
+    /// last given row.
     fn ifft_given(
         &self,
         steps: &mut Steps,

@@ -23,8 +23,8 @@ use crate::words::Steps;
 /// butterflies for each layer. Rows outside the block are unchanged.
 ///
 /// Forward, row i of the block, if it is used, becomes the sum over q of the old row q times the basis polynomial q at
-/// the point `skew_delta + i`. Rows that are not used hold anything afterwards. Backward, the rows become the rows
-/// whose forward transform they were. Rows that are not used must be zero when the call begins.
+/// the point `skew_delta + i`. Rows that are not used hold anything afterwards. Backward, the rows hold afterwards the
+/// rows of which the old rows are the forward transform. Rows that are not used must be zero when the call begins.
 ///
 /// This function is inlined, so that blocks of up to four rows are transformed without a call.
 #[inline(always)]
