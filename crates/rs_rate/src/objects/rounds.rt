@@ -1,5 +1,5 @@
-//! A round in two calls: the first call codes and ends the round, and the second call lends the result. The owner of an object
-//! and of its steps needs both for the first call, and only the object for the second call.
+//! A round in two calls: the first call codes and ends the round, and the second call lends the result. The owner of an
+//! object and of its `Steps` passes both to the first call, and only the object to the second.
 ghost use Rattle.std.specs.Prelude.{◌≡◌, length, IfOk};
 ghost use Rattle.std.specs.Result.{result_map_both};
 ghost use Rattle.rs_field.specs.code.Bounds.{EncodeCountsAt, DecodeCountsAt};
@@ -54,8 +54,8 @@ pub fn encode_round<E: Engine, C: RateMarker>(
     Ok(())
 }
 
-/// Lends the recovery shards that are in an encoder after a round. Before the first round, the bytes are those that the work of
-/// the encoder held, and no recovery shards.
+/// Lends the recovery shards that are in an encoder after a round. Before the first round, the encoder
+/// holds no recovery shards: the call then lends whatever bytes its memory holds.
 pub fn lent_recovery<E: Engine, C: RateMarker>(encoder: &Encoder<E, C>) -> EncoderResult<'_>
     ensures { recovery_shards result ≡ lent_shards encoder.now.rows }
 {
@@ -69,7 +69,8 @@ pub fn lent_recovery<E: Engine, C: RateMarker>(encoder: &Encoder<E, C>) -> Encod
 ///
 /// - [`Error::NotEnoughShards`] if fewer shards were added than there are originals. The decoder then keeps what was
 ///   added.
-/// - [`Error::InconsistentShards`] if more shards were added than there are originals, and no message matches them all.
+/// - [`Error::InconsistentShards`] if more shards were added than there are originals, and no message agrees with them
+///   all.
 ///   This error ends the round.
 pub fn decode_round<E: Engine, C: RateMarker>(
     decoder: &mut Decoder<E, C>,
@@ -93,7 +94,7 @@ pub fn decode_round<E: Engine, C: RateMarker>(
 }
 
 /// Lends the originals that are in a decoder after a round that restored `restored_count` originals. Before the first
-/// round of a decoder there are none.
+/// round, the decoder holds no restored originals.
 pub fn lent_originals<E: Engine, C: RateMarker>(
     decoder: &Decoder<E, C>,
     restored_count: usize,

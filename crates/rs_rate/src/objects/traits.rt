@@ -66,7 +66,7 @@ pub trait Rate<E: Engine>: Sized {
         Self::RateEncoder::validate(original_count, recovery_count, shard_bytes)
     }
 
-    /// Makes an encoder of the rate, as [`RateEncoder::new`] does. The rate must [support](Self::supports) the counts.
+    /// Makes an encoder of the rate, as [`RateEncoder::new`] does.
     ///
     /// # Errors
     ///
@@ -102,7 +102,7 @@ pub trait Rate<E: Engine>: Sized {
         )
     }
 
-    /// Makes a decoder of the rate, as [`RateDecoder::new`] does. The rate must [support](Self::supports) the counts.
+    /// Makes a decoder of the rate, as [`RateDecoder::new`] does.
     ///
     /// # Errors
     ///
@@ -139,10 +139,10 @@ pub trait Rate<E: Engine>: Sized {
         )
     }
 
-    /// An encoder of a rate has this rate.
+    /// States that an encoder of this rate has this rate.
     ghost encoder_rate: { Self.RateEncoder.rate ≡ rate };
 
-    /// A decoder of a rate has this rate.
+    /// States that a decoder of this rate has this rate.
     ghost decoder_rate: { Self.RateDecoder.rate ≡ rate };
 }
 
@@ -454,15 +454,15 @@ pub trait RateDecoder<E: Engine>: Sized {
 
     /// Restores the originals that were not added, lends them, and ends the round.
     ///
-    /// The restored originals are those of the only message that matches all added shards. The method is the decoding of Lin,
-    /// Chung and Han, in the form of Leopard-RS. Over W rows, it counts at most `3 * W / 2 * log2(W) + 4 * W` row steps on
-    /// `steps`, and the pair sums and products of one locator.
+    /// The restored originals are those of the only message that agrees with all added shards. The method is the
+    /// decoding of Lin, Chung and Han, in the form of Leopard-RS. Over W rows, it counts at most
+    /// `3 * W / 2 * log2(W) + 4 * W` row steps on `steps`, and the pair sums and products of one locator.
     ///
     /// # Errors
     ///
     /// - [`Error::NotEnoughShards`] if fewer than `original_count` shards were added. The decoder then keeps what was added.
-    /// - [`Error::InconsistentShards`] if more than `original_count` shards were added and no message matches them all. This
-    ///   error ends the round.
+    /// - [`Error::InconsistentShards`] if more than `original_count` shards were added and no message agrees with them
+    ///   all. This error ends the round.
     fn decode(&mut self, steps: &mut Steps) -> Result<DecoderResult<'_>, Error>
         ensures answer { DecodeAnswers (state self.old) (answered_originals result) }
         ensures counts { let c = (state self.old).configuration in

@@ -94,9 +94,9 @@ impl DecoderMemory {
         }
     }
 
-    // Allocates memory that is laid out for a shape, without given shards. The function is not inlined: in the branches of its
-    // callers, the compiler takes the clearing for rare and does not use `memset`. The chunks are allocated last, because
-    // clearing them removes from the cache what other allocations read.
+    // Allocates memory that is laid out for a shape, without given shards. The function is not inlined: if it were, the
+    // compiler would treat the clearing as rarely executed and would not use `memset`. The chunks are allocated last,
+    // because clearing them removes from the cache what other allocations read.
     #[inline(never)]
     fn new(alloc: Global, shape: DecoderShape) -> Result<DecoderMemory, Error>
         ensures laid_out { IfOk result (IsLaidOut shape) }
@@ -270,7 +270,8 @@ impl ObjectRows for DecoderRows {
       entries = le_refl room.entries;
     } };
 
-    ghost equal_with_room = { λ work n size answer wanted same. some_anyway work _ (λ w roomy. same) };
+    ghost equal_with_room = { λ work n size answer wanted same.
+        some_anyway work _ (λ w roomy. same) };
 
     ghost rows_set_up = { decoder_rows_set_up };
 

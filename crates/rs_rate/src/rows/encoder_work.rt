@@ -129,7 +129,8 @@ impl ObjectRows for EncoderRows {
 
     ghost grows_from_itself = { le_refl };
 
-    ghost equal_with_room = { λ work n size answer wanted same. some_anyway work _ (λ w roomy. same) };
+    ghost equal_with_room = { λ work n size answer wanted same.
+        some_anyway work _ (λ w roomy. same) };
 
     ghost rows_set_up = { encoder_rows_set_up };
 

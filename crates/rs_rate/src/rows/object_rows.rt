@@ -90,8 +90,8 @@ pub trait ObjectRows: Sized {
     ghost grows_from_itself: { (room : Room) → grows room room };
 
     /// If two results are always equal, they are equal if there is room.
-    ghost equal_with_room: { (work : Self.Work) (n size : ℕ) (answer wanted : Answer) → answer ≡ wanted
-        → where_roomy work n size answer wanted };
+    ghost equal_with_room: { (work : Self.Work) (n size : ℕ) (answer wanted : Answer)
+        → answer ≡ wanted → where_roomy work n size answer wanted };
 
     /// Rows that are set up for a configuration have the number that the rate defines for the two counts.
     ghost rows_set_up: { (rate : Rate) (c : Configuration) → IsSetUp rate c

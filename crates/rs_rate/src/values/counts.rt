@@ -36,7 +36,7 @@ fn are_in_field(original_count: usize, recovery_count: usize) -> bool
     originals_fit && recovery_fits
 }
 
-// Returns a choice if the rows of a block and `count` other shards are at most 65536, the number of points.
+// Returns a choice if `block_rows` plus `count` is at most 65536, the number of points. Otherwise returns `None`.
 fn fitting(is_low: bool, block_rows: usize, count: usize) -> Option<Choice>
     requires block { block_rows ≤ 65536 }
     requires count { count ≤ 65536 }
@@ -70,8 +70,8 @@ pub(crate) fn high_choice(original_count: usize, recovery_count: usize) -> Optio
     fitting(false, power_of_two(recovery_count), original_count)
 }
 
-// Returns the choice of the default rate: the rate with the smaller blocks. If the blocks are equal, it is the rate
-// that is made for the smaller count.
+// Returns the choice of the default rate: the rate with the smaller blocks. If the blocks are equal, it is the low rate
+// if there are more originals than recovery shards, and else the high rate.
 pub(crate) fn default_choice(original_count: usize, recovery_count: usize) -> Option<Choice>
     ensures { result ≡ choice_of default_rate original_count recovery_count }
 {
