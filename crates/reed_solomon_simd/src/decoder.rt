@@ -237,14 +237,14 @@ impl<'t> ReedSolomonDecoder<'t> {
     /// Restores the originals that were not added, lends them, and ends the round: the decoder then has the same configuration
     /// with nothing added, whether the result is dropped or forgotten.
     ///
-    /// The restored originals are those of the only message that matches all added shards. If all originals were added, the
-    /// result is empty. The method is the decoding of Lin, Chung and Han, in the form of Leopard-RS.
+    /// The restored originals are those of the only message that agrees with all added shards. If all originals were
+    /// added, the result is empty. The method is the decoding of Lin, Chung and Han, in the form of Leopard-RS.
     ///
     /// # Errors
     ///
     /// - [`Error::NotEnoughShards`] if fewer than `original_count` shards were added. The decoder then keeps what was added.
-    /// - [`Error::InconsistentShards`] if more than `original_count` shards were added and no message matches them all. This
-    ///   error ends the round.
+    /// - [`Error::InconsistentShards`] if more than `original_count` shards were added and no message agrees with them
+    ///   all. This error ends the round.
     ///
     /// # Examples
     ///

@@ -18,9 +18,10 @@ use std::alloc::Global;
 
 /// Encodes the originals and writes the recovery shards into `recovery`, in order of their index.
 ///
-/// `original[i]` is the original with index i, and `recovery[i]` is the memory for the recovery shard with index i. Every
-/// original and every piece of memory has the size of the first original, an even number of bytes above zero. The call
-/// allocates a work area for at most 4096 bytes of each shard and nothing else. After an error the memory holds what it held.
+/// `original[i]` is the original with index i, and `recovery[i]` is the memory for the recovery shard with index i.
+/// Every original and every room (memory for one recovery shard) has the size of the first original, an even number of
+/// bytes above zero. The call allocates a work area for at most 4096 bytes of each shard and nothing else. After an
+/// error the rooms hold what they held before the call.
 ///
 /// # Errors
 ///
@@ -101,8 +102,8 @@ fn encode_lent<E: Engine>(
 /// shards and rooms have the size of the first recovery shard.
 ///
 /// The call allocates a work area for at most 2048 bytes of each shard, and two lists of references to shards. If there
-/// are more shards than originals, it also allocates memory for the missing originals, because only the last bytes may
-/// show that no message matches all shards. After an error the rooms hold what they held.
+/// are more shards than originals, it also allocates memory for the missing originals, because a later strip may
+/// show that no message agrees with all shards. After an error the rooms hold what they held before the call.
 ///
 /// If there is no recovery shard, nothing can be restored. Then the call checks only the indexes of the originals, and no
 /// size.

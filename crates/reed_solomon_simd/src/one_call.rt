@@ -96,7 +96,7 @@ pub fn encode<'a, I: Iterator<Item = &'a [u8]> + Drop>(
 /// - [`Error::NotEnoughShards`] if there are fewer than `original_count` shards.
 /// - [`Error::OutOfMemory`] if the vectors of the results or the work area cannot be allocated. The work area holds at most
 ///   2048 bytes of each shard.
-/// - [`Error::InconsistentShards`] if there are more than `original_count` shards and no message matches them all.
+/// - [`Error::InconsistentShards`] if there are more than `original_count` shards and no message agrees with them all.
 /// - [`Error::OutOfMemory`] if the map of the results cannot be allocated.
 ///
 /// If `recovery` yields no shard:

@@ -28,7 +28,7 @@ use std::collections::BTreeMap;
 /// # Errors
 ///
 /// - [`Error::OutOfMemory`] if the vectors or the work area cannot be allocated.
-/// - [`Error::InconsistentShards`] if no message matches all received shards.
+/// - [`Error::InconsistentShards`] if no message agrees with all received shards.
 pub fn restore_vectors<E: Engine, P: Pieces>(
     alloc: Global,
     engine: E,
@@ -48,7 +48,7 @@ pub fn restore_vectors<E: Engine, P: Pieces>(
 }
 
 // Writes the missing originals into rooms that share no memory with the received shards, in order of index. Fails with
-// `OutOfMemory`, and with `InconsistentShards` if no message matches all received shards.
+// `OutOfMemory`, and with `InconsistentShards` if no message agrees with all received shards.
 fn restore_apart<E: Engine, P: Pieces, R: Rooms>(
     alloc: Global,
     engine: E,
@@ -79,7 +79,7 @@ fn restore_apart<E: Engine, P: Pieces, R: Rooms>(
 }
 
 /// Writes the missing originals into rooms of their size, in order of index. As many shards as originals were received,
-/// so there is a message that matches them all.
+/// so there is a message that agrees with them all.
 ///
 /// # Errors
 ///
@@ -108,13 +108,13 @@ pub fn restore_lent<E: Engine>(
 
 /// Writes the missing originals into rooms that are part of the store. `missing` is the number of missing originals,
 /// and `surplus` is the number of received shards beyond the number of originals. If `surplus` is above zero, the
-/// originals are restored into vectors first, because a later strip may show that no message matches all received
+/// originals are restored into vectors first, because a later strip may show that no message agrees with all received
 /// shards.
 ///
 /// # Errors
 ///
 /// - [`Error::OutOfMemory`] if the vectors or the work area cannot be allocated.
-/// - [`Error::InconsistentShards`] if no message matches all received shards.
+/// - [`Error::InconsistentShards`] if no message agrees with all received shards.
 ///
 /// After an error the rooms hold what they held.
 pub fn restore_in_place<E: Engine, S: Pieces + Rooms>(
@@ -151,14 +151,14 @@ pub fn restore_in_place<E: Engine, S: Pieces + Rooms>(
 }
 
 /// Writes the missing originals into rooms of the caller, in order of index. If there are more shards than originals,
-/// the originals are restored into vectors first, because a later strip may show that no message matches all received
-/// shards.
+/// the originals are restored into vectors first, because a later strip may show that no message agrees with all
+/// received shards.
 ///
 /// # Errors
 ///
 /// - [`RoomError::Refused`] with [`Error::NotEnoughShards`] if there are fewer shards than originals, then with
 ///   [`Error::OutOfMemory`] if memory cannot be allocated, and then with [`Error::InconsistentShards`] if no message
-///   matches all received shards.
+///   agrees with all received shards.
 /// - [`RoomError::WrongNumberOfRooms`] if there are not as many rooms as missing originals.
 /// - [`RoomError::WrongLength`] for the first room that does not have the size of the shards.
 ///

@@ -28,7 +28,7 @@ const STRIP_BYTES: usize = 2048;
 /// # Errors
 ///
 /// - [`Error::OutOfMemory`] if the work area cannot be allocated.
-/// - For each strip in order: [`Error::InconsistentShards`] if no message matches all received shards, and then
+/// - For each strip in order: [`Error::InconsistentShards`] if no message agrees with all received shards, and then
 ///   [`Error::OutOfMemory`] if a room cannot grow. The rooms may then hold some strips.
 pub fn decode_strips<E: Engine, S: Pieces + Rooms>(
     alloc: Global,
