@@ -18,6 +18,7 @@ use std::alloc::Global;
 
 /// Encodes twice. The first `encode` ends the round, so the second one finds no originals, whether the first result was dropped
 /// or forgotten.
+///
 /// # Errors
 ///
 /// [`Error::TooFewOriginalShards`] with 0 received shards, always.
@@ -44,6 +45,7 @@ pub fn encode_twice<E: Engine, X: RateEncoder<E> + Drop>(
 }
 
 /// Calls `encode` while originals are missing. It fails and changes nothing.
+///
 /// # Errors
 ///
 /// [`Error::TooFewOriginalShards`], always.
@@ -65,6 +67,7 @@ pub fn encode_too_early<E: Engine, X: RateEncoder<E> + Drop>(
 
 /// Resets a decoder of the default rate from any configuration to one of the high rate. After an error, also after
 /// `OutOfMemory`, everything is as it was.
+///
 /// # Errors
 ///
 /// [`Error::OutOfMemory`] if the rows cannot be allocated.
@@ -132,11 +135,8 @@ pub fn encode_nothing<E: Engine, R: Rate<E>>(
     Ok(())
 }
 
-/// Makes a decoder from the parts of another decoder of the same rate and configuration. The new decoder has the same engine and
-/// no shards. Since nothing is allocated, the call never fails.
-/// # Errors
-///
-/// The call never fails. Its contract states this.
+/// Makes a decoder from the parts of another decoder of the same rate and configuration. The new decoder has the same
+/// engine and no shards. Since nothing is allocated, the call never fails. Its contract states this.
 pub fn make_again<E: Engine, R: Rate<E>>(
     alloc: Global,
     decoder: R::RateDecoder,
@@ -163,10 +163,8 @@ pub fn make_again<E: Engine, R: Rate<E>>(
     )
 }
 
-/// Resets an encoder to another configuration and back to its own. Its room never shrinks, so the second `reset` never fails.
-/// # Errors
-///
-/// The call never fails. Its contract states this.
+/// Resets an encoder to another configuration and back to its own. Its room never shrinks, so the second `reset` never
+/// fails. The contract states that this function never fails.
 pub fn reset_and_back<E: Engine, X: RateEncoder<E>>(
     encoder: &mut X,
     original_count: usize,
@@ -211,7 +209,7 @@ pub fn decode_inconsistent<E: Engine, X: RateDecoder<E> + Drop>(
 /// # Errors
 ///
 /// - [`Error::NotEnoughShards`] if fewer shards than originals were added.
-/// - [`Error::InconsistentShards`] if more shards than originals were added and no message matches them all.
+/// - [`Error::InconsistentShards`] if more shards than originals were added and no message agrees with them all.
 pub fn decode_just_enough<E: Engine, X: RateDecoder<E> + Drop>(
     decoder: &mut X,
     steps: &mut Steps,

@@ -8,6 +8,7 @@ use std::alloc::Global;
 use std::collections::BTreeMap;
 
 /// Returns the recovery shards of originals that are vectors.
+///
 /// # Errors
 ///
 /// The errors of [`encode`], in the same order.
@@ -26,6 +27,7 @@ pub fn encode_vectors(
 }
 
 /// Returns the recovery shards of originals that are arrays.
+///
 /// # Errors
 ///
 /// The errors of [`encode_slice`], in the same order.
@@ -41,6 +43,7 @@ pub fn encode_arrays<const K: usize, const N: usize>(
 }
 
 /// Returns the missing originals. The received shards are vectors with their indexes.
+///
 /// # Errors
 ///
 /// The errors of [`decode_slice`], in the same order.

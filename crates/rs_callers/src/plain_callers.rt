@@ -10,6 +10,7 @@ ghost use Rattle.reed_solomon_simd.specs.OneCall.{default_of};
 use reed_solomon_simd::{Error, ReedSolomonDecoder, ReedSolomonEncoder};
 
 /// Encodes with a plain encoder and forgets the result. This ends the round too, so the next `encode` finds no originals.
+///
 /// # Errors
 ///
 /// [`Error::TooFewOriginalShards`] with 0 received shards, always.
@@ -27,11 +28,8 @@ pub fn forget_a_round(encoder: &mut ReedSolomonEncoder<'_>) -> Result<(), Error>
     Ok(())
 }
 
-/// Resets a plain encoder to another configuration, and then back to its own counts and a size that is not larger than its own.
-/// The second `reset` never fails.
-/// # Errors
-///
-/// The call never fails. Its contract states this.
+/// Resets a plain encoder to another configuration, and then back to its own counts and a size that is not larger than
+/// its own. The second `reset` never fails, so this function never fails. Its contract states this.
 pub fn encoder_reset_and_back(
     encoder: &mut ReedSolomonEncoder<'_>,
     original_count: usize,
@@ -51,11 +49,8 @@ pub fn encoder_reset_and_back(
     encoder.reset(original_count, recovery_count, shard_bytes)
 }
 
-/// Resets a plain decoder to another configuration, and then back to its own counts and a size that is not larger than its own.
-/// The second `reset` never fails.
-/// # Errors
-///
-/// The call never fails. Its contract states this.
+/// Resets a plain decoder to another configuration, and then back to its own counts and a size that is not larger than
+/// its own. The second `reset` never fails, so this function never fails. Its contract states this.
 pub fn decoder_reset_and_back(
     decoder: &mut ReedSolomonDecoder<'_>,
     original_count: usize,
@@ -77,6 +72,7 @@ pub fn decoder_reset_and_back(
 
 /// Decodes with a plain decoder to which enough shards were added. This ends the round, whatever `decode` returns and whatever
 /// happens to the result, so the next `decode` finds no shards.
+///
 /// # Errors
 ///
 /// [`Error::NotEnoughShards`] with 0 received shards, always.
