@@ -241,7 +241,7 @@ static void bounded(void) {
     free(restored);
 }
 
-/* A call that makes so many requests, with each of them refused in turn. */
+/* Makes a call, and refuses each of its requests for memory in turn. */
 static void each(const char *name, uint32_t (*call)(void), void *written, size_t length, long number) {
     uint8_t *before = malloc(length);
     if (!before) wrong("no memory for the test");

@@ -7,7 +7,7 @@ use crate::work::{Call, Row};
 use std::process::Command;
 use std::time::Instant;
 
-/// The turns of a row are spread over so many processes: where memory lies can change the times of a whole process.
+/// The number of processes for the turns of a row: the place of memory can change the times of a whole process.
 const PROCESSES: usize = 5;
 
 /// A process that takes longer has so much work that the remaining turns of its row run in one process more.

@@ -97,7 +97,7 @@ impl Shards {
 
     /// Returns the bytes of all shards, to be written.
     pub fn bytes_mut(&mut self) -> &mut [u8] {
-        // SAFETY: as in `bytes`, and `self` is borrowed for writing.
+        // SAFETY: the lines hold at least `count * size` bytes, and `self` is borrowed for writing.
         unsafe { std::slice::from_raw_parts_mut(self.lines.as_mut_ptr() as *mut u8, self.count * self.size) }
     }
 
@@ -156,7 +156,7 @@ impl Work {
 
     /// Returns whether `run` writes all wanted bytes into the rooms, which hold others before.
     pub fn checks(&self, run: impl FnOnce()) -> bool {
-        // SAFETY: the rooms have so many bytes, and nobody borrows them now.
+        // SAFETY: the rooms have `size` bytes each, at least one for each wanted shard, and nobody borrows them now.
         unsafe { self.rooms.start().write_bytes(0xA5, self.wanted().len()) };
         run();
         self.rooms.bytes() == self.wanted()

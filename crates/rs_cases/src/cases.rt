@@ -182,7 +182,7 @@ pub struct Step {
     pub line: usize,
     /// The action as the line has it.
     pub text: String,
-    /// Whether the action is only run after an action that lacked memory.
+    /// Whether the action is only run after an action that failed with `OutOfMemory`.
     pub is_else: bool,
     pub action: Action,
     pub expected: Expected,

@@ -29,13 +29,13 @@ pub enum Failure {
     Disagrees,
     /// The second of two equal rounds returned other shards.
     OtherRound,
-    /// A call says otherwise whether the counts of this configuration are supported.
+    /// A call returns another result than the case states for the counts of this configuration.
     OtherCounts(Configuration),
     /// Two calls that take the same configuration failed with these errors.
     OtherError(Error, Error),
     /// A call accepts a configuration that all calls must refuse.
     NotRefused,
-    /// `supports`, `validate` or `new` says otherwise than `start`.
+    /// `supports`, `validate` or `new` returns another result than `start`.
     OtherCalls,
 }
 

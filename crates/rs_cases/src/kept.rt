@@ -111,7 +111,8 @@ fn recovery_agrees(lent: &EncoderResult<'_>) -> bool {
     agrees && lent.recovery(usize::MAX).is_none()
 }
 
-// Returns whether the result of a decoder agrees with its iterator: of all indexes, as many have a shard as the iterator says.
+// Returns whether the result of a decoder agrees with its iterator: the number of indexes that have a shard is
+// the number that the iterator states.
 fn restored_agrees(lent: &DecoderResult<'_>) -> bool {
     let mut walk = lent.restored_original_iter();
     let all = walk.len();

@@ -87,8 +87,8 @@ impl<'t, E: Engine + Copy> Levels<'t, E> {
         Ok(())
     }
 
-    // Runs the lines of a case with a level. After a line `by LEVEL`, the next actions are run with that level. If an action lacks
-    // memory, only the actions `else` that follow it are run. Otherwise these are left out.
+    // Runs the lines of a case with a level. After a line `by LEVEL`, the next actions are run with that level. If an
+    // action fails with `OutOfMemory`, only the actions `else` that follow it are run. Otherwise these are left out.
     fn run_by(
         &mut self,
         name: LevelName,
@@ -113,8 +113,8 @@ impl<'t, E: Engine + Copy> Levels<'t, E> {
         Ok(())
     }
 
-    // Runs an action with a level, and compares its result with the expected one. Returns whether memory was lacking where this was
-    // not expected.
+    // Runs an action with a level, and compares its result with the expected one. Returns whether it failed with
+    // `OutOfMemory` although this was not expected.
     fn run_step(
         &mut self,
         level: LevelName,

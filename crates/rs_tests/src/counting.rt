@@ -1,5 +1,5 @@
-//! How often encoders and decoders call their engine. Contracts bound the row steps that are counted on `Steps`, but a body
-//! could count on others, or go round its engine.
+//! How often encoders and decoders call their engine. Contracts bound the row steps that are counted on `Steps`, but a
+//! body could count its steps on another `Steps`, or work without its engine.
 ghost use Rattle.std.specs.Prelude.{◌<◌};
 
 use reed_solomon_simd::Error;
@@ -15,7 +15,7 @@ use std::cell::Cell;
 use std::process::Abort;
 use std::test::Fail;
 
-// How often the methods of an engine were called, each at its place.
+// The number of calls of each method. The constants below are the indexes of the methods.
 type Calls = [u32; 4];
 
 const FFT: usize = 0;

@@ -10,7 +10,7 @@ pub enum Loss {
     First,
     /// Shards of both kinds, at even distances.
     Even,
-    /// The last originals, and the recovery shards past as many as there are originals.
+    /// The last originals, and the recovery shards whose index is at least the number of originals.
     Last,
     /// All recovery shards.
     Recovery,

@@ -10,7 +10,7 @@ pub type Configuration = (usize, usize, usize);
 
 /// An encoder and a decoder.
 pub trait Objects {
-    /// Makes both again, over no memory.
+    /// Makes a new encoder and a new decoder, without memory of earlier ones.
     fn start(&mut self, configuration: Configuration) -> Result<(), Error>;
 
     /// Resets both.
@@ -19,7 +19,7 @@ pub trait Objects {
     /// Adds the next original to the encoder, and the original of this index to the decoder.
     fn add(&mut self, index: usize, shard: &[u8]) -> Result<(), Error>;
 
-    /// Codes the message, and returns whether just what is lost comes back.
+    /// Codes the message, and returns whether exactly the lost originals come back.
     fn comes_back(&mut self, message: &Message<'_>) -> Result<bool, Error>;
 
     /// Adds the first `count` originals to both, or all originals if there are fewer.
@@ -34,8 +34,8 @@ pub trait Objects {
 // How many originals the objects hold when they are reset, in turn.
 const ADDED: [usize; 4] = [3, usize::MAX, 0, 1];
 
-/// Codes messages of all counts and sizes with new objects, and with objects that are reset from size to size, which lose other
-/// shards.
+/// Codes messages of all counts and sizes with new objects, and with objects that are reset from size to size. Each
+/// message loses other shards.
 pub fn check_objects<X: Objects, A: Abort + AllocGlobal>(
     rt: &A,
     fresh: &mut X,

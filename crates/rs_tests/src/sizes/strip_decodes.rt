@@ -1,4 +1,5 @@
-//! Decodes of shards whose sizes are about the ends of strips: what is lost comes back, and damage is found in any strip.
+//! Decodes of shards whose sizes are close to the length of one or two strips. The lost originals come back, and damage
+//! is found in any strip.
 use super::losses::drawn;
 use reed_solomon_simd::engine::tables::Tables;
 use reed_solomon_simd::engine::{DefaultEngine, EngineKind};

@@ -49,7 +49,7 @@ fn encoded_whole(
     Ok(joined)
 }
 
-// Shards one after the other.
+// Returns the bytes of shards, one shard after the other.
 fn joined(alloc: Global, shards: &[Vec<u8>]) -> Result<Vec<u8>, Error> {
     let mut joined = Vec::new(alloc);
     for shard in shards {
