@@ -70,8 +70,7 @@ pub fn lent_recovery<E: Engine, C: RateMarker>(encoder: &Encoder<E, C>) -> Encod
 /// - [`Error::NotEnoughShards`] if fewer shards were added than there are originals. The decoder then keeps what was
 ///   added.
 /// - [`Error::InconsistentShards`] if more shards were added than there are originals, and no message agrees with them
-///   all.
-///   This error ends the round.
+///   all. This error ends the round.
 pub fn decode_round<E: Engine, C: RateMarker>(
     decoder: &mut Decoder<E, C>,
     steps: &mut Steps,
