@@ -23,12 +23,6 @@ shard_at-joined (block ∷ blocks) [] i h k = absurd (omega arith)
 shard_at-joined (block ∷ blocks) (piece ∷ pieces) zero h k = refl
 shard_at-joined (block ∷ blocks) (piece ∷ pieces) (suc i) h k = shard_at-joined blocks pieces i (omega arith) (omega arith)
 
--- a block without bytes
-shard_at-empty : (n i : ℕ) → shard_at (empty_blocks n) i ≡ []
-shard_at-empty zero i = refl
-shard_at-empty (suc n) zero = refl
-shard_at-empty (suc n) (suc i) = shard_at-empty n i
-
 -- hashers that took the next piece of each block
 pub absorbed : (old new : List Sha256) (blocks pieces : List Shard) → length old ≡ length pieces → length new ≡ length pieces
     → ((i : ℕ) (d : Sha256) (m : List ℕ) → i < length pieces → Holds256 (get_or old i d) m → Holds256 (get_or new i d) (m ++ shard_at pieces i))
