@@ -1,5 +1,6 @@
 -- Hashers of blocks whose bytes come piece by piece.
-use Rattle.std.proofs.Common.{◌≡◌, ℕ, zero, suc, ◌+◌, ◌<◌, ◌≤◌, List, [], ◌∷◌, ◌++◌, length, get_or, take, refl, sym, ap, subst, ◌∙◌, inl, inr, arith}
+use Rattle.std.proofs.Common.{◌≡◌, ℕ, zero, suc, ◌+◌, ◌<◌, ◌≤◌, List, [], ◌∷◌, ◌++◌, length, get_or, take, refl, sym}
+use Rattle.std.proofs.Common.{ap, subst, ◌∙◌, inl, inr, arith}
 use Rattle.std.specs.Prelude.{replicate, map}
 use Rattle.std.proofs.lemmas.Bool.{cases_lt}
 use Rattle.std.proofs.lemmas.List.{length-append}
@@ -16,22 +17,20 @@ length-joined (block ∷ blocks) [] = refl
 length-joined (block ∷ blocks) (piece ∷ pieces) = ap suc (length-joined blocks pieces)
 
 -- a block that is joined with its piece
-pub shard_at-joined : (blocks pieces : List Shard) (i : ℕ) → i < length blocks → i < length pieces → shard_at (joined blocks pieces) i ≡ shard_at blocks i ++ shard_at pieces i
+pub shard_at-joined : (blocks pieces : List Shard) (i : ℕ) → i < length blocks → i < length pieces
+    → shard_at (joined blocks pieces) i ≡ shard_at blocks i ++ shard_at pieces i
 unfolding joined
 shard_at-joined [] pieces i h k = absurd (omega arith)
 shard_at-joined (block ∷ blocks) [] i h k = absurd (omega arith)
 shard_at-joined (block ∷ blocks) (piece ∷ pieces) zero h k = refl
-shard_at-joined (block ∷ blocks) (piece ∷ pieces) (suc i) h k = shard_at-joined blocks pieces i (omega arith) (omega arith)
-
--- a block without bytes
-shard_at-empty : (n i : ℕ) → shard_at (empty_blocks n) i ≡ []
-shard_at-empty zero i = refl
-shard_at-empty (suc n) zero = refl
-shard_at-empty (suc n) (suc i) = shard_at-empty n i
+shard_at-joined (block ∷ blocks) (piece ∷ pieces) (suc i) h k =
+    shard_at-joined blocks pieces i (omega arith) (omega arith)
 
 -- hashers that took the next piece of each block
-pub absorbed : (old new : List Sha256) (blocks pieces : List Shard) → length old ≡ length pieces → length new ≡ length pieces
-    → ((i : ℕ) (d : Sha256) (m : List ℕ) → i < length pieces → Holds256 (get_or old i d) m → Holds256 (get_or new i d) (m ++ shard_at pieces i))
+pub absorbed : (old new : List Sha256) (blocks pieces : List Shard) → length old ≡ length pieces
+    → length new ≡ length pieces
+    → ((i : ℕ) (d : Sha256) (m : List ℕ) → i < length pieces → Holds256 (get_or old i d) m
+        → Holds256 (get_or new i d) (m ++ shard_at pieces i))
     → AreHashed old blocks → AreHashed new (joined blocks pieces)
 absorbed old new blocks pieces one other step is =
     let count : length old ≡ length blocks = is.number in
@@ -41,5 +40,6 @@ absorbed old new blocks pieces one other step is =
           let before : i < length old = omega arith in
           let block : i < length blocks = omega arith in
           let P : List ℕ → Type 0 = λ m. Holds256 (get_or new i d) m in
-          subst P (sym (shard_at-joined blocks pieces i block inside)) (step i d (shard_at blocks i) inside (is.each i d before));
+          subst P (sym (shard_at-joined blocks pieces i block inside))
+              (step i d (shard_at blocks i) inside (is.each i d before));
     }

@@ -4,3 +4,7 @@ pub mod Loop
 pub mod NameLemmas
 pub mod Sets
 pub mod Hashes
+pub mod Strips
+pub mod Coded
+pub mod Created
+pub mod Restored

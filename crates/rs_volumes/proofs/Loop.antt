@@ -1,5 +1,6 @@
 -- Reading files one after the other, as a loop does.
-use Rattle.std.proofs.Common.{◌≡◌, ℕ, suc, ◌-◌, ◌+◌, ◌≤◌, ◌<◌, List, [], ◌∷◌, ◌++◌, Result, Ok, Err, refl, sym, ap, ◌∙◌, append_assoc, arith}
+use Rattle.std.proofs.Common.{◌≡◌, ℕ, suc, ◌-◌, ◌+◌, ◌≤◌, ◌<◌, List, [], ◌∷◌, ◌++◌, Result, Ok, Err, refl, sym, ap, ◌∙◌}
+use Rattle.std.proofs.Common.{append_assoc, arith}
 use Rattle.std.proofs.lemmas.List.{append-nil}
 use Rattle.rs_volumes.specs.declared.fault.Fault.{Fault}
 use Rattle.rs_volumes.specs.declared.fault.ReadError.{ReadError}
@@ -11,19 +12,25 @@ use Rattle.rs_volumes.specs.Reading.{◌>>=◌, Fails, file_at, files_at}
 abbrev pub with_front : List SetFile → Result (List SetFile × List ℕ) Fault → Result (List SetFile × List ℕ) Fault
 with_front front read = read >>= λ x. Ok (front ++ x.0, x.1)
 
-regroup : (front : List SetFile) (n : SetFile) (read : Result (List SetFile × List ℕ) Fault) → with_front front (read >>= λ x. Ok (n ∷ x.0, x.1)) ≡ with_front (front ++ n ∷ []) read
+regroup : (front : List SetFile) (n : SetFile) (read : Result (List SetFile × List ℕ) Fault)
+    → with_front front (read >>= λ x. Ok (n ∷ x.0, x.1)) ≡ with_front (front ++ n ∷ []) read
 regroup front n (Ok x) = ap (λ (fs : List SetFile). Ok (fs, x.1)) (simp append_assoc)
 regroup front n (Err f) = refl
 
-pub goes_on : (front : List SetFile) (count i : ℕ) (bytes : List ℕ) (n : SetFile) (after : List ℕ) (total : Result (List SetFile × List ℕ) Fault) → i < count → file_at bytes ≡ Ok (n, after)
-    → with_front front (files_at (count - i) bytes) ≡ total → with_front (front ++ n ∷ []) (files_at (count - (i + 1)) after) ≡ total
+pub goes_on : (front : List SetFile) (count i : ℕ) (bytes : List ℕ) (n : SetFile) (after : List ℕ)
+    (total : Result (List SetFile × List ℕ) Fault) → i < count → file_at bytes ≡ Ok (n, after)
+    → with_front front (files_at (count - i) bytes) ≡ total
+    → with_front (front ++ n ∷ []) (files_at (count - (i + 1)) after) ≡ total
 unfolding files_at
 goes_on front count i bytes n after total lt h so_far =
     let k : count - i ≡ suc (count - (i + 1)) = omega arith in
-    let one : with_front front (files_at (count - i) bytes) ≡ with_front (front ++ n ∷ []) (files_at (count - (i + 1)) after) = rw (k, h) (regroup front n (files_at (count - (i + 1)) after)) in
+    let one : with_front front (files_at (count - i) bytes)
+        ≡ with_front (front ++ n ∷ []) (files_at (count - (i + 1)) after) =
+        rw (k, h) (regroup front n (files_at (count - (i + 1)) after)) in
     sym one ∙ so_far
 
-pub ends : (e : ReadError) (front : List SetFile) (count i : ℕ) (bytes : List ℕ) (total : Result (List SetFile × List ℕ) Fault) → i < count → Fails e (file_at bytes)
+pub ends : (e : ReadError) (front : List SetFile) (count i : ℕ) (bytes : List ℕ)
+    (total : Result (List SetFile × List ℕ) Fault) → i < count → Fails e (file_at bytes)
     → with_front front (files_at (count - i) bytes) ≡ total → Fails e total
 unfolding files_at
 ends errors.Memory front count i bytes total lt h so_far = tt
@@ -32,9 +39,11 @@ ends (errors.Fault f) front count i bytes total lt h so_far =
     let one : with_front front (files_at (count - i) bytes) ≡ Err f = rw (k, h) refl in
     sym so_far ∙ one
 
-pub is_done : (front : List SetFile) (count i : ℕ) (bytes : List ℕ) (total : Result (List SetFile × List ℕ) Fault) → count ≤ i → with_front front (files_at (count - i) bytes) ≡ total → total ≡ Ok (front, bytes)
+pub is_done : (front : List SetFile) (count i : ℕ) (bytes : List ℕ) (total : Result (List SetFile × List ℕ) Fault)
+    → count ≤ i → with_front front (files_at (count - i) bytes) ≡ total → total ≡ Ok (front, bytes)
 unfolding files_at
 is_done front count i bytes total le so_far =
     let k : count - i ≡ 0 = omega arith in
-    let one : with_front front (files_at (count - i) bytes) ≡ Ok (front, bytes) = rw k (ap (λ (fs : List SetFile). Ok (fs, bytes)) (append-nil front)) in
+    let one : with_front front (files_at (count - i) bytes) ≡ Ok (front, bytes) =
+        rw k (ap (λ (fs : List SetFile). Ok (fs, bytes)) (append-nil front)) in
     sym so_far ∙ one

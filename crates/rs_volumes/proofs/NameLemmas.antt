@@ -1,5 +1,7 @@
 -- The steps of the loops that check names and files.
-use Rattle.std.proofs.Common.{◌≡◌, ◌≢◌, ℕ, zero, suc, ◌+◌, ◌-◌, ◌^◌, ◌<◌, ◌≤◌, Bool, true, false, cond, eqb, ltb, leb, not, List, [], ◌∷◌, ◌++◌, length, get_or, take, drop, drop-cons, Result, Ok, Err, refl, sym, ap, subst, ◌∙◌, add-one, arith, inl, inr}
+use Rattle.std.proofs.Common.{◌≡◌, ◌≢◌, ℕ, zero, suc, ◌+◌, ◌-◌, ◌^◌, ◌<◌, ◌≤◌, Bool, true, false, cond, eqb, ltb, leb}
+use Rattle.std.proofs.Common.{not, List, [], ◌∷◌, ◌++◌, length, get_or, take, drop, drop-cons, Result, Ok, Err, refl}
+use Rattle.std.proofs.Common.{sym, ap, subst, ◌∙◌, add-one, arith, inl, inr}
 use Rattle.std.specs.List.{between}
 use Rattle.std.proofs.lemmas.Bool.{ne_eqb, eq-eqb, lt-ltb, le-ltb, cases_lt}
 use Rattle.std.proofs.lemmas.List.{take_more, get_or-drop, length-drop, drop_all}
@@ -16,15 +18,18 @@ use Rattle.rs_volumes.specs.Sound.{is_part, has_parts, is_before, is_name, block
 
 -- ---- the parts of a name
 
-pub zero_ends : (part name : List ℕ) (i : ℕ) → i < length name → get_or name i 0 ≡ 0 → has_parts part (drop i name) ≡ false
+pub zero_ends : (part name : List ℕ) (i : ℕ) → i < length name → get_or name i 0 ≡ 0
+    → has_parts part (drop i name) ≡ false
 unfolding has_parts
 zero_ends part name i h z = rw (drop-cons name i 0 h, z) refl
 
-pub slash_goes : (part name : List ℕ) (i : ℕ) → i < length name → get_or name i 0 ≡ 47 → is_part part ≡ true → has_parts part (drop i name) ≡ has_parts [] (drop (i + 1) name)
+pub slash_goes : (part name : List ℕ) (i : ℕ) → i < length name → get_or name i 0 ≡ 47 → is_part part ≡ true
+    → has_parts part (drop i name) ≡ has_parts [] (drop (i + 1) name)
 unfolding has_parts
 slash_goes part name i h z p = rw (drop-cons name i 0 h, z, p, add-one) refl
 
-pub slash_ends : (part name : List ℕ) (i : ℕ) → i < length name → get_or name i 0 ≡ 47 → is_part part ≡ false → has_parts part (drop i name) ≡ false
+pub slash_ends : (part name : List ℕ) (i : ℕ) → i < length name → get_or name i 0 ≡ 47 → is_part part ≡ false
+    → has_parts part (drop i name) ≡ false
 unfolding has_parts
 slash_ends part name i h z p = rw (drop-cons name i 0 h, z, p) refl
 
@@ -36,12 +41,15 @@ byte_goes part name i h z s =
     let two : eqb (get_or name i 0) 47 ≡ false = ne_eqb _ _ s in
     rw (drop-cons name i 0 h, one, two, add-one) refl
 
-pub between_further : (name : List ℕ) (start i : ℕ) → start ≤ i → i < length name → between start (i + 1) name ≡ between start i name ++ get_or name i 0 ∷ []
+pub between_further : (name : List ℕ) (start i : ℕ) → start ≤ i → i < length name
+    → between start (i + 1) name ≡ between start i name ++ get_or name i 0 ∷ []
 between_further name start i le h =
     let n : i + 1 - start ≡ (i - start) + 1 = omega arith in
     let here : start + (i - start) ≡ i = omega arith in
     let inside : i - start < length (drop start name) = omega (arith, length-drop start name) in
-    rw n (take_more (drop start name) (i - start) 0 inside ∙ ap (λ (x : ℕ). take (i - start) (drop start name) ++ x ∷ []) (get_or-drop start name (i - start) 0 ∙ ap (λ (k : ℕ). get_or name k 0) here))
+    rw n (take_more (drop start name) (i - start) 0 inside
+        ∙ ap (λ (x : ℕ). take (i - start) (drop start name) ++ x ∷ [])
+        (get_or-drop start name (i - start) 0 ∙ ap (λ (k : ℕ). get_or name k 0) here))
 
 pub between_nothing : (name : List ℕ) (i : ℕ) → between i i name ≡ []
 between_nothing name i = between_none name i
@@ -52,25 +60,29 @@ parts_end part name i h = rw (drop_all i name h) refl
 
 -- ---- the order of names
 
-pub before_further : (one other : List ℕ) (i : ℕ) → i < length one → i < length other → get_or one i 0 ≡ get_or other i 0
+pub before_further : (one other : List ℕ) (i : ℕ) → i < length one → i < length other
+    → get_or one i 0 ≡ get_or other i 0
     → is_before (drop i one) (drop i other) ≡ is_before (drop (i + 1) one) (drop (i + 1) other)
 unfolding is_before
 before_further one other i h k e =
     let same : eqb (get_or one i 0) (get_or other i 0) ≡ true = eq-eqb _ _ e in
     rw (drop-cons one i 0 h, drop-cons other i 0 k, same, add-one) refl
 
-pub before_differs : (one other : List ℕ) (i : ℕ) → i < length one → i < length other → get_or one i 0 ≢ get_or other i 0
+pub before_differs : (one other : List ℕ) (i : ℕ) → i < length one → i < length other
+    → get_or one i 0 ≢ get_or other i 0
     → is_before (drop i one) (drop i other) ≡ ltb (get_or one i 0) (get_or other i 0)
 unfolding is_before
 before_differs one other i h k e =
     let differ : eqb (get_or one i 0) (get_or other i 0) ≡ false = ne_eqb _ _ e in
     rw (drop-cons one i 0 h, drop-cons other i 0 k, differ) refl
 
-pub before_longer : (one other : List ℕ) (i : ℕ) → i < length one → length other ≤ i → is_before (drop i one) (drop i other) ≡ false
+pub before_longer : (one other : List ℕ) (i : ℕ) → i < length one → length other ≤ i
+    → is_before (drop i one) (drop i other) ≡ false
 unfolding is_before
 before_longer one other i h k = rw (drop-cons one i 0 h, drop_all i other k) refl
 
-pub before_ends : (one other : List ℕ) (i : ℕ) → length one ≡ i → is_before (drop i one) (drop i other) ≡ ltb (length one) (length other)
+pub before_ends : (one other : List ℕ) (i : ℕ) → length one ≡ i
+    → is_before (drop i one) (drop i other) ≡ ltb (length one) (length other)
 unfolding is_before
 before_ends one other i h =
     let ended : length one ≤ i = omega arith in
@@ -96,8 +108,10 @@ is_no_text bs never = by_test (is_utf8 bs) (λ e. never (IsUtf8-from_is_utf8 bs 
 
 -- ---- the blocks of files
 
-drop_item : {X : Type 0} (xs : List X) (i : ℕ) (x : X) → i < length xs → x ≡ get_or xs i x → drop i xs ≡ x ∷ drop (i + 1) xs
-drop_item xs i x h e = drop-cons xs i x h ∙ ap (λ (y : _). y ∷ drop (suc i) xs) (sym e) ∙ ap (λ (n : ℕ). x ∷ drop n xs) (sym (add-one i))
+drop_item : {X : Type 0} (xs : List X) (i : ℕ) (x : X) → i < length xs → x ≡ get_or xs i x
+    → drop i xs ≡ x ∷ drop (i + 1) xs
+drop_item xs i x h e = drop-cons xs i x h ∙ ap (λ (y : _). y ∷ drop (suc i) xs) (sym e)
+    ∙ ap (λ (n : ℕ). x ∷ drop n xs) (sym (add-one i))
 
 equal_after : (a b left : ℕ) → a ≤ left → eqb (a + b) left ≡ eqb b (left - a)
 equal_after a b left h =
@@ -111,9 +125,12 @@ fills_further : (block : ℕ) (file : SetFile) (rest : List SetFile) (left : ℕ
 unfolding blocks_in
 fills_further block file rest left h = equal_after (blocks_of block file.size) (blocks_in block rest) left h
 
-fills_not : (block : ℕ) (file : SetFile) (rest : List SetFile) (left : ℕ) → left < blocks_of block file.size → eqb (blocks_in block (file ∷ rest)) left ≡ false
+fills_not : (block : ℕ) (file : SetFile) (rest : List SetFile) (left : ℕ) → left < blocks_of block file.size
+    → eqb (blocks_in block (file ∷ rest)) left ≡ false
 unfolding blocks_in
-fills_not block file rest left h = ne_eqb _ _ (λ e. let far : left < blocks_of block file.size + blocks_in block rest = omega arith in absurd (omega (arith, e)))
+fills_not block file rest left h =
+    ne_eqb _ _ (λ e. let far : left < blocks_of block file.size + blocks_in block rest = omega arith in
+    absurd (omega (arith, e)))
 
 fills_end : (block left : ℕ) → eqb (blocks_in block []) left ≡ eqb left 0
 unfolding blocks_in
@@ -125,38 +142,49 @@ fills_end block left =
 
 -- ---- a file in a list of entries
 
-module _ (files : List FileEntry) (i : ℕ) (file : FileEntry) (h : i < length files) (e : file ≡ get_or files i file) where
+module _ (files : List FileEntry) (i : ℕ) (file : FileEntry) (h : i < length files)
+    (e : file ≡ get_or files i file) where
   cut : files_of (drop i files) ≡ file_of file ∷ files_of (drop (i + 1) files)
   cut = ap files_of (drop_item files i file h e)
 
   pub fills_at : (block left : ℕ) → blocks_of block file.size ≤ left
-      → eqb (blocks_in block (files_of (drop i files))) left ≡ eqb (blocks_in block (files_of (drop (i + 1) files))) (left - blocks_of block file.size)
-  fills_at block left le = ap (λ (fs : List SetFile). eqb (blocks_in block fs) left) cut ∙ fills_further block (file_of file) (files_of (drop (i + 1) files)) left le
+      → eqb (blocks_in block (files_of (drop i files))) left ≡ eqb (blocks_in block (files_of (drop (i + 1) files)))
+          (left - blocks_of block file.size)
+  fills_at block left le = ap (λ (fs : List SetFile). eqb (blocks_in block fs) left) cut
+      ∙ fills_further block (file_of file) (files_of (drop (i + 1) files)) left le
 
-  pub overfills_at : (block left : ℕ) → left < blocks_of block file.size → eqb (blocks_in block (files_of (drop i files))) left ≡ false
-  overfills_at block left lt = ap (λ (fs : List SetFile). eqb (blocks_in block fs) left) cut ∙ fills_not block (file_of file) (files_of (drop (i + 1) files)) left lt
+  pub overfills_at : (block left : ℕ) → left < blocks_of block file.size
+      → eqb (blocks_in block (files_of (drop i files))) left ≡ false
+  overfills_at block left lt = ap (λ (fs : List SetFile). eqb (blocks_in block fs) left) cut
+      ∙ fills_not block (file_of file) (files_of (drop (i + 1) files)) left lt
 
-  pub length_fault : (previous : List ℕ) → 2 ^ 62 ≤ file.size → files_outcome previous (files_of (drop i files)) ≡ Err Length
+  pub length_fault : (previous : List ℕ) → 2 ^ 62 ≤ file.size
+      → files_outcome previous (files_of (drop i files)) ≡ Err Length
   unfolding files_outcome
   length_fault previous le = ap (files_outcome previous) cut ∙ rw (le-leb _ _ le) refl
 
   module _ (short : file.size < 2 ^ 62) where
-    pub name_fault : (previous : List ℕ) → is_name file.name.items ≡ false → files_outcome previous (files_of (drop i files)) ≡ Err Name
+    pub name_fault : (previous : List ℕ) → is_name file.name.items ≡ false
+        → files_outcome previous (files_of (drop i files)) ≡ Err Name
     unfolding files_outcome
     name_fault previous bad = ap (files_outcome previous) cut ∙ rw (lt-leb _ _ short, bad) refl
 
-    pub order_fault : (previous : List ℕ) → is_name file.name.items ≡ true → is_before previous file.name.items ≡ false → files_outcome previous (files_of (drop i files)) ≡ Err Order
+    pub order_fault : (previous : List ℕ) → is_name file.name.items ≡ true → is_before previous file.name.items ≡ false
+        → files_outcome previous (files_of (drop i files)) ≡ Err Order
     unfolding files_outcome
     order_fault previous good bad = ap (files_outcome previous) cut ∙ rw (lt-leb _ _ short, good, bad) refl
 
     pub passes_at : (previous : List ℕ) → is_name file.name.items ≡ true → is_before previous file.name.items ≡ true
-        → files_outcome previous (files_of (drop i files)) ≡ files_outcome file.name.items (files_of (drop (i + 1) files))
+        → files_outcome previous (files_of (drop i files))
+        ≡ files_outcome file.name.items (files_of (drop (i + 1) files))
     unfolding files_outcome
     passes_at previous good later = ap (files_outcome previous) cut ∙ rw (lt-leb _ _ short, good, later) refl
 
-pub fills_past : (files : List FileEntry) (i block left : ℕ) → length files ≤ i → eqb (blocks_in block (files_of (drop i files))) left ≡ eqb left 0
+pub fills_past : (files : List FileEntry) (i block left : ℕ) → length files ≤ i
+    → eqb (blocks_in block (files_of (drop i files))) left ≡ eqb left 0
 fills_past files i block left h = rw (drop_all i files h) (fills_end block left)
 
-pub passes_past : (files : List FileEntry) (i : ℕ) (previous : List ℕ) → length files ≤ i → files_outcome previous (files_of (drop i files)) ≡ Ok tt
+pub passes_past : (files : List FileEntry) (i : ℕ) (previous : List ℕ) → length files ≤ i
+    → files_outcome previous (files_of (drop i files)) ≡ Ok tt
 unfolding files_outcome
 passes_past files i previous h = rw (drop_all i files h) refl

@@ -19,12 +19,14 @@ reading_takes bytes s fits e =
     let a = bind_ok (description_in bytes) (λ s. set_outcome s >>= λ _. Ok s) s e in
     let b = bind_ok (set_outcome a.0) (λ _. Ok a.0) s a.2 in
     let t = description_takes bytes a.0 fits a.1 in
-    subst (λ (v : FileSet). IsSound v × (bytes ≡ spelling v)) (ok_is a.0 s b.2) (record { fits = t.0; outcome = b.1 }, t.1)
+    subst (λ (v : FileSet). IsSound v × (bytes ≡ spelling v)) (ok_is a.0 s b.2)
+        (record { fits = t.0; outcome = b.1 }, t.1)
 
 pub reading_again : (s : FileSet) → IsSound s → reading (spelling s) ≡ Ok s
 unfolding reading
 reading_again s sound = rw (description_again s sound.fits, sound.outcome) refl
 
-pub is_found : (bytes : List ℕ) (r : Result Description ReadError) → IsBytes bytes → Gives set_of r (reading bytes) → IfOk r (λ d. IsSound (set_of d) × (bytes ≡ spelling (set_of d)))
+pub is_found : (bytes : List ℕ) (r : Result Description ReadError) → IsBytes bytes → Gives set_of r (reading bytes)
+    → IfOk r (λ d. IsSound (set_of d) × (bytes ≡ spelling (set_of d)))
 is_found bytes (Ok d) fits given = reading_takes bytes (set_of d) fits given
 is_found bytes (Err e) fits given = tt

@@ -12,7 +12,8 @@ pub record SetFile : Type 0 where
   pub mode : ℕ
   pub name : List ℕ
 
--- a set: the size of a block in bytes, the numbers of original and of recovery blocks, the files, and the digests of all blocks, one after another
+-- a set: the size of a block in bytes, the numbers of original and of recovery blocks, the files, and the digests of
+-- all blocks, one after another
 pub record FileSet : Type 0 where
   pub block_bytes : ℕ
   pub original_count : ℕ
@@ -45,16 +46,21 @@ name_spelling name = to_le_bytes w16 (length name) ++ name
 
 -- the spelling of a file: length, time, permission bits, and name
 abbrev pub file_spelling : SetFile → List ℕ
-file_spelling f = to_le_bytes w64 f.size ++ (to_le_bytes w64 f.modified ++ (to_le_bytes w32 f.mode ++ name_spelling f.name))
+file_spelling f = to_le_bytes w64 f.size
+    ++ (to_le_bytes w64 f.modified ++ (to_le_bytes w32 f.mode ++ name_spelling f.name))
 
--- the spelling of the numbers with which a description begins: code 1, digest 1, the size of a block, and the counts of original blocks, recovery blocks and files
+-- the spelling of the numbers with which a description begins: code 1, digest 1, the size of a block, and the counts of
+-- original blocks, recovery blocks and files
 abbrev pub opening_spelling : ℕ → ℕ → ℕ → ℕ → List ℕ
 opening_spelling block k r files =
-    to_le_bytes w32 1 ++ (to_le_bytes w32 1 ++ (to_le_bytes w64 block ++ (to_le_bytes w32 k ++ (to_le_bytes w32 r ++ to_le_bytes w32 files))))
+    to_le_bytes w32 1 ++
+        (to_le_bytes w32 1 ++
+        (to_le_bytes w64 block ++ (to_le_bytes w32 k ++ (to_le_bytes w32 r ++ to_le_bytes w32 files))))
 
 -- the spelling of a description: the opening, the files, and the digests
 abbrev pub spelling : FileSet → List ℕ
-spelling s = opening_spelling s.block_bytes s.original_count s.recovery_count (length s.files) ++ (flat_map file_spelling s.files ++ s.digests)
+spelling s = opening_spelling s.block_bytes s.original_count s.recovery_count (length s.files)
+    ++ (flat_map file_spelling s.files ++ s.digests)
 
 -- the numbers of a file fit their fields
 pub record FileFits (f : SetFile) : Type 0 where

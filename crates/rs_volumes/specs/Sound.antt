@@ -1,5 +1,6 @@
 -- Which descriptions are sound, and the first fault of one that is not.
-use Rattle.std.specs.Prelude.{◌≡◌, ℕ, ◌+◌, ◌-◌, ◌*◌, ◌/◌, ◌%◌, ◌^◌, Bool, true, false, ◌&&◌, ◌||◌, not, ◌==◌, nat_lt, nat_le, List, [], ◌∷◌, ◌++◌, length, Result, Ok, Err, if◌then◌else◌}
+use Rattle.std.specs.Prelude.{◌≡◌, ℕ, ◌+◌, ◌-◌, ◌*◌, ◌/◌, ◌%◌, ◌^◌, Bool, true, false, ◌&&◌, ◌||◌, not, ◌==◌, nat_lt}
+use Rattle.std.specs.Prelude.{nat_le, List, [], ◌∷◌, ◌++◌, length, Result, Ok, Err, if◌then◌else◌}
 use Rattle.std.specs.Str.{is_utf8, bytes_eq}
 use Rattle.rs_field.specs.code.Counts.{default_rate, supports}
 use Rattle.rs_volumes.specs.declared.fault.Fault.{Fault}
@@ -20,10 +21,12 @@ blocks_in block (f ∷ fs) = blocks_of block f.size + blocks_in block fs
 unfoldable pub is_part : List ℕ → Bool
 is_part part = not (length part == 0) && (not (bytes_eq part (46 ∷ [])) && not (bytes_eq part (46 ∷ 46 ∷ [])))
 
--- whether the parts of a name may be used, where `part` is what precedes the bytes in the first part; a zero byte is not allowed
+-- whether the parts of a name may be used, where `part` is what precedes the bytes in the first part; a zero byte is
+-- not allowed
 unfoldable pub has_parts : List ℕ → List ℕ → Bool
 has_parts part [] = is_part part
-has_parts part (b ∷ bs) = if b == 0 then false else if b == 47 then is_part part && has_parts [] bs else has_parts (part ++ b ∷ []) bs
+has_parts part (b ∷ bs) =
+    if b == 0 then false else if b == 47 then is_part part && has_parts [] bs else has_parts (part ++ b ∷ []) bs
 
 -- whether a name is allowed: UTF-8, and relative, with parts that may be used
 unfoldable pub is_name : List ℕ → Bool
@@ -58,7 +61,8 @@ unfoldable pub set_outcome : FileSet → Result (Unit {0}) Fault
 set_outcome s =
     if not (allows_block s.block_bytes) then Err BlockSize
     else if not (allows_counts s.original_count s.recovery_count) then Err Counts
-    else files_outcome [] s.files >>= λ _. if blocks_in s.block_bytes s.files == s.original_count then Ok tt else Err Blocks
+    else files_outcome [] s.files >>= λ _.
+        if blocks_in s.block_bytes s.files == s.original_count then Ok tt else Err Blocks
 
 -- a set has a description, and its numbers fit each other
 pub record IsSound (s : FileSet) : Type 0 where

@@ -1,5 +1,8 @@
 //! Makes the recovery blocks of a set, and the digests of all its blocks, piece by piece.
-ghost use Rattle.std.specs.Prelude.{◌≡◌, ◌<◌, ◌≤◌, ◌%◌, IfOk, vec_len};
+ghost use Rattle.std.specs.Prelude.{◌≡◌, ℕ, ◌+◌, ◌-◌, ◌<◌, ◌≤◌, ◌%◌, ◌++◌, ◌⊎◌, [], All, Some, IfOk, OnOk, length, map};
+ghost use Rattle.std.specs.List.{between};
+ghost use Rattle.rs_field.specs.code.Column.{Shard, shard_at};
+ghost use Rattle.rs_volumes.specs.Creating.{IsCreated, MakesPiece};
 
 use crate::coding_error::CodingError;
 use crate::hashing::{absorb, finish, new_hashers};
@@ -47,6 +50,8 @@ pub fn create<S: BlockSource, W: BlockSink>(
 ) -> Result<Vec<u8>, CodingError>
     requires some { 0 < piece_bytes }
     requires chunks { piece_bytes % 64 ≡ 0 }
+    ensures { IfOk result (λ digests. IsCreated shape (S.blocks source.old) (W.written sink.old)
+        (W.written sink.new) digests.items) }
 {
     let mut hashers = Hashers {
         originals: new_hashers(alloc, shape.original_count)?,
@@ -75,11 +80,15 @@ fn create_piece<S: BlockSource, W: BlockSink>(
     sink: &mut W,
     hashers: &mut Hashers,
 ) -> Result<(), CodingError>
-    requires order { start ≤ end }
-    requires originals { vec_len hashers.old.originals ≡ shape.original_count }
-    requires recovery { vec_len hashers.old.recovery ≡ shape.recovery_count }
-    ensures originals { vec_len hashers.new.originals ≡ shape.original_count }
-    ensures recovery { vec_len hashers.new.recovery ≡ shape.recovery_count }
+    requires order { start < end }
+    requires originals { length hashers.old.originals.items ≡ shape.original_count }
+    requires recovery { length hashers.old.recovery.items ≡ shape.recovery_count }
+    ensures originals { length hashers.new.originals.items ≡ shape.original_count }
+    ensures recovery { length hashers.new.recovery.items ≡ shape.recovery_count }
+    ensures kept { OnOk result (S.blocks source.new ≡ S.blocks source.old) }
+    ensures made { OnOk result (MakesPiece shape start end (S.blocks source.old)
+        (W.written sink.old) (W.written sink.new) hashers.old.originals.items
+        hashers.new.originals.items hashers.old.recovery.items hashers.new.recovery.items) }
 {
     let pieces = read_pieces(alloc, shape.original_count, start, end, source)?;
     let made = encode_slice(
@@ -92,7 +101,8 @@ fn create_piece<S: BlockSource, W: BlockSink>(
     absorb(&mut hashers.originals, pieces.as_slice());
     absorb(&mut hashers.recovery, made.as_slice());
     put_pieces(sink, 0, start, pieces.as_slice())?;
-    put_pieces(sink, shape.original_count, start, made.as_slice())
+    put_pieces(sink, shape.original_count, start, made.as_slice())?;
+    Ok(())
 }
 
 // Reads a piece of each block with an index below `count`.
@@ -104,7 +114,13 @@ fn read_pieces<S: BlockSource>(
     source: &mut S,
 ) -> Result<Vec<Vec<u8>>, CodingError>
     requires { start ≤ end }
-    ensures { IfOk result (λ pieces. vec_len pieces ≡ count) }
+    ensures number { IfOk result (λ pieces. length pieces.items ≡ count) }
+    ensures sized { IfOk result (λ pieces.
+        All (λ piece. length piece.items ≡ end - start) pieces.items) }
+    ensures bytes { IfOk result (λ pieces. (i : ℕ) (block : Shard) → i < count
+        → S.blocks source.old i ≡ Some block
+        → shard_at (map (λ piece. piece.items) pieces.items) i ≡ between start end block) }
+    ensures kept { OnOk result (S.blocks source.new ≡ S.blocks source.old) }
 {
     let mut pieces = Vec::new(alloc);
     for index in 0..count {
@@ -122,9 +138,19 @@ fn put_pieces<W: BlockSink>(
     first: usize,
     start: usize,
     pieces: &[Vec<u8>],
-) -> Result<(), CodingError> {
+) -> Result<(), CodingError>
+    ensures put { OnOk result ((i : ℕ) (block : Shard) → i < length pieces.now
+        → W.written sink.old (first + i) ≡ Some block
+        → W.written sink.new (first + i)
+        ≡ Some (block ++ shard_at (map (λ piece. piece.items) pieces.now) i)) }
+    ensures others { OnOk result ((i : ℕ) → (i < first) ⊎ (first + length pieces.now ≤ i)
+        → W.written sink.new i ≡ W.written sink.old i) }
+{
+    if first > usize::MAX - pieces.len() {
+        return Err(CodingError::Missing(first));
+    }
     for (number, piece) in pieces.iter().enumerate() {
-        let index = first.wrapping_add(number);
+        let index = first + number;
         if let Err(error) = sink.put(index, start, piece.as_slice()) {
             return Err(CodingError::Write(index, error));
         }

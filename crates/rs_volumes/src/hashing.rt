@@ -1,7 +1,9 @@
 //! The digests of many blocks, whose bytes come piece by piece.
-ghost use Rattle.std.specs.Prelude.{◌≡◌, ◌++◌, List, IfOk, OnOk, length, map, flat_map, vec_len};
+ghost use Rattle.std.specs.Prelude.{◌≡◌, ◌≢◌, ℕ, ◌<◌, ◌++◌, slice_index_or, List, IfOk, OnOk, length, map, flat_map};
 ghost use Rattle.rs_field.specs.code.Column.{Shard};
+ghost use Rattle.sha2.specs.Hashers.{Holds256};
 ghost use Rattle.sha2.specs.Sha256.{sha256};
+ghost use Rattle.sha2.specs.declared.Sha256.{Sha256 as Hasher};
 ghost use Rattle.rs_volumes.specs.Hashing.{AreHashed, joined, empty_blocks};
 
 use sha2::{Digest, Sha256};
@@ -20,10 +22,10 @@ pub fn new_hashers(alloc: Global, count: usize) -> Result<Vec<Sha256>, AllocErro
 
 /// Adds the next piece of each block.
 pub fn absorb(hashers: &mut Vec<Sha256>, pieces: &[Vec<u8>])
-    requires { vec_len hashers.old ≡ length pieces.now }
+    requires { length hashers.old.items ≡ length pieces.now }
     ensures hashed { (blocks : List Shard) → AreHashed hashers.old.items blocks
         → AreHashed hashers.new.items (joined blocks (map (λ piece. piece.items) pieces.now)) }
-    ensures number { vec_len hashers.new ≡ vec_len hashers.old }
+    ensures number { length hashers.new.items ≡ length hashers.old.items }
 {
     for index in 0..pieces.len() {
         hashers[index].update(pieces[index].as_slice());
@@ -44,4 +46,29 @@ pub fn finish(hashers: &mut Vec<Sha256>, digests: &mut Vec<u8>) -> Result<(), Al
         digests.extend_from_slice(&digest)?;
     }
     Ok(())
+}
+
+/// Adds the next piece of one block.
+pub fn absorb_one(hashers: &mut Vec<Sha256>, index: usize, piece: &[u8])
+    requires { index < length hashers.old.items }
+    ensures number { length hashers.new.items ≡ length hashers.old.items }
+    ensures here { (d : Hasher) (bytes : Shard)
+        → Holds256 (slice_index_or hashers.old.items index d) bytes
+        → Holds256 (slice_index_or hashers.new.items index d) (bytes ++ piece.now) }
+    ensures others { (i : ℕ) (d : Hasher) → i ≢ index
+        → slice_index_or hashers.new.items i d ≡ slice_index_or hashers.old.items i d }
+{
+    hashers[index].update(piece);
+}
+
+/// Returns the digest of one block. Its hasher then begins again.
+pub fn finish_one(hashers: &mut Vec<Sha256>, index: usize) -> [u8; 32]
+    requires { index < length hashers.old.items }
+    ensures number { length hashers.new.items ≡ length hashers.old.items }
+    ensures digest { (d : Hasher) (bytes : Shard)
+        → Holds256 (slice_index_or hashers.old.items index d) bytes → result ≡ sha256 bytes }
+    ensures others { (i : ℕ) (d : Hasher) → i ≢ index
+        → slice_index_or hashers.new.items i d ≡ slice_index_or hashers.old.items i d }
+{
+    hashers[index].finalize_reset()
 }

@@ -1,14 +1,19 @@
 //! Restores blocks of a set from any k of its blocks, piece by piece.
-ghost use Rattle.std.specs.Prelude.{◌≡◌, ◌<◌, ◌≤◌, ◌%◌};
+ghost use Rattle.std.specs.Prelude.{◌≡◌, ℕ, ◌<◌, ◌≤◌, ◌%◌, true, false, OnOk, length, slice_index_or};
+ghost use Rattle.sha2.specs.Hashers.{Holds256};
+ghost use Rattle.sha2.specs.declared.Sha256.{Sha256 as Hasher};
+ghost use Rattle.rs_field.specs.code.Column.{Shard};
+ghost use Rattle.rs_field.specs.code.Given.{Shards};
+ghost use Rattle.rs_volumes.specs.Restoring.{AreInStep, AreRestored, HasDigest};
 
 use crate::coding_error::CodingError;
 use crate::creating::Shape;
 use crate::digest::is_digest;
-use crate::hashing::new_hashers;
+use crate::hashing::{absorb_one, finish_one, new_hashers};
 use crate::pieces::{BlockSink, BlockSource};
 use reed_solomon_simd::decode_slice;
 use reed_solomon_simd::engine::DefaultEngine;
-use sha2::{Digest, Sha256};
+use sha2::Sha256;
 use std::alloc::Global;
 
 /// The blocks that a restore reads and writes.
@@ -53,6 +58,8 @@ pub fn restore<S: BlockSource, W: BlockSink>(
 ) -> Result<(), CodingError>
     requires some { 0 < piece_bytes }
     requires chunks { piece_bytes % 64 ≡ 0 }
+    ensures { OnOk result (AreRestored plan.now.wanted.items digests.now (W.written sink.old)
+        (W.written sink.new)) }
 {
     let mut hashers = new_hashers(alloc, plan.wanted.len())?;
     let mut start = 0;
@@ -71,7 +78,8 @@ pub fn restore<S: BlockSource, W: BlockSink>(
         )?;
         start = end;
     }
-    compare(plan.wanted.as_slice(), digests, &mut hashers)
+    compare(plan.wanted.as_slice(), digests, &mut hashers)?;
+    Ok(())
 }
 
 // Reads a piece of each block of the plan.
@@ -130,7 +138,12 @@ fn restore_piece<W: BlockSink>(
     pieces: &Pieces,
     hashers: &mut Vec<Sha256>,
     sink: &mut W,
-) -> Result<(), CodingError> {
+) -> Result<(), CodingError>
+    ensures number { length hashers.new.items ≡ length hashers.old.items }
+    ensures step { OnOk result ((before : Shards)
+        → AreInStep hashers.old.items before (W.written sink.old)
+        → AreInStep hashers.new.items before (W.written sink.new)) }
+{
     put_read(
         start,
         plan.wanted.as_slice(),
@@ -169,26 +182,57 @@ fn put_read<W: BlockSink>(
     pieces: &[(usize, Vec<u8>)],
     hashers: &mut Vec<Sha256>,
     sink: &mut W,
-) -> Result<(), CodingError> {
+) -> Result<(), CodingError>
+    ensures number { length hashers.new.items ≡ length hashers.old.items }
+    ensures step { OnOk result ((before : Shards)
+        → AreInStep hashers.old.items before (W.written sink.old)
+        → AreInStep hashers.new.items before (W.written sink.new)) }
+{
     for (index, piece) in pieces {
-        if *index < wanted.len() && *index < hashers.len() && wanted[*index] {
-            hashers[*index].update(piece.as_slice());
-            if let Err(error) = sink.put(*index, start, piece.as_slice()) {
-                return Err(CodingError::Write(*index, error));
-            }
+        if *index < wanted.len() && wanted[*index] {
+            put_one(start, *index, piece.as_slice(), hashers, sink)?;
         }
     }
     Ok(())
 }
 
+// Writes the piece of a wanted block.
+fn put_one<W: BlockSink>(
+    start: usize,
+    index: usize,
+    piece: &[u8],
+    hashers: &mut Vec<Sha256>,
+    sink: &mut W,
+) -> Result<(), CodingError>
+    ensures number { length hashers.new.items ≡ length hashers.old.items }
+    ensures step { OnOk result ((before : Shards)
+        → AreInStep hashers.old.items before (W.written sink.old)
+        → AreInStep hashers.new.items before (W.written sink.new)) }
+{
+    if index >= hashers.len() {
+        return Err(CodingError::Missing(index));
+    }
+    absorb_one(hashers, index, piece);
+    match sink.put(index, start, piece) {
+        Ok(()) => Ok(()),
+        Err(error) => Err(CodingError::Write(index, error)),
+    }
+}
+
 // Compares the digest of each wanted block with the digest of the description.
-fn compare(wanted: &[bool], digests: &[u8], hashers: &mut Vec<Sha256>) -> Result<(), CodingError> {
+fn compare(wanted: &[bool], digests: &[u8], hashers: &mut Vec<Sha256>) -> Result<(), CodingError>
+    ensures digest { OnOk result ((i : ℕ) (d : Hasher) (bytes : Shard) → i < length wanted.now
+        → slice_index_or wanted.now i false ≡ true
+        → Holds256 (slice_index_or hashers.old.items i d) bytes
+        → HasDigest digests.now i bytes) }
+    ensures number { OnOk result (length wanted.now ≤ length hashers.old.items) }
+{
+    if wanted.len() > hashers.len() {
+        return Err(CodingError::Missing(hashers.len()));
+    }
     for (index, is_wanted) in wanted.iter().enumerate() {
         if *is_wanted {
-            if index >= hashers.len() {
-                return Err(CodingError::Missing(index));
-            }
-            let own = hashers[index].finalize_reset();
+            let own = finish_one(hashers, index);
             if !is_digest(digests, index, &own) {
                 return Err(CodingError::Digest(index));
             }

@@ -1,11 +1,18 @@
-use Rattle.std.proofs.Common.{◌≡◌, ◌-◌, vec_len}
+use Rattle.std.proofs.Common.{◌≡◌, ◌⊎◌, ◌-◌, ◌%◌, ◌≤◌, length}
+use Rattle.rs_volumes.proofs.Created.{IsCreatedTo}
 use Rattle.rs_volumes.proofs.creating.create.Given as goal
 
 abbrev pub invariant-loop-start : goal.invariant-loop-start
 invariant-loop-start g l =
     record {
-      originals : vec_len l.hashers.originals ≡ l.shape.original_count;
-      recovery : vec_len l.hashers.recovery ≡ l.shape.recovery_count;
+      inside : l.start ≤ l.shape.block_bytes;
+      begins : (l.start % 64 ≡ 0) ⊎ (l.start ≡ l.shape.block_bytes);
+      originals : length l.hashers.originals.items ≡ l.shape.original_count;
+      recovery : length l.hashers.recovery.items ≡ l.shape.recovery_count;
+      kept : g.S.BlockSource.blocks l.source ≡ g.S.BlockSource.blocks l.fn.source;
+      done : IsCreatedTo l.shape l.start (g.S.BlockSource.blocks l.fn.source) (g.W.BlockSink.written l.fn.sink)
+          (g.W.BlockSink.written l.sink)
+          l.hashers.originals.items l.hashers.recovery.items;
     }
 
 abbrev pub decreases-loop-start : goal.decreases-loop-start

@@ -1,4 +1,4 @@
-use Rattle.std.proofs.Common.{◌≡◌, ◌<◌, ◌≤◌, ◌∙◌, sym, length, vec_len, arith}
+use Rattle.std.proofs.Common.{◌≡◌, ◌<◌, ◌≤◌, ◌∙◌, sym, length, arith}
 use Rattle.std.specs.Prelude.{map}
 use Rattle.std.proofs.lemmas.List.{length-map}
 use Rattle.rs_volumes.proofs.Hashes.{absorbed}
@@ -7,7 +7,9 @@ use Rattle.rs_volumes.proofs.hashing.absorb.Goals as goal
 pub returns-clause-hashed : goal.returns-clause-hashed
 returns-clause-hashed c blocks is =
     let held = c.loop-index.invariant in
-    let count : length (map (λ p. p.items) c.args.pieces.now) ≡ length c.args.pieces.now = length-map c.args.pieces.now _ in
+    let count : length (map (λ p. p.items) c.args.pieces.now) ≡ length c.args.pieces.now =
+        length-map c.args.pieces.now _ in
     absorbed c.args.hashers.now.items c.loop-index.hashers.items blocks (map (λ p. p.items) c.args.pieces.now)
-    (omega (arith, c.args.hashers.now.ok, c.requires, count)) (omega (arith, c.loop-index.hashers.ok, held.number, count))
-    (λ i d m h. held.done i d m (let at : c.loop-index.index ≡ length c.args.pieces.now = omega arith in omega (arith, count))) is
+    (c.requires ∙ sym count) (held.number ∙ sym count)
+    (λ i d m h. held.done i d m
+        (let at : c.loop-index.index ≡ length c.args.pieces.now = omega arith in omega (arith, count))) is

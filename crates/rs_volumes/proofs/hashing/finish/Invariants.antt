@@ -10,6 +10,7 @@ abbrev pub invariant-loop-index : goal.invariant-loop-index
 invariant-loop-index l =
     record {
       number : vec_len l.hashers ≡ vec_len l.fn.hashers;
-      done : (blocks : List Shard) → AreHashed l.fn.hashers.items blocks → l.digests.items ≡ l.fn.digests.items ++ flat_map sha256 (take l.index blocks);
+      done : (blocks : List Shard) → AreHashed l.fn.hashers.items blocks
+          → l.digests.items ≡ l.fn.digests.items ++ flat_map sha256 (take l.index blocks);
       rest : (i : ℕ) (d : Sha256) → l.index ≤ i → get_or l.hashers.items i d ≡ get_or l.fn.hashers.items i d;
     }

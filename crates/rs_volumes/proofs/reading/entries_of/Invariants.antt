@@ -5,4 +5,5 @@ use Rattle.rs_volumes.proofs.Loop.{with_front}
 use Rattle.rs_volumes.proofs.reading.entries_of.Given as goal
 
 abbrev pub invariant-loop : goal.invariant-loop
-invariant-loop l = with_front (files_of l.files.items) (files_at (l.count - l.counter) l.rest) ≡ files_at l.count l.bytes
+invariant-loop l = with_front (files_of l.files.items) (files_at (l.count - l.counter) l.rest)
+    ≡ files_at l.count l.bytes

@@ -1,0 +1,164 @@
+-- A set that is created piece by piece.
+use Rattle.std.proofs.Common.{◌≡◌, ℕ, zero, suc, ◌+◌, ◌-◌, ◌<◌, ◌≤◌, ◌%◌, ◌⊎◌, List, [], ◌∷◌, ◌++◌, length, get_or}
+use Rattle.std.proofs.Common.{take, All, Some, refl, sym, ap, subst, ◌∙◌, inl, inr, arith}
+use Rattle.std.specs.Prelude.{replicate}
+use Rattle.std.specs.List.{between, flat_map}
+use Rattle.std.proofs.lemmas.Bool.{cases_lt}
+use Rattle.std.proofs.lemmas.List.{take_all, get_or-append_right, get_or_default}
+use Rattle.std.proofs.Math.ListN.{get_or-append}
+use Rattle.sha2.specs.Sha256.{sha256}
+use Rattle.sha2.specs.declared.Sha256.{Sha256}
+use Rattle.rs_field.specs.code.Column.{Shard, IsShard, AreShards, shard_at}
+use Rattle.rs_field.specs.code.Code.{AreRecovery}
+use Rattle.rs_field.specs.code.Given.{Shards}
+use Rattle.rs_field.specs.code.OneCall.{default_of}
+use Rattle.rs_field.specs.code.Pieces.{IsStrip}
+use Rattle.rs_field.proofs.of_code.Pieces.{strips-join}
+use Rattle.rs_volumes.specs.declared.creating.Shape.{Shape}
+use Rattle.rs_volumes.specs.Creating.{IsCreated, MakesPiece}
+use Rattle.rs_volumes.specs.Hashing.{AreHashed, joined, empty_blocks}
+use Rattle.rs_volumes.proofs.Hashes.{length-joined, shard_at-joined}
+use Rattle.rs_volumes.proofs.Strips.{take-further, shards-joined, IsCodedTo, coded-none, coded-more}
+
+-- the first `start` bytes of each block were read, coded, hashed and written
+pub record IsCreatedTo (shape : Shape) (start : ℕ) (known before now : Shards)
+    (hashers recovery_hashers : List Sha256) : Type 0 where
+  pub originals : List Shard
+  pub recovery : List Shard
+  pub shards : AreShards shape.original_count start originals
+  pub made : AreShards shape.recovery_count start recovery
+  pub coded : IsCodedTo shape.original_count shape.recovery_count shape.block_bytes start originals recovery
+  pub read : (i : ℕ) (block : Shard) → i < shape.original_count → known i ≡ Some block
+      → shard_at originals i ≡ take start block
+  pub hashed : AreHashed hashers originals
+  pub recovery_hashed : AreHashed recovery_hashers recovery
+  pub written : (i : ℕ) → i < shape.original_count + shape.recovery_count → before i ≡ Some []
+      → now i ≡ Some (shard_at (originals ++ recovery) i)
+
+pub length-empty : (n : ℕ) → length (empty_blocks n) ≡ n
+length-empty zero = refl
+length-empty (suc n) = ap suc (length-empty n)
+
+pub shard_at-empty : (n i : ℕ) → shard_at (empty_blocks n) i ≡ []
+shard_at-empty zero i = refl
+shard_at-empty (suc n) zero = refl
+shard_at-empty (suc n) (suc i) = shard_at-empty n i
+
+empty_shards : (n : ℕ) → AreShards n 0 (empty_blocks n)
+empty_shards n =
+    record {
+      length_is = length-empty n;
+      each = λ i d h.
+          let is : get_or (empty_blocks n) i d ≡ [] = get_or_default (empty_blocks n) i d [] h ∙ shard_at-empty n i in
+          subst (IsShard 0) (sym is) (record { length_is = refl; bytes = λ j e lt. absurd (omega arith) });
+    }
+
+-- block i of two lists, of which the first has n blocks
+split_at : (n : ℕ) (xs ys : List Shard) (i : ℕ) → length xs ≡ n → ((i < n) × (shard_at (xs ++ ys) i ≡ shard_at xs i))
+    ⊎ ((n ≤ i) × (shard_at (xs ++ ys) i ≡ shard_at ys (i - n)))
+split_at n xs ys i len =
+    elim (cases_lt i n) [
+      | inl lt ↦ inl (lt, get_or-append xs ys [] i (omega arith))
+      | inr le ↦ inr (le, get_or-append_right xs ys n i [] len le)
+    ]
+
+empty_block : (k r i : ℕ) → shard_at (empty_blocks k ++ empty_blocks r) i ≡ []
+empty_block k r i =
+    elim (split_at k (empty_blocks k) (empty_blocks r) i (length-empty k)) [
+      | inl front ↦ front.1 ∙ shard_at-empty k i
+      | inr back ↦ back.1 ∙ shard_at-empty r (i - k)
+    ]
+
+pub created_none : (shape : Shape) (known before : Shards) (hashers recovery_hashers : List Sha256)
+    → AreHashed hashers (empty_blocks shape.original_count)
+    → AreHashed recovery_hashers (empty_blocks shape.recovery_count)
+    → IsCreatedTo shape 0 known before before hashers recovery_hashers
+created_none shape known before hashers recovery_hashers one two =
+    record {
+      originals = empty_blocks shape.original_count;
+      recovery = empty_blocks shape.recovery_count;
+      shards = empty_shards shape.original_count;
+      made = empty_shards shape.recovery_count;
+      coded = coded-none shape.original_count shape.recovery_count shape.block_bytes (empty_blocks shape.original_count)
+          (empty_blocks shape.recovery_count);
+      read = λ i block lt is. shard_at-empty shape.original_count i;
+      hashed = one;
+      recovery_hashed = two;
+      written = λ i lt is. is ∙ ap Some (sym (empty_block shape.original_count shape.recovery_count i));
+    }
+
+-- the blocks of two joined lists
+joined_block : (k r : ℕ) (xs ys ps qs : List Shard) (i : ℕ) → length xs ≡ k → length ys ≡ r → length ps ≡ k
+    → length qs ≡ r → i < k + r
+    → shard_at (joined xs ps ++ joined ys qs) i ≡ shard_at (xs ++ ys) i ++ shard_at (ps ++ qs) i
+joined_block k r xs ys ps qs i a b c d lt =
+    elim (split_at k (joined xs ps) (joined ys qs) i (length-joined xs ps ∙ a)) [
+      | inl front ↦
+          let one : i < length xs = omega (arith, front.0) in
+          let two : i < length ps = omega (arith, front.0) in
+          let left : shard_at (xs ++ ys) i ≡ shard_at xs i = get_or-append xs ys [] i one in
+          let right : shard_at (ps ++ qs) i ≡ shard_at ps i = get_or-append ps qs [] i two in
+          front.1 ∙ shard_at-joined xs ps i one two ∙ ap (λ (x : Shard). x ++ shard_at ps i) (sym left)
+              ∙ ap (λ (x : Shard). shard_at (xs ++ ys) i ++ x) (sym right)
+      | inr back ↦
+          let one : i - k < length ys = omega (arith, back.0) in
+          let two : i - k < length qs = omega (arith, back.0) in
+          let left : shard_at (xs ++ ys) i ≡ shard_at ys (i - k) = get_or-append_right xs ys k i [] a back.0 in
+          let right : shard_at (ps ++ qs) i ≡ shard_at qs (i - k) = get_or-append_right ps qs k i [] c back.0 in
+          back.1 ∙ shard_at-joined ys qs (i - k) one two ∙ ap (λ (x : Shard). x ++ shard_at qs (i - k)) (sym left)
+              ∙ ap (λ (x : Shard). shard_at (xs ++ ys) i ++ x) (sym right)
+    ]
+
+pub created_more : (shape : Shape) (start end : ℕ) (known before now after : Shards) (h h' r r' : List Sha256)
+    → IsStrip start end shape.block_bytes
+    → IsCreatedTo shape start known before now h r → MakesPiece shape start end known now after h h' r r'
+    → IsCreatedTo shape end known before after h' r'
+created_more shape start end known before now after h h' r r' strip old new =
+    let k : ℕ = shape.original_count in
+    let sum : start + (end - start) ≡ end = omega (arith, strip.order) in
+    record {
+      originals = joined old.originals new.pieces;
+      recovery = joined old.recovery new.made;
+      shards = subst (λ (n : ℕ). AreShards shape.original_count n (joined old.originals new.pieces)) sum
+          (shards-joined shape.original_count start (end - start) old.originals new.pieces old.shards new.shards);
+      made = subst (λ (n : ℕ). AreShards shape.recovery_count n (joined old.recovery new.made)) sum
+          (shards-joined shape.recovery_count start (end - start) old.recovery new.made old.made new.coded.shards);
+      coded = coded-more shape.original_count shape.recovery_count shape.block_bytes start end old.originals
+          old.recovery new.pieces new.made strip old.shards old.made new.shards new.coded old.coded;
+      read = λ i block lt is.
+          let one : i < length old.originals = omega (arith, lt, old.shards.length_is) in
+          let two : i < length new.pieces = omega (arith, lt, new.shards.length_is) in
+          shard_at-joined old.originals new.pieces i one two
+              ∙ ap (λ (x : Shard). x ++ shard_at new.pieces i) (old.read i block lt is)
+          ∙ ap (λ (x : Shard). take start block ++ x) (new.read i block lt is)
+          ∙ take-further start end block strip.order;
+      hashed = new.hashed old.originals old.hashed;
+      recovery_hashed = new.recovery_hashed old.recovery old.recovery_hashed;
+      written = λ i lt is.
+          new.put i (shard_at (old.originals ++ old.recovery) i) lt (old.written i lt is)
+          ∙ ap Some (sym (joined_block shape.original_count shape.recovery_count old.originals old.recovery new.pieces
+              new.made i old.shards.length_is old.made.length_is new.shards.length_is new.coded.shards.length_is lt));
+    }
+
+pub created_all : (shape : Shape) (start : ℕ) (known before now : Shards) (h r : List Sha256) (digests : List ℕ)
+    → start ≡ shape.block_bytes
+    → IsCreatedTo shape start known before now h r
+    → ((blocks : List Shard) → AreHashed h blocks → (others : List Shard) → AreHashed r others
+        → digests ≡ flat_map sha256 blocks ++ flat_map sha256 others)
+    → IsCreated shape known before now digests
+created_all shape start known before now h r digests ends done hashed =
+    let size : ℕ = shape.block_bytes in
+    let shards = subst (λ (n : ℕ). AreShards shape.original_count n done.originals) ends done.shards in
+    let made = subst (λ (n : ℕ). AreShards shape.recovery_count n done.recovery) ends done.made in
+    record {
+      originals = done.originals;
+      recovery = done.recovery;
+      shards = shards;
+      coded = strips-join (default_of shape.original_count shape.recovery_count shape.block_bytes) done.originals
+          done.recovery shards made
+          (λ byte lt. let is = done.coded.strips byte (subst (λ (n : ℕ). byte < n) (sym ends) lt) in
+              (is.0, is.1, is.2, is.3, is.4, is.6));
+      read = λ i block lt is len. done.read i block lt is ∙ take_all start block (omega (arith, ends, len));
+      digests_are = hashed done.originals done.hashed done.recovery done.recovery_hashed;
+      written = done.written;
+    }
